@@ -1,0 +1,4 @@
+pub mod Blocks
+pub mod Chained
+pub mod Pool
+pub mod Region
