@@ -1,0 +1,16 @@
+//! The mailbox mail: its header, its counter and the error mail (ETG.1000.4, "Mailbox"), and the
+//! words in which every service above answers.
+#![tactic(auto)]
+
+mod mail;
+mod outcome;
+mod reading;
+mod writing;
+
+pub use mail::{BODY, HEADER, Kind, Mail, MailFault, error_mail, next_counter};
+pub use outcome::{ReplyKind, Took};
+pub use reading::read;
+pub use writing::write;
+
+#[cfg(test)]
+mod tests;
