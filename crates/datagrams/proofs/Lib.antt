@@ -1,0 +1,6 @@
+pub mod Building
+pub mod Changing
+pub mod Grammar
+pub mod Header
+pub mod Spelled
+pub mod Steps

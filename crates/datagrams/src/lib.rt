@@ -1,0 +1,18 @@
+//! EtherCAT frames (ETG.1000.4, 5): a header, datagrams of which all but the last say "more", and
+//! padding. Frames are read, built and changed in place; no call takes memory.
+#![tactic(auto)]
+
+mod command;
+mod frame;
+mod head;
+mod reading;
+pub mod register;
+#[cfg(test)]
+mod tests;
+mod writing;
+
+pub use command::Command;
+pub use frame::{Frame, FrameBuf, FrameFault, Part};
+pub use head::Head;
+pub use reading::read;
+pub use writing::{add, begin, finish, room, set};

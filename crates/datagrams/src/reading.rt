@@ -1,0 +1,88 @@
+ghost use Rattle.std.specs.Prelude.{◌≡◌, ℕ, ◌+◌, ◌<◌, ◌≤◌, ◌^◌, List, length, IfOk, All};
+ghost use Rattle.datagrams.specs.Datagram.{Datagram, is_cut};
+ghost use Rattle.datagrams.specs.Frame.{IsFrame, IsPart, parts_of, part_from, parts_within, frame_of, frame_read};
+
+use crate::frame::{Frame, FrameFault, Part};
+use crate::head::{BESIDE_BODY, body_len, head_at};
+use arrayvec::ArrayVec;
+use ec_fields::{bits, u16_at};
+
+/// Where the first datagram of a frame stands.
+pub const FIRST: usize = 16;
+
+// Whether the datagram that begins here has more octets than are left.
+fn is_cut(octets: &[u8]) -> bool
+    ensures { result ≡ is_cut octets.now }
+{
+    octets.len() < BESIDE_BODY || octets.len() < BESIDE_BODY + body_len(octets) as usize
+}
+
+// The datagram at a place behind the header, `None` where fewer octets are left than it has.
+fn part_from(octets: &[u8], start: usize) -> Option<Part>
+    requires inside { start ≤ length octets.now }
+    requires short { length octets.now < 2 ^ 11 }
+    ensures { result ≡ part_from octets.now start }
+{
+    let rest = &octets[start..];
+    if is_cut(rest) {
+        return None;
+    }
+    Some(Part {
+        at: FIRST + start,
+        head: head_at(rest),
+    })
+}
+
+// The datagrams that stand in the octets within a frame's length.
+fn read_parts(octets: &[u8]) -> Result<Frame, FrameFault>
+    requires { length octets.now < 2 ^ 11 }
+    ensures { result ≡ frame_of (parts_within (length octets.now) 16 octets.now) }
+{
+    let mut parts = ArrayVec::new();
+    let mut start = 0;
+    'datagrams: loop {
+        let Some(part) = part_from(octets, start) else {
+            return Err(FrameFault::DatagramCut { at: FIRST + start });
+        };
+        parts.push(part);
+        start += BESIDE_BODY + part.head.len as usize;
+        if !part.head.more {
+            return Ok(Frame { parts });
+        }
+        if start == octets.len() {
+            return Err(FrameFault::MoreButEnd);
+        }
+    }
+}
+
+// What the octets read as, by the reader's own rule.
+fn read_plain(bytes: &[u8]) -> Result<Frame, FrameFault>
+    ensures { result ≡ frame_read bytes.now }
+{
+    if bytes.len() < FIRST {
+        return Err(FrameFault::Short);
+    }
+    if bytes[12] != 0x88 || bytes[13] != 0xA4 {
+        return Err(FrameFault::NotEtherCat);
+    }
+    let word = u16_at(bytes, 14);
+    if bits(word, 12, 4) != 1 {
+        return Err(FrameFault::WrongType);
+    }
+    let size = bits(word, 0, 11) as usize;
+    if bytes.len() - FIRST < size {
+        return Err(FrameFault::LengthWord);
+    }
+    read_parts(&bytes[FIRST..][..size])
+}
+
+/// Reads a frame: its datagrams with their places, or the first fault (ETG.1000.4, 5.3 and 5.4).
+/// The addresses, the reserved bits and the octets behind the last datagram are ignored.
+pub fn read(bytes: &[u8]) -> Result<Frame, FrameFault>
+    ensures found { IfOk result (λ frame. (ds : List Datagram) × IsFrame bytes.now ds × (frame.parts.items ≡ parts_of 16 ds)) }
+    ensures only { (ds : List Datagram) → IsFrame bytes.now ds → result ≡ Ok (record { parts = record { items = parts_of 16 ds } }) }
+    ensures exact { result ≡ frame_read bytes.now }
+    ensures parts { IfOk result (λ frame. All (IsPart bytes.now) frame.parts.items) }
+{
+    read_plain(bytes)
+}

@@ -1,0 +1,145 @@
+ghost use Rattle.std.specs.Prelude.{◌≡◌, ℕ, ◌+◌, ◌-◌, ◌<◌, ◌≤◌, ◌^◌, List, [], ◌∷◌, ◌++◌, length, replicate};
+ghost use Rattle.ec_fields.specs.Fields.{number_at, number_put};
+ghost use Rattle.datagrams.specs.Command.{IsNamed};
+ghost use Rattle.datagrams.specs.Datagram.{Datagram, IsSized, datagram_text};
+ghost use Rattle.datagrams.specs.Frame.{Each, IsFrame, IsBegun, IsPart, chained, datagram_of, reset, octets_set, text_of, marked, closed, frame_text};
+
+use crate::frame::{FrameBuf, Part};
+use crate::head::{BESIDE_BODY, FRONT, Head, front_octets, last_head};
+use crate::reading::FIRST;
+use ec_fields::{put_bits, put_u16, u16_at};
+
+/// The greatest frame without its checksum.
+const GREATEST: usize = 1514;
+
+/// The least frame without its checksum.
+const LEAST: usize = 60;
+
+// The place of the length word. Until the frame is finished it holds the place of the last datagram,
+// so that no call has to walk over the datagrams before it.
+const LENGTH_WORD: usize = 14;
+
+// Type 1, datagrams, in the length word.
+const DATAGRAMS: u16 = 0x1000;
+
+const HEADER: [u8; 16] = [
+    0xFF, 0xFF, 0xFF, 0xFF, 0xFF, 0xFF, 0x02, 0x00, 0x00, 0x00, 0x00, 0x01, 0x88, 0xA4, 0, 0,
+];
+
+// Appends octets that fit.
+fn append(frame: &mut FrameBuf, octets: &[u8])
+    requires { length frame.old.items + length octets.now ≤ 1514 }
+    ensures { frame.new.items ≡ frame.old.items ++ octets.now }
+{
+    match frame.try_extend_from_slice(octets) {
+        Ok(()) => {}
+        Err(_) => unreachable!(),
+    }
+}
+
+/// How many body octets one more datagram can hold, 0 where fewer than 13 octets are left.
+pub fn room(frame: &FrameBuf) -> usize
+    ensures { result ≡ 1514 - length frame.now.items - 12 }
+{
+    (GREATEST - frame.len()).saturating_sub(BESIDE_BODY)
+}
+
+/// Begins a frame of the master in the buffer, in place of what it held.
+pub fn begin(frame: &mut FrameBuf)
+    ensures { IsBegun frame.new.items [] }
+{
+    frame.clear();
+    append(frame, &HEADER);
+}
+
+// Sets "more" in the datagram that was added last, where there is one.
+fn mark_last(frame: &mut FrameBuf)
+    requires header { 16 ≤ length frame.old.items }
+    requires inside { number_at 2 frame.old.items 14 + 8 ≤ length frame.old.items }
+    ensures { frame.new.items ≡ marked frame.old.items }
+{
+    let last = u16_at(frame.as_slice(), LENGTH_WORD) as usize;
+    if last != 0 {
+        let word = u16_at(frame.as_slice(), last + 6);
+        put_u16(frame.as_mut_slice(), last + 6, put_bits(word, 15, 1, 1));
+    }
+}
+
+// The same call, by the octets.
+fn add_plain(frame: &mut FrameBuf, head: &Head, body: &[u8])
+    requires header { 16 ≤ length frame.old.items }
+    requires inside { number_at 2 frame.old.items 14 + 8 ≤ length frame.old.items }
+    requires length { head.now.len ≡ length body.now }
+    requires some { 1 ≤ length body.now }
+    requires room { length body.now ≤ 1514 - length frame.old.items - 12 }
+    ensures octets { frame.new.items ≡ number_put 2 (marked frame.old.items) 14 (length frame.old.items) ++ datagram_text (datagram_of head.now body.now) }
+    ensures sized { IsSized (datagram_of head.now body.now) }
+{
+    mark_last(frame);
+    let place = frame.len() as u16;
+    put_u16(frame.as_mut_slice(), LENGTH_WORD, place);
+    let head = last_head(*head);
+    append(frame, &front_octets(&head));
+    append(frame, body);
+    append(frame, &head.counter.to_le_bytes());
+}
+
+/// Adds a datagram behind those that were added. The one before says "more" from then on; the new
+/// one doesn't, whatever `head.more` is.
+pub fn add(frame: &mut FrameBuf, head: &Head, body: &[u8])
+    requires begun { (ds : List Datagram) × IsBegun frame.old.items ds }
+    requires length { head.now.len ≡ length body.now }
+    requires some { 1 ≤ length body.now }
+    requires room { length body.now ≤ 1514 - length frame.old.items - 12 }
+    ensures { (ds : List Datagram) → IsBegun frame.old.items ds → IsBegun frame.new.items (ds ++ datagram_of head.now body.now ∷ []) }
+{
+    add_plain(frame, head, body);
+}
+
+// Zeros up to the least frame.
+fn pad(frame: &mut FrameBuf)
+    ensures { frame.new.items ≡ frame.old.items ++ replicate (60 - length frame.old.items) 0 }
+{
+    while frame.len() < LEAST {
+        frame.push(0);
+    }
+}
+
+// The same call, by the octets.
+fn finish_plain(frame: &mut FrameBuf)
+    requires { 16 ≤ length frame.old.items }
+    ensures { frame.new.items ≡ closed frame.old.items }
+{
+    let size = (frame.len() - FIRST) as u16;
+    put_u16(frame.as_mut_slice(), LENGTH_WORD, DATAGRAMS + size);
+    pad(frame);
+}
+
+/// Ends a frame: writes its length word, and zeros up to 60 octets. It then reads as the datagrams
+/// that were added, if there are any and each command has a name or a number above 14.
+pub fn finish(frame: &mut FrameBuf)
+    requires { (ds : List Datagram) × IsBegun frame.old.items ds }
+    ensures text { (ds : List Datagram) → IsBegun frame.old.items ds → frame.new.items ≡ frame_text (chained ds) }
+    ensures reads { (ds : List Datagram) → IsBegun frame.old.items ds → 1 ≤ length ds → Each (λ d. IsNamed d.head.command) ds → IsFrame frame.new.items (chained ds) }
+{
+    finish_plain(frame);
+}
+
+// The same call, by the octets.
+fn set_plain(frame: &mut FrameBuf, part: &Part, adp: u16, counter: u16)
+    requires { part.now.at + (12 + part.now.head.len) ≤ length frame.old.items }
+    ensures { frame.new.items ≡ octets_set frame.old.items part.now adp counter }
+{
+    put_u16(frame.as_mut_slice(), part.at + 2, adp);
+    let behind = part.at + (FRONT + part.head.len as usize);
+    put_u16(frame.as_mut_slice(), behind, counter);
+}
+
+/// Writes ADP and working counter of one datagram of a frame that reads; all other octets stay.
+pub fn set(frame: &mut FrameBuf, part: &Part, adp: u16, counter: u16)
+    requires { IsPart frame.old.items part.now }
+    ensures octets { frame.new.items ≡ octets_set frame.old.items part.now adp counter }
+    ensures reads { (front : List Datagram) (d : Datagram) (behind : List Datagram) → IsFrame frame.old.items (front ++ d ∷ behind) → part.now.at ≡ 16 + length (text_of front) → part.now.head ≡ d.head → IsFrame frame.new.items (front ++ reset d adp counter ∷ behind) }
+{
+    set_plain(frame, part, adp, counter);
+}
