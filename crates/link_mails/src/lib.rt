@@ -1,0 +1,24 @@
+//! Mails as a link sees them: the counter alone, and a body that is never looked at. Both ends of a
+//! link stand on these words.
+#![tactic(auto)]
+
+ghost use Rattle.std.specs.Prelude.{◌≡◌};
+ghost use Rattle.mailbox_mail.specs.Mail.{mail_read};
+ghost use Rattle.link_mails.specs.Body.{repeats};
+
+use mailbox_mail::{Mail, MailFault, read};
+
+/// What a mailbox area reads as.
+pub fn read_area(area: &[u8]) -> Result<Mail, MailFault>
+    ensures { result ≡ mail_read area.now }
+{
+    read(area)
+}
+
+/// Whether a mail with this counter is the last mail once more: 0 stands for none, and is no repeat (ETG.1000.4,
+/// mailbox counter).
+pub fn is_repeat(last: u8, counter: u8) -> bool
+    ensures { result ≡ repeats last counter }
+{
+    counter != 0 && counter == last
+}

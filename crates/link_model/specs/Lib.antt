@@ -1,0 +1,11 @@
+pub mod Counters
+pub mod Mails
+pub mod Master
+pub mod Slave
+pub mod Link
+pub mod Agree
+pub mod Frames
+pub mod Segment
+pub mod Gains
+pub mod Application
+pub mod Numbers
