@@ -1,0 +1,11 @@
+pub mod Basics
+pub mod Carries
+pub mod DownloadLaw
+pub mod UploadLaw
+pub mod InformationLaw
+pub mod Speaks
+pub mod Closing
+pub mod CoeLaw
+pub mod WorkedRows
+pub mod Spelling
+pub mod Spelled
