@@ -1,0 +1,4 @@
+pub mod Packets
+pub mod EoeLaw
+pub mod Spelled
+pub mod WorkedRows

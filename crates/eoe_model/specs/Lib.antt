@@ -1,0 +1,6 @@
+pub mod Mails
+pub mod Network
+pub mod Server
+pub mod Client
+pub mod Model
+pub mod Octets
