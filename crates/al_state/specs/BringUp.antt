@@ -1,0 +1,70 @@
+use Rattle.std.specs.Prelude.{ℕ, Bool, true, false, ◌==◌, ◌&&◌, nat_le, List, [], ◌∷◌, ◌++◌, length}
+use Rattle.byteorder.specs.Endian.{little_bytes}
+use Rattle.ec_fields.specs.Fields.{number_at}
+use Rattle.datagrams.specs.declared.command.Command.{Command}
+use Rattle.datagrams.specs.declared.command.Command.TheVariants.{Apwr, Fpwr, Fprd}
+use Rattle.datagrams.specs.declared.head.Head.{Head}
+use Rattle.al_state.specs.declared.bringing.BringStep.{BringStep}
+use Rattle.al_state.specs.declared.bringing.BringStep.TheVariants.{Address, OutManager, InManager, Start, Await}
+use Rattle.al_state.specs.declared.bringing.BringUp.{BringUp}
+
+-- the access behind one that has returned
+abbrev pub step_after : BringStep → BringStep
+step_after Address = OutManager
+step_after OutManager = InManager
+step_after InManager = Start
+step_after Start = Await
+step_after Await = Await
+
+-- an enabled sync manager: start, length, control, status, activate, PDI control
+abbrev pub manager_text : ℕ → ℕ → ℕ → List ℕ
+manager_text start len control = little_bytes 2 start ++ (little_bytes 2 len ++ control ∷ 0 ∷ 1 ∷ 0 ∷ [])
+
+-- the body of the access in hand
+abbrev pub octets_at : BringUp → BringStep → List ℕ
+octets_at up Address = little_bytes 2 up.station
+octets_at up OutManager = manager_text 4096 up.out_len 38
+octets_at up InManager = manager_text 6144 up.in_len 34
+octets_at up Start = up.start ∷ 0 ∷ []
+octets_at up Await = 0 ∷ 0 ∷ 0 ∷ 0 ∷ 0 ∷ 0 ∷ []
+
+abbrev pub octets_of : BringUp → List ℕ
+octets_of up = octets_at up up.step
+
+-- the head of a datagram that the master sends
+abbrev pub asking : Command → ℕ → ℕ → ℕ → ℕ → Head
+asking command index adp ado len = record {
+  command = command;
+  index = index;
+  adp = adp;
+  ado = ado;
+  len = len;
+  circulating = false;
+  more = false;
+  interrupt = 0;
+  counter = 0;
+}
+
+-- the head of the access in hand: the station address goes to the place in the ring, all else to the station
+abbrev pub head_at : BringUp → ℕ → BringStep → Head
+head_at up index Address = asking Apwr index up.adp 16 2
+head_at up index OutManager = asking Fpwr index up.station 2048 8
+head_at up index InManager = asking Fpwr index up.station 2056 8
+head_at up index Start = asking Fpwr index up.station 288 2
+head_at up index Await = asking Fprd index up.station 304 6
+
+abbrev pub head_of : BringUp → ℕ → Head
+head_of up index = head_at up index up.step
+
+-- an AL status that shows a state and no error
+abbrev pub shows : List ℕ → ℕ → Bool
+shows body state = nat_le 2 (length body) && number_at 2 body 0 == state
+
+-- the last access
+abbrev pub is_last : BringStep → Bool
+is_last Await = true
+is_last _ = false
+
+-- the slave is up: the last access came back from one slave and shows the start state
+abbrev pub is_up : BringUp → ℕ → List ℕ → Bool
+is_up up counter body = is_last up.step && counter == 1 && shows body up.start

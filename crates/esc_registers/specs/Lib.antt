@@ -1,0 +1,4 @@
+pub mod Access
+pub mod Area
+pub mod Manager
+pub mod Registers
