@@ -1,0 +1,44 @@
+-- What the box of a slave keeps beside the registers.
+use Rattle.std.specs.Prelude.{◌≡◌, ℕ, ◌+◌, ◌≤◌, Bool, true, if◌then◌else◌, is_none, ◌&&◌, Option, None, IsSome, length}
+use Rattle.std.specs.Option.{ForSome}
+use Rattle.mailbox_mail.specs.declared.mail.Mail.{Mail}
+
+-- the counter of the last mail taken; the counter of the newest mail offered; whether the mail offered is the last
+-- read one again; the last mail read; a new mail offered; a new mail withdrawn
+pub record Kept : Type 0 where
+  pub last_taken : ℕ
+  pub newest : ℕ
+  pub again : Bool
+  pub last_read : Option Mail
+  pub fresh : Option Mail
+  pub withdrawn : Option Mail
+
+-- the mail offered
+abbrev pub offered : Kept → Option Mail
+offered k = if k.again then k.last_read else k.fresh
+
+-- a mail has a counter of the link, and fits an area of this length
+abbrev pub IsCounted : Mail → Type 0
+IsCounted m = m.counter ≤ 7
+
+abbrev pub FitsArea : ℕ → Mail → Type 0
+FitsArea len m = 6 + length m.body.items ≤ len
+
+-- what always holds of a box: counters are those of the link, and a repeat is of a mail read
+pub record IsSound (k : Kept) : Type 0 where
+  pub last_taken : k.last_taken ≤ 7
+  pub newest : k.newest ≤ 7
+  pub last_read : ForSome k.last_read IsCounted
+  pub fresh : ForSome k.fresh IsCounted
+  pub withdrawn : ForSome k.withdrawn IsCounted
+  pub again : k.again ≡ true → IsSome k.last_read × (k.fresh ≡ None)
+
+-- each mail that the box keeps fits mailbox 1 of this length
+pub record KeptFits (len : ℕ) (k : Kept) : Type 0 where
+  pub last_read : ForSome k.last_read (FitsArea len)
+  pub fresh : ForSome k.fresh (FitsArea len)
+  pub withdrawn : ForSome k.withdrawn (FitsArea len)
+
+-- no mail is offered unread or withdrawn
+abbrev pub is_at_rest : Kept → Bool
+is_at_rest k = is_none (offered k) && is_none k.withdrawn

@@ -1,0 +1,3 @@
+pub mod Kept
+pub mod Registers
+pub mod Node
