@@ -1,0 +1,5 @@
+pub mod Links
+pub mod Halves
+pub mod Next
+pub mod Access
+pub mod Any
