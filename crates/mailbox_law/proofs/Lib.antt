@@ -1,0 +1,5 @@
+pub mod Accesses
+pub mod Brought
+pub mod Meetings
+pub mod Stepping
+pub mod Running

@@ -1,0 +1,4 @@
+pub mod Waiting
+pub mod Wire
+pub mod Steps
+pub mod World
