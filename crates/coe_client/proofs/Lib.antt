@@ -1,0 +1,2 @@
+pub mod TookIs
+pub mod Sends

@@ -1,0 +1,3 @@
+pub mod Talk
+pub mod Hear
+pub mod Send

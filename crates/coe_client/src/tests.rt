@@ -1,0 +1,124 @@
+use crate::CoeClient;
+use arrayvec::ArrayVec;
+use ec_fields::{Octets, buffer_of};
+use mailbox_mail::{Kind, Mail, ReplyKind, Took};
+use object_dictionary::SdoService;
+use std::process::Abort;
+use std::test::Fail;
+
+fn sends(rt: &impl Abort, client: &mut CoeClient, head: &[u8], len: usize) {
+    let mut body = ArrayVec::new();
+    assert!(rt; client.next_mail(&mut body));
+    assert!(rt; body.len() == len);
+    assert!(rt; head.len() <= len);
+    assert_eq!(rt; &body.as_slice()[..head.len()], head);
+    assert!(rt; !client.next_mail(&mut body));
+}
+
+fn takes(rt: &impl Abort, client: &mut CoeClient, body: &[u8], took: Took) {
+    assert!(rt; body.len() <= 1480);
+    let body = buffer_of(body);
+    let mail = Mail {
+        address: 0,
+        kind: Kind::CoE,
+        counter: 1,
+        body,
+    };
+    assert_eq!(rt; client.take(&mail), took);
+}
+
+#[test]
+fn a_value_of_49_octets_goes_in_two_mails_and_comes_back(rt: HostRuntime) -> Result<(), Fail> {
+    let mut client = CoeClient::new(rt.alloc(), 64, 64)?;
+    let bytes = Octets::copy_of(rt.alloc(), &[0xAA; 49])?;
+    assert!(rt; bytes.len() <= 16_384);
+    let service = SdoService::Download {
+        index: 0x2002,
+        sub: 1,
+        bytes,
+    };
+    client.start(&service);
+    sends(
+        &rt,
+        &mut client,
+        &[
+            0x00, 0x20, 0x21, 0x02, 0x20, 0x01, 0x31, 0x00, 0x00, 0x00, 0xAA,
+        ],
+        58,
+    );
+    takes(
+        &rt,
+        &mut client,
+        &[0x00, 0x30, 0x60, 0x02, 0x20, 0x02, 0, 0, 0, 0],
+        Took::Foreign,
+    );
+    takes(
+        &rt,
+        &mut client,
+        &[0x00, 0x30, 0x60, 0x02, 0x20, 0x01, 0, 0, 0, 0],
+        Took::More,
+    );
+    sends(
+        &rt,
+        &mut client,
+        &[0x00, 0x20, 0x0D, 0xAA, 0, 0, 0, 0, 0, 0],
+        10,
+    );
+    takes(
+        &rt,
+        &mut client,
+        &[0x00, 0x30, 0x30, 0, 0, 0, 0, 0, 0, 0],
+        Took::Foreign,
+    );
+    takes(
+        &rt,
+        &mut client,
+        &[0x00, 0x30, 0x20, 0, 0, 0, 0, 0, 0, 0],
+        Took::Done,
+    );
+    client.start(&SdoService::Upload {
+        index: 0x2002,
+        sub: 1,
+    });
+    sends(
+        &rt,
+        &mut client,
+        &[0x00, 0x20, 0x40, 0x02, 0x20, 0x01, 0, 0, 0, 0],
+        10,
+    );
+    takes(
+        &rt,
+        &mut client,
+        &[0x00, 0x30, 0x41, 0x02, 0x20, 0x01, 2, 0, 0, 0, 7],
+        Took::More,
+    );
+    sends(&rt, &mut client, &[0x00, 0x20, 0x60], 10);
+    takes(
+        &rt,
+        &mut client,
+        &[0x00, 0x30, 0x0D, 9, 0, 0, 0, 0, 0, 0],
+        Took::Done,
+    );
+    Ok(())
+}
+
+#[test]
+fn a_reply_is_told_with_its_value(rt: HostRuntime) -> Result<(), Fail> {
+    let mut client = CoeClient::new(rt.alloc(), 64, 64)?;
+    client.start(&SdoService::List { kind: 1 });
+    let body = buffer_of(&[0x00, 0x80, 0x02, 0x00, 0x00, 0x00, 0x01, 0x00, 0x00, 0x20]);
+    let mail = Mail {
+        address: 0,
+        kind: Kind::CoE,
+        counter: 1,
+        body,
+    };
+    if let Took::Done = client.take(&mail) {
+        let mut value = Octets::new(rt.alloc());
+        client.value(&mut value)?;
+        assert_eq!(rt; client.reply(), ReplyKind::Value);
+        assert_eq!(rt; value.bytes(), [1, 0, 0, 0x20].as_slice());
+        return Ok(());
+    }
+    Err("the list is done")?
+}

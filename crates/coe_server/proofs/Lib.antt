@@ -1,0 +1,3 @@
+pub mod Unread
+pub mod Gives
+pub mod Fits

@@ -1,0 +1,156 @@
+-- What a server's state stands for: its unfinished transfer, the mails that wait in it, and what it emits.
+use Rattle.std.specs.Prelude.{◌≡◌, ℕ, suc, ◌-◌, ◌≤◌, ◌==◌, ◌&&◌, nat_le, nat_lt, Bool, true, false, List, [], ◌∷◌, ◌++◌, length, take, drop, Option, None, Some, Result, Ok, Err}
+use Rattle.coe_codec.specs.Reading.{is_information}
+use Rattle.coe_model.specs.Mails.{Information, Coe, CoeMail, mail, failed, First, Emergency, DownloadAnswer, SegmentAnswer, Abort, InformationError, ExpeditedAnswer, FirstAnswer, UploadSegmentAnswer}
+use Rattle.coe_model.specs.Tables.{Ask}
+use Rattle.coe_model.specs.Tables as Tables
+use Rattle.coe_model.specs.Server.{Transfer, idle, downloading, uploading, Emission, emergency, packet, Outcome, information_parts}
+use Rattle.mailbox_mail.specs.declared.mail.Mail.{Mail}
+use Rattle.coe_model.specs.Octets.{mail_written}
+use Rattle.coe_server.specs.declared.dictionary.Target.{Target}
+use Rattle.coe_server.specs.declared.dictionary.Question.{Question}
+use Rattle.coe_server.specs.declared.state.State.{State}
+use Rattle.coe_server.specs.declared.state.Pending.{Pending}
+use Rattle.coe_server.specs.declared.state.Emitted.{Emitted}
+
+abbrev pub target_view : Target → Tables.Target
+target_view t = record { index = t.index; sub = t.sub; all = t.all }
+
+abbrev pub ask_view : Question → Ask
+ask_view (Question.List kind) = Tables.list kind
+ask_view (Question.Object index) = Tables.object index
+ask_view (Question.Entry index sub info) = Tables.entry index sub info
+
+-- a server: whether its slave serves EoE, the length of the mailbox for answers, the transfer that is not finished and its octets, what is
+-- still to be told and the octets of an information answer, and what is emitted
+pub record Serving : Type 0 where
+  pub eoe : Bool
+  pub room : ℕ
+  pub state : State
+  pub value : List ℕ
+  pub pending : Pending
+  pub told : List ℕ
+  pub emitted : Emitted
+  pub octets : List ℕ
+
+abbrev pub transfer_view : State → List ℕ → Transfer
+transfer_view State.Idle value = idle
+transfer_view (State.Downloading t size toggle) value = downloading (target_view t) size value toggle
+transfer_view (State.Uploading t from toggle) value = uploading (target_view t) (drop from value) toggle
+
+-- the mails that wait to be told
+abbrev pub pending_mails : ℕ → List ℕ → List ℕ → Pending → List CoeMail
+pending_mails room value told Pending.Nothing = []
+pending_mails room value told (Pending.DownloadAnswer t) = mail (DownloadAnswer t.index t.sub) ∷ []
+pending_mails room value told (Pending.SegmentAnswer toggle) = mail (SegmentAnswer toggle) ∷ []
+pending_mails room value told (Pending.Abort t code) = mail (Abort t.index t.sub code) ∷ []
+pending_mails room value told (Pending.Error code) = mail (InformationError code) ∷ []
+pending_mails room value told (Pending.Failed detail) = failed detail ∷ []
+pending_mails room value told (Pending.Whole t) = mail (ExpeditedAnswer t.index t.sub (record { items = value })) ∷ []
+pending_mails room value told (Pending.First t upto) = mail (FirstAnswer t.index t.sub (length value) (record { items = take upto value })) ∷ []
+pending_mails room value told (Pending.Part from toggle) = mail (UploadSegmentAnswer toggle false (record { items = take (room - 9) (drop from value) })) ∷ []
+pending_mails room value told (Pending.Last from toggle) = mail (UploadSegmentAnswer toggle true (record { items = drop from value })) ∷ []
+pending_mails room value told (Pending.Parts opcode from) = information_parts (suc (length told)) opcode (room - 12) (drop from told)
+
+abbrev pub emission_view : Emitted → List ℕ → Option Emission
+emission_view Emitted.Nothing octets = None
+emission_view Emitted.Emergency octets = Some (emergency octets)
+emission_view Emitted.Packet octets = Some (packet octets)
+
+abbrev pub emergencies : Emitted → List ℕ → List CoeMail
+emergencies Emitted.Emergency octets = mail (Emergency (record { items = octets })) ∷ []
+emergencies _ octets = []
+
+abbrev pub transfer_of : Serving → Transfer
+transfer_of c = transfer_view c.state c.value
+
+abbrev pub answers_of : Serving → List CoeMail
+answers_of c = pending_mails c.room c.value c.told c.pending
+
+-- the mails that wait in a server: the answers, and an emergency behind them
+abbrev pub waiting_mails : Serving → List CoeMail
+waiting_mails c = answers_of c ++ emergencies c.emitted c.octets
+
+-- what a server did with a mail, by its state behind it
+abbrev pub outcome_of : {S : Type 0} → S → Serving → Bool → Outcome S
+outcome_of app c counts = record { app = app; transfer = transfer_of c; counts = counts; answers = answers_of c; emission = emission_view c.emitted c.octets }
+
+-- the server is the same, with this transfer and this to be told
+abbrev pub told_of : Serving → State → Pending → Serving
+told_of c state pending = record c { state = state; pending = pending; emitted = Emitted.Nothing }
+
+-- tables after a download, by what the call answers
+abbrev pub Stores : {S : Type 0} → Result S ℕ → Option ℕ → S → S → Type 0
+Stores download None old new = download ≡ Ok new
+Stores download (Some code) old new = (download ≡ Err code) × (new ≡ old)
+
+-- a value that is read, by what the call answers
+abbrev pub Reads : Result (List ℕ) ℕ → Option ℕ → List ℕ → Type 0
+Reads value None octets = value ≡ Ok octets
+Reads value (Some code) octets = value ≡ Err code
+
+-- an answer without octets, and its mail
+abbrev pub IsSmall : Pending → Type 0
+IsSmall (Pending.DownloadAnswer t) = Unit {0}
+IsSmall (Pending.SegmentAnswer toggle) = Unit {0}
+IsSmall _ = ⊥
+
+abbrev pub small_mail : Pending → CoeMail
+small_mail (Pending.DownloadAnswer t) = mail (DownloadAnswer t.index t.sub)
+small_mail (Pending.SegmentAnswer toggle) = mail (SegmentAnswer toggle)
+small_mail _ = failed 0
+
+-- what is emitted fits its mail
+abbrev pub IsFitting : Option Emission → Type 0
+IsFitting None = Unit {0}
+IsFitting (Some (emergency octets)) = length octets ≡ 8
+IsFitting (Some (packet octets)) = length octets ≤ 1514
+
+-- a first part is within its size
+abbrev pub IsWithin : Coe → Type 0
+IsWithin (First index sub all size bytes) = length bytes.items ≤ size
+IsWithin _ = Unit {0}
+
+-- whether a transfer's octets are as they should be
+abbrev pub is_sound : State → List ℕ → Bool
+is_sound State.Idle value = true
+is_sound (State.Downloading t size toggle) value = nat_le (length value) size && nat_le size 16384
+is_sound (State.Uploading t from toggle) value = nat_lt from (length value)
+
+-- whether the mails that are to be told have spellings and fit the mailbox
+abbrev pub is_told : ℕ → List ℕ → List ℕ → Pending → Bool
+is_told room value told (Pending.Whole t) = nat_le 1 (length value) && nat_le (length value) 4
+is_told room value told (Pending.First t upto) = nat_le upto (room - 16)
+is_told room value told (Pending.Part from toggle) = nat_lt from (length value)
+is_told room value told (Pending.Last from toggle) = nat_lt from (length value) && nat_le (length value - from) (room - 9)
+is_told room value told (Pending.Parts opcode from) = is_information opcode && nat_le from (length told)
+is_told room value told _ = true
+
+-- whether what is emitted fits its mail
+abbrev pub is_emitted : Emitted → List ℕ → Bool
+is_emitted Emitted.Emergency octets = length octets == 8
+is_emitted _ octets = true
+
+-- what an answer is made of: a message, or a mailbox error
+abbrev pub reply_mail : Result Coe ℕ → CoeMail
+reply_mail (Ok message) = mail message
+reply_mail (Err detail) = failed detail
+
+-- the first of the mails that wait
+pub record GivesNext (old : Serving) (written : Mail) (new : Serving) : Type 0 where
+  pub first : CoeMail
+  pub spelled : written ≡ mail_written first
+  pub rest : waiting_mails old ≡ first ∷ waiting_mails new
+
+-- a server's message is short enough for the mailbox
+abbrev pub IsShort : ℕ → Coe → Type 0
+IsShort room (Emergency octets) = length octets.items ≡ 8
+IsShort room (ExpeditedAnswer index sub bytes) = length bytes.items ≤ 4
+IsShort room (FirstAnswer index sub size bytes) = length bytes.items ≤ room - 16
+IsShort room (UploadSegmentAnswer toggle last bytes) = length bytes.items ≤ room - 9
+IsShort room (Information opcode incomplete left bytes) = length bytes.items ≤ room - 12
+IsShort room (DownloadAnswer index sub) = Unit {0}
+IsShort room (SegmentAnswer toggle) = Unit {0}
+IsShort room (Abort index sub code) = Unit {0}
+IsShort room (InformationError code) = Unit {0}
+IsShort room _ = ⊥

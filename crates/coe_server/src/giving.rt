@@ -1,0 +1,219 @@
+ghost use Rattle.std.specs.Prelude.{◌≡◌, ◌≢◌, ◌≤◌, ◌<◌, ◌+◌, ◌-◌, ◌↔◌, List, [], ◌∷◌, ◌++◌, true, false, length, drop, take, Some, None, IfOk};
+ghost use Rattle.std.specs.Bool.{OnTrue, OnFalse};
+ghost use Rattle.coe_codec.specs.Writing.{HasSpelling};
+ghost use Rattle.coe_model.specs.Octets.{mail_written};
+ghost use Rattle.coe_model.specs.Mails.{mail};
+ghost use Rattle.coe_server.specs.Serving.{Serving, transfer_of, answers_of, waiting_mails, emergencies, emission_view, pending_mails, reply_mail, IsShort, GivesNext};
+
+use crate::server::CoeServer;
+use crate::state::{Emitted, Pending};
+use arrayvec::ArrayVec;
+use coe_codec::Coe;
+use ec_fields::buffer_of;
+use mailbox_mail::{Kind, Mail, error_mail};
+
+// The octets from a place on; none where it is behind the end.
+fn from(bytes: &[u8], at: usize) -> &[u8]
+    ensures { result.now ≡ drop at bytes.now }
+{
+    if at >= bytes.len() { &[] } else { &bytes[at..] }
+}
+
+// At most so many octets.
+fn upto(bytes: &[u8], len: usize) -> &[u8]
+    ensures { result.now ≡ take len bytes.now }
+{
+    if len >= bytes.len() {
+        bytes
+    } else {
+        &bytes[..len]
+    }
+}
+
+// The mail of a message, to nobody and not yet counted.
+fn written(message: &Coe) -> Mail
+    requires { HasSpelling message.now }
+    ensures { result ≡ mail_written (mail message.now) }
+{
+    let mut body = ArrayVec::new();
+    coe_codec::write(message, &mut body);
+    Mail {
+        address: 0,
+        kind: Kind::CoE,
+        counter: 0,
+        body,
+    }
+}
+
+impl CoeServer {
+    /// Whether a mail waits.
+    pub fn waiting(&self) -> bool
+        ensures { result ≡ false ↔ (waiting_mails self.now ≡ []) }
+    {
+        let _ = &self.room;
+        let answers = match self.pending {
+            Pending::Nothing => false,
+            Pending::DownloadAnswer { target: _ }
+            | Pending::SegmentAnswer { toggle: _ }
+            | Pending::Abort { target: _, code: _ }
+            | Pending::Error { code: _ }
+            | Pending::Failed { detail: _ }
+            | Pending::Whole { target: _ }
+            | Pending::First { target: _, upto: _ }
+            | Pending::Part { from: _, toggle: _ }
+            | Pending::Last { from: _, toggle: _ }
+            | Pending::Parts { opcode: _, from: _ } => true,
+        };
+        answers || matches!(self.emitted, Emitted::Emergency)
+    }
+
+    /// Hands out the packet that the mail taken last has emitted, in place of what `into` has. `false` where there is none, or it was handed out.
+    pub fn packet(&mut self, into: &mut ArrayVec<u8, 1514>) -> bool
+        ensures given { OnTrue result (self.old.emitted ≡ Emitted.Packet) }
+        ensures octets { OnTrue result (into.new.items ≡ self.old.octets) }
+        ensures once { OnTrue result (self.new ≡ record self.old { emitted = Emitted.Nothing }) }
+        ensures none { OnFalse result (self.old.emitted ≢ Emitted.Packet) }
+        ensures same { OnFalse result ((self.new ≡ self.old) × (into.new ≡ into.old)) }
+    {
+        match self.emitted {
+            Emitted::Packet => {
+                *into = buffer_of(self.octets.as_slice());
+                self.emitted = Emitted::Nothing;
+                true
+            }
+            Emitted::Nothing | Emitted::Emergency => false,
+        }
+    }
+
+    // The next part of an information answer.
+    fn next_part(&mut self, opcode: u8, at: u32) -> Coe
+        requires pending { self.old.pending ≡ Pending.Parts opcode at }
+        ensures first { answers_of self.old ≡ mail result ∷ answers_of self.new }
+        ensures same { self.new ≡ record self.old { pending = self.new.pending } }
+        ensures spelled { HasSpelling result }
+        ensures short { IsShort self.old.room result }
+    {
+        let _ = &self.pending;
+        let rest = from(self.told.bytes(), at as usize);
+        let part = self.room as usize - 12;
+        if rest.len() <= part {
+            let bytes = buffer_of(rest);
+            self.pending = Pending::Nothing;
+            return Coe::Information {
+                opcode,
+                incomplete: false,
+                left: 0,
+                bytes,
+            };
+        }
+        let left = ((rest.len() - part + part - 1) / part) as u16;
+        let bytes = buffer_of(upto(rest, part));
+        self.pending = Pending::Parts {
+            opcode,
+            from: at + part as u32,
+        };
+        Coe::Information {
+            opcode,
+            incomplete: true,
+            left,
+            bytes,
+        }
+    }
+
+    // The next answer: a message, or the detail of a mailbox error.
+    fn next_answer(&mut self) -> Result<Coe, u16>
+        requires { answers_of self.old ≢ [] }
+        ensures first { answers_of self.old ≡ reply_mail result ∷ answers_of self.new }
+        ensures same { self.new ≡ record self.old { pending = self.new.pending } }
+        ensures spelled { IfOk result HasSpelling }
+        ensures short { IfOk result (IsShort self.old.room) }
+    {
+        let value = self.value.bytes();
+        let room = self.room as usize - 9;
+        let answer = match self.pending {
+            Pending::Nothing => unreachable!(),
+            Pending::DownloadAnswer { target } => Ok(Coe::DownloadAnswer {
+                index: target.index,
+                sub: target.sub,
+            }),
+            Pending::SegmentAnswer { toggle } => Ok(Coe::SegmentAnswer { toggle }),
+            Pending::Abort { target, code } => Ok(Coe::Abort {
+                index: target.index,
+                sub: target.sub,
+                code,
+            }),
+            Pending::Error { code } => Ok(Coe::InformationError { code }),
+            Pending::Failed { detail } => Err(detail),
+            Pending::Whole { target } => {
+                let bytes = buffer_of(value);
+                Ok(Coe::ExpeditedAnswer {
+                    index: target.index,
+                    sub: target.sub,
+                    bytes,
+                })
+            }
+            Pending::First { target, upto: len } => {
+                let size = value.len() as u32;
+                let bytes = buffer_of(upto(value, len as usize));
+                Ok(Coe::FirstAnswer {
+                    index: target.index,
+                    sub: target.sub,
+                    size,
+                    bytes,
+                })
+            }
+            Pending::Part { from: at, toggle } => {
+                let bytes = buffer_of(upto(from(value, at as usize), room));
+                Ok(Coe::UploadSegmentAnswer {
+                    toggle,
+                    last: false,
+                    bytes,
+                })
+            }
+            Pending::Last { from: at, toggle } => {
+                let bytes = buffer_of(from(value, at as usize));
+                Ok(Coe::UploadSegmentAnswer {
+                    toggle,
+                    last: true,
+                    bytes,
+                })
+            }
+            Pending::Parts { opcode, from: at } => return Ok(self.next_part(opcode, at)),
+        };
+        self.pending = Pending::Nothing;
+        answer
+    }
+
+    // The emergency, which is the last of the mails.
+    fn emergency(&mut self) -> Coe
+        requires answered { answers_of self.old ≡ [] }
+        requires left { waiting_mails self.old ≢ [] }
+        ensures first { waiting_mails self.old ≡ mail result ∷ waiting_mails self.new }
+        ensures same { self.new ≡ record self.old { emitted = Emitted.Nothing } }
+        ensures spelled { HasSpelling result }
+        ensures short { IsShort self.old.room result }
+    {
+        let octets = buffer_of(self.octets.as_slice());
+        self.emitted = Emitted::Nothing;
+        Coe::Emergency { octets }
+    }
+
+    /// Gives the next of the mails that wait, to nobody and not yet counted. An emergency is the last. Each fits the mailbox for answers.
+    pub fn next(&mut self) -> Mail
+        requires { waiting_mails self.old ≢ [] }
+        ensures next { GivesNext self.old result self.new }
+        ensures fits { length result.body.items + 6 ≤ self.old.room }
+        ensures transfer { transfer_of self.new ≡ transfer_of self.old }
+        ensures room { self.new.room ≡ self.old.room }
+        ensures eoe { self.new.eoe ≡ self.old.eoe }
+    {
+        if let Pending::Nothing = self.pending {
+            let message = self.emergency();
+            return written(&message);
+        }
+        match self.next_answer() {
+            Ok(message) => written(&message),
+            Err(detail) => error_mail(detail),
+        }
+    }
+}

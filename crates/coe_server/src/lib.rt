@@ -1,0 +1,15 @@
+//! The CoE server of one slave: it takes a mail, does what it asks in the object dictionary, and gives its answers (ETG.1000.6, "CANopen over
+//! EtherCAT"; CiA 301, "SDO protocol").
+#![tactic(auto)]
+
+mod dictionary;
+mod giving;
+mod server;
+mod state;
+mod taking;
+
+pub use dictionary::{Dictionary, Question, Target};
+pub use server::CoeServer;
+
+#[cfg(test)]
+mod tests;
