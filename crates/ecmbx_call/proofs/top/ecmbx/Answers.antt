@@ -1,0 +1,45 @@
+use Rattle.ec_outside.specs.Faults.{Rose}
+use Rattle.ecmbx_call.specs.Course.{words_of}
+use Rattle.ecmbx_call.proofs.Causes.{usage_cause, absent_cause, long_cause, refused_cause, file_fault_cause, answers_are, found_headline, found_completes}
+use Rattle.ecmbx_call.proofs.top.ecmbx.Goals as goal
+
+pub returns-clause-headline : goal.returns-clause-headline
+returns-clause-headline g c = λ plan found calm.
+    found_headline (words_of c.args.words.now) (g.F.Files.table c.args.files.now) (Rose (g.F.Files.file_faults c.args.files.now) (g.F.Files.file_faults c.carry_out.new.files)) c.carry_out.new.book (g.O.Sink.written c.args.out.now)
+    (g.O.Sink.written c.carry_out.new.out) c.carry_out.result c.carry_out.ensures.course plan found calm
+
+pub returns-clause-completes : goal.returns-clause-completes
+returns-clause-completes g c = λ plan found calm quiet.
+    found_completes (words_of c.args.words.now) (g.F.Files.table c.args.files.now) (Rose (g.F.Files.file_faults c.args.files.now) (g.F.Files.file_faults c.carry_out.new.files))
+    (Rose (g.O.Sink.sink_faults c.args.out.now) (g.O.Sink.sink_faults c.carry_out.new.out)) c.carry_out.new.book (g.O.Sink.written c.args.out.now) (g.O.Sink.written c.carry_out.new.out) c.carry_out.result c.carry_out.ensures.course
+    c.carry_out.ensures.sink plan found calm quiet
+
+pub returns-clause-usage : goal.returns-clause-usage
+returns-clause-usage g c =
+    usage_cause (words_of c.args.words.now) (g.F.Files.table c.args.files.now) (Rose (g.F.Files.file_faults c.args.files.now) (g.F.Files.file_faults c.carry_out.new.files)) c.carry_out.new.book (g.O.Sink.written c.args.out.now)
+    (g.O.Sink.written c.carry_out.new.out) c.carry_out.result c.carry_out.ensures.course
+
+pub returns-clause-absent : goal.returns-clause-absent
+returns-clause-absent g c =
+    absent_cause (words_of c.args.words.now) (g.F.Files.table c.args.files.now) (Rose (g.F.Files.file_faults c.args.files.now) (g.F.Files.file_faults c.carry_out.new.files)) c.carry_out.new.book (g.O.Sink.written c.args.out.now)
+    (g.O.Sink.written c.carry_out.new.out) c.carry_out.result c.carry_out.ensures.course
+
+pub returns-clause-too_long : goal.returns-clause-too_long
+returns-clause-too_long g c =
+    long_cause (words_of c.args.words.now) (g.F.Files.table c.args.files.now) (Rose (g.F.Files.file_faults c.args.files.now) (g.F.Files.file_faults c.carry_out.new.files)) c.carry_out.new.book (g.O.Sink.written c.args.out.now)
+    (g.O.Sink.written c.carry_out.new.out) c.carry_out.result c.carry_out.ensures.course
+
+pub returns-clause-refused : goal.returns-clause-refused
+returns-clause-refused g c =
+    refused_cause (words_of c.args.words.now) (g.F.Files.table c.args.files.now) (Rose (g.F.Files.file_faults c.args.files.now) (g.F.Files.file_faults c.carry_out.new.files)) c.carry_out.new.book (g.O.Sink.written c.args.out.now)
+    (g.O.Sink.written c.carry_out.new.out) c.carry_out.result c.carry_out.ensures.course
+
+pub returns-clause-file_fault : goal.returns-clause-file_fault
+returns-clause-file_fault g c =
+    file_fault_cause (words_of c.args.words.now) (g.F.Files.table c.args.files.now) (Rose (g.F.Files.file_faults c.args.files.now) (g.F.Files.file_faults c.carry_out.new.files)) c.carry_out.new.book (g.O.Sink.written c.args.out.now)
+    (g.O.Sink.written c.carry_out.new.out) c.carry_out.result c.carry_out.ensures.course
+
+pub returns-clause-answers : goal.returns-clause-answers
+returns-clause-answers g c =
+    answers_are (words_of c.args.words.now) (g.F.Files.table c.args.files.now) (Rose (g.F.Files.file_faults c.args.files.now) (g.F.Files.file_faults c.carry_out.new.files)) c.carry_out.new.book (g.O.Sink.written c.args.out.now)
+    (g.O.Sink.written c.carry_out.new.out) c.carry_out.result c.carry_out.ensures.course

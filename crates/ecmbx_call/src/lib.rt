@@ -1,0 +1,24 @@
+//! The top call of `ecmbx`: words in, a report and a status out. Files and sink are objects of the
+//! caller.
+#![tactic(auto)]
+
+mod app;
+mod book;
+mod client;
+mod exchange;
+mod lines;
+mod objects;
+mod reporting;
+mod rows;
+mod running;
+mod server;
+mod status;
+mod texts;
+mod top;
+
+pub use app::App;
+pub use book::{Answer, Begun, Book, Ending, Fate, Origin, SentFrame, SlaveBook};
+pub use reporting::report;
+pub use running::run;
+pub use status::Status;
+pub use top::ecmbx;

@@ -1,0 +1,131 @@
+ghost use Rattle.std.specs.Prelude.{◌≡◌, [], ◌⊎◌, length, IfOk, OnOk, All, ◌≤◌, ◌<◌, ◌==◌};
+ghost use Rattle.ecmbx_call.specs.declared.book.Ending.TheVariants as endings;
+ghost use Rattle.scenario.specs.Sound.{IsPlan, IsSlave, IsAddressed, IsService};
+ghost use Rattle.ecmbx_call.specs.Meaning.{IsHeld, addressed};
+ghost use Rattle.ecmbx_call.specs.Book.{IsNew, FitsSlave, FitSlaves, AllCarriedOut, Fits, AllDone, TakesUp, TakesUpIf};
+
+use crate::app::App;
+use crate::book::{Answer, Begun, Book, Ending, Origin, SlaveBook};
+use crate::exchange::{Mailboxes, exchange};
+use crate::rows::put;
+use ec_fields::{NoMemory, Rows};
+use scenario::Scenario;
+use slave_app::{Service, SlaveSpec};
+use std::alloc::Global;
+
+/// Carries out one service of a slave, and notes it with its answer.
+fn take_up(
+    alloc: Global,
+    row: &mut SlaveBook,
+    mailboxes: &mut Mailboxes,
+    service: &Service,
+) -> Result<(), NoMemory>
+    requires held { All IsHeld row.old.app.objects }
+    requires expedited { IsService service.now }
+    requires few { row.old.app.handled < 4096 }
+    ensures takes { OnOk result (TakesUp row.old service.now row.new) }
+    ensures held { OnOk result (All IsHeld row.new.app.objects) }
+{
+    let number = row.app.handled as u32;
+    let Service::Sdo(sdo) = service;
+    let reply = exchange(alloc, &mut row.app, mailboxes, sdo)?;
+    put(
+        &mut row.begun,
+        Begun {
+            origin: Origin::Script(number),
+            frame: 0,
+        },
+    )?;
+    put(&mut row.answers, Answer::Replied { reply, frame: 0 })?;
+    Ok(())
+}
+
+/// Takes up a service where it is addressed to the slave of this number.
+fn take_up_addressed(
+    alloc: Global,
+    row: &mut SlaveBook,
+    mailboxes: &mut Mailboxes,
+    number: usize,
+    slave: u32,
+    service: &Service,
+) -> Result<(), NoMemory>
+    requires held { All IsHeld row.old.app.objects }
+    requires expedited { IsService service.now }
+    requires few { row.old.app.handled < 4096 }
+    ensures takes { OnOk result (TakesUpIf (slave == number) row.old service.now row.new) }
+    ensures held { OnOk result (All IsHeld row.new.app.objects) }
+{
+    if slave as usize == number {
+        take_up(alloc, row, mailboxes, service)
+    } else {
+        Ok(())
+    }
+}
+
+/// Carries out the services addressed to the slave of a number, in order.
+fn serve_slave(
+    alloc: Global,
+    number: usize,
+    spec: &SlaveSpec,
+    services: &[(u32, Service)],
+    slaves: usize,
+) -> Result<SlaveBook, NoMemory>
+    requires slave { IsSlave spec.now }
+    requires few { length services.now ≤ 4096 }
+    requires services { All (IsAddressed slaves) services.now }
+    ensures fits { IfOk result (FitsSlave spec.now (addressed number services.now)) }
+    ensures all { IfOk result (λ row. row.app.handled ≡ length (addressed number services.now)) }
+{
+    let mut row = SlaveBook {
+        app: App::new(alloc, spec)?,
+        begun: Rows::new(alloc),
+        answers: Rows::new(alloc),
+    };
+    let mut mailboxes = Mailboxes::new(alloc, spec.out_len, spec.in_len)?;
+    for (slave, service) in services {
+        take_up_addressed(alloc, &mut row, &mut mailboxes, number, *slave, service)?;
+    }
+    Ok(row)
+}
+
+fn serve_all(alloc: Global, scenario: &Scenario) -> Result<Rows<SlaveBook>, NoMemory>
+    requires { IsPlan scenario.now }
+    ensures many { IfOk result (λ rows. length rows ≡ length scenario.now.slaves) }
+    ensures fits { IfOk result (FitSlaves 0 scenario.now.services scenario.now.slaves) }
+    ensures all { IfOk result (AllCarriedOut 0 scenario.now.services) }
+{
+    let mut rows = Rows::new(alloc);
+    for (number, spec) in scenario.slaves.as_slice().iter().enumerate() {
+        let row = serve_slave(
+            alloc,
+            number,
+            spec,
+            scenario.services.as_slice(),
+            scenario.slaves.len(),
+        )?;
+        put(&mut rows, row)?;
+    }
+    Ok(rows)
+}
+
+/// Runs the scenario: each service is handed over as a mail and answered by a mail. The book then
+/// has what was carried out and answered.
+pub fn run(alloc: Global, scenario: &Scenario, book: &mut Book) -> Ending
+    requires plan { IsPlan scenario.now }
+    requires new { IsNew book.old }
+    ensures ending { book.new.ending ≡ result }
+    ensures rows { result ≡ endings.Done → length book.new.slaves ≡ length scenario.now.slaves }
+    ensures fits { result ≡ endings.Done → Fits book.new scenario.now }
+    ensures all { result ≡ endings.Done → AllDone book.new scenario.now }
+    ensures memory { (result ≡ endings.Done) ⊎ (result ≡ endings.NoMemory) }
+    ensures frames { book.new.frames ≡ [] }
+{
+    match serve_all(alloc, scenario) {
+        Ok(slaves) => {
+            book.slaves = slaves;
+            book.ending = Ending::Done;
+        }
+        Err(NoMemory) => book.ending = Ending::NoMemory,
+    }
+    book.ending
+}

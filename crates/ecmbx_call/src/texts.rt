@@ -1,0 +1,58 @@
+ghost use Rattle.std.specs.Prelude.{◌≡◌, IfOk, string_bytes};
+ghost use Rattle.ecmbx_call.specs.Texts.{usage_line, absent_line, long_line, fault_line, place_text, refusal_line};
+
+use ec_fields::{NoMemory, Octets};
+use scenario::Place;
+use std::alloc::Global;
+
+/// The forms of the command line.
+pub fn usage() -> &'static [u8]
+    ensures { result.now ≡ usage_line }
+{
+    b"usage: ecmbx run SCENARIO [CAPTURE] | decode CAPTURE | serve SCENARIO COUNT | make SEED SIZE\n"
+}
+
+pub fn absent() -> &'static [u8]
+    ensures { result.now ≡ absent_line }
+{
+    b"absent\n"
+}
+
+pub fn too_long() -> &'static [u8]
+    ensures { result.now ≡ long_line }
+{
+    b"too long\n"
+}
+
+pub fn file_fault() -> &'static [u8]
+    ensures { result.now ≡ fault_line }
+{
+    b"file fault\n"
+}
+
+fn place_words(alloc: Global, place: Place) -> Result<String, NoMemory>
+    ensures { IfOk result (λ text. string_bytes text ≡ place_text place) }
+{
+    match place {
+        Place::Top => Ok(format!(in alloc; "top")?),
+        Place::Slave(i) => Ok(format!(in alloc; "slave {i}")?),
+        Place::Object(i, k) => Ok(format!(in alloc; "object {i} {k}")?),
+        Place::Entry(i, k, n) => Ok(format!(in alloc; "entry {i} {k} {n}")?),
+        Place::File(i, k) => Ok(format!(in alloc; "file {i} {k}")?),
+        Place::Idn(i, k) => Ok(format!(in alloc; "idn {i} {k}")?),
+        Place::Service(i) => Ok(format!(in alloc; "service {i}")?),
+        Place::Host(i) => Ok(format!(in alloc; "host {i}")?),
+    }
+}
+
+/// A refusal by the rule of a number, at a place.
+pub fn refusal(alloc: Global, rule: u8, place: Place) -> Result<Octets, NoMemory>
+    ensures { IfOk result (λ line. line ≡ refusal_line rule place) }
+{
+    let head = format!(in alloc; "refused S{rule} at ")?;
+    let words = place_words(alloc, place)?;
+    let mut line = Octets::copy_of(alloc, head.as_bytes())?;
+    line.add(words.as_bytes())?;
+    line.add(b"\n")?;
+    Ok(line)
+}
