@@ -1,0 +1,35 @@
+//! The mailbox half of EtherCAT as a program: `ecmbx run SCENARIO` runs the services of a scenario
+//! and prints the report.
+#![tactic(auto)]
+
+use ec_outside::{DiskFiles, StdSink};
+use ecmbx_call::{Book, Status, ecmbx};
+use std::process::ExitCode;
+use std::rt::Env;
+use std::{env, io};
+
+/// The arguments behind the program's name.
+fn words<R: Env + AllocGlobal>(rt: &R) -> io::Result<Vec<String>> {
+    let mut words = Vec::new(rt.alloc());
+    for word in env::args(rt)?.skip(1) {
+        words.push(word)?;
+    }
+    Ok(words)
+}
+
+fn main(rt: HostRuntime) -> ExitCode {
+    let alloc = rt.alloc();
+    let words = match words(&rt) {
+        Ok(words) => words,
+        Err(error) if error.kind() == io::ErrorKind::OutOfMemory => {
+            return ExitCode::from(Status::NoMemory.number());
+        }
+        // Words that are no text are no form of the command line.
+        Err(_) => Vec::new(alloc),
+    };
+    let mut files = DiskFiles::new(&rt);
+    let mut out = StdSink::new(&rt);
+    let mut book = Book::new(alloc);
+    let status = ecmbx(alloc, words.as_slice(), &mut files, &mut out, &mut book);
+    ExitCode::from(status.number())
+}

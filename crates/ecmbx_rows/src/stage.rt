@@ -1,0 +1,71 @@
+use ec_fields::Rows;
+use ec_outside::{MemFiles, MemSink};
+use ecmbx_call::{Book, Status, ecmbx};
+use std::alloc::{AllocError, Global};
+use std::test::Fail;
+
+/// One slave with an array of one UNSIGNED32.
+pub const SLAVE: &str =
+    "version = 1\nretry = 3\n\n[[slave]]\nname = \"plc\"\nstation = 4097\nmail = [64, 64]\nserves = [\"coe\"]\n\n[[slave.object]]\nindex = 8192\nkind = \"array\"\nname = \"Setpoints\"\n\n[[slave.object.entry]]\ntype = 7\naccess = 63\nvalue = \"00000000\"\n";
+
+/// A call with these words over one file, `scenario.toml`, where the load and the put of these
+/// numbers fail; and how it is to end, with this text.
+#[derive(Clone, Copy)]
+pub struct Case<'a> {
+    pub words: &'a [&'a str],
+    pub file: &'a [u8],
+    pub failing_load: Option<u64>,
+    pub failing_put: Option<u64>,
+    pub status: Status,
+    pub text: &'a str,
+}
+
+fn numbers(alloc: Global, number: Option<u64>) -> Result<Rows<u64>, Fail> {
+    let mut rows = Rows::new(alloc);
+    if let Some(number) = number {
+        rows.push(number)?;
+    }
+    Ok(rows)
+}
+
+fn strings(alloc: Global, words: &[&str]) -> Result<Vec<String>, AllocError> {
+    let mut strings = Vec::new(alloc);
+    for word in words {
+        strings.push(String::from_str(alloc, word)?)?;
+    }
+    Ok(strings)
+}
+
+/// Makes the call and compares its status and what the sink took.
+pub fn check(alloc: Global, case: &Case<'_>) -> Result<(), Fail> {
+    let words = strings(alloc, case.words)?;
+    let mut files = MemFiles::new(alloc, numbers(alloc, case.failing_load)?);
+    files.add("scenario.toml", case.file)?;
+    let mut out = MemSink::new(alloc, numbers(alloc, case.failing_put)?);
+    let mut book = Book::new(alloc);
+    let status = ecmbx(alloc, words.as_slice(), &mut files, &mut out, &mut book);
+    if status != case.status {
+        return Err(Fail::new(format_args!("{:?}: {status:?}", case.words)));
+    }
+    if out.bytes() != case.text.as_bytes() {
+        return Err(Fail::new(format_args!("{:?}: another text", case.words)));
+    }
+    Ok(())
+}
+
+/// The same for a scenario that is run: the slave and these services.
+pub fn check_run(alloc: Global, services: &str, text: &str) -> Result<(), Fail> {
+    let mut file = String::from_str(alloc, SLAVE)?;
+    file.push_str(services)?;
+    check(
+        alloc,
+        &Case {
+            words: &["run", "scenario.toml"],
+            file: file.as_bytes(),
+            failing_load: None,
+            failing_put: None,
+            status: Status::Done,
+            text,
+        },
+    )
+}
