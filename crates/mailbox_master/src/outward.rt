@@ -139,9 +139,15 @@ impl Outward<Holding> {
         ensures not_met { (s : OutSide Body) (held taken : List Body) → OutAgree (holding_half self) s held taken → OutAgree (holding_half result) s held taken }
         ensures met { (s : OutSide Body) (held taken : List Body) → OutAgree (holding_half self) s held taken → OutAgree (holding_half result) (written s s.box (link_mail (held_mail self))) held taken }
     {
+        agrees_if_met(&self);
         self // the same mail, with its counter
     }
 }
+
+// A slave that met the write still agrees with the half that did not hear of it.
+fn agrees_if_met(half: &Outward<Holding>)
+    ensures { (s : OutSide Body) (held taken : List Body) → OutAgree (holding_half half.now) s held taken → OutAgree (holding_half half.now) (written s s.box (link_mail (held_mail half.now))) held taken }
+{}
 
 impl LinkState for Outward<Holding> {
     ghost use Rattle.mailbox_master.specs.Access.{write_access};
