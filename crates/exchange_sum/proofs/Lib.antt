@@ -1,0 +1,3 @@
+pub mod SumLaw
+pub mod TwoLaw
+pub mod ToyLaw
