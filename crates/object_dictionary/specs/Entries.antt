@@ -34,15 +34,18 @@ falls_below number None = false
 falls_below number (Some least) = int_lt number least
 
 -- a BOOLEAN is 0 or 1
-abbrev pub number_refusal : EntrySpec → ℤ → Option ℕ
-number_refusal e number =
-    if exceeds number e.max || (e.kind == 1 && int_lt (pos 1) number) then Some ABOVE_MAXIMUM
-    else if falls_below number e.min then Some BELOW_MINIMUM
+abbrev pub number_refusal : ℕ → Option ℤ → Option ℤ → ℤ → Option ℕ
+number_refusal kind min max number =
+    if exceeds number max || (kind == 1 && int_lt (pos 1) number) then Some ABOVE_MAXIMUM
+    else if falls_below number min then Some BELOW_MINIMUM
     else None
 
--- why an entry refuses a value that has its size: strings have no bounds
+-- why bounds refuse a value that has its size: strings have no bounds
+abbrev pub value_refusal : ℕ → Option ℤ → Option ℤ → List ℕ → Option ℕ
+value_refusal kind min max bytes = if is_text kind then None else number_refusal kind min max (number_in kind bytes)
+
 abbrev pub bound_refusal : EntrySpec → List ℕ → Option ℕ
-bound_refusal e bytes = if is_text e.kind then None else number_refusal e (number_in e.kind bytes)
+bound_refusal e bytes = value_refusal e.kind e.min e.max bytes
 
 -- the bit of a state among the three of an access field: PreOp, SafeOp, Op
 abbrev pub state_bit : ℕ → ℕ

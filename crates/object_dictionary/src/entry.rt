@@ -1,7 +1,8 @@
-ghost use Rattle.std.specs.Prelude.{◌≡◌, ◌≤◌, length, None, true, IfOk};
-ghost use Rattle.object_dictionary.specs.Entries.{is_text, number_in, exceeds, falls_below, state_bit, size_refusal, is_entry, read_refusal, write_refusal, check_entry, number_refusal, bound_refusal, with_value, download_entry};
+ghost use Rattle.std.specs.Prelude.{◌≡◌, ◌≤◌, length, None, true, false, IfOk};
+ghost use Rattle.object_dictionary.specs.Entries.{is_text, number_in, exceeds, falls_below, state_bit, size_refusal, is_entry, read_refusal, write_refusal, check_entry, number_refusal, value_refusal, bound_refusal, with_value, download_entry};
 ghost use Rattle.object_dictionary.specs.Entries.{Stores};
 
+use crate::kinds::is_string;
 use crate::refusals::{
     ABOVE_MAXIMUM, BELOW_MINIMUM, NOT_IN_STATE, NOT_READABLE, NOT_WRITABLE, TOO_LONG, TOO_SHORT,
 };
@@ -58,12 +59,6 @@ impl Model for Entry {
     ghost invariant = { λ e. (e.value.limit ≡ e.most) × (is_entry (record { kind = e.kind; access = e.access; least = e.least; most = e.most; min = e.min; max = e.max; name = e.name; value = e.value.octets }) ≡ true) };
 }
 
-fn is_text(kind: u16) -> bool
-    ensures { result ≡ is_text kind }
-{
-    kind == 9 || kind == 10
-}
-
 // The number that the octets of a value stand for.
 fn number_in(kind: u16, bytes: &[u8]) -> i128
     requires some { 1 ≤ length bytes.now }
@@ -104,6 +99,35 @@ fn bit_of_state(al: u8) -> u32
         4 => 1,
         _ => 2,
     }
+}
+
+fn refuses_number(kind: u16, min: Option<i128>, max: Option<i128>, number: i128) -> Option<u32>
+    ensures { result ≡ number_refusal kind min max number }
+{
+    if exceeds(number, max) || (kind == 1 && number > 1) {
+        Some(ABOVE_MAXIMUM)
+    } else if falls_below(number, min) {
+        Some(BELOW_MINIMUM)
+    } else {
+        None
+    }
+}
+
+/// Why a value of this type that has its size is refused by these bounds.
+pub(crate) fn refuses_value(
+    kind: u16,
+    min: Option<i128>,
+    max: Option<i128>,
+    bytes: &[u8],
+) -> Option<u32>
+    requires some { 1 ≤ length bytes.now }
+    requires few { is_text kind ≡ false → length bytes.now ≤ 8 }
+    ensures { result ≡ value_refusal kind min max bytes.now }
+{
+    if is_string(kind) {
+        return None;
+    }
+    refuses_number(kind, min, max, number_in(kind, bytes))
 }
 
 /// Why a value of this size is refused where one of `least` to `most` octets is wanted.
@@ -177,28 +201,13 @@ impl Entry {
         }
     }
 
-    fn refuses_number(&self, number: i128) -> Option<u32>
-        ensures { result ≡ number_refusal self.now number }
-    {
-        if exceeds(number, self.max) || (self.kind == 1 && number > 1) {
-            Some(ABOVE_MAXIMUM)
-        } else if falls_below(number, self.min) {
-            Some(BELOW_MINIMUM)
-        } else {
-            None
-        }
-    }
-
     /// Why a value is refused that has its size.
     pub(crate) fn refuses_value(&self, bytes: &[u8]) -> Option<u32>
         requires some { 1 ≤ length bytes.now }
         requires fits { length bytes.now ≤ self.now.most }
         ensures { result ≡ bound_refusal self.now bytes.now }
     {
-        if is_text(self.kind) {
-            return None;
-        }
-        self.refuses_number(number_in(self.kind, bytes))
+        refuses_value(self.kind, self.min, self.max, bytes)
     }
 
     /// Holds another value.

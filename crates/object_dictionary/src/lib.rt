@@ -3,12 +3,14 @@
 #![tactic(auto)]
 
 mod entry;
+mod kinds;
 mod object;
 mod objects;
 mod refusals;
 mod service;
 
 pub use entry::EntrySpec;
+pub use kinds::{is_string, size_of_kind};
 pub use objects::Objects;
 pub use refusals::{
     ABOVE_MAXIMUM, BELOW_MINIMUM, NO_OBJECT, NO_SUBINDEX, NOT_IN_STATE, NOT_READABLE,
