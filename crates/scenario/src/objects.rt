@@ -2,10 +2,10 @@ ghost use Rattle.std.specs.Prelude.{◌≡◌, ◌≤◌, ◌<◌, ◌==◌, ◌
 ghost use Rattle.toml.specs.View.{table_view};
 ghost use Rattle.object_dictionary.specs.Entries.{is_text, size_of_kind, is_entry, bound_refusal};
 ghost use Rattle.object_dictionary.specs.Whole.{sizes};
-ghost use Rattle.object_dictionary.specs.Sound.{is_rising};
+ghost use Rattle.object_dictionary.specs.Sound.{is_object, is_rising};
 ghost use Rattle.scenario.specs.Reading.{Gives};
 ghost use Rattle.scenario.specs.Scenario.{is_kind, is_wanted, kind_at, string_sizes_at, number_sizes_at, sizes_at, no_bound_at, bound_at, are_bounds, bounds_at, bounded, entry_of, code_of, code_at, is_index, index_at, is_many, entry_tables_at, kind_behind, entries_of, sized, object_of, objects_of};
-ghost use Rattle.scenario.specs.Sound.{IsEntry, is_code, IsObject, indexes};
+ghost use Rattle.scenario.specs.Sound.{IsEntry, is_code, kept, IsObject, indexes};
 
 use crate::keys::{
     excluded, label_or_none, needed_integer, needed_octets, needed_pair, needed_text,
@@ -276,11 +276,16 @@ fn sizes_of(entries: &[EntrySpec]) -> u32
     total
 }
 
+#[tactic(auto, using(crate::proofs::Sizes::object_sound))]
 fn sized(object: ObjectSpec, place: Place) -> Result<ObjectSpec, Stop>
+    requires some { 1 ≤ length object.entries }
     requires few { length object.entries ≤ 254 }
+    requires one { object.code ≡ 7 → length object.entries ≤ 1 }
+    requires name { length object.name ≤ 40 }
     requires small { All IsEntry object.entries }
     ensures gives { Gives (λ o. o) result (sized place object) }
-    ensures within { IfOk result (λ o. (o ≡ object) × (sizes o.entries ≤ 16000)) }
+    ensures same { IfOk result (λ o. o ≡ object) }
+    ensures sound { IfOk result (λ o. is_object (kept o) ≡ true) }
 {
     let total = sizes_of(object.entries.as_slice());
     unless(total <= 16_000, Rule::TooMany, place)?;
