@@ -3,11 +3,13 @@
 #![tactic(auto)]
 
 mod entry;
+mod info;
 mod kinds;
 mod object;
 mod objects;
 mod refusals;
 mod service;
+mod whole;
 
 pub use entry::EntrySpec;
 pub use kinds::{is_string, size_of_kind};
