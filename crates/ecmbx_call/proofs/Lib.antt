@@ -2,6 +2,6 @@ pub mod Pushed
 pub mod Served
 pub mod Put
 pub mod Courses
-pub mod Carried
+pub mod Inserted
 pub mod Causes
 pub mod Worked

@@ -1,7 +1,5 @@
 pub mod Status
-pub mod Objects
 pub mod Meaning
-pub mod Exchange
 pub mod Book
 pub mod Report
 pub mod Texts
