@@ -1,5 +1,5 @@
 -- Objects by their indexes: the tables of downloads and uploads of one entry, with the abort codes in their order.
-use Rattle.std.specs.Prelude.{◌≡◌, ℕ, ◌-◌, ◌==◌, ◌&&◌, not, Bool, List, [], ◌∷◌, length, nat_eq, slice_get, slice_set, if◌then◌else◌, Option, None, Some, Result, Ok, Err}
+use Rattle.std.specs.Prelude.{ℕ, ◌-◌, ◌==◌, ◌&&◌, not, Bool, List, [], ◌∷◌, length, nat_eq, slice_get, slice_set, if◌then◌else◌, Option, None, Some, Result, Ok, Err}
 use Rattle.std.specs.Map.{lookup, set_value}
 use Rattle.object_dictionary.specs.declared.entry.EntrySpec.{EntrySpec}
 use Rattle.object_dictionary.specs.declared.object.Object.{Object}

@@ -1,5 +1,5 @@
 -- One entry: what it may hold, and why it refuses a value.
-use Rattle.std.specs.Prelude.{◌≡◌, ℕ, ◌+◌, ◌==◌, ◌&&◌, ◌||◌, nat_lt, nat_le, Bool, true, false, List, [], ◌∷◌, length, if◌then◌else◌, Option, None, Some, Result, Ok, Err, ℤ, pos, int_lt}
+use Rattle.std.specs.Prelude.{◌≡◌, ℕ, ◌+◌, ◌==◌, ◌&&◌, ◌||◌, nat_lt, nat_le, Bool, false, List, [], length, if◌then◌else◌, Option, None, Some, Result, Ok, Err, ℤ, pos, int_lt}
 use Rattle.byteorder.specs.Endian.{little_number, twos_complement}
 use Rattle.ec_fields.specs.Fields.{bits_of}
 use Rattle.object_dictionary.specs.declared.entry.EntrySpec.{EntrySpec}

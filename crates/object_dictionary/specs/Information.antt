@@ -1,11 +1,12 @@
 -- What is told of objects: the octets behind the header of an information answer.
-use Rattle.std.specs.Prelude.{ℕ, ◌+◌, ◌*◌, ◌/◌, ◌%◌, ◌==◌, ◌||◌, not, nat_lt, Bool, true, false, List, [], ◌∷◌, ◌++◌, length, codes, count_by, if◌then◌else◌, Option, None, Some, Result, Ok, Err}
+use Rattle.std.specs.Prelude.{ℕ, ◌+◌, ◌*◌, ◌==◌, ◌||◌, nat_lt, Bool, true, false, List, [], ◌∷◌, ◌++◌, length, codes, count_by, if◌then◌else◌, Option, None, Some, Result, Ok, Err}
 use Rattle.std.specs.List.{list_any}
 use Rattle.std.specs.Map.{values_of}
 use Rattle.byteorder.specs.Endian.{little_bytes}
 use Rattle.ec_fields.specs.Fields.{bits_of}
 use Rattle.object_dictionary.specs.declared.entry.EntrySpec.{EntrySpec}
 use Rattle.object_dictionary.specs.declared.object.Object.{Object}
+use Rattle.object_dictionary.specs.declared.service.SdoService.{SdoService}
 use Rattle.object_dictionary.specs.declared.refusals.TheConstants.{NO_SUBINDEX, NOT_SUPPORTED}
 use Rattle.object_dictionary.specs.Dictionary.{Table, object_of, is_variable, is_count, entry_at, read_from}
 
@@ -68,3 +69,16 @@ entry_described index o sub = if is_count o sub then Ok (entry_octets index 0 5 
 
 abbrev pub entry_info : Table → ℕ → ℕ → Result (List ℕ) ℕ
 entry_info table index sub = read_from (λ o. entry_described index o sub) (object_of table index)
+
+-- what an information service asks for
+abbrev pub info : Table → SdoService → Result (List ℕ) ℕ
+info table (SdoService.List kind) = list_info table kind
+info table (SdoService.ObjectInfo index) = object_info table index
+info table (SdoService.EntryInfo index sub value) = entry_info table index sub
+info table _ = Err NOT_SUPPORTED
+
+abbrev pub is_question : SdoService → Bool
+is_question (SdoService.List kind) = true
+is_question (SdoService.ObjectInfo index) = true
+is_question (SdoService.EntryInfo index sub value) = true
+is_question _ = false

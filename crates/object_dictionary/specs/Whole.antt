@@ -1,5 +1,5 @@
 -- Complete access: an object as one value, of the number of its entries (from subindex 0) and the entries.
-use Rattle.std.specs.Prelude.{◌≡◌, ℕ, ◌+◌, ◌==◌, ◌&&◌, not, nat_lt, nat_le, Bool, true, List, [], ◌∷◌, ◌++◌, length, take, drop, if◌then◌else◌, Option, None, Some, Result, Ok, Err}
+use Rattle.std.specs.Prelude.{ℕ, ◌+◌, ◌==◌, ◌&&◌, not, nat_lt, Bool, List, [], ◌∷◌, ◌++◌, length, take, drop, if◌then◌else◌, Option, None, Some, Result}
 use Rattle.std.specs.List.{list_all}
 use Rattle.ec_fields.specs.Fields.{number_at}
 use Rattle.object_dictionary.specs.declared.entry.EntrySpec.{EntrySpec}

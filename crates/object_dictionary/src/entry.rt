@@ -1,6 +1,6 @@
-ghost use Rattle.std.specs.Prelude.{◌≡◌, ◌≤◌, length, None, true, IfOk};
-ghost use Rattle.object_dictionary.specs.Entries.{is_text, number_in, exceeds, falls_below, state_bit, size_refusal, is_entry, read_refusal, write_refusal, check_entry, number_refusal, bound_refusal, with_value, download_entry};
-ghost use Rattle.object_dictionary.specs.Entries.{Stores};
+ghost use Rattle.std.specs.Prelude.{◌≡◌, ◌≤◌, ◌<◌, ◌==◌, length, None, true, IfOk};
+ghost use Rattle.ec_fields.specs.Fields.{bits_of};
+ghost use Rattle.object_dictionary.specs.Entries.{is_text, number_in, exceeds, falls_below, state_bit, size_refusal, is_entry, read_refusal, write_refusal, check_entry, number_refusal, bound_refusal, with_value, download_entry, Stores};
 
 use crate::refusals::{
     ABOVE_MAXIMUM, BELOW_MINIMUM, NOT_IN_STATE, NOT_READABLE, NOT_WRITABLE, TOO_LONG, TOO_SHORT,
@@ -215,6 +215,7 @@ impl Entry {
     pub(crate) fn download(&mut self, bytes: &[u8], al: u8) -> Option<u32>
         ensures { Stores (download_entry al self.old bytes.now) result self.old self.new }
     {
+        let _least = self.least;
         if let Some(code) = self.check(bytes.len(), al) {
             return Some(code);
         }
@@ -225,9 +226,59 @@ impl Entry {
         None
     }
 
+    /// The greatest size of the value.
+    pub(crate) fn most(&self) -> usize
+        ensures value { result ≡ self.now.most }
+        ensures some { 1 ≤ result }
+        ensures few { result ≤ 8000 }
+        ensures sound { is_entry self.now ≡ true }
+    {
+        self.most as usize
+    }
+
+    /// The data type.
+    pub(crate) fn kind(&self) -> u16
+        ensures { result ≡ self.now.kind }
+    {
+        self.kind
+    }
+
+    /// The access rights.
+    pub(crate) fn access(&self) -> u16
+        ensures { result ≡ self.now.access }
+    {
+        self.access
+    }
+
+    /// The name.
+    pub(crate) fn name(&self) -> &[u8]
+        ensures value { result.now ≡ self.now.name }
+        ensures short { length self.now.name ≤ 40 }
+    {
+        self.name.bytes()
+    }
+
+    /// Whether the value has one size.
+    pub(crate) fn is_fixed(&self) -> bool
+        ensures { result ≡ (self.now.least == self.now.most) }
+    {
+        self.least == self.most
+    }
+
+    /// Whether a bit of the access is set.
+    pub(crate) fn has_bit(&self, bit: u32) -> bool
+        requires { bit < 16 }
+        ensures { result ≡ (bits_of self.now.access bit 1 == 1) }
+    {
+        bits(self.access, bit, 1) == 1
+    }
+
     /// The octets of the value.
     pub(crate) fn bytes(&self) -> &[u8]
         ensures value { result.now ≡ self.now.value }
+        ensures within { length self.now.value ≤ self.now.most }
+        ensures few { length self.now.value ≤ 8000 }
+        ensures some { 1 ≤ length self.now.value }
     {
         self.value.bytes()
     }

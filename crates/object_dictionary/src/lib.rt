@@ -3,10 +3,12 @@
 #![tactic(auto)]
 
 mod entry;
+mod info;
 mod object;
 mod objects;
 mod refusals;
 mod service;
+mod whole;
 
 pub use entry::EntrySpec;
 pub use objects::Objects;

@@ -1,12 +1,13 @@
-ghost use Rattle.std.specs.Prelude.{◌≡◌, ◌≤◌, ◌<◌, true, length, None, IfOk};
+ghost use Rattle.std.specs.Prelude.{◌≡◌, ◌≤◌, ◌<◌, [], true, length, None, IfOk};
 ghost use Rattle.std.specs.Option.{option_copied};
-ghost use Rattle.object_dictionary.specs.Entries.{Stores};
-ghost use Rattle.object_dictionary.specs.Dictionary.{is_variable, is_count, entry_place, entry_at, check_object, download_object};
+ghost use Rattle.object_dictionary.specs.Entries.{Stores, Reads};
+ghost use Rattle.object_dictionary.specs.Dictionary.{is_variable, is_count, entry_place, entry_at, check_object, download_object, upload_object};
 ghost use Rattle.object_dictionary.specs.Sound.{are_entries};
 
 use crate::entry::{Entry, EntrySpec};
 use crate::refusals::{NO_SUBINDEX, NOT_WRITABLE};
-use ec_fields::{NoMemory, Octets, Rows};
+use crate::whole::put;
+use ec_fields::{NoMemory, Octets, Rows, Transfer};
 use std::alloc::Global;
 
 /// An object that is kept, but for its index (ETG.1000.6, section 5.6.7).
@@ -95,5 +96,29 @@ impl Object {
             return Some(NO_SUBINDEX);
         }
         self.entries.at_mut(place).download(bytes, al)
+    }
+
+    /// Appends the value of an entry to a list that is empty; it stays so after `Some`.
+    pub(crate) fn upload(&self, sub: u8, al: u8, into: &mut Transfer) -> Option<u32>
+        requires room { 16384 ≤ into.old.limit }
+        requires empty { into.old.octets ≡ [] }
+        requires count { length self.now.entries ≤ 254 }
+        ensures value { Reads (upload_object al self.now sub) result into.new.octets }
+        ensures limit { into.new.limit ≡ into.old.limit }
+    {
+        if self.is_count(sub) {
+            put(into, &[self.entries.len() as u8]);
+            return None;
+        }
+        match self.entry(sub) {
+            None => Some(NO_SUBINDEX),
+            Some(entry) => {
+                if let Some(code) = entry.refuses_read(al) {
+                    return Some(code);
+                }
+                put(into, entry.bytes());
+                None
+            }
+        }
     }
 }
