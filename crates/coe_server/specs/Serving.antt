@@ -5,6 +5,7 @@ use Rattle.coe_model.specs.Mails.{Information, Coe, CoeMail, mail, failed, First
 use Rattle.coe_model.specs.Tables.{Ask}
 use Rattle.coe_model.specs.Tables as Tables
 use Rattle.coe_model.specs.Server.{Transfer, idle, downloading, uploading, Emission, emergency, packet, Outcome, information_parts}
+pub use Rattle.object_dictionary.specs.Entries.{Stores}
 use Rattle.mailbox_mail.specs.declared.mail.Mail.{Mail}
 use Rattle.coe_model.specs.Octets.{mail_written}
 use Rattle.coe_server.specs.declared.dictionary.Target.{Target}
@@ -78,11 +79,6 @@ outcome_of app c counts = record { app = app; transfer = transfer_of c; counts =
 -- the server is the same, with this transfer and this to be told
 abbrev pub told_of : Serving → State → Pending → Serving
 told_of c state pending = record c { state = state; pending = pending; emitted = Emitted.Nothing }
-
--- tables after a download, by what the call answers
-abbrev pub Stores : {S : Type 0} → Result S ℕ → Option ℕ → S → S → Type 0
-Stores download None old new = download ≡ Ok new
-Stores download (Some code) old new = (download ≡ Err code) × (new ≡ old)
 
 -- a value that is read, by what the call answers
 abbrev pub Reads : Result (List ℕ) ℕ → Option ℕ → List ℕ → Type 0
