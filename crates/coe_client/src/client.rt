@@ -2,6 +2,7 @@ ghost use Rattle.std.specs.Prelude.{◌≡◌, ◌≤◌, ◌<◌, ◌+◌, List
 ghost use Rattle.coe_model.specs.Mails.{CoeMail};
 ghost use Rattle.coe_model.specs.Client.{ends};
 ghost use Rattle.coe_model.specs.Model.{planned};
+ghost use Rattle.coe_client.specs.Hear.{IsOpen};
 ghost use Rattle.coe_client.specs.Talk.{service_view, octets_in, later, awaited, is_over, IsFresh, begun, begun_service};
 
 use crate::state::{Awaits, Task, Unsent};
@@ -144,6 +145,7 @@ impl CoeClient {
         requires { octets_in service.now ≤ 16384 }
         ensures replies { (ms : List CoeMail) → awaited self.new ms ≡ ends self.old.room (service_view service.now) ms }
         ensures mails { (hs : List CoeMail) → later self.new hs ≡ planned self.old.room (service_view service.now) hs }
+        ensures waits { IsOpen self.new }
         ensures room { self.new.room ≡ self.old.room }
     {
         self.begin_service(service);

@@ -7,7 +7,7 @@ use Rattle.coe_model.specs.Tables as Tables
 use Rattle.coe_model.specs.Server.{Transfer, idle, downloading, uploading, Emission, emergency, packet, Outcome, information_parts}
 pub use Rattle.object_dictionary.specs.Entries.{Stores}
 use Rattle.mailbox_mail.specs.declared.mail.Mail.{Mail}
-use Rattle.coe_model.specs.Octets.{mail_written}
+use Rattle.coe_model.specs.Octets.{mail_heard, mail_written}
 use Rattle.coe_server.specs.declared.dictionary.Target.{Target}
 use Rattle.coe_server.specs.declared.dictionary.Question.{Question}
 use Rattle.coe_server.specs.declared.state.State.{State}
@@ -132,10 +132,11 @@ abbrev pub reply_mail : Result Coe ℕ → CoeMail
 reply_mail (Ok message) = mail message
 reply_mail (Err detail) = failed detail
 
--- the first of the mails that wait
+-- the first of the mails that wait, in its one spelling, which reads as it
 pub record GivesNext (old : Serving) (written : Mail) (new : Serving) : Type 0 where
   pub first : CoeMail
   pub spelled : written ≡ mail_written first
+  pub heard : mail_heard written ≡ first
   pub rest : waiting_mails old ≡ first ∷ waiting_mails new
 
 -- a server's message is short enough for the mailbox
