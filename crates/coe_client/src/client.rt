@@ -1,8 +1,7 @@
-ghost use Rattle.std.specs.Prelude.{◌≡◌, ◌≤◌, ◌<◌, ◌+◌, List, [], ◌++◌, true, length, IfOk, OnOk, OnErr, Some, None};
+ghost use Rattle.std.specs.Prelude.{◌≡◌, ◌≤◌, ◌<◌, ◌+◌, List, [], ◌++◌, true, false, length, IfOk, OnOk, OnErr, Some, None};
 ghost use Rattle.coe_model.specs.Mails.{CoeMail};
 ghost use Rattle.coe_model.specs.Client.{ends};
 ghost use Rattle.coe_model.specs.Model.{planned};
-ghost use Rattle.coe_client.specs.Hear.{IsOpen};
 ghost use Rattle.coe_client.specs.Talk.{service_view, octets_in, later, awaited, is_over, IsFresh, begun, begun_service};
 
 use crate::state::{Awaits, Task, Unsent};
@@ -145,10 +144,25 @@ impl CoeClient {
         requires { octets_in service.now ≤ 16384 }
         ensures replies { (ms : List CoeMail) → awaited self.new ms ≡ ends self.old.room (service_view service.now) ms }
         ensures mails { (hs : List CoeMail) → later self.new hs ≡ planned self.old.room (service_view service.now) hs }
-        ensures waits { IsOpen self.new }
         ensures room { self.new.room ≡ self.old.room }
     {
         self.begin_service(service);
+    }
+
+    /// Whether the reply of the service has come whole.
+    pub fn is_done(&self) -> bool
+        ensures over { result ≡ is_over self.now.awaits }
+        ensures yet { result ≡ false → awaited self.now [] ≡ None }
+    {
+        match self.awaits {
+            Awaits::Over(_) => true,
+            Awaits::Nothing
+            | Awaits::Acceptance
+            | Awaits::SegmentAnswers { left: _, toggle: _ }
+            | Awaits::FirstAnswer
+            | Awaits::Parts { size: _, toggle: _ }
+            | Awaits::Information { opcode: _ } => false,
+        }
     }
 
     /// The reply of the service that is done.

@@ -138,7 +138,7 @@ module _ {S : Type 0} (o : Tables S) (law : AreLawful o) (eoe : Bool) (areas : A
   pub ask_full : (v : Server S) (a : Ask) → full o eoe areas v (information a) ≡ information_mail a ∷ []
   ask_full v a = sent_last decide never (serve o eoe areas.back) is_emission 2 v (information_mail a)
 
-  client_follows : (v : Server S) (q : Service) → o.valid v.app ≡ true → (hs more : List CoeMail) → plain is_emission (given (serve o eoe areas.back) v (full o eoe areas v q)) ≡ hs ++ more →
+  pub client_follows : (v : Server S) (q : Service) → o.valid v.app ≡ true → (hs more : List CoeMail) → plain is_emission (given (serve o eoe areas.back) v (full o eoe areas v q)) ≡ hs ++ more →
       IsPrefixOf (planned areas.out q hs) (full o eoe areas v q)
   client_follows v (download t bytes) sound = sdo_follows v (download t bytes) sound tt
   client_follows v (upload t) sound = sdo_follows v (upload t) sound tt
