@@ -58,7 +58,8 @@ impl Model for Entry {
     ghost invariant = { λ e. (e.value.limit ≡ e.most) × (is_entry (record { kind = e.kind; access = e.access; least = e.least; most = e.most; min = e.min; max = e.max; name = e.name; value = e.value.octets }) ≡ true) };
 }
 
-fn is_text(kind: u16) -> bool
+/// Whether a type is a string.
+pub(crate) fn is_text(kind: u16) -> bool
     ensures { result ≡ is_text kind }
 {
     kind == 9 || kind == 10

@@ -2,6 +2,7 @@
 //! their order, and what is told of them (CiA 301; ETG.1000.6, section 5.6).
 #![tactic(auto)]
 
+mod accepts;
 mod entry;
 mod info;
 mod object;
