@@ -1,3 +1,5 @@
 pub mod Unread
 pub mod Gives
 pub mod Fits
+pub mod ObjectsAnswer
+pub mod ObjectsLaw

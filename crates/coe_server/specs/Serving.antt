@@ -5,8 +5,9 @@ use Rattle.coe_model.specs.Mails.{Information, Coe, CoeMail, mail, failed, First
 use Rattle.coe_model.specs.Tables.{Ask}
 use Rattle.coe_model.specs.Tables as Tables
 use Rattle.coe_model.specs.Server.{Transfer, idle, downloading, uploading, Emission, emergency, packet, Outcome, information_parts}
+pub use Rattle.object_dictionary.specs.Entries.{Stores}
 use Rattle.mailbox_mail.specs.declared.mail.Mail.{Mail}
-use Rattle.coe_model.specs.Octets.{mail_written}
+use Rattle.coe_model.specs.Octets.{mail_heard, mail_written}
 use Rattle.coe_server.specs.declared.dictionary.Target.{Target}
 use Rattle.coe_server.specs.declared.dictionary.Question.{Question}
 use Rattle.coe_server.specs.declared.state.State.{State}
@@ -79,11 +80,6 @@ outcome_of app c counts = record { app = app; transfer = transfer_of c; counts =
 abbrev pub told_of : Serving → State → Pending → Serving
 told_of c state pending = record c { state = state; pending = pending; emitted = Emitted.Nothing }
 
--- tables after a download, by what the call answers
-abbrev pub Stores : {S : Type 0} → Result S ℕ → Option ℕ → S → S → Type 0
-Stores download None old new = download ≡ Ok new
-Stores download (Some code) old new = (download ≡ Err code) × (new ≡ old)
-
 -- a value that is read, by what the call answers
 abbrev pub Reads : Result (List ℕ) ℕ → Option ℕ → List ℕ → Type 0
 Reads value None octets = value ≡ Ok octets
@@ -136,10 +132,11 @@ abbrev pub reply_mail : Result Coe ℕ → CoeMail
 reply_mail (Ok message) = mail message
 reply_mail (Err detail) = failed detail
 
--- the first of the mails that wait
+-- the first of the mails that wait, in its one spelling, which reads as it
 pub record GivesNext (old : Serving) (written : Mail) (new : Serving) : Type 0 where
   pub first : CoeMail
   pub spelled : written ≡ mail_written first
+  pub heard : mail_heard written ≡ first
   pub rest : waiting_mails old ≡ first ∷ waiting_mails new
 
 -- a server's message is short enough for the mailbox

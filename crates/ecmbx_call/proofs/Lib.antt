@@ -4,4 +4,5 @@ pub mod Put
 pub mod Courses
 pub mod Inserted
 pub mod Causes
+pub mod Meant
 pub mod Worked

@@ -1,40 +1,38 @@
 ghost use Rattle.std.specs.Prelude.{◌≡◌, ◌<◌, ◌≤◌, ◌^◌, ◌-◌, IfOk};
+ghost use Rattle.coe_law.specs.Talks.{emission_mails};
 ghost use Rattle.scenario.specs.Sound.{IsSdo};
+ghost use Rattle.ecmbx_call.specs.Exchange.{emergency_in};
 ghost use Rattle.ecmbx_call.specs.Meaning.{sdo_meaning};
 
 use crate::app::{App, Performed};
-use ec_fields::NoMemory;
+use coe_client::CoeClient;
+use coe_law::{Emission, Mailboxes, carry_out};
+use coe_server::CoeServer;
+use ec_fields::{NoMemory, Octets};
 use object_dictionary::SdoService;
+use slave_app::Reply;
 use std::alloc::Global;
 
-/// temp
+/// The client of a slave, the slave's server, and the two mailboxes between them.
 #[derive(Debug, Drop)]
 pub struct Link {
-    room: u16,
+    client: CoeClient,
+    server: CoeServer,
+    mailboxes: Mailboxes,
 }
 
 impl Link {
-    /// temp
-    pub fn new(_alloc: Global, out_len: u16, _in_len: u16) -> Result<Link, NoMemory>
+    /// A client and a server without a service, and empty mailboxes of these lengths.
+    pub fn new(alloc: Global, out_len: u16, in_len: u16) -> Result<Link, NoMemory>
         requires out_least { 64 ≤ out_len }
         requires out_most { out_len ≤ 1486 }
-        requires in_least { 64 ≤ _in_len }
-        requires in_most { _in_len ≤ 1486 }
+        requires in_least { 64 ≤ in_len }
+        requires in_most { in_len ≤ 1486 }
     {
-        Ok(Link { room: out_len })
+        Ok(Link {
+            client: CoeClient::new(alloc, out_len, in_len)?,
+            server: CoeServer::new(alloc, false, in_len)?,
+            mailboxes: Mailboxes::new(alloc, out_len, in_len)?,
+        })
     }
-}
-
-/// One service by mail.
-pub fn exchange(
-    _alloc: Global,
-    app: &mut App,
-    _link: &mut Link,
-    service: &SdoService,
-) -> Result<Performed, NoMemory>
-    requires sdo { IsSdo service.now }
-    requires few { app.old.handled < 2 ^ 64 - 1 }
-    ensures { IfOk result (λ performed. sdo_meaning app.old service.now ≡ (app.new, performed)) }
-{
-    Err(NoMemory)
 }

@@ -221,7 +221,8 @@ set_alike entries place e bytes at all least most = record {
       (all_get (λ (x : EntrySpec). x.least == least && x.most == most) entries place e old at);
 }
 
-map_ok : {X Y : Type 0} (f : X → Y) (r : Result X ℕ) (y : Y) → result_map f r ≡ Ok y → (x : X) × (r ≡ Ok x) × (f x ≡ y)
+-- what was made of what was done
+pub map_ok : {X Y : Type 0} (f : X → Y) (r : Result X ℕ) (y : Y) → result_map f r ≡ Ok y → (x : X) × (r ≡ Ok x) × (f x ≡ y)
 map_ok f (Ok x) y e = (x, refl, cc)
 map_ok f (Err code) y e = absurd (cc)
 

@@ -1,11 +1,11 @@
 -- Which entries and objects a dictionary may have.
-use Rattle.std.specs.Prelude.{ℕ, ◌==◌, ◌&&◌, nat_lt, nat_le, Bool, true, List, [], ◌∷◌, length, replicate, codes, if◌then◌else◌, None}
+use Rattle.std.specs.Prelude.{ℕ, ◌==◌, ◌&&◌, nat_lt, nat_le, Bool, true, List, [], ◌∷◌, length, replicate, codes, if◌then◌else◌, None, is_none}
 use Rattle.std.specs.List.{list_all}
 use Rattle.std.specs.Map.{keys_of}
 use Rattle.object_dictionary.specs.declared.entry.EntrySpec.{EntrySpec}
 use Rattle.object_dictionary.specs.declared.object.Object.{Object}
 use Rattle.object_dictionary.specs.Entries.{is_entry}
-use Rattle.object_dictionary.specs.Dictionary.{Table}
+use Rattle.object_dictionary.specs.Dictionary.{Table, object_of}
 use Rattle.object_dictionary.specs.Whole.{sizes}
 
 abbrev pub are_entries : List EntrySpec → Bool
@@ -39,6 +39,10 @@ is_rising (index ∷ indexes) = list_all (nat_lt index) indexes && is_rising ind
 -- the tables that a dictionary may have: the profile's two objects and 256 more
 abbrev pub is_table : Table → Bool
 is_table table = is_rising (keys_of table) && nat_le (length table) 258 && list_all is_row table
+
+-- an object that a table takes besides its own
+abbrev pub is_accepted : ℕ → Object → Table → Bool
+is_accepted index o table = is_none (object_of table index) && nat_lt (length table) 258 && is_object o && is_emitter index o
 
 -- a table with one object more, at its place among the indexes
 abbrev pub placed : ℕ → Object → Table → Table

@@ -2,6 +2,7 @@
 //! their order, and what is told of them (CiA 301; ETG.1000.6, section 5.6).
 #![tactic(auto)]
 
+mod accepts;
 mod entry;
 mod info;
 mod kinds;
@@ -11,6 +12,7 @@ mod refusals;
 mod service;
 mod whole;
 
+pub use accepts::are_small;
 pub use entry::EntrySpec;
 pub use kinds::{is_string, size_of_kind};
 pub use objects::Objects;

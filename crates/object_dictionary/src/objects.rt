@@ -1,4 +1,4 @@
-ghost use Rattle.std.specs.Prelude.{◌≡◌, ◌≤◌, ◌<◌, ◌+◌, [], ◌∷◌, ◌++◌, nat_lt, true, length, None, IfOk, OnOk, OnErr};
+ghost use Rattle.std.specs.Prelude.{◌≡◌, ◌≤◌, ◌<◌, ◌+◌, [], ◌∷◌, ◌++◌, nat_lt, true, length, None, is_some, IfOk, OnOk, OnErr};
 ghost use Rattle.std.specs.List.{position_or_len};
 ghost use Rattle.std.specs.Map.{keys_of};
 ghost use Rattle.object_dictionary.specs.Entries.{Stores, Reads};
@@ -134,6 +134,13 @@ impl Objects {
         let place = place_above(&self.table, index);
         self.table.shift_insert(place, index, object)?;
         Ok(())
+    }
+
+    /// Whether there is an object of this index.
+    pub fn has(&self, index: u16) -> bool
+        ensures { result ≡ is_some (object_of self.now index) }
+    {
+        self.table.contains_key(&index)
     }
 
     /// How many objects there are.

@@ -3,4 +3,4 @@ pub mod Items
 pub mod Rows
 pub mod Refused
 pub mod Rising
-pub mod Sizes
+pub mod Entries

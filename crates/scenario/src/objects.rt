@@ -1,7 +1,6 @@
 ghost use Rattle.std.specs.Prelude.{◌≡◌, ◌≤◌, ◌<◌, ◌==◌, ◌||◌, ℕ, map, length, IfOk, IfSome, All, None, true, IsTrue};
 ghost use Rattle.toml.specs.View.{table_view};
 ghost use Rattle.object_dictionary.specs.Entries.{is_text, size_of_kind, is_entry, bound_refusal};
-ghost use Rattle.object_dictionary.specs.Whole.{sizes};
 ghost use Rattle.object_dictionary.specs.Sound.{is_object, is_rising};
 ghost use Rattle.scenario.specs.Reading.{Gives};
 ghost use Rattle.scenario.specs.Scenario.{is_kind, is_wanted, kind_at, string_sizes_at, number_sizes_at, sizes_at, no_bound_at, bound_at, are_bounds, bounds_at, bounded, entry_of, code_of, code_at, is_index, index_at, is_many, entry_tables_at, kind_behind, entries_of, sized, object_of, objects_of};
@@ -15,7 +14,7 @@ use crate::place::Place;
 use crate::refusal::{Rule, Stop, put, refused};
 use crate::tables::needed_tables;
 use ec_fields::Rows;
-use object_dictionary::{EntrySpec, is_string, size_of_kind};
+use object_dictionary::{EntrySpec, are_small, is_string, size_of_kind};
 use slave_app::ObjectSpec;
 use std::alloc::Global;
 use toml::Table;
@@ -263,20 +262,7 @@ fn entry_tables(alloc: Global, table: &Table, code: u8, place: Place) -> Result<
     Ok(tables)
 }
 
-/// The greatest sizes of entries together.
-fn sizes_of(entries: &[EntrySpec]) -> u32
-    requires few { length entries.now ≤ 254 }
-    requires small { All IsEntry entries.now }
-    ensures { result ≡ sizes entries.now }
-{
-    let mut total = 0;
-    for entry in entries {
-        total += entry.most;
-    }
-    total
-}
-
-#[tactic(auto, using(crate::proofs::Sizes::object_sound))]
+#[tactic(auto, using(crate::proofs::Entries::object_sound))]
 fn sized(object: ObjectSpec, place: Place) -> Result<ObjectSpec, Stop>
     requires some { 1 ≤ length object.entries }
     requires few { length object.entries ≤ 254 }
@@ -287,8 +273,8 @@ fn sized(object: ObjectSpec, place: Place) -> Result<ObjectSpec, Stop>
     ensures same { IfOk result (λ o. o ≡ object) }
     ensures sound { IfOk result (λ o. is_object (kept o) ≡ true) }
 {
-    let total = sizes_of(object.entries.as_slice());
-    unless(total <= 16_000, Rule::TooMany, place)?;
+    let small = are_small(object.entries.as_slice());
+    unless(small, Rule::TooMany, place)?;
     Ok(object)
 }
 
