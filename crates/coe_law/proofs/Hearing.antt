@@ -98,6 +98,10 @@ first_given c m rest is = (subst (EachOf IsGiven) is (waiting_given c)).0
 pub next_is : (old new : Serving) (written : Mail) → GivesNext old written new → waiting_mails old ≡ mail_heard written ∷ waiting_mails new
 next_is old new written g = g.rest ∙ ap (λ m. m ∷ waiting_mails new) (sym g.heard)
 
+-- and so it is where it was carried through a mailbox
+pub carried_is : (old new : Serving) (written carried : Mail) → mail_heard carried ≡ mail_heard written → GivesNext old written new → waiting_mails old ≡ mail_heard carried ∷ waiting_mails new
+carried_is old new written carried same g = next_is old new written g ∙ ap (λ m. m ∷ waiting_mails new) (sym same)
+
 -- of mails that wait, with one more of them heard
 pub one_more : (all done rest : List CoeMail) (m : CoeMail) (more : List CoeMail) → all ≡ done ++ rest → rest ≡ m ∷ more → all ≡ (done ++ m ∷ []) ++ more
 one_more all done rest m more split is = split ∙ ap (λ l. done ++ l) is ∙ sym (append_assoc done (m ∷ []) more)

@@ -10,6 +10,7 @@ ghost use Rattle.coe_client.specs.Talk.{service_view, octets_in, is_over};
 ghost use Rattle.coe_law.specs.Talks.{means, emission_mails, areas_of, all_mails, Hears, IsAwaited, IsGiven, packet_mails};
 
 use crate::carried::{Carried, Emission};
+use crate::mailbox::Mailboxes;
 use arrayvec::ArrayVec;
 use coe_client::CoeClient;
 use coe_codec::Coe;
@@ -68,8 +69,14 @@ fn hear(client: &mut CoeClient, given: &Mail, emission: &mut Option<Emission>)
     }
 }
 
-// It hears all mails that wait in the server.
-fn hear_all(client: &mut CoeClient, server: &mut CoeServer, emission: &mut Option<Emission>)
+// It hears all mails that wait in the server, one by one through the mailbox for answers.
+fn hear_all(
+    client: &mut CoeClient,
+    server: &mut CoeServer,
+    mailboxes: &mut Mailboxes,
+    emission: &mut Option<Emission>,
+)
+    requires long { mailboxes.old.back ≡ server.old.room }
     requires awaited { IsAwaited client.old (plain is_emission (waiting_mails server.old)) }
     requires one { length (emission_mails emission.old ++ emitted is_emission (waiting_mails server.old)) ≤ 1 }
     ensures hears { Hears client.old (plain is_emission (waiting_mails server.old)) client.new }
@@ -78,10 +85,12 @@ fn hear_all(client: &mut CoeClient, server: &mut CoeServer, emission: &mut Optio
     ensures transfer { transfer_of server.new ≡ transfer_of server.old }
     ensures room { server.new.room ≡ server.old.room }
     ensures eoe { server.new.eoe ≡ server.old.eoe }
+    ensures lengths { mailboxes.new ≡ mailboxes.old }
 {
     while server.waiting() {
-        let mail = server.next();
-        hear(client, &mail, emission);
+        let given = server.next();
+        let heard = mailboxes.answer(given);
+        hear(client, &heard, emission);
     }
 }
 
@@ -100,16 +109,18 @@ fn take_packet(server: &mut CoeServer, emission: &mut Option<Emission>)
     }
 }
 
-/// Carries out a service by the mails of a client and a server, until the client has its whole reply. The reply, the value that the client
+/// Carries out a service by the mails of a client and a server, each through the mailbox of its direction, until the client has its whole reply. The reply, the value that the client
 /// then has, the objects and the emission are those that the service means on whole values, at each pair of mailbox lengths and whatever
 /// transfer the server had not finished.
 pub fn carry_out(
     client: &mut CoeClient,
     server: &mut CoeServer,
+    mailboxes: &mut Mailboxes,
     objects: &mut Objects,
     al: u8,
     service: &SdoService,
 ) -> Carried
+    requires lengths { mailboxes.old ≡ areas_of client.old server.old }
     requires size { octets_in service.now ≤ 16384 }
     requires areas { AreMailboxes (areas_of client.old server.old) }
     requires silent { waiting_mails server.old ≡ [] }
@@ -120,6 +131,7 @@ pub fn carry_out(
     ensures mails { result.mails ≡ length (all_mails al client.old server.old objects.old (service_view service.now)) }
     ensures silent { waiting_mails server.new ≡ [] }
     ensures areas { areas_of client.new server.new ≡ areas_of client.old server.old }
+    ensures lengths { mailboxes.new ≡ mailboxes.old }
     ensures eoe { server.new.eoe ≡ server.old.eoe }
 {
     let _objects = objects.len();
@@ -129,9 +141,10 @@ pub fn carry_out(
     let mut body = ArrayVec::new();
     while client.next_mail(&mut body) {
         mails += 1;
-        let _counts = server.take(objects, al, body.as_slice());
+        let request = mailboxes.request(body.as_slice());
+        let _counts = server.take(objects, al, request.body.as_slice());
         take_packet(server, &mut emission);
-        hear_all(client, server, &mut emission);
+        hear_all(client, server, mailboxes, &mut emission);
     }
     let _done = client.is_done();
     Carried {

@@ -4,9 +4,11 @@
 
 mod carried;
 mod dialogue;
+mod mailbox;
 
 pub use carried::{Carried, Emission};
 pub use dialogue::carry_out;
+pub use mailbox::{Mailbox, Mailboxes};
 
 #[cfg(test)]
 mod tests;

@@ -4,7 +4,7 @@ ghost use Rattle.coe_server.specs.Serving.{waiting_mails};
 ghost use Rattle.coe_client.specs.Talk.{octets_in};
 ghost use Rattle.coe_law.specs.Talks.{areas_of};
 
-use crate::{Emission, carry_out};
+use crate::{Emission, Mailboxes, carry_out};
 use coe_client::CoeClient;
 use coe_server::CoeServer;
 use ec_fields::{NoMemory, Octets, Rows};
@@ -116,6 +116,7 @@ fn carries(
     alloc: Global,
     client: &mut CoeClient,
     server: &mut CoeServer,
+    mailboxes: &mut Mailboxes,
     objects: &mut Objects,
     service: &SdoService,
     kind: ReplyKind,
@@ -123,12 +124,14 @@ fn carries(
     mails: usize,
 ) -> Result<Option<Emission>, NoMemory>
     requires areas { AreMailboxes (areas_of client.old server.old) }
+    requires lengths { mailboxes.old ≡ areas_of client.old server.old }
     requires silent { waiting_mails server.old ≡ [] }
     ensures areas { AreMailboxes (areas_of client.new server.new) }
+    ensures lengths { mailboxes.new ≡ areas_of client.new server.new }
     ensures silent { waiting_mails server.new ≡ [] }
 {
     assert!(rt; len_of(service) <= 16_384);
-    let carried = carry_out(client, server, objects, 2, service);
+    let carried = carry_out(client, server, mailboxes, objects, 2, service);
     let mut got = Octets::new(alloc);
     client.value(&mut got)?;
     assert_eq!(rt; carried.kind, kind);
@@ -149,6 +152,7 @@ fn values_go_whole_through_the_smallest_mailboxes(rt: HostRuntime) -> Result<(),
     insert(&rt, alloc, &mut objects, 0x2003, 9, entries)?;
     let mut client = CoeClient::new(alloc, 64, 64)?;
     let mut server = CoeServer::new(alloc, true, 64)?;
+    let mut mailboxes = Mailboxes::new(alloc, 64, 64)?;
     let upload = SdoService::Upload {
         index: 0x2002,
         sub: 1,
@@ -170,6 +174,7 @@ fn values_go_whole_through_the_smallest_mailboxes(rt: HostRuntime) -> Result<(),
             alloc,
             &mut client,
             &mut server,
+            &mut mailboxes,
             &mut objects,
             &service,
             ReplyKind::Done,
@@ -181,6 +186,7 @@ fn values_go_whole_through_the_smallest_mailboxes(rt: HostRuntime) -> Result<(),
             alloc,
             &mut client,
             &mut server,
+            &mut mailboxes,
             &mut objects,
             &upload,
             ReplyKind::Value,
@@ -195,6 +201,7 @@ fn values_go_whole_through_the_smallest_mailboxes(rt: HostRuntime) -> Result<(),
         alloc,
         &mut client,
         &mut server,
+        &mut mailboxes,
         &mut objects,
         &service,
         ReplyKind::Done,
@@ -210,6 +217,7 @@ fn values_go_whole_through_the_smallest_mailboxes(rt: HostRuntime) -> Result<(),
         alloc,
         &mut client,
         &mut server,
+        &mut mailboxes,
         &mut objects,
         &upload,
         ReplyKind::Value,
@@ -225,6 +233,7 @@ fn values_go_whole_through_the_smallest_mailboxes(rt: HostRuntime) -> Result<(),
         alloc,
         &mut client,
         &mut server,
+        &mut mailboxes,
         &mut objects,
         &upload,
         ReplyKind::Value,
@@ -270,6 +279,7 @@ fn each_refusal_has_its_code_and_changes_nothing(rt: HostRuntime) -> Result<(), 
     let mut objects = numbers(&rt, alloc)?;
     let mut client = CoeClient::new(alloc, 64, 128)?;
     let mut server = CoeServer::new(alloc, false, 128)?;
+    let mut mailboxes = Mailboxes::new(alloc, 64, 128)?;
     let refused = [
         (upload(0x3000, 0), 0x0602_0000),
         (upload(0x2000, 2), 0x0609_0011),
@@ -302,6 +312,7 @@ fn each_refusal_has_its_code_and_changes_nothing(rt: HostRuntime) -> Result<(), 
             alloc,
             &mut client,
             &mut server,
+            &mut mailboxes,
             &mut objects,
             service,
             ReplyKind::Abort(*code),
@@ -325,6 +336,7 @@ fn each_refusal_has_its_code_and_changes_nothing(rt: HostRuntime) -> Result<(), 
             alloc,
             &mut client,
             &mut server,
+            &mut mailboxes,
             &mut objects,
             service,
             ReplyKind::Value,
@@ -341,6 +353,7 @@ fn what_is_written_is_read_and_what_is_emitted_is_told(rt: HostRuntime) -> Resul
     let mut objects = numbers(&rt, alloc)?;
     let mut client = CoeClient::new(alloc, 128, 64)?;
     let mut server = CoeServer::new(alloc, false, 64)?;
+    let mut mailboxes = Mailboxes::new(alloc, 128, 64)?;
     let written = [
         (
             download(alloc, 0x2004, 2, &[0xFB, 0xFF])?,
@@ -364,6 +377,7 @@ fn what_is_written_is_read_and_what_is_emitted_is_told(rt: HostRuntime) -> Resul
             alloc,
             &mut client,
             &mut server,
+            &mut mailboxes,
             &mut objects,
             service,
             ReplyKind::Done,
@@ -375,6 +389,7 @@ fn what_is_written_is_read_and_what_is_emitted_is_told(rt: HostRuntime) -> Resul
             alloc,
             &mut client,
             &mut server,
+            &mut mailboxes,
             &mut objects,
             back,
             ReplyKind::Value,
@@ -388,6 +403,7 @@ fn what_is_written_is_read_and_what_is_emitted_is_told(rt: HostRuntime) -> Resul
         alloc,
         &mut client,
         &mut server,
+        &mut mailboxes,
         &mut objects,
         &service,
         ReplyKind::Done,
@@ -437,6 +453,7 @@ fn what_is_written_is_read_and_what_is_emitted_is_told(rt: HostRuntime) -> Resul
             alloc,
             &mut client,
             &mut server,
+            &mut mailboxes,
             &mut objects,
             service,
             ReplyKind::Value,
@@ -457,6 +474,7 @@ fn a_list_goes_in_parts(rt: HostRuntime) -> Result<(), Fail> {
         insert_one(&rt, alloc, &mut objects, index, 8, number)?;
     }
     let mut server = CoeServer::new(alloc, false, 64)?;
+    let mut mailboxes = Mailboxes::new(alloc, 128, 64)?;
     let question = [0x00, 0x80, 0x01, 0x00, 0x00, 0x00, 0x01, 0x00];
     assert!(rt; server.take(&mut objects, 2, &question));
     assert!(rt; server.waiting());

@@ -45,7 +45,7 @@ small_size least most size = small_two _ _ 0x06070012 0x06070013 (lit< tt) (lit<
 small_bound : (e : EntrySpec) (bytes : List ℕ) → Small (bound_refusal e bytes)
 small_bound e bytes = by (is_text e.kind)
   where
-    by : (b : Bool) → Small (if b then None else number_refusal e (number_in e.kind bytes))
+    by : (b : Bool) → Small (if b then None else number_refusal e.kind e.min e.max (number_in e.kind bytes))
     by true = small_none
     by false = small_two _ _ 0x06090031 0x06090032 (lit< tt) (lit< tt)
 

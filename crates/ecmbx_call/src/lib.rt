@@ -6,7 +6,6 @@ mod app;
 mod book;
 mod exchange;
 mod lines;
-mod mailbox;
 mod reporting;
 mod rows;
 mod running;

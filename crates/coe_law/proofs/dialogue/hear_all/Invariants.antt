@@ -9,7 +9,7 @@ abbrev pub invariant-loop-server : goal.invariant-loop-server
 invariant-loop-server l =
     (done : List CoeMail) × (waiting_mails l.initial.server ≡ done ++ waiting_mails l.server) × Hears l.initial.client (plain is_emission done) l.client
     × (emission_mails l.emission ≡ emission_mails l.initial.emission ++ emitted is_emission done) × (transfer_of l.server ≡ transfer_of l.initial.server)
-    × (l.server.room ≡ l.initial.server.room) × (l.server.eoe ≡ l.initial.server.eoe)
+    × (l.server.room ≡ l.initial.server.room) × (l.server.eoe ≡ l.initial.server.eoe) × (l.mailboxes ≡ l.initial.mailboxes)
 
 abbrev pub decreases-loop-server : goal.decreases-loop-server
 decreases-loop-server l = length (waiting_mails l.server)

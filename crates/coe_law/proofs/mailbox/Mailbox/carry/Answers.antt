@@ -1,7 +1,7 @@
 use Rattle.std.proofs.Common.{◌≡◌, Ok, Result, ap}
 use Rattle.mailbox_mail.specs.declared.mail.Mail.{Mail}
 use Rattle.mailbox_mail.specs.declared.mail.MailFault.{MailFault}
-use Rattle.ecmbx_call.proofs.mailbox.Mailbox.carry.Goals as goal
+use Rattle.coe_law.proofs.mailbox.Mailbox.carry.Goals as goal
 
 same_mail : (r : Result Mail MailFault) (a b : Mail) → r ≡ Ok a → r ≡ Ok b → a ≡ b
 same_mail r a b e f = cc
