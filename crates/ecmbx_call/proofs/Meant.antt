@@ -1,11 +1,13 @@
 -- What a service means by the model of CoE is its plain meaning.
 use Rattle.mailbox_mail.specs.declared.outcome.ReplyKind.TheVariants.{Done}
-use Rattle.std.proofs.Common.{◌≡◌, ℕ, ◌==◌, ◌&&◌, ◌||◌, not, Bool, true, false, List, [], ◌∷◌, if◌then◌else◌, Option, Some, None, Result, Ok, Err, refl}
+use Rattle.std.proofs.Common.{◌≡◌, ℕ, ◌==◌, ◌&&◌, ◌||◌, not, Bool, true, false, List, [], ◌∷◌, if◌then◌else◌, Option, Some, None, Result, Ok, Err, refl, ap, sym, ◌∙◌}
 use Rattle.object_dictionary.specs.Dictionary.{Table, download, upload}
 use Rattle.object_dictionary.specs.Whole.{download_all, upload_all}
 use Rattle.object_dictionary.specs.Information.{list_info, object_info, entry_info}
 use Rattle.object_dictionary.specs.declared.service.SdoService.{SdoService}
 use Rattle.object_dictionary.specs.declared.service.SdoService.TheVariants.{Download, Upload, DownloadAll, UploadAll, List as ObjectList, ObjectInfo, EntryInfo}
+use Rattle.mailbox_mail.specs.declared.outcome.ReplyKind.{ReplyKind}
+use Rattle.coe_model.specs.Mails.{CoeMail}
 use Rattle.coe_model.specs.Tables.{Target}
 use Rattle.coe_model.specs.Server.{Emission, emergency, packet, emission_of, issued}
 use Rattle.coe_model.specs.Meaning.{Meaning, download_means, value_means}
@@ -52,3 +54,19 @@ meaning_is app (UploadAll index from) = told_is app (upload_all app.al app.objec
 meaning_is app (ObjectList kind) = told_is app (list_info app.objects kind)
 meaning_is app (ObjectInfo index) = told_is app (object_info app.objects index)
 meaning_is app (EntryInfo index sub info) = told_is app (entry_info app.objects index sub)
+
+-- a service that client and server carried out, as the model means it
+pub carried_is : (app : App) (service : SdoService) (eoe : Bool) (objects : Table) (kind : ReplyKind) (value taken : List ℕ) (emits : List CoeMail) (given : Option (List ℕ)) → eoe ≡ false
+    → objects ≡ (means app.al eoe app.objects (service_view service)).app → (kind, value) ≡ (means app.al eoe app.objects (service_view service)).reply
+    → emits ≡ (means app.al eoe app.objects (service_view service)).emits → taken ≡ value → given ≡ emergency_in emits
+    → sdo_meaning app service ≡ (counted app objects, performed kind taken given)
+carried_is app service eoe objects kind value taken emits given none is_app is_reply is_emits is_taken is_given =
+    let m = means app.al false app.objects (service_view service) in
+    let a : objects ≡ m.app = is_app ∙ ap (λ e. (means app.al e app.objects (service_view service)).app) none in
+    let r : (kind, value) ≡ m.reply = is_reply ∙ ap (λ e. (means app.al e app.objects (service_view service)).reply) none in
+    let e : given ≡ emergency_in m.emits = is_given ∙ ap emergency_in (is_emits ∙ ap (λ e. (means app.al e app.objects (service_view service)).emits) none) in
+    meaning_is app service
+    ∙ ap (λ (t : Table). (counted app t, performed m.reply.0 m.reply.1 (emergency_in m.emits))) (sym a)
+    ∙ ap (λ (r : ReplyKind × List ℕ). (counted app objects, performed r.0 r.1 (emergency_in m.emits))) (sym r)
+    ∙ ap (λ (v : List ℕ). (counted app objects, performed kind v (emergency_in m.emits))) (sym is_taken)
+    ∙ ap (λ (o : Option (List ℕ)). (counted app objects, performed kind taken o)) (sym e)

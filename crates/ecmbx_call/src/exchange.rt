@@ -1,4 +1,4 @@
-ghost use Rattle.std.specs.Prelude.{◌≡◌, ◌<◌, ◌≤◌, ◌^◌, ◌-◌, IfOk};
+ghost use Rattle.std.specs.Prelude.{◌≡◌, ◌<◌, ◌≤◌, ◌^◌, ◌-◌, [], IfOk};
 ghost use Rattle.coe_law.specs.Talks.{emission_mails};
 ghost use Rattle.scenario.specs.Sound.{IsSdo};
 ghost use Rattle.ecmbx_call.specs.Exchange.{emergency_in};
@@ -12,6 +12,7 @@ use ec_fields::{NoMemory, Octets};
 use object_dictionary::SdoService;
 use slave_app::Reply;
 use std::alloc::Global;
+use std::marker::Model;
 
 /// The client of a slave, the slave's server, and the two mailboxes between them.
 #[derive(Debug, Drop)]
@@ -19,6 +20,19 @@ pub struct Link {
     client: CoeClient,
     server: CoeServer,
     mailboxes: Mailboxes,
+}
+
+impl Model for Link {
+    ghost use Rattle.std.specs.Prelude.{◌≡◌, [], false, ⊤};
+    ghost use Rattle.coe_model.specs.Model.{AreMailboxes};
+    ghost use Rattle.coe_server.specs.Serving.{waiting_mails};
+    ghost use Rattle.coe_law.specs.Talks.{areas_of};
+
+    ghost Value = { ⊤ };
+
+    ghost view = { λ l. tt };
+
+    ghost invariant = { λ l. AreMailboxes (areas_of l.client l.server) × (l.mailboxes ≡ areas_of l.client l.server) × (waiting_mails l.server ≡ []) × (l.server.eoe ≡ false) };
 }
 
 impl Link {
@@ -29,10 +43,58 @@ impl Link {
         requires in_least { 64 ≤ in_len }
         requires in_most { in_len ≤ 1486 }
     {
+        let client = CoeClient::new(alloc, out_len, in_len)?;
+        let server = CoeServer::new(alloc, false, in_len)?;
+        let mailboxes = Mailboxes::new(alloc, out_len, in_len)?;
         Ok(Link {
-            client: CoeClient::new(alloc, out_len, in_len)?,
-            server: CoeServer::new(alloc, false, in_len)?,
-            mailboxes: Mailboxes::new(alloc, out_len, in_len)?,
+            client,
+            server,
+            mailboxes,
         })
     }
+}
+
+/// The octets of an emergency, where one was emitted.
+fn emergency_of(alloc: Global, emission: &Option<Emission>) -> Result<Option<Octets>, NoMemory>
+    ensures { IfOk result (λ emergency. emergency ≡ emergency_in (emission_mails emission.now)) }
+{
+    match emission {
+        Some(Emission::Emergency(octets)) => Ok(Some(Octets::copy_of(alloc, octets.as_slice())?)),
+        Some(Emission::Packet(_)) => Ok(None),
+        None => Ok(None),
+    }
+}
+
+/// One service by mails: the client sends its requests through the slave's mailboxes, the server answers, and the
+/// client reads the answers until it has the whole reply.
+pub fn exchange(
+    alloc: Global,
+    app: &mut App,
+    link: &mut Link,
+    service: &SdoService,
+) -> Result<Performed, NoMemory>
+    requires sdo { IsSdo service.now }
+    requires few { app.old.handled < 2 ^ 64 - 1 }
+    ensures { IfOk result (λ performed. sdo_meaning app.old service.now ≡ (app.new, performed)) }
+{
+    let al = app.al;
+    let carried = carry_out(
+        &mut link.client,
+        &mut link.server,
+        &mut link.mailboxes,
+        &mut app.objects,
+        al,
+        service,
+    );
+    app.handled += 1;
+    let mut value = Octets::new(alloc);
+    link.client.value(&mut value)?;
+    let emergency = emergency_of(alloc, &carried.emission)?;
+    Ok(Performed {
+        reply: Reply {
+            kind: carried.kind,
+            value,
+        },
+        emergency,
+    })
 }
