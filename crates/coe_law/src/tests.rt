@@ -81,7 +81,13 @@ fn carries(
     mails: usize,
 ) -> Result<Option<Emission>, NoMemory> {
     assert!(rt; len_of(service) <= 16_384);
-    let carried = carry_out(&mut bench.client, &mut bench.server, &mut bench.objects, 2, service);
+    let carried = carry_out(
+        &mut bench.client,
+        &mut bench.server,
+        &mut bench.objects,
+        2,
+        service,
+    );
     let mut got = Octets::new(alloc);
     bench.client.value(&mut got)?;
     assert_eq!(rt; carried.kind, kind);
@@ -182,7 +188,15 @@ fn goes_whole(
     let service = download(alloc, 0x2002, 1, octets.bytes())?;
     carries(rt, alloc, bench, &service, ReplyKind::Done, &[], mails)?;
     let back = upload(0x2002, 1);
-    carries(rt, alloc, bench, &back, ReplyKind::Value, octets.bytes(), mails)?;
+    carries(
+        rt,
+        alloc,
+        bench,
+        &back,
+        ReplyKind::Value,
+        octets.bytes(),
+        mails,
+    )?;
     Ok(())
 }
 
@@ -192,13 +206,29 @@ fn values_go_whole_through_the_smallest_mailboxes(rt: HostRuntime) -> Result<(),
     let alloc = rt.alloc();
     let objects = strings(&rt, alloc)?;
     let mut bench = bench_of(alloc, objects)?;
-    for (len, mails) in [(4, 1), (48, 1), (49, 2), (103, 2), (104, 3), (110, 3), (8000, 146)] {
+    for (len, mails) in [
+        (4, 1),
+        (48, 1),
+        (49, 2),
+        (103, 2),
+        (104, 3),
+        (110, 3),
+        (8000, 146),
+    ] {
         goes_whole(&rt, alloc, &mut bench, len, mails)?;
     }
     let whole = filled(alloc, 16_000, 0x5A)?;
     let service = download_all(alloc, 0x2003, 1, whole.bytes())?;
     carries(&rt, alloc, &mut bench, &service, ReplyKind::Done, &[], 292)?;
     let back = upload_all(0x2003, 1);
-    carries(&rt, alloc, &mut bench, &back, ReplyKind::Value, whole.bytes(), 292)?;
+    carries(
+        &rt,
+        alloc,
+        &mut bench,
+        &back,
+        ReplyKind::Value,
+        whole.bytes(),
+        292,
+    )?;
     Ok(())
 }
