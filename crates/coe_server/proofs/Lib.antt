@@ -3,3 +3,4 @@ pub mod Gives
 pub mod Fits
 pub mod ObjectsAnswer
 pub mod ObjectsLaw
+pub mod Exchanged

@@ -1,10 +1,10 @@
 -- What a server's state stands for: its unfinished transfer, the mails that wait in it, and what it emits.
-use Rattle.std.specs.Prelude.{◌≡◌, ℕ, suc, ◌-◌, ◌≤◌, ◌==◌, ◌&&◌, nat_le, nat_lt, Bool, true, false, List, [], ◌∷◌, ◌++◌, length, take, drop, Option, None, Some, Result, Ok, Err}
+use Rattle.std.specs.Prelude.{◌≡◌, ℕ, suc, ◌-◌, ◌≤◌, ◌==◌, ◌&&◌, nat_le, nat_lt, Bool, true, false, List, [], ◌∷◌, ◌++◌, map, length, take, drop, Option, None, Some, Result, Ok, Err}
 use Rattle.coe_codec.specs.Reading.{is_information}
 use Rattle.coe_model.specs.Mails.{Information, Coe, CoeMail, mail, failed, First, Emergency, DownloadAnswer, SegmentAnswer, Abort, InformationError, ExpeditedAnswer, FirstAnswer, UploadSegmentAnswer}
 use Rattle.coe_model.specs.Tables.{Ask}
 use Rattle.coe_model.specs.Tables as Tables
-use Rattle.coe_model.specs.Server.{Transfer, idle, downloading, uploading, Emission, emergency, packet, Outcome, information_parts}
+use Rattle.coe_model.specs.Server.{Transfer, idle, downloading, uploading, Emission, emergency, packet, Outcome, Server, issued, one_more, information_parts}
 pub use Rattle.object_dictionary.specs.Entries.{Stores}
 use Rattle.mailbox_mail.specs.declared.mail.Mail.{Mail}
 use Rattle.coe_model.specs.Octets.{mail_heard, mail_written}
@@ -151,3 +151,10 @@ IsShort room (SegmentAnswer toggle) = Unit {0}
 IsShort room (Abort index sub code) = Unit {0}
 IsShort room (InformationError code) = Unit {0}
 IsShort room _ = ⊥
+
+-- the model's server behind a mail, and the mails that it gives, by what the call did
+abbrev pub served_of : {S : Type 0} → Tables.Tables S → S → ℕ → Serving → Bool → Server S × List Mail
+served_of o app handled c counts = (
+  record { app = (issued o app (emission_view c.emitted c.octets)).0; handled = one_more counts handled; transfer = transfer_of c },
+  map mail_written (answers_of c ++ (issued o app (emission_view c.emitted c.octets)).1),
+)

@@ -10,7 +10,7 @@ mod state;
 mod taking;
 
 pub use dictionary::{Dictionary, Question, Target};
-pub use objects::{objects_are_lawful, objects_are_spelled};
+pub use objects::{calls_are_the_exchange, objects_are_lawful, objects_are_spelled};
 pub use server::CoeServer;
 
 #[cfg(test)]
