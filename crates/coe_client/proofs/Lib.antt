@@ -1,2 +1,3 @@
 pub mod TookIs
 pub mod Sends
+pub mod Open

@@ -4,7 +4,7 @@ use Rattle.mailbox_mail.specs.declared.mail.Kind.TheVariants.{CoE}
 use Rattle.coe_codec.specs.Writing.{HasSpelling, coe_text}
 use Rattle.coe_model.specs.Mails.{Coe, CoeMail, mail, Expedited, First, Upload, Segment, UploadSegment, ListRequest, ObjectRequest, EntryRequest}
 use Rattle.coe_model.specs.Server.{is_expedited}
-use Rattle.coe_model.specs.Octets.{mail_written, mail_with}
+use Rattle.coe_model.specs.Octets.{body_heard, mail_written, mail_with}
 use Rattle.coe_client.specs.declared.state.Task.{Task}
 use Rattle.coe_client.specs.declared.state.Unsent.{Unsent}
 use Rattle.coe_client.specs.Talk.{Talking, later, awaited}
@@ -57,9 +57,10 @@ NextIs None old new = (later old [] ≡ []) × (new ≡ old)
 NextIs (Some message) old new =
     ((hs : List CoeMail) → later old hs ≡ mail message ∷ later new hs) × HasSpelling message × (length (coe_text message) + 6 ≤ old.room) × ((ms : List CoeMail) → awaited new ms ≡ awaited old ms) × (new.room ≡ old.room)
 
--- WHAT GOES OUT: the first of the mails that the client has left, in its one spelling, and no longer than the mailbox takes
+-- WHAT GOES OUT: the first of the mails that the client has left, in its one spelling, which reads as it
 pub record SendsNext (old : Talking) (octets : List ℕ) (new : Talking) : Type 0 where
   pub next : CoeMail
   pub spelled : mail_written next ≡ mail_with CoE octets
+  pub read : body_heard octets ≡ next
   pub mails : (hs : List CoeMail) → later old hs ≡ next ∷ later new hs
   pub room : new.room ≡ old.room

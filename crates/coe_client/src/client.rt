@@ -1,4 +1,4 @@
-ghost use Rattle.std.specs.Prelude.{◌≡◌, ◌≤◌, ◌<◌, ◌+◌, List, [], ◌++◌, true, length, IfOk, OnOk, OnErr, Some, None};
+ghost use Rattle.std.specs.Prelude.{◌≡◌, ◌≤◌, ◌<◌, ◌+◌, List, [], ◌++◌, true, false, length, IfOk, OnOk, OnErr, Some, None};
 ghost use Rattle.coe_model.specs.Mails.{CoeMail};
 ghost use Rattle.coe_model.specs.Client.{ends};
 ghost use Rattle.coe_model.specs.Model.{planned};
@@ -147,6 +147,22 @@ impl CoeClient {
         ensures room { self.new.room ≡ self.old.room }
     {
         self.begin_service(service);
+    }
+
+    /// Whether the reply of the service has come whole.
+    pub fn is_done(&self) -> bool
+        ensures over { result ≡ is_over self.now.awaits }
+        ensures yet { result ≡ false → awaited self.now [] ≡ None }
+    {
+        match self.awaits {
+            Awaits::Over(_) => true,
+            Awaits::Nothing
+            | Awaits::Acceptance
+            | Awaits::SegmentAnswers { left: _, toggle: _ }
+            | Awaits::FirstAnswer
+            | Awaits::Parts { size: _, toggle: _ }
+            | Awaits::Information { opcode: _ } => false,
+        }
     }
 
     /// The reply of the service that is done.

@@ -51,17 +51,17 @@ module _ {S : Type 0} (o : Tables S) (law : AreLawful o) (eoe : Bool) (areas : A
   kept v (information a) sound = information_kept o eoe areas law 2 v a sound (let least = sized.back_least in omega arith)
 
   -- an SDO service has requests alone, each with one answer
-  abbrev IsSdo : Service → Type 0
+  abbrev pub IsSdo : Service → Type 0
   IsSdo (download t bytes) = Unit {0}
   IsSdo (upload t) = Unit {0}
   IsSdo (information a) = ⊥
 
-  mails_all : (q : Service) (n : ℕ) → IsSdo q → AllRequests (mails_of areas.out q n)
+  pub mails_all : (q : Service) (n : ℕ) → IsSdo q → AllRequests (mails_of areas.out q n)
   mails_all (download t bytes) n sdo = download_all areas.out t bytes
   mails_all (upload t) n sdo = (refl, requests_all n false)
   mails_all (information a) n sdo = absurd sdo
 
-  full_all : (v : Server S) (q : Service) → IsSdo q → AllRequests (full o eoe areas v q)
+  pub full_all : (v : Server S) (q : Service) → IsSdo q → AllRequests (full o eoe areas v q)
   full_all v q sdo = sent_each (serve o eoe areas.back) is_emission decide (λ m. is_request m ≡ true) (turns o v.app q) v (mails_of areas.out q (turns o v.app q)) (mails_all q (turns o v.app q) sdo)
 
   -- a first part that has all replies has all mails
@@ -97,7 +97,7 @@ module _ {S : Type 0} (o : Tables S) (law : AreLawful o) (eoe : Bool) (areas : A
   counted v (information a) sound p r e same = ask_counted v a sound p r e same
 
   -- what a client has sent, on no more replies than it has turns: more turns and more requests don't matter
-  planned_more : (q : Service) → IsSdo q → (n : ℕ) (hs : List CoeMail) → length hs < n → planned areas.out q hs ≡ said decide n (mails_of areas.out q n) hs
+  pub planned_more : (q : Service) → IsSdo q → (n : ℕ) (hs : List CoeMail) → length hs < n → planned areas.out q hs ≡ said decide n (mails_of areas.out q n) hs
   planned_more (download t bytes) sdo n hs few =
       said_more decide (λ m. refl) (suc (length hs)) n (download_mails areas.out t bytes) [] hs (omega arith) few (inr refl) ∙ ap (λ ms. said decide n ms hs) (append-nil (download_mails areas.out t bytes))
   planned_more (upload t) sdo n hs few =
@@ -106,7 +106,7 @@ module _ {S : Type 0} (o : Tables S) (law : AreLawful o) (eoe : Bool) (areas : A
       (inl (omega (arith, requests_long (length hs) false))) ∙ ap (λ ms. said decide n (mail (Upload t.index t.sub t.all) ∷ ms) hs) begins.1
   planned_more (information a) sdo n hs few = absurd sdo
 
-  few_replies : (v : Server S) (q : Service) → o.valid v.app ≡ true → IsSdo q → (hs more : List CoeMail) → plain is_emission (given (serve o eoe areas.back) v (full o eoe areas v q)) ≡ hs ++ more → length hs < turns o v.app q
+  pub few_replies : (v : Server S) (q : Service) → o.valid v.app ≡ true → IsSdo q → (hs more : List CoeMail) → plain is_emission (given (serve o eoe areas.back) v (full o eoe areas v q)) ≡ hs ++ more → length hs < turns o v.app q
   few_replies v q sound sdo hs more e =
       let all = replies_counted o eoe areas v (full o eoe areas v q) (full_all v q sdo) in
       let less : length hs ≤ length (full o eoe areas v q) = omega (arith, all, ap length e, length-append hs more) in
@@ -132,13 +132,13 @@ module _ {S : Type 0} (o : Tables S) (law : AreLawful o) (eoe : Bool) (areas : A
       ∙ all_said (serve o eoe areas.back) is_emission decide (turns o v.app q) v (mails_of areas.out q (turns o v.app q)) (sdo_decides v q sdo)
 
   -- an information service has one mail, whatever is heard
-  ask_planned : (a : Ask) (hs : List CoeMail) → planned areas.out (information a) hs ≡ information_mail a ∷ []
+  pub ask_planned : (a : Ask) (hs : List CoeMail) → planned areas.out (information a) hs ≡ information_mail a ∷ []
   ask_planned a hs = said_last decide never (length hs) (information_mail a) hs
 
-  ask_full : (v : Server S) (a : Ask) → full o eoe areas v (information a) ≡ information_mail a ∷ []
+  pub ask_full : (v : Server S) (a : Ask) → full o eoe areas v (information a) ≡ information_mail a ∷ []
   ask_full v a = sent_last decide never (serve o eoe areas.back) is_emission 2 v (information_mail a)
 
-  client_follows : (v : Server S) (q : Service) → o.valid v.app ≡ true → (hs more : List CoeMail) → plain is_emission (given (serve o eoe areas.back) v (full o eoe areas v q)) ≡ hs ++ more →
+  pub client_follows : (v : Server S) (q : Service) → o.valid v.app ≡ true → (hs more : List CoeMail) → plain is_emission (given (serve o eoe areas.back) v (full o eoe areas v q)) ≡ hs ++ more →
       IsPrefixOf (planned areas.out q hs) (full o eoe areas v q)
   client_follows v (download t bytes) sound = sdo_follows v (download t bytes) sound tt
   client_follows v (upload t) sound = sdo_follows v (upload t) sound tt

@@ -9,3 +9,4 @@ pub mod CoeLaw
 pub mod WorkedRows
 pub mod Spelling
 pub mod Spelled
+pub mod Progress

@@ -3,7 +3,7 @@
 //! functions do nothing, and their contracts state the law.
 #![tactic(auto)]
 
-ghost use Rattle.std.specs.Prelude.{◌≡◌, ◌⊎◌, ℕ, suc, Bool, true, List, ◌++◌, Some};
+ghost use Rattle.std.specs.Prelude.{◌≡◌, ◌⊎◌, ℕ, suc, Bool, true, List, [], ◌∷◌, ◌++◌, Some};
 ghost use Rattle.exchange_model.specs.Prefix.{IsPrefixOf};
 ghost use Rattle.exchange_model.specs.Exchange.{IsLawful, Before, Behind, after, given, plain, emitted};
 ghost use Rattle.coe_model.specs.Mails.{CoeMail, is_emission};
@@ -12,7 +12,7 @@ ghost use Rattle.coe_model.specs.Server.{Server, serve};
 ghost use Rattle.coe_model.specs.Meaning.{Service, meaning_of};
 ghost use Rattle.coe_model.specs.Client.{Areas, ends};
 ghost use Rattle.coe_model.specs.Octets.{AreSpelled, coe_mail_exchange};
-ghost use Rattle.coe_model.specs.Model.{AreMailboxes, full, coe_exchange};
+ghost use Rattle.coe_model.specs.Model.{AreMailboxes, planned, full, coe_exchange};
 
 /// CoE keeps the laws of an exchange: for each service, value and size, each pair of mailbox lengths, and a server with any unfinished SDO
 /// transfer, over any lawful tables. Stated at tables of numbers; the lemma holds at every kind of tables.
@@ -42,4 +42,7 @@ pub fn client_against_server()
         full o eoe areas v q ≡ p ++ r → Before (coe_exchange o eoe areas) v p ⊎ Behind (coe_exchange o eoe areas) v q p }
     ensures begins { (o : Tables (List ℕ)) (eoe : Bool) (areas : Areas) (v : Server (List ℕ)) (q : Service) (p r : List CoeMail) → full o eoe areas v q ≡ p ++ r →
         IsPrefixOf (given (serve o eoe areas.back) v p) (given (serve o eoe areas.back) v (full o eoe areas v q)) }
+    // a client that has heard all replies to a first part of them has the next one to send, until it has sent all
+    ensures goes_on { (o : Tables (List ℕ)) (eoe : Bool) (areas : Areas) → AreLawful o → AreMailboxes areas → (v : Server (List ℕ)) (q : Service) → o.valid v.app ≡ true → (p : List CoeMail) (m : CoeMail) (r : List CoeMail) →
+        full o eoe areas v q ≡ p ++ m ∷ r → IsPrefixOf (p ++ m ∷ []) (planned areas.out q (plain is_emission (given (serve o eoe areas.back) v p))) }
 {}

@@ -1,3 +1,6 @@
 pub mod Unread
 pub mod Gives
 pub mod Fits
+pub mod ObjectsAnswer
+pub mod ObjectsLaw
+pub mod Exchanged

@@ -1,12 +1,13 @@
 -- What a server's state stands for: its unfinished transfer, the mails that wait in it, and what it emits.
-use Rattle.std.specs.Prelude.{◌≡◌, ℕ, suc, ◌-◌, ◌≤◌, ◌==◌, ◌&&◌, nat_le, nat_lt, Bool, true, false, List, [], ◌∷◌, ◌++◌, length, take, drop, Option, None, Some, Result, Ok, Err}
+use Rattle.std.specs.Prelude.{◌≡◌, ℕ, suc, ◌-◌, ◌≤◌, ◌==◌, ◌&&◌, nat_le, nat_lt, Bool, true, false, List, [], ◌∷◌, ◌++◌, map, length, take, drop, Option, None, Some, Result, Ok, Err}
 use Rattle.coe_codec.specs.Reading.{is_information}
 use Rattle.coe_model.specs.Mails.{Information, Coe, CoeMail, mail, failed, First, Emergency, DownloadAnswer, SegmentAnswer, Abort, InformationError, ExpeditedAnswer, FirstAnswer, UploadSegmentAnswer}
 use Rattle.coe_model.specs.Tables.{Ask}
 use Rattle.coe_model.specs.Tables as Tables
-use Rattle.coe_model.specs.Server.{Transfer, idle, downloading, uploading, Emission, emergency, packet, Outcome, information_parts}
+use Rattle.coe_model.specs.Server.{Transfer, idle, downloading, uploading, Emission, emergency, packet, Outcome, Server, issued, one_more, information_parts}
+pub use Rattle.object_dictionary.specs.Entries.{Stores}
 use Rattle.mailbox_mail.specs.declared.mail.Mail.{Mail}
-use Rattle.coe_model.specs.Octets.{mail_written}
+use Rattle.coe_model.specs.Octets.{mail_heard, mail_written}
 use Rattle.coe_server.specs.declared.dictionary.Target.{Target}
 use Rattle.coe_server.specs.declared.dictionary.Question.{Question}
 use Rattle.coe_server.specs.declared.state.State.{State}
@@ -79,11 +80,6 @@ outcome_of app c counts = record { app = app; transfer = transfer_of c; counts =
 abbrev pub told_of : Serving → State → Pending → Serving
 told_of c state pending = record c { state = state; pending = pending; emitted = Emitted.Nothing }
 
--- tables after a download, by what the call answers
-abbrev pub Stores : {S : Type 0} → Result S ℕ → Option ℕ → S → S → Type 0
-Stores download None old new = download ≡ Ok new
-Stores download (Some code) old new = (download ≡ Err code) × (new ≡ old)
-
 -- a value that is read, by what the call answers
 abbrev pub Reads : Result (List ℕ) ℕ → Option ℕ → List ℕ → Type 0
 Reads value None octets = value ≡ Ok octets
@@ -136,10 +132,11 @@ abbrev pub reply_mail : Result Coe ℕ → CoeMail
 reply_mail (Ok message) = mail message
 reply_mail (Err detail) = failed detail
 
--- the first of the mails that wait
+-- the first of the mails that wait, in its one spelling, which reads as it
 pub record GivesNext (old : Serving) (written : Mail) (new : Serving) : Type 0 where
   pub first : CoeMail
   pub spelled : written ≡ mail_written first
+  pub heard : mail_heard written ≡ first
   pub rest : waiting_mails old ≡ first ∷ waiting_mails new
 
 -- a server's message is short enough for the mailbox
@@ -154,3 +151,10 @@ IsShort room (SegmentAnswer toggle) = Unit {0}
 IsShort room (Abort index sub code) = Unit {0}
 IsShort room (InformationError code) = Unit {0}
 IsShort room _ = ⊥
+
+-- the model's server behind a mail, and the mails that it gives, by what the call did
+abbrev pub served_of : {S : Type 0} → Tables.Tables S → S → ℕ → Serving → Bool → Server S × List Mail
+served_of o app handled c counts = (
+  record { app = (issued o app (emission_view c.emitted c.octets)).0; handled = one_more counts handled; transfer = transfer_of c },
+  map mail_written (answers_of c ++ (issued o app (emission_view c.emitted c.octets)).1),
+)

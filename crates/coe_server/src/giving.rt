@@ -1,8 +1,8 @@
 ghost use Rattle.std.specs.Prelude.{◌≡◌, ◌≢◌, ◌≤◌, ◌<◌, ◌+◌, ◌-◌, ◌↔◌, List, [], ◌∷◌, ◌++◌, true, false, length, drop, take, Some, None, IfOk};
 ghost use Rattle.std.specs.Bool.{OnTrue, OnFalse};
 ghost use Rattle.coe_codec.specs.Writing.{HasSpelling};
-ghost use Rattle.coe_model.specs.Octets.{mail_written};
-ghost use Rattle.coe_model.specs.Mails.{mail};
+ghost use Rattle.coe_model.specs.Octets.{mail_heard, mail_written};
+ghost use Rattle.coe_model.specs.Mails.{mail, failed};
 ghost use Rattle.coe_server.specs.Serving.{Serving, transfer_of, answers_of, waiting_mails, emergencies, emission_view, pending_mails, reply_mail, IsShort, GivesNext};
 
 use crate::server::CoeServer;
@@ -33,7 +33,8 @@ fn upto(bytes: &[u8], len: usize) -> &[u8]
 // The mail of a message, to nobody and not yet counted.
 fn written(message: &Coe) -> Mail
     requires { HasSpelling message.now }
-    ensures { result ≡ mail_written (mail message.now) }
+    ensures spelled { result ≡ mail_written (mail message.now) }
+    ensures heard { mail_heard result ≡ mail message.now }
 {
     let mut body = ArrayVec::new();
     coe_codec::write(message, &mut body);
@@ -43,6 +44,14 @@ fn written(message: &Coe) -> Mail
         counter: 0,
         body,
     }
+}
+
+// The mail of a mailbox error.
+fn failed_mail(detail: u16) -> Mail
+    ensures spelled { result ≡ mail_written (failed detail) }
+    ensures heard { mail_heard result ≡ failed detail }
+{
+    error_mail(detail)
 }
 
 impl CoeServer {
@@ -213,7 +222,7 @@ impl CoeServer {
         }
         match self.next_answer() {
             Ok(message) => written(&message),
-            Err(detail) => error_mail(detail),
+            Err(detail) => failed_mail(detail),
         }
     }
 }

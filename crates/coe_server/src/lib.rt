@@ -4,11 +4,13 @@
 
 mod dictionary;
 mod giving;
+mod objects;
 mod server;
 mod state;
 mod taking;
 
 pub use dictionary::{Dictionary, Question, Target};
+pub use objects::{calls_are_the_exchange, objects_are_lawful, objects_are_spelled};
 pub use server::CoeServer;
 
 #[cfg(test)]

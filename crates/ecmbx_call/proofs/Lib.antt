@@ -2,6 +2,7 @@ pub mod Pushed
 pub mod Served
 pub mod Put
 pub mod Courses
-pub mod Carried
+pub mod Inserted
 pub mod Causes
+pub mod Meant
 pub mod Worked

@@ -19,14 +19,15 @@ use Rattle.ecmbx_call.specs.Report.{report_lines}
 use Rattle.ecmbx_call.specs.Course.{text_of}
 
 -- what a download and an upload of the same entry come to
-pub ordinary_replies_are : (meanings_of (app_of plc) (addressed 0 ordinary_plan.services)).1 ≡ record { kind = Done; value = [] } ∷ record { kind = Value; value = 1 ∷ 2 ∷ 3 ∷ 4 ∷ [] } ∷ []
+pub ordinary_replies_are : (meanings_of (app_of plc) (addressed 0 ordinary_plan.services)).replies ≡ record { kind = Done; value = [] } ∷ record { kind = Value; value = 1 ∷ 2 ∷ 3 ∷ 4 ∷ [] } ∷ []
 ordinary_replies_are = refl
 
 abbrev ordinary_row : SlaveBook
 ordinary_row = record {
-  app = (meanings_of (app_of plc) (addressed 0 ordinary_plan.services)).0;
+  app = (meanings_of (app_of plc) (addressed 0 ordinary_plan.services)).app;
   begun = begun_from 0 (addressed 0 ordinary_plan.services);
   answers = replied (record { kind = Done; value = [] }) ∷ replied (record { kind = Value; value = 1 ∷ 2 ∷ 3 ∷ 4 ∷ [] }) ∷ [];
+  emergencies = [];
 }
 
 abbrev ordinary_book : Book

@@ -11,7 +11,7 @@ use Rattle.ecmbx_call.specs.declared.book.Origin.TheVariants.{Script}
 use Rattle.ecmbx_call.specs.declared.book.Answer.{Answer}
 use Rattle.ecmbx_call.specs.declared.book.Answer.TheVariants.{Replied}
 use Rattle.ecmbx_call.specs.declared.book.Ending.TheVariants.{Unfinished}
-use Rattle.ecmbx_call.specs.Meaning.{app_of, meaning_of, meanings_of, addressed}
+use Rattle.ecmbx_call.specs.Meaning.{app_of, meaning_of, meanings_of, listed, addressed}
 
 -- a book in which nothing stands yet
 pub record IsNew (book : Book) : Type 0 where
@@ -36,7 +36,8 @@ replied reply = Replied reply 0
 pub record TakesUp (old : SlaveBook) (service : Service) (new : SlaveBook) : Type 0 where
   pub app : new.app ≡ (meaning_of old.app service).0
   pub begun : new.begun ≡ old.begun ++ begun_at old.app.handled ∷ []
-  pub answers : new.answers ≡ old.answers ++ replied (meaning_of old.app service).1 ∷ []
+  pub answers : new.answers ≡ old.answers ++ replied (meaning_of old.app service).1.reply ∷ []
+  pub emergencies : new.emergencies ≡ old.emergencies ++ listed (meaning_of old.app service).1.emergency
 
 -- the same only where the service is addressed to the slave
 abbrev pub TakesUpIf : Bool → SlaveBook → Service → SlaveBook → Type 0
@@ -44,12 +45,14 @@ TakesUpIf true old service new = TakesUp old service new
 TakesUpIf false old service new = new ≡ old
 
 -- What a slave's row says of the services addressed to it: they began in order, the application is the plain meaning of
--- just the first of them, as many as it counts, and each answer is the plain meaning's reply.
+-- just the first of them, as many as it counts, each answer is the plain meaning's reply, and the emergencies are those
+-- that these services emit, in order.
 pub record FitsSlave (spec : SlaveSpec) (services : List Service) (row : SlaveBook) : Type 0 where
   pub begun : row.begun ≡ begun_from 0 services
   pub prefix : row.app.handled ≤ length services
-  pub app : row.app ≡ (meanings_of (app_of spec) (take row.app.handled services)).0
-  pub answers : row.answers ≡ map replied (meanings_of (app_of spec) services).1
+  pub app : row.app ≡ (meanings_of (app_of spec) (take row.app.handled services)).app
+  pub answers : row.answers ≡ map replied (meanings_of (app_of spec) services).replies
+  pub emergencies : row.emergencies ≡ (meanings_of (app_of spec) (take row.app.handled services)).emergencies
 
 -- the rows of the slaves from a number on
 abbrev pub FitSlaves : ℕ → List (ℕ × Service) → List SlaveSpec → List SlaveBook → Type 0

@@ -1,5 +1,4 @@
 pub mod Status
-pub mod Objects
 pub mod Meaning
 pub mod Exchange
 pub mod Book

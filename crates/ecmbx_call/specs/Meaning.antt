@@ -1,73 +1,86 @@
 -- The plain meaning of the services of one slave's application.
-use Rattle.std.specs.Prelude.{◌≢◌, ℕ, ◌+◌, ◌≤◌, ◌==◌, List, [], ◌∷◌, length, replicate, codes, All, Option, Some, None, Result, Ok, Err, if◌then◌else◌}
-use Rattle.ec_fields.specs.Fields.{bits_of}
-use Rattle.mailbox_mail.specs.declared.outcome.ReplyKind.TheVariants.{Done, Value, Abort, MailboxError}
-use Rattle.object_dictionary.specs.declared.entry.EntrySpec.{EntrySpec}
+use Rattle.std.specs.Prelude.{ℕ, ◌+◌, ◌==◌, ◌&&◌, false, List, [], ◌∷◌, ◌++◌, Option, Some, None, Result, Ok, Err, if◌then◌else◌}
+use Rattle.mailbox_mail.specs.declared.outcome.ReplyKind.{ReplyKind}
+use Rattle.mailbox_mail.specs.declared.outcome.ReplyKind.TheVariants.{Done, Value, Abort}
 use Rattle.object_dictionary.specs.declared.service.SdoService.{SdoService}
-use Rattle.object_dictionary.specs.declared.service.SdoService.TheVariants.{Download, Upload}
+use Rattle.object_dictionary.specs.declared.service.SdoService.TheVariants.{Download, Upload, DownloadAll, UploadAll, List as ObjectList, ObjectInfo, EntryInfo}
+use Rattle.object_dictionary.specs.Dictionary.{Table, download, upload}
+use Rattle.object_dictionary.specs.Whole.{download_all, upload_all}
+use Rattle.object_dictionary.specs.Information.{list_info, object_info, entry_info}
+use Rattle.object_dictionary.specs.Sound.{placed, own_table}
 use Rattle.slave_app.specs.declared.spec.ObjectSpec.{ObjectSpec}
 use Rattle.slave_app.specs.declared.spec.SlaveSpec.{SlaveSpec}
 use Rattle.slave_app.specs.declared.service.Service.{Service}
 use Rattle.slave_app.specs.declared.service.Service.TheVariants.{Sdo}
 use Rattle.slave_app.specs.declared.reply.Reply.{Reply}
+use Rattle.scenario.specs.Sound.{kept}
 use Rattle.ecmbx_call.specs.declared.app.App.{App}
-use Rattle.ecmbx_call.specs.Objects.{objects_after, value_of}
+use Rattle.ecmbx_call.specs.declared.app.Performed.{Performed}
 
--- an entry that, where it can be read, holds the 1 to 4 octets of an expedited answer
-abbrev pub HoldsFew : EntrySpec → Type 0
-HoldsFew e = bits_of e.access 0 3 ≢ 0 → (1 ≤ length e.value) × (length e.value ≤ 4)
+-- a dictionary with more objects, each at its place among the indexes
+abbrev pub with_objects : List ObjectSpec → Table → Table
+with_objects [] table = table
+with_objects (o ∷ os) table = with_objects os (placed o.index (kept o) table)
 
--- an object of such entries
-pub record IsHeld (o : ObjectSpec) : Type 0 where
-  pub few : length o.entries ≤ 254
-  pub short : All HoldsFew o.entries
-
--- the profile's object whose download emits an emergency of 8 octets; it can't be read
-abbrev pub emergency_object : ObjectSpec
-emergency_object = record {
-  index = 0x2F00;
-  code = 8;
-  name = codes "Emergency";
-  entries = record { kind = 10; access = 0x38; least = 8; most = 8; min = None; max = None; name = []; value = replicate 8 0 } ∷ [];
-}
-
--- the application of a slave before any service
+-- the application of a slave before any service: the profile's own objects and the slave's
 abbrev pub app_of : SlaveSpec → App
-app_of s = record { objects = emergency_object ∷ s.objects; al = s.start; handled = 0 }
+app_of s = record { objects = with_objects s.objects (own_table false); al = s.start; handled = 0 }
 
 -- the application after one more service
-abbrev pub counted : App → List ObjectSpec → App
+abbrev pub counted : App → Table → App
 counted app objects = record { objects = objects; al = app.al; handled = app.handled + 1 }
 
--- done, or the abort code
-abbrev pub done_or : Option ℕ → Reply
-done_or None = record { kind = Done; value = [] }
-done_or (Some code) = record { kind = Abort code; value = [] }
+abbrev pub performed : ReplyKind → List ℕ → Option (List ℕ) → Performed
+performed kind value emergency = record { reply = record { kind = kind; value = value }; emergency = emergency }
 
--- the value, or the abort code
-abbrev pub value_or : Result (List ℕ) ℕ → Reply
-value_or (Ok bytes) = record { kind = Value; value = bytes }
-value_or (Err code) = record { kind = Abort code; value = [] }
+-- a refused service changes no object
+abbrev pub refused : App → ℕ → App × Performed
+refused app code = (counted app app.objects, performed (Abort code) [] None)
 
--- a service that isn't supported: mailbox error 4
-abbrev pub unsupported : Reply
-unsupported = record { kind = MailboxError 4; value = [] }
+-- a download: done, or the abort code
+abbrev pub written : App → Option (List ℕ) → Result Table ℕ → App × Performed
+written app emergency (Ok objects) = (counted app objects, performed Done [] emergency)
+written app emergency (Err code) = refused app code
 
-abbrev pub sdo_meaning : App → SdoService → App × Reply
-sdo_meaning app (Download index sub bytes) =
-    (counted app (objects_after app.al app.objects index sub bytes).0, done_or (objects_after app.al app.objects index sub bytes).1)
-sdo_meaning app (Upload index sub) = (counted app app.objects, value_or (value_of app.al app.objects index sub))
-sdo_meaning app _ = (counted app app.objects, unsupported)
+-- an upload or an answer to a question: the value, or the abort code
+abbrev pub told : App → Result (List ℕ) ℕ → App × Performed
+told app (Ok bytes) = (counted app app.objects, performed Value bytes None)
+told app (Err code) = refused app code
 
--- what a service does to an application, and its reply
-abbrev pub meaning_of : App → Service → App × Reply
+-- a download to 0x2F00:01 by its subindex emits its octets as an emergency
+abbrev pub emergency_of : ℕ → ℕ → List ℕ → Option (List ℕ)
+emergency_of index sub bytes = if index == 0x2F00 && sub == 1 then Some bytes else None
+
+abbrev pub sdo_meaning : App → SdoService → App × Performed
+sdo_meaning app (Download index sub bytes) = written app (emergency_of index sub bytes) (download app.al app.objects index sub bytes)
+sdo_meaning app (Upload index sub) = told app (upload app.al app.objects index sub)
+sdo_meaning app (DownloadAll index from bytes) = written app None (download_all app.al app.objects index from bytes)
+sdo_meaning app (UploadAll index from) = told app (upload_all app.al app.objects index from)
+sdo_meaning app (ObjectList kind) = told app (list_info app.objects kind)
+sdo_meaning app (ObjectInfo index) = told app (object_info app.objects index)
+sdo_meaning app (EntryInfo index sub info) = told app (entry_info app.objects index sub)
+
+-- what a service does to an application, its reply, and the emergency that it emits
+abbrev pub meaning_of : App → Service → App × Performed
 meaning_of app (Sdo service) = sdo_meaning app service
 
--- services one after the other: the application behind them, and their replies
-abbrev pub meanings_of : App → List Service → App × List Reply
-meanings_of app [] = (app, [])
-meanings_of app (service ∷ services) =
-    ((meanings_of (meaning_of app service).0 services).0, (meaning_of app service).1 ∷ (meanings_of (meaning_of app service).0 services).1)
+-- what services came to: the application behind them, their replies, and the emergencies that they emitted
+pub record Meanings : Type 0 where
+  pub app : App
+  pub replies : List Reply
+  pub emergencies : List (List ℕ)
+
+abbrev pub listed : Option (List ℕ) → List (List ℕ)
+listed None = []
+listed (Some octets) = octets ∷ []
+
+abbrev pub preceded : Performed → Meanings → Meanings
+preceded first later = record { app = later.app; replies = first.reply ∷ later.replies; emergencies = listed first.emergency ++ later.emergencies }
+
+-- services one after the other
+abbrev pub meanings_of : App → List Service → Meanings
+meanings_of app [] = record { app = app; replies = []; emergencies = [] }
+meanings_of app (service ∷ services) = preceded (meaning_of app service).1 (meanings_of (meaning_of app service).0 services)
 
 -- the services addressed to the slave of a number
 abbrev pub addressed : ℕ → List (ℕ × Service) → List Service

@@ -55,6 +55,14 @@ abbrev pub answer_lines : ℕ → List Answer → List (List ℕ)
 answer_lines number [] = []
 answer_lines number (answer ∷ answers) = answer_line number answer ∷ answer_lines (number + 1) answers
 
+-- an emergency that was received
+abbrev pub emergency_line : List ℕ → List ℕ
+emergency_line octets = codes "emergency " ++ encode_lower octets ++ codes "\n"
+
+abbrev pub emergency_lines : List (List ℕ) → List (List ℕ)
+emergency_lines [] = []
+emergency_lines (octets ∷ emergencies) = emergency_line octets ∷ emergency_lines emergencies
+
 -- a slave's station in four digits and its AL state in one
 abbrev pub station_text : ℕ → ℕ → List ℕ
 station_text station state = codes " station " ++ (hex_of 4 station ++ (codes " state " ++ digits 16 false state))
@@ -67,9 +75,13 @@ handled_text handled = codes " handled " ++ (decimal handled ++ codes " packets 
 abbrev pub slave_line : ℕ → SlaveSpec → SlaveBook → List ℕ
 slave_line number spec row = (codes "slave " ++ (decimal number ++ codes " ")) ++ spec.name ++ station_text spec.station row.app.al ++ handled_text row.app.handled
 
--- the slaves from a number on, each with its answers
+-- a slave with its answers and the emergencies received from it
+abbrev pub lines_of_slave : ℕ → SlaveSpec → SlaveBook → List (List ℕ)
+lines_of_slave number spec row = slave_line number spec row ∷ (answer_lines 0 row.answers ++ emergency_lines row.emergencies)
+
+-- the slaves from a number on
 abbrev pub slave_lines : ℕ → List SlaveSpec → List SlaveBook → List (List ℕ)
-slave_lines number (spec ∷ specs) (row ∷ rows) = slave_line number spec row ∷ (answer_lines 0 row.answers ++ slave_lines (number + 1) specs rows)
+slave_lines number (spec ∷ specs) (row ∷ rows) = lines_of_slave number spec row ++ slave_lines (number + 1) specs rows
 slave_lines number _ _ = []
 
 -- no packet was dropped

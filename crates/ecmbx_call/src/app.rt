@@ -1,21 +1,31 @@
 ghost use Rattle.std.specs.Prelude.{◌≡◌, IfOk};
-ghost use Rattle.ecmbx_call.specs.Meaning.{emergency_object, app_of};
+ghost use Rattle.scenario.specs.Sound.{IsSlave};
+ghost use Rattle.ecmbx_call.specs.Meaning.{app_of};
 
 use crate::rows::put;
 use ec_fields::{NoMemory, Octets, Rows};
-use object_dictionary::EntrySpec;
-use slave_app::{ObjectSpec, SlaveSpec};
+use object_dictionary::{EntrySpec, Objects};
+use slave_app::{ObjectSpec, Reply, SlaveSpec};
 use std::alloc::Global;
 
 /// The application of a slave: what its services act on.
 #[derive(Debug, Drop)]
 pub struct App {
-    /// The objects: the profile's own, then the scenario's.
-    pub objects: Rows<ObjectSpec>,
+    /// The objects: the profile's own and the scenario's.
+    pub objects: Objects,
     /// The AL state.
     pub al: u8,
     /// How many services were carried out or refused.
     pub handled: u64,
+}
+
+/// What a service came to.
+#[derive(Debug, Drop)]
+pub struct Performed {
+    /// The reply.
+    pub reply: Reply,
+    /// The emergency that the service emitted, 8 octets.
+    pub emergency: Option<Octets>,
 }
 
 fn copy_of_entry(alloc: Global, entry: &EntrySpec) -> Result<EntrySpec, NoMemory>
@@ -51,39 +61,16 @@ fn copy_of_object(alloc: Global, object: &ObjectSpec) -> Result<ObjectSpec, NoMe
     })
 }
 
-/// The profile's object whose download emits an emergency.
-fn emergency(alloc: Global) -> Result<ObjectSpec, NoMemory>
-    ensures { IfOk result (λ object. object ≡ emergency_object) }
-{
-    let mut entries = Rows::new(alloc);
-    let entry = EntrySpec {
-        kind: 10,
-        access: 0x38,
-        least: 8,
-        most: 8,
-        min: None,
-        max: None,
-        name: Octets::new(alloc),
-        value: Octets::copy_of(alloc, &[0; 8])?,
-    };
-    put(&mut entries, entry)?;
-    Ok(ObjectSpec {
-        index: 0x2F00,
-        code: 8,
-        name: Octets::copy_of(alloc, b"Emergency")?,
-        entries,
-    })
-}
-
 impl App {
-    /// The application of a slave before any service.
+    /// The application of a slave before any service. It takes the memory of each value's greatest size.
     pub fn new(alloc: Global, spec: &SlaveSpec) -> Result<App, NoMemory>
+        requires { IsSlave spec.now }
         ensures { IfOk result (λ app. app ≡ app_of spec.now) }
     {
-        let mut objects = Rows::new(alloc);
-        put(&mut objects, emergency(alloc)?)?;
+        let mut objects = Objects::new(alloc, false)?;
         for object in spec.objects.as_slice() {
-            put(&mut objects, copy_of_object(alloc, object)?)?;
+            let copy = copy_of_object(alloc, object)?;
+            objects.insert(copy.index, copy.code, copy.name, copy.entries)?;
         }
         Ok(App {
             objects,

@@ -52,6 +52,8 @@ pub struct SlaveBook {
     pub begun: Rows<Begun>,
     /// Their answers, in the same order.
     pub answers: Rows<Answer>,
+    /// The emergencies received from the slave, in order; 8 octets each.
+    pub emergencies: Rows<Octets>,
 }
 
 /// How a run ended.

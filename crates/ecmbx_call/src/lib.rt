@@ -4,19 +4,16 @@
 
 mod app;
 mod book;
-mod client;
 mod exchange;
 mod lines;
-mod objects;
 mod reporting;
 mod rows;
 mod running;
-mod server;
 mod status;
 mod texts;
 mod top;
 
-pub use app::App;
+pub use app::{App, Performed};
 pub use book::{Answer, Begun, Book, Ending, Fate, Origin, SentFrame, SlaveBook};
 pub use reporting::report;
 pub use running::run;

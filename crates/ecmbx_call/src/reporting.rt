@@ -1,6 +1,6 @@
 ghost use Rattle.std.specs.Prelude.{◌≡◌, ◌∷◌, [], ◌++◌, length, codes, IfOk, OnOk, OnErr};
 ghost use Rattle.ecmbx_call.specs.declared.book.Ending.TheVariants.{Done};
-ghost use Rattle.ecmbx_call.specs.Report.{hex_of, is_lost, frames_line, value_text, kind_text, answer_line, answer_lines, station_text, handled_text, slave_line, slave_lines, dropped_line, done_line, report_lines, Extends};
+ghost use Rattle.ecmbx_call.specs.Report.{hex_of, is_lost, frames_line, value_text, kind_text, answer_line, answer_lines, station_text, handled_text, slave_line, emergency_line, emergency_lines, lines_of_slave, slave_lines, dropped_line, done_line, report_lines, Extends};
 
 use crate::book::{Answer, Book, Fate, SentFrame, SlaveBook};
 use crate::rows::put;
@@ -130,6 +130,47 @@ fn push_answers(alloc: Global, answers: &[Answer], into: &mut Rows<Octets>) -> R
     Ok(())
 }
 
+fn emergency_text_line(alloc: Global, octets: &[u8]) -> Result<Octets, NoMemory>
+    ensures { IfOk result (λ line. line ≡ emergency_line octets.now) }
+{
+    let digits = hex::encode(alloc, octets)?;
+    let mut line = Octets::copy_of(alloc, b"emergency ")?;
+    line.add(digits.as_bytes())?;
+    line.add(b"\n")?;
+    Ok(line)
+}
+
+fn push_emergencies(
+    alloc: Global,
+    emergencies: &[Octets],
+    into: &mut Rows<Octets>,
+) -> Result<(), NoMemory>
+    ensures ok { OnOk result (into.new ≡ into.old ++ emergency_lines emergencies.now) }
+    ensures err { OnErr result (Extends into.old into.new) }
+{
+    for octets in emergencies {
+        let line = emergency_text_line(alloc, octets.bytes())?;
+        put(into, line)?;
+    }
+    Ok(())
+}
+
+fn push_slave(
+    alloc: Global,
+    number: usize,
+    spec: &SlaveSpec,
+    row: &SlaveBook,
+    into: &mut Rows<Octets>,
+) -> Result<(), NoMemory>
+    ensures ok { OnOk result (into.new ≡ into.old ++ lines_of_slave number spec.now row.now) }
+    ensures err { OnErr result (Extends into.old into.new) }
+{
+    let line = slave_text_line(alloc, number, spec, row)?;
+    put(into, line)?;
+    push_answers(alloc, row.answers.as_slice(), into)?;
+    push_emergencies(alloc, row.emergencies.as_slice(), into)
+}
+
 fn push_slaves(
     alloc: Global,
     specs: &[SlaveSpec],
@@ -141,10 +182,7 @@ fn push_slaves(
     ensures err { OnErr result (Extends into.old into.new) }
 {
     for (number, spec) in specs.iter().enumerate() {
-        let row = &rows[number];
-        let line = slave_text_line(alloc, number, spec, row)?;
-        put(into, line)?;
-        push_answers(alloc, row.answers.as_slice(), into)?;
+        push_slave(alloc, number, spec, &rows[number], into)?;
     }
     Ok(())
 }

@@ -1,34 +1,44 @@
-ghost use Rattle.std.specs.Prelude.{◌≡◌, [], ◌⊎◌, length, IfOk, OnOk, All, ◌≤◌, ◌<◌, ◌==◌};
+ghost use Rattle.std.specs.Prelude.{◌≡◌, [], ◌++◌, ◌⊎◌, length, IfOk, OnOk, All, ◌≤◌, ◌<◌, ◌==◌};
 ghost use Rattle.ecmbx_call.specs.declared.book.Ending.TheVariants as endings;
 ghost use Rattle.scenario.specs.Sound.{IsPlan, IsSlave, IsAddressed, IsService};
-ghost use Rattle.ecmbx_call.specs.Meaning.{IsHeld, addressed};
+ghost use Rattle.ecmbx_call.specs.Meaning.{listed, addressed};
 ghost use Rattle.ecmbx_call.specs.Book.{IsNew, FitsSlave, FitSlaves, AllCarriedOut, Fits, AllDone, TakesUp, TakesUpIf};
 
 use crate::app::App;
 use crate::book::{Answer, Begun, Book, Ending, Origin, SlaveBook};
-use crate::exchange::{Mailboxes, exchange};
+use crate::exchange::{Link, exchange};
 use crate::rows::put;
-use ec_fields::{NoMemory, Rows};
+use ec_fields::{NoMemory, Octets, Rows};
 use scenario::Scenario;
 use slave_app::{Service, SlaveSpec};
 use std::alloc::Global;
+
+fn note_emergency(row: &mut SlaveBook, emergency: Option<Octets>) -> Result<(), NoMemory>
+    ensures app { row.new.app ≡ row.old.app }
+    ensures begun { row.new.begun ≡ row.old.begun }
+    ensures answers { row.new.answers ≡ row.old.answers }
+    ensures noted { OnOk result (row.new.emergencies ≡ row.old.emergencies ++ listed emergency) }
+{
+    match emergency {
+        Some(octets) => put(&mut row.emergencies, octets),
+        None => Ok(()),
+    }
+}
 
 /// Carries out one service of a slave, and notes it with its answer.
 fn take_up(
     alloc: Global,
     row: &mut SlaveBook,
-    mailboxes: &mut Mailboxes,
+    link: &mut Link,
     service: &Service,
 ) -> Result<(), NoMemory>
-    requires held { All IsHeld row.old.app.objects }
-    requires expedited { IsService service.now }
+    requires sdo { IsService service.now }
     requires few { row.old.app.handled < 4096 }
     ensures takes { OnOk result (TakesUp row.old service.now row.new) }
-    ensures held { OnOk result (All IsHeld row.new.app.objects) }
 {
     let number = row.app.handled as u32;
     let Service::Sdo(sdo) = service;
-    let reply = exchange(alloc, &mut row.app, mailboxes, sdo)?;
+    let performed = exchange(alloc, &mut row.app, link, sdo)?;
     put(
         &mut row.begun,
         Begun {
@@ -36,27 +46,26 @@ fn take_up(
             frame: 0,
         },
     )?;
+    let reply = performed.reply;
     put(&mut row.answers, Answer::Replied { reply, frame: 0 })?;
-    Ok(())
+    note_emergency(row, performed.emergency)
 }
 
 /// Takes up a service where it is addressed to the slave of this number.
 fn take_up_addressed(
     alloc: Global,
     row: &mut SlaveBook,
-    mailboxes: &mut Mailboxes,
+    link: &mut Link,
     number: usize,
     slave: u32,
     service: &Service,
 ) -> Result<(), NoMemory>
-    requires held { All IsHeld row.old.app.objects }
-    requires expedited { IsService service.now }
+    requires sdo { IsService service.now }
     requires few { row.old.app.handled < 4096 }
     ensures takes { OnOk result (TakesUpIf (slave == number) row.old service.now row.new) }
-    ensures held { OnOk result (All IsHeld row.new.app.objects) }
 {
     if slave as usize == number {
-        take_up(alloc, row, mailboxes, service)
+        take_up(alloc, row, link, service)
     } else {
         Ok(())
     }
@@ -80,10 +89,11 @@ fn serve_slave(
         app: App::new(alloc, spec)?,
         begun: Rows::new(alloc),
         answers: Rows::new(alloc),
+        emergencies: Rows::new(alloc),
     };
-    let mut mailboxes = Mailboxes::new(alloc, spec.out_len, spec.in_len)?;
+    let mut link = Link::new(alloc, spec.out_len, spec.in_len)?;
     for (slave, service) in services {
-        take_up_addressed(alloc, &mut row, &mut mailboxes, number, *slave, service)?;
+        take_up_addressed(alloc, &mut row, &mut link, number, *slave, service)?;
     }
     Ok(row)
 }

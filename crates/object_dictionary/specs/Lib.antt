@@ -1,0 +1,5 @@
+pub mod Entries
+pub mod Dictionary
+pub mod Whole
+pub mod Information
+pub mod Sound

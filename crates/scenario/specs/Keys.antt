@@ -1,5 +1,5 @@
 -- The kinds of keys, each read in the order: missing, wrong kind, too many, not octets, out of range.
-use Rattle.std.specs.Prelude.{ℕ, ◌&&◌, nat_le, ℤ, pos, negsuc, List, [], ◌∷◌, length, Option, Some, None, Result, Ok, Bool, true, if◌then◌else◌, unwrap_or, option_and_then}
+use Rattle.std.specs.Prelude.{ℕ, ◌&&◌, nat_le, ℤ, pos, negsuc, List, [], ◌∷◌, length, Option, Some, None, Result, Ok, Bool, true, if◌then◌else◌, unwrap_or, option_and_then, is_none}
 use Rattle.std.specs.List.{list_all, list_any}
 use Rattle.std.specs.Result.{result_ok}
 use Rattle.std.specs.Str.{bytes_eq}
@@ -27,13 +27,24 @@ only_keys known place ms = unless_refused UnknownKey place (has_only known ms)
 abbrev pub needed_at : List ℕ → Place → Members → Result Data Refusal
 needed_at key place ms = wanted Missing place (get_member key ms)
 
+-- a key that another key excludes
+abbrev pub excluded_at : List ℕ → Place → Members → Result (Unit {0}) Refusal
+excluded_at key place ms = unless_refused OutOfRange place (is_none (get_member key ms))
+
+-- a number of 64 bits, where its key is there
+abbrev pub number_in : Place → Data → Result ℤ Refusal
+number_in place d = wanted WrongKind place (as_integer d)
+
+abbrev pub optional_number_at : List ℕ → Place → Members → Result (Option ℤ) Refusal
+optional_number_at key place ms = optional (number_in place) (get_member key ms)
+
 -- a number of this range
 abbrev pub in_range : ℕ → ℕ → Place → ℤ → Result ℕ Refusal
 in_range low high place (pos n) = if nat_le low n && nat_le n high then Ok n else refuse OutOfRange place
 in_range low high place (negsuc n) = refuse OutOfRange place
 
 abbrev pub integer_in : ℕ → ℕ → Place → Data → Result ℕ Refusal
-integer_in low high place d = wanted WrongKind place (as_integer d) >>= in_range low high place
+integer_in low high place d = number_in place d >>= in_range low high place
 
 abbrev pub integer_at : List ℕ → ℕ → ℕ → Place → Members → Result ℕ Refusal
 integer_at key low high place ms = needed_at key place ms >>= integer_in low high place

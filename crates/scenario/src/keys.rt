@@ -2,7 +2,7 @@ ghost use Rattle.std.specs.Prelude.{◌≡◌, ◌≤◌, ℕ, map, length, IfOk
 ghost use Rattle.toml.specs.Data.{get_member};
 ghost use Rattle.toml.specs.View.{view, items_view, table_view};
 ghost use Rattle.scenario.specs.Reading.{Gives, unless_refused};
-ghost use Rattle.scenario.specs.Keys.{is_known, only_keys, needed_at, in_range, integer_in, integer_at, two_numbers, as_pair, pair_in, pair_at, text_in, text_at, is_printed, is_name, is_label, name_at, label_in, label_at, octets_in, octets_at};
+ghost use Rattle.scenario.specs.Keys.{is_known, only_keys, excluded_at, needed_at, number_in, optional_number_at, in_range, integer_in, integer_at, two_numbers, as_pair, pair_in, pair_at, text_in, text_at, is_printed, is_name, is_label, name_at, label_in, label_at, octets_in, octets_at};
 
 use crate::place::Place;
 use crate::refusal::{Rule, Stop, refused};
@@ -57,6 +57,32 @@ pub fn needed<'a>(table: &'a Table, key: &str, place: Place) -> Result<&'a Value
     }
 }
 
+/// Refuses a key that another key excludes.
+pub fn excluded(table: &Table, key: &str, place: Place) -> Result<(), Stop>
+    ensures { Gives (λ done. done) result (excluded_at key.now place (table_view table.now)) }
+{
+    unless(find(table, key).is_none(), Rule::OutOfRange, place)
+}
+
+fn number(value: &Value, place: Place) -> Result<i64, Stop>
+    ensures { Gives (λ n. n) result (number_in place (view value.now)) }
+{
+    match value.as_integer() {
+        Some(number) => Ok(number),
+        None => Err(refused(Rule::WrongKind, place)),
+    }
+}
+
+/// A number of 64 bits, where its key is there.
+pub fn number_or_none(table: &Table, key: &str, place: Place) -> Result<Option<i128>, Stop>
+    ensures { Gives (λ n. n) result (optional_number_at key.now place (table_view table.now)) }
+{
+    match find(table, key) {
+        Some(value) => Ok(Some(i128::from(number(value, place)?))),
+        None => Ok(None),
+    }
+}
+
 fn number_in(number: i64, low: u64, high: u64, place: Place) -> Result<u64, Stop>
     ensures gives { Gives (λ n. n) result (in_range low high place number) }
     ensures within { IfOk result (λ n. (low ≤ n) × (n ≤ high)) }
@@ -71,10 +97,7 @@ fn integer(value: &Value, low: u64, high: u64, place: Place) -> Result<u64, Stop
     ensures gives { Gives (λ n. n) result (integer_in low high place (view value.now)) }
     ensures within { IfOk result (λ n. (low ≤ n) × (n ≤ high)) }
 {
-    match value.as_integer() {
-        Some(number) => number_in(number, low, high, place),
-        None => Err(refused(Rule::WrongKind, place)),
-    }
+    number_in(number(value, place)?, low, high, place)
 }
 
 /// A number from `low` to `high`.

@@ -1,8 +1,8 @@
 ghost use Rattle.std.specs.Prelude.{◌≡◌, ◌≤◌, ◌<◌, ℕ, map, length, IfOk, IfSome, All};
 ghost use Rattle.toml.specs.View.{table_view};
 ghost use Rattle.scenario.specs.Reading.{Gives};
-ghost use Rattle.scenario.specs.Scenario.{slave_named, action_of, keys_of, body_of, given_action, only_keys_of, action_at, target_at, service_of, services_of};
-ghost use Rattle.scenario.specs.Sound.{IsService, IsAddressed};
+ghost use Rattle.scenario.specs.Scenario.{slave_named, action_of, keys_of, word_at, sub_at, body_of, given_action, only_keys_of, action_at, target_at, service_of, services_of};
+ghost use Rattle.scenario.specs.Sound.{IsSdo, IsAddressed};
 
 use crate::keys::{find, needed_integer, needed_octets, needed_text, only_known};
 use crate::place::Place;
@@ -20,6 +20,16 @@ pub enum Action {
     Download,
     /// Reads an entry.
     Upload,
+    /// Writes all entries of an object.
+    DownloadAll,
+    /// Reads all entries of an object.
+    UploadAll,
+    /// Asks for a list of objects.
+    List,
+    /// Asks for the description of an object.
+    ObjectInfo,
+    /// Asks for the description of an entry.
+    EntryInfo,
 }
 
 fn word_action(word: &str) -> Option<Action>
@@ -29,6 +39,16 @@ fn word_action(word: &str) -> Option<Action>
         Some(Action::Download)
     } else if word == "upload" {
         Some(Action::Upload)
+    } else if word == "download_all" {
+        Some(Action::DownloadAll)
+    } else if word == "upload_all" {
+        Some(Action::UploadAll)
+    } else if word == "list" {
+        Some(Action::List)
+    } else if word == "object" {
+        Some(Action::ObjectInfo)
+    } else if word == "entry" {
+        Some(Action::EntryInfo)
     } else {
         None
     }
@@ -40,6 +60,11 @@ fn known_for(action: Action) -> &'static [&'static str]
     match action {
         Action::Download => &["slave", "do", "index", "sub", "value"],
         Action::Upload => &["slave", "do", "index", "sub"],
+        Action::DownloadAll => &["slave", "do", "index", "from", "value"],
+        Action::UploadAll => &["slave", "do", "index", "from"],
+        Action::List => &["slave", "do", "kind"],
+        Action::ObjectInfo => &["slave", "do", "index"],
+        Action::EntryInfo => &["slave", "do", "index", "sub"],
     }
 }
 
@@ -94,22 +119,60 @@ fn target(table: &Table, slaves: &[SlaveSpec], place: Place) -> Result<u32, Stop
     }
 }
 
+fn word(table: &Table, key: &str, place: Place) -> Result<u16, Stop>
+    ensures { Gives (λ n. n) result (word_at key.now place (table_view table.now)) }
+{
+    Ok(needed_integer(table, key, 0, 0xFFFF, place)? as u16)
+}
+
+fn subindex(table: &Table, key: &str, place: Place) -> Result<u8, Stop>
+    ensures { Gives (λ n. n) result (sub_at key.now place (table_view table.now)) }
+{
+    Ok(needed_integer(table, key, 0, 0xFF, place)? as u8)
+}
+
 #[tactic(auto, unfolding(crate::specs::Scenario::body_of))]
-fn body(alloc: Global, action: Action, table: &Table, place: Place) -> Result<Service, Stop>
+fn body(alloc: Global, action: Action, table: &Table, place: Place) -> Result<SdoService, Stop>
     ensures gives { Gives (λ s. s) result (body_of action place (table_view table.now)) }
-    ensures sound { IfOk result IsService }
+    ensures sound { IfOk result IsSdo }
 {
     match action {
         Action::Download => {
-            let index = needed_integer(table, "index", 0, 0xFFFF, place)? as u16;
-            let sub = needed_integer(table, "sub", 0, 0xFF, place)? as u8;
-            let bytes = needed_octets(alloc, table, "value", 1, 4, place)?;
-            Ok(Service::Sdo(SdoService::Download { index, sub, bytes }))
+            let index = word(table, "index", place)?;
+            let sub = subindex(table, "sub", place)?;
+            let bytes = needed_octets(alloc, table, "value", 1, 8000, place)?;
+            Ok(SdoService::Download { index, sub, bytes })
         }
         Action::Upload => {
-            let index = needed_integer(table, "index", 0, 0xFFFF, place)? as u16;
-            let sub = needed_integer(table, "sub", 0, 0xFF, place)? as u8;
-            Ok(Service::Sdo(SdoService::Upload { index, sub }))
+            let index = word(table, "index", place)?;
+            let sub = subindex(table, "sub", place)?;
+            Ok(SdoService::Upload { index, sub })
+        }
+        Action::DownloadAll => {
+            let index = word(table, "index", place)?;
+            let from = subindex(table, "from", place)?;
+            let bytes = needed_octets(alloc, table, "value", 1, 16_000, place)?;
+            Ok(SdoService::DownloadAll { index, from, bytes })
+        }
+        Action::UploadAll => {
+            let index = word(table, "index", place)?;
+            let from = subindex(table, "from", place)?;
+            Ok(SdoService::UploadAll { index, from })
+        }
+        Action::List => Ok(SdoService::List {
+            kind: word(table, "kind", place)?,
+        }),
+        Action::ObjectInfo => Ok(SdoService::ObjectInfo {
+            index: word(table, "index", place)?,
+        }),
+        Action::EntryInfo => {
+            let index = word(table, "index", place)?;
+            let sub = subindex(table, "sub", place)?;
+            Ok(SdoService::EntryInfo {
+                index,
+                sub,
+                info: 0,
+            })
         }
     }
 }
@@ -130,7 +193,7 @@ fn service(
     let slave = target(table, slaves, place)?;
     let action = needed_action(table, place)?;
     let body = body(alloc, action, table, place)?;
-    Ok((slave, body))
+    Ok((slave, Service::Sdo(body)))
 }
 
 /// The services in order, each with the number of its slave.

@@ -3,6 +3,7 @@ use Rattle.exchange_model.proofs.Words.{given_part}
 use Rattle.coe_model.specs.Server.{serve}
 use Rattle.coe_model.specs.Model.{full}
 use Rattle.coe_model.proofs.CoeLaw.{kept}
+use Rattle.coe_model.proofs.Progress.{goes_on}
 use Rattle.coe_model.proofs.client_against_server.Goals as goal
 
 pub returns-clause-app : goal.returns-clause-app
@@ -22,3 +23,6 @@ returns-clause-part c = λ o eoe areas law sized v q ready p r e. (kept o law eo
 
 pub returns-clause-begins : goal.returns-clause-begins
 returns-clause-begins c = λ o eoe areas v q p r e. given_part (serve o eoe areas.back) v p (full o eoe areas v q) (r, sym e)
+
+pub returns-clause-goes_on : goal.returns-clause-goes_on
+returns-clause-goes_on c = λ o eoe areas law sized v q ready p m r e. goes_on o eoe areas law sized v q ready p m r e

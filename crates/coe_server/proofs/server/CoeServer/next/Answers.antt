@@ -12,10 +12,11 @@ returns-in-Ok c =
     record {
       next = record {
         first = mail c.in-Ok.message;
-        spelled = c.written-in-Ok.ensures;
+        spelled = c.written-in-Ok.ensures.spelled;
+        heard = c.written-in-Ok.ensures.heard;
         rest = given_next c.args.self.now c.next_answer.new.self (mail c.in-Ok.message) c.in-Ok.ensures.first c.in-Ok.ensures.same;
       };
-      fits = subst (λ (m : Mail). length m.body.items + 6 ≤ c.args.self.now.room) (sym c.written-in-Ok.ensures)
+      fits = subst (λ (m : Mail). length m.body.items + 6 ≤ c.args.self.now.room) (sym c.written-in-Ok.ensures.spelled)
           (short_fits c.args.self.now.room c.in-Ok.message least c.in-Ok.ensures.short);
       transfer = ap transfer_of c.in-Ok.ensures.same;
       room = ap (λ (t : Serving). t.room) c.in-Ok.ensures.same;
@@ -28,10 +29,11 @@ returns-in-Err c =
     record {
       next = record {
         first = failed c.in-Err.detail;
-        spelled = c.error_mail.ensures;
+        spelled = c.failed_mail.ensures.spelled;
+        heard = c.failed_mail.ensures.heard;
         rest = given_next c.args.self.now c.next_answer.new.self (failed c.in-Err.detail) c.in-Err.ensures.first c.in-Err.ensures.same;
       };
-      fits = subst (λ (m : Mail). length m.body.items + 6 ≤ c.args.self.now.room) (sym c.error_mail.ensures) (omega (arith, least));
+      fits = subst (λ (m : Mail). length m.body.items + 6 ≤ c.args.self.now.room) (sym c.failed_mail.ensures.spelled) (omega (arith, least));
       transfer = ap transfer_of c.in-Err.ensures.same;
       room = ap (λ (t : Serving). t.room) c.in-Err.ensures.same;
       eoe = ap (λ (t : Serving). t.eoe) c.in-Err.ensures.same;

@@ -1,0 +1,5 @@
+pub mod Tests
+pub mod Kept
+pub mod WholeKept
+pub mod Placed
+pub mod Listed
