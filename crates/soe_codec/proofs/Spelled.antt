@@ -8,7 +8,7 @@ use Rattle.ec_fields.specs.Fields.{number_at, bits_of}
 use Rattle.soe_codec.specs.declared.message.Soe.{Soe}
 use Rattle.soe_codec.specs.declared.message.SoeFault.{SoeFault}
 use Rattle.soe_codec.specs.declared.message.SoeFault.TheVariants.{Short, Opcode, Incomplete}
-use Rattle.soe_codec.specs.Message.{IsSoe, is_opcode, has_fragments, message_in, soe_read}
+use Rattle.soe_codec.specs.Message.{IsSoe, IsSpellable, is_opcode, has_fragments, message_in, soe_read}
 
 -- each is below 256
 abbrev AreOctets : List ℕ → Type 0
@@ -100,3 +100,11 @@ soe_read-found body e o h =
 pub found_in : (body : List ℕ) (r : Result Soe SoeFault) → AreOctets body → r ≡ soe_read body → IfOk r (IsSoe body)
 found_in body (Ok e) o h = soe_read-found body e o (sym h)
 found_in body (Err f) o h = tt
+
+-- and has a spelling
+pub spellable_from : (body : List ℕ) (r : Result Soe SoeFault) → IfOk r (IsSoe body) → IfOk r IsSpellable
+spellable_from body (Ok e) h = record { kind = h.kind; drive = subst (λ d. d < 2 ^ 3) h.says.drive (low_three h.word) }
+  where
+    low_three : (word : ℕ) → bits_of word 5 3 < 2 ^ 3
+    low_three word = omega arith
+spellable_from body (Err f) h = tt

@@ -1,5 +1,5 @@
 ghost use Rattle.std.specs.Prelude.{◌≡◌, ◌≤◌, ◌+◌, ◌<◌, ◌^◌, length, IfOk};
-ghost use Rattle.soe_codec.specs.Message.{IsSoe, is_opcode, has_fragments, message_in, soe_read};
+ghost use Rattle.soe_codec.specs.Message.{IsSoe, IsSpellable, is_opcode, has_fragments, message_in, soe_read};
 
 use crate::message::{READ_ANSWER, Soe, SoeFault, WRITE, WRITE_ANSWER};
 use ec_fields::{bits, buffer_of, u16_at};
@@ -62,6 +62,7 @@ pub fn read(body: &[u8]) -> Result<Soe, SoeFault>
     ensures found { IfOk result (IsSoe body.now) }
     ensures only { (soe : Soe) → IsSoe body.now soe → result ≡ Ok soe }
     ensures exact { result ≡ soe_read body.now }
+    ensures sound { IfOk result IsSpellable }
 {
     read_plain(body)
 }

@@ -1,0 +1,12 @@
+//! The servo drive profile over EtherCAT, SoE: the IDNs of a slave, its server, and the client of one slave (ETG.1000.6, "SoE"; IEC 61800-7,
+//! "IDN"). The messages themselves stand in `soe_codec`.
+#![tactic(auto)]
+
+mod element;
+mod idn;
+mod spec;
+mod table;
+
+pub use soe_codec::{READ, READ_ANSWER, Soe, SoeFault, WRITE, WRITE_ANSWER, read, write};
+pub use spec::IdnSpec;
+pub use table::IdnTable;
