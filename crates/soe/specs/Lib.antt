@@ -1,1 +1,2 @@
 pub mod Idns
+pub mod Serving

@@ -3,10 +3,16 @@
 #![tactic(auto)]
 
 mod element;
+mod giving;
 mod idn;
+mod making;
+mod server;
 mod spec;
+mod state;
 mod table;
+mod taking;
 
+pub use server::SoeServer;
 pub use soe_codec::{READ, READ_ANSWER, Soe, SoeFault, WRITE, WRITE_ANSWER, read, write};
 pub use spec::IdnSpec;
 pub use table::IdnTable;

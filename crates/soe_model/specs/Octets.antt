@@ -14,10 +14,14 @@ use Rattle.soe_model.specs.Server.{Server}
 use Rattle.soe_model.specs.Client.{Service, Reply}
 use Rattle.soe_model.specs.Model.{Areas, soe_exchange}
 
+-- the incomplete bit of a body's word
+abbrev pub is_marked : List ℕ → Bool
+is_marked body = bits_of (number_at 2 body 0) 3 1 == 1
+
 -- an SoE body: the message in it, or its fault with the incomplete bit of its word
 abbrev pub heard : List ℕ → Result Soe SoeFault → SoeMail
 heard body (Ok s) = mail s
-heard body (Err fault) = unread fault (bits_of (number_at 2 body 0) 3 1 == 1)
+heard body (Err fault) = unread fault (is_marked body)
 
 abbrev pub body_heard : List ℕ → SoeMail
 body_heard body = heard body (soe_read body)
