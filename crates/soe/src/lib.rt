@@ -2,16 +2,20 @@
 //! "IDN"). The messages themselves stand in `soe_codec`.
 #![tactic(auto)]
 
+mod client;
 mod element;
 mod giving;
+mod hearing;
 mod idn;
 mod making;
+mod sending;
 mod server;
 mod spec;
 mod state;
 mod table;
 mod taking;
 
+pub use client::SoeClient;
 pub use server::SoeServer;
 pub use soe_codec::{READ, READ_ANSWER, Soe, SoeFault, WRITE, WRITE_ANSWER, read, write};
 pub use spec::IdnSpec;
