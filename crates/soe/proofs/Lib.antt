@@ -2,3 +2,4 @@ pub mod Tables
 pub mod Parts
 pub mod Joins
 pub mod TookIs
+pub mod Lawful

@@ -7,6 +7,7 @@ mod element;
 mod giving;
 mod hearing;
 mod idn;
+mod law;
 mod making;
 mod sending;
 mod server;
@@ -16,6 +17,7 @@ mod table;
 mod taking;
 
 pub use client::SoeClient;
+pub use law::idns_are_lawful;
 pub use server::SoeServer;
 pub use soe_codec::{READ, READ_ANSWER, Soe, SoeFault, WRITE, WRITE_ANSWER, read, write};
 pub use spec::IdnSpec;

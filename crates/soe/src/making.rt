@@ -50,13 +50,8 @@ pub(crate) fn message(
 pub(crate) fn refusal(opcode: u8, subject: Subject, code: u16) -> Soe
     ensures { result ≡ refusal opcode (subject_view subject) code }
 {
-    Soe {
-        opcode,
-        incomplete: false,
-        error: true,
-        drive: subject.drive,
-        elements: subject.elements,
-        field: subject.idn,
-        bytes: buffer_of(&code.to_le_bytes()),
-    }
+    let octets = buffer_of(&code.to_le_bytes());
+    let mut soe = message(opcode, false, subject, subject.idn, octets);
+    soe.error = true;
+    soe
 }
