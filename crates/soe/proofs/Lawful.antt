@@ -75,6 +75,7 @@ parts i e =
     split5 true true false d f e = absurd (cc)
     split5 true false c d f e = absurd (cc)
     split5 false b c d f e = absurd (cc)
+
     split4 : (a b c d : Bool) → (a && b && c && d) ≡ true → (a ≡ true) × (b ≡ true) × (c ≡ true) × (d ≡ true)
     split4 true true true true e = (refl, refl, refl, refl)
     split4 true true true false e = absurd (cc)

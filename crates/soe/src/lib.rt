@@ -15,6 +15,8 @@ mod spec;
 mod state;
 mod table;
 mod taking;
+#[cfg(test)]
+mod tests;
 
 pub use client::SoeClient;
 pub use law::idns_are_lawful;

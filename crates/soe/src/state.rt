@@ -21,7 +21,9 @@ pub struct Common {
 pub enum Pending {
     Nothing,
     /// The answer to a write.
-    Written { subject: Subject },
+    Written {
+        subject: Subject,
+    },
     /// An error answer of this opcode.
     Refused {
         opcode: u8,
@@ -29,9 +31,14 @@ pub enum Pending {
         code: u16,
     },
     /// A mailbox error.
-    Failed { detail: u16 },
+    Failed {
+        detail: u16,
+    },
     /// The octets of an element from here on.
-    Parts { subject: Subject, from: u32 },
+    Parts {
+        subject: Subject,
+        from: u32,
+    },
 }
 
 /// What a client is asked.

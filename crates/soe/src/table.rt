@@ -85,13 +85,7 @@ impl IdnTable {
 
     /// Writes the octets of an element; only the value may be written. `Some` is the code that refuses it, the first that applies; then nothing
     /// changed (ETG.1000.6, "SoE error codes").
-    pub fn write_element(
-        &mut self,
-        drive: u8,
-        idn: u16,
-        elements: u8,
-        bytes: &[u8],
-    ) -> Option<u16>
+    pub fn write_element(&mut self, drive: u8, idn: u16, elements: u8, bytes: &[u8]) -> Option<u16>
         ensures { Stores (write_at self.old (target drive idn elements) bytes.now) result self.old self.new }
     {
         if let Some(code) = self.write_code(drive, idn, elements, bytes) {

@@ -11,7 +11,7 @@ returns c =
     let seen : c.bytes.result.now ≡ front = c.bytes.ensures.octets ∙ here in
     let few : length front ≤ 16384 = omega (arith, ap length here, c.bytes.ensures.within, c.self.invariant.2) in
     let back : c.upto.result.now ≡ take (16384 - length front) c.args.message.now.bytes.items =
-        c.upto.ensures ∙ ap (λ (l : List ℕ). take (16384 - length l) c.as_slice.result.now) seen ∙ ap (take (16384 - length front)) c.as_slice.ensures.value in
+    c.upto.ensures ∙ ap (λ (l : List ℕ). take (16384 - length l) c.as_slice.result.now) seen ∙ ap (take (16384 - length front)) c.as_slice.ensures.value in
     c.append.ensures
     ∙ ap (λ (t : Serving). record t { value = t.value ++ c.upto.result.now }) c.keep_ahead.ensures
     ∙ ap (λ (l : List ℕ). record c.args.self.now { value = front ++ l }) back

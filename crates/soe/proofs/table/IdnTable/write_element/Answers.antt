@@ -9,7 +9,7 @@ use Rattle.soe.proofs.table.IdnTable.write_element.Goals.{in-Some-get_mut, in_de
 pub store-requires : goal.store-requires
 store-requires c =
     let found : idn_at c.args.self.now (target c.args.drive c.args.idn c.args.elements) ≡ Some c.in-Some-get_mut.kept.now =
-        ap (lookup (is_key (c.args.drive, c.args.idn))) (sym c.self.view_is) ∙ sym c.in-Some-get_mut.ensures.value in
+    ap (lookup (is_key (c.args.drive, c.args.idn))) (sym c.self.view_is) ∙ sym c.in-Some-get_mut.ensures.value in
     value_found c.args.self.now (target c.args.drive c.args.idn c.args.elements) c.args.bytes.now c.in-Some-get_mut.kept.now found (sym c.in_default.ensures)
 
 pub returns : goal.returns
@@ -20,7 +20,7 @@ returns c =
     elim c.match-get_mut.branch [
       | in-Some-get_mut w ↦
           let found : idn_at c.args.self.now t ≡ Some w.in-Some-get_mut.kept.now =
-              ap (lookup (is_key key)) (sym c.self.view_is) ∙ sym w.in-Some-get_mut.ensures.value in
+          ap (lookup (is_key key)) (sym c.self.view_is) ∙ sym w.in-Some-get_mut.ensures.value in
           stores c.args.self.now t c.args.bytes.now w.in-Some-get_mut.kept.now found free
           ∙ ap (λ (es : Table). Ok es) (sym (ap (λ (x : Inside). x.idns.entries) w.self-inside-is
           ∙ (c.get_mut.follows.holds w.store.new.self).0
@@ -28,6 +28,6 @@ returns c =
           ∙ ap (λ (i : Kept). set_value (is_key key) c.args.self.now i) w.store.ensures))
       | in_default-get_mut w ↦
           let missing : idn_at c.args.self.now t ≡ None =
-              ap (lookup (is_key key)) (sym c.self.view_is) ∙ sym w.in_default-get_mut.ensures.value in
+          ap (lookup (is_key key)) (sym c.self.view_is) ∙ sym w.in_default-get_mut.ensures.value in
           absurd (none_stored c.args.self.now t c.args.bytes.now missing free)
     ]
