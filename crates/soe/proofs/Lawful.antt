@@ -1,13 +1,13 @@
 -- The table of IDNs is a lawful one: elements are short, codes have 16 bits, and a write leaves IDNs.
-use Rattle.std.proofs.Common.{◌≡◌, ℕ, ◌<◌, ◌≤◌, ◌^◌, Bool, true, false, not, ◌&&◌, ◌==◌, nat_lt, nat_le, List, [], ◌∷◌, length, Option, None, Some, Result, Ok, Err, refl, sym, ap, ◌∙◌, subst, arith, if◌then◌else◌, leb-true, le-leb, ltb-false}
+use Rattle.std.proofs.Common.{◌≡◌, ℕ, ◌<◌, ◌≤◌, Bool, true, false, not, ◌&&◌, nat_lt, nat_le, List, [], ◌∷◌, length, Option, None, Some, Result, Ok, Err, refl, sym, ◌∙◌, subst, arith, if◌then◌else◌, leb-true, le-leb, ltb-false}
 use Rattle.std.specs.Map.{lookup, set_value}
 use Rattle.std.proofs.lemmas.Map.Entries.{lookup_head, lookup_tail}
 use Rattle.byteorder.specs.Endian.{little_bytes}
 use Rattle.byteorder.specs.Numbers.{length-bytes_low_first}
-use Rattle.soe_model.specs.Elements.{Target, Elements, AreLawful}
+use Rattle.soe_model.specs.Elements.{Target, AreLawful}
 use Rattle.soe.specs.declared.element.Element.{Element}
 use Rattle.soe.specs.declared.element.Element.TheVariants.{State, Name, Attribute, Unit as UnitOf, Minimum, Maximum, Value}
-use Rattle.soe.specs.Idns.{Kept, Key, Table, is_text, is_sized, is_bound, is_idn, are_idns, is_key, idn_at, element_of, there, bound_octets, element_read, read_by, read_at, value_code, is_under, is_over, write_code, write_code_by, write_code_at, stored, written_by, write_at, idn_elements}
+use Rattle.soe.specs.Idns.{Kept, Key, Table, is_text, is_sized, is_bound, is_idn, are_idns, is_key, idn_at, element_of, there, bound_octets, element_read, read_by, value_code, is_under, is_over, write_code_by, write_code_at, stored, written_by, idn_elements}
 use Rattle.soe.proofs.Tables.{value_by}
 
 -- a number in n octets has n of them

@@ -1,8 +1,7 @@
 -- What the client makes of a mail is what the mail is to it.
-use Rattle.std.proofs.Common.{◌≡◌, ℕ, Bool, true, false, not, nat_lt, List, [], ◌∷◌, ◌++◌, length, if◌then◌else◌, None, Some, refl, sym, ap, ◌∙◌}
+use Rattle.std.proofs.Common.{◌≡◌, ℕ, Bool, true, false, not, nat_lt, List, [], ◌∷◌, ◌++◌, length, if◌then◌else◌, None, refl, sym, ◌∙◌}
 use Rattle.ec_fields.specs.Fields.{number_at}
 use Rattle.mailbox_mail.specs.declared.outcome.ReplyKind.{ReplyKind}
-use Rattle.mailbox_mail.specs.declared.outcome.Took.{Took}
 use Rattle.soe_model.specs.Mails.{Soe, SoeMail, mail, unread, failed, other}
 use Rattle.soe_model.specs.Server.{most}
 use Rattle.soe_model.specs.Client.{at_end, is_refusal, refused, is_part, is_written, read_ends, write_ends}
@@ -10,7 +9,7 @@ use Rattle.soe.specs.declared.state.Task.{Task}
 use Rattle.soe.specs.declared.state.Unsent.{Unsent}
 use Rattle.soe.specs.declared.state.Awaits.{Awaits}
 use Rattle.soe.specs.Talk.{Talking, about, awaited}
-use Rattle.soe.specs.Hear.{Heard, TookIs, foreign, closed, valued, hear_refusal, hear_part, hear_answer, hear_message, hear_failed, hear_mail}
+use Rattle.soe.specs.Hear.{Heard, TookIs, foreign, closed, hear_refusal, hear_part, hear_answer, hear_message, hear_failed, hear_mail}
 
 not_true : (b : Bool) → not b ≡ true → b ≡ false
 not_true true e = absurd (cc)

@@ -1,7 +1,7 @@
 -- What a client's state stands for: the mails that it has left to send, and the reply that further mails complete.
 use Rattle.std.specs.Prelude.{◌≡◌, ℕ, suc, ◌+◌, ◌-◌, ◌≤◌, nat_le, nat_lt, Bool, true, false, List, [], ◌∷◌, length, drop, Option, None, Some}
 use Rattle.mailbox_mail.specs.declared.mail.Kind.TheVariants.{SoE}
-use Rattle.soe_codec.specs.Message.{IsSpellable, soe_text}
+use Rattle.soe_codec.specs.Message.{IsSpellable}
 use Rattle.soe_model.specs.Elements.{Target}
 use Rattle.soe_model.specs.Mails.{Soe, SoeMail, mail, message, fragments}
 use Rattle.soe_model.specs.Client.{Reply, at_end, read_ends, write_ends}

@@ -12,6 +12,7 @@ use std::marker::Model;
 /// The IDNs of a slave, by drive and number. The room for each value is taken when its IDN is inserted.
 #[derive(Debug, Drop)]
 pub struct IdnTable {
+    alloc: Global,
     idns: IndexMap<(u8, u16), Idn>,
 }
 
@@ -29,18 +30,18 @@ impl IdnTable {
         ensures { IfOk result (λ t. t ≡ []) }
     {
         let idns = IndexMap::with_capacity(alloc, 0)?;
-        Ok(IdnTable { idns })
+        Ok(IdnTable { alloc, idns })
     }
 
     /// Adds an IDN with its value. After `NoMemory` the table is as before.
-    pub fn insert(&mut self, alloc: Global, spec: &IdnSpec) -> Result<(), NoMemory>
+    pub fn insert(&mut self, spec: &IdnSpec) -> Result<(), NoMemory>
         requires is { is_idn (idn_of spec.now) ≡ true }
         requires fresh { idn_at self.old (target spec.now.drive spec.now.number 0) ≡ None }
         ensures added { OnOk result (self.new ≡ self.old ++ (key_of spec.now, idn_of spec.now) ∷ []) }
         ensures valid { OnOk result (are_idns self.old ≡ true → are_idns self.new ≡ true) }
         ensures err { OnErr result (self.new ≡ self.old) }
     {
-        let idn = Idn::new(alloc, spec)?;
+        let idn = Idn::new(self.alloc, spec)?;
         match self.idns.insert((spec.drive, spec.number), idn) {
             Ok(_) => Ok(()),
             Err(_) => Err(NoMemory),

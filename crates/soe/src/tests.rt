@@ -12,54 +12,45 @@ const TWO: [u8; 2] = [0x32, 0x00];
 // written. IDN 7 of drive 3 may not.
 fn idns(alloc: Global) -> Result<IdnTable, NoMemory> {
     let mut idns = IdnTable::new(alloc)?;
-    idns.insert(
-        alloc,
-        &IdnSpec {
-            drive: 0,
-            number: 100,
-            attribute: 0x0102_0304,
-            label: Some(Octets::copy_of(alloc, b"Gain")?),
-            unit: Some(Octets::copy_of(alloc, b"%")?),
-            least: 2,
-            most: 2,
-            min: Some(5),
-            max: Some(100),
-            writable: true,
-            value: Octets::copy_of(alloc, &TWO)?,
-        },
-    )?;
-    idns.insert(
-        alloc,
-        &IdnSpec {
-            drive: 0,
-            number: 200,
-            attribute: 0,
-            label: None,
-            unit: None,
-            least: 1,
-            most: 100,
-            min: None,
-            max: None,
-            writable: true,
-            value: Octets::copy_of(alloc, &[9])?,
-        },
-    )?;
-    idns.insert(
-        alloc,
-        &IdnSpec {
-            drive: 3,
-            number: 7,
-            attribute: 0,
-            label: None,
-            unit: None,
-            least: 1,
-            most: 2,
-            min: None,
-            max: None,
-            writable: false,
-            value: Octets::copy_of(alloc, &[1, 2])?,
-        },
-    )?;
+    idns.insert(&IdnSpec {
+        drive: 0,
+        number: 100,
+        attribute: 0x0102_0304,
+        label: Some(Octets::copy_of(alloc, b"Gain")?),
+        unit: Some(Octets::copy_of(alloc, b"%")?),
+        least: 2,
+        most: 2,
+        min: Some(5),
+        max: Some(100),
+        writable: true,
+        value: Octets::copy_of(alloc, &TWO)?,
+    })?;
+    idns.insert(&IdnSpec {
+        drive: 0,
+        number: 200,
+        attribute: 0,
+        label: None,
+        unit: None,
+        least: 1,
+        most: 100,
+        min: None,
+        max: None,
+        writable: true,
+        value: Octets::copy_of(alloc, &[9])?,
+    })?;
+    idns.insert(&IdnSpec {
+        drive: 3,
+        number: 7,
+        attribute: 0,
+        label: None,
+        unit: None,
+        least: 1,
+        most: 2,
+        min: None,
+        max: None,
+        writable: false,
+        value: Octets::copy_of(alloc, &[1, 2])?,
+    })?;
     Ok(idns)
 }
 
@@ -264,22 +255,19 @@ fn soe_mail(body: &[u8; 4]) -> Mail {
 fn a_value_of_4096_octets_is_written_and_read_back(rt: HostRuntime) -> Result<(), Fail> {
     let alloc = rt.alloc();
     let mut idns = IdnTable::new(alloc)?;
-    idns.insert(
-        alloc,
-        &IdnSpec {
-            drive: 7,
-            number: 65_535,
-            attribute: 0,
-            label: None,
-            unit: None,
-            least: 1,
-            most: 4096,
-            min: None,
-            max: None,
-            writable: true,
-            value: Octets::copy_of(alloc, &[0])?,
-        },
-    )?;
+    idns.insert(&IdnSpec {
+        drive: 7,
+        number: 65_535,
+        attribute: 0,
+        label: None,
+        unit: None,
+        least: 1,
+        most: 4096,
+        min: None,
+        max: None,
+        writable: true,
+        value: Octets::copy_of(alloc, &[0])?,
+    })?;
     let mut server = SoeServer::new(alloc, 65)?;
     let mut client = SoeClient::new(alloc, 64, 65)?;
     client.start_write(7, 65_535, 0x40, &[0xA5; 4096]);

@@ -1,12 +1,11 @@
 -- A server that takes the fragments of a write: nothing happens before the last, and the last one writes the element.
-use Rattle.std.proofs.Common.{◌≡◌, ℕ, zero, suc, ◌+◌, ◌-◌, ◌<◌, ◌≤◌, Bool, true, false, ◌&&◌, ◌==◌, List, [], ◌∷◌, ◌++◌, length, take, drop, Option, None, Some, Result, Ok, Err, refl, sym, ap, ◌∙◌, subst, arith, append-nil, inl, inr, le-leb, length-drop, length-append, eq-eqb}
+use Rattle.std.proofs.Common.{◌≡◌, ℕ, zero, suc, ◌+◌, ◌-◌, ◌<◌, ◌≤◌, Bool, true, false, List, [], ◌∷◌, ◌++◌, length, take, drop, Option, None, Some, Result, Ok, Err, refl, ap, ◌∙◌, subst, arith, append-nil, inl, inr, le-leb, length-drop, length-append, eq-eqb}
 use Rattle.std.proofs.lemmas.Bool.{cases_lt, lt-leb}
 use Rattle.std.proofs.lemmas.List.{take_all, take-append-drop, append_assoc, length-take-le}
-use Rattle.std.specs.Prelude.{if◌then◌else◌}
 use Rattle.exchange_model.specs.Exchange.{after, given}
 use Rattle.soe_model.specs.Elements.{Target, Elements}
 use Rattle.soe_model.specs.Mails.{SoeMail, mail, message, refusal, parts_of, fragments}
-use Rattle.soe_model.specs.Server.{Join, goes_on, ahead, gathered, written, silent, behind, Server, serve}
+use Rattle.soe_model.specs.Server.{Join, ahead, gathered, written, silent, behind, Server, serve}
 
 -- what a write leaves of the table, and its answer
 abbrev pub left_by : {S : Type 0} → S → Result S ℕ → S
@@ -120,10 +119,10 @@ module _ {S : Type 0} (o : Elements S) (room : ℕ) where
         let both : (got ++ front) ++ back ≡ got ++ bytes = append_assoc got front back ∙ ap (λ l. got ++ l) (take-append-drop part bytes) in
         let field = parts_of part (length bytes - part) in
         let here : serve o room v (mail (message 3 true t field front)) ≡ (waiting v t (got ++ front), []) =
-            ap (λ l. behind v.handled (silent v.app (Some (record { opcode = 3; drive = t.drive; elements = t.elements; octets = l }))))
-            (kept_whole v.join t got true field front came (omega (arith, front_is, more, fits))) in
+        ap (λ l. behind v.handled (silent v.app (Some (record { opcode = 3; drive = t.drive; elements = t.elements; octets = l }))))
+        (kept_whole v.join t got true field front came (omega (arith, front_is, more, fits))) in
         let rest = writes fuel part (waiting v t (got ++ front)) t (got ++ front) back some (omega (arith, back_is, some, more, few))
-            (omega (arith, back_is, front_is, length-append got front, more, fits)) (came_more t (got ++ front)) in
+        (omega (arith, back_is, front_is, length-append got front, more, fits)) (came_more t (got ++ front)) in
         rw (lt-leb (length bytes) part more) (carried_more v (waiting v t (got ++ front)) (mail (message 3 true t field front)) (fragments fuel 3 t part back) _ _ here refl refl
-            (subst (λ l. Carried (waiting v t (got ++ front)) (fragments fuel 3 t part back) (left_by v.app (o.write v.app t l)) (answer_to t (o.write v.app t l))) both rest))
+        (subst (λ l. Carried (waiting v t (got ++ front)) (fragments fuel 3 t part back) (left_by v.app (o.write v.app t l)) (answer_to t (o.write v.app t l))) both rest))
   ]

@@ -1,6 +1,6 @@
 -- SoE owes the laws of an exchange and keeps them: for every element and value, through mailboxes of any lengths, from a server without an
 -- unfinished join.
-use Rattle.std.proofs.Common.{◌≡◌, ◌≢◌, ◌⊎◌, inl, inr, ℕ, zero, suc, ◌+◌, ◌-◌, ◌<◌, ◌≤◌, ◌%◌, ◌/◌, ◌*◌, Bool, true, false, not, ◌&&◌, ◌||◌, ◌==◌, nat_lt, nat_le, List, [], ◌∷◌, ◌++◌, filter, length, take, drop, Option, None, Some, Result, Ok, Err, refl, sym, ap, ◌∙◌, subst, arith, append-nil, leb-true, le-leb, le-ltb, length-drop, length-append, eq-eqb}
+use Rattle.std.proofs.Common.{◌≡◌, ◌⊎◌, inl, inr, ℕ, zero, suc, ◌+◌, ◌-◌, ◌<◌, ◌≤◌, Bool, true, false, not, ◌&&◌, ◌||◌, ◌==◌, nat_lt, nat_le, List, [], ◌∷◌, ◌++◌, length, take, drop, Option, None, Some, Result, Ok, Err, refl, sym, ap, ◌∙◌, subst, arith, append-nil, leb-true, le-leb, le-ltb, length-drop, length-append, eq-eqb}
 use Rattle.std.specs.Prelude.{if◌then◌else◌, is_none}
 use Rattle.std.proofs.lemmas.Bool.{cases_lt, lt-leb}
 use Rattle.std.proofs.lemmas.List.{take-append-drop, append_assoc, length-take-le}
@@ -10,11 +10,11 @@ use Rattle.mailbox_mail.specs.declared.outcome.ReplyKind.{ReplyKind}
 use Rattle.exchange_model.specs.Exchange.{IsLawful, Before, Behind, after, given, plain, emitted}
 use Rattle.exchange_model.proofs.Lists.{prefix_refl}
 use Rattle.soe_model.specs.Elements.{Target, Elements, AreLawful}
-use Rattle.soe_model.specs.Mails.{Soe, SoeMail, mail, unread, failed, other, is_emission, message, refusal, parts_of, fragments, fragments_of}
+use Rattle.soe_model.specs.Mails.{SoeMail, mail, unread, failed, other, is_emission, message, refusal, parts_of, fragments, fragments_of}
 use Rattle.soe_model.specs.Server.{Join, Server, most, ahead, asked, behind, outcome, serve, one_more}
-use Rattle.soe_model.specs.Client.{Service, read, write, is_target, is_service, mails_of, Reply, read_means, write_means, meaning_of, at_end, is_answer, is_refusal, refused, is_part, is_incomplete, octets_of, read_ends, is_written, write_ends, ends}
+use Rattle.soe_model.specs.Client.{Service, read, write, is_target, is_service, mails_of, Reply, read_means, write_means, meaning_of, at_end, is_refusal, refused, is_part, is_incomplete, octets_of, read_ends, is_written, write_ends, ends}
 use Rattle.soe_model.specs.Model.{Areas, AreMailboxes, is_ready, soe_exchange}
-use Rattle.soe_model.proofs.Carries.{Idle, Carried, carried_one, writes, came_none, left_by, answer_to}
+use Rattle.soe_model.proofs.Carries.{Idle, Carried, carried_one, writes, left_by, answer_to}
 
 -- a server sends nothing of itself
 none_emitted : (ms : List SoeMail) → emitted is_emission ms ≡ []
@@ -120,7 +120,7 @@ parts_read (suc fuel) part t got bytes some few fits = elim (cases_lt part (leng
       let both : (got ++ front) ++ back ≡ got ++ bytes = append_assoc got front back ∙ ap (λ l. got ++ l) (take-append-drop part bytes) in
       let here = part_read t got front (parts_of part (length bytes - part)) (fragments fuel 2 t part back) (omega (arith, length-append got front, front_is, more, fits)) in
       rw (lt-leb (length bytes) part more) (here ∙ parts_read fuel part t (got ++ front) back some (omega (arith, back_is, some, more, few))
-          (omega (arith, back_is, front_is, length-append got front, more, fits)) ∙ ap (λ l. Some (ReplyKind.Value, l)) both)
+      (omega (arith, back_is, front_is, length-append got front, more, fits)) ∙ ap (λ l. Some (ReplyKind.Value, l)) both)
 ]
 
 -- a refusal is read as its code

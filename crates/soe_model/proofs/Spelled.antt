@@ -1,14 +1,14 @@
 -- The mails of an SoE service, from client and server, have spellings, from which they are read back.
-use Rattle.std.proofs.Common.{◌≡◌, inl, inr, ℕ, zero, suc, ◌+◌, ◌-◌, ◌*◌, ◌/◌, ◌%◌, ◌^◌, ◌<◌, ◌≤◌, Bool, true, false, not, ◌&&◌, ◌||◌, nat_lt, nat_le, ◌==◌, List, [], ◌∷◌, ◌++◌, length, take, drop, Option, None, Some, Result, Ok, Err, refl, sym, ap, ◌∙◌, subst, arith, length-drop, leb-true, ltb-true, le-leb, le-ltb, eq-eqb}
+use Rattle.std.proofs.Common.{◌≡◌, inl, inr, ℕ, zero, suc, ◌+◌, ◌-◌, ◌*◌, ◌/◌, ◌%◌, ◌<◌, ◌≤◌, Bool, true, false, ◌&&◌, nat_lt, nat_le, List, [], ◌∷◌, ◌++◌, length, drop, Result, Ok, Err, refl, sym, ap, ◌∙◌, subst, arith, length-drop, leb-true, ltb-true, le-leb, le-ltb}
 use Rattle.std.specs.Prelude.{if◌then◌else◌, is_none}
 use Rattle.std.proofs.lemmas.Bool.{cases_lt, lt-leb}
 use Rattle.std.proofs.Math.Nat.{div-le_of_le-mul}
 use Rattle.byteorder.specs.Endian.{little_bytes}
 use Rattle.ec_fields.specs.Fields.{bits_of}
-use Rattle.soe_codec.specs.Message.{is_opcode, has_fragments, IsKind, IsSpellable, word_of, message_in, soe_read, soe_text}
+use Rattle.soe_codec.specs.Message.{is_opcode, has_fragments, word_of, message_in, soe_read, soe_text}
 use Rattle.exchange_model.specs.Lifted.{EachOf, ReadsBack, Spells}
 use Rattle.soe_model.specs.Elements.{Target, Elements, AreLawful}
-use Rattle.soe_model.specs.Mails.{Soe, SoeMail, mail, message, refusal, parts_of, fragments, fragments_of}
+use Rattle.soe_model.specs.Mails.{Soe, SoeMail, mail, refusal, parts_of, fragments}
 use Rattle.soe_model.specs.Server.{Server, most}
 use Rattle.soe_model.specs.Client.{Service, read, write, is_target, is_service, mails_of}
 use Rattle.soe_model.specs.Model.{Areas, AreMailboxes, is_ready, soe_exchange}
@@ -156,9 +156,10 @@ fragments_spelled : (fuel opcode : ℕ) (t : Target) (part : ℕ) (bytes : List 
 fragments_spelled zero opcode t part bytes low high has near least few = tt
 fragments_spelled (suc fuel) opcode t part bytes low high has near least few = elim (cases_lt part (length bytes)) [
   | inr ends ↦ rw (le-leb (length bytes) part ends) (record { low = low; high = high; fragments = λ e. has; drive = near.drive; elements = near.elements; field = near.idn }, tt)
-  | inl more ↦ rw (lt-leb (length bytes) part more)
-      (record { low = low; high = high; fragments = λ e. has; drive = near.drive; elements = near.elements; field = few_parts part (length bytes - part) least (omega (arith, few)) },
-      fragments_spelled fuel opcode t part (drop part bytes) low high has near least (omega (arith, length-drop part bytes, few)))
+  | inl more ↦ rw (lt-leb (length bytes) part more) (
+    record { low = low; high = high; fragments = λ e. has; drive = near.drive; elements = near.elements; field = few_parts part (length bytes - part) least (omega (arith, few)) },
+    fragments_spelled fuel opcode t part (drop part bytes) low high has near least (omega (arith, length-drop part bytes, few)),
+  )
 ]
 
 module _ {S : Type 0} (o : Elements S) (lawful : AreLawful o) (areas : Areas) (sized : AreMailboxes areas) where

@@ -1,10 +1,10 @@
 -- Worked rows, computed: mails and answers through mailboxes of 64 octets, over one IDN whose value has 1 to 100 octets and no other element.
-use Rattle.std.proofs.Common.{◌≡◌, ℕ, ◌+◌, ◌≤◌, nat_le, nat_lt, Bool, true, false, not, ◌==◌, ◌&&◌, List, [], ◌∷◌, ◌++◌, length, replicate, if◌then◌else◌, Option, None, Some, Result, Ok, Err, refl, subst, arith, leb-true}
+use Rattle.std.proofs.Common.{◌≡◌, ℕ, nat_le, nat_lt, Bool, true, false, not, ◌==◌, ◌&&◌, List, [], ◌∷◌, length, replicate, if◌then◌else◌, None, Some, Ok, Err, refl}
 use Rattle.mailbox_mail.specs.declared.outcome.ReplyKind.{ReplyKind}
 use Rattle.mailbox_mail.specs.declared.mail.Kind.TheVariants.{SoE}
 use Rattle.exchange_model.specs.Exchange.{after, given}
-use Rattle.soe_model.specs.Elements.{Target, Elements, AreLawful}
-use Rattle.soe_model.specs.Mails.{SoeMail, mail, unread, failed, Short, Opcode, Incomplete, message, refusal}
+use Rattle.soe_model.specs.Elements.{Target, Elements}
+use Rattle.soe_model.specs.Mails.{mail, unread, failed, Short, Opcode, Incomplete, message, refusal}
 use Rattle.soe_model.specs.Server.{Server, serve}
 use Rattle.soe_model.specs.Client.{read, write, mails_of, ends}
 use Rattle.soe_model.specs.Octets.{mail_heard, mail_written, mail_with}

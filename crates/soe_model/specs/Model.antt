@@ -1,6 +1,6 @@
 -- SoE as an exchange: the server against the services of its client.
 use Rattle.std.specs.Prelude.{ℕ, ◌≤◌, ◌&&◌, Bool, is_none}
-use Rattle.std.specs.Prelude.{false, [], List}
+use Rattle.std.specs.Prelude.{false, []}
 use Rattle.exchange_model.specs.Exchange.{Exchange}
 use Rattle.soe_model.specs.Elements.{Elements}
 use Rattle.soe_model.specs.Mails.{SoeMail, is_emission}

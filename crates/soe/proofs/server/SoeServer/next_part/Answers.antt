@@ -1,4 +1,4 @@
-use Rattle.std.proofs.Common.{◌≡◌, ◌∷◌, ◌+◌, ◌-◌, suc, length, sym, ap, ◌∙◌, drop}
+use Rattle.std.proofs.Common.{◌∷◌, ◌+◌, ◌-◌, suc, length, sym, ap, ◌∙◌, drop}
 use Rattle.soe_model.specs.Mails.{Soe, mail, fragments}
 use Rattle.soe.specs.Serving.{Serving, subject_view, waiting_mails, pending_mails}
 use Rattle.soe.proofs.Parts.{part_given}

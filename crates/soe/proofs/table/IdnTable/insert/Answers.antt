@@ -1,8 +1,8 @@
-use Rattle.std.proofs.Common.{◌≡◌, ◌++◌, ◌∷◌, [], None, sym, ap, ◌∙◌}
+use Rattle.std.proofs.Common.{◌≡◌, ◌++◌, ◌∷◌, [], None, ap, ◌∙◌}
 use Rattle.std.specs.Map.{lookup}
 use Rattle.indexmap.specs.IndexMap.{get}
 use Rattle.indexmap.proofs.CallerLemmas.{insert_entry-new}
-use Rattle.soe.specs.Idns.{Key, Kept, Table, is_key, key_of, idn_of, is_idn, are_idns}
+use Rattle.soe.specs.Idns.{Key, Kept, Table, is_key, key_of, idn_of, are_idns}
 use Rattle.soe.proofs.Tables.{idns_added}
 use Rattle.soe.proofs.table.IdnTable.insert.Goals as goal
 
