@@ -8,7 +8,7 @@ use Rattle.soe_model.specs.Elements.{Target, AreLawful}
 use Rattle.soe.specs.declared.element.Element.{Element}
 use Rattle.soe.specs.declared.element.Element.TheVariants.{State, Name, Attribute, Unit as UnitOf, Minimum, Maximum, Value}
 use Rattle.soe.specs.Idns.{Kept, Key, Table, is_text, is_sized, is_bound, is_idn, are_idns, is_key, idn_at, element_of, there, bound_octets, element_read, read_by, value_code, is_under, is_over, write_code_by, write_code_at, stored, written_by, idn_elements}
-use Rattle.soe.proofs.Tables.{value_by}
+use Rattle.soe.proofs.Tables.{value_by, value_found}
 
 -- a number in n octets has n of them
 length_little : (n x : ℕ) → length (little_bytes n x) ≡ n
@@ -202,6 +202,13 @@ value_is i bytes is free =
     (is_bound (record i { value = bytes }) i.min) (is_bound (record i { value = bytes }) i.max)
     is.label is.unit (four (nat_le 1 i.least) (nat_le i.most 4096) (nat_le i.least (length bytes)) (nat_le (length bytes) i.most) is.least is.most low high)
     (bound_stays i bytes i.min is.min) (bound_stays i bytes i.max is.max)
+
+-- a value that nothing refuses, stored at an IDN that was found
+pub set_stays : (idns : Table) (t : Target) (bytes : List ℕ) (i : Kept) → are_idns idns ≡ true → idn_at idns t ≡ Some i → write_code_at (idn_at idns t) t bytes ≡ None →
+    are_idns (set_value (is_key (t.drive, t.idn)) idns (record i { value = bytes })) ≡ true
+set_stays idns t bytes i all found free =
+    set_are (is_key (t.drive, t.idn)) idns (record i { value = bytes })
+    (value_is i bytes (parts i (found_is (is_key (t.drive, t.idn)) idns i all found)) (value_found idns t bytes i found free)) all
 
 abbrev ok_table : Table → Result Table ℕ
 ok_table idns = Ok idns

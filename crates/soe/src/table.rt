@@ -1,4 +1,4 @@
-ghost use Rattle.std.specs.Prelude.{◌≡◌, ◌≤◌, [], ◌∷◌, ◌++◌, true, length, IfOk, OnOk, OnErr, None};
+ghost use Rattle.std.specs.Prelude.{◌≡◌, ◌≤◌, [], ◌∷◌, ◌++◌, true, length, IsTrue, ◌↔◌, IfOk, OnOk, OnErr, None};
 ghost use Rattle.soe.specs.Idns.{key_of, idn_of, is_idn, are_idns, target, idn_at, write_code_at, read_at, write_at, Reads, Stores};
 
 use crate::element::element_of;
@@ -17,11 +17,14 @@ pub struct IdnTable {
 }
 
 impl Model for IdnTable {
-    ghost use Rattle.soe.specs.Idns.{Table};
+    ghost use Rattle.std.specs.Prelude.{◌≡◌, true};
+    ghost use Rattle.soe.specs.Idns.{Table, are_idns};
 
     ghost Value = { Table };
 
     ghost view = { λ t. t.idns.entries };
+
+    ghost invariant = { λ t. are_idns t.idns.entries ≡ true };
 }
 
 impl IdnTable {
@@ -38,7 +41,6 @@ impl IdnTable {
         requires is { is_idn (idn_of spec.now) ≡ true }
         requires fresh { idn_at self.old (target spec.now.drive spec.now.number 0) ≡ None }
         ensures added { OnOk result (self.new ≡ self.old ++ (key_of spec.now, idn_of spec.now) ∷ []) }
-        ensures valid { OnOk result (are_idns self.old ≡ true → are_idns self.new ≡ true) }
         ensures err { OnErr result (self.new ≡ self.old) }
     {
         let idn = Idn::new(self.alloc, spec)?;
@@ -46,6 +48,21 @@ impl IdnTable {
             Ok(_) => Ok(()),
             Err(_) => Err(NoMemory),
         }
+    }
+
+    /// How many IDNs there are.
+    pub fn len(&self) -> usize
+        ensures count { result ≡ length self.now }
+        ensures sound { are_idns self.now ≡ true }
+    {
+        self.idns.len()
+    }
+
+    /// Whether there are none.
+    pub fn is_empty(&self) -> bool
+        ensures { IsTrue result ↔ (self.now ≡ []) }
+    {
+        self.idns.is_empty()
     }
 
     /// Reads the octets of an element in place of what `into` has. `Some` is the code that refuses it, the first that applies; then `into` is
@@ -60,6 +77,7 @@ impl IdnTable {
         requires { 16384 ≤ into.old.limit }
         ensures value { Reads (read_at self.now (target drive idn elements)) result into.new.octets }
         ensures limit { into.new.limit ≡ into.old.limit }
+        ensures sound { are_idns self.now ≡ true }
     {
         into.clear();
         match self.idns.get(&(drive, idn)) {
@@ -87,7 +105,8 @@ impl IdnTable {
     /// Writes the octets of an element; only the value may be written. `Some` is the code that refuses it, the first that applies; then nothing
     /// changed (ETG.1000.6, "SoE error codes").
     pub fn write_element(&mut self, drive: u8, idn: u16, elements: u8, bytes: &[u8]) -> Option<u16>
-        ensures { Stores (write_at self.old (target drive idn elements) bytes.now) result self.old self.new }
+        ensures stores { Stores (write_at self.old (target drive idn elements) bytes.now) result self.old self.new }
+        ensures sound { are_idns self.old ≡ true }
     {
         if let Some(code) = self.write_code(drive, idn, elements, bytes) {
             return Some(code);

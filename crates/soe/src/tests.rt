@@ -1,3 +1,6 @@
+ghost use Rattle.std.specs.Prelude.{◌≡◌, ◌≤◌, true, IfOk};
+ghost use Rattle.soe.specs.Idns.{idn_of, is_idn, key_of};
+
 use crate::*;
 use arrayvec::ArrayVec;
 use ec_fields::{NoMemory, Octets, Transfer, buffer_of};
@@ -8,11 +11,12 @@ use std::test::Fail;
 
 const TWO: [u8; 2] = [0x32, 0x00];
 
-// IDN 100 of drive 0 is an integer of 2 octets from 5 to 100, with name and unit. IDN 200 has 1 to 100 octets and no other element; it may be
-// written. IDN 7 of drive 3 may not.
-fn idns(alloc: Global) -> Result<IdnTable, NoMemory> {
-    let mut idns = IdnTable::new(alloc)?;
-    idns.insert(&IdnSpec {
+// IDN 100 of drive 0: an integer of 2 octets from 5 to 100, with name and unit.
+fn integer(alloc: Global) -> Result<IdnSpec, NoMemory>
+    ensures is { IfOk result (λ s. is_idn (idn_of s) ≡ true) }
+    ensures key { IfOk result (λ s. key_of s ≡ (0, 100)) }
+{
+    Ok(IdnSpec {
         drive: 0,
         number: 100,
         attribute: 0x0102_0304,
@@ -24,33 +28,46 @@ fn idns(alloc: Global) -> Result<IdnTable, NoMemory> {
         max: Some(100),
         writable: true,
         value: Octets::copy_of(alloc, &TWO)?,
-    })?;
-    idns.insert(&IdnSpec {
-        drive: 0,
-        number: 200,
+    })
+}
+
+// An IDN of 1 octet or more, with no other element but the attribute.
+fn octets(
+    alloc: Global,
+    drive: u8,
+    number: u16,
+    most: u32,
+    writable: bool,
+) -> Result<IdnSpec, NoMemory>
+    requires some { 1 ≤ most }
+    requires few { most ≤ 4096 }
+    ensures is { IfOk result (λ s. is_idn (idn_of s) ≡ true) }
+    ensures key { IfOk result (λ s. key_of s ≡ (drive, number)) }
+{
+    Ok(IdnSpec {
+        drive,
+        number,
         attribute: 0,
         label: None,
         unit: None,
         least: 1,
-        most: 100,
+        most,
         min: None,
         max: None,
-        writable: true,
+        writable,
         value: Octets::copy_of(alloc, &[9])?,
-    })?;
-    idns.insert(&IdnSpec {
-        drive: 3,
-        number: 7,
-        attribute: 0,
-        label: None,
-        unit: None,
-        least: 1,
-        most: 2,
-        min: None,
-        max: None,
-        writable: false,
-        value: Octets::copy_of(alloc, &[1, 2])?,
-    })?;
+    })
+}
+
+// The integer, IDN 200 that may be written, and IDN 7 of drive 3 that may not.
+fn idns(alloc: Global) -> Result<IdnTable, NoMemory> {
+    let mut idns = IdnTable::new(alloc)?;
+    let spec = integer(alloc)?;
+    idns.insert(&spec)?;
+    let spec = octets(alloc, 0, 200, 100, true)?;
+    idns.insert(&spec)?;
+    let spec = octets(alloc, 3, 7, 2, false)?;
+    idns.insert(&spec)?;
     Ok(idns)
 }
 
@@ -255,19 +272,8 @@ fn soe_mail(body: &[u8; 4]) -> Mail {
 fn a_value_of_4096_octets_is_written_and_read_back(rt: HostRuntime) -> Result<(), Fail> {
     let alloc = rt.alloc();
     let mut idns = IdnTable::new(alloc)?;
-    idns.insert(&IdnSpec {
-        drive: 7,
-        number: 65_535,
-        attribute: 0,
-        label: None,
-        unit: None,
-        least: 1,
-        most: 4096,
-        min: None,
-        max: None,
-        writable: true,
-        value: Octets::copy_of(alloc, &[0])?,
-    })?;
+    let spec = octets(alloc, 7, 65_535, 4096, true)?;
+    idns.insert(&spec)?;
     let mut server = SoeServer::new(alloc, 65)?;
     let mut client = SoeClient::new(alloc, 64, 65)?;
     client.start_write(7, 65_535, 0x40, &[0xA5; 4096]);

@@ -13,5 +13,10 @@ returns-in-Ok-clause-added c =
     c.in-Ok.ensures.entries ∙ insert_entry-new is_key c.self.inside.idns key c.in_ok-idn.idn none
     ∙ ap (λ (es : Table). es ++ (key, c.in_ok-idn.idn) ∷ []) c.self.view_is ∙ ap (λ (i : Kept). c.args.self.now ++ (key, i) ∷ []) c.in_ok-idn.ensures
 
-pub returns-in-Ok-clause-valid : goal.returns-in-Ok-clause-valid
-returns-in-Ok-clause-valid c = λ all. ap are_idns (returns-in-Ok-clause-added c) ∙ idns_added c.args.self.now (key_of c.args.spec.now) (idn_of c.args.spec.now) c.requires.is all
+pub invariant_of-self : goal.invariant_of-self
+invariant_of-self c =
+    let key : Key = key_of c.args.spec.now in
+    let none : get is_key c.self.inside.idns key ≡ None = ap (lookup (is_key key)) c.self.view_is ∙ c.requires.fresh in
+    ap are_idns (c.in-Ok.ensures.entries ∙ insert_entry-new is_key c.self.inside.idns key c.in_ok-idn.idn none
+    ∙ ap (λ (i : Kept). c.self.inside.idns.entries ++ (key, i) ∷ []) c.in_ok-idn.ensures)
+    ∙ idns_added c.self.inside.idns.entries key (idn_of c.args.spec.now) c.requires.is c.self.invariant
