@@ -1,4 +1,4 @@
-ghost use Rattle.std.specs.Prelude.{◌≡◌, ◌≤◌, true, IfOk};
+ghost use Rattle.std.specs.Prelude.{◌≡◌, ◌≤◌, true, length, IfOk};
 ghost use Rattle.soe.specs.Idns.{idn_of, is_idn, key_of};
 
 use crate::*;
@@ -227,12 +227,8 @@ fn goes(rt: &impl Abort, client: &mut SoeClient, head: &[u8], len: usize) {
 
 fn hears(rt: &impl Abort, client: &mut SoeClient, kind: Kind, body: &[u8]) -> Took {
     assert!(rt; body.len() <= 1480);
-    let mail = Mail {
-        address: 0,
-        kind,
-        counter: 1,
-        body: buffer_of(body),
-    };
+    let mut mail = soe_mail(body);
+    mail.kind = kind;
     client.take(&mail)
 }
 
@@ -259,13 +255,35 @@ fn a_value_of_55_octets_goes_in_two_mails(rt: HostRuntime) -> Result<(), Fail> {
     Err("the write is done")?
 }
 
-fn soe_mail(body: &[u8; 4]) -> Mail {
+fn soe_mail(body: &[u8]) -> Mail
+    requires { length body.now ≤ 1480 }
+{
     Mail {
         address: 0,
         kind: Kind::SoE,
         counter: 1,
         body: buffer_of(body),
     }
+}
+
+#[test]
+fn parts_of_an_element_are_put_together(rt: HostRuntime) -> Result<(), Fail> {
+    let mut client = SoeClient::new(rt.alloc(), 64, 64)?;
+    client.start_read(3, 100, 0x02);
+    goes(&rt, &mut client, &[0x61, 0x02, 0x64, 0x00], 4);
+    let part = [0x6A, 0x02, 0x01, 0x00, b'G', b'a'];
+    assert_eq!(rt; hears(&rt, &mut client, Kind::SoE, &part), Took::More);
+    let other = [0x6A, 0x04, 0x01, 0x00, b'x'];
+    assert_eq!(rt; hears(&rt, &mut client, Kind::SoE, &other), Took::Foreign);
+    let last = [0x62, 0x02, 0x64, 0x00, b'i', b'n'];
+    if let Took::Done = client.take(&soe_mail(&last)) {
+        let mut value = Octets::new(rt.alloc());
+        client.value(&mut value)?;
+        assert_eq!(rt; client.reply(), ReplyKind::Value);
+        assert_eq!(rt; value.bytes(), b"Gain".as_slice());
+        return Ok(());
+    }
+    Err("the name is read")?
 }
 
 #[test]
