@@ -1,0 +1,5 @@
+pub mod Tables
+pub mod Parts
+pub mod Joins
+pub mod TookIs
+pub mod Lawful

@@ -1,0 +1,4 @@
+pub mod Idns
+pub mod Serving
+pub mod Talk
+pub mod Hear

@@ -1,0 +1,85 @@
+-- What a client's state stands for: the mails that it has left to send, and the reply that further mails complete.
+use Rattle.std.specs.Prelude.{◌≡◌, ℕ, suc, ◌+◌, ◌-◌, ◌≤◌, nat_le, nat_lt, Bool, true, false, List, [], ◌∷◌, length, drop, Option, None, Some}
+use Rattle.mailbox_mail.specs.declared.mail.Kind.TheVariants.{SoE}
+use Rattle.soe_codec.specs.Message.{IsSpellable}
+use Rattle.soe_model.specs.Elements.{Target}
+use Rattle.soe_model.specs.Mails.{Soe, SoeMail, mail, message, fragments}
+use Rattle.soe_model.specs.Client.{Reply, at_end, read_ends, write_ends}
+use Rattle.soe_model.specs.Octets.{mail_written, mail_with}
+use Rattle.soe.specs.declared.state.Task.{Task}
+use Rattle.soe.specs.declared.state.Unsent.{Unsent}
+use Rattle.soe.specs.declared.state.Awaits.{Awaits}
+use Rattle.soe.specs.Idns.{target}
+use Rattle.soe.specs.Serving.{subject_view}
+
+-- a client's state: the length of the mailbox for requests, what is asked and its octets, what is not yet sent, and what is awaited with the
+-- octets that came
+pub record Talking : Type 0 where
+  pub room : ℕ
+  pub task : Task
+  pub bytes : List ℕ
+  pub unsent : Unsent
+  pub awaits : Awaits
+  pub value : List ℕ
+
+-- what a service is about
+abbrev pub about : Task → Target
+about Task.Nothing = target 0 0 0
+about (Task.Read s) = subject_view s
+about (Task.Write s) = subject_view s
+
+abbrev pub is_near : Task → Bool
+is_near Task.Nothing = true
+is_near (Task.Read s) = nat_lt s.drive 8
+is_near (Task.Write s) = nat_lt s.drive 8
+
+-- the mails not yet sent
+abbrev pub unsent_mails : ℕ → Target → List ℕ → Unsent → List SoeMail
+unsent_mails room t bytes Unsent.Nothing = []
+unsent_mails room t bytes Unsent.Request = mail (message 1 false t t.idn []) ∷ []
+unsent_mails room t bytes (Unsent.Octets from) = fragments (suc (length bytes)) 3 t (room - 10) (drop from bytes)
+
+-- the mails that a client has left to send
+abbrev pub left : Talking → List SoeMail
+left c = unsent_mails c.room (about c.task) c.bytes c.unsent
+
+-- the reply that these mails complete behind those that it took
+abbrev pub answers_from : Target → List ℕ → Awaits → List SoeMail → Option Reply
+answers_from t value Awaits.Nothing ms = None
+answers_from t value Awaits.Parts ms = read_ends t value ms
+answers_from t value Awaits.Answer ms = write_ends t ms
+answers_from t value (Awaits.Over kind) ms = at_end ms (kind, value)
+
+abbrev pub awaited : Talking → List SoeMail → Option Reply
+awaited c ms = answers_from (about c.task) c.value c.awaits ms
+
+-- whether a service is over
+abbrev pub is_over : Awaits → Bool
+is_over (Awaits.Over kind) = true
+is_over _ = false
+
+-- the octets from here on lie within the service's
+abbrev pub is_left : List ℕ → Unsent → Bool
+is_left bytes (Unsent.Octets from) = nat_le from (length bytes)
+is_left bytes _ = true
+
+-- nothing of a service is sent yet
+abbrev pub is_begun : Unsent → Bool
+is_begun (Unsent.Octets from) = nat_le from 0
+is_begun _ = true
+
+-- a client that has begun a service
+abbrev pub begun : ℕ → Task → List ℕ → Unsent → Awaits → Talking
+begun room task bytes unsent awaits = record { room = room; task = task; bytes = bytes; unsent = unsent; awaits = awaits; value = [] }
+
+-- a message is the first of the mails that are left, and has a spelling that fits; nothing but what is unsent changes
+abbrev pub NextIs : Option Soe → Talking → Talking → Type 0
+NextIs None old new = (left old ≡ []) × (new ≡ old)
+NextIs (Some s) old new = (left old ≡ mail s ∷ left new) × IsSpellable s × (length s.bytes.items + 10 ≤ old.room) × (new ≡ record old { unsent = new.unsent })
+
+-- WHAT GOES OUT: the first of the mails that the client has left, in its one spelling
+pub record SendsNext (old : Talking) (octets : List ℕ) (new : Talking) : Type 0 where
+  pub next : SoeMail
+  pub spelled : mail_written next ≡ mail_with SoE octets
+  pub mails : left old ≡ next ∷ left new
+  pub room : new.room ≡ old.room

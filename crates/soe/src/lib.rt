@@ -1,0 +1,26 @@
+//! The servo drive profile over EtherCAT, SoE: the IDNs of a slave, its server, and the client of one slave (ETG.1000.6, "SoE"; IEC 61800-7,
+//! "IDN"). The messages themselves stand in `soe_codec`.
+#![tactic(auto)]
+
+mod client;
+mod element;
+mod giving;
+mod hearing;
+mod idn;
+mod law;
+mod making;
+mod sending;
+mod server;
+mod spec;
+mod state;
+mod table;
+mod taking;
+#[cfg(test)]
+mod tests;
+
+pub use client::SoeClient;
+pub use law::idns_are_lawful;
+pub use server::SoeServer;
+pub use soe_codec::{READ, READ_ANSWER, Soe, SoeFault, WRITE, WRITE_ANSWER, read, write};
+pub use spec::IdnSpec;
+pub use table::IdnTable;

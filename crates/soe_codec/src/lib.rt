@@ -1,0 +1,13 @@
+//! The messages of the servo drive profile over EtherCAT, SoE: an IDN's elements, read and written in fragments (ETG.1000.6, "SoE"). No call
+//! takes memory.
+#![tactic(auto)]
+
+mod message;
+mod reading;
+#[cfg(test)]
+mod tests;
+mod writing;
+
+pub use message::{READ, READ_ANSWER, Soe, SoeFault, WRITE, WRITE_ANSWER};
+pub use reading::read;
+pub use writing::write;

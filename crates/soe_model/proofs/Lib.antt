@@ -1,0 +1,4 @@
+pub mod Carries
+pub mod SoeLaw
+pub mod Spelled
+pub mod WorkedRows

@@ -1,0 +1,17 @@
+use Rattle.soe_model.proofs.SoeLaw.{soe_law, kept, whole_replied}
+use Rattle.soe_model.proofs.client_against_server.Goals as goal
+
+pub returns-clause-app : goal.returns-clause-app
+returns-clause-app g c = λ o areas lawful sized v q ready valid. (kept o lawful areas sized v q ready valid).app
+
+pub returns-clause-handled : goal.returns-clause-handled
+returns-clause-handled g c = λ o areas lawful sized v q ready valid. (kept o lawful areas sized v q ready valid).handled
+
+pub returns-clause-reply : goal.returns-clause-reply
+returns-clause-reply g c = λ o areas lawful sized v q ready valid. whole_replied o lawful areas sized v q ready valid
+
+pub returns-clause-part : goal.returns-clause-part
+returns-clause-part g c = λ o areas lawful sized v q ready valid p r e. (soe_law o lawful areas sized).part v q ready valid p r e
+
+pub returns-clause-late : goal.returns-clause-late
+returns-clause-late g c = λ o areas lawful sized v q ready valid p r m e. ((kept o lawful areas sized v q ready valid).late p m r e).given
