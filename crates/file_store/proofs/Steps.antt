@@ -209,9 +209,10 @@ filled old begin new place bytes begins appends =
     ap (λ cs. unwrap_or (get_or cs place None) []) is ∙ ap (λ o. unwrap_or o []) (get_or-set_same old.chains place (Some []) None begins.0) in
     let free : begin.free ≡ old.free = ap (λ (r : Region). r.free) begins.2 in
     let none : length (chain_of begin place) ≡ 0 = ap length empty in
-    let counts : new.free + blocks_for (0 + length bytes) ≡ begin.free + blocks_for 0 = subst (λ n. new.free + blocks_for (n + length bytes) ≡ begin.free + blocks_for n) none appends.1 in
-    (appends.0 ∙ ap (λ l. set begin.chains place (Some (l ++ bytes))) empty ∙ ap (λ cs. set cs place (Some bytes)) is ∙ set-set old.chains place (Some []) (Some bytes),
-    omega (arith, counts, free))
+    let counts : new.free + blocks_for (0 + length bytes) ≡ begin.free + blocks_for 0 = subst (λ n. new.free + blocks_for (n + length bytes) ≡ begin.free + blocks_for n) none appends.1 in (
+      appends.0 ∙ ap (λ l. set begin.chains place (Some (l ++ bytes))) empty ∙ ap (λ cs. set cs place (Some bytes)) is ∙ set-set old.chains place (Some []) (Some bytes),
+      omega (arith, counts, free),
+    )
 
 pub inserted : (old begin new : Region) (files : List File) (part : Option Version) (file : File) (bytes : List ℕ) → IsStore old files part → Begins old file.chain begin → Appends begin file.chain bytes new
     → stored_of new (files ++ file ∷ []) part

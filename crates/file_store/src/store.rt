@@ -108,6 +108,7 @@ impl Store {
     /// password or no such right (ETG.1000.6, "FoE error codes").
     pub fn allowed(&self, name: &[u8], pass: u32, write: bool, al: u8) -> Option<u32>
         ensures code { result ≡ allowed self.now.kept name.now pass write al }
+        ensures there { IfNone result (is_some (file_of self.now.kept name.now) ≡ true) }
         ensures valid { is_valid self.now.kept ≡ true }
     {
         match place_of(self.files.as_slice(), name) {

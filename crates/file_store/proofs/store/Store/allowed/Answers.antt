@@ -1,5 +1,5 @@
 use Rattle.std.proofs.Common.{◌≡◌, sym, ap, subst, ◌∙◌}
-use Rattle.std.specs.Prelude.{find, None}
+use Rattle.std.specs.Prelude.{find, is_some, IfNone, Option, Some, None}
 use Rattle.file_store.specs.Files.{code_at}
 use Rattle.file_store.specs.Store.{IsPlaceOf, has_name}
 use Rattle.file_store.proofs.Views.{valid_shown, none_shown, found_shown}
@@ -23,3 +23,13 @@ returns-in-Some-clause-code c =
     c.refused_by.ensures
     ∙ ap (λ o. code_at o c.args.pass c.args.write c.args.al)
     (sym (found_shown c.self.inside.pool c.self.inside.files.items c.self.inside.part c.args.name.now c.in-Some.place c.index-file.result.now c.args.self.now c.self.view_is at c.index-file.ensures))
+
+if_none : {X : Type 0} {P : Type 0} (r : Option X) → P → IfNone r P
+if_none None p = p
+if_none (Some x) p = tt
+
+pub returns-in-Some-clause-there : goal.returns-in-Some-clause-there
+returns-in-Some-clause-there c =
+    let at = subst (λ fs. IsPlaceOf c.args.name.now fs c.in-Some.place) c.as_slice.ensures.value c.in-Some.ensures.found in
+    if_none c.refused_by.result
+    (ap is_some (found_shown c.self.inside.pool c.self.inside.files.items c.self.inside.part c.args.name.now c.in-Some.place c.index-file.result.now c.args.self.now c.self.view_is at c.index-file.ensures))
