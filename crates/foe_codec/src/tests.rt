@@ -1,3 +1,5 @@
+ghost use Rattle.foe_codec.specs.Message.{IsSpellable};
+
 use crate::{Foe, FoeFault, Name, read, write};
 use arrayvec::ArrayVec;
 use ec_fields::buffer_of;
@@ -5,7 +7,9 @@ use std::process::Abort;
 use std::test::Fail;
 
 // What is written, and that it is read back.
-fn is_written(rt: &impl Abort, foe: Foe, octets: &[u8]) {
+fn is_written(rt: &impl Abort, foe: Foe, octets: &[u8])
+    requires { IsSpellable foe }
+{
     let mut body = ArrayVec::new();
     write(&foe, &mut body);
     assert_eq!(rt; body.as_slice(), octets);
