@@ -1,0 +1,3 @@
+mod Carries
+mod WriteLaw
+mod ReadLaw
