@@ -1,7 +1,7 @@
 -- One mail of a service after the other: what a server has done when a service is over, and that it has done nothing before its last mail.
-use Rattle.std.proofs.Common.{◌≡◌, ◌⊎◌, inl, inr, ℕ, suc, ◌+◌, ◌≤◌, Bool, true, false, not, List, [], ◌∷◌, ◌++◌, filter, length, Option, Some, refl, sym, ap, ◌∙◌, subst, append-nil, arith}
+use Rattle.std.proofs.Common.{◌≡◌, ◌⊎◌, inl, inr, ℕ, suc, ◌≤◌, true, List, [], ◌∷◌, ◌++◌, length, Option, Some, refl, ap, ◌∙◌, subst, append-nil, arith}
 use Rattle.exchange_model.specs.Exchange.{Before, Behind, after, given, plain, emitted}
-use Rattle.exchange_model.specs.Dialogue.{Turn, next, again, stop, sent, turn_at}
+use Rattle.exchange_model.specs.Dialogue.{next, again, stop, sent, turn_at}
 use Rattle.exchange_model.proofs.Turns.{sent_onward, sent_repeated, sent_over, sent_waits}
 use Rattle.foe_model.specs.Mails.{FoeMail, is_emission}
 use Rattle.foe_model.specs.Files.{Files}
@@ -50,12 +50,12 @@ module _ {S : Type 0} (o : Files S) (areas : Areas) where
   pub carried_one : (v : Server S) (means : Meaning S) (reading : List FoeMail → Option Reply) (most : ℕ) (m a : FoeMail) (x : Outcome S) → takes v m ≡ x → 1 ≤ most →
       x.counts ≡ true → x.answers ≡ a ∷ [] → x.app ≡ means.app → reading (a ∷ []) ≡ Some means.reply → Carried v means reading most (m ∷ [])
   carried_one v means reading most m a x is some counts answers app reply = record {
-      app = ap (λ y. (behind v.handled y).0.app) is ∙ app;
-      handled = ap (λ y. (behind v.handled y).0.handled) is ∙ rw counts refl;
-      replied = ap reading (append-nil (step v m).1 ∙ ap (λ y. (behind v.handled y).1) is ∙ answers) ∙ reply;
-      few = omega (arith, some);
-      late = none_late;
-    }
+    app = ap (λ y. (behind v.handled y).0.app) is ∙ app;
+    handled = ap (λ y. (behind v.handled y).0.handled) is ∙ rw counts refl;
+    replied = ap reading (append-nil (step v m).1 ∙ ap (λ y. (behind v.handled y).1) is ∙ answers) ∙ reply;
+    few = omega (arith, some);
+    late = none_late;
+  }
     where
       none_late : (p : List FoeMail) (h : FoeMail) (r : List FoeMail) → m ∷ [] ≡ p ++ h ∷ r → Still v p
       none_late [] h r e = still_none v
@@ -77,12 +77,12 @@ module _ {S : Type 0} (o : Files S) (areas : Areas) where
       takes v m ≡ goes_on v.app transfer a → suc fewer ≤ most → ((hs : List FoeMail) → reading (a ∷ hs) ≡ later hs) →
       (ms : List FoeMail) → Carried (gone_on v transfer) means later fewer ms → Carried v means reading most (m ∷ ms)
   carried_more v means reading later most fewer m a transfer is less reads ms rest = record {
-      app = ap (λ y. (after step (behind v.handled y).0 ms).app) is ∙ rest.app;
-      handled = ap (λ y. (after step (behind v.handled y).0 ms).handled) is ∙ rest.handled;
-      replied = ap (λ y. reading ((behind v.handled y).1 ++ given step (behind v.handled y).0 ms)) is ∙ reads (given step (gone_on v transfer) ms) ∙ rest.replied;
-      few = omega (arith, less, rest.few);
-      late = more_late;
-    }
+    app = ap (λ y. (after step (behind v.handled y).0 ms).app) is ∙ rest.app;
+    handled = ap (λ y. (after step (behind v.handled y).0 ms).handled) is ∙ rest.handled;
+    replied = ap (λ y. reading ((behind v.handled y).1 ++ given step (behind v.handled y).0 ms)) is ∙ reads (given step (gone_on v transfer) ms) ∙ rest.replied;
+    few = omega (arith, less, rest.few);
+    late = more_late;
+  }
     where
       more_late : (p : List FoeMail) (h : FoeMail) (r : List FoeMail) → m ∷ ms ≡ p ++ h ∷ r → Still v p
       more_late [] h r e = still_none v

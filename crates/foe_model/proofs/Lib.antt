@@ -1,3 +1,8 @@
 mod Carries
 mod WriteLaw
 mod ReadLaw
+mod Speaks
+mod Closing
+mod FoeLaw
+mod Spelled
+mod WorkedRows

@@ -1,16 +1,15 @@
 -- A read gives the whole file, of any size, through mailboxes of any lengths, and counts at its request.
-use Rattle.std.proofs.Common.{◌≡◌, ◌⊎◌, inl, inr, ℕ, zero, suc, ◌+◌, ◌-◌, ◌<◌, ◌≤◌, Bool, true, false, not, List, [], ◌∷◌, ◌++◌, length, take, drop, Option, None, Some, refl, sym, ap, ◌∙◌, subst, arith, append_assoc, append-nil, length-append, length-drop, length-take, take-append-drop, take_all, eq-eqb, lt-ltb, le-ltb, nat_lt, if◌then◌else◌}
+use Rattle.std.proofs.Common.{◌≡◌, ◌⊎◌, inl, inr, ℕ, zero, suc, ◌+◌, ◌<◌, ◌≤◌, true, false, List, [], ◌∷◌, ◌++◌, length, take, drop, Option, None, Some, refl, sym, ap, ◌∙◌, subst, arith, append_assoc, append-nil, length-append, length-drop, length-take, take-append-drop, take_all, eq-eqb, lt-ltb, le-ltb, nat_lt}
 use Rattle.std.proofs.lemmas.Bool.{cases_lt}
 use Rattle.exchange_model.specs.Exchange.{Before, Behind, after, given}
-use Rattle.exchange_model.specs.Dialogue.{next, stop}
 use Rattle.mailbox_mail.specs.declared.outcome.ReplyKind.{ReplyKind}
-use Rattle.foe_model.specs.Mails.{FoeMail, mail, Read, Data, Ack}
+use Rattle.foe_model.specs.Mails.{FoeMail, mail, Read, Ack}
 use Rattle.foe_model.specs.Files.{Files, AreLawful}
-use Rattle.foe_model.specs.Server.{Transfer, idle, reading, Outcome, Server, ended, goes_on, silent, refusal, packet_room, packet_of, is_last, opened, continues, takes_ack, behind}
+use Rattle.foe_model.specs.Server.{idle, reading, Server, ended, goes_on, silent, refusal, packet_room, packet_of, opened, takes_ack, behind}
 use Rattle.foe_model.specs.Meaning.{read, read_means, meaning_of}
 use Rattle.foe_model.specs.Client.{Areas, acks, most, packets_end}
-use Rattle.foe_model.specs.Model.{foe_exchange}
-use Rattle.foe_model.proofs.Carries.{step, takes, talk, Still, still_none, still_more, gone_on, talk_onward, talk_over, talk_waits, Kept, before, none_emitted}
+use Rattle.foe_model.specs.Model.{read_length, foe_exchange}
+use Rattle.foe_model.proofs.Carries.{step, takes, talk, Still, still_none, still_more, talk_onward, talk_over, talk_waits, Kept, before, none_emitted}
 
 module _ {S : Type 0} (o : Files S) (areas : Areas) where
   abbrev room : ℕ
@@ -178,11 +177,9 @@ module _ {S : Type 0} (o : Files S) (areas : Areas) where
           let rest : others ≡ p ++ r = cc in
           inr (subst (λ k. Behind (foe_exchange o areas) v (read name pass) (k ∷ p)) first (counted takes_is means p (still p r rest)))
 
-  pub read_kept : AreLawful o → (n turns most : ℕ) (v : Server S) (name : List ℕ) (pass : ℕ) → o.valid v.app ≡ true → 0 < room →
-      length (o.get v.app name) < n → length (o.get v.app name) < turns → suc (suc (length (o.get v.app name))) ≤ most →
+  pub read_kept : AreLawful o → (n turns most : ℕ) (v : Server S) (name : List ℕ) (pass : ℕ) (found : Option ℕ) → o.allowed v.app name pass false ≡ found → o.valid v.app ≡ true →
+      0 < room → read_length found (o.get v.app name) < n → read_length found (o.get v.app name) < turns → suc (suc (read_length found (o.get v.app name))) ≤ most →
       Kept o areas v (read name pass) most (talk o areas (suc turns) v (request name pass ∷ acks n 1))
-  read_kept law n turns most v name pass sound wide many enough few = by_code (o.allowed v.app name pass false) refl
-    where
-      by_code : (found : Option ℕ) → o.allowed v.app name pass false ≡ found → Kept o areas v (read name pass) most (talk o areas (suc turns) v (request name pass ∷ acks n 1))
-      by_code None is = opened_kept n turns most v name pass is wide (law.short v.app name pass sound is) many enough few
-      by_code (Some code) is = refused_kept turns most v name pass code (acks n 1) is (omega arith)
+  read_kept law n turns most v name pass None is sound wide many enough few =
+      opened_kept n turns most v name pass is wide (law.short v.app name pass sound is) many enough few
+  read_kept law n turns most v name pass (Some code) is sound wide many enough few = refused_kept turns most v name pass code (acks n 1) is (omega (arith, few))

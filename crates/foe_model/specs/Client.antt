@@ -1,8 +1,8 @@
 -- An FoE client: the mails that it sends for a service, and the reply that the mails it hears complete.
-use Rattle.std.specs.Prelude.{ℕ, zero, suc, ◌+◌, ◌-◌, ◌/◌, ◌==◌, nat_lt, Bool, true, false, List, [], ◌∷◌, ◌++◌, length, take, drop, if◌then◌else◌, Option, None, Some}
+use Rattle.std.specs.Prelude.{ℕ, zero, suc, ◌+◌, ◌/◌, ◌==◌, nat_lt, Bool, true, false, List, [], ◌∷◌, ◌++◌, length, drop, if◌then◌else◌, Option, None, Some}
 use Rattle.mailbox_mail.specs.declared.outcome.ReplyKind.{ReplyKind}
 use Rattle.exchange_model.specs.Dialogue.{Turn, next, again, stop}
-use Rattle.foe_model.specs.Mails.{Foe, Read, Write, Data, Ack, Error, Busy, FoeMail, mail, unread, failed, other}
+use Rattle.foe_model.specs.Mails.{Read, Write, Data, Ack, Error, Busy, FoeMail, mail, failed}
 use Rattle.foe_model.specs.Server.{packet_room, packet_of, is_last}
 use Rattle.foe_model.specs.Meaning.{Service, read, write, Reply}
 

@@ -26,7 +26,7 @@ pub record AreLawful {S : Type 0} (o : Files S) : Type 0 where
   pub stays : (s : S) (name bytes : List ℕ) (pass : ℕ) → o.valid s ≡ true → o.allowed s name pass true ≡ None → o.has_room s (length bytes) ≡ true →
       o.valid (o.put s name bytes) ≡ true
 
--- and besides, so that each answer has a spelling: codes of 32 bits, and a file that is busy 15 times at most
+-- and besides, so that each answer has a spelling: codes of 32 bits, and numbers of busy answers of 16
 pub record AreSpelled {S : Type 0} (o : Files S) : Type 0 where
   pub code : (s : S) (name : List ℕ) (pass : ℕ) (write : Bool) (code : ℕ) → o.valid s ≡ true → o.allowed s name pass write ≡ Some code → code < 4294967296
-  pub busy : (s : S) (name : List ℕ) (pass : ℕ) → o.valid s ≡ true → o.allowed s name pass true ≡ None → o.busy s name ≤ 15
+  pub busy : (s : S) (name : List ℕ) → o.valid s ≡ true → o.busy s name < 65536

@@ -1,5 +1,5 @@
 -- What FoE services mean, on whole files.
-use Rattle.std.specs.Prelude.{ℕ, Bool, true, false, List, [], length, if◌then◌else◌, Option, None, Some}
+use Rattle.std.specs.Prelude.{ℕ, true, false, List, [], length, if◌then◌else◌, Option, None, Some}
 use Rattle.mailbox_mail.specs.declared.outcome.ReplyKind.{ReplyKind}
 use Rattle.foe_model.specs.Files.{Files}
 

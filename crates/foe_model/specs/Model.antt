@@ -1,5 +1,5 @@
 -- FoE as an exchange: the server against the services of its client.
-use Rattle.std.specs.Prelude.{ℕ, suc, ◌+◌, ◌≤◌, ◌&&◌, nat_le, nat_lt, Bool, true, false, List, [], length}
+use Rattle.std.specs.Prelude.{ℕ, suc, ◌+◌, ◌≤◌, ◌&&◌, nat_le, nat_lt, Bool, false, List, [], length, Option, None, Some}
 use Rattle.exchange_model.specs.Exchange.{Exchange}
 use Rattle.exchange_model.specs.Dialogue.{said, sent}
 use Rattle.foe_codec.specs.Message.{is_name}
@@ -21,9 +21,14 @@ abbrev pub is_service : Service → Bool
 is_service (read name pass) = is_name name && nat_lt pass 4294967296
 is_service (write name pass bytes) = is_name name && nat_lt pass 4294967296 && nat_le (length bytes) 131072
 
+-- how many octets a read brings
+abbrev pub read_length : Option ℕ → List ℕ → ℕ
+read_length None bytes = length bytes
+read_length (Some code) bytes = 0
+
 -- more turns than a client takes for a service at these files
 abbrev pub turns : {S : Type 0} → Files S → S → Service → ℕ
-turns o app (read name pass) = suc (suc (suc (length (o.get app name))))
+turns o app (read name pass) = suc (suc (suc (read_length (o.allowed app name pass false) (o.get app name))))
 turns o app (write name pass bytes) = suc (suc (suc (length bytes + o.busy app name)))
 
 -- the mails that a client has sent in all that has heard these replies: it never sends more mails than it has heard, but one
