@@ -10,8 +10,6 @@ use Rattle.file_store.specs.Files.{Filed, Kept, taken, free_of, is_named, file_o
 use Rattle.foe_model.specs.Files.{Files, AreLawful, AreSpelled}
 use Rattle.foe_server.specs.Stores.{store_files}
 
-
-
 -- what holds of files within the limits
 record Limits (s : Kept) : Type 0 where
   small : s.blocks ≤ 1024
@@ -20,14 +18,14 @@ record Limits (s : Kept) : Type 0 where
 
 limits_of : (s : Kept) → is_valid s ≡ true → Limits s
 limits_of s valid =
-    let both = and_parts (nat_le s.blocks 1024) (nat_le (taken s.files) s.blocks && list_all (λ file. nat_le file.spec.busy 15) s.files) valid in
-    let rest = and_parts (nat_le (taken s.files) s.blocks) (list_all (λ file. nat_le file.spec.busy 15) s.files) both.1 in
-    record { small = leb-true s.blocks 1024 both.0; within = leb-true (taken s.files) s.blocks rest.0; calm = rest.1 }
+    let both = and_parts (nat_le s.blocks 1024 && nat_le (taken s.files) s.blocks) (list_all (λ file. nat_le file.spec.busy 15) s.files) valid in
+    let room = and_parts (nat_le s.blocks 1024) (nat_le (taken s.files) s.blocks) both.0 in
+    record { small = leb-true s.blocks 1024 room.0; within = leb-true (taken s.files) s.blocks room.1; calm = both.1 }
 
 from_limits : (s : Kept) → Limits s → is_valid s ≡ true
 from_limits s limits =
-    and_from (nat_le s.blocks 1024) (nat_le (taken s.files) s.blocks && list_all (λ file. nat_le file.spec.busy 15) s.files) (le-leb s.blocks 1024 limits.small)
-    (and_from (nat_le (taken s.files) s.blocks) (list_all (λ file. nat_le file.spec.busy 15) s.files) (le-leb (taken s.files) s.blocks limits.within) limits.calm)
+    and_from (nat_le s.blocks 1024 && nat_le (taken s.files) s.blocks) (list_all (λ file. nat_le file.spec.busy 15) s.files)
+    (and_from (nat_le s.blocks 1024) (nat_le (taken s.files) s.blocks) (le-leb s.blocks 1024 limits.small) (le-leb (taken s.files) s.blocks limits.within)) limits.calm
 
 cons_taken : (file : Filed) (files : List Filed) → taken (file ∷ files) ≡ blocks_for (length file.octets) + taken files
 cons_taken file files = sum_by-cons (λ (f : Filed). blocks_for (length f.octets)) file files

@@ -14,8 +14,11 @@ use foe_codec::{Foe, FoeFault};
 
 /// FoE error codes (ETG.1000.6, "FoE error codes").
 const ACCESS: u32 = 0x8001;
+
 const DISK_FULL: u32 = 0x8003;
+
 const ILLEGAL: u32 = 0x8004;
+
 const PACKET: u32 = 0x8005;
 
 /// The octets of a mail before those of a packet.
@@ -136,7 +139,9 @@ impl FoeServer {
         ensures back { self.new.back ≡ self.old.back }
     {
         let part = self.back as usize - PACKET_HEAD;
-        let left = store.len(self.name.as_slice()).saturating_sub(from as usize);
+        let left = store
+            .len(self.name.as_slice())
+            .saturating_sub(from as usize);
         if left < part {
             self.tell(State::Idle, Pending::Nothing);
             return false;
@@ -158,9 +163,8 @@ impl FoeServer {
         ensures back { self.new.back ≡ self.old.back }
     {
         match self.state {
-            State::Idle
-            | State::Writing { number: _ }
-            | State::Closing { number: _, told: _ } => self.refuse(store, ILLEGAL),
+            State::Idle | State::Writing { number: _ } | State::Closing { number: _, told: _ } =>
+                self.refuse(store, ILLEGAL),
             State::Reading { number, from } => {
                 if packet != number {
                     self.end(store, Pending::Error { code: PACKET });
