@@ -5,7 +5,7 @@ ghost use Rattle.foe_model.specs.Mails.{mail};
 ghost use Rattle.foe_model.specs.Octets.{mail_written};
 ghost use Rattle.foe_server.specs.Serving.{Serving, waiting_mails, reply_mail, GivesNext, IsShort};
 
-use crate::server::FoeServer;
+use crate::server::{FoeServer, PACKET_HEAD};
 use crate::state::Pending;
 use arrayvec::ArrayVec;
 use ec_fields::buffer_of;
@@ -63,7 +63,7 @@ impl FoeServer {
         match self.pending {
             Pending::Nothing => unreachable!(),
             Pending::Packet { number, from } => {
-                let most = self.back as usize - 12;
+                let most = self.back as usize - PACKET_HEAD;
                 Ok(Foe::Data {
                     packet: number,
                     bytes: part_of(store, self.name.as_slice(), from as usize, most),

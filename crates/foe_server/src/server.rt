@@ -9,6 +9,9 @@ use file_store::{Name, Store};
 use std::alloc::Global;
 use std::marker::Model;
 
+/// The octets of a mail before those of a packet: its header, opcode, reserved octet and packet number.
+pub(crate) const PACKET_HEAD: usize = 12;
+
 /// A server over the files of one slave. The octets of a write lie in the store, so that no call takes memory.
 #[derive(Debug, Drop)]
 pub struct FoeServer {

@@ -6,7 +6,7 @@ ghost use Rattle.foe_model.specs.Octets.{body_heard};
 ghost use Rattle.foe_server.specs.Stores.{store_files};
 ghost use Rattle.foe_server.specs.Serving.{Serving, Serves, IsWriting, transfer_of, outcome_of, told_of};
 
-use crate::server::FoeServer;
+use crate::server::{FoeServer, PACKET_HEAD};
 use crate::state::{Pending, State};
 use ec_fields::buffer_of;
 use file_store::{Name, Store};
@@ -20,9 +20,6 @@ const DISK_FULL: u32 = 0x8003;
 const ILLEGAL: u32 = 0x8004;
 
 const PACKET: u32 = 0x8005;
-
-/// The octets of a mail before those of a packet.
-const PACKET_HEAD: usize = 12;
 
 impl FoeServer {
     fn take_read(&mut self, store: &mut Store, al: u8, name: &Name, pass: u32) -> bool
