@@ -1,3 +1,4 @@
+pub mod Counts
 mod Carries
 mod WriteLaw
 mod ReadLaw
