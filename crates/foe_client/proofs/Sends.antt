@@ -1,8 +1,8 @@
 -- What a client sends is the first of the mails that it has left, and at first those are the planned ones.
-use Rattle.std.proofs.Common.{◌≡◌, inl, inr, ℕ, zero, suc, ◌+◌, ◌-◌, ◌/◌, ◌<◌, ◌≤◌, Bool, true, false, ◌&&◌, nat_le, nat_lt, ◌==◌, List, [], ◌∷◌, ◌++◌, length, take, drop, if◌then◌else◌, Option, None, Some, refl, sym, ap, ◌∙◌, subst, arith, length-take, length-drop, eqb-true, leb-true, lt-ltb, le-ltb}
-use Rattle.std.proofs.lemmas.Bool.{eqb-false, cases_lt, ltb-false}
+use Rattle.std.proofs.Common.{◌≡◌, inl, inr, ℕ, zero, suc, ◌+◌, ◌-◌, ◌/◌, ◌<◌, ◌≤◌, Bool, true, false, ◌&&◌, nat_le, ◌==◌, List, [], ◌∷◌, length, take, drop, if◌then◌else◌, Option, None, Some, refl, sym, ap, ◌∙◌, arith, length-take, length-drop, eqb-true, leb-true, lt-ltb, le-ltb}
+use Rattle.std.proofs.lemmas.Bool.{eqb-false, cases_lt}
 use Rattle.std.proofs.lemmas.List.{drop-drop}
-use Rattle.exchange_model.specs.Dialogue.{Turn, next, again, stop, chosen, said}
+use Rattle.exchange_model.specs.Dialogue.{chosen, said}
 use Rattle.foe_codec.specs.Message.{is_name, IsSpellable, foe_text}
 use Rattle.foe_model.specs.Mails.{Foe, Read, Write, Data, Ack, Error, Busy, FoeMail, mail, unread, failed, other}
 use Rattle.foe_model.specs.Server.{packet_room, packet_of, is_last}
@@ -12,8 +12,8 @@ use Rattle.foe_model.specs.Model.{planned}
 use Rattle.foe_model.proofs.Counts.{none_full, one_full}
 use Rattle.foe_client.specs.declared.state.Unsent.{Unsent}
 use Rattle.foe_client.specs.declared.state.Awaits.{Awaits}
-use Rattle.foe_client.specs.Talk.{Talking, areas_of, mail_of, following, sending, is_data, is_any_ack, is_value, for_packets, for_acks, lets_go, later, awaited, is_left, begun}
-use Rattle.foe_client.specs.Send.{message_of, send_next, IsNext, NextIs}
+use Rattle.foe_client.specs.Talk.{Talking, mail_of, following, sending, is_data, is_any_ack, is_value, for_packets, for_acks, lets_go, later, is_left, begun}
+use Rattle.foe_client.specs.Send.{message_of, send_next, NextIs}
 
 name_sized : (name : List ℕ) → is_name name ≡ true → (1 ≤ length name) × (length name ≤ 32)
 name_sized name e = by (nat_le 1 (length name)) (nat_le (length name) 32) refl refl e

@@ -1,5 +1,5 @@
 -- What a client makes of one mail, state by state.
-use Rattle.std.specs.Prelude.{◌≡◌, ℕ, ◌+◌, ◌-◌, ◌<◌, ◌==◌, nat_lt, Bool, true, false, List, [], ◌∷◌, ◌++◌, length, if◌then◌else◌, None, Some}
+use Rattle.std.specs.Prelude.{◌≡◌, ℕ, ◌+◌, ◌-◌, ◌<◌, ◌==◌, nat_lt, true, false, List, [], ◌∷◌, ◌++◌, length, if◌then◌else◌, None, Some}
 use Rattle.mailbox_mail.specs.declared.outcome.ReplyKind.{ReplyKind}
 use Rattle.mailbox_mail.specs.declared.outcome.Took.{Took}
 use Rattle.foe_model.specs.Mails.{Foe, Data, Ack, Error, Busy, FoeMail, mail, failed}

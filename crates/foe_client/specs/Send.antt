@@ -1,5 +1,5 @@
 -- What a client sends next.
-use Rattle.std.specs.Prelude.{◌≡◌, ℕ, ◌+◌, ◌-◌, ◌≤◌, ◌==◌, Bool, true, false, List, [], ◌∷◌, length, take, drop, if◌then◌else◌, Option, None, Some}
+use Rattle.std.specs.Prelude.{◌≡◌, ℕ, ◌+◌, ◌-◌, ◌≤◌, ◌==◌, List, [], ◌∷◌, length, take, drop, if◌then◌else◌, Option, None, Some}
 use Rattle.mailbox_mail.specs.declared.mail.Kind.TheVariants.{FoE}
 use Rattle.foe_codec.specs.Message.{IsSpellable, foe_text}
 use Rattle.foe_model.specs.Mails.{Foe, Read, Write, Data, Ack, FoeMail, mail}

@@ -1,8 +1,8 @@
 -- What a client's state stands for: the mails that it has left to send, by what it will hear, and the reply that further mails complete.
-use Rattle.std.specs.Prelude.{ℕ, zero, suc, ◌+◌, ◌-◌, ◌≤◌, ◌&&◌, nat_lt, nat_le, ◌==◌, Bool, true, false, List, [], ◌∷◌, length, drop, if◌then◌else◌, Option, None, Some}
+use Rattle.std.specs.Prelude.{ℕ, zero, suc, ◌+◌, ◌-◌, ◌≤◌, ◌&&◌, nat_lt, nat_le, ◌==◌, Bool, true, false, List, [], ◌∷◌, length, drop, if◌then◌else◌, Option, None}
 use Rattle.mailbox_mail.specs.declared.outcome.ReplyKind.{ReplyKind}
 use Rattle.foe_codec.specs.Message.{is_name}
-use Rattle.foe_model.specs.Mails.{Foe, Read, Write, Data, Ack, Busy, FoeMail, mail}
+use Rattle.foe_model.specs.Mails.{Read, Write, Data, Ack, FoeMail, mail}
 use Rattle.foe_model.specs.Server.{packet_room, packet_of}
 use Rattle.foe_model.specs.Meaning.{Reply}
 use Rattle.foe_model.specs.Client.{Areas, at_end, is_busy, acks_end, packets_end}

@@ -87,6 +87,15 @@ impl FoeClient {
         self.awaits = awaits;
     }
 
+    // How many acknowledgements come before that of the last packet: the request's, and each full packet's.
+    fn early_acks(&self, bytes: &[u8]) -> u32
+        requires { length bytes.now ≤ 131072 }
+        ensures count { result ≡ suc (full_packets self.now.out (length bytes.now)) }
+        ensures few { result ≤ 131073 }
+    {
+        (bytes.len() / (self.out as usize - HEADER)) as u32 + 1
+    }
+
     /// Begins to read a file in place of the service before. The client then has the request to send, and acknowledgements by what it hears.
     /// The name has 1 to 32 octets.
     pub fn start_read(&mut self, name: &[u8], pass: u32)
@@ -95,7 +104,13 @@ impl FoeClient {
         ensures mails { (hs : List FoeMail) → later self.new hs ≡ planned self.old.out (read name.now pass) hs }
         ensures areas { areas_of self.new ≡ areas_of self.old }
     {
-        self.begin(name, pass, &[], Unsent::ReadRequest, Awaits::Packet { number: 1 });
+        self.begin(
+            name,
+            pass,
+            &[],
+            Unsent::ReadRequest,
+            Awaits::Packet { number: 1 },
+        );
     }
 
     /// Begins to write a file in place of the service before. The client then has the request to send, and packets by what it hears. The name has
@@ -107,9 +122,9 @@ impl FoeClient {
         ensures mails { (hs : List FoeMail) → later self.new hs ≡ planned self.old.out (write name.now pass bytes.now) hs }
         ensures areas { areas_of self.new ≡ areas_of self.old }
     {
-        let full = bytes.len() / (self.out as usize - HEADER);
+        let _ = &self.out;
         let awaits = Awaits::Ack {
-            left: full as u32 + 1,
+            left: self.early_acks(bytes),
             number: 0,
         };
         self.begin(name, pass, bytes, Unsent::WriteRequest, awaits);
@@ -122,9 +137,8 @@ impl FoeClient {
     {
         match self.awaits {
             Awaits::Over(kind) => kind,
-            Awaits::Nothing
-            | Awaits::Packet { number: _ }
-            | Awaits::Ack { left: _, number: _ } => unreachable!(),
+            Awaits::Nothing | Awaits::Packet { number: _ } | Awaits::Ack { left: _, number: _ } =>
+                unreachable!(),
         }
     }
 

@@ -20,7 +20,11 @@ impl FoeClient {
     {
         let rest = &self.bytes.bytes()[from as usize..];
         let room = self.out as usize - HEADER;
-        if rest.len() < room { rest } else { &rest[..room] }
+        if rest.len() < room {
+            rest
+        } else {
+            &rest[..room]
+        }
     }
 
     // The message of the first mail that isn't sent.
@@ -62,9 +66,7 @@ impl FoeClient {
                     from: from + room as u32,
                 }
             }
-            Unsent::Ack { number } => Unsent::Ack {
-                number: number + 1,
-            },
+            Unsent::Ack { number } => Unsent::Ack { number: number + 1 },
         }
     }
 

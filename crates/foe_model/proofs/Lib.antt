@@ -4,6 +4,6 @@ mod WriteLaw
 mod ReadLaw
 mod Speaks
 mod Closing
-mod FoeLaw
-mod Spelled
+pub mod FoeLaw
+pub mod Spelled
 mod WorkedRows
