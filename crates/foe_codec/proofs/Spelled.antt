@@ -1,16 +1,15 @@
 -- What a body reads as is spelled by it, and what is written spells its message.
 use Rattle.std.proofs.Common.{◌≡◌, ℕ, ◌+◌, ◌*◌, ◌/◌, ◌%◌, ◌^◌, ◌<◌, ◌≤◌, Bool, true, false, List, [], ◌∷◌, ◌++◌, length, drop, get_or, refl, ap, sym, ◌∙◌, subst, arith, le-leb}
-use Rattle.std.specs.Prelude.{Result, Ok, Err, IfOk, ◌==◌, ◌&&◌, nat_le, nat_lt, if◌then◌else◌}
+use Rattle.std.specs.Prelude.{Result, Ok, Err, IfOk, ◌==◌, nat_lt, if◌then◌else◌}
 use Rattle.std.proofs.lemmas.Bool.{eqb-true, ltb-false}
 use Rattle.std.proofs.lemmas.List.{get_or-drop, drop_more}
-use Rattle.arrayvec.specs.ArrayVec.{ArrayVec}
 use Rattle.byteorder.specs.Endian.{little_bytes}
 use Rattle.ec_fields.specs.Fields.{number_at}
 use Rattle.foe_codec.specs.declared.message.Foe.{Foe}
 use Rattle.foe_codec.specs.declared.message.Foe.TheVariants.{Read, Write, Data, Ack, Error, Busy}
 use Rattle.foe_codec.specs.declared.message.FoeFault.{FoeFault}
 use Rattle.foe_codec.specs.declared.message.FoeFault.TheVariants.{Short, Opcode, Name}
-use Rattle.foe_codec.specs.Message.{is_name, Says, IsFoe, named, message_in, foe_read, opcode_of, field_of, octets_of, foe_text, IsSpellable, IsRanged, IsShort}
+use Rattle.foe_codec.specs.Message.{is_name, Says, IsFoe, message_in, foe_read, opcode_of, field_of, octets_of, foe_text, IsSpellable, IsRanged, IsShort}
 
 -- each is below 256
 abbrev AreOctets : List ℕ → Type 0

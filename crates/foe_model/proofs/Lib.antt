@@ -1,8 +1,9 @@
+pub mod Counts
 mod Carries
 mod WriteLaw
 mod ReadLaw
 mod Speaks
 mod Closing
-mod FoeLaw
-mod Spelled
+pub mod FoeLaw
+pub mod Spelled
 mod WorkedRows
