@@ -209,14 +209,7 @@ fn a_full_disk_leaves_the_old_file(rt: HostRuntime) -> Result<(), Fail> {
     );
     let long: [u8; 31] = packet(3, 3);
     assert_eq!(rt; store.free(), 0);
-    answers(
-        &rt,
-        &mut server,
-        &mut store,
-        &long,
-        true,
-        &FULL,
-    );
+    answers(&rt, &mut server, &mut store, &long, true, &FULL);
     assert_eq!(rt; (store.free(), store.len(b"a")), (1, 128));
     answers(
         &rt,
@@ -238,7 +231,14 @@ fn a_busy_file_asks_for_its_last_packet_again(rt: HostRuntime) -> Result<(), Fai
     answers(&rt, &mut server, &mut store, &WRITE, false, &BEGUN);
     repeats(&rt, &mut server, &mut store, &last);
     assert_eq!(rt; store.len(b"a"), 0);
-    answers(&rt, &mut server, &mut store, &last, true, &[4, 0, 1, 0, 0, 0]);
+    answers(
+        &rt,
+        &mut server,
+        &mut store,
+        &last,
+        true,
+        &[4, 0, 1, 0, 0, 0],
+    );
     assert_eq!(rt; store.len(b"a"), 10);
     Ok(())
 }

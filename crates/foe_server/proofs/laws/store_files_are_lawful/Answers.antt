@@ -16,4 +16,4 @@ returns-clause-spelled c = files_are_spelled
 pub returns-clause-exchange : goal.returns-clause-exchange
 returns-clause-exchange c = λ al areas sized.
     lifted_law (foe_exchange (store_files al) areas) mail_heard mail_written (foe_law (store_files al) (files_are_lawful al) areas sized)
-    (foe_spells (store_files al) (files_are_spelled al) areas sized)
+    (foe_spells (store_files al) (files_are_lawful al) (files_are_spelled al) areas sized)

@@ -2,4 +2,4 @@ use Rattle.foe_server.specs.Serving.{Serves}
 use Rattle.foe_server.proofs.tests.refusals.Given as goal
 
 abbrev pub invariant-loop-body : goal.invariant-loop-body
-invariant-loop-body l = Serves l.server l.store
+invariant-loop-body g l = Serves l.server l.store
