@@ -1,4 +1,4 @@
-ghost use Rattle.std.specs.Prelude.{◌≡◌, ◌≤◌, length, true};
+ghost use Rattle.std.specs.Prelude.{◌≡◌, true, IfOk};
 ghost use Rattle.foe_codec.specs.Message.{is_name};
 ghost use Rattle.foe_server.specs.Serving.{Serves};
 
@@ -27,7 +27,6 @@ pub struct Bench {
     server: FoeServer,
     pub store: Store,
     pub value: Octets,
-    ghost paired: { Serves server store },
 }
 
 impl Bench {
@@ -39,7 +38,9 @@ impl Bench {
         back: u16,
         blocks: u32,
         busy: u8,
-    ) -> Result<Bench, NoMemory> {
+    ) -> Result<Bench, NoMemory>
+        ensures { IfOk result (λ bench. Serves bench.server bench.store) }
+    {
         assert!(rt; blocks <= 1024);
         assert!(rt; busy <= 15);
         assert!(rt; 64 <= out);
@@ -65,7 +66,10 @@ impl Bench {
     }
 
     // One mail of the client, and what comes back. `false` where the client has none.
-    fn turn(&mut self, course: &mut Course) -> Result<bool, NoMemory> {
+    fn turn(&mut self, course: &mut Course) -> Result<bool, NoMemory>
+        requires serves { Serves self.old.server self.old.store }
+        ensures serves { Serves self.new.server self.new.store }
+    {
         if !self.client.next_mail(&mut course.last) {
             return Ok(false);
         }
@@ -83,7 +87,10 @@ impl Bench {
     }
 
     // The mails of the service that was begun, until the client has no mail left.
-    fn carry(&mut self) -> Result<Course, NoMemory> {
+    fn carry(&mut self) -> Result<Course, NoMemory>
+        requires serves { Serves self.old.server self.old.store }
+        ensures serves { Serves self.new.server self.new.store }
+    {
         let mut course = Course {
             reply: None,
             sent: 0,
@@ -100,7 +107,10 @@ impl Bench {
     }
 
     /// Writes the file `a`.
-    pub fn write(&mut self, rt: &impl Abort, bytes: &[u8]) -> Result<Course, NoMemory> {
+    pub fn write(&mut self, rt: &impl Abort, bytes: &[u8]) -> Result<Course, NoMemory>
+        requires serves { Serves self.old.server self.old.store }
+        ensures serves { Serves self.new.server self.new.store }
+    {
         assert!(rt; bytes.len() <= 131_072);
         self.client.start_write(b"a", 0, bytes);
         self.carry()
@@ -108,7 +118,9 @@ impl Bench {
 
     /// Reads a file.
     pub fn read(&mut self, name: &[u8]) -> Result<Course, NoMemory>
-        requires { is_name name.now ≡ true }
+        requires named { is_name name.now ≡ true }
+        requires serves { Serves self.old.server self.old.store }
+        ensures serves { Serves self.new.server self.new.store }
     {
         self.client.start_read(name, 0);
         self.carry()
