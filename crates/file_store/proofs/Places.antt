@@ -1,13 +1,10 @@
 -- Where a file stands, among the store's files and among the whole values.
-use Rattle.std.proofs.Common.{◌≡◌, ℕ, zero, suc, ◌+◌, ◌<◌, ◌≤◌, nat_lt, Bool, true, false, List, [], ◌∷◌, length, map, get_or, set, refl, sym, ap, ◌∙◌, arith, Option, Some, None, option_map, is_some, IfSome, IfNone, not, if◌then◌else◌}
-use Rattle.std.specs.Prelude.{find, position, slice_get}
-use Rattle.std.specs.List.{position_or_len}
-use Rattle.std.proofs.lemmas.Bool.{ltb-false}
+use Rattle.std.proofs.Common.{◌≡◌, ℕ, zero, suc, ◌<◌, ◌≤◌, Bool, true, false, List, [], ◌∷◌, length, map, get_or, set, refl, sym, ap, ◌∙◌, arith, Some, None, option_map, if◌then◌else◌}
+use Rattle.std.specs.Prelude.{find}
 use Rattle.std.proofs.lemmas.List.{get_or-map}
-use Rattle.std.proofs.lemmas.List.Quantifiers.{position-Some}
 use Rattle.block_pool.specs.Region.{Region}
 use Rattle.file_store.specs.declared.file.File.{File}
-use Rattle.file_store.specs.Files.{Filed, is_named, rewritten}
+use Rattle.file_store.specs.Files.{is_named, rewritten}
 use Rattle.file_store.specs.Store.{filed, has_name, IsPlaceOf}
 
 -- what is at the first place that passes

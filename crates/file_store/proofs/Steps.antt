@@ -1,15 +1,13 @@
 -- What each call of a store leaves.
-use Rattle.std.proofs.Common.{◌≡◌, ◌≢◌, ℕ, zero, suc, ◌+◌, ◌-◌, ◌*◌, ◌/◌, ◌<◌, ◌≤◌, Bool, true, false, List, [], ◌∷◌, ◌++◌, length, map, get_or, set, refl, sym, ap, subst, ◌∙◌, arith, Option, Some, None, is_some, unwrap_or, option_map, Result, Ok, Err, OnOk, OnErr}
-use Rattle.std.specs.Prelude.{All, sum_by, find, slice_set}
-use Rattle.std.proofs.lemmas.Grind.{common_steps}
-use Rattle.std.proofs.lemmas.List.{get_or-set_same, get_or-set_other, length-set, map-set, length-append, length-map, map-append, set-set}
-use Rattle.std.proofs.lemmas.List.Elements.{All-head, All-tail, All-set, All-get_or, All-cons, All-push, All-nil}
+use Rattle.std.proofs.Common.{◌≡◌, ◌≢◌, ℕ, ◌+◌, ◌<◌, ◌≤◌, Bool, true, false, List, [], ◌∷◌, ◌++◌, length, map, get_or, set, refl, sym, ap, subst, ◌∙◌, arith, Option, Some, None, is_some, unwrap_or, option_map, Result, Ok, Err, OnOk, OnErr}
+use Rattle.std.specs.Prelude.{All, find}
+use Rattle.std.proofs.lemmas.List.{get_or-set_same, length-set, map-set, length-append, length-map, map-append, set-set}
+use Rattle.std.proofs.lemmas.List.Elements.{All-head, All-tail, All-set, All-get_or, All-push, All-nil}
 use Rattle.std.proofs.lemmas.List.Folds.{find-append}
 use Rattle.std.specs.Option.{option_or}
 use Rattle.std.proofs.lemmas.List.Sums.{sum_by-set, sum_by_push}
 use Rattle.block_pool.specs.Region.{Region, IsLive, AllLive, Begins, Appends, Closes, chain_of, blocks_for}
 use Rattle.file_store.specs.declared.file.File.{File}
-use Rattle.file_store.specs.declared.file.FileSpec.{FileSpec}
 use Rattle.file_store.specs.declared.file.Version.{Version}
 use Rattle.file_store.specs.Files.{Filed, taken, rewritten, put}
 use Rattle.file_store.specs.Stored.{Stored}

@@ -1,19 +1,17 @@
 -- The same steps on what a store shows.
-use Rattle.std.proofs.Common.{◌≡◌, ℕ, ◌+◌, ◌-◌, ◌*◌, ◌/◌, ◌<◌, ◌≤◌, ◌&&◌, nat_le, Bool, true, false, List, [], ◌∷◌, ◌++◌, length, map, get_or, refl, sym, ap, subst, ◌∙◌, arith, Option, Some, None, is_some, option_map, Result, OnOk, OnErr}
+use Rattle.std.proofs.Common.{◌≡◌, ℕ, ◌<◌, ◌≤◌, ◌&&◌, nat_le, Bool, true, List, [], ◌∷◌, ◌++◌, length, map, get_or, refl, sym, ap, subst, ◌∙◌, arith, Option, Some, None, is_some, option_map, Result, OnOk, OnErr}
 use Rattle.std.specs.Prelude.{All, find, slice_set}
 use Rattle.std.specs.List.{list_all}
-use Rattle.std.proofs.lemmas.Grind.{common_steps}
 use Rattle.std.proofs.lemmas.Bool.{le-leb}
 use Rattle.std.proofs.lemmas.List.{length-map}
 use Rattle.std.proofs.lemmas.List.Elements.{All-head, All-tail}
 use Rattle.std.proofs.lemmas.List.Sums.{get_or-le-sum_by}
-use Rattle.block_pool.specs.Region.{Region, IsLive, AllLive, Begins, Appends, Closes, chain_of, blocks_for}
+use Rattle.block_pool.specs.Region.{Region, AllLive, Begins, Appends, Closes, chain_of, blocks_for}
 use Rattle.file_store.specs.declared.file.File.{File}
-use Rattle.file_store.specs.declared.file.FileSpec.{FileSpec}
 use Rattle.file_store.specs.declared.file.Version.{Version}
-use Rattle.file_store.specs.Files.{Filed, Kept, taken, is_valid, is_named, file_of, put}
+use Rattle.file_store.specs.Files.{Filed, taken, is_valid, is_named, file_of, put}
 use Rattle.file_store.specs.Stored.{Stored, part_name, part_octets}
-use Rattle.file_store.specs.Store.{filed, stored_of, kept_of, part_blocks, has_name, IsPlaceOf, IsStore}
+use Rattle.file_store.specs.Store.{filed, stored_of, kept_of, has_name, IsPlaceOf, IsStore}
 use Rattle.file_store.proofs.Places.{filed_at, find_filed, file_at, no_file}
 use Rattle.file_store.proofs.Steps.{not_full, begun, begun_kept, dropped, dropped_kept, appended_any, kept_any, committed, committed_kept, inserted, inserted_kept, not_full_any}
 

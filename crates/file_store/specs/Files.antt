@@ -1,5 +1,5 @@
 -- The files of a slave as whole values.
-use Rattle.std.specs.Prelude.{◌≡◌, ◌==◌, ◌&&◌, ℕ, ◌+◌, ◌-◌, ◌≤◌, nat_le, nat_lt, not, Bool, List, [], ◌∷◌, length, sum_by, find, if◌then◌else◌, Option, Some, None, option_map, unwrap_or}
+use Rattle.std.specs.Prelude.{◌==◌, ◌&&◌, ℕ, ◌-◌, nat_le, not, Bool, List, [], ◌∷◌, length, sum_by, find, if◌then◌else◌, Option, Some, None, option_map, unwrap_or}
 use Rattle.std.specs.List.{list_all}
 use Rattle.std.specs.Str.{bytes_eq}
 use Rattle.block_pool.specs.Region.{blocks_for}

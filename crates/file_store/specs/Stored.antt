@@ -1,5 +1,5 @@
 -- A store: the files that all see, and a version of one file that nobody sees before it is committed.
-use Rattle.std.specs.Prelude.{◌≡◌, ℕ, ◌-◌, Bool, true, List, [], length, is_some, option_map, unwrap_or, Option, None}
+use Rattle.std.specs.Prelude.{◌≡◌, ℕ, ◌-◌, true, List, [], length, is_some, option_map, unwrap_or, Option}
 use Rattle.block_pool.specs.Region.{blocks_for}
 use Rattle.file_store.specs.Files.{Kept, free_of}
 

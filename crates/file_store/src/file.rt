@@ -1,6 +1,9 @@
 use arrayvec::ArrayVec;
 use block_pool::ChainId;
 
+/// The FoE error code of a request whose name no file has (ETG.1000.6, "FoE error codes").
+pub const NOT_FOUND: u32 = 0x8001;
+
 /// A file's name, of 1 to 32 octets.
 pub type Name = ArrayVec<u8, 32>;
 

@@ -5,7 +5,7 @@ mod file;
 mod store;
 
 pub use block_pool::PoolFull;
-pub use file::{FileSpec, Name};
+pub use file::{FileSpec, NOT_FOUND, Name};
 pub use store::Store;
 
 #[cfg(test)]

@@ -4,7 +4,7 @@ ghost use Rattle.file_store.specs.Files.{Filed, Kept, file_of, free_of, is_valid
 ghost use Rattle.file_store.specs.Store.{IsPlaceOf, has_name};
 ghost use Rattle.file_store.specs.Stored.{Stored, Part, HasPart, part_name, part_octets, free_now};
 
-use crate::file::{File, FileSpec, Name, Version};
+use crate::file::{File, FileSpec, NOT_FOUND, Name, Version};
 use block_pool::{Pool, PoolFull};
 use ec_fields::{NoMemory, buffer_of};
 use std::alloc::Global;
@@ -12,7 +12,14 @@ use std::marker::Model;
 use std::mem;
 
 /// How many files there may be.
-const FILES: usize = 32;
+const FILES: u32 = 32;
+
+/// FoE error codes (ETG.1000.6, "FoE error codes").
+const ACCESS_DENIED: u32 = 0x8002;
+
+const BOOTSTRAP_ONLY: u32 = 0x8008;
+
+const NOT_IN_BOOTSTRAP: u32 = 0x8009;
 
 /// AL state Bootstrap (ETG.1000.6, "AL status").
 const BOOTSTRAP: u8 = 3;
@@ -56,16 +63,16 @@ fn refused_by(spec: &FileSpec, pass: u32, write: bool, al: u8) -> Option<u32>
     ensures { result ≡ refused_by spec.now pass write al }
 {
     if spec.boot && al != BOOTSTRAP {
-        return Some(0x8008);
+        return Some(BOOTSTRAP_ONLY);
     }
     if !spec.boot && al == BOOTSTRAP {
-        return Some(0x8009);
+        return Some(NOT_IN_BOOTSTRAP);
     }
     if pass != spec.pass {
-        return Some(0x8002);
+        return Some(ACCESS_DENIED);
     }
     let right = if write { spec.write } else { spec.read };
-    if right { None } else { Some(0x8002) }
+    if right { None } else { Some(ACCESS_DENIED) }
 }
 
 impl Store {
@@ -74,7 +81,7 @@ impl Store {
         requires { blocks ≤ 1024 }
         ensures { IfOk result (λ store. store ≡ record { kept = record { files = []; blocks = blocks }; part = None }) }
     {
-        let pool = Pool::new(alloc, blocks, 33)?;
+        let pool = Pool::new(alloc, blocks, FILES + 1)?;
         Ok(Store {
             pool,
             files: Vec::new(alloc),
@@ -112,7 +119,7 @@ impl Store {
         ensures valid { is_valid self.now.kept ≡ true }
     {
         match place_of(self.files.as_slice(), name) {
-            None => Some(0x8001),
+            None => Some(NOT_FOUND),
             Some(place) => {
                 let file = &self.files[place];
                 refused_by(&file.spec, pass, write, al)

@@ -1,13 +1,12 @@
 -- The files of a store owe what the exchange between FoE client and server asks of files.
-use Rattle.std.proofs.Common.{◌≡◌, ℕ, ◌+◌, ◌-◌, ◌*◌, ◌/◌, ◌<◌, ◌≤◌, ◌==◌, ◌&&◌, nat_le, not, Bool, true, false, List, [], ◌∷◌, length, refl, sym, ap, subst, ◌∙◌, arith, Option, Some, None, option_map, unwrap_or, if◌then◌else◌}
+use Rattle.std.proofs.Common.{◌≡◌, ℕ, ◌+◌, ◌<◌, ◌≤◌, ◌==◌, ◌&&◌, nat_le, not, Bool, true, false, List, [], ◌∷◌, length, refl, ap, subst, ◌∙◌, arith, Option, Some, None, option_map, unwrap_or, if◌then◌else◌}
 use Rattle.std.specs.Prelude.{find}
 use Rattle.std.specs.List.{list_all}
 use Rattle.std.proofs.lemmas.Bool.{le-leb, leb-true, and_parts, and_from}
 use Rattle.std.proofs.lemmas.List.Sums.{sum_by-cons}
 use Rattle.block_pool.specs.Region.{blocks_for}
-use Rattle.file_store.specs.declared.file.FileSpec.{FileSpec}
-use Rattle.file_store.specs.Files.{Filed, Kept, taken, free_of, is_named, file_of, has_room, is_valid, refused_by, code_at, allowed, get, busy_of, rewritten, put}
-use Rattle.foe_model.specs.Files.{Files, AreLawful, AreSpelled}
+use Rattle.file_store.specs.Files.{Filed, Kept, taken, free_of, is_named, file_of, has_room, is_valid, code_at, rewritten, put}
+use Rattle.foe_model.specs.Files.{AreLawful, AreSpelled}
 use Rattle.foe_server.specs.Stores.{store_files}
 
 -- what holds of files within the limits

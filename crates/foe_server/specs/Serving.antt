@@ -1,5 +1,5 @@
 -- What a server's state stands for, with the store that it works on: its unfinished transfer and the mail that waits.
-use Rattle.std.specs.Prelude.{◌≡◌, ℕ, ◌+◌, ◌-◌, ◌≤◌, ◌&&◌, nat_le, Bool, true, List, [], ◌∷◌, length, take, drop, is_some, Option, Some, None, Result, Ok, Err}
+use Rattle.std.specs.Prelude.{◌≡◌, ℕ, ◌+◌, ◌-◌, ◌≤◌, ◌&&◌, nat_le, Bool, true, List, [], ◌∷◌, length, drop, is_some, Some, None, Result, Ok, Err}
 use Rattle.file_store.specs.Files.{Kept, file_of, get}
 use Rattle.file_store.specs.Stored.{Stored, part_octets}
 use Rattle.mailbox_mail.specs.declared.mail.Mail.{Mail}

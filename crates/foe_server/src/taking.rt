@@ -9,17 +9,16 @@ ghost use Rattle.foe_server.specs.Serving.{Serving, Serves, IsWriting, transfer_
 use crate::server::{FoeServer, PACKET_HEAD};
 use crate::state::{Pending, State};
 use ec_fields::buffer_of;
-use file_store::{Name, Store};
+use file_store::{NOT_FOUND, Name, Store};
 use foe_codec::{Foe, FoeFault};
 
 /// FoE error codes (ETG.1000.6, "FoE error codes").
-const ACCESS: u32 = 0x8001;
 
 const DISK_FULL: u32 = 0x8003;
 
 const ILLEGAL: u32 = 0x8004;
 
-const PACKET: u32 = 0x8005;
+const PACKET_NUMBER: u32 = 0x8005;
 
 impl FoeServer {
     fn take_read(&mut self, store: &mut Store, al: u8, name: &Name, pass: u32) -> bool
@@ -113,13 +112,13 @@ impl FoeServer {
             State::Idle | State::Reading { number: _, from: _ } => self.refuse(store, ILLEGAL),
             State::Writing { number } => {
                 if packet != number + 1 {
-                    return self.refuse(store, PACKET);
+                    return self.refuse(store, PACKET_NUMBER);
                 }
                 self.store_packet(store, packet, bytes)
             }
             State::Closing { number, told } => {
                 if packet != number {
-                    return self.refuse(store, PACKET);
+                    return self.refuse(store, PACKET_NUMBER);
                 }
                 self.close(store, packet, told)
             }
@@ -164,7 +163,12 @@ impl FoeServer {
                 self.refuse(store, ILLEGAL),
             State::Reading { number, from } => {
                 if packet != number {
-                    self.end(store, Pending::Error { code: PACKET });
+                    self.end(
+                        store,
+                        Pending::Error {
+                            code: PACKET_NUMBER,
+                        },
+                    );
                     return false;
                 }
                 self.go_on(store, number, from)
@@ -200,7 +204,7 @@ impl FoeServer {
         let pending = match fault {
             FoeFault::Short => Pending::Failed { detail: 6 },
             FoeFault::Opcode => Pending::Error { code: ILLEGAL },
-            FoeFault::Name => Pending::Error { code: ACCESS },
+            FoeFault::Name => Pending::Error { code: NOT_FOUND },
         };
         self.pending = pending;
         true

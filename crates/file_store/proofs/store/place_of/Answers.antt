@@ -1,6 +1,5 @@
-use Rattle.std.proofs.Common.{◌≡◌, List, ℕ, get_or, true, sym, ap, ◌∙◌}
+use Rattle.std.proofs.Common.{◌≡◌, true, sym, ap, ◌∙◌}
 use Rattle.std.specs.Str.{bytes_eq}
-use Rattle.file_store.specs.declared.file.File.{File}
 use Rattle.file_store.specs.Store.{has_name}
 use Rattle.file_store.proofs.Places.{place_is, none_is, named_at}
 use Rattle.file_store.proofs.store.place_of.Goals as goal

@@ -1,4 +1,4 @@
-use Rattle.std.proofs.Common.{◌≡◌, sym, ap, subst, ◌∙◌}
+use Rattle.std.proofs.Common.{◌≡◌, sym, ap, subst}
 use Rattle.std.specs.Prelude.{find, is_some, option_map, unwrap_or, Option, None}
 use Rattle.file_store.specs.Files.{Filed}
 use Rattle.file_store.specs.Store.{IsPlaceOf, has_name}

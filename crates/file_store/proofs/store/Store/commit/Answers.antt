@@ -1,9 +1,8 @@
-use Rattle.std.proofs.Common.{◌≡◌, sym, subst, ◌∙◌, List, get_or, ℕ}
+use Rattle.std.proofs.Common.{◌≡◌, sym, subst, ◌∙◌}
 use Rattle.std.specs.Prelude.{slice_set, None}
 use Rattle.block_pool.specs.Region.{Closes}
-use Rattle.file_store.specs.declared.file.File.{File}
 use Rattle.file_store.specs.Store.{IsPlaceOf, IsStore, stored_of}
-use Rattle.file_store.specs.Stored.{Stored, part_name, part_octets}
+use Rattle.file_store.specs.Stored.{part_name, part_octets}
 use Rattle.file_store.specs.Files.{put}
 use Rattle.file_store.proofs.Views.{commit_shown, commit_kept}
 use Rattle.file_store.proofs.store.Store.commit.Goals as goal

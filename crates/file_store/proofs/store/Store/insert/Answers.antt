@@ -1,7 +1,6 @@
-use Rattle.std.proofs.Common.{rules, ◌≡◌, ◌++◌, ◌∷◌, [], subst, sym, ◌∙◌}
+use Rattle.std.proofs.Common.{rules, ◌≡◌, ◌++◌, ◌∷◌, [], subst}
 use Rattle.std.specs.Prelude.{OnOk}
 use Rattle.block_pool.specs.Region.{Appends}
-use Rattle.file_store.specs.declared.file.File.{File}
 use Rattle.file_store.proofs.Views.{insert_shown, insert_kept, insert_full}
 use Rattle.file_store.proofs.store.Store.insert.Goals as goal
 
