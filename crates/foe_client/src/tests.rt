@@ -119,3 +119,18 @@ fn an_error_and_a_mailbox_error_end_a_service(rt: HostRuntime) -> Result<(), Fai
     }
     Err("the read is refused")?
 }
+
+#[test]
+fn a_busy_file_gets_its_last_packet_sixteen_times(rt: HostRuntime) -> Result<(), Fail> {
+    let mut client = FoeClient::new(rt.alloc(), 64, 64)?;
+    client.start_write(b"a", 0, &[7; 10]);
+    sends(&rt, &mut client, &[2, 0, 0, 0, 0, 0, 0x61], 7);
+    takes(&rt, &mut client, &[4, 0, 0, 0, 0, 0], Took::More);
+    for done in 0..15u8 {
+        sends(&rt, &mut client, &[3, 0, 1, 0, 0, 0, 7], 16);
+        takes(&rt, &mut client, &[6, 0, done, 0, 15, 0], Took::More);
+    }
+    sends(&rt, &mut client, &[3, 0, 1, 0, 0, 0, 7], 16);
+    takes(&rt, &mut client, &[4, 0, 1, 0, 0, 0], Took::Done);
+    Ok(())
+}

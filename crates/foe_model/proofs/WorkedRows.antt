@@ -1,10 +1,10 @@
 -- Worked rows, computed: mails, answers and replies through mailboxes of 64 octets, at a slave with one file `a`.
-use Rattle.std.proofs.Common.{◌≡◌, ℕ, ◌+◌, ◌-◌, ◌/◌, ◌≤◌, nat_le, ◌&&◌, ◌==◌, Bool, true, false, not, List, [], ◌∷◌, length, replicate, if◌then◌else◌, None, Some, refl, arith, leb-true, le-leb}
+use Rattle.std.proofs.Common.{◌≡◌, ℕ, ◌+◌, ◌-◌, ◌/◌, ◌<◌, ◌≤◌, nat_le, ◌&&◌, ◌==◌, Bool, true, false, not, List, [], ◌∷◌, length, replicate, if◌then◌else◌, Option, None, Some, refl, arith, leb-true, le-leb}
 use Rattle.mailbox_mail.specs.declared.outcome.ReplyKind.{ReplyKind}
 use Rattle.mailbox_mail.specs.declared.mail.Kind.TheVariants.{FoE}
 use Rattle.exchange_model.specs.Exchange.{after, given}
 use Rattle.foe_model.specs.Mails.{FoeMail, mail, unread, failed, Read, Write, Data, Ack, Error, Busy, Short, Opcode, Name}
-use Rattle.foe_model.specs.Files.{Files, AreLawful}
+use Rattle.foe_model.specs.Files.{Files, AreLawful, AreSpelled}
 use Rattle.foe_model.specs.Server.{Server, idle, reading, serve}
 use Rattle.foe_model.specs.Meaning.{read, write, meaning_of}
 use Rattle.foe_model.specs.Client.{Areas, ends}
@@ -75,6 +75,24 @@ files_lawful = record {
       let blocks = (two (nat_le s.blocks 1024) (nat_le (length s.octets) 131072) fine).0 in
       let small = (two (nat_le (blocks_of (length bytes)) (s.blocks - blocks_of (length s.octets))) (nat_le (length bytes) 131072) fits).1 in
       rw (blocks, small) refl;
+}
+
+abbrev by_name : Bool → Bool → Option ℕ
+by_name mine right = if not mine then Some 0x8001 else if not right then Some 0x8002 else None
+
+few_code : (mine right : Bool) (code : ℕ) → by_name mine right ≡ Some code → code < 4294967296
+few_code false right code e = let same : 0x8001 ≡ code = cc in omega (arith, same)
+few_code true false code e = let same : 0x8002 ≡ code = cc in omega (arith, same)
+few_code true true code e = absurd (cc)
+
+few_busy : (b : Bool) (busy : ℕ) → nat_le busy 15 ≡ b → (if b then busy else 15) < 65536
+few_busy true busy e = omega (arith, leb-true busy 15 e)
+few_busy false busy e = omega arith
+
+pub files_spelled : AreSpelled files
+files_spelled = record {
+  code = λ s name pass write code fine e. few_code (is_a name) (pass == 0) code e;
+  busy = λ s name fine. few_busy (nat_le s.busy 15) s.busy refl;
 }
 
 -- an empty file is a request and an empty packet, and both are acknowledged
@@ -170,3 +188,7 @@ unread_leaves = refl
 
 no_opcode : body_heard (7 ∷ 0 ∷ 0 ∷ 0 ∷ 0 ∷ 0 ∷ []) ≡ unread Opcode
 no_opcode = refl
+
+-- a slave that doesn't serve FoE
+not_served : ends areas (read name 0) (failed 2 ∷ []) ≡ Some (ReplyKind.MailboxError 2, [])
+not_served = refl
