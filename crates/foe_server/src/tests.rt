@@ -69,6 +69,18 @@ fn full_packet(number: u8, fill: u8) -> [u8; 58] {
     packet(number, fill)
 }
 
+// A mail's body, whether it counts, and the body of its answer.
+type Row<'a> = (&'a [u8], bool, &'a [u8]);
+
+fn follow(rt: &impl Abort, server: &mut FoeServer, store: &mut Store, rows: &[Row<'_>])
+    requires { Serves server.old store.old }
+    ensures { Serves server.new store.new }
+{
+    for (body, counts, answer) in rows {
+        answers(rt, server, store, body, *counts, answer);
+    }
+}
+
 // A last packet that comes fifteen times, each time answered by busy.
 fn repeats(rt: &impl Abort, server: &mut FoeServer, store: &mut Store, last: &[u8])
     requires { Serves server.old store.old }
@@ -79,14 +91,8 @@ fn repeats(rt: &impl Abort, server: &mut FoeServer, store: &mut Store, last: &[u
     }
 }
 
-// Requests that each count, with their answers.
-fn refusals(rt: &impl Abort, server: &mut FoeServer, store: &mut Store, cases: &[(&[u8], &[u8])])
-    requires { Serves server.old store.old }
-    ensures { Serves server.new store.new }
-{
-    for (body, answer) in cases {
-        answers(rt, server, store, body, true, answer);
-    }
+fn ack(number: u8) -> [u8; 6] {
+    [4, 0, number, 0, 0, 0]
 }
 
 const WRITE: [u8; 7] = [2, 0, 0, 0, 0, 0, 0x61];
@@ -101,59 +107,23 @@ const FULL: [u8; 6] = [5, 0, 3, 0x80, 0, 0];
 fn a_file_that_fills_its_last_packet_ends_with_an_empty_one(rt: HostRuntime) -> Result<(), Fail> {
     let mut store = store_with(&rt, rt.alloc(), 8, 0, &[1])?;
     let mut server = FoeServer::new(rt.alloc(), 64, 64)?;
-    answers(&rt, &mut server, &mut store, &WRITE, false, &BEGUN);
-    let ack = [4, 0, 1, 0, 0, 0];
-    answers(
-        &rt,
-        &mut server,
-        &mut store,
-        &full_packet(1, 9),
-        false,
-        &ack,
-    );
-    answers(
-        &rt,
-        &mut server,
-        &mut store,
-        &full_packet(2, 8),
-        false,
-        &[4, 0, 2, 0, 0, 0],
-    );
+    let (first, second, last) = (full_packet(1, 9), full_packet(2, 8), [3, 0, 3, 0, 0, 0]);
+    let begins: [Row<'_>; 3] = [
+        (&WRITE, false, &BEGUN),
+        (&first, false, &ack(1)),
+        (&second, false, &ack(2)),
+    ];
+    follow(&rt, &mut server, &mut store, &begins);
     assert_eq!(rt; store.len(b"a"), 1);
-    answers(
-        &rt,
-        &mut server,
-        &mut store,
-        &[3, 0, 3, 0, 0, 0],
-        true,
-        &[4, 0, 3, 0, 0, 0],
-    );
+    answers(&rt, &mut server, &mut store, &last, true, &ack(3));
     assert_eq!(rt; store.len(b"a"), 104);
-    answers(
-        &rt,
-        &mut server,
-        &mut store,
-        &READ,
-        true,
-        &full_packet(1, 9),
-    );
-    answers(
-        &rt,
-        &mut server,
-        &mut store,
-        &ack,
-        false,
-        &full_packet(2, 8),
-    );
-    answers(
-        &rt,
-        &mut server,
-        &mut store,
-        &[4, 0, 2, 0, 0, 0],
-        false,
-        &[3, 0, 3, 0, 0, 0],
-    );
-    assert!(rt; !server.take(&mut store, 2, &[4, 0, 3, 0, 0, 0]));
+    let reads: [Row<'_>; 3] = [
+        (&READ, true, &first),
+        (&ack(1), false, &second),
+        (&ack(2), false, &last),
+    ];
+    follow(&rt, &mut server, &mut store, &reads);
+    assert!(rt; !server.take(&mut store, 2, &ack(3)));
     assert!(rt; !server.waiting());
     Ok(())
 }
@@ -163,52 +133,17 @@ fn a_file_that_fills_its_last_packet_ends_with_an_empty_one(rt: HostRuntime) -> 
 fn a_full_disk_leaves_the_old_file(rt: HostRuntime) -> Result<(), Fail> {
     let mut store = store_with(&rt, rt.alloc(), 2, 0, &[1; 128])?;
     let mut server = FoeServer::new(rt.alloc(), 64, 64)?;
-    answers(&rt, &mut server, &mut store, &WRITE, false, &BEGUN);
-    answers(
-        &rt,
-        &mut server,
-        &mut store,
-        &full_packet(1, 2),
-        false,
-        &[4, 0, 1, 0, 0, 0],
-    );
-    answers(
-        &rt,
-        &mut server,
-        &mut store,
-        &full_packet(2, 2),
-        false,
-        &[4, 0, 2, 0, 0, 0],
-    );
-    let last: [u8; 30] = packet(3, 2);
-    answers(
-        &rt,
-        &mut server,
-        &mut store,
-        &last,
-        true,
-        &[4, 0, 3, 0, 0, 0],
-    );
-    assert_eq!(rt; (store.free(), store.len(b"a")), (1, 128));
-    answers(&rt, &mut server, &mut store, &WRITE, false, &BEGUN);
-    answers(
-        &rt,
-        &mut server,
-        &mut store,
-        &full_packet(1, 3),
-        false,
-        &[4, 0, 1, 0, 0, 0],
-    );
-    answers(
-        &rt,
-        &mut server,
-        &mut store,
-        &full_packet(2, 3),
-        false,
-        &[4, 0, 2, 0, 0, 0],
-    );
-    let long: [u8; 31] = packet(3, 3);
+    let (fits, long): ([u8; 30], [u8; 31]) = (packet(3, 2), packet(3, 3));
+    let begins: [Row<'_>; 3] = [
+        (&WRITE, false, &BEGUN),
+        (&full_packet(1, 2), false, &ack(1)),
+        (&full_packet(2, 2), false, &ack(2)),
+    ];
+    follow(&rt, &mut server, &mut store, &begins);
     assert_eq!(rt; store.free(), 0);
+    answers(&rt, &mut server, &mut store, &fits, true, &ack(3));
+    assert_eq!(rt; (store.free(), store.len(b"a")), (1, 128));
+    follow(&rt, &mut server, &mut store, &begins);
     answers(&rt, &mut server, &mut store, &long, true, &FULL);
     assert_eq!(rt; (store.free(), store.len(b"a")), (1, 128));
     answers(
@@ -231,14 +166,7 @@ fn a_busy_file_asks_for_its_last_packet_again(rt: HostRuntime) -> Result<(), Fai
     answers(&rt, &mut server, &mut store, &WRITE, false, &BEGUN);
     repeats(&rt, &mut server, &mut store, &last);
     assert_eq!(rt; store.len(b"a"), 0);
-    answers(
-        &rt,
-        &mut server,
-        &mut store,
-        &last,
-        true,
-        &[4, 0, 1, 0, 0, 0],
-    );
+    answers(&rt, &mut server, &mut store, &last, true, &ack(1));
     assert_eq!(rt; store.len(b"a"), 10);
     Ok(())
 }
@@ -247,14 +175,14 @@ fn a_busy_file_asks_for_its_last_packet_again(rt: HostRuntime) -> Result<(), Fai
 fn a_request_is_refused_by_its_first_cause(rt: HostRuntime) -> Result<(), Fail> {
     let mut store = store_with(&rt, rt.alloc(), 8, 0, &[1])?;
     let mut server = FoeServer::new(rt.alloc(), 64, 64)?;
-    let cases: [(&[u8], &[u8]); 6] = [
-        (&[1, 0, 0, 0, 0, 0, 0x62], &[5, 0, 1, 0x80, 0, 0]),
-        (&[2, 0, 1, 0, 0, 0, 0x61], &[5, 0, 2, 0x80, 0, 0]),
-        (&[3, 0, 1, 0, 0, 0, 0x61], &[5, 0, 4, 0x80, 0, 0]),
-        (&[4, 0, 1, 0, 0, 0], &[5, 0, 4, 0x80, 0, 0]),
-        (&[7, 0, 1, 0, 0, 0], &[5, 0, 4, 0x80, 0, 0]),
-        (&[1, 0, 0, 0, 0, 0], &[5, 0, 1, 0x80, 0, 0]),
+    let rows: [Row<'_>; 6] = [
+        (&[1, 0, 0, 0, 0, 0, 0x62], true, &[5, 0, 1, 0x80, 0, 0]),
+        (&[2, 0, 1, 0, 0, 0, 0x61], true, &[5, 0, 2, 0x80, 0, 0]),
+        (&[3, 0, 1, 0, 0, 0, 0x61], true, &[5, 0, 4, 0x80, 0, 0]),
+        (&ack(1), true, &[5, 0, 4, 0x80, 0, 0]),
+        (&[7, 0, 1, 0, 0, 0], true, &[5, 0, 4, 0x80, 0, 0]),
+        (&[1, 0, 0, 0, 0, 0], true, &[5, 0, 1, 0x80, 0, 0]),
     ];
-    refusals(&rt, &mut server, &mut store, &cases);
+    follow(&rt, &mut server, &mut store, &rows);
     Ok(())
 }
