@@ -12,12 +12,13 @@ use ec_fields::buffer_of;
 use file_store::{NOT_FOUND, Name, Store};
 use foe_codec::{Foe, FoeFault};
 
-/// FoE error codes (ETG.1000.6, "FoE error codes").
-
+/// No block is free for a packet's octets (ETG.1000.6, "FoE error codes").
 const DISK_FULL: u32 = 0x8003;
 
+/// A mail that the transfer doesn't await.
 const ILLEGAL: u32 = 0x8004;
 
+/// A packet of another number than the awaited one.
 const PACKET_NUMBER: u32 = 0x8005;
 
 impl FoeServer {
