@@ -1,0 +1,111 @@
+ghost use Rattle.std.specs.Prelude.{◌≡◌, ◌≤◌, ◌<◌, ◌+◌, List, [], true, length, take, drop};
+ghost use Rattle.foe_model.specs.Server.{packet_room};
+ghost use Rattle.std.specs.Bool.{OnTrue, OnFalse};
+ghost use Rattle.foe_model.specs.Mails.{FoeMail};
+ghost use Rattle.foe_client.specs.Talk.{following, later, awaited};
+ghost use Rattle.foe_client.specs.Send.{message_of, send_next, NextIs, SendsNext};
+
+use crate::client::{FoeClient, HEADER};
+use crate::state::Unsent;
+use arrayvec::ArrayVec;
+use ec_fields::buffer_of;
+use foe_codec::Foe;
+
+impl FoeClient {
+    // A packet's octets: as many as the mailbox takes, or all that are left.
+    fn part(&self, from: u32) -> &[u8]
+        requires { from ≤ length self.now.bytes }
+        ensures value { result.now ≡ take (packet_room self.now.out) (drop from self.now.bytes) }
+        ensures fits { length result.now ≤ 1474 }
+    {
+        let rest = &self.bytes.bytes()[from as usize..];
+        let room = self.out as usize - HEADER;
+        if rest.len() < room {
+            rest
+        } else {
+            &rest[..room]
+        }
+    }
+
+    // The message of the first mail that isn't sent.
+    fn message(&self) -> Foe
+        ensures { result ≡ message_of self.now self.now.unsent }
+    {
+        match self.unsent {
+            Unsent::ReadRequest => Foe::Read {
+                pass: self.pass,
+                name: buffer_of(self.name.as_slice()),
+            },
+            Unsent::WriteRequest => Foe::Write {
+                pass: self.pass,
+                name: buffer_of(self.name.as_slice()),
+            },
+            Unsent::Packet { number, from } => Foe::Data {
+                packet: number,
+                bytes: buffer_of(self.part(from)),
+            },
+            Unsent::Ack { number } => Foe::Ack { packet: number },
+        }
+    }
+
+    // The mail that follows the first one.
+    fn following(&self) -> Unsent
+        requires { 0 < self.now.quota }
+        ensures { result ≡ following self.now.out self.now.bytes self.now.unsent }
+    {
+        match self.unsent {
+            Unsent::ReadRequest => Unsent::Ack { number: 1 },
+            Unsent::WriteRequest => Unsent::Packet { number: 1, from: 0 },
+            Unsent::Packet { number, from } => {
+                let room = self.out as usize - HEADER;
+                if self.bytes.bytes().len() - (from as usize) < room {
+                    return Unsent::Packet { number, from };
+                }
+                Unsent::Packet {
+                    number: number + 1,
+                    from: from + room as u32,
+                }
+            }
+            Unsent::Ack { number } => Unsent::Ack { number: number + 1 },
+        }
+    }
+
+    fn send_next(&mut self) -> Option<Foe>
+        ensures { (result, self.new) ≡ send_next self.old }
+    {
+        if self.quota == 0 {
+            return None;
+        }
+        let message = self.message();
+        self.unsent = self.following();
+        self.quota -= 1;
+        Some(message)
+    }
+
+    // The next message, if one may go.
+    fn next_message(&mut self) -> Option<Foe>
+        ensures { NextIs result self.old self.new }
+    {
+        let _ = &self.unsent;
+        self.send_next()
+    }
+
+    /// Puts the body of the next mail in place of what `body` has. `false` where the client awaits an answer, or has no mail left; then
+    /// nothing changed. The body fits the mailbox that requests go through. Behind a file that was read, the acknowledgement of its last packet
+    /// comes once.
+    pub fn next_mail(&mut self, body: &mut ArrayVec<u8, 1480>) -> bool
+        ensures sends { OnTrue result (SendsNext self.old body.new.items self.new) }
+        ensures fits { OnTrue result (length body.new.items + 6 ≤ self.old.out) }
+        ensures waits { OnFalse result (later self.old [] ≡ []) }
+        ensures same { OnFalse result ((self.new ≡ self.old) × (body.new ≡ body.old)) }
+        ensures replies { (ms : List FoeMail) → awaited self.new ms ≡ awaited self.old ms }
+    {
+        match self.next_message() {
+            Some(message) => {
+                foe_codec::write(&message, body);
+                true
+            }
+            None => false,
+        }
+    }
+}

@@ -1,0 +1,12 @@
+//! File access over EtherCAT (ETG.1000.6, "FoE"): the messages of the protocol and their octets. No call takes memory.
+#![tactic(auto)]
+
+mod message;
+mod reading;
+#[cfg(test)]
+mod tests;
+mod writing;
+
+pub use message::{Foe, FoeFault, Name};
+pub use reading::read;
+pub use writing::write;

@@ -1,0 +1,57 @@
+-- FoE as an exchange: the server against the services of its client.
+use Rattle.std.specs.Prelude.{ℕ, suc, ◌+◌, ◌≤◌, ◌&&◌, nat_le, nat_lt, Bool, false, List, [], length, Option, None, Some}
+use Rattle.exchange_model.specs.Exchange.{Exchange}
+use Rattle.exchange_model.specs.Dialogue.{said, sent}
+use Rattle.foe_codec.specs.Message.{is_name}
+use Rattle.foe_model.specs.Mails.{FoeMail, is_emission}
+use Rattle.foe_model.specs.Files.{Files}
+use Rattle.foe_model.specs.Server.{Server, serve}
+use Rattle.foe_model.specs.Meaning.{Service, read, write, Reply, meaning_of}
+use Rattle.foe_model.specs.Client.{Areas, mails_of, decide, ends}
+
+-- lengths that a slave's mailboxes may have
+pub record AreMailboxes (areas : Areas) : Type 0 where
+  pub out_least : 64 ≤ areas.out
+  pub out_most : areas.out ≤ 1486
+  pub back_least : 64 ≤ areas.back
+  pub back_most : areas.back ≤ 1486
+
+-- a service whose name and password fit their fields, and whose file is no longer than a transfer
+abbrev pub is_service : Service → Bool
+is_service (read name pass) = is_name name && nat_lt pass 4294967296
+is_service (write name pass bytes) = is_name name && nat_lt pass 4294967296 && nat_le (length bytes) 131072
+
+-- how many octets a read brings
+abbrev pub read_length : Option ℕ → List ℕ → ℕ
+read_length None bytes = length bytes
+read_length (Some code) bytes = 0
+
+-- more turns than a client takes for a service at these files
+abbrev pub turns : {S : Type 0} → Files S → S → Service → ℕ
+turns o app (read name pass) = suc (suc (suc (read_length (o.allowed app name pass false) (o.get app name))))
+turns o app (write name pass bytes) = suc (suc (suc (length bytes + o.busy app name)))
+
+-- the mails that a client has sent in all that has heard these replies: it never sends more mails than it has heard, but one
+abbrev pub planned : ℕ → Service → List FoeMail → List FoeMail
+planned out q hs = said (decide out) (suc (length hs)) (mails_of out q (length hs)) hs
+
+-- and those that it sends to this server
+abbrev pub full : {S : Type 0} → Files S → Areas → Server S → Service → List FoeMail
+full o areas v q = sent (serve o areas.out areas.back) is_emission (decide areas.out) (turns o v.app q) v (mails_of areas.out q (turns o v.app q))
+
+abbrev pub foe_exchange : {S : Type 0} → Files S → Areas → Exchange (Server S) S FoeMail Service Reply
+foe_exchange o areas = record {
+  serve = serve o areas.out areas.back;
+  app = λ v. v.app;
+  handled = λ v. v.handled;
+  emission = is_emission;
+  ready = λ v. o.valid v.app;
+  valid = is_service;
+  planned = planned areas.out;
+  ends = ends areas;
+  handed = λ q. false;
+  full = full o areas;
+  exec = λ a q. (meaning_of o a q).app;
+  reply = λ a q. (meaning_of o a q).reply;
+  emits = λ a q. [];
+}

@@ -1,0 +1,51 @@
+-- The mails of FoE as octets: what a mailbox mail reads as, and what a mail is written as.
+use Rattle.std.specs.Prelude.{ℕ, ◌==◌, ◌&&◌, nat_le, if◌then◌else◌, Bool, List, [], length, Result, Ok, Err}
+use Rattle.ec_fields.specs.Fields.{number_at}
+use Rattle.mailbox_mail.specs.Mail.{error_of}
+use Rattle.mailbox_mail.specs.declared.mail.Mail.{Mail}
+use Rattle.mailbox_mail.specs.declared.mail.Kind.{Kind}
+use Rattle.mailbox_mail.specs.declared.mail.Kind.TheVariants.{Error, FoE, VoE}
+use Rattle.foe_codec.specs.Message.{foe_read, foe_text}
+use Rattle.exchange_model.specs.Exchange.{Exchange}
+use Rattle.exchange_model.specs.Lifted.{lifted}
+use Rattle.foe_model.specs.Mails.{Foe, FoeFault, FoeMail, mail, unread, failed, other}
+use Rattle.foe_model.specs.Files.{Files}
+use Rattle.foe_model.specs.Server.{Server}
+use Rattle.foe_model.specs.Meaning.{Service, Reply}
+use Rattle.foe_model.specs.Client.{Areas}
+use Rattle.foe_model.specs.Model.{foe_exchange}
+
+-- an FoE body: the message in it, or its fault
+abbrev pub heard : Result Foe FoeFault → FoeMail
+heard (Ok f) = mail f
+heard (Err fault) = unread fault
+
+abbrev pub body_heard : List ℕ → FoeMail
+body_heard body = heard (foe_read body)
+
+-- a mailbox error: its type and a detail
+abbrev pub is_error : List ℕ → Bool
+is_error body = nat_le 4 (length body) && number_at 2 body 0 == 1
+
+-- a body under the type in the mail's header
+abbrev pub by_kind : Kind → List ℕ → FoeMail
+by_kind FoE body = body_heard body
+by_kind Error body = if is_error body then failed (number_at 2 body 2) else other body
+by_kind _ body = other body
+
+abbrev pub mail_heard : Mail → FoeMail
+mail_heard m = by_kind m.kind m.body.items
+
+-- a mail with this body, to nobody and not yet counted
+abbrev pub mail_with : Kind → List ℕ → Mail
+mail_with kind body = record { address = 0; kind = kind; counter = 0; body = record { items = body } }
+
+abbrev pub mail_written : FoeMail → Mail
+mail_written (mail f) = mail_with FoE (foe_text f)
+mail_written (unread fault) = mail_with FoE []
+mail_written (failed detail) = error_of detail
+mail_written (other body) = mail_with VoE body
+
+-- FoE as an exchange of mailbox mails
+abbrev pub foe_mail_exchange : {S : Type 0} → Files S → Areas → Exchange (Server S) S Mail Service Reply
+foe_mail_exchange o areas = lifted (foe_exchange o areas) mail_heard mail_written

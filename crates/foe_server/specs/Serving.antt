@@ -1,0 +1,99 @@
+-- What a server's state stands for, with the store that it works on: its unfinished transfer and the mail that waits.
+use Rattle.std.specs.Prelude.{◌≡◌, ℕ, ◌+◌, ◌-◌, ◌≤◌, ◌&&◌, nat_le, Bool, true, List, [], ◌∷◌, length, drop, is_some, Some, None, Result, Ok, Err}
+use Rattle.file_store.specs.Files.{Kept, file_of, get}
+use Rattle.file_store.specs.Stored.{Stored, part_octets}
+use Rattle.mailbox_mail.specs.declared.mail.Mail.{Mail}
+use Rattle.foe_model.specs.Mails.{Foe, Data, Ack, Error, Busy, FoeMail, mail, failed}
+use Rattle.foe_model.specs.Server.{Transfer, idle, reading, writing, closing, Outcome, packet_of}
+use Rattle.foe_model.specs.Octets.{mail_written}
+use Rattle.foe_server.specs.declared.state.State.{State}
+use Rattle.foe_server.specs.declared.state.Pending.{Pending}
+
+-- a server: the lengths of the mailboxes for requests and for answers, the name of the transfer's file, the transfer, and what is still to be told
+pub record Serving : Type 0 where
+  pub out : ℕ
+  pub back : ℕ
+  pub name : List ℕ
+  pub state : State
+  pub pending : Pending
+
+-- a server without a transfer and without a mail
+abbrev pub fresh : ℕ → ℕ → List ℕ → Serving
+fresh out back name = record { out = out; back = back; name = name; state = State.Idle; pending = Pending.Nothing }
+
+-- the transfer that is not finished: what is left of the file, or what came of the new version
+abbrev pub transfer_view : State → List ℕ → Stored → Transfer
+transfer_view State.Idle name store = idle
+transfer_view (State.Reading number from) name store = reading number (drop from (get store.kept name))
+transfer_view (State.Writing number) name store = writing name number (part_octets store)
+transfer_view (State.Closing number told) name store = closing name number (part_octets store) told
+
+abbrev pub transfer_of : Serving → Stored → Transfer
+transfer_of c store = transfer_view c.state c.name store
+
+-- the mail that waits to be told
+abbrev pub pending_mails : ℕ → List ℕ → Kept → Pending → List FoeMail
+pending_mails back name kept Pending.Nothing = []
+pending_mails back name kept (Pending.Packet number from) = packet_of back number (drop from (get kept name)) ∷ []
+pending_mails back name kept (Pending.Ack number) = mail (Ack number) ∷ []
+pending_mails back name kept (Pending.Busy done entire) = mail (Busy done entire) ∷ []
+pending_mails back name kept (Pending.Error code) = mail (Error code) ∷ []
+pending_mails back name kept (Pending.Failed detail) = failed detail ∷ []
+
+abbrev pub waiting_mails : Serving → Stored → List FoeMail
+waiting_mails c store = pending_mails c.back c.name store.kept c.pending
+
+-- what a server did with a mail, by its state and the store behind it
+abbrev pub outcome_of : Stored → Serving → Bool → Outcome Kept
+outcome_of store c counts = record { app = store.kept; transfer = transfer_of c store; counts = counts; answers = waiting_mails c store }
+
+-- the server is the same, with this transfer and this to be told
+abbrev pub told_of : Serving → State → Pending → Serving
+told_of c state pending = record c { state = state; pending = pending }
+
+-- the store with no version begun
+abbrev pub without_part : Stored → Stored
+without_part store = record store { part = None }
+
+-- the store has the version of a write: of the file of this name, which is there, and with an octet or more for each packet but the last
+pub record IsWriting (name : List ℕ) (number : ℕ) (store : Stored) : Type 0 where
+  pub part : store.part ≡ Some (record { name = name; octets = part_octets store })
+  pub there : is_some (file_of store.kept name) ≡ true
+  pub packets : number ≤ length (part_octets store)
+
+-- the store is the one that the server worked on before: it has a version exactly in a write
+abbrev pub IsStoreOf : State → List ℕ → Stored → Type 0
+IsStoreOf State.Idle name store = store.part ≡ None
+IsStoreOf (State.Reading number from) name store = store.part ≡ None
+IsStoreOf (State.Writing number) name store = IsWriting name number store
+IsStoreOf (State.Closing number told) name store = IsWriting name 0 store
+
+abbrev pub Serves : Serving → Stored → Type 0
+Serves c store = IsStoreOf c.state c.name store
+
+-- packet numbers stay below the most octets of a file
+abbrev pub is_sound : State → Bool
+is_sound State.Idle = true
+is_sound (State.Reading number from) = nat_le number (from + 1) && nat_le from 131072
+is_sound (State.Writing number) = nat_le number 131072
+is_sound (State.Closing number told) = true
+
+-- what an answer is made of: a message, or a mailbox error
+abbrev pub reply_mail : Result Foe ℕ → FoeMail
+reply_mail (Ok message) = mail message
+reply_mail (Err detail) = failed detail
+
+-- the mail that waits, and behind it none
+pub record GivesNext (old : Serving) (store : Stored) (written : Mail) (new : Serving) : Type 0 where
+  pub first : FoeMail
+  pub spelled : written ≡ mail_written first
+  pub waited : waiting_mails old store ≡ first ∷ []
+  pub rest : new ≡ record old { pending = Pending.Nothing }
+
+-- a server's message is short enough for the mailbox
+abbrev pub IsShort : ℕ → Foe → Type 0
+IsShort back (Data packet bytes) = length bytes.items ≤ back - 12
+IsShort back (Ack packet) = Unit {0}
+IsShort back (Error code) = Unit {0}
+IsShort back (Busy done entire) = Unit {0}
+IsShort back _ = ⊥
