@@ -1,7 +1,6 @@
 -- Objects that a dictionary takes one by one, their indexes rising.
-use Rattle.std.proofs.Common.{◌≡◌, ◌≢◌, ℕ, ◌+◌, ◌<◌, ◌&&◌, Bool, true, false, List, [], ◌∷◌, length, nat_eq, nat_lt, if◌then◌else◌, All, None, Some, drop, get_or, subst, refl, ap, sym, ◌∙◌, arith}
+use Rattle.std.proofs.Common.{◌≡◌, ◌≢◌, ℕ, ◌+◌, ◌<◌, Bool, true, false, List, [], ◌∷◌, length, nat_eq, nat_lt, if◌then◌else◌, All, None, Some, drop, get_or, subst, refl, ap, sym, ◌∙◌, arith}
 use Rattle.std.specs.List.{list_all}
-use Rattle.std.specs.Map.{lookup}
 use Rattle.std.proofs.lemmas.List.Elements.{All-nil, All-cons, All-head, All-tail, All-weaker}
 use Rattle.std.proofs.lemmas.List.{drop_more}
 use Rattle.std.proofs.lemmas.Grind.{common_steps}
@@ -40,7 +39,7 @@ absent_on o table [] above all = All-nil (is_absent (placed o.index (kept o) tab
 absent_on o table (p ∷ ps) above all =
     let differ : o.index ≢ p.index = (λ e. absurd (grind (arith, e, above))) in
     All-cons (is_absent (placed o.index (kept o) table)) p ps (placed_other o.index p.index (kept o) table differ ∙ All-head (is_absent table) p ps all)
-        (absent_on o table ps (grind (arith, above)) (All-tail (is_absent table) p ps all))
+    (absent_on o table ps (grind (arith, above)) (All-tail (is_absent table) p ps all))
 
 -- one object taken
 pub takes_on : (o : ObjectSpec) (table : Table) (os : List ObjectSpec) → CanTake table (o ∷ os) → CanTake (placed o.index (kept o) table) os

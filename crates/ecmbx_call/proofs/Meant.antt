@@ -1,6 +1,6 @@
 -- What a service means by the model of CoE is its plain meaning.
 use Rattle.mailbox_mail.specs.declared.outcome.ReplyKind.TheVariants.{Done}
-use Rattle.std.proofs.Common.{◌≡◌, ℕ, ◌==◌, ◌&&◌, ◌||◌, not, Bool, true, false, List, [], ◌∷◌, if◌then◌else◌, Option, Some, None, Result, Ok, Err, refl, ap, sym, ◌∙◌}
+use Rattle.std.proofs.Common.{◌≡◌, ℕ, ◌==◌, ◌&&◌, not, Bool, true, false, List, [], if◌then◌else◌, Option, Some, None, Result, Ok, Err, refl, ap, sym, ◌∙◌}
 use Rattle.object_dictionary.specs.Dictionary.{Table, download, upload}
 use Rattle.object_dictionary.specs.Whole.{download_all, upload_all}
 use Rattle.object_dictionary.specs.Information.{list_info, object_info, entry_info}
@@ -8,8 +8,7 @@ use Rattle.object_dictionary.specs.declared.service.SdoService.{SdoService}
 use Rattle.object_dictionary.specs.declared.service.SdoService.TheVariants.{Download, Upload, DownloadAll, UploadAll, List as ObjectList, ObjectInfo, EntryInfo}
 use Rattle.mailbox_mail.specs.declared.outcome.ReplyKind.{ReplyKind}
 use Rattle.coe_model.specs.Mails.{CoeMail}
-use Rattle.coe_model.specs.Tables.{Target}
-use Rattle.coe_model.specs.Server.{Emission, emergency, packet, emission_of, issued}
+use Rattle.coe_model.specs.Server.{emergency, issued}
 use Rattle.coe_model.specs.Meaning.{Meaning, download_means, value_means}
 use Rattle.coe_client.specs.Talk.{service_view}
 use Rattle.coe_law.specs.Talks.{tables, means}

@@ -1,5 +1,5 @@
 -- What the emissions of a service are to the application's owner.
-use Rattle.std.specs.Prelude.{ℕ, List, [], ◌∷◌, Option, Some, None}
+use Rattle.std.specs.Prelude.{ℕ, List, ◌∷◌, Option, Some, None}
 use Rattle.coe_model.specs.Mails.{CoeMail, mail, Emergency}
 
 -- the emergency among the emissions of a service

@@ -46,7 +46,9 @@ pub fn are_small(specs: &[EntrySpec]) -> bool
 fn are_sized(specs: &[EntrySpec], least: u32, most: u32) -> bool
     ensures { result ≡ are_sized least most specs.now }
 {
-    specs.iter().all(|spec| spec.least == least && spec.most == most)
+    specs
+        .iter()
+        .all(|spec| spec.least == least && spec.most == most)
 }
 
 // Whether the sizes are those of what a download emits.

@@ -131,12 +131,7 @@ fn bounded(entry: EntrySpec, place: Place) -> Result<EntrySpec, Stop>
 }
 
 #[tactic(auto, unfolding(crate::specs::Scenario::entry_of))]
-fn entry(
-    alloc: Global,
-    table: &Table,
-    before: Option<u16>,
-    place: Place,
-) -> Result<EntrySpec, Stop>
+fn entry(alloc: Global, table: &Table, before: Option<u16>, place: Place) -> Result<EntrySpec, Stop>
     ensures gives { Gives (λ e. e) result (entry_of before place (table_view table.now)) }
     ensures sound { IfOk result IsEntry }
 {

@@ -48,17 +48,19 @@ pub loop-body-preserved : goal.loop-body-preserved
 loop-body-preserved c =
     let i = c.loop-body.invariant.0 in
     let d = served_by c.args.al c.args.server.now.eoe (areas_of c.args.client.now c.args.server.now) c.requires.areas (server_at c.args.objects.now c.args.server.now) c.len-objects.ensures.sound (service_view c.args.service.now) i.0 c.loop-body.client c.next_mail.new.self c.loop-body.server c.take-counts.new.self c.loop-body.objects c.take-counts.new.objects c.loop-body.emission
-    c.next_mail.new.body.items c.as_slice-in-loop-body.result.now c.take-counts.result i.2 c.loop-body-test.ensures.sends (c.as_slice-in-loop-body.ensures.value ∙ c.request-request.ensures.body ∙ c.as_slice.ensures.value) c.take-counts.ensures.does in
-    ((
-      i.0 ++ c.loop-body-test.ensures.sends.next ∷ [],
-      length-append i.0 (c.loop-body-test.ensures.sends.next ∷ []) ∙ (omega (arith, i.1)),
-      stepped c.args.al c.args.server.now.eoe (areas_of c.args.client.now c.args.server.now) c.requires.areas (server_at c.args.objects.now c.args.server.now) c.len-objects.ensures.sound (service_view c.args.service.now) i.0 c.loop-body.client c.next_mail.new.self c.loop-body.server c.loop-body.objects c.loop-body.emission c.next_mail.new.body.items i.2 c.loop-body-test.ensures.sends c.next_mail.ensures.replies c.take-counts.new.objects c.take-counts.new.self d c.hear_all.new.server c.take_packet.new.emission c.hear_all.new.emission c.hear_all.new.client c.take_packet.ensures.emission
-          (c.hear_all.ensures.emission ∙ ap (λ (ms : List CoeMail). emission_mails c.take_packet.new.emission ++ E ms) c.take_packet.ensures.waits)
-          (subst (λ (ms : List CoeMail). Hears c.next_mail.new.self (P ms) c.hear_all.new.client) c.take_packet.ensures.waits c.hear_all.ensures.hears)
-          c.hear_all.ensures.silent (c.hear_all.ensures.transfer ∙ c.take_packet.ensures.transfer)
-          (c.hear_all.ensures.room ∙ c.take_packet.ensures.room ∙ c.take-counts.ensures.room ∙ i.2.back_room)
-          (c.hear_all.ensures.eoe ∙ c.take_packet.ensures.eoe ∙ c.take-counts.ensures.eoe ∙ i.2.serves),
-    ), c.hear_all.ensures.lengths ∙ c.request-request.ensures.same ∙ c.loop-body.invariant.1)
+    c.next_mail.new.body.items c.as_slice-in-loop-body.result.now c.take-counts.result i.2 c.loop-body-test.ensures.sends (c.as_slice-in-loop-body.ensures.value ∙ c.request-request.ensures.body ∙ c.as_slice.ensures.value) c.take-counts.ensures.does in (
+      (
+        i.0 ++ c.loop-body-test.ensures.sends.next ∷ [],
+        length-append i.0 (c.loop-body-test.ensures.sends.next ∷ []) ∙ (omega (arith, i.1)),
+        stepped c.args.al c.args.server.now.eoe (areas_of c.args.client.now c.args.server.now) c.requires.areas (server_at c.args.objects.now c.args.server.now) c.len-objects.ensures.sound (service_view c.args.service.now) i.0 c.loop-body.client c.next_mail.new.self c.loop-body.server c.loop-body.objects c.loop-body.emission c.next_mail.new.body.items i.2 c.loop-body-test.ensures.sends c.next_mail.ensures.replies c.take-counts.new.objects c.take-counts.new.self d c.hear_all.new.server c.take_packet.new.emission c.hear_all.new.emission c.hear_all.new.client c.take_packet.ensures.emission
+            (c.hear_all.ensures.emission ∙ ap (λ (ms : List CoeMail). emission_mails c.take_packet.new.emission ++ E ms) c.take_packet.ensures.waits)
+            (subst (λ (ms : List CoeMail). Hears c.next_mail.new.self (P ms) c.hear_all.new.client) c.take_packet.ensures.waits c.hear_all.ensures.hears)
+            c.hear_all.ensures.silent (c.hear_all.ensures.transfer ∙ c.take_packet.ensures.transfer)
+            (c.hear_all.ensures.room ∙ c.take_packet.ensures.room ∙ c.take-counts.ensures.room ∙ i.2.back_room)
+            (c.hear_all.ensures.eoe ∙ c.take_packet.ensures.eoe ∙ c.take-counts.ensures.eoe ∙ i.2.serves),
+      ),
+      c.hear_all.ensures.lengths ∙ c.request-request.ensures.same ∙ c.loop-body.invariant.1,
+    )
 
 pub reply-requires : goal.reply-requires
 reply-requires c =
