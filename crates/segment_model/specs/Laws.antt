@@ -1,0 +1,58 @@
+-- What a session promises of each slave.
+use Rattle.std.specs.Prelude.{◌≡◌, ℕ, suc, ◌<◌, ◌≤◌, Bool, true, false, Option, Some, None, option_map, List, [], ◌∷◌, ◌++◌, length, ⊤}
+use Rattle.exchange_model.specs.Exchange.{Exchange, plain}
+use Rattle.exchange_model.specs.Rows.{Row, Fits, Rest}
+use Rattle.link_model.specs.Master.{InState}
+use Rattle.segment_model.specs.Slaves.{Slave}
+use Rattle.segment_model.specs.Record.{Frame, first_end, news_from}
+use Rattle.segment_model.specs.Ends.{Task, Task.Mails, Outcome, Outcome.Replied, ends}
+use Rattle.segment_model.specs.Seats.{Side, Seat, rows_of, is_over}
+
+-- a fact of each seat
+abbrev pub EachSeat : {V M Q R : Type 0} → (Seat V M Q R → Type 0) → List (Seat V M Q R) → Type 0
+EachSeat P [] = ⊤
+EachSeat P (s ∷ ss) = P s × EachSeat P ss
+
+-- the answer of a row as an outcome, with its frame
+abbrev pub as_outcome : {R : Type 0} → Option (R × ℕ) → Option (Outcome R × ℕ)
+as_outcome answer = option_map (λ a. (Outcome.Replied a.0, a.1)) answer
+
+-- A row has an answer exactly where the record completes its service from the row's frame on, and it is that answer, of that frame. A
+-- service that ends with its last write has no reply.
+pub record IsAnswered {V A M Q R : Type 0} (x : Exchange V A M Q R) (more : M → Bool) (station : ℕ) (fs : List (Frame M)) (r : Row M Q R) : Type 0 where
+  pub replied : x.handed r.service ≡ false → as_outcome r.answer ≡ first_end (ends x more (Task.Mails r.service)) r.frame [] (news_from station r.frame fs)
+  pub handed : x.handed r.service ≡ true → r.answer ≡ None
+
+abbrev pub AllAnswered : {V A M Q R : Type 0} → Exchange V A M Q R → (M → Bool) → ℕ → List (Frame M) → List (Row M Q R) → Type 0
+AllAnswered x more station fs [] = ⊤
+AllAnswered x more station fs (r ∷ rs) = IsAnswered x more station fs r × AllAnswered x more station fs rs
+
+-- the answers of a seat are those that the frames give
+abbrev pub Answered : {V A M Q R : Type 0} → Exchange V A M Q R → (M → Bool) → List (Frame M) → Seat V M Q R → Type 0
+Answered x more fs s = AllAnswered x more s.station fs (rows_of s.side)
+
+-- the rows of a seat fit: its server, which was `start`, has carried out just their first services
+abbrev pub SeatFits : {V A M Q R : Type 0} → Exchange V A M Q R → Seat V M Q R → Type 0
+SeatFits x s = Fits x s.start (rows_of s.side) s.slave.node.server.server s.accepted
+
+-- a slave is settled: both mailboxes are empty, and nothing waits to be offered or is withdrawn
+pub record IsSettled {V M : Type 0} (s : Slave V M) : Type 0 where
+  pub first : s.node.out.box ≡ None
+  pub second : s.node.inn.box ≡ None
+  pub withdrawn : s.node.inn.withdrawn ≡ None
+  pub waiting : s.node.server.waiting ≡ []
+
+-- the newest row is over, where there is one
+abbrev pub NothingInHand : {V A M Q R : Type 0} → Exchange V A M Q R → Side M Q R → Option (Row M Q R) → Type 0
+NothingInHand x d None = ⊤
+NothingInHand x d (Some r) = is_over x d.halves.out.holding r ≡ true
+
+-- the master wants nothing of a slave: no service in hand, the outward half idle, the inward half clear
+pub record WantsNothing {V A M Q R : Type 0} (x : Exchange V A M Q R) (d : Side M Q R) : Type 0 where
+  pub idle : d.halves.out.holding ≡ None
+  pub clear : d.halves.inn.state ≡ InState.Clear
+  pub nothing : NothingInHand x d d.now
+
+-- with nothing left its server has carried out all of them, and all emissions were heard
+abbrev pub SeatRests : {V A M Q R : Type 0} → Exchange V A M Q R → Seat V M Q R → Type 0
+SeatRests x s = Rest x s.start (rows_of s.side) s.slave.node.server.server s.accepted

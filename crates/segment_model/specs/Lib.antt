@@ -1,0 +1,5 @@
+pub mod Slaves
+pub mod Record
+pub mod Ends
+pub mod Seats
+pub mod Laws
