@@ -1,2 +1,5 @@
 mod News
 mod Answers
+mod Links
+mod Views
+mod Sounds
