@@ -3,3 +3,4 @@ mod Answers
 mod Links
 mod Views
 mod Sounds
+mod Fitted
