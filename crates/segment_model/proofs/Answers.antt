@@ -41,7 +41,7 @@ length-news : {M : Type 0} (station : ℕ) (kept : Kept) (fs : List (Frame M)) �
 length-news station kept [] = refl
 length-news station kept (f ∷ fs) = ap suc (length-news station (kept_after station kept f) fs)
 
-news_each-push : {M : Type 0} (station : ℕ) (kept : Kept) (fs : List (Frame M)) (f : Frame M) → news_each station kept (fs ++ f ∷ []) ≡ news_each station kept fs ++ frame_news station (kept_all station kept fs) f ∷ []
+pub news_each-push : {M : Type 0} (station : ℕ) (kept : Kept) (fs : List (Frame M)) (f : Frame M) → news_each station kept (fs ++ f ∷ []) ≡ news_each station kept fs ++ frame_news station (kept_all station kept fs) f ∷ []
 news_each-push station kept [] f = refl
 news_each-push station kept (g ∷ fs) f = ap (λ l. frame_news station kept g ∷ l) (news_each-push station (kept_after station kept g) fs f)
 

@@ -13,7 +13,7 @@ use Rattle.link_model.specs.Agree.{OutAgree}
 use Rattle.link_model.specs.Frames.{all_accepted}
 use Rattle.link_model.specs.Segment.{RingFate}
 use Rattle.segment_model.specs.Slaves.{Serving, serving, Registers, Datagram, grams, slave_after, frame_after, ring_back}
-use Rattle.segment_model.specs.Laws.{EachSeat, SeatFits}
+use Rattle.segment_model.specs.Laws.{EachSeat}
 use Rattle.segment_model.specs.Seats.{Side, Seat, Choice, link_of, ring_of, newest, rows_of, is_over, is_none_left, side_begins, side_holds, next_mail, first_left, seat_next, seats_next, seat_back, seats_back, seats_lost, seats_after, seat_steps, seat_steps_at, side_lost}
 use Rattle.segment_model.proofs.Links.{Sound, in_order, hears_given}
 use Rattle.segment_model.proofs.Sounds.{SeatSound, began_halves}
@@ -181,7 +181,7 @@ module _ {V A M Q R : Type 0} (x : Exchange V A M Q R) (law : IsLawful x) where
   steps_fit carry (suc k) (s ∷ ss) r h f = (f.0, steps_fit carry k ss r.1 h.1 f.1)
 
   -- so the rows of each seat fit
-  pub seat_fits : (s : Seat V M Q R) → IsReady s → SeatSound x s → Fitted s → SeatFits x s
+  pub seat_fits : (s : Seat V M Q R) → IsReady s → SeatSound x s → Fitted s → Fits x s.start (rows_of s.side) s.slave.node.server.server s.accepted
   seat_fits s r h f = go s.side.now f
     where
       served : after x.serve s.start s.taken ≡ s.slave.node.server.server

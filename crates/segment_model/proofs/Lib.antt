@@ -4,3 +4,5 @@ mod Links
 mod Views
 mod Sounds
 mod Fitted
+mod Rising
+mod Kept

@@ -4,7 +4,7 @@ use Rattle.exchange_model.specs.Exchange.{Exchange, plain}
 use Rattle.exchange_model.specs.Rows.{Row, Fits, Rest}
 use Rattle.link_model.specs.Master.{InState}
 use Rattle.segment_model.specs.Slaves.{Slave}
-use Rattle.segment_model.specs.Record.{Frame, first_end, news_from}
+use Rattle.segment_model.specs.Record.{Frame, first_end, news_from, heard}
 use Rattle.segment_model.specs.Ends.{Task, Task.Mails, Outcome, Outcome.Replied, ends}
 use Rattle.segment_model.specs.Seats.{Side, Seat, rows_of, is_over}
 
@@ -31,9 +31,25 @@ AllAnswered x more station fs (r ∷ rs) = IsAnswered x more station fs r × All
 abbrev pub Answered : {V A M Q R : Type 0} → Exchange V A M Q R → (M → Bool) → List (Frame M) → Seat V M Q R → Type 0
 Answered x more fs s = AllAnswered x more s.station fs (rows_of s.side)
 
--- the rows of a seat fit: its server, which was `start`, has carried out just their first services
-abbrev pub SeatFits : {V A M Q R : Type 0} → Exchange V A M Q R → Seat V M Q R → Type 0
-SeatFits x s = Fits x s.start (rows_of s.side) s.slave.node.server.server s.accepted
+-- the frame of the next row, or this number where no row follows
+abbrev pub next_frame : {M Q R : Type 0} → List (Row M Q R) → ℕ → ℕ
+next_frame [] end = end
+next_frame (r ∷ rs) end = r.frame
+
+-- each answer came before the next row began, and before the frame with this number
+abbrev pub Rises : {M Q R : Type 0} → List (Row M Q R) → ℕ → Type 0
+Rises [] end = ⊤
+Rises {R = R} (r ∷ rs) end = ((answer : R × ℕ) → r.answer ≡ Some answer → answer.1 < next_frame rs end) × Rises rs end
+
+-- the rows of a seat fit what its frames let the master hear: its server, which was `start`, has carried out just their first services
+abbrev pub SeatFits : {V A M Q R : Type 0} → Exchange V A M Q R → List (Frame M) → Seat V M Q R → Type 0
+SeatFits x fs s = Fits x s.start (rows_of s.side) s.slave.node.server.server (heard s.station fs)
+
+-- THE PROMISE of a session, for each slave: its answers are those that the frames give, in the order of its rows, and its rows fit
+pub record Promised {V A M Q R : Type 0} (x : Exchange V A M Q R) (more : M → Bool) (fs : List (Frame M)) (s : Seat V M Q R) : Type 0 where
+  pub answers : Answered x more fs s
+  pub rises : Rises (rows_of s.side) (length fs)
+  pub fits : SeatFits x fs s
 
 -- a slave is settled: both mailboxes are empty, and nothing waits to be offered or is withdrawn
 pub record IsSettled {V M : Type 0} (s : Slave V M) : Type 0 where
@@ -53,6 +69,6 @@ pub record WantsNothing {V A M Q R : Type 0} (x : Exchange V A M Q R) (d : Side 
   pub clear : d.halves.inn.state ≡ InState.Clear
   pub nothing : NothingInHand x d d.now
 
--- with nothing left its server has carried out all of them, and all emissions were heard
-abbrev pub SeatRests : {V A M Q R : Type 0} → Exchange V A M Q R → Seat V M Q R → Type 0
-SeatRests x s = Rest x s.start (rows_of s.side) s.slave.node.server.server s.accepted
+-- with nothing left, the server of a seat has carried out all of them, and all emissions were heard
+abbrev pub SeatRests : {V A M Q R : Type 0} → Exchange V A M Q R → List (Frame M) → Seat V M Q R → Type 0
+SeatRests x fs s = Rest x s.start (rows_of s.side) s.slave.node.server.server (heard s.station fs)
