@@ -8,7 +8,7 @@ use Rattle.link_model.specs.Frames.{all_accepted}
 use Rattle.segment_model.specs.Slaves.{Registers, Datagram, grams, frame_after, ring_back}
 use Rattle.segment_model.specs.Record.{Frame, News, first_end, or_later, news_each, nothing_kept, frame_news, news_from, mails_heard, joined, heard}
 use Rattle.segment_model.specs.Ends.{Task, Task.Mails, Outcome, Outcome.Replied, ends, mails_end}
-use Rattle.segment_model.specs.Laws.{EachSeat, IsAnswered, AllAnswered, Answered, as_outcome, Promised, SeatFits}
+use Rattle.segment_model.specs.Laws.{EachSeat, IsAnswered, AllAnswered, as_outcome, Promised, SeatPromised}
 use Rattle.segment_model.specs.Seats
 use Rattle.segment_model.specs.Seats.{Side, Seat, Choice, Turn, Session, Planned, IsPlan, AllReady, link_of, ring_of, newest, rows_of, seat_next, seats_next, seat_back, seats_back, seats_lost, side_lost, seats_after, seat_steps_at, seats_step, stations_of, happens, run, MayRun, new_seat, new_session}
 use Rattle.segment_model.proofs.News.{mails_heard-append, heard_frame, joined-append}
@@ -231,17 +231,17 @@ module _ {V A M Q R : Type 0} (x : Exchange V A M Q R) (law : IsLawful x) where
   rows_answered more station fs (r ∷ rs) now c o = (row_answered more station fs r c.0.same, rows_answered more station fs rs now c.1 o)
 
   -- THE PROMISE, of each seat of a session that keeps all this
-  pub each_promised : (more : M → Bool) (fs : List (Frame M)) (ss : List (Seat V M Q R)) → EachSeat (IsReady x law) ss → EachSeat (SeatSound x) ss → EachSeat (Fitted x law) ss → EachSeat (Records fs) ss → EachSeat (Promised x more fs) ss
+  pub each_promised : (more : M → Bool) (fs : List (Frame M)) (ss : List (Seat V M Q R)) → EachSeat (IsReady x law) ss → EachSeat (SeatSound x) ss → EachSeat (Fitted x law) ss → EachSeat (Records fs) ss → EachSeat (SeatPromised x more fs) ss
   each_promised more fs [] r h f k = tt
   each_promised more fs (s ∷ ss) r h f k =
-      let one : Promised x more fs s = record {
+      let one : SeatPromised x more fs s = record {
         answers = rows_answered more s.station fs s.side.past s.side.now k.0.listens.past k.0.listens.now;
         rises = rises_all s.side.past s.side.now (length fs) k.0.rises;
         fits = subst (Fits x s.start (rows_of s.side) s.slave.node.server.server) k.0.hears (seat_fits x law s r.0 h.0 f.0);
       } in
       (one, each_promised more fs ss r.1 h.1 f.1 k.1)
 
-  pub promised : (more : M → Bool) (carry : Registers → Registers) (ps : List (Planned V)) → IsPlan x ps → (ts : List (Turn M Q)) → MayRun x carry (new_session ps) ts → (let w = run x carry (new_session ps) ts in EachSeat (Promised x more w.frames) w.seats)
+  pub promised : (more : M → Bool) (carry : Registers → Registers) (ps : List (Planned V)) → IsPlan x ps → (ts : List (Turn M Q)) → MayRun x carry (new_session ps) ts → (let w = run x carry (new_session ps) ts in EachSeat (SeatPromised x more w.frames) w.seats)
   promised more carry ps p ts m =
       let w = run x carry (new_session ps) ts in
       let k = run_keeps carry (new_session ps) ts m (new_keeps ps p) in

@@ -6,3 +6,4 @@ mod Sounds
 mod Fitted
 mod Rising
 mod Kept
+mod Replays

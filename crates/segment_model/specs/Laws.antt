@@ -3,10 +3,10 @@ use Rattle.std.specs.Prelude.{◌≡◌, ℕ, suc, ◌<◌, ◌≤◌, Bool, tru
 use Rattle.exchange_model.specs.Exchange.{Exchange, plain}
 use Rattle.exchange_model.specs.Rows.{Row, Fits, Rest}
 use Rattle.link_model.specs.Master.{InState}
-use Rattle.segment_model.specs.Slaves.{Slave}
+use Rattle.segment_model.specs.Slaves.{Slave, Ring}
 use Rattle.segment_model.specs.Record.{Frame, first_end, news_from, heard}
 use Rattle.segment_model.specs.Ends.{Task, Task.Mails, Outcome, Outcome.Replied, ends}
-use Rattle.segment_model.specs.Seats.{Side, Seat, rows_of, is_over}
+use Rattle.segment_model.specs.Seats.{Side, Seat, Planned, rows_of, is_over}
 
 -- a fact of each seat
 abbrev pub EachSeat : {V M Q R : Type 0} → (Seat V M Q R → Type 0) → List (Seat V M Q R) → Type 0
@@ -27,10 +27,6 @@ abbrev pub AllAnswered : {V A M Q R : Type 0} → Exchange V A M Q R → (M → 
 AllAnswered x more station fs [] = ⊤
 AllAnswered x more station fs (r ∷ rs) = IsAnswered x more station fs r × AllAnswered x more station fs rs
 
--- the answers of a seat are those that the frames give
-abbrev pub Answered : {V A M Q R : Type 0} → Exchange V A M Q R → (M → Bool) → List (Frame M) → Seat V M Q R → Type 0
-Answered x more fs s = AllAnswered x more s.station fs (rows_of s.side)
-
 -- the frame of the next row, or this number where no row follows
 abbrev pub next_frame : {M Q R : Type 0} → List (Row M Q R) → ℕ → ℕ
 next_frame [] end = end
@@ -41,15 +37,16 @@ abbrev pub Rises : {M Q R : Type 0} → List (Row M Q R) → ℕ → Type 0
 Rises [] end = ⊤
 Rises {R = R} (r ∷ rs) end = ((answer : R × ℕ) → r.answer ≡ Some answer → answer.1 < next_frame rs end) × Rises rs end
 
--- the rows of a seat fit what its frames let the master hear: its server, which was `start`, has carried out just their first services
-abbrev pub SeatFits : {V A M Q R : Type 0} → Exchange V A M Q R → List (Frame M) → Seat V M Q R → Type 0
-SeatFits x fs s = Fits x s.start (rows_of s.side) s.slave.node.server.server (heard s.station fs)
+-- THE PROMISE of a session for one slave, which began with the server `start`: the answers are those that the frames give, in the order of
+-- its rows; and the rows fit what the frames let the master hear, so the server has carried out just their first services
+pub record Promised {V A M Q R : Type 0} (x : Exchange V A M Q R) (more : M → Bool) (fs : List (Frame M)) (station : ℕ) (start : V)
+    (d : Side M Q R) (n : Slave V M) : Type 0 where
+  pub answers : AllAnswered x more station fs (rows_of d)
+  pub rises : Rises (rows_of d) (length fs)
+  pub fits : Fits x start (rows_of d) n.node.server.server (heard station fs)
 
--- THE PROMISE of a session, for each slave: its answers are those that the frames give, in the order of its rows, and its rows fit
-pub record Promised {V A M Q R : Type 0} (x : Exchange V A M Q R) (more : M → Bool) (fs : List (Frame M)) (s : Seat V M Q R) : Type 0 where
-  pub answers : Answered x more fs s
-  pub rises : Rises (rows_of s.side) (length fs)
-  pub fits : SeatFits x fs s
+abbrev pub SeatPromised : {V A M Q R : Type 0} → Exchange V A M Q R → (M → Bool) → List (Frame M) → Seat V M Q R → Type 0
+SeatPromised x more fs s = Promised x more fs s.station s.start s.side s.slave
 
 -- a slave is settled: both mailboxes are empty, and nothing waits to be offered or is withdrawn
 pub record IsSettled {V M : Type 0} (s : Slave V M) : Type 0 where
@@ -69,6 +66,15 @@ pub record WantsNothing {V A M Q R : Type 0} (x : Exchange V A M Q R) (d : Side 
   pub clear : d.halves.inn.state ≡ InState.Clear
   pub nothing : NothingInHand x d d.now
 
--- with nothing left, the server of a seat has carried out all of them, and all emissions were heard
+-- with nothing left, the server of a slave has carried out all its rows, and all emissions were heard
+abbrev pub Rests : {V A M Q R : Type 0} → Exchange V A M Q R → List (Frame M) → ℕ → V → Side M Q R → Slave V M → Type 0
+Rests x fs station start d n = Rest x start (rows_of d) n.node.server.server (heard station fs)
+
 abbrev pub SeatRests : {V A M Q R : Type 0} → Exchange V A M Q R → List (Frame M) → Seat V M Q R → Type 0
-SeatRests x fs s = Rest x s.start (rows_of s.side) s.slave.node.server.server (heard s.station fs)
+SeatRests x fs s = IsSettled s.slave → WantsNothing x s.side → Rests x fs s.station s.start s.side s.slave
+
+-- a fact of each slave of a plan, with the master's side of it and the slave as they stand, in ring order
+abbrev pub EachOf : {V M Q R : Type 0} → (ℕ → V → Side M Q R → Slave V M → Type 0) → List (Planned V) → List (ℕ × Side M Q R) → Ring V M → Type 0
+EachOf P [] [] [] = ⊤
+EachOf P (p ∷ ps) (d ∷ ds) (n ∷ ns) = ((d.0 ≡ p.station) × (n.0 ≡ p.station) × P p.station p.server d.1 n.1) × EachOf P ps ds ns
+EachOf P ps ds ns = ⊥

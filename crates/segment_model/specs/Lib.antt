@@ -3,3 +3,4 @@ pub mod Record
 pub mod Ends
 pub mod Seats
 pub mod Laws
+pub mod Split
