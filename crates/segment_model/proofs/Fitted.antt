@@ -51,10 +51,10 @@ module _ {V A M Q R : Type 0} (x : Exchange V A M Q R) (law : IsLawful x) where
       let l3 = few_news w.node.out.last_taken w.node.out.box in
       omega (arith, l1, l2, l3)
 
-  nothing_taken : (v : V) (w : Link M (Serving V M)) → Sound x v w → w.held ≡ [] → w.taken ≡ []
+  pub nothing_taken : (v : V) (w : Link M (Serving V M)) → Sound x v w → w.held ≡ [] → w.taken ≡ []
   nothing_taken v w s none = let p = in_order x v w s in (append_none w.taken p.0 (p.1 ∙ none)).0
 
-  nothing_accepted : (v : V) (w : Link M (Serving V M)) → Sound x v w → w.held ≡ [] → w.accepted ≡ []
+  pub nothing_accepted : (v : V) (w : Link M (Serving V M)) → Sound x v w → w.held ≡ [] → w.accepted ≡ []
   nothing_accepted v w s none =
       let p = hears_given x v w s in
       (append_none w.accepted p.0 (p.1 ∙ ap (given x.serve v) (nothing_taken v w s none))).0

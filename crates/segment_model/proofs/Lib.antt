@@ -3,7 +3,10 @@ mod Answers
 mod Links
 mod Views
 mod Sounds
+mod Overs
 mod Fitted
 mod Rising
 mod Kept
 mod Replays
+mod Rests
+mod Bounds

@@ -6,9 +6,9 @@ use Rattle.link_model.specs.Segment.{RingFate}
 use Rattle.link_model.specs.Frames.{IsFrameFor}
 use Rattle.segment_model.specs.Slaves
 use Rattle.segment_model.specs.Seats
-use Rattle.segment_model.specs.Slaves.{Registers, Datagram, grams, Ring, Move, Slave, frame_after, all_meet, first_meet, ring_after, ring_back, step_at, ring_steps, replayed, backs}
-use Rattle.segment_model.specs.Record.{Frame}
-use Rattle.segment_model.specs.Seats.{Side, Seat, Choice, Turn, Session, Planned, ring_of, sides_of, seat_next, seats_next, seat_back, seats_back, seats_lost, seats_after, seat_steps_at, seats_step, happens, run, MayRun, IsFrame, new_session}
+use Rattle.segment_model.specs.Slaves.{Registers, Datagram, grams, Ring, Move, Slave, frame_after, all_meet, first_meet, ring_after, ring_back, step_at, ring_steps, replayed}
+use Rattle.segment_model.specs.Record.{Frame, frame_of, recorded}
+use Rattle.segment_model.specs.Seats.{Side, Seat, Choice, Turn, Session, Planned, ring_of, sides_of, seat_next, seats_next, seat_back, seats_back, seats_lost, seats_after, seat_steps_at, seats_step, happens, run, MayRun, IsFrame, new_session, moves}
 use Rattle.segment_model.specs.Split.{sides_next, sides_back, sides_lost, sides_after, IsFrameOf, IsBound}
 use Rattle.segment_model.specs.Laws.{EachSeat, EachOf}
 
@@ -88,30 +88,20 @@ module _ {V A M Q R : Type 0} (x : Exchange V A M Q R) where
       ∙ ap (λ back. sides_after x k t.move.sent t.move.fate back (sides_of next)) (turn_back w t)
       ∙ ap (sides_after x k t.move.sent t.move.fate (ring_back (ring_of w.seats) t.move.sent t.move.fate)) (nexts_sides k w.seats t.choices)
 
-  abbrev pub moves : List (Turn M Q) → List (Move M)
-  moves ts = map (λ t. t.move) ts
-
   -- a session is the replay of its moves
   pub run_ring : (carry : Registers → Registers) (w : Session V M Q R) (ts : List (Turn M Q)) → ring_of (run x carry w ts).seats ≡ replayed x carry (ring_of w.seats) (moves ts)
   run_ring carry w [] = refl
   run_ring carry w (t ∷ ts) = run_ring carry (happens x carry w t) ts ∙ ap (λ ns. replayed x carry ns (moves ts)) (turn_ring carry w t)
 
-  abbrev frame_of : Ring V M → Move M → Frame M
-  frame_of ns m = record { sent = m.sent; fate = m.fate; back = ring_back ns m.sent m.fate }
-
-  abbrev pub recorded : (Registers → Registers) → Ring V M → List (Move M) → List (Frame M)
-  recorded carry ns [] = []
-  recorded carry ns (m ∷ ms) = frame_of ns m ∷ recorded carry (ring_steps x carry (ring_after ns m.sent m.fate) m.steps) ms
-
   pub turn_frames : (carry : Registers → Registers) (w : Session V M Q R) (t : Turn M Q) → (happens x carry w t).frames ≡ w.frames ++ frame_of (ring_of w.seats) t.move ∷ []
   turn_frames carry w t = ap (λ back. w.frames ++ record { sent = t.move.sent; fate = t.move.fate; back = back } ∷ []) (turn_back w t)
 
-  pub run_frames : (carry : Registers → Registers) (w : Session V M Q R) (ts : List (Turn M Q)) → (run x carry w ts).frames ≡ w.frames ++ recorded carry (ring_of w.seats) (moves ts)
+  pub run_frames : (carry : Registers → Registers) (w : Session V M Q R) (ts : List (Turn M Q)) → (run x carry w ts).frames ≡ w.frames ++ recorded x carry (ring_of w.seats) (moves ts)
   run_frames carry w [] = sym (append-nil w.frames)
   run_frames carry w (t ∷ ts) =
       run_frames carry (happens x carry w t) ts
-      ∙ ap (λ fs. fs ++ recorded carry (ring_of (happens x carry w t).seats) (moves ts)) (turn_frames carry w t)
-      ∙ ap (λ ns. (w.frames ++ frame_of (ring_of w.seats) t.move ∷ []) ++ recorded carry ns (moves ts)) (turn_ring carry w t)
+      ∙ ap (λ fs. fs ++ recorded x carry (ring_of (happens x carry w t).seats) (moves ts)) (turn_frames carry w t)
+      ∙ ap (λ ns. (w.frames ++ frame_of (ring_of w.seats) t.move ∷ []) ++ recorded x carry ns (moves ts)) (turn_ring carry w t)
       ∙ append_assoc w.frames (frame_of (ring_of w.seats) t.move ∷ []) _
 
   -- turns behind turns

@@ -1,16 +1,24 @@
 -- The record of a run: frames as they were sent and came back, and the news that they bring of one slave, frame by frame.
 use Rattle.std.specs.Prelude.{ℕ, zero, suc, ◌+◌, ◌==◌, Bool, true, false, if◌then◌else◌, Option, Some, None, List, [], ◌∷◌, ◌++◌, map, drop}
-use Rattle.exchange_model.specs.Rows.{answer_after}
+use Rattle.exchange_model.specs.Exchange.{Exchange}
 use Rattle.link_model.specs.Mails.{LinkMail, is_repeat, news, seen}
 use Rattle.link_model.specs.Frames.{Ask, Gram, mail_back}
 use Rattle.link_model.specs.Segment.{RingFate}
-use Rattle.segment_model.specs.Slaves.{Datagram, Address, Found, Found.State, Found.Full, grams}
+use Rattle.segment_model.specs.Slaves.{Registers, Datagram, Address, Found, Found.State, Found.Full, grams, Ring, ring_after, ring_back, ring_steps, Move}
 
 -- a frame: as it was sent, its fate, and as it came back, which is empty where it was lost
 pub record Frame (M : Type 0) : Type 0 where
   pub sent : List (Datagram M)
   pub fate : RingFate
   pub back : List (Datagram M)
+
+-- the frame of a move at this ring, and the frames of a list of moves
+abbrev pub frame_of : {V M : Type 0} → Ring V M → Move M → Frame M
+frame_of ns m = record { sent = m.sent; fate = m.fate; back = ring_back ns m.sent m.fate }
+
+abbrev pub recorded : {V A M Q R : Type 0} → Exchange V A M Q R → (Registers → Registers) → Ring V M → List (Move M) → List (Frame M)
+recorded x carry ns [] = []
+recorded x carry ns (m ∷ ms) = frame_of ns m ∷ recorded x carry (ring_steps x carry (ring_after ns m.sent m.fate) m.steps) ms
 
 -- what frames tell of a slave: a mail is sent to mailbox 0 for the first time; a write of mailbox 0 is done; a read of mailbox 1 brings a
 -- mail that is no repeat, or finds it empty; mailbox 0 was seen full or empty; an AL state was read, with the code where the error flag stands

@@ -39,6 +39,10 @@ pub record Turn (M Q : Type 0) : Type 0 where
   pub choices : List (Choice Q)
   pub move : Move M
 
+-- the moves of turns
+abbrev pub moves : {M Q : Type 0} → List (Turn M Q) → List (Move M)
+moves ts = map (λ t. t.move) ts
+
 -- the link of a seat, and its rows
 abbrev pub link_of : {V M Q R : Type 0} → Seat V M Q R → Link M (Serving V M)
 link_of s = record { halves = s.side.halves; node = s.slave.node; held = s.held; taken = s.taken; offered = s.offered; accepted = s.accepted }

@@ -187,14 +187,10 @@ pub record Move (M : Type 0) : Type 0 where
   pub fate : RingFate
   pub steps : List ℕ
 
--- the ring behind these moves, and what came back of each frame
+-- THE REPLAY: the ring behind these moves
 abbrev pub replayed : {V A M Q R : Type 0} → Exchange V A M Q R → (Registers → Registers) → Ring V M → List (Move M) → Ring V M
 replayed x carry ns [] = ns
 replayed x carry ns (m ∷ ms) = replayed x carry (ring_steps x carry (ring_after ns m.sent m.fate) m.steps) ms
-
-abbrev pub backs : {V A M Q R : Type 0} → Exchange V A M Q R → (Registers → Registers) → Ring V M → List (Move M) → List (List (Datagram M))
-backs x carry ns [] = []
-backs x carry ns (m ∷ ms) = ring_back ns m.sent m.fate ∷ backs x carry (ring_steps x carry (ring_after ns m.sent m.fate) m.steps) ms
 
 -- the places of the slaves whose pace divides this number, in ring order; the first of them has this place
 abbrev pub in_pace : ℕ → ℕ → List ℕ → List ℕ
