@@ -11,6 +11,7 @@ use Rattle.link_model.specs.Frames.{Ask, Gram, all_accepted, halves_after, halve
 use Rattle.segment_model.specs.Slaves.{Datagram, grams}
 use Rattle.segment_model.specs.Record.{Frame, News, Kept, first_end, or_later, news_each, kept_all, kept_after, nothing_kept, news_from, frame_news, heard_behind, mails_heard, joined}
 use Rattle.segment_model.specs.Seats.{Side, Choice, side_begins, side_holds, side_next, side_back, side_lost, next_mail, is_over, is_none_left, newest, rows_of}
+use Rattle.segment_model.proofs.Overs.{over_parts}
 use Rattle.segment_model.proofs.News.{mails_heard-append, heard_frame, kept_back, joined-append}
 
 -- one list of news more
@@ -201,17 +202,14 @@ module _ {V A M Q R : Type 0} (x : Exchange V A M Q R) (law : IsLawful x) where
       past_and : (rs : List (Row M Q R)) (r : Row M Q R) → AllClosed station fs rs → Closed station fs r → AllClosed station fs (rs ++ r ∷ [])
       past_and [] r c k = (k, tt)
       past_and (p ∷ rs) r c k = (c.0, past_and rs r c.1 k)
-      over : (r : Row M Q R) (none handed : Bool) (answer : Option (R × ℕ)) → none && (if handed then is_none d.halves.out.holding else is_some answer) ≡ true → x.handed r.service ≡ handed → r.answer ≡ answer → ((answer : R × ℕ) × (r.answer ≡ Some answer)) ⊎ (x.handed r.service ≡ true)
-      over r false handed answer o e f = absurd (cc)
-      over r true true answer o e f = inr e
-      over r true false None o e f = absurd (cc)
-      over r true false (Some a) o e f = inl (a, f)
-      next : (q : Q) (r : Row M Q R) → d.now ≡ Some r → (valid over_now : Bool) → is_over x d.halves.out.holding r ≡ over_now → Listens station fs (if valid && over_now then record d { past = d.past ++ r ∷ []; now = Some (begun q (length fs)) } else d)
+      over : (r : Row M Q R) → is_over x d.halves.out.holding d.fresh r ≡ true → ((answer : R × ℕ) × (r.answer ≡ Some answer)) ⊎ (x.handed r.service ≡ true)
+      over r o = elim (over_parts x d.halves.out.holding d.fresh r o).1 [ inl h ↦ inr h.0 | inr a ↦ inl a.0 ]
+      next : (q : Q) (r : Row M Q R) → d.now ≡ Some r → (valid over_now : Bool) → is_over x d.halves.out.holding d.fresh r ≡ over_now → Listens station fs (if valid && over_now then record d { past = d.past ++ r ∷ []; now = Some (begun q (length fs)) } else d)
       next q r e false over_now o = l
       next q r e true false o = l
       next q r e true true o =
           let open_row : Open station fs r = subst (OpenNow station fs) e l.now in
-          let closed : Closed station fs r = record { begun = open_row.begun; same = open_row.same; over = over r (is_none_left (left x r)) (x.handed r.service) r.answer o refl refl } in
+          let closed : Closed station fs r = record { begun = open_row.begun; same = open_row.same; over = over r o } in
           record { kept = l.kept; past = past_and d.past r l.past closed; now = fresh q }
       first : (q : Q) (valid : Bool) → Listens station fs (if valid then record d { now = Some (begun q (length fs)) } else d)
       first q false = l
@@ -219,7 +217,7 @@ module _ {V A M Q R : Type 0} (x : Exchange V A M Q R) (law : IsLawful x) where
       go : (now : Option (Row M Q R)) (begin : Option Q) → d.now ≡ now → Listens station fs (side_begins x (length fs) d now begin)
       go now None e = l
       go None (Some q) e = first q (x.valid q)
-      go (Some r) (Some q) e = next q r e (x.valid q) (is_over x d.halves.out.holding r) refl
+      go (Some r) (Some q) e = next q r e (x.valid q) (is_over x d.halves.out.holding d.fresh r) refl
 
   held_listens : (station : ℕ) (fs : List (Frame M)) (d : Side M Q R) (ms : List M) → Listens station fs d → Listens station fs (side_holds d ms)
   held_listens station fs d [] l = l

@@ -7,7 +7,7 @@ use Rattle.segment_model.specs.Slaves.{Registers, Datagram, Ring, Slave, frame_a
 use Rattle.segment_model.specs.Record.{Frame}
 use Rattle.segment_model.specs.Seats.{Side, Seat, Choice, Turn, Session, Planned, IsPlan, ring_of, sides_of, seats_next, seats_back, seats_lost, seats_after, seat_steps_at, seats_step, happens, run, new_session}
 use Rattle.segment_model.specs.Split.{IsBound}
-use Rattle.segment_model.specs.Laws.{EachSeat, EachOf, Promised, SeatPromised, IsSettled, WantsNothing, Rests, SeatRests}
+use Rattle.segment_model.specs.Laws.{EachSeat, EachOf, Promised, SeatPromised, RestsIf, SeatRests}
 use Rattle.segment_model.proofs.Kept.{Keeps, run_keeps, new_keeps, each_promised}
 use Rattle.segment_model.proofs.Rests.{each_rests}
 
@@ -87,14 +87,10 @@ module _ {V A M Q R : Type 0} (x : Exchange V A M Q R) (law : IsLawful x) where
       let all = each_of x (Promised x more w.frames) w.seats ps (session_starts x carry ps b.turns) (each_promised x law more w.frames w.seats k.ready k.sound k.fitted k.records) in
       subst (λ l. EachOf (Promised x more fs) ps ds l) b.ring (subst (λ l. EachOf (Promised x more fs) ps l (ring_of w.seats)) b.sides (subst (λ l. EachOf (Promised x more l) ps (sides_of w.seats) (ring_of w.seats)) b.frames all))
 
-  -- what rests, where it is settled and nothing is wanted of it
-  abbrev pub RestsIf : List (Frame M) → ℕ → V → Side M Q R → Slave V M → Type 0
-  RestsIf fs station start d n = IsSettled n → WantsNothing x d → Rests x fs station start d n
-
   pub bound_rests : (carry : Registers → Registers) (ps : List (Planned V)) → IsPlan x ps → (ds : List (ℕ × Side M Q R)) (ns : Ring V M) (fs : List (Frame M)) → IsBound x carry ps ds ns fs →
-      EachOf (RestsIf fs) ps ds ns
+      EachOf (RestsIf x fs) ps ds ns
   bound_rests carry ps p ds ns fs b =
       let w = run x carry (new_session ps) b.turns in
       let k = run_keeps x law carry (new_session ps) b.turns b.may (new_keeps x law ps p) in
-      let all = each_of x (RestsIf w.frames) w.seats ps (session_starts x carry ps b.turns) (each_rests x law w.frames w.seats k.ready k.sound k.fitted k.records) in
-      subst (λ l. EachOf (RestsIf fs) ps ds l) b.ring (subst (λ l. EachOf (RestsIf fs) ps l (ring_of w.seats)) b.sides (subst (λ l. EachOf (RestsIf l) ps (sides_of w.seats) (ring_of w.seats)) b.frames all))
+      let all = each_of x (RestsIf x w.frames) w.seats ps (session_starts x carry ps b.turns) (each_rests x law w.frames w.seats k.ready k.sound k.fitted k.records) in
+      subst (λ l. EachOf (RestsIf x fs) ps ds l) b.ring (subst (λ l. EachOf (RestsIf x fs) ps l (ring_of w.seats)) b.sides (subst (λ l. EachOf (RestsIf x l) ps (sides_of w.seats) (ring_of w.seats)) b.frames all))

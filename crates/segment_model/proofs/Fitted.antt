@@ -1,5 +1,5 @@
 -- The rows of each seat fit at every moment.
-use Rattle.std.proofs.Common.{◌≡◌, ℕ, zero, suc, ◌+◌, ◌≤◌, ◌&&◌, Bool, true, false, is_none, is_some, Option, Some, None, option_map, List, [], ◌∷◌, ◌++◌, length, refl, ap, sym, ◌∙◌, subst, arith, append_assoc, append-nil, length-append, if◌then◌else◌}
+use Rattle.std.proofs.Common.{◌≡◌, ◌⊎◌, inl, inr, ℕ, zero, suc, ◌+◌, ◌≤◌, ◌&&◌, Bool, true, false, is_none, is_some, Option, Some, None, option_map, List, [], ◌∷◌, ◌++◌, length, refl, ap, sym, ◌∙◌, subst, arith, append_assoc, append-nil, length-append, if◌then◌else◌}
 use Rattle.std.specs.Prelude.{⊤}
 use Rattle.exchange_model.specs.Prefix.{IsPrefixOf}
 use Rattle.exchange_model.specs.Exchange.{Exchange, IsLawful, after, given, emitted}
@@ -15,6 +15,7 @@ use Rattle.link_model.specs.Segment.{RingFate}
 use Rattle.segment_model.specs.Slaves.{Serving, serving, Registers, Datagram, grams, slave_after, frame_after, ring_back}
 use Rattle.segment_model.specs.Laws.{EachSeat}
 use Rattle.segment_model.specs.Seats.{Side, Seat, Choice, link_of, ring_of, newest, rows_of, is_over, is_none_left, side_begins, side_holds, next_mail, first_left, seat_next, seats_next, seat_back, seats_back, seats_lost, seats_after, seat_steps, seat_steps_at, side_lost}
+use Rattle.segment_model.proofs.Overs.{over_parts}
 use Rattle.segment_model.proofs.Links.{Sound, in_order, hears_given}
 use Rattle.segment_model.proofs.Sounds.{SeatSound, began_halves}
 
@@ -75,40 +76,25 @@ module _ {V A M Q R : Type 0} (x : Exchange V A M Q R) (law : IsLawful x) where
           let accepted = sym (nothing_accepted v w s h.1) in
           let held = sym h.1 in
           record { front = []; last = []; split = h.0; moment = subst (λ l. Moment x v [] [] (begun q frame) w.held w.taken l) accepted (subst (λ l. Moment x v [] [] (begun q frame) w.held l []) taken (subst (λ l. Moment x v [] [] (begun q frame) l [] []) held start)) }
-      empty : (ms : List M) (b : Bool) → is_none_left ms && b ≡ true → ms ≡ []
-      empty [] b e = refl
-      empty (m ∷ ms) b e = absurd (cc)
-      second : (a b : Bool) → a && b ≡ true → b ≡ true
-      second true b e = e
-      second false b e = absurd (cc)
-      both : (a b : Bool) → a && b ≡ true → a ≡ true
-      both true b e = refl
-      both false b e = absurd (cc)
-      idle : (holding : Option (LinkMail M)) → is_none holding ≡ true → holding ≡ None
-      idle None e = refl
-      idle (Some m) e = absurd (cc)
-      there : (answer : Option (R × ℕ)) → is_some answer ≡ true → (a : R × ℕ) × (answer ≡ Some a)
-      there None e = absurd (cc)
-      there (Some a) e = (a, refl)
-      more : (q : Q) (r : Row M Q R) → x.valid q ≡ true → (handed : Bool) → x.handed r.service ≡ handed → left x r ≡ [] → (if handed then is_none d.halves.out.holding else is_some r.answer) ≡ true →
+      more : (q : Q) (r : Row M Q R) → x.valid q ≡ true → is_over x d.halves.out.holding d.fresh r ≡ true →
           (front last : List (Row M Q R)) → Moment x v front last r w.held w.taken w.accepted → Moment x v (front ++ last) (r ∷ []) (begun q frame) w.held w.taken w.accepted
-      more q r g true posts none over front last at =
-          Moments.handed x law v ready front last r w.held w.taken w.accepted at posts none (few v w s (ap (λ k. k.out.holding) (sym f) ∙ idle d.halves.out.holding over)) q frame g
-      more q r g false replies none over front last at =
-          let a = there r.answer over in
-          Moments.answered x law v ready front last r w.held w.taken w.accepted at a.0 a.1 none q frame g
-      next : (q : Q) (r : Row M Q R) → d.now ≡ Some r → NowFits v d.past (Some r) w.held w.taken w.accepted → (valid over : Bool) → x.valid q ≡ valid → is_over x d.halves.out.holding r ≡ over →
+      more q r g o front last at =
+          let parts = over_parts x d.halves.out.holding d.fresh r o in
+          elim parts.1 [
+            | inl h ↦ Moments.handed x law v ready front last r w.held w.taken w.accepted at h.0 parts.0 (few v w s (ap (λ k. k.out.holding) (sym f) ∙ h.1)) q frame g
+            | inr a ↦ Moments.answered x law v ready front last r w.held w.taken w.accepted at a.0.0 a.0.1 parts.0 q frame g
+          ]
+      next : (q : Q) (r : Row M Q R) → d.now ≡ Some r → NowFits v d.past (Some r) w.held w.taken w.accepted → (valid over : Bool) → x.valid q ≡ valid → is_over x d.halves.out.holding d.fresh r ≡ over →
           (let t = if valid && over then record d { past = d.past ++ r ∷ []; now = Some (begun q frame) } else d in NowFits v t.past t.now w.held w.taken w.accepted)
       next q r e h false over g o = stays (Some r) e h
       next q r e h true false g o = stays (Some r) e h
       next q r e h true true g o =
-          let none = empty (left x r) _ o in
-          let at = more q r g (x.handed r.service) refl none (second (is_none_left (left x r)) _ o) h.front h.last h.moment in
+          let at = more q r g o h.front h.last h.moment in
           record { front = h.front ++ h.last; last = r ∷ []; split = ap (λ l. l ++ r ∷ []) h.split; moment = at }
       go : (now : Option (Row M Q R)) (begin : Option Q) → d.now ≡ now → NowFits v d.past now w.held w.taken w.accepted → (let e = side_begins x frame d now begin in NowFits v e.past e.now w.held w.taken w.accepted)
       go now None e h = stays now e h
       go None (Some q) e h = first q (x.valid q) refl e h
-      go (Some r) (Some q) e h = next q r e h (x.valid q) (is_over x d.halves.out.holding r) refl refl
+      go (Some r) (Some q) e h = next q r e h (x.valid q) (is_over x d.halves.out.holding d.fresh r) refl refl
 
   -- the next mail is taken up
   holds_fit : (v : V) → x.ready v ≡ true → (d : Side M Q R) (held taken accepted : List M) (holding : Option (LinkMail M)) (hold : Bool) →

@@ -1,9 +1,9 @@
+mod Overs
 mod News
 mod Answers
 mod Links
 mod Views
 mod Sounds
-mod Overs
 mod Fitted
 mod Rising
 mod Kept

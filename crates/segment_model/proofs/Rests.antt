@@ -74,10 +74,10 @@ module _ {V A M Q R : Type 0} (x : Exchange V A M Q R) (law : IsLawful x) where
           subst (λ rs. Rest x s.start rs s.slave.node.server.server s.accepted) (sym (ap (λ l. l ++ []) k.0))
               (subst (λ l. Rest x s.start [] s.slave.node.server.server l) (sym nothing) (subst (λ w. Rest x s.start [] w []) start new))
       go (Some n) k o =
-          let parts = over_parts x s.side.halves.out.holding n o in
+          let parts = over_parts x s.side.halves.out.holding s.side.fresh n o in
           let all : Rest x s.start (k.front ++ k.last ++ n ∷ []) (after x.serve s.start s.taken) s.accepted = elim parts.1 [
             | inl h ↦ Moments.rest_handed x law s.start r k.front k.last n s.held s.taken s.accepted k.moment h.0 parts.0 taken accepted
-            | inr a ↦ Moments.rest_answered x law s.start r k.front k.last n s.held s.taken s.accepted k.moment a.0 a.1 parts.0 taken accepted
+            | inr a ↦ Moments.rest_answered x law s.start r k.front k.last n s.held s.taken s.accepted k.moment a.0.0 a.0.1 parts.0 taken accepted
           ] in
           subst (λ w. Rest x s.start (s.side.past ++ n ∷ []) w s.accepted) served (subst (λ l. Rest x s.start (l ++ n ∷ []) (after x.serve s.start s.taken) s.accepted) (sym k.split) all)
 

@@ -37,7 +37,7 @@ module _ {V A M Q R : Type 0} (x : Exchange V A M Q R) where
       go : (b : Bool) → (let t = if b then record d { now = Some (begun q k) } else d in RisesNow t.past t.now k)
       go true = fresh d.past q k (subst (λ l. Rises l k) (sym h) tt)
       go false = subst (λ n. RisesNow d.past n k) (sym e) h
-  began_rises d k (Some r) (Some q) e h = go (x.valid q && is_over x d.halves.out.holding r)
+  began_rises d k (Some r) (Some q) e h = go (x.valid q && is_over x d.halves.out.holding d.fresh r)
     where
       go : (b : Bool) → (let t = if b then record d { past = d.past ++ r ∷ []; now = Some (begun q k) } else d in RisesNow t.past t.now k)
       go true = fresh (d.past ++ r ∷ []) q k (rises_more d.past r k h.before h.answer)

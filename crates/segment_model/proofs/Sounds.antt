@@ -69,7 +69,7 @@ module _ {V A M Q R : Type 0} (x : Exchange V A M Q R) where
       go : (b : Bool) → (if b then record d { now = Some (begun q frame) } else d).halves ≡ d.halves
       go true = refl
       go false = refl
-  began_halves frame d (Some r) (Some q) = go (x.valid q && is_over x d.halves.out.holding r)
+  began_halves frame d (Some r) (Some q) = go (x.valid q && is_over x d.halves.out.holding d.fresh r)
     where
       go : (b : Bool) → (if b then record d { past = d.past ++ r ∷ []; now = Some (begun q frame) } else d).halves ≡ d.halves
       go true = refl

@@ -58,7 +58,7 @@ pub record IsSettled {V M : Type 0} (s : Slave V M) : Type 0 where
 -- the newest row is over, where there is one
 abbrev pub NothingInHand : {V A M Q R : Type 0} → Exchange V A M Q R → Side M Q R → Option (Row M Q R) → Type 0
 NothingInHand x d None = ⊤
-NothingInHand x d (Some r) = is_over x d.halves.out.holding r ≡ true
+NothingInHand x d (Some r) = is_over x d.halves.out.holding d.fresh r ≡ true
 
 -- the master wants nothing of a slave: no service in hand, the outward half idle, the inward half clear
 pub record WantsNothing {V A M Q R : Type 0} (x : Exchange V A M Q R) (d : Side M Q R) : Type 0 where
@@ -70,8 +70,12 @@ pub record WantsNothing {V A M Q R : Type 0} (x : Exchange V A M Q R) (d : Side 
 abbrev pub Rests : {V A M Q R : Type 0} → Exchange V A M Q R → List (Frame M) → ℕ → V → Side M Q R → Slave V M → Type 0
 Rests x fs station start d n = Rest x start (rows_of d) n.node.server.server (heard station fs)
 
+-- it rests where it is settled and the master wants nothing of it
+abbrev pub RestsIf : {V A M Q R : Type 0} → Exchange V A M Q R → List (Frame M) → ℕ → V → Side M Q R → Slave V M → Type 0
+RestsIf x fs station start d n = IsSettled n → WantsNothing x d → Rests x fs station start d n
+
 abbrev pub SeatRests : {V A M Q R : Type 0} → Exchange V A M Q R → List (Frame M) → Seat V M Q R → Type 0
-SeatRests x fs s = IsSettled s.slave → WantsNothing x s.side → Rests x fs s.station s.start s.side s.slave
+SeatRests x fs s = RestsIf x fs s.station s.start s.side s.slave
 
 -- a fact of each slave of a plan, with the master's side of it and the slave as they stand, in ring order
 abbrev pub EachOf : {V M Q R : Type 0} → (ℕ → V → Side M Q R → Slave V M → Type 0) → List (Planned V) → List (ℕ × Side M Q R) → Ring V M → Type 0

@@ -1,19 +1,20 @@
 -- A session with a segment: per slave the master's side, the slave, and the mails that went between them; its steps by frames; its record.
-use Rattle.std.specs.Prelude.{◌≡◌, ℕ, zero, suc, ◌==◌, ◌&&◌, Bool, true, false, is_none, is_some, if◌then◌else◌, Option, Some, None, option_map, List, [], ◌∷◌, ◌++◌, map, length, ⊤}
+use Rattle.std.specs.Prelude.{◌≡◌, ℕ, zero, suc, ◌==◌, ◌&&◌, ◌||◌, Bool, true, false, not, is_none, is_some, if◌then◌else◌, Option, Some, None, option_map, List, [], ◌∷◌, ◌++◌, map, length, ⊤}
 use Rattle.exchange_model.specs.Exchange.{Exchange}
 use Rattle.exchange_model.specs.Rows.{Row, begun, row_heard, row_told, left}
 use Rattle.link_model.specs.Master.{InState, out_hold}
 use Rattle.link_model.specs.Slave.{Server, node_look, node_take, node_takes, node_offers}
 use Rattle.link_model.specs.Link.{Halves, Link, Fate, new_link}
 use Rattle.link_model.specs.Mails.{LinkMail}
-use Rattle.link_model.specs.Frames.{halves_after, halves_without, all_accepted, IsFrameFor}
+use Rattle.link_model.specs.Frames.{Ask, Gram, halves_after, halves_without, all_accepted, IsFrameFor}
 use Rattle.link_model.specs.Segment.{RingFate, Distinct}
 use Rattle.segment_model.specs.Slaves.{Serving, serving, Registers, Datagram, grams, Slave, Ring, slave_after, frame_after, slave_steps, ring_back, Move}
 use Rattle.segment_model.specs.Record.{Frame}
 
--- the master's side of one slave: its two halves, the rows that are over, and the newest row
+-- the master's side of one slave: its two halves, whether the mail held was not yet sent, the rows that are over, and the newest row
 pub record Side (M Q R : Type 0) : Type 0 where
   pub halves : Halves M
+  pub fresh : Bool
   pub past : List (Row M Q R)
   pub now : Option (Row M Q R)
 
@@ -59,9 +60,10 @@ abbrev pub is_none_left : {M : Type 0} → List M → Bool
 is_none_left [] = true
 is_none_left (m ∷ ms) = false
 
--- a row is over: nothing is left to tell, and it has its answer, or, where it ends with its last write, that write is done
-abbrev pub is_over : {V A M Q R : Type 0} → Exchange V A M Q R → Option (LinkMail M) → Row M Q R → Bool
-is_over x holding r = is_none_left (left x r) && (if x.handed r.service then is_none holding else is_some r.answer)
+-- a row is over: nothing is left to tell, and it has its answer and its last mail was sent, or, where it ends with its last write, that
+-- write is done
+abbrev pub is_over : {V A M Q R : Type 0} → Exchange V A M Q R → Option (LinkMail M) → Bool → Row M Q R → Bool
+is_over x holding fresh r = is_none_left (left x r) && (if x.handed r.service then is_none holding else is_some r.answer && not fresh)
 
 
 -- a service comes into hand, where it is one of those that the laws speak of and the newest row is over
@@ -69,7 +71,7 @@ abbrev pub side_begins : {V A M Q R : Type 0} → Exchange V A M Q R → ℕ →
 side_begins x frame d now None = d
 side_begins x frame d None (Some q) = if x.valid q then record d { now = Some (begun q frame) } else d
 side_begins x frame d (Some r) (Some q) =
-    if x.valid q && is_over x d.halves.out.holding r then record d { past = d.past ++ r ∷ []; now = Some (begun q frame) } else d
+    if x.valid q && is_over x d.halves.out.holding d.fresh r then record d { past = d.past ++ r ∷ []; now = Some (begun q frame) } else d
 
 -- the first mail of those left
 abbrev pub first_left : {M : Type 0} → List M → List M
@@ -88,6 +90,7 @@ abbrev pub side_holds : {M Q R : Type 0} → Side M Q R → List M → Side M Q 
 side_holds d [] = d
 side_holds d (m ∷ ms) = record {
   halves = record d.halves { out = out_hold d.halves.out m };
+  fresh = true;
   past = d.past;
   now = option_map (λ r. row_told m r) d.now;
 }
@@ -103,16 +106,29 @@ side_takes_up x frame d c =
     let e = side_begins x frame d d.now c.begin in
     next_mail x e.now e.halves.out.holding c.hold
 
+-- the frame writes mailbox 0 of this station
+abbrev pub is_write : {M : Type 0} → Ask M → Bool
+is_write (Ask.WriteMail m) = true
+is_write Ask.ReadMail = false
+is_write (Ask.WriteRequest bit) = false
+is_write Ask.ReadAcknowledge = false
+is_write Ask.Other = false
+
+abbrev pub writes : {M : Type 0} → ℕ → List (Gram M) → Bool
+writes station [] = false
+writes station (g ∷ gs) = if g.station == station then is_write g.ask || writes station gs else writes station gs
+
 -- the side of this station behind a frame that came back, and behind a lost one
 abbrev pub side_back : {V A M Q R : Type 0} → Exchange V A M Q R → ℕ → ℕ → List (Datagram M) → Side M Q R → Side M Q R
 side_back x frame station back d = record {
   halves = halves_after station d.halves (grams back);
+  fresh = d.fresh && not (writes station (grams back));
   past = d.past;
   now = option_map (λ r. row_heard x frame (all_accepted station d.halves (grams back)) r) d.now;
 }
 
 abbrev pub side_lost : {M Q R : Type 0} → ℕ → List (Datagram M) → Side M Q R → Side M Q R
-side_lost station sent d = record d { halves = halves_without station d.halves (grams sent) }
+side_lost station sent d = record d { halves = halves_without station d.halves (grams sent); fresh = d.fresh && not (writes station (grams sent)) }
 
 -- the seat before a frame
 abbrev pub seat_next : {V A M Q R : Type 0} → Exchange V A M Q R → ℕ → Seat V M Q R → Choice Q → Seat V M Q R
@@ -214,7 +230,7 @@ new_seat p =
     record {
       station = p.station;
       start = p.server;
-      side = record { halves = w.halves; past = []; now = None };
+      side = record { halves = w.halves; fresh = false; past = []; now = None };
       slave = record { node = w.node; registers = p.registers };
       held = [];
       taken = [];
