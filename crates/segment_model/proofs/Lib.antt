@@ -10,3 +10,5 @@ mod Kept
 mod Replays
 mod Rests
 mod Bounds
+mod ToyRun
+mod GivenUps

@@ -4,3 +4,4 @@ pub mod Ends
 pub mod Seats
 pub mod Laws
 pub mod Split
+pub mod GiveUps

@@ -1,9 +1,11 @@
 //! The laws of a session with a segment. Each function does nothing and carries laws as its contract.
 
-ghost use Rattle.std.specs.Prelude.{◌≡◌, ℕ, Bool, List, [], ◌∷◌, ◌++◌, length};
+ghost use Rattle.std.specs.Prelude.{◌≡◌, ◌≤◌, ℕ, Bool, List, [], ◌∷◌, ◌++◌, length};
 ghost use Rattle.exchange_model.specs.Exchange.{Exchange, IsLawful};
 ghost use Rattle.segment_model.specs.Slaves.{Registers, Ring, Move, ring_after, ring_back, ring_steps, replayed};
-ghost use Rattle.segment_model.specs.Record.{Frame, frame_of, recorded};
+ghost use Rattle.segment_model.specs.Record.{Frame, frame_of, recorded, news_from, first_end};
+ghost use Rattle.segment_model.specs.Ends.{Task, ends};
+ghost use Rattle.segment_model.specs.GiveUps.{NoneFor};
 ghost use Rattle.segment_model.specs.Seats.{Side, Choice, Turn, Planned, IsPlan, MayRun, run, new_session, ring_of, sides_of, moves};
 ghost use Rattle.segment_model.specs.Split.{IsBound, IsFrameOf, sides_next, sides_after};
 ghost use Rattle.segment_model.specs.Laws.{EachOf, Promised, RestsIf};
@@ -42,4 +44,10 @@ pub fn split_law<V, A, M, Q, R>()
     // And each run of a session is such a meeting.
     ensures runs { (x : Exchange V A M Q R) (carry : Registers → Registers) (ps : List (Planned V)) (ts : List (Turn M Q)) →
         let new = new_session {M = M} {Q = Q} {R = R} ps in MayRun x carry new ts → let w = run x carry new ts in IsBound x carry ps (sides_of w.seats) (ring_of w.seats) w.frames }
+{}
+
+/// A give-up: frames that carry nothing for a slave complete nothing, so what its tasks come to is told by the frames before.
+pub fn give_up_law<V, A, M, Q, R>()
+    ensures behind { (x : Exchange V A M Q R) → IsLawful x → (more : M → Bool) (task : Task M Q) (station frame : ℕ) (front behind : List (Frame M)) → frame ≤ length front → NoneFor station behind →
+        first_end (ends x more task) frame [] (news_from station frame (front ++ behind)) ≡ first_end (ends x more task) frame [] (news_from station frame front) }
 {}
