@@ -48,6 +48,6 @@ pub fn split_law<V, A, M, Q, R>()
 
 /// A give-up: frames that carry nothing for a slave complete nothing, so what its tasks come to is told by the frames before.
 pub fn give_up_law<V, A, M, Q, R>()
-    ensures behind { (x : Exchange V A M Q R) → IsLawful x → (more : M → Bool) (task : Task M Q) (station frame : ℕ) (front behind : List (Frame M)) → frame ≤ length front → NoneFor station behind →
+    ensures { (x : Exchange V A M Q R) → IsLawful x → (more : M → Bool) (task : Task M Q) (station frame : ℕ) (front behind : List (Frame M)) → frame ≤ length front → NoneFor station behind →
         first_end (ends x more task) frame [] (news_from station frame (front ++ behind)) ≡ first_end (ends x more task) frame [] (news_from station frame front) }
 {}

@@ -3,5 +3,5 @@ use Rattle.segment_model.specs.Ends.{ends}
 use Rattle.segment_model.proofs.GivenUps.{quiet_frames, ends_none}
 use Rattle.segment_model.proofs.laws.give_up_law.Goals as goal
 
-pub returns-clause-behind : goal.returns-clause-behind
-returns-clause-behind g c = λ x law more task station frame front behind le none. quiet_frames (ends x more task) (ends_none x law more task) station frame front behind le none
+pub returns : goal.returns
+returns g c = λ x law more task station frame front behind le none. quiet_frames (ends x more task) (ends_none x law more task) station frame front behind le none
