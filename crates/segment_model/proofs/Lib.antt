@@ -12,3 +12,4 @@ mod Rests
 mod Bounds
 mod ToyRun
 mod GivenUps
+mod Definitions

@@ -37,13 +37,17 @@ abbrev pub Rises : {M Q R : Type 0} → List (Row M Q R) → ℕ → Type 0
 Rises [] end = ⊤
 Rises {R = R} (r ∷ rs) end = ((answer : R × ℕ) → r.answer ≡ Some answer → answer.1 < next_frame rs end) × Rises rs end
 
--- THE PROMISE of a session for one slave, which began with the server `start`: the answers are those that the frames give, in the order of
--- its rows; and the rows fit what the frames let the master hear, so the server has carried out just their first services
-pub record Promised {V A M Q R : Type 0} (x : Exchange V A M Q R) (more : M → Bool) (fs : List (Frame M)) (station : ℕ) (start : V)
-    (d : Side M Q R) (n : Slave V M) : Type 0 where
-  pub answers : AllAnswered x more station fs (rows_of d)
-  pub rises : Rises (rows_of d) (length fs)
-  pub fits : Fits x start (rows_of d) n.node.server.server (heard station fs)
+-- THE PROMISE for the rows of one slave over these frames, between a server `start` and a server `end`: the answers are those that the frames
+-- give, in the order of the rows; and the rows fit what the frames let the master hear, so the server has carried out just their first services
+pub record RowsPromised {V A M Q R : Type 0} (x : Exchange V A M Q R) (more : M → Bool) (fs : List (Frame M)) (station : ℕ) (start : V)
+    (rs : List (Row M Q R)) (end : V) : Type 0 where
+  pub answers : AllAnswered x more station fs rs
+  pub rises : Rises rs (length fs)
+  pub fits : Fits x start rs end (heard station fs)
+
+-- for the master's side of a slave and the slave as they stand
+abbrev pub Promised : {V A M Q R : Type 0} → Exchange V A M Q R → (M → Bool) → List (Frame M) → ℕ → V → Side M Q R → Slave V M → Type 0
+Promised x more fs station start d n = RowsPromised x more fs station start (rows_of d) n.node.server.server
 
 abbrev pub SeatPromised : {V A M Q R : Type 0} → Exchange V A M Q R → (M → Bool) → List (Frame M) → Seat V M Q R → Type 0
 SeatPromised x more fs s = Promised x more fs s.station s.start s.side s.slave

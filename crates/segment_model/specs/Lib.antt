@@ -5,3 +5,7 @@ pub mod Seats
 pub mod Laws
 pub mod Split
 pub mod GiveUps
+pub mod Visits
+pub mod Switching
+pub mod Epochs
+pub mod Books
