@@ -1,16 +1,14 @@
 -- The answers of rows are those that the frames give: an invariant of the master's side and the record, without any slave.
-use Rattle.std.proofs.Common.{◌≡◌, ◌⊎◌, inl, inr, ℕ, zero, suc, ◌+◌, ◌-◌, ◌≤◌, ◌==◌, ◌&&◌, Bool, true, false, is_none, is_some, if◌then◌else◌, Option, Some, None, option_map, List, [], ◌∷◌, ◌++◌, map, drop, length, refl, ap, sym, ◌∙◌, subst, arith, append_assoc, append-nil, length-append}
+use Rattle.std.proofs.Common.{◌≡◌, ◌⊎◌, inl, inr, ℕ, zero, suc, ◌+◌, ◌≤◌, ◌==◌, ◌&&◌, Bool, true, false, if◌then◌else◌, Option, Some, None, option_map, List, [], ◌∷◌, ◌++◌, drop, length, refl, ap, sym, ◌∙◌, subst, arith, append_assoc, append-nil, length-append}
 use Rattle.std.specs.Prelude.{⊤}
 use Rattle.std.proofs.lemmas.List.{drop-append-le}
 use Rattle.exchange_model.specs.Exchange.{Exchange, IsLawful, plain}
-use Rattle.exchange_model.specs.Rows.{Row, begun, row_heard, row_told, answer_after, left}
-use Rattle.link_model.specs.Mails.{LinkMail}
+use Rattle.exchange_model.specs.Rows.{Row, begun, row_heard, row_told, answer_after}
 use Rattle.link_model.specs.Link.{Halves}
-use Rattle.link_model.specs.Master.{out_hold}
-use Rattle.link_model.specs.Frames.{Ask, Gram, all_accepted, halves_after, halves_lost, halves_without}
-use Rattle.segment_model.specs.Slaves.{Datagram, grams}
+use Rattle.link_model.specs.Frames.{Ask, Gram, all_accepted, halves_lost, halves_without}
+use Rattle.segment_model.specs.Slaves.{grams}
 use Rattle.segment_model.specs.Record.{Frame, News, Kept, first_end, or_later, news_each, kept_all, kept_after, nothing_kept, news_from, frame_news, heard_behind, mails_heard, joined}
-use Rattle.segment_model.specs.Seats.{Side, Choice, side_begins, side_holds, side_next, side_back, side_lost, next_mail, is_over, is_none_left, newest, rows_of}
+use Rattle.segment_model.specs.Seats.{Side, Choice, side_begins, side_holds, side_next, side_back, side_lost, next_mail, is_over}
 use Rattle.segment_model.proofs.Overs.{over_parts}
 use Rattle.segment_model.proofs.News.{mails_heard-append, heard_frame, kept_back, joined-append}
 
@@ -26,13 +24,16 @@ first_end-push {R = R} e f before (ms ∷ nss) ns = put (e (before ++ ms)) (more
   where
     later : Option (R × ℕ)
     later = first_end e (suc f) (before ++ ms) nss
+
     all : Option R
     all = e (before ++ (ms ++ joined nss) ++ ns)
+
     more : first_end e (suc f) (before ++ ms) (nss ++ ns ∷ []) ≡ answer_after (suc f + length nss) later (e ((before ++ ms) ++ joined nss ++ ns)) →
         first_end e (suc f) (before ++ ms) (nss ++ ns ∷ []) ≡ answer_after (f + suc (length nss)) later all
     more h = h
         ∙ ap (λ k. answer_after k later (e ((before ++ ms) ++ joined nss ++ ns))) (omega arith)
         ∙ ap (λ l. answer_after (f + suc (length nss)) later (e l)) (ap (λ l. l ++ ns) (append_assoc before ms (joined nss)))
+
     put : (r : Option R) → first_end e (suc f) (before ++ ms) (nss ++ ns ∷ []) ≡ answer_after (f + suc (length nss)) later all →
         or_later r f (first_end e (suc f) (before ++ ms) (nss ++ ns ∷ [])) ≡ answer_after (f + suc (length nss)) (or_later r f later) all
     put None h = h
@@ -138,16 +139,18 @@ module _ {V A M Q R : Type 0} (x : Exchange V A M Q R) (law : IsLawful x) where
   -- no further frame changes a row that is over
   closed_stays : (station : ℕ) (fs : List (Frame M)) (f : Frame M) (r : Row M Q R) → Closed station fs r → Closed station (fs ++ f ∷ []) r
   closed_stays station fs f r c = record {
-      begun = subst (λ n. r.frame ≤ n) (sym (length-append fs (f ∷ []))) (omega (arith, c.begun));
-      same = go c.over;
-      over = c.over;
-    }
+    begun = subst (λ n. r.frame ≤ n) (sym (length-append fs (f ∷ []))) (omega (arith, c.begun));
+    same = go c.over;
+    over = c.over;
+  }
     where
       found : Option R
       found = x.ends r.service (plain x.emission (mails_heard (joined (news_from station r.frame fs)) ++ mails_heard (frame_news station (kept_of station fs) f)))
+
       keeps : (answer : Option (R × ℕ)) → answer_after (length fs) answer None ≡ answer
       keeps None = refl
       keeps (Some a) = refl
+
       go : ((answer : R × ℕ) × (r.answer ≡ Some answer)) ⊎ (x.handed r.service ≡ true) → r.answer ≡ first_reply station (fs ++ f ∷ []) r
       go (inl a) = a.1 ∙ ap (λ b. answer_after (length fs) b found) (sym a.1 ∙ c.same) ∙ sym (push_reply station fs f r c.begun)
       go (inr h) =
@@ -161,16 +164,16 @@ module _ {V A M Q R : Type 0} (x : Exchange V A M Q R) (law : IsLawful x) where
   -- the newest row behind one more frame, by the mails that it brought
   open_hears : (station : ℕ) (fs : List (Frame M)) (f : Frame M) (r : Row M Q R) (ms : List M) → mails_heard (frame_news station (kept_of station fs) f) ≡ ms → Open station fs r → Open station (fs ++ f ∷ []) (row_heard x (length fs) ms r)
   open_hears station fs f r ms e o = record {
-      begun = subst (λ n. r.frame ≤ n) (sym (length-append fs (f ∷ []))) (omega (arith, o.begun));
-      same =
-          ap (λ a. answer_after (length fs) a (x.ends r.service (plain x.emission (r.heard ++ ms)))) o.same
-          ∙ ap (λ l. answer_after (length fs) (first_reply station fs r) (x.ends r.service (plain x.emission l))) (ap (λ l. l ++ ms) o.hears ∙ ap (λ l. mails_heard (joined (news_from station r.frame fs)) ++ l) (sym e))
-          ∙ sym (push_reply station fs f r o.begun);
-      hears =
-          ap (λ l. l ++ ms) o.hears ∙ ap (λ l. mails_heard (joined (news_from station r.frame fs)) ++ l) (sym e)
-          ∙ sym (ap mails_heard (ap joined (news_from-push station r.frame fs f o.begun) ∙ joined-append (news_from station r.frame fs) _) ∙ mails_heard-append (joined (news_from station r.frame fs)) _);
-      quiet = silent r.answer (x.ends r.service (plain x.emission (r.heard ++ ms)));
-    }
+    begun = subst (λ n. r.frame ≤ n) (sym (length-append fs (f ∷ []))) (omega (arith, o.begun));
+    same =
+        ap (λ a. answer_after (length fs) a (x.ends r.service (plain x.emission (r.heard ++ ms)))) o.same
+        ∙ ap (λ l. answer_after (length fs) (first_reply station fs r) (x.ends r.service (plain x.emission l))) (ap (λ l. l ++ ms) o.hears ∙ ap (λ l. mails_heard (joined (news_from station r.frame fs)) ++ l) (sym e))
+        ∙ sym (push_reply station fs f r o.begun);
+    hears =
+        ap (λ l. l ++ ms) o.hears ∙ ap (λ l. mails_heard (joined (news_from station r.frame fs)) ++ l) (sym e)
+        ∙ sym (ap mails_heard (ap joined (news_from-push station r.frame fs f o.begun) ∙ joined-append (news_from station r.frame fs) _) ∙ mails_heard-append (joined (news_from station r.frame fs)) _);
+    quiet = silent r.answer (x.ends r.service (plain x.emission (r.heard ++ ms)));
+  }
     where
       silent : (old : Option (R × ℕ)) (new : Option R) → answer_after (length fs) old new ≡ None → new ≡ None
       silent None None h = refl
@@ -199,11 +202,14 @@ module _ {V A M Q R : Type 0} (x : Exchange V A M Q R) (law : IsLawful x) where
         hears = sym (ap (λ l. mails_heard (joined l)) (news_from-none station fs));
         quiet = λ none. law.none q;
       }
+
       past_and : (rs : List (Row M Q R)) (r : Row M Q R) → AllClosed station fs rs → Closed station fs r → AllClosed station fs (rs ++ r ∷ [])
       past_and [] r c k = (k, tt)
       past_and (p ∷ rs) r c k = (c.0, past_and rs r c.1 k)
+
       over : (r : Row M Q R) → is_over x d.halves.out.holding d.fresh r ≡ true → ((answer : R × ℕ) × (r.answer ≡ Some answer)) ⊎ (x.handed r.service ≡ true)
       over r o = elim (over_parts x d.halves.out.holding d.fresh r o).1 [ inl h ↦ inr h.0 | inr a ↦ inl a.0 ]
+
       next : (q : Q) (r : Row M Q R) → d.now ≡ Some r → (valid over_now : Bool) → is_over x d.halves.out.holding d.fresh r ≡ over_now → Listens station fs (if valid && over_now then record d { past = d.past ++ r ∷ []; now = Some (begun q (length fs)) } else d)
       next q r e false over_now o = l
       next q r e true false o = l
@@ -211,9 +217,11 @@ module _ {V A M Q R : Type 0} (x : Exchange V A M Q R) (law : IsLawful x) where
           let open_row : Open station fs r = subst (OpenNow station fs) e l.now in
           let closed : Closed station fs r = record { begun = open_row.begun; same = open_row.same; over = over r o } in
           record { kept = l.kept; past = past_and d.past r l.past closed; now = fresh q }
+
       first : (q : Q) (valid : Bool) → Listens station fs (if valid then record d { now = Some (begun q (length fs)) } else d)
       first q false = l
       first q true = record { kept = l.kept; past = l.past; now = fresh q }
+
       go : (now : Option (Row M Q R)) (begin : Option Q) → d.now ≡ now → Listens station fs (side_begins x (length fs) d now begin)
       go now None e = l
       go None (Some q) e = first q (x.valid q)
@@ -235,15 +243,17 @@ module _ {V A M Q R : Type 0} (x : Exchange V A M Q R) (law : IsLawful x) where
   -- and a frame: it came back
   pub back_listens : (station : ℕ) (fs : List (Frame M)) (d : Side M Q R) (f : Frame M) → Listens station fs d → Listens station (fs ++ f ∷ []) (side_back x (length fs) station f.back d)
   back_listens station fs d f l = record {
-      kept = sym (kept_back station d.halves f.back) ∙ ap (λ k. kept_in k) l.kept ∙ sym (ap (λ k. k.heard) (kept_all-push station nothing_kept fs f));
-      past = all_stay station fs f d.past l.past;
-      now = go d.now l.now;
-    }
+    kept = sym (kept_back station d.halves f.back) ∙ ap (λ k. kept_in k) l.kept ∙ sym (ap (λ k. k.heard) (kept_all-push station nothing_kept fs f));
+    past = all_stay station fs f d.past l.past;
+    now = go d.now l.now;
+  }
     where
       kept_in : ℕ → ℕ
       kept_in k = heard_behind station k f.back
+
       ms : List M
       ms = all_accepted station d.halves (grams f.back)
+
       go : (now : Option (Row M Q R)) → OpenNow station fs now → OpenNow station (fs ++ f ∷ []) (option_map (λ r. row_heard x (length fs) ms r) now)
       go None o = tt
       go (Some r) o = open_hears station fs f r ms (heard_frame station (kept_of station fs) d.halves f l.kept) o
@@ -251,13 +261,14 @@ module _ {V A M Q R : Type 0} (x : Exchange V A M Q R) (law : IsLawful x) where
   -- or it was lost
   pub lost_listens : (station : ℕ) (fs : List (Frame M)) (d : Side M Q R) (f : Frame M) → f.back ≡ [] → Listens station fs d → Listens station (fs ++ f ∷ []) (side_lost station f.sent d)
   lost_listens station fs d f e l = record {
-      kept = halves_without-last station d.halves (grams f.sent) ∙ l.kept ∙ ap (λ ds. heard_behind station (kept_of station fs).heard ds) (sym e) ∙ sym (ap (λ k. k.heard) (kept_all-push station nothing_kept fs f));
-      past = all_stay station fs f d.past l.past;
-      now = go d.now l.now;
-    }
+    kept = halves_without-last station d.halves (grams f.sent) ∙ l.kept ∙ ap (λ ds. heard_behind station (kept_of station fs).heard ds) (sym e) ∙ sym (ap (λ k. k.heard) (kept_all-push station nothing_kept fs f));
+    past = all_stay station fs f d.past l.past;
+    now = go d.now l.now;
+  }
     where
       nothing : mails_heard (frame_news station (kept_of station fs) f) ≡ []
       nothing = heard_frame station (kept_of station fs) d.halves f l.kept ∙ ap (λ ds. all_accepted station d.halves (grams ds)) e
+
       go : (now : Option (Row M Q R)) → OpenNow station fs now → OpenNow station (fs ++ f ∷ []) now
       go None o = tt
       go (Some r) o = open_waits station fs f r nothing o

@@ -1,14 +1,13 @@
 -- The promise, and rest, of sides and slaves that a session has come to.
-use Rattle.std.proofs.Common.{◌≡◌, ℕ, zero, suc, Bool, List, [], ◌∷◌, ◌++◌, map, length, refl, ap, sym, ◌∙◌, subst}
-use Rattle.std.specs.Prelude.{⊤}
+use Rattle.std.proofs.Common.{◌≡◌, ℕ, zero, suc, Bool, List, [], ◌∷◌, map, length, refl, ap, sym, ◌∙◌, subst}
 use Rattle.exchange_model.specs.Exchange.{Exchange, IsLawful}
 use Rattle.link_model.specs.Segment.{RingFate}
 use Rattle.segment_model.specs.Slaves.{Registers, Datagram, Ring, Slave, frame_after, ring_back}
 use Rattle.segment_model.specs.Record.{Frame}
 use Rattle.segment_model.specs.Seats.{Side, Seat, Choice, Turn, Session, Planned, IsPlan, ring_of, sides_of, seats_next, seats_back, seats_lost, seats_after, seat_steps_at, seats_step, happens, run, new_session}
 use Rattle.segment_model.specs.Split.{IsBound}
-use Rattle.segment_model.specs.Laws.{EachSeat, EachOf, Promised, SeatPromised, RestsIf, SeatRests}
-use Rattle.segment_model.proofs.Kept.{Keeps, run_keeps, new_keeps, each_promised}
+use Rattle.segment_model.specs.Laws.{EachSeat, EachOf, Promised, RestsIf}
+use Rattle.segment_model.proofs.Kept.{run_keeps, new_keeps, each_promised}
 use Rattle.segment_model.proofs.Rests.{each_rests}
 
 -- the stations of seats and the servers that they began with

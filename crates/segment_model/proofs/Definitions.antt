@@ -1,13 +1,12 @@
 -- Worked rows of the definitions of visits and of a switch's events, each computed.
-use Rattle.std.proofs.Common.{◌≡◌, ℕ, Bool, true, false, Option, Some, None, List, [], ◌∷◌, ◌++◌, map, length, refl, arith}
-use Rattle.std.specs.Prelude.{⊤}
+use Rattle.std.proofs.Common.{◌≡◌, ℕ, false, Option, Some, None, List, [], ◌∷◌, refl, arith}
 use Rattle.link_model.specs.Segment.{RingFate}
 use Rattle.link_model.specs.Frames.{Ask}
 use Rattle.segment_model.specs.Slaves.{Datagram, Address, Access, Found}
 use Rattle.segment_model.specs.Record.{Frame}
 use Rattle.segment_model.specs.Visits.{Stop, new_tour, Visits}
-use Rattle.segment_model.specs.Switching.{SwitchEvent, Numbered, IsPort, NotFalling}
-use Rattle.segment_model.specs.Epochs.{Epoch, frames_in}
+use Rattle.segment_model.specs.Switching.{SwitchEvent, Numbered, IsPort}
+use Rattle.segment_model.specs.Epochs.{frames_in}
 
 abbrev stop : ℕ → Stop
 stop station = record { station = station; state = 2; area = 128 }

@@ -1,23 +1,20 @@
 -- The rows of each seat fit at every moment.
-use Rattle.std.proofs.Common.{◌≡◌, ◌⊎◌, inl, inr, ℕ, zero, suc, ◌+◌, ◌≤◌, ◌&&◌, Bool, true, false, is_none, is_some, Option, Some, None, option_map, List, [], ◌∷◌, ◌++◌, length, refl, ap, sym, ◌∙◌, subst, arith, append_assoc, append-nil, length-append, if◌then◌else◌}
-use Rattle.std.specs.Prelude.{⊤}
+use Rattle.std.proofs.Common.{◌≡◌, inl, inr, ℕ, zero, suc, ◌+◌, ◌≤◌, ◌&&◌, Bool, true, false, Option, Some, None, option_map, List, [], ◌∷◌, ◌++◌, length, refl, ap, sym, ◌∙◌, subst, arith, append-nil, length-append, if◌then◌else◌}
 use Rattle.exchange_model.specs.Prefix.{IsPrefixOf}
-use Rattle.exchange_model.specs.Exchange.{Exchange, IsLawful, after, given, emitted}
-use Rattle.exchange_model.specs.Rows.{Row, Fits, Rest, begun, row_heard, row_told, left}
+use Rattle.exchange_model.specs.Exchange.{Exchange, IsLawful, after, given}
+use Rattle.exchange_model.specs.Rows.{Row, Fits, begun, row_heard, row_told, left}
 use Rattle.exchange_model.specs.Laws.{Moment}
 use Rattle.exchange_model.proofs.Lists.{append_none}
 use Rattle.exchange_model.proofs.Moments
 use Rattle.link_model.specs.Mails.{LinkMail, news, is_repeat, seen}
 use Rattle.link_model.specs.Link.{Link}
-use Rattle.link_model.specs.Agree.{OutAgree}
-use Rattle.link_model.specs.Frames.{all_accepted}
 use Rattle.link_model.specs.Segment.{RingFate}
-use Rattle.segment_model.specs.Slaves.{Serving, serving, Registers, Datagram, grams, slave_after, frame_after, ring_back}
+use Rattle.segment_model.specs.Slaves.{Serving, Registers, Datagram, frame_after, ring_back}
 use Rattle.segment_model.specs.Laws.{EachSeat}
-use Rattle.segment_model.specs.Seats.{Side, Seat, Choice, link_of, ring_of, newest, rows_of, is_over, is_none_left, side_begins, side_holds, next_mail, first_left, seat_next, seats_next, seat_back, seats_back, seats_lost, seats_after, seat_steps, seat_steps_at, side_lost}
+use Rattle.segment_model.specs.Seats.{Side, Seat, Choice, link_of, ring_of, newest, rows_of, is_over, side_begins, side_holds, next_mail, first_left, seat_next, seats_next, seat_back, seats_back, seats_lost, seats_after, seat_steps, seat_steps_at}
 use Rattle.segment_model.proofs.Overs.{over_parts}
 use Rattle.segment_model.proofs.Links.{Sound, in_order, hears_given}
-use Rattle.segment_model.proofs.Sounds.{SeatSound, began_halves}
+use Rattle.segment_model.proofs.Sounds.{SeatSound}
 
 -- with an idle half at most one mail is on its way
 few_news : {M : Type 0} (last : ℕ) (box : Option (LinkMail M)) → length (news last box) ≤ 1
@@ -67,6 +64,7 @@ module _ {V A M Q R : Type 0} (x : Exchange V A M Q R) (law : IsLawful x) where
     where
       stays : (now : Option (Row M Q R)) → d.now ≡ now → NowFits v d.past now w.held w.taken w.accepted → NowFits v d.past d.now w.held w.taken w.accepted
       stays now e h = subst (λ n. NowFits v d.past n w.held w.taken w.accepted) (sym e) h
+
       first : (q : Q) (valid : Bool) → x.valid q ≡ valid → d.now ≡ None → NowFits v d.past None w.held w.taken w.accepted →
           (let t = if valid then record d { now = Some (begun q frame) } else d in NowFits v t.past t.now w.held w.taken w.accepted)
       first q false g e h = stays None e h
@@ -76,6 +74,7 @@ module _ {V A M Q R : Type 0} (x : Exchange V A M Q R) (law : IsLawful x) where
           let accepted = sym (nothing_accepted v w s h.1) in
           let held = sym h.1 in
           record { front = []; last = []; split = h.0; moment = subst (λ l. Moment x v [] [] (begun q frame) w.held w.taken l) accepted (subst (λ l. Moment x v [] [] (begun q frame) w.held l []) taken (subst (λ l. Moment x v [] [] (begun q frame) l [] []) held start)) }
+
       more : (q : Q) (r : Row M Q R) → x.valid q ≡ true → is_over x d.halves.out.holding d.fresh r ≡ true →
           (front last : List (Row M Q R)) → Moment x v front last r w.held w.taken w.accepted → Moment x v (front ++ last) (r ∷ []) (begun q frame) w.held w.taken w.accepted
       more q r g o front last at =
@@ -84,6 +83,7 @@ module _ {V A M Q R : Type 0} (x : Exchange V A M Q R) (law : IsLawful x) where
             | inl h ↦ Moments.handed x law v ready front last r w.held w.taken w.accepted at h.0 parts.0 (few v w s (ap (λ k. k.out.holding) (sym f) ∙ h.1)) q frame g
             | inr a ↦ Moments.answered x law v ready front last r w.held w.taken w.accepted at a.0.0 a.0.1 parts.0 q frame g
           ]
+
       next : (q : Q) (r : Row M Q R) → d.now ≡ Some r → NowFits v d.past (Some r) w.held w.taken w.accepted → (valid over : Bool) → x.valid q ≡ valid → is_over x d.halves.out.holding d.fresh r ≡ over →
           (let t = if valid && over then record d { past = d.past ++ r ∷ []; now = Some (begun q frame) } else d in NowFits v t.past t.now w.held w.taken w.accepted)
       next q r e h false over g o = stays (Some r) e h
@@ -91,6 +91,7 @@ module _ {V A M Q R : Type 0} (x : Exchange V A M Q R) (law : IsLawful x) where
       next q r e h true true g o =
           let at = more q r g o h.front h.last h.moment in
           record { front = h.front ++ h.last; last = r ∷ []; split = ap (λ l. l ++ r ∷ []) h.split; moment = at }
+
       go : (now : Option (Row M Q R)) (begin : Option Q) → d.now ≡ now → NowFits v d.past now w.held w.taken w.accepted → (let e = side_begins x frame d now begin in NowFits v e.past e.now w.held w.taken w.accepted)
       go now None e h = stays now e h
       go None (Some q) e h = first q (x.valid q) refl e h
@@ -103,14 +104,17 @@ module _ {V A M Q R : Type 0} (x : Exchange V A M Q R) (law : IsLawful x) where
     where
       same : NowFits v d.past d.now (held ++ []) taken accepted
       same = subst (λ l. NowFits v d.past d.now l taken accepted) (sym (append-nil held)) h
+
       one : (r : Row M Q R) (m : M) (more : List M) → d.now ≡ Some r → left x r ≡ m ∷ more → NowFits v d.past (option_map (λ r. row_told m r) d.now) (held ++ m ∷ []) taken accepted
       one r m more e f =
           let k : NowFits v d.past (Some r) held taken accepted = subst (λ n. NowFits v d.past n held taken accepted) e h in
           let at = Moments.holds x law v ready k.front k.last r held taken accepted k.moment m more f in
           subst (λ n. NowFits v d.past (option_map (λ r. row_told m r) n) (held ++ m ∷ []) taken accepted) (sym e) (record { front = k.front; last = k.last; split = k.split; moment = at })
+
       first : (r : Row M Q R) (ms : List M) → d.now ≡ Some r → left x r ≡ ms → (let e = side_holds d (first_left ms) in NowFits v e.past e.now (held ++ first_left ms) taken accepted)
       first r [] e f = same
       first r (m ∷ ms) e f = one r m ms e f
+
       go : (now : Option (Row M Q R)) (holding : Option (LinkMail M)) (hold : Bool) → d.now ≡ now → (let ms = next_mail x now holding hold in let e = side_holds d ms in NowFits v e.past e.now (held ++ ms) taken accepted)
       go now holding false e = same
       go None holding true e = same
@@ -172,6 +176,7 @@ module _ {V A M Q R : Type 0} (x : Exchange V A M Q R) (law : IsLawful x) where
     where
       served : after x.serve s.start s.taken ≡ s.slave.node.server.server
       served = sym h.serves.server
+
       go : (now : Option (Row M Q R)) → NowFits s.start s.side.past now s.held s.taken s.accepted → Fits x s.start (s.side.past ++ newest now) s.slave.node.server.server s.accepted
       go None k =
           let taken = nothing_taken s.start (link_of s) h k.1 in
@@ -179,7 +184,7 @@ module _ {V A M Q R : Type 0} (x : Exchange V A M Q R) (law : IsLawful x) where
           let start : s.start ≡ s.slave.node.server.server = sym (ap (after x.serve s.start) taken) ∙ served in
           let new : Fits x s.start [] s.start [] = record { count = 0; handled = omega arith; app = refl; prefix = omega arith; behind = omega arith; in_done = tt; replied = tt; emissions = ([], refl) } in
           subst (λ rs. Fits x s.start rs s.slave.node.server.server s.accepted) (sym (ap (λ l. l ++ []) k.0))
-              (subst (λ l. Fits x s.start [] s.slave.node.server.server l) (sym accepted) (subst (λ w. Fits x s.start [] w []) start new))
+          (subst (λ l. Fits x s.start [] s.slave.node.server.server l) (sym accepted) (subst (λ w. Fits x s.start [] w []) start new))
       go (Some r') k =
           let all = Moments.fits x law s.start r k.front k.last r' s.held s.taken s.accepted k.moment in
           subst (λ w. Fits x s.start (s.side.past ++ r' ∷ []) w s.accepted) served (subst (λ l. Fits x s.start (l ++ r' ∷ []) (after x.serve s.start s.taken) s.accepted) (sym k.split) all)

@@ -1,13 +1,12 @@
 -- Frames that carry nothing for a slave tell nothing of it, so its outcomes are those of the frames before.
-use Rattle.std.proofs.Common.{◌≡◌, ℕ, zero, suc, ◌+◌, ◌≤◌, ◌==◌, ◌||◌, Bool, true, false, Option, Some, None, option_map, List, [], ◌∷◌, ◌++◌, map, length, refl, ap, sym, ◌∙◌, subst, arith, append_assoc, append-nil, length-append, if◌then◌else◌}
-use Rattle.std.specs.Prelude.{⊤}
-use Rattle.exchange_model.specs.Exchange.{Exchange, IsLawful, plain}
+use Rattle.std.proofs.Common.{◌≡◌, ℕ, suc, ◌+◌, ◌≤◌, ◌==◌, ◌||◌, Bool, true, false, Option, Some, None, option_map, List, [], ◌∷◌, ◌++◌, map, length, refl, ap, sym, ◌∙◌, arith, append_assoc, append-nil, length-append, if◌then◌else◌}
+use Rattle.exchange_model.specs.Exchange.{Exchange, IsLawful}
 use Rattle.exchange_model.specs.Rows.{answer_after}
 use Rattle.segment_model.specs.Slaves.{Datagram, grams}
-use Rattle.segment_model.specs.Record.{Frame, News, Kept, first_end, or_later, news_from, frame_news, all_told, told_behind, back_news, gram_news, found_news, last_heard, last_told, mail_told, is_for, joined}
+use Rattle.segment_model.specs.Record.{Frame, News, Kept, first_end, or_later, news_from, frame_news, all_told, back_news, gram_news, found_news, last_heard, last_told, mail_told, is_for, joined}
 use Rattle.segment_model.specs.Ends.{Task, Outcome, ends, mails_end}
 use Rattle.segment_model.specs.GiveUps.{carries, NoneFor}
-use Rattle.segment_model.proofs.Answers.{first_end-push, news_from-push, news_from-length, kept_of}
+use Rattle.segment_model.proofs.Answers.{first_end-push, news_from-push, kept_of}
 
 parts : (a b c : Bool) → (a || b) || c ≡ false → (a ≡ false) × (b ≡ false) × (c ≡ false)
 parts false false false e = (refl, refl, refl)
@@ -51,6 +50,7 @@ quiet_push {R = R} e none station frame fs f le s b =
   where
     all : Option R
     all = e ([] ++ joined (news_from station frame fs) ++ [])
+
     go : (old : Option (R × ℕ)) → first_end e frame [] (news_from station frame fs) ≡ old → answer_after (frame + length (news_from station frame fs)) old all ≡ old
     go None p = ap (answer_after (frame + length (news_from station frame fs)) None) (ap e (append-nil _) ∙ tested e frame [] (news_from station frame fs) none p)
     go (Some a) p = refl

@@ -1,19 +1,18 @@
 -- What a session keeps, turn by turn.
-use Rattle.std.proofs.Common.{◌≡◌, ℕ, zero, suc, ◌+◌, Bool, true, false, Option, Some, None, option_map, List, [], ◌∷◌, ◌++◌, map, length, refl, ap, sym, ◌∙◌, subst, arith, length-append, append-nil}
-use Rattle.std.specs.Prelude.{⊤}
-use Rattle.exchange_model.specs.Exchange.{Exchange, IsLawful, plain}
+use Rattle.std.proofs.Common.{◌≡◌, ℕ, zero, suc, Bool, Option, Some, None, option_map, List, [], ◌∷◌, ◌++◌, map, length, refl, ap, sym, ◌∙◌, subst, arith, length-append, append-nil}
+use Rattle.exchange_model.specs.Exchange.{Exchange, IsLawful}
 use Rattle.exchange_model.specs.Rows.{Row, Fits}
 use Rattle.link_model.specs.Segment.{RingFate, Distinct}
 use Rattle.link_model.specs.Frames.{all_accepted}
 use Rattle.segment_model.specs.Slaves.{Registers, Datagram, grams, frame_after, ring_back}
 use Rattle.segment_model.specs.Record.{Frame, News, first_end, or_later, news_each, nothing_kept, frame_news, news_from, mails_heard, joined, heard}
-use Rattle.segment_model.specs.Ends.{Task, Task.Mails, Outcome, Outcome.Replied, ends, mails_end}
-use Rattle.segment_model.specs.Laws.{EachSeat, IsAnswered, AllAnswered, as_outcome, Promised, SeatPromised}
+use Rattle.segment_model.specs.Ends.{Outcome, mails_end}
+use Rattle.segment_model.specs.Laws.{EachSeat, IsAnswered, AllAnswered, as_outcome, SeatPromised}
 use Rattle.segment_model.specs.Seats
 use Rattle.segment_model.specs.Seats.{Side, Seat, Choice, Turn, Session, Planned, IsPlan, AllReady, link_of, ring_of, newest, rows_of, seat_next, seats_next, seat_back, seats_back, seats_lost, side_lost, seats_after, seat_steps_at, seats_step, stations_of, happens, run, MayRun, new_seat, new_session}
 use Rattle.segment_model.proofs.News.{mails_heard-append, heard_frame, joined-append}
-use Rattle.segment_model.proofs.Answers.{Listens, Closed, Open, AllClosed, OpenNow, first_reply, reply_end, next_listens, back_listens, lost_listens, kept_of, news_each-push}
-use Rattle.segment_model.proofs.Rising.{RisesNow, RisesTo, next_rises, heard_rises, waits_rises, rises_all}
+use Rattle.segment_model.proofs.Answers.{Listens, AllClosed, OpenNow, first_reply, reply_end, next_listens, back_listens, lost_listens, kept_of, news_each-push}
+use Rattle.segment_model.proofs.Rising.{RisesNow, next_rises, heard_rises, waits_rises, rises_all}
 use Rattle.segment_model.proofs.Links.{new_sound}
 use Rattle.segment_model.proofs.Sounds.{SeatSound, frame_keeps, nexts_sound, steps_sound}
 use Rattle.segment_model.proofs.Fitted.{Fitted, IsReady, nexts_fit, frames_fit, steps_fit, seat_fits}
@@ -124,21 +123,23 @@ module _ {V A M Q R : Type 0} (x : Exchange V A M Q R) (law : IsLawful x) where
   -- and behind steps of processors
   step_keeps : (carry : Registers → Registers) (fs : List (Frame M)) (k : ℕ) (ss : List (Seat V M Q R)) → Keeps fs ss → Keeps fs (seat_steps_at x carry k ss)
   step_keeps carry fs k ss h = record {
-      stations = subst Distinct (sym (same k ss)) h.stations;
-      ready = ready k ss h.ready;
-      sound = steps_sound x carry k ss h.sound;
-      fitted = steps_fit x law carry k ss h.ready (steps_sound x carry k ss h.sound) h.fitted;
-      records = records k ss h.records;
-    }
+    stations = subst Distinct (sym (same k ss)) h.stations;
+    ready = ready k ss h.ready;
+    sound = steps_sound x carry k ss h.sound;
+    fitted = steps_fit x law carry k ss h.ready (steps_sound x carry k ss h.sound) h.fitted;
+    records = records k ss h.records;
+  }
     where
       same : (k : ℕ) (ss : List (Seat V M Q R)) → stations_of (seat_steps_at x carry k ss) ≡ stations_of ss
       same k [] = refl
       same zero (s ∷ ss) = refl
       same (suc k) (s ∷ ss) = ap (λ l. s.station ∷ l) (same k ss)
+
       ready : (k : ℕ) (ss : List (Seat V M Q R)) → EachSeat (IsReady x law) ss → EachSeat (IsReady x law) (seat_steps_at x carry k ss)
       ready k [] h = tt
       ready zero (s ∷ ss) h = h
       ready (suc k) (s ∷ ss) h = (h.0, ready k ss h.1)
+
       records : (k : ℕ) (ss : List (Seat V M Q R)) → EachSeat (Records fs) ss → EachSeat (Records fs) (seat_steps_at x carry k ss)
       records k [] h = tt
       records zero (s ∷ ss) h = (record { listens = h.0.listens; rises = h.0.rises; hears = h.0.hears }, h.1)

@@ -1,11 +1,11 @@
 -- The link of a slave with the server of an exchange: its agreement, and that the server is the fold over the mails taken.
-use Rattle.std.proofs.Common.{◌≡◌, ℕ, Bool, true, false, Option, Some, None, List, [], ◌∷◌, ◌++◌, refl, ap, sym, ◌∙◌, append_assoc, append-nil}
+use Rattle.std.proofs.Common.{◌≡◌, Option, Some, None, List, [], ◌∷◌, ◌++◌, refl, ap, sym, ◌∙◌, append_assoc, append-nil}
 use Rattle.exchange_model.specs.Prefix.{IsPrefixOf}
 use Rattle.exchange_model.specs.Exchange.{Exchange, after, given}
 use Rattle.exchange_model.proofs.Words.{after-append, given-append}
 use Rattle.link_model.specs.Mails.{LinkMail}
-use Rattle.link_model.specs.Slave.{Server, all_taken, all_given, mail_offered, node_look, node_take, node_takes, node_offer, node_offers}
-use Rattle.link_model.specs.Link.{Link, Fate, Event, happens, run, pdi, out_sent, in_sent, new_link}
+use Rattle.link_model.specs.Slave.{all_taken, all_given, mail_offered, node_look, node_take, node_takes, node_offers}
+use Rattle.link_model.specs.Link.{Link, Fate, Event, run, pdi, out_sent, in_sent, new_link}
 use Rattle.link_model.specs.Frames.{Ask, Gram, event_of, events_of}
 use Rattle.link_model.specs.Agree.{Agrees}
 use Rattle.link_model.proofs.Law.{happens_keeps, run_keeps, new_agrees, taken_of_held, accepted_of_offered}

@@ -1,10 +1,10 @@
 -- What the record says is what the halves heard.
 use Rattle.std.proofs.Common.{◌≡◌, ℕ, ◌==◌, Bool, true, false, Option, Some, None, List, [], ◌∷◌, ◌++◌, map, refl, ap, sym, ◌∙◌, if◌then◌else◌, append_assoc, append-nil}
-use Rattle.link_model.specs.Mails.{LinkMail, news, is_repeat, differs}
+use Rattle.link_model.specs.Mails.{LinkMail, news, differs}
 use Rattle.link_model.specs.Master.{InHalf, InState, doubt_answered, asked_answered}
 use Rattle.link_model.specs.Link.{Halves}
-use Rattle.link_model.specs.Frames.{Ask, Gram, mail_back, halves_answered, halves_accept, halves_after, all_accepted}
-use Rattle.segment_model.specs.Slaves.{Datagram, Found, Found.State, Found.Full, grams}
+use Rattle.link_model.specs.Frames.{Ask, Gram, halves_answered, halves_accept, halves_after, all_accepted}
+use Rattle.segment_model.specs.Slaves.{Datagram, Found, grams}
 use Rattle.segment_model.specs.Record.{Frame, News, Kept, is_for, gram_news, last_heard, found_news, datagram_news, back_news, heard_behind, frame_news, mails_heard, all_told, joined}
 
 pub mails_heard-append : {M : Type 0} (ns ms : List (News M)) → mails_heard (ns ++ ms) ≡ mails_heard ns ++ mails_heard ms

@@ -25,6 +25,7 @@ over_parts {R = R} x holding fresh r e = (parts.0, go (x.handed r.service) refl 
   where
     parts : (left x r ≡ []) × ((if x.handed r.service then is_none holding else is_some r.answer && not fresh) ≡ true)
     parts = empty (left x r) (if x.handed r.service then is_none holding else is_some r.answer && not fresh) e
+
     go : (handed : Bool) → x.handed r.service ≡ handed → (if handed then is_none holding else is_some r.answer && not fresh) ≡ true → ((x.handed r.service ≡ true) × (holding ≡ None)) ⊎ (((a : R × ℕ) × (r.answer ≡ Some a)) × (fresh ≡ false))
     go true h f = inl (h, idle holding f)
     go false h f = inr (both r.answer fresh f)

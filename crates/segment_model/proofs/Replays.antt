@@ -1,16 +1,13 @@
 -- The ring of a session is the replay of its moves, its sides go on by frames alone, and master and ring that meet in frames are a session.
-use Rattle.std.proofs.Common.{◌≡◌, ℕ, zero, suc, List, [], ◌∷◌, ◌++◌, map, length, refl, ap, sym, ◌∙◌, subst, append_assoc, append-nil}
-use Rattle.std.specs.Prelude.{⊤}
+use Rattle.std.proofs.Common.{◌≡◌, ℕ, zero, suc, List, [], ◌∷◌, ◌++◌, length, refl, ap, sym, ◌∙◌, subst, append_assoc, append-nil}
 use Rattle.exchange_model.specs.Exchange.{Exchange}
 use Rattle.link_model.specs.Segment.{RingFate}
-use Rattle.link_model.specs.Frames.{IsFrameFor}
 use Rattle.segment_model.specs.Slaves
 use Rattle.segment_model.specs.Seats
 use Rattle.segment_model.specs.Slaves.{Registers, Datagram, grams, Ring, Move, Slave, frame_after, all_meet, first_meet, ring_after, ring_back, step_at, ring_steps, replayed}
 use Rattle.segment_model.specs.Record.{Frame, frame_of, recorded}
 use Rattle.segment_model.specs.Seats.{Side, Seat, Choice, Turn, Session, Planned, ring_of, sides_of, seat_next, seats_next, seat_back, seats_back, seats_lost, seats_after, seat_steps_at, seats_step, happens, run, MayRun, IsFrame, new_session, moves}
 use Rattle.segment_model.specs.Split.{sides_next, sides_back, sides_lost, sides_after, IsFrameOf, IsBound}
-use Rattle.segment_model.specs.Laws.{EachSeat, EachOf}
 
 module _ {V A M Q R : Type 0} (x : Exchange V A M Q R) where
   nexts_ring : (k : ℕ) (ss : List (Seat V M Q R)) (cs : List (Choice Q)) → ring_of (seats_next x k ss cs) ≡ ring_of ss
@@ -129,7 +126,7 @@ module _ {V A M Q R : Type 0} (x : Exchange V A M Q R) where
       let t : Turn M Q = record { choices = cs; move = m } in
       let k = b.frames in
       let asked : IsFrameOf (sides_of (seats_next x (length z.frames) z.seats cs)) m.sent =
-          subst (λ l. IsFrameOf l m.sent) (ap (λ l. sides_next x (length fs) l cs) (sym b.sides) ∙ ap (λ l. sides_next x (length l) (sides_of z.seats) cs) (sym k) ∙ sym (nexts_sides (length z.frames) z.seats cs)) f in
+      subst (λ l. IsFrameOf l m.sent) (ap (λ l. sides_next x (length fs) l cs) (sym b.sides) ∙ ap (λ l. sides_next x (length l) (sides_of z.seats) cs) (sym k) ∙ sym (nexts_sides (length z.frames) z.seats cs)) f in
       record {
         turns = b.turns ++ t ∷ [];
         may = may-append carry (new_session ps) b.turns t b.may (frame_from (seats_next x (length z.frames) z.seats cs) m.sent asked);

@@ -1,19 +1,18 @@
 -- With nothing left, the server of each slave has carried out all its rows, and all emissions were heard.
-use Rattle.std.proofs.Common.{◌≡◌, ◌≢◌, ◌⊎◌, inl, inr, ℕ, zero, suc, ◌+◌, ◌==◌, ◌&&◌, Bool, true, false, not, is_none, is_some, Option, Some, None, List, [], ◌∷◌, ◌++◌, map, refl, ap, sym, ◌∙◌, subst, arith, append_assoc, append-nil, if◌then◌else◌, eqb-true}
-use Rattle.std.specs.Prelude.{⊤}
+use Rattle.std.proofs.Common.{◌≡◌, ◌≢◌, inl, inr, ℕ, ◌==◌, ◌&&◌, Bool, true, false, not, Option, Some, None, List, [], ◌∷◌, ◌++◌, refl, ap, sym, ◌∙◌, subst, arith, append-nil, if◌then◌else◌, eqb-true}
 use Rattle.std.proofs.lemmas.Bool.Decides.{nat_tests}
-use Rattle.exchange_model.specs.Exchange.{Exchange, IsLawful, after, given, emitted}
-use Rattle.exchange_model.specs.Rows.{Row, Rest, left}
+use Rattle.exchange_model.specs.Exchange.{Exchange, IsLawful, after, given}
+use Rattle.exchange_model.specs.Rows.{Row, Rest}
 use Rattle.exchange_model.proofs.Moments
-use Rattle.link_model.specs.Mails.{LinkMail, news, is_repeat, seen, counter_in, bodies}
+use Rattle.link_model.specs.Mails.{LinkMail, news, seen, counter_in, bodies}
 use Rattle.link_model.specs.Master.{InState}
 use Rattle.link_model.specs.Link.{Link}
-use Rattle.link_model.specs.Agree.{Knows, Follows, last_met_of, unread}
-use Rattle.segment_model.specs.Slaves.{Serving, Slave}
-use Rattle.segment_model.specs.Record.{Frame, heard}
-use Rattle.segment_model.specs.Laws.{EachSeat, IsSettled, WantsNothing, NothingInHand, SeatRests}
-use Rattle.segment_model.specs.Seats.{Side, Seat, link_of, newest, rows_of, is_over, is_none_left}
-use Rattle.segment_model.proofs.Links.{Sound, in_order, hears_given}
+use Rattle.link_model.specs.Agree.{Knows, last_met_of, unread}
+use Rattle.segment_model.specs.Slaves.{Serving}
+use Rattle.segment_model.specs.Record.{Frame}
+use Rattle.segment_model.specs.Laws.{EachSeat, NothingInHand, SeatRests}
+use Rattle.segment_model.specs.Seats.{Seat, link_of, newest, rows_of}
+use Rattle.segment_model.proofs.Links.{Sound}
 use Rattle.segment_model.proofs.Sounds.{SeatSound}
 use Rattle.segment_model.proofs.Fitted.{NowFits, Fitted, IsReady, nothing_taken, nothing_accepted}
 use Rattle.segment_model.proofs.Overs.{over_parts}
@@ -52,8 +51,8 @@ module _ {V A M Q R : Type 0} (x : Exchange V A M Q R) (law : IsLawful x) where
       let two = none_unread w.node.inn.again w.node.inn.box box in
       let three : bodies w.node.inn.withdrawn ≡ [] = ap bodies withdrawn in
       let offered : w.offered ≡ w.accepted =
-          i.stream ∙ ap (λ l. w.accepted ++ (l ++ (bodies (unread w.node.inn.again w.node.inn.box) ++ bodies w.node.inn.withdrawn))) one
-          ∙ ap (λ l. w.accepted ++ (l ++ bodies w.node.inn.withdrawn)) two ∙ ap (λ l. w.accepted ++ l) three ∙ append-nil w.accepted in
+      i.stream ∙ ap (λ l. w.accepted ++ (l ++ (bodies (unread w.node.inn.again w.node.inn.box) ++ bodies w.node.inn.withdrawn))) one
+      ∙ ap (λ l. w.accepted ++ (l ++ bodies w.node.inn.withdrawn)) two ∙ ap (λ l. w.accepted ++ l) three ∙ append-nil w.accepted in
       sym offered ∙ sym (append-nil w.offered) ∙ ap (λ l. w.offered ++ l) (sym waiting) ∙ s.serves.gave
 
   rests : (fs : List (Frame M)) (s : Seat V M Q R) → IsReady x law s → SeatSound x s → Fitted x law s → Records x law fs s → SeatRests x fs s
@@ -61,10 +60,13 @@ module _ {V A M Q R : Type 0} (x : Exchange V A M Q R) (law : IsLawful x) where
     where
       taken : s.taken ≡ s.held
       taken = all_taken s.start (link_of s) h settled.first wants.idle
+
       accepted : s.accepted ≡ given x.serve s.start s.taken
       accepted = all_heard s.start (link_of s) h wants.clear settled.second settled.withdrawn settled.waiting
+
       served : after x.serve s.start s.taken ≡ s.slave.node.server.server
       served = sym h.serves.server
+
       go : (now : Option (Row M Q R)) → NowFits x law s.start s.side.past now s.held s.taken s.accepted → NothingInHand x s.side now → Rest x s.start (s.side.past ++ newest now) s.slave.node.server.server s.accepted
       go None k n =
           let none = nothing_taken x law s.start (link_of s) h k.1 in
@@ -72,7 +74,7 @@ module _ {V A M Q R : Type 0} (x : Exchange V A M Q R) (law : IsLawful x) where
           let start : s.start ≡ s.slave.node.server.server = sym (ap (after x.serve s.start) none) ∙ served in
           let new : Rest x s.start [] s.start [] = record { handled = omega arith; app = refl; emissions = refl } in
           subst (λ rs. Rest x s.start rs s.slave.node.server.server s.accepted) (sym (ap (λ l. l ++ []) k.0))
-              (subst (λ l. Rest x s.start [] s.slave.node.server.server l) (sym nothing) (subst (λ w. Rest x s.start [] w []) start new))
+          (subst (λ l. Rest x s.start [] s.slave.node.server.server l) (sym nothing) (subst (λ w. Rest x s.start [] w []) start new))
       go (Some n) k o =
           let parts = over_parts x s.side.halves.out.holding s.side.fresh n o in
           let all : Rest x s.start (k.front ++ k.last ++ n ∷ []) (after x.serve s.start s.taken) s.accepted = elim parts.1 [

@@ -1,11 +1,9 @@
 -- Each answer of a side came before its next row began.
-use Rattle.std.proofs.Common.{◌≡◌, ℕ, zero, suc, ◌+◌, ◌<◌, ◌≤◌, ◌&&◌, Bool, true, false, Option, Some, None, option_map, List, [], ◌∷◌, ◌++◌, length, refl, ap, sym, ◌∙◌, subst, arith, length-append, if◌then◌else◌}
-use Rattle.std.specs.Prelude.{⊤}
+use Rattle.std.proofs.Common.{◌≡◌, ℕ, suc, ◌<◌, ◌≤◌, ◌&&◌, Bool, true, false, Option, Some, None, option_map, List, [], ◌∷◌, ◌++◌, refl, ap, sym, subst, arith, if◌then◌else◌}
 use Rattle.exchange_model.specs.Exchange.{Exchange, plain}
 use Rattle.exchange_model.specs.Rows.{Row, begun, row_heard, row_told, answer_after}
-use Rattle.segment_model.specs.Slaves.{Datagram, grams}
-use Rattle.segment_model.specs.Laws.{next_frame, Rises}
-use Rattle.segment_model.specs.Seats.{Side, Choice, newest, rows_of, is_over, side_begins, side_holds, side_next, side_back, side_lost}
+use Rattle.segment_model.specs.Laws.{Rises}
+use Rattle.segment_model.specs.Seats.{Side, Choice, newest, is_over, side_begins, side_holds, side_next}
 
 pub record RisesTo {M Q R : Type 0} (past : List (Row M Q R)) (r : Row M Q R) (k : ℕ) : Type 0 where
   pub before : Rises past r.frame

@@ -1,13 +1,11 @@
 -- Each seat's link stays sound: over a frame, over a choice, over processor steps.
-use Rattle.std.proofs.Common.{◌≡◌, ℕ, zero, suc, ◌&&◌, Bool, true, false, Option, Some, None, List, [], ◌∷◌, ◌++◌, map, refl, ap, sym, ◌∙◌, subst, append-nil, if◌then◌else◌}
-use Rattle.std.specs.Prelude.{⊤}
+use Rattle.std.proofs.Common.{◌≡◌, ℕ, zero, suc, ◌&&◌, Bool, true, false, Option, Some, None, List, [], ◌∷◌, ◌++◌, refl, ap, sym, ◌∙◌, subst, append-nil, if◌then◌else◌}
 use Rattle.exchange_model.specs.Exchange.{Exchange}
 use Rattle.exchange_model.specs.Rows.{Row, begun, left}
 use Rattle.link_model.specs.Mails.{LinkMail}
-use Rattle.link_model.specs.Link.{Link, Halves, Fate, run}
+use Rattle.link_model.specs.Link.{Link, Fate, run}
 use Rattle.link_model.specs.Frames.{Gram, own, events_of}
-use Rattle.link_model.specs.Segment.{RingFate, Member, members_by, members_after, fate_here, fate_behind, Distinct}
-use Rattle.link_model.specs.Segment
+use Rattle.link_model.specs.Segment.{RingFate, members_by, Distinct}
 use Rattle.link_model.proofs.Outward.{hold_keeps}
 use Rattle.link_model.proofs.Segments.{frame_is}
 use Rattle.segment_model.specs.Slaves.{Serving, serving, Registers, Datagram, grams, frame_after, ring_back}
@@ -15,7 +13,7 @@ use Rattle.segment_model.specs.Slaves
 use Rattle.segment_model.specs.Seats
 use Rattle.segment_model.specs.Laws.{EachSeat}
 use Rattle.segment_model.specs.Seats.{Side, Seat, Choice, link_of, ring_of, stations_of, is_over, side_begins, side_holds, side_next, next_mail, first_left, seat_next, seats_next, seat_back, seats_back, seats_lost, seats_after, seat_steps, seat_steps_at, seats_step, IsFrame}
-use Rattle.segment_model.proofs.Links.{Serves, Sound, step_sound, frame_sound}
+use Rattle.segment_model.proofs.Links.{Sound, step_sound, frame_sound}
 use Rattle.segment_model.proofs.Views.{member_of, members, stations-members, frame_for, members-seats_after}
 
 heads : {X : Type 0} (a b : X) (more rest : List X) → a ∷ more ≡ b ∷ rest → (a ≡ b) × (more ≡ rest)
@@ -81,6 +79,7 @@ module _ {V A M Q R : Type 0} (x : Exchange V A M Q R) where
     where
       none : Sound x v (record w { halves = d.halves; held = w.held ++ [] })
       none = let n = sym (append-nil w.held) in subst (Sound x v) (λ i. record w { halves = f i; held = n i }) s
+
       one : (m : M) → d.halves.out.holding ≡ None → Sound x v (record w { halves = (side_holds d (m ∷ [])).halves; held = w.held ++ m ∷ [] })
       one m e =
           let s' : Sound x v (record w { halves = d.halves }) = subst (Sound x v) (λ i. record w { halves = f i }) s in
@@ -88,9 +87,11 @@ module _ {V A M Q R : Type 0} (x : Exchange V A M Q R) where
             agrees = record { out = hold_keeps d.halves.out w.node.out w.held w.taken m e s'.agrees.out; inn = s'.agrees.inn };
             serves = record { server = s.serves.server; gave = s.serves.gave };
           }
+
       first : (ms : List M) → d.halves.out.holding ≡ None → Sound x v (record w { halves = (side_holds d (first_left ms)).halves; held = w.held ++ first_left ms })
       first [] e = none
       first (m ∷ ms) e = one m e
+
       go : (now : Option (Row M Q R)) (holding : Option (LinkMail M)) (hold : Bool) → d.halves.out.holding ≡ holding → Sound x v (record w { halves = (side_holds d (next_mail x now holding hold)).halves; held = w.held ++ next_mail x now holding hold })
       go now holding false e = none
       go None holding true e = none

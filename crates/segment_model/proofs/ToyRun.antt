@@ -1,15 +1,14 @@
 -- A computed run of the toy exchange over two slaves: a lost write, a lost read with its repeat, an answer while its mail is still held
 -- (the slave's processor is slow), and a frame for both slaves.
-use Rattle.std.proofs.Common.{◌≡◌, ℕ, Bool, true, false, Option, Some, None, List, [], ◌∷◌, ◌++◌, map, take, refl}
+use Rattle.std.proofs.Common.{◌≡◌, ℕ, true, false, Option, Some, None, List, [], ◌∷◌, map, take, refl}
 use Rattle.exchange_model.specs.Toy.{Mail, first, second, posted, held, total, noted, Service, sum, post, Adder, adder}
 use Rattle.exchange_model.specs.Rows.{Row}
-use Rattle.link_model.specs.Mails.{LinkMail}
-use Rattle.link_model.specs.Frames.{Ask, IsSent, IsSent.nothing, IsSent.write, IsSent.inward}
+use Rattle.link_model.specs.Frames.{Ask, IsSent.nothing, IsSent.write, IsSent.inward}
 use Rattle.link_model.specs.Segment.{RingFate}
 use Rattle.segment_model.specs.Slaves.{Registers, Address, Access, Datagram}
-use Rattle.segment_model.specs.Record.{News, heard, news_from, first_end}
-use Rattle.segment_model.specs.Ends.{Task, Task.Mails, Outcome, Outcome.Replied, Outcome.Handed, ends}
-use Rattle.segment_model.specs.Seats.{Session, Side, Seat, Choice, Turn, Planned, rows_of, new_session, run, MayRun}
+use Rattle.segment_model.specs.Record.{heard, news_from, first_end}
+use Rattle.segment_model.specs.Ends.{Task, Outcome, ends}
+use Rattle.segment_model.specs.Seats.{Session, Seat, Choice, Turn, Planned, rows_of, new_session, run, MayRun}
 
 abbrev blank : Registers
 blank = record { station = 4097; first = true; second = true; control = None; state = 2; refused = None }

@@ -1,14 +1,12 @@
 -- What the link model sees of seats, slaves and frames.
-use Rattle.std.proofs.Common.{◌≡◌, ℕ, zero, suc, ◌==◌, if◌then◌else◌, List, [], ◌∷◌, ◌++◌, map, refl, ap, sym, ◌∙◌, subst}
-use Rattle.std.specs.Prelude.{⊤}
+use Rattle.std.proofs.Common.{◌≡◌, ℕ, zero, suc, ◌==◌, if◌then◌else◌, List, [], ◌∷◌, ◌++◌, map, refl, ap, ◌∙◌}
 use Rattle.exchange_model.specs.Exchange.{Exchange}
-use Rattle.link_model.specs.Slave.{Node}
 use Rattle.link_model.specs.Frames.{Gram, gram_meets, node_after, grams_after, halves_after, all_accepted}
 use Rattle.link_model.specs.Segment.{RingFate, RingNode, Member, frame_back, members_back, members_lost, members_after, Distinct}
 use Rattle.link_model.specs.Segment
 use Rattle.link_model.specs.Frames
-use Rattle.segment_model.specs.Slaves.{Serving, Datagram, grams, Slave, Ring, slave_meets, slave_after, frame_after, all_back, ring_back}
-use Rattle.segment_model.specs.Seats.{Seat, link_of, ring_of, stations_of, seat_back, seats_back, seats_lost, seats_after, side_lost, IsFrame}
+use Rattle.segment_model.specs.Slaves.{Serving, Datagram, grams, Slave, slave_meets, slave_after, frame_after, all_back}
+use Rattle.segment_model.specs.Seats.{Seat, link_of, ring_of, stations_of, seats_back, seats_lost, seats_after, side_lost, IsFrame}
 
 -- a slave's mailboxes behind a frame, and what a link sees of the frame behind it
 pub node-slave_after : {V M : Type 0} (station : ℕ) (s : Slave V M) (ds : List (Datagram M)) → (slave_after station s ds).node ≡ node_after station s.node (grams ds)

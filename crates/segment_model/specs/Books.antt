@@ -1,12 +1,12 @@
 -- The book of a run: the answer of each service of a slave, from its frames, and when all is done.
-use Rattle.std.specs.Prelude.{◌≡◌, ℕ, zero, suc, ◌-◌, ◌≤◌, Bool, true, false, Option, Some, None, List, [], ◌∷◌, ◌++◌, length, ⊤}
+use Rattle.std.specs.Prelude.{◌≡◌, ℕ, zero, suc, Bool, Option, Some, None, List, [], ◌∷◌, ⊤}
 use Rattle.exchange_model.specs.Exchange.{Exchange}
 use Rattle.exchange_model.specs.Rows.{Row, services}
-use Rattle.segment_model.specs.Slaves.{Ring, Slave}
+use Rattle.segment_model.specs.Slaves.{Slave}
 use Rattle.segment_model.specs.Record.{Frame, first_end, news_from}
-use Rattle.segment_model.specs.Ends.{Task, Task.Mails, Outcome, ends}
-use Rattle.segment_model.specs.Seats.{Side, Planned, rows_of}
-use Rattle.segment_model.specs.Laws.{EachOf, Rests}
+use Rattle.segment_model.specs.Ends.{Task, Outcome, ends}
+use Rattle.segment_model.specs.Seats.{Side, rows_of}
+use Rattle.segment_model.specs.Laws.{Rests}
 
 -- the answer of a service: its outcome with the frame that completed it; in doubt, where it began and was not completed; or not sent
 pub data Answer (R : Type 0) : Type 0 where

@@ -1,5 +1,5 @@
 -- Epochs: a slave that returned to Init starts a link and a list of rows anew, with the same application.
-use Rattle.std.specs.Prelude.{◌≡◌, ℕ, zero, suc, ◌-◌, ◌≤◌, Bool, true, false, Option, Some, None, option_map, List, [], ◌∷◌, map, take, drop, length, ⊤}
+use Rattle.std.specs.Prelude.{◌≡◌, ℕ, suc, ◌-◌, Bool, true, Option, Some, None, option_map, List, [], ◌∷◌, map, take, drop, length, ⊤}
 use Rattle.exchange_model.specs.Exchange.{Exchange}
 use Rattle.exchange_model.specs.Rows.{Row}
 use Rattle.segment_model.specs.Record.{Frame}

@@ -1,11 +1,11 @@
 -- What a session promises of each slave.
-use Rattle.std.specs.Prelude.{◌≡◌, ℕ, suc, ◌<◌, ◌≤◌, Bool, true, false, Option, Some, None, option_map, List, [], ◌∷◌, ◌++◌, length, ⊤}
-use Rattle.exchange_model.specs.Exchange.{Exchange, plain}
+use Rattle.std.specs.Prelude.{◌≡◌, ℕ, ◌<◌, Bool, true, false, Option, Some, None, option_map, List, [], ◌∷◌, length, ⊤}
+use Rattle.exchange_model.specs.Exchange.{Exchange}
 use Rattle.exchange_model.specs.Rows.{Row, Fits, Rest}
 use Rattle.link_model.specs.Master.{InState}
 use Rattle.segment_model.specs.Slaves.{Slave, Ring}
 use Rattle.segment_model.specs.Record.{Frame, first_end, news_from, heard}
-use Rattle.segment_model.specs.Ends.{Task, Task.Mails, Outcome, Outcome.Replied, ends}
+use Rattle.segment_model.specs.Ends.{Task, Outcome, ends}
 use Rattle.segment_model.specs.Seats.{Side, Seat, Planned, rows_of, is_over}
 
 -- a fact of each seat

@@ -1,10 +1,10 @@
 -- The record of a run: frames as they were sent and came back, and the news that they bring of one slave, frame by frame.
-use Rattle.std.specs.Prelude.{ℕ, zero, suc, ◌+◌, ◌==◌, Bool, true, false, if◌then◌else◌, Option, Some, None, List, [], ◌∷◌, ◌++◌, map, drop}
+use Rattle.std.specs.Prelude.{ℕ, suc, ◌==◌, Bool, false, if◌then◌else◌, Option, Some, None, List, [], ◌∷◌, ◌++◌, map, drop}
 use Rattle.exchange_model.specs.Exchange.{Exchange}
-use Rattle.link_model.specs.Mails.{LinkMail, is_repeat, news, seen}
+use Rattle.link_model.specs.Mails.{news, seen}
 use Rattle.link_model.specs.Frames.{Ask, Gram, mail_back}
 use Rattle.link_model.specs.Segment.{RingFate}
-use Rattle.segment_model.specs.Slaves.{Registers, Datagram, Address, Found, Found.State, Found.Full, grams, Ring, ring_after, ring_back, ring_steps, Move}
+use Rattle.segment_model.specs.Slaves.{Registers, Datagram, Address, Found, grams, Ring, ring_after, ring_back, ring_steps, Move}
 
 -- a frame: as it was sent, its fate, and as it came back, which is empty where it was lost
 pub record Frame (M : Type 0) : Type 0 where

@@ -2,9 +2,9 @@
 use Rattle.std.specs.Prelude.{◌≡◌, ℕ, zero, suc, ◌==◌, ◌&&◌, ◌||◌, Bool, true, false, not, is_none, is_some, if◌then◌else◌, Option, Some, None, option_map, List, [], ◌∷◌, ◌++◌, map, length, ⊤}
 use Rattle.exchange_model.specs.Exchange.{Exchange}
 use Rattle.exchange_model.specs.Rows.{Row, begun, row_heard, row_told, left}
-use Rattle.link_model.specs.Master.{InState, out_hold}
-use Rattle.link_model.specs.Slave.{Server, node_look, node_take, node_takes, node_offers}
-use Rattle.link_model.specs.Link.{Halves, Link, Fate, new_link}
+use Rattle.link_model.specs.Master.{out_hold}
+use Rattle.link_model.specs.Slave.{node_look, node_take, node_takes, node_offers}
+use Rattle.link_model.specs.Link.{Halves, Link, new_link}
 use Rattle.link_model.specs.Mails.{LinkMail}
 use Rattle.link_model.specs.Frames.{Ask, Gram, halves_after, halves_without, all_accepted, IsFrameFor}
 use Rattle.link_model.specs.Segment.{RingFate, Distinct}
@@ -65,7 +65,6 @@ is_none_left (m ∷ ms) = false
 abbrev pub is_over : {V A M Q R : Type 0} → Exchange V A M Q R → Option (LinkMail M) → Bool → Row M Q R → Bool
 is_over x holding fresh r = is_none_left (left x r) && (if x.handed r.service then is_none holding else is_some r.answer && not fresh)
 
-
 -- a service comes into hand, where it is one of those that the laws speak of and the newest row is over
 abbrev pub side_begins : {V A M Q R : Type 0} → Exchange V A M Q R → ℕ → Side M Q R → Option (Row M Q R) → Option Q → Side M Q R
 side_begins x frame d now None = d
@@ -84,7 +83,6 @@ next_mail x now holding false = []
 next_mail x None holding true = []
 next_mail x (Some r) (Some m) true = []
 next_mail x (Some r) None true = first_left (left x r)
-
 
 abbrev pub side_holds : {M Q R : Type 0} → Side M Q R → List M → Side M Q R
 side_holds d [] = d

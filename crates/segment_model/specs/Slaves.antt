@@ -1,5 +1,5 @@
 -- Slaves as frames see them: two mailboxes with a server behind them, and the registers beside them. Frames as data, over a ring of slaves.
-use Rattle.std.specs.Prelude.{ℕ, zero, suc, ◌+◌, ◌%◌, ◌==◌, Bool, true, false, is_some, if◌then◌else◌, Option, Some, None, List, [], ◌∷◌, ◌++◌, map, drop}
+use Rattle.std.specs.Prelude.{ℕ, zero, suc, ◌%◌, ◌==◌, Bool, true, false, is_some, if◌then◌else◌, Option, Some, None, List, [], ◌∷◌, ◌++◌, map, drop}
 use Rattle.exchange_model.specs.Exchange.{Exchange}
 use Rattle.link_model.specs.Slave.{Node, Server, processor_step}
 use Rattle.link_model.specs.Frames.{Gram, node_meets, gram_meets}

@@ -1,9 +1,9 @@
 -- The master's sides and the ring apart: they meet in frames alone. What a master and a ring have to keep so that they are a session.
-use Rattle.std.specs.Prelude.{◌≡◌, ℕ, List, [], ◌∷◌, ◌++◌, map, length, ⊤}
+use Rattle.std.specs.Prelude.{◌≡◌, ℕ, List, [], ◌∷◌, map, ⊤}
 use Rattle.exchange_model.specs.Exchange.{Exchange}
 use Rattle.link_model.specs.Frames.{IsFrameFor}
 use Rattle.link_model.specs.Segment.{RingFate}
-use Rattle.segment_model.specs.Slaves.{Registers, Datagram, grams, Ring, Move}
+use Rattle.segment_model.specs.Slaves.{Registers, Datagram, grams, Ring}
 use Rattle.segment_model.specs.Record.{Frame}
 use Rattle.segment_model.specs.Seats.{Side, Choice, Turn, Planned, side_next, side_back, side_lost, ring_of, sides_of, new_session, run, MayRun}
 

@@ -1,5 +1,5 @@
 -- The events of a switch of packets in their order, with the frames: the number of an event is how many frames had been sent when it came.
-use Rattle.std.specs.Prelude.{◌≡◌, ℕ, zero, suc, ◌≤◌, ◌==◌, Bool, true, false, if◌then◌else◌, Option, Some, None, List, [], ◌∷◌, ◌++◌, map, ⊤}
+use Rattle.std.specs.Prelude.{◌≡◌, ℕ, suc, ◌≤◌, ◌==◌, Bool, false, if◌then◌else◌, Option, Some, None, List, [], ◌∷◌, ◌++◌, map, ⊤}
 
 -- a packet arrives from a port; the oldest packet that waits at a port comes into hand; a port goes down, and what waits there is dropped
 pub data SwitchEvent (P : Type 0) : Type 0 where
