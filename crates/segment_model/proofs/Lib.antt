@@ -13,3 +13,4 @@ mod Bounds
 mod ToyRun
 mod GivenUps
 mod Definitions
+mod Written
