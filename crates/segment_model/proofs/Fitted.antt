@@ -58,7 +58,7 @@ module _ {V A M Q R : Type 0} (x : Exchange V A M Q R) (law : IsLawful x) where
       (append_none w.accepted p.0 (p.1 ∙ ap (given x.serve v) (nothing_taken v w s none))).0
 
   -- a service comes into hand
-  begins_fit : (v : V) → x.ready v ≡ true → (w : Link M (Serving V M)) → Sound x v w → (frame : ℕ) (d : Side M Q R) (now : Option (Row M Q R)) (begin : Option Q) → d.now ≡ now → d.halves ≡ w.halves →
+  pub begins_fit : (v : V) → x.ready v ≡ true → (w : Link M (Serving V M)) → Sound x v w → (frame : ℕ) (d : Side M Q R) (now : Option (Row M Q R)) (begin : Option Q) → d.now ≡ now → d.halves ≡ w.halves →
       NowFits v d.past now w.held w.taken w.accepted → (let e = side_begins x frame d now begin in NowFits v e.past e.now w.held w.taken w.accepted)
   begins_fit v ready w s frame d now begin e f h = go now begin e h
     where

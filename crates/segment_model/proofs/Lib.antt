@@ -14,3 +14,4 @@ mod ToyRun
 mod GivenUps
 mod Definitions
 mod Written
+mod Posts

@@ -22,7 +22,7 @@ equal_self : (n : ℕ) → (n == n) ≡ true
 equal_self n = grind (arith, nat_tests)
 
 -- nothing is read that was not accepted
-all_news : {M : Type 0} (last : ℕ) (mail : Option (LinkMail M)) → last ≡ counter_in mail → ((m : LinkMail M) → mail ≡ Some m → m.counter ≢ 0) → news last mail ≡ []
+pub all_news : {M : Type 0} (last : ℕ) (mail : Option (LinkMail M)) → last ≡ counter_in mail → ((m : LinkMail M) → mail ≡ Some m → m.counter ≢ 0) → news last mail ≡ []
 all_news last None e n = refl
 all_news {M} last (Some m) e n = go (m.counter == 0) (m.counter == last) refl (ap (λ k. m.counter == k) e ∙ equal_self m.counter)
   where

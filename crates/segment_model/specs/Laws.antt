@@ -1,5 +1,5 @@
 -- What a session promises of each slave.
-use Rattle.std.specs.Prelude.{◌≡◌, ℕ, ◌<◌, Bool, true, false, Option, Some, None, option_map, List, [], ◌∷◌, length, ⊤}
+use Rattle.std.specs.Prelude.{◌≡◌, ℕ, ◌<◌, Bool, true, false, is_some, Option, Some, None, option_map, List, [], ◌∷◌, length, ⊤}
 use Rattle.exchange_model.specs.Exchange.{Exchange}
 use Rattle.exchange_model.specs.Rows.{Row, Fits, Rest}
 use Rattle.link_model.specs.Master.{InState}
@@ -86,3 +86,19 @@ abbrev pub EachOf : {V M Q R : Type 0} → (ℕ → V → Side M Q R → Slave V
 EachOf P [] [] [] = ⊤
 EachOf P (p ∷ ps) (d ∷ ds) (n ∷ ns) = ((d.0 ≡ p.station) × (n.0 ≡ p.station) × P p.station p.server d.1 n.1) × EachOf P ps ds ns
 EachOf P ps ds ns = ⊥
+
+-- a service that ends with its last write: the record completes it exactly where its row is over
+abbrev pub IsHanded : {V A M Q R : Type 0} → Exchange V A M Q R → (M → Bool) → ℕ → List (Frame M) → Row M Q R → Bool → Type 0
+IsHanded x more station fs r over = x.handed r.service ≡ true → is_some (first_end (ends x more (Task.Mails r.service)) r.frame [] (news_from station r.frame fs)) ≡ over
+
+-- all rows but the newest are over, and of the newest its half says so
+abbrev pub AllHanded : {V A M Q R : Type 0} → Exchange V A M Q R → (M → Bool) → ℕ → List (Frame M) → List (Row M Q R) → Type 0
+AllHanded x more station fs [] = ⊤
+AllHanded x more station fs (r ∷ rs) = IsHanded x more station fs r true × AllHanded x more station fs rs
+
+abbrev pub NowHanded : {V A M Q R : Type 0} → Exchange V A M Q R → (M → Bool) → ℕ → List (Frame M) → Side M Q R → Option (Row M Q R) → Type 0
+NowHanded x more station fs d None = ⊤
+NowHanded x more station fs d (Some r) = IsHanded x more station fs r (is_over x d.halves.out.holding d.fresh r)
+
+abbrev pub HandedBy : {V A M Q R : Type 0} → Exchange V A M Q R → (M → Bool) → List (Frame M) → ℕ → V → Side M Q R → Slave V M → Type 0
+HandedBy x more fs station start d n = AllHanded x more station fs d.past × NowHanded x more station fs d d.now
