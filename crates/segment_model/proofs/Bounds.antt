@@ -6,8 +6,9 @@ use Rattle.segment_model.specs.Slaves.{Registers, Datagram, Ring, Slave, frame_a
 use Rattle.segment_model.specs.Record.{Frame}
 use Rattle.segment_model.specs.Seats.{Side, Seat, Choice, Turn, Session, Planned, IsPlan, ring_of, sides_of, seats_next, seats_back, seats_lost, seats_after, seat_steps_at, seats_step, happens, run, new_session}
 use Rattle.segment_model.specs.Split.{IsBound}
-use Rattle.segment_model.specs.Laws.{EachSeat, EachOf, Promised, RestsIf}
+use Rattle.segment_model.specs.Laws.{EachSeat, EachOf, Promised, RestsIf, HandedBy}
 use Rattle.segment_model.proofs.Kept.{run_keeps, new_keeps, each_promised}
+use Rattle.segment_model.proofs.Hands.{session_posts, each_handed}
 use Rattle.segment_model.proofs.Rests.{each_rests}
 
 -- the stations of seats and the servers that they began with
@@ -93,3 +94,12 @@ module _ {V A M Q R : Type 0} (x : Exchange V A M Q R) (law : IsLawful x) where
       let k = run_keeps x law carry (new_session ps) b.turns b.may (new_keeps x law ps p) in
       let all = each_of x (RestsIf x w.frames) w.seats ps (session_starts x carry ps b.turns) (each_rests x law w.frames w.seats k.ready k.sound k.fitted k.records) in
       subst (λ l. EachOf (RestsIf x fs) ps ds l) b.ring (subst (λ l. EachOf (RestsIf x fs) ps l (ring_of w.seats)) b.sides (subst (λ l. EachOf (RestsIf x l) ps (sides_of w.seats) (ring_of w.seats)) b.frames all))
+
+  pub bound_handed : (more : M → Bool) (carry : Registers → Registers) (ps : List (Planned V)) → IsPlan x ps → (ds : List (ℕ × Side M Q R)) (ns : Ring V M) (fs : List (Frame M)) → IsBound x carry ps ds ns fs →
+      EachOf (HandedBy x more fs) ps ds ns
+  bound_handed more carry ps p ds ns fs b =
+      let w = run x carry (new_session ps) b.turns in
+      let k = run_keeps x law carry (new_session ps) b.turns b.may (new_keeps x law ps p) in
+      let posts = session_posts x law carry ps p b.turns b.may in
+      let all = each_of x (HandedBy x more w.frames) w.seats ps (session_starts x carry ps b.turns) (each_handed x law more w.frames w.seats k.ready k.fitted posts) in
+      subst (λ l. EachOf (HandedBy x more fs) ps ds l) b.ring (subst (λ l. EachOf (HandedBy x more fs) ps l (ring_of w.seats)) b.sides (subst (λ l. EachOf (HandedBy x more l) ps (sides_of w.seats) (ring_of w.seats)) b.frames all))

@@ -9,9 +9,11 @@ mod Rising
 mod Kept
 mod Replays
 mod Rests
-mod Bounds
 mod ToyRun
 mod GivenUps
 mod Definitions
 mod Written
 mod Posts
+mod Handed
+mod Hands
+mod Bounds

@@ -1,23 +1,15 @@
 -- A service that ends with its last write is complete by the record exactly where the outward half says so.
-use Rattle.std.proofs.Common.{◌≡◌, ◌≢◌, ◌⊎◌, inl, inr, ℕ, zero, suc, ◌+◌, ◌-◌, ◌<◌, ◌≤◌, ◌==◌, ◌&&◌, ◌||◌, Bool, true, false, not, is_none, is_some, Option, Some, None, option_map, List, [], ◌∷◌, ◌++◌, map, drop, length, refl, ap, sym, ◌∙◌, subst, arith, append_assoc, append-nil, length-append, if◌then◌else◌, eqb-true}
-use Rattle.std.specs.Prelude.{⊤}
+use Rattle.std.proofs.Common.{◌≡◌, ◌≢◌, inl, inr, ℕ, ◌+◌, ◌-◌, ◌<◌, ◌≤◌, ◌==◌, ◌&&◌, ◌||◌, Bool, true, false, not, is_none, Option, Some, None, List, [], ◌∷◌, ◌++◌, map, length, refl, ap, sym, ◌∙◌, subst, arith, append_assoc, append-nil, length-append, if◌then◌else◌, eqb-true}
 use Rattle.std.proofs.lemmas.Bool.Decides.{nat_tests, leb_tells}
-use Rattle.exchange_model.specs.Prefix.{IsPrefixOf}
-use Rattle.exchange_model.specs.Exchange.{Exchange, IsLawful, after, given, plain}
-use Rattle.exchange_model.specs.Rows.{Row, begun, row_heard, row_told, left, told_all}
-use Rattle.exchange_model.proofs.Lists.{prefix_nil, none_left, drop_behind}
-use Rattle.exchange_model.proofs.Nows.{heard_begins}
-use Rattle.exchange_model.proofs.Settles.{settled_ready}
 use Rattle.link_model.specs.Counters.{next_counter}
-use Rattle.link_model.specs.Mails.{LinkMail, news, is_repeat, bodies}
-use Rattle.link_model.specs.Link.{Halves}
-use Rattle.link_model.specs.Frames.{Ask, Gram, IsFrameFor, gram_meets, write_done, read_done}
+use Rattle.link_model.specs.Mails.{LinkMail, news, bodies}
+use Rattle.link_model.specs.Frames.{Ask, Gram, gram_meets, write_done, read_done}
 use Rattle.link_model.proofs.Own
-use Rattle.segment_model.specs.Slaves.{Serving, Datagram, Slave, Ring, grams, slave_meets, frame_after, all_back}
-use Rattle.segment_model.specs.Record.{Frame, News, Kept, first_end, or_later, news_from, frame_news, back_news, all_told, told_behind, nothing_kept, joined}
-use Rattle.segment_model.specs.Ends.{Task, Task.Mails, Outcome, ends, all_written, mails_end}
-use Rattle.segment_model.specs.Seats.{Side, is_over, is_none_left, is_write, writes}
-use Rattle.segment_model.proofs.Answers.{news_from-push, news_from-none, kept_of, kept_all-push}
+use Rattle.segment_model.specs.Slaves.{Datagram, Slave, Ring, grams, slave_meets, frame_after, all_back}
+use Rattle.segment_model.specs.Record.{Frame, News, Kept, news_from, frame_news, back_news, all_told, joined}
+use Rattle.segment_model.specs.Ends.{all_written}
+use Rattle.segment_model.specs.Seats.{is_write, writes}
+use Rattle.segment_model.proofs.Answers.{news_from-push, kept_of}
 use Rattle.segment_model.proofs.News.{joined-append}
 use Rattle.segment_model.proofs.Rests.{all_news}
 use Rattle.segment_model.proofs.Written.{mails_told, has_written, mails_told-append, all_written-append, all_written-told, told_told, all_written-back, back_tells, Tells, Tells.told, Tells.quiet}
@@ -47,6 +39,7 @@ writes-frame_after {V} {M} mine station s (d ∷ ds) =
   where
     rest : Bool
     rest = writes mine (grams ds)
+
     go : (b : Bool) → (let met = if b then gram_meets s.node d.gram.ask d.gram else d.gram in if met.station == mine then is_write met.ask || rest else rest) ≡ (if d.gram.station == mine then is_write d.gram.ask || rest else rest)
     go false = refl
     go true =
@@ -102,7 +95,7 @@ none_is : (b : Bool) → (b ≡ false) → (b && not false) ≡ false
 none_is b e = ap (λ c. c && not false) e
 
 -- a frame of the side keeps it
-kept_frame : {M : Type 0} (fresh w hw : Bool) (holding : Option (LinkMail M)) (last kept behind : ℕ) (ts : List M) → Tells kept holding w ts behind → (w ≡ false → hw ≡ false) → KeptOut fresh holding last kept →
+pub kept_frame : {M : Type 0} (fresh w hw : Bool) (holding : Option (LinkMail M)) (last kept behind : ℕ) (ts : List M) → Tells kept holding w ts behind → (w ≡ false → hw ≡ false) → KeptOut fresh holding last kept →
     KeptOut (fresh && not w) (if hw then None else holding) last behind
 kept_frame true w hw holding last kept behind ts (told m e) q k =
     let f : IsFresh holding last kept = k in
@@ -141,7 +134,7 @@ pub record PostOpen {M : Type 0} (station frame n : ℕ) (fs : List (Frame M)) (
   pub few : length (mails_told (joined (news_from station frame fs))) < n → all_written n (joined (news_from station frame fs)) ≡ false
   pub all : n ≤ length (mails_told (joined (news_from station frame fs))) → all_written n (joined (news_from station frame fs)) ≡ is_none holding
 
-news-push : {M : Type 0} (station frame : ℕ) (fs : List (Frame M)) (f : Frame M) → frame ≤ length fs → joined (news_from station frame (fs ++ f ∷ [])) ≡ joined (news_from station frame fs) ++ frame_news station (kept_of station fs) f
+pub news-push : {M : Type 0} (station frame : ℕ) (fs : List (Frame M)) (f : Frame M) → frame ≤ length fs → joined (news_from station frame (fs ++ f ∷ [])) ≡ joined (news_from station frame fs) ++ frame_news station (kept_of station fs) f
 news-push station frame fs f le = ap joined (news_from-push station frame fs f le) ∙ joined-append (news_from station frame fs) _
 
 is_zero : (k : ℕ) → k ≡ 0 → (k == 0) ≡ true
@@ -157,7 +150,7 @@ not_zero k l = go (k == 0) refl
 some_none : {M : Type 0} (holding : Option (LinkMail M)) (m : LinkMail M) → holding ≡ Some m → is_none holding ≡ false
 some_none holding m e = ap is_none e
 
-post_frame : {M : Type 0} (station frame n : ℕ) (fs : List (Frame M)) (f : Frame M) (fresh w : Bool) (holding : Option (LinkMail M)) (last behind : ℕ) (mails : List M) →
+pub post_frame : {M : Type 0} (station frame n : ℕ) (fs : List (Frame M)) (f : Frame M) (fresh w : Bool) (holding : Option (LinkMail M)) (last behind : ℕ) (mails : List M) →
     (let kept = kept_of station fs in let hw = has_written (back_news station kept.heard f.back) in
     Tells kept.told holding w (all_told station kept.told (grams f.sent)) behind → (w ≡ false → hw ≡ false) → KeptOut fresh holding last kept.told → PostOpen station frame n fs fresh holding mails →
     PostOpen station frame n (fs ++ f ∷ []) (fresh && not w) (if hw then None else holding) mails)
@@ -175,38 +168,51 @@ post_frame {M} station frame n fs f fresh w holding last behind mails t q k p =
   where
     kept : Kept
     kept = kept_of station fs
+
     hw : Bool
     hw = has_written (back_news station kept.heard f.back)
+
     ts : List M
     ts = all_told station kept.told (grams f.sent)
+
     ns : List (News M)
     ns = joined (news_from station frame fs)
+
     old : List M
     old = mails_told ns
+
     back : List (News M)
     back = back_news station kept.heard f.back
+
     pushed : joined (news_from station frame (fs ++ f ∷ [])) ≡ ns ++ (map (λ m. News.Told m) ts ++ back)
     pushed = news-push station frame fs f p.begun
+
     tells : mails_told (joined (news_from station frame (fs ++ f ∷ []))) ≡ old ++ ts
     tells = ap mails_told pushed ∙ mails_told-append ns _ ∙ ap (λ l. old ++ l) (mails_told-append (map (λ m. News.Told m) ts) back ∙ ap (λ l. l ++ mails_told back) (told_told ts) ∙ ap (λ l. ts ++ l) (back_tells station kept.heard f.back) ∙ append-nil ts)
+
     scan : all_written n (joined (news_from station frame (fs ++ f ∷ []))) ≡ all_written n ns || ((n - length old - length ts == 0) && hw)
     scan = ap (all_written n) pushed ∙ all_written-append n ns _
         ∙ ap (λ b. all_written n ns || b) (all_written-told (n - length old) ts back ∙ all_written-back (n - length old - length ts) back (back_tells station kept.heard f.back))
+
     or_true : (b : Bool) → b || true ≡ true
     or_true true = refl
     or_true false = refl
+
     or_false : (b : Bool) → b || false ≡ b
     or_false true = refl
     or_false false = refl
+
     -- where something is told, a mail is held
     holds : (w : Bool) (ts : List M) (behind : ℕ) → Tells kept.told holding w ts behind → 0 < length ts → (m : LinkMail M) × (holding ≡ Some m)
     holds w ts behind (told m e) l = (m, e)
     holds w ts behind quiet l = absurd (omega (arith, l))
+
     before : n ≤ length old + length ts → all_written n ns ≡ is_none holding
     before long = elim (leb_tells n (length old)) [
       | inl c ↦ p.all c.1
       | inr c ↦ let more = c.1 in let m = holds w ts behind t (omega (arith, long, more)) in p.few more ∙ sym (some_none holding m.0 m.1)
     ]
+
     done : (b : Bool) → hw ≡ b → n ≤ length old + length ts → all_written n ns || (true && b) ≡ is_none (if b then None else holding)
     done true e long = or_true (all_written n ns)
     done false e long = or_false (all_written n ns) ∙ before long

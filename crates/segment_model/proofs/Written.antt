@@ -1,11 +1,11 @@
 -- The writes of mailbox 0 by the record: what a frame tells, what it lets the outward half know, and when all mails of a service are written.
-use Rattle.std.proofs.Common.{◌≡◌, ◌≢◌, ◌⊎◌, inl, inr, ℕ, zero, suc, ◌+◌, ◌-◌, ◌<◌, ◌≤◌, ◌==◌, ◌&&◌, ◌||◌, Bool, true, false, not, Option, Some, None, List, [], ◌∷◌, ◌++◌, map, length, refl, ap, sym, ◌∙◌, subst, arith, append_assoc, append-nil, if◌then◌else◌}
+use Rattle.std.proofs.Common.{◌≡◌, ℕ, ◌-◌, ◌==◌, ◌&&◌, ◌||◌, Bool, true, false, Option, Some, None, List, [], ◌∷◌, ◌++◌, map, length, refl, ap, sym, ◌∙◌, subst, arith, append-nil, if◌then◌else◌}
 use Rattle.link_model.specs.Mails.{LinkMail, news}
-use Rattle.link_model.specs.Master.{OutHalf, InHalf, InState, out_answered}
+use Rattle.link_model.specs.Master.{InHalf, InState}
 use Rattle.link_model.specs.Link.{Halves}
 use Rattle.link_model.specs.Frames.{Ask, Gram, IsSent, IsSent.nothing, IsSent.other, IsSent.write, IsSent.inward, in_ask, own, halves_answered, halves_lost, halves_after, halves_without}
-use Rattle.segment_model.specs.Slaves.{Datagram, Found, Found.State, Found.Full, grams}
-use Rattle.segment_model.specs.Record.{Frame, News, Kept, is_for, gram_news, found_news, datagram_news, last_heard, back_news, frame_news, mail_told, last_told, all_told, told_behind}
+use Rattle.segment_model.specs.Slaves.{Datagram, Found, grams}
+use Rattle.segment_model.specs.Record.{News, is_for, gram_news, found_news, datagram_news, last_heard, back_news, mail_told, last_told, all_told, told_behind}
 use Rattle.segment_model.specs.Ends.{all_written}
 use Rattle.segment_model.specs.Seats.{is_write, writes}
 
@@ -164,6 +164,7 @@ back_tells {M} station last (d ∷ ds) =
     go : (b : Bool) → mails_told (if b then gram_news last d.gram.ask d.gram else []) ≡ []
     go true = gram_tells last d.gram.ask d.gram
     go false = refl
+
     one : mails_told (datagram_news station last d) ≡ []
     one = mails_told-append (if d.gram.station == station then gram_news last d.gram.ask d.gram else []) _
         ∙ ap (λ l. l ++ mails_told (if is_for station d.address then (if d.counter == 0 then [] else found_news d.found) else [])) (go (d.gram.station == station))
@@ -178,6 +179,7 @@ datagram_writes {M} station last d =
     none : (b : Bool) → b || false ≡ b
     none true = refl
     none false = refl
+
     go : (b : Bool) → has_written (if b then gram_news last d.gram.ask d.gram else []) || false ≡ (if b then has_written (gram_news last d.gram.ask d.gram) else false)
     go true = none (has_written (gram_news last d.gram.ask d.gram))
     go false = refl
@@ -194,13 +196,17 @@ back_frees {M} station last h (d ∷ ds) =
   where
     next : Halves M
     next = if d.gram.station == station then halves_answered h d.gram.ask d.gram else h
+
     kept : ℕ
     kept = if d.gram.station == station then last_heard last d.gram.ask d.gram else last
+
     later : List (News M)
     later = back_news station kept ds
+
     one : (b : Bool) → (if b then halves_answered h d.gram.ask d.gram else h).out.holding ≡ (if (if b then has_written (gram_news last d.gram.ask d.gram) else false) then None else h.out.holding)
     one true = gram_frees last h d.gram.ask d.gram
     one false = refl
+
     both : (a b : Bool) → (if b then None else (if a then None else h.out.holding)) ≡ (if a || b then None else h.out.holding)
     both true true = refl
     both true false = refl
@@ -240,10 +246,12 @@ none_written {M} station last (d ∷ ds) e =
   where
     kept : ℕ
     kept = if d.gram.station == station then last_heard last d.gram.ask d.gram else last
+
     parts : (a b : Bool) → a || b ≡ false → (a ≡ false) × (b ≡ false)
     parts false false e = (refl, refl)
     parts true b e = absurd (let bad : true ≡ false = e in cc)
     parts false true e = absurd (let bad : true ≡ false = e in cc)
+
     go : (b : Bool) → (if b then is_write d.gram.ask || writes station (grams ds) else writes station (grams ds)) ≡ false → (writes station (grams ds) ≡ false → has_written (back_news station kept ds) ≡ false) →
         (if b then has_written (gram_news last d.gram.ask d.gram) else false) || has_written (back_news station kept ds) ≡ false
     go true e more = let p = parts (is_write d.gram.ask) (writes station (grams ds)) e in ap (λ b. b || has_written (back_news station kept ds)) (gram_writes last d.gram.ask d.gram p.0) ∙ more p.1
@@ -294,7 +302,7 @@ skips last holding g gs e f w t =
     let two : last_own last gs ≡ last_own last (g ∷ gs) = sym (ap (λ k. last_own k gs) f) in
     let three : writes_own gs ≡ writes_own (g ∷ gs) = sym (ap (λ b. b || writes_own gs) w) in
     subst (λ b. Tells last holding b (told_own last (g ∷ gs)) (last_own last (g ∷ gs))) three
-        (subst (λ l. Tells last holding (writes_own gs) l (last_own last (g ∷ gs))) one (subst (λ k. Tells last holding (writes_own gs) (told_own last gs) k) two t))
+    (subst (λ l. Tells last holding (writes_own gs) l (last_own last (g ∷ gs))) one (subst (λ k. Tells last holding (writes_own gs) (told_own last gs) k) two t))
 
 -- behind the write nothing more is told
 pub record Silent {M : Type 0} (gs : List (Gram M)) : Type 0 where
@@ -331,7 +339,7 @@ sent_tells {M} last held inn gs (write m g later a c rest) =
     let two : last_own last (g ∷ later) ≡ m.counter = ap (λ k. last_own (last_told last k) later) a ∙ s.last m.counter in
     let three : writes_own (g ∷ later) ≡ true = ap (λ k. is_write k || writes_own later) a in
     subst (λ b. Tells last (Some m) b (told_own last (g ∷ later)) (last_own last (g ∷ later))) (sym three)
-        (subst (λ l. Tells last (Some m) true l (last_own last (g ∷ later))) (sym one) (subst (λ k. Tells last (Some m) true (news last (Some m)) k) (sym two) (told m refl)))
+    (subst (λ l. Tells last (Some m) true l (last_own last (g ∷ later))) (sym one) (subst (λ k. Tells last (Some m) true (news last (Some m)) k) (sym two) (told m refl)))
 sent_tells {M} last held inn gs (inward h g later a c rest) =
     let i = in_tells {M = M} last h h.state in
     skips last held g later (ap (mail_told last) a ∙ i.0) (ap (last_told last) a ∙ i.1) (ap is_write a ∙ i.2) (sent_tells last held None later rest)
@@ -342,5 +350,5 @@ frame_tells station last h gs s =
     let o = own_told station last gs in
     let t = sent_tells last h.out.holding (Some h.inn) (own station gs) s in
     subst (λ b. Tells last h.out.holding b (all_told station last gs) (told_behind station last gs)) (sym o.2)
-        (subst (λ l. Tells last h.out.holding (writes_own (own station gs)) l (told_behind station last gs)) (sym o.0)
-        (subst (λ k. Tells last h.out.holding (writes_own (own station gs)) (told_own last (own station gs)) k) (sym o.1) t))
+    (subst (λ l. Tells last h.out.holding (writes_own (own station gs)) l (told_behind station last gs)) (sym o.0)
+    (subst (λ k. Tells last h.out.holding (writes_own (own station gs)) (told_own last (own station gs)) k) (sym o.1) t))

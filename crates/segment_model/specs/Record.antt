@@ -20,6 +20,10 @@ abbrev pub recorded : {V A M Q R : Type 0} → Exchange V A M Q R → (Registers
 recorded x carry ns [] = []
 recorded x carry ns (m ∷ ms) = frame_of ns m ∷ recorded x carry (ring_steps x carry (ring_after ns m.sent m.fate) m.steps) ms
 
+-- what was sent, with its fate
+abbrev pub sent_fates : {M : Type 0} → List (Frame M) → List (List (Datagram M) × RingFate)
+sent_fates fs = map (λ f. (f.sent, f.fate)) fs
+
 -- what frames tell of a slave: a mail is sent to mailbox 0 for the first time; a write of mailbox 0 is done; a read of mailbox 1 brings a
 -- mail that is no repeat, or finds it empty; mailbox 0 was seen full or empty; an AL state was read, with the code where the error flag stands
 pub data News (M : Type 0) : Type 0 where

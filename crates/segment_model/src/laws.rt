@@ -2,13 +2,13 @@
 
 ghost use Rattle.std.specs.Prelude.{◌≡◌, ◌≤◌, ℕ, Bool, List, [], ◌∷◌, ◌++◌, length};
 ghost use Rattle.exchange_model.specs.Exchange.{Exchange, IsLawful};
-ghost use Rattle.segment_model.specs.Slaves.{Registers, Ring, Move, ring_after, ring_back, ring_steps, replayed};
-ghost use Rattle.segment_model.specs.Record.{Frame, frame_of, recorded, news_from, first_end};
+ghost use Rattle.segment_model.specs.Slaves.{Registers, Ring, Move, ring_after, ring_back, ring_steps, replayed, paced};
+ghost use Rattle.segment_model.specs.Record.{Frame, frame_of, recorded, sent_fates, news_from, first_end};
 ghost use Rattle.segment_model.specs.Ends.{Task, ends};
 ghost use Rattle.segment_model.specs.GiveUps.{NoneFor};
 ghost use Rattle.segment_model.specs.Seats.{Side, Choice, Turn, Planned, IsPlan, MayRun, run, new_session, ring_of, sides_of, moves};
 ghost use Rattle.segment_model.specs.Split.{IsBound, IsFrameOf, sides_next, sides_after};
-ghost use Rattle.segment_model.specs.Laws.{EachOf, Promised, RestsIf};
+ghost use Rattle.segment_model.specs.Laws.{EachOf, Promised, HandedBy, RestsIf};
 
 /// What a session promises of each slave of its plan, with the master's side of it, the slave and the frames as they have come to be.
 pub fn session_law<V, A, M, Q, R>()
@@ -17,6 +17,11 @@ pub fn session_law<V, A, M, Q, R>()
     // and in order, and each reply is its application's.
     ensures promised { (x : Exchange V A M Q R) → IsLawful x → (more : M → Bool) (carry : Registers → Registers) (ps : List (Planned V)) → IsPlan x ps →
         (ds : List (ℕ × Side M Q R)) (ns : Ring V M) (fs : List (Frame M)) → IsBound x carry ps ds ns fs → EachOf (Promised x more fs) ps ds ns }
+
+    // A service that ends with its last write, as a packet, is complete by the record exactly where its row is over: all its mails were sent
+    // and the write of the last one came back done. A mail of the row before that is still held is none of its mails.
+    ensures handed { (x : Exchange V A M Q R) → IsLawful x → (more : M → Bool) (carry : Registers → Registers) (ps : List (Planned V)) → IsPlan x ps →
+        (ds : List (ℕ × Side M Q R)) (ns : Ring V M) (fs : List (Frame M)) → IsBound x carry ps ds ns fs → EachOf (HandedBy x more fs) ps ds ns }
 
     // Where a slave is settled and the master wants nothing of it, all its rows are carried out, and all emissions were heard.
     ensures rests { (x : Exchange V A M Q R) → IsLawful x → (carry : Registers → Registers) (ps : List (Planned V)) → IsPlan x ps →
@@ -29,6 +34,11 @@ pub fn replay_law<V, A, M, Q, R>()
         let new = new_session {R = R} ps in ring_of (run x carry new ts).seats ≡ replayed x carry (ring_of new.seats) (moves ts) }
     ensures frames { (x : Exchange V A M Q R) (carry : Registers → Registers) (ps : List (Planned V)) (ts : List (Turn M Q)) →
         let new = new_session {R = R} ps in (run x carry new ts).frames ≡ recorded x carry (ring_of new.seats) (moves ts) }
+
+    // With slow slaves, behind frame j each slave steps whose pace divides j + 1: then frames, fates and paces alone give both.
+    ensures paced { (x : Exchange V A M Q R) (carry : Registers → Registers) (ps : List (Planned V)) (ts : List (Turn M Q)) (paces : List ℕ) →
+        let new = new_session {R = R} ps in let w = run x carry new ts in let at = paced paces 0 (sent_fates w.frames) in moves ts ≡ at →
+        (ring_of w.seats ≡ replayed x carry (ring_of new.seats) at) × (w.frames ≡ recorded x carry (ring_of new.seats) at) }
 {}
 
 /// A master and a ring that meet in frames alone are a session: what each of them has to keep.
