@@ -1,0 +1,105 @@
+-- The promise, and rest, of sides and slaves that a session has come to.
+use Rattle.std.proofs.Common.{◌≡◌, ℕ, zero, suc, Bool, List, [], ◌∷◌, map, length, refl, ap, sym, ◌∙◌, subst}
+use Rattle.exchange_model.specs.Exchange.{Exchange, IsLawful}
+use Rattle.link_model.specs.Segment.{RingFate}
+use Rattle.segment_model.specs.Slaves.{Registers, Datagram, Ring, Slave, frame_after, ring_back}
+use Rattle.segment_model.specs.Record.{Frame}
+use Rattle.segment_model.specs.Seats.{Side, Seat, Choice, Turn, Session, Planned, IsPlan, ring_of, sides_of, seats_next, seats_back, seats_lost, seats_after, seat_steps_at, seats_step, happens, run, new_session}
+use Rattle.segment_model.specs.Split.{IsBound}
+use Rattle.segment_model.specs.Laws.{EachSeat, EachOf, Promised, RestsIf, HandedBy}
+use Rattle.segment_model.proofs.Kept.{run_keeps, new_keeps, each_promised}
+use Rattle.segment_model.proofs.Hands.{session_posts, each_handed}
+use Rattle.segment_model.proofs.Rests.{each_rests}
+
+-- the stations of seats and the servers that they began with
+abbrev starts : {V M Q R : Type 0} → List (Seat V M Q R) → List (ℕ × V)
+starts ss = map (λ s. (s.station, s.start)) ss
+
+abbrev planned : {V : Type 0} → List (Planned V) → List (ℕ × V)
+planned ps = map (λ p. (p.station, p.server)) ps
+
+heads : {X : Type 0} (a b : X) (more rest : List X) → a ∷ more ≡ b ∷ rest → (a ≡ b) × (more ≡ rest)
+heads a b more rest e = (cc, cc)
+
+nothing : {X : Type 0} (a : X) (more : List X) → a ∷ more ≡ [] → ⊥
+nothing a more e = absurd (cc)
+
+module _ {V A M Q R : Type 0} (x : Exchange V A M Q R) where
+  nexts_starts : (k : ℕ) (ss : List (Seat V M Q R)) (cs : List (Choice Q)) → starts (seats_next x k ss cs) ≡ starts ss
+  nexts_starts k [] cs = refl
+  nexts_starts k (s ∷ ss) [] = refl
+  nexts_starts k (s ∷ ss) (c ∷ cs) = ap (λ l. (s.station, s.start) ∷ l) (nexts_starts k ss cs)
+
+  backs_starts : (k : ℕ) (ss : List (Seat V M Q R)) (ds back : List (Datagram M)) → starts (seats_back x k ss ds back) ≡ starts ss
+  backs_starts k [] ds back = refl
+  backs_starts k (s ∷ ss) ds back = ap (λ l. (s.station, s.start) ∷ l) (backs_starts k ss (frame_after s.station s.slave ds) back)
+
+  losts_starts : (after : ℕ) (ss : List (Seat V M Q R)) (ds sent : List (Datagram M)) → starts (seats_lost after ss ds sent) ≡ starts ss
+  losts_starts after [] ds sent = refl
+  losts_starts zero (s ∷ ss) ds sent = ap (λ l. (s.station, s.start) ∷ l) (losts_starts zero ss ds sent)
+  losts_starts (suc k) (s ∷ ss) ds sent = ap (λ l. (s.station, s.start) ∷ l) (losts_starts k ss (frame_after s.station s.slave ds) sent)
+
+  afters_starts : (k : ℕ) (ss : List (Seat V M Q R)) (ds : List (Datagram M)) (fate : RingFate) → starts (seats_after x k ss ds fate) ≡ starts ss
+  afters_starts k ss ds RingFate.Back = backs_starts k ss ds (ring_back (ring_of ss) ds RingFate.Back)
+  afters_starts k ss ds (RingFate.Lost after) = losts_starts after ss ds ds
+
+  step_starts : (carry : Registers → Registers) (k : ℕ) (ss : List (Seat V M Q R)) → starts (seat_steps_at x carry k ss) ≡ starts ss
+  step_starts carry k [] = refl
+  step_starts carry zero (s ∷ ss) = refl
+  step_starts carry (suc k) (s ∷ ss) = ap (λ l. (s.station, s.start) ∷ l) (step_starts carry k ss)
+
+  steps_starts : (carry : Registers → Registers) (ss : List (Seat V M Q R)) (ks : List ℕ) → starts (seats_step x carry ss ks) ≡ starts ss
+  steps_starts carry ss [] = refl
+  steps_starts carry ss (k ∷ ks) = steps_starts carry (seat_steps_at x carry k ss) ks ∙ step_starts carry k ss
+
+  run_starts : (carry : Registers → Registers) (w : Session V M Q R) (ts : List (Turn M Q)) → starts (run x carry w ts).seats ≡ starts w.seats
+  run_starts carry w [] = refl
+  run_starts carry w (t ∷ ts) =
+      let k = length w.frames in
+      let next = seats_next x k w.seats t.choices in
+      run_starts carry (happens x carry w t) ts ∙ steps_starts carry (seats_after x k next t.move.sent t.move.fate) t.move.steps
+      ∙ afters_starts k next t.move.sent t.move.fate ∙ nexts_starts k w.seats t.choices
+
+  new_starts : (ps : List (Planned V)) → starts (new_session {M = M} {Q = Q} {R = R} ps).seats ≡ planned ps
+  new_starts [] = refl
+  new_starts (p ∷ ps) = ap (λ l. (p.station, p.server) ∷ l) (new_starts ps)
+
+  -- a fact of each seat is a fact of each side and slave
+  each_of : (P : ℕ → V → Side M Q R → Slave V M → Type 0) (ss : List (Seat V M Q R)) (ps : List (Planned V)) → starts ss ≡ planned ps → EachSeat (λ s. P s.station s.start s.side s.slave) ss → EachOf P ps (sides_of ss) (ring_of ss)
+  each_of P [] [] e h = tt
+  each_of P [] (p ∷ ps) e h = absurd (nothing (p.station, p.server) (planned ps) (sym e))
+  each_of P (s ∷ ss) [] e h = absurd (nothing (s.station, s.start) (starts ss) e)
+  each_of P (s ∷ ss) (p ∷ ps) e h =
+      let both = heads (s.station, s.start) (p.station, p.server) (starts ss) (planned ps) e in
+      let station : s.station ≡ p.station = ap (λ q. q.0) both.0 in
+      let start : s.start ≡ p.server = ap (λ q. q.1) both.0 in
+      ((station, station, subst (λ q. P q.0 q.1 s.side s.slave) both.0 h.0), each_of P ss ps both.1 h.1)
+
+  session_starts : (carry : Registers → Registers) (ps : List (Planned V)) (ts : List (Turn M Q)) → starts (run x carry (new_session ps) ts).seats ≡ planned ps
+  session_starts carry ps ts = run_starts carry (new_session ps) ts ∙ new_starts ps
+
+module _ {V A M Q R : Type 0} (x : Exchange V A M Q R) (law : IsLawful x) where
+  pub bound_promised : (more : M → Bool) (carry : Registers → Registers) (ps : List (Planned V)) → IsPlan x ps → (ds : List (ℕ × Side M Q R)) (ns : Ring V M) (fs : List (Frame M)) → IsBound x carry ps ds ns fs →
+      EachOf (Promised x more fs) ps ds ns
+  bound_promised more carry ps p ds ns fs b =
+      let w = run x carry (new_session ps) b.turns in
+      let k = run_keeps x law carry (new_session ps) b.turns b.may (new_keeps x law ps p) in
+      let all = each_of x (Promised x more w.frames) w.seats ps (session_starts x carry ps b.turns) (each_promised x law more w.frames w.seats k.ready k.sound k.fitted k.records) in
+      subst (λ l. EachOf (Promised x more fs) ps ds l) b.ring (subst (λ l. EachOf (Promised x more fs) ps l (ring_of w.seats)) b.sides (subst (λ l. EachOf (Promised x more l) ps (sides_of w.seats) (ring_of w.seats)) b.frames all))
+
+  pub bound_rests : (carry : Registers → Registers) (ps : List (Planned V)) → IsPlan x ps → (ds : List (ℕ × Side M Q R)) (ns : Ring V M) (fs : List (Frame M)) → IsBound x carry ps ds ns fs →
+      EachOf (RestsIf x fs) ps ds ns
+  bound_rests carry ps p ds ns fs b =
+      let w = run x carry (new_session ps) b.turns in
+      let k = run_keeps x law carry (new_session ps) b.turns b.may (new_keeps x law ps p) in
+      let all = each_of x (RestsIf x w.frames) w.seats ps (session_starts x carry ps b.turns) (each_rests x law w.frames w.seats k.ready k.sound k.fitted k.records) in
+      subst (λ l. EachOf (RestsIf x fs) ps ds l) b.ring (subst (λ l. EachOf (RestsIf x fs) ps l (ring_of w.seats)) b.sides (subst (λ l. EachOf (RestsIf x l) ps (sides_of w.seats) (ring_of w.seats)) b.frames all))
+
+  pub bound_handed : (more : M → Bool) (carry : Registers → Registers) (ps : List (Planned V)) → IsPlan x ps → (ds : List (ℕ × Side M Q R)) (ns : Ring V M) (fs : List (Frame M)) → IsBound x carry ps ds ns fs →
+      EachOf (HandedBy x more fs) ps ds ns
+  bound_handed more carry ps p ds ns fs b =
+      let w = run x carry (new_session ps) b.turns in
+      let k = run_keeps x law carry (new_session ps) b.turns b.may (new_keeps x law ps p) in
+      let posts = session_posts x law carry ps p b.turns b.may in
+      let all = each_of x (HandedBy x more w.frames) w.seats ps (session_starts x carry ps b.turns) (each_handed x law more w.frames w.seats k.ready k.fitted posts) in
+      subst (λ l. EachOf (HandedBy x more fs) ps ds l) b.ring (subst (λ l. EachOf (HandedBy x more fs) ps l (ring_of w.seats)) b.sides (subst (λ l. EachOf (HandedBy x more l) ps (sides_of w.seats) (ring_of w.seats)) b.frames all))

@@ -1,0 +1,78 @@
+-- What the record says of services that end with their last write, turn by turn of a session.
+use Rattle.std.proofs.Common.{◌≡◌, ℕ, zero, suc, Bool, List, [], ◌∷◌, ◌++◌, length, refl}
+use Rattle.exchange_model.specs.Exchange.{Exchange, IsLawful}
+use Rattle.link_model.specs.Segment.{RingFate}
+use Rattle.segment_model.specs.Slaves.{Registers, Datagram, grams, frame_after, ring_back}
+use Rattle.segment_model.specs.Record.{Frame}
+use Rattle.segment_model.specs.Laws.{EachSeat, HandedBy}
+use Rattle.segment_model.specs.Seats
+use Rattle.segment_model.specs.Seats.{Seat, Choice, Turn, Session, Planned, IsPlan, link_of, ring_of, seat_next, seats_next, seats_back, seats_lost, seats_after, seat_steps_at, seats_step, writes, happens, run, MayRun, new_session}
+use Rattle.segment_model.proofs.Answers
+use Rattle.segment_model.proofs.Written.{frame_tells}
+use Rattle.segment_model.proofs.Sounds.{SeatSound}
+use Rattle.segment_model.proofs.Fitted.{Fitted, IsReady, begins_fit}
+use Rattle.segment_model.proofs.Kept.{Keeps, turn_keeps, new_keeps}
+use Rattle.segment_model.proofs.Posts.{writes-all_back}
+use Rattle.segment_model.proofs.Handed.{Posts, facts_of, next_posts, back_posts, lost_posts, handed_by}
+
+module _ {V A M Q R : Type 0} (x : Exchange V A M Q R) (law : IsLawful x) where
+  abbrev pub SeatPosts : List (Frame M) → Seat V M Q R → Type 0
+  SeatPosts fs s = Posts x law s.station fs s.side
+
+  nexts_posts : (fs : List (Frame M)) (ss : List (Seat V M Q R)) (cs : List (Choice Q)) → EachSeat (IsReady x law) ss → EachSeat (SeatSound x) ss → EachSeat (Fitted x law) ss → EachSeat (SeatPosts fs) ss → EachSeat (SeatPosts fs) (seats_next x (length fs) ss cs)
+  nexts_posts fs [] cs r h f p = tt
+  nexts_posts fs (s ∷ ss) [] r h f p = p
+  nexts_posts fs (s ∷ ss) (c ∷ cs) r h f p =
+      let e = Seats.side_begins x (length fs) s.side s.side.now c.begin in
+      let old = facts_of x law s.start r.0 s.side.past s.side.now s.held s.taken s.accepted f.0 in
+      let fits = begins_fit x law s.start r.0 (link_of s) h.0 (length fs) s.side s.side.now c.begin refl refl f.0 in
+      let new = facts_of x law s.start r.0 e.past e.now s.held s.taken s.accepted fits in
+      (next_posts x law s.station fs s.side c old new p.0, nexts_posts fs ss cs r.1 h.1 f.1 p.1)
+
+  backs_posts : (fs : List (Frame M)) (f : Frame M) (ss : List (Seat V M Q R)) (ds : List (Datagram M)) → ((station : ℕ) → writes station (grams f.back) ≡ writes station (grams f.sent)) → Seats.IsFrame ss f.sent →
+      EachSeat (SeatPosts fs) ss → EachSeat (SeatPosts (fs ++ f ∷ [])) (seats_back x (length fs) ss ds f.back)
+  backs_posts fs f [] ds e i p = tt
+  backs_posts fs f (s ∷ ss) ds e i p =
+      (back_posts x law s.station fs f s.side (e s.station) (frame_tells s.station (Answers.kept_of s.station fs).told s.side.halves (grams f.sent) i.0) p.0, backs_posts fs f ss (frame_after s.station s.slave ds) e i.1 p.1)
+
+  losts_posts : (fs : List (Frame M)) (f : Frame M) (after : ℕ) (ss : List (Seat V M Q R)) (ds : List (Datagram M)) → f.back ≡ [] → Seats.IsFrame ss f.sent →
+      EachSeat (SeatPosts fs) ss → EachSeat (SeatPosts (fs ++ f ∷ [])) (seats_lost after ss ds f.sent)
+  losts_posts fs f after [] ds e i p = tt
+  losts_posts fs f zero (s ∷ ss) ds e i p =
+      (lost_posts x law s.station fs f s.side e (frame_tells s.station (Answers.kept_of s.station fs).told s.side.halves (grams f.sent) i.0) p.0, losts_posts fs f zero ss ds e i.1 p.1)
+  losts_posts fs f (suc k) (s ∷ ss) ds e i p =
+      (lost_posts x law s.station fs f s.side e (frame_tells s.station (Answers.kept_of s.station fs).told s.side.halves (grams f.sent) i.0) p.0, losts_posts fs f k ss (frame_after s.station s.slave ds) e i.1 p.1)
+
+  afters_posts : (fs : List (Frame M)) (ss : List (Seat V M Q R)) (ds : List (Datagram M)) (fate : RingFate) → Seats.IsFrame ss ds → EachSeat (SeatPosts fs) ss →
+      EachSeat (SeatPosts (fs ++ record { sent = ds; fate = fate; back = ring_back (ring_of ss) ds fate } ∷ [])) (seats_after x (length fs) ss ds fate)
+  afters_posts fs ss ds RingFate.Back i p = backs_posts fs (record { sent = ds; fate = RingFate.Back; back = ring_back (ring_of ss) ds RingFate.Back }) ss ds (λ station. writes-all_back station (ring_of ss) ds) i p
+  afters_posts fs ss ds (RingFate.Lost after) i p = losts_posts fs (record { sent = ds; fate = RingFate.Lost after; back = [] }) after ss ds refl i p
+
+  step_posts : (carry : Registers → Registers) (fs : List (Frame M)) (k : ℕ) (ss : List (Seat V M Q R)) → EachSeat (SeatPosts fs) ss → EachSeat (SeatPosts fs) (seat_steps_at x carry k ss)
+  step_posts carry fs k [] p = tt
+  step_posts carry fs zero (s ∷ ss) p = p
+  step_posts carry fs (suc k) (s ∷ ss) p = (p.0, step_posts carry fs k ss p.1)
+
+  steps_posts : (carry : Registers → Registers) (fs : List (Frame M)) (ss : List (Seat V M Q R)) (ks : List ℕ) → EachSeat (SeatPosts fs) ss → EachSeat (SeatPosts fs) (seats_step x carry ss ks)
+  steps_posts carry fs ss [] p = p
+  steps_posts carry fs ss (k ∷ ks) p = steps_posts carry fs (seat_steps_at x carry k ss) ks (step_posts carry fs k ss p)
+
+  run_posts : (carry : Registers → Registers) (w : Session V M Q R) (ts : List (Turn M Q)) → MayRun x carry w ts → Keeps x law w.frames w.seats → EachSeat (SeatPosts w.frames) w.seats → (let z = run x carry w ts in EachSeat (SeatPosts z.frames) z.seats)
+  run_posts carry w [] m h p = p
+  run_posts carry w (t ∷ ts) m h p =
+      let next = seats_next x (length w.frames) w.seats t.choices in
+      let before = nexts_posts w.frames w.seats t.choices h.ready h.sound h.fitted p in
+      let behind = afters_posts w.frames next t.move.sent t.move.fate m.0 before in
+      run_posts carry (happens x carry w t) ts m.1 (turn_keeps x law carry w t m.0 h) (steps_posts carry _ (seats_after x (length w.frames) next t.move.sent t.move.fate) t.move.steps behind)
+
+  new_posts : (ps : List (Planned V)) → EachSeat (SeatPosts []) (new_session ps).seats
+  new_posts [] = tt
+  new_posts (p ∷ ps) = (record { out = record { last_is = refl; again = λ m e. absurd (cc) }; past = tt; now = refl }, new_posts ps)
+
+  pub session_posts : (carry : Registers → Registers) (ps : List (Planned V)) → IsPlan x ps → (ts : List (Turn M Q)) → MayRun x carry (new_session ps) ts → (let w = run x carry (new_session ps) ts in EachSeat (SeatPosts w.frames) w.seats)
+  session_posts carry ps p ts m = run_posts carry (new_session ps) ts m (new_keeps x law ps p) (new_posts ps)
+
+  pub each_handed : (more : M → Bool) (fs : List (Frame M)) (ss : List (Seat V M Q R)) → EachSeat (IsReady x law) ss → EachSeat (Fitted x law) ss → EachSeat (SeatPosts fs) ss → EachSeat (λ s. HandedBy x more fs s.station s.start s.side s.slave) ss
+  each_handed more fs [] r f p = tt
+  each_handed more fs (s ∷ ss) r f p =
+      (handed_by x law more s.station fs s.side (facts_of x law s.start r.0 s.side.past s.side.now s.held s.taken s.accepted f.0) p.0, each_handed more fs ss r.1 f.1 p.1)

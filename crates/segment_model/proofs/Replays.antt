@@ -1,0 +1,138 @@
+-- The ring of a session is the replay of its moves, its sides go on by frames alone, and master and ring that meet in frames are a session.
+use Rattle.std.proofs.Common.{◌≡◌, ℕ, zero, suc, List, [], ◌∷◌, ◌++◌, length, refl, ap, sym, ◌∙◌, subst, append_assoc, append-nil}
+use Rattle.exchange_model.specs.Exchange.{Exchange}
+use Rattle.link_model.specs.Segment.{RingFate}
+use Rattle.segment_model.specs.Slaves
+use Rattle.segment_model.specs.Seats
+use Rattle.segment_model.specs.Slaves.{Registers, Datagram, grams, Ring, Move, Slave, frame_after, all_meet, first_meet, ring_after, ring_back, step_at, ring_steps, replayed}
+use Rattle.segment_model.specs.Record.{Frame, frame_of, recorded}
+use Rattle.segment_model.specs.Seats.{Side, Seat, Choice, Turn, Session, Planned, ring_of, sides_of, seat_next, seats_next, seat_back, seats_back, seats_lost, seats_after, seat_steps_at, seats_step, happens, run, MayRun, IsFrame, new_session, moves}
+use Rattle.segment_model.specs.Split.{sides_next, sides_back, sides_lost, sides_after, IsFrameOf, IsBound}
+
+module _ {V A M Q R : Type 0} (x : Exchange V A M Q R) where
+  nexts_ring : (k : ℕ) (ss : List (Seat V M Q R)) (cs : List (Choice Q)) → ring_of (seats_next x k ss cs) ≡ ring_of ss
+  nexts_ring k [] cs = refl
+  nexts_ring k (s ∷ ss) [] = refl
+  nexts_ring k (s ∷ ss) (c ∷ cs) = ap (λ l. (s.station, s.slave) ∷ l) (nexts_ring k ss cs)
+
+  nexts_sides : (k : ℕ) (ss : List (Seat V M Q R)) (cs : List (Choice Q)) → sides_of (seats_next x k ss cs) ≡ sides_next x k (sides_of ss) cs
+  nexts_sides k [] cs = refl
+  nexts_sides k (s ∷ ss) [] = refl
+  nexts_sides k (s ∷ ss) (c ∷ cs) = ap (λ l. (s.station, (seat_next x k s c).side) ∷ l) (nexts_sides k ss cs)
+
+  backs_ring : (k : ℕ) (ss : List (Seat V M Q R)) (ds back : List (Datagram M)) → ring_of (seats_back x k ss ds back) ≡ all_meet (ring_of ss) ds
+  backs_ring k [] ds back = refl
+  backs_ring k (s ∷ ss) ds back = ap (λ l. (s.station, (seat_back x k s ds back).slave) ∷ l) (backs_ring k ss (frame_after s.station s.slave ds) back)
+
+  backs_sides : (k : ℕ) (ss : List (Seat V M Q R)) (ds back : List (Datagram M)) → sides_of (seats_back x k ss ds back) ≡ sides_back x k back (sides_of ss)
+  backs_sides k [] ds back = refl
+  backs_sides k (s ∷ ss) ds back = ap (λ l. (s.station, (seat_back x k s ds back).side) ∷ l) (backs_sides k ss (frame_after s.station s.slave ds) back)
+
+  losts_ring : (after : ℕ) (ss : List (Seat V M Q R)) (ds sent : List (Datagram M)) → ring_of (seats_lost after ss ds sent) ≡ first_meet after (ring_of ss) ds
+  losts_ring zero [] ds sent = refl
+  losts_ring (suc k) [] ds sent = refl
+  losts_ring zero (s ∷ ss) ds sent = ap (λ l. (s.station, s.slave) ∷ l) (losts_ring zero ss ds sent)
+  losts_ring (suc k) (s ∷ ss) ds sent = ap (λ l. (s.station, Slaves.slave_after s.station s.slave ds) ∷ l) (losts_ring k ss (frame_after s.station s.slave ds) sent)
+
+  losts_sides : (after : ℕ) (ss : List (Seat V M Q R)) (ds sent : List (Datagram M)) → sides_of (seats_lost after ss ds sent) ≡ sides_lost sent (sides_of ss)
+  losts_sides after [] ds sent = refl
+  losts_sides zero (s ∷ ss) ds sent = ap (λ l. (s.station, Seats.side_lost s.station sent s.side) ∷ l) (losts_sides zero ss ds sent)
+  losts_sides (suc k) (s ∷ ss) ds sent = ap (λ l. (s.station, Seats.side_lost s.station sent s.side) ∷ l) (losts_sides k ss (frame_after s.station s.slave ds) sent)
+
+  afters_ring : (k : ℕ) (ss : List (Seat V M Q R)) (ds : List (Datagram M)) (fate : RingFate) → ring_of (seats_after x k ss ds fate) ≡ ring_after (ring_of ss) ds fate
+  afters_ring k ss ds RingFate.Back = backs_ring k ss ds (ring_back (ring_of ss) ds RingFate.Back)
+  afters_ring k ss ds (RingFate.Lost after) = losts_ring after ss ds ds
+
+  afters_sides : (k : ℕ) (ss : List (Seat V M Q R)) (ds : List (Datagram M)) (fate : RingFate) → sides_of (seats_after x k ss ds fate) ≡ sides_after x k ds fate (ring_back (ring_of ss) ds fate) (sides_of ss)
+  afters_sides k ss ds RingFate.Back = backs_sides k ss ds (ring_back (ring_of ss) ds RingFate.Back)
+  afters_sides k ss ds (RingFate.Lost after) = losts_sides after ss ds ds
+
+  step_ring : (carry : Registers → Registers) (k : ℕ) (ss : List (Seat V M Q R)) → ring_of (seat_steps_at x carry k ss) ≡ step_at x carry k (ring_of ss)
+  step_ring carry k [] = refl
+  step_ring carry zero (s ∷ ss) = refl
+  step_ring carry (suc k) (s ∷ ss) = ap (λ l. (s.station, s.slave) ∷ l) (step_ring carry k ss)
+
+  step_sides : (carry : Registers → Registers) (k : ℕ) (ss : List (Seat V M Q R)) → sides_of (seat_steps_at x carry k ss) ≡ sides_of ss
+  step_sides carry k [] = refl
+  step_sides carry zero (s ∷ ss) = refl
+  step_sides carry (suc k) (s ∷ ss) = ap (λ l. (s.station, s.side) ∷ l) (step_sides carry k ss)
+
+  steps_ring : (carry : Registers → Registers) (ss : List (Seat V M Q R)) (ks : List ℕ) → ring_of (seats_step x carry ss ks) ≡ ring_steps x carry (ring_of ss) ks
+  steps_ring carry ss [] = refl
+  steps_ring carry ss (k ∷ ks) = steps_ring carry (seat_steps_at x carry k ss) ks ∙ ap (λ ns. ring_steps x carry ns ks) (step_ring carry k ss)
+
+  steps_sides : (carry : Registers → Registers) (ss : List (Seat V M Q R)) (ks : List ℕ) → sides_of (seats_step x carry ss ks) ≡ sides_of ss
+  steps_sides carry ss [] = refl
+  steps_sides carry ss (k ∷ ks) = steps_sides carry (seat_steps_at x carry k ss) ks ∙ step_sides carry k ss
+
+  -- the ring, the sides and the frames behind a turn
+  pub turn_ring : (carry : Registers → Registers) (w : Session V M Q R) (t : Turn M Q) → ring_of (happens x carry w t).seats ≡ ring_steps x carry (ring_after (ring_of w.seats) t.move.sent t.move.fate) t.move.steps
+  turn_ring carry w t =
+      let next = seats_next x (length w.frames) w.seats t.choices in
+      steps_ring carry (seats_after x (length w.frames) next t.move.sent t.move.fate) t.move.steps
+      ∙ ap (λ ns. ring_steps x carry ns t.move.steps) (afters_ring (length w.frames) next t.move.sent t.move.fate ∙ ap (λ ns. ring_after ns t.move.sent t.move.fate) (nexts_ring (length w.frames) w.seats t.choices))
+
+  pub turn_back : (w : Session V M Q R) (t : Turn M Q) → ring_back (ring_of (seats_next x (length w.frames) w.seats t.choices)) t.move.sent t.move.fate ≡ ring_back (ring_of w.seats) t.move.sent t.move.fate
+  turn_back w t = ap (λ ns. ring_back ns t.move.sent t.move.fate) (nexts_ring (length w.frames) w.seats t.choices)
+
+  pub turn_sides : (carry : Registers → Registers) (w : Session V M Q R) (t : Turn M Q) →
+      sides_of (happens x carry w t).seats ≡ sides_after x (length w.frames) t.move.sent t.move.fate (ring_back (ring_of w.seats) t.move.sent t.move.fate) (sides_next x (length w.frames) (sides_of w.seats) t.choices)
+  turn_sides carry w t =
+      let k = length w.frames in
+      let next = seats_next x k w.seats t.choices in
+      steps_sides carry (seats_after x k next t.move.sent t.move.fate) t.move.steps
+      ∙ afters_sides k next t.move.sent t.move.fate
+      ∙ ap (λ back. sides_after x k t.move.sent t.move.fate back (sides_of next)) (turn_back w t)
+      ∙ ap (sides_after x k t.move.sent t.move.fate (ring_back (ring_of w.seats) t.move.sent t.move.fate)) (nexts_sides k w.seats t.choices)
+
+  -- a session is the replay of its moves
+  pub run_ring : (carry : Registers → Registers) (w : Session V M Q R) (ts : List (Turn M Q)) → ring_of (run x carry w ts).seats ≡ replayed x carry (ring_of w.seats) (moves ts)
+  run_ring carry w [] = refl
+  run_ring carry w (t ∷ ts) = run_ring carry (happens x carry w t) ts ∙ ap (λ ns. replayed x carry ns (moves ts)) (turn_ring carry w t)
+
+  pub turn_frames : (carry : Registers → Registers) (w : Session V M Q R) (t : Turn M Q) → (happens x carry w t).frames ≡ w.frames ++ frame_of (ring_of w.seats) t.move ∷ []
+  turn_frames carry w t = ap (λ back. w.frames ++ record { sent = t.move.sent; fate = t.move.fate; back = back } ∷ []) (turn_back w t)
+
+  pub run_frames : (carry : Registers → Registers) (w : Session V M Q R) (ts : List (Turn M Q)) → (run x carry w ts).frames ≡ w.frames ++ recorded x carry (ring_of w.seats) (moves ts)
+  run_frames carry w [] = sym (append-nil w.frames)
+  run_frames carry w (t ∷ ts) =
+      run_frames carry (happens x carry w t) ts
+      ∙ ap (λ fs. fs ++ recorded x carry (ring_of (happens x carry w t).seats) (moves ts)) (turn_frames carry w t)
+      ∙ ap (λ ns. (w.frames ++ frame_of (ring_of w.seats) t.move ∷ []) ++ recorded x carry ns (moves ts)) (turn_ring carry w t)
+      ∙ append_assoc w.frames (frame_of (ring_of w.seats) t.move ∷ []) _
+
+  -- turns behind turns
+  run-append : (carry : Registers → Registers) (w : Session V M Q R) (ts : List (Turn M Q)) (t : Turn M Q) → run x carry w (ts ++ t ∷ []) ≡ happens x carry (run x carry w ts) t
+  run-append carry w [] t = refl
+  run-append carry w (u ∷ ts) t = run-append carry (happens x carry w u) ts t
+
+  may-append : (carry : Registers → Registers) (w : Session V M Q R) (ts : List (Turn M Q)) (t : Turn M Q) → MayRun x carry w ts → (let z = run x carry w ts in IsFrame (seats_next x (length z.frames) z.seats t.choices) t.move.sent) → MayRun x carry w (ts ++ t ∷ [])
+  may-append carry w [] t m f = (f, tt)
+  may-append carry w (u ∷ ts) t m f = (m.0, may-append carry (happens x carry w u) ts t m.1 f)
+
+  frame_from : (ss : List (Seat V M Q R)) (sent : List (Datagram M)) → IsFrameOf (sides_of ss) sent → IsFrame ss sent
+  frame_from [] sent f = tt
+  frame_from (s ∷ ss) sent f = (f.0, frame_from ss sent f.1)
+
+  pub new_bound : (carry : Registers → Registers) (ps : List (Planned V)) → IsBound x carry ps (sides_of (new_session {M = M} {Q = Q} {R = R} ps).seats) (ring_of (new_session {M = M} {Q = Q} {R = R} ps).seats) []
+  new_bound carry ps = record { turns = []; may = tt; sides = refl; ring = refl; frames = refl }
+
+  -- a master and a ring that meet in a frame stay a session
+  pub bound_step : (carry : Registers → Registers) (ps : List (Planned V)) (ds : List (ℕ × Side M Q R)) (ns : Ring V M) (fs : List (Frame M)) → IsBound x carry ps ds ns fs → (cs : List (Choice Q)) (m : Move M) →
+      IsFrameOf (sides_next x (length fs) ds cs) m.sent →
+      IsBound x carry ps (sides_after x (length fs) m.sent m.fate (ring_back ns m.sent m.fate) (sides_next x (length fs) ds cs)) (ring_steps x carry (ring_after ns m.sent m.fate) m.steps) (fs ++ frame_of ns m ∷ [])
+  bound_step carry ps ds ns fs b cs m f =
+      let z = run x carry (new_session ps) b.turns in
+      let t : Turn M Q = record { choices = cs; move = m } in
+      let k = b.frames in
+      let asked : IsFrameOf (sides_of (seats_next x (length z.frames) z.seats cs)) m.sent =
+      subst (λ l. IsFrameOf l m.sent) (ap (λ l. sides_next x (length fs) l cs) (sym b.sides) ∙ ap (λ l. sides_next x (length l) (sides_of z.seats) cs) (sym k) ∙ sym (nexts_sides (length z.frames) z.seats cs)) f in
+      record {
+        turns = b.turns ++ t ∷ [];
+        may = may-append carry (new_session ps) b.turns t b.may (frame_from (seats_next x (length z.frames) z.seats cs) m.sent asked);
+        sides =
+            ap (λ w. sides_of w.seats) (run-append carry (new_session ps) b.turns t) ∙ turn_sides carry z t
+            ∙ (λ i. sides_after x (length (k i)) m.sent m.fate (ring_back (b.ring i) m.sent m.fate) (sides_next x (length (k i)) (b.sides i) cs));
+        ring = ap (λ w. ring_of w.seats) (run-append carry (new_session ps) b.turns t) ∙ turn_ring carry z t ∙ ap (λ ns. ring_steps x carry (ring_after ns m.sent m.fate) m.steps) b.ring;
+        frames = ap (λ w. w.frames) (run-append carry (new_session ps) b.turns t) ∙ turn_frames carry z t ∙ (λ i. k i ++ frame_of (b.ring i) m ∷ []);
+      }

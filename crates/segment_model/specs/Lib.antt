@@ -1,0 +1,11 @@
+pub mod Slaves
+pub mod Record
+pub mod Ends
+pub mod Seats
+pub mod Laws
+pub mod Split
+pub mod GiveUps
+pub mod Visits
+pub mod Switching
+pub mod Epochs
+pub mod Books

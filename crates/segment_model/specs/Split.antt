@@ -1,0 +1,39 @@
+-- The master's sides and the ring apart: they meet in frames alone. What a master and a ring have to keep so that they are a session.
+use Rattle.std.specs.Prelude.{◌≡◌, ℕ, List, [], ◌∷◌, map, ⊤}
+use Rattle.exchange_model.specs.Exchange.{Exchange}
+use Rattle.link_model.specs.Frames.{IsFrameFor}
+use Rattle.link_model.specs.Segment.{RingFate}
+use Rattle.segment_model.specs.Slaves.{Registers, Datagram, grams, Ring}
+use Rattle.segment_model.specs.Record.{Frame}
+use Rattle.segment_model.specs.Seats.{Side, Choice, Turn, Planned, side_next, side_back, side_lost, ring_of, sides_of, new_session, run, MayRun}
+
+-- all sides before a frame, by the master's choices
+abbrev pub sides_next : {V A M Q R : Type 0} → Exchange V A M Q R → ℕ → List (ℕ × Side M Q R) → List (Choice Q) → List (ℕ × Side M Q R)
+sides_next x frame [] cs = []
+sides_next x frame (d ∷ ds) [] = d ∷ ds
+sides_next x frame (d ∷ ds) (c ∷ cs) = (d.0, side_next x frame d.1 c) ∷ sides_next x frame ds cs
+
+-- behind a frame that came back, and behind a lost one
+abbrev pub sides_back : {V A M Q R : Type 0} → Exchange V A M Q R → ℕ → List (Datagram M) → List (ℕ × Side M Q R) → List (ℕ × Side M Q R)
+sides_back x frame back ds = map (λ d. (d.0, side_back x frame d.0 back d.1)) ds
+
+abbrev pub sides_lost : {M Q R : Type 0} → List (Datagram M) → List (ℕ × Side M Q R) → List (ℕ × Side M Q R)
+sides_lost sent ds = map (λ d. (d.0, side_lost d.0 sent d.1)) ds
+
+abbrev pub sides_after : {V A M Q R : Type 0} → Exchange V A M Q R → ℕ → List (Datagram M) → RingFate → List (Datagram M) → List (ℕ × Side M Q R) → List (ℕ × Side M Q R)
+sides_after x frame sent RingFate.Back back ds = sides_back x frame back ds
+sides_after x frame sent (RingFate.Lost after) back ds = sides_lost sent ds
+
+-- a frame has each half's datagram at most once, and any others that are no access of a mailbox
+abbrev pub IsFrameOf : {M Q R : Type 0} → List (ℕ × Side M Q R) → List (Datagram M) → Type 0
+IsFrameOf [] sent = ⊤
+IsFrameOf (d ∷ ds) sent = IsFrameFor d.0 d.1.halves (grams sent) × IsFrameOf ds sent
+
+-- sides, a ring and frames that a session of this plan has come to
+pub record IsBound {V A M Q R : Type 0} (x : Exchange V A M Q R) (carry : Registers → Registers) (ps : List (Planned V))
+    (ds : List (ℕ × Side M Q R)) (ns : Ring V M) (fs : List (Frame M)) : Type 0 where
+  pub turns : List (Turn M Q)
+  pub may : MayRun x carry (new_session {M = M} {Q = Q} {R = R} ps) turns
+  pub sides : sides_of (run x carry (new_session ps) turns).seats ≡ ds
+  pub ring : ring_of (run x carry (new_session {M = M} {Q = Q} {R = R} ps) turns).seats ≡ ns
+  pub frames : (run x carry (new_session {M = M} {Q = Q} {R = R} ps) turns).frames ≡ fs

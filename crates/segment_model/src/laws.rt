@@ -1,0 +1,63 @@
+//! The laws of a session with a segment. Each function does nothing and carries laws as its contract.
+
+ghost use Rattle.std.specs.Prelude.{◌≡◌, ◌≤◌, ℕ, Bool, List, [], ◌∷◌, ◌++◌, length};
+ghost use Rattle.exchange_model.specs.Exchange.{Exchange, IsLawful};
+ghost use Rattle.segment_model.specs.Slaves.{Registers, Ring, Move, ring_after, ring_back, ring_steps, replayed, paced};
+ghost use Rattle.segment_model.specs.Record.{Frame, frame_of, recorded, sent_fates, news_from, first_end};
+ghost use Rattle.segment_model.specs.Ends.{Task, ends};
+ghost use Rattle.segment_model.specs.GiveUps.{NoneFor};
+ghost use Rattle.segment_model.specs.Seats.{Side, Choice, Turn, Planned, IsPlan, MayRun, run, new_session, ring_of, sides_of, moves};
+ghost use Rattle.segment_model.specs.Split.{IsBound, IsFrameOf, sides_next, sides_after};
+ghost use Rattle.segment_model.specs.Laws.{EachOf, Promised, HandedBy, RestsIf};
+
+/// What a session promises of each slave of its plan, with the master's side of it, the slave and the frames as they have come to be.
+pub fn session_law<V, A, M, Q, R>()
+    // Each answer is the one that the table of completed services gives for the news of the slave from the row's frame on, of the frame that
+    // completed it; the next row's frame is greater; and the slave's server has carried out just the first services of its rows, each once
+    // and in order, and each reply is its application's.
+    ensures promised { (x : Exchange V A M Q R) → IsLawful x → (more : M → Bool) (carry : Registers → Registers) (ps : List (Planned V)) → IsPlan x ps →
+        (ds : List (ℕ × Side M Q R)) (ns : Ring V M) (fs : List (Frame M)) → IsBound x carry ps ds ns fs → EachOf (Promised x more fs) ps ds ns }
+
+    // A service that ends with its last write, as a packet, is complete by the record exactly where its row is over: all its mails were sent
+    // and the write of the last one came back done. A mail of the row before that is still held is none of its mails.
+    ensures handed { (x : Exchange V A M Q R) → IsLawful x → (more : M → Bool) (carry : Registers → Registers) (ps : List (Planned V)) → IsPlan x ps →
+        (ds : List (ℕ × Side M Q R)) (ns : Ring V M) (fs : List (Frame M)) → IsBound x carry ps ds ns fs → EachOf (HandedBy x more fs) ps ds ns }
+
+    // Where a slave is settled and the master wants nothing of it, all its rows are carried out, and all emissions were heard.
+    ensures rests { (x : Exchange V A M Q R) → IsLawful x → (carry : Registers → Registers) (ps : List (Planned V)) → IsPlan x ps →
+        (ds : List (ℕ × Side M Q R)) (ns : Ring V M) (fs : List (Frame M)) → IsBound x carry ps ds ns fs → EachOf (RestsIf x fs) ps ds ns }
+{}
+
+/// The slaves and what came back are the replay of the frames, their fates and the processor steps behind them, whatever the master is.
+pub fn replay_law<V, A, M, Q, R>()
+    ensures ring { (x : Exchange V A M Q R) (carry : Registers → Registers) (ps : List (Planned V)) (ts : List (Turn M Q)) →
+        let new = new_session {R = R} ps in ring_of (run x carry new ts).seats ≡ replayed x carry (ring_of new.seats) (moves ts) }
+    ensures frames { (x : Exchange V A M Q R) (carry : Registers → Registers) (ps : List (Planned V)) (ts : List (Turn M Q)) →
+        let new = new_session {R = R} ps in (run x carry new ts).frames ≡ recorded x carry (ring_of new.seats) (moves ts) }
+
+    // With slow slaves, behind frame j each slave steps whose pace divides j + 1: then frames, fates and paces alone give both.
+    ensures paced { (x : Exchange V A M Q R) (carry : Registers → Registers) (ps : List (Planned V)) (ts : List (Turn M Q)) (paces : List ℕ) →
+        let new = new_session {R = R} ps in let w = run x carry new ts in let at = paced paces 0 (sent_fates w.frames) in moves ts ≡ at →
+        (ring_of w.seats ≡ replayed x carry (ring_of new.seats) at) × (w.frames ≡ recorded x carry (ring_of new.seats) at) }
+{}
+
+/// A master and a ring that meet in frames alone are a session: what each of them has to keep.
+pub fn split_law<V, A, M, Q, R>()
+    ensures begins { (x : Exchange V A M Q R) (carry : Registers → Registers) (ps : List (Planned V)) →
+        let new = new_session {M = M} {Q = Q} {R = R} ps in IsBound x carry ps (sides_of new.seats) (ring_of new.seats) [] }
+
+    // The master's sides go on by its choices and by what came back or was lost, the ring by the frame, its fate and its steps.
+    ensures steps { (x : Exchange V A M Q R) (carry : Registers → Registers) (ps : List (Planned V)) (ds : List (ℕ × Side M Q R)) (ns : Ring V M) (fs : List (Frame M)) →
+        IsBound x carry ps ds ns fs → (cs : List (Choice Q)) (m : Move M) → let asked = sides_next x (length fs) ds cs in IsFrameOf asked m.sent →
+        IsBound x carry ps (sides_after x (length fs) m.sent m.fate (ring_back ns m.sent m.fate) asked) (ring_steps x carry (ring_after ns m.sent m.fate) m.steps) (fs ++ frame_of ns m ∷ []) }
+
+    // And each run of a session is such a meeting.
+    ensures runs { (x : Exchange V A M Q R) (carry : Registers → Registers) (ps : List (Planned V)) (ts : List (Turn M Q)) →
+        let new = new_session {M = M} {Q = Q} {R = R} ps in MayRun x carry new ts → let w = run x carry new ts in IsBound x carry ps (sides_of w.seats) (ring_of w.seats) w.frames }
+{}
+
+/// A give-up: frames that carry nothing for a slave complete nothing, so what its tasks come to is told by the frames before.
+pub fn give_up_law<V, A, M, Q, R>()
+    ensures { (x : Exchange V A M Q R) → IsLawful x → (more : M → Bool) (task : Task M Q) (station frame : ℕ) (front behind : List (Frame M)) → frame ≤ length front → NoneFor station behind →
+        first_end (ends x more task) frame [] (news_from station frame (front ++ behind)) ≡ first_end (ends x more task) frame [] (news_from station frame front) }
+{}
