@@ -9,14 +9,14 @@ use Rattle.state_model.specs.Promises.{IsTable, AllTold, Stands, Flagged, Pendin
 use Rattle.state_model.proofs.Words.{Idle, Fresh, Changed, Denied, Flag, Cleared, InHand, Kept, kept_step}
 
 -- the code that was read in this phase
-abbrev code_read : Phase → Option ℕ
+abbrev pub code_read : Phase → Option ℕ
 code_read Phase.Ask = None
 code_read Phase.Await = None
 code_read (Phase.Acknowledge state first) = Some first
 code_read (Phase.Recover first) = Some first
 
 -- the statuses read so far leave the service open, with the code that its phase has
-abbrev Reads : {M : Type 0} → Type 0 → Option (Hand M) → Type 0
+abbrev pub Reads : {M : Type 0} → Type 0 → Option (Hand M) → Type 0
 Reads R None = Unit {0}
 Reads {M} R (Some h) = (more : List (News M)) → state_ends {R = R} h.target None (h.read ++ more) ≡ state_ends h.target (code_read h.phase) more
 
@@ -25,7 +25,7 @@ told_push : {M R : Type 0} (table : Table) (from : ℕ) (cs : List (Closed M R))
 told_push table from [] c all answer read = (answer, read, tt)
 told_push table from (d ∷ cs) c all answer read = (all.0, all.1, told_push table (state_behind table from d.target) cs c all.2 answer read)
 
-closed_push : {M R : Type 0} (table : Table) (from : ℕ) (cs : List (Closed M R)) (c : Closed M R) → state_closed table from (cs ++ c ∷ []) ≡ state_behind table (state_closed table from cs) c.target
+pub closed_push : {M R : Type 0} (table : Table) (from : ℕ) (cs : List (Closed M R)) (c : Closed M R) → state_closed table from (cs ++ c ∷ []) ≡ state_behind table (state_closed table from cs) c.target
 closed_push table from [] c = refl
 closed_push table from (d ∷ cs) c = closed_push table (state_behind table from d.target) cs c
 
@@ -36,7 +36,7 @@ module _ (table : Table) (stays : (from to : ℕ) → table from to ≡ None →
     pub kept : Kept table (state_closed table start closed) hand r
     pub reads : Reads R hand
 
-  abbrev HoldsAt : {M R : Type 0} → States M R → Type 0
+  abbrev pub HoldsAt : {M R : Type 0} → States M R → Type 0
   HoldsAt w = Holds w.closed w.hand w.registers
 
   begins_holds : {M R : Type 0} (w : States M R) (hand : Option (Hand M)) (target : ℕ) → w.hand ≡ hand → HoldsAt w → HoldsAt (begins w hand target)
@@ -187,7 +187,7 @@ module _ (table : Table) (stays : (from to : ℕ) → table from to ≡ None →
       go false f = k
       go true f = shows w h w.registers.refused h.phase refl f k (subst (λ g. Kept table (state_closed table start w.closed) g w.registers) e k.kept) (subst (Reads R) e k.reads)
 
-  happens_holds : {M R : Type 0} (w : States M R) (e : Event) → HoldsAt w → HoldsAt (happens table w e)
+  pub happens_holds : {M R : Type 0} (w : States M R) (e : Event) → HoldsAt w → HoldsAt (happens table w e)
   happens_holds w (Event.Begin target) k = begins_holds w w.hand target refl k
   happens_holds w (Event.Write fate) k = writes_holds w w.hand fate refl k
   happens_holds w (Event.Read fate) k = looks_holds w w.hand fate refl k
@@ -206,7 +206,7 @@ module _ (table : Table) (stays : (from to : ℕ) → table from to ≡ None →
   acknowledged_stands s t first r (inl k) = (inl k.state, λ code e. k.denied ∙ sym k.refused ∙ e)
   acknowledged_stands s t first r (inr k) = (inl k.state, λ code e. absurd (let no = k.refused in cc))
 
-  stands : {M : Type 0} (s : ℕ) (hand : Option (Hand M)) (r : Registers) → Kept table s hand r → Stands table s hand r.state r.refused × Flagged table s hand r.refused
+  pub stands : {M : Type 0} (s : ℕ) (hand : Option (Hand M)) (r : Registers) → Kept table s hand r → Stands table s hand r.state r.refused × Flagged table s hand r.refused
   stands s None r k = ((k.state, k.refused), k.refused)
   stands s (Some h) r k = go h.phase k
     where
@@ -225,9 +225,11 @@ module _ (table : Table) (stays : (from to : ℕ) → table from to ≡ None →
       let at = stands (state_closed table start w.closed) w.hand w.registers k.kept in
       record { told = k.told; stands = at.0; flagged = at.1; pending = pending R w.hand k.reads }
 
+  pub new_holds : {M R : Type 0} (r : Registers) → table start start ≡ None → HoldsAt (new_states {M = M} {R = R} r start)
+  new_holds r sits = record { told = tt; sits = sits; kept = record { state = refl; refused = refl; word = λ c e. absurd (cc) }; reads = tt }
+
 -- for every run from the end of bring-up on
 pub states_promised : {M R : Type 0} (table : Table) (start : ℕ) → IsTable table start → (r : Registers) (es : List Event) → StatesPromised table start (run table (new_states {M = M} {R = R} r start) es)
 states_promised {M} {R} table start is r es =
     let new = new_states {M = M} {R = R} r start in
-    let begins : Holds table is.stays start new.closed new.hand new.registers = record { told = tt; sits = is.sits; kept = record { state = refl; refused = refl; word = λ c e. absurd (cc) }; reads = tt } in
-    promised table is.stays start (run table new es) (run_holds table is.stays start new es begins)
+    promised table is.stays start (run table new es) (run_holds table is.stays start new es (new_holds table is.stays start r is.sits))

@@ -1,3 +1,6 @@
 mod Words
 mod Kept
 mod Orders
+mod Drains
+mod Laters
+mod Besides
