@@ -15,6 +15,14 @@ use Rattle.state_model.proofs.Laters.{Later, Stays, Closes, later}
 equal_self : (n : ℕ) → (n == n) ≡ true
 equal_self n = grind (arith, nat_tests)
 
+le_or_less : (a b : ℕ) → (a ≤ b) ⊎ (b < a)
+le_or_less zero b = inl (omega arith)
+le_or_less (suc a) zero = inr (omega arith)
+le_or_less (suc a) (suc b) = elim (le_or_less a b) [
+  | inl l ↦ inl (omega (arith, l))
+  | inr l ↦ inr (omega (arith, l))
+]
+
 -- services by mails alone
 pub data Posted {M Q : Type 0} : List (Begun M Q) → Type 0 where
   nil : Posted []
@@ -135,3 +143,185 @@ module _ (table : Table) (start : ℕ) (is : IsTable table start) where
           some_same : (a b : ℕ) → Some a ≡ Some b → a ≡ b
           some_same a b e = cc
       go (inr (inr c)) = absurd (let a = c.drains in let b = may.0 in cc)
+
+  -- a state service goes on, or is closed
+  alters_sound : {M Q R : Type 0} (w : Beside M Q R) (e : Event) → Sound w → IsLater e → Sound (beside_after table w (Happening.Alters e))
+  alters_sound {M} {Q} {R} w e k may = record { scripted = k.scripted; holds = happens_holds table is.stays start w.states e k.holds; at = go k.at (later table w.states e may) }
+    where
+      next : States M R
+      next = happens table w.states e
+
+      idle : (hand : Option (Hand M)) → hand ≡ None → Later w.states hand next → (next.hand ≡ None) × (next.closed ≡ w.states.closed)
+      idle None f l = l
+      idle (Some h) f l = absurd (cc)
+
+      busy : (hand : Option (Hand M)) (h : Hand M) → hand ≡ Some h → Later w.states hand next → Stays w.states h next ⊎ Closes w.states h next
+      busy None h f l = absurd (cc)
+      busy (Some g) h f l = let same : g ≡ h = some_same g h f in subst (λ h. Stays w.states h next ⊎ Closes w.states h next) same l
+        where
+          some_same : (a b : Hand M) → Some a ≡ Some b → a ≡ b
+          some_same a b e = cc
+
+      changed : (c : Changes w) → Stays w.states c.hand next ⊎ Closes w.states c.hand next → (let n = beside_after table w (Happening.Alters e) in Free n ⊎ (Drains n ⊎ Changes n))
+      changed c (inl s) = inr (inr (record {
+        hand = s.hand; drains = c.drains; same = s.same; front = c.front;
+        split = c.split ∙ ap (λ t. c.front ++ by_state t ∷ []) (sym s.target);
+        all = c.all; closed = ap (state_closed table start) s.closed ∙ c.closed;
+      }))
+      changed c (inr s) = inl (record {
+        drains = c.drains; hand = s.none; front = w.begun; back = []; split = sym (append-nil w.begun);
+        few = (let a = c.all in omega (arith, a)); posted = nil;
+        closed = ap (state_closed table start) s.closed ∙ closed_push table start w.states.closed s.one
+            ∙ ap₂ (state_behind table) c.closed s.target
+            ∙ sym (states_append table start c.front (by_state {M = M} {Q = Q} c.hand.target ∷ []))
+            ∙ ap (states_behind table start) (sym c.split);
+      })
+
+      go : Free w ⊎ (Drains w ⊎ Changes w) → Later w.states w.states.hand next → (let n = beside_after table w (Happening.Alters e) in Free n ⊎ (Drains n ⊎ Changes n))
+      go (inl f) l =
+          let i = idle w.states.hand f.hand l in
+          inl (record { drains = f.drains; hand = i.0; front = f.front; back = f.back; split = f.split; few = f.few; posted = f.posted; closed = ap (state_closed table start) i.1 ∙ f.closed })
+      go (inr (inl d)) l =
+          let i = idle w.states.hand d.hand l in
+          inr (inl (record { target = d.target; drains = d.drains; hand = i.0; front = d.front; back = d.back; split = d.split; few = d.few; posted = d.posted; closed = ap (state_closed table start) i.1 ∙ d.closed }))
+      go (inr (inr c)) l = changed c (busy w.states.hand c.hand c.same l)
+
+  after_sound : {M Q R : Type 0} (w : Beside M Q R) (h : Happening Q) → Sound w → May w h → Sound (beside_after table w h)
+  after_sound w (Happening.Mails q) k may = mails_sound w q k may
+  after_sound w Happening.Handled k may = handled_sound w k may
+  after_sound w (Happening.State target) k may = state_sound w target k may
+  after_sound w (Happening.Drained target) k may = drained_sound w target k may
+  after_sound w (Happening.Alters e) k may = alters_sound w e k may
+
+  pub all_sound : {M Q R : Type 0} (w : Beside M Q R) (hs : List (Happening Q)) → Sound w → AllMay table w hs → Sound (all_after table w hs)
+  all_sound w [] k may = k
+  all_sound w (h ∷ hs) k may = all_sound (beside_after table w h) hs (after_sound w h k may.0) may.1
+
+  pub new_sound : {M Q R : Type 0} (r : Registers) → Sound (new_beside {M = M} {Q = Q} {R = R} r start)
+  new_sound r = record {
+    scripted = nothing; holds = new_holds table is.stays start r is.sits;
+    at = inl (record { drains = refl; hand = refl; front = []; back = []; split = refl; few = omega arith; posted = nil; closed = refl });
+  }
+
+  -- what is done, with the one in hand left out or not: its services by mails are those of the first part, and its AL state is the slave's
+  record Fitting {M Q : Type 0} (al : ℕ) (first placed : List (Begun M Q)) : Type 0 where
+    services : services_of placed ≡ services_of first
+    state : states_behind table start placed ≡ al
+
+  -- the first part has no state service in hand, or the AL state is the one behind it
+  plain_fits : {M Q : Type 0} (hand : Bool) (al : ℕ) (first : List (Begun M Q)) → al ≡ states_behind table start first → Fitting al first (in_place hand (al == states_behind table start first) first)
+  plain_fits {M} {Q} hand al first e = go hand (al == states_behind table start first) (ap (λ n. al == n) (sym e) ∙ equal_self al)
+    where
+      go : (hand there : Bool) → there ≡ true → Fitting al first (in_place hand there first)
+      go false there f = record { services = refl; state = sym e }
+      go true true f = record { services = refl; state = sym e }
+      go true false f = absurd (cc)
+
+  -- the first part ends with the state service in hand
+  last_fits : {M Q : Type 0} (al target : ℕ) (front first : List (Begun M Q)) → first ≡ front ++ by_state target ∷ [] →
+      (let s = states_behind table start front in (al ≡ s) ⊎ (al ≡ state_behind table s target)) → Fitting al first (in_place true (al == states_behind table start first) first)
+  last_fits {M} {Q} al target front first e may = go (al == states_behind table start first) refl
+    where
+      behind : states_behind table start first ≡ state_behind table (states_behind table start front) target
+      behind = ap (states_behind table start) e ∙ states_append table start front (by_state target ∷ [])
+
+      shorter : but_last first ≡ front
+      shorter = ap but_last e ∙ but_last_push front (by_state target)
+
+      before : (al == states_behind table start first) ≡ false → (al ≡ states_behind table start front) ⊎ (al ≡ state_behind table (states_behind table start front) target) → al ≡ states_behind table start front
+      before f (inl a) = a
+      before f (inr a) = absurd (let b = ap (λ n. al == n) (a ∙ sym behind) in let c = equal_self al in cc)
+
+      go : (there : Bool) → (al == states_behind table start first) ≡ there → Fitting al first (in_place true there first)
+      go true f = record { services = refl; state = sym (eqb-true al (states_behind table start first) f) }
+      go false f = record {
+        services = ap services_of shorter ∙ sym (append-nil (services_of front)) ∙ sym (services_append front (by_state {M = M} target ∷ [])) ∙ ap services_of (sym e);
+        state = ap (states_behind table start) shorter ∙ sym (before f may);
+      }
+
+  -- the first part, where all in front of `back` is done
+  first_part : {M Q : Type 0} (k : ℕ) (begun front back : List (Begun M Q)) → begun ≡ front ++ back → count_of front ≤ k → done k begun ≡ front ++ done (k - count_of front) back
+  first_part k begun front back e le = ap (done k) e ∙ done_front k front back le
+
+  fitting : {M Q R : Type 0} (w : Beside M Q R) → Sound w → Fitting w.states.registers.state (done w.handled w.begun) (done_of table start w)
+  fitting {M} {Q} {R} w k = go k.at
+    where
+      closed : ℕ
+      closed = state_closed table start w.states.closed
+
+      al : ℕ
+      al = w.states.registers.state
+
+      stays : (hand : Option (Hand M)) → hand ≡ None → Stands table closed hand al w.states.registers.refused → al ≡ closed
+      stays None e s = s.0
+      stays (Some h) e s = absurd (cc)
+
+      moves : (hand : Option (Hand M)) (h : Hand M) → hand ≡ Some h → Stands table closed hand al w.states.registers.refused → (al ≡ closed) ⊎ (al ≡ state_behind table closed h.target)
+      moves None h e s = absurd (cc)
+      moves (Some g) h e s = let same : g ≡ h = some_same g h e in subst (λ h. (al ≡ closed) ⊎ (al ≡ state_behind table closed h.target)) same s
+        where
+          some_same : (a b : Hand M) → Some a ≡ Some b → a ≡ b
+          some_same a b e = cc
+
+      stand : Stands table closed w.states.hand al w.states.registers.refused
+      stand = (stands table is.stays start closed w.states.hand w.states.registers k.holds.kept).0
+
+      free : (f : Free w) → Fitting al (done w.handled w.begun) (done_of table start w)
+      free f =
+          let quiet = posted_states table (states_behind table start f.front) (w.handled - count_of f.front) f.back f.posted in
+          let all : states_behind table start w.begun ≡ states_behind table start f.front = ap (states_behind table start) f.split ∙ states_append table start f.front f.back ∙ quiet.0 in
+          let some : states_behind table start (done w.handled w.begun) ≡ states_behind table start f.front =
+          ap (states_behind table start) (first_part w.handled w.begun f.front f.back f.split f.few) ∙ states_append table start f.front (done (w.handled - count_of f.front) f.back) ∙ quiet.1 in
+          plain_fits (is_some w.drains || is_some w.states.hand) al (done w.handled w.begun) (stays w.states.hand f.hand stand ∙ f.closed ∙ all ∙ sym some)
+
+      drains : (d : Drains w) → Fitting al (done w.handled w.begun) (done_of table start w)
+      drains d = elim (le_or_less (count_of d.back) (w.handled - count_of d.front)) [
+        | inl more ↦ long more
+        | inr less ↦ short less
+      ]
+        where
+          quiet : (states_behind table (states_behind table start d.front) d.back ≡ states_behind table start d.front)
+              × (states_behind table (states_behind table start d.front) (done (w.handled - count_of d.front) d.back) ≡ states_behind table start d.front)
+          quiet = posted_states table (states_behind table start d.front) (w.handled - count_of d.front) d.back d.posted
+
+          stood : al ≡ states_behind table start (d.front ++ d.back)
+          stood = stays w.states.hand d.hand stand ∙ d.closed
+
+          split : w.begun ≡ d.front ++ (d.back ++ by_state d.target ∷ [])
+          split = d.split ∙ append_assoc d.front d.back (by_state d.target ∷ [])
+
+          part : done w.handled w.begun ≡ d.front ++ done (w.handled - count_of d.front) (d.back ++ by_state d.target ∷ [])
+          part = first_part w.handled w.begun d.front (d.back ++ by_state d.target ∷ []) split d.few
+
+          short : w.handled - count_of d.front < count_of d.back → Fitting al (done w.handled w.begun) (done_of table start w)
+          short less =
+              let fewer = part ∙ ap (λ l. d.front ++ l) (posted_short (w.handled - count_of d.front) d.back (by_state d.target ∷ []) d.posted less) in
+              let some : states_behind table start (done w.handled w.begun) ≡ states_behind table start d.front =
+              ap (states_behind table start) fewer ∙ states_append table start d.front (done (w.handled - count_of d.front) d.back) ∙ quiet.1 in
+              plain_fits (is_some w.drains || is_some w.states.hand) al (done w.handled w.begun) (stood ∙ states_append table start d.front d.back ∙ quiet.0 ∙ sym some)
+
+          long : count_of d.back ≤ w.handled - count_of d.front → Fitting al (done w.handled w.begun) (done_of table start w)
+          long more =
+              let all = part ∙ ap (λ l. d.front ++ l) (done_front (w.handled - count_of d.front) d.back (by_state d.target ∷ []) more) ∙ sym (append_assoc d.front d.back (by_state d.target ∷ [])) in
+              subst (λ b. Fitting al (done w.handled w.begun) (in_place (b || is_some w.states.hand) (al == states_behind table start (done w.handled w.begun)) (done w.handled w.begun))) (sym (ap is_some d.drains))
+              (last_fits al d.target (d.front ++ d.back) (done w.handled w.begun) all (inl stood))
+
+      changes : (c : Changes w) → Fitting al (done w.handled w.begun) (done_of table start w)
+      changes c =
+          let counts = ap count_of c.split ∙ count_append c.front (by_state {Q = Q} c.hand.target ∷ []) in
+          let all = first_part w.handled w.begun c.front (by_state c.hand.target ∷ []) c.split (let a = c.all in omega (arith, a, counts)) in
+          subst (λ b. Fitting al (done w.handled w.begun) (in_place (is_some w.drains || b) (al == states_behind table start (done w.handled w.begun)) (done w.handled w.begun))) (sym (ap is_some c.same))
+          (subst (λ b. Fitting al (done w.handled w.begun) (in_place (b || true) (al == states_behind table start (done w.handled w.begun)) (done w.handled w.begun))) (sym (ap is_some c.drains))
+          (last_fits al c.hand.target c.front (done w.handled w.begun) all
+          (subst (λ s. (al ≡ s) ⊎ (al ≡ state_behind table s c.hand.target)) c.closed (moves w.states.hand c.hand c.same stand))))
+
+      go : Free w ⊎ (Drains w ⊎ Changes w) → Fitting al (done w.handled w.begun) (done_of table start w)
+      go (inl f) = free f
+      go (inr (inl d)) = drains d
+      go (inr (inr c)) = changes c
+
+  pub app_fits : {V A M Q R : Type 0} (x : Exchange V A M Q R) (a : A) (w : Beside M Q R) (app : A) → Sound w → app ≡ exec_all x a (take w.handled (services_of w.begun)) → AppFits x table a start w app
+  app_fits x a w app k e =
+      let f = fitting w k in
+      ap₂ (λ b s. (b, s)) (e ∙ ap (exec_all x a) (sym (services_done w.handled w.begun k.scripted) ∙ sym f.services)) (sym f.state)
+      ∙ sym (all_behind_is x table a start (done_of table start w))
