@@ -1,15 +1,15 @@
 -- What is kept between services by mails and state services, and that application and AL state fit what is done.
-use Rattle.std.proofs.Common.{◌≡◌, ◌≢◌, ◌⊎◌, inl, inr, ℕ, zero, suc, ◌+◌, ◌-◌, ◌<◌, ◌≤◌, ◌==◌, ◌||◌, Bool, true, false, is_some, Option, Some, None, List, [], ◌∷◌, ◌++◌, take, refl, ap, ap₂, sym, ◌∙◌, subst, arith, append-nil, append_assoc, eqb-true}
+use Rattle.std.proofs.Common.{◌≡◌, ◌≢◌, ◌⊎◌, inl, inr, ℕ, zero, suc, ◌+◌, ◌-◌, ◌<◌, ◌≤◌, ◌==◌, ◌||◌, Bool, true, false, is_some, Option, Some, None, List, [], ◌∷◌, ◌++◌, take, length, refl, ap, ap₂, sym, ◌∙◌, subst, arith, append-nil, append_assoc, eqb-true}
 use Rattle.std.proofs.lemmas.Bool.Decides.{nat_tests}
 use Rattle.exchange_model.specs.Exchange.{Exchange}
-use Rattle.exchange_model.specs.Rows.{exec_all}
+use Rattle.exchange_model.specs.Rows.{Row, Fits, services, exec_all}
 use Rattle.segment_model.specs.Slaves.{Registers}
 use Rattle.state_model.specs.States.{Table, Hand, Closed, States, Event, happens, begins, new_states}
-use Rattle.state_model.specs.Promises.{IsTable, Stands, state_behind, state_closed}
+use Rattle.state_model.specs.Promises.{IsTable, StatesPromised, Stands, state_behind, state_closed}
 use Rattle.state_model.specs.Order.{Begun, count_of, done, services_of, all_behind, states_behind, by_mails, by_state, Scripted, Scripted.nothing, Scripted.mails, Scripted.state}
 use Rattle.state_model.specs.Together.{Beside, Happening, May, AllMay, IsLater, beside_after, all_after, new_beside, but_last, in_place, done_of, AppFits}
-use Rattle.state_model.proofs.Kept.{Holds, HoldsAt, happens_holds, new_holds, stands, closed_push}
-use Rattle.state_model.proofs.Orders.{done_front, services_done, scripted_append, states_append, count_append, services_append, all_behind_is}
+use Rattle.state_model.proofs.Kept.{Holds, HoldsAt, happens_holds, new_holds, stands, closed_push, promised}
+use Rattle.state_model.proofs.Orders.{done_front, services_done, count_scripted, scripted_append, states_append, count_append, services_append, all_behind_is}
 use Rattle.state_model.proofs.Laters.{Later, Stays, Closes, later}
 
 equal_self : (n : ℕ) → (n == n) ≡ true
@@ -325,3 +325,31 @@ module _ (table : Table) (start : ℕ) (is : IsTable table start) where
       let f = fitting w k in
       ap₂ (λ b s. (b, s)) (e ∙ ap (exec_all x a) (sym (services_done w.handled w.begun k.scripted) ∙ sym f.services)) (sym f.state)
       ∙ sym (all_behind_is x table a start (done_of table start w))
+
+module _ {M Q R : Type 0} (table : Table) (start : ℕ) (is : IsTable table start) (r : Registers) (hs : List (Happening Q)) where
+  run_sound : (w : Beside M Q R) → w ≡ new_beside r start → AllMay table w hs → Sound table start is (all_after table w hs)
+  run_sound w e may = all_sound table start is w hs (subst (Sound table start is) (sym e) (new_sound table start is r)) may
+
+  -- the laws, from the end of bring-up on
+  pub beside_promised : AllMay table (new_beside {M = M} {Q = Q} {R = R} r start) hs → StatesPromised table start (all_after table (new_beside {M = M} {Q = Q} {R = R} r start) hs).states
+  beside_promised may = promised table is.stays start (all_after table (new_beside r start) hs).states (run_sound (new_beside r start) refl may).holds
+
+module _ {V A M Q R : Type 0} (x : Exchange V A M Q R) (table : Table) (start : ℕ) (is : IsTable table start) (r : Registers) (hs : List (Happening Q)) where
+  pub beside_fits : (let w = all_after table (new_beside {M = M} {Q = Q} {R = R} r start) hs in AllMay table (new_beside {M = M} {Q = Q} {R = R} r start) hs → (v : V) (rows : List (Row M Q R)) (server : V) (accepted : List M) →
+      (f : Fits x v rows server accepted) → services rows ≡ services_of w.begun → f.count ≡ w.handled → AppFits x table (x.app v) start w (x.app server))
+  beside_fits may v rows server accepted f same count =
+      let w = all_after table (new_beside {M = M} {Q = Q} {R = R} r start) hs in
+      app_fits table start is x (x.app v) w (x.app server) (run_sound table start is r hs (new_beside r start) refl may)
+          (f.app ∙ ap (λ k. exec_all x (x.app v) (take k (services rows))) count ∙ ap (λ l. exec_all x (x.app v) (take w.handled l)) same)
+
+  length_services : (rows : List (Row M Q R)) → length (services rows) ≡ length rows
+  length_services [] = refl
+  length_services (r ∷ rows) = ap suc (length_services rows)
+
+  pub beside_drained : (let w = all_after table (new_beside {M = M} {Q = Q} {R = R} r start) hs in AllMay table (new_beside {M = M} {Q = Q} {R = R} r start) hs → (v : V) (rows : List (Row M Q R)) (server : V) (accepted : List M) →
+      (f : Fits x v rows server accepted) → services rows ≡ services_of w.begun → f.count ≡ w.handled → x.handled server ≡ x.handled v + length rows → w.handled ≡ count_of w.begun)
+  beside_drained may v rows server accepted f same count all =
+      let w = all_after table (new_beside {M = M} {Q = Q} {R = R} r start) hs in
+      let k = run_sound table start is r hs (new_beside {M = M} {Q = Q} {R = R} r start) refl may in
+      let most : f.count ≡ length rows = omega (arith, f.handled, all) in
+      sym count ∙ most ∙ sym (length_services rows) ∙ ap length same ∙ sym (count_scripted w.begun k.scripted)

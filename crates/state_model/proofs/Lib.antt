@@ -4,3 +4,4 @@ mod Orders
 mod Drains
 mod Laters
 mod Besides
+mod Servings

@@ -2,14 +2,80 @@
 //! laws, no running code: the functions here do nothing, and their contracts state the laws.
 #![tactic(auto)]
 
-ghost use Rattle.std.specs.Prelude.{ℕ, List};
-ghost use Rattle.segment_model.specs.Slaves.{Registers};
+ghost use Rattle.std.specs.Prelude.{◌≡◌, ◌≤◌, ◌+◌, ◌-◌, ℕ, Bool, true, false, Option, Some, None, List, [], ◌∷◌, ◌++◌, length, take};
+ghost use Rattle.exchange_model.specs.Prefix.{IsPrefixOf};
+ghost use Rattle.exchange_model.specs.Exchange.{Exchange, IsLawful, after};
+ghost use Rattle.exchange_model.specs.Rows.{Row, Fits, services};
+ghost use Rattle.exchange_model.specs.Laws.{Moment};
+ghost use Rattle.link_model.specs.Link.{Link};
+ghost use Rattle.link_model.specs.Agree.{Agrees};
+ghost use Rattle.segment_model.specs.Slaves.{Registers, Slave, Datagram, Access, Found, is_meant, datagram_meets};
+ghost use Rattle.segment_model.specs.Ends.{Task};
+ghost use Rattle.segment_model.specs.Seats.{is_over};
 ghost use Rattle.state_model.specs.States.{Table, Event, run, new_states};
 ghost use Rattle.state_model.specs.Promises.{IsTable, StatesPromised};
+ghost use Rattle.state_model.specs.Order.{Begun, count_of, done, services_of, Scripted, weighed, servers_behind, EachOne, IsQuiet};
+ghost use Rattle.state_model.specs.Together.{Happening, AllMay, all_after, new_beside, AppFits};
 
 /// What state services promise, whatever frames are lost and however slow the slave's processor is. The AL state is the one behind the closed
 /// services, or with one in hand that or its target's; a refusal leaves it, raises the error flag with the table's code until the acknowledge,
 /// and each answer is what the slave's table says, and what the statuses read for it complete.
 pub fn states_law<M, R>()
     ensures { (table : Table) (start : ℕ) → IsTable table start → (r : Registers) (es : List Event) → StatesPromised table start (run table (new_states {M = M} {R = R} r start) es) }
+{}
+
+/// The drain: a state service begins to change the state only where the slave has carried out all services by mails before it.
+pub fn drain_law<V, A, M, Q, R, S>()
+    // A status of mailbox 0 that shows it empty comes from an empty mailbox 0.
+    ensures seen { (station : ℕ) (s : Slave V M) (d : Datagram M) → d.access ≡ Access.ReadFull → is_meant s.registers d.address ≡ true → (datagram_meets station s d).found ≡ Some (Found.Full false) → s.node.out.box ≡ None }
+
+    // With the newest row over and mailbox 0 empty, the server has carried out the services of all rows. A mail of an answered row may still be
+    // held: it is a repeat.
+    ensures drained { (x : Exchange V A M Q R) → IsLawful x → (v : V) → x.ready v ≡ true → (front last : List (Row M Q R)) (now : Row M Q R) (w : Link M S) → Agrees w →
+        Moment x v front last now w.held w.taken w.accepted → (fresh : Bool) → is_over x w.halves.out.holding fresh now ≡ true → w.node.out.box ≡ None →
+        x.handled (after x.serve v w.taken) ≡ x.handled v + length (front ++ last ++ now ∷ []) }
+
+    // So it stays, whatever the server takes, while no further row begins.
+    ensures stays { (x : Exchange V A M Q R) → IsLawful x → (v : V) (rows : List (Row M Q R)) (taken more accepted : List M) → x.handled (after x.serve v taken) ≡ x.handled v + length rows →
+        Fits x v rows (after x.serve v (taken ++ more)) accepted → x.handled (after x.serve v (taken ++ more)) ≡ x.handled v + length rows }
+{}
+
+/// What is done of all that came into hand: the longest first part of it of which just so many count as the slave has carried out.
+pub fn done_law<M, Q>()
+    ensures first { (k : ℕ) (bs : List (Begun M Q)) → IsPrefixOf (done k bs) bs }
+    ensures counts { (k : ℕ) (bs : List (Begun M Q)) → k ≤ count_of bs → count_of (done k bs) ≡ k }
+    ensures longest { (k : ℕ) (bs p : List (Begun M Q)) → IsPrefixOf p bs → count_of p ≡ k → IsPrefixOf p (done k bs) }
+
+    // All that stands before the last one counted is in its place, state services too.
+    ensures places { (k : ℕ) (front back : List (Begun M Q)) → count_of front ≤ k → done k (front ++ back) ≡ front ++ done (k - count_of front) back }
+
+    // Of scripted tasks it has just the first services by mails.
+    ensures services { (k : ℕ) (bs : List (Begun M Q)) → Scripted bs → services_of (done k bs) ≡ take k (services_of bs) }
+{}
+
+/// Services by mails and state services of one slave, in any order, each state service behind its drain, whatever frames are lost and however
+/// slow the slave's processor is.
+pub fn beside_law<V, A, M, Q, R>()
+    // The state services keep their promise.
+    ensures promised { (table : Table) (start : ℕ) → IsTable table start → (r : Registers) (hs : List (Happening Q)) → let new = new_beside {M = M} {Q = Q} {R = R} r start in
+        AllMay table new hs → StatesPromised table start (all_after table new hs).states }
+
+    // Where the rows of the services by mails fit, application and AL state are together the fold over what is done, where a state service in
+    // hand is left out if the AL state isn't the one behind it.
+    ensures fits { (x : Exchange V A M Q R) (table : Table) (start : ℕ) → IsTable table start → (r : Registers) (hs : List (Happening Q)) → let new = new_beside {M = M} {Q = Q} {R = R} r start in let w = all_after table new hs in
+        AllMay table new hs → (v : V) (rows : List (Row M Q R)) (server : V) (accepted : List M) → (f : Fits x v rows server accepted) → services rows ≡ services_of w.begun → f.count ≡ w.handled →
+        AppFits x table (x.app v) start w (x.app server) }
+
+    // And where the server has carried out all rows, as a drain shows, all services by mails that came into hand are carried out.
+    ensures drained { (x : Exchange V A M Q R) (table : Table) (start : ℕ) → IsTable table start → (r : Registers) (hs : List (Happening Q)) → let new = new_beside {M = M} {Q = Q} {R = R} r start in let w = all_after table new hs in
+        AllMay table new hs → (v : V) (rows : List (Row M Q R)) (server : V) (accepted : List M) → (f : Fits x v rows server accepted) → services rows ≡ services_of w.begun → f.count ≡ w.handled →
+        x.handled server ≡ x.handled v + length rows → w.handled ≡ count_of w.begun }
+{}
+
+/// A serving: mails that are passed on count where the server counts one more for them.
+pub fn serving_law<V, A, M, Q, R>()
+    ensures counts { (x : Exchange V A M Q R) (v : V) (ts : List (Task M Q)) → EachOne x v ts → x.handled (servers_behind x v ts) ≡ x.handled v + count_of (weighed x v ts) }
+
+    // Tasks that count nothing leave the application, however many of them the server has seen.
+    ensures quiet { (x : Exchange V A M Q R) → IsLawful x → IsQuiet x → (v : V) (ts : List (Task M Q)) → count_of (weighed x v ts) ≡ 0 → x.app (servers_behind x v ts) ≡ x.app v }
 {}
