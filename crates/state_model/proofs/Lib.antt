@@ -5,3 +5,4 @@ mod Drains
 mod Laters
 mod Besides
 mod Servings
+mod ToyRun

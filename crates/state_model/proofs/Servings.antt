@@ -1,10 +1,11 @@
 -- What tasks of a serving count, and what those that count nothing leave.
-use Rattle.std.proofs.Common.{◌≡◌, ◌⊎◌, inl, inr, ℕ, suc, ◌+◌, ◌≤◌, ◌==◌, Bool, true, false, not, List, [], ◌∷◌, ◌++◌, refl, ap, sym, ◌∙◌, subst, arith, if◌then◌else◌, eqb-true}
+use Rattle.std.proofs.Common.{◌≡◌, ◌⊎◌, inl, inr, ℕ, suc, ◌+◌, ◌-◌, ◌≤◌, ◌==◌, ◌&&◌, Bool, true, false, not, List, [], ◌∷◌, ◌++◌, map, refl, ap, sym, ◌∙◌, subst, arith, if◌then◌else◌, eqb-true}
 use Rattle.std.proofs.lemmas.Bool.Decides.{nat_tests}
 use Rattle.exchange_model.specs.Exchange.{Exchange, IsLawful, after}
 use Rattle.exchange_model.proofs.Words.{grows_all}
 use Rattle.segment_model.specs.Ends.{Task}
-use Rattle.state_model.specs.Order.{Begun, count_of, weighed, server_behind, servers_behind, EachOne, IsQuiet}
+use Rattle.state_model.proofs.Orders.{done_front}
+use Rattle.state_model.specs.Order.{Begun, count_of, is_zero, one_less, done, tasks_of, weighed, server_behind, servers_behind, EachOne, IsQuiet}
 
 module _ {V A M Q R : Type 0} (x : Exchange V A M Q R) where
   -- the server's number is that before them and what they count
@@ -36,15 +37,42 @@ module _ {V A M Q R : Type 0} (x : Exchange V A M Q R) where
   task_quiet law quiet v (Task.State target) e = refl
   task_quiet law quiet v (Task.Passed m) e = quiet v m e
 
-  -- tasks that count nothing leave the application, so it does not matter how many of them the server has seen
-  pub nothing_counted : IsLawful x → IsQuiet x → (v : V) (ts : List (Task M Q)) → count_of (weighed x v ts) ≡ 0 → x.app (servers_behind x v ts) ≡ x.app v
-  nothing_counted law quiet v [] none = refl
-  nothing_counted law quiet v (t ∷ ts) none = go (x.handled (server_behind x v t) == x.handled v) refl none (nothing_counted law quiet (server_behind x v t) ts)
+  servers_append : (v : V) (ts us : List (Task M Q)) → servers_behind x v (ts ++ us) ≡ servers_behind x (servers_behind x v ts) us
+  servers_append v [] us = refl
+  servers_append v (t ∷ ts) us = servers_append (server_behind x v t) ts us
+
+  weighed_append : (v : V) (ts us : List (Task M Q)) → weighed x v (ts ++ us) ≡ weighed x v ts ++ weighed x (servers_behind x v ts) us
+  weighed_append v [] us = refl
+  weighed_append v (t ∷ ts) us = ap (λ l. record { task = t; counts = not (x.handled (server_behind x v t) == x.handled v) } ∷ l) (weighed_append (server_behind x v t) ts us)
+
+  tasks_append : (bs cs : List (Begun M Q)) → tasks_of (bs ++ cs) ≡ tasks_of bs ++ tasks_of cs
+  tasks_append [] cs = refl
+  tasks_append (b ∷ bs) cs = ap (λ l. b.task ∷ l) (tasks_append bs cs)
+
+  tasks_weighed : (v : V) (ts : List (Task M Q)) → tasks_of (weighed x v ts) ≡ ts
+  tasks_weighed v [] = refl
+  tasks_weighed v (t ∷ ts) = ap (λ l. t ∷ l) (tasks_weighed (server_behind x v t) ts)
+
+  -- the tasks up to the next one that counts leave the application
+  none_counted : IsLawful x → IsQuiet x → (v : V) (ts : List (Task M Q)) → x.app (servers_behind x v (tasks_of (done 0 (weighed x v ts)))) ≡ x.app v
+  none_counted law quiet v [] = refl
+  none_counted law quiet v (t ∷ ts) = go (x.handled (server_behind x v t) == x.handled v) refl (none_counted law quiet (server_behind x v t) ts)
     where
       next : V
       next = server_behind x v t
 
-      go : (same : Bool) → (x.handled next == x.handled v) ≡ same → (if not same then suc (count_of (weighed x next ts)) else count_of (weighed x next ts)) ≡ 0 →
-          (count_of (weighed x next ts) ≡ 0 → x.app (servers_behind x next ts) ≡ x.app next) → x.app (servers_behind x next ts) ≡ x.app v
-      go true e f more = more f ∙ task_quiet law quiet v t (eqb-true (x.handled next) (x.handled v) e)
-      go false e f more = absurd (omega (arith, f))
+      go : (same : Bool) → (x.handled next == x.handled v) ≡ same → x.app (servers_behind x next (tasks_of (done 0 (weighed x next ts)))) ≡ x.app next →
+          x.app (servers_behind x v (tasks_of (if not same && is_zero 0 then [] else record { task = t; counts = not (x.handled next == x.handled v) } ∷ done (if not same then one_less 0 else 0) (weighed x next ts)))) ≡ x.app v
+      go true e more = more ∙ task_quiet law quiet v t (eqb-true (x.handled next) (x.handled v) e)
+      go false e more = refl
+
+  -- a server that has seen a first part of the tasks has the application of the fold over what is done
+  pub serving_fits : IsLawful x → IsQuiet x → (v : V) (ts us : List (Task M Q)) → x.app (servers_behind x v ts) ≡ x.app (servers_behind x v (tasks_of (done (count_of (weighed x v ts)) (weighed x v (ts ++ us)))))
+  serving_fits law quiet v ts us =
+      let w = servers_behind x v ts in
+      let k = count_of (weighed x v ts) in
+      let first = ap (done k) (weighed_append v ts us) ∙ done_front k (weighed x v ts) (weighed x w us) (let e : k ≤ k = omega arith in e) in
+      let none : k - k ≡ 0 = omega arith in
+      let tasks = ap tasks_of (first ∙ ap (λ n. weighed x v ts ++ done n (weighed x w us)) none) ∙ tasks_append (weighed x v ts) (done 0 (weighed x w us))
+          ∙ ap (λ l. l ++ tasks_of (done 0 (weighed x w us))) (tasks_weighed v ts) in
+      sym (none_counted law quiet w us) ∙ sym (ap x.app (servers_append v ts (tasks_of (done 0 (weighed x w us))))) ∙ sym (ap (λ l. x.app (servers_behind x v l)) tasks)

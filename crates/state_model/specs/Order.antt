@@ -1,5 +1,5 @@
 -- What is addressed to one slave, in the order in which it came into hand, and the first part of it that is done.
-use Rattle.std.specs.Prelude.{◌≡◌, ◌⊎◌, ℕ, zero, suc, ◌==◌, ◌&&◌, Bool, true, false, not, if◌then◌else◌, List, [], ◌∷◌, ◌++◌, ⊤}
+use Rattle.std.specs.Prelude.{◌≡◌, ◌⊎◌, ℕ, zero, suc, ◌==◌, ◌&&◌, Bool, true, false, not, if◌then◌else◌, List, [], ◌∷◌, ◌++◌, map, ⊤}
 use Rattle.exchange_model.specs.Exchange.{Exchange, after}
 use Rattle.segment_model.specs.Ends.{Task}
 use Rattle.state_model.specs.States.{Table}
@@ -80,6 +80,10 @@ servers_behind x v (t ∷ ts) = servers_behind x (server_behind x v t) ts
 abbrev pub weighed : {V A M Q R : Type 0} → Exchange V A M Q R → V → List (Task M Q) → List (Begun M Q)
 weighed x v [] = []
 weighed x v (t ∷ ts) = record { task = t; counts = not (x.handled (server_behind x v t) == x.handled v) } ∷ weighed x (server_behind x v t) ts
+
+-- the tasks alone
+abbrev pub tasks_of : {M Q : Type 0} → List (Begun M Q) → List (Task M Q)
+tasks_of bs = map (λ b. b.task) bs
 
 -- scripted tasks alone: services by mails, which count, and state services, which don't
 pub data Scripted {M Q : Type 0} : List (Begun M Q) → Type 0 where

@@ -14,7 +14,7 @@ ghost use Rattle.segment_model.specs.Ends.{Task};
 ghost use Rattle.segment_model.specs.Seats.{is_over};
 ghost use Rattle.state_model.specs.States.{Table, Event, run, new_states};
 ghost use Rattle.state_model.specs.Promises.{IsTable, StatesPromised};
-ghost use Rattle.state_model.specs.Order.{Begun, count_of, done, services_of, Scripted, weighed, servers_behind, EachOne, IsQuiet};
+ghost use Rattle.state_model.specs.Order.{Begun, count_of, done, services_of, Scripted, tasks_of, weighed, servers_behind, EachOne, IsQuiet};
 ghost use Rattle.state_model.specs.Together.{Happening, AllMay, all_after, new_beside, AppFits};
 
 /// What state services promise, whatever frames are lost and however slow the slave's processor is. The AL state is the one behind the closed
@@ -76,6 +76,8 @@ pub fn beside_law<V, A, M, Q, R>()
 pub fn serving_law<V, A, M, Q, R>()
     ensures counts { (x : Exchange V A M Q R) (v : V) (ts : List (Task M Q)) → EachOne x v ts → x.handled (servers_behind x v ts) ≡ x.handled v + count_of (weighed x v ts) }
 
-    // Tasks that count nothing leave the application, however many of them the server has seen.
-    ensures quiet { (x : Exchange V A M Q R) → IsLawful x → IsQuiet x → (v : V) (ts : List (Task M Q)) → count_of (weighed x v ts) ≡ 0 → x.app (servers_behind x v ts) ≡ x.app v }
+    // A server that has seen a first part of the tasks has the application of the fold over what is done: tasks of what is done that it has
+    // not seen yet count nothing, and leave the application.
+    ensures fits { (x : Exchange V A M Q R) → IsLawful x → IsQuiet x → (v : V) (ts us : List (Task M Q)) →
+        x.app (servers_behind x v ts) ≡ x.app (servers_behind x v (tasks_of (done (count_of (weighed x v ts)) (weighed x v (ts ++ us))))) }
 {}

@@ -1,0 +1,90 @@
+-- Computed runs: a table of three states that meets what is asked of a table; a refusal with lost writes and a slow slave; and a state service
+-- between services by mails.
+use Rattle.std.proofs.Common.{◌≡◌, ℕ, ◌==◌, ◌&&◌, ◌||◌, Bool, true, false, Option, Some, None, List, [], ◌∷◌, ◌++◌, map, refl, ap, ◌∙◌, arith}
+use Rattle.std.proofs.lemmas.Bool.Decides.{nat_tests}
+use Rattle.link_model.specs.Link.{Fate}
+use Rattle.segment_model.specs.Slaves.{Registers}
+use Rattle.segment_model.specs.Record.{News}
+use Rattle.segment_model.specs.Ends.{Task, Outcome, state_ends}
+use Rattle.exchange_model.specs.Toy.{Mail, Service, sum, post, Adder, adder}
+use Rattle.state_model.specs.States.{Table, States, Closed, Event, run, new_states}
+use Rattle.state_model.specs.Promises.{IsTable}
+use Rattle.state_model.specs.Order.{Begun, by_mails, by_state}
+use Rattle.state_model.specs.Together.{Beside, Happening, all_after, new_beside, done_of, AllMay}
+
+-- PreOp, SafeOp and Op by their neighbours; any other change between them gets code 17, and any other state code 18
+abbrev is_known : ℕ → Bool
+is_known s = s == 2 || s == 4 || s == 8
+
+abbrev is_step : ℕ → ℕ → Bool
+is_step from to = from == 2 && to == 4 || from == 4 && to == 2 || from == 4 && to == 8 || from == 8 && to == 2 || from == 8 && to == 4
+
+abbrev answered : Bool → Bool → Option ℕ
+answered false change = Some 18
+answered true false = Some 17
+answered true true = None
+
+abbrev table : Table
+table from to = answered (is_known to) (from == to || is_step from to)
+
+equal_self : (n : ℕ) → (n == n) ≡ true
+equal_self n = grind (arith, nat_tests)
+
+is_table : IsTable table 2
+is_table = record { sits = refl; stays = λ from to e. go to (is_known to) refl (from == to || is_step from to) e }
+  where
+    go : (to : ℕ) (known : Bool) → is_known to ≡ known → (change : Bool) → answered known change ≡ None → table to to ≡ None
+    go to false k change e = absurd (cc)
+    go to true k false e = absurd (cc)
+    go to true k true e = ap (λ b. answered b (to == to || is_step to to)) k ∙ ap (λ b. answered true (b || is_step to to)) (equal_self to)
+
+blank : Registers
+blank = record { station = 4097; first = true; second = true; control = None; state = 0; refused = None }
+
+-- Op is refused in PreOp: the write is met and lost, and the slave is slow; the acknowledge is met and lost, and its repetition comes back; the
+-- flag is read once more before it is gone. Then SafeOp: its first write is lost, and the second is carried out behind a first read.
+abbrev events : List Event
+events =
+    Event.Begin 8 ∷ Event.Write Fate.LostBehind ∷ Event.Write Fate.Pass ∷ Event.Read Fate.Pass ∷ Event.Step ∷ Event.Read Fate.LostBehind ∷ Event.Read Fate.Pass
+    ∷ Event.Write Fate.LostBefore ∷ Event.Write Fate.LostBehind ∷ Event.Write Fate.Pass ∷ Event.Read Fate.Pass ∷ Event.Step ∷ Event.Read Fate.Pass
+    ∷ Event.Begin 4 ∷ Event.Write Fate.LostBefore ∷ Event.Write Fate.Pass ∷ Event.Read Fate.Pass ∷ Event.Step ∷ Event.Read Fate.Pass ∷ []
+
+abbrev ended : States ℕ ℕ
+ended = run table (new_states blank 2) events
+
+answers : ended.closed ≡
+    record { target = 8; answer = Outcome.Refused 17; read = News.Status 2 None ∷ News.Status 2 (Some 17) ∷ News.Status 2 (Some 17) ∷ News.Status 2 None ∷ [] }
+    ∷ record { target = 4; answer = Outcome.Reached; read = News.Status 2 None ∷ News.Status 4 None ∷ [] } ∷ []
+answers = refl
+
+stands_in : (ended.registers.state ≡ 4) × (ended.registers.refused ≡ None) × (ended.hand ≡ None)
+stands_in = (refl, refl, refl)
+
+-- A sum, then a packet that is written and not yet taken when SafeOp comes into hand and drains; then the packet is taken, the drain ends and the
+-- state is written; then another sum.
+abbrev before_drain : List (Happening Service)
+before_drain = Happening.Mails (sum 3) ∷ Happening.Handled ∷ Happening.Mails (post 4) ∷ Happening.State 4 ∷ []
+
+abbrev in_doubt : List (Happening Service)
+in_doubt = before_drain ++ Happening.Handled ∷ Happening.Drained 4 ∷ Happening.Alters (Event.Write Fate.Pass) ∷ []
+
+abbrev all : List (Happening Service)
+all = in_doubt ++ Happening.Alters Event.Step ∷ Happening.Alters (Event.Read Fate.Pass) ∷ Happening.Mails (sum 5) ∷ []
+
+abbrev new : Beside Mail Service ℕ
+new = new_beside blank 2
+
+-- in the drain the packet is not done, nor is the state service behind it; once the packet is taken the state service, whose word waits at the
+-- slave, is left out; and carried out it is in its place
+done_draining : done_of table 2 (all_after table new before_drain) ≡ by_mails (sum 3) ∷ []
+done_draining = refl
+
+done_in_doubt : done_of table 2 (all_after table new in_doubt) ≡ by_mails (sum 3) ∷ by_mails (post 4) ∷ []
+done_in_doubt = refl
+
+done_behind : done_of table 2 (all_after table new all) ≡ by_mails (sum 3) ∷ by_mails (post 4) ∷ by_state 4 ∷ []
+done_behind = refl
+
+-- and each may come where it comes
+may : AllMay table new all
+may = ((refl, refl), (omega arith, ((refl, refl), ((refl, refl), (omega arith, ((refl, refl), (tt, (tt, (tt, ((refl, refl), tt))))))))))
