@@ -1,14 +1,14 @@
 -- What is kept between services by mails and state services, and that application and AL state fit what is done.
-use Rattle.std.proofs.Common.{◌≡◌, ◌≢◌, ◌⊎◌, inl, inr, ℕ, zero, suc, ◌+◌, ◌-◌, ◌<◌, ◌≤◌, ◌==◌, ◌||◌, Bool, true, false, is_some, Option, Some, None, List, [], ◌∷◌, ◌++◌, take, length, refl, ap, ap₂, sym, ◌∙◌, subst, arith, append-nil, append_assoc, eqb-true}
+use Rattle.std.proofs.Common.{◌≡◌, ◌⊎◌, inl, inr, ℕ, zero, suc, ◌+◌, ◌-◌, ◌<◌, ◌≤◌, ◌==◌, ◌||◌, Bool, true, false, is_some, Option, Some, None, List, [], ◌∷◌, ◌++◌, take, length, refl, ap, ap₂, sym, ◌∙◌, subst, arith, append-nil, append_assoc, eqb-true}
 use Rattle.std.proofs.lemmas.Bool.Decides.{nat_tests}
 use Rattle.exchange_model.specs.Exchange.{Exchange}
 use Rattle.exchange_model.specs.Rows.{Row, Fits, services, exec_all}
 use Rattle.segment_model.specs.Slaves.{Registers}
 use Rattle.state_model.specs.States.{Table, Hand, Closed, States, Event, happens, begins, new_states}
 use Rattle.state_model.specs.Promises.{IsTable, StatesPromised, Stands, state_behind, state_closed}
-use Rattle.state_model.specs.Order.{Begun, count_of, done, services_of, all_behind, states_behind, by_mails, by_state, Scripted, Scripted.nothing, Scripted.mails, Scripted.state}
+use Rattle.state_model.specs.Order.{Begun, count_of, done, services_of, states_behind, by_mails, by_state, Scripted, Scripted.nothing, Scripted.mails, Scripted.state}
 use Rattle.state_model.specs.Together.{Beside, Happening, May, AllMay, IsLater, beside_after, all_after, new_beside, but_last, in_place, done_of, AppFits}
-use Rattle.state_model.proofs.Kept.{Holds, HoldsAt, happens_holds, new_holds, stands, closed_push, promised}
+use Rattle.state_model.proofs.Kept.{HoldsAt, happens_holds, new_holds, stands, closed_push, promised}
 use Rattle.state_model.proofs.Orders.{done_front, services_done, count_scripted, scripted_append, states_append, count_append, services_append, all_behind_is}
 use Rattle.state_model.proofs.Laters.{Later, Stays, Closes, later}
 
@@ -93,9 +93,13 @@ module _ (table : Table) (start : ℕ) (is : IsTable table start) where
     where
       go : Free w ⊎ (Drains w ⊎ Changes w) → (let n = beside_after table w (Happening.Mails q) in Free n ⊎ (Drains n ⊎ Changes n))
       go (inl f) = inl (record {
-        drains = f.drains; hand = f.hand; front = f.front; back = f.back ++ by_mails q ∷ [];
+        drains = f.drains;
+        hand = f.hand;
+        front = f.front;
+        back = f.back ++ by_mails q ∷ [];
         split = ap (λ l. l ++ by_mails q ∷ []) f.split ∙ append_assoc f.front f.back (by_mails q ∷ []);
-        few = f.few; posted = posted_push f.back q f.posted;
+        few = f.few;
+        posted = posted_push f.back q f.posted;
         closed = f.closed ∙ sym (states_append table start w.begun (by_mails q ∷ []));
       })
       go (inr (inl d)) = absurd (let a = d.drains in let b = may.0 in cc)
@@ -114,8 +118,14 @@ module _ (table : Table) (start : ℕ) (is : IsTable table start) where
     where
       go : Free w ⊎ (Drains w ⊎ Changes w) → (let n = beside_after table w (Happening.State target) in Free n ⊎ (Drains n ⊎ Changes n))
       go (inl f) = inr (inl (record {
-        target = target; drains = refl; hand = f.hand; front = f.front; back = f.back;
-        split = ap (λ l. l ++ by_state target ∷ []) f.split; few = f.few; posted = f.posted;
+        target = target;
+        drains = refl;
+        hand = f.hand;
+        front = f.front;
+        back = f.back;
+        split = ap (λ l. l ++ by_state target ∷ []) f.split;
+        few = f.few;
+        posted = f.posted;
         closed = f.closed ∙ ap (states_behind table start) f.split;
       }))
       go (inr (inl d)) = absurd (let a = d.drains in let b = may.0 in cc)
@@ -135,9 +145,12 @@ module _ (table : Table) (start : ℕ) (is : IsTable table start) where
           let same : d.target ≡ target = some_same d.target target (sym d.drains ∙ may.0) in
           inr (inr (record {
             hand = record { target = target; phase = Rattle.state_model.specs.States.Phase.Ask; read = [] };
-            drains = refl; same = b.0; front = d.front ++ d.back;
+            drains = refl;
+            same = b.0;
+            front = d.front ++ d.back;
             split = d.split ∙ ap (λ t. (d.front ++ d.back) ++ by_state t ∷ []) same;
-            all = may.1; closed = ap (state_closed table start) b.1 ∙ d.closed;
+            all = may.1;
+            closed = ap (state_closed table start) b.1 ∙ d.closed;
           }))
         where
           some_same : (a b : ℕ) → Some a ≡ Some b → a ≡ b
@@ -164,13 +177,22 @@ module _ (table : Table) (start : ℕ) (is : IsTable table start) where
 
       changed : (c : Changes w) → Stays w.states c.hand next ⊎ Closes w.states c.hand next → (let n = beside_after table w (Happening.Alters e) in Free n ⊎ (Drains n ⊎ Changes n))
       changed c (inl s) = inr (inr (record {
-        hand = s.hand; drains = c.drains; same = s.same; front = c.front;
+        hand = s.hand;
+        drains = c.drains;
+        same = s.same;
+        front = c.front;
         split = c.split ∙ ap (λ t. c.front ++ by_state t ∷ []) (sym s.target);
-        all = c.all; closed = ap (state_closed table start) s.closed ∙ c.closed;
+        all = c.all;
+        closed = ap (state_closed table start) s.closed ∙ c.closed;
       }))
       changed c (inr s) = inl (record {
-        drains = c.drains; hand = s.none; front = w.begun; back = []; split = sym (append-nil w.begun);
-        few = (let a = c.all in omega (arith, a)); posted = nil;
+        drains = c.drains;
+        hand = s.none;
+        front = w.begun;
+        back = [];
+        split = sym (append-nil w.begun);
+        few = (let a = c.all in omega (arith, a));
+        posted = nil;
         closed = ap (state_closed table start) s.closed ∙ closed_push table start w.states.closed s.one
             ∙ ap₂ (state_behind table) c.closed s.target
             ∙ sym (states_append table start c.front (by_state {M = M} {Q = Q} c.hand.target ∷ []))
@@ -199,7 +221,8 @@ module _ (table : Table) (start : ℕ) (is : IsTable table start) where
 
   pub new_sound : {M Q R : Type 0} (r : Registers) → Sound (new_beside {M = M} {Q = Q} {R = R} r start)
   new_sound r = record {
-    scripted = nothing; holds = new_holds table is.stays start r is.sits;
+    scripted = nothing;
+    holds = new_holds table is.stays start r is.sits;
     at = inl (record { drains = refl; hand = refl; front = []; back = []; split = refl; few = omega arith; posted = nil; closed = refl });
   }
 
@@ -340,7 +363,7 @@ module _ {V A M Q R : Type 0} (x : Exchange V A M Q R) (table : Table) (start : 
   beside_fits may v rows server accepted f same count =
       let w = all_after table (new_beside {M = M} {Q = Q} {R = R} r start) hs in
       app_fits table start is x (x.app v) w (x.app server) (run_sound table start is r hs (new_beside r start) refl may)
-          (f.app ∙ ap (λ k. exec_all x (x.app v) (take k (services rows))) count ∙ ap (λ l. exec_all x (x.app v) (take w.handled l)) same)
+      (f.app ∙ ap (λ k. exec_all x (x.app v) (take k (services rows))) count ∙ ap (λ l. exec_all x (x.app v) (take w.handled l)) same)
 
   length_services : (rows : List (Row M Q R)) → length (services rows) ≡ length rows
   length_services [] = refl

@@ -1,12 +1,12 @@
 -- What each event keeps, and what follows for the AL state, the error flag and the answers.
-use Rattle.std.proofs.Common.{◌≡◌, ◌≢◌, ◌⊎◌, inl, inr, ℕ, ◌==◌, Bool, true, false, Option, Some, None, List, [], ◌∷◌, ◌++◌, refl, ap, sym, ◌∙◌, subst, append-nil, append_assoc, if◌then◌else◌, eqb-true}
+use Rattle.std.proofs.Common.{◌≡◌, ◌⊎◌, inl, inr, ℕ, ◌==◌, Bool, true, false, Option, Some, None, List, [], ◌∷◌, ◌++◌, refl, ap, sym, ◌∙◌, subst, append-nil, append_assoc, if◌then◌else◌, eqb-true}
 use Rattle.link_model.specs.Link.{Fate, is_met}
 use Rattle.segment_model.specs.Slaves.{Registers}
 use Rattle.segment_model.specs.Record.{News}
 use Rattle.segment_model.specs.Ends.{Outcome, state_ends}
-use Rattle.state_model.specs.States.{Table, Phase, Hand, Closed, States, Event, Turn, happens, run, begins, writes, looks, returned, turned, shown, reads, carry, word_of, word_met, phase_behind, new_states}
+use Rattle.state_model.specs.States.{Table, Phase, Hand, Closed, States, Event, Turn, happens, run, begins, writes, looks, returned, turned, shown, reads, word_of, word_met, phase_behind, new_states}
 use Rattle.state_model.specs.Promises.{IsTable, AllTold, Stands, Flagged, Pending, StatesPromised, state_behind, state_closed, reached, answer_of}
-use Rattle.state_model.proofs.Words.{Idle, Fresh, Changed, Denied, Flag, Cleared, InHand, Kept, kept_step}
+use Rattle.state_model.proofs.Words.{Idle, Flag, Cleared, InHand, Kept, kept_step}
 
 -- the code that was read in this phase
 abbrev pub code_read : Phase → Option ℕ
@@ -159,23 +159,23 @@ module _ (table : Table) (stays : (from to : ℕ) → table from to ≡ None →
           let s = state_closed table start w.closed in
           let is = arrives s h.target w.registers k.sits kept e (eqb-true w.registers.state h.target f) in
           closes w h Outcome.Reached read k
-              (ap answer_of (sym is.0), subst (λ v. Idle table (reached v s h.target) w.registers) (sym is.0) is.1)
-              (ap (state_ends {R = R} h.target None) (sym (append-nil read)) ∙ on [] ∙ ap (λ b. if b then Some Outcome.Reached else None) f)
+          (ap answer_of (sym is.0), subst (λ v. Idle table (reached v s h.target) w.registers) (sym is.0) is.1)
+          (ap (state_ends {R = R} h.target None) (sym (append-nil read)) ∙ on [] ∙ ap (λ b. if b then Some Outcome.Reached else None) f)
       go false f = goes w h Phase.Await read k kept (λ more. on more ∙ ap (λ b. if b then Some Outcome.Reached else state_ends {R = R} h.target None more) f)
   shows {R = R} w h (Some code) Phase.Await e does k kept before =
       let is = flags (state_closed table start w.closed) h.target w.registers code kept e in
       goes w h (Phase.Acknowledge w.registers.state code) (h.read ++ News.Status w.registers.state (Some code) ∷ []) k (is.0, inl is.1)
-          (read_on {R = R} h.target None h.read (News.Status w.registers.state (Some code)) before)
+      (read_on {R = R} h.target None h.read (News.Status w.registers.state (Some code)) before)
   shows {M} {R} w h None (Phase.Recover first) e does k kept before =
       let s = state_closed table start w.closed in
       let is = recovers s h.target first w.registers kept e in
       let read : List (News M) = h.read ++ News.Status w.registers.state None ∷ [] in
       closes w h (Outcome.Refused first) read k
-          (ap answer_of (sym is.0), subst (λ v. Idle table (reached v s h.target) w.registers) (sym is.0) is.1)
-          (ap (state_ends {R = R} h.target None) (sym (append-nil read)) ∙ read_on {R = R} h.target (Some first) h.read (News.Status w.registers.state None) before [])
+      (ap answer_of (sym is.0), subst (λ v. Idle table (reached v s h.target) w.registers) (sym is.0) is.1)
+      (ap (state_ends {R = R} h.target None) (sym (append-nil read)) ∙ read_on {R = R} h.target (Some first) h.read (News.Status w.registers.state None) before [])
   shows {R = R} w h (Some code) (Phase.Recover first) e does k kept before =
       goes w h (Phase.Recover first) (h.read ++ News.Status w.registers.state (Some code) ∷ []) k kept
-          (read_on {R = R} h.target (Some first) h.read (News.Status w.registers.state (Some code)) before)
+      (read_on {R = R} h.target (Some first) h.read (News.Status w.registers.state (Some code)) before)
 
   looks_holds : {M R : Type 0} (w : States M R) (hand : Option (Hand M)) (fate : Fate) → w.hand ≡ hand → HoldsAt w → HoldsAt (looks w hand fate)
   looks_holds w None fate e k = k

@@ -1,9 +1,8 @@
 -- What an event makes of the state service in hand: it stays, or it is closed.
-use Rattle.std.proofs.Common.{◌≡◌, ◌⊎◌, inl, inr, ℕ, ◌==◌, Bool, true, false, Option, Some, None, List, [], ◌∷◌, ◌++◌, refl, ◌∙◌, if◌then◌else◌}
+use Rattle.std.proofs.Common.{◌≡◌, ◌⊎◌, inl, inr, Bool, true, false, Option, Some, None, List, [], ◌∷◌, ◌++◌, refl, ◌∙◌}
 use Rattle.link_model.specs.Link.{Fate}
 use Rattle.segment_model.specs.Record.{News}
-use Rattle.segment_model.specs.Ends.{Outcome}
-use Rattle.state_model.specs.States.{Table, Phase, Hand, Closed, States, Event, Turn, happens, writes, looks, returned, turned, shown, reads}
+use Rattle.state_model.specs.States.{Table, Hand, Closed, States, Event, Turn, happens, writes, looks, returned, turned, shown, reads}
 use Rattle.state_model.specs.Together.{IsLater}
 
 module _ {M R : Type 0} where

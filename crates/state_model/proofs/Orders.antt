@@ -1,11 +1,11 @@
 -- The longest first part of what came into hand of which just so many count.
-use Rattle.std.proofs.Common.{◌≡◌, ◌⊎◌, inl, inr, ℕ, zero, suc, ◌+◌, ◌-◌, ◌≤◌, ◌==◌, ◌&&◌, Bool, true, false, not, List, [], ◌∷◌, ◌++◌, take, length, refl, ap, ap₂, sym, ◌∙◌, subst, arith, if◌then◌else◌, append_assoc, append-nil}
+use Rattle.std.proofs.Common.{◌≡◌, ℕ, zero, suc, ◌+◌, ◌-◌, ◌≤◌, ◌&&◌, Bool, true, false, List, [], ◌∷◌, ◌++◌, take, length, refl, ap, sym, ◌∙◌, arith, if◌then◌else◌, append_assoc}
 use Rattle.exchange_model.specs.Prefix.{IsPrefixOf}
 use Rattle.exchange_model.specs.Exchange.{Exchange}
 use Rattle.exchange_model.specs.Rows.{exec_all}
 use Rattle.segment_model.specs.Ends.{Task}
 use Rattle.state_model.specs.States.{Table}
-use Rattle.state_model.specs.Order.{Begun, count_of, is_zero, one_less, done, services_of, service_in, all_behind, states_behind, state_after, app_behind, by_mails, by_state, Scripted, Scripted.nothing, Scripted.mails, Scripted.state}
+use Rattle.state_model.specs.Order.{Begun, count_of, is_zero, one_less, done, services_of, service_in, all_behind, states_behind, state_after, app_behind, Scripted, Scripted.nothing, Scripted.mails, Scripted.state}
 
 module _ {M Q : Type 0} where
   -- all of a first part is done of which no more count

@@ -1,5 +1,5 @@
 -- What tasks of a serving count, and what those that count nothing leave.
-use Rattle.std.proofs.Common.{◌≡◌, ◌⊎◌, inl, inr, ℕ, suc, ◌+◌, ◌-◌, ◌≤◌, ◌==◌, ◌&&◌, Bool, true, false, not, List, [], ◌∷◌, ◌++◌, map, refl, ap, sym, ◌∙◌, subst, arith, if◌then◌else◌, eqb-true}
+use Rattle.std.proofs.Common.{◌≡◌, ◌⊎◌, inl, inr, suc, ◌+◌, ◌-◌, ◌≤◌, ◌==◌, ◌&&◌, Bool, true, false, not, List, [], ◌∷◌, ◌++◌, refl, ap, sym, ◌∙◌, arith, if◌then◌else◌, eqb-true}
 use Rattle.std.proofs.lemmas.Bool.Decides.{nat_tests}
 use Rattle.exchange_model.specs.Exchange.{Exchange, IsLawful, after}
 use Rattle.exchange_model.proofs.Words.{grows_all}
@@ -74,5 +74,5 @@ module _ {V A M Q R : Type 0} (x : Exchange V A M Q R) where
       let first = ap (done k) (weighed_append v ts us) ∙ done_front k (weighed x v ts) (weighed x w us) (let e : k ≤ k = omega arith in e) in
       let none : k - k ≡ 0 = omega arith in
       let tasks = ap tasks_of (first ∙ ap (λ n. weighed x v ts ++ done n (weighed x w us)) none) ∙ tasks_append (weighed x v ts) (done 0 (weighed x w us))
-          ∙ ap (λ l. l ++ tasks_of (done 0 (weighed x w us))) (tasks_weighed v ts) in
+      ∙ ap (λ l. l ++ tasks_of (done 0 (weighed x w us))) (tasks_weighed v ts) in
       sym (none_counted law quiet w us) ∙ sym (ap x.app (servers_append v ts (tasks_of (done 0 (weighed x w us))))) ∙ sym (ap (λ l. x.app (servers_behind x v l)) tasks)

@@ -1,15 +1,15 @@
 -- Computed runs: a table of three states that meets what is asked of a table; a refusal with lost writes and a slow slave; and a state service
 -- between services by mails.
-use Rattle.std.proofs.Common.{◌≡◌, ℕ, ◌==◌, ◌&&◌, ◌||◌, Bool, true, false, Option, Some, None, List, [], ◌∷◌, ◌++◌, map, refl, ap, ◌∙◌, arith}
+use Rattle.std.proofs.Common.{◌≡◌, ℕ, ◌==◌, ◌&&◌, ◌||◌, Bool, true, false, Option, Some, None, List, [], ◌∷◌, ◌++◌, refl, ap, ◌∙◌, arith}
 use Rattle.std.proofs.lemmas.Bool.Decides.{nat_tests}
 use Rattle.link_model.specs.Link.{Fate}
 use Rattle.segment_model.specs.Slaves.{Registers}
 use Rattle.segment_model.specs.Record.{News}
-use Rattle.segment_model.specs.Ends.{Task, Outcome, state_ends}
-use Rattle.exchange_model.specs.Toy.{Mail, Service, sum, post, Adder, adder}
-use Rattle.state_model.specs.States.{Table, States, Closed, Event, run, new_states}
+use Rattle.segment_model.specs.Ends.{Outcome}
+use Rattle.exchange_model.specs.Toy.{Mail, Service, sum, post}
+use Rattle.state_model.specs.States.{Table, States, Event, run, new_states}
 use Rattle.state_model.specs.Promises.{IsTable}
-use Rattle.state_model.specs.Order.{Begun, by_mails, by_state}
+use Rattle.state_model.specs.Order.{by_mails, by_state}
 use Rattle.state_model.specs.Together.{Beside, Happening, all_after, new_beside, done_of, AllMay}
 
 -- PreOp, SafeOp and Op by their neighbours; any other change between them gets code 17, and any other state code 18

@@ -92,7 +92,7 @@ module _ (table : Table) where
       word_step word (inr w) = decide word (table r.state word.0) w (sym (ap (λ a. table a word.0) k.state ∙ ap (table s) w))
   asked_step s t sits may r (inr (inl k)) = stepped (λ n. Fresh s t n ⊎ (Changed s t n ⊎ Denied s t n)) r (λ e. inr (inl k))
       (λ word e f. let w = k.word word e in subst (λ v. let n = decided r word.0 v in Fresh s t n ⊎ (Changed s t n ⊎ Denied s t n)) (sym (same t (stays may) r word.0 k.state w))
-          (inr (inl (record { made = k.made; state = w; refused = refl; word = λ c g. absurd (cc) }))))
+      (inr (inl (record { made = k.made; state = w; refused = refl; word = λ c g. absurd (cc) }))))
       (λ code word e f. absurd (let no = k.refused in cc))
     where
       stays : table t t ≡ None ⊎ (table s t ≢ None) → table t t ≡ None
@@ -101,7 +101,7 @@ module _ (table : Table) where
   asked_step s t sits may r (inr (inr k)) = stepped (λ n. Fresh s t n ⊎ (Changed s t n ⊎ Denied s t n)) r (λ e. inr (inr k))
       (λ word e f. absurd (let no = k.refused in cc))
       (λ code word e f. subst (λ b. let n = if b then decided r word.0 (table r.state word.0) else record r { control = None } in Fresh s t n ⊎ (Changed s t n ⊎ Denied s t n)) (sym (k.word word f))
-          (inr (inr (record { code = k.code; denied = k.denied; state = k.state; refused = k.refused; word = λ c g. absurd (cc) }))))
+      (inr (inr (record { code = k.code; denied = k.denied; state = k.state; refused = k.refused; word = λ c g. absurd (cc) }))))
 
   acknowledged_step : (s t first : ℕ) → table s s ≡ None → (r : Registers) → Flag s t first r ⊎ Cleared s t first r → Flag s t first (carry table r) ⊎ Cleared s t first (carry table r)
   acknowledged_step s t first sits r (inl k) = stepped (λ n. Flag s t first n ⊎ Cleared s t first n) r (λ e. inl k)
@@ -122,7 +122,7 @@ module _ (table : Table) where
       word_step word true (inr w) = inr (cleared word w)
   acknowledged_step s t first sits r (inr k) = stepped (λ n. Flag s t first n ⊎ Cleared s t first n) r (λ e. inr k)
       (λ word e f. let w = k.word word e in subst (λ v. let n = decided r word.0 v in Flag s t first n ⊎ Cleared s t first n) (sym (same s sits r word.0 k.state w))
-          (inr (record { denied = k.denied; state = w; refused = refl; word = λ c g. absurd (cc) })))
+      (inr (record { denied = k.denied; state = w; refused = refl; word = λ c g. absurd (cc) })))
       (λ code word e f. absurd (let no = k.refused in cc))
 
   pub kept_step : {M : Type 0} (s : ℕ) → table s s ≡ None → ((t : ℕ) → table s t ≡ None → table t t ≡ None) → (hand : Option (Hand M)) (r : Registers) → Kept s hand r → Kept s hand (carry table r)

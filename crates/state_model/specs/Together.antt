@@ -1,9 +1,8 @@
 -- Services by mails and state services of one slave side by side: one of them in hand at a time, and a state service only behind its drain.
-use Rattle.std.specs.Prelude.{◌≡◌, ℕ, suc, ◌<◌, ◌==◌, Bool, true, false, Option, Some, None, List, [], ◌∷◌, ◌++◌, length, ⊤, is_some, ◌||◌}
+use Rattle.std.specs.Prelude.{◌≡◌, ℕ, suc, ◌<◌, ◌==◌, Bool, true, false, Option, Some, None, List, [], ◌∷◌, ◌++◌, ⊤, is_some, ◌||◌}
 use Rattle.exchange_model.specs.Exchange.{Exchange}
-use Rattle.state_model.specs.States.{Table, Hand, States, Event, happens, new_states}
-use Rattle.state_model.specs.Promises.{IsTable}
-use Rattle.state_model.specs.Order.{Begun, count_of, done, by_mails, by_state, all_behind, states_behind, services_of}
+use Rattle.state_model.specs.States.{Table, States, Event, happens, new_states}
+use Rattle.state_model.specs.Order.{Begun, count_of, done, by_mails, by_state, all_behind, states_behind}
 use Rattle.segment_model.specs.Slaves.{Registers}
 
 -- what came into hand; the target of a state service that still drains; the AL state with the state services behind their drains; and how many
