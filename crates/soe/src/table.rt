@@ -3,6 +3,7 @@ ghost use Rattle.std.specs.List.{position_or_len};
 ghost use Rattle.std.specs.Map.{keys_of};
 ghost use Rattle.soe.specs.Idns.{key_of, idn_of, is_idn, is_below, are_idns, placed, target, idn_at, write_code_at, read_at, write_at, Reads, Stores};
 
+use crate::codes::{NO_ELEMENT, NO_IDN};
 use crate::element::element_of;
 use crate::idn::Idn;
 use crate::spec::IdnSpec;
@@ -104,9 +105,9 @@ impl IdnTable {
     {
         into.clear();
         match self.idns.get(&(drive, idn)) {
-            None => Some(0x1001),
+            None => Some(NO_IDN),
             Some(kept) => match element_of(elements) {
-                None => Some(0x1009),
+                None => Some(NO_ELEMENT),
                 Some(element) => kept.read(element, into),
             },
         }
@@ -117,9 +118,9 @@ impl IdnTable {
         ensures { result ≡ write_code_at (idn_at self.now (target drive idn elements)) (target drive idn elements) bytes.now }
     {
         match self.idns.get(&(drive, idn)) {
-            None => Some(0x1001),
+            None => Some(NO_IDN),
             Some(kept) => match element_of(elements) {
-                None => Some(0x1009),
+                None => Some(NO_ELEMENT),
                 Some(element) => kept.write_code(element, bytes),
             },
         }
