@@ -101,5 +101,5 @@ module _ {V A M Q R : Type 0} (x : Exchange V A M Q R) (law : IsLawful x) where
       let w = run x carry (new_session ps) b.turns in
       let k = run_keeps x law carry (new_session ps) b.turns b.may (new_keeps x law ps p) in
       let posts = session_posts x law carry ps p b.turns b.may in
-      let all = each_of x (HandedBy x more w.frames) w.seats ps (session_starts x carry ps b.turns) (each_handed x law more w.frames w.seats k.ready k.fitted posts) in
+      let all = each_of x (HandedBy x more w.frames) w.seats ps (session_starts x carry ps b.turns) (each_handed x law more w.frames w.seats k.ready k.fitted k.records (each_promised x law more w.frames w.seats k.ready k.sound k.fitted k.records) posts) in
       subst (λ l. EachOf (HandedBy x more fs) ps ds l) b.ring (subst (λ l. EachOf (HandedBy x more fs) ps l (ring_of w.seats)) b.sides (subst (λ l. EachOf (HandedBy x more l) ps (sides_of w.seats) (ring_of w.seats)) b.frames all))

@@ -100,5 +100,15 @@ abbrev pub NowHanded : {V A M Q R : Type 0} → Exchange V A M Q R → (M → Bo
 NowHanded x more station fs d None = ⊤
 NowHanded x more station fs d (Some r) = IsHanded x more station fs r (is_over x d.halves.out.holding d.fresh r)
 
-abbrev pub HandedBy : {V A M Q R : Type 0} → Exchange V A M Q R → (M → Bool) → List (Frame M) → ℕ → V → Side M Q R → Slave V M → Type 0
-HandedBy x more fs station start d n = AllHanded x more station fs d.past × NowHanded x more station fs d d.now
+-- each outcome, of whichever kind, is of a frame before the next row's, and before the frame with this number
+abbrev pub OutcomesRise : {V A M Q R : Type 0} → Exchange V A M Q R → (M → Bool) → ℕ → List (Frame M) → List (Row M Q R) → ℕ → Type 0
+OutcomesRise x more station fs [] end = ⊤
+OutcomesRise {R = R} x more station fs (r ∷ rs) end =
+    ((o : Outcome R × ℕ) → first_end (ends x more (Task.Mails r.service)) r.frame [] (news_from station r.frame fs) ≡ Some o → o.1 < next_frame rs end)
+    × OutcomesRise x more station fs rs end
+
+pub record HandedBy {V A M Q R : Type 0} (x : Exchange V A M Q R) (more : M → Bool) (fs : List (Frame M)) (station : ℕ) (start : V)
+    (d : Side M Q R) (n : Slave V M) : Type 0 where
+  pub past : AllHanded x more station fs d.past
+  pub now : NowHanded x more station fs d d.now
+  pub rises : OutcomesRise x more station fs (rows_of d) (length fs)
