@@ -16,4 +16,5 @@ mod Written
 mod Posts
 mod Handed
 mod Hands
+mod Ended
 mod Bounds

@@ -8,6 +8,7 @@ ghost use Rattle.segment_model.specs.Ends.{Task, ends};
 ghost use Rattle.segment_model.specs.GiveUps.{NoneFor};
 ghost use Rattle.segment_model.specs.Seats.{Side, Choice, Turn, Planned, IsPlan, MayRun, run, new_session, ring_of, sides_of, moves};
 ghost use Rattle.segment_model.specs.Split.{IsBound, IsFrameOf, sides_next, sides_after};
+ghost use Rattle.segment_model.specs.Books.{PastEnded, EndedIf};
 ghost use Rattle.segment_model.specs.Laws.{EachOf, Promised, HandedBy, RestsIf};
 
 /// What a session promises of each slave of its plan, with the master's side of it, the slave and the frames as they have come to be.
@@ -22,6 +23,10 @@ pub fn session_law<V, A, M, Q, R>()
     // and the write of the last one came back done. A mail of the row before that is still held is none of its mails.
     ensures handed { (x : Exchange V A M Q R) → IsLawful x → (more : M → Bool) (carry : Registers → Registers) (ps : List (Planned V)) → IsPlan x ps →
         (ds : List (ℕ × Side M Q R)) (ns : Ring V M) (fs : List (Frame M)) → IsBound x carry ps ds ns fs → EachOf (HandedBy x more fs) ps ds ns }
+
+    // Only the newest service of a slave can be in doubt, and none where nothing is in hand.
+    ensures in_doubt { (x : Exchange V A M Q R) → IsLawful x → (more : M → Bool) (carry : Registers → Registers) (ps : List (Planned V)) → IsPlan x ps →
+        (ds : List (ℕ × Side M Q R)) (ns : Ring V M) (fs : List (Frame M)) → IsBound x carry ps ds ns fs → EachOf (PastEnded x more fs) ps ds ns × EachOf (EndedIf x more fs) ps ds ns }
 
     // Where a slave is settled and the master wants nothing of it, all its rows are carried out, and all emissions were heard.
     ensures rests { (x : Exchange V A M Q R) → IsLawful x → (carry : Registers → Registers) (ps : List (Planned V)) → IsPlan x ps →
