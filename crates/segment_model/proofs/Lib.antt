@@ -18,3 +18,4 @@ mod Handed
 mod Hands
 mod Ended
 mod Bounds
+mod Tours

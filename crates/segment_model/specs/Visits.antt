@@ -111,3 +111,13 @@ Visits size retry ring t [] = ⊤
 Visits size retry ring t (f ∷ fs) =
     IsVisit (size f.sent) t.again t.opening (round t.last t.live) (carried ring f.sent)
     × Visits size retry ring (tour_after retry t (carried ring f.sent) f f.fate) fs
+
+-- this station is none of these
+abbrev pub Absent : ℕ → List ℕ → Type 0
+Absent n [] = ⊤
+Absent n (m ∷ ms) = ((m == n) ≡ false) × Absent n ms
+
+-- no frame of these carries this station
+abbrev pub NeverCarried : {M : Type 0} → List Stop → ℕ → List (Frame M) → Type 0
+NeverCarried ring n [] = ⊤
+NeverCarried ring n (f ∷ fs) = Absent n (carried ring f.sent) × NeverCarried ring n fs

@@ -1,13 +1,15 @@
 //! The laws of a session with a segment. Each function does nothing and carries laws as its contract.
 
-ghost use Rattle.std.specs.Prelude.{◌≡◌, ◌≤◌, ℕ, Bool, List, [], ◌∷◌, ◌++◌, length};
+ghost use Rattle.std.specs.Prelude.{◌≡◌, ◌≤◌, ℕ, Bool, true, false, nat_lt, List, [], ◌∷◌, ◌++◌, length};
 ghost use Rattle.exchange_model.specs.Exchange.{Exchange, IsLawful};
-ghost use Rattle.segment_model.specs.Slaves.{Registers, Ring, Move, ring_after, ring_back, ring_steps, replayed, paced};
+ghost use Rattle.segment_model.specs.Slaves.{Registers, Datagram, Ring, Move, ring_after, ring_back, ring_steps, replayed, paced};
 ghost use Rattle.segment_model.specs.Record.{Frame, frame_of, recorded, sent_fates, news_from, first_end};
 ghost use Rattle.segment_model.specs.Ends.{Task, ends};
 ghost use Rattle.segment_model.specs.GiveUps.{NoneFor};
 ghost use Rattle.segment_model.specs.Seats.{Side, Choice, Turn, Planned, IsPlan, MayRun, run, new_session, ring_of, sides_of, moves};
 ghost use Rattle.segment_model.specs.Split.{IsBound, IsFrameOf, sides_next, sides_after};
+ghost use Rattle.link_model.specs.Segment.{RingFate};
+ghost use Rattle.segment_model.specs.Visits.{Stop, Tour, Visits, NeverCarried, carried, is_among};
 ghost use Rattle.segment_model.specs.Books.{PastEnded, EndedIf};
 ghost use Rattle.segment_model.specs.Laws.{EachOf, Promised, HandedBy, RestsIf};
 
@@ -65,4 +67,13 @@ pub fn split_law<V, A, M, Q, R>()
 pub fn give_up_law<V, A, M, Q, R>()
     ensures { (x : Exchange V A M Q R) → IsLawful x → (more : M → Bool) (task : Task M Q) (station frame : ℕ) (front behind : List (Frame M)) → frame ≤ length front → NoneFor station behind →
         first_end (ends x more task) frame [] (news_from station frame (front ++ behind)) ≡ first_end (ends x more task) frame [] (news_from station frame front) }
+{}
+
+/// Visits: behind a lost frame, by which no slave is given up, the next frame carries the same slaves; and no frame behind a give-up carries a
+/// slave that was given up.
+pub fn visit_law<M>()
+    ensures again { (size : List (Datagram M) → ℕ) (retry after : ℕ) (ring : List Stop) (t : Tour) (f g : Frame M) (fs : List (Frame M)) → Visits size retry ring t (f ∷ g ∷ fs) →
+        f.fate ≡ RingFate.Lost after → nat_lt t.missed retry ≡ true → carried ring g.sent ≡ carried ring f.sent }
+    ensures gone { (size : List (Datagram M) → ℕ) (retry station after : ℕ) (ring : List Stop) (t : Tour) (f : Frame M) (fs : List (Frame M)) → Visits size retry ring t (f ∷ fs) →
+        f.fate ≡ RingFate.Lost after → nat_lt t.missed retry ≡ false → is_among station (carried ring f.sent) ≡ true → NeverCarried ring station fs }
 {}
