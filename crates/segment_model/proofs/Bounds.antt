@@ -109,9 +109,10 @@ module _ {V A M Q R : Type 0} (x : Exchange V A M Q R) (law : IsLawful x) where
     bound_handed = of_session (λ fs. HandedBy x more fs) carry ps ds ns fs b handed
 
     pub bound_ended : EachOf (PastEnded x more fs) ps ds ns × EachOf (EndedIf x more fs) ps ds ns
-    bound_ended =
-        (of_session (λ fs. PastEnded x more fs) carry ps ds ns fs b (each_ended x law more now.frames now.seats keeps.records promised handed),
-        of_session (λ fs. EndedIf x more fs) carry ps ds ns fs b (each_ended_if x law more now.frames now.seats keeps.records promised handed))
+    bound_ended = (
+      of_session (λ fs. PastEnded x more fs) carry ps ds ns fs b (each_ended x law more now.frames now.seats keeps.records promised handed),
+      of_session (λ fs. EndedIf x more fs) carry ps ds ns fs b (each_ended_if x law more now.frames now.seats keeps.records promised handed),
+    )
 
     pub bound_rests : EachOf (RestsIf x fs) ps ds ns
     bound_rests = of_session (λ fs. RestsIf x fs) carry ps ds ns fs b (each_rests x law now.frames now.seats keeps.ready keeps.sound keeps.fitted keeps.records)

@@ -1,16 +1,14 @@
 -- Of the services of a slave that began only the newest can be in doubt.
 use Rattle.std.proofs.Common.{◌≡◌, ◌⊎◌, inl, inr, ℕ, Bool, true, false, is_some, Option, Some, None, List, [], ◌∷◌, ◌++◌, refl, ap, sym, ◌∙◌}
-use Rattle.std.specs.Prelude.{⊤}
 use Rattle.exchange_model.specs.Exchange.{Exchange, IsLawful}
 use Rattle.exchange_model.specs.Rows.{Row}
-use Rattle.segment_model.specs.Slaves.{Slave}
 use Rattle.segment_model.specs.Record.{Frame, first_end, news_from}
-use Rattle.segment_model.specs.Ends.{Task, Task.Mails, Outcome, ends}
-use Rattle.segment_model.specs.Seats.{Side, Seat, newest, rows_of, is_over}
+use Rattle.segment_model.specs.Ends.{Task, Outcome, ends}
+use Rattle.segment_model.specs.Seats.{Side, Seat, newest}
 use Rattle.segment_model.specs.Laws.{EachSeat, SeatPromised, IsAnswered, AllAnswered, IsHanded, AllHanded, NowHanded, HandedBy, NothingInHand, as_outcome}
 use Rattle.segment_model.specs.Books.{Answer, answer_from, answers_of, AllEnded, PastEnded, EndedIf}
 use Rattle.segment_model.proofs.Overs.{over_parts}
-use Rattle.segment_model.proofs.Answers.{Closed, AllClosed}
+use Rattle.segment_model.proofs.Answers.{AllClosed}
 use Rattle.segment_model.proofs.Kept.{Records}
 
 ended_first : {R : Type 0} (found : Option (Outcome R × ℕ)) (more : List (Answer R)) → is_some found ≡ true → AllEnded more → AllEnded (answer_from found ∷ more)
@@ -33,7 +31,7 @@ module _ {V A M Q R : Type 0} (x : Exchange V A M Q R) (law : IsLawful x) where
   rows_ended more station fs [] rest a h c e = e
   rows_ended more station fs (r ∷ rs) rest a h c e =
       ended_first (first_end (ends x more (Task.Mails r.service)) r.frame [] (news_from station r.frame fs)) (answers_of x more station fs (rs ++ rest) 0)
-          (row_ended more station fs r a.0 h.0 c.0.over) (rows_ended more station fs rs rest a.1 h.1 c.1 e)
+      (row_ended more station fs r a.0 h.0 c.0.over) (rows_ended more station fs rs rest a.1 h.1 c.1 e)
 
   behind : (more : M → Bool) (station : ℕ) (fs : List (Frame M)) (past rest : List (Row M Q R)) → AllAnswered x more station fs (past ++ rest) → AllAnswered x more station fs rest
   behind more station fs [] rest a = a

@@ -396,6 +396,7 @@ module _ {V A M Q R : Type 0} (x : Exchange V A M Q R) (law : IsLawful x) where
     where
       named : mails_end {A = A} x q true (before ++ ns) ≡ (if all_written n (before ++ ns) then Some Outcome.Handed else None)
       named = ap (λ k. if all_written k (before ++ ns) then Some Outcome.Handed else None) (sym e)
+
       go : (b : Bool) → all_written n (before ++ ns) ≡ b → (all_written n (before ++ ns) ≡ false → first_end (mails_end x q true) (suc f) (before ++ ns) nss ≡ Some o → o.1 < suc f + k) → o.1 < f + suc k
       go true h later =
           let hit : Some (Outcome.Handed, f) ≡ Some o = sym (ap (λ r. or_later r f (first_end (mails_end x q true) (suc f) (before ++ ns) nss)) (named ∙ ap (λ b. if b then Some Outcome.Handed else None) h)) ∙ found in
@@ -451,10 +452,13 @@ module _ {V A M Q R : Type 0} (x : Exchange V A M Q R) (law : IsLawful x) where
 
   all_rise_one : (more : M → Bool) (station : ℕ) (fs : List (Frame M)) (s : Row M Q R) → IsAnswered x more station fs s → ((answer : R × ℕ) → s.answer ≡ Some answer → answer.1 < length fs) → s.frame ≤ length fs →
       OutcomesRise x more station fs (s ∷ []) (length fs)
-  all_rise_one more station fs s a r b = ((row_rises more station fs s (length fs) a r (λ h o found. (
-      let within = within_frames (mails_end x s.service true) s.frame [] (news_from station s.frame fs) o found in
-      let long = news_from-length station s.frame fs b in
-      omega (arith, within, long)))), tt)
+  all_rise_one more station fs s a r b = (
+    (row_rises more station fs s (length fs) a r (λ h o found. (
+        let within = within_frames (mails_end x s.service true) s.frame [] (news_from station s.frame fs) o found in
+        let long = news_from-length station s.frame fs b in
+        omega (arith, within, long)))),
+    tt,
+  )
 
   all_rise : (more : M → Bool) (station : ℕ) (fs : List (Frame M)) (past : List (Row M Q R)) (now : Option (Row M Q R)) → AllAnswered x more station fs (past ++ newest now) → Rises (past ++ newest now) (length fs) → AllPosted station fs past (end_of now) → BegunBy fs now →
       NowFacts past now → OutcomesRise x more station fs (past ++ newest now) (length fs)

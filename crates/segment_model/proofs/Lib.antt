@@ -19,3 +19,4 @@ mod Hands
 mod Ended
 mod Bounds
 mod Tours
+mod Trials

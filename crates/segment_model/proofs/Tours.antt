@@ -1,10 +1,10 @@
 -- A lost frame's slaves come again until they are given up, and no later frame carries a slave that is given up.
-use Rattle.std.proofs.Common.{◌≡◌, ℕ, zero, suc, ◌==◌, Bool, true, false, not, cond, Option, Some, None, List, [], ◌∷◌, ◌++◌, map, filter, refl, ap, sym, ◌∙◌, subst, if◌then◌else◌, eqb-true}
+use Rattle.std.proofs.Common.{◌≡◌, ℕ, suc, ◌==◌, Bool, true, false, not, cond, Option, Some, None, List, [], ◌∷◌, ◌++◌, map, refl, ap, sym, ◌∙◌, subst, if◌then◌else◌, eqb-true}
 use Rattle.std.specs.Prelude.{⊤, nat_lt}
 use Rattle.link_model.specs.Segment.{RingFate}
 use Rattle.segment_model.specs.Slaves.{Datagram}
 use Rattle.segment_model.specs.Record.{Frame, back_news}
-use Rattle.segment_model.specs.Visits.{Stop, Tour, carried, split_behind, round, Fills, Carries, IsVisit, shows, opening_after, is_among, without, visited, last_of, tour_after, Visits, Absent, NeverCarried}
+use Rattle.segment_model.specs.Visits.{Stop, Tour, carried, split_behind, round, Fills, IsVisit, shows, opening_after, is_among, without, visited, last_of, tour_after, Visits, Absent, NeverCarried}
 
 abbrev stations : List Stop → List ℕ
 stations ss = map (λ s. s.station) ss
@@ -84,6 +84,7 @@ gone_without n cs (s ∷ ss) e = go (is_among s.station cs) refl (gone_without n
     other : is_among s.station cs ≡ false → (b : Bool) → (s.station == n) ≡ b → b ≡ false
     other h true p = absurd (let bad : true ≡ false = sym e ∙ ap (λ k. is_among k cs) (sym (eqb-true s.station n p)) ∙ h in cc)
     other h false p = refl
+
     go : (b : Bool) → is_among s.station cs ≡ b → Absent n (stations (without cs ss)) → Absent n (stations (cond (not b) (s ∷ without cs ss) (without cs ss)))
     go true h rest = rest
     go false h rest = (other h (s.station == n) refl, rest)
