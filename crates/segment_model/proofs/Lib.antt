@@ -20,3 +20,4 @@ mod Ended
 mod Bounds
 mod Tours
 mod Trials
+mod Table

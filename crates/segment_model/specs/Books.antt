@@ -45,9 +45,10 @@ pub record IsDone {V A M Q R : Type 0} (x : Exchange V A M Q R) (more : M → Bo
   pub rests : Rests x fs station start d n
   pub ended : AllEnded (answers_of x more station fs (rows_of d) 0)
 
--- of the services of a slave that began only the newest can be in doubt; and none where nothing is in hand
+-- of the services of a slave that began only the newest can be in doubt
 abbrev pub PastEnded : {V A M Q R : Type 0} → Exchange V A M Q R → (M → Bool) → List (Frame M) → ℕ → V → Side M Q R → Slave V M → Type 0
 PastEnded x more fs station start d n = AllEnded (answers_of x more station fs d.past 0)
 
+-- none of them is, where nothing is in hand
 abbrev pub EndedIf : {V A M Q R : Type 0} → Exchange V A M Q R → (M → Bool) → List (Frame M) → ℕ → V → Side M Q R → Slave V M → Type 0
 EndedIf x more fs station start d n = NothingInHand x d d.now → AllEnded (answers_of x more station fs (rows_of d) 0)

@@ -7,6 +7,7 @@ use Rattle.segment_model.specs.Record.{Frame}
 use Rattle.segment_model.specs.Seats.{Side, Choice, Planned}
 use Rattle.segment_model.specs.Split.{IsBound, IsFrameOf, sides_next}
 
+-- a master's sides with their stations
 abbrev pub Sides : Type 0
 Sides = List (ℕ × Side Mail Service ℕ)
 
