@@ -77,6 +77,15 @@ drop_all (m ∷ l) (suc n) e = drop_all l n (omega (arith, e))
 pub news_from-none : {M : Type 0} (station : ℕ) (fs : List (Frame M)) → news_from station (length fs) fs ≡ []
 news_from-none station fs = drop_all (news_each station nothing_kept fs) (length fs) (length-news station nothing_kept fs)
 
+-- an outcome behind one frame more
+pub outcome-push : {M T : Type 0} (e : List (News M) → Option T) (station frame : ℕ) (fs : List (Frame M)) (f : Frame M) → frame ≤ length fs →
+    first_end e frame [] (news_from station frame (fs ++ f ∷ [])) ≡ answer_after (length fs) (first_end e frame [] (news_from station frame fs)) (e (joined (news_from station frame fs) ++ frame_news station (kept_of station fs) f))
+outcome-push e station frame fs f le =
+    let news = news_from station frame fs in
+    let more = frame_news station (kept_of station fs) f in
+    ap (first_end e frame []) (news_from-push station frame fs f le) ∙ first_end-push e frame [] news more
+    ∙ ap (λ k. answer_after k (first_end e frame [] news) (e (joined news ++ more))) (news_from-length station frame fs le)
+
 -- a lost frame leaves the counter of the last mail heard
 lost_last : {M : Type 0} (h : Halves M) (ask : Ask M) → (halves_lost h ask).inn.last ≡ h.inn.last
 lost_last h (Ask.WriteMail m) = refl

@@ -6,11 +6,11 @@ use Rattle.segment_model.specs.Slaves.{Registers, Datagram, Ring, Slave, frame_a
 use Rattle.segment_model.specs.Record.{Frame}
 use Rattle.segment_model.specs.Seats.{Side, Seat, Choice, Turn, Session, Planned, IsPlan, ring_of, sides_of, seats_next, seats_back, seats_lost, seats_after, seat_steps_at, seats_step, happens, run, new_session}
 use Rattle.segment_model.specs.Split.{IsBound}
-use Rattle.segment_model.specs.Laws.{EachSeat, SeatPromised, EachOf, Promised, RestsIf, HandedBy}
+use Rattle.segment_model.specs.Laws.{KnowsCounters, EachSeat, SeatPromised, EachOf, Promised, RestsIf, HandedBy}
 use Rattle.segment_model.proofs.Kept.{Keeps, run_keeps, new_keeps, each_promised}
 use Rattle.segment_model.specs.Books.{PastEnded, EndedIf}
 use Rattle.segment_model.proofs.Ended.{each_ended, each_ended_if}
-use Rattle.segment_model.proofs.Hands.{session_posts, each_handed}
+use Rattle.segment_model.proofs.Hands.{session_posts, each_handed, each_counted}
 use Rattle.segment_model.proofs.Rests.{each_rests}
 
 -- the stations of seats and the servers that they began with
@@ -116,3 +116,6 @@ module _ {V A M Q R : Type 0} (x : Exchange V A M Q R) (law : IsLawful x) where
 
     pub bound_rests : EachOf (RestsIf x fs) ps ds ns
     bound_rests = of_session (λ fs. RestsIf x fs) carry ps ds ns fs b (each_rests x law now.frames now.seats keeps.ready keeps.sound keeps.fitted keeps.records)
+
+    pub bound_counted : EachOf (KnowsCounters fs) ps ds ns
+    bound_counted = of_session (λ fs. KnowsCounters fs) carry ps ds ns fs b (each_counted x law now.frames now.seats keeps.records (session_posts x law carry ps p b.turns b.may))

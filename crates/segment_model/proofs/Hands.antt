@@ -1,10 +1,10 @@
 -- What the record says of services that end with their last write, turn by turn of a session.
-use Rattle.std.proofs.Common.{◌≡◌, ℕ, zero, suc, Bool, Option, None, Some, List, [], ◌∷◌, ◌++◌, length, refl}
+use Rattle.std.proofs.Common.{◌≡◌, ℕ, zero, suc, Bool, true, false, Option, None, Some, List, [], ◌∷◌, ◌++◌, length, refl}
 use Rattle.exchange_model.specs.Exchange.{Exchange, IsLawful}
 use Rattle.link_model.specs.Segment.{RingFate}
 use Rattle.segment_model.specs.Slaves.{Registers, Datagram, grams, frame_after, ring_back}
 use Rattle.segment_model.specs.Record.{Frame}
-use Rattle.segment_model.specs.Laws.{EachSeat, SeatPromised, HandedBy}
+use Rattle.segment_model.specs.Laws.{EachSeat, SeatPromised, HandedBy, KnowsCounters}
 use Rattle.exchange_model.specs.Rows.{Row}
 use Rattle.segment_model.proofs.Rising.{RisesNow}
 use Rattle.segment_model.specs.Seats
@@ -14,7 +14,8 @@ use Rattle.segment_model.proofs.Written.{frame_tells}
 use Rattle.segment_model.proofs.Sounds.{SeatSound}
 use Rattle.segment_model.proofs.Fitted.{Fitted, IsReady, begins_fit}
 use Rattle.segment_model.proofs.Kept.{Records, Keeps, turn_keeps, new_keeps}
-use Rattle.segment_model.proofs.Posts.{writes-all_back}
+use Rattle.link_model.specs.Mails.{LinkMail}
+use Rattle.segment_model.proofs.Posts.{writes-all_back, KeptOut, IsKnown}
 use Rattle.segment_model.proofs.Handed.{Posts, facts_of, next_posts, back_posts, lost_posts, BegunBy, handed_by}
 
 module _ {V A M Q R : Type 0} (x : Exchange V A M Q R) (law : IsLawful x) where
@@ -82,3 +83,11 @@ module _ {V A M Q R : Type 0} (x : Exchange V A M Q R) (law : IsLawful x) where
       begun : (now : Option (Row M Q R)) → RisesNow s.side.past now (length fs) → BegunBy x law fs now
       begun None h = tt
       begun (Some r) h = h.frame
+
+  known : (fresh : Bool) (holding : Option (LinkMail M)) (last kept : ℕ) → KeptOut fresh holding last kept → fresh ≡ false → last ≡ kept
+  known true holding last kept k e = absurd (let bad : true ≡ false = e in cc)
+  known false holding last kept k e = let f : IsKnown holding last kept = k in f.last_is
+
+  pub each_counted : (fs : List (Frame M)) (ss : List (Seat V M Q R)) → EachSeat (Records x law fs) ss → EachSeat (SeatPosts fs) ss → EachSeat (λ s. KnowsCounters fs s.station s.start s.side s.slave) ss
+  each_counted fs [] k p = tt
+  each_counted fs (s ∷ ss) k p = (record { heard = k.0.listens.kept; told = known s.side.fresh s.side.halves.out.holding s.side.halves.out.last (Answers.kept_of s.station fs).told p.0.out }, each_counted fs ss k.1 p.1)

@@ -4,7 +4,7 @@ use Rattle.exchange_model.specs.Exchange.{Exchange}
 use Rattle.exchange_model.specs.Rows.{Row, Fits, Rest}
 use Rattle.link_model.specs.Master.{InState}
 use Rattle.segment_model.specs.Slaves.{Slave, Ring}
-use Rattle.segment_model.specs.Record.{Frame, first_end, news_from, heard}
+use Rattle.segment_model.specs.Record.{Frame, first_end, news_from, heard, kept_all, nothing_kept}
 use Rattle.segment_model.specs.Ends.{Task, Outcome, ends}
 use Rattle.segment_model.specs.Seats.{Side, Seat, Planned, rows_of, is_over}
 
@@ -117,3 +117,9 @@ pub record HandedBy {V A M Q R : Type 0} (x : Exchange V A M Q R) (more : M → 
   pub past : AllHanded x more station fs d.past
   pub now : NowHanded x more station fs d d.now
   pub rises : OutcomesRise x more station fs (rows_of d) (length fs)
+
+-- the master's side knows the counters of the record: its inward half that of the last mail heard, and its outward half, once its mail was
+-- sent, that of the last mail told
+pub record KnowsCounters {V M Q R : Type 0} (fs : List (Frame M)) (station : ℕ) (start : V) (d : Side M Q R) (n : Slave V M) : Type 0 where
+  pub heard : d.halves.inn.last ≡ (kept_all station nothing_kept fs).heard
+  pub told : d.fresh ≡ false → d.halves.out.last ≡ (kept_all station nothing_kept fs).told

@@ -1,9 +1,10 @@
 //! The laws of a session with a segment. Each function does nothing and carries laws as its contract.
 
-ghost use Rattle.std.specs.Prelude.{◌≡◌, ◌≤◌, ℕ, Bool, true, false, nat_lt, List, [], ◌∷◌, ◌++◌, length};
+ghost use Rattle.std.specs.Prelude.{◌≡◌, ◌≤◌, ℕ, Bool, true, false, nat_lt, Option, None, List, [], ◌∷◌, ◌++◌, length};
 ghost use Rattle.exchange_model.specs.Exchange.{Exchange, IsLawful};
+ghost use Rattle.exchange_model.specs.Rows.{answer_after};
 ghost use Rattle.segment_model.specs.Slaves.{Registers, Datagram, Ring, Move, ring_after, ring_back, ring_steps, replayed, paced};
-ghost use Rattle.segment_model.specs.Record.{Frame, frame_of, recorded, sent_fates, news_from, first_end};
+ghost use Rattle.segment_model.specs.Record.{Frame, frame_of, recorded, sent_fates, news_from, first_end, frame_news, kept_all, nothing_kept, joined};
 ghost use Rattle.segment_model.specs.Ends.{Task, ends};
 ghost use Rattle.segment_model.specs.GiveUps.{NoneFor};
 ghost use Rattle.segment_model.specs.Seats.{Side, Choice, Turn, Planned, IsPlan, MayRun, run, new_session, ring_of, sides_of, moves};
@@ -11,7 +12,7 @@ ghost use Rattle.segment_model.specs.Split.{IsBound, IsFrameOf, sides_next, side
 ghost use Rattle.link_model.specs.Segment.{RingFate};
 ghost use Rattle.segment_model.specs.Visits.{Stop, Tour, Visits, NeverCarried, carried, is_among};
 ghost use Rattle.segment_model.specs.Books.{PastEnded, EndedIf};
-ghost use Rattle.segment_model.specs.Laws.{EachOf, Promised, HandedBy, RestsIf};
+ghost use Rattle.segment_model.specs.Laws.{EachOf, Promised, HandedBy, KnowsCounters, RestsIf};
 
 /// What a session promises of each slave of its plan, with the master's side of it, the slave and the frames as they have come to be.
 pub fn session_law<V, A, M, Q, R>()
@@ -29,6 +30,10 @@ pub fn session_law<V, A, M, Q, R>()
     // Only the newest service of a slave can be in doubt, and none where nothing is in hand.
     ensures in_doubt { (x : Exchange V A M Q R) → IsLawful x → (more : M → Bool) (carry : Registers → Registers) (ps : List (Planned V)) → IsPlan x ps →
         (ds : List (ℕ × Side M Q R)) (ns : Ring V M) (fs : List (Frame M)) → IsBound x carry ps ds ns fs → EachOf (PastEnded x more fs) ps ds ns × EachOf (EndedIf x more fs) ps ds ns }
+
+    // The halves know the counters of the record, so a master can tell the news of a frame by its own state.
+    ensures counters { (x : Exchange V A M Q R) → IsLawful x → (carry : Registers → Registers) (ps : List (Planned V)) → IsPlan x ps →
+        (ds : List (ℕ × Side M Q R)) (ns : Ring V M) (fs : List (Frame M)) → IsBound x carry ps ds ns fs → EachOf (KnowsCounters fs) ps ds ns }
 
     // Where a slave is settled and the master wants nothing of it, all its rows are carried out, and all emissions were heard.
     ensures rests { (x : Exchange V A M Q R) → IsLawful x → (carry : Registers → Registers) (ps : List (Planned V)) → IsPlan x ps →
@@ -61,6 +66,15 @@ pub fn split_law<V, A, M, Q, R>()
     // And each run of a session is such a meeting.
     ensures runs { (x : Exchange V A M Q R) (carry : Registers → Registers) (ps : List (Planned V)) (ts : List (Turn M Q)) →
         let new = new_session {M = M} {Q = Q} {R = R} ps in MayRun x carry new ts → let w = run x carry new ts in IsBound x carry ps (sides_of w.seats) (ring_of w.seats) w.frames }
+{}
+
+/// An outcome, of a task of whichever kind, frame by frame: there is none before its first frame, and one frame more completes it by the news
+/// of that frame behind those before, or leaves the outcome that is there.
+pub fn outcome_law<V, A, M, Q, R>()
+    ensures begins { (x : Exchange V A M Q R) (more : M → Bool) (task : Task M Q) (station : ℕ) (fs : List (Frame M)) → first_end (ends x more task) (length fs) [] (news_from station (length fs) fs) ≡ None }
+    ensures grows { (x : Exchange V A M Q R) (more : M → Bool) (task : Task M Q) (station frame : ℕ) (fs : List (Frame M)) (f : Frame M) → frame ≤ length fs →
+        first_end (ends x more task) frame [] (news_from station frame (fs ++ f ∷ [])) ≡
+        answer_after (length fs) (first_end (ends x more task) frame [] (news_from station frame fs)) (ends x more task (joined (news_from station frame fs) ++ frame_news station (kept_all station nothing_kept fs) f)) }
 {}
 
 /// A give-up: frames that carry nothing for a slave complete nothing, so what its tasks come to is told by the frames before.
