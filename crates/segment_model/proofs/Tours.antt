@@ -1,10 +1,12 @@
 -- A lost frame's slaves come again until they are given up, and no later frame carries a slave that is given up.
-use Rattle.std.proofs.Common.{◌≡◌, ℕ, suc, ◌==◌, Bool, true, false, not, cond, Option, Some, None, List, [], ◌∷◌, ◌++◌, map, refl, ap, sym, ◌∙◌, subst, if◌then◌else◌, eqb-true}
+use Rattle.std.proofs.Common.{◌≡◌, ◌⊎◌, inl, inr, ℕ, zero, suc, ◌-◌, ◌<◌, ◌≤◌, ◌==◌, leb, Bool, true, false, not, cond, Option, Some, None, List, [], ◌∷◌, ◌++◌, map, drop, length, refl, ap, sym, ◌∙◌, subst, arith, append_assoc, append-nil, length-append, if◌then◌else◌, eqb-true}
 use Rattle.std.specs.Prelude.{⊤, nat_lt}
+use Rattle.std.proofs.lemmas.Bool.Decides.{leb_tells}
+use Rattle.std.proofs.lemmas.List.{drop-append-le}
 use Rattle.link_model.specs.Segment.{RingFate}
 use Rattle.segment_model.specs.Slaves.{Datagram}
 use Rattle.segment_model.specs.Record.{Frame, back_news}
-use Rattle.segment_model.specs.Visits.{Stop, Tour, carried, split_behind, round, Fills, IsVisit, shows, opening_after, is_among, without, visited, last_of, tour_after, Visits, Absent, NeverCarried}
+use Rattle.segment_model.specs.Visits.{Stop, Tour, carried, split_behind, round, Fills, IsVisit, shows, opening_after, is_among, without, visited, last_of, tour_after, Visits, Absent, NeverCarried, new_tour, tour_over, IsLost, AllLost}
 
 abbrev stations : List Stop → List ℕ
 stations ss = map (λ s. s.station) ss
@@ -107,3 +109,85 @@ lost_again size retry after ring t f g fs v e m =
     let is : tour_after retry t cs f f.fate ≡ next = ap (tour_after retry t cs f) e ∙ ap (λ b. if b then next else gone) m in
     let w = v.1.0 in
     subst (λ u. IsVisit (size g.sent) u.again u.opening (round u.last u.live) (carried ring g.sent)) is w
+
+-- the frames lost in a row, by what comes again
+abbrev LostSo : {M : Type 0} → List Stop → ℕ → Option (List ℕ) → List (Frame M) → Type 0
+LostSo ring missed None done = missed ≡ 0
+LostSo ring missed (Some cs) done = AllLost ring cs (drop (length done - missed) done)
+
+-- a give-up stands behind so many lost frames in a row, each of which carried the same slaves
+record History {M : Type 0} (retry : ℕ) (ring : List Stop) (t : Tour) (done : List (Frame M)) : Type 0 where
+  pub most : t.missed ≤ retry
+  pub long : t.missed ≤ length done
+  pub lost : LostSo ring t.missed t.again done
+
+drop_whole : {X : Type 0} (l : List X) (k : ℕ) → length l ≤ k → drop k l ≡ []
+drop_whole [] zero e = refl
+drop_whole [] (suc k) e = refl
+drop_whole (x ∷ l) zero e = absurd (omega (arith, e))
+drop_whole (x ∷ l) (suc k) e = drop_whole l k (omega (arith, e))
+
+lost_more : {M : Type 0} (ring : List Stop) (cs : List ℕ) (fs : List (Frame M)) (f : Frame M) → AllLost ring cs fs → IsLost f.fate → carried ring f.sent ≡ cs → AllLost ring cs (fs ++ f ∷ [])
+lost_more ring cs [] f a l e = ((l, e), tt)
+lost_more ring cs (g ∷ fs) f a l e = (a.0, lost_more ring cs fs f a.1 l e)
+
+-- the frames lost before a frame carried what it carries
+lost_same : {M : Type 0} (size missed : ℕ) (ring : List Stop) (again : Option (List ℕ)) (opening ss : List Stop) (done : List (Frame M)) (cs : List ℕ) → missed ≤ length done → LostSo ring missed again done → IsVisit size again opening ss cs →
+    AllLost ring cs (drop (length done - missed) done)
+lost_same size missed ring None opening ss done cs m l v = subst (AllLost ring cs) (sym (drop_whole done (length done - missed) (omega (arith, l)))) tt
+lost_same size missed ring (Some same) opening ss done cs m l v = subst (λ c. AllLost ring c (drop (length done - missed) done)) (sym v) l
+
+history_after : {M : Type 0} (size retry : ℕ) (ring : List Stop) (t : Tour) (done : List (Frame M)) (f : Frame M) (fate : RingFate) → f.fate ≡ fate → IsVisit size t.again t.opening (round t.last t.live) (carried ring f.sent) → History retry ring t done →
+    History retry ring (tour_after retry t (carried ring f.sent) f fate) (done ++ f ∷ [])
+history_after size retry ring t done f RingFate.Back e v h = record { most = omega arith; long = omega arith; lost = refl }
+history_after {M} size retry ring t done f (RingFate.Lost after) e v h = go (leb_tells (suc t.missed) retry) (nat_lt t.missed retry) refl
+  where
+    cs : List ℕ
+    cs = carried ring f.sent
+
+    lost : Tour
+    lost = record t { again = Some cs; missed = suc t.missed }
+
+    gone : Tour
+    gone = record { opening = without cs t.opening; live = without cs t.live; last = visited t.opening (last_of t.last cs); again = None; missed = 0 }
+
+    is_lost : IsLost f.fate
+    is_lost = subst IsLost (sym e) tt
+
+    again : suc t.missed ≤ retry → History retry ring lost (done ++ f ∷ [])
+    again less =
+        let l = length-append done (f ∷ []) in
+        let m = h.long in
+        let same : drop (length (done ++ f ∷ []) - suc t.missed) (done ++ f ∷ []) ≡ drop (length done - t.missed) done ++ f ∷ [] =
+        ap (λ k. drop k (done ++ f ∷ [])) (omega (arith, l, m)) ∙ drop-append-le (length done - t.missed) done (f ∷ []) (omega (arith, m)) in
+        record {
+          most = less;
+          long = omega (arith, l, m);
+          lost = subst (AllLost ring cs) (sym same) (lost_more ring cs (drop (length done - t.missed) done) f (lost_same size t.missed ring t.again t.opening (round t.last t.live) done cs h.long h.lost v) is_lost refl);
+        }
+
+    go : ((leb (suc t.missed) retry ≡ true) × (suc t.missed ≤ retry)) ⊎ ((leb (suc t.missed) retry ≡ false) × (retry < suc t.missed)) → (b : Bool) → nat_lt t.missed retry ≡ b → History retry ring (if b then lost else gone) (done ++ f ∷ [])
+    go tells false p = record { most = omega arith; long = omega arith; lost = refl }
+    go (inl c) true p = again c.1
+    go (inr c) true p = absurd (let bad : true ≡ false = sym p ∙ c.0 in cc)
+
+history_over : {M : Type 0} (size : List (Datagram M) → ℕ) (retry : ℕ) (ring : List Stop) (t : Tour) (done fs rest : List (Frame M)) → Visits size retry ring t (fs ++ rest) → History retry ring t done →
+    History retry ring (tour_over retry ring t fs) (done ++ fs) × Visits size retry ring (tour_over retry ring t fs) rest
+history_over size retry ring t done [] rest v h = (subst (History retry ring t) (sym (append-nil done)) h, v)
+history_over size retry ring t done (f ∷ fs) rest v h =
+    let next = history_over size retry ring (tour_after retry t (carried ring f.sent) f f.fate) (done ++ f ∷ []) fs rest v.1 (history_after (size f.sent) retry ring t done f f.fate refl v.0 h) in
+    (subst (History retry ring (tour_over retry ring (tour_after retry t (carried ring f.sent) f f.fate) fs)) (append_assoc done (f ∷ []) fs) next.0, next.1)
+
+pub given_up_at : {M : Type 0} (size : List (Datagram M) → ℕ) (retry : ℕ) (ring stops : List Stop) (front : List (Frame M)) (f : Frame M) → Visits size retry ring (new_tour stops) (front ++ f ∷ []) →
+    nat_lt (tour_over retry ring (new_tour stops) front).missed retry ≡ false →
+    (retry ≤ length front) × AllLost ring (carried ring f.sent) (drop (length front - retry) front)
+given_up_at size retry ring stops front f v e =
+    let t = tour_over retry ring (new_tour stops) front in
+    let begins : History retry ring (new_tour stops) [] = record { most = omega arith; long = omega arith; lost = refl } in
+    let h = history_over size retry ring (new_tour stops) [] front (f ∷ []) v begins in
+    let all : t.missed ≡ retry = enough t.missed retry e h.0.most in
+    let a = lost_same (size f.sent) t.missed ring t.again t.opening (round t.last t.live) front (carried ring f.sent) h.0.long h.0.lost h.1.0 in
+    (subst (λ k. k ≤ length front) all h.0.long, subst (λ k. AllLost ring (carried ring f.sent) (drop (length front - k) front)) all a)
+  where
+    enough : (m r : ℕ) → nat_lt m r ≡ false → m ≤ r → m ≡ r
+    enough m r e l = elim (leb_tells (suc m) r) [ inl c ↦ absurd (let bad : true ≡ false = sym c.0 ∙ e in cc) | inr c ↦ let n = c.1 in omega (arith, l, n) ]

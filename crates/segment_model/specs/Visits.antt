@@ -128,3 +128,18 @@ Absent n (m ∷ ms) = ((m == n) ≡ false) × Absent n ms
 abbrev pub NeverCarried : {M : Type 0} → List Stop → ℕ → List (Frame M) → Type 0
 NeverCarried ring n [] = ⊤
 NeverCarried ring n (f ∷ fs) = Absent n (carried ring f.sent) × NeverCarried ring n fs
+
+-- the tour behind these frames
+abbrev pub tour_over : {M : Type 0} → ℕ → List Stop → Tour → List (Frame M) → Tour
+tour_over retry ring t [] = t
+tour_over retry ring t (f ∷ fs) = tour_over retry ring (tour_after retry t (carried ring f.sent) f f.fate) fs
+
+-- a frame was lost
+abbrev pub IsLost : RingFate → Type 0
+IsLost RingFate.Back = ⊥
+IsLost (RingFate.Lost after) = ⊤
+
+-- each of these was lost, and carried just these slaves
+abbrev pub AllLost : {M : Type 0} → List Stop → List ℕ → List (Frame M) → Type 0
+AllLost ring cs [] = ⊤
+AllLost ring cs (f ∷ fs) = (IsLost f.fate × (carried ring f.sent ≡ cs)) × AllLost ring cs fs
