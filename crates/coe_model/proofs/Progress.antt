@@ -33,11 +33,13 @@ module _ {S : Type 0} (o : Tables S) (eoe : Bool) (areas : Areas) where
     where
       later : List CoeMail
       later = plain is_emission (given (serve o eoe areas.back) (serve o eoe areas.back v x).0 p)
+
       heard_by : (a : CoeMail) → plain is_emission (serve o eoe areas.back v x).1 ≡ a ∷ [] → x ≡ k → plain is_emission (given (serve o eoe areas.back) v (k ∷ p)) ≡ a ∷ later
       heard_by a one same =
           ap (λ y. plain is_emission (given (serve o eoe areas.back) v (y ∷ p))) (sym same)
           ∙ plain-append is_emission (serve o eoe areas.back v x).1 (given (serve o eoe areas.back) (serve o eoe areas.back v x).0 p)
           ∙ ap (λ l. l ++ later) one
+
       tail_is : (a : CoeMail) (t : Option Turn) → plain is_emission (serve o eoe areas.back v x).1 ≡ a ∷ [] → decide x (a ∷ []) ≡ t →
           (x ≡ k) × (chosen t (sent (serve o eoe areas.back) is_emission decide fuel (serve o eoe areas.back v x).0 ms) (sent (serve o eoe areas.back) is_emission decide fuel (serve o eoe areas.back v x).0 (x ∷ ms)) [] ≡ p ++ m ∷ r)
       tail_is a t one is =
@@ -45,6 +47,7 @@ module _ {S : Type 0} (o : Tables S) (eoe : Bool) (areas : Areas) where
           let turned : turn_at decide x [] (plain is_emission (serve o eoe areas.back v x).1) ≡ t = ap (turn_at decide x []) one ∙ is in
           let known = subst (λ u. x ∷ chosen u (sent (serve o eoe areas.back) is_emission decide fuel (serve o eoe areas.back v x).0 ms) (sent (serve o eoe areas.back) is_emission decide fuel (serve o eoe areas.back v x).0 (x ∷ ms)) [] ≡ k ∷ (p ++ m ∷ r)) turned whole in
           (cc, cc)
+
       by : (a : CoeMail) → plain is_emission (serve o eoe areas.back v x).1 ≡ a ∷ [] → (t : Option Turn) → decide x (a ∷ []) ≡ t →
           (sent (serve o eoe areas.back) is_emission decide fuel (serve o eoe areas.back v x).0 ms ≡ p ++ m ∷ r → (rest : List CoeMail) × (said decide fuel ms later ≡ p ++ m ∷ rest)) →
           (rest : List CoeMail) × (said decide (suc fuel) (x ∷ ms) (plain is_emission (given (serve o eoe areas.back) v (k ∷ p))) ≡ (k ∷ p) ++ m ∷ rest)
@@ -82,4 +85,4 @@ module _ {S : Type 0} (o : Tables S) (eoe : Bool) (areas : Areas) where
     goes_on v (upload t) sound p m r e = sdo_goes v (upload t) sound tt p m r e
     goes_on v (information a) sound p m r e =
         subst (IsPrefixOf (p ++ m ∷ [])) (sym (ask_planned o law eoe areas sized a (plain is_emission (given (serve o eoe areas.back) v p))))
-            (ask_goes v a p m r (sym (ask_full o law eoe areas sized v a) ∙ e))
+        (ask_goes v a p m r (sym (ask_full o law eoe areas sized v a) ∙ e))

@@ -77,6 +77,15 @@ drop_all (m ∷ l) (suc n) e = drop_all l n (omega (arith, e))
 pub news_from-none : {M : Type 0} (station : ℕ) (fs : List (Frame M)) → news_from station (length fs) fs ≡ []
 news_from-none station fs = drop_all (news_each station nothing_kept fs) (length fs) (length-news station nothing_kept fs)
 
+-- an outcome behind one frame more
+pub outcome-push : {M T : Type 0} (e : List (News M) → Option T) (station frame : ℕ) (fs : List (Frame M)) (f : Frame M) → frame ≤ length fs →
+    first_end e frame [] (news_from station frame (fs ++ f ∷ [])) ≡ answer_after (length fs) (first_end e frame [] (news_from station frame fs)) (e (joined (news_from station frame fs) ++ frame_news station (kept_of station fs) f))
+outcome-push e station frame fs f le =
+    let news = news_from station frame fs in
+    let more = frame_news station (kept_of station fs) f in
+    ap (first_end e frame []) (news_from-push station frame fs f le) ∙ first_end-push e frame [] news more
+    ∙ ap (λ k. answer_after k (first_end e frame [] news) (e (joined news ++ more))) (news_from-length station frame fs le)
+
 -- a lost frame leaves the counter of the last mail heard
 lost_last : {M : Type 0} (h : Halves M) (ask : Ask M) → (halves_lost h ask).inn.last ≡ h.inn.last
 lost_last h (Ask.WriteMail m) = refl
@@ -129,12 +138,8 @@ module _ {V A M Q R : Type 0} (x : Exchange V A M Q R) (law : IsLawful x) where
   push_reply : (station : ℕ) (fs : List (Frame M)) (f : Frame M) (r : Row M Q R) → r.frame ≤ length fs →
       first_reply station (fs ++ f ∷ []) r ≡ answer_after (length fs) (first_reply station fs r) (x.ends r.service (plain x.emission (mails_heard (joined (news_from station r.frame fs)) ++ mails_heard (frame_news station (kept_of station fs) f))))
   push_reply station fs f r le =
-      let news = news_from station r.frame fs in
-      let more = frame_news station (kept_of station fs) f in
-      ap (first_end (reply_end r.service) r.frame []) (news_from-push station r.frame fs f le)
-      ∙ first_end-push (reply_end r.service) r.frame [] news more
-      ∙ ap (λ k. answer_after k (first_reply station fs r) (reply_end r.service (joined news ++ more))) (news_from-length station r.frame fs le)
-      ∙ ap (λ l. answer_after (length fs) (first_reply station fs r) (x.ends r.service (plain x.emission l))) (mails_heard-append (joined news) more)
+      outcome-push (reply_end r.service) station r.frame fs f le
+      ∙ ap (λ l. answer_after (length fs) (first_reply station fs r) (x.ends r.service (plain x.emission l))) (mails_heard-append (joined (news_from station r.frame fs)) (frame_news station (kept_of station fs) f))
 
   -- no further frame changes a row that is over
   closed_stays : (station : ℕ) (fs : List (Frame M)) (f : Frame M) (r : Row M Q R) → Closed station fs r → Closed station (fs ++ f ∷ []) r

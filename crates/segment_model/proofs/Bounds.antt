@@ -6,9 +6,11 @@ use Rattle.segment_model.specs.Slaves.{Registers, Datagram, Ring, Slave, frame_a
 use Rattle.segment_model.specs.Record.{Frame}
 use Rattle.segment_model.specs.Seats.{Side, Seat, Choice, Turn, Session, Planned, IsPlan, ring_of, sides_of, seats_next, seats_back, seats_lost, seats_after, seat_steps_at, seats_step, happens, run, new_session}
 use Rattle.segment_model.specs.Split.{IsBound}
-use Rattle.segment_model.specs.Laws.{EachSeat, EachOf, Promised, RestsIf, HandedBy}
-use Rattle.segment_model.proofs.Kept.{run_keeps, new_keeps, each_promised}
-use Rattle.segment_model.proofs.Hands.{session_posts, each_handed}
+use Rattle.segment_model.specs.Laws.{KnowsCounters, EachSeat, SeatPromised, EachOf, Promised, RestsIf, HandedBy}
+use Rattle.segment_model.proofs.Kept.{Keeps, run_keeps, new_keeps, each_promised}
+use Rattle.segment_model.specs.Books.{PastEnded, EndedIf}
+use Rattle.segment_model.proofs.Ended.{each_ended, each_ended_if}
+use Rattle.segment_model.proofs.Hands.{session_posts, each_handed, each_counted}
 use Rattle.segment_model.proofs.Rests.{each_rests}
 
 -- the stations of seats and the servers that they began with
@@ -79,27 +81,41 @@ module _ {V A M Q R : Type 0} (x : Exchange V A M Q R) where
   session_starts carry ps ts = run_starts carry (new_session ps) ts ∙ new_starts ps
 
 module _ {V A M Q R : Type 0} (x : Exchange V A M Q R) (law : IsLawful x) where
-  pub bound_promised : (more : M → Bool) (carry : Registers → Registers) (ps : List (Planned V)) → IsPlan x ps → (ds : List (ℕ × Side M Q R)) (ns : Ring V M) (fs : List (Frame M)) → IsBound x carry ps ds ns fs →
-      EachOf (Promised x more fs) ps ds ns
-  bound_promised more carry ps p ds ns fs b =
+  -- a fact of each seat of a session is one of the sides, slaves and frames that it has come to
+  of_session : (P : List (Frame M) → ℕ → V → Side M Q R → Slave V M → Type 0) (carry : Registers → Registers) (ps : List (Planned V)) (ds : List (ℕ × Side M Q R)) (ns : Ring V M) (fs : List (Frame M)) → (b : IsBound x carry ps ds ns fs) →
+      (let w = run x carry (new_session {M = M} {Q = Q} {R = R} ps) b.turns in EachSeat (λ s. P w.frames s.station s.start s.side s.slave) w.seats) → EachOf (P fs) ps ds ns
+  of_session P carry ps ds ns fs b each =
       let w = run x carry (new_session ps) b.turns in
-      let k = run_keeps x law carry (new_session ps) b.turns b.may (new_keeps x law ps p) in
-      let all = each_of x (Promised x more w.frames) w.seats ps (session_starts x carry ps b.turns) (each_promised x law more w.frames w.seats k.ready k.sound k.fitted k.records) in
-      subst (λ l. EachOf (Promised x more fs) ps ds l) b.ring (subst (λ l. EachOf (Promised x more fs) ps l (ring_of w.seats)) b.sides (subst (λ l. EachOf (Promised x more l) ps (sides_of w.seats) (ring_of w.seats)) b.frames all))
+      let all = each_of x (P w.frames) w.seats ps (session_starts x carry ps b.turns) each in
+      subst (λ l. EachOf (P fs) ps ds l) b.ring (subst (λ l. EachOf (P fs) ps l (ring_of w.seats)) b.sides (subst (λ l. EachOf (P l) ps (sides_of w.seats) (ring_of w.seats)) b.frames all))
 
-  pub bound_rests : (carry : Registers → Registers) (ps : List (Planned V)) → IsPlan x ps → (ds : List (ℕ × Side M Q R)) (ns : Ring V M) (fs : List (Frame M)) → IsBound x carry ps ds ns fs →
-      EachOf (RestsIf x fs) ps ds ns
-  bound_rests carry ps p ds ns fs b =
-      let w = run x carry (new_session ps) b.turns in
-      let k = run_keeps x law carry (new_session ps) b.turns b.may (new_keeps x law ps p) in
-      let all = each_of x (RestsIf x w.frames) w.seats ps (session_starts x carry ps b.turns) (each_rests x law w.frames w.seats k.ready k.sound k.fitted k.records) in
-      subst (λ l. EachOf (RestsIf x fs) ps ds l) b.ring (subst (λ l. EachOf (RestsIf x fs) ps l (ring_of w.seats)) b.sides (subst (λ l. EachOf (RestsIf x l) ps (sides_of w.seats) (ring_of w.seats)) b.frames all))
+  module _ (more : M → Bool) (carry : Registers → Registers) (ps : List (Planned V)) (p : IsPlan x ps) (ds : List (ℕ × Side M Q R)) (ns : Ring V M) (fs : List (Frame M)) (b : IsBound x carry ps ds ns fs) where
+    abbrev now : Session V M Q R
+    now = run x carry (new_session ps) b.turns
 
-  pub bound_handed : (more : M → Bool) (carry : Registers → Registers) (ps : List (Planned V)) → IsPlan x ps → (ds : List (ℕ × Side M Q R)) (ns : Ring V M) (fs : List (Frame M)) → IsBound x carry ps ds ns fs →
-      EachOf (HandedBy x more fs) ps ds ns
-  bound_handed more carry ps p ds ns fs b =
-      let w = run x carry (new_session ps) b.turns in
-      let k = run_keeps x law carry (new_session ps) b.turns b.may (new_keeps x law ps p) in
-      let posts = session_posts x law carry ps p b.turns b.may in
-      let all = each_of x (HandedBy x more w.frames) w.seats ps (session_starts x carry ps b.turns) (each_handed x law more w.frames w.seats k.ready k.fitted posts) in
-      subst (λ l. EachOf (HandedBy x more fs) ps ds l) b.ring (subst (λ l. EachOf (HandedBy x more fs) ps l (ring_of w.seats)) b.sides (subst (λ l. EachOf (HandedBy x more l) ps (sides_of w.seats) (ring_of w.seats)) b.frames all))
+    keeps : Keeps x law now.frames now.seats
+    keeps = run_keeps x law carry (new_session ps) b.turns b.may (new_keeps x law ps p)
+
+    promised : EachSeat (SeatPromised x more now.frames) now.seats
+    promised = each_promised x law more now.frames now.seats keeps.ready keeps.sound keeps.fitted keeps.records
+
+    handed : EachSeat (λ s. HandedBy x more now.frames s.station s.start s.side s.slave) now.seats
+    handed = each_handed x law more now.frames now.seats keeps.ready keeps.fitted keeps.records promised (session_posts x law carry ps p b.turns b.may)
+
+    pub bound_promised : EachOf (Promised x more fs) ps ds ns
+    bound_promised = of_session (λ fs. Promised x more fs) carry ps ds ns fs b promised
+
+    pub bound_handed : EachOf (HandedBy x more fs) ps ds ns
+    bound_handed = of_session (λ fs. HandedBy x more fs) carry ps ds ns fs b handed
+
+    pub bound_ended : EachOf (PastEnded x more fs) ps ds ns × EachOf (EndedIf x more fs) ps ds ns
+    bound_ended = (
+      of_session (λ fs. PastEnded x more fs) carry ps ds ns fs b (each_ended x law more now.frames now.seats keeps.records promised handed),
+      of_session (λ fs. EndedIf x more fs) carry ps ds ns fs b (each_ended_if x law more now.frames now.seats keeps.records promised handed),
+    )
+
+    pub bound_rests : EachOf (RestsIf x fs) ps ds ns
+    bound_rests = of_session (λ fs. RestsIf x fs) carry ps ds ns fs b (each_rests x law now.frames now.seats keeps.ready keeps.sound keeps.fitted keeps.records)
+
+    pub bound_counted : EachOf (KnowsCounters fs) ps ds ns
+    bound_counted = of_session (λ fs. KnowsCounters fs) carry ps ds ns fs b (each_counted x law now.frames now.seats keeps.records (session_posts x law carry ps p b.turns b.may))

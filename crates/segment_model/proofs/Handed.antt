@@ -1,7 +1,8 @@
 -- Over a session: each service that ends with its last write is complete by the record exactly where its row is over.
-use Rattle.std.proofs.Common.{◌≡◌, ◌≢◌, inl, inr, ℕ, zero, suc, ◌-◌, ◌<◌, ◌≤◌, ◌&&◌, ◌||◌, Bool, true, false, not, is_none, is_some, Option, Some, None, option_map, List, [], ◌∷◌, ◌++◌, drop, length, refl, ap, sym, ◌∙◌, subst, arith, append_assoc, append-nil, length-append, if◌then◌else◌}
+use Rattle.std.proofs.Common.{◌≡◌, ◌≢◌, inl, inr, ℕ, zero, suc, ◌+◌, ◌-◌, ◌<◌, ◌≤◌, ◌&&◌, ◌||◌, Bool, true, false, not, is_none, is_some, Option, Some, None, option_map, List, [], ◌∷◌, ◌++◌, take, drop, length, refl, ap, sym, ◌∙◌, subst, arith, append_assoc, append-nil, length-append, if◌then◌else◌}
 use Rattle.std.specs.Prelude.{⊤}
 use Rattle.std.proofs.lemmas.Bool.Decides.{leb_tells}
+use Rattle.std.proofs.lemmas.List.{take-append-le}
 use Rattle.exchange_model.specs.Prefix.{IsPrefixOf}
 use Rattle.exchange_model.specs.Exchange.{Exchange, IsLawful, after, given, plain}
 use Rattle.exchange_model.specs.Rows.{Row, begun, row_heard, row_told, left, told_all}
@@ -13,12 +14,12 @@ use Rattle.link_model.specs.Counters
 use Rattle.link_model.specs.Frames
 use Rattle.segment_model.specs.Record
 use Rattle.link_model.specs.Frames.{halves_after, halves_without}
-use Rattle.segment_model.specs.Slaves.{grams}
+use Rattle.segment_model.specs.Slaves.{Slave, grams}
 use Rattle.segment_model.specs.Record.{Frame, News, first_end, or_later, news_from, frame_news, back_news, all_told, told_behind, joined}
 use Rattle.segment_model.specs.Ends.{Task, Outcome, all_written, ends, mails_end}
-use Rattle.segment_model.specs.Seats.{Side, Choice, is_over, is_none_left, side_begins, side_holds, side_next, side_back, side_lost, next_mail, first_left, writes}
-use Rattle.segment_model.specs.Laws.{AllHanded, NowHanded}
-use Rattle.segment_model.proofs.Answers.{kept_of, kept_all-push, news_from-none}
+use Rattle.segment_model.specs.Seats.{Side, newest, rows_of, Choice, is_over, is_none_left, side_begins, side_holds, side_next, side_back, side_lost, next_mail, first_left, writes}
+use Rattle.segment_model.specs.Laws.{next_frame, Rises, as_outcome, IsAnswered, AllAnswered, AllHanded, NowHanded, OutcomesRise, HandedBy}
+use Rattle.segment_model.proofs.Answers.{kept_of, kept_all-push, news_from-none, news_from-push, news_from-length}
 use Rattle.segment_model.proofs.Overs.{over_parts, idle}
 use Rattle.segment_model.proofs.Written.{mails_told, has_written, all_written-append, back_frees, back_lasts, losts_out, none_written, Tells}
 use Rattle.segment_model.proofs.Fitted.{NowFits}
@@ -29,6 +30,12 @@ drop_short zero [] more m e = absurd (let bad : m ∷ more ≡ [] = sym e in cc)
 drop_short (suc k) [] more m e = absurd (let bad : m ∷ more ≡ [] = sym e in cc)
 drop_short zero (x ∷ l) more m e = omega arith
 drop_short (suc k) (x ∷ l) more m e = let r = drop_short k l more m e in omega (arith, r)
+
+take_whole : {X : Type 0} (k : ℕ) (l : List X) → length l ≤ k → take k l ≡ l
+take_whole zero [] e = refl
+take_whole (suc k) [] e = refl
+take_whole zero (x ∷ l) e = absurd (omega (arith, e))
+take_whole (suc k) (x ∷ l) e = ap (λ m. x ∷ m) (take_whole k l (omega (arith, e)))
 
 left_some : {X : Type 0} (k : ℕ) (l : List X) → k < length l → is_none_left (drop k l) ≡ false
 left_some k [] e = absurd (omega (arith, e))
@@ -48,12 +55,12 @@ module _ {V A M Q R : Type 0} (x : Exchange V A M Q R) (law : IsLawful x) where
     pub mine : IsPrefixOf r.told (x.planned r.service [])
     pub some : x.planned r.service [] ≢ []
 
-  abbrev pub NowFacts : Option (Row M Q R) → Type 0
-  NowFacts None = ⊤
-  NowFacts (Some r) = x.handed r.service ≡ true → Facts r
+  abbrev pub NowFacts : List (Row M Q R) → Option (Row M Q R) → Type 0
+  NowFacts past None = past ≡ []
+  NowFacts past (Some r) = x.handed r.service ≡ true → Facts r
 
-  pub facts_of : (v : V) → x.ready v ≡ true → (past : List (Row M Q R)) (now : Option (Row M Q R)) (held taken accepted : List M) → NowFits x law v past now held taken accepted → NowFacts now
-  facts_of v ready past None held taken accepted k = tt
+  pub facts_of : (v : V) → x.ready v ≡ true → (past : List (Row M Q R)) (now : Option (Row M Q R)) (held taken accepted : List M) → NowFits x law v past now held taken accepted → NowFacts past now
+  facts_of v ready past None held taken accepted k = k.0
   facts_of v ready past (Some r) held taken accepted k = λ posts.
       let before = k.front ++ k.last in
       let f = k.moment.fits in
@@ -71,12 +78,24 @@ module _ {V A M Q R : Type 0} (x : Exchange V A M Q R) (law : IsLawful x) where
   abbrev pub count : Row M Q R → ℕ
   count r = length (x.planned r.service [])
 
-  abbrev pub Posted : ℕ → List (Frame M) → Row M Q R → Type 0
-  Posted station fs r = x.handed r.service ≡ true → (r.frame ≤ length fs) × (all_written (count r) (joined (news_from station r.frame fs)) ≡ true)
+  -- a row that is over: its mails are written by the record, and were before the next row began, at this frame
+  pub record IsPosted (station : ℕ) (fs : List (Frame M)) (r : Row M Q R) (end : ℕ) : Type 0 where
+    pub begun : r.frame ≤ length fs
+    pub end_is : end ≤ length fs
+    pub later : r.frame ≤ end
+    pub written : all_written (count r) (joined (news_from station r.frame fs)) ≡ true
+    pub early : all_written (count r) (joined (take (end - r.frame) (news_from station r.frame fs))) ≡ true
 
-  abbrev pub AllPosted : ℕ → List (Frame M) → List (Row M Q R) → Type 0
-  AllPosted station fs [] = ⊤
-  AllPosted station fs (r ∷ rs) = Posted station fs r × AllPosted station fs rs
+  abbrev pub Posted : ℕ → List (Frame M) → Row M Q R → ℕ → Type 0
+  Posted station fs r end = x.handed r.service ≡ true → IsPosted station fs r end
+
+  abbrev pub AllPosted : ℕ → List (Frame M) → List (Row M Q R) → ℕ → Type 0
+  AllPosted station fs [] end = ⊤
+  AllPosted station fs (r ∷ rs) end = Posted station fs r (next_frame rs end) × AllPosted station fs rs end
+
+  abbrev pub end_of : Option (Row M Q R) → ℕ
+  end_of None = 0
+  end_of (Some r) = r.frame
 
   abbrev pub PostNow : ℕ → List (Frame M) → Bool → Option (LinkMail M) → Option (Row M Q R) → Type 0
   PostNow station fs fresh holding None = fresh ≡ false
@@ -84,7 +103,7 @@ module _ {V A M Q R : Type 0} (x : Exchange V A M Q R) (law : IsLawful x) where
 
   pub record Posts (station : ℕ) (fs : List (Frame M)) (d : Side M Q R) : Type 0 where
     pub out : KeptOut d.fresh d.halves.out.holding d.halves.out.last (kept_of station fs).told
-    pub past : AllPosted station fs d.past
+    pub past : AllPosted station fs d.past (end_of d.now)
     pub now : PostNow station fs d.fresh d.halves.out.holding d.now
 
   -- an idle half has nothing fresh
@@ -109,7 +128,15 @@ module _ {V A M Q R : Type 0} (x : Exchange V A M Q R) (law : IsLawful x) where
   none_of [] e = refl
   none_of (m ∷ ms) e = absurd (let bad : false ≡ true = e in cc)
 
-  closes : (station : ℕ) (fs : List (Frame M)) (d : Side M Q R) (r : Row M Q R) → Posts station fs d → d.now ≡ Some r → NowFacts (Some r) → is_over x d.halves.out.holding d.fresh r ≡ true → Posted station fs r
+  end_told : (now : Option (Row M Q R)) (m : M) → end_of now ≡ end_of (option_map (λ r. row_told m r) now)
+  end_told None m = refl
+  end_told (Some r) m = refl
+
+  end_heard : (now : Option (Row M Q R)) (frame : ℕ) (ms : List M) → end_of now ≡ end_of (option_map (λ r. row_heard x frame ms r) now)
+  end_heard None frame ms = refl
+  end_heard (Some r) frame ms = refl
+
+  closes : (station : ℕ) (fs : List (Frame M)) (d : Side M Q R) (r : Row M Q R) → Posts station fs d → d.now ≡ Some r → NowFacts d.past (Some r) → is_over x d.halves.out.holding d.fresh r ≡ true → Posted station fs r (length fs)
   closes station fs d r p e facts o = λ posts.
       let f = facts posts in
       let opened : PostOpen station r.frame (count r) fs d.fresh d.halves.out.holding r.told = subst (PostNow station fs d.fresh d.halves.out.holding) e p.now posts in
@@ -119,9 +146,17 @@ module _ {V A M Q R : Type 0} (x : Exchange V A M Q R) (law : IsLawful x) where
       let all : r.told ≡ x.planned r.service [] = none_left r.told (x.planned r.service []) f.mine (sym (left_is r f) ∙ none_of (left x r) parts.0) in
       let told = opened.told_is ∙ ap (λ l. mails_told (joined (news_from station r.frame fs)) ++ l) (nothing_unsent d.fresh d.halves.out.holding known) ∙ append-nil (mails_told (joined (news_from station r.frame fs))) in
       let enough : count r ≤ length (mails_told (joined (news_from station r.frame fs))) = let a = ap length all in let b = ap length told in omega (arith, a, b) in
-      (opened.begun, opened.all enough ∙ parts.1)
+      let all_of = opened.all enough ∙ parts.1 in
+      let long = news_from-length station r.frame fs opened.begun in
+      record {
+        begun = opened.begun;
+        end_is = omega arith;
+        later = opened.begun;
+        written = all_of;
+        early = ap (λ l. all_written (count r) (joined l)) (take_whole (length fs - r.frame) (news_from station r.frame fs) (omega (arith, long))) ∙ all_of;
+      }
 
-  fresh_row : (station : ℕ) (fs : List (Frame M)) (fresh : Bool) (holding : Option (LinkMail M)) (q : Q) → fresh ≡ false → NowFacts (Some (begun q (length fs))) → PostNow station fs fresh holding (Some (begun q (length fs)))
+  fresh_row : (station : ℕ) (fs : List (Frame M)) (fresh : Bool) (holding : Option (LinkMail M)) (q : Q) → fresh ≡ false → (x.handed q ≡ true → Facts (begun q (length fs))) → PostNow station fs fresh holding (Some (begun q (length fs)))
   fresh_row station fs fresh holding q e facts = λ posts. (
       let none : joined (news_from station (length fs) fs) ≡ [] = ap joined (news_from-none station fs) in
       record {
@@ -137,17 +172,18 @@ module _ {V A M Q R : Type 0} (x : Exchange V A M Q R) (law : IsLawful x) where
       no_length [] e = refl
       no_length (m ∷ l) e = absurd (omega (arith, e))
 
-  posted_more : (station : ℕ) (fs : List (Frame M)) (rs : List (Row M Q R)) (r : Row M Q R) → AllPosted station fs rs → Posted station fs r → AllPosted station fs (rs ++ r ∷ [])
-  posted_more station fs [] r a p = (p, tt)
-  posted_more station fs (s ∷ rs) r a p = (a.0, posted_more station fs rs r a.1 p)
+  posted_more : (station : ℕ) (fs : List (Frame M)) (rs : List (Row M Q R)) (r : Row M Q R) (end : ℕ) → AllPosted station fs rs r.frame → Posted station fs r end → AllPosted station fs (rs ++ r ∷ []) end
+  posted_more station fs [] r end a p = (p, tt)
+  posted_more station fs (s ∷ []) r end a p = (a.0, (p, tt))
+  posted_more station fs (s ∷ (t ∷ rs)) r end a p = (a.0, posted_more station fs (t ∷ rs) r end a.1 p)
 
-  began_posts : (station : ℕ) (fs : List (Frame M)) (d : Side M Q R) (now : Option (Row M Q R)) (begin : Option Q) → d.now ≡ now → NowFacts now → NowFacts (side_begins x (length fs) d now begin).now → Posts station fs d → Posts station fs (side_begins x (length fs) d now begin)
+  began_posts : (station : ℕ) (fs : List (Frame M)) (d : Side M Q R) (now : Option (Row M Q R)) (begin : Option Q) → d.now ≡ now → NowFacts d.past now → (let e = side_begins x (length fs) d now begin in NowFacts e.past e.now) → Posts station fs d → Posts station fs (side_begins x (length fs) d now begin)
   began_posts station fs d now None e old new p = p
   began_posts station fs d None (Some q) e old new p = go (x.valid q) new
     where
-      go : (b : Bool) → NowFacts (if b then record d { now = Some (begun q (length fs)) } else d).now → Posts station fs (if b then record d { now = Some (begun q (length fs)) } else d)
+      go : (b : Bool) → (let t = if b then record d { now = Some (begun q (length fs)) } else d in NowFacts t.past t.now) → Posts station fs (if b then record d { now = Some (begun q (length fs)) } else d)
       go false new = p
-      go true new = record { out = p.out; past = p.past; now = fresh_row station fs d.fresh d.halves.out.holding q (subst (PostNow station fs d.fresh d.halves.out.holding) e p.now) new }
+      go true new = record { out = p.out; past = subst (λ rs. AllPosted station fs rs (length fs)) (sym old) tt; now = fresh_row station fs d.fresh d.halves.out.holding q (subst (PostNow station fs d.fresh d.halves.out.holding) e p.now) new }
   began_posts station fs d (Some r) (Some q) e old new p = go (x.valid q) (is_over x d.halves.out.holding d.fresh r) refl new
     where
       known : is_over x d.halves.out.holding d.fresh r ≡ true → d.fresh ≡ false
@@ -156,13 +192,13 @@ module _ {V A M Q R : Type 0} (x : Exchange V A M Q R) (law : IsLawful x) where
         | inr a ↦ a.1
       ]
 
-      go : (valid over : Bool) → is_over x d.halves.out.holding d.fresh r ≡ over → NowFacts (if valid && over then record d { past = d.past ++ r ∷ []; now = Some (begun q (length fs)) } else d).now →
+      go : (valid over : Bool) → is_over x d.halves.out.holding d.fresh r ≡ over → (let t = if valid && over then record d { past = d.past ++ r ∷ []; now = Some (begun q (length fs)) } else d in NowFacts t.past t.now) →
           Posts station fs (if valid && over then record d { past = d.past ++ r ∷ []; now = Some (begun q (length fs)) } else d)
       go false over o new = p
       go true false o new = p
-      go true true o new = record { out = p.out; past = posted_more station fs d.past r p.past (closes station fs d r p e old o); now = fresh_row station fs d.fresh d.halves.out.holding q (known o) new }
+      go true true o new = record { out = p.out; past = posted_more station fs d.past r (length fs) (subst (λ n. AllPosted station fs d.past (end_of n)) e p.past) (closes station fs d r p e old o); now = fresh_row station fs d.fresh d.halves.out.holding q (known o) new }
 
-  held_posts : (station : ℕ) (fs : List (Frame M)) (d : Side M Q R) (holding : Option (LinkMail M)) (hold : Bool) → d.halves.out.holding ≡ holding → NowFacts d.now → Posts station fs d → Posts station fs (side_holds d (next_mail x d.now holding hold))
+  held_posts : (station : ℕ) (fs : List (Frame M)) (d : Side M Q R) (holding : Option (LinkMail M)) (hold : Bool) → d.halves.out.holding ≡ holding → NowFacts d.past d.now → Posts station fs d → Posts station fs (side_holds d (next_mail x d.now holding hold))
   held_posts station fs d holding hold e facts p = go d.now holding hold refl e
     where
       one : (r : Row M Q R) (m : M) (more : List M) → d.now ≡ Some r → left x r ≡ m ∷ more → d.halves.out.holding ≡ None → Posts station fs (side_holds d (m ∷ []))
@@ -172,9 +208,9 @@ module _ {V A M Q R : Type 0} (x : Exchange V A M Q R) (law : IsLawful x) where
           let mail : LinkMail M = record { counter = Counters.next_counter d.halves.out.last; body = m } in
           record {
             out = record { mail = mail; holds = refl; next = ap Counters.next_counter k.last_is; last_is = refl };
-            past = p.past;
+            past = subst (λ k. AllPosted station fs d.past k) (end_told d.now m) p.past;
             now = subst (λ o. PostNow station fs true (Some mail) (option_map (λ r. row_told m r) o)) (sym n) (λ posts.
-                (let f = subst NowFacts n facts posts in
+                (let f = subst (NowFacts d.past) n facts posts in
                 let opened : PostOpen station r.frame (count r) fs d.fresh d.halves.out.holding r.told = subst (PostNow station fs d.fresh d.halves.out.holding) n p.now posts in
                 let told = opened.told_is ∙ ap (λ u. mails_told (joined (news_from station r.frame fs)) ++ u) (nothing_unsent d.fresh d.halves.out.holding known) ∙ append-nil (mails_told (joined (news_from station r.frame fs))) in
                 record {
@@ -198,15 +234,15 @@ module _ {V A M Q R : Type 0} (x : Exchange V A M Q R) (law : IsLawful x) where
       go (Some r) (Some m) true n e = p
       go (Some r) None true n e = first r (left x r) n refl e
 
-  pub next_posts : (station : ℕ) (fs : List (Frame M)) (d : Side M Q R) (c : Choice Q) → NowFacts d.now → NowFacts (side_begins x (length fs) d d.now c.begin).now → Posts station fs d → Posts station fs (side_next x (length fs) d c)
+  pub next_posts : (station : ℕ) (fs : List (Frame M)) (d : Side M Q R) (c : Choice Q) → NowFacts d.past d.now → (let e = side_begins x (length fs) d d.now c.begin in NowFacts e.past e.now) → Posts station fs d → Posts station fs (side_next x (length fs) d c)
   next_posts station fs d c old new p =
       let e = side_begins x (length fs) d d.now c.begin in
       held_posts station fs e e.halves.out.holding c.hold refl new (began_posts station fs d d.now c.begin refl old new p)
 
   -- a frame
-  posted_stays : (station : ℕ) (fs : List (Frame M)) (f : Frame M) (rs : List (Row M Q R)) → AllPosted station fs rs → AllPosted station (fs ++ f ∷ []) rs
-  posted_stays station fs f [] a = tt
-  posted_stays station fs f (r ∷ rs) a = (one, posted_stays station fs f rs a.1)
+  posted_stays : (station : ℕ) (fs : List (Frame M)) (f : Frame M) (rs : List (Row M Q R)) (end : ℕ) → AllPosted station fs rs end → AllPosted station (fs ++ f ∷ []) rs end
+  posted_stays station fs f [] end a = tt
+  posted_stays station fs f (r ∷ rs) end a = (one, posted_stays station fs f rs end a.1)
     where
       ns : List (News M)
       ns = joined (news_from station r.frame fs)
@@ -214,12 +250,24 @@ module _ {V A M Q R : Type 0} (x : Exchange V A M Q R) (law : IsLawful x) where
       news : List (News M)
       news = frame_news station (kept_of station fs) f
 
-      one : Posted station (fs ++ f ∷ []) r
+      one : Posted station (fs ++ f ∷ []) r (next_frame rs end)
       one posts =
           let p = a.0 posts in
           let l = length-append fs (f ∷ []) in
-          let b = p.0 in
-          (omega (arith, l, b), ap (all_written (count r)) (news-push station r.frame fs f p.0) ∙ all_written-append (count r) ns news ∙ ap (λ c. c || all_written (count r - length (mails_told ns)) news) p.1)
+          let b = p.begun in
+          let c = p.end_is in
+          let k = p.later in
+          let n = news_from-length station r.frame fs p.begun in
+          record {
+            begun = omega (arith, l, b);
+            end_is = omega (arith, l, c);
+            later = p.later;
+            written = ap (all_written (count r)) (news-push station r.frame fs f p.begun) ∙ all_written-append (count r) ns news ∙ ap (λ c. c || all_written (count r - length (mails_told ns)) news) p.written;
+            early =
+                ap (λ l. all_written (count r) (joined l)) (ap (take (next_frame rs end - r.frame)) (news_from-push station r.frame fs f p.begun)
+                ∙ take-append-le (next_frame rs end - r.frame) (news_from station r.frame fs) (news ∷ []) (omega (arith, c, k, n)))
+                ∙ p.early;
+          }
 
   now_frame : (station : ℕ) (fs : List (Frame M)) (f : Frame M) (fresh w : Bool) (holding : Option (LinkMail M)) (last behind : ℕ) (now : Option (Row M Q R)) (change : Row M Q R → Row M Q R) →
       ((r : Row M Q R) → (change r).service ≡ r.service) → ((r : Row M Q R) → (change r).frame ≡ r.frame) → ((r : Row M Q R) → (change r).told ≡ r.told) →
@@ -253,7 +301,7 @@ module _ {V A M Q R : Type 0} (x : Exchange V A M Q R) (law : IsLawful x) where
         out = subst (λ k. KeptOut (d.fresh && not w) (halves_after station d.halves (grams f.back)).out.holding (halves_after station d.halves (grams f.back)).out.last k) (sym behind)
             (subst (λ l. KeptOut (d.fresh && not w) (halves_after station d.halves (grams f.back)).out.holding l (told_behind station kept.told (grams f.sent))) (sym lasts)
             (subst (λ h. KeptOut (d.fresh && not w) h d.halves.out.last (told_behind station kept.told (grams f.sent))) (sym frees) out));
-        past = posted_stays station fs f d.past p.past;
+        past = subst (λ k. AllPosted station (fs ++ f ∷ []) d.past k) (end_heard d.now (length fs) (Frames.all_accepted station d.halves (grams f.back))) (posted_stays station fs f d.past (end_of d.now) p.past);
         now = subst (λ h. PostNow station (fs ++ f ∷ []) (d.fresh && not w) h (option_map (λ r. row_heard x (length fs) (Frames.all_accepted station d.halves (grams f.back)) r) d.now)) (sym frees) now;
       }
 
@@ -274,7 +322,7 @@ module _ {V A M Q R : Type 0} (x : Exchange V A M Q R) (law : IsLawful x) where
         out = subst (λ k. KeptOut (d.fresh && not w) (halves_without station d.halves (grams f.sent)).out.holding (halves_without station d.halves (grams f.sent)).out.last k) (sym behind)
             (subst (λ l. KeptOut (d.fresh && not w) (halves_without station d.halves (grams f.sent)).out.holding l (told_behind station kept.told (grams f.sent))) (sym lasts)
             (subst (λ h. KeptOut (d.fresh && not w) h d.halves.out.last (told_behind station kept.told (grams f.sent))) (sym same) out));
-        past = posted_stays station fs f d.past p.past;
+        past = posted_stays station fs f d.past (end_of d.now) p.past;
         now = subst (λ h. PostNow station (fs ++ f ∷ []) (d.fresh && not w) h d.now) (sym same) (unchanged d.now now);
       }
     where
@@ -306,9 +354,9 @@ module _ {V A M Q R : Type 0} (x : Exchange V A M Q R) (law : IsLawful x) where
   completes : (more : M → Bool) (station : ℕ) (fs : List (Frame M)) (r : Row M Q R) → x.handed r.service ≡ true → is_some (first_end (ends x more (Task.Mails r.service)) r.frame [] (news_from station r.frame fs)) ≡ all_written (count r) (joined (news_from station r.frame fs))
   completes more station fs r posts = ap (λ b. is_some (first_end (mails_end x r.service b) r.frame [] (news_from station r.frame fs))) posts ∙ first_written r.service (count r) r.frame [] (news_from station r.frame fs) refl refl
 
-  past_handed : (more : M → Bool) (station : ℕ) (fs : List (Frame M)) (rs : List (Row M Q R)) → AllPosted station fs rs → AllHanded x more station fs rs
-  past_handed more station fs [] a = tt
-  past_handed more station fs (r ∷ rs) a = ((λ posts. completes more station fs r posts ∙ (a.0 posts).1), past_handed more station fs rs a.1)
+  past_handed : (more : M → Bool) (station : ℕ) (fs : List (Frame M)) (rs : List (Row M Q R)) (end : ℕ) → AllPosted station fs rs end → AllHanded x more station fs rs
+  past_handed more station fs [] end a = tt
+  past_handed more station fs (r ∷ rs) end a = ((λ posts. completes more station fs r posts ∙ (a.0 posts).written), past_handed more station fs rs end a.1)
 
   now_over : (station : ℕ) (fs : List (Frame M)) (r : Row M Q R) (fresh : Bool) (holding : Option (LinkMail M)) (last kept : ℕ) → x.handed r.service ≡ true → Facts r → KeptOut fresh holding last kept → PostOpen station r.frame (count r) fs fresh holding r.told →
       all_written (count r) (joined (news_from station r.frame fs)) ≡ is_over x holding fresh r
@@ -332,12 +380,101 @@ module _ {V A M Q R : Type 0} (x : Exchange V A M Q R) (law : IsLawful x) where
         | inr c ↦ let few = c.1 in p.few few ∙ sym (over ∙ ap (λ b. b && is_none holding) (left_some (length r.told) (x.planned r.service []) (omega (arith, few, same))))
       ]
 
-  pub now_handed : (more : M → Bool) (station : ℕ) (fs : List (Frame M)) (d : Side M Q R) → NowFacts d.now → Posts station fs d → NowHanded x more station fs d d.now
+  pub now_handed : (more : M → Bool) (station : ℕ) (fs : List (Frame M)) (d : Side M Q R) → NowFacts d.past d.now → Posts station fs d → NowHanded x more station fs d d.now
   now_handed more station fs d facts p = go d.now facts p.now
     where
-      go : (now : Option (Row M Q R)) → NowFacts now → PostNow station fs d.fresh d.halves.out.holding now → NowHanded x more station fs d now
+      go : (now : Option (Row M Q R)) → NowFacts d.past now → PostNow station fs d.fresh d.halves.out.holding now → NowHanded x more station fs d now
       go None facts opened = tt
       go (Some r) facts opened = λ posts. completes more station fs r posts ∙ now_over station fs r d.fresh d.halves.out.holding d.halves.out.last (kept_of station fs).told posts (facts posts) p.out (opened posts)
 
-  pub handed_by : (more : M → Bool) (station : ℕ) (fs : List (Frame M)) (d : Side M Q R) → NowFacts d.now → Posts station fs d → AllHanded x more station fs d.past × NowHanded x more station fs d d.now
-  handed_by more station fs d facts p = (past_handed more station fs d.past p.past, now_handed more station fs d facts p)
+  -- a completed service is of a frame before that at which all was written
+  before_end : (q : Q) (n f k : ℕ) (before : List (News M)) (nss : List (List (News M))) (o : Outcome R × ℕ) → n ≡ length (x.planned q []) → all_written n before ≡ false → all_written n (before ++ joined (take k nss)) ≡ true →
+      first_end (mails_end x q true) f before nss ≡ Some o → o.1 < f + k
+  before_end q n f k before [] o e none all found = absurd (let bad : None ≡ Some o = found in cc)
+  before_end q n f zero before (ns ∷ nss) o e none all found = absurd (let bad : false ≡ true = sym none ∙ ap (all_written n) (sym (append-nil before)) ∙ all in cc)
+  before_end q n f (suc k) before (ns ∷ nss) o e none all found = go (all_written n (before ++ ns)) refl (λ h g. before_end q n (suc f) k (before ++ ns) nss o e h (ap (all_written n) (append_assoc before ns (joined (take k nss))) ∙ all) g)
+    where
+      named : mails_end {A = A} x q true (before ++ ns) ≡ (if all_written n (before ++ ns) then Some Outcome.Handed else None)
+      named = ap (λ k. if all_written k (before ++ ns) then Some Outcome.Handed else None) (sym e)
+
+      go : (b : Bool) → all_written n (before ++ ns) ≡ b → (all_written n (before ++ ns) ≡ false → first_end (mails_end x q true) (suc f) (before ++ ns) nss ≡ Some o → o.1 < suc f + k) → o.1 < f + suc k
+      go true h later =
+          let hit : Some (Outcome.Handed, f) ≡ Some o = sym (ap (λ r. or_later r f (first_end (mails_end x q true) (suc f) (before ++ ns) nss)) (named ∙ ap (λ b. if b then Some Outcome.Handed else None) h)) ∙ found in
+          let same : (Outcome.Handed, f) ≡ o = cc in
+          let at : f ≡ o.1 = ap (λ p. p.1) same in
+          omega (arith, at)
+      go false h later =
+          let miss : first_end (mails_end x q true) (suc f) (before ++ ns) nss ≡ Some o = sym (ap (λ r. or_later r f (first_end (mails_end x q true) (suc f) (before ++ ns) nss)) (named ∙ ap (λ b. if b then Some Outcome.Handed else None) h)) ∙ found in
+          let r = later h miss in
+          omega (arith, r)
+
+  -- and each outcome of one of the frames
+  within_frames : {T : Type 0} (e : List (News M) → Option T) (f : ℕ) (before : List (News M)) (nss : List (List (News M))) (o : T × ℕ) → first_end e f before nss ≡ Some o → o.1 < f + length nss
+  within_frames e f before [] o found = absurd (let bad : None ≡ Some o = found in cc)
+  within_frames {T} e f before (ns ∷ nss) o found = go (e (before ++ ns)) refl (λ g. within_frames e (suc f) (before ++ ns) nss o g)
+    where
+      go : (r : Option T) → e (before ++ ns) ≡ r → (first_end e (suc f) (before ++ ns) nss ≡ Some o → o.1 < suc f + length nss) → o.1 < f + suc (length nss)
+      go None h later = let r = later (sym (ap (λ r. or_later r f (first_end e (suc f) (before ++ ns) nss)) h) ∙ found) in omega (arith, r)
+      go (Some t) h later =
+          let hit : Some (t, f) ≡ Some o = sym (ap (λ r. or_later r f (first_end e (suc f) (before ++ ns) nss)) h) ∙ found in
+          let same : (t, f) ≡ o = cc in
+          let at : f ≡ o.1 = ap (λ p. p.1) same in
+          omega (arith, at)
+
+  outcome_is : (answer : Option (R × ℕ)) (o : Outcome R × ℕ) → as_outcome answer ≡ Some o → (a : R × ℕ) × (answer ≡ Some a) × (a.1 ≡ o.1)
+  outcome_is None o e = absurd (let bad : None ≡ Some o = e in cc)
+  outcome_is (Some a) o e = let same : (Outcome.Replied a.0, a.1) ≡ o = cc in (a, refl, ap (λ p. p.1) same)
+
+  row_rises : (more : M → Bool) (station : ℕ) (fs : List (Frame M)) (r : Row M Q R) (end : ℕ) → IsAnswered x more station fs r → ((answer : R × ℕ) → r.answer ≡ Some answer → answer.1 < end) →
+      (x.handed r.service ≡ true → (o : Outcome R × ℕ) → first_end (mails_end x r.service true) r.frame [] (news_from station r.frame fs) ≡ Some o → o.1 < end) →
+      (o : Outcome R × ℕ) → first_end (ends x more (Task.Mails r.service)) r.frame [] (news_from station r.frame fs) ≡ Some o → o.1 < end
+  row_rises more station fs r end answered rises posts o found = go (x.handed r.service) refl
+    where
+      go : (b : Bool) → x.handed r.service ≡ b → o.1 < end
+      go true h = posts h o (ap (λ b. first_end (mails_end x r.service b) r.frame [] (news_from station r.frame fs)) (sym h) ∙ found)
+      go false h =
+          let a = outcome_is r.answer o (answered.replied h ∙ found) in
+          let less = rises a.0 a.1 in
+          let same = a.2 in
+          omega (arith, less, same)
+
+  posted_rises : (station : ℕ) (fs : List (Frame M)) (r : Row M Q R) (end : ℕ) → Posted station fs r end → x.handed r.service ≡ true → (o : Outcome R × ℕ) → first_end (mails_end x r.service true) r.frame [] (news_from station r.frame fs) ≡ Some o → o.1 < end
+  posted_rises station fs r end p h o found =
+      let q = p h in
+      let less = before_end r.service (count r) r.frame (end - r.frame) [] (news_from station r.frame fs) o refl refl q.early found in
+      let later = q.later in
+      omega (arith, less, later)
+
+  -- the newest row began with one of the frames, or with the next
+  abbrev pub BegunBy : List (Frame M) → Option (Row M Q R) → Type 0
+  BegunBy fs None = ⊤
+  BegunBy fs (Some r) = r.frame ≤ length fs
+
+  all_rise_one : (more : M → Bool) (station : ℕ) (fs : List (Frame M)) (s : Row M Q R) → IsAnswered x more station fs s → ((answer : R × ℕ) → s.answer ≡ Some answer → answer.1 < length fs) → s.frame ≤ length fs →
+      OutcomesRise x more station fs (s ∷ []) (length fs)
+  all_rise_one more station fs s a r b = (
+    (row_rises more station fs s (length fs) a r (λ h o found. (
+        let within = within_frames (mails_end x s.service true) s.frame [] (news_from station s.frame fs) o found in
+        let long = news_from-length station s.frame fs b in
+        omega (arith, within, long)))),
+    tt,
+  )
+
+  all_rise : (more : M → Bool) (station : ℕ) (fs : List (Frame M)) (past : List (Row M Q R)) (now : Option (Row M Q R)) → AllAnswered x more station fs (past ++ newest now) → Rises (past ++ newest now) (length fs) → AllPosted station fs past (end_of now) → BegunBy fs now →
+      NowFacts past now → OutcomesRise x more station fs (past ++ newest now) (length fs)
+  all_rise more station fs [] None a r p b n = tt
+  all_rise more station fs [] (Some s) a r p b n = all_rise_one more station fs s a.0 r.0 b
+  all_rise more station fs (s ∷ []) None a r p b n = absurd (let bad : s ∷ [] ≡ [] = n in cc)
+  all_rise more station fs (s ∷ []) (Some t) a r p b n =
+      (row_rises more station fs s t.frame a.0 r.0 (posted_rises station fs s t.frame p.0), all_rise_one more station fs t a.1.0 r.1.0 b)
+  all_rise more station fs (s ∷ (t ∷ past)) None a r p b n = absurd (let bad : s ∷ (t ∷ past) ≡ [] = n in cc)
+  all_rise more station fs (s ∷ (t ∷ past)) (Some u) a r p b n =
+      (row_rises more station fs s t.frame a.0 r.0 (posted_rises station fs s t.frame p.0), all_rise more station fs (t ∷ past) (Some u) a.1 r.1 p.1 b (λ h. n h))
+
+  pub handed_by : (more : M → Bool) (station : ℕ) (fs : List (Frame M)) (start : V) (d : Side M Q R) (n : Slave V M) → AllAnswered x more station fs (rows_of d) → Rises (rows_of d) (length fs) → BegunBy fs d.now → NowFacts d.past d.now → Posts station fs d →
+      HandedBy x more fs station start d n
+  handed_by more station fs start d n answered rises begun facts p = record {
+    past = past_handed more station fs d.past (end_of d.now) p.past;
+    now = now_handed more station fs d facts p;
+    rises = all_rise more station fs d.past d.now answered rises p.past begun facts;
+  }

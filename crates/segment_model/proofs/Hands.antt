@@ -1,19 +1,22 @@
 -- What the record says of services that end with their last write, turn by turn of a session.
-use Rattle.std.proofs.Common.{◌≡◌, ℕ, zero, suc, Bool, List, [], ◌∷◌, ◌++◌, length, refl}
+use Rattle.std.proofs.Common.{◌≡◌, ℕ, zero, suc, Bool, true, false, Option, None, Some, List, [], ◌∷◌, ◌++◌, length, refl}
 use Rattle.exchange_model.specs.Exchange.{Exchange, IsLawful}
 use Rattle.link_model.specs.Segment.{RingFate}
 use Rattle.segment_model.specs.Slaves.{Registers, Datagram, grams, frame_after, ring_back}
 use Rattle.segment_model.specs.Record.{Frame}
-use Rattle.segment_model.specs.Laws.{EachSeat, HandedBy}
+use Rattle.segment_model.specs.Laws.{EachSeat, SeatPromised, HandedBy, KnowsCounters}
+use Rattle.exchange_model.specs.Rows.{Row}
+use Rattle.segment_model.proofs.Rising.{RisesNow}
 use Rattle.segment_model.specs.Seats
 use Rattle.segment_model.specs.Seats.{Seat, Choice, Turn, Session, Planned, IsPlan, link_of, ring_of, seat_next, seats_next, seats_back, seats_lost, seats_after, seat_steps_at, seats_step, writes, happens, run, MayRun, new_session}
 use Rattle.segment_model.proofs.Answers
 use Rattle.segment_model.proofs.Written.{frame_tells}
 use Rattle.segment_model.proofs.Sounds.{SeatSound}
 use Rattle.segment_model.proofs.Fitted.{Fitted, IsReady, begins_fit}
-use Rattle.segment_model.proofs.Kept.{Keeps, turn_keeps, new_keeps}
-use Rattle.segment_model.proofs.Posts.{writes-all_back}
-use Rattle.segment_model.proofs.Handed.{Posts, facts_of, next_posts, back_posts, lost_posts, handed_by}
+use Rattle.segment_model.proofs.Kept.{Records, Keeps, turn_keeps, new_keeps}
+use Rattle.link_model.specs.Mails.{LinkMail}
+use Rattle.segment_model.proofs.Posts.{writes-all_back, KeptOut, IsKnown}
+use Rattle.segment_model.proofs.Handed.{Posts, facts_of, next_posts, back_posts, lost_posts, BegunBy, handed_by}
 
 module _ {V A M Q R : Type 0} (x : Exchange V A M Q R) (law : IsLawful x) where
   abbrev pub SeatPosts : List (Frame M) → Seat V M Q R → Type 0
@@ -72,7 +75,19 @@ module _ {V A M Q R : Type 0} (x : Exchange V A M Q R) (law : IsLawful x) where
   pub session_posts : (carry : Registers → Registers) (ps : List (Planned V)) → IsPlan x ps → (ts : List (Turn M Q)) → MayRun x carry (new_session ps) ts → (let w = run x carry (new_session ps) ts in EachSeat (SeatPosts w.frames) w.seats)
   session_posts carry ps p ts m = run_posts carry (new_session ps) ts m (new_keeps x law ps p) (new_posts ps)
 
-  pub each_handed : (more : M → Bool) (fs : List (Frame M)) (ss : List (Seat V M Q R)) → EachSeat (IsReady x law) ss → EachSeat (Fitted x law) ss → EachSeat (SeatPosts fs) ss → EachSeat (λ s. HandedBy x more fs s.station s.start s.side s.slave) ss
-  each_handed more fs [] r f p = tt
-  each_handed more fs (s ∷ ss) r f p =
-      (handed_by x law more s.station fs s.side (facts_of x law s.start r.0 s.side.past s.side.now s.held s.taken s.accepted f.0) p.0, each_handed more fs ss r.1 f.1 p.1)
+  pub each_handed : (more : M → Bool) (fs : List (Frame M)) (ss : List (Seat V M Q R)) → EachSeat (IsReady x law) ss → EachSeat (Fitted x law) ss → EachSeat (Records x law fs) ss → EachSeat (SeatPromised x more fs) ss → EachSeat (SeatPosts fs) ss → EachSeat (λ s. HandedBy x more fs s.station s.start s.side s.slave) ss
+  each_handed more fs [] r f k a p = tt
+  each_handed more fs (s ∷ ss) r f k a p =
+      (handed_by x law more s.station fs s.start s.side s.slave a.0.answers a.0.rises (begun s.side.now k.0.rises) (facts_of x law s.start r.0 s.side.past s.side.now s.held s.taken s.accepted f.0) p.0, each_handed more fs ss r.1 f.1 k.1 a.1 p.1)
+    where
+      begun : (now : Option (Row M Q R)) → RisesNow s.side.past now (length fs) → BegunBy x law fs now
+      begun None h = tt
+      begun (Some r) h = h.frame
+
+  known : (fresh : Bool) (holding : Option (LinkMail M)) (last kept : ℕ) → KeptOut fresh holding last kept → fresh ≡ false → last ≡ kept
+  known true holding last kept k e = absurd (let bad : true ≡ false = e in cc)
+  known false holding last kept k e = let f : IsKnown holding last kept = k in f.last_is
+
+  pub each_counted : (fs : List (Frame M)) (ss : List (Seat V M Q R)) → EachSeat (Records x law fs) ss → EachSeat (SeatPosts fs) ss → EachSeat (λ s. KnowsCounters fs s.station s.start s.side s.slave) ss
+  each_counted fs [] k p = tt
+  each_counted fs (s ∷ ss) k p = (record { heard = k.0.listens.kept; told = known s.side.fresh s.side.halves.out.holding s.side.halves.out.last (Answers.kept_of s.station fs).told p.0.out }, each_counted fs ss k.1 p.1)

@@ -16,4 +16,8 @@ mod Written
 mod Posts
 mod Handed
 mod Hands
+mod Ended
 mod Bounds
+mod Tours
+mod Trials
+mod Table

@@ -6,7 +6,7 @@ use Rattle.segment_model.specs.Slaves.{Slave}
 use Rattle.segment_model.specs.Record.{Frame, first_end, news_from}
 use Rattle.segment_model.specs.Ends.{Task, Outcome, ends}
 use Rattle.segment_model.specs.Seats.{Side, rows_of}
-use Rattle.segment_model.specs.Laws.{Rests}
+use Rattle.segment_model.specs.Laws.{Rests, NothingInHand}
 
 -- the answer of a service: its outcome with the frame that completed it; in doubt, where it began and was not completed; or not sent
 pub data Answer (R : Type 0) : Type 0 where
@@ -44,3 +44,11 @@ pub record IsDone {V A M Q R : Type 0} (x : Exchange V A M Q R) (more : M → Bo
   pub begun : services (rows_of d) ≡ scripted
   pub rests : Rests x fs station start d n
   pub ended : AllEnded (answers_of x more station fs (rows_of d) 0)
+
+-- of the services of a slave that began only the newest can be in doubt
+abbrev pub PastEnded : {V A M Q R : Type 0} → Exchange V A M Q R → (M → Bool) → List (Frame M) → ℕ → V → Side M Q R → Slave V M → Type 0
+PastEnded x more fs station start d n = AllEnded (answers_of x more station fs d.past 0)
+
+-- none of them is, where nothing is in hand
+abbrev pub EndedIf : {V A M Q R : Type 0} → Exchange V A M Q R → (M → Bool) → List (Frame M) → ℕ → V → Side M Q R → Slave V M → Type 0
+EndedIf x more fs station start d n = NothingInHand x d d.now → AllEnded (answers_of x more station fs (rows_of d) 0)

@@ -58,6 +58,7 @@ passing_after emission more Passing.Served (News.Heard m) = if emission m then N
 passing_after emission more p (News.Heard m) = if emission m then Some p else if more m then Some Passing.Answered else None
 passing_after emission more p n = Some p
 
+-- such a mail has ended, or it has not
 abbrev pub passed_ends : {M R : Type 0} → (M → Bool) → (M → Bool) → Option Passing → List (News M) → Option (Outcome R)
 passed_ends emission more None ns = Some Outcome.Handed
 passed_ends emission more (Some p) [] = None

@@ -12,7 +12,7 @@ pub record Epoch : Type 0 where
   pub cleared : Option ℕ
   pub opened : Option ℕ
 
--- the row, or the frame, at which the next epoch begins; or this end, where none follows
+-- the row at which the next epoch begins, or this end, where none follows
 abbrev pub next_row : List Epoch → ℕ → ℕ
 next_row [] end = end
 next_row (e ∷ es) end = e.row
@@ -22,6 +22,7 @@ abbrev pub or_end : Option ℕ → ℕ → ℕ
 or_end None end = end
 or_end (Some n) end = n
 
+-- the frame at which the next epoch begins
 abbrev pub next_cleared : List Epoch → ℕ → ℕ
 next_cleared [] end = end
 next_cleared (e ∷ es) end = or_end e.cleared end
@@ -37,10 +38,11 @@ frames_in e es fs =
     let first = behind_opened e.opened (length fs) in
     take (next_cleared es (length fs) - first) (drop first fs)
 
--- a row counted by the frames from this one on; and the rows of an epoch, counted from its opening
+-- a row counted by the frames from this one on
 abbrev pub row_from : {M Q R : Type 0} → ℕ → Row M Q R → Row M Q R
 row_from first r = record r { frame = r.frame - first; answer = option_map (λ a. (a.0, a.1 - first)) r.answer }
 
+-- the rows of an epoch, counted from its opening
 abbrev pub rows_in : {M Q R : Type 0} → Epoch → List Epoch → ℕ → List (Row M Q R) → List (Row M Q R)
 rows_in e es end rs = map (λ r. row_from (behind_opened e.opened end) r) (take (next_row es (length rs) - e.row) (drop e.row rs))
 

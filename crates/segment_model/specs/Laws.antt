@@ -4,7 +4,7 @@ use Rattle.exchange_model.specs.Exchange.{Exchange}
 use Rattle.exchange_model.specs.Rows.{Row, Fits, Rest}
 use Rattle.link_model.specs.Master.{InState}
 use Rattle.segment_model.specs.Slaves.{Slave, Ring}
-use Rattle.segment_model.specs.Record.{Frame, first_end, news_from, heard}
+use Rattle.segment_model.specs.Record.{Frame, first_end, news_from, heard, kept_all, nothing_kept}
 use Rattle.segment_model.specs.Ends.{Task, Outcome, ends}
 use Rattle.segment_model.specs.Seats.{Side, Seat, Planned, rows_of, is_over}
 
@@ -23,6 +23,7 @@ pub record IsAnswered {V A M Q R : Type 0} (x : Exchange V A M Q R) (more : M �
   pub replied : x.handed r.service ≡ false → as_outcome r.answer ≡ first_end (ends x more (Task.Mails r.service)) r.frame [] (news_from station r.frame fs)
   pub handed : x.handed r.service ≡ true → r.answer ≡ None
 
+-- each row of these is
 abbrev pub AllAnswered : {V A M Q R : Type 0} → Exchange V A M Q R → (M → Bool) → ℕ → List (Frame M) → List (Row M Q R) → Type 0
 AllAnswered x more station fs [] = ⊤
 AllAnswered x more station fs (r ∷ rs) = IsAnswered x more station fs r × AllAnswered x more station fs rs
@@ -49,6 +50,7 @@ pub record RowsPromised {V A M Q R : Type 0} (x : Exchange V A M Q R) (more : M 
 abbrev pub Promised : {V A M Q R : Type 0} → Exchange V A M Q R → (M → Bool) → List (Frame M) → ℕ → V → Side M Q R → Slave V M → Type 0
 Promised x more fs station start d n = RowsPromised x more fs station start (rows_of d) n.node.server.server
 
+-- for a seat of a session
 abbrev pub SeatPromised : {V A M Q R : Type 0} → Exchange V A M Q R → (M → Bool) → List (Frame M) → Seat V M Q R → Type 0
 SeatPromised x more fs s = Promised x more fs s.station s.start s.side s.slave
 
@@ -78,6 +80,7 @@ Rests x fs station start d n = Rest x start (rows_of d) n.node.server.server (he
 abbrev pub RestsIf : {V A M Q R : Type 0} → Exchange V A M Q R → List (Frame M) → ℕ → V → Side M Q R → Slave V M → Type 0
 RestsIf x fs station start d n = IsSettled n → WantsNothing x d → Rests x fs station start d n
 
+-- for a seat of a session
 abbrev pub SeatRests : {V A M Q R : Type 0} → Exchange V A M Q R → List (Frame M) → Seat V M Q R → Type 0
 SeatRests x fs s = RestsIf x fs s.station s.start s.side s.slave
 
@@ -91,14 +94,32 @@ EachOf P ps ds ns = ⊥
 abbrev pub IsHanded : {V A M Q R : Type 0} → Exchange V A M Q R → (M → Bool) → ℕ → List (Frame M) → Row M Q R → Bool → Type 0
 IsHanded x more station fs r over = x.handed r.service ≡ true → is_some (first_end (ends x more (Task.Mails r.service)) r.frame [] (news_from station r.frame fs)) ≡ over
 
--- all rows but the newest are over, and of the newest its half says so
+-- all rows but the newest are over
 abbrev pub AllHanded : {V A M Q R : Type 0} → Exchange V A M Q R → (M → Bool) → ℕ → List (Frame M) → List (Row M Q R) → Type 0
 AllHanded x more station fs [] = ⊤
 AllHanded x more station fs (r ∷ rs) = IsHanded x more station fs r true × AllHanded x more station fs rs
 
+-- the newest is, as its half says
 abbrev pub NowHanded : {V A M Q R : Type 0} → Exchange V A M Q R → (M → Bool) → ℕ → List (Frame M) → Side M Q R → Option (Row M Q R) → Type 0
 NowHanded x more station fs d None = ⊤
 NowHanded x more station fs d (Some r) = IsHanded x more station fs r (is_over x d.halves.out.holding d.fresh r)
 
-abbrev pub HandedBy : {V A M Q R : Type 0} → Exchange V A M Q R → (M → Bool) → List (Frame M) → ℕ → V → Side M Q R → Slave V M → Type 0
-HandedBy x more fs station start d n = AllHanded x more station fs d.past × NowHanded x more station fs d d.now
+-- each outcome, of whichever kind, is of a frame before the next row's, and before the frame with this number
+abbrev pub OutcomesRise : {V A M Q R : Type 0} → Exchange V A M Q R → (M → Bool) → ℕ → List (Frame M) → List (Row M Q R) → ℕ → Type 0
+OutcomesRise x more station fs [] end = ⊤
+OutcomesRise {R = R} x more station fs (r ∷ rs) end =
+    ((o : Outcome R × ℕ) → first_end (ends x more (Task.Mails r.service)) r.frame [] (news_from station r.frame fs) ≡ Some o → o.1 < next_frame rs end)
+    × OutcomesRise x more station fs rs end
+
+-- all this of one slave
+pub record HandedBy {V A M Q R : Type 0} (x : Exchange V A M Q R) (more : M → Bool) (fs : List (Frame M)) (station : ℕ) (start : V)
+    (d : Side M Q R) (n : Slave V M) : Type 0 where
+  pub past : AllHanded x more station fs d.past
+  pub now : NowHanded x more station fs d d.now
+  pub rises : OutcomesRise x more station fs (rows_of d) (length fs)
+
+-- the master's side knows the counters of the record: its inward half that of the last mail heard, and its outward half, once its mail was
+-- sent, that of the last mail told
+pub record KnowsCounters {V M Q R : Type 0} (fs : List (Frame M)) (station : ℕ) (start : V) (d : Side M Q R) (n : Slave V M) : Type 0 where
+  pub heard : d.halves.inn.last ≡ (kept_all station nothing_kept fs).heard
+  pub told : d.fresh ≡ false → d.halves.out.last ≡ (kept_all station nothing_kept fs).told

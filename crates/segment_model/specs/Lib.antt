@@ -9,3 +9,4 @@ pub mod Visits
 pub mod Switching
 pub mod Epochs
 pub mod Books
+pub mod Trial

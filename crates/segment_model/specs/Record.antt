@@ -12,10 +12,11 @@ pub record Frame (M : Type 0) : Type 0 where
   pub fate : RingFate
   pub back : List (Datagram M)
 
--- the frame of a move at this ring, and the frames of a list of moves
+-- the frame of a move at this ring
 abbrev pub frame_of : {V M : Type 0} → Ring V M → Move M → Frame M
 frame_of ns m = record { sent = m.sent; fate = m.fate; back = ring_back ns m.sent m.fate }
 
+-- the frames of a list of moves
 abbrev pub recorded : {V A M Q R : Type 0} → Exchange V A M Q R → (Registers → Registers) → Ring V M → List (Move M) → List (Frame M)
 recorded x carry ns [] = []
 recorded x carry ns (m ∷ ms) = frame_of ns m ∷ recorded x carry (ring_steps x carry (ring_after ns m.sent m.fate) m.steps) ms
@@ -45,7 +46,7 @@ is_for station (Address.Station other) = other == station
 is_for station (Address.Place n) = false
 is_for station Address.Passed = false
 
--- the mail of a write that is sent, if it is no repeat, and the counter of the last mail told behind it
+-- the mail of a write that is sent, if it is no repeat
 abbrev pub mail_told : {M : Type 0} → ℕ → Ask M → List M
 mail_told last (Ask.WriteMail m) = news last (Some m)
 mail_told last Ask.ReadMail = []
@@ -53,6 +54,7 @@ mail_told last (Ask.WriteRequest bit) = []
 mail_told last Ask.ReadAcknowledge = []
 mail_told last Ask.Other = []
 
+-- the counter of the last mail told behind it
 abbrev pub last_told : {M : Type 0} → ℕ → Ask M → ℕ
 last_told last (Ask.WriteMail m) = m.counter
 last_told last Ask.ReadMail = last
@@ -60,17 +62,18 @@ last_told last (Ask.WriteRequest bit) = last
 last_told last Ask.ReadAcknowledge = last
 last_told last Ask.Other = last
 
--- all mails that a sent frame tells this station, and the counter behind them
+-- all mails that a sent frame tells this station
 abbrev pub all_told : {M : Type 0} → ℕ → ℕ → List (Gram M) → List M
 all_told station last [] = []
 all_told station last (g ∷ gs) =
     (if g.station == station then mail_told last g.ask else []) ++ all_told station (if g.station == station then last_told last g.ask else last) gs
 
+-- the counter of the last mail told behind it
 abbrev pub told_behind : {M : Type 0} → ℕ → ℕ → List (Gram M) → ℕ
 told_behind station last [] = last
 told_behind station last (g ∷ gs) = told_behind station (if g.station == station then last_told last g.ask else last) gs
 
--- what a returned datagram to a mailbox tells, and the counter of the last mail heard behind it
+-- what a returned datagram to a mailbox tells
 abbrev pub gram_news : {M : Type 0} → ℕ → Ask M → Gram M → List (News M)
 gram_news last (Ask.WriteMail m) g = if g.counter == 0 then [] else News.Written ∷ []
 gram_news last Ask.ReadMail g = if g.counter == 0 then News.NothingRead ∷ [] else map (λ m. News.Heard m) (news last g.mail)
@@ -78,6 +81,7 @@ gram_news last (Ask.WriteRequest bit) g = []
 gram_news last Ask.ReadAcknowledge g = []
 gram_news last Ask.Other g = []
 
+-- the counter of the last mail heard behind it
 abbrev pub last_heard : {M : Type 0} → ℕ → Ask M → Gram M → ℕ
 last_heard last (Ask.WriteMail m) g = last
 last_heard last Ask.ReadMail g = seen last (mail_back g)
@@ -91,17 +95,19 @@ found_news None = []
 found_news (Some (Found.State state refused)) = News.Status state refused ∷ []
 found_news (Some (Found.Full full)) = News.BoxFull full ∷ []
 
+-- what a returned datagram tells a station in all
 abbrev pub datagram_news : {M : Type 0} → ℕ → ℕ → Datagram M → List (News M)
 datagram_news station last d =
     (if d.gram.station == station then gram_news last d.gram.ask d.gram else [])
     ++ (if is_for station d.address then (if d.counter == 0 then [] else found_news d.found) else [])
 
--- all that a returned frame tells, datagram by datagram, and the counter behind it
+-- all that a returned frame tells, datagram by datagram
 abbrev pub back_news : {M : Type 0} → ℕ → ℕ → List (Datagram M) → List (News M)
 back_news station last [] = []
 back_news station last (d ∷ ds) =
     datagram_news station last d ++ back_news station (if d.gram.station == station then last_heard last d.gram.ask d.gram else last) ds
 
+-- the counter of the last mail heard behind it
 abbrev pub heard_behind : {M : Type 0} → ℕ → ℕ → List (Datagram M) → ℕ
 heard_behind station last [] = last
 heard_behind station last (d ∷ ds) = heard_behind station (if d.gram.station == station then last_heard last d.gram.ask d.gram else last) ds
@@ -110,6 +116,7 @@ heard_behind station last (d ∷ ds) = heard_behind station (if d.gram.station =
 abbrev pub frame_news : {M : Type 0} → ℕ → Kept → Frame M → List (News M)
 frame_news station kept f = map (λ m. News.Told m) (all_told station kept.told (grams f.sent)) ++ back_news station kept.heard f.back
 
+-- the counters behind a frame
 abbrev pub kept_after : {M : Type 0} → ℕ → Kept → Frame M → Kept
 kept_after station kept f = record { told = told_behind station kept.told (grams f.sent); heard = heard_behind station kept.heard f.back }
 
@@ -118,6 +125,7 @@ abbrev pub news_each : {M : Type 0} → ℕ → Kept → List (Frame M) → List
 news_each station kept [] = []
 news_each station kept (f ∷ fs) = frame_news station kept f ∷ news_each station (kept_after station kept f) fs
 
+-- the counters behind these frames
 abbrev pub kept_all : {M : Type 0} → ℕ → Kept → List (Frame M) → Kept
 kept_all station kept [] = kept
 kept_all station kept (f ∷ fs) = kept_all station (kept_after station kept f) fs
@@ -130,7 +138,7 @@ nothing_kept = record { told = 0; heard = 0 }
 abbrev pub news_from : {M : Type 0} → ℕ → ℕ → List (Frame M) → List (List (News M))
 news_from station frame fs = drop frame (news_each station nothing_kept fs)
 
--- the mails among news: those heard, and those told
+-- the mails heard among news
 abbrev pub mails_heard : {M : Type 0} → List (News M) → List M
 mails_heard [] = []
 mails_heard (News.Heard m ∷ ns) = m ∷ mails_heard ns
@@ -140,6 +148,7 @@ mails_heard (News.NothingRead ∷ ns) = mails_heard ns
 mails_heard (News.BoxFull full ∷ ns) = mails_heard ns
 mails_heard (News.Status state refused ∷ ns) = mails_heard ns
 
+-- lists one behind the other
 abbrev pub joined : {X : Type 0} → List (List X) → List X
 joined [] = []
 joined (xs ∷ xss) = xs ++ joined xss

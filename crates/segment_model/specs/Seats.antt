@@ -44,14 +44,16 @@ pub record Turn (M Q : Type 0) : Type 0 where
 abbrev pub moves : {M Q : Type 0} → List (Turn M Q) → List (Move M)
 moves ts = map (λ t. t.move) ts
 
--- the link of a seat, and its rows
+-- the link of a seat
 abbrev pub link_of : {V M Q R : Type 0} → Seat V M Q R → Link M (Serving V M)
 link_of s = record { halves = s.side.halves; node = s.slave.node; held = s.held; taken = s.taken; offered = s.offered; accepted = s.accepted }
 
+-- the newest row in a list
 abbrev pub newest : {M Q R : Type 0} → Option (Row M Q R) → List (Row M Q R)
 newest None = []
 newest (Some r) = r ∷ []
 
+-- all rows of a side
 abbrev pub rows_of : {M Q R : Type 0} → Side M Q R → List (Row M Q R)
 rows_of d = d.past ++ newest d.now
 
@@ -77,13 +79,14 @@ abbrev pub first_left : {M : Type 0} → List M → List M
 first_left [] = []
 first_left (m ∷ ms) = m ∷ []
 
--- the next mail of the row in hand is taken up, where the outward half is idle; and the mails that are held by it
+-- the next mail of the row in hand is taken up, where the outward half is idle
 abbrev pub next_mail : {V A M Q R : Type 0} → Exchange V A M Q R → Option (Row M Q R) → Option (LinkMail M) → Bool → List M
 next_mail x now holding false = []
 next_mail x None holding true = []
 next_mail x (Some r) (Some m) true = []
 next_mail x (Some r) None true = first_left (left x r)
 
+-- the side behind the mail that it takes up
 abbrev pub side_holds : {M Q R : Type 0} → Side M Q R → List M → Side M Q R
 side_holds d [] = d
 side_holds d (m ∷ ms) = record {
@@ -93,6 +96,7 @@ side_holds d (m ∷ ms) = record {
   now = option_map (λ r. row_told m r) d.now;
 }
 
+-- the side before a frame, by this choice
 abbrev pub side_next : {V A M Q R : Type 0} → Exchange V A M Q R → ℕ → Side M Q R → Choice Q → Side M Q R
 side_next x frame d c =
     let e = side_begins x frame d d.now c.begin in
@@ -112,11 +116,12 @@ is_write (Ask.WriteRequest bit) = false
 is_write Ask.ReadAcknowledge = false
 is_write Ask.Other = false
 
+-- a write of mailbox 0 for this station stands in the frame
 abbrev pub writes : {M : Type 0} → ℕ → List (Gram M) → Bool
 writes station [] = false
 writes station (g ∷ gs) = if g.station == station then is_write g.ask || writes station gs else writes station gs
 
--- the side of this station behind a frame that came back, and behind a lost one
+-- the side of this station behind a frame that came back
 abbrev pub side_back : {V A M Q R : Type 0} → Exchange V A M Q R → ℕ → ℕ → List (Datagram M) → Side M Q R → Side M Q R
 side_back x frame station back d = record {
   halves = halves_after station d.halves (grams back);
@@ -125,6 +130,7 @@ side_back x frame station back d = record {
   now = option_map (λ r. row_heard x frame (all_accepted station d.halves (grams back)) r) d.now;
 }
 
+-- and behind a lost one
 abbrev pub side_lost : {M Q R : Type 0} → ℕ → List (Datagram M) → Side M Q R → Side M Q R
 side_lost station sent d = record d { halves = halves_without station d.halves (grams sent); fresh = d.fresh && not (writes station (grams sent)) }
 
@@ -132,12 +138,13 @@ side_lost station sent d = record d { halves = halves_without station d.halves (
 abbrev pub seat_next : {V A M Q R : Type 0} → Exchange V A M Q R → ℕ → Seat V M Q R → Choice Q → Seat V M Q R
 seat_next x frame s c = record s { side = side_next x frame s.side c; held = s.held ++ side_takes_up x frame s.side c }
 
+-- all seats before a frame, by a choice each
 abbrev pub seats_next : {V A M Q R : Type 0} → Exchange V A M Q R → ℕ → List (Seat V M Q R) → List (Choice Q) → List (Seat V M Q R)
 seats_next x frame [] cs = []
 seats_next x frame (s ∷ ss) [] = s ∷ ss
 seats_next x frame (s ∷ ss) (c ∷ cs) = seat_next x frame s c ∷ seats_next x frame ss cs
 
--- the seats behind a frame that came back as `back`
+-- a seat behind a frame that came back as `back`
 abbrev pub seat_back : {V A M Q R : Type 0} → Exchange V A M Q R → ℕ → Seat V M Q R → List (Datagram M) → List (Datagram M) → Seat V M Q R
 seat_back x frame s ds back = record s {
   side = side_back x frame s.station back s.side;
@@ -145,6 +152,7 @@ seat_back x frame s ds back = record s {
   accepted = s.accepted ++ all_accepted s.station s.side.halves (grams back);
 }
 
+-- all seats behind it, in ring order
 abbrev pub seats_back : {V A M Q R : Type 0} → Exchange V A M Q R → ℕ → List (Seat V M Q R) → List (Datagram M) → List (Datagram M) → List (Seat V M Q R)
 seats_back x frame [] ds back = []
 seats_back x frame (s ∷ ss) ds back = seat_back x frame s ds back ∷ seats_back x frame ss (frame_after s.station s.slave ds) back
@@ -156,16 +164,19 @@ seats_lost zero (s ∷ ss) ds sent = record s { side = side_lost s.station sent 
 seats_lost (suc k) (s ∷ ss) ds sent =
     record s { side = side_lost s.station sent s.side; slave = slave_after s.station s.slave ds } ∷ seats_lost k ss (frame_after s.station s.slave ds) sent
 
--- the ring of a session, and the master's sides with their stations
+-- the ring of a session
 abbrev pub ring_of : {V M Q R : Type 0} → List (Seat V M Q R) → Ring V M
 ring_of ss = map (λ s. (s.station, s.slave)) ss
 
+-- the master's sides with their stations
 abbrev pub sides_of : {V M Q R : Type 0} → List (Seat V M Q R) → List (ℕ × Side M Q R)
 sides_of ss = map (λ s. (s.station, s.side)) ss
 
+-- the stations
 abbrev pub stations_of : {V M Q R : Type 0} → List (Seat V M Q R) → List ℕ
 stations_of ss = map (λ s. s.station) ss
 
+-- the seats behind a frame of this fate
 abbrev pub seats_after : {V A M Q R : Type 0} → Exchange V A M Q R → ℕ → List (Seat V M Q R) → List (Datagram M) → RingFate → List (Seat V M Q R)
 seats_after x frame ss ds RingFate.Back = seats_back x frame ss ds (ring_back (ring_of ss) ds RingFate.Back)
 seats_after x frame ss ds (RingFate.Lost after) = seats_lost after ss ds ds
@@ -177,11 +188,13 @@ seat_steps x carry s =
     let k = node_take (serving x) n in
     record s { slave = slave_steps x carry s.slave; taken = s.taken ++ node_takes (serving x) n; offered = s.offered ++ node_offers (serving x) k }
 
+-- the slave at the k-th place makes one
 abbrev pub seat_steps_at : {V A M Q R : Type 0} → Exchange V A M Q R → (Registers → Registers) → ℕ → List (Seat V M Q R) → List (Seat V M Q R)
 seat_steps_at x carry k [] = []
 seat_steps_at x carry zero (s ∷ ss) = seat_steps x carry s ∷ ss
 seat_steps_at x carry (suc k) (s ∷ ss) = s ∷ seat_steps_at x carry k ss
 
+-- the slaves at these places make one each, in this order
 abbrev pub seats_step : {V A M Q R : Type 0} → Exchange V A M Q R → (Registers → Registers) → List (Seat V M Q R) → List ℕ → List (Seat V M Q R)
 seats_step x carry ss [] = ss
 seats_step x carry ss (k ∷ ks) = seats_step x carry (seat_steps_at x carry k ss) ks
@@ -236,14 +249,16 @@ new_seat p =
       accepted = [];
     }
 
+-- a session at the end of bring-up
 abbrev pub new_session : {V M Q R : Type 0} → List (Planned V) → Session V M Q R
 new_session ps = record { seats = map (λ p. new_seat p) ps; frames = [] }
 
--- a plan of which the laws speak: no station twice, and servers that are ready
+-- the servers are ready
 abbrev pub AllReady : {V A M Q R : Type 0} → Exchange V A M Q R → List (Planned V) → Type 0
 AllReady x [] = ⊤
 AllReady x (p ∷ ps) = (x.ready p.server ≡ true) × AllReady x ps
 
+-- a plan of which the laws speak: no station twice, and servers that are ready
 pub record IsPlan {V A M Q R : Type 0} (x : Exchange V A M Q R) (ps : List (Planned V)) : Type 0 where
   pub stations : Distinct (map (λ p. p.station) ps)
   pub ready : AllReady x ps

@@ -10,6 +10,7 @@ pub record Serving (V M : Type 0) : Type 0 where
   pub server : V
   pub waiting : List M
 
+-- the mail that waits longest
 abbrev pub first_waiting : {M : Type 0} → List M → Option M
 first_waiting [] = None
 first_waiting (m ∷ ms) = Some m
@@ -95,7 +96,7 @@ registers_met r Access.ReadState = r
 registers_met r Access.ReadFull = r
 registers_met r Access.Elsewhere = r
 
--- the working counter behind an access, and what it found
+-- the working counter behind an access
 abbrev pub counter_met : ℕ → Access → ℕ
 counter_met c (Access.SetStation station) = suc c
 counter_met c (Access.SetFirst right) = suc c
@@ -105,6 +106,7 @@ counter_met c Access.ReadState = suc c
 counter_met c Access.ReadFull = suc c
 counter_met c Access.Elsewhere = c
 
+-- what an access found
 abbrev pub found_met : {V M : Type 0} → Slave V M → Option Found → Access → Option Found
 found_met s old (Access.SetStation station) = old
 found_met s old (Access.SetFirst right) = old
@@ -114,13 +116,14 @@ found_met s old Access.ReadState = Some (Found.State s.registers.state s.registe
 found_met s old Access.ReadFull = Some (Found.Full (is_some s.node.out.box))
 found_met s old Access.Elsewhere = old
 
--- a slave with this station behind a datagram, and the datagram behind it
+-- a slave with this station behind a datagram
 abbrev pub slave_meets : {V M : Type 0} → ℕ → Slave V M → Datagram M → Slave V M
 slave_meets station s d = record {
   node = if d.gram.station == station then node_meets s.node d.gram.ask else s.node;
   registers = if is_meant s.registers d.address then registers_met s.registers d.access else s.registers;
 }
 
+-- the datagram behind the slave
 abbrev pub datagram_meets : {V M : Type 0} → ℕ → Slave V M → Datagram M → Datagram M
 datagram_meets station s d = record {
   gram = if d.gram.station == station then gram_meets s.node d.gram.ask d.gram else d.gram;
@@ -130,11 +133,12 @@ datagram_meets station s d = record {
   found = if is_meant s.registers d.address then found_met s d.found d.access else d.found;
 }
 
--- a slave behind a frame, and the frame behind it
+-- a slave behind a frame
 abbrev pub slave_after : {V M : Type 0} → ℕ → Slave V M → List (Datagram M) → Slave V M
 slave_after station s [] = s
 slave_after station s (d ∷ ds) = slave_after station (slave_meets station s d) ds
 
+-- a frame behind a slave
 abbrev pub frame_after : {V M : Type 0} → ℕ → Slave V M → List (Datagram M) → List (Datagram M)
 frame_after station s [] = []
 frame_after station s (d ∷ ds) = datagram_meets station s d ∷ frame_after station (slave_meets station s d) ds
@@ -143,25 +147,28 @@ frame_after station s (d ∷ ds) = datagram_meets station s d ∷ frame_after st
 abbrev pub Ring : Type 0 → Type 0 → Type 0
 Ring V M = List (ℕ × Slave V M)
 
--- all slaves meet the frame, in ring order; or the first of them do
+-- all slaves meet the frame, in ring order
 abbrev pub all_meet : {V M : Type 0} → Ring V M → List (Datagram M) → Ring V M
 all_meet [] ds = []
 all_meet (n ∷ ns) ds = (n.0, slave_after n.0 n.1 ds) ∷ all_meet ns (frame_after n.0 n.1 ds)
 
+-- so many of them meet it
 abbrev pub first_meet : {V M : Type 0} → ℕ → Ring V M → List (Datagram M) → Ring V M
 first_meet zero ns ds = ns
 first_meet (suc k) [] ds = []
 first_meet (suc k) (n ∷ ns) ds = (n.0, slave_after n.0 n.1 ds) ∷ first_meet k ns (frame_after n.0 n.1 ds)
 
+-- the ring behind a frame of this fate
 abbrev pub ring_after : {V M : Type 0} → Ring V M → List (Datagram M) → RingFate → Ring V M
 ring_after ns ds RingFate.Back = all_meet ns ds
 ring_after ns ds (RingFate.Lost after) = first_meet after ns ds
 
--- the frame as it comes back; nothing of a lost frame
+-- a frame as it comes back from all slaves
 abbrev pub all_back : {V M : Type 0} → Ring V M → List (Datagram M) → List (Datagram M)
 all_back [] ds = ds
 all_back (n ∷ ns) ds = all_back ns (frame_after n.0 n.1 ds)
 
+-- what comes back of a frame of this fate: nothing of a lost one
 abbrev pub ring_back : {V M : Type 0} → Ring V M → List (Datagram M) → RingFate → List (Datagram M)
 ring_back ns ds RingFate.Back = all_back ns ds
 ring_back ns ds (RingFate.Lost after) = []

@@ -13,13 +13,15 @@ sides_next x frame [] cs = []
 sides_next x frame (d ∷ ds) [] = d ∷ ds
 sides_next x frame (d ∷ ds) (c ∷ cs) = (d.0, side_next x frame d.1 c) ∷ sides_next x frame ds cs
 
--- behind a frame that came back, and behind a lost one
+-- all sides behind a frame that came back
 abbrev pub sides_back : {V A M Q R : Type 0} → Exchange V A M Q R → ℕ → List (Datagram M) → List (ℕ × Side M Q R) → List (ℕ × Side M Q R)
 sides_back x frame back ds = map (λ d. (d.0, side_back x frame d.0 back d.1)) ds
 
+-- all sides behind a lost frame
 abbrev pub sides_lost : {M Q R : Type 0} → List (Datagram M) → List (ℕ × Side M Q R) → List (ℕ × Side M Q R)
 sides_lost sent ds = map (λ d. (d.0, side_lost d.0 sent d.1)) ds
 
+-- all sides behind a frame of this fate
 abbrev pub sides_after : {V A M Q R : Type 0} → Exchange V A M Q R → ℕ → List (Datagram M) → RingFate → List (Datagram M) → List (ℕ × Side M Q R) → List (ℕ × Side M Q R)
 sides_after x frame sent RingFate.Back back ds = sides_back x frame back ds
 sides_after x frame sent (RingFate.Lost after) back ds = sides_lost sent ds

@@ -7,6 +7,7 @@ pub data SwitchEvent (P : Type 0) : Type 0 where
   Begun : ℕ → SwitchEvent P
   Down : ℕ → SwitchEvent P
 
+-- an event with its number
 pub record Numbered (P : Type 0) : Type 0 where
   pub event : SwitchEvent P
   pub number : ℕ

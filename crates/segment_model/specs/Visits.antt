@@ -19,6 +19,7 @@ pub record Tour : Type 0 where
   pub again : Option (List ℕ)
   pub missed : ℕ
 
+-- at the start nobody is brought up
 abbrev pub new_tour : List Stop → Tour
 new_tour stops = record { opening = stops; live = stops; last = None; again = None; missed = 0 }
 
@@ -34,6 +35,7 @@ addressed ring (Address.Station station) = station ∷ []
 addressed ring (Address.Place n) = station_at ring n
 addressed ring Address.Passed = []
 
+-- the stations that a frame carries datagrams for
 abbrev pub carried : {M : Type 0} → List Stop → List (Datagram M) → List ℕ
 carried ring [] = []
 carried ring (d ∷ ds) = addressed ring d.address ++ carried ring ds
@@ -43,6 +45,7 @@ abbrev pub split_behind : ℕ → List Stop → List Stop → List Stop
 split_behind last passed [] = passed
 split_behind last passed (s ∷ ss) = if s.station == last then ss ++ passed ++ s ∷ [] else split_behind last (passed ++ s ∷ []) ss
 
+-- a round of the live slaves
 abbrev pub round : Option ℕ → List Stop → List Stop
 round None live = live
 round (Some last) live = split_behind last [] live
@@ -54,6 +57,7 @@ Fills size (s ∷ ss) [] = 1486 < size + s.area
 Fills size [] (c ∷ cs) = ⊥
 Fills size (s ∷ ss) (c ∷ cs) = (s.station ≡ c) × Fills size ss cs
 
+-- and it carries at least one
 abbrev pub Carries : ℕ → List Stop → List ℕ → Type 0
 Carries size ss [] = ⊥
 Carries size ss (c ∷ cs) = Fills size ss (c ∷ cs)
@@ -75,6 +79,7 @@ shows state (News.Heard m ∷ ns) = shows state ns
 shows state (News.NothingRead ∷ ns) = shows state ns
 shows state (News.BoxFull full ∷ ns) = shows state ns
 
+-- the slaves that are still to be brought up behind a returned frame
 abbrev pub opening_after : {M : Type 0} → List (Datagram M) → List Stop → List Stop
 opening_after back [] = []
 opening_after back (s ∷ ss) = if shows s.state (back_news s.station 0 back) then ss else s ∷ ss
@@ -84,9 +89,11 @@ abbrev pub is_among : ℕ → List ℕ → Bool
 is_among n [] = false
 is_among n (m ∷ ms) = if m == n then true else is_among n ms
 
+-- all slaves but these
 abbrev pub without : List ℕ → List Stop → List Stop
 without gone ss = filter (λ s. not (is_among s.station gone)) ss
 
+-- the last of these, or the one before
 abbrev pub last_of : Option ℕ → List ℕ → Option ℕ
 last_of last [] = last
 last_of last (c ∷ cs) = last_of (Some c) cs
@@ -111,3 +118,28 @@ Visits size retry ring t [] = ⊤
 Visits size retry ring t (f ∷ fs) =
     IsVisit (size f.sent) t.again t.opening (round t.last t.live) (carried ring f.sent)
     × Visits size retry ring (tour_after retry t (carried ring f.sent) f f.fate) fs
+
+-- this station is none of these
+abbrev pub Absent : ℕ → List ℕ → Type 0
+Absent n [] = ⊤
+Absent n (m ∷ ms) = ((m == n) ≡ false) × Absent n ms
+
+-- no frame of these carries this station
+abbrev pub NeverCarried : {M : Type 0} → List Stop → ℕ → List (Frame M) → Type 0
+NeverCarried ring n [] = ⊤
+NeverCarried ring n (f ∷ fs) = Absent n (carried ring f.sent) × NeverCarried ring n fs
+
+-- the tour behind these frames
+abbrev pub tour_over : {M : Type 0} → ℕ → List Stop → Tour → List (Frame M) → Tour
+tour_over retry ring t [] = t
+tour_over retry ring t (f ∷ fs) = tour_over retry ring (tour_after retry t (carried ring f.sent) f f.fate) fs
+
+-- a frame was lost
+abbrev pub IsLost : RingFate → Type 0
+IsLost RingFate.Back = ⊥
+IsLost (RingFate.Lost after) = ⊤
+
+-- each of these was lost, and carried just these slaves
+abbrev pub AllLost : {M : Type 0} → List Stop → List ℕ → List (Frame M) → Type 0
+AllLost ring cs [] = ⊤
+AllLost ring cs (f ∷ fs) = (IsLost f.fate × (carried ring f.sent ≡ cs)) × AllLost ring cs fs

@@ -1,14 +1,18 @@
 //! The laws of a session with a segment. Each function does nothing and carries laws as its contract.
 
-ghost use Rattle.std.specs.Prelude.{◌≡◌, ◌≤◌, ℕ, Bool, List, [], ◌∷◌, ◌++◌, length};
+ghost use Rattle.std.specs.Prelude.{◌≡◌, ◌≤◌, ℕ, Bool, true, false, nat_lt, Option, None, List, [], ◌∷◌, ◌++◌, length, drop, ◌-◌};
 ghost use Rattle.exchange_model.specs.Exchange.{Exchange, IsLawful};
-ghost use Rattle.segment_model.specs.Slaves.{Registers, Ring, Move, ring_after, ring_back, ring_steps, replayed, paced};
-ghost use Rattle.segment_model.specs.Record.{Frame, frame_of, recorded, sent_fates, news_from, first_end};
+ghost use Rattle.exchange_model.specs.Rows.{answer_after};
+ghost use Rattle.segment_model.specs.Slaves.{Registers, Datagram, Ring, Move, ring_after, ring_back, ring_steps, replayed, paced};
+ghost use Rattle.segment_model.specs.Record.{Frame, frame_of, recorded, sent_fates, news_from, first_end, frame_news, kept_all, nothing_kept, joined};
 ghost use Rattle.segment_model.specs.Ends.{Task, ends};
 ghost use Rattle.segment_model.specs.GiveUps.{NoneFor};
 ghost use Rattle.segment_model.specs.Seats.{Side, Choice, Turn, Planned, IsPlan, MayRun, run, new_session, ring_of, sides_of, moves};
 ghost use Rattle.segment_model.specs.Split.{IsBound, IsFrameOf, sides_next, sides_after};
-ghost use Rattle.segment_model.specs.Laws.{EachOf, Promised, HandedBy, RestsIf};
+ghost use Rattle.link_model.specs.Segment.{RingFate};
+ghost use Rattle.segment_model.specs.Visits.{Stop, Tour, Visits, NeverCarried, AllLost, carried, is_among, new_tour, tour_over};
+ghost use Rattle.segment_model.specs.Books.{PastEnded, EndedIf};
+ghost use Rattle.segment_model.specs.Laws.{EachOf, Promised, HandedBy, KnowsCounters, RestsIf};
 
 /// What a session promises of each slave of its plan, with the master's side of it, the slave and the frames as they have come to be.
 pub fn session_law<V, A, M, Q, R>()
@@ -22,6 +26,14 @@ pub fn session_law<V, A, M, Q, R>()
     // and the write of the last one came back done. A mail of the row before that is still held is none of its mails.
     ensures handed { (x : Exchange V A M Q R) → IsLawful x → (more : M → Bool) (carry : Registers → Registers) (ps : List (Planned V)) → IsPlan x ps →
         (ds : List (ℕ × Side M Q R)) (ns : Ring V M) (fs : List (Frame M)) → IsBound x carry ps ds ns fs → EachOf (HandedBy x more fs) ps ds ns }
+
+    // Only the newest service of a slave can be in doubt, and none where nothing is in hand.
+    ensures in_doubt { (x : Exchange V A M Q R) → IsLawful x → (more : M → Bool) (carry : Registers → Registers) (ps : List (Planned V)) → IsPlan x ps →
+        (ds : List (ℕ × Side M Q R)) (ns : Ring V M) (fs : List (Frame M)) → IsBound x carry ps ds ns fs → EachOf (PastEnded x more fs) ps ds ns × EachOf (EndedIf x more fs) ps ds ns }
+
+    // The halves know the counters of the record, so a master can tell the news of a frame by its own state.
+    ensures counters { (x : Exchange V A M Q R) → IsLawful x → (carry : Registers → Registers) (ps : List (Planned V)) → IsPlan x ps →
+        (ds : List (ℕ × Side M Q R)) (ns : Ring V M) (fs : List (Frame M)) → IsBound x carry ps ds ns fs → EachOf (KnowsCounters fs) ps ds ns }
 
     // Where a slave is settled and the master wants nothing of it, all its rows are carried out, and all emissions were heard.
     ensures rests { (x : Exchange V A M Q R) → IsLawful x → (carry : Registers → Registers) (ps : List (Planned V)) → IsPlan x ps →
@@ -56,8 +68,30 @@ pub fn split_law<V, A, M, Q, R>()
         let new = new_session {M = M} {Q = Q} {R = R} ps in MayRun x carry new ts → let w = run x carry new ts in IsBound x carry ps (sides_of w.seats) (ring_of w.seats) w.frames }
 {}
 
+/// An outcome, of a task of whichever kind, frame by frame: there is none before its first frame, and one frame more completes it by the news
+/// of that frame behind those before, or leaves the outcome that is there.
+pub fn outcome_law<V, A, M, Q, R>()
+    ensures begins { (x : Exchange V A M Q R) (more : M → Bool) (task : Task M Q) (station : ℕ) (fs : List (Frame M)) → first_end (ends x more task) (length fs) [] (news_from station (length fs) fs) ≡ None }
+    ensures grows { (x : Exchange V A M Q R) (more : M → Bool) (task : Task M Q) (station frame : ℕ) (fs : List (Frame M)) (f : Frame M) → frame ≤ length fs →
+        first_end (ends x more task) frame [] (news_from station frame (fs ++ f ∷ [])) ≡
+        answer_after (length fs) (first_end (ends x more task) frame [] (news_from station frame fs)) (ends x more task (joined (news_from station frame fs) ++ frame_news station (kept_all station nothing_kept fs) f)) }
+{}
+
 /// A give-up: frames that carry nothing for a slave complete nothing, so what its tasks come to is told by the frames before.
 pub fn give_up_law<V, A, M, Q, R>()
     ensures { (x : Exchange V A M Q R) → IsLawful x → (more : M → Bool) (task : Task M Q) (station frame : ℕ) (front behind : List (Frame M)) → frame ≤ length front → NoneFor station behind →
         first_end (ends x more task) frame [] (news_from station frame (front ++ behind)) ≡ first_end (ends x more task) frame [] (news_from station frame front) }
+{}
+
+/// Visits: behind a lost frame, by which no slave is given up, the next frame carries the same slaves; and no frame behind a give-up carries a
+/// slave that was given up.
+pub fn visit_law<M>()
+    ensures again { (size : List (Datagram M) → ℕ) (retry after : ℕ) (ring : List Stop) (t : Tour) (f g : Frame M) (fs : List (Frame M)) → Visits size retry ring t (f ∷ g ∷ fs) →
+        f.fate ≡ RingFate.Lost after → nat_lt t.missed retry ≡ true → carried ring g.sent ≡ carried ring f.sent }
+    ensures gone { (size : List (Datagram M) → ℕ) (retry station after : ℕ) (ring : List Stop) (t : Tour) (f : Frame M) (fs : List (Frame M)) → Visits size retry ring t (f ∷ fs) →
+        f.fate ≡ RingFate.Lost after → nat_lt t.missed retry ≡ false → is_among station (carried ring f.sent) ≡ true → NeverCarried ring station fs }
+
+    // So a slave is given up only by a lost frame behind `retry` lost frames in a row, each of which carried the same slaves.
+    ensures missed { (size : List (Datagram M) → ℕ) (retry : ℕ) (ring stops : List Stop) (front : List (Frame M)) (f : Frame M) → Visits size retry ring (new_tour stops) (front ++ f ∷ []) →
+        nat_lt (tour_over retry ring (new_tour stops) front).missed retry ≡ false → (retry ≤ length front) × AllLost ring (carried ring f.sent) (drop (length front - retry) front) }
 {}

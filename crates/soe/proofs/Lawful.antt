@@ -1,13 +1,16 @@
 -- The table of IDNs is a lawful one: elements are short, codes have 16 bits, and a write leaves IDNs.
-use Rattle.std.proofs.Common.{◌≡◌, ℕ, ◌<◌, ◌≤◌, Bool, true, false, not, ◌&&◌, nat_lt, nat_le, List, [], ◌∷◌, length, Option, None, Some, Result, Ok, Err, refl, sym, ◌∙◌, subst, arith, if◌then◌else◌, leb-true, le-leb, ltb-false}
-use Rattle.std.specs.Map.{lookup, set_value}
+use Rattle.std.proofs.Common.{◌≡◌, ℕ, ◌<◌, ◌≤◌, Bool, true, false, not, ◌&&◌, nat_lt, nat_le, List, [], ◌∷◌, length, Option, None, Some, Result, Ok, Err, refl, sym, ap, ◌∙◌, subst, arith, if◌then◌else◌, leb-true, le-leb, ltb-false}
+use Rattle.std.specs.List.{list_all}
+use Rattle.std.specs.Map.{lookup, set_value, keys_of}
+use Rattle.std.proofs.lemmas.Map.{keys-set_value}
 use Rattle.std.proofs.lemmas.Map.Entries.{lookup_head, lookup_tail}
 use Rattle.byteorder.specs.Endian.{little_bytes}
 use Rattle.byteorder.specs.Numbers.{length-bytes_low_first}
 use Rattle.soe_model.specs.Elements.{Target, AreLawful}
 use Rattle.soe.specs.declared.element.Element.{Element}
 use Rattle.soe.specs.declared.element.Element.TheVariants.{State, Name, Attribute, Unit as UnitOf, Minimum, Maximum, Value}
-use Rattle.soe.specs.Idns.{Kept, Key, Table, is_text, is_sized, is_bound, is_idn, are_idns, is_key, idn_at, element_of, there, bound_octets, element_read, read_by, value_code, is_under, is_over, write_code_by, write_code_at, stored, written_by, idn_elements}
+use Rattle.soe.specs.Idns.{Kept, Key, Table, is_text, is_sized, is_bound, is_idn, is_rising, is_row, are_idns, is_key, idn_at, element_of, there, bound_octets, element_read, read_by, value_code, is_under, is_over, write_code_by, write_code_at, stored, written_by, idn_elements}
+use Rattle.soe.proofs.Placed.{both, both_are}
 use Rattle.soe.proofs.Tables.{value_by, value_found}
 
 -- a number in n octets has n of them
@@ -20,36 +23,36 @@ some_kept i = Some i
 some_same : (i j : Kept) → some_kept i ≡ some_kept j → i ≡ j
 some_same i j e = cc
 
-both_are : (a b : Bool) → (a && b) ≡ true → (a ≡ true) × (b ≡ true)
-both_are true b e = (refl, e)
-both_are false b e = absurd (cc)
-
-both : (a b : Bool) → a ≡ true → b ≡ true → (a && b) ≡ true
-both true true x y = refl
-both true false x y = y
-both false b x y = x
-
 -- what is found among IDNs is one
-found_is : (test : Key → Bool) (idns : Table) (i : Kept) → are_idns idns ≡ true → lookup test idns ≡ Some i → is_idn i ≡ true
-found_is test [] i all e = absurd (cc)
-found_is test (x ∷ xs) i all e =
-    let now = both_are (is_idn x.1) (are_idns xs) all in
-    by (test x.0) refl now.0 (λ rest. found_is test xs i now.1 rest)
+found_in : (test : Key → Bool) (rows : Table) (i : Kept) → list_all is_row rows ≡ true → lookup test rows ≡ Some i → is_idn i ≡ true
+found_in test [] i all e = absurd (cc)
+found_in test (x ∷ xs) i all e =
+    let now = both_are (is_row x) (list_all is_row xs) all in
+    by (test x.0) refl now.0 (λ rest. found_in test xs i now.1 rest)
   where
     by : (b : Bool) → test x.0 ≡ b → is_idn x.1 ≡ true → (lookup test xs ≡ Some i → is_idn i ≡ true) → is_idn i ≡ true
     by true here is go = subst (λ k. is_idn k ≡ true) (some_same x.1 i (sym (lookup_head test x xs here) ∙ e)) is
     by false here is go = go (sym (lookup_tail test x xs here) ∙ e)
 
+found_is : (test : Key → Bool) (idns : Table) (i : Kept) → are_idns idns ≡ true → lookup test idns ≡ Some i → is_idn i ≡ true
+found_is test idns i all e = found_in test idns i (both_are (is_rising (keys_of idns)) (list_all is_row idns) all).1 e
+
 -- IDNs of which one has changed
-set_are : (test : Key → Bool) (idns : Table) (i : Kept) → is_idn i ≡ true → are_idns idns ≡ true → are_idns (set_value test idns i) ≡ true
-set_are test [] i is all = refl
-set_are test (x ∷ xs) i is all =
-    let now = both_are (is_idn x.1) (are_idns xs) all in by (test x.0) now.0 now.1 (set_are test xs i is now.1)
+set_rows : (test : Key → Bool) (rows : Table) (i : Kept) → is_idn i ≡ true → list_all is_row rows ≡ true → list_all is_row (set_value test rows i) ≡ true
+set_rows test [] i is all = refl
+set_rows test (x ∷ xs) i is all =
+    let now = both_are (is_row x) (list_all is_row xs) all in by (test x.0) now.0 now.1 (set_rows test xs i is now.1)
   where
-    by : (b : Bool) → is_idn x.1 ≡ true → are_idns xs ≡ true → are_idns (set_value test xs i) ≡ true →
-        are_idns (if b then (x.0, i) ∷ xs else x ∷ set_value test xs i) ≡ true
-    by true here rest done = both (is_idn i) (are_idns xs) is rest
-    by false here rest done = both (is_idn x.1) (are_idns (set_value test xs i)) here done
+    by : (b : Bool) → is_idn x.1 ≡ true → list_all is_row xs ≡ true → list_all is_row (set_value test xs i) ≡ true →
+        list_all is_row (if b then (x.0, i) ∷ xs else x ∷ set_value test xs i) ≡ true
+    by true here rest done = both (is_idn i) (list_all is_row xs) is rest
+    by false here rest done = both (is_idn x.1) (list_all is_row (set_value test xs i)) here done
+
+set_are : (test : Key → Bool) (idns : Table) (i : Kept) → is_idn i ≡ true → are_idns idns ≡ true → are_idns (set_value test idns i) ≡ true
+set_are test idns i is all =
+    let now = both_are (is_rising (keys_of idns)) (list_all is_row idns) all in
+    both (is_rising (keys_of (set_value test idns i))) (list_all is_row (set_value test idns i))
+    (ap is_rising (keys-set_value test idns i) ∙ now.0) (set_rows test idns i is now.1)
 
 -- the parts of what is_idn says
 record Is (i : Kept) : Type 0 where

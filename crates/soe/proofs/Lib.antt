@@ -1,3 +1,4 @@
+pub mod Placed
 pub mod Tables
 pub mod Parts
 pub mod Joins

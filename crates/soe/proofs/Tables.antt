@@ -1,24 +1,9 @@
--- Tables of IDNs: what a look-up finds, and what an insert and a write leave.
-use Rattle.std.proofs.Common.{◌≡◌, ℕ, Bool, true, false, ◌&&◌, List, [], ◌∷◌, ◌++◌, Option, None, Some, Ok, Err, refl, sym, ap, ◌∙◌}
+-- Tables of IDNs: what a look-up finds, and what a write leaves.
+use Rattle.std.proofs.Common.{◌≡◌, ℕ, List, Option, None, Some, Ok, Err, sym, ap, ◌∙◌}
 use Rattle.soe_model.specs.Elements.{Target}
 use Rattle.soe.specs.declared.element.Element.{Element}
 use Rattle.soe.specs.declared.element.Element.TheVariants.{State, Name, Attribute, Unit as UnitOf, Minimum, Maximum, Value}
-use Rattle.soe.specs.Idns.{Kept, Key, Table, is_idn, are_idns, idn_at, element_of, value_code, write_code, write_code_by, write_code_at, stored, written_by, write_at}
-
-both : (a b : Bool) → a ≡ true → b ≡ true → (a && b) ≡ true
-both true true x y = refl
-both true false x y = y
-both false b x y = x
-
-both_are : (a b : Bool) → (a && b) ≡ true → (a ≡ true) × (b ≡ true)
-both_are true b e = (refl, e)
-both_are false b e = absurd (cc)
-
--- an IDN added to IDNs
-pub idns_added : (idns : Table) (key : Key) (i : Kept) → is_idn i ≡ true → are_idns idns ≡ true → are_idns (idns ++ (key, i) ∷ []) ≡ true
-idns_added [] key i is all = both (is_idn i) true is refl
-idns_added (e ∷ es) key i is all =
-    let now = both_are (is_idn e.1) (are_idns es) all in both (is_idn e.1) (are_idns (es ++ (key, i) ∷ [])) now.0 (idns_added es key i is now.1)
+use Rattle.soe.specs.Idns.{Kept, Table, idn_at, element_of, value_code, write_code, write_code_by, write_code_at, stored, written_by, write_at}
 
 -- what isn't refused is a value
 pub value_by : (i : Kept) (element : Option Element) (bytes : List ℕ) → write_code_by (Some i) element bytes ≡ None → value_code i bytes ≡ None

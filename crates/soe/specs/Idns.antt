@@ -1,6 +1,7 @@
 -- The IDNs of a slave on whole elements: what is kept of each, and each service on them with its codes in their order.
-use Rattle.std.specs.Prelude.{◌≡◌, ℕ, ◌^◌, ◌==◌, ◌&&◌, not, nat_eq, nat_le, nat_lt, Bool, true, false, List, [], ◌∷◌, length, if◌then◌else◌, Option, None, Some, Result, Ok, Err}
-use Rattle.std.specs.Map.{lookup, set_value}
+use Rattle.std.specs.Prelude.{◌≡◌, ℕ, ◌^◌, ◌==◌, ◌&&◌, ◌||◌, not, nat_eq, nat_le, nat_lt, Bool, true, false, List, [], ◌∷◌, length, if◌then◌else◌, Option, None, Some, Result, Ok, Err}
+use Rattle.std.specs.List.{list_all}
+use Rattle.std.specs.Map.{lookup, set_value, keys_of}
 use Rattle.byteorder.specs.Endian.{little_bytes, little_number}
 use Rattle.soe_model.specs.Elements.{Target, Elements}
 use Rattle.soe.specs.declared.element.Element.{Element}
@@ -60,9 +61,27 @@ is_bound i (Some b) = i.least == i.most && nat_le i.most 8 && nat_lt b (256 ^ i.
 abbrev pub is_idn : Kept → Bool
 is_idn i = is_text i.label && is_text i.unit && is_sized i && is_bound i i.min && is_bound i i.max
 
+-- by drive, then by number
+abbrev pub is_below : Key → Key → Bool
+is_below key k = nat_lt key.0 k.0 || nat_eq key.0 k.0 && nat_lt key.1 k.1
+
+-- every one is above the one before
+abbrev pub is_rising : List Key → Bool
+is_rising [] = true
+is_rising (key ∷ keys) = list_all (is_below key) keys && is_rising keys
+
+-- a key with its IDN
+abbrev pub is_row : Key × Kept → Bool
+is_row row = is_idn row.1
+
+-- the IDNs that a table may have: each as one may be described, by rising drive and number
 abbrev pub are_idns : Table → Bool
-are_idns [] = true
-are_idns (e ∷ es) = is_idn e.1 && are_idns es
+are_idns idns = is_rising (keys_of idns) && list_all is_row idns
+
+-- a table with one IDN more, at its place among the keys
+abbrev pub placed : Key → Kept → Table → Table
+placed key i [] = (key, i) ∷ []
+placed key i (row ∷ rows) = if is_below key row.0 then (key, i) ∷ row ∷ rows else row ∷ placed key i rows
 
 -- the element of flags of which exactly one of the bits 0 to 6 is set
 abbrev pub element_of : ℕ → Option Element

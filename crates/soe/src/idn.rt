@@ -1,6 +1,11 @@
 ghost use Rattle.std.specs.Prelude.{◌≡◌, ◌≤◌, ℕ, List, [], true, length, IfOk, Some, None};
 ghost use Rattle.soe.specs.Idns.{idn_of, is_idn, is_bound, Reads, there, bound_octets, element_read, is_under, is_over, value_code, write_code};
 
+use crate::codes::{
+    ATTRIBUTE_READ_ONLY, MAXIMUM_READ_ONLY, MINIMUM_READ_ONLY, NAME_READ_ONLY, NO_ELEMENT,
+    NO_MAXIMUM, NO_MINIMUM, NO_NAME, NO_UNIT, UNIT_READ_ONLY, VALUE_READ_ONLY, VALUE_TOO_LARGE,
+    VALUE_TOO_LONG, VALUE_TOO_SHORT, VALUE_TOO_SMALL,
+};
 use crate::element::Element;
 use crate::spec::IdnSpec;
 use byteorder::{ByteOrder, LittleEndian};
@@ -118,11 +123,11 @@ impl Idn {
     {
         match element {
             Element::State => put(into, &[0, 0]),
-            Element::Name => put_there(into, 0x2001, &self.label),
+            Element::Name => put_there(into, NO_NAME, &self.label),
             Element::Attribute => put(into, &self.attribute.to_le_bytes()),
-            Element::Unit => put_there(into, 0x4001, &self.unit),
-            Element::Minimum => self.read_bound(self.min, 0x5001, into),
-            Element::Maximum => self.read_bound(self.max, 0x6001, into),
+            Element::Unit => put_there(into, NO_UNIT, &self.unit),
+            Element::Minimum => self.read_bound(self.min, NO_MINIMUM, into),
+            Element::Maximum => self.read_bound(self.max, NO_MAXIMUM, into),
             Element::Value => put(into, self.value.bytes()),
         }
     }
@@ -156,19 +161,19 @@ impl Idn {
         ensures { result ≡ value_code self.now bytes.now }
     {
         if !self.writable {
-            return Some(0x7004);
+            return Some(VALUE_READ_ONLY);
         }
         if bytes.len() < self.least as usize {
-            return Some(0x7002);
+            return Some(VALUE_TOO_SHORT);
         }
         if bytes.len() > self.most as usize {
-            return Some(0x7003);
+            return Some(VALUE_TOO_LONG);
         }
         if self.is_under(bytes) {
-            return Some(0x7006);
+            return Some(VALUE_TOO_SMALL);
         }
         if self.is_over(bytes) {
-            return Some(0x7007);
+            return Some(VALUE_TOO_LARGE);
         }
         None
     }
@@ -179,12 +184,12 @@ impl Idn {
     {
         let _ = &self.most;
         match element {
-            Element::State => Some(0x1009),
-            Element::Name => Some(0x2004),
-            Element::Attribute => Some(0x3004),
-            Element::Unit => Some(0x4004),
-            Element::Minimum => Some(0x5004),
-            Element::Maximum => Some(0x6004),
+            Element::State => Some(NO_ELEMENT),
+            Element::Name => Some(NAME_READ_ONLY),
+            Element::Attribute => Some(ATTRIBUTE_READ_ONLY),
+            Element::Unit => Some(UNIT_READ_ONLY),
+            Element::Minimum => Some(MINIMUM_READ_ONLY),
+            Element::Maximum => Some(MAXIMUM_READ_ONLY),
             Element::Value => self.value_code(bytes),
         }
     }

@@ -1,6 +1,9 @@
-ghost use Rattle.std.specs.Prelude.{◌≡◌, ◌≤◌, [], ◌∷◌, ◌++◌, true, length, IsTrue, ◌↔◌, IfOk, OnOk, OnErr, None};
-ghost use Rattle.soe.specs.Idns.{key_of, idn_of, is_idn, are_idns, target, idn_at, write_code_at, read_at, write_at, Reads, Stores};
+ghost use Rattle.std.specs.Prelude.{◌≡◌, ◌≤◌, [], true, length, IsTrue, ◌↔◌, IfOk, OnOk, OnErr, None};
+ghost use Rattle.std.specs.List.{position_or_len};
+ghost use Rattle.std.specs.Map.{keys_of};
+ghost use Rattle.soe.specs.Idns.{key_of, idn_of, is_idn, is_below, are_idns, placed, target, idn_at, write_code_at, read_at, write_at, Reads, Stores};
 
+use crate::codes::{NO_ELEMENT, NO_IDN};
 use crate::element::element_of;
 use crate::idn::Idn;
 use crate::spec::IdnSpec;
@@ -9,7 +12,7 @@ use indexmap::IndexMap;
 use std::alloc::Global;
 use std::marker::Model;
 
-/// The IDNs of a slave, by drive and number. The room for each value is taken when its IDN is inserted.
+/// The IDNs of a slave, in rising order of drive and number. The room for each value is taken when its IDN is inserted.
 #[derive(Debug, Drop)]
 pub struct IdnTable {
     alloc: Global,
@@ -27,6 +30,27 @@ impl Model for IdnTable {
     ghost invariant = { λ t. are_idns t.idns.entries ≡ true };
 }
 
+// Whether an IDN stands ahead of another: by drive, then by number.
+fn is_ahead(key: (u8, u16), other: (u8, u16)) -> bool
+    ensures { result ≡ is_below key other }
+{
+    key.0 < other.0 || key.0 == other.0 && key.1 < other.1
+}
+
+// Where the first IDN is that a key stands ahead of.
+fn place_above(idns: &IndexMap<(u8, u16), Idn>, key: (u8, u16)) -> usize
+    ensures { result ≡ position_or_len (is_below key) (keys_of idns.now.entries) }
+{
+    for at in 0..idns.len() {
+        if let Some((other, _)) = idns.get_index(at) {
+            if is_ahead(key, *other) {
+                return at;
+            }
+        }
+    }
+    idns.len()
+}
+
 impl IdnTable {
     /// A table without IDNs.
     pub fn new(alloc: Global) -> Result<IdnTable, NoMemory>
@@ -36,18 +60,18 @@ impl IdnTable {
         Ok(IdnTable { alloc, idns })
     }
 
-    /// Adds an IDN with its value. After `NoMemory` the table is as before.
+    /// Adds an IDN with its value, at its place among drives and numbers. After `NoMemory` the table is as before.
     pub fn insert(&mut self, spec: &IdnSpec) -> Result<(), NoMemory>
         requires is { is_idn (idn_of spec.now) ≡ true }
         requires fresh { idn_at self.old (target spec.now.drive spec.now.number 0) ≡ None }
-        ensures added { OnOk result (self.new ≡ self.old ++ (key_of spec.now, idn_of spec.now) ∷ []) }
+        ensures added { OnOk result (self.new ≡ placed (key_of spec.now) (idn_of spec.now) self.old) }
         ensures err { OnErr result (self.new ≡ self.old) }
     {
         let idn = Idn::new(self.alloc, spec)?;
-        match self.idns.insert((spec.drive, spec.number), idn) {
-            Ok(_) => Ok(()),
-            Err(_) => Err(NoMemory),
-        }
+        let key = (spec.drive, spec.number);
+        let place = place_above(&self.idns, key);
+        self.idns.shift_insert(place, key, idn)?;
+        Ok(())
     }
 
     /// How many IDNs there are.
@@ -81,9 +105,9 @@ impl IdnTable {
     {
         into.clear();
         match self.idns.get(&(drive, idn)) {
-            None => Some(0x1001),
+            None => Some(NO_IDN),
             Some(kept) => match element_of(elements) {
-                None => Some(0x1009),
+                None => Some(NO_ELEMENT),
                 Some(element) => kept.read(element, into),
             },
         }
@@ -94,9 +118,9 @@ impl IdnTable {
         ensures { result ≡ write_code_at (idn_at self.now (target drive idn elements)) (target drive idn elements) bytes.now }
     {
         match self.idns.get(&(drive, idn)) {
-            None => Some(0x1001),
+            None => Some(NO_IDN),
             Some(kept) => match element_of(elements) {
-                None => Some(0x1009),
+                None => Some(NO_ELEMENT),
                 Some(element) => kept.write_code(element, bytes),
             },
         }

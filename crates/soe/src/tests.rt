@@ -1,4 +1,5 @@
-ghost use Rattle.std.specs.Prelude.{◌≡◌, ◌≤◌, true, length, IfOk};
+ghost use Rattle.std.specs.Prelude.{◌≡◌, ◌≤◌, [], ◌∷◌, true, length, IfOk};
+ghost use Rattle.std.specs.Map.{keys_of};
 ghost use Rattle.soe.specs.Idns.{idn_of, is_idn, key_of};
 
 use crate::*;
@@ -59,14 +60,16 @@ fn octets(
     })
 }
 
-// The integer, IDN 200 that may be written, and IDN 7 of drive 3 that may not.
-fn idns(alloc: Global) -> Result<IdnTable, NoMemory> {
+// IDN 200 that may be written, IDN 7 of drive 3 that may not, and the integer. They are kept in rising order.
+fn idns(alloc: Global) -> Result<IdnTable, NoMemory>
+    ensures { IfOk result (λ t. keys_of t ≡ (0, 100) ∷ (0, 200) ∷ (3, 7) ∷ []) }
+{
     let mut idns = IdnTable::new(alloc)?;
-    let spec = integer(alloc)?;
-    idns.insert(&spec)?;
     let spec = octets(alloc, 0, 200, 100, true)?;
     idns.insert(&spec)?;
     let spec = octets(alloc, 3, 7, 2, false)?;
+    idns.insert(&spec)?;
+    let spec = integer(alloc)?;
     idns.insert(&spec)?;
     Ok(idns)
 }

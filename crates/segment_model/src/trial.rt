@@ -1,0 +1,99 @@
+//! A try: a session's step over any master and any wire, at the toy exchange. Nothing calls it; it shows that the contracts of a master and a
+//! wire compose.
+
+ghost use Rattle.std.specs.Prelude.{◌≡◌, ◌+◌, ℕ, List, [], ◌∷◌, ◌++◌, length, true, false};
+ghost use Rattle.exchange_model.specs.Toy.{Adder, Mail, Service, adder};
+ghost use Rattle.link_model.specs.Segment.{RingFate};
+ghost use Rattle.segment_model.specs.Slaves.{Registers, Datagram};
+ghost use Rattle.segment_model.specs.Record.{Frame};
+ghost use Rattle.segment_model.specs.Seats.{Side, Planned};
+ghost use Rattle.segment_model.specs.Split.{IsBound, sides_after};
+ghost use Rattle.segment_model.specs.Trial.{Came, Stays};
+
+/// A frame, seen as its datagrams.
+pub trait Buffer {
+    ghost use Rattle.std.specs.Prelude.{List};
+    ghost use Rattle.exchange_model.specs.Toy.{Mail};
+    ghost use Rattle.segment_model.specs.Slaves.{Datagram};
+
+    ghost seen: { Self → List (Datagram Mail) };
+}
+
+/// A master: it shows sides, and counts the frames that it made.
+pub trait Master<F: Buffer> {
+    ghost use Rattle.std.specs.Prelude.{◌≡◌, ◌+◌, ℕ, List};
+    ghost use Rattle.exchange_model.specs.Toy.{Mail, Service, adder};
+    ghost use Rattle.segment_model.specs.Seats.{Side, Choice};
+    ghost use Rattle.segment_model.specs.Split.{IsFrameOf, sides_next, sides_back, sides_lost};
+    ghost use Rattle.segment_model.specs.Trial.{Chosen};
+
+    ghost shows: { Self → List (ℕ × Side Mail Service ℕ) → Type 0 };
+
+    ghost made: { Self → ℕ };
+
+    /// Makes the next frame by choices of its own.
+    fn next(&mut self, into: &mut F)
+        ensures chosen { (ds : List (ℕ × Side Mail Service ℕ)) → shows self.old ds → Chosen (made self.old) ds (F.seen into.new) (shows self.new) }
+        ensures made { made self.new ≡ made self.old };
+
+    /// The frame came back.
+    fn returned(&mut self, frame: &F)
+        ensures sides { (ds : List (ℕ × Side Mail Service ℕ)) → shows self.old ds → shows self.new (sides_back adder (made self.old) (F.seen frame.now) ds) }
+        ensures made { made self.new ≡ made self.old + 1 };
+
+    /// The frame was lost.
+    fn lost(&mut self, sent: &F)
+        ensures sides { (ds : List (ℕ × Side Mail Service ℕ)) → shows self.old ds → shows self.new (sides_lost (F.seen sent.now) ds) }
+        ensures made { made self.new ≡ made self.old + 1 };
+}
+
+/// A wire with its ring: it carries a frame, and then processors step.
+pub trait Wire<F: Buffer> {
+    ghost use Rattle.std.specs.Prelude.{◌≡◌, ℕ, List};
+    ghost use Rattle.exchange_model.specs.Toy.{Adder, Mail, adder};
+    ghost use Rattle.link_model.specs.Segment.{RingFate};
+    ghost use Rattle.segment_model.specs.Slaves.{Registers, Ring, ring_after, ring_back, ring_steps};
+    ghost use Rattle.segment_model.specs.Trial.{Came};
+
+    ghost ring: { Self → Ring Adder Mail };
+
+    ghost carry: { Self → Registers → Registers };
+
+    ghost fate: { Self → RingFate };
+
+    ghost steps: { Self → List ℕ };
+
+    /// Whether the frame came back. `fate` and `steps` are those of this call.
+    fn exchange(&mut self, sent: &F, back: &mut F) -> bool
+        ensures ring { ring self.new ≡ ring_steps adder (carry self.old) (ring_after (ring self.old) (F.seen sent.now) (fate self.new)) (steps self.new) }
+        ensures back { F.seen back.new ≡ ring_back (ring self.old) (F.seen sent.now) (fate self.new) }
+        ensures carry { carry self.new ≡ carry self.old }
+        ensures came { Came (fate self.new) result };
+}
+
+/// What a master does by what came of its frame.
+fn go_on<F: Buffer, M: Master<F>>(master: &mut M, returned: bool, sent: &F, back: &F)
+    ensures sides { (ds : List (ℕ × Side Mail Service ℕ)) (fate : RingFate) → Came fate returned → M.shows master.old ds → M.shows master.new (sides_after adder (M.made master.old) (F.seen sent.now) fate (F.seen back.now) ds) }
+    ensures made { M.made master.new ≡ M.made master.old + 1 }
+{
+    if returned {
+        master.returned(back);
+    } else {
+        master.lost(sent);
+    }
+}
+
+/// One step of a session: a master and a wire that are a session stay one, by one frame more.
+pub fn step<F: Buffer, M: Master<F>, W: Wire<F>>(
+    master: &mut M,
+    wire: &mut W,
+    sent: &mut F,
+    back: &mut F,
+)
+    ensures { (ps : List (Planned Adder)) (ds : List (ℕ × Side Mail Service ℕ)) (fs : List (Frame Mail)) → M.shows master.old ds → M.made master.old ≡ length fs → IsBound adder (W.carry wire.old) ps ds (W.ring wire.old) fs →
+        Stays (W.carry wire.new) ps (M.shows master.new) (M.made master.new) (W.ring wire.new) fs (record { sent = F.seen sent.new; fate = W.fate wire.new; back = F.seen back.new }) }
+{
+    master.next(sent);
+    let returned = wire.exchange(sent, back);
+    go_on(master, returned, sent, back);
+}
