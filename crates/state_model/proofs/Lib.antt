@@ -6,3 +6,4 @@ mod Laters
 mod Besides
 mod Servings
 mod ToyRun
+mod Mets

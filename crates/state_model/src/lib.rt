@@ -2,19 +2,20 @@
 //! laws, no running code: the functions here do nothing, and their contracts state the laws.
 #![tactic(auto)]
 
-ghost use Rattle.std.specs.Prelude.{◌≡◌, ◌≤◌, ◌+◌, ◌-◌, ℕ, Bool, true, false, Option, Some, None, List, [], ◌∷◌, ◌++◌, length, take};
+ghost use Rattle.std.specs.Prelude.{◌≡◌, ◌≤◌, ◌+◌, ◌-◌, ℕ, suc, Bool, true, false, Option, Some, None, List, [], ◌∷◌, ◌++◌, length, take};
 ghost use Rattle.exchange_model.specs.Prefix.{IsPrefixOf};
 ghost use Rattle.exchange_model.specs.Exchange.{Exchange, IsLawful, after};
 ghost use Rattle.exchange_model.specs.Rows.{Row, Fits, services};
 ghost use Rattle.exchange_model.specs.Laws.{Moment};
 ghost use Rattle.link_model.specs.Link.{Link};
 ghost use Rattle.link_model.specs.Agree.{Agrees};
-ghost use Rattle.segment_model.specs.Slaves.{Registers, Slave, Datagram, Access, Found, is_meant, datagram_meets};
+ghost use Rattle.segment_model.specs.Slaves.{Registers, Slave, Datagram, Access, Found, is_meant, datagram_meets, slave_after, slave_steps};
 ghost use Rattle.segment_model.specs.Ends.{Task};
 ghost use Rattle.segment_model.specs.Seats.{is_over};
-ghost use Rattle.state_model.specs.States.{Table, Event, run, new_states};
+ghost use Rattle.state_model.specs.States.{Table, Event, carry, word_met, run, new_states};
 ghost use Rattle.state_model.specs.Promises.{IsTable, StatesPromised};
 ghost use Rattle.state_model.specs.Order.{Begun, count_of, done, services_of, Scripted, tasks_of, weighed, servers_behind, EachOne, IsQuiet};
+ghost use Rattle.state_model.specs.Met.{Writes};
 ghost use Rattle.state_model.specs.Together.{Happening, AllMay, all_after, new_beside, AppFits};
 
 /// What state services promise, whatever frames are lost and however slow the slave's processor is. The AL state is the one behind the closed
@@ -22,6 +23,21 @@ ghost use Rattle.state_model.specs.Together.{Happening, AllMay, all_after, new_b
 /// and each answer is what the slave's table says, and what the statuses read for it complete.
 pub fn states_law<M, R>()
     ensures { (table : Table) (start : ℕ) → IsTable table start → (r : Registers) (es : List Event) → StatesPromised table start (run table (new_states {M = M} {R = R} r start) es) }
+{}
+
+/// What frames and steps do to the registers of a slave: the events of state services.
+pub fn register_law<V, A, M, Q, R>()
+    // A slave that meets a frame with the control word of a state service has that word in its register, and all else as it was.
+    ensures written { (station : ℕ) (s : Slave V M) (word : Option (ℕ × Bool)) (ds : List (Datagram M)) → Writes s.registers word ds → (slave_after station s ds).registers ≡ word_met s.registers word }
+
+    // A read of the status shows state and error flag as they stand, and a slave that isn't meant leaves what it shows.
+    ensures status { (station : ℕ) (s : Slave V M) (d : Datagram M) → d.access ≡ Access.ReadState → is_meant s.registers d.address ≡ true →
+        ((datagram_meets station s d).found ≡ Some (Found.State s.registers.state s.registers.refused)) × ((datagram_meets station s d).counter ≡ suc d.counter) }
+    ensures kept { (station : ℕ) (s : Slave V M) (d : Datagram M) → is_meant s.registers d.address ≡ false →
+        ((datagram_meets station s d).found ≡ d.found) × ((datagram_meets station s d).counter ≡ d.counter) }
+
+    // A step of the slave's processor carries out the word, beside its mailboxes.
+    ensures steps { (x : Exchange V A M Q R) (table : Table) (s : Slave V M) → (slave_steps x (carry table) s).registers ≡ carry table s.registers }
 {}
 
 /// The drain: a state service begins to change the state only where the slave has carried out all services by mails before it.
