@@ -7,3 +7,4 @@ mod Besides
 mod Servings
 mod ToyRun
 mod Mets
+mod News

@@ -1,5 +1,6 @@
 -- What state services promise of a slave's AL state and of their answers.
 use Rattle.std.specs.Prelude.{◌≡◌, ◌⊎◌, ℕ, Option, Some, None, List, [], ◌∷◌, ⊤}
+use Rattle.segment_model.specs.Record.{News}
 use Rattle.segment_model.specs.Ends.{Outcome, state_ends}
 use Rattle.state_model.specs.States.{Table, Hand, Closed, States}
 
@@ -53,3 +54,13 @@ pub record StatesPromised {M R : Type 0} (table : Table) (start : ℕ) (w : Stat
   pub stands : Stands table (state_closed table start w.closed) w.hand w.registers.state w.registers.refused
   pub flagged : Flagged table (state_closed table start w.closed) w.hand w.registers.refused
   pub pending : Pending R w.hand
+
+-- the statuses among news
+abbrev pub statuses : {M : Type 0} → List (News M) → List (News M)
+statuses [] = []
+statuses (News.Status state refused ∷ ns) = News.Status state refused ∷ statuses ns
+statuses (News.Told m ∷ ns) = statuses ns
+statuses (News.Written ∷ ns) = statuses ns
+statuses (News.Heard m ∷ ns) = statuses ns
+statuses (News.NothingRead ∷ ns) = statuses ns
+statuses (News.BoxFull full ∷ ns) = statuses ns

@@ -10,10 +10,11 @@ ghost use Rattle.exchange_model.specs.Laws.{Moment};
 ghost use Rattle.link_model.specs.Link.{Link};
 ghost use Rattle.link_model.specs.Agree.{Agrees};
 ghost use Rattle.segment_model.specs.Slaves.{Registers, Slave, Datagram, Access, Found, is_meant, datagram_meets, slave_after, slave_steps};
-ghost use Rattle.segment_model.specs.Ends.{Task};
+ghost use Rattle.segment_model.specs.Ends.{Task, state_ends};
+ghost use Rattle.segment_model.specs.Record.{News};
 ghost use Rattle.segment_model.specs.Seats.{is_over};
 ghost use Rattle.state_model.specs.States.{Table, Event, carry, word_met, run, new_states};
-ghost use Rattle.state_model.specs.Promises.{IsTable, StatesPromised};
+ghost use Rattle.state_model.specs.Promises.{IsTable, StatesPromised, statuses};
 ghost use Rattle.state_model.specs.Order.{Begun, count_of, done, services_of, Scripted, tasks_of, weighed, servers_behind, EachOne, IsQuiet};
 ghost use Rattle.state_model.specs.Met.{Writes};
 ghost use Rattle.state_model.specs.Together.{Happening, AllMay, all_after, new_beside, AppFits};
@@ -22,7 +23,10 @@ ghost use Rattle.state_model.specs.Together.{Happening, AllMay, all_after, new_b
 /// services, or with one in hand that or its target's; a refusal leaves it, raises the error flag with the table's code until the acknowledge,
 /// and each answer is what the slave's table says, and what the statuses read for it complete.
 pub fn states_law<M, R>()
-    ensures { (table : Table) (start : ℕ) → IsTable table start → (r : Registers) (es : List Event) → StatesPromised table start (run table (new_states {M = M} {R = R} r start) es) }
+    ensures promised { (table : Table) (start : ℕ) → IsTable table start → (r : Registers) (es : List Event) → StatesPromised table start (run table (new_states {M = M} {R = R} r start) es) }
+
+    // Of the news that the record has of a slave, the statuses alone complete a state service.
+    ensures statuses { (target : ℕ) (refusal : Option ℕ) (ns : List (News M)) → state_ends {R = R} target refusal ns ≡ state_ends target refusal (statuses ns) }
 {}
 
 /// What frames and steps do to the registers of a slave: the events of state services.
