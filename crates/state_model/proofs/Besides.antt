@@ -1,5 +1,5 @@
 -- What is kept between services by mails and state services, and that application and AL state fit what is done.
-use Rattle.std.proofs.Common.{◌≡◌, ◌⊎◌, inl, inr, ℕ, zero, suc, ◌+◌, ◌-◌, ◌<◌, ◌≤◌, ◌==◌, ◌||◌, Bool, true, false, is_some, Option, Some, None, List, [], ◌∷◌, ◌++◌, take, length, refl, ap, ap₂, sym, ◌∙◌, subst, arith, append-nil, append_assoc, eqb-true}
+use Rattle.std.proofs.Common.{◌≡◌, ◌⊎◌, inl, inr, ℕ, zero, suc, ◌+◌, ◌-◌, ◌<◌, ◌≤◌, ◌==◌, ◌||◌, Bool, true, false, is_some, Option, Some, None, List, [], ◌∷◌, ◌++◌, take, length, refl, ap, ap₂, sym, ◌∙◌, subst, arith, append-nil, append_assoc, eqb-true, length-append}
 use Rattle.std.proofs.lemmas.Bool.Decides.{nat_tests}
 use Rattle.exchange_model.specs.Exchange.{Exchange}
 use Rattle.exchange_model.specs.Rows.{Row, Fits, services, exec_all}
@@ -49,6 +49,21 @@ but_last_push [] x = refl
 but_last_push (y ∷ []) x = refl
 but_last_push (y ∷ (z ∷ more)) x = ap (λ l. y ∷ l) (but_last_push (z ∷ more) x)
 
+posted_count : {M Q : Type 0} (bs : List (Begun M Q)) → Posted bs → length bs ≡ count_of bs
+posted_count bs nil = refl
+posted_count b (one q bs s) = ap suc (posted_count bs s)
+
+-- few of them are not done, and of what stands behind them no more than there is
+posted_near : {M Q : Type 0} (k n : ℕ) (bs more : List (Begun M Q)) → Posted bs → count_of bs ≤ k + n → length (bs ++ more) ≤ length (done k (bs ++ more)) + n + length more
+posted_near k n bs more nil few = omega arith
+posted_near zero n b more (one q bs s) few = let e = posted_count bs s in let l = length-append bs more in omega (arith, few, e, l)
+posted_near (suc k) n b more (one q bs s) few = let e = posted_near k n bs more s (let f : count_of bs ≤ k + n = omega (arith, few) in f) in omega (arith, e)
+
+shorter : {X : Type 0} (xs : List X) → length xs ≤ length (but_last xs) + 1
+shorter [] = omega arith
+shorter (x ∷ []) = omega arith
+shorter (x ∷ (y ∷ more)) = let e = shorter (y ∷ more) in omega (arith, e)
+
 module _ (table : Table) (start : ℕ) (is : IsTable table start) where
   -- nothing in hand
   pub record Free {M Q R : Type 0} (w : Beside M Q R) : Type 0 where
@@ -71,6 +86,7 @@ module _ (table : Table) (start : ℕ) (is : IsTable table start) where
     pub split : w.begun ≡ (front ++ back) ++ by_state target ∷ []
     pub few : count_of front ≤ w.handled
     pub posted : Posted back
+    pub most : count_of (front ++ back) ≤ w.handled + 1
     pub closed : state_closed table start w.states.closed ≡ states_behind table start (front ++ back)
 
   -- a state service is behind its drain
@@ -110,7 +126,7 @@ module _ (table : Table) (start : ℕ) (is : IsTable table start) where
     where
       go : Free w ⊎ (Drains w ⊎ Changes w) → (let n = beside_after table w Happening.Handled in Free n ⊎ (Drains n ⊎ Changes n))
       go (inl f) = inl (record { drains = f.drains; hand = f.hand; front = f.front; back = f.back; split = f.split; few = (let a = f.few in omega (arith, a)); posted = f.posted; closed = f.closed })
-      go (inr (inl d)) = inr (inl (record { target = d.target; drains = d.drains; hand = d.hand; front = d.front; back = d.back; split = d.split; few = (let a = d.few in omega (arith, a)); posted = d.posted; closed = d.closed }))
+      go (inr (inl d)) = inr (inl (record { target = d.target; drains = d.drains; hand = d.hand; front = d.front; back = d.back; split = d.split; few = (let a = d.few in omega (arith, a)); posted = d.posted; most = (let a = d.most in omega (arith, a)); closed = d.closed }))
       go (inr (inr c)) = absurd (let a = c.all in omega (arith, a, may))
 
   state_sound : {M Q R : Type 0} (w : Beside M Q R) (target : ℕ) → Sound w → May w (Happening.State target) → Sound (beside_after table w (Happening.State target))
@@ -126,6 +142,7 @@ module _ (table : Table) (start : ℕ) (is : IsTable table start) where
         split = ap (λ l. l ++ by_state target ∷ []) f.split;
         few = f.few;
         posted = f.posted;
+        most = subst (λ l. count_of l ≤ w.handled + 1) f.split may.2;
         closed = f.closed ∙ ap (states_behind table start) f.split;
       }))
       go (inr (inl d)) = absurd (let a = d.drains in let b = may.0 in cc)
@@ -205,7 +222,7 @@ module _ (table : Table) (start : ℕ) (is : IsTable table start) where
           inl (record { drains = f.drains; hand = i.0; front = f.front; back = f.back; split = f.split; few = f.few; posted = f.posted; closed = ap (state_closed table start) i.1 ∙ f.closed })
       go (inr (inl d)) l =
           let i = idle w.states.hand d.hand l in
-          inr (inl (record { target = d.target; drains = d.drains; hand = i.0; front = d.front; back = d.back; split = d.split; few = d.few; posted = d.posted; closed = ap (state_closed table start) i.1 ∙ d.closed }))
+          inr (inl (record { target = d.target; drains = d.drains; hand = i.0; front = d.front; back = d.back; split = d.split; few = d.few; posted = d.posted; most = d.most; closed = ap (state_closed table start) i.1 ∙ d.closed }))
       go (inr (inr c)) l = changed c (busy w.states.hand c.hand c.same l)
 
   after_sound : {M Q R : Type 0} (w : Beside M Q R) (h : Happening Q) → Sound w → May w h → Sound (beside_after table w h)
@@ -226,24 +243,26 @@ module _ (table : Table) (start : ℕ) (is : IsTable table start) where
     at = inl (record { drains = refl; hand = refl; front = []; back = []; split = refl; few = omega arith; posted = nil; closed = refl });
   }
 
-  -- what is done, with the one in hand left out or not: its services by mails are those of the first part, and its AL state is the slave's
-  record Fitting {M Q : Type 0} (al : ℕ) (first placed : List (Begun M Q)) : Type 0 where
+  -- what is done, with the one in hand left out or not: its services by mails are those of the first part, and its AL state is the slave's;
+  -- and one is left out only where the first part is all
+  record Fitting {M Q : Type 0} (al : ℕ) (all first placed : List (Begun M Q)) : Type 0 where
     services : services_of placed ≡ services_of first
     state : states_behind table start placed ≡ al
+    near : (placed ≡ first) ⊎ (first ≡ all)
 
   -- the first part has no state service in hand, or the AL state is the one behind it
-  plain_fits : {M Q : Type 0} (hand : Bool) (al : ℕ) (first : List (Begun M Q)) → al ≡ states_behind table start first → Fitting al first (in_place hand (al == states_behind table start first) first)
-  plain_fits {M} {Q} hand al first e = go hand (al == states_behind table start first) (ap (λ n. al == n) (sym e) ∙ equal_self al)
+  plain_fits : {M Q : Type 0} (hand : Bool) (al : ℕ) (all first : List (Begun M Q)) → al ≡ states_behind table start first → Fitting al all first (in_place hand (al == states_behind table start first) first)
+  plain_fits {M} {Q} hand al all first e = go hand (al == states_behind table start first) (ap (λ n. al == n) (sym e) ∙ equal_self al)
     where
-      go : (hand there : Bool) → there ≡ true → Fitting al first (in_place hand there first)
-      go false there f = record { services = refl; state = sym e }
-      go true true f = record { services = refl; state = sym e }
+      go : (hand there : Bool) → there ≡ true → Fitting al all first (in_place hand there first)
+      go false there f = record { services = refl; state = sym e; near = inl refl }
+      go true true f = record { services = refl; state = sym e; near = inl refl }
       go true false f = absurd (cc)
 
   -- the first part ends with the state service in hand
-  last_fits : {M Q : Type 0} (al target : ℕ) (front first : List (Begun M Q)) → first ≡ front ++ by_state target ∷ [] →
-      (let s = states_behind table start front in (al ≡ s) ⊎ (al ≡ state_behind table s target)) → Fitting al first (in_place true (al == states_behind table start first) first)
-  last_fits {M} {Q} al target front first e may = go (al == states_behind table start first) refl
+  last_fits : {M Q : Type 0} (al target : ℕ) (front all first : List (Begun M Q)) → first ≡ front ++ by_state target ∷ [] → all ≡ front ++ by_state target ∷ [] →
+      (let s = states_behind table start front in (al ≡ s) ⊎ (al ≡ state_behind table s target)) → Fitting al all first (in_place true (al == states_behind table start first) first)
+  last_fits {M} {Q} al target front all first e split may = go (al == states_behind table start first) refl
     where
       behind : states_behind table start first ≡ state_behind table (states_behind table start front) target
       behind = ap (states_behind table start) e ∙ states_append table start front (by_state target ∷ [])
@@ -255,18 +274,19 @@ module _ (table : Table) (start : ℕ) (is : IsTable table start) where
       before f (inl a) = a
       before f (inr a) = absurd (let b = ap (λ n. al == n) (a ∙ sym behind) in let c = equal_self al in cc)
 
-      go : (there : Bool) → (al == states_behind table start first) ≡ there → Fitting al first (in_place true there first)
-      go true f = record { services = refl; state = sym (eqb-true al (states_behind table start first) f) }
+      go : (there : Bool) → (al == states_behind table start first) ≡ there → Fitting al all first (in_place true there first)
+      go true f = record { services = refl; state = sym (eqb-true al (states_behind table start first) f); near = inl refl }
       go false f = record {
         services = ap services_of shorter ∙ sym (append-nil (services_of front)) ∙ sym (services_append front (by_state {M = M} target ∷ [])) ∙ ap services_of (sym e);
         state = ap (states_behind table start) shorter ∙ sym (before f may);
+        near = inr (e ∙ sym split);
       }
 
   -- the first part, where all in front of `back` is done
   first_part : {M Q : Type 0} (k : ℕ) (begun front back : List (Begun M Q)) → begun ≡ front ++ back → count_of front ≤ k → done k begun ≡ front ++ done (k - count_of front) back
   first_part k begun front back e le = ap (done k) e ∙ done_front k front back le
 
-  fitting : {M Q R : Type 0} (w : Beside M Q R) → Sound w → Fitting w.states.registers.state (done w.handled w.begun) (done_of table start w)
+  fitting : {M Q R : Type 0} (w : Beside M Q R) → Sound w → Fitting w.states.registers.state w.begun (done w.handled w.begun) (done_of table start w)
   fitting {M} {Q} {R} w k = go k.at
     where
       closed : ℕ
@@ -289,15 +309,15 @@ module _ (table : Table) (start : ℕ) (is : IsTable table start) where
       stand : Stands table closed w.states.hand al w.states.registers.refused
       stand = (stands table is.stays start closed w.states.hand w.states.registers k.holds.kept).0
 
-      free : (f : Free w) → Fitting al (done w.handled w.begun) (done_of table start w)
+      free : (f : Free w) → Fitting al w.begun (done w.handled w.begun) (done_of table start w)
       free f =
           let quiet = posted_states table (states_behind table start f.front) (w.handled - count_of f.front) f.back f.posted in
           let all : states_behind table start w.begun ≡ states_behind table start f.front = ap (states_behind table start) f.split ∙ states_append table start f.front f.back ∙ quiet.0 in
           let some : states_behind table start (done w.handled w.begun) ≡ states_behind table start f.front =
           ap (states_behind table start) (first_part w.handled w.begun f.front f.back f.split f.few) ∙ states_append table start f.front (done (w.handled - count_of f.front) f.back) ∙ quiet.1 in
-          plain_fits (is_some w.drains || is_some w.states.hand) al (done w.handled w.begun) (stays w.states.hand f.hand stand ∙ f.closed ∙ all ∙ sym some)
+          plain_fits (is_some w.drains || is_some w.states.hand) al w.begun (done w.handled w.begun) (stays w.states.hand f.hand stand ∙ f.closed ∙ all ∙ sym some)
 
-      drains : (d : Drains w) → Fitting al (done w.handled w.begun) (done_of table start w)
+      drains : (d : Drains w) → Fitting al w.begun (done w.handled w.begun) (done_of table start w)
       drains d = elim (le_or_less (count_of d.back) (w.handled - count_of d.front)) [
         | inl more ↦ long more
         | inr less ↦ short less
@@ -316,32 +336,68 @@ module _ (table : Table) (start : ℕ) (is : IsTable table start) where
           part : done w.handled w.begun ≡ d.front ++ done (w.handled - count_of d.front) (d.back ++ by_state d.target ∷ [])
           part = first_part w.handled w.begun d.front (d.back ++ by_state d.target ∷ []) split d.few
 
-          short : w.handled - count_of d.front < count_of d.back → Fitting al (done w.handled w.begun) (done_of table start w)
+          short : w.handled - count_of d.front < count_of d.back → Fitting al w.begun (done w.handled w.begun) (done_of table start w)
           short less =
               let fewer = part ∙ ap (λ l. d.front ++ l) (posted_short (w.handled - count_of d.front) d.back (by_state d.target ∷ []) d.posted less) in
               let some : states_behind table start (done w.handled w.begun) ≡ states_behind table start d.front =
               ap (states_behind table start) fewer ∙ states_append table start d.front (done (w.handled - count_of d.front) d.back) ∙ quiet.1 in
-              plain_fits (is_some w.drains || is_some w.states.hand) al (done w.handled w.begun) (stood ∙ states_append table start d.front d.back ∙ quiet.0 ∙ sym some)
+              plain_fits (is_some w.drains || is_some w.states.hand) al w.begun (done w.handled w.begun) (stood ∙ states_append table start d.front d.back ∙ quiet.0 ∙ sym some)
 
-          long : count_of d.back ≤ w.handled - count_of d.front → Fitting al (done w.handled w.begun) (done_of table start w)
+          long : count_of d.back ≤ w.handled - count_of d.front → Fitting al w.begun (done w.handled w.begun) (done_of table start w)
           long more =
               let all = part ∙ ap (λ l. d.front ++ l) (done_front (w.handled - count_of d.front) d.back (by_state d.target ∷ []) more) ∙ sym (append_assoc d.front d.back (by_state d.target ∷ [])) in
-              subst (λ b. Fitting al (done w.handled w.begun) (in_place (b || is_some w.states.hand) (al == states_behind table start (done w.handled w.begun)) (done w.handled w.begun))) (sym (ap is_some d.drains))
-              (last_fits al d.target (d.front ++ d.back) (done w.handled w.begun) all (inl stood))
+              subst (λ b. Fitting al w.begun (done w.handled w.begun) (in_place (b || is_some w.states.hand) (al == states_behind table start (done w.handled w.begun)) (done w.handled w.begun))) (sym (ap is_some d.drains))
+              (last_fits al d.target (d.front ++ d.back) w.begun (done w.handled w.begun) all d.split (inl stood))
 
-      changes : (c : Changes w) → Fitting al (done w.handled w.begun) (done_of table start w)
+      changes : (c : Changes w) → Fitting al w.begun (done w.handled w.begun) (done_of table start w)
       changes c =
           let counts = ap count_of c.split ∙ count_append c.front (by_state {Q = Q} c.hand.target ∷ []) in
           let all = first_part w.handled w.begun c.front (by_state c.hand.target ∷ []) c.split (let a = c.all in omega (arith, a, counts)) in
-          subst (λ b. Fitting al (done w.handled w.begun) (in_place (is_some w.drains || b) (al == states_behind table start (done w.handled w.begun)) (done w.handled w.begun))) (sym (ap is_some c.same))
-          (subst (λ b. Fitting al (done w.handled w.begun) (in_place (b || true) (al == states_behind table start (done w.handled w.begun)) (done w.handled w.begun))) (sym (ap is_some c.drains))
-          (last_fits al c.hand.target c.front (done w.handled w.begun) all
+          subst (λ b. Fitting al w.begun (done w.handled w.begun) (in_place (is_some w.drains || b) (al == states_behind table start (done w.handled w.begun)) (done w.handled w.begun))) (sym (ap is_some c.same))
+          (subst (λ b. Fitting al w.begun (done w.handled w.begun) (in_place (b || true) (al == states_behind table start (done w.handled w.begun)) (done w.handled w.begun))) (sym (ap is_some c.drains))
+          (last_fits al c.hand.target c.front w.begun (done w.handled w.begun) all c.split
           (subst (λ s. (al ≡ s) ⊎ (al ≡ state_behind table s c.hand.target)) c.closed (moves w.states.hand c.hand c.same stand))))
 
-      go : Free w ⊎ (Drains w ⊎ Changes w) → Fitting al (done w.handled w.begun) (done_of table start w)
+      go : Free w ⊎ (Drains w ⊎ Changes w) → Fitting al w.begun (done w.handled w.begun) (done_of table start w)
       go (inl f) = free f
       go (inr (inl d)) = drains d
       go (inr (inr c)) = changes c
+
+  -- at most two of all that came into hand are not done
+  pub behind : {M Q R : Type 0} (w : Beside M Q R) → Sound w → count_of w.begun ≤ w.handled + 2 → length w.begun ≤ length (done_of table start w) + 2
+  behind {M} {Q} {R} w k most = elim (fitting w k).near [
+    | inl same ↦ (let f = ap length same in let b = first k.at in omega (arith, f, b))
+    | inr all ↦ (let f = ap length all in let b = one_left (is_some w.drains || is_some w.states.hand) (w.states.registers.state == states_behind table start (done w.handled w.begun)) (done w.handled w.begun) in omega (arith, f, b))
+  ]
+    where
+      one_left : (hand there : Bool) (bs : List (Begun M Q)) → length bs ≤ length (in_place hand there bs) + 1
+      one_left false there bs = omega arith
+      one_left true true bs = omega arith
+      one_left true false bs = shorter bs
+
+      parts : (front back more : List (Begun M Q)) (n : ℕ) → w.begun ≡ front ++ (back ++ more) → Posted back → count_of front ≤ w.handled → count_of front + count_of back ≤ w.handled + n →
+          length w.begun ≤ length (done w.handled w.begun) + n + length more
+      parts front back more n split posted few most =
+          let part = first_part w.handled w.begun front (back ++ more) split few in
+          let near = posted_near (w.handled - count_of front) n back more posted (let e : count_of back ≤ w.handled - count_of front + n = omega (arith, few, most) in e) in
+          omega (arith, near, ap length part, ap length split, length-append front (back ++ more), length-append front (done (w.handled - count_of front) (back ++ more)))
+
+      first : Free w ⊎ (Drains w ⊎ Changes w) → length w.begun ≤ length (done w.handled w.begun) + 2
+      first (inl f) =
+          let counts = ap count_of f.split ∙ count_append f.front f.back in
+          let e = parts f.front f.back [] 2 (f.split ∙ ap (λ l. f.front ++ l) (sym (append-nil f.back))) f.posted f.few (omega (arith, counts, most)) in
+          omega (arith, e)
+      first (inr (inl d)) =
+          let counts = count_append d.front d.back in
+          let left = d.most in
+          let e = parts d.front d.back (by_state d.target ∷ []) 1 (d.split ∙ append_assoc d.front d.back (by_state d.target ∷ [])) d.posted d.few (omega (arith, counts, left)) in
+          omega (arith, e)
+      first (inr (inr c)) =
+          let counts = ap count_of (append-nil w.begun) in
+          let all = c.all in
+          let part = first_part w.handled w.begun w.begun [] (sym (append-nil w.begun)) (omega (arith, all)) in
+          let same = ap length part in
+          omega (arith, same, length-append w.begun (done (w.handled - count_of w.begun) []))
 
   pub app_fits : {V A M Q R : Type 0} (x : Exchange V A M Q R) (a : A) (w : Beside M Q R) (app : A) → Sound w → app ≡ exec_all x a (take w.handled (services_of w.begun)) → AppFits x table a start w app
   app_fits x a w app k e =
@@ -376,3 +432,23 @@ module _ {V A M Q R : Type 0} (x : Exchange V A M Q R) (table : Table) (start : 
       let k = run_sound table start is r hs (new_beside {M = M} {Q = Q} {R = R} r start) refl may in
       let most : f.count ≡ length rows = omega (arith, f.handled, all) in
       sym count ∙ most ∙ sym (length_services rows) ∙ ap length same ∙ sym (count_scripted w.begun k.scripted)
+
+  counted : AllMay table (new_beside {M = M} {Q = Q} {R = R} r start) hs → (rows : List (Row M Q R)) → (let w = all_after table (new_beside {M = M} {Q = Q} {R = R} r start) hs in services rows ≡ services_of w.begun → count_of w.begun ≡ length rows)
+  counted may rows same =
+      let w = all_after table (new_beside {M = M} {Q = Q} {R = R} r start) hs in
+      count_scripted w.begun (run_sound table start is r hs (new_beside {M = M} {Q = Q} {R = R} r start) refl may).scripted ∙ ap length (sym same) ∙ length_services rows
+
+  pub beside_few : (let w = all_after table (new_beside {M = M} {Q = Q} {R = R} r start) hs in AllMay table (new_beside {M = M} {Q = Q} {R = R} r start) hs → (v : V) (rows : List (Row M Q R)) (server : V) (accepted : List M) →
+      (f : Fits x v rows server accepted) → services rows ≡ services_of w.begun → f.count ≡ w.handled → x.handled v + length rows ≤ x.handled server + 1 → count_of w.begun ≤ w.handled + 1)
+  beside_few may v rows server accepted f same count few =
+      let all = counted may rows same in
+      let number = f.handled in
+      omega (arith, all, number, count, few)
+
+  pub beside_behind : (let w = all_after table (new_beside {M = M} {Q = Q} {R = R} r start) hs in AllMay table (new_beside {M = M} {Q = Q} {R = R} r start) hs → (v : V) (rows : List (Row M Q R)) (server : V) (accepted : List M) →
+      (f : Fits x v rows server accepted) → services rows ≡ services_of w.begun → f.count ≡ w.handled → length w.begun ≤ length (done_of table start w) + 2)
+  beside_behind may v rows server accepted f same count =
+      let w = all_after table (new_beside {M = M} {Q = Q} {R = R} r start) hs in
+      let all = counted may rows same in
+      let most = f.behind in
+      behind table start is w (run_sound table start is r hs (new_beside {M = M} {Q = Q} {R = R} r start) refl may) (omega (arith, all, most, count))

@@ -87,4 +87,4 @@ done_behind = refl
 
 -- and each may come where it comes
 may : AllMay table new all
-may = ((refl, refl), (omega arith, ((refl, refl), ((refl, refl), (omega arith, ((refl, refl), (tt, (tt, (tt, ((refl, refl), tt))))))))))
+may = ((refl, refl), (omega arith, ((refl, refl), ((refl, refl, omega arith), (omega arith, ((refl, refl), (tt, (tt, (tt, ((refl, refl), tt))))))))))

@@ -1,5 +1,5 @@
 -- Services by mails and state services of one slave side by side: one of them in hand at a time, and a state service only behind its drain.
-use Rattle.std.specs.Prelude.{◌≡◌, ℕ, suc, ◌<◌, ◌==◌, Bool, true, false, Option, Some, None, List, [], ◌∷◌, ◌++◌, ⊤, is_some, ◌||◌}
+use Rattle.std.specs.Prelude.{◌≡◌, ℕ, suc, ◌<◌, ◌≤◌, ◌+◌, ◌==◌, Bool, true, false, Option, Some, None, List, [], ◌∷◌, ◌++◌, ⊤, is_some, ◌||◌}
 use Rattle.exchange_model.specs.Exchange.{Exchange}
 use Rattle.state_model.specs.States.{Table, States, Event, happens, new_states}
 use Rattle.state_model.specs.Order.{Begun, count_of, done, by_mails, by_state, all_behind, states_behind}
@@ -29,12 +29,12 @@ IsLater (Event.Write fate) = ⊤
 IsLater (Event.Read fate) = ⊤
 IsLater Event.Step = ⊤
 
--- when each may come: services where no state service is in hand; no more is carried out than came into hand; and a drain ends only where all
--- services by mails are carried out
+-- when each may come: services where no state service is in hand, a state service where all but one of the services by mails are carried out, as
+-- where the newest is over; no more is carried out than came into hand; and a drain ends only where all are carried out
 abbrev pub May : {M Q R : Type 0} → Beside M Q R → Happening Q → Type 0
 May w (Happening.Mails q) = (w.drains ≡ None) × (w.states.hand ≡ None)
 May w Happening.Handled = w.handled < count_of w.begun
-May w (Happening.State target) = (w.drains ≡ None) × (w.states.hand ≡ None)
+May w (Happening.State target) = (w.drains ≡ None) × (w.states.hand ≡ None) × (count_of w.begun ≤ w.handled + 1)
 May w (Happening.Drained target) = (w.drains ≡ Some target) × (w.handled ≡ count_of w.begun)
 May w (Happening.Alters e) = IsLater e
 
