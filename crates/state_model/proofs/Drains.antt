@@ -1,13 +1,13 @@
 -- The drain: with the newest row over and mailbox 0 empty, the server has carried out all rows.
-use Rattle.std.proofs.Common.{◌≡◌, ◌⊎◌, inl, inr, ℕ, suc, ◌+◌, ◌<◌, ◌&&◌, Bool, true, false, not, is_none, is_some, if◌then◌else◌, Option, Some, None, List, [], ◌∷◌, ◌++◌, length, refl, ap, sym, ◌∙◌, arith, append-nil, length-append}
+use Rattle.std.proofs.Common.{◌≡◌, ◌⊎◌, inl, inr, ℕ, suc, ◌+◌, ◌<◌, ◌&&◌, Bool, true, false, not, is_none, is_some, if◌then◌else◌, Option, Some, None, List, [], ◌∷◌, ◌++◌, length, refl, ap, sym, ◌∙◌, arith, append-nil, length-append, ◌≤◌}
 use Rattle.exchange_model.specs.Exchange.{Exchange, IsLawful, after}
-use Rattle.exchange_model.specs.Rows.{Row, Fits, InDone, told_all, left}
+use Rattle.exchange_model.specs.Rows.{Row, Fits, begun, InDone, told_all, left}
 use Rattle.exchange_model.specs.Laws.{Moment}
 use Rattle.exchange_model.proofs.Moments
 use Rattle.exchange_model.proofs.Steps.{handed_whole}
 use Rattle.exchange_model.proofs.Settles.{settled_more, settled_handled, told_all_last}
 use Rattle.exchange_model.proofs.Words.{after-append, grows_all}
-use Rattle.link_model.specs.Mails.{LinkMail, news, seen}
+use Rattle.link_model.specs.Mails.{LinkMail, news, seen, is_repeat}
 use Rattle.link_model.specs.Link.{Link}
 use Rattle.link_model.specs.Agree.{Agrees}
 use Rattle.segment_model.specs.Slaves.{Slave, Datagram, Access, Found, is_meant, datagram_meets, found_met}
@@ -19,6 +19,24 @@ all_taken w s box idle =
     sym (s.out.stream
     ∙ ap (λ b. w.taken ++ (news w.node.out.last_taken b ++ news (seen w.node.out.last_taken b) w.halves.out.holding)) box
     ∙ ap (λ h. w.taken ++ news w.node.out.last_taken h) idle ∙ append-nil w.taken)
+
+-- with an idle half at most one mail is on its way
+idle_few : {M S : Type 0} (w : Link M S) → Agrees w → w.halves.out.holding ≡ None → length w.held ≤ length w.taken + 1
+idle_few {M} w s idle =
+    let box = news w.node.out.last_taken w.node.out.box in
+    let stream : w.held ≡ w.taken ++ box = s.out.stream ∙ ap (λ h. w.taken ++ (box ++ news (seen w.node.out.last_taken w.node.out.box) h)) idle ∙ ap (λ l. w.taken ++ l) (append-nil box) in
+    let all = ap length stream in
+    let both = length-append w.taken box in
+    let one = one_news w.node.out.last_taken w.node.out.box in
+    omega (arith, all, both, one)
+  where
+    one_news : (last : ℕ) (box : Option (LinkMail M)) → length (news last box) ≤ 1
+    one_news last None = omega arith
+    one_news last (Some m) = go (is_repeat last m)
+      where
+        go : (b : Bool) → length (if b then [] else m.body ∷ []) ≤ 1
+        go true = omega arith
+        go false = omega arith
 
 -- an answered row at the end is below the count
 in_done_last : {M Q R : Type 0} (count number : ℕ) (rs : List (Row M Q R)) (r : Row M Q R) → InDone count number (rs ++ r ∷ []) → (answer : R × ℕ) → r.answer ≡ Some answer → number + length rs < count
@@ -81,6 +99,24 @@ module _ {V A M Q R : Type 0} (x : Exchange V A M Q R) (law : IsLawful x) (v : V
       elim parts.1 [
         | inl h ↦ drained_handed w.held w.taken w.accepted at h.0 parts.0 (all_taken w agrees box h.1)
         | inr a ↦ drained_answered w.held w.taken w.accepted at a.0 a.1
+      ]
+
+
+  -- a row may begin behind it, and so all but one are carried out
+  few_left : {S : Type 0} (w : Link M S) → Moment x v (front ++ last) (now ∷ []) (begun now.service 0) w.held w.taken w.accepted → x.handled v + length (front ++ last ++ now ∷ []) ≤ x.handled (after x.serve v w.taken) + 1
+  few_left w next =
+      let fits = Moments.fits x law v ready (front ++ last) (now ∷ []) (begun now.service 0) w.held w.taken w.accepted next in
+      let behind = fits.behind in
+      let number = fits.handled in
+      omega (arith, behind, number, length-append (front ++ last ++ now ∷ []) (begun now.service 0 ∷ []), length-append (front ++ last) (now ∷ []))
+
+  pub few : {S : Type 0} (w : Link M S) → Agrees w → Moment x v front last now w.held w.taken w.accepted → (fresh : Bool) → is_over x w.halves.out.holding fresh now ≡ true →
+      x.handled v + length (front ++ last ++ now ∷ []) ≤ x.handled (after x.serve v w.taken) + 1
+  few w agrees at fresh over =
+      let parts = over_parts x w.halves.out.holding fresh now over in
+      elim parts.1 [
+        | inl h ↦ few_left w (Moments.handed x law v ready front last now w.held w.taken w.accepted at h.0 parts.0 (idle_few w agrees h.1) now.service 0 at.fits.valid)
+        | inr a ↦ (let all = drained_answered w.held w.taken w.accepted at a.0 a.1 in omega (arith, all))
       ]
 
 -- and so it stays while no further row begins

@@ -17,7 +17,7 @@ ghost use Rattle.state_model.specs.States.{Table, Event, carry, word_met, run, n
 ghost use Rattle.state_model.specs.Promises.{IsTable, StatesPromised, statuses};
 ghost use Rattle.state_model.specs.Order.{Begun, count_of, done, services_of, Scripted, tasks_of, weighed, servers_behind, EachOne, IsQuiet};
 ghost use Rattle.state_model.specs.Met.{Writes};
-ghost use Rattle.state_model.specs.Together.{Happening, AllMay, all_after, new_beside, AppFits};
+ghost use Rattle.state_model.specs.Together.{Happening, AllMay, all_after, new_beside, done_of, AppFits};
 
 /// What state services promise, whatever frames are lost and however slow the slave's processor is. The AL state is the one behind the closed
 /// services, or with one in hand that or its target's; a refusal leaves it, raises the error flag with the table's code until the acknowledge,
@@ -55,7 +55,12 @@ pub fn drain_law<V, A, M, Q, R, S>()
         Moment x v front last now w.held w.taken w.accepted → (fresh : Bool) → is_over x w.halves.out.holding fresh now ≡ true → w.node.out.box ≡ None →
         x.handled (after x.serve v w.taken) ≡ x.handled v + length (front ++ last ++ now ∷ []) }
 
-    // So it stays, whatever the server takes, while no further row begins.
+    // With the newest row over all but one are carried out, so a state service may come into hand.
+    ensures few { (x : Exchange V A M Q R) → IsLawful x → (v : V) → x.ready v ≡ true → (front last : List (Row M Q R)) (now : Row M Q R) (w : Link M S) → Agrees w →
+        Moment x v front last now w.held w.taken w.accepted → (fresh : Bool) → is_over x w.halves.out.holding fresh now ≡ true →
+        x.handled v + length (front ++ last ++ now ∷ []) ≤ x.handled (after x.serve v w.taken) + 1 }
+
+    // A drained slave stays so, whatever the server takes, while no further row begins.
     ensures stays { (x : Exchange V A M Q R) → IsLawful x → (v : V) (rows : List (Row M Q R)) (taken more accepted : List M) → x.handled (after x.serve v taken) ≡ x.handled v + length rows →
         Fits x v rows (after x.serve v (taken ++ more)) accepted → x.handled (after x.serve v (taken ++ more)) ≡ x.handled v + length rows }
 {}
@@ -90,6 +95,16 @@ pub fn beside_law<V, A, M, Q, R>()
     ensures drained { (x : Exchange V A M Q R) (table : Table) (start : ℕ) → IsTable table start → (r : Registers) (hs : List (Happening Q)) → let new = new_beside {M = M} {Q = Q} {R = R} r start in let w = all_after table new hs in
         AllMay table new hs → (v : V) (rows : List (Row M Q R)) (server : V) (accepted : List M) → (f : Fits x v rows server accepted) → services rows ≡ services_of w.begun → f.count ≡ w.handled →
         x.handled server ≡ x.handled v + length rows → w.handled ≡ count_of w.begun }
+
+    // Or all but one, as where the newest is over.
+    ensures few { (x : Exchange V A M Q R) (table : Table) (start : ℕ) → IsTable table start → (r : Registers) (hs : List (Happening Q)) → let new = new_beside {M = M} {Q = Q} {R = R} r start in let w = all_after table new hs in
+        AllMay table new hs → (v : V) (rows : List (Row M Q R)) (server : V) (accepted : List M) → (f : Fits x v rows server accepted) → services rows ≡ services_of w.begun → f.count ≡ w.handled →
+        x.handled v + length rows ≤ x.handled server + 1 → count_of w.begun ≤ w.handled + 1 }
+
+    // At most two of all that came into hand are not done.
+    ensures behind { (x : Exchange V A M Q R) (table : Table) (start : ℕ) → IsTable table start → (r : Registers) (hs : List (Happening Q)) → let new = new_beside {M = M} {Q = Q} {R = R} r start in let w = all_after table new hs in
+        AllMay table new hs → (v : V) (rows : List (Row M Q R)) (server : V) (accepted : List M) → (f : Fits x v rows server accepted) → services rows ≡ services_of w.begun → f.count ≡ w.handled →
+        length w.begun ≤ length (done_of table start w) + 2 }
 {}
 
 /// A serving: mails that are passed on count where the server counts one more for them.

@@ -1,5 +1,5 @@
 -- The lemmas on the drain, at the types of the function.
-use Rattle.state_model.proofs.Drains.{seen_empty, drained, drained_on}
+use Rattle.state_model.proofs.Drains.{seen_empty, drained, few, drained_on}
 use Rattle.state_model.proofs.drain_law.Goals as goal
 
 pub returns-clause-seen : goal.returns-clause-seen
@@ -10,3 +10,6 @@ returns-clause-drained g c = λ x law v ready front last now w agrees at fresh o
 
 pub returns-clause-stays : goal.returns-clause-stays
 returns-clause-stays g c = λ x law v rows taken more accepted e fits. drained_on x law v rows taken more accepted e fits
+
+pub returns-clause-few : goal.returns-clause-few
+returns-clause-few g c = λ x law v ready front last now w agrees at fresh over. few x law v ready front last now w agrees at fresh over
