@@ -101,7 +101,6 @@ module _ {V A M Q R : Type 0} (x : Exchange V A M Q R) (law : IsLawful x) (v : V
         | inr a ↦ drained_answered w.held w.taken w.accepted at a.0 a.1
       ]
 
-
   -- a row may begin behind it, and so all but one are carried out
   few_left : {S : Type 0} (w : Link M S) → Moment x v (front ++ last) (now ∷ []) (begun now.service 0) w.held w.taken w.accepted → x.handled v + length (front ++ last ++ now ∷ []) ≤ x.handled (after x.serve v w.taken) + 1
   few_left w next =

@@ -1,5 +1,5 @@
 -- What a frame does to the registers of a slave, and what a status brings back.
-use Rattle.std.proofs.Common.{◌≡◌, ℕ, zero, suc, ◌==◌, Bool, true, false, Option, Some, None, List, [], ◌∷◌, refl, ap, sym, ◌∙◌, subst, if◌then◌else◌}
+use Rattle.std.proofs.Common.{◌≡◌, ℕ, zero, suc, ◌==◌, Bool, true, false, Option, Some, None, List, refl, ap, ◌∙◌, if◌then◌else◌}
 use Rattle.segment_model.specs.Slaves.{Registers, Address, Access, Datagram, Slave, Found, is_meant, registers_met, slave_meets, slave_after, datagram_meets, found_met, counter_met}
 use Rattle.state_model.specs.States.{word_met}
 use Rattle.state_model.specs.Met.{is_look, Writes, Writes.nothing, Writes.others, Writes.look, Writes.write}

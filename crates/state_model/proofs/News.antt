@@ -1,6 +1,5 @@
 -- Of the news of a slave its statuses alone complete a state service.
-use Rattle.std.proofs.Common.{◌≡◌, ℕ, ◌==◌, Bool, Option, Some, None, List, [], ◌∷◌, refl, ap, if◌then◌else◌}
-use Rattle.link_model.specs.Mails.{first_of}
+use Rattle.std.proofs.Common.{◌≡◌, ℕ, ◌==◌, Option, Some, None, List, [], ◌∷◌, refl, ap, if◌then◌else◌}
 use Rattle.segment_model.specs.Record.{News}
 use Rattle.segment_model.specs.Ends.{Outcome, state_ends}
 use Rattle.state_model.specs.Promises.{statuses}

@@ -1,15 +1,15 @@
 -- Computed runs: a table of three states that meets what is asked of a table; a refusal with lost writes and a slow slave; and a state service
 -- between services by mails.
-use Rattle.std.proofs.Common.{◌≡◌, ℕ, ◌==◌, ◌&&◌, ◌||◌, Bool, true, false, Option, Some, None, List, [], ◌∷◌, ◌++◌, refl, ap, ◌∙◌, arith}
+use Rattle.std.proofs.Common.{◌≡◌, ℕ, ◌==◌, ◌&&◌, ◌||◌, Bool, true, false, Option, Some, None, List, [], ◌∷◌, ◌++◌, refl, ap, ◌∙◌, arith, map}
 use Rattle.std.proofs.lemmas.Bool.Decides.{nat_tests}
 use Rattle.link_model.specs.Link.{Fate}
 use Rattle.segment_model.specs.Slaves.{Registers}
 use Rattle.segment_model.specs.Record.{News}
-use Rattle.segment_model.specs.Ends.{Outcome}
-use Rattle.exchange_model.specs.Toy.{Mail, Service, sum, post}
+use Rattle.segment_model.specs.Ends.{Task, Outcome}
+use Rattle.exchange_model.specs.Toy.{Mail, first, second, posted, held, total, refused, noted, Service, sum, post, Adder, adder, finish}
 use Rattle.state_model.specs.States.{Table, States, Event, run, new_states}
 use Rattle.state_model.specs.Promises.{IsTable}
-use Rattle.state_model.specs.Order.{by_mails, by_state}
+use Rattle.state_model.specs.Order.{by_mails, by_state, IsQuiet, weighed, done, tasks_of}
 use Rattle.state_model.specs.Together.{Beside, Happening, all_after, new_beside, done_of, AllMay}
 
 -- PreOp, SafeOp and Op by their neighbours; any other change between them gets code 17, and any other state code 18
@@ -88,3 +88,31 @@ done_behind = refl
 -- and each may come where it comes
 may : AllMay table new all
 may = ((refl, refl), (omega arith, ((refl, refl), ((refl, refl, omega arith), (omega arith, ((refl, refl), (tt, (tt, (tt, ((refl, refl), tt))))))))))
+
+-- the adder keeps its total where it counts nothing
+adder_quiet : IsQuiet adder
+adder_quiet v (first n) e = refl
+adder_quiet v second e = go v.half refl e
+  where
+    go : (half : Option ℕ) → v.half ≡ half → (finish v half).0.handled ≡ v.handled → (finish v half).0.value ≡ v.value
+    go None h f = refl
+    go (Some n) h f = absurd (omega (arith, f))
+adder_quiet v (posted n) e = absurd (omega (arith, e))
+adder_quiet v held e = refl
+adder_quiet v (total n) e = refl
+adder_quiet v refused e = refl
+adder_quiet v (noted n) e = refl
+
+-- A sum by a script, then the two mails of another that are passed on, then a posted number: the first mail of the sum counts nothing, the second one.
+abbrev tasks : List (Task Mail Service)
+tasks = Task.Mails (sum 3) ∷ Task.Passed (first 4) ∷ Task.Passed second ∷ Task.State 4 ∷ Task.Passed (posted 5) ∷ []
+
+abbrev empty : Adder
+empty = record { value = 0; handled = 0; half = None }
+
+weights : map (λ b. b.counts) (weighed adder empty tasks) ≡ true ∷ false ∷ true ∷ false ∷ true ∷ []
+weights = refl
+
+-- with two counted, all up to the state service is done
+done_of_two : tasks_of (done 2 (weighed adder empty tasks)) ≡ Task.Mails (sum 3) ∷ Task.Passed (first 4) ∷ Task.Passed second ∷ Task.State 4 ∷ []
+done_of_two = refl

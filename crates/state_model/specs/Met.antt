@@ -1,6 +1,6 @@
 -- What a frame does to the registers of a slave that carry its AL state: the datagrams of a state service among any others.
-use Rattle.std.specs.Prelude.{◌≡◌, ℕ, ◌==◌, Bool, true, false, Option, Some, None, List, [], ◌∷◌}
-use Rattle.segment_model.specs.Slaves.{Registers, Address, Access, Datagram, is_meant}
+use Rattle.std.specs.Prelude.{◌≡◌, ℕ, Bool, true, false, Option, Some, None, List, [], ◌∷◌}
+use Rattle.segment_model.specs.Slaves.{Registers, Access, Datagram, is_meant}
 
 -- an access that leaves all registers as they are
 abbrev pub is_look : Access → Bool
