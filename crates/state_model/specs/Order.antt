@@ -15,10 +15,12 @@ abbrev pub count_of : {M Q : Type 0} → List (Begun M Q) → ℕ
 count_of [] = 0
 count_of (b ∷ bs) = if b.counts then suc (count_of bs) else count_of bs
 
+-- no more of them count
 abbrev pub is_zero : ℕ → Bool
 is_zero zero = true
 is_zero (suc k) = false
 
+-- one of them counted
 abbrev pub one_less : ℕ → ℕ
 one_less zero = zero
 one_less (suc k) = k
@@ -28,22 +30,24 @@ abbrev pub done : {M Q : Type 0} → ℕ → List (Begun M Q) → List (Begun M 
 done k [] = []
 done k (b ∷ bs) = if b.counts && is_zero k then [] else b ∷ done (if b.counts then one_less k else k) bs
 
--- the services by mails among tasks, in order
+-- the service by mails that a task is, if it is one
 abbrev pub service_in : {M Q : Type 0} → Task M Q → List Q
 service_in (Task.Mails q) = q ∷ []
 service_in (Task.State target) = []
 service_in (Task.Passed m) = []
 
+-- the services by mails among tasks, in order
 abbrev pub services_of : {M Q : Type 0} → List (Begun M Q) → List Q
 services_of [] = []
 services_of (b ∷ bs) = service_in b.task ++ services_of bs
 
--- what a task does to the application and to the AL state: a service by mails leaves the one, a state service the other
+-- what a scripted task does to the application: a state service leaves it
 abbrev pub app_behind : {V A M Q R : Type 0} → Exchange V A M Q R → A → Task M Q → A
 app_behind x a (Task.Mails q) = x.exec a q
 app_behind x a (Task.State target) = a
 app_behind x a (Task.Passed m) = a
 
+-- what a task does to the AL state: a state service brings it to its target, or, refused, leaves it
 abbrev pub state_after : {M Q : Type 0} → Table → ℕ → Task M Q → ℕ
 state_after table from (Task.Mails q) = from
 state_after table from (Task.State target) = state_behind table from target
@@ -54,14 +58,16 @@ abbrev pub all_behind : {V A M Q R : Type 0} → Exchange V A M Q R → Table �
 all_behind x table a from [] = (a, from)
 all_behind x table a from (b ∷ bs) = all_behind x table (app_behind x a b.task) (state_after table from b.task) bs
 
+-- the AL state alone behind tasks
 abbrev pub states_behind : {M Q : Type 0} → Table → ℕ → List (Begun M Q) → ℕ
 states_behind table from [] = from
 states_behind table from (b ∷ bs) = states_behind table (state_after table from b.task) bs
 
--- a service by mails counts, and a state service doesn't
+-- a service by mails that came into hand, which counts
 abbrev pub by_mails : {M Q : Type 0} → Q → Begun M Q
 by_mails q = record { task = Task.Mails q; counts = true }
 
+-- a state service that came into hand, which doesn't count
 abbrev pub by_state : {M Q : Type 0} → ℕ → Begun M Q
 by_state target = record { task = Task.State target; counts = false }
 
@@ -72,6 +78,7 @@ server_behind x v (Task.Mails q) = after x.serve v (x.full v q)
 server_behind x v (Task.State target) = v
 server_behind x v (Task.Passed m) = (x.serve v m).0
 
+-- the server behind tasks, in order
 abbrev pub servers_behind : {V A M Q R : Type 0} → Exchange V A M Q R → V → List (Task M Q) → V
 servers_behind x v [] = v
 servers_behind x v (t ∷ ts) = servers_behind x (server_behind x v t) ts

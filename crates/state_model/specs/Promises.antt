@@ -14,6 +14,7 @@ abbrev pub reached : Option ℕ → ℕ → ℕ → ℕ
 reached None from to = to
 reached (Some code) from to = from
 
+-- the state behind a service, by the table
 abbrev pub state_behind : Table → ℕ → ℕ → ℕ
 state_behind table from to = reached (table from to) from to
 

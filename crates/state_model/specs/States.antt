@@ -14,12 +14,13 @@ abbrev pub decided : Registers → ℕ → Option ℕ → Registers
 decided r target None = record r { control = None; state = target; refused = None }
 decided r target (Some code) = record r { control = None; refused = Some code }
 
--- a slave carries out its control word: while the error flag stands, one that doesn't acknowledge it is ignored
+-- the registers behind a control word: while the error flag stands, one that doesn't acknowledge it is ignored
 abbrev pub word_carried : Table → Registers → Option ℕ → Option (ℕ × Bool) → Registers
 word_carried table r refused None = r
 word_carried table r None (Some word) = decided r word.0 (table r.state word.0)
 word_carried table r (Some code) (Some word) = if word.1 then decided r word.0 (table r.state word.0) else record r { control = None }
 
+-- a step of the slave's processor: the word that waits is carried out, once
 abbrev pub carry : Table → Registers → Registers
 carry table r = word_carried table r r.refused r.control
 
@@ -69,13 +70,14 @@ abbrev pub word_met : Registers → Option (ℕ × Bool) → Registers
 word_met r None = r
 word_met r (Some word) = record r { control = Some word }
 
--- behind the return of a write
+-- how far a service has come behind the return of its write
 abbrev pub phase_written : Phase → Phase
 phase_written Phase.Ask = Phase.Await
 phase_written Phase.Await = Phase.Await
 phase_written (Phase.Acknowledge state code) = Phase.Recover code
 phase_written (Phase.Recover code) = Phase.Recover code
 
+-- behind a write that returned, or was lost: then it is written again
 abbrev pub phase_behind : Phase → Fate → Phase
 phase_behind phase Fate.Pass = phase_written phase
 phase_behind phase Fate.LostBefore = phase
@@ -102,6 +104,7 @@ reads Phase.Await = true
 reads (Phase.Acknowledge state code) = false
 reads (Phase.Recover code) = true
 
+-- the service in hand goes on, or is closed with its answer
 abbrev pub turned : {M R : Type 0} → States M R → ℕ → List (News M) → Turn R → States M R
 turned w target read (Turn.Goes phase) = record w { hand = Some (record { target = target; phase = phase; read = read }) }
 turned w target read (Turn.Ends answer) = record w { hand = None; closed = w.closed ++ record { target = target; answer = answer; read = read } ∷ [] }
@@ -112,10 +115,12 @@ returned w h false = w
 returned w h true =
     turned w h.target (h.read ++ News.Status w.registers.state w.registers.refused ∷ []) (shown h.target h.phase w.registers.state w.registers.refused)
 
+-- a state service comes into hand, where none is
 abbrev pub begins : {M R : Type 0} → States M R → Option (Hand M) → ℕ → States M R
 begins w None target = record w { hand = Some (record { target = target; phase = Phase.Ask; read = [] }) }
 begins w (Some h) target = w
 
+-- the service in hand sends the write of its word
 abbrev pub writes : {M R : Type 0} → States M R → Option (Hand M) → Fate → States M R
 writes w None fate = w
 writes w (Some h) fate = record {
@@ -124,12 +129,14 @@ writes w (Some h) fate = record {
   closed = w.closed;
 }
 
+-- the service in hand sends the read of the status
 abbrev pub looks : {M R : Type 0} → States M R → Option (Hand M) → Fate → States M R
 looks w None fate = w
 looks w (Some h) Fate.Pass = returned w h (reads h.phase)
 looks w (Some h) Fate.LostBefore = w
 looks w (Some h) Fate.LostBehind = w
 
+-- what an event does
 abbrev pub happens : {M R : Type 0} → Table → States M R → Event → States M R
 happens table w (Event.Begin target) = begins w w.hand target
 happens table w (Event.Write fate) = writes w w.hand fate

@@ -38,6 +38,7 @@ May w (Happening.State target) = (w.drains ≡ None) × (w.states.hand ≡ None)
 May w (Happening.Drained target) = (w.drains ≡ Some target) × (w.handled ≡ count_of w.begun)
 May w (Happening.Alters e) = IsLater e
 
+-- what each does
 abbrev pub beside_after : {M Q R : Type 0} → Table → Beside M Q R → Happening Q → Beside M Q R
 beside_after table w (Happening.Mails q) = record w { begun = w.begun ++ by_mails q ∷ [] }
 beside_after table w Happening.Handled = record w { handled = suc w.handled }
@@ -45,11 +46,12 @@ beside_after table w (Happening.State target) = record w { begun = w.begun ++ by
 beside_after table w (Happening.Drained target) = record w { drains = None; states = happens table w.states (Event.Begin target) }
 beside_after table w (Happening.Alters e) = record w { states = happens table w.states e }
 
--- any list of these, of which each may come where it comes
+-- any list of these
 abbrev pub all_after : {M Q R : Type 0} → Table → Beside M Q R → List (Happening Q) → Beside M Q R
 all_after table w [] = w
 all_after table w (h ∷ hs) = all_after table (beside_after table w h) hs
 
+-- each may come where it comes
 abbrev pub AllMay : {M Q R : Type 0} → Table → Beside M Q R → List (Happening Q) → Type 0
 AllMay table w [] = ⊤
 AllMay table w (h ∷ hs) = May w h × AllMay table (beside_after table w h) hs
