@@ -20,8 +20,9 @@ ghost use Rattle.state_model.specs.Met.{Writes};
 ghost use Rattle.state_model.specs.Together.{Happening, AllMay, all_after, new_beside, done_of, AppFits};
 
 /// What state services promise, whatever frames are lost and however slow the slave's processor is. The AL state is the one behind the closed
-/// services, or with one in hand that or its target's; a refusal leaves it, raises the error flag with the table's code until the acknowledge,
-/// and each answer is what the slave's table says, and what the statuses read for it complete.
+/// services, or with one in hand that or its target's; a refusal leaves it. The error flag stands for a refusal of the service in hand alone, with
+/// the table's code, and is gone when the service is closed. Each answer is what the slave's table says, and what the statuses read for it
+/// complete.
 pub fn states_law<M, R>()
     ensures promised { (table : Table) (start : ℕ) → IsTable table start → (r : Registers) (es : List Event) → StatesPromised table start (run table (new_states {M = M} {R = R} r start) es) }
 
