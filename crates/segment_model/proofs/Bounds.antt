@@ -8,8 +8,8 @@ use Rattle.segment_model.specs.Seats.{Side, Seat, Choice, Turn, Session, Planned
 use Rattle.segment_model.specs.Split.{IsBound}
 use Rattle.segment_model.specs.Laws.{KnowsCounters, EachSeat, SeatPromised, EachOf, Promised, RestsIf, HandedBy}
 use Rattle.segment_model.proofs.Kept.{Keeps, run_keeps, new_keeps, each_promised}
-use Rattle.segment_model.specs.Books.{PastEnded, EndedIf}
-use Rattle.segment_model.proofs.Ended.{each_ended, each_ended_if}
+use Rattle.segment_model.specs.Books.{PastEnded, EndedIf, DoneIf}
+use Rattle.segment_model.proofs.Ended.{each_ended, each_ended_if, each_done}
 use Rattle.segment_model.proofs.Hands.{session_posts, each_handed, each_counted}
 use Rattle.segment_model.proofs.Rests.{each_rests}
 
@@ -119,3 +119,7 @@ module _ {V A M Q R : Type 0} (x : Exchange V A M Q R) (law : IsLawful x) where
 
     pub bound_counted : EachOf (KnowsCounters fs) ps ds ns
     bound_counted = of_session (λ fs. KnowsCounters fs) carry ps ds ns fs b (each_counted x law now.frames now.seats keeps.records (session_posts x law carry ps p b.turns b.may))
+
+    pub bound_done : (scripted : ℕ → List Q) → EachOf (DoneIf x more scripted fs) ps ds ns
+    bound_done scripted = of_session (λ fs. DoneIf x more scripted fs) carry ps ds ns fs b
+        (each_done x law more scripted now.frames now.seats (each_rests x law now.frames now.seats keeps.ready keeps.sound keeps.fitted keeps.records) (each_ended_if x law more now.frames now.seats keeps.records promised handed))

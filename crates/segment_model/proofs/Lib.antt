@@ -21,3 +21,4 @@ mod Bounds
 mod Tours
 mod Trials
 mod Table
+mod Paces

@@ -4,14 +4,14 @@ ghost use Rattle.std.specs.Prelude.{◌≡◌, ◌≤◌, ℕ, Bool, true, false
 ghost use Rattle.exchange_model.specs.Exchange.{Exchange, IsLawful};
 ghost use Rattle.exchange_model.specs.Rows.{answer_after};
 ghost use Rattle.segment_model.specs.Slaves.{Registers, Datagram, Ring, Move, ring_after, ring_back, ring_steps, replayed, paced};
-ghost use Rattle.segment_model.specs.Record.{Frame, frame_of, recorded, sent_fates, news_from, first_end, frame_news, kept_all, nothing_kept, joined};
+ghost use Rattle.segment_model.specs.Record.{Frame, frame_of, recorded, sent_fates, news_from, first_end, frame_news, kept_all, nothing_kept, joined, news_each, counted_each};
 ghost use Rattle.segment_model.specs.Ends.{Task, ends};
 ghost use Rattle.segment_model.specs.GiveUps.{NoneFor};
 ghost use Rattle.segment_model.specs.Seats.{Side, Choice, Turn, Planned, IsPlan, MayRun, run, new_session, ring_of, sides_of, moves};
 ghost use Rattle.segment_model.specs.Split.{IsBound, IsFrameOf, sides_next, sides_after};
 ghost use Rattle.link_model.specs.Segment.{RingFate};
 ghost use Rattle.segment_model.specs.Visits.{Stop, Tour, Visits, NeverCarried, AllLost, carried, is_among, new_tour, tour_over};
-ghost use Rattle.segment_model.specs.Books.{PastEnded, EndedIf};
+ghost use Rattle.segment_model.specs.Books.{PastEnded, EndedIf, DoneIf};
 ghost use Rattle.segment_model.specs.Laws.{EachOf, Promised, HandedBy, KnowsCounters, RestsIf};
 
 /// What a session promises of each slave of its plan, with the master's side of it, the slave and the frames as they have come to be.
@@ -38,6 +38,10 @@ pub fn session_law<V, A, M, Q, R>()
     // Where a slave is settled and the master wants nothing of it, all its rows are carried out, and all emissions were heard.
     ensures rests { (x : Exchange V A M Q R) → IsLawful x → (carry : Registers → Registers) (ps : List (Planned V)) → IsPlan x ps →
         (ds : List (ℕ × Side M Q R)) (ns : Ring V M) (fs : List (Frame M)) → IsBound x carry ps ds ns fs → EachOf (RestsIf x fs) ps ds ns }
+
+    // And all is done where besides all its scripted services, here by its station, have begun.
+    ensures done { (x : Exchange V A M Q R) → IsLawful x → (more : M → Bool) (scripted : ℕ → List Q) (carry : Registers → Registers) (ps : List (Planned V)) → IsPlan x ps →
+        (ds : List (ℕ × Side M Q R)) (ns : Ring V M) (fs : List (Frame M)) → IsBound x carry ps ds ns fs → EachOf (DoneIf x more scripted fs) ps ds ns }
 {}
 
 /// The slaves and what came back are the replay of the frames, their fates and the processor steps behind them, whatever the master is.
@@ -75,6 +79,11 @@ pub fn outcome_law<V, A, M, Q, R>()
     ensures grows { (x : Exchange V A M Q R) (more : M → Bool) (task : Task M Q) (station frame : ℕ) (fs : List (Frame M)) (f : Frame M) → frame ≤ length fs →
         first_end (ends x more task) frame [] (news_from station frame (fs ++ f ∷ [])) ≡
         answer_after (length fs) (first_end (ends x more task) frame [] (news_from station frame fs)) (ends x more task (joined (news_from station frame fs) ++ frame_news station (kept_all station nothing_kept fs) f)) }
+{}
+
+/// At pace 1 each empty read counts: the news of a slave are those of the record.
+pub fn pace_law<M>()
+    ensures { (station : ℕ) (fs : List (Frame M)) → counted_each station 1 0 true fs (news_each station nothing_kept fs) ≡ news_each station nothing_kept fs }
 {}
 
 /// A give-up: frames that carry nothing for a slave complete nothing, so what its tasks come to is told by the frames before.
