@@ -1,6 +1,6 @@
 -- A computed run of the toy exchange over two slaves: a lost write, a lost read with its repeat, an answer while its mail is still held
 -- (the slave's processor is slow), and a frame for both slaves.
-use Rattle.std.proofs.Common.{◌≡◌, ℕ, true, false, Option, Some, None, List, [], ◌∷◌, map, take, refl}
+use Rattle.std.proofs.Common.{◌≡◌, ℕ, true, false, Option, Some, None, List, [], ◌∷◌, map, take, refl, arith}
 use Rattle.exchange_model.specs.Toy.{Mail, first, second, posted, held, total, noted, Service, sum, post, Adder, adder}
 use Rattle.exchange_model.specs.Rows.{Row}
 use Rattle.link_model.specs.Frames.{Ask, IsSent.nothing, IsSent.write, IsSent.inward}
@@ -8,7 +8,11 @@ use Rattle.link_model.specs.Segment.{RingFate}
 use Rattle.segment_model.specs.Slaves.{Registers, Address, Access, Datagram}
 use Rattle.segment_model.specs.Record.{heard, news_from, first_end}
 use Rattle.segment_model.specs.Ends.{Task, Outcome, ends}
-use Rattle.segment_model.specs.Seats.{Session, Seat, Choice, Turn, Planned, rows_of, new_session, run, MayRun}
+use Rattle.segment_model.specs.Split.{IsBound}
+use Rattle.segment_model.specs.Laws.{EachOf, Promised, HandedBy}
+use Rattle.exchange_model.proofs.Toys.{adder_law}
+use Rattle.segment_model.proofs.Bounds.{bound_promised, bound_handed}
+use Rattle.segment_model.specs.Seats.{Session, Seat, Choice, Turn, Planned, rows_of, new_session, run, MayRun, IsPlan, sides_of, ring_of}
 
 abbrev blank : Registers
 blank = record { station = 4097; first = true; second = true; control = None; state = 2; refused = None }
@@ -102,3 +106,16 @@ outcomes = (refl, refl, refl)
 -- and each frame is one that the master may send
 may : MayRun adder leave (new_session two) turns
 may = ((write _ _ _ refl refl nothing, (nothing, tt)), ((write _ _ _ refl refl nothing, (nothing, tt)), ((inward _ _ _ refl refl nothing, (nothing, tt)), ((inward _ _ _ refl refl nothing, (nothing, tt)), ((inward _ _ _ refl refl nothing, (nothing, tt)), ((inward _ _ _ refl refl nothing, (nothing, tt)), ((write _ _ _ refl refl nothing, (nothing, tt)), ((write _ _ _ refl refl nothing, (nothing, tt)), ((inward _ _ _ refl refl nothing, (nothing, tt)), ((write _ _ _ refl refl nothing, (write _ _ _ refl refl nothing, tt)), ((inward _ _ _ refl refl nothing, (inward _ _ _ refl refl nothing, tt)), ((write _ _ _ refl refl nothing, (nothing, tt)), ((inward _ _ _ refl refl nothing, (nothing, tt)), tt)))))))))))))
+
+-- so the laws speak of this run
+plan : IsPlan adder two
+plan = record { stations = (((λ e. absurd (omega (arith, e))), tt), (tt, tt)); ready = (refl, (refl, tt)) }
+
+bound : IsBound adder leave two (sides_of ended.seats) (ring_of ended.seats) ended.frames
+bound = record { turns = turns; may = may; sides = refl; ring = refl; frames = refl }
+
+promised : EachOf (Promised adder (λ m. false) ended.frames) two (sides_of ended.seats) (ring_of ended.seats)
+promised = bound_promised adder adder_law (λ m. false) leave two plan (sides_of ended.seats) (ring_of ended.seats) ended.frames bound
+
+handed : EachOf (HandedBy adder (λ m. false) ended.frames) two (sides_of ended.seats) (ring_of ended.seats)
+handed = bound_handed adder adder_law (λ m. false) leave two plan (sides_of ended.seats) (ring_of ended.seats) ended.frames bound
