@@ -1,6 +1,6 @@
 //! The laws of a session with a segment. Each function does nothing and carries laws as its contract.
 
-ghost use Rattle.std.specs.Prelude.{◌≡◌, ◌≤◌, ℕ, Bool, true, false, nat_lt, Option, None, List, [], ◌∷◌, ◌++◌, length, drop, ◌-◌};
+ghost use Rattle.std.specs.Prelude.{◌≡◌, ◌≤◌, ℕ, Bool, true, false, nat_lt, Option, None, List, [], ◌∷◌, ◌++◌, length};
 ghost use Rattle.exchange_model.specs.Exchange.{Exchange, IsLawful};
 ghost use Rattle.exchange_model.specs.Rows.{answer_after};
 ghost use Rattle.segment_model.specs.Slaves.{Registers, Datagram, Ring, Move, ring_after, ring_back, ring_steps, replayed, paced};
@@ -10,7 +10,7 @@ ghost use Rattle.segment_model.specs.GiveUps.{NoneFor};
 ghost use Rattle.segment_model.specs.Seats.{Side, Choice, Turn, Planned, IsPlan, MayRun, run, new_session, ring_of, sides_of, moves};
 ghost use Rattle.segment_model.specs.Split.{IsBound, IsFrameOf, sides_next, sides_after};
 ghost use Rattle.link_model.specs.Segment.{RingFate};
-ghost use Rattle.segment_model.specs.Visits.{Stop, Tour, Visits, NeverCarried, AllLost, carried, is_among, new_tour, tour_over};
+ghost use Rattle.segment_model.specs.Visits.{Stop, Tour, Visits, IsLost, IsGivenUp, carried, is_among, new_tour, tour_over};
 ghost use Rattle.segment_model.specs.Books.{PastEnded, EndedIf, DoneIf};
 ghost use Rattle.segment_model.specs.Laws.{EachOf, Promised, HandedBy, KnowsCounters, RestsIf};
 
@@ -92,15 +92,11 @@ pub fn give_up_law<V, A, M, Q, R>()
         first_end (ends x more task) frame [] (news_from station frame (front ++ behind)) ≡ first_end (ends x more task) frame [] (news_from station frame front) }
 {}
 
-/// Visits: behind a lost frame, by which no slave is given up, the next frame carries the same slaves; and no frame behind a give-up carries a
-/// slave that was given up.
+/// Visits: behind a lost frame by which no slave is given up the next frame carries the same slaves; and by a lost frame behind `retry` lost
+/// frames in a row each slave that it carried is given up: those frames carried it, and no later frame does.
 pub fn visit_law<M>()
     ensures again { (size : List (Datagram M) → ℕ) (retry after : ℕ) (ring : List Stop) (t : Tour) (f g : Frame M) (fs : List (Frame M)) → Visits size retry ring t (f ∷ g ∷ fs) →
         f.fate ≡ RingFate.Lost after → nat_lt t.missed retry ≡ true → carried ring g.sent ≡ carried ring f.sent }
-    ensures gone { (size : List (Datagram M) → ℕ) (retry station after : ℕ) (ring : List Stop) (t : Tour) (f : Frame M) (fs : List (Frame M)) → Visits size retry ring t (f ∷ fs) →
-        f.fate ≡ RingFate.Lost after → nat_lt t.missed retry ≡ false → is_among station (carried ring f.sent) ≡ true → NeverCarried ring station fs }
-
-    // So a slave is given up only by a lost frame behind `retry` lost frames in a row, each of which carried the same slaves.
-    ensures missed { (size : List (Datagram M) → ℕ) (retry : ℕ) (ring stops : List Stop) (front : List (Frame M)) (f : Frame M) → Visits size retry ring (new_tour stops) (front ++ f ∷ []) →
-        nat_lt (tour_over retry ring (new_tour stops) front).missed retry ≡ false → (retry ≤ length front) × AllLost ring (carried ring f.sent) (drop (length front - retry) front) }
+    ensures given_up { (size : List (Datagram M) → ℕ) (retry station : ℕ) (ring stops : List Stop) (front : List (Frame M)) (f : Frame M) (rest : List (Frame M)) → Visits size retry ring (new_tour stops) (front ++ f ∷ rest) →
+        IsLost f.fate → nat_lt (tour_over retry ring (new_tour stops) front).missed retry ≡ false → is_among station (carried ring f.sent) ≡ true → IsGivenUp retry ring station (length front) (front ++ f ∷ rest) }
 {}
