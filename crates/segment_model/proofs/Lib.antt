@@ -22,3 +22,4 @@ mod Tours
 mod Trials
 mod Table
 mod Paces
+mod Openings

@@ -72,7 +72,7 @@ turns =
     ∷ []
 
 abbrev ended : Session Adder Mail Service ℕ
-ended = run adder leave (new_session two) turns
+ended = run adder leave (new_session [] two) turns
 
 abbrev rows : List (Seat Adder Mail Service ℕ) → List (List (Row Mail Service ℕ))
 rows ss = map (λ s. rows_of s.side) ss
@@ -93,7 +93,7 @@ all_heard : (heard 4097 ended.frames ≡ held ∷ total 3 ∷ noted 3 ∷ noted 
 all_heard = (refl, refl)
 
 -- the answer is read while the mail of its service is still held
-answered_while_held : (let w = run adder leave (new_session two) (take 9 turns) in map (λ s. s.side.halves.out.holding) w.seats) ≡ Some (record { counter = 2; body = second }) ∷ None ∷ []
+answered_while_held : (let w = run adder leave (new_session [] two) (take 9 turns) in map (λ s. s.side.halves.out.holding) w.seats) ≡ Some (record { counter = 2; body = second }) ∷ None ∷ []
 answered_while_held = refl
 
 -- what the record says of each service, from its own frame on: the second mail of the sum, written again in the row of the post, is no mail of it
@@ -104,7 +104,7 @@ outcomes : (outcome 4097 0 (sum 3) ≡ Some (Outcome.Replied 3, 8)) × (outcome 
 outcomes = (refl, refl, refl)
 
 -- and each frame is one that the master may send
-may : MayRun adder leave (new_session two) turns
+may : MayRun adder leave (new_session [] two) turns
 may = ((write _ _ _ refl refl nothing, (nothing, tt)), ((write _ _ _ refl refl nothing, (nothing, tt)), ((inward _ _ _ refl refl nothing, (nothing, tt)), ((inward _ _ _ refl refl nothing, (nothing, tt)), ((inward _ _ _ refl refl nothing, (nothing, tt)), ((inward _ _ _ refl refl nothing, (nothing, tt)), ((write _ _ _ refl refl nothing, (nothing, tt)), ((write _ _ _ refl refl nothing, (nothing, tt)), ((inward _ _ _ refl refl nothing, (nothing, tt)), ((write _ _ _ refl refl nothing, (write _ _ _ refl refl nothing, tt)), ((inward _ _ _ refl refl nothing, (inward _ _ _ refl refl nothing, tt)), ((write _ _ _ refl refl nothing, (nothing, tt)), ((inward _ _ _ refl refl nothing, (nothing, tt)), tt)))))))))))))
 
 -- so the laws speak of this run
@@ -112,7 +112,7 @@ plan : IsPlan adder two
 plan = record { stations = (((λ e. absurd (omega (arith, e))), tt), (tt, tt)); ready = (refl, (refl, tt)) }
 
 bound : IsBound adder leave two (sides_of ended.seats) (ring_of ended.seats) ended.frames
-bound = record { turns = turns; may = may; sides = refl; ring = refl; frames = refl }
+bound = record { opening = []; quiet = tt; turns = turns; may = may; sides = refl; ring = refl; frames = refl }
 
 promised : EachOf (Promised adder (λ m. false) ended.frames) two (sides_of ended.seats) (ring_of ended.seats)
 promised = bound_promised adder adder_law (λ m. false) leave two plan (sides_of ended.seats) (ring_of ended.seats) ended.frames bound
