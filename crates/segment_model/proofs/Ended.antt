@@ -5,8 +5,8 @@ use Rattle.exchange_model.specs.Rows.{Row}
 use Rattle.segment_model.specs.Record.{Frame, first_end, news_from}
 use Rattle.segment_model.specs.Ends.{Task, Outcome, ends}
 use Rattle.segment_model.specs.Seats.{Side, Seat, newest}
-use Rattle.segment_model.specs.Laws.{EachSeat, SeatPromised, IsAnswered, AllAnswered, IsHanded, AllHanded, NowHanded, HandedBy, NothingInHand, as_outcome}
-use Rattle.segment_model.specs.Books.{Answer, answer_from, answers_of, AllEnded, PastEnded, EndedIf}
+use Rattle.segment_model.specs.Laws.{EachSeat, SeatRests, SeatPromised, IsAnswered, AllAnswered, IsHanded, AllHanded, NowHanded, HandedBy, NothingInHand, as_outcome}
+use Rattle.segment_model.specs.Books.{Answer, answer_from, answers_of, AllEnded, PastEnded, EndedIf, DoneIf}
 use Rattle.segment_model.proofs.Overs.{over_parts}
 use Rattle.segment_model.proofs.Answers.{AllClosed}
 use Rattle.segment_model.proofs.Kept.{Records}
@@ -64,3 +64,9 @@ module _ {V A M Q R : Type 0} (x : Exchange V A M Q R) (law : IsLawful x) where
   each_ended_if more fs [] k a h = tt
   each_ended_if more fs (s ∷ ss) k a h =
       ((λ n. rows_ended more s.station fs s.side.past (newest s.side.now) a.0.answers h.0.past k.0.listens.past (now_ended more s.station fs s.side s.side.now (behind more s.station fs s.side.past (newest s.side.now) a.0.answers) h.0.now n)), each_ended_if more fs ss k.1 a.1 h.1)
+
+  pub each_done : (more : M → Bool) (scripted : ℕ → List Q) (fs : List (Frame M)) (ss : List (Seat V M Q R)) → EachSeat (SeatRests x fs) ss → EachSeat (λ s. EndedIf x more fs s.station s.start s.side s.slave) ss →
+      EachSeat (λ s. DoneIf x more scripted fs s.station s.start s.side s.slave) ss
+  each_done more scripted fs [] r e = tt
+  each_done more scripted fs (s ∷ ss) r e =
+      ((λ settled wants begun. record { live = refl; begun = begun; rests = r.0 settled wants; ended = e.0 wants.nothing }), each_done more scripted fs ss r.1 e.1)

@@ -1,5 +1,5 @@
 -- What the record says of services that end with their last write, turn by turn of a session.
-use Rattle.std.proofs.Common.{◌≡◌, ℕ, zero, suc, Bool, true, false, Option, None, Some, List, [], ◌∷◌, ◌++◌, length, refl}
+use Rattle.std.proofs.Common.{◌≡◌, ℕ, zero, suc, Bool, true, false, Option, None, Some, List, [], ◌∷◌, ◌++◌, length, refl, sym, ap}
 use Rattle.exchange_model.specs.Exchange.{Exchange, IsLawful}
 use Rattle.link_model.specs.Segment.{RingFate}
 use Rattle.segment_model.specs.Slaves.{Registers, Datagram, grams, frame_after, ring_back}
@@ -8,8 +8,9 @@ use Rattle.segment_model.specs.Laws.{EachSeat, SeatPromised, HandedBy, KnowsCoun
 use Rattle.exchange_model.specs.Rows.{Row}
 use Rattle.segment_model.proofs.Rising.{RisesNow}
 use Rattle.segment_model.specs.Seats
-use Rattle.segment_model.specs.Seats.{Seat, Choice, Turn, Session, Planned, IsPlan, link_of, ring_of, seat_next, seats_next, seats_back, seats_lost, seats_after, seat_steps_at, seats_step, writes, happens, run, MayRun, new_session}
+use Rattle.segment_model.specs.Seats.{Seat, Choice, Turn, Session, Planned, IsPlan, link_of, ring_of, seat_next, seats_next, seats_back, seats_lost, seats_after, seat_steps_at, seats_step, writes, happens, run, MayRun, new_session, new_seats, IsOpening}
 use Rattle.segment_model.proofs.Answers
+use Rattle.segment_model.proofs.Openings.{opening_kept}
 use Rattle.segment_model.proofs.Written.{frame_tells}
 use Rattle.segment_model.proofs.Sounds.{SeatSound}
 use Rattle.segment_model.proofs.Fitted.{Fitted, IsReady, begins_fit}
@@ -68,12 +69,12 @@ module _ {V A M Q R : Type 0} (x : Exchange V A M Q R) (law : IsLawful x) where
       let behind = afters_posts w.frames next t.move.sent t.move.fate m.0 before in
       run_posts carry (happens x carry w t) ts m.1 (turn_keeps x law carry w t m.0 h) (steps_posts carry _ (seats_after x (length w.frames) next t.move.sent t.move.fate) t.move.steps behind)
 
-  new_posts : (ps : List (Planned V)) → EachSeat (SeatPosts []) (new_session ps).seats
-  new_posts [] = tt
-  new_posts (p ∷ ps) = (record { out = record { last_is = refl; again = λ m e. absurd (cc) }; past = tt; now = refl }, new_posts ps)
+  new_posts : (opening : List (Frame M)) → IsOpening opening → (ps : List (Planned V)) → EachSeat (SeatPosts opening) (new_seats ps)
+  new_posts opening quiet [] = tt
+  new_posts opening quiet (p ∷ ps) = (record { out = record { last_is = sym (ap (λ k. k.told) (opening_kept p.station opening quiet)); again = λ m e. absurd (cc) }; past = tt; now = refl }, new_posts opening quiet ps)
 
-  pub session_posts : (carry : Registers → Registers) (ps : List (Planned V)) → IsPlan x ps → (ts : List (Turn M Q)) → MayRun x carry (new_session ps) ts → (let w = run x carry (new_session ps) ts in EachSeat (SeatPosts w.frames) w.seats)
-  session_posts carry ps p ts m = run_posts carry (new_session ps) ts m (new_keeps x law ps p) (new_posts ps)
+  pub session_posts : (opening : List (Frame M)) → IsOpening opening → (carry : Registers → Registers) (ps : List (Planned V)) → IsPlan x ps → (ts : List (Turn M Q)) → MayRun x carry (new_session opening ps) ts → (let w = run x carry (new_session opening ps) ts in EachSeat (SeatPosts w.frames) w.seats)
+  session_posts opening quiet carry ps p ts m = run_posts carry (new_session opening ps) ts m (new_keeps x law opening quiet ps p) (new_posts opening quiet ps)
 
   pub each_handed : (more : M → Bool) (fs : List (Frame M)) (ss : List (Seat V M Q R)) → EachSeat (IsReady x law) ss → EachSeat (Fitted x law) ss → EachSeat (Records x law fs) ss → EachSeat (SeatPromised x more fs) ss → EachSeat (SeatPosts fs) ss → EachSeat (λ s. HandedBy x more fs s.station s.start s.side s.slave) ss
   each_handed more fs [] r f k a p = tt

@@ -9,9 +9,10 @@ use Rattle.segment_model.specs.Record.{Frame, News, first_end, or_later, news_ea
 use Rattle.segment_model.specs.Ends.{Outcome, mails_end}
 use Rattle.segment_model.specs.Laws.{EachSeat, IsAnswered, AllAnswered, as_outcome, SeatPromised}
 use Rattle.segment_model.specs.Seats
-use Rattle.segment_model.specs.Seats.{Side, Seat, Choice, Turn, Session, Planned, IsPlan, AllReady, link_of, ring_of, newest, rows_of, seat_next, seats_next, seat_back, seats_back, seats_lost, side_lost, seats_after, seat_steps_at, seats_step, stations_of, happens, run, MayRun, new_seat, new_session}
+use Rattle.segment_model.specs.Seats.{Side, Seat, Choice, Turn, Session, Planned, IsPlan, AllReady, link_of, ring_of, newest, rows_of, seat_next, seats_next, seat_back, seats_back, seats_lost, side_lost, seats_after, seat_steps_at, seats_step, stations_of, happens, run, MayRun, new_seat, new_seats, IsOpening}
 use Rattle.segment_model.proofs.News.{mails_heard-append, heard_frame, joined-append}
 use Rattle.segment_model.proofs.Answers.{Listens, AllClosed, OpenNow, first_reply, reply_end, next_listens, back_listens, lost_listens, kept_of, news_each-push}
+use Rattle.segment_model.proofs.Openings.{opening_kept, opening_heard}
 use Rattle.segment_model.proofs.Rising.{RisesNow, next_rises, heard_rises, waits_rises, rises_all}
 use Rattle.segment_model.proofs.Links.{new_sound}
 use Rattle.segment_model.proofs.Sounds.{SeatSound, frame_keeps, nexts_sound, steps_sound}
@@ -174,33 +175,40 @@ module _ {V A M Q R : Type 0} (x : Exchange V A M Q R) (law : IsLawful x) where
   run_keeps carry w (t ∷ ts) m h = run_keeps carry (happens x carry w t) ts m.1 (turn_keeps carry w t m.0 h)
 
   -- a plan's seats keep it
-  new_stations : (ps : List (Planned V)) → stations_of (new_session {M = M} {Q = Q} {R = R} ps).seats ≡ map (λ p. p.station) ps
+  new_stations : (ps : List (Planned V)) → stations_of (new_seats {M = M} {Q = Q} {R = R} ps) ≡ map (λ p. p.station) ps
   new_stations [] = refl
   new_stations (p ∷ ps) = ap (λ l. p.station ∷ l) (new_stations ps)
 
-  new_ready : (ps : List (Planned V)) → AllReady x ps → EachSeat (IsReady x law) (new_session ps).seats
+  new_ready : (ps : List (Planned V)) → AllReady x ps → EachSeat (IsReady x law) (new_seats ps)
   new_ready [] h = tt
   new_ready (p ∷ ps) h = (h.0, new_ready ps h.1)
 
-  new_sounds : (ps : List (Planned V)) → EachSeat (SeatSound x) (new_session ps).seats
+  new_sounds : (ps : List (Planned V)) → EachSeat (SeatSound x) (new_seats ps)
   new_sounds [] = tt
   new_sounds (p ∷ ps) = (new_sound x p.server, new_sounds ps)
 
-  new_fitted : (ps : List (Planned V)) → EachSeat (Fitted x law) (new_session ps).seats
+  new_fitted : (ps : List (Planned V)) → EachSeat (Fitted x law) (new_seats ps)
   new_fitted [] = tt
   new_fitted (p ∷ ps) = ((refl, refl), new_fitted ps)
 
-  new_records : (ps : List (Planned V)) → EachSeat (Records []) (new_session ps).seats
-  new_records [] = tt
-  new_records (p ∷ ps) = (record { listens = record { kept = refl; past = tt; now = tt }; rises = refl; hears = refl }, new_records ps)
+  new_records : (opening : List (Frame M)) → IsOpening opening → (ps : List (Planned V)) → EachSeat (Records opening) (new_seats ps)
+  new_records opening quiet [] = tt
+  new_records opening quiet (p ∷ ps) = (
+    record {
+      listens = record { kept = sym (ap (λ k. k.heard) (opening_kept p.station opening quiet)); past = tt; now = tt };
+      rises = refl;
+      hears = sym (opening_heard p.station opening quiet);
+    },
+    new_records opening quiet ps,
+  )
 
-  pub new_keeps : (ps : List (Planned V)) → IsPlan x ps → Keeps [] (new_session ps).seats
-  new_keeps ps p = record {
+  pub new_keeps : (opening : List (Frame M)) → IsOpening opening → (ps : List (Planned V)) → IsPlan x ps → Keeps opening (new_seats ps)
+  new_keeps opening quiet ps p = record {
     stations = subst Distinct (sym (new_stations ps)) p.stations;
     ready = new_ready ps p.ready;
     sound = new_sounds ps;
     fitted = new_fitted ps;
-    records = new_records ps;
+    records = new_records opening quiet ps;
   }
 
   -- the answers by the table of completed services
@@ -241,9 +249,3 @@ module _ {V A M Q R : Type 0} (x : Exchange V A M Q R) (law : IsLawful x) where
         fits = subst (Fits x s.start (rows_of s.side) s.slave.node.server.server) k.0.hears (seat_fits x law s r.0 h.0 f.0);
       } in
       (one, each_promised more fs ss r.1 h.1 f.1 k.1)
-
-  pub promised : (more : M → Bool) (carry : Registers → Registers) (ps : List (Planned V)) → IsPlan x ps → (ts : List (Turn M Q)) → MayRun x carry (new_session ps) ts → (let w = run x carry (new_session ps) ts in EachSeat (SeatPromised x more w.frames) w.seats)
-  promised more carry ps p ts m =
-      let w = run x carry (new_session ps) ts in
-      let k = run_keeps carry (new_session ps) ts m (new_keeps ps p) in
-      each_promised more w.frames w.seats k.ready k.sound k.fitted k.records

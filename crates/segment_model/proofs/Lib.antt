@@ -21,3 +21,5 @@ mod Bounds
 mod Tours
 mod Trials
 mod Table
+mod Paces
+mod Openings

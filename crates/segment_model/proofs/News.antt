@@ -24,7 +24,7 @@ heard_heard : {M : Type 0} (ms : List M) → mails_heard (map (λ m. News.Heard 
 heard_heard [] = refl
 heard_heard (m ∷ ms) = ap (λ l. m ∷ l) (heard_heard ms)
 
-heard_found : {M : Type 0} (mine zero : Bool) (found : Option Found) → mails_heard {M = M} (if mine then (if zero then [] else found_news found) else []) ≡ []
+pub heard_found : {M : Type 0} (mine zero : Bool) (found : Option Found) → mails_heard {M = M} (if mine then (if zero then [] else found_news found) else []) ≡ []
 heard_found false zero found = refl
 heard_found true true found = refl
 heard_found true false None = refl

@@ -6,7 +6,7 @@ use Rattle.segment_model.specs.Slaves
 use Rattle.segment_model.specs.Seats
 use Rattle.segment_model.specs.Slaves.{Registers, Datagram, grams, Ring, Move, Slave, frame_after, all_meet, first_meet, ring_after, ring_back, step_at, ring_steps, replayed}
 use Rattle.segment_model.specs.Record.{Frame, frame_of, recorded}
-use Rattle.segment_model.specs.Seats.{Side, Seat, Choice, Turn, Session, Planned, ring_of, sides_of, seat_next, seats_next, seat_back, seats_back, seats_lost, seats_after, seat_steps_at, seats_step, happens, run, MayRun, IsFrame, new_session, moves}
+use Rattle.segment_model.specs.Seats.{Side, Seat, Choice, Turn, Session, Planned, ring_of, sides_of, seat_next, seats_next, seat_back, seats_back, seats_lost, seats_after, seat_steps_at, seats_step, happens, run, MayRun, IsFrame, new_session, new_seats, IsOpening, moves}
 use Rattle.segment_model.specs.Split.{sides_next, sides_back, sides_lost, sides_after, IsFrameOf, IsBound}
 
 module _ {V A M Q R : Type 0} (x : Exchange V A M Q R) where
@@ -114,25 +114,27 @@ module _ {V A M Q R : Type 0} (x : Exchange V A M Q R) where
   frame_from [] sent f = tt
   frame_from (s ∷ ss) sent f = (f.0, frame_from ss sent f.1)
 
-  pub new_bound : (carry : Registers → Registers) (ps : List (Planned V)) → IsBound x carry ps (sides_of (new_session {M = M} {Q = Q} {R = R} ps).seats) (ring_of (new_session {M = M} {Q = Q} {R = R} ps).seats) []
-  new_bound carry ps = record { turns = []; may = tt; sides = refl; ring = refl; frames = refl }
+  pub new_bound : (carry : Registers → Registers) (ps : List (Planned V)) (opening : List (Frame M)) → IsOpening opening → IsBound x carry ps (sides_of (new_seats {M = M} {Q = Q} {R = R} ps)) (ring_of (new_seats {M = M} {Q = Q} {R = R} ps)) opening
+  new_bound carry ps opening quiet = record { opening = opening; quiet = quiet; turns = []; may = tt; sides = refl; ring = refl; frames = refl }
 
   -- a master and a ring that meet in a frame stay a session
   pub bound_step : (carry : Registers → Registers) (ps : List (Planned V)) (ds : List (ℕ × Side M Q R)) (ns : Ring V M) (fs : List (Frame M)) → IsBound x carry ps ds ns fs → (cs : List (Choice Q)) (m : Move M) →
       IsFrameOf (sides_next x (length fs) ds cs) m.sent →
       IsBound x carry ps (sides_after x (length fs) m.sent m.fate (ring_back ns m.sent m.fate) (sides_next x (length fs) ds cs)) (ring_steps x carry (ring_after ns m.sent m.fate) m.steps) (fs ++ frame_of ns m ∷ [])
   bound_step carry ps ds ns fs b cs m f =
-      let z = run x carry (new_session ps) b.turns in
+      let z = run x carry (new_session b.opening ps) b.turns in
       let t : Turn M Q = record { choices = cs; move = m } in
       let k = b.frames in
       let asked : IsFrameOf (sides_of (seats_next x (length z.frames) z.seats cs)) m.sent =
       subst (λ l. IsFrameOf l m.sent) (ap (λ l. sides_next x (length fs) l cs) (sym b.sides) ∙ ap (λ l. sides_next x (length l) (sides_of z.seats) cs) (sym k) ∙ sym (nexts_sides (length z.frames) z.seats cs)) f in
       record {
+        opening = b.opening;
+        quiet = b.quiet;
         turns = b.turns ++ t ∷ [];
-        may = may-append carry (new_session ps) b.turns t b.may (frame_from (seats_next x (length z.frames) z.seats cs) m.sent asked);
+        may = may-append carry (new_session b.opening ps) b.turns t b.may (frame_from (seats_next x (length z.frames) z.seats cs) m.sent asked);
         sides =
-            ap (λ w. sides_of w.seats) (run-append carry (new_session ps) b.turns t) ∙ turn_sides carry z t
+            ap (λ w. sides_of w.seats) (run-append carry (new_session b.opening ps) b.turns t) ∙ turn_sides carry z t
             ∙ (λ i. sides_after x (length (k i)) m.sent m.fate (ring_back (b.ring i) m.sent m.fate) (sides_next x (length (k i)) (b.sides i) cs));
-        ring = ap (λ w. ring_of w.seats) (run-append carry (new_session ps) b.turns t) ∙ turn_ring carry z t ∙ ap (λ ns. ring_steps x carry (ring_after ns m.sent m.fate) m.steps) b.ring;
-        frames = ap (λ w. w.frames) (run-append carry (new_session ps) b.turns t) ∙ turn_frames carry z t ∙ (λ i. k i ++ frame_of (b.ring i) m ∷ []);
+        ring = ap (λ w. ring_of w.seats) (run-append carry (new_session b.opening ps) b.turns t) ∙ turn_ring carry z t ∙ ap (λ ns. ring_steps x carry (ring_after ns m.sent m.fate) m.steps) b.ring;
+        frames = ap (λ w. w.frames) (run-append carry (new_session b.opening ps) b.turns t) ∙ turn_frames carry z t ∙ (λ i. k i ++ frame_of (b.ring i) m ∷ []);
       }

@@ -1,7 +1,10 @@
 -- Worked rows of the table of completed services, each computed.
 use Rattle.std.proofs.Common.{◌≡◌, ℕ, Bool, true, false, Option, Some, None, List, [], ◌∷◌, refl}
 use Rattle.exchange_model.specs.Toy.{Mail, first, posted, held, total, noted, Service, sum, post, adder}
-use Rattle.segment_model.specs.Record.{News, first_end}
+use Rattle.link_model.specs.Frames.{Ask}
+use Rattle.link_model.specs.Segment.{RingFate}
+use Rattle.segment_model.specs.Slaves.{Datagram, Address, Access}
+use Rattle.segment_model.specs.Record.{Frame, News, first_end, counted_from}
 use Rattle.segment_model.specs.Ends.{Task, Outcome, ends}
 
 -- a held mail is a first part, so its reply goes on
@@ -38,3 +41,19 @@ passes :
     × (told_by (Task.Passed (first 1)) (here ∷ (News.BoxFull false ∷ []) ∷ (News.Heard (noted 2) ∷ []) ∷ []) ≡ Some (Outcome.Handed, 7))
     × (told_by (Task.Passed (first 1)) (here ∷ (News.Heard (noted 2) ∷ []) ∷ (News.NothingRead ∷ []) ∷ []) ≡ None)
 passes = (refl, refl, refl, refl)
+
+-- at pace 3 an empty read behind a done one counts once the processor made a step, which it does behind frame 2
+abbrev reads : ℕ → List (Datagram Mail)
+reads counter = record {
+  gram = record { station = 4097; ask = Ask.ReadMail; counter = counter; mail = None; acknowledge = false };
+  address = Address.Station 4097;
+  access = Access.Elsewhere;
+  counter = 0;
+  found = None;
+} ∷ []
+
+abbrev read : ℕ → Frame Mail
+read counter = record { sent = reads 0; fate = RingFate.Back; back = reads counter }
+
+slow : counted_from 4097 3 0 (read 0 ∷ read 1 ∷ read 0 ∷ read 0 ∷ []) ≡ (News.NothingRead ∷ []) ∷ [] ∷ [] ∷ (News.NothingRead ∷ []) ∷ []
+slow = refl

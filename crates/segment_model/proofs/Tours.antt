@@ -1,12 +1,12 @@
 -- A lost frame's slaves come again until they are given up, and no later frame carries a slave that is given up.
-use Rattle.std.proofs.Common.{◌≡◌, ◌⊎◌, inl, inr, ℕ, zero, suc, ◌-◌, ◌<◌, ◌≤◌, ◌==◌, leb, Bool, true, false, not, cond, Option, Some, None, List, [], ◌∷◌, ◌++◌, map, drop, length, refl, ap, sym, ◌∙◌, subst, arith, append_assoc, append-nil, length-append, if◌then◌else◌, eqb-true}
+use Rattle.std.proofs.Common.{◌≡◌, ◌⊎◌, inl, inr, ℕ, zero, suc, ◌-◌, ◌<◌, ◌≤◌, ◌==◌, leb, Bool, true, false, not, cond, Option, Some, None, List, [], ◌∷◌, ◌++◌, map, take, drop, length, refl, ap, sym, ◌∙◌, subst, arith, append_assoc, append-nil, length-append, if◌then◌else◌, eqb-true}
 use Rattle.std.specs.Prelude.{⊤, nat_lt}
 use Rattle.std.proofs.lemmas.Bool.Decides.{leb_tells}
 use Rattle.std.proofs.lemmas.List.{drop-append-le}
 use Rattle.link_model.specs.Segment.{RingFate}
 use Rattle.segment_model.specs.Slaves.{Datagram}
 use Rattle.segment_model.specs.Record.{Frame, back_news}
-use Rattle.segment_model.specs.Visits.{Stop, Tour, carried, split_behind, round, Fills, IsVisit, shows, opening_after, is_among, without, visited, last_of, tour_after, Visits, Absent, NeverCarried, new_tour, tour_over, IsLost, AllLost}
+use Rattle.segment_model.specs.Visits.{Stop, Tour, carried, split_behind, round, Fills, IsVisit, shows, opening_after, is_among, without, visited, last_of, tour_after, Visits, Absent, NeverCarried, new_tour, tour_over, IsLost, AllLost, AllMissed, IsGivenUp}
 
 abbrev stations : List Stop → List ℕ
 stations ss = map (λ s. s.station) ss
@@ -178,16 +178,56 @@ history_over size retry ring t done (f ∷ fs) rest v h =
     let next = history_over size retry ring (tour_after retry t (carried ring f.sent) f f.fate) (done ++ f ∷ []) fs rest v.1 (history_after (size f.sent) retry ring t done f f.fate refl v.0 h) in
     (subst (History retry ring (tour_over retry ring (tour_after retry t (carried ring f.sent) f f.fate) fs)) (append_assoc done (f ∷ []) fs) next.0, next.1)
 
-pub given_up_at : {M : Type 0} (size : List (Datagram M) → ℕ) (retry : ℕ) (ring stops : List Stop) (front : List (Frame M)) (f : Frame M) → Visits size retry ring (new_tour stops) (front ++ f ∷ []) →
+given_up_at : {M : Type 0} (size : List (Datagram M) → ℕ) (retry : ℕ) (ring stops : List Stop) (front : List (Frame M)) (f : Frame M) (rest : List (Frame M)) → Visits size retry ring (new_tour stops) (front ++ f ∷ rest) →
     nat_lt (tour_over retry ring (new_tour stops) front).missed retry ≡ false →
-    (retry ≤ length front) × AllLost ring (carried ring f.sent) (drop (length front - retry) front)
-given_up_at size retry ring stops front f v e =
+    ((retry ≤ length front) × AllLost ring (carried ring f.sent) (drop (length front - retry) front)) × Visits size retry ring (tour_over retry ring (new_tour stops) front) (f ∷ rest)
+given_up_at size retry ring stops front f rest v e =
     let t = tour_over retry ring (new_tour stops) front in
     let begins : History retry ring (new_tour stops) [] = record { most = omega arith; long = omega arith; lost = refl } in
-    let h = history_over size retry ring (new_tour stops) [] front (f ∷ []) v begins in
+    let h = history_over size retry ring (new_tour stops) [] front (f ∷ rest) v begins in
     let all : t.missed ≡ retry = enough t.missed retry e h.0.most in
     let a = lost_same (size f.sent) t.missed ring t.again t.opening (round t.last t.live) front (carried ring f.sent) h.0.long h.0.lost h.1.0 in
-    (subst (λ k. k ≤ length front) all h.0.long, subst (λ k. AllLost ring (carried ring f.sent) (drop (length front - k) front)) all a)
+    ((subst (λ k. k ≤ length front) all h.0.long, subst (λ k. AllLost ring (carried ring f.sent) (drop (length front - k) front)) all a), h.1)
   where
     enough : (m r : ℕ) → nat_lt m r ≡ false → m ≤ r → m ≡ r
     enough m r e l = elim (leb_tells (suc m) r) [ inl c ↦ absurd (let bad : true ≡ false = sym c.0 ∙ e in cc) | inr c ↦ let n = c.1 in omega (arith, l, n) ]
+
+take_over : {X : Type 0} (xs : List X) (y : X) (rest : List X) (n : ℕ) → length xs ≡ n → take (suc n) (xs ++ y ∷ rest) ≡ xs ++ y ∷ []
+take_over [] y rest zero e = refl
+take_over [] y rest (suc n) e = absurd (omega (arith, e))
+take_over (x ∷ xs) y rest zero e = absurd (omega (arith, e))
+take_over (x ∷ xs) y rest (suc n) e = ap (λ l. x ∷ l) (take_over xs y rest n (omega (arith, e)))
+
+drop_over : {X : Type 0} (xs : List X) (y : X) (rest : List X) → drop (suc (length xs)) (xs ++ y ∷ rest) ≡ rest
+drop_over [] y rest = refl
+drop_over (x ∷ xs) y rest = drop_over xs y rest
+
+length-drop : {X : Type 0} (k : ℕ) (l : List X) → length (drop k l) ≡ length l - k
+length-drop zero l = omega arith
+length-drop (suc k) [] = omega arith
+length-drop (suc k) (x ∷ l) = length-drop k l ∙ omega arith
+
+lost_as : (fate : RingFate) → IsLost fate → (after : ℕ) × (fate ≡ RingFate.Lost after)
+lost_as RingFate.Back l = absurd l
+lost_as (RingFate.Lost after) l = (after, refl)
+
+missed_all : {M : Type 0} (ring : List Stop) (station : ℕ) (cs : List ℕ) (fs : List (Frame M)) (f : Frame M) → is_among station cs ≡ true → AllLost ring cs fs → IsLost f.fate → carried ring f.sent ≡ cs → AllMissed ring station (fs ++ f ∷ [])
+missed_all ring station cs [] f m a l e = ((l, ap (is_among station) e ∙ m), tt)
+missed_all ring station cs (g ∷ fs) f m a l e = ((a.0.0, ap (is_among station) a.0.1 ∙ m), missed_all ring station cs fs f m a.1 l e)
+
+pub is_given_up : {M : Type 0} (size : List (Datagram M) → ℕ) (retry station : ℕ) (ring stops : List Stop) (front : List (Frame M)) (f : Frame M) (rest : List (Frame M)) → Visits size retry ring (new_tour stops) (front ++ f ∷ rest) →
+    IsLost f.fate → nat_lt (tour_over retry ring (new_tour stops) front).missed retry ≡ false → is_among station (carried ring f.sent) ≡ true → IsGivenUp retry ring station (length front) (front ++ f ∷ rest)
+is_given_up size retry station ring stops front f rest v l e m =
+    let a = given_up_at size retry ring stops front f rest v e in
+    let g = length front in
+    let lost = drop (g - retry) front in
+    let long : length lost ≡ retry = length-drop (g - retry) front ∙ (let first = a.0.0 in omega (arith, first)) in
+    let cut : take (suc retry) (drop (g - retry) (front ++ f ∷ rest)) ≡ lost ++ f ∷ [] =
+    ap (take (suc retry)) (drop-append-le (g - retry) front (f ∷ rest) (omega arith)) ∙ take_over lost f rest retry long in
+    let fate = lost_as f.fate l in
+    record {
+      first = a.0.0;
+      sent = let k = length-append front (f ∷ rest) in omega (arith, k);
+      missed = subst (AllMissed ring station) (sym cut) (missed_all ring station (carried ring f.sent) lost f m a.0.1 l refl);
+      behind = subst (NeverCarried ring station) (sym (drop_over front f rest)) (given_up_never size retry station fate.0 ring (tour_over retry ring (new_tour stops) front) f rest a.1 fate.1 e m);
+    }

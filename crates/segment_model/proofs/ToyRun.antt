@@ -1,6 +1,6 @@
 -- A computed run of the toy exchange over two slaves: a lost write, a lost read with its repeat, an answer while its mail is still held
 -- (the slave's processor is slow), and a frame for both slaves.
-use Rattle.std.proofs.Common.{◌≡◌, ℕ, true, false, Option, Some, None, List, [], ◌∷◌, map, take, refl}
+use Rattle.std.proofs.Common.{◌≡◌, ℕ, true, false, Option, Some, None, List, [], ◌∷◌, map, take, refl, arith}
 use Rattle.exchange_model.specs.Toy.{Mail, first, second, posted, held, total, noted, Service, sum, post, Adder, adder}
 use Rattle.exchange_model.specs.Rows.{Row}
 use Rattle.link_model.specs.Frames.{Ask, IsSent.nothing, IsSent.write, IsSent.inward}
@@ -8,7 +8,11 @@ use Rattle.link_model.specs.Segment.{RingFate}
 use Rattle.segment_model.specs.Slaves.{Registers, Address, Access, Datagram}
 use Rattle.segment_model.specs.Record.{heard, news_from, first_end}
 use Rattle.segment_model.specs.Ends.{Task, Outcome, ends}
-use Rattle.segment_model.specs.Seats.{Session, Seat, Choice, Turn, Planned, rows_of, new_session, run, MayRun}
+use Rattle.segment_model.specs.Split.{IsBound}
+use Rattle.segment_model.specs.Laws.{EachOf, Promised, HandedBy}
+use Rattle.exchange_model.proofs.Toys.{adder_law}
+use Rattle.segment_model.proofs.Bounds.{bound_promised, bound_handed}
+use Rattle.segment_model.specs.Seats.{Session, Seat, Choice, Turn, Planned, rows_of, new_session, run, MayRun, IsPlan, sides_of, ring_of}
 
 abbrev blank : Registers
 blank = record { station = 4097; first = true; second = true; control = None; state = 2; refused = None }
@@ -68,7 +72,7 @@ turns =
     ∷ []
 
 abbrev ended : Session Adder Mail Service ℕ
-ended = run adder leave (new_session two) turns
+ended = run adder leave (new_session [] two) turns
 
 abbrev rows : List (Seat Adder Mail Service ℕ) → List (List (Row Mail Service ℕ))
 rows ss = map (λ s. rows_of s.side) ss
@@ -89,7 +93,7 @@ all_heard : (heard 4097 ended.frames ≡ held ∷ total 3 ∷ noted 3 ∷ noted 
 all_heard = (refl, refl)
 
 -- the answer is read while the mail of its service is still held
-answered_while_held : (let w = run adder leave (new_session two) (take 9 turns) in map (λ s. s.side.halves.out.holding) w.seats) ≡ Some (record { counter = 2; body = second }) ∷ None ∷ []
+answered_while_held : (let w = run adder leave (new_session [] two) (take 9 turns) in map (λ s. s.side.halves.out.holding) w.seats) ≡ Some (record { counter = 2; body = second }) ∷ None ∷ []
 answered_while_held = refl
 
 -- what the record says of each service, from its own frame on: the second mail of the sum, written again in the row of the post, is no mail of it
@@ -100,5 +104,18 @@ outcomes : (outcome 4097 0 (sum 3) ≡ Some (Outcome.Replied 3, 8)) × (outcome 
 outcomes = (refl, refl, refl)
 
 -- and each frame is one that the master may send
-may : MayRun adder leave (new_session two) turns
+may : MayRun adder leave (new_session [] two) turns
 may = ((write _ _ _ refl refl nothing, (nothing, tt)), ((write _ _ _ refl refl nothing, (nothing, tt)), ((inward _ _ _ refl refl nothing, (nothing, tt)), ((inward _ _ _ refl refl nothing, (nothing, tt)), ((inward _ _ _ refl refl nothing, (nothing, tt)), ((inward _ _ _ refl refl nothing, (nothing, tt)), ((write _ _ _ refl refl nothing, (nothing, tt)), ((write _ _ _ refl refl nothing, (nothing, tt)), ((inward _ _ _ refl refl nothing, (nothing, tt)), ((write _ _ _ refl refl nothing, (write _ _ _ refl refl nothing, tt)), ((inward _ _ _ refl refl nothing, (inward _ _ _ refl refl nothing, tt)), ((write _ _ _ refl refl nothing, (nothing, tt)), ((inward _ _ _ refl refl nothing, (nothing, tt)), tt)))))))))))))
+
+-- so the laws speak of this run
+plan : IsPlan adder two
+plan = record { stations = (((λ e. absurd (omega (arith, e))), tt), (tt, tt)); ready = (refl, (refl, tt)) }
+
+bound : IsBound adder leave two (sides_of ended.seats) (ring_of ended.seats) ended.frames
+bound = record { opening = []; quiet = tt; turns = turns; may = may; sides = refl; ring = refl; frames = refl }
+
+promised : EachOf (Promised adder (λ m. false) ended.frames) two (sides_of ended.seats) (ring_of ended.seats)
+promised = bound_promised adder adder_law (λ m. false) leave two plan (sides_of ended.seats) (ring_of ended.seats) ended.frames bound
+
+handed : EachOf (HandedBy adder (λ m. false) ended.frames) two (sides_of ended.seats) (ring_of ended.seats)
+handed = bound_handed adder adder_law (λ m. false) leave two plan (sides_of ended.seats) (ring_of ended.seats) ended.frames bound

@@ -6,7 +6,7 @@ use Rattle.segment_model.specs.Slaves.{Slave}
 use Rattle.segment_model.specs.Record.{Frame, first_end, news_from}
 use Rattle.segment_model.specs.Ends.{Task, Outcome, ends}
 use Rattle.segment_model.specs.Seats.{Side, rows_of}
-use Rattle.segment_model.specs.Laws.{Rests, NothingInHand}
+use Rattle.segment_model.specs.Laws.{Rests, NothingInHand, IsSettled, WantsNothing}
 
 -- the answer of a service: its outcome with the frame that completed it; in doubt, where it began and was not completed; or not sent
 pub data Answer (R : Type 0) : Type 0 where
@@ -52,3 +52,8 @@ PastEnded x more fs station start d n = AllEnded (answers_of x more station fs d
 -- none of them is, where nothing is in hand
 abbrev pub EndedIf : {V A M Q R : Type 0} → Exchange V A M Q R → (M → Bool) → List (Frame M) → ℕ → V → Side M Q R → Slave V M → Type 0
 EndedIf x more fs station start d n = NothingInHand x d d.now → AllEnded (answers_of x more station fs (rows_of d) 0)
+
+-- all is done of a slave that is settled, of which the master wants nothing, and of which all scripted services have begun
+abbrev pub DoneIf : {V A M Q R : Type 0} → Exchange V A M Q R → (M → Bool) → (ℕ → List Q) → List (Frame M) → ℕ → V → Side M Q R → Slave V M → Type 0
+DoneIf x more scripted fs station start d n =
+    IsSettled n → WantsNothing x d → services (rows_of d) ≡ scripted station → IsDone x more fs (scripted station) None station start d n

@@ -1,5 +1,5 @@
 -- The record of a run: frames as they were sent and came back, and the news that they bring of one slave, frame by frame.
-use Rattle.std.specs.Prelude.{ℕ, suc, ◌==◌, Bool, false, if◌then◌else◌, Option, Some, None, List, [], ◌∷◌, ◌++◌, map, drop}
+use Rattle.std.specs.Prelude.{ℕ, suc, ◌==◌, ◌%◌, ◌&&◌, Bool, true, false, not, if◌then◌else◌, Option, Some, None, List, [], ◌∷◌, ◌++◌, map, drop}
 use Rattle.exchange_model.specs.Exchange.{Exchange}
 use Rattle.link_model.specs.Mails.{news, seen}
 use Rattle.link_model.specs.Frames.{Ask, Gram, mail_back}
@@ -166,3 +166,39 @@ or_later (Some r) frame later = Some (r, frame)
 abbrev pub first_end : {N R : Type 0} → (List N → Option R) → ℕ → List N → List (List N) → Option (R × ℕ)
 first_end ends frame before [] = None
 first_end ends frame before (ns ∷ nss) = or_later (ends (before ++ ns)) frame (first_end ends (suc frame) (before ++ ns) nss)
+
+-- a read of mailbox 1 was done
+abbrev pub is_read : {M : Type 0} → Ask M → Bool
+is_read (Ask.WriteMail m) = false
+is_read Ask.ReadMail = true
+is_read (Ask.WriteRequest bit) = false
+is_read Ask.ReadAcknowledge = false
+is_read Ask.Other = false
+
+-- a done read of mailbox 1 of this station came back in the frame
+abbrev pub did_read : {M : Type 0} → ℕ → List (Gram M) → Bool
+did_read station [] = false
+did_read station (g ∷ gs) = if g.station == station && is_read g.ask && not (g.counter == 0) then true else did_read station gs
+
+-- news without empty reads
+abbrev pub without_empty : {M : Type 0} → List (News M) → List (News M)
+without_empty [] = []
+without_empty (News.NothingRead ∷ ns) = without_empty ns
+without_empty (News.Told m ∷ ns) = News.Told m ∷ without_empty ns
+without_empty (News.Written ∷ ns) = News.Written ∷ without_empty ns
+without_empty (News.Heard m ∷ ns) = News.Heard m ∷ without_empty ns
+without_empty (News.BoxFull full ∷ ns) = News.BoxFull full ∷ without_empty ns
+without_empty (News.Status state refused ∷ ns) = News.Status state refused ∷ without_empty ns
+
+-- the news of a slow slave, for a mail that is passed on: an empty read counts only where the slave's processor, which steps behind each
+-- frame j whose j + 1 its pace divides, made a step since the last done read; `stepped` says so before frame j
+abbrev pub counted_each : {M : Type 0} → ℕ → ℕ → ℕ → Bool → List (Frame M) → List (List (News M)) → List (List (News M))
+counted_each station pace j stepped [] nss = nss
+counted_each station pace j stepped (f ∷ fs) [] = []
+counted_each station pace j stepped (f ∷ fs) (ns ∷ nss) =
+    (if stepped then ns else without_empty ns)
+    ∷ counted_each station pace (suc j) (if suc j % pace == 0 then true else stepped && not (did_read station (grams f.back))) fs nss
+
+-- from this frame on; before the first done read each empty read counts
+abbrev pub counted_from : {M : Type 0} → ℕ → ℕ → ℕ → List (Frame M) → List (List (News M))
+counted_from station pace frame fs = drop frame (counted_each station pace 0 true fs (news_each station nothing_kept fs))

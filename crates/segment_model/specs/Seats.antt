@@ -249,9 +249,23 @@ new_seat p =
       accepted = [];
     }
 
--- a session at the end of bring-up
-abbrev pub new_session : {V M Q R : Type 0} → List (Planned V) → Session V M Q R
-new_session ps = record { seats = map (λ p. new_seat p) ps; frames = [] }
+-- the seats of a plan at the end of bring-up
+abbrev pub new_seats : {V M Q R : Type 0} → List (Planned V) → List (Seat V M Q R)
+new_seats ps = map (λ p. new_seat p) ps
+
+-- a session at the end of bring-up, which took these frames
+abbrev pub new_session : {V M Q R : Type 0} → List (Frame M) → List (Planned V) → Session V M Q R
+new_session opening ps = record { seats = new_seats ps; frames = opening }
+
+-- no datagram of these is an access of a mailbox
+abbrev pub NoMailbox : {M : Type 0} → List (Datagram M) → Type 0
+NoMailbox [] = ⊤
+NoMailbox (d ∷ ds) = (d.gram.ask ≡ Ask.Other) × NoMailbox ds
+
+-- the frames of bring-up access no mailbox
+abbrev pub IsOpening : {M : Type 0} → List (Frame M) → Type 0
+IsOpening [] = ⊤
+IsOpening (f ∷ fs) = (NoMailbox f.sent × NoMailbox f.back) × IsOpening fs
 
 -- the servers are ready
 abbrev pub AllReady : {V A M Q R : Type 0} → Exchange V A M Q R → List (Planned V) → Type 0

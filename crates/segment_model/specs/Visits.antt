@@ -1,5 +1,5 @@
 -- Visits: which slaves each frame carries datagrams for, in which order. It follows from the frames before and what came back of them.
-use Rattle.std.specs.Prelude.{◌≡◌, ℕ, zero, suc, ◌+◌, ◌<◌, ◌==◌, Bool, true, false, not, nat_lt, if◌then◌else◌, Option, Some, None, List, [], ◌∷◌, ◌++◌, filter, ⊤}
+use Rattle.std.specs.Prelude.{◌≡◌, ℕ, zero, suc, ◌+◌, ◌-◌, ◌<◌, ◌≤◌, ◌==◌, Bool, true, false, not, nat_lt, if◌then◌else◌, Option, Some, None, List, [], ◌∷◌, ◌++◌, filter, take, drop, length, ⊤}
 use Rattle.link_model.specs.Segment.{RingFate}
 use Rattle.segment_model.specs.Slaves.{Datagram, Address}
 use Rattle.segment_model.specs.Record.{Frame, News, back_news}
@@ -143,3 +143,15 @@ IsLost (RingFate.Lost after) = ⊤
 abbrev pub AllLost : {M : Type 0} → List Stop → List ℕ → List (Frame M) → Type 0
 AllLost ring cs [] = ⊤
 AllLost ring cs (f ∷ fs) = (IsLost f.fate × (carried ring f.sent ≡ cs)) × AllLost ring cs fs
+
+-- each of these was lost, and carried this slave
+abbrev pub AllMissed : {M : Type 0} → List Stop → ℕ → List (Frame M) → Type 0
+AllMissed ring station [] = ⊤
+AllMissed ring station (f ∷ fs) = (IsLost f.fate × (is_among station (carried ring f.sent) ≡ true)) × AllMissed ring station fs
+
+-- A SLAVE IS GIVEN UP AT FRAME g: frames g - retry to g were lost and carried it, and no later frame does
+pub record IsGivenUp {M : Type 0} (retry : ℕ) (ring : List Stop) (station g : ℕ) (fs : List (Frame M)) : Type 0 where
+  pub first : retry ≤ g
+  pub sent : g < length fs
+  pub missed : AllMissed ring station (take (suc retry) (drop (g - retry) fs))
+  pub behind : NeverCarried ring station (drop (suc g) fs)

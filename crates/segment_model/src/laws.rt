@@ -1,17 +1,17 @@
 //! The laws of a session with a segment. Each function does nothing and carries laws as its contract.
 
-ghost use Rattle.std.specs.Prelude.{◌≡◌, ◌≤◌, ℕ, Bool, true, false, nat_lt, Option, None, List, [], ◌∷◌, ◌++◌, length, drop, ◌-◌};
+ghost use Rattle.std.specs.Prelude.{◌≡◌, ◌≤◌, ℕ, Bool, true, false, nat_lt, Option, None, List, [], ◌∷◌, ◌++◌, length, drop};
 ghost use Rattle.exchange_model.specs.Exchange.{Exchange, IsLawful};
 ghost use Rattle.exchange_model.specs.Rows.{answer_after};
 ghost use Rattle.segment_model.specs.Slaves.{Registers, Datagram, Ring, Move, ring_after, ring_back, ring_steps, replayed, paced};
-ghost use Rattle.segment_model.specs.Record.{Frame, frame_of, recorded, sent_fates, news_from, first_end, frame_news, kept_all, nothing_kept, joined};
+ghost use Rattle.segment_model.specs.Record.{Frame, frame_of, recorded, sent_fates, news_from, first_end, frame_news, kept_all, nothing_kept, joined, news_each, counted_each};
 ghost use Rattle.segment_model.specs.Ends.{Task, ends};
 ghost use Rattle.segment_model.specs.GiveUps.{NoneFor};
-ghost use Rattle.segment_model.specs.Seats.{Side, Choice, Turn, Planned, IsPlan, MayRun, run, new_session, ring_of, sides_of, moves};
+ghost use Rattle.segment_model.specs.Seats.{Side, Choice, Turn, Planned, IsPlan, MayRun, IsOpening, run, new_session, ring_of, sides_of, moves};
 ghost use Rattle.segment_model.specs.Split.{IsBound, IsFrameOf, sides_next, sides_after};
 ghost use Rattle.link_model.specs.Segment.{RingFate};
-ghost use Rattle.segment_model.specs.Visits.{Stop, Tour, Visits, NeverCarried, AllLost, carried, is_among, new_tour, tour_over};
-ghost use Rattle.segment_model.specs.Books.{PastEnded, EndedIf};
+ghost use Rattle.segment_model.specs.Visits.{Stop, Tour, Visits, IsLost, IsGivenUp, carried, is_among, new_tour, tour_over};
+ghost use Rattle.segment_model.specs.Books.{PastEnded, EndedIf, DoneIf};
 ghost use Rattle.segment_model.specs.Laws.{EachOf, Promised, HandedBy, KnowsCounters, RestsIf};
 
 /// What a session promises of each slave of its plan, with the master's side of it, the slave and the frames as they have come to be.
@@ -38,25 +38,30 @@ pub fn session_law<V, A, M, Q, R>()
     // Where a slave is settled and the master wants nothing of it, all its rows are carried out, and all emissions were heard.
     ensures rests { (x : Exchange V A M Q R) → IsLawful x → (carry : Registers → Registers) (ps : List (Planned V)) → IsPlan x ps →
         (ds : List (ℕ × Side M Q R)) (ns : Ring V M) (fs : List (Frame M)) → IsBound x carry ps ds ns fs → EachOf (RestsIf x fs) ps ds ns }
+
+    // And all is done where besides all its scripted services, here by its station, have begun.
+    ensures done { (x : Exchange V A M Q R) → IsLawful x → (more : M → Bool) (scripted : ℕ → List Q) (carry : Registers → Registers) (ps : List (Planned V)) → IsPlan x ps →
+        (ds : List (ℕ × Side M Q R)) (ns : Ring V M) (fs : List (Frame M)) → IsBound x carry ps ds ns fs → EachOf (DoneIf x more scripted fs) ps ds ns }
 {}
 
 /// The slaves and what came back are the replay of the frames, their fates and the processor steps behind them, whatever the master is.
 pub fn replay_law<V, A, M, Q, R>()
-    ensures ring { (x : Exchange V A M Q R) (carry : Registers → Registers) (ps : List (Planned V)) (ts : List (Turn M Q)) →
-        let new = new_session {R = R} ps in ring_of (run x carry new ts).seats ≡ replayed x carry (ring_of new.seats) (moves ts) }
-    ensures frames { (x : Exchange V A M Q R) (carry : Registers → Registers) (ps : List (Planned V)) (ts : List (Turn M Q)) →
-        let new = new_session {R = R} ps in (run x carry new ts).frames ≡ recorded x carry (ring_of new.seats) (moves ts) }
+    ensures ring { (x : Exchange V A M Q R) (carry : Registers → Registers) (ps : List (Planned V)) (opening : List (Frame M)) (ts : List (Turn M Q)) →
+        let new = new_session {R = R} opening ps in ring_of (run x carry new ts).seats ≡ replayed x carry (ring_of new.seats) (moves ts) }
+    ensures frames { (x : Exchange V A M Q R) (carry : Registers → Registers) (ps : List (Planned V)) (opening : List (Frame M)) (ts : List (Turn M Q)) →
+        let new = new_session {R = R} opening ps in (run x carry new ts).frames ≡ opening ++ recorded x carry (ring_of new.seats) (moves ts) }
 
     // With slow slaves, behind frame j each slave steps whose pace divides j + 1: then frames, fates and paces alone give both.
-    ensures paced { (x : Exchange V A M Q R) (carry : Registers → Registers) (ps : List (Planned V)) (ts : List (Turn M Q)) (paces : List ℕ) →
-        let new = new_session {R = R} ps in let w = run x carry new ts in let at = paced paces 0 (sent_fates w.frames) in moves ts ≡ at →
-        (ring_of w.seats ≡ replayed x carry (ring_of new.seats) at) × (w.frames ≡ recorded x carry (ring_of new.seats) at) }
+    ensures paced { (x : Exchange V A M Q R) (carry : Registers → Registers) (ps : List (Planned V)) (opening : List (Frame M)) (ts : List (Turn M Q)) (paces : List ℕ) →
+        let new = new_session {R = R} opening ps in let w = run x carry new ts in let at = paced paces (length opening) (sent_fates (drop (length opening) w.frames)) in moves ts ≡ at →
+        (ring_of w.seats ≡ replayed x carry (ring_of new.seats) at) × (w.frames ≡ opening ++ recorded x carry (ring_of new.seats) at) }
 {}
 
 /// A master and a ring that meet in frames alone are a session: what each of them has to keep.
 pub fn split_law<V, A, M, Q, R>()
-    ensures begins { (x : Exchange V A M Q R) (carry : Registers → Registers) (ps : List (Planned V)) →
-        let new = new_session {M = M} {Q = Q} {R = R} ps in IsBound x carry ps (sides_of new.seats) (ring_of new.seats) [] }
+    // It begins behind the frames of bring-up, which access no mailbox.
+    ensures begins { (x : Exchange V A M Q R) (carry : Registers → Registers) (ps : List (Planned V)) (opening : List (Frame M)) → IsOpening opening →
+        let new = new_session {Q = Q} {R = R} opening ps in IsBound x carry ps (sides_of new.seats) (ring_of new.seats) opening }
 
     // The master's sides go on by its choices and by what came back or was lost, the ring by the frame, its fate and its steps.
     ensures steps { (x : Exchange V A M Q R) (carry : Registers → Registers) (ps : List (Planned V)) (ds : List (ℕ × Side M Q R)) (ns : Ring V M) (fs : List (Frame M)) →
@@ -64,8 +69,8 @@ pub fn split_law<V, A, M, Q, R>()
         IsBound x carry ps (sides_after x (length fs) m.sent m.fate (ring_back ns m.sent m.fate) asked) (ring_steps x carry (ring_after ns m.sent m.fate) m.steps) (fs ++ frame_of ns m ∷ []) }
 
     // And each run of a session is such a meeting.
-    ensures runs { (x : Exchange V A M Q R) (carry : Registers → Registers) (ps : List (Planned V)) (ts : List (Turn M Q)) →
-        let new = new_session {M = M} {Q = Q} {R = R} ps in MayRun x carry new ts → let w = run x carry new ts in IsBound x carry ps (sides_of w.seats) (ring_of w.seats) w.frames }
+    ensures runs { (x : Exchange V A M Q R) (carry : Registers → Registers) (ps : List (Planned V)) (opening : List (Frame M)) → IsOpening opening → (ts : List (Turn M Q)) →
+        let new = new_session {Q = Q} {R = R} opening ps in MayRun x carry new ts → let w = run x carry new ts in IsBound x carry ps (sides_of w.seats) (ring_of w.seats) w.frames }
 {}
 
 /// An outcome, of a task of whichever kind, frame by frame: there is none before its first frame, and one frame more completes it by the news
@@ -77,21 +82,22 @@ pub fn outcome_law<V, A, M, Q, R>()
         answer_after (length fs) (first_end (ends x more task) frame [] (news_from station frame fs)) (ends x more task (joined (news_from station frame fs) ++ frame_news station (kept_all station nothing_kept fs) f)) }
 {}
 
+/// At pace 1 each empty read counts: the news of a slave are those of the record.
+pub fn pace_law<M>()
+    ensures { (station : ℕ) (fs : List (Frame M)) → counted_each station 1 0 true fs (news_each station nothing_kept fs) ≡ news_each station nothing_kept fs }
+{}
+
 /// A give-up: frames that carry nothing for a slave complete nothing, so what its tasks come to is told by the frames before.
 pub fn give_up_law<V, A, M, Q, R>()
     ensures { (x : Exchange V A M Q R) → IsLawful x → (more : M → Bool) (task : Task M Q) (station frame : ℕ) (front behind : List (Frame M)) → frame ≤ length front → NoneFor station behind →
         first_end (ends x more task) frame [] (news_from station frame (front ++ behind)) ≡ first_end (ends x more task) frame [] (news_from station frame front) }
 {}
 
-/// Visits: behind a lost frame, by which no slave is given up, the next frame carries the same slaves; and no frame behind a give-up carries a
-/// slave that was given up.
+/// Visits: behind a lost frame by which no slave is given up the next frame carries the same slaves; and by a lost frame behind `retry` lost
+/// frames in a row each slave that it carried is given up: those frames carried it, and no later frame does.
 pub fn visit_law<M>()
     ensures again { (size : List (Datagram M) → ℕ) (retry after : ℕ) (ring : List Stop) (t : Tour) (f g : Frame M) (fs : List (Frame M)) → Visits size retry ring t (f ∷ g ∷ fs) →
         f.fate ≡ RingFate.Lost after → nat_lt t.missed retry ≡ true → carried ring g.sent ≡ carried ring f.sent }
-    ensures gone { (size : List (Datagram M) → ℕ) (retry station after : ℕ) (ring : List Stop) (t : Tour) (f : Frame M) (fs : List (Frame M)) → Visits size retry ring t (f ∷ fs) →
-        f.fate ≡ RingFate.Lost after → nat_lt t.missed retry ≡ false → is_among station (carried ring f.sent) ≡ true → NeverCarried ring station fs }
-
-    // So a slave is given up only by a lost frame behind `retry` lost frames in a row, each of which carried the same slaves.
-    ensures missed { (size : List (Datagram M) → ℕ) (retry : ℕ) (ring stops : List Stop) (front : List (Frame M)) (f : Frame M) → Visits size retry ring (new_tour stops) (front ++ f ∷ []) →
-        nat_lt (tour_over retry ring (new_tour stops) front).missed retry ≡ false → (retry ≤ length front) × AllLost ring (carried ring f.sent) (drop (length front - retry) front) }
+    ensures given_up { (size : List (Datagram M) → ℕ) (retry station : ℕ) (ring stops : List Stop) (front : List (Frame M)) (f : Frame M) (rest : List (Frame M)) → Visits size retry ring (new_tour stops) (front ++ f ∷ rest) →
+        IsLost f.fate → nat_lt (tour_over retry ring (new_tour stops) front).missed retry ≡ false → is_among station (carried ring f.sent) ≡ true → IsGivenUp retry ring station (length front) (front ++ f ∷ rest) }
 {}

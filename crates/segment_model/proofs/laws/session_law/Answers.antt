@@ -1,6 +1,6 @@
 -- The lemmas on a session, at the types of the function.
 use Rattle.std.proofs.Common.{false}
-use Rattle.segment_model.proofs.Bounds.{bound_promised, bound_handed, bound_ended, bound_counted, bound_rests}
+use Rattle.segment_model.proofs.Bounds.{bound_promised, bound_handed, bound_ended, bound_counted, bound_rests, bound_done}
 use Rattle.segment_model.proofs.laws.session_law.Goals as goal
 
 pub returns-clause-promised : goal.returns-clause-promised
@@ -17,3 +17,6 @@ returns-clause-in_doubt g c = λ x law more carry ps p ds ns fs b. bound_ended x
 
 pub returns-clause-counters : goal.returns-clause-counters
 returns-clause-counters g c = λ x law carry ps p ds ns fs b. bound_counted x law (λ m. false) carry ps p ds ns fs b
+
+pub returns-clause-done : goal.returns-clause-done
+returns-clause-done g c = λ x law more scripted carry ps p ds ns fs b. bound_done x law more carry ps p ds ns fs b scripted
