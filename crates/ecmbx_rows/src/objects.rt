@@ -47,12 +47,12 @@ fn objects_are_served(rt: HostRuntime) -> Result<(), Fail> {
 fn a_long_list_is_whole(rt: HostRuntime) -> Result<(), Fail> {
     let mut file = String::new(rt.alloc());
     let mut value = String::from_str(rt.alloc(), "01000020")?;
-    for index in 8193..8222 {
+    for low in 1..30_u8 {
+        let index = 8192 + u32::from(low);
         let object = format!(in rt.alloc();
             "[[slave.object]]\nindex = {index}\nkind = \"variable\"\n[[slave.object.entry]]\ntype = 5\naccess = 63\nvalue = \"00\"\n"
         )?;
         file.push_str(object.as_str())?;
-        let low = index - 8192;
         let digits = format!(in rt.alloc(); "{low:02x}20")?;
         value.push_str(digits.as_str())?;
     }
