@@ -1,0 +1,134 @@
+-- An exchange whose application has an AL state, with its state services beside the services by mails: one exchange of both.
+use Rattle.std.specs.Prelude.{◌≡◌, ◌+◌, ℕ, suc, Bool, true, false, Option, Some, None, option_map, List, [], ◌∷◌, ◌++◌, map}
+use Rattle.exchange_model.specs.Exchange.{Exchange, plain, given, after}
+use Rattle.segment_model.specs.Ends.{Outcome}
+use Rattle.state_model.specs.States.{Table}
+use Rattle.state_model.specs.Promises.{state_behind, answer_of}
+
+-- how an AL state stands in an exchange
+pub record Stated (V A Q : Type 0) : Type 0 where
+  -- a server that is told its slave's AL state, and what that does to its application
+  pub tell : ℕ → V → V
+  pub told : ℕ → A → A
+  -- the AL state of an application
+  pub state : A → ℕ
+  -- whether the last mail of a service is an acknowledgement, which brings no reply
+  pub acknowledged : Q → Bool
+
+-- what such an exchange owes beside the laws of exchange
+pub record IsStated {V A M Q R : Type 0} (x : Exchange V A M Q R) (s : Stated V A Q) : Type 0 where
+  -- the AL state is one of the application's parts: telling it leaves the rest of the server
+  pub ready : (state : ℕ) (v : V) → x.ready (s.tell state v) ≡ x.ready v
+  pub handled : (state : ℕ) (v : V) → x.handled (s.tell state v) ≡ x.handled v
+  pub app : (state : ℕ) (v : V) → x.app (s.tell state v) ≡ s.told state (x.app v)
+  pub is : (state : ℕ) (a : A) → s.state (s.told state a) ≡ state
+  -- the state that stands is no news
+  pub same : (v : V) → s.tell (s.state (x.app v)) v ≡ v
+  -- no mail changes it
+  pub stays : (v : V) (m : M) → s.state (x.app (x.serve v m).0) ≡ s.state (x.app v)
+  -- each mail of a service brings a reply at last, but for an acknowledgement: with all replies all mails were taken
+  pub last : (v : V) (q : Q) → x.ready v ≡ true → x.valid q ≡ true → x.handed q ≡ false → s.acknowledged q ≡ false → (p r : List M) → x.full v q ≡ p ++ r →
+      plain x.emission (given x.serve v p) ≡ plain x.emission (given x.serve v (x.full v q)) → r ≡ []
+
+-- what a server takes: a mail, or a control word with this target
+pub data Act (M : Type 0) : Type 0 where
+  Mail : M → Act M
+  Word : ℕ → Act M
+
+-- a service by mails, or a change of the AL state to this target
+pub data Service (Q : Type 0) : Type 0 where
+  Mails : Q → Service Q
+  State : ℕ → Service Q
+
+-- a server with the number of the control words that it has carried out
+pub record Counting (V : Type 0) : Type 0 where
+  pub server : V
+  pub words : ℕ
+
+-- mails as what a server takes
+abbrev pub acts : {M : Type 0} → List M → List (Act M)
+acts ms = map (λ m. Act.Mail m) ms
+
+-- the mails among these
+abbrev pub mails : {M : Type 0} → List (Act M) → List M
+mails [] = []
+mails (Act.Mail m ∷ as) = m ∷ mails as
+mails (Act.Word target ∷ as) = mails as
+
+-- these as mails, where all are
+abbrev pub all_mails : {M : Type 0} → List (Act M) → Option (List M)
+all_mails [] = Some []
+all_mails (Act.Mail m ∷ as) = option_map (λ ms. m ∷ ms) (all_mails as)
+all_mails (Act.Word target ∷ as) = None
+
+-- a server behind a mail, or behind a control word: its AL state is the one behind the word, by the slave's table
+abbrev pub serve_act : {V A M Q R : Type 0} → Exchange V A M Q R → Stated V A Q → Table → Counting V → Act M → Counting V × List (Act M)
+serve_act x s table c (Act.Mail m) = (record c { server = (x.serve c.server m).0 }, acts (x.serve c.server m).1)
+serve_act x s table c (Act.Word target) =
+    (record { server = s.tell (state_behind table (s.state (x.app c.server)) target) c.server; words = suc c.words }, [])
+
+abbrev pub act_emission : {M : Type 0} → (M → Bool) → Act M → Bool
+act_emission emission (Act.Mail m) = emission m
+act_emission emission (Act.Word target) = false
+
+abbrev pub service_valid : {V A M Q R : Type 0} → Exchange V A M Q R → Service Q → Bool
+service_valid x (Service.Mails q) = x.valid q
+service_valid x (Service.State target) = true
+
+-- the client's acts, until it has to hear more; what hears a control word is no client of a service by mails
+abbrev pub planned_by : {V A M Q R : Type 0} → Exchange V A M Q R → Q → Option (List M) → List (Act M)
+planned_by x q None = []
+planned_by x q (Some hs) = acts (x.planned q hs)
+
+abbrev pub service_planned : {V A M Q R : Type 0} → Exchange V A M Q R → Service Q → List (Act M) → List (Act M)
+service_planned x (Service.Mails q) hs = planned_by x q (all_mails hs)
+service_planned x (Service.State target) hs = Act.Word target ∷ []
+
+abbrev pub ends_by : {V A M Q R : Type 0} → Exchange V A M Q R → Q → Option (List M) → Option (Outcome R)
+ends_by x q None = None
+ends_by x q (Some hs) = option_map (λ r. Outcome.Replied r) (x.ends q hs)
+
+abbrev pub service_ends : {V A M Q R : Type 0} → Exchange V A M Q R → Service Q → List (Act M) → Option (Outcome R)
+service_ends x (Service.Mails q) hs = ends_by x q (all_mails hs)
+service_ends x (Service.State target) hs = None
+
+-- a state service has no reply by mails
+abbrev pub service_handed : {V A M Q R : Type 0} → Exchange V A M Q R → Service Q → Bool
+service_handed x (Service.Mails q) = x.handed q
+service_handed x (Service.State target) = true
+
+abbrev pub service_full : {V A M Q R : Type 0} → Exchange V A M Q R → V → Service Q → List (Act M)
+service_full x v (Service.Mails q) = acts (x.full v q)
+service_full x v (Service.State target) = Act.Word target ∷ []
+
+-- a state service brings the application to the state behind it, by the slave's table
+abbrev pub service_exec : {V A M Q R : Type 0} → Exchange V A M Q R → Stated V A Q → Table → A → Service Q → A
+service_exec x s table a (Service.Mails q) = x.exec a q
+service_exec x s table a (Service.State target) = s.told (state_behind table (s.state a) target) a
+
+-- and its answer is the table's
+abbrev pub service_reply : {V A M Q R : Type 0} → Exchange V A M Q R → Stated V A Q → Table → A → Service Q → Outcome R
+service_reply x s table a (Service.Mails q) = Outcome.Replied (x.reply a q)
+service_reply x s table a (Service.State target) = answer_of (table (s.state a) target)
+
+abbrev pub service_emits : {V A M Q R : Type 0} → Exchange V A M Q R → A → Service Q → List (Act M)
+service_emits x a (Service.Mails q) = acts (x.emits a q)
+service_emits x a (Service.State target) = []
+
+-- BOTH AS ONE EXCHANGE: it counts services by mails and state services alike
+abbrev pub with_states : {V A M Q R : Type 0} → Exchange V A M Q R → Stated V A Q → Table → Exchange (Counting V) A (Act M) (Service Q) (Outcome R)
+with_states x s table = record {
+  serve = λ c a. serve_act x s table c a;
+  app = λ c. x.app c.server;
+  handled = λ c. x.handled c.server + c.words;
+  emission = act_emission x.emission;
+  ready = λ c. x.ready c.server;
+  valid = service_valid x;
+  planned = service_planned x;
+  ends = service_ends x;
+  handed = service_handed x;
+  full = λ c q. service_full x c.server q;
+  exec = service_exec x s table;
+  reply = service_reply x s table;
+  emits = service_emits x;
+}
