@@ -52,14 +52,14 @@ acts ms = map (λ m. Act.Mail m) ms
 -- the mails among these
 abbrev pub mails : {M : Type 0} → List (Act M) → List M
 mails [] = []
-mails (Act.Mail m ∷ as) = m ∷ mails as
-mails (Act.Word target ∷ as) = mails as
+mails (Act.Mail m ∷ more) = m ∷ mails more
+mails (Act.Word target ∷ more) = mails more
 
 -- these as mails, where all are
 abbrev pub all_mails : {M : Type 0} → List (Act M) → Option (List M)
 all_mails [] = Some []
-all_mails (Act.Mail m ∷ as) = option_map (λ ms. m ∷ ms) (all_mails as)
-all_mails (Act.Word target ∷ as) = None
+all_mails (Act.Mail m ∷ more) = option_map (λ ms. m ∷ ms) (all_mails more)
+all_mails (Act.Word target ∷ more) = None
 
 -- a server behind a mail, or behind a control word: its AL state is the one behind the word, by the slave's table
 abbrev pub serve_act : {V A M Q R : Type 0} → Exchange V A M Q R → Stated V A Q → Table → Counting V → Act M → Counting V × List (Act M)
