@@ -2,7 +2,7 @@
 use Rattle.std.proofs.Common.{◌≡◌, ℕ, zero, suc, Bool, true, false, Option, None, Some, List, [], ◌∷◌, ◌++◌, length, refl, sym, ap}
 use Rattle.exchange_model.specs.Exchange.{Exchange, IsLawful}
 use Rattle.link_model.specs.Segment.{RingFate}
-use Rattle.segment_model.specs.Slaves.{Registers, Datagram, grams, frame_after, ring_back}
+use Rattle.segment_model.specs.Slaves.{Processor, Datagram, grams, frame_after, ring_back}
 use Rattle.segment_model.specs.Record.{Frame}
 use Rattle.segment_model.specs.Laws.{EachSeat, SeatPromised, HandedBy, KnowsCounters}
 use Rattle.exchange_model.specs.Rows.{Row}
@@ -52,29 +52,29 @@ module _ {V A M Q R : Type 0} (x : Exchange V A M Q R) (law : IsLawful x) where
   afters_posts fs ss ds RingFate.Back i p = backs_posts fs (record { sent = ds; fate = RingFate.Back; back = ring_back (ring_of ss) ds RingFate.Back }) ss ds (λ station. writes-all_back station (ring_of ss) ds) i p
   afters_posts fs ss ds (RingFate.Lost after) i p = losts_posts fs (record { sent = ds; fate = RingFate.Lost after; back = [] }) after ss ds refl i p
 
-  step_posts : (carry : Registers → Registers) (fs : List (Frame M)) (k : ℕ) (ss : List (Seat V M Q R)) → EachSeat (SeatPosts fs) ss → EachSeat (SeatPosts fs) (seat_steps_at x carry k ss)
-  step_posts carry fs k [] p = tt
-  step_posts carry fs zero (s ∷ ss) p = p
-  step_posts carry fs (suc k) (s ∷ ss) p = (p.0, step_posts carry fs k ss p.1)
+  step_posts : (processor : Processor V) (fs : List (Frame M)) (k : ℕ) (ss : List (Seat V M Q R)) → EachSeat (SeatPosts fs) ss → EachSeat (SeatPosts fs) (seat_steps_at x processor k ss)
+  step_posts processor fs k [] p = tt
+  step_posts processor fs zero (s ∷ ss) p = p
+  step_posts processor fs (suc k) (s ∷ ss) p = (p.0, step_posts processor fs k ss p.1)
 
-  steps_posts : (carry : Registers → Registers) (fs : List (Frame M)) (ss : List (Seat V M Q R)) (ks : List ℕ) → EachSeat (SeatPosts fs) ss → EachSeat (SeatPosts fs) (seats_step x carry ss ks)
-  steps_posts carry fs ss [] p = p
-  steps_posts carry fs ss (k ∷ ks) p = steps_posts carry fs (seat_steps_at x carry k ss) ks (step_posts carry fs k ss p)
+  steps_posts : (processor : Processor V) (fs : List (Frame M)) (ss : List (Seat V M Q R)) (ks : List ℕ) → EachSeat (SeatPosts fs) ss → EachSeat (SeatPosts fs) (seats_step x processor ss ks)
+  steps_posts processor fs ss [] p = p
+  steps_posts processor fs ss (k ∷ ks) p = steps_posts processor fs (seat_steps_at x processor k ss) ks (step_posts processor fs k ss p)
 
-  run_posts : (carry : Registers → Registers) (w : Session V M Q R) (ts : List (Turn M Q)) → MayRun x carry w ts → Keeps x law w.frames w.seats → EachSeat (SeatPosts w.frames) w.seats → (let z = run x carry w ts in EachSeat (SeatPosts z.frames) z.seats)
-  run_posts carry w [] m h p = p
-  run_posts carry w (t ∷ ts) m h p =
+  run_posts : (processor : Processor V) (w : Session V M Q R) (ts : List (Turn M Q)) → MayRun x processor w ts → Keeps x law w.frames w.seats → EachSeat (SeatPosts w.frames) w.seats → (let z = run x processor w ts in EachSeat (SeatPosts z.frames) z.seats)
+  run_posts processor w [] m h p = p
+  run_posts processor w (t ∷ ts) m h p =
       let next = seats_next x (length w.frames) w.seats t.choices in
       let before = nexts_posts w.frames w.seats t.choices h.ready h.sound h.fitted p in
       let behind = afters_posts w.frames next t.move.sent t.move.fate m.0 before in
-      run_posts carry (happens x carry w t) ts m.1 (turn_keeps x law carry w t m.0 h) (steps_posts carry _ (seats_after x (length w.frames) next t.move.sent t.move.fate) t.move.steps behind)
+      run_posts processor (happens x processor w t) ts m.1 (turn_keeps x law processor w t m.0 h) (steps_posts processor _ (seats_after x (length w.frames) next t.move.sent t.move.fate) t.move.steps behind)
 
   new_posts : (opening : List (Frame M)) → IsOpening opening → (ps : List (Planned V)) → EachSeat (SeatPosts opening) (new_seats ps)
   new_posts opening quiet [] = tt
   new_posts opening quiet (p ∷ ps) = (record { out = record { last_is = sym (ap (λ k. k.told) (opening_kept p.station opening quiet)); again = λ m e. absurd (cc) }; past = tt; now = refl }, new_posts opening quiet ps)
 
-  pub session_posts : (opening : List (Frame M)) → IsOpening opening → (carry : Registers → Registers) (ps : List (Planned V)) → IsPlan x ps → (ts : List (Turn M Q)) → MayRun x carry (new_session opening ps) ts → (let w = run x carry (new_session opening ps) ts in EachSeat (SeatPosts w.frames) w.seats)
-  session_posts opening quiet carry ps p ts m = run_posts carry (new_session opening ps) ts m (new_keeps x law opening quiet ps p) (new_posts opening quiet ps)
+  pub session_posts : (opening : List (Frame M)) → IsOpening opening → (processor : Processor V) (ps : List (Planned V)) → IsPlan x ps → (ts : List (Turn M Q)) → MayRun x processor (new_session opening ps) ts → (let w = run x processor (new_session opening ps) ts in EachSeat (SeatPosts w.frames) w.seats)
+  session_posts opening quiet processor ps p ts m = run_posts processor (new_session opening ps) ts m (new_keeps x law opening quiet ps p) (new_posts opening quiet ps)
 
   pub each_handed : (more : M → Bool) (fs : List (Frame M)) (ss : List (Seat V M Q R)) → EachSeat (IsReady x law) ss → EachSeat (Fitted x law) ss → EachSeat (Records x law fs) ss → EachSeat (SeatPromised x more fs) ss → EachSeat (SeatPosts fs) ss → EachSeat (λ s. HandedBy x more fs s.station s.start s.side s.slave) ss
   each_handed more fs [] r f k a p = tt

@@ -4,7 +4,7 @@ use Rattle.exchange_model.specs.Exchange.{Exchange, IsLawful}
 use Rattle.exchange_model.specs.Rows.{Row, Fits}
 use Rattle.link_model.specs.Segment.{RingFate, Distinct}
 use Rattle.link_model.specs.Frames.{all_accepted}
-use Rattle.segment_model.specs.Slaves.{Registers, Datagram, grams, frame_after, ring_back}
+use Rattle.segment_model.specs.Slaves.{Processor, Datagram, grams, frame_after, ring_back}
 use Rattle.segment_model.specs.Record.{Frame, News, first_end, or_later, news_each, nothing_kept, frame_news, news_from, mails_heard, joined, heard}
 use Rattle.segment_model.specs.Ends.{Outcome, mails_end}
 use Rattle.segment_model.specs.Laws.{EachSeat, IsAnswered, AllAnswered, as_outcome, SeatPromised}
@@ -122,38 +122,38 @@ module _ {V A M Q R : Type 0} (x : Exchange V A M Q R) (law : IsLawful x) where
       lost (suc k) (s ∷ ss') ds' = ap (λ l. s.station ∷ l) (lost k ss' (frame_after s.station s.slave ds'))
 
   -- and behind steps of processors
-  step_keeps : (carry : Registers → Registers) (fs : List (Frame M)) (k : ℕ) (ss : List (Seat V M Q R)) → Keeps fs ss → Keeps fs (seat_steps_at x carry k ss)
-  step_keeps carry fs k ss h = record {
+  step_keeps : (processor : Processor V) (fs : List (Frame M)) (k : ℕ) (ss : List (Seat V M Q R)) → Keeps fs ss → Keeps fs (seat_steps_at x processor k ss)
+  step_keeps processor fs k ss h = record {
     stations = subst Distinct (sym (same k ss)) h.stations;
     ready = ready k ss h.ready;
-    sound = steps_sound x carry k ss h.sound;
-    fitted = steps_fit x law carry k ss h.ready (steps_sound x carry k ss h.sound) h.fitted;
+    sound = steps_sound x processor k ss h.sound;
+    fitted = steps_fit x law processor k ss h.ready (steps_sound x processor k ss h.sound) h.fitted;
     records = records k ss h.records;
   }
     where
-      same : (k : ℕ) (ss : List (Seat V M Q R)) → stations_of (seat_steps_at x carry k ss) ≡ stations_of ss
+      same : (k : ℕ) (ss : List (Seat V M Q R)) → stations_of (seat_steps_at x processor k ss) ≡ stations_of ss
       same k [] = refl
       same zero (s ∷ ss) = refl
       same (suc k) (s ∷ ss) = ap (λ l. s.station ∷ l) (same k ss)
 
-      ready : (k : ℕ) (ss : List (Seat V M Q R)) → EachSeat (IsReady x law) ss → EachSeat (IsReady x law) (seat_steps_at x carry k ss)
+      ready : (k : ℕ) (ss : List (Seat V M Q R)) → EachSeat (IsReady x law) ss → EachSeat (IsReady x law) (seat_steps_at x processor k ss)
       ready k [] h = tt
       ready zero (s ∷ ss) h = h
       ready (suc k) (s ∷ ss) h = (h.0, ready k ss h.1)
 
-      records : (k : ℕ) (ss : List (Seat V M Q R)) → EachSeat (Records fs) ss → EachSeat (Records fs) (seat_steps_at x carry k ss)
+      records : (k : ℕ) (ss : List (Seat V M Q R)) → EachSeat (Records fs) ss → EachSeat (Records fs) (seat_steps_at x processor k ss)
       records k [] h = tt
       records zero (s ∷ ss) h = (record { listens = h.0.listens; rises = h.0.rises; hears = h.0.hears }, h.1)
       records (suc k) (s ∷ ss) h = (h.0, records k ss h.1)
 
-  steps_keep : (carry : Registers → Registers) (fs : List (Frame M)) (ss : List (Seat V M Q R)) (ks : List ℕ) → Keeps fs ss → Keeps fs (seats_step x carry ss ks)
-  steps_keep carry fs ss [] h = h
-  steps_keep carry fs ss (k ∷ ks) h = steps_keep carry fs (seat_steps_at x carry k ss) ks (step_keeps carry fs k ss h)
+  steps_keep : (processor : Processor V) (fs : List (Frame M)) (ss : List (Seat V M Q R)) (ks : List ℕ) → Keeps fs ss → Keeps fs (seats_step x processor ss ks)
+  steps_keep processor fs ss [] h = h
+  steps_keep processor fs ss (k ∷ ks) h = steps_keep processor fs (seat_steps_at x processor k ss) ks (step_keeps processor fs k ss h)
 
   -- a turn keeps it, and so does each list of turns
-  pub turn_keeps : (carry : Registers → Registers) (w : Session V M Q R) (t : Turn M Q) → Seats.IsFrame (seats_next x (length w.frames) w.seats t.choices) t.move.sent → Keeps w.frames w.seats →
-      (let z = happens x carry w t in Keeps z.frames z.seats)
-  turn_keeps carry w t f h =
+  pub turn_keeps : (processor : Processor V) (w : Session V M Q R) (t : Turn M Q) → Seats.IsFrame (seats_next x (length w.frames) w.seats t.choices) t.move.sent → Keeps w.frames w.seats →
+      (let z = happens x processor w t in Keeps z.frames z.seats)
+  turn_keeps processor w t f h =
       let n = length w.frames in
       let next = seats_next x n w.seats t.choices in
       let stations = subst Distinct (sym (nexts_stations n w.seats t.choices)) h.stations in
@@ -168,11 +168,11 @@ module _ {V A M Q R : Type 0} (x : Exchange V A M Q R) (law : IsLawful x) where
         fitted = frames_fit x law n next t.move.sent t.move.fate ready after_sound fitted;
         records = afters_records w.frames next t.move.sent t.move.fate (nexts_records w.frames w.seats t.choices h.records);
       } in
-      steps_keep carry (w.frames ++ frame_of next t.move.sent t.move.fate ∷ []) (seats_after x n next t.move.sent t.move.fate) t.move.steps k
+      steps_keep processor (w.frames ++ frame_of next t.move.sent t.move.fate ∷ []) (seats_after x n next t.move.sent t.move.fate) t.move.steps k
 
-  pub run_keeps : (carry : Registers → Registers) (w : Session V M Q R) (ts : List (Turn M Q)) → MayRun x carry w ts → Keeps w.frames w.seats → (let z = run x carry w ts in Keeps z.frames z.seats)
-  run_keeps carry w [] m h = h
-  run_keeps carry w (t ∷ ts) m h = run_keeps carry (happens x carry w t) ts m.1 (turn_keeps carry w t m.0 h)
+  pub run_keeps : (processor : Processor V) (w : Session V M Q R) (ts : List (Turn M Q)) → MayRun x processor w ts → Keeps w.frames w.seats → (let z = run x processor w ts in Keeps z.frames z.seats)
+  run_keeps processor w [] m h = h
+  run_keeps processor w (t ∷ ts) m h = run_keeps processor (happens x processor w t) ts m.1 (turn_keeps processor w t m.0 h)
 
   -- a plan's seats keep it
   new_stations : (ps : List (Planned V)) → stations_of (new_seats {M = M} {Q = Q} {R = R} ps) ≡ map (λ p. p.station) ps

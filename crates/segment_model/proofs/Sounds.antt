@@ -8,7 +8,7 @@ use Rattle.link_model.specs.Frames.{Gram, own, events_of}
 use Rattle.link_model.specs.Segment.{RingFate, members_by, Distinct}
 use Rattle.link_model.proofs.Outward.{hold_keeps}
 use Rattle.link_model.proofs.Segments.{frame_is}
-use Rattle.segment_model.specs.Slaves.{Serving, serving, Registers, Datagram, grams, frame_after, ring_back}
+use Rattle.segment_model.specs.Slaves.{Serving, serving, Processor, Datagram, grams, frame_after, ring_back}
 use Rattle.segment_model.specs.Slaves
 use Rattle.segment_model.specs.Seats
 use Rattle.segment_model.specs.Laws.{EachSeat}
@@ -109,7 +109,7 @@ module _ {V A M Q R : Type 0} (x : Exchange V A M Q R) where
   nexts_sound frame (s ∷ ss) (c ∷ cs) h = (next_sound frame s c h.0, nexts_sound frame ss cs h.1)
 
   -- a step of the processor
-  pub steps_sound : (carry : Registers → Registers) (k : ℕ) (ss : List (Seat V M Q R)) → EachSeat SeatSound ss → EachSeat SeatSound (seat_steps_at x carry k ss)
-  steps_sound carry k [] h = tt
-  steps_sound carry zero (s ∷ ss) h = (step_sound x s.start (link_of s) h.0, h.1)
-  steps_sound carry (suc k) (s ∷ ss) h = (h.0, steps_sound carry k ss h.1)
+  pub steps_sound : (processor : Processor V) (k : ℕ) (ss : List (Seat V M Q R)) → EachSeat SeatSound ss → EachSeat SeatSound (seat_steps_at x processor k ss)
+  steps_sound processor k [] h = tt
+  steps_sound processor zero (s ∷ ss) h = (step_sound x s.start (link_of s) h.0, h.1)
+  steps_sound processor (suc k) (s ∷ ss) h = (h.0, steps_sound processor k ss h.1)
