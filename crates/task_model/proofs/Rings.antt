@@ -95,7 +95,7 @@ place_met r Access.ReadState e = same_place r
 place_met r Access.ReadFull e = same_place r
 place_met r Access.Elsewhere e = same_place r
 
-for_behind : (station : ℕ) (a : Address) → is_for station (address_behind a) ≡ is_for station a
+pub for_behind : (station : ℕ) (a : Address) → is_for station (address_behind a) ≡ is_for station a
 for_behind station (Address.Station o) = refl
 for_behind station (Address.Place zero) = refl
 for_behind station (Address.Place (suc n)) = refl
