@@ -9,7 +9,7 @@ use Rattle.exchange_model.proofs.Moments
 use Rattle.link_model.specs.Mails.{LinkMail, news, is_repeat, seen}
 use Rattle.link_model.specs.Link.{Link}
 use Rattle.link_model.specs.Segment.{RingFate}
-use Rattle.segment_model.specs.Slaves.{Serving, Registers, Datagram, frame_after, ring_back}
+use Rattle.segment_model.specs.Slaves.{Serving, Processor, Datagram, frame_after, ring_back}
 use Rattle.segment_model.specs.Laws.{EachSeat}
 use Rattle.segment_model.specs.Seats.{Side, Seat, Choice, link_of, ring_of, newest, rows_of, is_over, side_begins, side_holds, next_mail, first_left, seat_next, seats_next, seat_back, seats_back, seats_lost, seats_after, seat_steps, seat_steps_at}
 use Rattle.segment_model.proofs.Overs.{over_parts}
@@ -163,12 +163,12 @@ module _ {V A M Q R : Type 0} (x : Exchange V A M Q R) (law : IsLawful x) where
   frames_fit frame ss ds RingFate.Back r h f = backs_fit frame ss ds (ring_back (ring_of ss) ds RingFate.Back) r h f
   frames_fit frame ss ds (RingFate.Lost after) r h f = lost_fit after ss ds ds f
 
-  pub steps_fit : (carry : Registers → Registers) (k : ℕ) (ss : List (Seat V M Q R)) → EachSeat IsReady ss → EachSeat (SeatSound x) (seat_steps_at x carry k ss) → EachSeat Fitted ss → EachSeat Fitted (seat_steps_at x carry k ss)
-  steps_fit carry k [] r h f = tt
-  steps_fit carry zero (s ∷ ss) r h f =
-      let t = seat_steps x carry s in
+  pub steps_fit : (processor : Processor V) (k : ℕ) (ss : List (Seat V M Q R)) → EachSeat IsReady ss → EachSeat (SeatSound x) (seat_steps_at x processor k ss) → EachSeat Fitted ss → EachSeat Fitted (seat_steps_at x processor k ss)
+  steps_fit processor k [] r h f = tt
+  steps_fit processor zero (s ∷ ss) r h f =
+      let t = seat_steps x processor s in
       (takes_fit s.start r.0 s.side.past s.side.now s.held s.taken s.accepted _ (in_order x s.start (link_of t) h.0) f.0, f.1)
-  steps_fit carry (suc k) (s ∷ ss) r h f = (f.0, steps_fit carry k ss r.1 h.1 f.1)
+  steps_fit processor (suc k) (s ∷ ss) r h f = (f.0, steps_fit processor k ss r.1 h.1 f.1)
 
   -- so the rows of each seat fit
   pub seat_fits : (s : Seat V M Q R) → IsReady s → SeatSound x s → Fitted s → Fits x s.start (rows_of s.side) s.slave.node.server.server s.accepted

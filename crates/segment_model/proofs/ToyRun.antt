@@ -5,7 +5,7 @@ use Rattle.exchange_model.specs.Toy.{Mail, first, second, posted, held, total, n
 use Rattle.exchange_model.specs.Rows.{Row}
 use Rattle.link_model.specs.Frames.{Ask, IsSent.nothing, IsSent.write, IsSent.inward}
 use Rattle.link_model.specs.Segment.{RingFate}
-use Rattle.segment_model.specs.Slaves.{Registers, Address, Access, Datagram}
+use Rattle.segment_model.specs.Slaves.{Registers, Processor, IsStill, Address, Access, Datagram}
 use Rattle.segment_model.specs.Record.{heard, news_from, first_end}
 use Rattle.segment_model.specs.Ends.{Task, Outcome, ends}
 use Rattle.segment_model.specs.Split.{IsBound}
@@ -22,8 +22,8 @@ two =
     record { station = 4097; server = record { value = 0; handled = 0; half = None }; registers = blank }
     ∷ record { station = 4098; server = record { value = 10; handled = 0; half = None }; registers = record blank { station = 4098 } } ∷ []
 
-abbrev leave : Registers → Registers
-leave r = r
+abbrev leave : Processor Adder
+leave = record { carry = λ r. r; tell = λ state v. v }
 
 abbrev asks : ℕ → Ask Mail → Datagram Mail
 asks station ask = record {
@@ -114,8 +114,11 @@ plan = record { stations = (((λ e. absurd (omega (arith, e))), tt), (tt, tt)); 
 bound : IsBound adder leave two (sides_of ended.seats) (ring_of ended.seats) ended.frames
 bound = record { opening = []; quiet = tt; turns = turns; may = may; sides = refl; ring = refl; frames = refl }
 
+still : IsStill leave
+still state v = refl
+
 promised : EachOf (Promised adder (λ m. false) ended.frames) two (sides_of ended.seats) (ring_of ended.seats)
-promised = bound_promised adder adder_law (λ m. false) leave two plan (sides_of ended.seats) (ring_of ended.seats) ended.frames bound
+promised = bound_promised adder adder_law (λ m. false) leave still two plan (sides_of ended.seats) (ring_of ended.seats) ended.frames bound
 
 handed : EachOf (HandedBy adder (λ m. false) ended.frames) two (sides_of ended.seats) (ring_of ended.seats)
-handed = bound_handed adder adder_law (λ m. false) leave two plan (sides_of ended.seats) (ring_of ended.seats) ended.frames bound
+handed = bound_handed adder adder_law (λ m. false) leave still two plan (sides_of ended.seats) (ring_of ended.seats) ended.frames bound

@@ -4,7 +4,7 @@ use Rattle.exchange_model.specs.Exchange.{Exchange}
 use Rattle.link_model.specs.Mails.{news, seen}
 use Rattle.link_model.specs.Frames.{Ask, Gram, mail_back}
 use Rattle.link_model.specs.Segment.{RingFate}
-use Rattle.segment_model.specs.Slaves.{Registers, Datagram, Address, Found, grams, Ring, ring_after, ring_back, ring_steps, Move}
+use Rattle.segment_model.specs.Slaves.{Processor, Datagram, Address, Found, grams, Ring, ring_after, ring_back, ring_steps, Move}
 
 -- a frame: as it was sent, its fate, and as it came back, which is empty where it was lost
 pub record Frame (M : Type 0) : Type 0 where
@@ -17,9 +17,9 @@ abbrev pub frame_of : {V M : Type 0} → Ring V M → Move M → Frame M
 frame_of ns m = record { sent = m.sent; fate = m.fate; back = ring_back ns m.sent m.fate }
 
 -- the frames of a list of moves
-abbrev pub recorded : {V A M Q R : Type 0} → Exchange V A M Q R → (Registers → Registers) → Ring V M → List (Move M) → List (Frame M)
-recorded x carry ns [] = []
-recorded x carry ns (m ∷ ms) = frame_of ns m ∷ recorded x carry (ring_steps x carry (ring_after ns m.sent m.fate) m.steps) ms
+abbrev pub recorded : {V A M Q R : Type 0} → Exchange V A M Q R → Processor V → Ring V M → List (Move M) → List (Frame M)
+recorded x processor ns [] = []
+recorded x processor ns (m ∷ ms) = frame_of ns m ∷ recorded x processor (ring_steps x processor (ring_after ns m.sent m.fate) m.steps) ms
 
 -- what was sent, with its fate
 abbrev pub sent_fates : {M : Type 0} → List (Frame M) → List (List (Datagram M) × RingFate)

@@ -8,7 +8,7 @@ use Rattle.link_model.specs.Link.{Halves, Link, new_link}
 use Rattle.link_model.specs.Mails.{LinkMail}
 use Rattle.link_model.specs.Frames.{Ask, Gram, halves_after, halves_without, all_accepted, IsFrameFor}
 use Rattle.link_model.specs.Segment.{RingFate, Distinct}
-use Rattle.segment_model.specs.Slaves.{Serving, serving, Registers, Datagram, grams, Slave, Ring, slave_after, frame_after, slave_steps, ring_back, Move}
+use Rattle.segment_model.specs.Slaves.{Serving, serving, Registers, Processor, state_told, Datagram, grams, Slave, Ring, slave_after, frame_after, slave_steps, ring_back, Move}
 use Rattle.segment_model.specs.Record.{Frame}
 
 -- the master's side of one slave: its two halves, whether the mail held was not yet sent, the rows that are over, and the newest row
@@ -182,22 +182,22 @@ seats_after x frame ss ds RingFate.Back = seats_back x frame ss ds (ring_back (r
 seats_after x frame ss ds (RingFate.Lost after) = seats_lost after ss ds ds
 
 -- the step of a seat's processor, with the mails that it takes and offers
-abbrev pub seat_steps : {V A M Q R : Type 0} → Exchange V A M Q R → (Registers → Registers) → Seat V M Q R → Seat V M Q R
-seat_steps x carry s =
-    let n = node_look s.slave.node in
+abbrev pub seat_steps : {V A M Q R : Type 0} → Exchange V A M Q R → Processor V → Seat V M Q R → Seat V M Q R
+seat_steps x processor s =
+    let n = state_told processor (processor.carry s.slave.registers).state (node_look s.slave.node) in
     let k = node_take (serving x) n in
-    record s { slave = slave_steps x carry s.slave; taken = s.taken ++ node_takes (serving x) n; offered = s.offered ++ node_offers (serving x) k }
+    record s { slave = slave_steps x processor s.slave; taken = s.taken ++ node_takes (serving x) n; offered = s.offered ++ node_offers (serving x) k }
 
 -- the slave at the k-th place makes one
-abbrev pub seat_steps_at : {V A M Q R : Type 0} → Exchange V A M Q R → (Registers → Registers) → ℕ → List (Seat V M Q R) → List (Seat V M Q R)
-seat_steps_at x carry k [] = []
-seat_steps_at x carry zero (s ∷ ss) = seat_steps x carry s ∷ ss
-seat_steps_at x carry (suc k) (s ∷ ss) = s ∷ seat_steps_at x carry k ss
+abbrev pub seat_steps_at : {V A M Q R : Type 0} → Exchange V A M Q R → Processor V → ℕ → List (Seat V M Q R) → List (Seat V M Q R)
+seat_steps_at x processor k [] = []
+seat_steps_at x processor zero (s ∷ ss) = seat_steps x processor s ∷ ss
+seat_steps_at x processor (suc k) (s ∷ ss) = s ∷ seat_steps_at x processor k ss
 
 -- the slaves at these places make one each, in this order
-abbrev pub seats_step : {V A M Q R : Type 0} → Exchange V A M Q R → (Registers → Registers) → List (Seat V M Q R) → List ℕ → List (Seat V M Q R)
-seats_step x carry ss [] = ss
-seats_step x carry ss (k ∷ ks) = seats_step x carry (seat_steps_at x carry k ss) ks
+abbrev pub seats_step : {V A M Q R : Type 0} → Exchange V A M Q R → Processor V → List (Seat V M Q R) → List ℕ → List (Seat V M Q R)
+seats_step x processor ss [] = ss
+seats_step x processor ss (k ∷ ks) = seats_step x processor (seat_steps_at x processor k ss) ks
 
 -- A SESSION: its seats in ring order, and the frames so far
 pub record Session (V M Q R : Type 0) : Type 0 where
@@ -205,18 +205,18 @@ pub record Session (V M Q R : Type 0) : Type 0 where
   pub frames : List (Frame M)
 
 -- one turn of it
-abbrev pub happens : {V A M Q R : Type 0} → Exchange V A M Q R → (Registers → Registers) → Session V M Q R → Turn M Q → Session V M Q R
-happens x carry w t =
+abbrev pub happens : {V A M Q R : Type 0} → Exchange V A M Q R → Processor V → Session V M Q R → Turn M Q → Session V M Q R
+happens x processor w t =
     let next = seats_next x (length w.frames) w.seats t.choices in
     record {
-      seats = seats_step x carry (seats_after x (length w.frames) next t.move.sent t.move.fate) t.move.steps;
+      seats = seats_step x processor (seats_after x (length w.frames) next t.move.sent t.move.fate) t.move.steps;
       frames = w.frames ++ record { sent = t.move.sent; fate = t.move.fate; back = ring_back (ring_of next) t.move.sent t.move.fate } ∷ [];
     }
 
 -- any list of them
-abbrev pub run : {V A M Q R : Type 0} → Exchange V A M Q R → (Registers → Registers) → Session V M Q R → List (Turn M Q) → Session V M Q R
-run x carry w [] = w
-run x carry w (t ∷ ts) = run x carry (happens x carry w t) ts
+abbrev pub run : {V A M Q R : Type 0} → Exchange V A M Q R → Processor V → Session V M Q R → List (Turn M Q) → Session V M Q R
+run x processor w [] = w
+run x processor w (t ∷ ts) = run x processor (happens x processor w t) ts
 
 -- a frame has each half's datagram at most once, and any others that are no access of a mailbox
 abbrev pub IsFrame : {V M Q R : Type 0} → List (Seat V M Q R) → List (Datagram M) → Type 0
@@ -224,9 +224,9 @@ IsFrame [] ds = ⊤
 IsFrame (s ∷ ss) ds = IsFrameFor s.station s.side.halves (grams ds) × IsFrame ss ds
 
 -- each turn of the list may come where it comes
-abbrev pub MayRun : {V A M Q R : Type 0} → Exchange V A M Q R → (Registers → Registers) → Session V M Q R → List (Turn M Q) → Type 0
-MayRun x carry w [] = ⊤
-MayRun x carry w (t ∷ ts) = IsFrame (seats_next x (length w.frames) w.seats t.choices) t.move.sent × MayRun x carry (happens x carry w t) ts
+abbrev pub MayRun : {V A M Q R : Type 0} → Exchange V A M Q R → Processor V → Session V M Q R → List (Turn M Q) → Type 0
+MayRun x processor w [] = ⊤
+MayRun x processor w (t ∷ ts) = IsFrame (seats_next x (length w.frames) w.seats t.choices) t.move.sent × MayRun x processor (happens x processor w t) ts
 
 -- a slave of a plan: its station, its server and its registers at the end of bring-up
 pub record Planned (V : Type 0) : Type 0 where

@@ -1,7 +1,7 @@
 -- Slaves as frames see them: two mailboxes with a server behind them, and the registers beside them. Frames as data, over a ring of slaves.
-use Rattle.std.specs.Prelude.{ℕ, zero, suc, ◌%◌, ◌==◌, Bool, true, false, is_some, if◌then◌else◌, Option, Some, None, List, [], ◌∷◌, ◌++◌, map, drop}
+use Rattle.std.specs.Prelude.{◌≡◌, ℕ, zero, suc, ◌%◌, ◌==◌, Bool, true, false, is_some, if◌then◌else◌, Option, Some, None, List, [], ◌∷◌, ◌++◌, map, drop}
 use Rattle.exchange_model.specs.Exchange.{Exchange}
-use Rattle.link_model.specs.Slave.{Node, Server, processor_step}
+use Rattle.link_model.specs.Slave.{Node, Server, node_look, node_serve}
 use Rattle.link_model.specs.Frames.{Gram, node_meets, gram_meets}
 use Rattle.link_model.specs.Segment.{RingFate}
 
@@ -173,20 +173,35 @@ abbrev pub ring_back : {V M : Type 0} → Ring V M → List (Datagram M) → Rin
 ring_back ns ds RingFate.Back = all_back ns ds
 ring_back ns ds (RingFate.Lost after) = []
 
--- a step of a slave's processor: its mailboxes, and `carry`, which carries out the control word
-abbrev pub slave_steps : {V A M Q R : Type 0} → Exchange V A M Q R → (Registers → Registers) → Slave V M → Slave V M
-slave_steps x carry s = record { node = processor_step (serving x) s.node; registers = carry s.registers }
+-- what a slave's processor does beside its mailboxes: it carries out the control word, and tells the server the AL state
+pub record Processor (V : Type 0) : Type 0 where
+  pub carry : Registers → Registers
+  pub tell : ℕ → V → V
+
+-- servers that take no notice of the AL state
+abbrev pub IsStill : {V : Type 0} → Processor V → Type 0
+IsStill {V} processor = (state : ℕ) (v : V) → processor.tell state v ≡ v
+
+-- a server in its mailboxes that is told the AL state
+abbrev pub state_told : {V M : Type 0} → Processor V → ℕ → Node M (Serving V M) → Node M (Serving V M)
+state_told processor state n = record n { server = record n.server { server = processor.tell state n.server.server } }
+
+-- a step of a slave's processor: it looks at mailbox 1, carries out the control word, and serves in the AL state that then stands
+abbrev pub slave_steps : {V A M Q R : Type 0} → Exchange V A M Q R → Processor V → Slave V M → Slave V M
+slave_steps x processor s =
+    let r = processor.carry s.registers in
+    record { node = node_serve (serving x) (state_told processor r.state (node_look s.node)); registers = r }
 
 -- the slave at the k-th place makes one
-abbrev pub step_at : {V A M Q R : Type 0} → Exchange V A M Q R → (Registers → Registers) → ℕ → Ring V M → Ring V M
-step_at x carry k [] = []
-step_at x carry zero (n ∷ ns) = (n.0, slave_steps x carry n.1) ∷ ns
-step_at x carry (suc k) (n ∷ ns) = n ∷ step_at x carry k ns
+abbrev pub step_at : {V A M Q R : Type 0} → Exchange V A M Q R → Processor V → ℕ → Ring V M → Ring V M
+step_at x processor k [] = []
+step_at x processor zero (n ∷ ns) = (n.0, slave_steps x processor n.1) ∷ ns
+step_at x processor (suc k) (n ∷ ns) = n ∷ step_at x processor k ns
 
 -- the slaves at these places make one each, in this order
-abbrev pub ring_steps : {V A M Q R : Type 0} → Exchange V A M Q R → (Registers → Registers) → Ring V M → List ℕ → Ring V M
-ring_steps x carry ns [] = ns
-ring_steps x carry ns (k ∷ ks) = ring_steps x carry (step_at x carry k ns) ks
+abbrev pub ring_steps : {V A M Q R : Type 0} → Exchange V A M Q R → Processor V → Ring V M → List ℕ → Ring V M
+ring_steps x processor ns [] = ns
+ring_steps x processor ns (k ∷ ks) = ring_steps x processor (step_at x processor k ns) ks
 
 -- what moves a ring: a frame as it was sent, its fate, and the places at which processors step behind it
 pub record Move (M : Type 0) : Type 0 where
@@ -195,9 +210,9 @@ pub record Move (M : Type 0) : Type 0 where
   pub steps : List ℕ
 
 -- THE REPLAY: the ring behind these moves
-abbrev pub replayed : {V A M Q R : Type 0} → Exchange V A M Q R → (Registers → Registers) → Ring V M → List (Move M) → Ring V M
-replayed x carry ns [] = ns
-replayed x carry ns (m ∷ ms) = replayed x carry (ring_steps x carry (ring_after ns m.sent m.fate) m.steps) ms
+abbrev pub replayed : {V A M Q R : Type 0} → Exchange V A M Q R → Processor V → Ring V M → List (Move M) → Ring V M
+replayed x processor ns [] = ns
+replayed x processor ns (m ∷ ms) = replayed x processor (ring_steps x processor (ring_after ns m.sent m.fate) m.steps) ms
 
 -- the places of the slaves whose pace divides this number, in ring order; the first of them has this place
 abbrev pub in_pace : ℕ → ℕ → List ℕ → List ℕ

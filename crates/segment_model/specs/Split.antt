@@ -3,7 +3,7 @@ use Rattle.std.specs.Prelude.{◌≡◌, ℕ, List, [], ◌∷◌, map, ⊤}
 use Rattle.exchange_model.specs.Exchange.{Exchange}
 use Rattle.link_model.specs.Frames.{IsFrameFor}
 use Rattle.link_model.specs.Segment.{RingFate}
-use Rattle.segment_model.specs.Slaves.{Registers, Datagram, grams, Ring}
+use Rattle.segment_model.specs.Slaves.{Processor, Datagram, grams, Ring}
 use Rattle.segment_model.specs.Record.{Frame}
 use Rattle.segment_model.specs.Seats.{Side, Choice, Turn, Planned, side_next, side_back, side_lost, ring_of, sides_of, new_session, IsOpening, run, MayRun}
 
@@ -32,12 +32,12 @@ IsFrameOf [] sent = ⊤
 IsFrameOf (d ∷ ds) sent = IsFrameFor d.0 d.1.halves (grams sent) × IsFrameOf ds sent
 
 -- sides, a ring and frames that a session of this plan has come to, behind the frames of its bring-up
-pub record IsBound {V A M Q R : Type 0} (x : Exchange V A M Q R) (carry : Registers → Registers) (ps : List (Planned V))
+pub record IsBound {V A M Q R : Type 0} (x : Exchange V A M Q R) (processor : Processor V) (ps : List (Planned V))
     (ds : List (ℕ × Side M Q R)) (ns : Ring V M) (fs : List (Frame M)) : Type 0 where
   pub opening : List (Frame M)
   pub quiet : IsOpening opening
   pub turns : List (Turn M Q)
-  pub may : MayRun x carry (new_session {Q = Q} {R = R} opening ps) turns
-  pub sides : sides_of (run x carry (new_session opening ps) turns).seats ≡ ds
-  pub ring : ring_of (run x carry (new_session {Q = Q} {R = R} opening ps) turns).seats ≡ ns
-  pub frames : (run x carry (new_session {Q = Q} {R = R} opening ps) turns).frames ≡ fs
+  pub may : MayRun x processor (new_session {Q = Q} {R = R} opening ps) turns
+  pub sides : sides_of (run x processor (new_session opening ps) turns).seats ≡ ds
+  pub ring : ring_of (run x processor (new_session {Q = Q} {R = R} opening ps) turns).seats ≡ ns
+  pub frames : (run x processor (new_session {Q = Q} {R = R} opening ps) turns).frames ≡ fs

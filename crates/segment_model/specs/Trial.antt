@@ -2,7 +2,7 @@
 use Rattle.std.specs.Prelude.{◌≡◌, ℕ, Bool, true, false, List, [], ◌∷◌, ◌++◌, length}
 use Rattle.exchange_model.specs.Toy.{Adder, Mail, Service, adder}
 use Rattle.link_model.specs.Segment.{RingFate}
-use Rattle.segment_model.specs.Slaves.{Registers, Datagram, Ring}
+use Rattle.segment_model.specs.Slaves.{Processor, Datagram, Ring}
 use Rattle.segment_model.specs.Record.{Frame}
 use Rattle.segment_model.specs.Seats.{Side, Choice, Planned}
 use Rattle.segment_model.specs.Split.{IsBound, IsFrameOf, sides_next}
@@ -23,8 +23,8 @@ pub record Chosen (made : ℕ) (ds : Sides) (sent : List (Datagram Mail)) (shows
   pub frame : IsFrameOf (sides_next adder made ds choices) sent
 
 -- the sides shown, the ring and the frames are a session, by one frame more
-pub record Stays (carry : Registers → Registers) (ps : List (Planned Adder)) (shows : Sides → Type 0) (made : ℕ) (ns : Ring Adder Mail) (fs : List (Frame Mail)) (f : Frame Mail) : Type 0 where
+pub record Stays (processor : Processor Adder) (ps : List (Planned Adder)) (shows : Sides → Type 0) (made : ℕ) (ns : Ring Adder Mail) (fs : List (Frame Mail)) (f : Frame Mail) : Type 0 where
   pub sides : Sides
   pub shown : shows sides
   pub counted : made ≡ length (fs ++ f ∷ [])
-  pub bound : IsBound adder carry ps sides ns (fs ++ f ∷ [])
+  pub bound : IsBound adder processor ps sides ns (fs ++ f ∷ [])

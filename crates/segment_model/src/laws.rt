@@ -3,7 +3,7 @@
 ghost use Rattle.std.specs.Prelude.{◌≡◌, ◌≤◌, ℕ, Bool, true, false, nat_lt, Option, None, List, [], ◌∷◌, ◌++◌, length, drop};
 ghost use Rattle.exchange_model.specs.Exchange.{Exchange, IsLawful};
 ghost use Rattle.exchange_model.specs.Rows.{answer_after};
-ghost use Rattle.segment_model.specs.Slaves.{Registers, Datagram, Ring, Move, ring_after, ring_back, ring_steps, replayed, paced};
+ghost use Rattle.segment_model.specs.Slaves.{Processor, IsStill, Datagram, Ring, Move, ring_after, ring_back, ring_steps, replayed, paced};
 ghost use Rattle.segment_model.specs.Record.{Frame, frame_of, recorded, sent_fates, news_from, first_end, frame_news, kept_all, nothing_kept, joined, news_each, counted_each};
 ghost use Rattle.segment_model.specs.Ends.{Task, ends};
 ghost use Rattle.segment_model.specs.GiveUps.{NoneFor};
@@ -19,58 +19,58 @@ pub fn session_law<V, A, M, Q, R>()
     // Each answer is the one that the table of completed services gives for the news of the slave from the row's frame on, of the frame that
     // completed it; the next row's frame is greater; and the slave's server has carried out just the first services of its rows, each once
     // and in order, and each reply is its application's.
-    ensures promised { (x : Exchange V A M Q R) → IsLawful x → (more : M → Bool) (carry : Registers → Registers) (ps : List (Planned V)) → IsPlan x ps →
-        (ds : List (ℕ × Side M Q R)) (ns : Ring V M) (fs : List (Frame M)) → IsBound x carry ps ds ns fs → EachOf (Promised x more fs) ps ds ns }
+    ensures promised { (x : Exchange V A M Q R) → IsLawful x → (more : M → Bool) (processor : Processor V) → IsStill processor → (ps : List (Planned V)) → IsPlan x ps →
+        (ds : List (ℕ × Side M Q R)) (ns : Ring V M) (fs : List (Frame M)) → IsBound x processor ps ds ns fs → EachOf (Promised x more fs) ps ds ns }
 
     // A service that ends with its last write, as a packet, is complete by the record exactly where its row is over: all its mails were sent
     // and the write of the last one came back done. A mail of the row before that is still held is none of its mails.
-    ensures handed { (x : Exchange V A M Q R) → IsLawful x → (more : M → Bool) (carry : Registers → Registers) (ps : List (Planned V)) → IsPlan x ps →
-        (ds : List (ℕ × Side M Q R)) (ns : Ring V M) (fs : List (Frame M)) → IsBound x carry ps ds ns fs → EachOf (HandedBy x more fs) ps ds ns }
+    ensures handed { (x : Exchange V A M Q R) → IsLawful x → (more : M → Bool) (processor : Processor V) → IsStill processor → (ps : List (Planned V)) → IsPlan x ps →
+        (ds : List (ℕ × Side M Q R)) (ns : Ring V M) (fs : List (Frame M)) → IsBound x processor ps ds ns fs → EachOf (HandedBy x more fs) ps ds ns }
 
     // Only the newest service of a slave can be in doubt, and none where nothing is in hand.
-    ensures in_doubt { (x : Exchange V A M Q R) → IsLawful x → (more : M → Bool) (carry : Registers → Registers) (ps : List (Planned V)) → IsPlan x ps →
-        (ds : List (ℕ × Side M Q R)) (ns : Ring V M) (fs : List (Frame M)) → IsBound x carry ps ds ns fs → EachOf (PastEnded x more fs) ps ds ns × EachOf (EndedIf x more fs) ps ds ns }
+    ensures in_doubt { (x : Exchange V A M Q R) → IsLawful x → (more : M → Bool) (processor : Processor V) → IsStill processor → (ps : List (Planned V)) → IsPlan x ps →
+        (ds : List (ℕ × Side M Q R)) (ns : Ring V M) (fs : List (Frame M)) → IsBound x processor ps ds ns fs → EachOf (PastEnded x more fs) ps ds ns × EachOf (EndedIf x more fs) ps ds ns }
 
     // The halves know the counters of the record, so a master can tell the news of a frame by its own state.
-    ensures counters { (x : Exchange V A M Q R) → IsLawful x → (carry : Registers → Registers) (ps : List (Planned V)) → IsPlan x ps →
-        (ds : List (ℕ × Side M Q R)) (ns : Ring V M) (fs : List (Frame M)) → IsBound x carry ps ds ns fs → EachOf (KnowsCounters fs) ps ds ns }
+    ensures counters { (x : Exchange V A M Q R) → IsLawful x → (processor : Processor V) (ps : List (Planned V)) → IsPlan x ps →
+        (ds : List (ℕ × Side M Q R)) (ns : Ring V M) (fs : List (Frame M)) → IsBound x processor ps ds ns fs → EachOf (KnowsCounters fs) ps ds ns }
 
     // Where a slave is settled and the master wants nothing of it, all its rows are carried out, and all emissions were heard.
-    ensures rests { (x : Exchange V A M Q R) → IsLawful x → (carry : Registers → Registers) (ps : List (Planned V)) → IsPlan x ps →
-        (ds : List (ℕ × Side M Q R)) (ns : Ring V M) (fs : List (Frame M)) → IsBound x carry ps ds ns fs → EachOf (RestsIf x fs) ps ds ns }
+    ensures rests { (x : Exchange V A M Q R) → IsLawful x → (processor : Processor V) → IsStill processor → (ps : List (Planned V)) → IsPlan x ps →
+        (ds : List (ℕ × Side M Q R)) (ns : Ring V M) (fs : List (Frame M)) → IsBound x processor ps ds ns fs → EachOf (RestsIf x fs) ps ds ns }
 
     // And all is done where besides all its scripted services, here by its station, have begun.
-    ensures done { (x : Exchange V A M Q R) → IsLawful x → (more : M → Bool) (scripted : ℕ → List Q) (carry : Registers → Registers) (ps : List (Planned V)) → IsPlan x ps →
-        (ds : List (ℕ × Side M Q R)) (ns : Ring V M) (fs : List (Frame M)) → IsBound x carry ps ds ns fs → EachOf (DoneIf x more scripted fs) ps ds ns }
+    ensures done { (x : Exchange V A M Q R) → IsLawful x → (more : M → Bool) (scripted : ℕ → List Q) (processor : Processor V) → IsStill processor → (ps : List (Planned V)) → IsPlan x ps →
+        (ds : List (ℕ × Side M Q R)) (ns : Ring V M) (fs : List (Frame M)) → IsBound x processor ps ds ns fs → EachOf (DoneIf x more scripted fs) ps ds ns }
 {}
 
 /// The slaves and what came back are the replay of the frames, their fates and the processor steps behind them, whatever the master is.
 pub fn replay_law<V, A, M, Q, R>()
-    ensures ring { (x : Exchange V A M Q R) (carry : Registers → Registers) (ps : List (Planned V)) (opening : List (Frame M)) (ts : List (Turn M Q)) →
-        let new = new_session {R = R} opening ps in ring_of (run x carry new ts).seats ≡ replayed x carry (ring_of new.seats) (moves ts) }
-    ensures frames { (x : Exchange V A M Q R) (carry : Registers → Registers) (ps : List (Planned V)) (opening : List (Frame M)) (ts : List (Turn M Q)) →
-        let new = new_session {R = R} opening ps in (run x carry new ts).frames ≡ opening ++ recorded x carry (ring_of new.seats) (moves ts) }
+    ensures ring { (x : Exchange V A M Q R) (processor : Processor V) (ps : List (Planned V)) (opening : List (Frame M)) (ts : List (Turn M Q)) →
+        let new = new_session {R = R} opening ps in ring_of (run x processor new ts).seats ≡ replayed x processor (ring_of new.seats) (moves ts) }
+    ensures frames { (x : Exchange V A M Q R) (processor : Processor V) (ps : List (Planned V)) (opening : List (Frame M)) (ts : List (Turn M Q)) →
+        let new = new_session {R = R} opening ps in (run x processor new ts).frames ≡ opening ++ recorded x processor (ring_of new.seats) (moves ts) }
 
     // With slow slaves, behind frame j each slave steps whose pace divides j + 1: then frames, fates and paces alone give both.
-    ensures paced { (x : Exchange V A M Q R) (carry : Registers → Registers) (ps : List (Planned V)) (opening : List (Frame M)) (ts : List (Turn M Q)) (paces : List ℕ) →
-        let new = new_session {R = R} opening ps in let w = run x carry new ts in let at = paced paces (length opening) (sent_fates (drop (length opening) w.frames)) in moves ts ≡ at →
-        (ring_of w.seats ≡ replayed x carry (ring_of new.seats) at) × (w.frames ≡ opening ++ recorded x carry (ring_of new.seats) at) }
+    ensures paced { (x : Exchange V A M Q R) (processor : Processor V) (ps : List (Planned V)) (opening : List (Frame M)) (ts : List (Turn M Q)) (paces : List ℕ) →
+        let new = new_session {R = R} opening ps in let w = run x processor new ts in let at = paced paces (length opening) (sent_fates (drop (length opening) w.frames)) in moves ts ≡ at →
+        (ring_of w.seats ≡ replayed x processor (ring_of new.seats) at) × (w.frames ≡ opening ++ recorded x processor (ring_of new.seats) at) }
 {}
 
 /// A master and a ring that meet in frames alone are a session: what each of them has to keep.
 pub fn split_law<V, A, M, Q, R>()
     // It begins behind the frames of bring-up, which access no mailbox.
-    ensures begins { (x : Exchange V A M Q R) (carry : Registers → Registers) (ps : List (Planned V)) (opening : List (Frame M)) → IsOpening opening →
-        let new = new_session {Q = Q} {R = R} opening ps in IsBound x carry ps (sides_of new.seats) (ring_of new.seats) opening }
+    ensures begins { (x : Exchange V A M Q R) (processor : Processor V) (ps : List (Planned V)) (opening : List (Frame M)) → IsOpening opening →
+        let new = new_session {Q = Q} {R = R} opening ps in IsBound x processor ps (sides_of new.seats) (ring_of new.seats) opening }
 
     // The master's sides go on by its choices and by what came back or was lost, the ring by the frame, its fate and its steps.
-    ensures steps { (x : Exchange V A M Q R) (carry : Registers → Registers) (ps : List (Planned V)) (ds : List (ℕ × Side M Q R)) (ns : Ring V M) (fs : List (Frame M)) →
-        IsBound x carry ps ds ns fs → (cs : List (Choice Q)) (m : Move M) → let asked = sides_next x (length fs) ds cs in IsFrameOf asked m.sent →
-        IsBound x carry ps (sides_after x (length fs) m.sent m.fate (ring_back ns m.sent m.fate) asked) (ring_steps x carry (ring_after ns m.sent m.fate) m.steps) (fs ++ frame_of ns m ∷ []) }
+    ensures steps { (x : Exchange V A M Q R) (processor : Processor V) (ps : List (Planned V)) (ds : List (ℕ × Side M Q R)) (ns : Ring V M) (fs : List (Frame M)) →
+        IsBound x processor ps ds ns fs → (cs : List (Choice Q)) (m : Move M) → let asked = sides_next x (length fs) ds cs in IsFrameOf asked m.sent →
+        IsBound x processor ps (sides_after x (length fs) m.sent m.fate (ring_back ns m.sent m.fate) asked) (ring_steps x processor (ring_after ns m.sent m.fate) m.steps) (fs ++ frame_of ns m ∷ []) }
 
     // And each run of a session is such a meeting.
-    ensures runs { (x : Exchange V A M Q R) (carry : Registers → Registers) (ps : List (Planned V)) (opening : List (Frame M)) → IsOpening opening → (ts : List (Turn M Q)) →
-        let new = new_session {Q = Q} {R = R} opening ps in MayRun x carry new ts → let w = run x carry new ts in IsBound x carry ps (sides_of w.seats) (ring_of w.seats) w.frames }
+    ensures runs { (x : Exchange V A M Q R) (processor : Processor V) (ps : List (Planned V)) (opening : List (Frame M)) → IsOpening opening → (ts : List (Turn M Q)) →
+        let new = new_session {Q = Q} {R = R} opening ps in MayRun x processor new ts → let w = run x processor new ts in IsBound x processor ps (sides_of w.seats) (ring_of w.seats) w.frames }
 {}
 
 /// An outcome, of a task of whichever kind, frame by frame: there is none before its first frame, and one frame more completes it by the news

@@ -4,7 +4,7 @@
 ghost use Rattle.std.specs.Prelude.{◌≡◌, ◌+◌, ℕ, List, [], ◌∷◌, ◌++◌, length, true, false};
 ghost use Rattle.exchange_model.specs.Toy.{Adder, Mail, Service, adder};
 ghost use Rattle.link_model.specs.Segment.{RingFate};
-ghost use Rattle.segment_model.specs.Slaves.{Registers, Datagram};
+ghost use Rattle.segment_model.specs.Slaves.{Processor, Datagram};
 ghost use Rattle.segment_model.specs.Record.{Frame};
 ghost use Rattle.segment_model.specs.Seats.{Side, Planned};
 ghost use Rattle.segment_model.specs.Split.{IsBound, sides_after};
@@ -52,12 +52,12 @@ pub trait Wire<F: Buffer> {
     ghost use Rattle.std.specs.Prelude.{◌≡◌, ℕ, List};
     ghost use Rattle.exchange_model.specs.Toy.{Adder, Mail, adder};
     ghost use Rattle.link_model.specs.Segment.{RingFate};
-    ghost use Rattle.segment_model.specs.Slaves.{Registers, Ring, ring_after, ring_back, ring_steps};
+    ghost use Rattle.segment_model.specs.Slaves.{Processor, Ring, ring_after, ring_back, ring_steps};
     ghost use Rattle.segment_model.specs.Trial.{Came};
 
     ghost ring: { Self → Ring Adder Mail };
 
-    ghost carry: { Self → Registers → Registers };
+    ghost processor: { Self → Processor Adder };
 
     ghost fate: { Self → RingFate };
 
@@ -65,9 +65,9 @@ pub trait Wire<F: Buffer> {
 
     /// Whether the frame came back. `fate` and `steps` are those of this call.
     fn exchange(&mut self, sent: &F, back: &mut F) -> bool
-        ensures ring { ring self.new ≡ ring_steps adder (carry self.old) (ring_after (ring self.old) (F.seen sent.now) (fate self.new)) (steps self.new) }
+        ensures ring { ring self.new ≡ ring_steps adder (processor self.old) (ring_after (ring self.old) (F.seen sent.now) (fate self.new)) (steps self.new) }
         ensures back { F.seen back.new ≡ ring_back (ring self.old) (F.seen sent.now) (fate self.new) }
-        ensures carry { carry self.new ≡ carry self.old }
+        ensures processor { processor self.new ≡ processor self.old }
         ensures came { Came (fate self.new) result };
 }
 
@@ -90,8 +90,8 @@ pub fn step<F: Buffer, M: Master<F>, W: Wire<F>>(
     sent: &mut F,
     back: &mut F,
 )
-    ensures { (ps : List (Planned Adder)) (ds : List (ℕ × Side Mail Service ℕ)) (fs : List (Frame Mail)) → M.shows master.old ds → M.made master.old ≡ length fs → IsBound adder (W.carry wire.old) ps ds (W.ring wire.old) fs →
-        Stays (W.carry wire.new) ps (M.shows master.new) (M.made master.new) (W.ring wire.new) fs (record { sent = F.seen sent.new; fate = W.fate wire.new; back = F.seen back.new }) }
+    ensures { (ps : List (Planned Adder)) (ds : List (ℕ × Side Mail Service ℕ)) (fs : List (Frame Mail)) → M.shows master.old ds → M.made master.old ≡ length fs → IsBound adder (W.processor wire.old) ps ds (W.ring wire.old) fs →
+        Stays (W.processor wire.new) ps (M.shows master.new) (M.made master.new) (W.ring wire.new) fs (record { sent = F.seen sent.new; fate = W.fate wire.new; back = F.seen back.new }) }
 {
     master.next(sent);
     let returned = wire.exchange(sent, back);

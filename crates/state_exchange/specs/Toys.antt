@@ -1,0 +1,92 @@
+-- A small exchange with an AL state: the adder with a state beside its value, which adds in one state alone.
+use Rattle.std.specs.Prelude.{ℕ, zero, suc, ◌+◌, nat_le, Bool, true, false, if◌then◌else◌, List, [], ◌∷◌, Option, None, Some}
+use Rattle.exchange_model.specs.Exchange.{Exchange}
+use Rattle.exchange_model.specs.Dialogue.{said, sent}
+use Rattle.exchange_model.specs.Toy.{Mail, first, second, posted, held, total, refused, noted, Service, sum, post, Adder, emission, decide, handed, number}
+use Rattle.exchange_model.specs.Toy
+use Rattle.state_model.specs.States.{Table}
+use Rattle.state_exchange.specs.Stated.{Stated}
+
+-- the application: the total so far and the AL state
+pub record Sheet : Type 0 where
+  pub value : ℕ
+  pub state : ℕ
+
+-- the server: an adder and its AL state
+pub record Desk : Type 0 where
+  pub adder : Adder
+  pub state : ℕ
+
+-- it adds in AL state 1 alone
+abbrev pub adds : ℕ → Bool
+adds zero = false
+adds (suc zero) = true
+adds (suc (suc more)) = false
+
+-- in any other state a sum is refused at its first mail and a posted number is dropped, each a service
+abbrev pub refuse : Adder → Mail → Adder × List Mail
+refuse v (first n) = (record v { handled = suc v.handled }, refused ∷ [])
+refuse v (posted n) = (record v { handled = suc v.handled }, [])
+refuse v second = (v, refused ∷ [])
+refuse v held = (v, refused ∷ [])
+refuse v (total n) = (v, refused ∷ [])
+refuse v refused = (v, refused ∷ [])
+refuse v (noted n) = (v, refused ∷ [])
+
+abbrev pub serve_in : Bool → Adder → Mail → Adder × List Mail
+serve_in true v m = Toy.serve v m
+serve_in false v m = refuse v m
+
+abbrev pub serve : Desk → Mail → Desk × List Mail
+serve d m = (record d { adder = (serve_in (adds d.state) d.adder m).0 }, (serve_in (adds d.state) d.adder m).1)
+
+-- the reply to a sum: its total, or that it was refused
+abbrev pub ends : Service → List Mail → Option (Option ℕ)
+ends (sum n) (held ∷ total value ∷ []) = Some (Some value)
+ends (sum n) (refused ∷ []) = Some None
+ends _ _ = None
+
+abbrev pub exec_in : Bool → Sheet → Service → Sheet
+exec_in true a q = record a { value = a.value + number q }
+exec_in false a q = a
+
+abbrev pub reply_in : Bool → Sheet → Service → Option ℕ
+reply_in true a q = Some (a.value + number q)
+reply_in false a q = None
+
+abbrev pub emits_in : Bool → Service → List Mail
+emits_in true q = noted (number q) ∷ []
+emits_in false q = []
+
+abbrev pub desk : Exchange Desk Sheet Mail Service (Option ℕ)
+desk = record {
+  serve = serve;
+  app = λ d. record { value = d.adder.value; state = d.state };
+  handled = λ d. d.adder.handled;
+  emission = emission;
+  ready = λ d. true;
+  valid = λ q. true;
+  planned = λ q hs. said decide 2 (Toy.mails q) hs;
+  ends = ends;
+  handed = handed;
+  full = λ d q. sent serve emission decide 2 d (Toy.mails q);
+  exec = λ a q. exec_in (adds a.state) a q;
+  reply = λ a q. reply_in (adds a.state) a q;
+  emits = λ a q. emits_in (adds a.state) q;
+}
+
+-- its AL state; no mail of it is an acknowledgement
+abbrev pub desk_states : Stated Desk Sheet Service
+desk_states = record {
+  tell = λ state d. record d { state = state };
+  told = λ state a. record a { state = state };
+  state = λ a. a.state;
+  acknowledged = λ q. false;
+}
+
+-- it comes into states 0 and 1, and refuses any other with code 17
+abbrev pub steps : Table
+steps from to = if nat_le to 1 then None else Some 17
+
+abbrev pub new_desk : Desk
+new_desk = record { adder = record { value = 0; handled = 0; half = None }; state = 0 }

@@ -1,0 +1,108 @@
+-- What a session of services by mails and state services promises of each slave.
+use Rattle.std.specs.Prelude.{◌≡◌, ℕ, suc, ◌+◌, ◌<◌, ◌≤◌, Bool, true, Option, Some, None, List, [], ◌∷◌, map, take, length, ⊤}
+use Rattle.exchange_model.specs.Prefix.{IsPrefixOf}
+use Rattle.exchange_model.specs.Exchange.{Exchange, emitted}
+use Rattle.exchange_model.specs.Rows.{Row, exec_all, emits_all}
+use Rattle.segment_model.specs.Slaves.{Slave, Ring}
+use Rattle.segment_model.specs.Record.{Frame, first_end, news_from, heard}
+use Rattle.segment_model.specs.Ends.{Task, Outcome, ends}
+use Rattle.segment_model.specs.Seats.{Side, Planned}
+use Rattle.segment_model.specs.Laws.{IsSettled, WantsNothing}
+use Rattle.state_model.specs.States.{Table}
+use Rattle.state_model.specs.Together.{but_last}
+use Rattle.state_exchange.specs.Stated.{Stated, Service, with_states, mails}
+use Rattle.task_model.specs.Accounts.{Started, Account}
+
+-- a service as a task of the table of completed services
+abbrev pub task_of : {M Q : Type 0} → Service Q → Task M Q
+task_of (Service.Mails q) = Task.Mails q
+task_of (Service.State target) = Task.State target
+
+-- the outcome of a service by the record, with the frame that completed it
+abbrev pub outcome_of : {V A M Q R : Type 0} → Exchange V A M Q R → (M → Bool) → ℕ → List (Frame M) → Started Q → Option (Outcome R × ℕ)
+outcome_of x more station fs s = first_end (ends x more (task_of s.service)) s.frame [] (news_from station s.frame fs)
+
+-- the services of these rows
+abbrev pub services_in : {Q : Type 0} → List (Started Q) → List (Service Q)
+services_in ss = map (λ s. s.service) ss
+
+-- how many of these go by mails
+abbrev pub mails_in : {Q : Type 0} → List (Service Q) → ℕ
+mails_in [] = 0
+mails_in (Service.Mails q ∷ ss) = suc (mails_in ss)
+mails_in (Service.State target ∷ ss) = mails_in ss
+
+-- an outcome that tells that the service was carried out: all but that its last mail was written
+abbrev pub IsReply : {R : Type 0} → Outcome R → Type 0
+IsReply (Outcome.Replied r) = ⊤
+IsReply Outcome.Handed = ⊥
+IsReply Outcome.Reached = ⊤
+IsReply (Outcome.Refused code) = ⊤
+
+-- each outcome that is a reply is that of its service, on the application and in the AL state behind the services before it
+abbrev pub AllReplied : {V A M Q R : Type 0} → Exchange V A M Q R → Stated V A Q → Table → (M → Bool) → ℕ → List (Frame M) → A → List (Started Q) → Type 0
+AllReplied x s table more station fs a [] = ⊤
+AllReplied {R = R} x s table more station fs a (r ∷ rs) =
+    ((o : Outcome R × ℕ) → outcome_of x more station fs r ≡ Some o → IsReply o.0 → o.0 ≡ (with_states x s table).reply a r.service)
+    × AllReplied x s table more station fs ((with_states x s table).exec a r.service) rs
+
+-- and its service, the first of which has this number, is among the first count
+abbrev pub AllDone : {V A M Q R : Type 0} → Exchange V A M Q R → (M → Bool) → ℕ → List (Frame M) → ℕ → ℕ → List (Started Q) → Type 0
+AllDone x more station fs count number [] = ⊤
+AllDone {R = R} x more station fs count number (r ∷ rs) =
+    ((o : Outcome R × ℕ) → outcome_of x more station fs r ≡ Some o → IsReply o.0 → number < count) × AllDone x more station fs count (suc number) rs
+
+-- the frame of the next service, or this number where none follows
+abbrev pub next_start : {Q : Type 0} → List (Started Q) → ℕ → ℕ
+next_start [] end = end
+next_start (r ∷ rs) end = r.frame
+
+-- each outcome is of a frame before the next service came into hand, and before the frame with this number
+abbrev pub AllRise : {V A M Q R : Type 0} → Exchange V A M Q R → (M → Bool) → ℕ → List (Frame M) → List (Started Q) → ℕ → Type 0
+AllRise x more station fs [] end = ⊤
+AllRise {R = R} x more station fs (r ∷ rs) end =
+    ((o : Outcome R × ℕ) → outcome_of x more station fs r ≡ Some o → o.1 < next_start rs end) × AllRise x more station fs rs end
+
+-- each of these has an outcome
+abbrev pub AllEnded : {V A M Q R : Type 0} → Exchange V A M Q R → (M → Bool) → ℕ → List (Frame M) → List (Started Q) → Type 0
+AllEnded x more station fs [] = ⊤
+AllEnded {R = R} x more station fs (r ∷ rs) = ((o : Outcome R × ℕ) × (outcome_of x more station fs r ≡ Some o)) × AllEnded x more station fs rs
+
+-- THE PROMISE for one slave: it has carried out just the first count of the services that came into hand, by mails and AL states, each once and
+-- in order; each answer is its application's, in the AL state that stood; at most two services are not among these, and only the newest can be
+-- in doubt
+pub record TasksPromised {V A M Q R : Type 0} (x : Exchange V A M Q R) (s : Stated V A Q) (table : Table) (more : M → Bool) (fs : List (Frame M))
+    (station : ℕ) (start : V) (d : Side M Q R) (a : Account Q R) (n : Slave V M) : Type 0 where
+  pub count : ℕ
+  pub app : x.app n.node.server.server ≡ exec_all (with_states x s table) (x.app start) (take count (services_in a.started))
+  pub handled : x.handled n.node.server.server ≡ x.handled start + mails_in (take count (services_in a.started))
+  pub state : n.registers.state ≡ s.state (x.app n.node.server.server)
+  pub prefix : count ≤ length a.started
+  pub behind : length a.started ≤ count + 2
+  pub replied : AllReplied x s table more station fs (x.app start) a.started
+  pub in_done : AllDone x more station fs count 0 a.started
+  pub rises : AllRise x more station fs a.started (length fs)
+  pub in_doubt : AllEnded x more station fs (but_last a.started)
+  -- the emissions that were heard are the first of those that these services emit
+  pub emissions : IsPrefixOf (emitted x.emission (heard station fs)) (mails (emits_all (with_states x s table) (x.app start) (take count (services_in a.started))))
+  -- with no state service in hand no error flag stands
+  pub flag : a.hand ≡ None → n.registers.refused ≡ None
+
+-- WITH NOTHING LEFT: all services are carried out, each has its outcome, and all emissions were heard
+pub record TasksRest {V A M Q R : Type 0} (x : Exchange V A M Q R) (s : Stated V A Q) (table : Table) (more : M → Bool) (fs : List (Frame M))
+    (station : ℕ) (start : V) (d : Side M Q R) (a : Account Q R) (n : Slave V M) : Type 0 where
+  pub app : x.app n.node.server.server ≡ exec_all (with_states x s table) (x.app start) (services_in a.started)
+  pub handled : x.handled n.node.server.server ≡ x.handled start + mails_in (services_in a.started)
+  pub ended : AllEnded x more station fs a.started
+  pub emissions : emitted x.emission (heard station fs) ≡ mails (emits_all (with_states x s table) (x.app start) (services_in a.started))
+
+-- it rests where it is settled and the master wants nothing of it
+abbrev pub TasksRestIf : {V A M Q R : Type 0} → Exchange V A M Q R → Stated V A Q → Table → (M → Bool) → List (Frame M) → ℕ → V → Side M Q R → Account Q R → Slave V M → Type 0
+TasksRestIf x s table more fs station start d a n = IsSettled n → WantsNothing x d → a.hand ≡ None → TasksRest x s table more fs station start d a n
+
+-- a fact of each slave of a plan that answers to its station, in ring order
+abbrev pub EachTask : {V M Q R : Type 0} → (ℕ → V → Side M Q R → Account Q R → Slave V M → Type 0) → List (Planned V) → List (ℕ × Side M Q R) → List (Account Q R) → Ring V M → Type 0
+EachTask P [] [] [] [] = ⊤
+EachTask P (p ∷ ps) (d ∷ ds) (a ∷ more) (n ∷ ns) =
+    ((d.0 ≡ p.station) × (n.0 ≡ p.station) × (p.registers.station ≡ p.station → P p.station p.server d.1 a n.1)) × EachTask P ps ds more ns
+EachTask P ps ds more ns = ⊥
