@@ -2,15 +2,15 @@
 use Rattle.std.proofs.Common.{◌≡◌, ℕ, zero, suc, Bool, List, [], ◌∷◌, map, length, refl, ap, sym, ◌∙◌, subst}
 use Rattle.exchange_model.specs.Exchange.{Exchange, IsLawful}
 use Rattle.link_model.specs.Segment.{RingFate}
-use Rattle.segment_model.specs.Slaves.{Processor, Datagram, Ring, Slave, frame_after, ring_back}
+use Rattle.segment_model.specs.Slaves.{Processor, IsStill, Datagram, Ring, Slave, frame_after, ring_back}
 use Rattle.segment_model.specs.Record.{Frame}
 use Rattle.segment_model.specs.Seats.{Side, Seat, Choice, Turn, Session, Planned, IsPlan, ring_of, sides_of, seats_next, seats_back, seats_lost, seats_after, seat_steps_at, seats_step, happens, run, new_session, new_seats}
 use Rattle.segment_model.specs.Split.{IsBound}
 use Rattle.segment_model.specs.Laws.{KnowsCounters, EachSeat, SeatPromised, EachOf, Promised, RestsIf, HandedBy}
-use Rattle.segment_model.proofs.Kept.{Keeps, run_keeps, new_keeps, each_promised}
+use Rattle.segment_model.proofs.Kept.{Keeps, run_keeps, new_keeps, run_follows, new_follows, each_promised}
 use Rattle.segment_model.specs.Books.{PastEnded, EndedIf, DoneIf}
 use Rattle.segment_model.proofs.Ended.{each_ended, each_ended_if, each_done}
-use Rattle.segment_model.proofs.Hands.{session_posts, each_handed, each_counted}
+use Rattle.segment_model.proofs.Hands.{session_posts, each_handed, each_facts, each_counted, run_out, new_out}
 use Rattle.segment_model.proofs.Rests.{each_rests}
 
 -- the stations of seats and the servers that they began with
@@ -89,18 +89,25 @@ module _ {V A M Q R : Type 0} (x : Exchange V A M Q R) (law : IsLawful x) where
       let all = each_of x (P w.frames) w.seats ps (session_starts x processor b.opening ps b.turns) each in
       subst (λ l. EachOf (P fs) ps ds l) b.ring (subst (λ l. EachOf (P fs) ps l (ring_of w.seats)) b.sides (subst (λ l. EachOf (P l) ps (sides_of w.seats) (ring_of w.seats)) b.frames all))
 
-  module _ (more : M → Bool) (processor : Processor V) (ps : List (Planned V)) (p : IsPlan x ps) (ds : List (ℕ × Side M Q R)) (ns : Ring V M) (fs : List (Frame M)) (b : IsBound x processor ps ds ns fs) where
+  -- the counters, whatever the servers are
+  pub bound_counted : (processor : Processor V) (ps : List (Planned V)) → IsPlan x ps → (ds : List (ℕ × Side M Q R)) (ns : Ring V M) (fs : List (Frame M)) → IsBound x processor ps ds ns fs → EachOf (KnowsCounters fs) ps ds ns
+  bound_counted processor ps p ds ns fs b =
+      let w = run x processor (new_session b.opening ps) b.turns in
+      let follows = run_follows x law processor (new_session b.opening ps) b.turns b.may (new_follows x law b.opening b.quiet ps p.stations) in
+      of_session (λ fs. KnowsCounters fs) processor ps ds ns fs b (each_counted x law w.frames w.seats follows.records (run_out x law processor (new_session b.opening ps) b.turns b.may (new_out x law b.opening b.quiet ps)))
+
+  module _ (more : M → Bool) (processor : Processor V) (still : IsStill processor) (ps : List (Planned V)) (p : IsPlan x ps) (ds : List (ℕ × Side M Q R)) (ns : Ring V M) (fs : List (Frame M)) (b : IsBound x processor ps ds ns fs) where
     abbrev now : Session V M Q R
     now = run x processor (new_session b.opening ps) b.turns
 
     keeps : Keeps x law now.frames now.seats
-    keeps = run_keeps x law processor (new_session b.opening ps) b.turns b.may (new_keeps x law b.opening b.quiet ps p)
+    keeps = run_keeps x law processor still (new_session b.opening ps) b.turns b.may (new_keeps x law b.opening b.quiet ps p)
 
     promised : EachSeat (SeatPromised x more now.frames) now.seats
     promised = each_promised x law more now.frames now.seats keeps.ready keeps.sound keeps.fitted keeps.records
 
     handed : EachSeat (λ s. HandedBy x more now.frames s.station s.start s.side s.slave) now.seats
-    handed = each_handed x law more now.frames now.seats keeps.ready keeps.fitted keeps.records promised (session_posts x law b.opening b.quiet processor ps p b.turns b.may)
+    handed = each_handed x law more now.frames now.seats (each_facts x law now.seats keeps.ready keeps.fitted) keeps.records promised (session_posts x law b.opening b.quiet processor still ps p b.turns b.may)
 
     pub bound_promised : EachOf (Promised x more fs) ps ds ns
     bound_promised = of_session (λ fs. Promised x more fs) processor ps ds ns fs b promised
@@ -116,9 +123,6 @@ module _ {V A M Q R : Type 0} (x : Exchange V A M Q R) (law : IsLawful x) where
 
     pub bound_rests : EachOf (RestsIf x fs) ps ds ns
     bound_rests = of_session (λ fs. RestsIf x fs) processor ps ds ns fs b (each_rests x law now.frames now.seats keeps.ready keeps.sound keeps.fitted keeps.records)
-
-    pub bound_counted : EachOf (KnowsCounters fs) ps ds ns
-    bound_counted = of_session (λ fs. KnowsCounters fs) processor ps ds ns fs b (each_counted x law now.frames now.seats keeps.records (session_posts x law b.opening b.quiet processor ps p b.turns b.may))
 
     pub bound_done : (scripted : ℕ → List Q) → EachOf (DoneIf x more scripted fs) ps ds ns
     bound_done scripted = of_session (λ fs. DoneIf x more scripted fs) processor ps ds ns fs b

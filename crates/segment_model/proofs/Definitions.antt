@@ -37,7 +37,7 @@ brought_up station = record {
   back = to (Address.Station station) Access.ReadState (Some (Found.State 2 None)) 1 ∷ [];
 }
 
--- both slaves are brought up, one after the other, the second by a lost access that comes again; then frames processor both; the second of two
+-- both slaves are brought up, one after the other, the second by a lost access that comes again; then frames carry both; the second of two
 -- losses in a row with retry 1 gives both up
 visits : Visits (λ ds. 168) 1 (stop 4097 ∷ stop 4098 ∷ []) (new_tour (stop 4097 ∷ stop 4098 ∷ []))
     (passes (to (Address.Place 0) (Access.SetStation 4097) None 0 ∷ []) ∷ brought_up 4097 ∷ loses (to (Address.Place 1) (Access.SetStation 4098) None 0 ∷ [])

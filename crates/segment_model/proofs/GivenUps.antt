@@ -1,4 +1,4 @@
--- Frames that processor nothing for a slave tell nothing of it, so its outcomes are those of the frames before.
+-- Frames that carry nothing for a slave tell nothing of it, so its outcomes are those of the frames before.
 use Rattle.std.proofs.Common.{◌≡◌, ℕ, suc, ◌+◌, ◌≤◌, ◌==◌, ◌||◌, Bool, true, false, Option, Some, None, option_map, List, [], ◌∷◌, ◌++◌, map, length, refl, ap, sym, ◌∙◌, arith, append_assoc, append-nil, length-append, if◌then◌else◌}
 use Rattle.exchange_model.specs.Exchange.{Exchange, IsLawful}
 use Rattle.exchange_model.specs.Rows.{answer_after}

@@ -101,8 +101,12 @@ module _ {V A M Q R : Type 0} (x : Exchange V A M Q R) (law : IsLawful x) where
   PostNow station fs fresh holding None = fresh ≡ false
   PostNow station fs fresh holding (Some r) = x.handed r.service ≡ true → PostOpen station r.frame (count r) fs fresh holding r.told
 
+  -- what the outward half knows of the record
+  abbrev pub KeptSide : ℕ → List (Frame M) → Side M Q R → Type 0
+  KeptSide station fs d = KeptOut d.fresh d.halves.out.holding d.halves.out.last (kept_of station fs).told
+
   pub record Posts (station : ℕ) (fs : List (Frame M)) (d : Side M Q R) : Type 0 where
-    pub out : KeptOut d.fresh d.halves.out.holding d.halves.out.last (kept_of station fs).told
+    pub out : KeptSide station fs d
     pub past : AllPosted station fs d.past (end_of d.now)
     pub now : PostNow station fs d.fresh d.halves.out.holding d.now
 
@@ -110,6 +114,79 @@ module _ {V A M Q R : Type 0} (x : Exchange V A M Q R) (law : IsLawful x) where
   idle_known : (fresh : Bool) (holding : Option (LinkMail M)) (last kept : ℕ) → holding ≡ None → KeptOut fresh holding last kept → fresh ≡ false
   idle_known false holding last kept e k = refl
   idle_known true holding last kept e k = let f : IsFresh holding last kept = k in absurd (let bad : None ≡ Some f.mail = sym e ∙ f.holds in cc)
+
+  -- it takes a mail up
+  held_out : (station : ℕ) (fs : List (Frame M)) (d : Side M Q R) (m : M) → d.halves.out.holding ≡ None → KeptSide station fs d → KeptSide station fs (side_holds d (m ∷ []))
+  held_out station fs d m i p =
+      let known = idle_known d.fresh d.halves.out.holding d.halves.out.last (kept_of station fs).told i p in
+      let k : IsKnown d.halves.out.holding d.halves.out.last (kept_of station fs).told = subst (λ b. KeptOut b d.halves.out.holding d.halves.out.last (kept_of station fs).told) known p in
+      record { mail = record { counter = Counters.next_counter d.halves.out.last; body = m }; holds = refl; next = ap Counters.next_counter k.last_is; last_is = refl }
+
+  began_out : (station : ℕ) (fs : List (Frame M)) (d : Side M Q R) (now : Option (Row M Q R)) (begin : Option Q) → KeptSide station fs d → KeptSide station fs (side_begins x (length fs) d now begin)
+  began_out station fs d now None p = p
+  began_out station fs d None (Some q) p = go (x.valid q)
+    where
+      go : (b : Bool) → KeptSide station fs (if b then record d { now = Some (begun q (length fs)) } else d)
+      go true = p
+      go false = p
+  began_out station fs d (Some r) (Some q) p = go (x.valid q && is_over x d.halves.out.holding d.fresh r)
+    where
+      go : (b : Bool) → KeptSide station fs (if b then record d { past = d.past ++ r ∷ []; now = Some (begun q (length fs)) } else d)
+      go true = p
+      go false = p
+
+  holds_out : (station : ℕ) (fs : List (Frame M)) (d : Side M Q R) (now : Option (Row M Q R)) (holding : Option (LinkMail M)) (hold : Bool) → d.halves.out.holding ≡ holding → KeptSide station fs d →
+      KeptSide station fs (side_holds d (next_mail x now holding hold))
+  holds_out station fs d now holding false e p = p
+  holds_out station fs d None holding true e p = p
+  holds_out station fs d (Some r) (Some m) true e p = p
+  holds_out station fs d (Some r) None true e p = first (left x r)
+    where
+      first : (ms : List M) → KeptSide station fs (side_holds d (first_left ms))
+      first [] = p
+      first (m ∷ ms) = held_out station fs d m e p
+
+  pub next_out : (station : ℕ) (fs : List (Frame M)) (d : Side M Q R) (c : Choice Q) → KeptSide station fs d → KeptSide station fs (side_next x (length fs) d c)
+  next_out station fs d c p =
+      let e = side_begins x (length fs) d d.now c.begin in
+      holds_out station fs e e.now e.halves.out.holding c.hold refl (began_out station fs d d.now c.begin p)
+
+  -- and a frame comes back, or is lost
+  pub back_out : (station : ℕ) (fs : List (Frame M)) (f : Frame M) (d : Side M Q R) → writes station (grams f.back) ≡ writes station (grams f.sent) →
+      Tells (kept_of station fs).told d.halves.out.holding (writes station (grams f.sent)) (all_told station (kept_of station fs).told (grams f.sent)) (told_behind station (kept_of station fs).told (grams f.sent)) →
+      KeptSide station fs d → KeptSide station (fs ++ f ∷ []) (side_back x (length fs) station f.back d)
+  back_out station fs f d e t p =
+      let kept = kept_of station fs in
+      let w = writes station (grams f.back) in
+      let tells : Tells kept.told d.halves.out.holding w (all_told station kept.told (grams f.sent)) (told_behind station kept.told (grams f.sent)) = subst (λ b. Tells kept.told d.halves.out.holding b (all_told station kept.told (grams f.sent)) (told_behind station kept.told (grams f.sent))) (sym e) t in
+      let hw = has_written (back_news station kept.heard f.back) in
+      let frees = back_frees station kept.heard d.halves f.back in
+      let lasts = back_lasts station d.halves (grams f.back) in
+      let behind = ap (λ k. k.told) (kept_all-push station Record.nothing_kept fs f) in
+      let out = kept_frame d.fresh w hw d.halves.out.holding d.halves.out.last kept.told (told_behind station kept.told (grams f.sent)) _ tells (none_written station kept.heard f.back) p in
+      subst (λ k. KeptOut (d.fresh && not w) (halves_after station d.halves (grams f.back)).out.holding (halves_after station d.halves (grams f.back)).out.last k) (sym behind)
+      (subst (λ l. KeptOut (d.fresh && not w) (halves_after station d.halves (grams f.back)).out.holding l (told_behind station kept.told (grams f.sent))) (sym lasts)
+      (subst (λ h. KeptOut (d.fresh && not w) h d.halves.out.last (told_behind station kept.told (grams f.sent))) (sym frees) out))
+
+  lost_holding : (station : ℕ) (fs : List (Frame M)) (f : Frame M) (d : Side M Q R) → f.back ≡ [] →
+      (halves_without station d.halves (grams f.sent)).out.holding ≡ (if has_written (back_news station (kept_of station fs).heard f.back) then None else d.halves.out.holding)
+  lost_holding station fs f d e =
+      ap (λ o. o.holding) (losts_out station d.halves (grams f.sent)) ∙ ap (λ b. if b then None else d.halves.out.holding) (sym (ap (λ ds. has_written (back_news station (kept_of station fs).heard ds)) e))
+
+  pub lost_out : (station : ℕ) (fs : List (Frame M)) (f : Frame M) (d : Side M Q R) → f.back ≡ [] →
+      Tells (kept_of station fs).told d.halves.out.holding (writes station (grams f.sent)) (all_told station (kept_of station fs).told (grams f.sent)) (told_behind station (kept_of station fs).told (grams f.sent)) →
+      KeptSide station fs d → KeptSide station (fs ++ f ∷ []) (side_lost station f.sent d)
+  lost_out station fs f d e t p =
+      let kept = kept_of station fs in
+      let w = writes station (grams f.sent) in
+      let hw = has_written (back_news station kept.heard f.back) in
+      let never : hw ≡ false = ap (λ ds. has_written (back_news station kept.heard ds)) e in
+      let lasts = ap (λ o. o.last) (losts_out station d.halves (grams f.sent)) in
+      let behind = ap (λ k. k.told) (kept_all-push station Record.nothing_kept fs f) in
+      let out = kept_frame d.fresh w hw d.halves.out.holding d.halves.out.last kept.told (told_behind station kept.told (grams f.sent)) _ t (λ z. never) p in
+      subst (λ k. KeptOut (d.fresh && not w) (halves_without station d.halves (grams f.sent)).out.holding (halves_without station d.halves (grams f.sent)).out.last k) (sym behind)
+      (subst (λ l. KeptOut (d.fresh && not w) (halves_without station d.halves (grams f.sent)).out.holding l (told_behind station kept.told (grams f.sent))) (sym lasts)
+      (subst (λ h. KeptOut (d.fresh && not w) h d.halves.out.last (told_behind station kept.told (grams f.sent))) (sym (lost_holding station fs f d e)) out))
 
   left_is : (r : Row M Q R) → Facts r → left x r ≡ drop (length r.told) (x.planned r.service [])
   left_is r f = ap (λ hs. drop (length r.told) (x.planned r.service hs)) f.silent
@@ -204,10 +281,9 @@ module _ {V A M Q R : Type 0} (x : Exchange V A M Q R) (law : IsLawful x) where
       one : (r : Row M Q R) (m : M) (more : List M) → d.now ≡ Some r → left x r ≡ m ∷ more → d.halves.out.holding ≡ None → Posts station fs (side_holds d (m ∷ []))
       one r m more n l i =
           let known = idle_known d.fresh d.halves.out.holding d.halves.out.last (kept_of station fs).told i p.out in
-          let k : IsKnown d.halves.out.holding d.halves.out.last (kept_of station fs).told = subst (λ b. KeptOut b d.halves.out.holding d.halves.out.last (kept_of station fs).told) known p.out in
           let mail : LinkMail M = record { counter = Counters.next_counter d.halves.out.last; body = m } in
           record {
-            out = record { mail = mail; holds = refl; next = ap Counters.next_counter k.last_is; last_is = refl };
+            out = held_out station fs d m i p.out;
             past = subst (λ k. AllPosted station fs d.past k) (end_told d.now m) p.past;
             now = subst (λ o. PostNow station fs true (Some mail) (option_map (λ r. row_told m r) o)) (sym n) (λ posts.
                 (let f = subst (NowFacts d.past) n facts posts in
@@ -293,14 +369,9 @@ module _ {V A M Q R : Type 0} (x : Exchange V A M Q R) (law : IsLawful x) where
       let hw = has_written (back_news station kept.heard f.back) in
       let q = none_written station kept.heard f.back in
       let frees = back_frees station kept.heard d.halves f.back in
-      let lasts = back_lasts station d.halves (grams f.back) in
-      let behind = ap (λ k. k.told) (kept_all-push station Record.nothing_kept fs f) in
-      let out = kept_frame d.fresh w hw d.halves.out.holding d.halves.out.last kept.told (told_behind station kept.told (grams f.sent)) _ tells q p.out in
       let now = now_frame station fs f d.fresh w d.halves.out.holding d.halves.out.last _ d.now (λ r. row_heard x (length fs) (Frames.all_accepted station d.halves (grams f.back)) r) (λ r. refl) (λ r. refl) (λ r. refl) tells q p.out p.now in
       record {
-        out = subst (λ k. KeptOut (d.fresh && not w) (halves_after station d.halves (grams f.back)).out.holding (halves_after station d.halves (grams f.back)).out.last k) (sym behind)
-            (subst (λ l. KeptOut (d.fresh && not w) (halves_after station d.halves (grams f.back)).out.holding l (told_behind station kept.told (grams f.sent))) (sym lasts)
-            (subst (λ h. KeptOut (d.fresh && not w) h d.halves.out.last (told_behind station kept.told (grams f.sent))) (sym frees) out));
+        out = back_out station fs f d e t p.out;
         past = subst (λ k. AllPosted station (fs ++ f ∷ []) d.past k) (end_heard d.now (length fs) (Frames.all_accepted station d.halves (grams f.back))) (posted_stays station fs f d.past (end_of d.now) p.past);
         now = subst (λ h. PostNow station (fs ++ f ∷ []) (d.fresh && not w) h (option_map (λ r. row_heard x (length fs) (Frames.all_accepted station d.halves (grams f.back)) r) d.now)) (sym frees) now;
       }
@@ -313,17 +384,11 @@ module _ {V A M Q R : Type 0} (x : Exchange V A M Q R) (law : IsLawful x) where
       let w = writes station (grams f.sent) in
       let hw = has_written (back_news station kept.heard f.back) in
       let never : hw ≡ false = ap (λ ds. has_written (back_news station kept.heard ds)) e in
-      let same : (halves_without station d.halves (grams f.sent)).out.holding ≡ (if hw then None else d.halves.out.holding) = ap (λ o. o.holding) (losts_out station d.halves (grams f.sent)) ∙ ap (λ b. if b then None else d.halves.out.holding) (sym never) in
-      let lasts = ap (λ o. o.last) (losts_out station d.halves (grams f.sent)) in
-      let behind = ap (λ k. k.told) (kept_all-push station Record.nothing_kept fs f) in
-      let out = kept_frame d.fresh w hw d.halves.out.holding d.halves.out.last kept.told (told_behind station kept.told (grams f.sent)) _ t (λ z. never) p.out in
       let now = now_frame station fs f d.fresh w d.halves.out.holding d.halves.out.last _ d.now (λ r. r) (λ r. refl) (λ r. refl) (λ r. refl) t (λ z. never) p.out p.now in
       record {
-        out = subst (λ k. KeptOut (d.fresh && not w) (halves_without station d.halves (grams f.sent)).out.holding (halves_without station d.halves (grams f.sent)).out.last k) (sym behind)
-            (subst (λ l. KeptOut (d.fresh && not w) (halves_without station d.halves (grams f.sent)).out.holding l (told_behind station kept.told (grams f.sent))) (sym lasts)
-            (subst (λ h. KeptOut (d.fresh && not w) h d.halves.out.last (told_behind station kept.told (grams f.sent))) (sym same) out));
+        out = lost_out station fs f d e t p.out;
         past = posted_stays station fs f d.past (end_of d.now) p.past;
-        now = subst (λ h. PostNow station (fs ++ f ∷ []) (d.fresh && not w) h d.now) (sym same) (unchanged d.now now);
+        now = subst (λ h. PostNow station (fs ++ f ∷ []) (d.fresh && not w) h d.now) (sym (lost_holding station fs f d e)) (unchanged d.now now);
       }
     where
       unchanged : (now : Option (Row M Q R)) → PostNow station (fs ++ f ∷ []) (d.fresh && not (writes station (grams f.sent))) (if has_written (back_news station (kept_of station fs).heard f.back) then None else d.halves.out.holding) (option_map (λ r. r) now) →

@@ -4,7 +4,8 @@ use Rattle.exchange_model.specs.Exchange.{Exchange, IsLawful}
 use Rattle.exchange_model.specs.Rows.{Row, Fits}
 use Rattle.link_model.specs.Segment.{RingFate, Distinct}
 use Rattle.link_model.specs.Frames.{all_accepted}
-use Rattle.segment_model.specs.Slaves.{Processor, Datagram, grams, frame_after, ring_back}
+use Rattle.link_model.proofs.Law.{new_agrees}
+use Rattle.segment_model.specs.Slaves.{Processor, IsStill, Datagram, grams, frame_after, ring_back}
 use Rattle.segment_model.specs.Record.{Frame, News, first_end, or_later, news_each, nothing_kept, frame_news, news_from, mails_heard, joined, heard}
 use Rattle.segment_model.specs.Ends.{Outcome, mails_end}
 use Rattle.segment_model.specs.Laws.{EachSeat, IsAnswered, AllAnswered, as_outcome, SeatPromised}
@@ -15,7 +16,7 @@ use Rattle.segment_model.proofs.Answers.{Listens, AllClosed, OpenNow, first_repl
 use Rattle.segment_model.proofs.Openings.{opening_kept, opening_heard}
 use Rattle.segment_model.proofs.Rising.{RisesNow, next_rises, heard_rises, waits_rises, rises_all}
 use Rattle.segment_model.proofs.Links.{new_sound}
-use Rattle.segment_model.proofs.Sounds.{SeatSound, frame_keeps, nexts_sound, steps_sound}
+use Rattle.segment_model.proofs.Sounds.{SeatSound, SeatAgrees, frame_keeps, frame_agrees, nexts_sound, nexts_agree, steps_sound, steps_agree}
 use Rattle.segment_model.proofs.Fitted.{Fitted, IsReady, nexts_fit, frames_fit, steps_fit, seat_fits}
 
 -- the mails heard behind one more frame
@@ -38,7 +39,7 @@ module _ {V A M Q R : Type 0} (x : Exchange V A M Q R) (law : IsLawful x) where
     pub records : EachSeat (Records fs) ss
 
   -- before a frame
-  nexts_records : (fs : List (Frame M)) (ss : List (Seat V M Q R)) (cs : List (Choice Q)) → EachSeat (Records fs) ss → EachSeat (Records fs) (seats_next x (length fs) ss cs)
+  pub nexts_records : (fs : List (Frame M)) (ss : List (Seat V M Q R)) (cs : List (Choice Q)) → EachSeat (Records fs) ss → EachSeat (Records fs) (seats_next x (length fs) ss cs)
   nexts_records fs [] cs h = tt
   nexts_records fs (s ∷ ss) [] h = h
   nexts_records fs (s ∷ ss) (c ∷ cs) h =
@@ -50,7 +51,7 @@ module _ {V A M Q R : Type 0} (x : Exchange V A M Q R) (law : IsLawful x) where
   nexts_ready k (s ∷ ss) [] h = h
   nexts_ready k (s ∷ ss) (c ∷ cs) h = (h.0, nexts_ready k ss cs h.1)
 
-  nexts_stations : (k : ℕ) (ss : List (Seat V M Q R)) (cs : List (Choice Q)) → stations_of (seats_next x k ss cs) ≡ stations_of ss
+  pub nexts_stations : (k : ℕ) (ss : List (Seat V M Q R)) (cs : List (Choice Q)) → stations_of (seats_next x k ss cs) ≡ stations_of ss
   nexts_stations k [] cs = refl
   nexts_stations k (s ∷ ss) [] = refl
   nexts_stations k (s ∷ ss) (c ∷ cs) = ap (λ l. s.station ∷ l) (nexts_stations k ss cs)
@@ -91,7 +92,7 @@ module _ {V A M Q R : Type 0} (x : Exchange V A M Q R) (law : IsLawful x) where
   abbrev frame_of : List (Seat V M Q R) → List (Datagram M) → RingFate → Frame M
   frame_of ss ds fate = record { sent = ds; fate = fate; back = ring_back (ring_of ss) ds fate }
 
-  afters_records : (fs : List (Frame M)) (ss : List (Seat V M Q R)) (ds : List (Datagram M)) (fate : RingFate) → EachSeat (Records fs) ss → EachSeat (Records (fs ++ frame_of ss ds fate ∷ [])) (seats_after x (length fs) ss ds fate)
+  pub afters_records : (fs : List (Frame M)) (ss : List (Seat V M Q R)) (ds : List (Datagram M)) (fate : RingFate) → EachSeat (Records fs) ss → EachSeat (Records (fs ++ frame_of ss ds fate ∷ [])) (seats_after x (length fs) ss ds fate)
   afters_records fs ss ds RingFate.Back h = backs_records fs (frame_of ss ds RingFate.Back) ss ds h
   afters_records fs ss ds (RingFate.Lost after) h = losts_records fs (frame_of ss ds (RingFate.Lost after)) after ss ds refl h
 
@@ -108,7 +109,7 @@ module _ {V A M Q R : Type 0} (x : Exchange V A M Q R) (law : IsLawful x) where
       lost zero (s ∷ ss') ds' h = (h.0, lost zero ss' ds' h.1)
       lost (suc k) (s ∷ ss') ds' h = (h.0, lost k ss' (frame_after s.station s.slave ds') h.1)
 
-  afters_stations : (k : ℕ) (ss : List (Seat V M Q R)) (ds : List (Datagram M)) (fate : RingFate) → stations_of (seats_after x k ss ds fate) ≡ stations_of ss
+  pub afters_stations : (k : ℕ) (ss : List (Seat V M Q R)) (ds : List (Datagram M)) (fate : RingFate) → stations_of (seats_after x k ss ds fate) ≡ stations_of ss
   afters_stations k ss ds RingFate.Back = back ss ds
     where
       back : (ss' : List (Seat V M Q R)) (ds' : List (Datagram M)) → stations_of (seats_back x k ss' ds' (ring_back (ring_of ss) ds RingFate.Back)) ≡ stations_of ss'
@@ -122,38 +123,79 @@ module _ {V A M Q R : Type 0} (x : Exchange V A M Q R) (law : IsLawful x) where
       lost (suc k) (s ∷ ss') ds' = ap (λ l. s.station ∷ l) (lost k ss' (frame_after s.station s.slave ds'))
 
   -- and behind steps of processors
-  step_keeps : (processor : Processor V) (fs : List (Frame M)) (k : ℕ) (ss : List (Seat V M Q R)) → Keeps fs ss → Keeps fs (seat_steps_at x processor k ss)
-  step_keeps processor fs k ss h = record {
-    stations = subst Distinct (sym (same k ss)) h.stations;
-    ready = ready k ss h.ready;
-    sound = steps_sound x processor k ss h.sound;
-    fitted = steps_fit x law processor k ss h.ready (steps_sound x processor k ss h.sound) h.fitted;
-    records = records k ss h.records;
+  pub step_stations : (processor : Processor V) (k : ℕ) (ss : List (Seat V M Q R)) → stations_of (seat_steps_at x processor k ss) ≡ stations_of ss
+  step_stations processor k [] = refl
+  step_stations processor zero (s ∷ ss) = refl
+  step_stations processor (suc k) (s ∷ ss) = ap (λ l. s.station ∷ l) (step_stations processor k ss)
+
+  pub step_records : (processor : Processor V) (fs : List (Frame M)) (k : ℕ) (ss : List (Seat V M Q R)) → EachSeat (Records fs) ss → EachSeat (Records fs) (seat_steps_at x processor k ss)
+  step_records processor fs k [] h = tt
+  step_records processor fs zero (s ∷ ss) h = (record { listens = h.0.listens; rises = h.0.rises; hears = h.0.hears }, h.1)
+  step_records processor fs (suc k) (s ∷ ss) h = (h.0, step_records processor fs k ss h.1)
+
+  step_ready : (processor : Processor V) (k : ℕ) (ss : List (Seat V M Q R)) → EachSeat (IsReady x law) ss → EachSeat (IsReady x law) (seat_steps_at x processor k ss)
+  step_ready processor k [] h = tt
+  step_ready processor zero (s ∷ ss) h = h
+  step_ready processor (suc k) (s ∷ ss) h = (h.0, step_ready processor k ss h.1)
+
+  -- the stations, the agreements and the records, whatever the servers are
+  pub record Follows (fs : List (Frame M)) (ss : List (Seat V M Q R)) : Type 0 where
+    pub stations : Distinct (stations_of ss)
+    pub agrees : EachSeat (SeatAgrees x) ss
+    pub records : EachSeat (Records fs) ss
+
+  steps_follow : (processor : Processor V) (fs : List (Frame M)) (ss : List (Seat V M Q R)) (ks : List ℕ) → Follows fs ss → Follows fs (seats_step x processor ss ks)
+  steps_follow processor fs ss [] h = h
+  steps_follow processor fs ss (k ∷ ks) h = steps_follow processor fs (seat_steps_at x processor k ss) ks (record {
+    stations = subst Distinct (sym (step_stations processor k ss)) h.stations;
+    agrees = steps_agree x processor k ss h.agrees;
+    records = step_records processor fs k ss h.records;
+  })
+
+  -- before a frame, and behind it
+  pub nexts_follow : (fs : List (Frame M)) (ss : List (Seat V M Q R)) (cs : List (Choice Q)) → Follows fs ss → Follows fs (seats_next x (length fs) ss cs)
+  nexts_follow fs ss cs h = record {
+    stations = subst Distinct (sym (nexts_stations (length fs) ss cs)) h.stations;
+    agrees = nexts_agree x (length fs) ss cs h.agrees;
+    records = nexts_records fs ss cs h.records;
   }
-    where
-      same : (k : ℕ) (ss : List (Seat V M Q R)) → stations_of (seat_steps_at x processor k ss) ≡ stations_of ss
-      same k [] = refl
-      same zero (s ∷ ss) = refl
-      same (suc k) (s ∷ ss) = ap (λ l. s.station ∷ l) (same k ss)
 
-      ready : (k : ℕ) (ss : List (Seat V M Q R)) → EachSeat (IsReady x law) ss → EachSeat (IsReady x law) (seat_steps_at x processor k ss)
-      ready k [] h = tt
-      ready zero (s ∷ ss) h = h
-      ready (suc k) (s ∷ ss) h = (h.0, ready k ss h.1)
+  pub afters_follow : (fs : List (Frame M)) (ss : List (Seat V M Q R)) (ds : List (Datagram M)) (fate : RingFate) → Seats.IsFrame ss ds → Follows fs ss → Follows (fs ++ frame_of ss ds fate ∷ []) (seats_after x (length fs) ss ds fate)
+  afters_follow fs ss ds fate f h = record {
+    stations = subst Distinct (sym (afters_stations (length fs) ss ds fate)) h.stations;
+    agrees = frame_agrees x (length fs) ss ds fate h.stations f h.agrees;
+    records = afters_records fs ss ds fate h.records;
+  }
 
-      records : (k : ℕ) (ss : List (Seat V M Q R)) → EachSeat (Records fs) ss → EachSeat (Records fs) (seat_steps_at x processor k ss)
-      records k [] h = tt
-      records zero (s ∷ ss) h = (record { listens = h.0.listens; rises = h.0.rises; hears = h.0.hears }, h.1)
-      records (suc k) (s ∷ ss) h = (h.0, records k ss h.1)
+  pub turn_follows : (processor : Processor V) (w : Session V M Q R) (t : Turn M Q) → Seats.IsFrame (seats_next x (length w.frames) w.seats t.choices) t.move.sent → Follows w.frames w.seats →
+      (let z = happens x processor w t in Follows z.frames z.seats)
+  turn_follows processor w t f h =
+      let next = seats_next x (length w.frames) w.seats t.choices in
+      steps_follow processor (w.frames ++ frame_of next t.move.sent t.move.fate ∷ []) (seats_after x (length w.frames) next t.move.sent t.move.fate) t.move.steps
+      (afters_follow w.frames next t.move.sent t.move.fate f (nexts_follow w.frames w.seats t.choices h))
 
-  steps_keep : (processor : Processor V) (fs : List (Frame M)) (ss : List (Seat V M Q R)) (ks : List ℕ) → Keeps fs ss → Keeps fs (seats_step x processor ss ks)
-  steps_keep processor fs ss [] h = h
-  steps_keep processor fs ss (k ∷ ks) h = steps_keep processor fs (seat_steps_at x processor k ss) ks (step_keeps processor fs k ss h)
+  pub run_follows : (processor : Processor V) (w : Session V M Q R) (ts : List (Turn M Q)) → MayRun x processor w ts → Follows w.frames w.seats → (let z = run x processor w ts in Follows z.frames z.seats)
+  run_follows processor w [] m h = h
+  run_follows processor w (t ∷ ts) m h = run_follows processor (happens x processor w t) ts m.1 (turn_follows processor w t m.0 h)
+
+  -- what a session keeps with servers that take no notice of the AL state
+  step_keeps : (processor : Processor V) → IsStill processor → (fs : List (Frame M)) (k : ℕ) (ss : List (Seat V M Q R)) → Keeps fs ss → Keeps fs (seat_steps_at x processor k ss)
+  step_keeps processor still fs k ss h = record {
+    stations = subst Distinct (sym (step_stations processor k ss)) h.stations;
+    ready = step_ready processor k ss h.ready;
+    sound = steps_sound x processor still k ss h.sound;
+    fitted = steps_fit x law processor k ss h.ready (steps_sound x processor still k ss h.sound) h.fitted;
+    records = step_records processor fs k ss h.records;
+  }
+
+  steps_keep : (processor : Processor V) → IsStill processor → (fs : List (Frame M)) (ss : List (Seat V M Q R)) (ks : List ℕ) → Keeps fs ss → Keeps fs (seats_step x processor ss ks)
+  steps_keep processor still fs ss [] h = h
+  steps_keep processor still fs ss (k ∷ ks) h = steps_keep processor still fs (seat_steps_at x processor k ss) ks (step_keeps processor still fs k ss h)
 
   -- a turn keeps it, and so does each list of turns
-  pub turn_keeps : (processor : Processor V) (w : Session V M Q R) (t : Turn M Q) → Seats.IsFrame (seats_next x (length w.frames) w.seats t.choices) t.move.sent → Keeps w.frames w.seats →
+  pub turn_keeps : (processor : Processor V) → IsStill processor → (w : Session V M Q R) (t : Turn M Q) → Seats.IsFrame (seats_next x (length w.frames) w.seats t.choices) t.move.sent → Keeps w.frames w.seats →
       (let z = happens x processor w t in Keeps z.frames z.seats)
-  turn_keeps processor w t f h =
+  turn_keeps processor still w t f h =
       let n = length w.frames in
       let next = seats_next x n w.seats t.choices in
       let stations = subst Distinct (sym (nexts_stations n w.seats t.choices)) h.stations in
@@ -168,14 +210,14 @@ module _ {V A M Q R : Type 0} (x : Exchange V A M Q R) (law : IsLawful x) where
         fitted = frames_fit x law n next t.move.sent t.move.fate ready after_sound fitted;
         records = afters_records w.frames next t.move.sent t.move.fate (nexts_records w.frames w.seats t.choices h.records);
       } in
-      steps_keep processor (w.frames ++ frame_of next t.move.sent t.move.fate ∷ []) (seats_after x n next t.move.sent t.move.fate) t.move.steps k
+      steps_keep processor still (w.frames ++ frame_of next t.move.sent t.move.fate ∷ []) (seats_after x n next t.move.sent t.move.fate) t.move.steps k
 
-  pub run_keeps : (processor : Processor V) (w : Session V M Q R) (ts : List (Turn M Q)) → MayRun x processor w ts → Keeps w.frames w.seats → (let z = run x processor w ts in Keeps z.frames z.seats)
-  run_keeps processor w [] m h = h
-  run_keeps processor w (t ∷ ts) m h = run_keeps processor (happens x processor w t) ts m.1 (turn_keeps processor w t m.0 h)
+  pub run_keeps : (processor : Processor V) → IsStill processor → (w : Session V M Q R) (ts : List (Turn M Q)) → MayRun x processor w ts → Keeps w.frames w.seats → (let z = run x processor w ts in Keeps z.frames z.seats)
+  run_keeps processor still w [] m h = h
+  run_keeps processor still w (t ∷ ts) m h = run_keeps processor still (happens x processor w t) ts m.1 (turn_keeps processor still w t m.0 h)
 
   -- a plan's seats keep it
-  new_stations : (ps : List (Planned V)) → stations_of (new_seats {M = M} {Q = Q} {R = R} ps) ≡ map (λ p. p.station) ps
+  pub new_stations : (ps : List (Planned V)) → stations_of (new_seats {M = M} {Q = Q} {R = R} ps) ≡ map (λ p. p.station) ps
   new_stations [] = refl
   new_stations (p ∷ ps) = ap (λ l. p.station ∷ l) (new_stations ps)
 
@@ -191,7 +233,7 @@ module _ {V A M Q R : Type 0} (x : Exchange V A M Q R) (law : IsLawful x) where
   new_fitted [] = tt
   new_fitted (p ∷ ps) = ((refl, refl), new_fitted ps)
 
-  new_records : (opening : List (Frame M)) → IsOpening opening → (ps : List (Planned V)) → EachSeat (Records opening) (new_seats ps)
+  pub new_records : (opening : List (Frame M)) → IsOpening opening → (ps : List (Planned V)) → EachSeat (Records opening) (new_seats ps)
   new_records opening quiet [] = tt
   new_records opening quiet (p ∷ ps) = (
     record {
@@ -201,6 +243,13 @@ module _ {V A M Q R : Type 0} (x : Exchange V A M Q R) (law : IsLawful x) where
     },
     new_records opening quiet ps,
   )
+
+  new_agree : (ps : List (Planned V)) → EachSeat (SeatAgrees x) (new_seats ps)
+  new_agree [] = tt
+  new_agree (p ∷ ps) = (new_agrees (record { server = p.server; waiting = [] }), new_agree ps)
+
+  pub new_follows : (opening : List (Frame M)) → IsOpening opening → (ps : List (Planned V)) → Distinct (map (λ p. p.station) ps) → Follows opening (new_seats ps)
+  new_follows opening quiet ps p = record { stations = subst Distinct (sym (new_stations ps)) p; agrees = new_agree ps; records = new_records opening quiet ps }
 
   pub new_keeps : (opening : List (Frame M)) → IsOpening opening → (ps : List (Planned V)) → IsPlan x ps → Keeps opening (new_seats ps)
   new_keeps opening quiet ps p = record {

@@ -1,12 +1,12 @@
 mod Overs
-mod News
-mod Answers
+pub mod News
+pub mod Answers
 mod Links
 mod Views
-mod Sounds
+pub mod Sounds
 mod Fitted
 mod Rising
-mod Kept
+pub mod Kept
 mod Replays
 mod Rests
 mod ToyRun

@@ -5,7 +5,7 @@ use Rattle.exchange_model.specs.Toy.{Mail, first, second, posted, held, total, n
 use Rattle.exchange_model.specs.Rows.{Row}
 use Rattle.link_model.specs.Frames.{Ask, IsSent.nothing, IsSent.write, IsSent.inward}
 use Rattle.link_model.specs.Segment.{RingFate}
-use Rattle.segment_model.specs.Slaves.{Registers, Processor, Address, Access, Datagram}
+use Rattle.segment_model.specs.Slaves.{Registers, Processor, IsStill, Address, Access, Datagram}
 use Rattle.segment_model.specs.Record.{heard, news_from, first_end}
 use Rattle.segment_model.specs.Ends.{Task, Outcome, ends}
 use Rattle.segment_model.specs.Split.{IsBound}
@@ -114,8 +114,11 @@ plan = record { stations = (((λ e. absurd (omega (arith, e))), tt), (tt, tt)); 
 bound : IsBound adder leave two (sides_of ended.seats) (ring_of ended.seats) ended.frames
 bound = record { opening = []; quiet = tt; turns = turns; may = may; sides = refl; ring = refl; frames = refl }
 
+still : IsStill leave
+still state v = refl
+
 promised : EachOf (Promised adder (λ m. false) ended.frames) two (sides_of ended.seats) (ring_of ended.seats)
-promised = bound_promised adder adder_law (λ m. false) leave two plan (sides_of ended.seats) (ring_of ended.seats) ended.frames bound
+promised = bound_promised adder adder_law (λ m. false) leave still two plan (sides_of ended.seats) (ring_of ended.seats) ended.frames bound
 
 handed : EachOf (HandedBy adder (λ m. false) ended.frames) two (sides_of ended.seats) (ring_of ended.seats)
-handed = bound_handed adder adder_law (λ m. false) leave two plan (sides_of ended.seats) (ring_of ended.seats) ended.frames bound
+handed = bound_handed adder adder_law (λ m. false) leave still two plan (sides_of ended.seats) (ring_of ended.seats) ended.frames bound

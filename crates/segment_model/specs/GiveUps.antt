@@ -1,4 +1,4 @@
--- Frames that processor nothing for a slave.
+-- Frames that carry nothing for a slave.
 use Rattle.std.specs.Prelude.{◌≡◌, ℕ, ◌==◌, ◌||◌, Bool, false, List, [], ◌∷◌, ⊤}
 use Rattle.segment_model.specs.Slaves.{Datagram}
 use Rattle.segment_model.specs.Record.{Frame, is_for}

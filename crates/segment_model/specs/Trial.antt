@@ -23,7 +23,7 @@ pub record Chosen (made : ℕ) (ds : Sides) (sent : List (Datagram Mail)) (shows
   pub frame : IsFrameOf (sides_next adder made ds choices) sent
 
 -- the sides shown, the ring and the frames are a session, by one frame more
-pub record Stays (processor : Processor V) (ps : List (Planned Adder)) (shows : Sides → Type 0) (made : ℕ) (ns : Ring Adder Mail) (fs : List (Frame Mail)) (f : Frame Mail) : Type 0 where
+pub record Stays (processor : Processor Adder) (ps : List (Planned Adder)) (shows : Sides → Type 0) (made : ℕ) (ns : Ring Adder Mail) (fs : List (Frame Mail)) (f : Frame Mail) : Type 0 where
   pub sides : Sides
   pub shown : shows sides
   pub counted : made ≡ length (fs ++ f ∷ [])

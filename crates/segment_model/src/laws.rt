@@ -3,7 +3,7 @@
 ghost use Rattle.std.specs.Prelude.{◌≡◌, ◌≤◌, ℕ, Bool, true, false, nat_lt, Option, None, List, [], ◌∷◌, ◌++◌, length, drop};
 ghost use Rattle.exchange_model.specs.Exchange.{Exchange, IsLawful};
 ghost use Rattle.exchange_model.specs.Rows.{answer_after};
-ghost use Rattle.segment_model.specs.Slaves.{Processor, Datagram, Ring, Move, ring_after, ring_back, ring_steps, replayed, paced};
+ghost use Rattle.segment_model.specs.Slaves.{Processor, IsStill, Datagram, Ring, Move, ring_after, ring_back, ring_steps, replayed, paced};
 ghost use Rattle.segment_model.specs.Record.{Frame, frame_of, recorded, sent_fates, news_from, first_end, frame_news, kept_all, nothing_kept, joined, news_each, counted_each};
 ghost use Rattle.segment_model.specs.Ends.{Task, ends};
 ghost use Rattle.segment_model.specs.GiveUps.{NoneFor};
@@ -19,16 +19,16 @@ pub fn session_law<V, A, M, Q, R>()
     // Each answer is the one that the table of completed services gives for the news of the slave from the row's frame on, of the frame that
     // completed it; the next row's frame is greater; and the slave's server has carried out just the first services of its rows, each once
     // and in order, and each reply is its application's.
-    ensures promised { (x : Exchange V A M Q R) → IsLawful x → (more : M → Bool) (processor : Processor V) (ps : List (Planned V)) → IsPlan x ps →
+    ensures promised { (x : Exchange V A M Q R) → IsLawful x → (more : M → Bool) (processor : Processor V) → IsStill processor → (ps : List (Planned V)) → IsPlan x ps →
         (ds : List (ℕ × Side M Q R)) (ns : Ring V M) (fs : List (Frame M)) → IsBound x processor ps ds ns fs → EachOf (Promised x more fs) ps ds ns }
 
     // A service that ends with its last write, as a packet, is complete by the record exactly where its row is over: all its mails were sent
     // and the write of the last one came back done. A mail of the row before that is still held is none of its mails.
-    ensures handed { (x : Exchange V A M Q R) → IsLawful x → (more : M → Bool) (processor : Processor V) (ps : List (Planned V)) → IsPlan x ps →
+    ensures handed { (x : Exchange V A M Q R) → IsLawful x → (more : M → Bool) (processor : Processor V) → IsStill processor → (ps : List (Planned V)) → IsPlan x ps →
         (ds : List (ℕ × Side M Q R)) (ns : Ring V M) (fs : List (Frame M)) → IsBound x processor ps ds ns fs → EachOf (HandedBy x more fs) ps ds ns }
 
     // Only the newest service of a slave can be in doubt, and none where nothing is in hand.
-    ensures in_doubt { (x : Exchange V A M Q R) → IsLawful x → (more : M → Bool) (processor : Processor V) (ps : List (Planned V)) → IsPlan x ps →
+    ensures in_doubt { (x : Exchange V A M Q R) → IsLawful x → (more : M → Bool) (processor : Processor V) → IsStill processor → (ps : List (Planned V)) → IsPlan x ps →
         (ds : List (ℕ × Side M Q R)) (ns : Ring V M) (fs : List (Frame M)) → IsBound x processor ps ds ns fs → EachOf (PastEnded x more fs) ps ds ns × EachOf (EndedIf x more fs) ps ds ns }
 
     // The halves know the counters of the record, so a master can tell the news of a frame by its own state.
@@ -36,11 +36,11 @@ pub fn session_law<V, A, M, Q, R>()
         (ds : List (ℕ × Side M Q R)) (ns : Ring V M) (fs : List (Frame M)) → IsBound x processor ps ds ns fs → EachOf (KnowsCounters fs) ps ds ns }
 
     // Where a slave is settled and the master wants nothing of it, all its rows are carried out, and all emissions were heard.
-    ensures rests { (x : Exchange V A M Q R) → IsLawful x → (processor : Processor V) (ps : List (Planned V)) → IsPlan x ps →
+    ensures rests { (x : Exchange V A M Q R) → IsLawful x → (processor : Processor V) → IsStill processor → (ps : List (Planned V)) → IsPlan x ps →
         (ds : List (ℕ × Side M Q R)) (ns : Ring V M) (fs : List (Frame M)) → IsBound x processor ps ds ns fs → EachOf (RestsIf x fs) ps ds ns }
 
     // And all is done where besides all its scripted services, here by its station, have begun.
-    ensures done { (x : Exchange V A M Q R) → IsLawful x → (more : M → Bool) (scripted : ℕ → List Q) (processor : Processor V) (ps : List (Planned V)) → IsPlan x ps →
+    ensures done { (x : Exchange V A M Q R) → IsLawful x → (more : M → Bool) (scripted : ℕ → List Q) (processor : Processor V) → IsStill processor → (ps : List (Planned V)) → IsPlan x ps →
         (ds : List (ℕ × Side M Q R)) (ns : Ring V M) (fs : List (Frame M)) → IsBound x processor ps ds ns fs → EachOf (DoneIf x more scripted fs) ps ds ns }
 {}
 
@@ -87,7 +87,7 @@ pub fn pace_law<M>()
     ensures { (station : ℕ) (fs : List (Frame M)) → counted_each station 1 0 true fs (news_each station nothing_kept fs) ≡ news_each station nothing_kept fs }
 {}
 
-/// A give-up: frames that processor nothing for a slave complete nothing, so what its tasks come to is told by the frames before.
+/// A give-up: frames that carry nothing for a slave complete nothing, so what its tasks come to is told by the frames before.
 pub fn give_up_law<V, A, M, Q, R>()
     ensures { (x : Exchange V A M Q R) → IsLawful x → (more : M → Bool) (task : Task M Q) (station frame : ℕ) (front behind : List (Frame M)) → frame ≤ length front → NoneFor station behind →
         first_end (ends x more task) frame [] (news_from station frame (front ++ behind)) ≡ first_end (ends x more task) frame [] (news_from station frame front) }

@@ -1,10 +1,10 @@
-mod Words
-mod Kept
+pub mod Words
+pub mod Kept
 mod Orders
 mod Drains
-mod Laters
+pub mod Laters
 mod Besides
 mod Servings
 mod ToyRun
 mod Mets
-mod News
+pub mod News

@@ -9,7 +9,7 @@ ghost use Rattle.exchange_model.specs.Rows.{Row, Fits, services};
 ghost use Rattle.exchange_model.specs.Laws.{Moment};
 ghost use Rattle.link_model.specs.Link.{Link};
 ghost use Rattle.link_model.specs.Agree.{Agrees};
-ghost use Rattle.segment_model.specs.Slaves.{Registers, Slave, Datagram, Access, Found, is_meant, datagram_meets, slave_after, slave_steps};
+ghost use Rattle.segment_model.specs.Slaves.{Registers, Slave, Datagram, Access, Found, Processor, is_meant, datagram_meets, slave_after, slave_steps};
 ghost use Rattle.segment_model.specs.Ends.{Task, state_ends};
 ghost use Rattle.segment_model.specs.Record.{News};
 ghost use Rattle.segment_model.specs.Seats.{is_over};
@@ -41,8 +41,8 @@ pub fn register_law<V, A, M, Q, R>()
     ensures kept { (station : ℕ) (s : Slave V M) (d : Datagram M) → is_meant s.registers d.address ≡ false →
         ((datagram_meets station s d).found ≡ d.found) × ((datagram_meets station s d).counter ≡ d.counter) }
 
-    // A step of the slave's processor carries out the word, beside its mailboxes.
-    ensures steps { (x : Exchange V A M Q R) (table : Table) (s : Slave V M) → (slave_steps x (carry table) s).registers ≡ carry table s.registers }
+    // A step of a processor that carries out words by the table does so beside its mailboxes, whatever it tells its server.
+    ensures steps { (x : Exchange V A M Q R) (processor : Processor V) (table : Table) (s : Slave V M) → processor.carry s.registers ≡ carry table s.registers → (slave_steps x processor s).registers ≡ carry table s.registers }
 {}
 
 /// The drain: a state service begins to change the state only where the slave has carried out all services by mails before it.

@@ -5,7 +5,7 @@ use Rattle.exchange_model.specs.Exchange.{Exchange}
 use Rattle.exchange_model.specs.Rows.{Row}
 use Rattle.segment_model.specs.Slaves.{Datagram, Address, Access, Found}
 use Rattle.segment_model.specs.Record.{is_for}
-use Rattle.segment_model.specs.Ends.{Task, Outcome}
+use Rattle.segment_model.specs.Ends.{Outcome}
 use Rattle.segment_model.specs.Seats.{Side, Choice, is_over}
 use Rattle.state_model.specs.States.{Phase, Turn, phase_written, shown}
 use Rattle.state_exchange.specs.Stated.{Service}
@@ -139,7 +139,7 @@ pub data IsServed {M : Type 0} (station : ℕ) : Option Access → List (Datagra
   nothing : {access : Option Access} → IsServed station access []
   other : {access : Option Access} (d : Datagram M) (ds : List (Datagram M)) → IsOther station d → IsServed station access ds → IsServed station access (d ∷ ds)
   quiet : {access : Option Access} (d : Datagram M) (ds : List (Datagram M)) → is_quiet d.access ≡ true → d.found ≡ None → IsServed station access ds → IsServed station access (d ∷ ds)
-  own : (d : Datagram M) (ds : List (Datagram M)) → d.address ≡ Address.Station station → IsServed station None ds → IsServed station (Some d.access) (d ∷ ds)
+  own : (d : Datagram M) (ds : List (Datagram M)) → d.address ≡ Address.Station station → d.found ≡ None → IsServed station None ds → IsServed station (Some d.access) (d ∷ ds)
 
 -- what a done access makes of a state service: it goes on, or it ends with an answer
 pub data Progress (R : Type 0) : Type 0 where

@@ -1,5 +1,4 @@
 -- The lemmas on registers, at the types of the function.
-use Rattle.std.proofs.Common.{refl}
 use Rattle.state_model.proofs.Mets.{written, status_found, found_kept}
 use Rattle.state_model.proofs.register_law.Goals as goal
 
@@ -13,4 +12,4 @@ pub returns-clause-kept : goal.returns-clause-kept
 returns-clause-kept g c = λ station s d no_one. found_kept station s d no_one
 
 pub returns-clause-steps : goal.returns-clause-steps
-returns-clause-steps g c = λ x table s. refl
+returns-clause-steps g c = λ x processor table s carries. carries
