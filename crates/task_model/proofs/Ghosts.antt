@@ -11,7 +11,7 @@ use Rattle.segment_model.specs.Laws.{as_outcome}
 use Rattle.segment_model.proofs.Handed.{Facts}
 use Rattle.state_model.specs.States.{Table}
 use Rattle.state_model.specs.Promises.{state_behind}
-use Rattle.state_exchange.specs.Stated.{Stated, Act, Service, Counting, acts, mails, with_states}
+use Rattle.state_exchange.specs.Stated.{Stated, Act, Service, Counting, acts, mails, states_in, with_states}
 use Rattle.task_model.specs.Accounts.{Started, Stage, Duty, Account}
 
 -- a row of the exchange of both
@@ -50,12 +50,6 @@ abbrev pub mail_labels : {M Q R : Type 0} → List (GhostRow M Q R) → List (La
 mail_labels [] = []
 mail_labels (g ∷ gs) = label_by g g.service ++ mail_labels gs
 
--- how many of these services change the AL state
-abbrev pub states_in : {Q : Type 0} → List (Service Q) → ℕ
-states_in [] = 0
-states_in (Service.Mails q ∷ ss) = states_in ss
-states_in (Service.State target ∷ ss) = suc (states_in ss)
-
 -- a row by mails as one of the exchange of both
 pub record Shows {M Q R : Type 0} (g : GhostRow M Q R) (r : Row M Q R) : Type 0 where
   pub service : g.service ≡ Service.Mails r.service
@@ -92,7 +86,7 @@ pub record MailsNow {M Q R : Type 0} (d : Side M Q R) (hand : Option Duty) (befo
   pub is : d.now ≡ Some row
   pub shows : Shows g row
   pub past : mail_labels before ≡ labels_of d.past
-  pub hand : hand ≡ None
+  pub free : hand ≡ None
 
 module _ {V A M Q R : Type 0} (x : Exchange V A M Q R) (law : IsLawful x) (s : Stated V A Q) (table : Table) where
   -- or it is of a state service, and the side's newest row rests
@@ -123,7 +117,7 @@ module _ {V A M Q R : Type 0} (x : Exchange V A M Q R) (law : IsLawful x) (s : S
     pub past : seat.side.past ≡ []
     pub now : seat.side.now ≡ None
     pub held : seat.held ≡ []
-    pub taken : taken ≡ []
+    pub none : taken ≡ []
 
   -- WHAT A SEAT AND ITS ACCOUNT CARRY, where `from` is the AL state behind the state services that are over: the server is the fold over the acts
   -- taken, what it gave was offered or waits, its AL state is the register's, and the rows fit
@@ -155,7 +149,7 @@ mail_labels_append [] hs = refl
 mail_labels_append (g ∷ gs) hs = ap (λ l. label_by g g.service ++ l) (mail_labels_append gs hs) ∙ sym (append_assoc (label_by g g.service) (mail_labels gs) (mail_labels hs))
 
 pub states_append : {Q : Type 0} (ss ts : List (Service Q)) → states_in (ss ++ ts) ≡ states_in ss + states_in ts
-states_append [] ts = refl
+states_append [] ts = omega arith
 states_append (Service.Mails q ∷ ss) ts = states_append ss ts
 states_append (Service.State target ∷ ss) ts = let e = states_append ss ts in omega (arith, e)
 

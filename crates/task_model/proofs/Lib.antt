@@ -2,3 +2,4 @@ pub mod Rings
 pub mod Served
 pub mod Ghosts
 pub mod Splits
+pub mod Completed
