@@ -3,3 +3,5 @@ pub mod Served
 pub mod Ghosts
 pub mod Splits
 pub mod Completed
+pub mod Replies
+pub mod Dones
