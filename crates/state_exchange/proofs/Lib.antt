@@ -1,3 +1,4 @@
 pub mod Acts
 pub mod StatedLaw
 pub mod Takens
+pub mod ToyLaw

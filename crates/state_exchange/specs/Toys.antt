@@ -5,7 +5,9 @@ use Rattle.exchange_model.specs.Dialogue.{said, sent}
 use Rattle.exchange_model.specs.Toy.{Mail, first, second, posted, held, total, refused, noted, Service, sum, post, Adder, emission, decide, handed, number}
 use Rattle.exchange_model.specs.Toy
 use Rattle.state_model.specs.States.{Table}
-use Rattle.state_exchange.specs.Stated.{Stated}
+use Rattle.segment_model.specs.Ends.{Outcome}
+use Rattle.state_exchange.specs.Stated.{Stated, Act, Counting, with_states}
+use Rattle.state_exchange.specs.Stated
 
 -- the application: the total so far and the AL state
 pub record Sheet : Type 0 where
@@ -88,5 +90,34 @@ desk_states = record {
 abbrev pub steps : Table
 steps from to = if nat_le to 1 then None else Some 17
 
-abbrev pub new_desk : Desk
-new_desk = record { adder = record { value = 0; handled = 0; half = None }; state = 0 }
+-- the adder with its state services beside its services by mails
+abbrev pub stated_desk : Exchange (Counting Desk) (Sheet × ℕ) (Act Mail) (Stated.Service Service) (Outcome (Option ℕ))
+stated_desk = with_states desk desk_states steps
+
+-- a new one, in a state in which it adds nothing
+abbrev pub start : Counting Desk
+start = record { server = record { adder = record { value = 0; handled = 0; half = None }; state = 0 }; words = 0 }
+
+-- a sum, a change to the state that adds, a change that is refused, and the same sum
+abbrev pub tried : List (Stated.Service Service)
+tried = Stated.Service.Mails (sum 3) ∷ Stated.Service.State 1 ∷ Stated.Service.State 2 ∷ Stated.Service.Mails (sum 3) ∷ []
+
+-- the mails and control words of these services
+abbrev pub taken : List (Act Mail)
+taken = Act.Mail (first 3) ∷ Act.Word 1 ∷ Act.Word 2 ∷ Act.Mail (first 3) ∷ Act.Mail second ∷ []
+
+-- what is given for them
+abbrev pub heard : List (Act Mail)
+heard = Act.Mail refused ∷ Act.Mail held ∷ Act.Mail (total 3) ∷ Act.Mail (noted 3) ∷ []
+
+-- the adder behind them
+abbrev pub ended : Counting Desk
+ended = record { server = record { adder = record { value = 3; handled = 2; half = None }; state = 1 }; words = 2 }
+
+-- the services' replies, each on the application behind those before it
+abbrev pub replies : Sheet × ℕ → List (Stated.Service Service) → List (Outcome (Option ℕ))
+replies a [] = []
+replies a (q ∷ qs) = stated_desk.reply a q ∷ replies (stated_desk.exec a q) qs
+
+abbrev pub told : List (Outcome (Option ℕ))
+told = Outcome.Replied None ∷ Outcome.Reached ∷ Outcome.Refused 17 ∷ Outcome.Replied (Some 3) ∷ []

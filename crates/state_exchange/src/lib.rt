@@ -1,10 +1,30 @@
-//! Placeholder while the law is being proved on another branch.
+//! Services by mails and AL states of one slave as one exchange: a service by mails acts on the application in the AL state that stands, and a
+//! state service changes that state, each in its turn. No running code: the function here does nothing, and its contract states the law.
 #![tactic(auto)]
 
-ghost use Rattle.std.specs.Prelude.{◌≡◌, ℕ};
-ghost use Rattle.state_exchange.specs.Stated.{Service};
+ghost use Rattle.std.specs.Prelude.{◌≡◌, length};
+ghost use Rattle.exchange_model.specs.Exchange.{Exchange, IsLawful, after, given};
+ghost use Rattle.exchange_model.specs.Rows.{exec_all};
+ghost use Rattle.state_model.specs.States.{Table};
+ghost use Rattle.state_exchange.specs.Stated.{Stated, IsStated, with_states};
+ghost use Rattle.state_exchange.specs.Toys.{desk, desk_states, stated_desk, start, tried, taken, heard, ended, replies, told};
 
-/// Placeholder.
-pub fn placeholder<Q>()
-    ensures { (a : Service Q) → a ≡ a }
+/// An exchange that keeps the laws and whose AL state is a part of its application keeps them with its state services beside.
+pub fn states_are_lawful<V, A, M, Q, R>()
+    ensures { (x : Exchange V A M Q R) (s : Stated V A Q) (table : Table) → IsStated x s → IsLawful x → IsLawful (with_states x s table) }
+{}
+
+/// The laws can be met: an adder with an AL state, which adds in one state alone, owes and keeps those of exchange and those of an AL state,
+/// and so do both as one exchange. A sum is refused, a control word brings the state that adds, one to an unknown state is refused, and the
+/// same sum is then done.
+pub fn toy_is_lawful()
+    ensures stated { IsStated desk desk_states }
+    ensures lawful { IsLawful desk }
+    ensures both { IsLawful stated_desk }
+    ensures gives { given stated_desk.serve start taken ≡ heard }
+    ensures comes { after stated_desk.serve start taken ≡ ended }
+    // which is what the services do and reply by the laws, with none left out
+    ensures counts { stated_desk.handled ended ≡ length tried }
+    ensures executes { exec_all stated_desk (stated_desk.app start) tried ≡ stated_desk.app ended }
+    ensures replies { replies (stated_desk.app start) tried ≡ told }
 {}
