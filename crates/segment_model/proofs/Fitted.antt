@@ -8,6 +8,7 @@ use Rattle.exchange_model.proofs.Lists.{append_none}
 use Rattle.exchange_model.proofs.Moments
 use Rattle.link_model.specs.Mails.{LinkMail, news, is_repeat, seen}
 use Rattle.link_model.specs.Link.{Link}
+use Rattle.link_model.specs.Agree.{Agrees}
 use Rattle.link_model.specs.Segment.{RingFate}
 use Rattle.segment_model.specs.Slaves.{Serving, Processor, Datagram, frame_after, ring_back}
 use Rattle.segment_model.specs.Laws.{EachSeat}
@@ -25,6 +26,15 @@ few_news last (Some m) = go (is_repeat last m)
     go true = omega arith
     go false = omega arith
 
+pub few : {M S : Type 0} (w : Link M S) → Agrees w → w.halves.out.holding ≡ None → length w.held ≤ length w.taken + 1
+few w a idle =
+    let box = news w.node.out.last_taken w.node.out.box in
+    let stream : w.held ≡ w.taken ++ box = a.out.stream ∙ ap (λ h. w.taken ++ (box ++ news (seen w.node.out.last_taken w.node.out.box) h)) idle ∙ ap (λ l. w.taken ++ l) (append-nil box) in
+    let l1 = ap length stream in
+    let l2 = length-append w.taken box in
+    let l3 = few_news w.node.out.last_taken w.node.out.box in
+    omega (arith, l1, l2, l3)
+
 module _ {V A M Q R : Type 0} (x : Exchange V A M Q R) (law : IsLawful x) where
   pub record Newest (v : V) (past : List (Row M Q R)) (r : Row M Q R) (held taken accepted : List M) : Type 0 where
     pub front : List (Row M Q R)
@@ -38,16 +48,6 @@ module _ {V A M Q R : Type 0} (x : Exchange V A M Q R) (law : IsLawful x) where
 
   abbrev pub Fitted : Seat V M Q R → Type 0
   Fitted s = NowFits s.start s.side.past s.side.now s.held s.taken s.accepted
-
-  few : (v : V) (w : Link M (Serving V M)) → Sound x v w → w.halves.out.holding ≡ None → length w.held ≤ length w.taken + 1
-  few v w s idle =
-      let o = s.agrees.out in
-      let box = news w.node.out.last_taken w.node.out.box in
-      let stream : w.held ≡ w.taken ++ box = o.stream ∙ ap (λ h. w.taken ++ (box ++ news (seen w.node.out.last_taken w.node.out.box) h)) idle ∙ ap (λ l. w.taken ++ l) (append-nil box) in
-      let l1 = ap length stream in
-      let l2 = length-append w.taken box in
-      let l3 = few_news w.node.out.last_taken w.node.out.box in
-      omega (arith, l1, l2, l3)
 
   pub nothing_taken : (v : V) (w : Link M (Serving V M)) → Sound x v w → w.held ≡ [] → w.taken ≡ []
   nothing_taken v w s none = let p = in_order x v w s in (append_none w.taken p.0 (p.1 ∙ none)).0
@@ -80,7 +80,7 @@ module _ {V A M Q R : Type 0} (x : Exchange V A M Q R) (law : IsLawful x) where
       more q r g o front last at =
           let parts = over_parts x d.halves.out.holding d.fresh r o in
           elim parts.1 [
-            | inl h ↦ Moments.handed x law v ready front last r w.held w.taken w.accepted at h.0 parts.0 (few v w s (ap (λ k. k.out.holding) (sym f) ∙ h.1)) q frame g
+            | inl h ↦ Moments.handed x law v ready front last r w.held w.taken w.accepted at h.0 parts.0 (few w s.agrees (ap (λ k. k.out.holding) (sym f) ∙ h.1)) q frame g
             | inr a ↦ Moments.answered x law v ready front last r w.held w.taken w.accepted at a.0.0 a.0.1 parts.0 q frame g
           ]
 

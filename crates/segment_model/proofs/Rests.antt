@@ -7,7 +7,7 @@ use Rattle.exchange_model.proofs.Moments
 use Rattle.link_model.specs.Mails.{LinkMail, news, seen, counter_in, bodies}
 use Rattle.link_model.specs.Master.{InState}
 use Rattle.link_model.specs.Link.{Link}
-use Rattle.link_model.specs.Agree.{Knows, last_met_of, unread}
+use Rattle.link_model.specs.Agree.{Agrees, Knows, last_met_of, unread}
 use Rattle.segment_model.specs.Slaves.{Serving}
 use Rattle.segment_model.specs.Record.{Frame}
 use Rattle.segment_model.specs.Laws.{EachSeat, NothingInHand, SeatRests}
@@ -35,31 +35,35 @@ none_unread : {M : Type 0} (again : Bool) (box : Option (LinkMail M)) → box �
 none_unread true box e = refl
 none_unread false box e = ap bodies e
 
-module _ {V A M Q R : Type 0} (x : Exchange V A M Q R) (law : IsLawful x) where
-  all_taken : (v : V) (w : Link M (Serving V M)) → Sound x v w → w.node.out.box ≡ None → w.halves.out.holding ≡ None → w.taken ≡ w.held
-  all_taken v w s box idle =
-      sym (s.agrees.out.stream
-      ∙ ap (λ b. w.taken ++ (news w.node.out.last_taken b ++ news (seen w.node.out.last_taken b) w.halves.out.holding)) box
-      ∙ ap (λ h. w.taken ++ news w.node.out.last_taken h) idle ∙ append-nil w.taken)
+-- with an empty mailbox 0 and an idle half all mails held are taken
+pub all_taken : {M S : Type 0} (w : Link M S) → Agrees w → w.node.out.box ≡ None → w.halves.out.holding ≡ None → w.taken ≡ w.held
+all_taken w a box idle =
+    sym (a.out.stream
+    ∙ ap (λ b. w.taken ++ (news w.node.out.last_taken b ++ news (seen w.node.out.last_taken b) w.halves.out.holding)) box
+    ∙ ap (λ h. w.taken ++ news w.node.out.last_taken h) idle ∙ append-nil w.taken)
 
+-- and with an empty mailbox 1 and a clear half all mails offered are accepted, where none is withdrawn
+pub all_offered : {M S : Type 0} (w : Link M S) → Agrees w → w.halves.inn.state ≡ InState.Clear → w.node.inn.box ≡ None → w.node.inn.withdrawn ≡ None → w.offered ≡ w.accepted
+all_offered w a clear box withdrawn =
+    let i = a.inn in
+    let last = last_met_of w.node.inn in
+    let knows = subst (λ st. Knows st w.halves.inn w.node.inn) clear i.knows in
+    let one = all_news w.halves.inn.last last knows.0 i.read.counted in
+    let two = none_unread w.node.inn.again w.node.inn.box box in
+    let three : bodies w.node.inn.withdrawn ≡ [] = ap bodies withdrawn in
+    i.stream ∙ ap (λ l. w.accepted ++ (l ++ (bodies (unread w.node.inn.again w.node.inn.box) ++ bodies w.node.inn.withdrawn))) one
+    ∙ ap (λ l. w.accepted ++ (l ++ bodies w.node.inn.withdrawn)) two ∙ ap (λ l. w.accepted ++ l) three ∙ append-nil w.accepted
+
+module _ {V A M Q R : Type 0} (x : Exchange V A M Q R) (law : IsLawful x) where
   all_heard : (v : V) (w : Link M (Serving V M)) → Sound x v w → w.halves.inn.state ≡ InState.Clear → w.node.inn.box ≡ None → w.node.inn.withdrawn ≡ None → w.node.server.waiting ≡ [] → w.accepted ≡ given x.serve v w.taken
   all_heard v w s clear box withdrawn waiting =
-      let i = s.agrees.inn in
-      let last = last_met_of w.node.inn in
-      let knows = subst (λ st. Knows st w.halves.inn w.node.inn) clear i.knows in
-      let one = all_news w.halves.inn.last last knows.0 i.read.counted in
-      let two = none_unread w.node.inn.again w.node.inn.box box in
-      let three : bodies w.node.inn.withdrawn ≡ [] = ap bodies withdrawn in
-      let offered : w.offered ≡ w.accepted =
-      i.stream ∙ ap (λ l. w.accepted ++ (l ++ (bodies (unread w.node.inn.again w.node.inn.box) ++ bodies w.node.inn.withdrawn))) one
-      ∙ ap (λ l. w.accepted ++ (l ++ bodies w.node.inn.withdrawn)) two ∙ ap (λ l. w.accepted ++ l) three ∙ append-nil w.accepted in
-      sym offered ∙ sym (append-nil w.offered) ∙ ap (λ l. w.offered ++ l) (sym waiting) ∙ s.serves.gave
+      sym (all_offered w s.agrees clear box withdrawn) ∙ sym (append-nil w.offered) ∙ ap (λ l. w.offered ++ l) (sym waiting) ∙ s.serves.gave
 
   rests : (fs : List (Frame M)) (s : Seat V M Q R) → IsReady x law s → SeatSound x s → Fitted x law s → Records x law fs s → SeatRests x fs s
   rests fs s r h f k settled wants = subst (Rest x s.start (rows_of s.side) s.slave.node.server.server) k.hears (go s.side.now f wants.nothing)
     where
       taken : s.taken ≡ s.held
-      taken = all_taken s.start (link_of s) h settled.first wants.idle
+      taken = all_taken (link_of s) h.agrees settled.first wants.idle
 
       accepted : s.accepted ≡ given x.serve s.start s.taken
       accepted = all_heard s.start (link_of s) h wants.clear settled.second settled.withdrawn settled.waiting

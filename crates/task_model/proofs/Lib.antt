@@ -1,3 +1,4 @@
 pub mod Rings
 pub mod Served
 pub mod Stately
+pub mod Ghosts
