@@ -1,4 +1,4 @@
 pub mod Rings
 pub mod Served
+pub mod Carries
 pub mod Stately
-pub mod Ghosts
