@@ -2,3 +2,6 @@ pub mod Rings
 pub mod Served
 pub mod Carries
 pub mod Stately
+pub mod Walks
+pub mod Turns
+pub mod Ghosts

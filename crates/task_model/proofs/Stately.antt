@@ -1,8 +1,8 @@
 -- The registers of a slave, the account of its services and the record of its statuses: together they are a run of state services.
-use Rattle.std.proofs.Common.{◌≡◌, ◌⊎◌, inl, inr, ℕ, ◌<◌, ◌≤◌, ◌==◌, ◌&&◌, Bool, true, false, Option, Some, None, List, [], ◌∷◌, ◌++◌, map, length, refl, ap, sym, ◌∙◌, subst, arith, append-nil, append_assoc, length-append, if◌then◌else◌}
+use Rattle.std.proofs.Common.{◌≡◌, ℕ, ◌<◌, ◌≤◌, ◌&&◌, Bool, true, false, Option, Some, None, List, [], ◌∷◌, ◌++◌, map, length, refl, ap, sym, ◌∙◌, subst, arith, append-nil, append_assoc, length-append, if◌then◌else◌}
 use Rattle.std.specs.Prelude.{⊤}
 use Rattle.exchange_model.specs.Exchange.{Exchange}
-use Rattle.exchange_model.specs.Rows.{Row, answer_after}
+use Rattle.exchange_model.specs.Rows.{answer_after}
 use Rattle.link_model.specs.Link.{Fate}
 use Rattle.link_model.specs.Mails.{LinkMail}
 use Rattle.segment_model.specs.Slaves.{Registers, grams}
@@ -11,14 +11,13 @@ use Rattle.segment_model.specs.Ends.{Task, Outcome, ends, state_ends}
 use Rattle.segment_model.specs.Seats.{Side}
 use Rattle.segment_model.proofs.Answers.{kept_of, news_from-push, news_from-none, outcome-push}
 use Rattle.segment_model.proofs.News.{joined-append}
-use Rattle.state_model.specs.States
 use Rattle.state_model.specs.States.{Table, Phase, Hand, Closed, States, Event, Turn, carry, phase_written, word_of, word_met, shown, reads, turned, returned}
 use Rattle.state_model.specs.Promises.{IsTable, AllTold, state_behind, state_closed, answer_of, statuses}
 use Rattle.state_model.proofs.Words.{Idle, InHand}
-use Rattle.state_model.proofs.Kept.{Holds, HoldsAt, happens_holds, new_holds, closed_push, promised}
+use Rattle.state_model.proofs.Kept.{Holds, HoldsAt, happens_holds, promised}
 use Rattle.state_model.proofs.News.{by_statuses}
 use Rattle.state_exchange.specs.Stated.{Service}
-use Rattle.task_model.specs.Accounts.{Started, Stage, Duty, Change, Account, Pick, Progress, new_account, starts, state_begins, account_begins, account_next, account_by, turn_progress, is_free, is_acknowledged}
+use Rattle.task_model.specs.Accounts.{Started, Stage, Duty, Change, Account, Pick, new_account, starts, state_begins, account_begins, account_next, account_by, turn_progress, is_free, is_acknowledged}
 use Rattle.task_model.proofs.Rings.{statuses-append}
 use Rattle.task_model.proofs.Served.{Served, goes_on, duty_of}
 use Rattle.task_model.proofs.Carries.{StaysOr, idle_carry, hand_carry}
