@@ -1,5 +1,9 @@
 pub mod Rings
 pub mod Served
+pub mod Carries
+pub mod Stately
+pub mod Walks
+pub mod Turns
 pub mod Ghosts
 pub mod Splits
 pub mod Completed
