@@ -1,25 +1,25 @@
-mod Overs
+pub mod Overs
 pub mod News
 pub mod Answers
-mod Links
-mod Views
+pub mod Links
+pub mod Views
 pub mod Sounds
-mod Fitted
-mod Rising
+pub mod Fitted
+pub mod Rising
 pub mod Kept
-mod Replays
-mod Rests
+pub mod Replays
+pub mod Rests
 mod ToyRun
 mod GivenUps
 mod Definitions
-mod Written
-mod Posts
-mod Handed
-mod Hands
-mod Ended
-mod Bounds
+pub mod Written
+pub mod Posts
+pub mod Handed
+pub mod Hands
+pub mod Ended
+pub mod Bounds
 mod Tours
 mod Trials
 mod Table
 mod Paces
-mod Openings
+pub mod Openings

@@ -92,7 +92,7 @@ pub record MailsNow {M Q R : Type 0} (d : Side M Q R) (hand : Option Duty) (befo
   pub is : d.now ≡ Some row
   pub shows : Shows g row
   pub past : mail_labels before ≡ labels_of d.past
-  pub hand : hand ≡ None
+  pub free : hand ≡ None
 
 module _ {V A M Q R : Type 0} (x : Exchange V A M Q R) (law : IsLawful x) (s : Stated V A Q) (table : Table) where
   -- or it is of a state service, and the side's newest row rests
@@ -123,7 +123,7 @@ module _ {V A M Q R : Type 0} (x : Exchange V A M Q R) (law : IsLawful x) (s : S
     pub past : seat.side.past ≡ []
     pub now : seat.side.now ≡ None
     pub held : seat.held ≡ []
-    pub taken : taken ≡ []
+    pub none : taken ≡ []
 
   -- WHAT A SEAT AND ITS ACCOUNT CARRY, where `from` is the AL state behind the state services that are over: the server is the fold over the acts
   -- taken, what it gave was offered or waits, its AL state is the register's, and the rows fit
@@ -155,7 +155,7 @@ mail_labels_append [] hs = refl
 mail_labels_append (g ∷ gs) hs = ap (λ l. label_by g g.service ++ l) (mail_labels_append gs hs) ∙ sym (append_assoc (label_by g g.service) (mail_labels gs) (mail_labels hs))
 
 pub states_append : {Q : Type 0} (ss ts : List (Service Q)) → states_in (ss ++ ts) ≡ states_in ss + states_in ts
-states_append [] ts = refl
+states_append [] ts = omega arith
 states_append (Service.Mails q ∷ ss) ts = states_append ss ts
 states_append (Service.State target ∷ ss) ts = let e = states_append ss ts in omega (arith, e)
 

@@ -1,3 +1,4 @@
 pub mod Rings
 pub mod Served
 pub mod Ghosts
+pub mod Begins

@@ -10,6 +10,7 @@ use Rattle.segment_model.specs.Split.{IsFrameOf, sides_next}
 use Rattle.state_model.specs.States
 use Rattle.state_model.specs.States.{Table}
 use Rattle.state_model.specs.Promises.{IsTable}
+use Rattle.state_exchange.specs.Stated.{Stated}
 use Rattle.task_model.specs.Accounts.{Account, Pick, IsServed, new_account, mails_choice, account_next, account_back, duty_access}
 
 -- one turn: the master's choices, and the frame with its fate and the steps behind it
@@ -103,26 +104,27 @@ Apart before [] = ⊤
 Apart before (p ∷ ps) = (Nobody p.station before × Nobody p.station ps) × Apart (before ++ p ∷ []) ps
 
 -- the registers of a slave as bring-up leaves them
-pub record IsBrought {V A M Q R : Type 0} (x : Exchange V A M Q R) (state : A → ℕ) (processor : Processor V) (table : ℕ → Table) (p : Planned V) : Type 0 where
+pub record IsBrought {V A M Q R : Type 0} (x : Exchange V A M Q R) (s : Stated V A Q) (processor : Processor V) (table : ℕ → Table) (p : Planned V) : Type 0 where
   -- no control word waits and no error flag stands
   pub control : p.registers.control ≡ None
   pub refused : p.registers.refused ≡ None
   -- the slave may be in its state, and its server knows it
   pub sits : IsTable (table p.station) p.registers.state
-  pub state : state (x.app p.server) ≡ p.registers.state
+  pub state : s.state (x.app p.server) ≡ p.registers.state
   -- its processor carries out control words by its table
   pub carries : (r : Registers) → r.station ≡ p.registers.station → r.first ≡ p.registers.first → r.second ≡ p.registers.second → processor.carry r ≡ States.carry (table p.station) r
 
 -- each of these is brought up
-abbrev pub AllBrought : {V A M Q R : Type 0} → Exchange V A M Q R → (A → ℕ) → Processor V → (ℕ → Table) → List (Planned V) → Type 0
-AllBrought x state processor table [] = ⊤
-AllBrought x state processor table (p ∷ ps) = IsBrought x state processor table p × AllBrought x state processor table ps
+abbrev pub AllBrought : {V A M Q R : Type 0} → Exchange V A M Q R → Stated V A Q → Processor V → (ℕ → Table) → List (Planned V) → Type 0
+AllBrought x s processor table [] = ⊤
+AllBrought x s processor table (p ∷ ps) = IsBrought x s processor table p × AllBrought x s processor table ps
 
--- a plan of which the laws of such sessions speak
-pub record IsTaskPlan {V A M Q R : Type 0} (x : Exchange V A M Q R) (state : A → ℕ) (processor : Processor V) (table : ℕ → Table) (ps : List (Planned V)) : Type 0 where
+-- a plan of which the laws of such sessions speak; `table` has the table of each station
+pub record IsTaskPlan {V A M Q R : Type 0} (x : Exchange V A M Q R) (s : Stated V A Q) (processor : Processor V) (table : ℕ → Table) (ps : List (Planned V)) : Type 0 where
   pub plan : IsPlan x ps
   pub apart : Apart [] ps
-  pub brought : AllBrought x state processor table ps
+  pub tells : (state : ℕ) (v : V) → processor.tell state v ≡ s.tell state v
+  pub brought : AllBrought x s processor table ps
 
 -- sides, accounts, a ring and frames that such a session has come to, behind the frames of its bring-up
 pub record IsTasked {V A M Q R : Type 0} (x : Exchange V A M Q R) (acknowledged : Q → Bool) (processor : Processor V) (ps : List (Planned V))
