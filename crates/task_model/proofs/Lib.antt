@@ -5,6 +5,7 @@ pub mod Stately
 pub mod Walks
 pub mod Turns
 pub mod Ghosts
+pub mod Begins
 pub mod Splits
 pub mod Completed
 pub mod Replies
