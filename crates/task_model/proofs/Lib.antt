@@ -10,3 +10,4 @@ pub mod Splits
 pub mod Completed
 pub mod Replies
 pub mod Dones
+pub mod Promised
