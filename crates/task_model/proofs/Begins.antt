@@ -25,9 +25,10 @@ use Rattle.task_model.proofs.Ghosts.{GhostRow, counting, start_of, starts_of, la
 
 -- what was accepted was given
 pub accepted_begin : {M : Type 0} (accepted offered waiting : List M) (g : List (Act M)) → g ≡ acts (offered ++ waiting) → Mails.IsPrefixOf accepted offered → IsPrefixOf (acts accepted) g
-accepted_begin accepted offered waiting g e p =
-    (acts (p.0 ++ waiting),
-    sym (acts_append accepted (p.0 ++ waiting)) ∙ ap acts (sym (append_assoc accepted p.0 waiting) ∙ ap (λ l. l ++ waiting) (sym p.1)) ∙ sym e)
+accepted_begin accepted offered waiting g e p = (
+  acts (p.0 ++ waiting),
+  sym (acts_append accepted (p.0 ++ waiting)) ∙ ap acts (sym (append_assoc accepted p.0 waiting) ∙ ap (λ l. l ++ waiting) (sym p.1)) ∙ sym e,
+)
 
 no_acts : {M : Type 0} (ms : List M) → acts ms ≡ [] → ms ≡ []
 no_acts ms e = acts_same ms [] e

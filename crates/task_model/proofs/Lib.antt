@@ -10,4 +10,6 @@ pub mod Splits
 pub mod Completed
 pub mod Replies
 pub mod Dones
+pub mod Newest
 pub mod Promised
+pub mod Resting

@@ -26,6 +26,7 @@ use Rattle.task_model.proofs.Begins.{accepted_begin}
 use Rattle.task_model.proofs.Stately.{Stately, state_over, at_hand, free_state, over_answers, over_outcomes, duty_outcome, duty_in, changes_in}
 use Rattle.task_model.proofs.Stately
 use Rattle.task_model.proofs.Completed.{Completed, completed_rises, completed_ended}
+use Rattle.task_model.proofs.Newest.{Holds, answered}
 use Rattle.task_model.proofs.Replies.{AllLabelled, IsOpenYet, rows_labelled, replied_all, state_found}
 use Rattle.task_model.proofs.Dones.{StateBelow, StatesBelow, by_kind, services_same, starts_length, front_below, all_counted, below_all, done_all}
 
@@ -35,16 +36,8 @@ mails_begin few all p = (mails p.0, sym (mails_append few p.0) ∙ ap mails p.1)
 
 module _ {V A M Q R : Type 0} (x : Exchange V A M Q R) (law : IsLawful x) (s : Stated V A Q) (stated : IsStated x s) (table : Table) (more : M → Bool) (start : ℕ) (is : IsTable table start)
     (fs : List (Frame M)) (seat : Seat V M Q R) (a : Account Q R) where
-  -- what is kept of a slave, turn by turn
-  pub record Holds : Type 0 where
-    pub ready : x.ready seat.start ≡ true
-    pub agrees : SeatAgrees x seat
-    pub begun : s.state (x.app seat.start) ≡ start
-    pub stately : Stately table start is seat.station fs seat.slave.registers a
-    pub carried : Carried x law s table (state_over table start a.over) seat a
-    pub answered : AllAnswered x more seat.station fs (rows_of seat.side)
-    pub hears : seat.accepted ≡ heard seat.station fs
-    pub completed : Completed x more seat.station fs a.started
+  abbrev Kept : Type 0
+  Kept = Holds x law s stated table more start is fs seat a
 
   abbrev both : Exchange (Counting V) (A × ℕ) (Act M) (Service Q) (Outcome R)
   both = with_states x s table
@@ -64,14 +57,14 @@ module _ {V A M Q R : Type 0} (x : Exchange V A M Q R) (law : IsLawful x) (s : S
     pub labels : AllLabelled x more seat.station fs (mail_labels gs)
     pub below : StatesBelow x more seat.station fs fits.count 0 gs
 
-  open_yet : Holds → IsOpenYet {Q = Q} x more seat.station fs a.hand
+  open_yet : Kept → IsOpenYet {Q = Q} x more seat.station fs a.hand
   open_yet h = go a.hand refl
     where
       go : (hand : Option Duty) → a.hand ≡ hand → IsOpenYet {Q = Q} x more seat.station fs hand
       go None e = tt
       go (Some duty) e = (duty_outcome table start is seat.station x more fs seat.slave.registers a duty h.stately e).0
 
-  promise_of : Holds → (gs : List (GhostRow M Q R)) → Fitted gs → TasksPromised x s table more fs seat.station seat.start seat.side a seat.slave
+  promise_of : Kept → (gs : List (GhostRow M Q R)) → Fitted gs → TasksPromised x s table more fs seat.station seat.start seat.side a seat.slave
   promise_of h gs k =
       let f = k.fits in
       let qs : services gs ≡ services_in a.started = services_same gs ∙ ap services_in k.started in
@@ -95,7 +88,7 @@ module _ {V A M Q R : Type 0} (x : Exchange V A M Q R) (law : IsLawful x) (s : S
         in_done = subst (AllDone x more seat.station fs f.count 0) k.started (done_all x more seat.station fs f.count 0 gs f.in_done k.below k.labels);
         rises = completed_rises x more seat.station fs a.started h.completed;
         in_doubt = completed_ended x more seat.station fs a.started h.completed;
-        emissions = subst (λ l. IsPrefixOf (emitted x.emission l) (mails (emits_all both (x.app seat.start, 0) (take f.count (services_in a.started))))) h.hears
+        emissions = subst (λ l. IsPrefixOf (emitted x.emission l) (mails (emits_all both (x.app seat.start, 0) (take f.count (services_in a.started))))) h.records.hears
             (subst (λ l. IsPrefixOf (emitted x.emission seat.accepted) (mails (emits_all both (x.app seat.start, 0) (take f.count l)))) qs
             (subst (λ l. IsPrefixOf l (mails (emits_all both (x.app seat.start, 0) (take f.count (services gs))))) (ap mails (emitted_acts x.emission seat.accepted) ∙ mails_acts (emitted x.emission seat.accepted))
             (mails_begin (emitted both.emission (acts seat.accepted)) (emits_all both (x.app seat.start, 0) (take f.count (services gs))) f.emissions)));
@@ -107,7 +100,7 @@ module _ {V A M Q R : Type 0} (x : Exchange V A M Q R) (law : IsLawful x) (s : S
       services_length (g ∷ rows) = ap suc (services_length rows)
 
   -- before the first service
-  fits_first : (h : Holds) → Untouched x law s table seat a h.carried.taken → Fitted []
+  fits_first : (h : Kept) → Untouched x law s table seat a h.carried.taken → Fitted []
   fits_first h u =
       let c = h.carried in
       let none : acts seat.accepted ≡ [] = prefix_nil (acts seat.accepted) (subst (IsPrefixOf (acts seat.accepted)) (ap (given both.serve at_start) u.none)
@@ -131,7 +124,7 @@ module _ {V A M Q R : Type 0} (x : Exchange V A M Q R) (law : IsLawful x) (s : S
       }
 
   -- the labels of all rows are those of the side
-  all_labels : (before : List (GhostRow M Q R)) (now : GhostRow M Q R) (c : Holds) (from state : ℕ) (rest : List M) → Now x law s table from state rest seat.side a.hand before now → mail_labels (before ++ now ∷ []) ≡ labels_of (rows_of seat.side)
+  all_labels : (before : List (GhostRow M Q R)) (now : GhostRow M Q R) (c : Kept) (from state : ℕ) (rest : List M) → Now x law s table from state rest seat.side a.hand before now → mail_labels (before ++ now ∷ []) ≡ labels_of (rows_of seat.side)
   all_labels before now c from state rest (inl m) =
       mail_labels_append before (now ∷ []) ∙ ap₂ (λ (l k : List _). l ++ (k ++ [])) m.past (shown_label now m.row m.shows) ∙ sym (labels_append seat.side.past (m.row ∷ []))
       ∙ ap (λ n. labels_of (seat.side.past ++ newest n)) (sym m.is)
@@ -139,7 +132,7 @@ module _ {V A M Q R : Type 0} (x : Exchange V A M Q R) (law : IsLawful x) (s : S
       mail_labels_append before (now ∷ []) ∙ ap₂ (λ (l k : List _). l ++ (k ++ [])) n.past (state_label now n.target n.service) ∙ append-nil (labels_of (rows_of seat.side))
 
   -- a state service that is over was taken, and all before it
-  module _ (h : Holds) (r : Rowed x law s table (state_over table start a.over) seat a h.carried.taken h.carried.rest) where
+  module _ (h : Kept) (r : Rowed x law s table (state_over table start a.over) seat a h.carried.taken h.carried.rest) where
     abbrev held : List (Act M)
     held = h.carried.taken ++ acts h.carried.rest
 
@@ -165,15 +158,15 @@ module _ {V A M Q R : Type 0} (x : Exchange V A M Q R) (law : IsLawful x) (s : S
             let none : state_found x more seat.station fs n.target r.now.frame ≡ None = sym (ap₂ (λ (t k : ℕ). state_found x more seat.station fs t k) stage.0 stage.1) ∙ open_now in
             absurd (let no : None ≡ Some o = sym none ∙ found in cc)
 
-  pub promised : Holds → TasksPromised x s table more fs seat.station seat.start seat.side a seat.slave
+  pub promised : Kept → TasksPromised x s table more fs seat.station seat.start seat.side a seat.slave
   promised h = elim h.carried.rows [
     | inl u ↦ promise_of h [] (fits_first h u)
     | inr r ↦ promise_of h (r.front ++ r.last ++ r.now ∷ []) (record {
-        server = after both.serve at_start h.carried.taken;
-        same = h.carried.serves;
-        started = r.started;
-        fits = fits h r;
-        labels = subst (AllLabelled x more seat.station fs) (sym (all_labels (r.front ++ r.last) r.now h (state_over table start a.over) seat.slave.registers.state h.carried.rest r.place)) (rows_labelled x more seat.station fs (rows_of seat.side) h.answered);
-        below = below_all x more seat.station fs (fits h r).count r.front r.last r.now (front_below both lawful at_start h.ready r.front r.last r.now (held h r) h.carried.taken (acts seat.accepted) r.moment (fits h r)) r.mails_last (newest_below h r r.place);
-      })
+      server = after both.serve at_start h.carried.taken;
+      same = h.carried.serves;
+      started = r.started;
+      fits = fits h r;
+      labels = subst (AllLabelled x more seat.station fs) (sym (all_labels (r.front ++ r.last) r.now h (state_over table start a.over) seat.slave.registers.state h.carried.rest r.place)) (rows_labelled x more seat.station fs (rows_of seat.side) (answered x law s stated table more start is fs seat a h));
+      below = below_all x more seat.station fs (fits h r).count r.front r.last r.now (front_below both lawful at_start h.ready r.front r.last r.now (held h r) h.carried.taken (acts seat.accepted) r.moment (fits h r)) r.mails_last (newest_below h r r.place);
+    })
   ]
