@@ -13,3 +13,4 @@ pub mod Dones
 pub mod Newest
 pub mod Promised
 pub mod Resting
+pub mod Sessions
