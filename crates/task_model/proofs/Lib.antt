@@ -2,3 +2,5 @@ pub mod Rings
 pub mod Served
 pub mod Ghosts
 pub mod Begins
+pub mod Moves
+pub mod Carries
