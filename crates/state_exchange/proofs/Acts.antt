@@ -1,15 +1,15 @@
 -- Mails as what a server takes, and what an exchange with states makes of them.
-use Rattle.std.proofs.Common.{◌≡◌, ℕ, Bool, true, false, not, cond, List, [], ◌∷◌, ◌++◌, filter, length, drop, Option, None, Some, option_map, refl, sym, ap, ap₂, ◌∙◌}
+use Rattle.std.proofs.Common.{◌≡◌, ℕ, suc, ◌+◌, Bool, true, false, not, cond, List, [], ◌∷◌, ◌++◌, filter, length, drop, Option, None, Some, option_map, refl, sym, ap, ap₂, ◌∙◌, arith}
 use Rattle.std.proofs.lemmas.List.{map-append, length-map}
 use Rattle.std.specs.List.{drop-map}
 use Rattle.exchange_model.specs.Prefix.{IsPrefixOf}
 use Rattle.exchange_model.specs.Exchange.{Exchange, after, given, plain, emitted}
-use Rattle.exchange_model.specs.Rows.{Row, left}
+use Rattle.exchange_model.specs.Rows.{Row, left, exec_all}
 use Rattle.exchange_model.proofs.Lists.{drop_past}
 use Rattle.segment_model.specs.Ends.{Outcome}
 use Rattle.state_model.specs.States.{Table}
 use Rattle.state_model.specs.Promises.{state_behind}
-use Rattle.state_exchange.specs.Stated.{Stated, IsStated, Act, Service, Counting, acts, mails, all_mails, act_emission, planned_by, serve_act, with_states}
+use Rattle.state_exchange.specs.Stated.{Stated, IsStated, Act, Service, Counting, acts, mails, all_mails, act_emission, planned_by, serve_act, states_in, with_states}
 
 -- LISTS OF MAILS AS ACTS
 
@@ -150,6 +150,20 @@ module _ {V A M Q R : Type 0} (x : Exchange V A M Q R) (s : Stated V A Q) (table
     state_worded c target =
         let to = state_behind table (s.state (x.app c.server)) target in
         ap s.state (stated.app to c.server) ∙ stated.is to (x.app c.server)
+
+  -- WHAT SERVICES DO
+
+  -- the second part of what they leave counts the state services among them
+  pub executed : (a : A) (k : ℕ) (qs : List (Service Q)) → (exec_all (with_states x s table) (a, k) qs).1 ≡ k + states_in qs
+  executed a k [] = omega arith
+  executed a k (Service.Mails q ∷ qs) = executed (x.exec a q) k qs
+  executed a k (Service.State target ∷ qs) = let more = executed (s.told (state_behind table (s.state a) target) a) (suc k) qs in omega (arith, more)
+
+  -- and the first part doesn't depend on it
+  pub executed_same : (a : A) (k n : ℕ) (qs : List (Service Q)) → (exec_all (with_states x s table) (a, k) qs).0 ≡ (exec_all (with_states x s table) (a, n) qs).0
+  executed_same a k n [] = refl
+  executed_same a k n (Service.Mails q ∷ qs) = executed_same (x.exec a q) k n qs
+  executed_same a k n (Service.State target ∷ qs) = executed_same (s.told (state_behind table (s.state a) target) a) (suc k) (suc n) qs
 
   -- WHAT A ROW HAS LEFT
 

@@ -1,5 +1,5 @@
 -- An exchange with states beside it keeps the laws.
-use Rattle.std.proofs.Common.{◌≡◌, ◌≢◌, ◌⊎◌, inl, inr, ℕ, ◌+◌, ◌≤◌, true, false, List, [], ◌∷◌, ◌++◌, Option, None, Some, option_map, refl, sym, ap, ◌∙◌, subst, arith}
+use Rattle.std.proofs.Common.{◌≡◌, ◌≢◌, ◌⊎◌, inl, inr, ℕ, suc, ◌+◌, ◌≤◌, true, false, List, [], ◌∷◌, ◌++◌, Option, None, Some, option_map, refl, sym, ap, ◌∙◌, subst, arith}
 use Rattle.exchange_model.specs.Prefix.{IsPrefixOf}
 use Rattle.exchange_model.specs.Exchange.{Exchange, IsLawful, Before, Behind, after, given, plain, emitted}
 use Rattle.segment_model.specs.Ends.{Outcome}
@@ -9,21 +9,21 @@ use Rattle.state_exchange.specs.Stated.{Stated, IsStated, Act, Service, Counting
 use Rattle.state_exchange.proofs.Acts.{acts_same, all_acts, acts_all, all_behind, acts_begin, front_acts, cut_mails, after_acts, plain_given_acts, emitted_given_acts}
 
 module _ {V A M Q R : Type 0} (x : Exchange V A M Q R) (s : Stated V A Q) (table : Table) (stated : IsStated x s) (law : IsLawful x) where
-  abbrev both : Exchange (Counting V) A (Act M) (Service Q) (Outcome R)
+  abbrev both : Exchange (Counting V) (A × ℕ) (Act M) (Service Q) (Outcome R)
   both = with_states x s table
 
   -- SERVICES BY MAILS
 
   before_mails : (c : Counting V) (ms : List M) → Before x c.server ms → Before both c (acts ms)
   before_mails c ms b = record {
-    app = ap (λ (d : Counting V). x.app d.server) (after_acts x s table c ms) ∙ b.app;
+    app = ap (λ (d : Counting V). (x.app d.server, d.words)) (after_acts x s table c ms) ∙ ap (λ a. (a, c.words)) b.app;
     handled = ap (λ (d : Counting V). x.handled d.server + d.words) (after_acts x s table c ms) ∙ ap (λ n. n + c.words) b.handled;
     emitted = emitted_given_acts x s table c ms ∙ ap acts b.emitted;
   }
 
   behind_mails : (c : Counting V) (q : Q) (ms : List M) → Behind x c.server q ms → Behind both c (Service.Mails q) (acts ms)
   behind_mails c q ms b = record {
-    app = ap (λ (d : Counting V). x.app d.server) (after_acts x s table c ms) ∙ b.app;
+    app = ap (λ (d : Counting V). (x.app d.server, d.words)) (after_acts x s table c ms) ∙ ap (λ a. (a, c.words)) b.app;
     handled = ap (λ (d : Counting V). x.handled d.server + d.words) (after_acts x s table c ms) ∙ (let one = b.handled in omega (arith, one));
     emitted = subst (λ es. IsPrefixOf es (acts (x.emits (x.app c.server) q))) (sym (emitted_given_acts x s table c ms))
         (acts_begin (emitted x.emission (given x.serve c.server ms)) (x.emits (x.app c.server) q) b.emitted);
@@ -95,7 +95,7 @@ module _ {V A M Q R : Type 0} (x : Exchange V A M Q R) (s : Stated V A Q) (table
   behind_word c target =
       let to = state_behind table (s.state (x.app c.server)) target in
       record {
-        app = stated.app to c.server;
+        app = ap (λ a. (a, suc c.words)) (stated.app to c.server);
         handled = (let same = stated.handled to c.server in omega (arith, same));
         emitted = ([], refl);
       }

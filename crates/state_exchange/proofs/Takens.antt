@@ -50,7 +50,7 @@ module _ {V A M Q R : Type 0} (x : Exchange V A M Q R) (law : IsLawful x) (v : V
       ]
 
 module _ {V A M Q R : Type 0} (x : Exchange V A M Q R) (s : Stated V A Q) (table : Table) (stated : IsStated x s) (law : IsLawful x) where
-  abbrev both : Exchange (Counting V) A (Act M) (Service Q) (Outcome R)
+  abbrev both : Exchange (Counting V) (A × ℕ) (Act M) (Service Q) (Outcome R)
   both = with_states x s table
 
   -- where all replies of a service by mails came that has no acknowledgement, nothing of it is left

@@ -6,7 +6,7 @@ use Rattle.exchange_model.specs.Toy.{Mail, first, second, posted, held, total, r
 use Rattle.exchange_model.specs.Toy
 use Rattle.exchange_model.proofs.Turns.{follows, all_said}
 use Rattle.state_exchange.specs.Stated.{IsStated}
-use Rattle.state_exchange.specs.Toys.{Desk, adds, refuse, serve_in, serve, ends, desk, desk_states, steps, stated_desk}
+use Rattle.state_exchange.specs.Toys.{Desk, adds, refuse, serve_in, serve, ends, exec_in, Sheet, desk, desk_states, steps, stated_desk}
 use Rattle.state_exchange.proofs.StatedLaw.{stated_law}
 
 -- ITS SERVICES
@@ -192,6 +192,10 @@ desk_law = record {
   grows = λ d m. grows_in (adds d.state) d.adder m;
 }
 
+exec_keeps : (b : Bool) (a : Sheet) (q : Service) → (exec_in b a q).state ≡ a.state
+exec_keeps true a q = refl
+exec_keeps false a q = refl
+
 pub desk_is_stated : IsStated desk desk_states
 desk_is_stated = record {
   ready = λ state d. refl;
@@ -200,6 +204,7 @@ desk_is_stated = record {
   is = λ state a. refl;
   same = λ d. refl;
   stays = λ d m. refl;
+  keeps = λ a q. exec_keeps (adds a.state) a q;
   last = λ d q ready valid answers quiet. last d q answers;
 }
 

@@ -24,8 +24,9 @@ pub record IsStated {V A M Q R : Type 0} (x : Exchange V A M Q R) (s : Stated V 
   pub is : (state : ℕ) (a : A) → s.state (s.told state a) ≡ state
   -- the state that stands is no news
   pub same : (v : V) → s.tell (s.state (x.app v)) v ≡ v
-  -- no mail changes it
+  -- no mail changes it, and no service by mails
   pub stays : (v : V) (m : M) → s.state (x.app (x.serve v m).0) ≡ s.state (x.app v)
+  pub keeps : (a : A) (q : Q) → s.state (x.exec a q) ≡ s.state a
   -- each mail of a service brings a reply at last, but for an acknowledgement: with all replies all mails were taken
   pub last : (v : V) (q : Q) → x.ready v ≡ true → x.valid q ≡ true → x.handed q ≡ false → s.acknowledged q ≡ false → (p r : List M) → x.full v q ≡ p ++ r →
       plain x.emission (given x.serve v p) ≡ plain x.emission (given x.serve v (x.full v q)) → r ≡ []
@@ -101,25 +102,31 @@ abbrev pub service_full : {V A M Q R : Type 0} → Exchange V A M Q R → V → 
 service_full x v (Service.Mails q) = acts (x.full v q)
 service_full x v (Service.State target) = Act.Word target ∷ []
 
--- a state service brings the application to the state behind it, by the slave's table
-abbrev pub service_exec : {V A M Q R : Type 0} → Exchange V A M Q R → Stated V A Q → Table → A → Service Q → A
-service_exec x s table a (Service.Mails q) = x.exec a q
-service_exec x s table a (Service.State target) = s.told (state_behind table (s.state a) target) a
+-- a state service brings the application to the state behind it, by the slave's table, and is counted
+abbrev pub service_exec : {V A M Q R : Type 0} → Exchange V A M Q R → Stated V A Q → Table → A × ℕ → Service Q → A × ℕ
+service_exec x s table a (Service.Mails q) = (x.exec a.0 q, a.1)
+service_exec x s table a (Service.State target) = (s.told (state_behind table (s.state a.0) target) a.0, suc a.1)
 
 -- and its answer is the table's
-abbrev pub service_reply : {V A M Q R : Type 0} → Exchange V A M Q R → Stated V A Q → Table → A → Service Q → Outcome R
-service_reply x s table a (Service.Mails q) = Outcome.Replied (x.reply a q)
-service_reply x s table a (Service.State target) = answer_of (table (s.state a) target)
+abbrev pub service_reply : {V A M Q R : Type 0} → Exchange V A M Q R → Stated V A Q → Table → A × ℕ → Service Q → Outcome R
+service_reply x s table a (Service.Mails q) = Outcome.Replied (x.reply a.0 q)
+service_reply x s table a (Service.State target) = answer_of (table (s.state a.0) target)
 
-abbrev pub service_emits : {V A M Q R : Type 0} → Exchange V A M Q R → A → Service Q → List (Act M)
-service_emits x a (Service.Mails q) = acts (x.emits a q)
+abbrev pub service_emits : {V A M Q R : Type 0} → Exchange V A M Q R → A × ℕ → Service Q → List (Act M)
+service_emits x a (Service.Mails q) = acts (x.emits a.0 q)
 service_emits x a (Service.State target) = []
 
--- BOTH AS ONE EXCHANGE: it counts services by mails and state services alike
-abbrev pub with_states : {V A M Q R : Type 0} → Exchange V A M Q R → Stated V A Q → Table → Exchange (Counting V) A (Act M) (Service Q) (Outcome R)
+-- how many of these are state services
+abbrev pub states_in : {Q : Type 0} → List (Service Q) → ℕ
+states_in [] = 0
+states_in (Service.Mails q ∷ qs) = states_in qs
+states_in (Service.State target ∷ qs) = suc (states_in qs)
+
+-- BOTH AS ONE EXCHANGE: it counts services by mails and state services alike; beside the application stands how many state services were done
+abbrev pub with_states : {V A M Q R : Type 0} → Exchange V A M Q R → Stated V A Q → Table → Exchange (Counting V) (A × ℕ) (Act M) (Service Q) (Outcome R)
 with_states x s table = record {
   serve = λ c a. serve_act x s table c a;
-  app = λ c. x.app c.server;
+  app = λ c. (x.app c.server, c.words);
   handled = λ c. x.handled c.server + c.words;
   emission = act_emission x.emission;
   ready = λ c. x.ready c.server;

@@ -91,7 +91,7 @@ abbrev pub steps : Table
 steps from to = if nat_le to 1 then None else Some 17
 
 -- the adder with its state services beside its services by mails
-abbrev pub stated_desk : Exchange (Counting Desk) Sheet (Act Mail) (Stated.Service Service) (Outcome (Option ℕ))
+abbrev pub stated_desk : Exchange (Counting Desk) (Sheet × ℕ) (Act Mail) (Stated.Service Service) (Outcome (Option ℕ))
 stated_desk = with_states desk desk_states steps
 
 -- a new one, in a state in which it adds nothing
@@ -115,7 +115,7 @@ abbrev pub ended : Counting Desk
 ended = record { server = record { adder = record { value = 3; handled = 2; half = None }; state = 1 }; words = 2 }
 
 -- the services' replies, each on the application behind those before it
-abbrev pub replies : Sheet → List (Stated.Service Service) → List (Outcome (Option ℕ))
+abbrev pub replies : Sheet × ℕ → List (Stated.Service Service) → List (Outcome (Option ℕ))
 replies a [] = []
 replies a (q ∷ qs) = stated_desk.reply a q ∷ replies (stated_desk.exec a q) qs
 

@@ -1,6 +1,10 @@
 pub mod Rings
 pub mod Served
+pub mod Carries
+pub mod Stately
+pub mod Walks
+pub mod Turns
 pub mod Ghosts
 pub mod Begins
 pub mod Moves
-pub mod Carries
+pub mod Fits

@@ -250,7 +250,7 @@ module _ {V M : Type 0} (station : ℕ) where
       ap (λ b. account_back station frame b (frame_after place (slave_meets place s d) ds)) (account_same station frame a a.hand d (datagram_meets place s d) (same_for station place s d apart))
       ∙ account_behind frame place (account_met station frame a a.hand d) (slave_meets place s d) ds (apart_meets place s d later.0 apart) later.1
 
-  reaches_behind : (place : ℕ) (s : Slave V M) (access : Option Access) (ds : List (Datagram M)) → (s.registers.station == station) ≡ false → Reaches station access ds → Reaches station access (frame_after place s ds)
+  pub reaches_behind : (place : ℕ) (s : Slave V M) (access : Option Access) (ds : List (Datagram M)) → (s.registers.station == station) ≡ false → Reaches station access ds → Reaches station access (frame_after place s ds)
   reaches_behind place s access es apart Reaches.nothing = Reaches.nothing
   reaches_behind place s access es apart (Reaches.other d ds is rest) =
       Reaches.other (datagram_meets place s d) (frame_after place (slave_meets place s d) ds)

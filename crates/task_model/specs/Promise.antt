@@ -39,8 +39,8 @@ IsReply Outcome.Handed = ⊥
 IsReply Outcome.Reached = ⊤
 IsReply (Outcome.Refused code) = ⊤
 
--- each outcome that is a reply is that of its service, on the application and in the AL state behind the services before it
-abbrev pub AllReplied : {V A M Q R : Type 0} → Exchange V A M Q R → Stated V A Q → Table → (M → Bool) → ℕ → List (Frame M) → A → List (Started Q) → Type 0
+-- each outcome that is a reply is that of its service, on the application, with its AL state, behind the services before it
+abbrev pub AllReplied : {V A M Q R : Type 0} → Exchange V A M Q R → Stated V A Q → Table → (M → Bool) → ℕ → List (Frame M) → A × ℕ → List (Started Q) → Type 0
 AllReplied x s table more station fs a [] = ⊤
 AllReplied {R = R} x s table more station fs a (r ∷ rs) =
     ((o : Outcome R × ℕ) → outcome_of x more station fs r ≡ Some o → IsReply o.0 → o.0 ≡ (with_states x s table).reply a r.service)
@@ -74,27 +74,27 @@ AllEnded {R = R} x more station fs (r ∷ rs) = ((o : Outcome R × ℕ) × (outc
 pub record TasksPromised {V A M Q R : Type 0} (x : Exchange V A M Q R) (s : Stated V A Q) (table : Table) (more : M → Bool) (fs : List (Frame M))
     (station : ℕ) (start : V) (d : Side M Q R) (a : Account Q R) (n : Slave V M) : Type 0 where
   pub count : ℕ
-  pub app : x.app n.node.server.server ≡ exec_all (with_states x s table) (x.app start) (take count (services_in a.started))
+  pub app : x.app n.node.server.server ≡ (exec_all (with_states x s table) (x.app start, 0) (take count (services_in a.started))).0
   pub handled : x.handled n.node.server.server ≡ x.handled start + mails_in (take count (services_in a.started))
   pub state : n.registers.state ≡ s.state (x.app n.node.server.server)
   pub prefix : count ≤ length a.started
   pub behind : length a.started ≤ count + 2
-  pub replied : AllReplied x s table more station fs (x.app start) a.started
+  pub replied : AllReplied x s table more station fs (x.app start, 0) a.started
   pub in_done : AllDone x more station fs count 0 a.started
   pub rises : AllRise x more station fs a.started (length fs)
   pub in_doubt : AllEnded x more station fs (but_last a.started)
   -- the emissions that were heard are the first of those that these services emit
-  pub emissions : IsPrefixOf (emitted x.emission (heard station fs)) (mails (emits_all (with_states x s table) (x.app start) (take count (services_in a.started))))
+  pub emissions : IsPrefixOf (emitted x.emission (heard station fs)) (mails (emits_all (with_states x s table) (x.app start, 0) (take count (services_in a.started))))
   -- with no state service in hand no error flag stands
   pub flag : a.hand ≡ None → n.registers.refused ≡ None
 
 -- WITH NOTHING LEFT: all services are carried out, each has its outcome, and all emissions were heard
 pub record TasksRest {V A M Q R : Type 0} (x : Exchange V A M Q R) (s : Stated V A Q) (table : Table) (more : M → Bool) (fs : List (Frame M))
     (station : ℕ) (start : V) (d : Side M Q R) (a : Account Q R) (n : Slave V M) : Type 0 where
-  pub app : x.app n.node.server.server ≡ exec_all (with_states x s table) (x.app start) (services_in a.started)
+  pub app : x.app n.node.server.server ≡ (exec_all (with_states x s table) (x.app start, 0) (services_in a.started)).0
   pub handled : x.handled n.node.server.server ≡ x.handled start + mails_in (services_in a.started)
   pub ended : AllEnded x more station fs a.started
-  pub emissions : emitted x.emission (heard station fs) ≡ mails (emits_all (with_states x s table) (x.app start) (services_in a.started))
+  pub emissions : emitted x.emission (heard station fs) ≡ mails (emits_all (with_states x s table) (x.app start, 0) (services_in a.started))
 
 -- it rests where it is settled and the master wants nothing of it
 abbrev pub TasksRestIf : {V A M Q R : Type 0} → Exchange V A M Q R → Stated V A Q → Table → (M → Bool) → List (Frame M) → ℕ → V → Side M Q R → Account Q R → Slave V M → Type 0

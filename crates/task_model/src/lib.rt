@@ -1,10 +1,58 @@
-//! Trial.
+//! Sessions of services by mails and state services: a master, a ring of slaves and their frames as data. Definitions and laws, no running
+//! code: the functions here do nothing, and their contracts state the laws. They hold for every exchange that owes the laws of
+//! `exchange_model` and whose AL state is a part of its application, every plan with distinct stations, every choice of a master, every fate of
+//! a frame and every order of processor steps.
 #![tactic(auto)]
 
-ghost use Rattle.std.specs.Prelude.{◌≡◌, ℕ};
-ghost use Rattle.task_model.specs.Accounts.{Account, new_account};
+ghost use Rattle.std.specs.Prelude.{◌≡◌, ℕ, Bool, List, [], ◌∷◌, ◌++◌, length};
+ghost use Rattle.exchange_model.specs.Exchange.{Exchange, IsLawful};
+ghost use Rattle.segment_model.specs.Slaves.{Processor, Ring, Move, ring_after, ring_back, ring_steps};
+ghost use Rattle.segment_model.specs.Record.{Frame, frame_of};
+ghost use Rattle.segment_model.specs.Seats.{Side, Planned, IsOpening, ring_of, sides_of};
+ghost use Rattle.segment_model.specs.Split.{IsBound, IsFrameOf, sides_next, sides_after};
+ghost use Rattle.segment_model.specs.Laws.{HandedBy};
+ghost use Rattle.state_model.specs.States.{Table};
+ghost use Rattle.state_exchange.specs.Stated.{Stated, IsStated};
+ghost use Rattle.task_model.specs.Accounts.{Account, Pick};
+ghost use Rattle.task_model.specs.Tasks.{TaskTurn, IsTaskPlan, IsTasked, AreServed, MayRun, mails_choices, accounts_next, accounts_after, new_tasks, run};
+ghost use Rattle.task_model.specs.Promise.{EachTask, TasksPromised, TasksRestIf};
 
-/// Trial.
-pub fn trial<Q, R>()
-    ensures { (a : Account Q R) → a ≡ a }
+/// What such a session promises of each slave of its plan that answers to its station, with the master's side and account of it, the slave and
+/// the frames as they have come to be.
+pub fn tasks_law<V, A, M, Q, R>()
+    // The slave has carried out just the first of the services that came into hand, by mails and AL states, each once and in order; each answer
+    // is the one that the table of completed services gives for the news of the slave, and is its application's, in the AL state that stood.
+    ensures promised { (x : Exchange V A M Q R) → IsLawful x → (s : Stated V A Q) → IsStated x s → (table : ℕ → Table) (more : M → Bool) (processor : Processor V) (ps : List (Planned V)) → IsTaskPlan x s processor table ps →
+        (ds : List (ℕ × Side M Q R)) (accounts : List (Account Q R)) (ns : Ring V M) (fs : List (Frame M)) → IsTasked x s.acknowledged processor ps ds accounts ns fs →
+        EachTask (λ station start d a n. TasksPromised x s (table station) more fs station start d a n) ps ds accounts ns }
+
+    // Where a slave is settled and the master wants nothing of it, all its services are carried out, each has its outcome, and all emissions
+    // were heard.
+    ensures rests { (x : Exchange V A M Q R) → IsLawful x → (s : Stated V A Q) → IsStated x s → (table : ℕ → Table) (more : M → Bool) (processor : Processor V) (ps : List (Planned V)) → IsTaskPlan x s processor table ps →
+        (ds : List (ℕ × Side M Q R)) (accounts : List (Account Q R)) (ns : Ring V M) (fs : List (Frame M)) → IsTasked x s.acknowledged processor ps ds accounts ns fs →
+        EachTask (λ station start d a n. TasksRestIf x s (table station) more fs station start d a n) ps ds accounts ns }
+
+    // The mails of such a session are a session of `segment_model`, so what that says of frames, replay and record holds of it.
+    ensures mails { (x : Exchange V A M Q R) (s : Stated V A Q) (processor : Processor V) (ps : List (Planned V)) (ds : List (ℕ × Side M Q R)) (accounts : List (Account Q R)) (ns : Ring V M) (fs : List (Frame M)) →
+        IsTasked x s.acknowledged processor ps ds accounts ns fs → IsBound x processor ps ds ns fs }
+{}
+
+/// A master and a ring that meet in frames alone are such a session: what each of them has to keep.
+pub fn tasks_split_law<V, A, M, Q, R>()
+    // It begins behind the frames of bring-up, which access no mailbox.
+    ensures begins { (x : Exchange V A M Q R) (acknowledged : Q → Bool) (processor : Processor V) (ps : List (Planned V)) (opening : List (Frame M)) → IsOpening opening →
+        let new = new_tasks {Q = Q} {R = R} opening ps in IsTasked x acknowledged processor ps (sides_of new.session.seats) new.accounts (ring_of new.session.seats) opening }
+
+    // The master's sides and accounts go on by its choices and by what came back or was lost, the ring by the frame, its fate and its steps.
+    ensures steps { (x : Exchange V A M Q R) (acknowledged : Q → Bool) (processor : Processor V) (ps : List (Planned V)) (ds : List (ℕ × Side M Q R)) (accounts : List (Account Q R)) (ns : Ring V M) (fs : List (Frame M)) →
+        IsTasked x acknowledged processor ps ds accounts ns fs → (picks : List (Pick Q)) (m : Move M) →
+        let asked = sides_next x (length fs) ds (mails_choices accounts picks) in let counted = accounts_next x acknowledged (length fs) ds accounts picks in
+        IsFrameOf asked m.sent → AreServed asked counted m.sent →
+        IsTasked x acknowledged processor ps (sides_after x (length fs) m.sent m.fate (ring_back ns m.sent m.fate) asked) (accounts_after (length fs) asked counted m.fate (ring_back ns m.sent m.fate))
+            (ring_steps x processor (ring_after ns m.sent m.fate) m.steps) (fs ++ frame_of ns m ∷ []) }
+
+    // And each run of such a session is such a meeting.
+    ensures runs { (x : Exchange V A M Q R) (acknowledged : Q → Bool) (processor : Processor V) (ps : List (Planned V)) (opening : List (Frame M)) → IsOpening opening → (ts : List (TaskTurn M Q)) →
+        let new = new_tasks {Q = Q} {R = R} opening ps in MayRun x acknowledged processor new ts → let w = run x acknowledged processor new ts in
+        IsTasked x acknowledged processor ps (sides_of w.session.seats) w.accounts (ring_of w.session.seats) w.session.frames }
 {}
