@@ -67,7 +67,7 @@ module _ {V A M Q R : Type 0} (x : Exchange V A M Q R) where
   new_starts (p ∷ ps) = ap (λ l. (p.station, p.server) ∷ l) (new_starts ps)
 
   -- a fact of each seat is a fact of each side and slave
-  each_of : (P : ℕ → V → Side M Q R → Slave V M → Type 0) (ss : List (Seat V M Q R)) (ps : List (Planned V)) → starts ss ≡ planned ps → EachSeat (λ s. P s.station s.start s.side s.slave) ss → EachOf P ps (sides_of ss) (ring_of ss)
+  pub each_of : (P : ℕ → V → Side M Q R → Slave V M → Type 0) (ss : List (Seat V M Q R)) (ps : List (Planned V)) → starts ss ≡ planned ps → EachSeat (λ s. P s.station s.start s.side s.slave) ss → EachOf P ps (sides_of ss) (ring_of ss)
   each_of P [] [] e h = tt
   each_of P [] (p ∷ ps) e h = absurd (nothing (p.station, p.server) (planned ps) (sym e))
   each_of P (s ∷ ss) [] e h = absurd (nothing (s.station, s.start) (starts ss) e)
@@ -77,7 +77,7 @@ module _ {V A M Q R : Type 0} (x : Exchange V A M Q R) where
       let start : s.start ≡ p.server = ap (λ q. q.1) both.0 in
       ((station, station, subst (λ q. P q.0 q.1 s.side s.slave) both.0 h.0), each_of P ss ps both.1 h.1)
 
-  session_starts : (processor : Processor V) (opening : List (Frame M)) (ps : List (Planned V)) (ts : List (Turn M Q)) → starts (run x processor (new_session {Q = Q} {R = R} opening ps) ts).seats ≡ planned ps
+  pub session_starts : (processor : Processor V) (opening : List (Frame M)) (ps : List (Planned V)) (ts : List (Turn M Q)) → starts (run x processor (new_session {Q = Q} {R = R} opening ps) ts).seats ≡ planned ps
   session_starts processor opening ps ts = run_starts processor (new_session opening ps) ts ∙ new_starts ps
 
 module _ {V A M Q R : Type 0} (x : Exchange V A M Q R) (law : IsLawful x) where

@@ -17,7 +17,7 @@ ended_first (Some o) more e h = h
 
 module _ {V A M Q R : Type 0} (x : Exchange V A M Q R) (law : IsLawful x) where
   -- a row that is over has ended
-  row_ended : (more : M → Bool) (station : ℕ) (fs : List (Frame M)) (r : Row M Q R) → IsAnswered x more station fs r → IsHanded x more station fs r true → ((answer : R × ℕ) × (r.answer ≡ Some answer)) ⊎ (x.handed r.service ≡ true) →
+  pub row_ended : (more : M → Bool) (station : ℕ) (fs : List (Frame M)) (r : Row M Q R) → IsAnswered x more station fs r → IsHanded x more station fs r true → ((answer : R × ℕ) × (r.answer ≡ Some answer)) ⊎ (x.handed r.service ≡ true) →
       is_some (first_end (ends x more (Task.Mails r.service)) r.frame [] (news_from station r.frame fs)) ≡ true
   row_ended more station fs r answered handed over = go (x.handed r.service) refl over
     where
@@ -33,7 +33,7 @@ module _ {V A M Q R : Type 0} (x : Exchange V A M Q R) (law : IsLawful x) where
       ended_first (first_end (ends x more (Task.Mails r.service)) r.frame [] (news_from station r.frame fs)) (answers_of x more station fs (rs ++ rest) 0)
       (row_ended more station fs r a.0 h.0 c.0.over) (rows_ended more station fs rs rest a.1 h.1 c.1 e)
 
-  behind : (more : M → Bool) (station : ℕ) (fs : List (Frame M)) (past rest : List (Row M Q R)) → AllAnswered x more station fs (past ++ rest) → AllAnswered x more station fs rest
+  pub behind : (more : M → Bool) (station : ℕ) (fs : List (Frame M)) (past rest : List (Row M Q R)) → AllAnswered x more station fs (past ++ rest) → AllAnswered x more station fs rest
   behind more station fs [] rest a = a
   behind more station fs (r ∷ rs) rest a = behind more station fs rs rest a.1
 

@@ -283,7 +283,7 @@ module _ {V A M Q R : Type 0} (x : Exchange V A M Q R) (law : IsLawful x) where
     handed = λ posts. same ∙ never (reply_end x law r.service) (λ ns. law.unanswered r.service _ posts) r.frame [] (news_from station r.frame fs);
   }
 
-  rows_answered : (more : M → Bool) (station : ℕ) (fs : List (Frame M)) (past : List (Row M Q R)) (now : Option (Row M Q R)) → AllClosed x law station fs past → OpenNow x law station fs now → AllAnswered x more station fs (past ++ newest now)
+  pub rows_answered : (more : M → Bool) (station : ℕ) (fs : List (Frame M)) (past : List (Row M Q R)) (now : Option (Row M Q R)) → AllClosed x law station fs past → OpenNow x law station fs now → AllAnswered x more station fs (past ++ newest now)
   rows_answered more station fs [] None c o = tt
   rows_answered more station fs [] (Some r) c o = (row_answered more station fs r o.same, tt)
   rows_answered more station fs (r ∷ rs) now c o = (row_answered more station fs r c.0.same, rows_answered more station fs rs now c.1 o)

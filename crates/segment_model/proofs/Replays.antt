@@ -15,7 +15,7 @@ module _ {V A M Q R : Type 0} (x : Exchange V A M Q R) where
   nexts_ring k (s ∷ ss) [] = refl
   nexts_ring k (s ∷ ss) (c ∷ cs) = ap (λ l. (s.station, s.slave) ∷ l) (nexts_ring k ss cs)
 
-  nexts_sides : (k : ℕ) (ss : List (Seat V M Q R)) (cs : List (Choice Q)) → sides_of (seats_next x k ss cs) ≡ sides_next x k (sides_of ss) cs
+  pub nexts_sides : (k : ℕ) (ss : List (Seat V M Q R)) (cs : List (Choice Q)) → sides_of (seats_next x k ss cs) ≡ sides_next x k (sides_of ss) cs
   nexts_sides k [] cs = refl
   nexts_sides k (s ∷ ss) [] = refl
   nexts_sides k (s ∷ ss) (c ∷ cs) = ap (λ l. (s.station, (seat_next x k s c).side) ∷ l) (nexts_sides k ss cs)
@@ -110,7 +110,7 @@ module _ {V A M Q R : Type 0} (x : Exchange V A M Q R) where
   may-append processor w [] t m f = (f, tt)
   may-append processor w (u ∷ ts) t m f = (m.0, may-append processor (happens x processor w u) ts t m.1 f)
 
-  frame_from : (ss : List (Seat V M Q R)) (sent : List (Datagram M)) → IsFrameOf (sides_of ss) sent → IsFrame ss sent
+  pub frame_from : (ss : List (Seat V M Q R)) (sent : List (Datagram M)) → IsFrameOf (sides_of ss) sent → IsFrame ss sent
   frame_from [] sent f = tt
   frame_from (s ∷ ss) sent f = (f.0, frame_from ss sent f.1)
 

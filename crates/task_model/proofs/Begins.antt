@@ -16,12 +16,12 @@ use Rattle.segment_model.proofs.Fitted.{few}
 use Rattle.segment_model.proofs.Handed.{Facts, NowFacts, facts_of}
 use Rattle.segment_model.proofs.Sounds.{SeatAgrees}
 use Rattle.state_model.specs.States.{Table}
-use Rattle.state_exchange.specs.Stated.{Stated, IsStated, Act, Service, Counting, acts, mails, with_states, service_valid, service_handed, service_planned}
+use Rattle.state_exchange.specs.Stated.{Stated, IsStated, Act, Service, Counting, acts, mails, states_in, with_states, service_valid, service_handed, service_planned}
 use Rattle.state_exchange.proofs.Acts.{acts_append, acts_length, acts_same, acts_begin, begin_acts, plain_acts, left_mails, left_none}
 use Rattle.state_exchange.proofs.StatedLaw.{stated_law}
 use Rattle.state_exchange.proofs.Takens.{answered_taken}
 use Rattle.task_model.specs.Accounts.{Account, Duty, Pick, mails_begin, mails_choice, is_free, is_acknowledged, starts, state_begins, account_begins, account_next}
-use Rattle.task_model.proofs.Ghosts.{GhostRow, counting, start_of, starts_of, label_of, labels_of, label_by, mail_labels, states_in, Shows, Rested, RestedRow, Staged, MailsNow, StateNow, Now, Rowed, Untouched, Carried, starts_append, labels_append, mail_labels_append, shown_label, state_label}
+use Rattle.task_model.proofs.Ghosts.{GhostRow, counting, start_of, starts_of, label_of, labels_of, label_by, mail_labels, Shows, Rested, RestedRow, Staged, MailsNow, StateNow, Now, Rowed, Untouched, Carried, starts_append, labels_append, mail_labels_append, shown_label, state_label}
 
 -- what was accepted was given
 pub accepted_begin : {M : Type 0} (accepted offered waiting : List M) (g : List (Act M)) → g ≡ acts (offered ++ waiting) → Mails.IsPrefixOf accepted offered → IsPrefixOf (acts accepted) g

@@ -11,7 +11,7 @@ use Rattle.segment_model.specs.Laws.{as_outcome}
 use Rattle.segment_model.proofs.Handed.{Facts}
 use Rattle.state_model.specs.States.{Table}
 use Rattle.state_model.specs.Promises.{state_behind}
-use Rattle.state_exchange.specs.Stated.{Stated, Act, Service, Counting, acts, mails, with_states}
+use Rattle.state_exchange.specs.Stated.{Stated, Act, Service, Counting, acts, mails, states_in, with_states}
 use Rattle.task_model.specs.Accounts.{Started, Stage, Duty, Account}
 
 -- a row of the exchange of both
@@ -49,12 +49,6 @@ label_by g (Service.State target) = []
 abbrev pub mail_labels : {M Q R : Type 0} → List (GhostRow M Q R) → List (Label Q R)
 mail_labels [] = []
 mail_labels (g ∷ gs) = label_by g g.service ++ mail_labels gs
-
--- how many of these services change the AL state
-abbrev pub states_in : {Q : Type 0} → List (Service Q) → ℕ
-states_in [] = 0
-states_in (Service.Mails q ∷ ss) = states_in ss
-states_in (Service.State target ∷ ss) = suc (states_in ss)
 
 -- a row by mails as one of the exchange of both
 pub record Shows {M Q R : Type 0} (g : GhostRow M Q R) (r : Row M Q R) : Type 0 where

@@ -7,4 +7,7 @@ pub mod Turns
 pub mod Ghosts
 pub mod Begins
 pub mod Moves
-pub mod Fits
+pub mod Splits
+pub mod Completed
+pub mod Replies
+pub mod Dones

@@ -49,7 +49,7 @@ pub fn tasks_split_law<V, A, M, Q, R>()
         let asked = sides_next x (length fs) ds (mails_choices accounts picks) in let counted = accounts_next x acknowledged (length fs) ds accounts picks in
         IsFrameOf asked m.sent → AreServed asked counted m.sent →
         IsTasked x acknowledged processor ps (sides_after x (length fs) m.sent m.fate (ring_back ns m.sent m.fate) asked) (accounts_after (length fs) asked counted m.fate (ring_back ns m.sent m.fate))
-            (ring_steps x processor (ring_after ns m.sent m.fate) m.steps) (fs ++ frame_of ns m ∷ []) }
+        (ring_steps x processor (ring_after ns m.sent m.fate) m.steps) (fs ++ frame_of ns m ∷ []) }
 
     // And each run of such a session is such a meeting.
     ensures runs { (x : Exchange V A M Q R) (acknowledged : Q → Bool) (processor : Processor V) (ps : List (Planned V)) (opening : List (Frame M)) → IsOpening opening → (ts : List (TaskTurn M Q)) →
