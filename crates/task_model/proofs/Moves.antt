@@ -1,6 +1,6 @@
 -- The ghost rows over a frame and over a step of the slave's processor: a drain ends, a service is closed, mails are heard and taken, and the
 -- control word is taken where the AL state changes.
-use Rattle.std.proofs.Common.{◌≡◌, ◌⊎◌, inl, inr, ℕ, suc, ◌+◌, ◌≤◌, Bool, true, false, if◌then◌else◌, Option, None, Some, option_map, List, [], ◌∷◌, ◌++◌, map, length, refl, sym, ap, ap₂, ◌∙◌, subst, append_assoc, append-nil, arith}
+use Rattle.std.proofs.Common.{◌≡◌, ◌⊎◌, inl, inr, ℕ, suc, ◌+◌, ◌≤◌, ◌==◌, Bool, true, false, if◌then◌else◌, Option, None, Some, option_map, List, [], ◌∷◌, ◌++◌, map, drop, length, refl, sym, ap, ap₂, ◌∙◌, subst, append_assoc, append-nil, arith}
 use Rattle.exchange_model.specs.Prefix.{IsPrefixOf}
 use Rattle.exchange_model.specs.Exchange.{Exchange, IsLawful, after, given, plain}
 use Rattle.exchange_model.specs.Rows.{Row, row_heard, row_told, answer_after, left, services}
@@ -9,6 +9,7 @@ use Rattle.exchange_model.proofs.Lists.{append_none, append_cancel}
 use Rattle.exchange_model.proofs.Words.{after-append, given-append, plain-append}
 use Rattle.exchange_model.proofs.Moments
 use Rattle.link_model.specs.Mails.{LinkMail}
+use Rattle.link_model.specs.Link.{Halves}
 use Rattle.link_model.specs.Frames
 use Rattle.link_model.specs.Frames.{Ask, node_meets}
 use Rattle.link_model.specs.Slave.{Node, node_look, node_take, node_takes, node_offers, node_serve}
@@ -26,13 +27,14 @@ use Rattle.segment_model.specs.Record
 use Rattle.segment_model.proofs.Handed.{Facts, facts_of}
 use Rattle.state_model.specs.States.{Table, Phase, Turn, shown}
 use Rattle.state_model.specs.Promises.{state_behind}
-use Rattle.state_exchange.specs.Stated.{Stated, IsStated, Act, Service, Counting, acts, mails, all_mails, ends_by, with_states, service_handed, service_ends}
+use Rattle.state_exchange.specs.Stated.{Stated, IsStated, Act, Service, Counting, acts, act_emission, mails, all_mails, ends_by, with_states, service_handed, service_ends}
 use Rattle.state_exchange.proofs.Acts.{acts_append, acts_same, mails_acts, mails_append, all_acts, plain_acts, after_acts, given_acts, state_kept, left_word}
 use Rattle.state_exchange.proofs.StatedLaw.{stated_law}
 use Rattle.task_model.specs.Accounts.{Account, Change, Duty, Stage, account_by, turn_progress}
 use Rattle.task_model.proofs.Served.{Served, Served.stays, Served.drained, Served.wrote, Served.looked, goes_on, duty_of}
-use Rattle.task_model.proofs.Ghosts.{GhostRow, counting, start_of, starts_of, label_of, labels_of, mail_labels, Shows, Rested, RestedRow, StagedBy, Staged, MailsNow, StateNow, Now, Rowed, Untouched, Carried, starts_append, labels_append}
-use Rattle.task_model.proofs.Begins.{accepted_begin, none_behind, same_moment, starts_now}
+use Rattle.task_model.proofs.Stately.{state_over, state_over-push}
+use Rattle.task_model.proofs.Ghosts.{GhostRow, counting, start_of, starts_of, label_of, labels_of, mail_labels, Shows, Rested, RestedRow, StagedBy, Staged, MailsNow, StateNow, Now, Rowed, Untouched, Carried, starts_append, starts_now, labels_append}
+use Rattle.task_model.proofs.Begins.{accepted_begin, none_behind, same_moment}
 
 -- WHAT A SLAVE'S FRAMES LEAVE
 
@@ -70,13 +72,23 @@ state_after station s (d ∷ ds) = state_after station (slave_meets station s d)
     go true = state_met s.registers d.access
     go false = refl
 
+none_if : {X : Type 0} (b : Bool) (o : Option X) → o ≡ None → (if b then None else o) ≡ None
+none_if true o e = refl
+none_if false o e = e
+
 -- an idle half stays idle
-idle_back : {M : Type 0} (station : ℕ) (h : _) (ds : List (Datagram M)) → h.out.holding ≡ None → (Frames.halves_after station h (grams ds)).out.holding ≡ None
-idle_back station h ds e = back_frees station 0 h ds ∙ ap (λ o. if has_written (Record.back_news station 0 ds) then None else o) e ∙ none (has_written (Record.back_news station 0 ds))
+idle_back : {M : Type 0} (station : ℕ) (h : Halves M) (ds : List (Datagram M)) → h.out.holding ≡ None → (Frames.halves_after station h (grams ds)).out.holding ≡ None
+idle_back station h ds e = back_frees station 0 h ds ∙ none_if (has_written (Record.back_news station 0 ds)) h.out.holding e
+
+-- a stage where the half stays idle, and nothing more is held untaken
+staged_on : {M : Type 0} (table : Table) (from state : ℕ) (rest more : List M) (holding now : Option (LinkMail M)) (target frame : ℕ) (hand : Option Duty) (told : List (Act M)) → (rest ≡ [] → more ≡ []) → (holding ≡ None → now ≡ None) →
+    Staged table from state rest holding target frame hand told → Staged table from state more now target frame hand told
+staged_on table from state rest more holding now target frame None told f g st = (f st.0, st.1)
+staged_on {M} table from state rest more holding now target frame (Some duty) told f g st = (st.0, st.1, stage duty.stage st.2)
   where
-    none : (b : Bool) → (if b then None else None) ≡ None
-    none true = refl
-    none false = refl
+    stage : (stage : Stage) → StagedBy table from state rest holding target stage told → StagedBy table from state more now target stage told
+    stage Stage.Drains k = (k.0, k.1, (elim k.2 [ inl idle ↦ inl (g idle) | inr none ↦ inr (f none) ]))
+    stage (Stage.Goes phase) k = (f k.0, k.1)
 
 module _ {V A M Q R : Type 0} (x : Exchange V A M Q R) (law : IsLawful x) (s : Stated V A Q) (table : Table) (stated : IsStated x s) where
   -- another slave with this server and this AL state carries the same
@@ -172,9 +184,9 @@ module _ {V A M Q R : Type 0} (x : Exchange V A M Q R) (law : IsLawful x) (s : S
       }
 
   -- behind a drain all mails held are taken
-  drained : (from : ℕ) (seat : Seat V M Q R) (rest : List M) (target frame : ℕ) (told : List (Act M)) → SeatAgrees x seat → seat.held ≡ seat.taken ++ rest → seat.slave.node.out.box ≡ None →
+  drain_over : (from : ℕ) (seat : Seat V M Q R) (rest : List M) (target frame : ℕ) (told : List (Act M)) → SeatAgrees x seat → seat.held ≡ seat.taken ++ rest → seat.slave.node.out.box ≡ None →
       StagedBy table from seat.slave.registers.state rest seat.side.halves.out.holding target Stage.Drains told → rest ≡ []
-  drained from seat rest target frame told agrees held box stage = elim stage.2 [
+  drain_over from seat rest target frame told agrees held box stage = elim stage.2 [
     | inl idle ↦ append_cancel seat.taken rest [] (sym held ∙ sym (all_taken (link_of seat) agrees box idle) ∙ sym (append-nil seat.taken))
     | inr none ↦ none
   ]
@@ -200,7 +212,7 @@ module _ {V A M Q R : Type 0} (x : Exchange V A M Q R) (law : IsLawful x) (s : S
             last = r.last;
             now = row_told (Act.Word n.target) r.now;
             moment = w.moment;
-            started = starts_now x law s table stated (r.front ++ r.last) (row_told (Act.Word n.target) r.now) r.now refl ∙ r.started ∙ sym e;
+            started = starts_now (r.front ++ r.last) (row_told (Act.Word n.target) r.now) r.now refl ∙ r.started ∙ sym e;
             mails_last = r.mails_last;
             place = inr (record {
               target = n.target;
@@ -215,14 +227,14 @@ module _ {V A M Q R : Type 0} (x : Exchange V A M Q R) (law : IsLawful x) (s : S
         (subst (λ h. Staged table from' seat.slave.registers.state c.rest seat.side.halves.out.holding n.target r.now.frame h r.now.told) (sym f) (stage.0, worded.0))
   ]
 
-  -- THE ACCOUNT behind a frame, at the seat before it; `from_of` has the AL state behind the state services that are over
-  pub carried_account : (from_of : List (Change R) → ℕ) (seat : Seat V M Q R) (a b : Account Q R) (n : Registers) (frame : ℕ) (ss : List (News M)) → x.ready seat.start ≡ true → SeatAgrees x seat →
-      Served seat.slave.registers n seat.slave.node.out.box frame a b ss → ((duty : Duty) → a.hand ≡ Some duty → b.hand ≡ None → seat.slave.registers.state ≡ state_behind table (from_of a.over) duty.target) →
-      Carried x law s table (from_of a.over) seat a → Carried x law s table (from_of b.over) seat b
-  carried_account from_of seat a b n frame ss ready agrees served closes c = go served
+  -- THE ACCOUNT behind a frame, at the seat before it; `al` is the AL state at the end of bring-up
+  pub carried_account : (al : ℕ) (seat : Seat V M Q R) (a b : Account Q R) (n : Registers) (frame : ℕ) (ss : List (News M)) → x.ready seat.start ≡ true → SeatAgrees x seat →
+      Served seat.slave.registers n seat.slave.node.out.box frame a b ss → (b.hand ≡ None → seat.slave.registers.state ≡ state_over table al b.over) →
+      Carried x law s table (state_over table al a.over) seat a → Carried x law s table (state_over table al b.over) seat b
+  carried_account al seat a b n frame ss ready agrees served stands c = go served
     where
       from : ℕ
-      from = from_of a.over
+      from = state_over table al a.over
 
       stage_of : (target begun : ℕ) (stage : Stage) → a ≡ goes_on a target begun stage → (r : Rowed x law s table from seat a c.taken c.rest) → (p : StateNow x law s table from seat.slave.registers.state c.rest seat.side a.hand (r.front ++ r.last) r.now) →
           Staged table from seat.slave.registers.state c.rest seat.side.halves.out.holding p.target r.now.frame (Some (duty_of target begun stage)) r.now.told
@@ -236,21 +248,179 @@ module _ {V A M Q R : Type 0} (x : Exchange V A M Q R) (law : IsLawful x) (s : S
           let st = stage_of target begun stage e k.0 k.1 in
           restaged from from seat a (goes_on a target begun next) c k.0 k.1 refl (st.0, st.1, change k.1.target k.0.now.told st.2)
 
-      answered : (target begun : ℕ) (phase : Phase) → a ≡ goes_on a target begun (Stage.Goes phase) → (turn : Turn R) → b ≡ account_by frame a (duty_of target begun (Stage.Goes phase)) (turn_progress turn) → Carried x law s table (from_of b.over) seat b
+      answered : (target begun : ℕ) (phase : Phase) → a ≡ goes_on a target begun (Stage.Goes phase) → (turn : Turn R) → b ≡ account_by frame a (duty_of target begun (Stage.Goes phase)) (turn_progress turn) → Carried x law s table (state_over table al b.over) seat b
       answered target begun phase e (Turn.Goes next) f =
-          subst (λ b. Carried x law s table (from_of b.over) seat b) (sym f) (to_stage target begun (Stage.Goes phase) (Stage.Goes next) e (λ p told h. h))
+          subst (λ b. Carried x law s table (state_over table al b.over) seat b) (sym f) (to_stage target begun (Stage.Goes phase) (Stage.Goes next) e (λ p told h. h))
       answered target begun phase e (Turn.Ends answer) f =
           let hand = ap (λ (a : Account Q R). a.hand) e in
           let k = in_hand from seat a c (duty_of target begun (Stage.Goes phase)) hand in
           let st = stage_of target begun (Stage.Goes phase) e k.0 k.1 in
-          closed from (from_of b.over) seat a b ready c k.0 k.1 (ap (λ (b : Account Q R). b.started) f) (ap (λ (b : Account Q R). b.hand) f) phase st.2
-          (closes (duty_of target begun (Stage.Goes phase)) hand (ap (λ (b : Account Q R). b.hand) f) ∙ ap (state_behind table from) st.0)
+          let over : state_over table al b.over ≡ state_behind table from target = ap (λ (b : Account Q R). state_over table al b.over) f ∙ state_over-push table al a.over _ in
+          closed from (state_over table al b.over) seat a b ready c k.0 k.1 (ap (λ (b : Account Q R). b.started) f) (ap (λ (b : Account Q R). b.hand) f) phase st.2
+          (stands (ap (λ (b : Account Q R). b.hand) f) ∙ over ∙ ap (state_behind table from) st.0)
 
-      go : Served seat.slave.registers n seat.slave.node.out.box frame a b ss → Carried x law s table (from_of b.over) seat b
-      go (Served.stays e f g) = subst (λ b. Carried x law s table (from_of b.over) seat b) (sym f) c
+      go : Served seat.slave.registers n seat.slave.node.out.box frame a b ss → Carried x law s table (state_over table al b.over) seat b
+      go (Served.stays e f g) = subst (λ b. Carried x law s table (state_over table al b.over) seat b) (sym f) c
       go (Served.drained target begun is box e f g) =
-          subst (λ b. Carried x law s table (from_of b.over) seat b) (sym f)
-          (to_stage target begun Stage.Drains (Stage.Goes Phase.Ask) is (λ p told h. (drained from seat c.rest p begun told agrees c.held_is box h, inl (h.0, h.1))))
+          subst (λ b. Carried x law s table (state_over table al b.over) seat b) (sym f)
+          (to_stage target begun Stage.Drains (Stage.Goes Phase.Ask) is (λ p told h. (drain_over from seat c.rest p begun told agrees c.held_is box h, inl (h.0, h.1))))
       go (Served.wrote target begun phase is writes e f g) =
-          subst (λ b. Carried x law s table (from_of b.over) seat b) (sym f) (to_stage target begun (Stage.Goes phase) _ is (λ p told h. h))
+          subst (λ b. Carried x law s table (state_over table al b.over) seat b) (sym f) (to_stage target begun (Stage.Goes phase) _ is (λ p told h. h))
       go (Served.looked target begun phase is reads e f g) = answered target begun phase is (shown target phase seat.slave.registers.state seat.slave.registers.refused) f
+
+  -- MAILS ARE HEARD
+
+  answer_shown : (frame : ℕ) (answer : Option (R × ℕ)) (found : Option R) → answer_after frame (as_outcome answer) (option_map (λ r. Outcome.Replied r) found) ≡ as_outcome (answer_after frame answer found)
+  answer_shown frame (Some answer) found = refl
+  answer_shown frame None None = refl
+  answer_shown frame None (Some r) = refl
+
+  shows_heard : (frame : ℕ) (ms : List M) (g : GhostRow M Q R) (r : Row M Q R) → Shows g r → Shows (row_heard (with_states x s table) frame (acts ms) g) (row_heard x frame ms r)
+  shows_heard frame ms g r h =
+      let all : g.heard ++ acts ms ≡ acts (r.heard ++ ms) = ap (λ l. l ++ acts ms) h.heard ∙ sym (acts_append r.heard ms) in
+      let found : service_ends x g.service (plain (act_emission x.emission) (g.heard ++ acts ms)) ≡ option_map (λ r. Outcome.Replied r) (x.ends r.service (plain x.emission (r.heard ++ ms))) =
+      ap₂ (λ (q : Service Q) (l : List (Act M)). service_ends x q l) h.service (ap (plain (act_emission x.emission)) all ∙ plain_acts x.emission (r.heard ++ ms))
+      ∙ ap (λ l. ends_by x r.service l) (all_acts (plain x.emission (r.heard ++ ms))) in
+      record {
+        service = h.service;
+        frame = h.frame;
+        told = h.told;
+        heard = all;
+        answer = ap₂ (λ (a : Option (Outcome R × ℕ)) (f : Option (Outcome R)). answer_after frame a f) h.answer found ∙ answer_shown frame r.answer (x.ends r.service (plain x.emission (r.heard ++ ms)));
+      }
+
+  stays_unanswered : (frame : ℕ) (answer : Option (R × ℕ)) (found : Option R) → found ≡ None → answer_after frame answer found ≡ answer
+  stays_unanswered frame (Some answer) found e = refl
+  stays_unanswered frame None found e = ap (answer_after frame None) e
+
+  -- a row that rests hears emissions alone
+  rested_heard : (frame : ℕ) (ms : List M) (r : Row M Q R) → plain x.emission ms ≡ [] → RestedRow x law r → RestedRow x law (row_heard x frame ms r) × (label_of (row_heard x frame ms r) ≡ label_of r)
+  rested_heard frame ms r e k =
+      let same : plain x.emission (r.heard ++ ms) ≡ plain x.emission r.heard = plain-append x.emission r.heard ms ∙ ap (λ l. plain x.emission r.heard ++ l) e ∙ append-nil (plain x.emission r.heard) in
+      let found = x.ends r.service (plain x.emission (r.heard ++ ms)) in
+      let nothing : left x (row_heard x frame ms r) ≡ [] = ap (λ hs. drop (length r.told) (x.planned r.service hs)) same ∙ k.left in
+      elim k.done [
+        | inl b ↦
+            let answer : answer_after frame r.answer found ≡ Some b.0.0 = ap (λ o. answer_after frame o found) b.0.1 in
+            (record { left = nothing; done = inl ((b.0.0, answer), b.1) }, ap (λ o. record { service = r.service; frame = r.frame; answer = as_outcome o }) (answer ∙ sym b.0.1))
+        | inr h ↦
+            let f : Facts x law r = h.1 in
+            let none = stays_unanswered frame r.answer found (law.unanswered r.service (plain x.emission (r.heard ++ ms)) h.0) in
+            (record { left = nothing; done = inr (h.0, record { silent = same ∙ f.silent; mine = f.mine; some = f.some }) }, ap (λ o. record { service = r.service; frame = r.frame; answer = as_outcome o }) none)
+      ]
+
+  rests_heard : (frame : ℕ) (ms : List M) (past : List (Row M Q R)) (now : Option (Row M Q R)) → plain x.emission ms ≡ [] → Rested x law past now →
+      (let more = option_map (λ r. row_heard x frame ms r) now in Rested x law past more × (labels_of (past ++ newest more) ≡ labels_of (past ++ newest now)))
+  rests_heard frame ms past None e k = (k, refl)
+  rests_heard frame ms past (Some r) e k =
+      let h = rested_heard frame ms r e k in
+      (h.0, labels_append past (row_heard x frame ms r ∷ []) ∙ ap (λ l. labels_of past ++ l ∷ []) h.1 ∙ sym (labels_append past (r ∷ [])))
+
+  -- while a state service is the newest no reply is heard
+  quiet : (v : V) → x.ready v ≡ true → (front last : List (GhostRow M Q R)) (g : GhostRow M Q R) (held taken accepted : List (Act M)) (target : ℕ) (ms : List M) (before : List (Act M)) → g.service ≡ Service.State target → g.heard ≡ before ++ acts ms →
+      Moment (with_states x s table) (counting v) front last g held taken accepted → plain x.emission ms ≡ []
+  quiet v ready front last g held taken accepted target ms before service heard at =
+      let y = with_states x s table in
+      let f = facts_of y (stated_law x s table stated law) (counting v) ready (front ++ last) (Some g) held taken accepted (record { front = front; last = last; split = refl; moment = at }) (ap (service_handed x) service) in
+      let none = sym (plain-append (act_emission x.emission) before (acts ms)) ∙ ap (plain (act_emission x.emission)) (sym heard) ∙ f.silent in
+      acts_same (plain x.emission ms) [] (sym (plain_acts x.emission ms) ∙ (append_none _ _ none).1)
+
+  pub carried_hears : (from : ℕ) (seat : Seat V M Q R) (a : Account Q R) (frame : ℕ) (back : List (Datagram M)) → x.ready seat.start ≡ true →
+      (let t = record seat { side = side_back x frame seat.station back seat.side; accepted = seat.accepted ++ Frames.all_accepted seat.station seat.side.halves (grams back) } in
+      SeatAgrees x t → Carried x law s table from seat a → Carried x law s table from t a)
+  carried_hears from seat a frame back ready agrees c =
+      record {
+        taken = c.taken;
+        rest = c.rest;
+        taken_is = c.taken_is;
+        held_is = c.held_is;
+        serves = c.serves;
+        gave = c.gave;
+        state = c.state;
+        rows = elim c.rows [
+          | inl u ↦ inl (record { started = u.started; hand = u.hand; past = u.past; now = ap (option_map (λ r. row_heard x frame ms r)) u.now; held = u.held; none = u.none })
+          | inr r ↦ inr (record {
+            front = r.front;
+            last = r.last;
+            now = row_heard (with_states x s table) frame (acts ms) r.now;
+            moment = heard_at r;
+            started = starts_now (r.front ++ r.last) (row_heard (with_states x s table) frame (acts ms) r.now) r.now refl ∙ r.started;
+            mails_last = r.mails_last;
+            place = elim r.place [
+              | inl p ↦ inl (record { row = row_heard x frame ms p.row; is = ap (option_map (λ r. row_heard x frame ms r)) p.is; shows = shows_heard frame ms r.now p.row p.shows; past = p.past; free = p.free })
+              | inr p ↦
+                  let silent = quiet seat.start ready r.front r.last (row_heard (with_states x s table) frame (acts ms) r.now) (c.taken ++ acts c.rest) c.taken (acts (seat.accepted ++ ms)) p.target ms r.now.heard p.service refl (heard_at r) in
+                  let k = rests_heard frame ms seat.side.past seat.side.now silent p.rested in
+                  inr (record {
+                    target = p.target;
+                    service = p.service;
+                    past = p.past ∙ sym k.1;
+                    rested = k.0;
+                    stage = staged_on table from seat.slave.registers.state c.rest c.rest seat.side.halves.out.holding _ p.target r.now.frame a.hand r.now.told (λ e. e) (idle_back seat.station seat.side.halves back) p.stage;
+                  })
+            ];
+          })
+        ];
+      }
+    where
+      ms : List M
+      ms = Frames.all_accepted seat.station seat.side.halves (grams back)
+
+      given_more : IsPrefixOf (acts seat.accepted ++ acts ms) (given (with_states x s table).serve (counting seat.start) c.taken)
+      given_more = subst (λ l. IsPrefixOf l (given (with_states x s table).serve (counting seat.start) c.taken)) (acts_append seat.accepted ms)
+          (accepted_begin (seat.accepted ++ ms) seat.offered seat.slave.node.server.waiting _ c.gave
+          (accepted_of_offered (link_of (record seat { side = side_back x frame seat.station back seat.side; accepted = seat.accepted ++ ms })) agrees))
+
+      heard_at : (r : Rowed x law s table from seat a c.taken c.rest) → Moment (with_states x s table) (counting seat.start) r.front r.last (row_heard (with_states x s table) frame (acts ms) r.now) (c.taken ++ acts c.rest) c.taken (acts (seat.accepted ++ ms))
+      heard_at r = same_moment (with_states x s table) (counting seat.start) r.front r.last (row_heard (with_states x s table) frame (acts ms) r.now) _ _ c.taken c.taken _ _ refl refl (sym (acts_append seat.accepted ms))
+          (Moments.hears (with_states x s table) (stated_law x s table stated law) (counting seat.start) ready r.front r.last r.now (c.taken ++ acts c.rest) c.taken (acts seat.accepted) r.moment (acts ms) frame given_more)
+
+  -- A FRAME THAT CAME BACK
+  pub carried_back : (al : ℕ) (seat : Seat V M Q R) (a b : Account Q R) (n : Registers) (frame : ℕ) (ss : List (News M)) (ds back : List (Datagram M)) → x.ready seat.start ≡ true → SeatAgrees x seat → SeatAgrees x (seat_back x frame seat ds back) →
+      Served seat.slave.registers n seat.slave.node.out.box frame a b ss → (b.hand ≡ None → (slave_after seat.station seat.slave ds).registers.state ≡ state_over table al b.over) →
+      Carried x law s table (state_over table al a.over) seat a → Carried x law s table (state_over table al b.over) (seat_back x frame seat ds back) b
+  carried_back al seat a b n frame ss ds back ready agrees behind served stands c =
+      let slave = slave_after seat.station seat.slave ds in
+      let same = state_after seat.station seat.slave ds in
+      let k = carried_account al seat a b n frame ss ready agrees served (λ e. sym same ∙ stands e) c in
+      carried_hears (state_over table al b.over) (record seat { slave = slave }) b frame back ready behind (carried_slave (state_over table al b.over) seat b slave (server_after seat.station seat.slave ds) same k)
+
+  -- A LOST FRAME, that the slave missed
+  pub carried_missed : (from : ℕ) (seat : Seat V M Q R) (a : Account Q R) (sent : List (Datagram M)) → Carried x law s table from seat a → Carried x law s table from (record seat { side = side_lost seat.station sent seat.side }) a
+  carried_missed from seat a sent c = record {
+    taken = c.taken;
+    rest = c.rest;
+    taken_is = c.taken_is;
+    held_is = c.held_is;
+    serves = c.serves;
+    gave = c.gave;
+    state = c.state;
+    rows = elim c.rows [
+      | inl u ↦ inl (record { started = u.started; hand = u.hand; past = u.past; now = u.now; held = u.held; none = u.none })
+      | inr r ↦ inr (record {
+        front = r.front;
+        last = r.last;
+        now = r.now;
+        moment = r.moment;
+        started = r.started;
+        mails_last = r.mails_last;
+        place = elim r.place [
+          | inl p ↦ inl (record { row = p.row; is = p.is; shows = p.shows; past = p.past; free = p.free })
+          | inr p ↦ inr (record {
+            target = p.target;
+            service = p.service;
+            past = p.past;
+            rested = p.rested;
+            stage = staged_on table from seat.slave.registers.state c.rest c.rest seat.side.halves.out.holding _ p.target r.now.frame a.hand r.now.told (λ e. e)
+                (λ e. ap (λ o. o.holding) (losts_out seat.station seat.side.halves (grams sent)) ∙ e) p.stage;
+          })
+        ];
+      })
+    ];
+  }
+
+  -- or met
+  pub carried_met : (from : ℕ) (seat : Seat V M Q R) (a : Account Q R) (sent ds : List (Datagram M)) → Carried x law s table from seat a → Carried x law s table from (record seat { side = side_lost seat.station sent seat.side; slave = slave_after seat.station seat.slave ds }) a
+  carried_met from seat a sent ds c =
+      let slave = slave_after seat.station seat.slave ds in
+      carried_missed from (record seat { slave = slave }) a sent (carried_slave from seat a slave (server_after seat.station seat.slave ds) (state_after seat.station seat.slave ds) c)
