@@ -4,7 +4,7 @@ use Rattle.exchange_model.specs.Prefix.{IsPrefixOf}
 use Rattle.exchange_model.specs.Exchange.{Exchange, after, given}
 use Rattle.exchange_model.proofs.Words.{after-append, given-append}
 use Rattle.link_model.specs.Mails.{LinkMail}
-use Rattle.link_model.specs.Slave.{all_taken, all_given, mail_offered, node_look, node_take, node_takes, node_offers}
+use Rattle.link_model.specs.Slave.{Node, all_taken, all_given, mail_offered, node_look, node_take, node_takes, node_offers, node_serve}
 use Rattle.link_model.specs.Link.{Link, Fate, Event, run, pdi, out_sent, in_sent, new_link}
 use Rattle.link_model.specs.Frames.{Ask, Gram, event_of, events_of}
 use Rattle.link_model.specs.Agree.{Agrees}
@@ -42,18 +42,28 @@ module _ {V A M Q R : Type 0} (x : Exchange V A M Q R) where
   offered_next v None None [] = refl
   offered_next v None None (w ∷ ws) = refl
 
+  -- the server behind steps 4 and 5, and what it gave
+  pub served_server : (n : Node M (Serving V M)) → (node_serve (serving x) n).server.server ≡ after x.serve n.server.server (node_takes (serving x) n)
+  served_server n =
+      let k = node_take (serving x) n in
+      given_server k.server (node_offers (serving x) k) ∙ taken_server n.server (node_takes (serving x) n)
+
+  pub served_gives : (offered : List M) (n : Node M (Serving V M)) →
+      (offered ++ node_offers (serving x) (node_take (serving x) n)) ++ (node_serve (serving x) n).server.waiting ≡ (offered ++ n.server.waiting) ++ given x.serve n.server.server (node_takes (serving x) n)
+  served_gives offered n =
+      let k = node_take (serving x) n in
+      append_assoc offered (node_offers (serving x) k) _
+      ∙ ap (λ l. offered ++ l) (offered_next k.server.server k.inn.box k.inn.withdrawn k.server.waiting ∙ taken_waiting n.server (node_takes (serving x) n))
+      ∙ sym (append_assoc offered n.server.waiting _)
+
   step_serves : (v : V) (w : Link M (Serving V M)) → Serves v w → Serves v (pdi (serving x) w)
   step_serves v w p =
       let n = node_look w.node in
       let takes = node_takes (serving x) n in
-      let k = node_take (serving x) n in
-      let offers = node_offers (serving x) k in
       record {
-        server = given_server k.server offers ∙ taken_server w.node.server takes ∙ ap (λ s. after x.serve s takes) p.server ∙ sym (after-append x.serve v w.taken takes);
+        server = served_server n ∙ ap (λ s. after x.serve s takes) p.server ∙ sym (after-append x.serve v w.taken takes);
         gave =
-            append_assoc w.offered offers _
-            ∙ ap (λ l. w.offered ++ l) (offered_next k.server.server k.inn.box k.inn.withdrawn k.server.waiting ∙ taken_waiting w.node.server takes)
-            ∙ sym (append_assoc w.offered w.node.server.waiting _)
+            served_gives w.offered n
             ∙ ap (λ l. l ++ given x.serve w.node.server.server takes) p.gave
             ∙ ap (λ s. given x.serve v w.taken ++ given x.serve s takes) p.server
             ∙ sym (given-append x.serve v w.taken takes);

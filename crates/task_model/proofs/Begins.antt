@@ -21,7 +21,7 @@ use Rattle.state_exchange.proofs.Acts.{acts_append, acts_length, acts_same, acts
 use Rattle.state_exchange.proofs.StatedLaw.{stated_law}
 use Rattle.state_exchange.proofs.Takens.{answered_taken}
 use Rattle.task_model.specs.Accounts.{Account, Duty, Pick, mails_begin, mails_choice, is_free, is_acknowledged, starts, state_begins, account_begins, account_next}
-use Rattle.task_model.proofs.Ghosts.{GhostRow, counting, start_of, starts_of, label_of, labels_of, label_by, mail_labels, Shows, Rested, RestedRow, Staged, MailsNow, StateNow, Now, Rowed, Untouched, Carried, starts_append, labels_append, mail_labels_append, shown_label, state_label}
+use Rattle.task_model.proofs.Ghosts.{GhostRow, counting, start_of, starts_of, label_of, labels_of, label_by, mail_labels, Shows, Rested, RestedRow, Staged, MailsNow, StateNow, Now, Rowed, Untouched, Carried, starts_append, starts_now, labels_append, mail_labels_append, shown_label, state_label}
 
 -- what was accepted was given
 pub accepted_begin : {M : Type 0} (accepted offered waiting : List M) (g : List (Act M)) → g ≡ acts (offered ++ waiting) → Mails.IsPrefixOf accepted offered → IsPrefixOf (acts accepted) g
@@ -337,9 +337,6 @@ module _ {V A M Q R : Type 0} (x : Exchange V A M Q R) (law : IsLawful x) (s : S
   -- a seat that takes these mails up
   abbrev holds_of : Seat V M Q R → List M → Seat V M Q R
   holds_of seat ms = record seat { side = side_holds seat.side ms; held = seat.held ++ ms }
-
-  starts_now : (before : List (GhostRow M Q R)) (g h : GhostRow M Q R) → start_of g ≡ start_of h → starts_of (before ++ g ∷ []) ≡ starts_of (before ++ h ∷ [])
-  starts_now before g h e = starts_append before (g ∷ []) ∙ ap (λ l. starts_of before ++ l ∷ []) e ∙ sym (starts_append before (h ∷ []))
 
   -- one mail is taken up
   holds_mail : (from : ℕ) (seat : Seat V M Q R) (a : Account Q R) → x.ready seat.start ≡ true → (c : Carried x law s table from seat a) (r : Rowed x law s table from seat a c.taken c.rest) → (p : MailsNow seat.side a.hand (r.front ++ r.last) r.now) → (m : M) (more : List M) →

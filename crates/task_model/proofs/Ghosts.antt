@@ -159,3 +159,7 @@ shown_label g r h = ap (λ q. label_by g q) h.service ∙ (λ i. record { servic
 
 pub state_label : {M Q R : Type 0} (g : GhostRow M Q R) (target : ℕ) → g.service ≡ Service.State target → label_by g g.service ≡ []
 state_label g target e = ap (λ q. label_by g q) e
+
+-- rows that differ in mails alone
+pub starts_now : {M Q R : Type 0} (before : List (GhostRow M Q R)) (g h : GhostRow M Q R) → start_of g ≡ start_of h → starts_of (before ++ g ∷ []) ≡ starts_of (before ++ h ∷ [])
+starts_now before g h e = starts_append before (g ∷ []) ∙ ap (λ l. starts_of before ++ l ∷ []) e ∙ sym (starts_append before (h ∷ []))

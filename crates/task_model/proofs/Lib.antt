@@ -6,6 +6,7 @@ pub mod Walks
 pub mod Turns
 pub mod Ghosts
 pub mod Begins
+pub mod Moves
 pub mod Splits
 pub mod Completed
 pub mod Replies
