@@ -26,8 +26,9 @@ use Rattle.task_model.proofs.Stately.{Stately, state_over, free_state}
 use Rattle.task_model.proofs.Walks.{EachOne, IsPlaced, AllApart, SeatMet, seats_apart, all_apart, all_reach, each_map, each_both, each_next, each_back, each_lost, each_steps}
 use Rattle.task_model.proofs.Turns.{IsStately, next_is, back_is, lost_is, missed_is, step_is, new_is}
 use Rattle.task_model.proofs.Ghosts.{Carried}
-use Rattle.task_model.proofs.Begins.{sided, carried_begins, carried_next}
-use Rattle.task_model.proofs.Completed.{Completed, completed_frame, completed_next, completed_back}
+use Rattle.task_model.proofs.Begins.{carried_begins, carried_next}
+use Rattle.task_model.proofs.Moves.{carried_back, carried_missed, carried_met}
+use Rattle.task_model.proofs.Completed.{Completed, over_next, completed_frame, completed_next, completed_back}
 use Rattle.task_model.proofs.Newest.{Holds, side_facts, newest_over}
 use Rattle.task_model.proofs.Promised.{promised}
 use Rattle.task_model.proofs.Resting.{rests}
@@ -105,7 +106,8 @@ module _ {V A M Q R : Type 0} (x : Exchange V A M Q R) (law : IsLawful x) (s : S
       let side = side_begins x (length fs) seat.side seat.side.now (mails_begin a.hand pick.begin) in
       let b = account_begins x s.acknowledged (length fs) seat.side a a.hand pick.begin in
       record {
-        carried = ?c1;
+        carried = subst (λ os. Carried x law s (table p.station) (state_over (table p.station) p.registers.state os) (seat_next x (length fs) seat (mails_choice a pick)) (account_next x s.acknowledged (length fs) seat.side a pick))
+            (sym (over_next x s.acknowledged (length fs) seat.side a pick)) (carried_next x law s (table p.station) stated from seat a (length fs) pick k.ready k.agrees stands h.carried);
         posts = next_posts x law seat.station fs seat.side (mails_choice a pick)
             (side_facts x law s stated (table p.station) more p.registers.state k.is.brought.sits fs seat a k.ready from h.carried)
             (side_facts x law s stated (table p.station) more p.registers.state k.is.brought.sits fs (record seat { side = side }) b k.ready from began)
@@ -133,20 +135,24 @@ module _ {V A M Q R : Type 0} (x : Exchange V A M Q R) (law : IsLawful x) (s : S
   back_whole : (fs : List (Frame M)) (f : Frame M) → ((station : ℕ) → writes station (grams f.back) ≡ writes station (grams f.sent)) → (p : Planned V) (seat : Seat V M Q R) (a : Account Q R) (ds : List (Datagram M)) →
       IsPlaced p seat a → SeatMet (length fs) p seat a ds f.back → Behind (fs ++ f ∷ []) (seat_back x (length fs) seat ds f.back) → Sent fs f.sent p seat a →
       Whole (fs ++ f ∷ []) p (seat_back x (length fs) seat ds f.back) (account_back seat.station (length fs) a f.back)
-  back_whole fs f same p seat a ds placed met now k = record {
-    is = back_is x s processor table fs f p seat a ds placed met tt k.1.is;
-    ready = k.1.ready;
-    start = k.1.start;
-    agrees = now.0;
-    records = now.1;
-    carries = λ answers. (
-        let c = k.1.carries answers in
-        record {
-          carried = ?c2;
-          posts = back_posts x law seat.station fs f seat.side (same seat.station) (frame_tells seat.station (kept_of seat.station fs).told seat.side.halves (grams f.sent) k.0) c.posts;
-          completed = completed_back x more seat.station (fs ++ f ∷ []) (length fs) a f.back (completed_frame x more seat.station fs f a.started c.completed);
-        });
-  }
+  back_whole fs f same p seat a ds placed met now k =
+      let kept = back_is x s processor table fs f p seat a ds placed met tt k.1.is in
+      record {
+        is = kept;
+        ready = k.1.ready;
+        start = k.1.start;
+        agrees = now.0;
+        records = now.1;
+        carries = λ answers. (
+            let c = k.1.carries answers in
+            record {
+              carried = carried_back x law s (table p.station) stated p.registers.state seat a (account_back seat.station (length fs) a f.back) _ (length fs) _ ds f.back k.1.ready k.1.agrees now.0 (met.served answers 0)
+                  (λ none. (free_state (table p.station) p.registers.state kept.brought.sits seat.station (fs ++ f ∷ []) (slave_after seat.station seat.slave ds).registers (account_back seat.station (length fs) a f.back) (kept.stately answers) none).0)
+                  c.carried;
+              posts = back_posts x law seat.station fs f seat.side (same seat.station) (frame_tells seat.station (kept_of seat.station fs).told seat.side.halves (grams f.sent) k.0) c.posts;
+              completed = completed_back x more seat.station (fs ++ f ∷ []) (length fs) a f.back (completed_frame x more seat.station fs f a.started c.completed);
+            });
+      }
 
   -- A LOST FRAME
   lost_whole : (fs : List (Frame M)) (f : Frame M) → f.back ≡ [] → (p : Planned V) (seat : Seat V M Q R) (a : Account Q R) (ds : List (Datagram M)) → (let t = record seat { side = side_lost seat.station f.sent seat.side; slave = slave_after seat.station seat.slave ds } in
@@ -160,7 +166,7 @@ module _ {V A M Q R : Type 0} (x : Exchange V A M Q R) (law : IsLawful x) (s : S
     carries = λ answers. (
         let c = k.1.carries answers in
         record {
-          carried = ?c3;
+          carried = carried_met x law s (table p.station) stated (state_over (table p.station) p.registers.state a.over) seat a f.sent ds c.carried;
           posts = lost_posts x law seat.station fs f seat.side e (frame_tells seat.station (kept_of seat.station fs).told seat.side.halves (grams f.sent) k.0) c.posts;
           completed = completed_frame x more seat.station fs f a.started c.completed;
         });
@@ -177,7 +183,7 @@ module _ {V A M Q R : Type 0} (x : Exchange V A M Q R) (law : IsLawful x) (s : S
     carries = λ answers. (
         let c = k.1.carries answers in
         record {
-          carried = ?c4;
+          carried = carried_missed x law s (table p.station) stated (state_over (table p.station) p.registers.state a.over) seat a f.sent c.carried;
           posts = lost_posts x law seat.station fs f seat.side e (frame_tells seat.station (kept_of seat.station fs).told seat.side.halves (grams f.sent) k.0) c.posts;
           completed = completed_frame x more seat.station fs f a.started c.completed;
         });
