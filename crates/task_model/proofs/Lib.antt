@@ -15,3 +15,4 @@ pub mod Newest
 pub mod Promised
 pub mod Resting
 pub mod Sessions
+mod ToyRun

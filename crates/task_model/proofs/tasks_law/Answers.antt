@@ -1,6 +1,13 @@
 -- The lemmas on sessions with accounts, at the types of the function.
 use Rattle.task_model.proofs.Splits.{tasked_bound}
+use Rattle.task_model.proofs.Sessions.{tasks_promised, tasks_rest}
 use Rattle.task_model.proofs.tasks_law.Goals as goal
+
+pub returns-clause-promised : goal.returns-clause-promised
+returns-clause-promised g c = λ x law s stated table more processor ps plan ds accounts ns fs b. tasks_promised x law s stated processor table more plan.tells ps plan ds accounts ns fs b
+
+pub returns-clause-rests : goal.returns-clause-rests
+returns-clause-rests g c = λ x law s stated table more processor ps plan ds accounts ns fs b. tasks_rest x law s stated processor table more plan.tells ps plan ds accounts ns fs b
 
 pub returns-clause-mails : goal.returns-clause-mails
 returns-clause-mails g c = λ x s processor ps ds accounts ns fs b. tasked_bound x s.acknowledged processor ps ds accounts ns fs b
