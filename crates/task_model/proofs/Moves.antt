@@ -81,7 +81,7 @@ idle_back : {M : Type 0} (station : ℕ) (h : Halves M) (ds : List (Datagram M))
 idle_back station h ds e = back_frees station 0 h ds ∙ none_if (has_written (Record.back_news station 0 ds)) h.out.holding e
 
 -- a stage where the half stays idle, and nothing more is held untaken
-staged_on : {M : Type 0} (table : Table) (from state : ℕ) (rest more : List M) (holding now : Option (LinkMail M)) (target frame : ℕ) (hand : Option Duty) (told : List (Act M)) → (rest ≡ [] → more ≡ []) → (holding ≡ None → now ≡ None) →
+pub staged_on : {M : Type 0} (table : Table) (from state : ℕ) (rest more : List M) (holding now : Option (LinkMail M)) (target frame : ℕ) (hand : Option Duty) (told : List (Act M)) → (rest ≡ [] → more ≡ []) → (holding ≡ None → now ≡ None) →
     Staged table from state rest holding target frame hand told → Staged table from state more now target frame hand told
 staged_on table from state rest more holding now target frame None told f g st = (f st.0, st.1)
 staged_on {M} table from state rest more holding now target frame (Some duty) told f g st = (st.0, st.1, stage duty.stage st.2)
@@ -122,7 +122,7 @@ module _ {V A M Q R : Type 0} (x : Exchange V A M Q R) (law : IsLawful x) (s : S
   -- THE STATE SERVICE IN HAND
 
   -- where one is in hand its row is the newest
-  in_hand : (from : ℕ) (seat : Seat V M Q R) (a : Account Q R) (c : Carried x law s table from seat a) (duty : Duty) → a.hand ≡ Some duty →
+  pub in_hand : (from : ℕ) (seat : Seat V M Q R) (a : Account Q R) (c : Carried x law s table from seat a) (duty : Duty) → a.hand ≡ Some duty →
       (r : Rowed x law s table from seat a c.taken c.rest) × StateNow x law s table from seat.slave.registers.state c.rest seat.side a.hand (r.front ++ r.last) r.now
   in_hand from seat a c duty e = elim c.rows [
     | inl u ↦ absurd (let bad : None ≡ Some duty = sym u.hand ∙ e in cc)
@@ -156,14 +156,14 @@ module _ {V A M Q R : Type 0} (x : Exchange V A M Q R) (law : IsLawful x) (s : S
   }
 
   -- its control word is told and taken: what the server is behind it, and what it tells
-  record Worded (from : ℕ) (seat : Seat V M Q R) (a : Account Q R) (c : Carried x law s table from seat a) (r : Rowed x law s table from seat a c.taken c.rest) (target : ℕ) : Type 0 where
-    server : (after (with_states x s table).serve (counting seat.start) (c.taken ++ Act.Word target ∷ [])).server ≡ s.tell (state_behind table seat.slave.registers.state target) seat.slave.node.server.server
-    gave : given (with_states x s table).serve (counting seat.start) (c.taken ++ Act.Word target ∷ []) ≡ acts (seat.offered ++ seat.slave.node.server.waiting)
-    mails : mails (c.taken ++ Act.Word target ∷ []) ≡ seat.taken
-    told : r.now.told ++ Act.Word target ∷ [] ≡ Act.Word target ∷ []
-    moment : Moment (with_states x s table) (counting seat.start) r.front r.last (row_told (Act.Word target) r.now) ((c.taken ++ Act.Word target ∷ []) ++ acts c.rest) (c.taken ++ Act.Word target ∷ []) (acts seat.accepted)
+  pub record Worded (from : ℕ) (seat : Seat V M Q R) (a : Account Q R) (c : Carried x law s table from seat a) (r : Rowed x law s table from seat a c.taken c.rest) (target : ℕ) : Type 0 where
+    pub server : (after (with_states x s table).serve (counting seat.start) (c.taken ++ Act.Word target ∷ [])).server ≡ s.tell (state_behind table seat.slave.registers.state target) seat.slave.node.server.server
+    pub gave : given (with_states x s table).serve (counting seat.start) (c.taken ++ Act.Word target ∷ []) ≡ acts (seat.offered ++ seat.slave.node.server.waiting)
+    pub mails : mails (c.taken ++ Act.Word target ∷ []) ≡ seat.taken
+    pub told : r.now.told ++ Act.Word target ∷ [] ≡ Act.Word target ∷ []
+    pub moment : Moment (with_states x s table) (counting seat.start) r.front r.last (row_told (Act.Word target) r.now) ((c.taken ++ Act.Word target ∷ []) ++ acts c.rest) (c.taken ++ Act.Word target ∷ []) (acts seat.accepted)
 
-  word_taken : (from : ℕ) (seat : Seat V M Q R) (a : Account Q R) → x.ready seat.start ≡ true → (c : Carried x law s table from seat a) (r : Rowed x law s table from seat a c.taken c.rest)
+  pub word_taken : (from : ℕ) (seat : Seat V M Q R) (a : Account Q R) → x.ready seat.start ≡ true → (c : Carried x law s table from seat a) (r : Rowed x law s table from seat a c.taken c.rest)
       (n : StateNow x law s table from seat.slave.registers.state c.rest seat.side a.hand (r.front ++ r.last) r.now) → c.rest ≡ [] → r.now.told ≡ [] → Worded from seat a c r n.target
   word_taken from seat a ready c r n none told =
       let y = with_states x s table in
