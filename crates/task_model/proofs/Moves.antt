@@ -1,9 +1,9 @@
 -- The ghost rows over a frame and over a step of the slave's processor: a drain ends, a service is closed, mails are heard and taken, and the
 -- control word is taken where the AL state changes.
-use Rattle.std.proofs.Common.{◌≡◌, ◌⊎◌, inl, inr, ℕ, suc, ◌+◌, ◌≤◌, ◌==◌, Bool, true, false, if◌then◌else◌, Option, None, Some, option_map, List, [], ◌∷◌, ◌++◌, map, drop, length, refl, sym, ap, ap₂, ◌∙◌, subst, append_assoc, append-nil, arith}
+use Rattle.std.proofs.Common.{◌≡◌, inl, inr, ℕ, ◌+◌, ◌==◌, Bool, true, false, if◌then◌else◌, Option, None, Some, option_map, List, [], ◌∷◌, ◌++◌, drop, length, refl, sym, ap, ap₂, ◌∙◌, subst, append-nil}
 use Rattle.exchange_model.specs.Prefix.{IsPrefixOf}
 use Rattle.exchange_model.specs.Exchange.{Exchange, IsLawful, after, given, plain}
-use Rattle.exchange_model.specs.Rows.{Row, row_heard, row_told, answer_after, left, services}
+use Rattle.exchange_model.specs.Rows.{Row, row_heard, row_told, answer_after, left}
 use Rattle.exchange_model.specs.Laws.{Moment}
 use Rattle.exchange_model.proofs.Lists.{append_none, append_cancel}
 use Rattle.exchange_model.proofs.Words.{after-append, given-append, plain-append}
@@ -12,14 +12,13 @@ use Rattle.link_model.specs.Mails.{LinkMail}
 use Rattle.link_model.specs.Link.{Halves}
 use Rattle.link_model.specs.Frames
 use Rattle.link_model.specs.Frames.{Ask, node_meets}
-use Rattle.link_model.specs.Slave.{Node, node_look, node_take, node_takes, node_offers, node_serve}
-use Rattle.link_model.proofs.Law.{taken_of_held, accepted_of_offered}
-use Rattle.segment_model.specs.Slaves.{Serving, serving, Registers, Access, Processor, state_told, Datagram, grams, Slave, is_meant, registers_met, slave_meets, slave_after, slave_steps}
+use Rattle.link_model.specs.Slave.{Node}
+use Rattle.link_model.proofs.Law.{accepted_of_offered}
+use Rattle.segment_model.specs.Slaves.{Serving, Registers, Access, Datagram, grams, Slave, is_meant, registers_met, slave_meets, slave_after}
 use Rattle.segment_model.specs.Record.{News}
 use Rattle.segment_model.specs.Ends.{Outcome}
-use Rattle.segment_model.specs.Seats.{Side, Seat, link_of, newest, rows_of, side_back, side_lost, seat_back, seat_steps}
+use Rattle.segment_model.specs.Seats.{Seat, link_of, newest, side_back, side_lost, seat_back}
 use Rattle.segment_model.specs.Laws.{as_outcome}
-use Rattle.segment_model.proofs.Links.{served_server, served_gives}
 use Rattle.segment_model.proofs.Sounds.{SeatAgrees}
 use Rattle.segment_model.proofs.Rests.{all_taken}
 use Rattle.segment_model.proofs.Written.{has_written, back_frees, losts_out}
@@ -27,14 +26,14 @@ use Rattle.segment_model.specs.Record
 use Rattle.segment_model.proofs.Handed.{Facts, facts_of}
 use Rattle.state_model.specs.States.{Table, Phase, Turn, shown}
 use Rattle.state_model.specs.Promises.{state_behind}
-use Rattle.state_exchange.specs.Stated.{Stated, IsStated, Act, Service, Counting, acts, act_emission, mails, all_mails, ends_by, with_states, service_handed, service_ends}
-use Rattle.state_exchange.proofs.Acts.{acts_append, acts_same, mails_acts, mails_append, all_acts, plain_acts, after_acts, given_acts, state_kept, left_word}
+use Rattle.state_exchange.specs.Stated.{Stated, IsStated, Act, Service, acts, act_emission, mails, ends_by, with_states, service_handed, service_ends}
+use Rattle.state_exchange.proofs.Acts.{acts_append, acts_same, mails_append, all_acts, plain_acts, left_word}
 use Rattle.state_exchange.proofs.StatedLaw.{stated_law}
-use Rattle.task_model.specs.Accounts.{Account, Change, Duty, Stage, account_by, turn_progress}
+use Rattle.task_model.specs.Accounts.{Account, Duty, Stage, account_by, turn_progress}
 use Rattle.task_model.proofs.Served.{Served, Served.stays, Served.drained, Served.wrote, Served.looked, goes_on, duty_of}
 use Rattle.task_model.proofs.Stately.{state_over, state_over-push}
-use Rattle.task_model.proofs.Ghosts.{GhostRow, counting, start_of, starts_of, label_of, labels_of, mail_labels, Shows, Rested, RestedRow, StagedBy, Staged, MailsNow, StateNow, Now, Rowed, Untouched, Carried, starts_append, starts_now, labels_append}
-use Rattle.task_model.proofs.Begins.{accepted_begin, none_behind, same_moment}
+use Rattle.task_model.proofs.Ghosts.{GhostRow, counting, label_of, labels_of, Shows, Rested, RestedRow, StagedBy, Staged, StateNow, Rowed, Carried, starts_now, labels_append}
+use Rattle.task_model.proofs.Begins.{accepted_begin, same_moment}
 
 -- WHAT A SLAVE'S FRAMES LEAVE
 

@@ -1,31 +1,28 @@
--- The ghost rows over a step of the slave's processor, which tells its server the AL state and then serves; at the end of bring-up; and what
--- they say of the newest row by mails.
-use Rattle.std.proofs.Common.{◌≡◌, ◌⊎◌, inl, inr, ℕ, Bool, true, false, Option, None, Some, List, [], ◌∷◌, ◌++◌, refl, sym, ap, ap₂, ◌∙◌, subst, append_assoc}
-use Rattle.exchange_model.specs.Prefix.{IsPrefixOf}
+-- The ghost rows over a step of the slave's processor, which tells its server the AL state and then serves, and at the end of
+-- bring-up.
+use Rattle.std.proofs.Common.{◌≡◌, ◌⊎◌, inl, inr, ℕ, true, Option, None, Some, List, [], ◌∷◌, ◌++◌, refl, sym, ap, ap₂, ◌∙◌, subst, append_assoc}
 use Rattle.exchange_model.specs.Exchange.{Exchange, IsLawful, after, given}
-use Rattle.exchange_model.specs.Rows.{Row, row_told}
-use Rattle.exchange_model.specs.Laws.{Moment}
+use Rattle.exchange_model.specs.Rows.{row_told}
 use Rattle.exchange_model.proofs.Lists.{append_none, append_cancel}
 use Rattle.exchange_model.proofs.Words.{after-append, given-append}
 use Rattle.exchange_model.proofs.Moments
 use Rattle.link_model.specs.Slave.{Node, node_look, node_take, node_takes, node_offers, node_serve}
 use Rattle.link_model.proofs.Law.{taken_of_held}
 use Rattle.segment_model.specs.Slaves.{Serving, serving, Registers, Processor, state_told, Slave}
-use Rattle.segment_model.specs.Seats.{Side, Seat, Planned, link_of, side_begins, seat_steps, new_seat}
+use Rattle.segment_model.specs.Seats.{Seat, Planned, link_of, seat_steps, new_seat}
 use Rattle.segment_model.proofs.Links.{served_server, served_gives}
 use Rattle.segment_model.proofs.Sounds.{SeatAgrees}
-use Rattle.segment_model.proofs.Handed.{Facts, NowFacts}
 use Rattle.state_model.specs.States.{Table, Phase, carry}
 use Rattle.state_model.specs.Promises.{state_behind}
-use Rattle.state_exchange.specs.Stated.{Stated, IsStated, Act, Service, acts, mails, with_states}
+use Rattle.state_exchange.specs.Stated.{Stated, IsStated, Act, acts, mails, with_states}
 use Rattle.state_exchange.proofs.Acts.{acts_append, mails_acts, mails_append, after_acts, given_acts, state_kept}
 use Rattle.state_exchange.proofs.StatedLaw.{stated_law}
-use Rattle.task_model.specs.Accounts.{Account, Duty, Stage, Pick, mails_choice, new_account}
+use Rattle.task_model.specs.Accounts.{Account, Duty, Stage, new_account}
 use Rattle.task_model.proofs.Carries.{StaysOr}
 use Rattle.task_model.proofs.Served.{duty_of}
 use Rattle.task_model.proofs.Stately.{StageStep, StateStep}
-use Rattle.task_model.proofs.Ghosts.{GhostRow, counting, starts_now, Rested, RestedRow, StagedBy, Staged, MailsNow, StateNow, Rowed, Untouched, Carried}
-use Rattle.task_model.proofs.Begins.{same_moment, mails_facts, carried_begins}
+use Rattle.task_model.proofs.Ghosts.{counting, starts_now, Staged, StateNow, Rowed, Carried}
+use Rattle.task_model.proofs.Begins.{same_moment}
 use Rattle.task_model.proofs.Moves.{carried_slave, in_hand, staged_on, word_taken}
 
 -- the AL state stays, or a state service in hand changed it
@@ -195,28 +192,3 @@ module _ {V A M Q R : Type 0} (x : Exchange V A M Q R) (law : IsLawful x) (s : S
     state = sym state;
     rows = inl (record { started = refl; hand = refl; past = refl; now = refl; held = refl; none = refl });
   }
-
-  -- WHAT IS KNOWN of the newest row by mails where it ends with its last write
-  rested_facts : (past : List (Row M Q R)) (now : Option (Row M Q R)) → Rested x law past now → NowFacts x law past now
-  rested_facts past None k = k
-  rested_facts past (Some r) k = elim k.done [
-    | inl b ↦ λ posts. absurd (let bad : true ≡ false = sym posts ∙ b.1 in cc)
-    | inr h ↦ λ posts. h.1
-  ]
-
-  pub carried_facts : (from : ℕ) (seat : Seat V M Q R) (a : Account Q R) → x.ready seat.start ≡ true → Carried x law s table from seat a → NowFacts x law seat.side.past seat.side.now
-  carried_facts from seat a ready c = elim c.rows [
-    | inl u ↦ subst (NowFacts x law seat.side.past) (sym u.now) u.past
-    | inr r ↦ elim r.place [
-      | inl p ↦ subst (NowFacts x law seat.side.past) (sym p.is)
-          (λ posts. mails_facts x law s table stated seat.start ready r.front r.last r.now (c.taken ++ acts c.rest) c.taken (acts seat.accepted) r.moment p.row p.shows posts)
-      | inr p ↦ rested_facts seat.side.past seat.side.now p.rested
-    ]
-  ]
-
-  -- and behind the service that comes into hand
-  pub begin_facts : (from : ℕ) (seat : Seat V M Q R) (a : Account Q R) (frame : ℕ) (pick : Pick Q) → x.ready seat.start ≡ true → SeatAgrees x seat → (a.hand ≡ None → seat.slave.registers.state ≡ from) → Carried x law s table from seat a →
-      NowFacts x law seat.side.past seat.side.now × (let e = side_begins x frame seat.side seat.side.now (mails_choice a pick).begin in NowFacts x law e.past e.now)
-  begin_facts from seat a frame pick ready agrees stands c =
-      let e = side_begins x frame seat.side seat.side.now (mails_choice a pick).begin in
-      (carried_facts from seat a ready c, carried_facts from (record seat { side = e }) _ ready (carried_begins x law s table stated from seat a frame pick.begin ready agrees stands c))
