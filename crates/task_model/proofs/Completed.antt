@@ -14,6 +14,20 @@ use Rattle.task_model.specs.Accounts.{Started, Duty, Change, Account, Pick, Prog
 use Rattle.task_model.specs.Accounts
 use Rattle.task_model.specs.Promise.{task_of, outcome_of, AllRise, AllEnded}
 
+-- a choice ends no state service
+pub over_next : {V A M Q R : Type 0} (x : Exchange V A M Q R) (acknowledged : Q → Bool) (frame : ℕ) (d : Side M Q R) (a : Account Q R) (p : Pick Q) → (account_next x acknowledged frame d a p).over ≡ a.over
+over_next {Q = Q} {R = R} x acknowledged frame d a p = go a.hand p.begin
+  where
+    either : (b : Bool) (c : Account Q R) → c.over ≡ a.over → (if b then c else a).over ≡ a.over
+    either true c e = e
+    either false c e = refl
+
+    go : (hand : Option Duty) (wish : Option (Service Q)) → (account_begins x acknowledged frame d a hand wish).over ≡ a.over
+    go (Some duty) wish = refl
+    go None None = refl
+    go None (Some (Service.Mails q)) = either (x.valid q && is_free x d d.now) (record a { started = starts a (Service.Mails q) frame }) refl
+    go None (Some (Service.State target)) = either (is_free x d d.now && is_acknowledged acknowledged d d.now) (state_begins a target frame) refl
+
 -- what a frame brought back starts nothing
 started_by : {Q R : Type 0} (frame : ℕ) (a : Account Q R) (duty : Duty) (p : Progress R) → (account_by frame a duty p).started ≡ a.started
 started_by frame a duty (Progress.On stage) = refl

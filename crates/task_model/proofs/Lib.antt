@@ -12,3 +12,7 @@ pub mod Splits
 pub mod Completed
 pub mod Replies
 pub mod Dones
+pub mod Newest
+pub mod Promised
+pub mod Resting
+pub mod Sessions

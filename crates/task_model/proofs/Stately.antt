@@ -128,7 +128,7 @@ abbrev pub StateStep : Table → ℕ → Option Duty → Registers → Type 0
 StateStep table from None r = (carry table r).state ≡ r.state
 StateStep table from (Some duty) r = StageStep table from duty.target duty.stage r
 
-states_in-push : {Q : Type 0} (rs : List (Started Q)) (r : Started Q) → states_in (rs ++ r ∷ []) ≡ states_in rs ++ state_of r.service r.frame
+pub states_in-push : {Q : Type 0} (rs : List (Started Q)) (r : Started Q) → states_in (rs ++ r ∷ []) ≡ states_in rs ++ state_of r.service r.frame
 states_in-push [] r = append-nil (state_of r.service r.frame)
 states_in-push (p ∷ rs) r = ap (λ l. state_of p.service p.frame ++ l) (states_in-push rs r) ∙ sym (append_assoc (state_of p.service p.frame) (states_in rs) (state_of r.service r.frame))
 

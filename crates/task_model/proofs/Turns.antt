@@ -27,7 +27,7 @@ module _ {V A M Q R : Type 0} (x : Exchange V A M Q R) (stated : Stated V A Q) (
     pub stately : p.registers.station ≡ p.station → Stately (table p.station) p.registers.state brought.sits s.station fs s.slave.registers a
 
   -- a choice
-  next_is : (acknowledged : Q → Bool) (fs : List (Frame M)) (p : Planned V) (s : Seat V M Q R) (a : Account Q R) (pick : Pick Q) → IsStately fs p s a →
+  pub next_is : (acknowledged : Q → Bool) (fs : List (Frame M)) (p : Planned V) (s : Seat V M Q R) (a : Account Q R) (pick : Pick Q) → IsStately fs p s a →
       IsStately fs p (seat_next x (length fs) s (mails_choice a pick)) (account_next x acknowledged (length fs) s.side a pick)
   next_is acknowledged fs p s a pick k = record {
     brought = k.brought;
@@ -36,7 +36,7 @@ module _ {V A M Q R : Type 0} (x : Exchange V A M Q R) (stated : Stated V A Q) (
   }
 
   -- a frame that came back
-  back_is : (fs : List (Frame M)) (f : Frame M) (p : Planned V) (s : Seat V M Q R) (a : Account Q R) (ds : List (Datagram M)) → IsPlaced p s a → SeatMet (length fs) p s a ds f.back → ⊤ → IsStately fs p s a →
+  pub back_is : (fs : List (Frame M)) (f : Frame M) (p : Planned V) (s : Seat V M Q R) (a : Account Q R) (ds : List (Datagram M)) → IsPlaced p s a → SeatMet (length fs) p s a ds f.back → ⊤ → IsStately fs p s a →
       IsStately (fs ++ f ∷ []) p (seat_back x (length fs) s ds f.back) (account_back s.station (length fs) a f.back)
   back_is fs f p s a ds placed met now k = record {
     brought = k.brought;
@@ -49,7 +49,7 @@ module _ {V A M Q R : Type 0} (x : Exchange V A M Q R) (stated : Stated V A Q) (
   none_lost : (station : ℕ) (fs : List (Frame M)) (f : Frame M) → f.back ≡ [] → statuses (frame_news station (kept_of station fs) f) ≡ []
   none_lost station fs f e = statuses_frame station fs f ∙ ap (λ ds. statuses (back_news station (kept_of station fs).heard ds)) e
 
-  lost_is : (fs : List (Frame M)) (f : Frame M) → f.back ≡ [] → (p : Planned V) (s : Seat V M Q R) (a : Account Q R) (ds : List (Datagram M)) → IsPlaced p s a → SeatMet (length fs) p s a ds (frame_after s.station s.slave ds) → ⊤ → IsStately fs p s a →
+  pub lost_is : (fs : List (Frame M)) (f : Frame M) → f.back ≡ [] → (p : Planned V) (s : Seat V M Q R) (a : Account Q R) (ds : List (Datagram M)) → IsPlaced p s a → SeatMet (length fs) p s a ds (frame_after s.station s.slave ds) → ⊤ → IsStately fs p s a →
       IsStately (fs ++ f ∷ []) p (record s { side = side_lost s.station f.sent s.side; slave = slave_after s.station s.slave ds }) a
   lost_is fs f e p s a ds placed met now k = record {
     brought = k.brought;
@@ -58,7 +58,7 @@ module _ {V A M Q R : Type 0} (x : Exchange V A M Q R) (stated : Stated V A Q) (
         (none_lost s.station fs f e) (met.served answers 0) (k.stately answers);
   }
 
-  missed_is : (fs : List (Frame M)) (f : Frame M) → f.back ≡ [] → (p : Planned V) (s : Seat V M Q R) (a : Account Q R) → IsPlaced p s a → ⊤ → IsStately fs p s a → IsStately (fs ++ f ∷ []) p (record s { side = side_lost s.station f.sent s.side }) a
+  pub missed_is : (fs : List (Frame M)) (f : Frame M) → f.back ≡ [] → (p : Planned V) (s : Seat V M Q R) (a : Account Q R) → IsPlaced p s a → ⊤ → IsStately fs p s a → IsStately (fs ++ f ∷ []) p (record s { side = side_lost s.station f.sent s.side }) a
   missed_is fs f e p s a placed now k = record {
     brought = k.brought;
     placed = record { station = placed.station; place = placed.place };
@@ -66,7 +66,7 @@ module _ {V A M Q R : Type 0} (x : Exchange V A M Q R) (stated : Stated V A Q) (
   }
 
   -- a step of the processor
-  step_is : (fs : List (Frame M)) (p : Planned V) (s : Seat V M Q R) (a : Account Q R) → IsStately fs p s a → IsStately fs p (seat_steps x processor s) a
+  pub step_is : (fs : List (Frame M)) (p : Planned V) (s : Seat V M Q R) (a : Account Q R) → IsStately fs p s a → IsStately fs p (seat_steps x processor s) a
   step_is fs p s a k =
       let r = s.slave.registers in
       let same : processor.carry r ≡ States.carry (table p.station) r = k.brought.carries r k.placed.place.station k.placed.place.first k.placed.place.second in
