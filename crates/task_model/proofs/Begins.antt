@@ -1,5 +1,5 @@
 -- The ghost rows before a frame: a service comes into hand, and a mail is taken up.
-use Rattle.std.proofs.Common.{◌≡◌, ◌⊎◌, inl, inr, ℕ, suc, ◌+◌, ◌≤◌, ◌&&◌, Bool, true, false, is_none, is_some, if◌then◌else◌, Option, None, Some, option_map, List, [], ◌∷◌, ◌++◌, length, refl, sym, ap, ap₂, ◌∙◌, subst, append_assoc, append-nil, arith, length-append}
+use Rattle.std.proofs.Common.{◌≡◌, ◌⊎◌, inl, inr, ℕ, ◌+◌, ◌≤◌, ◌&&◌, Bool, true, false, is_none, if◌then◌else◌, Option, None, Some, option_map, List, [], ◌∷◌, ◌++◌, length, refl, sym, ap, ap₂, ◌∙◌, subst, append_assoc, append-nil, arith, length-append}
 use Rattle.exchange_model.specs.Prefix.{IsPrefixOf}
 use Rattle.exchange_model.specs.Exchange.{Exchange, IsLawful, after, given, plain}
 use Rattle.exchange_model.specs.Rows.{Row, Settled, begun, row_told, left, told_all, heard_all, services}
@@ -10,18 +10,18 @@ use Rattle.link_model.specs.Mails
 use Rattle.link_model.specs.Mails.{LinkMail}
 use Rattle.link_model.proofs.Law.{accepted_of_offered}
 use Rattle.segment_model.specs.Ends.{Outcome}
-use Rattle.segment_model.specs.Seats.{Side, Seat, Choice, link_of, newest, rows_of, is_over, side_begins, side_holds, next_mail, first_left, seat_next}
+use Rattle.segment_model.specs.Seats.{Side, Seat, link_of, newest, rows_of, is_over, side_begins, side_holds, next_mail, first_left, seat_next}
 use Rattle.segment_model.proofs.Overs.{over_parts, idle}
 use Rattle.segment_model.proofs.Fitted.{few}
-use Rattle.segment_model.proofs.Handed.{Facts, NowFacts, facts_of}
+use Rattle.segment_model.proofs.Handed.{Facts, facts_of}
 use Rattle.segment_model.proofs.Sounds.{SeatAgrees}
 use Rattle.state_model.specs.States.{Table}
-use Rattle.state_exchange.specs.Stated.{Stated, IsStated, Act, Service, Counting, acts, mails, states_in, with_states, service_valid, service_handed, service_planned}
-use Rattle.state_exchange.proofs.Acts.{acts_append, acts_length, acts_same, acts_begin, begin_acts, plain_acts, left_mails, left_none}
+use Rattle.state_exchange.specs.Stated.{Stated, IsStated, Act, Service, acts, mails, states_in, with_states, service_valid, service_handed, service_planned}
+use Rattle.state_exchange.proofs.Acts.{acts_append, acts_length, acts_same, begin_acts, plain_acts, left_mails, left_none}
 use Rattle.state_exchange.proofs.StatedLaw.{stated_law}
 use Rattle.state_exchange.proofs.Takens.{answered_taken}
 use Rattle.task_model.specs.Accounts.{Account, Duty, Pick, mails_begin, mails_choice, is_free, is_acknowledged, starts, state_begins, account_begins, account_next}
-use Rattle.task_model.proofs.Ghosts.{GhostRow, counting, start_of, starts_of, label_of, labels_of, label_by, mail_labels, Shows, Rested, RestedRow, Staged, MailsNow, StateNow, Now, Rowed, Untouched, Carried, starts_append, starts_now, labels_append, mail_labels_append, shown_label, state_label}
+use Rattle.task_model.proofs.Ghosts.{GhostRow, counting, starts_of, labels_of, mail_labels, Shows, Rested, RestedRow, Staged, MailsNow, StateNow, Rowed, Untouched, Carried, starts_append, starts_now, labels_append, mail_labels_append, shown_label, state_label}
 
 -- what was accepted was given
 pub accepted_begin : {M : Type 0} (accepted offered waiting : List M) (g : List (Act M)) → g ≡ acts (offered ++ waiting) → Mails.IsPrefixOf accepted offered → IsPrefixOf (acts accepted) g
@@ -228,7 +228,7 @@ module _ {V A M Q R : Type 0} (x : Exchange V A M Q R) (law : IsLawful x) (s : S
   ]
 
   -- a seat with its mails' side changed
-  abbrev sided : Seat V M Q R → Side M Q R → Seat V M Q R
+  abbrev pub sided : Seat V M Q R → Side M Q R → Seat V M Q R
   sided seat d = record seat { side = d }
 
   -- a service by mails comes into hand

@@ -1,6 +1,6 @@
 -- The rows of a slave's services by mails and state services as rows of one exchange of both, beside the session's side of its mails: ghosts
 -- that no master keeps. What a control word does stands in them where the slave's AL state changes, or at last where its service is closed.
-use Rattle.std.proofs.Common.{◌≡◌, ◌⊎◌, inl, inr, ℕ, zero, suc, ◌+◌, Bool, true, false, Option, None, Some, List, [], ◌∷◌, ◌++◌, map, refl, sym, ap, ◌∙◌, append_assoc, append-nil, arith}
+use Rattle.std.proofs.Common.{◌≡◌, ◌⊎◌, ℕ, ◌+◌, true, false, Option, None, Some, List, [], ◌∷◌, ◌++◌, map, refl, sym, ap, ◌∙◌, append_assoc, arith}
 use Rattle.exchange_model.specs.Exchange.{Exchange, IsLawful, after, given}
 use Rattle.exchange_model.specs.Rows.{Row, left, services}
 use Rattle.exchange_model.specs.Laws.{Moment}

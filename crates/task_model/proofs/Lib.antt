@@ -7,6 +7,7 @@ pub mod Turns
 pub mod Ghosts
 pub mod Begins
 pub mod Moves
+pub mod Stepped
 pub mod Splits
 pub mod Completed
 pub mod Replies

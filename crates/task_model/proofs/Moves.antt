@@ -1,9 +1,9 @@
 -- The ghost rows over a frame and over a step of the slave's processor: a drain ends, a service is closed, mails are heard and taken, and the
 -- control word is taken where the AL state changes.
-use Rattle.std.proofs.Common.{◌≡◌, ◌⊎◌, inl, inr, ℕ, suc, ◌+◌, ◌≤◌, ◌==◌, Bool, true, false, if◌then◌else◌, Option, None, Some, option_map, List, [], ◌∷◌, ◌++◌, map, drop, length, refl, sym, ap, ap₂, ◌∙◌, subst, append_assoc, append-nil, arith}
+use Rattle.std.proofs.Common.{◌≡◌, inl, inr, ℕ, ◌+◌, ◌==◌, Bool, true, false, if◌then◌else◌, Option, None, Some, option_map, List, [], ◌∷◌, ◌++◌, drop, length, refl, sym, ap, ap₂, ◌∙◌, subst, append-nil}
 use Rattle.exchange_model.specs.Prefix.{IsPrefixOf}
 use Rattle.exchange_model.specs.Exchange.{Exchange, IsLawful, after, given, plain}
-use Rattle.exchange_model.specs.Rows.{Row, row_heard, row_told, answer_after, left, services}
+use Rattle.exchange_model.specs.Rows.{Row, row_heard, row_told, answer_after, left}
 use Rattle.exchange_model.specs.Laws.{Moment}
 use Rattle.exchange_model.proofs.Lists.{append_none, append_cancel}
 use Rattle.exchange_model.proofs.Words.{after-append, given-append, plain-append}
@@ -12,14 +12,13 @@ use Rattle.link_model.specs.Mails.{LinkMail}
 use Rattle.link_model.specs.Link.{Halves}
 use Rattle.link_model.specs.Frames
 use Rattle.link_model.specs.Frames.{Ask, node_meets}
-use Rattle.link_model.specs.Slave.{Node, node_look, node_take, node_takes, node_offers, node_serve}
-use Rattle.link_model.proofs.Law.{taken_of_held, accepted_of_offered}
-use Rattle.segment_model.specs.Slaves.{Serving, serving, Registers, Access, Processor, state_told, Datagram, grams, Slave, is_meant, registers_met, slave_meets, slave_after, slave_steps}
+use Rattle.link_model.specs.Slave.{Node}
+use Rattle.link_model.proofs.Law.{accepted_of_offered}
+use Rattle.segment_model.specs.Slaves.{Serving, Registers, Access, Datagram, grams, Slave, is_meant, registers_met, slave_meets, slave_after}
 use Rattle.segment_model.specs.Record.{News}
 use Rattle.segment_model.specs.Ends.{Outcome}
-use Rattle.segment_model.specs.Seats.{Side, Seat, link_of, newest, rows_of, side_back, side_lost, seat_back, seat_steps}
+use Rattle.segment_model.specs.Seats.{Seat, link_of, newest, side_back, side_lost, seat_back}
 use Rattle.segment_model.specs.Laws.{as_outcome}
-use Rattle.segment_model.proofs.Links.{served_server, served_gives}
 use Rattle.segment_model.proofs.Sounds.{SeatAgrees}
 use Rattle.segment_model.proofs.Rests.{all_taken}
 use Rattle.segment_model.proofs.Written.{has_written, back_frees, losts_out}
@@ -27,14 +26,14 @@ use Rattle.segment_model.specs.Record
 use Rattle.segment_model.proofs.Handed.{Facts, facts_of}
 use Rattle.state_model.specs.States.{Table, Phase, Turn, shown}
 use Rattle.state_model.specs.Promises.{state_behind}
-use Rattle.state_exchange.specs.Stated.{Stated, IsStated, Act, Service, Counting, acts, act_emission, mails, all_mails, ends_by, with_states, service_handed, service_ends}
-use Rattle.state_exchange.proofs.Acts.{acts_append, acts_same, mails_acts, mails_append, all_acts, plain_acts, after_acts, given_acts, state_kept, left_word}
+use Rattle.state_exchange.specs.Stated.{Stated, IsStated, Act, Service, acts, act_emission, mails, ends_by, with_states, service_handed, service_ends}
+use Rattle.state_exchange.proofs.Acts.{acts_append, acts_same, mails_append, all_acts, plain_acts, left_word}
 use Rattle.state_exchange.proofs.StatedLaw.{stated_law}
-use Rattle.task_model.specs.Accounts.{Account, Change, Duty, Stage, account_by, turn_progress}
+use Rattle.task_model.specs.Accounts.{Account, Duty, Stage, account_by, turn_progress}
 use Rattle.task_model.proofs.Served.{Served, Served.stays, Served.drained, Served.wrote, Served.looked, goes_on, duty_of}
 use Rattle.task_model.proofs.Stately.{state_over, state_over-push}
-use Rattle.task_model.proofs.Ghosts.{GhostRow, counting, start_of, starts_of, label_of, labels_of, mail_labels, Shows, Rested, RestedRow, StagedBy, Staged, MailsNow, StateNow, Now, Rowed, Untouched, Carried, starts_append, starts_now, labels_append}
-use Rattle.task_model.proofs.Begins.{accepted_begin, none_behind, same_moment}
+use Rattle.task_model.proofs.Ghosts.{GhostRow, counting, label_of, labels_of, Shows, Rested, RestedRow, StagedBy, Staged, StateNow, Rowed, Carried, starts_now, labels_append}
+use Rattle.task_model.proofs.Begins.{accepted_begin, same_moment}
 
 -- WHAT A SLAVE'S FRAMES LEAVE
 
@@ -81,7 +80,7 @@ idle_back : {M : Type 0} (station : ℕ) (h : Halves M) (ds : List (Datagram M))
 idle_back station h ds e = back_frees station 0 h ds ∙ none_if (has_written (Record.back_news station 0 ds)) h.out.holding e
 
 -- a stage where the half stays idle, and nothing more is held untaken
-staged_on : {M : Type 0} (table : Table) (from state : ℕ) (rest more : List M) (holding now : Option (LinkMail M)) (target frame : ℕ) (hand : Option Duty) (told : List (Act M)) → (rest ≡ [] → more ≡ []) → (holding ≡ None → now ≡ None) →
+pub staged_on : {M : Type 0} (table : Table) (from state : ℕ) (rest more : List M) (holding now : Option (LinkMail M)) (target frame : ℕ) (hand : Option Duty) (told : List (Act M)) → (rest ≡ [] → more ≡ []) → (holding ≡ None → now ≡ None) →
     Staged table from state rest holding target frame hand told → Staged table from state more now target frame hand told
 staged_on table from state rest more holding now target frame None told f g st = (f st.0, st.1)
 staged_on {M} table from state rest more holding now target frame (Some duty) told f g st = (st.0, st.1, stage duty.stage st.2)
@@ -122,7 +121,7 @@ module _ {V A M Q R : Type 0} (x : Exchange V A M Q R) (law : IsLawful x) (s : S
   -- THE STATE SERVICE IN HAND
 
   -- where one is in hand its row is the newest
-  in_hand : (from : ℕ) (seat : Seat V M Q R) (a : Account Q R) (c : Carried x law s table from seat a) (duty : Duty) → a.hand ≡ Some duty →
+  pub in_hand : (from : ℕ) (seat : Seat V M Q R) (a : Account Q R) (c : Carried x law s table from seat a) (duty : Duty) → a.hand ≡ Some duty →
       (r : Rowed x law s table from seat a c.taken c.rest) × StateNow x law s table from seat.slave.registers.state c.rest seat.side a.hand (r.front ++ r.last) r.now
   in_hand from seat a c duty e = elim c.rows [
     | inl u ↦ absurd (let bad : None ≡ Some duty = sym u.hand ∙ e in cc)
@@ -156,14 +155,14 @@ module _ {V A M Q R : Type 0} (x : Exchange V A M Q R) (law : IsLawful x) (s : S
   }
 
   -- its control word is told and taken: what the server is behind it, and what it tells
-  record Worded (from : ℕ) (seat : Seat V M Q R) (a : Account Q R) (c : Carried x law s table from seat a) (r : Rowed x law s table from seat a c.taken c.rest) (target : ℕ) : Type 0 where
-    server : (after (with_states x s table).serve (counting seat.start) (c.taken ++ Act.Word target ∷ [])).server ≡ s.tell (state_behind table seat.slave.registers.state target) seat.slave.node.server.server
-    gave : given (with_states x s table).serve (counting seat.start) (c.taken ++ Act.Word target ∷ []) ≡ acts (seat.offered ++ seat.slave.node.server.waiting)
-    mails : mails (c.taken ++ Act.Word target ∷ []) ≡ seat.taken
-    told : r.now.told ++ Act.Word target ∷ [] ≡ Act.Word target ∷ []
-    moment : Moment (with_states x s table) (counting seat.start) r.front r.last (row_told (Act.Word target) r.now) ((c.taken ++ Act.Word target ∷ []) ++ acts c.rest) (c.taken ++ Act.Word target ∷ []) (acts seat.accepted)
+  pub record Worded (from : ℕ) (seat : Seat V M Q R) (a : Account Q R) (c : Carried x law s table from seat a) (r : Rowed x law s table from seat a c.taken c.rest) (target : ℕ) : Type 0 where
+    pub server : (after (with_states x s table).serve (counting seat.start) (c.taken ++ Act.Word target ∷ [])).server ≡ s.tell (state_behind table seat.slave.registers.state target) seat.slave.node.server.server
+    pub gave : given (with_states x s table).serve (counting seat.start) (c.taken ++ Act.Word target ∷ []) ≡ acts (seat.offered ++ seat.slave.node.server.waiting)
+    pub mails : mails (c.taken ++ Act.Word target ∷ []) ≡ seat.taken
+    pub told : r.now.told ++ Act.Word target ∷ [] ≡ Act.Word target ∷ []
+    pub moment : Moment (with_states x s table) (counting seat.start) r.front r.last (row_told (Act.Word target) r.now) ((c.taken ++ Act.Word target ∷ []) ++ acts c.rest) (c.taken ++ Act.Word target ∷ []) (acts seat.accepted)
 
-  word_taken : (from : ℕ) (seat : Seat V M Q R) (a : Account Q R) → x.ready seat.start ≡ true → (c : Carried x law s table from seat a) (r : Rowed x law s table from seat a c.taken c.rest)
+  pub word_taken : (from : ℕ) (seat : Seat V M Q R) (a : Account Q R) → x.ready seat.start ≡ true → (c : Carried x law s table from seat a) (r : Rowed x law s table from seat a c.taken c.rest)
       (n : StateNow x law s table from seat.slave.registers.state c.rest seat.side a.hand (r.front ++ r.last) r.now) → c.rest ≡ [] → r.now.told ≡ [] → Worded from seat a c r n.target
   word_taken from seat a ready c r n none told =
       let y = with_states x s table in
