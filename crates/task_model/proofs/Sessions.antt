@@ -22,12 +22,13 @@ use Rattle.task_model.specs.Accounts.{Account, Pick, mails_begin, mails_choice, 
 use Rattle.task_model.specs.Tasks.{TaskTurn, TaskSession, IsBrought, AllBrought, IsTaskPlan, IsTasked, AreServed, MayRun, mails_choices, mails_turn, accounts_next, accounts_after, happens, run, new_accounts, new_tasks}
 use Rattle.task_model.specs.Promise.{EachTask, TasksPromised, TasksRest, TasksRestIf}
 use Rattle.task_model.proofs.Served.{Served}
-use Rattle.task_model.proofs.Stately.{Stately, state_over, free_state}
+use Rattle.task_model.proofs.Stately.{state_over, free_state, step_state}
 use Rattle.task_model.proofs.Walks.{EachOne, IsPlaced, AllApart, SeatMet, seats_apart, all_apart, all_reach, each_map, each_both, each_next, each_back, each_lost, each_steps}
 use Rattle.task_model.proofs.Turns.{IsStately, next_is, back_is, lost_is, missed_is, step_is, new_is}
 use Rattle.task_model.proofs.Ghosts.{Carried}
 use Rattle.task_model.proofs.Begins.{carried_begins, carried_next}
 use Rattle.task_model.proofs.Moves.{carried_back, carried_missed, carried_met}
+use Rattle.task_model.proofs.Stepped.{carried_steps, carried_new}
 use Rattle.task_model.proofs.Completed.{Completed, over_next, completed_frame, completed_next, completed_back}
 use Rattle.task_model.proofs.Newest.{Holds, side_facts, newest_over}
 use Rattle.task_model.proofs.Promised.{promised}
@@ -200,7 +201,9 @@ module _ {V A M Q R : Type 0} (x : Exchange V A M Q R) (law : IsLawful x) (s : S
     carries = λ answers. (
         let c = k.carries answers in
         record {
-          carried = ?c5;
+          carried = carried_steps x law s (table p.station) stated (state_over (table p.station) p.registers.state a.over) seat a processor tells
+              (k.is.brought.carries seat.slave.registers k.is.placed.place.station k.is.placed.place.first k.is.placed.place.second)
+              (step_state (table p.station) p.registers.state k.is.brought.sits seat.station fs seat.slave.registers a (k.is.stately answers)) k.ready (step_agrees x processor seat k.agrees) c.carried;
           posts = c.posts;
           completed = c.completed;
         });
@@ -286,16 +289,7 @@ module _ {V A M Q R : Type 0} (x : Exchange V A M Q R) (law : IsLawful x) (s : S
       agrees = agrees.0;
       records = records.0;
       carries = λ answers. record {
-        carried = record {
-          taken = [];
-          rest = [];
-          taken_is = refl;
-          held_is = refl;
-          serves = refl;
-          gave = refl;
-          state = sym brought.0.state;
-          rows = inl (record { started = refl; hand = refl; past = refl; now = refl; held = refl; none = refl });
-        };
+        carried = carried_new x law s (table p.station) stated p.registers.state p brought.0.state;
         posts = posts.0;
         completed = tt;
       };
