@@ -1,5 +1,6 @@
 -- The ghost rows before a frame: a service comes into hand, and a mail is taken up.
 use Rattle.std.proofs.Common.{◌≡◌, ◌⊎◌, inl, inr, ℕ, ◌+◌, ◌≤◌, ◌&&◌, Bool, true, false, is_none, if◌then◌else◌, Option, None, Some, option_map, List, [], ◌∷◌, ◌++◌, length, refl, sym, ap, ap₂, ◌∙◌, subst, append_assoc, append-nil, arith, length-append}
+use Rattle.std.proofs.lemmas.Bool.{and_parts}
 use Rattle.exchange_model.specs.Prefix.{IsPrefixOf}
 use Rattle.exchange_model.specs.Exchange.{Exchange, IsLawful, after, given, plain}
 use Rattle.exchange_model.specs.Rows.{Row, Settled, begun, row_told, left, told_all, heard_all, services}
@@ -16,7 +17,7 @@ use Rattle.segment_model.proofs.Fitted.{few}
 use Rattle.segment_model.proofs.Handed.{Facts, facts_of}
 use Rattle.segment_model.proofs.Sounds.{SeatAgrees}
 use Rattle.state_model.specs.States.{Table}
-use Rattle.state_exchange.specs.Stated.{Stated, IsStated, Act, Service, acts, mails, states_in, with_states, service_valid, service_handed, service_planned}
+use Rattle.state_exchange.specs.Stated.{Stated, IsStated, Act, Service, acts, states_in, with_states, service_valid, service_handed, service_planned}
 use Rattle.state_exchange.proofs.Acts.{acts_append, acts_length, acts_same, begin_acts, plain_acts, left_mails, left_none}
 use Rattle.state_exchange.proofs.StatedLaw.{stated_law}
 use Rattle.state_exchange.proofs.Takens.{answered_taken}
@@ -291,10 +292,6 @@ module _ {V A M Q R : Type 0} (x : Exchange V A M Q R) (law : IsLawful x) (s : S
         });
       }
 
-  both_true : (a b : Bool) → a && b ≡ true → (a ≡ true) × (b ≡ true)
-  both_true true b e = (refl, e)
-  both_true false b e = absurd (cc)
-
   -- a service that is wished for comes into hand, where it may
   pub carried_begins : (from : ℕ) (seat : Seat V M Q R) (a : Account Q R) (frame : ℕ) (wish : Option (Service Q)) → x.ready seat.start ≡ true → SeatAgrees x seat → (a.hand ≡ None → seat.slave.registers.state ≡ from) → Carried x law s table from seat a →
       Carried x law s table from (sided seat (side_begins x frame seat.side seat.side.now (mails_begin a.hand wish))) (account_begins x s.acknowledged frame seat.side a a.hand wish)
@@ -324,7 +321,7 @@ module _ {V A M Q R : Type 0} (x : Exchange V A M Q R) (law : IsLawful x) (s : S
           Carried x law s table from seat (if may then state_begins a target frame else a)
       by_state target false m e = c
       by_state target true m e =
-          let parts = both_true (is_free x seat.side seat.side.now) (is_acknowledged s.acknowledged seat.side seat.side.now) m in
+          let parts = and_parts (is_free x seat.side seat.side.now) (is_acknowledged s.acknowledged seat.side seat.side.now) m in
           begins_state from seat a c (opens from seat a ready agrees c e parts.0) target frame parts.1 (stands e)
 
       go : (hand : Option Duty) (wish : Option (Service Q)) → a.hand ≡ hand →

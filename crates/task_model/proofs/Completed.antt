@@ -1,6 +1,7 @@
 -- Of the services that came into hand each but the newest has its outcome by the record, of a frame before the next one came into hand.
-use Rattle.std.proofs.Common.{◌≡◌, ◌⊎◌, inl, inr, ℕ, suc, ◌<◌, ◌≤◌, ◌&&◌, Bool, true, false, not, ◌==◌, Option, Some, None, List, [], ◌∷◌, ◌++◌, length, refl, ap, sym, ◌∙◌, subst, arith, length-append, if◌then◌else◌}
+use Rattle.std.proofs.Common.{◌≡◌, ℕ, ◌<◌, ◌≤◌, ◌&&◌, Bool, true, false, not, ◌==◌, Option, Some, None, List, [], ◌∷◌, ◌++◌, length, refl, ap, sym, ◌∙◌, subst, arith, length-append, if◌then◌else◌}
 use Rattle.std.specs.Prelude.{⊤}
+use Rattle.std.proofs.lemmas.Bool.{and_parts}
 use Rattle.exchange_model.specs.Exchange.{Exchange}
 use Rattle.exchange_model.specs.Rows.{answer_after}
 use Rattle.segment_model.specs.Slaves.{Datagram}
@@ -10,8 +11,7 @@ use Rattle.segment_model.specs.Seats.{Side}
 use Rattle.segment_model.proofs.Answers.{kept_of, news_from-none, outcome-push}
 use Rattle.state_model.specs.Together.{but_last}
 use Rattle.state_exchange.specs.Stated.{Service}
-use Rattle.task_model.specs.Accounts.{Started, Duty, Change, Account, Pick, Progress, is_free, is_acknowledged, starts, state_begins, account_begins, account_next, account_by, account_met, account_back, access_done}
-use Rattle.task_model.specs.Accounts
+use Rattle.task_model.specs.Accounts.{Started, Duty, Account, Pick, Progress, is_free, is_acknowledged, starts, state_begins, account_begins, account_next, account_by, account_met, account_back, access_done}
 use Rattle.task_model.specs.Promise.{task_of, outcome_of, AllRise, AllEnded}
 
 -- a choice ends no state service
@@ -161,10 +161,6 @@ module _ {V A M Q R : Type 0} (x : Exchange V A M Q R) (more : M → Bool) (stat
   completed_push fs (r ∷ []) service c l = (ended_by fs r c l, fresh fs service)
   completed_push fs (r ∷ (s ∷ rs)) service c l = (c.0, completed_push fs (s ∷ rs) service c.1 l)
 
-  both : (a b : Bool) → a && b ≡ true → (a ≡ true) × (b ≡ true)
-  both true b e = (refl, e)
-  both false b e = absurd (cc)
-
   -- a choice keeps it, where the newest service is over if none is in hand and the side is free
   module _ (acknowledged : Q → Bool) (fs : List (Frame M)) (d : Side M Q R) (a : Account Q R) (c : Completed fs a.started) where
     begins : (hand : Option Duty) (wish : Option (Service Q)) → (hand ≡ None → is_free x d d.now ≡ true → LastOver fs a.started) → Completed fs (account_begins x acknowledged (length fs) d a hand wish).started
@@ -174,12 +170,12 @@ module _ {V A M Q R : Type 0} (x : Exchange V A M Q R) (more : M → Bool) (stat
       where
         go : (b : Bool) → x.valid q && is_free x d d.now ≡ b → Completed fs (if b then record a { started = starts a (Service.Mails q) (length fs) } else a).started
         go false e = c
-        go true e = completed_push fs a.started (Service.Mails q) c (over refl (both (x.valid q) (is_free x d d.now) e).1)
+        go true e = completed_push fs a.started (Service.Mails q) c (over refl (and_parts (x.valid q) (is_free x d d.now) e).1)
     begins None (Some (Service.State target)) over = go (is_free x d d.now && is_acknowledged acknowledged d d.now) refl
       where
         go : (b : Bool) → is_free x d d.now && is_acknowledged acknowledged d d.now ≡ b → Completed fs (if b then state_begins a target (length fs) else a).started
         go false e = c
-        go true e = completed_push fs a.started (Service.State target) c (over refl (both (is_free x d d.now) (is_acknowledged acknowledged d d.now) e).0)
+        go true e = completed_push fs a.started (Service.State target) c (over refl (and_parts (is_free x d d.now) (is_acknowledged acknowledged d d.now) e).0)
 
     pub completed_next : (p : Pick Q) → (a.hand ≡ None → is_free x d d.now ≡ true → LastOver fs a.started) → Completed fs (account_next x acknowledged (length fs) d a p).started
     completed_next p over = begins a.hand p.begin over

@@ -1,5 +1,5 @@
 -- Which of a slave's services are carried out: each that has a reply is among the first of them, so many as its server counts.
-use Rattle.std.proofs.Common.{◌≡◌, ℕ, suc, ◌+◌, ◌<◌, ◌≤◌, Bool, true, false, Option, Some, None, List, [], ◌∷◌, ◌++◌, map, take, length, refl, ap, sym, ◌∙◌, subst, arith, length-append}
+use Rattle.std.proofs.Common.{◌≡◌, ℕ, suc, ◌+◌, ◌<◌, ◌≤◌, Bool, true, Some, List, [], ◌∷◌, ◌++◌, length, refl, ap, sym, ◌∙◌, subst, arith}
 use Rattle.std.specs.Prelude.{⊤}
 use Rattle.exchange_model.specs.Exchange.{Exchange, IsLawful, after}
 use Rattle.exchange_model.specs.Rows.{Row, Fits, InDone, left, services, told_all}
@@ -10,10 +10,9 @@ use Rattle.exchange_model.proofs.Steps.{handed_whole}
 use Rattle.segment_model.specs.Record.{Frame}
 use Rattle.segment_model.specs.Ends.{Outcome}
 use Rattle.state_exchange.specs.Stated.{Service, states_in}
-use Rattle.task_model.specs.Accounts.{Started}
 use Rattle.task_model.specs.Promise.{outcome_of, IsReply, AllDone, mails_in, services_in}
-use Rattle.task_model.proofs.Ghosts.{GhostRow, start_of, starts_of, Label, label_by, mail_labels}
-use Rattle.task_model.proofs.Replies.{AllLabelled, reply_labelled, mails_outcome, state_found}
+use Rattle.task_model.proofs.Ghosts.{GhostRow, starts_of, label_by, mail_labels}
+use Rattle.task_model.proofs.Replies.{AllLabelled, reply_labelled, state_found}
 
 -- services go by mails or change the AL state
 pub by_kind : {Q : Type 0} (qs : List (Service Q)) → mails_in qs + states_in qs ≡ length qs
@@ -28,6 +27,10 @@ services_same (g ∷ gs) = ap (λ l. g.service ∷ l) (services_same gs)
 pub starts_length : {M Q R : Type 0} (gs : List (GhostRow M Q R)) → length (starts_of gs) ≡ length gs
 starts_length [] = refl
 starts_length (g ∷ gs) = ap suc (starts_length gs)
+
+pub services_length : {M Q R : Type 0} (gs : List (GhostRow M Q R)) → length (services gs) ≡ length gs
+services_length [] = refl
+services_length (g ∷ gs) = ap suc (services_length gs)
 
 module _ {V A M Q R : Type 0} (x : Exchange V A M Q R) (law : IsLawful x) (v : V) (ready : x.ready v ≡ true) (front last : List (Row M Q R)) (now : Row M Q R) (held taken accepted : List M)
     (at : Moment x v front last now held taken accepted) (f : Fits x v (front ++ last ++ now ∷ []) (after x.serve v taken) accepted) where

@@ -1,6 +1,6 @@
 -- The ghost rows over a frame and over a step of the slave's processor: a drain ends, a service is closed, mails are heard and taken, and the
 -- control word is taken where the AL state changes.
-use Rattle.std.proofs.Common.{◌≡◌, inl, inr, ℕ, ◌+◌, ◌==◌, Bool, true, false, if◌then◌else◌, Option, None, Some, option_map, List, [], ◌∷◌, ◌++◌, drop, length, refl, sym, ap, ap₂, ◌∙◌, subst, append-nil}
+use Rattle.std.proofs.Common.{◌≡◌, inl, inr, ℕ, ◌==◌, Bool, true, false, if◌then◌else◌, Option, None, Some, option_map, List, [], ◌∷◌, ◌++◌, drop, length, refl, sym, ap, ap₂, ◌∙◌, subst, append-nil}
 use Rattle.exchange_model.specs.Prefix.{IsPrefixOf}
 use Rattle.exchange_model.specs.Exchange.{Exchange, IsLawful, after, given, plain}
 use Rattle.exchange_model.specs.Rows.{Row, row_heard, row_told, answer_after, left}
@@ -30,7 +30,7 @@ use Rattle.state_exchange.specs.Stated.{Stated, IsStated, Act, Service, acts, ac
 use Rattle.state_exchange.proofs.Acts.{acts_append, acts_same, mails_append, all_acts, plain_acts, left_word}
 use Rattle.state_exchange.proofs.StatedLaw.{stated_law}
 use Rattle.task_model.specs.Accounts.{Account, Duty, Stage, account_by, turn_progress}
-use Rattle.task_model.proofs.Served.{Served, Served.stays, Served.drained, Served.wrote, Served.looked, goes_on, duty_of}
+use Rattle.task_model.proofs.Served.{Served, goes_on, duty_of}
 use Rattle.task_model.proofs.Stately.{state_over, state_over-push}
 use Rattle.task_model.proofs.Ghosts.{GhostRow, counting, label_of, labels_of, Shows, Rested, RestedRow, StagedBy, Staged, StateNow, Rowed, Carried, starts_now, labels_append}
 use Rattle.task_model.proofs.Begins.{accepted_begin, same_moment}

@@ -1,23 +1,23 @@
 -- What is kept of a slave's seat and account, and when its newest service is over.
-use Rattle.std.proofs.Common.{◌≡◌, ◌⊎◌, inl, inr, ℕ, Bool, true, false, is_some, Option, Some, None, List, [], ◌∷◌, ◌++◌, refl, ap, ap₂, sym, ◌∙◌, subst, append-nil}
+use Rattle.std.proofs.Common.{◌≡◌, ◌⊎◌, inl, inr, ℕ, Bool, true, false, is_some, Option, Some, None, List, [], ◌∷◌, ◌++◌, refl, ap, sym, ◌∙◌, subst, append-nil}
 use Rattle.exchange_model.specs.Exchange.{Exchange, IsLawful}
 use Rattle.exchange_model.specs.Rows.{Row}
-use Rattle.segment_model.specs.Record.{Frame, first_end, news_from}
-use Rattle.segment_model.specs.Ends.{Task, Outcome, ends}
+use Rattle.segment_model.specs.Record.{Frame}
+use Rattle.segment_model.specs.Ends.{Outcome}
 use Rattle.segment_model.specs.Seats.{Seat, newest, rows_of, is_over}
-use Rattle.segment_model.specs.Laws.{IsAnswered, AllAnswered, NowHanded}
+use Rattle.segment_model.specs.Laws.{AllAnswered, NowHanded}
 use Rattle.segment_model.proofs.Overs.{over_parts}
 use Rattle.segment_model.proofs.Sounds.{SeatAgrees}
 use Rattle.segment_model.proofs.Kept.{Records, rows_answered}
-use Rattle.segment_model.proofs.Handed.{Facts, NowFacts, Posts, now_handed}
+use Rattle.segment_model.proofs.Handed.{NowFacts, Posts, now_handed}
 use Rattle.segment_model.proofs.Ended.{row_ended, behind}
 use Rattle.state_model.specs.States.{Table}
 use Rattle.state_model.specs.Promises.{IsTable}
-use Rattle.state_exchange.specs.Stated.{Stated, IsStated, Act, Service, acts}
-use Rattle.task_model.specs.Accounts.{Started, Duty, Change, Account, is_free}
-use Rattle.task_model.proofs.Ghosts.{GhostRow, counting, start_of, starts_of, Rested, RestedRow, MailsNow, StateNow, Rowed, Untouched, Carried, starts_append}
+use Rattle.state_exchange.specs.Stated.{Stated, IsStated, Service, acts}
+use Rattle.task_model.specs.Accounts.{Started, Change, Account, is_free}
+use Rattle.task_model.proofs.Ghosts.{start_of, starts_of, Rested, MailsNow, StateNow, Rowed, Carried, starts_append}
 use Rattle.task_model.proofs.Begins.{mails_facts}
-use Rattle.task_model.proofs.Stately.{Stately, state_of, states_in, states_in-push, changes_in, duty_in, state_over, AllOutcomes, over_outcomes}
+use Rattle.task_model.proofs.Stately.{Stately, states_in, states_in-push, changes_in, duty_in, state_over, AllOutcomes, over_outcomes}
 use Rattle.task_model.proofs.Completed.{HasOutcome, LastOver, Completed, last_over}
 use Rattle.task_model.proofs.Replies.{mails_outcome, state_found}
 

@@ -1,34 +1,30 @@
 -- What a slave promises, from what its seat and its account carry.
-use Rattle.std.proofs.Common.{◌≡◌, ◌⊎◌, inl, inr, ℕ, suc, ◌+◌, ◌<◌, ◌≤◌, Bool, true, false, Option, Some, None, option_map, List, [], ◌∷◌, ◌++◌, map, take, length, refl, ap, ap₂, sym, ◌∙◌, subst, arith, append-nil, length-append}
+use Rattle.std.proofs.Common.{◌≡◌, inl, inr, ℕ, ◌+◌, ◌<◌, Bool, Option, Some, None, List, [], ◌∷◌, ◌++◌, take, length, refl, ap, ap₂, sym, ◌∙◌, subst, arith, append-nil, length-append}
 use Rattle.std.proofs.lemmas.List.{length-take-le}
-use Rattle.std.specs.Prelude.{⊤}
 use Rattle.exchange_model.specs.Prefix.{IsPrefixOf}
 use Rattle.exchange_model.specs.Exchange.{Exchange, IsLawful, after, given, emitted}
-use Rattle.exchange_model.specs.Rows.{Row, Fits, Rest, left, services, exec_all, emits_all}
-use Rattle.exchange_model.proofs.Lists.{append_none, prefix_nil}
+use Rattle.exchange_model.specs.Rows.{Fits, services, exec_all, emits_all}
+use Rattle.exchange_model.proofs.Lists.{prefix_nil}
 use Rattle.exchange_model.proofs.Moments
 use Rattle.link_model.proofs.Law.{accepted_of_offered}
-use Rattle.segment_model.specs.Slaves.{Registers}
-use Rattle.segment_model.specs.Record.{Frame, first_end, news_from, heard}
-use Rattle.segment_model.specs.Ends.{Task, Outcome, ends}
+use Rattle.segment_model.specs.Record.{Frame}
+use Rattle.segment_model.specs.Ends.{Outcome}
 use Rattle.segment_model.specs.Seats.{Seat, link_of, newest, rows_of}
-use Rattle.segment_model.specs.Laws.{AllAnswered}
-use Rattle.segment_model.proofs.Sounds.{SeatAgrees}
 use Rattle.state_model.specs.States.{Table}
 use Rattle.state_model.specs.Promises.{IsTable}
 use Rattle.state_exchange.specs.Stated.{Stated, IsStated, Act, Service, Counting, acts, mails, states_in, with_states, service_handed}
-use Rattle.state_exchange.proofs.Acts.{mails_acts, mails_append, acts_same, emitted_acts, left_mails, left_none, executed}
+use Rattle.state_exchange.proofs.Acts.{mails_acts, mails_append, emitted_acts, left_none, executed}
 use Rattle.state_exchange.proofs.StatedLaw.{stated_law}
-use Rattle.task_model.specs.Accounts.{Started, Duty, Account}
-use Rattle.task_model.specs.Promise.{TasksPromised, AllReplied, AllDone, AllRise, mails_in, services_in}
-use Rattle.task_model.proofs.Ghosts.{GhostRow, counting, starts_of, labels_of, label_by, mail_labels, MailsNow, StateNow, Staged, Now, Rowed, Untouched, Carried, mail_labels_append, labels_append, shown_label, state_label}
+use Rattle.task_model.specs.Accounts.{Duty, Account}
+use Rattle.task_model.specs.Promise.{TasksPromised, AllReplied, AllDone, services_in}
+use Rattle.task_model.proofs.Ghosts.{GhostRow, counting, starts_of, labels_of, mail_labels, Staged, Now, Rowed, Untouched, mail_labels_append, labels_append, shown_label, state_label}
 use Rattle.task_model.proofs.Begins.{accepted_begin}
 use Rattle.task_model.proofs.Stately.{Stately, state_over, at_hand, free_state, over_answers, over_outcomes, duty_outcome, duty_in, changes_in}
 use Rattle.task_model.proofs.Stately
-use Rattle.task_model.proofs.Completed.{Completed, completed_rises, completed_ended}
+use Rattle.task_model.proofs.Completed.{completed_rises, completed_ended}
 use Rattle.task_model.proofs.Newest.{Holds, answered}
 use Rattle.task_model.proofs.Replies.{AllLabelled, IsOpenYet, rows_labelled, replied_all, state_found}
-use Rattle.task_model.proofs.Dones.{StateBelow, StatesBelow, by_kind, services_same, starts_length, front_below, all_counted, below_all, done_all}
+use Rattle.task_model.proofs.Dones.{StateBelow, StatesBelow, by_kind, services_same, starts_length, services_length, front_below, all_counted, below_all, done_all}
 
 -- the emissions among acts that begin others
 mails_begin : {M : Type 0} (few all : List (Act M)) → IsPrefixOf few all → IsPrefixOf (mails few) (mails all)
@@ -94,10 +90,6 @@ module _ {V A M Q R : Type 0} (x : Exchange V A M Q R) (law : IsLawful x) (s : S
             (mails_begin (emitted both.emission (acts seat.accepted)) (emits_all both (x.app seat.start, 0) (take f.count (services gs))) f.emissions)));
         flag = λ none. (free_state table start is seat.station fs seat.slave.registers a h.stately none).1;
       }
-    where
-      services_length : (rows : List (GhostRow M Q R)) → length (services rows) ≡ length rows
-      services_length [] = refl
-      services_length (g ∷ rows) = ap suc (services_length rows)
 
   -- before the first service
   fits_first : (h : Kept) → Untouched x law s table seat a h.carried.taken → Fitted []
@@ -124,11 +116,11 @@ module _ {V A M Q R : Type 0} (x : Exchange V A M Q R) (law : IsLawful x) (s : S
       }
 
   -- the labels of all rows are those of the side
-  all_labels : (before : List (GhostRow M Q R)) (now : GhostRow M Q R) (c : Kept) (from state : ℕ) (rest : List M) → Now x law s table from state rest seat.side a.hand before now → mail_labels (before ++ now ∷ []) ≡ labels_of (rows_of seat.side)
-  all_labels before now c from state rest (inl m) =
+  all_labels : (before : List (GhostRow M Q R)) (now : GhostRow M Q R) (from state : ℕ) (rest : List M) → Now x law s table from state rest seat.side a.hand before now → mail_labels (before ++ now ∷ []) ≡ labels_of (rows_of seat.side)
+  all_labels before now from state rest (inl m) =
       mail_labels_append before (now ∷ []) ∙ ap₂ (λ (l k : List _). l ++ (k ++ [])) m.past (shown_label now m.row m.shows) ∙ sym (labels_append seat.side.past (m.row ∷ []))
       ∙ ap (λ n. labels_of (seat.side.past ++ newest n)) (sym m.is)
-  all_labels before now c from state rest (inr n) =
+  all_labels before now from state rest (inr n) =
       mail_labels_append before (now ∷ []) ∙ ap₂ (λ (l k : List _). l ++ (k ++ [])) n.past (state_label now n.target n.service) ∙ append-nil (labels_of (rows_of seat.side))
 
   -- a state service that is over was taken, and all before it
@@ -166,7 +158,7 @@ module _ {V A M Q R : Type 0} (x : Exchange V A M Q R) (law : IsLawful x) (s : S
       same = h.carried.serves;
       started = r.started;
       fits = fits h r;
-      labels = subst (AllLabelled x more seat.station fs) (sym (all_labels (r.front ++ r.last) r.now h (state_over table start a.over) seat.slave.registers.state h.carried.rest r.place)) (rows_labelled x more seat.station fs (rows_of seat.side) (answered x law s stated table more start is fs seat a h));
+      labels = subst (AllLabelled x more seat.station fs) (sym (all_labels (r.front ++ r.last) r.now (state_over table start a.over) seat.slave.registers.state h.carried.rest r.place)) (rows_labelled x more seat.station fs (rows_of seat.side) (answered x law s stated table more start is fs seat a h));
       below = below_all x more seat.station fs (fits h r).count r.front r.last r.now (front_below both lawful at_start h.ready r.front r.last r.now (held h r) h.carried.taken (acts seat.accepted) r.moment (fits h r)) r.mails_last (newest_below h r r.place);
     })
   ]

@@ -1,17 +1,17 @@
 -- The outcomes of a slave's services against its ghost rows: each reply is its application's, in the AL state that stood.
-use Rattle.std.proofs.Common.{◌≡◌, ℕ, suc, Bool, true, false, Option, Some, None, List, [], ◌∷◌, ◌++◌, map, length, refl, ap, sym, ◌∙◌, subst, if◌then◌else◌}
+use Rattle.std.proofs.Common.{◌≡◌, ℕ, suc, Bool, true, false, Option, Some, None, List, [], ◌∷◌, ◌++◌, length, refl, ap, sym, ◌∙◌, subst, if◌then◌else◌}
 use Rattle.std.specs.Prelude.{⊤}
-use Rattle.exchange_model.specs.Exchange.{Exchange, IsLawful}
+use Rattle.exchange_model.specs.Exchange.{Exchange}
 use Rattle.exchange_model.specs.Rows.{Row, Replied}
 use Rattle.segment_model.specs.Record.{Frame, News, first_end, or_later, news_from}
 use Rattle.segment_model.specs.Ends.{Task, Outcome, ends, mails_end, all_written}
-use Rattle.segment_model.specs.Laws.{IsAnswered, AllAnswered, as_outcome}
+use Rattle.segment_model.specs.Laws.{AllAnswered}
 use Rattle.state_model.specs.States.{Table}
 use Rattle.state_model.specs.Promises.{state_behind, answer_of}
 use Rattle.state_exchange.specs.Stated.{Stated, IsStated, Act, Service, Counting, with_states}
-use Rattle.task_model.specs.Accounts.{Started, Duty, Change}
+use Rattle.task_model.specs.Accounts.{Duty, Change}
 use Rattle.task_model.specs.Promise.{outcome_of, IsReply, AllReplied}
-use Rattle.task_model.proofs.Ghosts.{GhostRow, start_of, starts_of, Label, label_of, labels_of, label_by, mail_labels}
+use Rattle.task_model.proofs.Ghosts.{GhostRow, starts_of, Label, labels_of, label_by, mail_labels}
 use Rattle.task_model.proofs.Stately.{state_of, states_in, changes_in, duty_in, AllTabled, AllOutcomes}
 
 module _ {V A M Q R : Type 0} (x : Exchange V A M Q R) (more : M → Bool) (station : ℕ) (fs : List (Frame M)) where

@@ -1,12 +1,12 @@
 -- With nothing left all services of a slave are carried out, each has its outcome, and all emissions were heard.
-use Rattle.std.proofs.Common.{◌≡◌, ◌⊎◌, inl, inr, ℕ, suc, ◌+◌, Bool, true, false, Option, Some, None, option_map, List, [], ◌∷◌, ◌++◌, length, refl, ap, sym, ◌∙◌, subst, arith, append-nil}
+use Rattle.std.proofs.Common.{◌≡◌, inl, inr, ℕ, ◌+◌, Bool, true, Option, Some, None, option_map, List, [], ◌∷◌, ◌++◌, length, refl, ap, sym, ◌∙◌, subst, arith, append-nil}
 use Rattle.exchange_model.specs.Exchange.{Exchange, IsLawful, after, given, emitted}
 use Rattle.exchange_model.specs.Rows.{Row, Rest, left, services, exec_all, emits_all}
 use Rattle.exchange_model.proofs.Lists.{append_cancel}
 use Rattle.exchange_model.proofs.Moments
-use Rattle.segment_model.specs.Record.{Frame, heard}
+use Rattle.segment_model.specs.Record.{Frame}
 use Rattle.segment_model.specs.Ends.{Outcome}
-use Rattle.segment_model.specs.Seats.{Seat, link_of, is_over}
+use Rattle.segment_model.specs.Seats.{Seat, link_of}
 use Rattle.segment_model.specs.Laws.{IsSettled, WantsNothing, NothingInHand}
 use Rattle.segment_model.proofs.Overs.{over_parts}
 use Rattle.segment_model.proofs.Rests.{all_taken, all_offered}
@@ -16,12 +16,12 @@ use Rattle.state_exchange.specs.Stated.{Stated, IsStated, Act, Service, Counting
 use Rattle.state_exchange.proofs.Acts.{mails_acts, emitted_acts, left_mails, left_none, executed}
 use Rattle.state_exchange.proofs.StatedLaw.{stated_law}
 use Rattle.task_model.specs.Accounts.{Account, is_free}
-use Rattle.task_model.specs.Promise.{TasksRest, TasksRestIf, services_in, mails_in}
-use Rattle.task_model.proofs.Ghosts.{GhostRow, counting, starts_of, MailsNow, StateNow, Staged, Rowed, Untouched, Carried}
+use Rattle.task_model.specs.Promise.{TasksRest, services_in}
+use Rattle.task_model.proofs.Ghosts.{GhostRow, counting, starts_of, MailsNow, StateNow, Staged, Rowed, Untouched}
 use Rattle.task_model.proofs.Stately.{state_over}
 use Rattle.task_model.proofs.Completed.{all_ended}
 use Rattle.task_model.proofs.Newest.{Holds, newest_over}
-use Rattle.task_model.proofs.Dones.{by_kind, services_same}
+use Rattle.task_model.proofs.Dones.{by_kind, services_same, services_length}
 
 module _ {V A M Q R : Type 0} (x : Exchange V A M Q R) (law : IsLawful x) (s : Stated V A Q) (stated : IsStated x s) (table : Table) (more : M → Bool) (start : ℕ) (is : IsTable table start)
     (fs : List (Frame M)) (seat : Seat V M Q R) (a : Account Q R) (h : Holds x law s stated table more start is fs seat a) (settled : IsSettled seat.slave) (wants : WantsNothing x seat.side) (idle : a.hand ≡ None) where
@@ -91,7 +91,7 @@ module _ {V A M Q R : Type 0} (x : Exchange V A M Q R) (law : IsLawful x) (s : S
   rest_of gs started r =
       let qs : services gs ≡ services_in a.started = services_same gs ∙ ap services_in started in
       let w = after both.serve at_start h.carried.taken in
-      let size : length gs ≡ length (services_in a.started) = services_length gs ∙ ap length qs in
+      let size : length gs ≡ length (services_in a.started) = sym (services_length gs) ∙ ap length qs in
       let done : both.app w ≡ exec_all both (x.app seat.start, 0) (services_in a.started) = r.app ∙ ap (exec_all both (x.app seat.start, 0)) qs in
       let words : w.words ≡ 0 + states_in (services_in a.started) = ap (λ (p : A × ℕ). p.1) done ∙ executed x s table (x.app seat.start) 0 (services_in a.started) in
       let kinds = by_kind (services_in a.started) in
@@ -104,10 +104,6 @@ module _ {V A M Q R : Type 0} (x : Exchange V A M Q R) (law : IsLawful x) (s : S
             ∙ sym (ap mails (emitted_acts x.emission seat.accepted) ∙ mails_acts (emitted x.emission seat.accepted))
             ∙ ap mails r.emissions ∙ ap (λ l. mails (emits_all both (x.app seat.start, 0) l)) qs;
       }
-    where
-      services_length : (rows : List (GhostRow M Q R)) → length rows ≡ length (services rows)
-      services_length [] = refl
-      services_length (g ∷ rows) = ap suc (services_length rows)
 
   pub rests : TasksRest x s table more fs seat.station seat.start seat.side a seat.slave
   rests = elim h.carried.rows [

@@ -1,29 +1,26 @@
 -- What a session with accounts keeps of each slave, turn by turn, and what it promises.
-use Rattle.std.proofs.Common.{◌≡◌, inl, inr, ℕ, Bool, true, Option, Some, None, List, [], ◌∷◌, ◌++◌, map, length, refl, ap, sym, ◌∙◌, subst}
-use Rattle.std.specs.Prelude.{⊤}
+use Rattle.std.proofs.Common.{◌≡◌, ℕ, Bool, true, None, List, [], ◌∷◌, ◌++◌, map, length, refl, ap, sym, ◌∙◌, subst}
 use Rattle.exchange_model.specs.Exchange.{Exchange, IsLawful}
 use Rattle.link_model.specs.Segment.{RingFate, Distinct}
 use Rattle.link_model.specs.Frames.{IsFrameFor}
-use Rattle.segment_model.specs.Slaves.{Slave, Processor, Datagram, Ring, grams, slave_after, frame_after, all_back, ring_back}
-use Rattle.segment_model.specs.Record.{Frame, back_news, all_told, told_behind}
-use Rattle.segment_model.specs.Seats.{Side, Seat, Planned, IsPlan, AllReady, IsFrame, IsOpening, ring_of, sides_of, seat_next, seats_next, seat_back, seats_back, seats_after, side_begins, side_lost, seat_steps, writes, new_seats}
+use Rattle.segment_model.specs.Slaves.{Slave, Processor, Datagram, Ring, grams, slave_after, frame_after, ring_back}
+use Rattle.segment_model.specs.Record.{Frame}
+use Rattle.segment_model.specs.Seats.{Side, Seat, Planned, AllReady, IsFrame, IsOpening, ring_of, sides_of, seat_next, seats_next, seat_back, seats_after, side_begins, side_lost, seat_steps, writes, new_seats}
 use Rattle.segment_model.specs.Laws.{EachSeat}
 use Rattle.segment_model.proofs.Answers.{kept_of}
 use Rattle.segment_model.proofs.Sounds.{SeatAgrees, next_agrees, step_agrees}
-use Rattle.segment_model.proofs.Written.{Tells, frame_tells}
+use Rattle.segment_model.proofs.Written.{frame_tells}
 use Rattle.segment_model.proofs.Posts.{writes-all_back}
-use Rattle.segment_model.proofs.Handed.{Posts, NowFacts, next_posts, back_posts, lost_posts}
+use Rattle.segment_model.proofs.Handed.{Posts, next_posts, back_posts, lost_posts}
 use Rattle.segment_model.proofs.Hands.{SeatPosts, new_posts}
 use Rattle.segment_model.proofs.Kept.{Records, Follows, nexts_records, nexts_follow, afters_follow, turn_follows, new_follows}
 use Rattle.state_model.specs.States.{Table}
-use Rattle.state_model.specs.Promises.{statuses}
 use Rattle.state_exchange.specs.Stated.{Stated, IsStated}
 use Rattle.task_model.specs.Accounts.{Account, Pick, mails_begin, mails_choice, account_begins, account_next, account_back}
-use Rattle.task_model.specs.Tasks.{TaskTurn, TaskSession, IsBrought, AllBrought, IsTaskPlan, IsTasked, AreServed, MayRun, mails_choices, mails_turn, accounts_next, accounts_after, happens, run, new_accounts, new_tasks}
+use Rattle.task_model.specs.Tasks.{TaskTurn, TaskSession, AllBrought, IsTaskPlan, IsTasked, AreServed, MayRun, mails_choices, mails_turn, accounts_next, accounts_after, happens, run, new_accounts, new_tasks}
 use Rattle.task_model.specs.Promise.{EachTask, TasksPromised, TasksRest, TasksRestIf}
-use Rattle.task_model.proofs.Served.{Served}
 use Rattle.task_model.proofs.Stately.{state_over, free_state, step_state}
-use Rattle.task_model.proofs.Walks.{EachOne, IsPlaced, AllApart, SeatMet, seats_apart, all_apart, all_reach, each_map, each_both, each_next, each_back, each_lost, each_steps}
+use Rattle.task_model.proofs.Walks.{EachOne, IsPlaced, AllApart, SeatMet, seats_apart, all_apart, all_reach, each_map, each_next, each_back, each_lost, each_steps}
 use Rattle.task_model.proofs.Turns.{IsStately, next_is, back_is, lost_is, missed_is, step_is, new_is}
 use Rattle.task_model.proofs.Ghosts.{Carried}
 use Rattle.task_model.proofs.Begins.{carried_begins, carried_next}
@@ -214,7 +211,7 @@ module _ {V A M Q R : Type 0} (x : Exchange V A M Q R) (law : IsLawful x) (s : S
     pub stations : Distinct (map (λ (t : Seat V M Q R). t.station) w.session.seats)
     pub each : EachOne (Whole w.session.frames) ps w.session.seats w.accounts
 
-  placed_of : (fs : List (Frame M)) (ps : List (Planned V)) (ss : List (Seat V M Q R)) (as_kept : List (Account Q R)) → EachOne (Whole fs) ps ss as_kept → EachOne IsPlaced ps ss as_kept
+  placed_of : (fs : List (Frame M)) (ps : List (Planned V)) (ss : List (Seat V M Q R)) (accounts : List (Account Q R)) → EachOne (Whole fs) ps ss accounts → EachOne IsPlaced ps ss accounts
   placed_of fs ps ss accounts h = each_map (Whole fs) IsPlaced (λ p seat a k. k.is.placed) ps ss accounts h
 
   seats_of : (P : Seat V M Q R → Type 0) (O : Planned V → Seat V M Q R → Account Q R → Type 0) → ((p : Planned V) (t : Seat V M Q R) (a : Account Q R) → O p t a → P t) → (ps : List (Planned V)) (ss : List (Seat V M Q R)) (accounts : List (Account Q R)) → EachOne O ps ss accounts → EachSeat P ss

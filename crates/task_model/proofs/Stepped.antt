@@ -14,7 +14,7 @@ use Rattle.segment_model.proofs.Links.{served_server, served_gives}
 use Rattle.segment_model.proofs.Sounds.{SeatAgrees}
 use Rattle.state_model.specs.States.{Table, Phase, carry}
 use Rattle.state_model.specs.Promises.{state_behind}
-use Rattle.state_exchange.specs.Stated.{Stated, IsStated, Act, acts, mails, with_states}
+use Rattle.state_exchange.specs.Stated.{Stated, IsStated, Act, acts, with_states}
 use Rattle.state_exchange.proofs.Acts.{acts_append, mails_acts, mails_append, after_acts, given_acts, state_kept}
 use Rattle.state_exchange.proofs.StatedLaw.{stated_law}
 use Rattle.task_model.specs.Accounts.{Account, Duty, Stage, new_account}

@@ -4,13 +4,13 @@ use Rattle.std.proofs.Common.{◌≡◌, ℕ, false, true, Option, Some, None, L
 use Rattle.exchange_model.specs.Toy.{Mail, first, second, held, total, refused, noted, Service, sum}
 use Rattle.link_model.specs.Frames.{Ask, IsSent}
 use Rattle.link_model.specs.Segment.{RingFate}
-use Rattle.segment_model.specs.Slaves.{Registers, Processor, Address, Access, Datagram}
+use Rattle.segment_model.specs.Slaves.{Processor, Address, Access, Datagram}
 use Rattle.segment_model.specs.Record.{heard}
 use Rattle.segment_model.specs.Ends.{Outcome}
-use Rattle.segment_model.specs.Seats.{Seat, Planned, rows_of, sides_of, ring_of}
+use Rattle.segment_model.specs.Seats.{Planned, sides_of, ring_of}
 use Rattle.state_model.specs.States
 use Rattle.state_exchange.specs.Stated
-use Rattle.state_exchange.specs.Toys.{Sheet, Desk, desk, desk_states, steps}
+use Rattle.state_exchange.specs.Toys.{Desk, desk, desk_states, steps}
 use Rattle.state_exchange.proofs.ToyLaw.{desk_law, desk_is_stated}
 use Rattle.task_model.specs.Accounts.{Started, Account, IsServed}
 use Rattle.task_model.specs.Tasks.{TaskTurn, TaskSession, IsTaskPlan, IsTasked, MayRun, new_tasks, run}

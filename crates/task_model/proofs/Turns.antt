@@ -1,23 +1,21 @@
--- Registers, accounts and the record of a session: each slave that answers to its station keeps its invariant, turn by turn.
+-- Registers, accounts and the record of a session: a slave that answers to its station keeps its invariant by a choice, a frame and a step.
 use Rattle.std.proofs.Common.{◌≡◌, ℕ, Bool, List, [], ◌∷◌, ◌++◌, length, refl, ap, sym, ◌∙◌, subst}
 use Rattle.std.specs.Prelude.{⊤}
 use Rattle.exchange_model.specs.Exchange.{Exchange}
-use Rattle.link_model.specs.Segment.{RingFate}
-use Rattle.segment_model.specs.Slaves.{Processor, Datagram, slave_after, frame_after, ring_back}
+use Rattle.segment_model.specs.Slaves.{Processor, Datagram, slave_after, frame_after}
 use Rattle.segment_model.specs.Record.{Frame, frame_news, back_news}
-use Rattle.segment_model.specs.Seats.{Seat, Planned, ring_of, sides_of, seat_next, seats_next, seat_back, seats_after, side_lost, seat_steps, new_seats}
-use Rattle.segment_model.specs.Laws.{EachSeat}
+use Rattle.segment_model.specs.Seats.{Seat, Planned, seat_next, seat_back, side_lost, seat_steps, new_seats}
 use Rattle.segment_model.proofs.Answers.{kept_of}
 use Rattle.state_model.specs.States
 use Rattle.state_model.specs.States.{Table}
 use Rattle.state_model.specs.Promises.{statuses}
 use Rattle.state_exchange.specs.Stated.{Stated}
 use Rattle.task_model.specs.Accounts.{Account, Pick, mails_choice, account_next, account_back}
-use Rattle.task_model.specs.Tasks.{TaskTurn, TaskSession, IsBrought, AllBrought, IsTaskPlan, AreServed, MayRun, mails_choices, accounts_next, accounts_after, happens, run, new_accounts, new_tasks}
+use Rattle.task_model.specs.Tasks.{IsBrought, AllBrought, new_accounts}
 use Rattle.task_model.proofs.Rings.{SamePlace, same_place, place_on}
 use Rattle.task_model.proofs.Carries.{carry_place}
 use Rattle.task_model.proofs.Stately.{Stately, next_stately, back_stately, lost_stately, missed_stately, step_stately, new_stately, statuses_frame}
-use Rattle.task_model.proofs.Walks.{EachOne, IsPlaced, AllApart, SeatMet, seats_apart, all_apart, all_reach, each_map, each_next, each_back, each_lost, each_steps}
+use Rattle.task_model.proofs.Walks.{EachOne, IsPlaced, SeatMet}
 
 module _ {V A M Q R : Type 0} (x : Exchange V A M Q R) (stated : Stated V A Q) (processor : Processor V) (table : ℕ → Table) where
   -- THE INVARIANT of one slave of a plan
@@ -76,47 +74,6 @@ module _ {V A M Q R : Type 0} (x : Exchange V A M Q R) (stated : Stated V A Q) (
         stately = λ answers. subst (λ n. Stately (table p.station) p.registers.state k.brought.sits s.station fs n a) (sym same) (step_stately (table p.station) p.registers.state k.brought.sits s.station fs r a (k.stately answers));
       }
 
-  pub each_placed : (fs : List (Frame M)) (ps : List (Planned V)) (ss : List (Seat V M Q R)) (more : List (Account Q R)) → EachOne (IsStately fs) ps ss more → EachOne IsPlaced ps ss more
-  each_placed fs ps ss more h = each_map (IsStately fs) IsPlaced (λ p s a k. k.placed) ps ss more h
-
-  all_tt : (ss : List (Seat V M Q R)) → EachSeat (λ s. ⊤) ss
-  all_tt [] = tt
-  all_tt (s ∷ ss) = (tt, all_tt ss)
-
-  -- A FRAME of whichever fate
-  pub frame_is : (fs : List (Frame M)) (ps : List (Planned V)) (ss : List (Seat V M Q R)) (more : List (Account Q R)) (sent : List (Datagram M)) (fate : RingFate) → AllApart ps → AreServed (sides_of ss) more sent → EachOne (IsStately fs) ps ss more →
-      EachOne (IsStately (fs ++ record { sent = sent; fate = fate; back = ring_back (ring_of ss) sent fate } ∷ [])) ps (seats_after x (length fs) ss sent fate) (accounts_after (length fs) (sides_of ss) more fate (ring_back (ring_of ss) sent fate))
-  frame_is fs ps ss more sent RingFate.Back apart served h =
-      let f : Frame M = record { sent = sent; fate = RingFate.Back; back = ring_back (ring_of ss) sent RingFate.Back } in
-      let placed = each_placed fs ps ss more h in
-      each_back x (length fs) (IsStately fs) (IsStately (fs ++ f ∷ [])) (λ s. ⊤) f.back (back_is fs f) ps ss more sent refl (seats_apart ps ss more apart placed) placed (all_reach ss more sent served) (all_tt _) h
-  frame_is fs ps ss more sent (RingFate.Lost after) apart served h =
-      let f : Frame M = record { sent = sent; fate = RingFate.Lost after; back = [] } in
-      let placed = each_placed fs ps ss more h in
-      each_lost x (length fs) (IsStately fs) (IsStately (fs ++ f ∷ [])) (λ s. ⊤) sent (lost_is fs f refl) (missed_is fs f refl) after ps ss more sent (seats_apart ps ss more apart placed) placed (all_reach ss more sent served) (all_tt _) h
-
-  -- A TURN
-  pub turn_is : (acknowledged : Q → Bool) (ps : List (Planned V)) (w : TaskSession V M Q R) (t : TaskTurn M Q) → AllApart ps →
-      (let n = length w.session.frames in
-      let asked = seats_next x n w.session.seats (mails_choices w.accounts t.picks) in
-      AreServed (sides_of asked) (accounts_next x acknowledged n (sides_of w.session.seats) w.accounts t.picks) t.move.sent) →
-      EachOne (IsStately w.session.frames) ps w.session.seats w.accounts → (let z = happens x acknowledged processor w t in EachOne (IsStately z.session.frames) ps z.session.seats z.accounts)
-  turn_is acknowledged ps w t apart served h =
-      let fs = w.session.frames in
-      let asked = seats_next x (length fs) w.session.seats (mails_choices w.accounts t.picks) in
-      let counted = accounts_next x acknowledged (length fs) (sides_of w.session.seats) w.accounts t.picks in
-      let next = each_next x (IsStately fs) acknowledged (length fs) (next_is acknowledged fs) ps w.session.seats w.accounts t.picks h in
-      let behind = frame_is fs ps asked counted t.move.sent t.move.fate apart served next in
-      let f : Frame M = record { sent = t.move.sent; fate = t.move.fate; back = ring_back (ring_of asked) t.move.sent t.move.fate } in
-      each_steps x (IsStately (fs ++ f ∷ [])) processor (step_is (fs ++ f ∷ [])) t.move.steps ps (seats_after x (length fs) asked t.move.sent t.move.fate)
-      (accounts_after (length fs) (sides_of asked) counted t.move.fate (ring_back (ring_of asked) t.move.sent t.move.fate)) behind
-
-  -- ANY TURNS
-  pub run_is : (acknowledged : Q → Bool) (ps : List (Planned V)) (w : TaskSession V M Q R) (ts : List (TaskTurn M Q)) → AllApart ps → MayRun x acknowledged processor w ts → EachOne (IsStately w.session.frames) ps w.session.seats w.accounts →
-      (let z = run x acknowledged processor w ts in EachOne (IsStately z.session.frames) ps z.session.seats z.accounts)
-  run_is acknowledged ps w [] apart may h = h
-  run_is acknowledged ps w (t ∷ ts) apart may h = run_is acknowledged ps (happens x acknowledged processor w t) ts apart may.1 (turn_is acknowledged ps w t apart may.0.1 h)
-
   -- AT THE END OF BRING-UP
   pub new_is : (opening : List (Frame M)) (ps : List (Planned V)) → AllBrought x stated processor table ps → EachOne (IsStately opening) ps (new_seats ps) (new_accounts ps)
   new_is opening [] brought = tt
@@ -128,8 +85,3 @@ module _ {V A M Q R : Type 0} (x : Exchange V A M Q R) (stated : Stated V A Q) (
     },
     new_is opening ps brought.1,
   )
-
-  -- EVERY SESSION of a plan
-  pub session_is : (acknowledged : Q → Bool) (ps : List (Planned V)) → IsTaskPlan x stated processor table ps → (opening : List (Frame M)) (ts : List (TaskTurn M Q)) → MayRun x acknowledged processor (new_tasks {Q = Q} {R = R} opening ps) ts →
-      (let z = run x acknowledged processor (new_tasks {R = R} opening ps) ts in EachOne (IsStately z.session.frames) ps z.session.seats z.accounts)
-  session_is acknowledged ps plan opening ts may = run_is acknowledged ps (new_tasks opening ps) ts (all_apart [] ps plan.apart) may (new_is opening ps plan.brought)

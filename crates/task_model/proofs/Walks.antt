@@ -55,7 +55,7 @@ pub all_apart : {V : Type 0} (before ps : List (Planned V)) → Apart before ps 
 all_apart before [] apart = tt
 all_apart before (p ∷ ps) apart = (apart.0.1, leaves_planned before p [] ps apart.1, all_apart (before ++ p ∷ []) ps apart.1)
 
--- a fact of each gives another, and two facts of each are one
+-- a fact of each gives another
 pub each_map : {V M Q R : Type 0} (P O : Planned V → Seat V M Q R → Account Q R → Type 0) → ((p : Planned V) (s : Seat V M Q R) (a : Account Q R) → P p s a → O p s a) →
     (ps : List (Planned V)) (ss : List (Seat V M Q R)) (more : List (Account Q R)) → EachOne P ps ss more → EachOne O ps ss more
 each_map P O f [] [] [] h = tt
@@ -64,15 +64,6 @@ each_map P O f [] (s ∷ ss) more h = absurd h
 each_map P O f (p ∷ ps) [] more h = absurd h
 each_map P O f (p ∷ ps) (s ∷ ss) [] h = absurd h
 each_map P O f (p ∷ ps) (s ∷ ss) (a ∷ more) h = (f p s a h.0, each_map P O f ps ss more h.1)
-
-pub each_both : {V M Q R : Type 0} (P O : Planned V → Seat V M Q R → Account Q R → Type 0) (ps : List (Planned V)) (ss : List (Seat V M Q R)) (more : List (Account Q R)) → EachOne P ps ss more → EachOne O ps ss more →
-    EachOne (λ p s a. P p s a × O p s a) ps ss more
-each_both P O [] [] [] h k = tt
-each_both P O [] [] (a ∷ more) h k = absurd h
-each_both P O [] (s ∷ ss) more h k = absurd h
-each_both P O (p ∷ ps) [] more h k = absurd h
-each_both P O (p ∷ ps) (s ∷ ss) [] h k = absurd h
-each_both P O (p ∷ ps) (s ∷ ss) (a ∷ more) h k = ((h.0, k.0), each_both P O ps ss more h.1 k.1)
 
 module _ {V M Q R : Type 0} where
   none_answers : (station other : ℕ) (ps : List (Planned V)) (ss : List (Seat V M Q R)) (more : List (Account Q R)) → station ≡ other → Nobody other ps → EachOne IsPlaced ps ss more → NoneAnswers station (ring_of ss)

@@ -1,8 +1,8 @@
 -- What a session of services by mails and state services promises of each slave.
-use Rattle.std.specs.Prelude.{◌≡◌, ℕ, suc, ◌+◌, ◌<◌, ◌≤◌, Bool, true, Option, Some, None, List, [], ◌∷◌, map, take, length, ⊤}
+use Rattle.std.specs.Prelude.{◌≡◌, ℕ, suc, ◌+◌, ◌<◌, ◌≤◌, Bool, Option, Some, None, List, [], ◌∷◌, map, take, length, ⊤}
 use Rattle.exchange_model.specs.Prefix.{IsPrefixOf}
 use Rattle.exchange_model.specs.Exchange.{Exchange, emitted}
-use Rattle.exchange_model.specs.Rows.{Row, exec_all, emits_all}
+use Rattle.exchange_model.specs.Rows.{exec_all, emits_all}
 use Rattle.segment_model.specs.Slaves.{Slave, Ring}
 use Rattle.segment_model.specs.Record.{Frame, first_end, news_from, heard}
 use Rattle.segment_model.specs.Ends.{Task, Outcome, ends}

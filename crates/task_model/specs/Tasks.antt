@@ -1,12 +1,11 @@
 -- A session in which services go by mails or change AL states: the session of the mails, and beside each slave its account.
-use Rattle.std.specs.Prelude.{◌≡◌, ℕ, ◌==◌, Bool, false, Option, Some, None, List, [], ◌∷◌, ◌++◌, map, length, ⊤}
+use Rattle.std.specs.Prelude.{◌≡◌, ℕ, ◌==◌, Bool, false, None, List, [], ◌∷◌, ◌++◌, map, length, ⊤}
 use Rattle.exchange_model.specs.Exchange.{Exchange}
 use Rattle.link_model.specs.Segment.{RingFate}
 use Rattle.segment_model.specs.Slaves.{Registers, Processor, Datagram, Ring, ring_back, Move}
 use Rattle.segment_model.specs.Record.{Frame}
 use Rattle.segment_model.specs.Seats
 use Rattle.segment_model.specs.Seats.{Side, Choice, Turn, Session, Planned, IsPlan, IsFrame, IsOpening, seats_next, ring_of, sides_of, new_session}
-use Rattle.segment_model.specs.Split.{IsFrameOf, sides_next}
 use Rattle.state_model.specs.States
 use Rattle.state_model.specs.States.{Table}
 use Rattle.state_model.specs.Promises.{IsTable}
