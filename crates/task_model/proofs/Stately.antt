@@ -431,19 +431,6 @@ module _ {M Q R : Type 0} (table : Table) (start : ℕ) (is : IsTable table star
   pub free_state : (fs : List (Frame M)) (r : Registers) (a : Account Q R) → Stately table start is station fs r a → a.hand ≡ None → (r.state ≡ state_over table start a.over) × (r.refused ≡ None)
   free_state fs r a k e = let idle = subst (λ h. AtHand table (state_over table start a.over) h r) e (at_hand fs r a k) in (idle.state, idle.refused)
 
-  pub drains_state : (fs : List (Frame M)) (r : Registers) (a : Account Q R) (target begun : ℕ) → Stately table start is station fs r a → a.hand ≡ Some (duty_of target begun Stage.Drains) →
-      (r.state ≡ state_over table start a.over) × (r.refused ≡ None)
-  drains_state fs r a target begun k e = let idle = subst (λ h. AtHand table (state_over table start a.over) h r) e (at_hand fs r a k) in (idle.state, idle.refused)
-
-  pub goes_state : (fs : List (Frame M)) (r : Registers) (a : Account Q R) (target begun : ℕ) (phase : Phase) → Stately table start is station fs r a → a.hand ≡ Some (duty_of target begun (Stage.Goes phase)) →
-      InHand table (state_over table start a.over) target phase r
-  goes_state fs r a target begun phase k e = subst (λ h. AtHand table (state_over table start a.over) h r) e (at_hand fs r a k)
-
-  -- behind the frame that closed a service the state is the one behind it
-  pub closed_state : (fs : List (Frame M)) (r : Registers) (a : Account Q R) (os : List (Change R)) (o : Change R) → Stately table start is station fs r a → a.hand ≡ None → a.over ≡ os ++ o ∷ [] →
-      r.state ≡ state_behind table (state_over table start os) o.target
-  closed_state fs r a os o k none e = (free_state fs r a k none).0 ∙ ap (state_over table start) e ∙ state_over-push table start os o
-
   -- of each state service that is over the answer is the table's
   pub over_answers : (fs : List (Frame M)) (r : Registers) (a : Account Q R) → Stately table start is station fs r a → AllTabled table start a.over
   over_answers fs r a k = go start k.closed a.over k.holds.told k.over
