@@ -9,8 +9,8 @@ use Rattle.segment_model.specs.Slaves.{Serving, Registers, Address, Access, Data
 use Rattle.segment_model.specs.Record.{News, is_for, found_news, back_news}
 use Rattle.state_model.specs.States.{Phase, Turn, phase_written, word_of, word_met, shown, reads}
 use Rattle.state_model.specs.Promises.{statuses}
-use Rattle.task_model.specs.Accounts.{Account, Duty, Stage, IsOther, IsServed, Progress, phase_access, stage_access, duty_access, is_quiet, is_later, account_met, account_by, account_back, access_done, turn_progress, found_done}
-use Rattle.task_model.proofs.Rings.{Reaches, NoneAnswers, LaterAccess, reaches, reaches_later, later_after, statuses_back, ring_account, ring_statuses, ring_reaches, status_seen, statuses_seen, quiet_met, differ, place_after, other_apart, for_behind}
+use Rattle.task_model.specs.Accounts.{Account, Duty, Stage, IsOther, Progress, phase_access, stage_access, duty_access, is_quiet, is_later, account_met, account_by, account_back, access_done, turn_progress, found_done}
+use Rattle.task_model.proofs.Rings.{Reaches, NoneAnswers, LaterAccess, reaches_later, later_after, statuses_back, ring_account, ring_statuses, status_seen, statuses_seen, quiet_met, differ, place_after, other_apart, for_behind}
 
 -- the account with this state service in hand
 abbrev pub goes_on : {Q R : Type 0} → Account Q R → ℕ → ℕ → Stage → Account Q R
@@ -380,14 +380,6 @@ module _ {V M : Type 0} (station : ℕ) where
       served_as refl (λ e. e) (ring_account station frame a behind (frame_after station s ds) none later)
       (statuses_back station last (all_back behind (frame_after station s ds)) ∙ ring_statuses station behind (frame_after station s ds) none later)
       (serves frame s a ds at is)
-
-  -- A FRAME AROUND A RING in which no other slave answers to the station
-  pub serves_ring : {Q R : Type 0} (frame last : ℕ) (s : Slave V M) (a : Account Q R) (before behind : Ring V M) (sent : List (Datagram M)) → s.registers.station ≡ station → NoneAnswers station before → NoneAnswers station behind →
-      LaterAccess (duty_access a.hand) → IsServed station (duty_access a.hand) sent →
-      (let ds = all_back before sent in let back = all_back behind (frame_after station s ds) in
-      Served s.registers (slave_after station s ds).registers s.node.out.box frame a (account_back station frame a back) (statuses (back_news station last back)))
-  serves_ring frame last s a before behind sent at none nobody later is =
-      serves_on frame last s a behind (all_back before sent) at nobody (ring_reaches station before (duty_access a.hand) sent none (reaches station (duty_access a.hand) sent later is))
 
 -- what an account sends is such an access
 pub later_duty : (hand : Option Duty) → LaterAccess (duty_access hand)

@@ -7,6 +7,7 @@ use Rattle.link_model.specs.Segment.{RingFate}
 use Rattle.segment_model.specs.Slaves.{Processor, Address, Access, Datagram}
 use Rattle.segment_model.specs.Record.{heard}
 use Rattle.segment_model.specs.Ends.{Outcome}
+use Rattle.segment_model.specs.Laws.{IsSettled, WantsNothing}
 use Rattle.segment_model.specs.Seats.{Planned, sides_of, ring_of}
 use Rattle.state_model.specs.States
 use Rattle.state_exchange.specs.Stated
@@ -143,3 +144,7 @@ tasked = record { opening = []; quiet = tt; turns = turns; may = may; sides = re
 
 kept : EachTask (λ station start d a n. TasksPromised desk desk_states steps (λ m. false) ended.session.frames station start d a n) one (sides_of ended.session.seats) ended.accounts (ring_of ended.session.seats)
 kept = tasks_promised desk desk_law desk_states desk_is_stated processor (λ station. steps) (λ m. false) plan.tells one plan (sides_of ended.session.seats) ended.accounts (ring_of ended.session.seats) ended.session.frames tasked
+
+-- and what they say with nothing left
+rested : EachTask (λ station start d a n. IsSettled n × WantsNothing desk d × (a.hand ≡ None)) one (sides_of ended.session.seats) ended.accounts (ring_of ended.session.seats)
+rested = ((refl, refl, λ answers. (record { first = refl; second = refl; withdrawn = refl; waiting = refl }, record { idle = refl; clear = refl; nothing = refl }, refl)), tt)

@@ -10,7 +10,6 @@ ghost use Rattle.segment_model.specs.Slaves.{Processor, Ring, Move, ring_after, 
 ghost use Rattle.segment_model.specs.Record.{Frame, frame_of};
 ghost use Rattle.segment_model.specs.Seats.{Side, Planned, IsOpening, ring_of, sides_of};
 ghost use Rattle.segment_model.specs.Split.{IsBound, IsFrameOf, sides_next, sides_after};
-ghost use Rattle.segment_model.specs.Laws.{HandedBy};
 ghost use Rattle.state_model.specs.States.{Table};
 ghost use Rattle.state_exchange.specs.Stated.{Stated, IsStated};
 ghost use Rattle.task_model.specs.Accounts.{Account, Pick};
