@@ -8,7 +8,7 @@ use Rattle.exchange_model.proofs.Words.{given_part}
 use Rattle.state_exchange.specs.Stated.{AnswersLast}
 use Rattle.state_exchange.proofs.Acts.{filter_mapped}
 
-each_front : {M : Type 0} (P : M → Type 0) (xs ys : List M) → EachOf P (xs ++ ys) → EachOf P xs
+pub each_front : {M : Type 0} (P : M → Type 0) (xs ys : List M) → EachOf P (xs ++ ys) → EachOf P xs
 each_front P [] ys all = tt
 each_front P (x ∷ xs) ys all = (all.0, each_front P xs ys all.1)
 

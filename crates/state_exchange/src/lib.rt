@@ -1,5 +1,5 @@
 //! Services by mails and AL states of one slave as one exchange: a service by mails acts on the application in the AL state that stands, and a
-//! state service changes that state, each in its turn. No running code: the function here does nothing, and its contract states the law.
+//! state service changes that state, each in its turn. No running code: the functions here do nothing, and their contracts state the laws.
 #![tactic(auto)]
 
 ghost use Rattle.std.specs.Prelude.{◌≡◌, ℕ, Bool, length};
