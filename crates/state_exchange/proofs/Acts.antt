@@ -1,5 +1,5 @@
 -- Mails as what a server takes, and what an exchange with states makes of them.
-use Rattle.std.proofs.Common.{◌≡◌, ℕ, suc, ◌+◌, Bool, true, false, not, cond, List, [], ◌∷◌, ◌++◌, filter, length, drop, Option, None, Some, option_map, refl, sym, ap, ap₂, ◌∙◌, arith}
+use Rattle.std.proofs.Common.{◌≡◌, ℕ, suc, ◌+◌, Bool, true, false, not, cond, List, [], ◌∷◌, ◌++◌, filter, length, drop, map, Option, None, Some, option_map, refl, sym, ap, ap₂, ◌∙◌, arith}
 use Rattle.std.proofs.lemmas.List.{map-append, length-map}
 use Rattle.std.specs.List.{drop-map}
 use Rattle.exchange_model.specs.Prefix.{IsPrefixOf}
@@ -87,15 +87,19 @@ rest_acts (m ∷ ms) (a ∷ front) rest e =
 pub cut_mails : {M : Type 0} (ms : List M) (front rest : List (Act M)) → acts ms ≡ front ++ rest → ms ≡ mails front ++ mails rest
 cut_mails ms front rest e = sym (mails_acts ms) ∙ ap mails e ∙ mails_append front rest
 
--- a test of acts that is one of their mails keeps the same ones
-filter_acts : {M : Type 0} (p : Act M → Bool) (ms : List M) → filter p (acts ms) ≡ acts (filter (λ m. p (Act.Mail m)) ms)
-filter_acts p [] = refl
-filter_acts p (m ∷ ms) = keep (p (Act.Mail m)) (filter_acts p ms)
+-- a test of what is made keeps what is made of those that it keeps
+pub filter_mapped : {X Y : Type 0} (f : X → Y) (p : Y → Bool) (xs : List X) → filter p (map f xs) ≡ map f (filter (λ x. p (f x)) xs)
+filter_mapped f p [] = refl
+filter_mapped f p (x ∷ xs) = keep (p (f x)) (filter_mapped f p xs)
   where
-    keep : (b : Bool) → filter p (acts ms) ≡ acts (filter (λ n. p (Act.Mail n)) ms) →
-        cond b (Act.Mail m ∷ filter p (acts ms)) (filter p (acts ms)) ≡ acts (cond b (m ∷ filter (λ n. p (Act.Mail n)) ms) (filter (λ n. p (Act.Mail n)) ms))
-    keep true e = ap (λ l. Act.Mail m ∷ l) e
+    keep : (b : Bool) → filter p (map f xs) ≡ map f (filter (λ z. p (f z)) xs) →
+        cond b (f x ∷ filter p (map f xs)) (filter p (map f xs)) ≡ map f (cond b (x ∷ filter (λ z. p (f z)) xs) (filter (λ z. p (f z)) xs))
+    keep true e = ap (λ l. f x ∷ l) e
     keep false e = e
+
+-- a test of acts that is one of their mails keeps the same ones
+pub filter_acts : {M : Type 0} (p : Act M → Bool) (ms : List M) → filter p (acts ms) ≡ acts (filter (λ m. p (Act.Mail m)) ms)
+filter_acts p ms = filter_mapped (λ m. Act.Mail m) p ms
 
 pub plain_acts : {M : Type 0} (emission : M → Bool) (ms : List M) → plain (act_emission emission) (acts ms) ≡ acts (plain emission ms)
 plain_acts emission ms = filter_acts (λ a. not (act_emission emission a)) ms

@@ -1,4 +1,6 @@
 pub mod Acts
 pub mod StatedLaw
 pub mod Takens
+pub mod FamilyLaw
+pub mod Lasts
 pub mod ToyLaw

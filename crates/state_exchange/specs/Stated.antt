@@ -15,6 +15,12 @@ pub record Stated (V A Q : Type 0) : Type 0 where
   -- whether the last mail of a service is an acknowledgement, which brings no reply
   pub acknowledged : Q → Bool
 
+-- each mail of a service brings a reply at last, but for an acknowledgement: with all replies all mails were taken
+abbrev pub AnswersLast : {V A M Q R : Type 0} → Exchange V A M Q R → (Q → Bool) → Type 0
+AnswersLast {V} {M = M} {Q = Q} x acknowledged =
+    (v : V) (q : Q) → x.ready v ≡ true → x.valid q ≡ true → x.handed q ≡ false → acknowledged q ≡ false → (p r : List M) → x.full v q ≡ p ++ r →
+    plain x.emission (given x.serve v p) ≡ plain x.emission (given x.serve v (x.full v q)) → r ≡ []
+
 -- what such an exchange owes beside the laws of exchange
 pub record IsStated {V A M Q R : Type 0} (x : Exchange V A M Q R) (s : Stated V A Q) : Type 0 where
   -- the AL state is one of the application's parts: telling it leaves the rest of the server
@@ -27,9 +33,8 @@ pub record IsStated {V A M Q R : Type 0} (x : Exchange V A M Q R) (s : Stated V 
   -- no mail changes it, and no service by mails
   pub stays : (v : V) (m : M) → s.state (x.app (x.serve v m).0) ≡ s.state (x.app v)
   pub keeps : (a : A) (q : Q) → s.state (x.exec a q) ≡ s.state a
-  -- each mail of a service brings a reply at last, but for an acknowledgement: with all replies all mails were taken
-  pub last : (v : V) (q : Q) → x.ready v ≡ true → x.valid q ≡ true → x.handed q ≡ false → s.acknowledged q ≡ false → (p r : List M) → x.full v q ≡ p ++ r →
-      plain x.emission (given x.serve v p) ≡ plain x.emission (given x.serve v (x.full v q)) → r ≡ []
+  -- but for an acknowledgement no mail is left behind the last reply
+  pub last : AnswersLast x s.acknowledged
 
 -- what a server takes: a mail, or a control word with this target
 pub data Act (M : Type 0) : Type 0 where
