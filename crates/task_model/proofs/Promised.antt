@@ -16,14 +16,14 @@ use Rattle.state_exchange.specs.Stated.{Stated, IsStated, Act, Service, Counting
 use Rattle.state_exchange.proofs.Acts.{mails_acts, mails_append, emitted_acts, left_none, executed}
 use Rattle.state_exchange.proofs.StatedLaw.{stated_law}
 use Rattle.task_model.specs.Accounts.{Duty, Account}
-use Rattle.task_model.specs.Promise.{TasksPromised, AllReplied, AllDone, services_in}
+use Rattle.task_model.specs.Promise.{TasksPromised, AllReplied, AllDone, services_in, states_started, state_found, IsOpenYet}
 use Rattle.task_model.proofs.Ghosts.{GhostRow, counting, starts_of, labels_of, mail_labels, Staged, Now, Rowed, Untouched, mail_labels_append, labels_append, shown_label, state_label}
 use Rattle.task_model.proofs.Begins.{accepted_begin}
-use Rattle.task_model.proofs.Stately.{Stately, state_over, at_hand, free_state, over_answers, over_outcomes, duty_outcome, duty_in, changes_in}
+use Rattle.task_model.proofs.Stately.{Stately, state_over, at_hand, free_state, over_answers, over_outcomes, duty_outcome}
 use Rattle.task_model.proofs.Stately
 use Rattle.task_model.proofs.Completed.{completed_rises, completed_ended}
 use Rattle.task_model.proofs.Newest.{Holds, answered}
-use Rattle.task_model.proofs.Replies.{AllLabelled, IsOpenYet, rows_labelled, replied_all, state_found}
+use Rattle.task_model.proofs.Replies.{AllLabelled, rows_labelled, replied_all}
 use Rattle.task_model.proofs.Dones.{StateBelow, StatesBelow, by_kind, services_same, starts_length, services_length, front_below, all_counted, below_all, done_all}
 
 -- the emissions among acts that begin others
@@ -53,10 +53,10 @@ module _ {V A M Q R : Type 0} (x : Exchange V A M Q R) (law : IsLawful x) (s : S
     pub labels : AllLabelled x more seat.station fs (mail_labels gs)
     pub below : StatesBelow x more seat.station fs fits.count 0 gs
 
-  open_yet : Kept → IsOpenYet {Q = Q} x more seat.station fs a.hand
+  pub open_yet : Kept → IsOpenYet x more seat.station fs a.hand
   open_yet h = go a.hand refl
     where
-      go : (hand : Option Duty) → a.hand ≡ hand → IsOpenYet {Q = Q} x more seat.station fs hand
+      go : (hand : Option Duty) → a.hand ≡ hand → IsOpenYet x more seat.station fs hand
       go None e = tt
       go (Some duty) e = (duty_outcome table start is seat.station x more fs seat.slave.registers a duty h.stately e).0
 
@@ -78,7 +78,7 @@ module _ {V A M Q R : Type 0} (x : Exchange V A M Q R) (law : IsLawful x) (s : S
         prefix = let few = f.prefix in omega (arith, few, size);
         behind = let few = f.behind in omega (arith, few, size);
         replied = subst (AllReplied x s table more seat.station fs (x.app seat.start, 0)) k.started
-            (replied_all x more seat.station fs s stated table gs (x.app seat.start, 0) a.over a.hand f.replied k.labels (ap Stately.states_in k.started ∙ h.stately.started)
+            (replied_all x more seat.station fs s stated table gs (x.app seat.start, 0) a.over a.hand f.replied k.labels (ap states_started k.started ∙ h.stately.started)
             (subst (λ n. Stately.AllTabled table n a.over) (sym h.begun) (over_answers table start is seat.station fs seat.slave.registers a h.stately))
             (over_outcomes table start is seat.station x more fs seat.slave.registers a h.stately) (open_yet h));
         in_done = subst (AllDone x more seat.station fs f.count 0) k.started (done_all x more seat.station fs f.count 0 gs f.in_done k.below k.labels);
@@ -116,7 +116,7 @@ module _ {V A M Q R : Type 0} (x : Exchange V A M Q R) (law : IsLawful x) (s : S
       }
 
   -- the labels of all rows are those of the side
-  all_labels : (before : List (GhostRow M Q R)) (now : GhostRow M Q R) (from state : ℕ) (rest : List M) → Now x law s table from state rest seat.side a.hand before now → mail_labels (before ++ now ∷ []) ≡ labels_of (rows_of seat.side)
+  pub all_labels : (before : List (GhostRow M Q R)) (now : GhostRow M Q R) (from state : ℕ) (rest : List M) → Now x law s table from state rest seat.side a.hand before now → mail_labels (before ++ now ∷ []) ≡ labels_of (rows_of seat.side)
   all_labels before now from state rest (inl m) =
       mail_labels_append before (now ∷ []) ∙ ap₂ (λ (l k : List _). l ++ (k ++ [])) m.past (shown_label now m.row m.shows) ∙ sym (labels_append seat.side.past (m.row ∷ []))
       ∙ ap (λ n. labels_of (seat.side.past ++ newest n)) (sym m.is)

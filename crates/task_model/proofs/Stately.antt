@@ -1,5 +1,5 @@
 -- The registers of a slave, the account of its services and the record of its statuses: together they are a run of state services.
-use Rattle.std.proofs.Common.{◌≡◌, ℕ, ◌<◌, ◌≤◌, ◌&&◌, Bool, true, false, Option, Some, None, List, [], ◌∷◌, ◌++◌, map, length, refl, ap, sym, ◌∙◌, subst, arith, append-nil, append_assoc, length-append, if◌then◌else◌}
+use Rattle.std.proofs.Common.{◌≡◌, ℕ, ◌≤◌, ◌&&◌, Bool, true, false, Option, Some, None, List, [], ◌∷◌, ◌++◌, map, length, refl, ap, sym, ◌∙◌, subst, arith, append-nil, append_assoc, length-append, if◌then◌else◌}
 use Rattle.std.specs.Prelude.{⊤}
 use Rattle.exchange_model.specs.Exchange.{Exchange}
 use Rattle.exchange_model.specs.Rows.{answer_after}
@@ -18,28 +18,10 @@ use Rattle.state_model.proofs.Kept.{Holds, HoldsAt, happens_holds, promised}
 use Rattle.state_model.proofs.News.{by_statuses}
 use Rattle.state_exchange.specs.Stated.{Service}
 use Rattle.task_model.specs.Accounts.{Started, Stage, Duty, Change, Account, Pick, new_account, starts, state_begins, account_begins, account_next, account_by, turn_progress, is_free, is_acknowledged}
+use Rattle.task_model.specs.Promise.{state_of, states_started, changes_in, duty_in, AllFound}
 use Rattle.task_model.proofs.Rings.{statuses-append}
 use Rattle.task_model.proofs.Served.{Served, goes_on, duty_of}
 use Rattle.task_model.proofs.Carries.{StaysOr, idle_carry, hand_carry}
-
--- a service that came into hand before the frame with this number, where it is a state service
-abbrev pub state_of : {Q : Type 0} → Service Q → ℕ → List (ℕ × ℕ)
-state_of (Service.Mails q) frame = []
-state_of (Service.State target) frame = (target, frame) ∷ []
-
--- the state services among those that came into hand, by their targets and frames
-abbrev pub states_in : {Q : Type 0} → List (Started Q) → List (ℕ × ℕ)
-states_in [] = []
-states_in (r ∷ rs) = state_of r.service r.frame ++ states_in rs
-
--- those that are over
-abbrev pub changes_in : {R : Type 0} → List (Change R) → List (ℕ × ℕ)
-changes_in cs = map (λ c. (c.target, c.frame)) cs
-
--- the one in hand
-abbrev pub duty_in : Option Duty → List (ℕ × ℕ)
-duty_in None = []
-duty_in (Some duty) = (duty.target, duty.frame) ∷ []
 
 -- the AL state behind the state services that are over
 abbrev pub state_over : {R : Type 0} → Table → ℕ → List (Change R) → ℕ
@@ -83,7 +65,6 @@ pub record IsChanged {M R : Type 0} (station : ℕ) (fs : List (Frame M)) (c : C
   pub target : o.target ≡ c.target
   pub same : o.answer ≡ c.answer
   pub begun : o.frame ≤ length fs
-  pub ended : o.completed < length fs
   pub outcome : state_outcome R station fs o.target o.frame ≡ Some (o.answer, o.completed)
 
 abbrev pub AllChanged : {M R : Type 0} → ℕ → List (Frame M) → List (Closed M R) → List (Change R) → Type 0
@@ -97,7 +78,7 @@ pub record Stately {M Q R : Type 0} (table : Table) (start : ℕ) (is : IsTable 
   pub holds : Holds table is.stays start closed (hand_of station fs a.hand) r
   pub hand : HandOpen R station fs a.hand
   pub over : AllChanged station fs closed a.over
-  pub started : states_in a.started ≡ changes_in a.over ++ duty_in a.hand
+  pub started : states_started a.started ≡ changes_in a.over ++ duty_in a.hand
 
 -- what a state service in hand, or none, leaves known of the registers, with the AL state behind those that are over
 abbrev pub AtStage : Table → ℕ → ℕ → Stage → Registers → Type 0
@@ -113,12 +94,6 @@ abbrev pub AllTabled : {R : Type 0} → Table → ℕ → List (Change R) → Ty
 AllTabled table from [] = ⊤
 AllTabled table from (o ∷ os) = (o.answer ≡ answer_of (table from o.target)) × AllTabled table (state_behind table from o.target) os
 
--- each is the outcome that the table of completed services gives for the record, of a frame before the last
-abbrev pub AllOutcomes : {V A M Q R : Type 0} → Exchange V A M Q R → (M → Bool) → ℕ → List (Frame M) → List (Change R) → Type 0
-AllOutcomes x more station fs [] = ⊤
-AllOutcomes x more station fs (o ∷ os) =
-    ((first_end (ends x more (Task.State o.target)) o.frame [] (news_from station o.frame fs) ≡ Some (o.answer, o.completed)) × (o.completed < length fs)) × AllOutcomes x more station fs os
-
 -- what a step of the processor may do to the AL state
 abbrev pub StageStep : Table → ℕ → ℕ → Stage → Registers → Type 0
 StageStep table from target Stage.Drains r = (carry table r).state ≡ r.state
@@ -128,9 +103,9 @@ abbrev pub StateStep : Table → ℕ → Option Duty → Registers → Type 0
 StateStep table from None r = (carry table r).state ≡ r.state
 StateStep table from (Some duty) r = StageStep table from duty.target duty.stage r
 
-pub states_in-push : {Q : Type 0} (rs : List (Started Q)) (r : Started Q) → states_in (rs ++ r ∷ []) ≡ states_in rs ++ state_of r.service r.frame
-states_in-push [] r = append-nil (state_of r.service r.frame)
-states_in-push (p ∷ rs) r = ap (λ l. state_of p.service p.frame ++ l) (states_in-push rs r) ∙ sym (append_assoc (state_of p.service p.frame) (states_in rs) (state_of r.service r.frame))
+pub states_started-push : {Q : Type 0} (rs : List (Started Q)) (r : Started Q) → states_started (rs ++ r ∷ []) ≡ states_started rs ++ state_of r.service r.frame
+states_started-push [] r = append-nil (state_of r.service r.frame)
+states_started-push (p ∷ rs) r = ap (λ l. state_of p.service p.frame ++ l) (states_started-push rs r) ∙ sym (append_assoc (state_of p.service p.frame) (states_started rs) (state_of r.service r.frame))
 
 changes_in-push : {R : Type 0} (cs : List (Change R)) (c : Change R) → changes_in (cs ++ c ∷ []) ≡ changes_in cs ++ (c.target, c.frame) ∷ []
 changes_in-push [] c = refl
@@ -182,23 +157,16 @@ module _ {M : Type 0} (station : ℕ) where
   longer : (fs : List (Frame M)) (f : Frame M) (n : ℕ) → n ≤ length fs → n ≤ length (fs ++ f ∷ [])
   longer fs f n le = subst (λ k. n ≤ k) (sym (length-append fs (f ∷ []))) (omega (arith, le))
 
-  later_end : (fs : List (Frame M)) (f : Frame M) (n : ℕ) → n ≤ length fs → n < length (fs ++ f ∷ [])
-  later_end fs f n le = subst (λ k. n < k) (sym (length-append fs (f ∷ []))) (omega (arith, le))
-
   -- what is over stays so
   changed_stays : {R : Type 0} (fs : List (Frame M)) (f : Frame M) (c : Closed M R) (o : Change R) → IsChanged station fs c o → IsChanged station (fs ++ f ∷ []) c o
   changed_stays {R} fs f c o is = record {
     target = is.target;
     same = is.same;
     begun = longer fs f o.frame is.begun;
-    ended = longer_end is.ended;
     outcome =
         outcome-push (state_ends {R = R} o.target None) station o.frame fs f is.begun
         ∙ ap (λ old. answer_after (length fs) old (state_ends {R = R} o.target None (joined (news_from station o.frame fs) ++ frame_news station (kept_of station fs) f))) is.outcome;
   }
-    where
-      longer_end : o.completed < length fs → o.completed < length (fs ++ f ∷ [])
-      longer_end below = subst (λ k. o.completed < k) (sym (length-append fs (f ∷ []))) (omega (arith, below))
 
   all_stay : {R : Type 0} (fs : List (Frame M)) (f : Frame M) (cs : List (Closed M R)) (os : List (Change R)) → AllChanged station fs cs os → AllChanged station (fs ++ f ∷ []) cs os
   all_stay fs f [] [] all = tt
@@ -246,7 +214,7 @@ module _ {M Q R : Type 0} (table : Table) (start : ℕ) (is : IsTable table star
         holds = k.holds;
         hand = k.hand;
         over = k.over;
-        started = states_in-push a.started (record { service = Service.Mails q; frame = length fs }) ∙ append-nil (states_in a.started) ∙ k.started;
+        started = states_started-push a.started (record { service = Service.Mails q; frame = length fs }) ∙ append-nil (states_started a.started) ∙ k.started;
       }
 
       state : (target : ℕ) (b : Bool) → a.hand ≡ None → Stately table start is station fs r (if b then state_begins a target (length fs) else a)
@@ -261,7 +229,7 @@ module _ {M Q R : Type 0} (table : Table) (start : ℕ) (is : IsTable table star
         };
         over = k.over;
         started =
-            states_in-push a.started (record { service = Service.State target; frame = length fs })
+            states_started-push a.started (record { service = Service.State target; frame = length fs })
             ∙ ap (λ l. l ++ (target, length fs) ∷ []) (k.started ∙ ap (λ h. changes_in a.over ++ duty_in h) e ∙ append-nil (changes_in a.over));
       }
 
@@ -317,7 +285,6 @@ module _ {M Q R : Type 0} (table : Table) (start : ℕ) (is : IsTable table star
           target = refl;
           same = refl;
           begun = longer station fs f begun k.hand.begun;
-          ended = later_end station fs f (length fs) (omega arith);
           outcome =
               outcome_push station R fs f target begun k.hand.begun k.hand.open_yet
               ∙ ap (λ l. answer_after (length fs) None (state_ends {R = R} target None l)) e
@@ -445,14 +412,14 @@ module _ {M Q R : Type 0} (table : Table) (start : ℕ) (is : IsTable table star
       )
 
   -- and the outcome by the record is that answer, of an earlier frame
-  pub over_outcomes : {V A : Type 0} (x : Exchange V A M Q R) (more : M → Bool) (fs : List (Frame M)) (r : Registers) (a : Account Q R) → Stately table start is station fs r a → AllOutcomes x more station fs a.over
+  pub over_outcomes : {V A : Type 0} (x : Exchange V A M Q R) (more : M → Bool) (fs : List (Frame M)) (r : Registers) (a : Account Q R) → Stately table start is station fs r a → AllFound x more station fs a.over
   over_outcomes x more fs r a k = go k.closed a.over k.over
     where
-      go : (cs : List (Closed M R)) (os : List (Change R)) → AllChanged station fs cs os → AllOutcomes x more station fs os
+      go : (cs : List (Closed M R)) (os : List (Change R)) → AllChanged station fs cs os → AllFound x more station fs os
       go [] [] all = tt
       go [] (o ∷ os) all = absurd all
       go (c ∷ cs) [] all = absurd all
-      go (c ∷ cs) (o ∷ os) all = ((all.0.outcome, all.0.ended), go cs os all.1)
+      go (c ∷ cs) (o ∷ os) all = (all.0.outcome, go cs os all.1)
 
   -- that of the one in hand is open
   pub duty_outcome : {V A : Type 0} (x : Exchange V A M Q R) (more : M → Bool) (fs : List (Frame M)) (r : Registers) (a : Account Q R) (duty : Duty) → Stately table start is station fs r a → a.hand ≡ Some duty →
