@@ -16,10 +16,11 @@ use Rattle.task_model.specs.Accounts.{Started, Account, is_free}
 use Rattle.task_model.specs.Promise.{AllEnded, TasksAnswered, mail_of, mails_started, rows_started}
 use Rattle.task_model.specs.Books.{task_answers, TasksPast, TasksEndedIf, TasksDoneIf}
 use Rattle.task_model.proofs.Ghosts.{GhostRow, Label, starts_of, labels_of, label_by, mail_labels}
-use Rattle.task_model.proofs.Stately.{state_over, over_outcomes}
+use Rattle.task_model.proofs.Orders.{order_states}
+use Rattle.task_model.proofs.Stately.{state_over, over_outcomes, duty_open}
 use Rattle.task_model.proofs.Completed.{completed_ended, all_ended}
 use Rattle.task_model.proofs.Newest.{Holds, answered, side_facts, newest_over}
-use Rattle.task_model.proofs.Promised.{open_yet, all_labels}
+use Rattle.task_model.proofs.Promised.{all_labels}
 use Rattle.task_model.proofs.Resting.{rests}
 
 -- a service by mails with its frame, by its label
@@ -63,9 +64,9 @@ module _ {V A M Q R : Type 0} (x : Exchange V A M Q R) (law : IsLawful x) (s : S
   tasks_answered = record {
     mails = mails_are;
     answers = answered x law s stated table more start is fs seat a h;
-    states = h.stately.started;
+    states = order_states (length fs) a.started a.over a.hand h.stately.order;
     over = over_outcomes table start is seat.station x more fs seat.slave.registers a h.stately;
-    hand = open_yet x law s stated table more start is fs seat a h;
+    hand = duty_open table start is seat.station x more fs seat.slave.registers a h.stately;
   }
 
   begun : (now : Option (Row M Q R)) → RisesNow seat.side.past now (length fs) → BegunBy x law fs now

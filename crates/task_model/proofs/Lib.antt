@@ -1,6 +1,7 @@
 pub mod Rings
 pub mod Served
 pub mod Carries
+pub mod Orders
 pub mod Stately
 pub mod Walks
 pub mod Turns

@@ -1,5 +1,5 @@
 -- What is kept of a slave's seat and account, and when its newest service is over.
-use Rattle.std.proofs.Common.{◌≡◌, ◌⊎◌, inl, inr, ℕ, Bool, true, false, is_some, Option, Some, None, List, [], ◌∷◌, ◌++◌, refl, ap, sym, ◌∙◌, subst, append-nil}
+use Rattle.std.proofs.Common.{◌≡◌, ◌⊎◌, inl, inr, ℕ, Bool, true, false, is_some, Option, Some, None, List, [], ◌∷◌, ◌++◌, refl, ap, sym, ◌∙◌, subst}
 use Rattle.exchange_model.specs.Exchange.{Exchange, IsLawful}
 use Rattle.exchange_model.specs.Rows.{Row}
 use Rattle.segment_model.specs.Record.{Frame}
@@ -14,29 +14,18 @@ use Rattle.segment_model.proofs.Ended.{row_ended, behind}
 use Rattle.state_model.specs.States.{Table}
 use Rattle.state_model.specs.Promises.{IsTable}
 use Rattle.state_exchange.specs.Stated.{Stated, IsStated, Service, acts}
-use Rattle.task_model.specs.Accounts.{Started, Change, Account, is_free}
-use Rattle.task_model.specs.Promise.{states_started, changes_in, duty_in, state_found, AllFound}
+use Rattle.task_model.specs.Accounts.{Started, Account, is_free}
+use Rattle.task_model.specs.Promise.{state_found}
 use Rattle.task_model.proofs.Ghosts.{start_of, starts_of, Rested, MailsNow, StateNow, Rowed, Carried, starts_append}
 use Rattle.task_model.proofs.Begins.{mails_facts}
-use Rattle.task_model.proofs.Stately.{Stately, states_started-push, state_over, over_outcomes}
+use Rattle.task_model.proofs.Orders.{StatesEnded, ended_last}
+use Rattle.task_model.proofs.Stately.{Stately, state_over, started_ended}
 use Rattle.task_model.proofs.Completed.{HasOutcome, LastOver, Completed, last_over}
 use Rattle.task_model.proofs.Replies.{mails_outcome}
 
 some_is : {X : Type 0} (found : Option X) → is_some found ≡ true → (o : X) × (found ≡ Some o)
 some_is None e = absurd (cc)
 some_is (Some o) e = (o, refl)
-
-module _ {V A M Q R : Type 0} (x : Exchange V A M Q R) (more : M → Bool) (station : ℕ) (fs : List (Frame M)) where
-  -- the last of the state services that are over has its outcome
-  pub last_change : (os : List (Change R)) (front : List (ℕ × ℕ)) (target frame : ℕ) → changes_in os ≡ front ++ (target, frame) ∷ [] → AllFound x more station fs os →
-      (o : Outcome R × ℕ) × (state_found x more station fs target frame ≡ Some o)
-  last_change [] [] target frame e all = absurd (cc)
-  last_change [] (p ∷ front) target frame e all = absurd (cc)
-  last_change (c ∷ os) [] target frame e all =
-      let both_are : (ℕ × ℕ) × (ℕ × ℕ) = ((target, frame), (c.target, c.frame)) in
-      let same : both_are.0 ≡ both_are.1 = cc in
-      ((c.answer, c.completed), ap (λ (p : ℕ × ℕ). state_found x more station fs p.0 p.1) same ∙ all.0)
-  last_change (c ∷ os) (p ∷ front) target frame e all = last_change os front target frame (cc) all.1
 
 module _ {V A M Q R : Type 0} (x : Exchange V A M Q R) (law : IsLawful x) (s : Stated V A Q) (stated : IsStated x s) (table : Table) (more : M → Bool) (start : ℕ) (is : IsTable table start)
     (fs : List (Frame M)) (seat : Seat V M Q R) (a : Account Q R) where
@@ -84,10 +73,8 @@ module _ {V A M Q R : Type 0} (x : Exchange V A M Q R) (law : IsLawful x) (s : S
 
   change_over : Holds → (target frame : ℕ) (before : List (Started Q)) → a.started ≡ before ++ record { service = Service.State target; frame = frame } ∷ [] → a.hand ≡ None →
       (o : Outcome R × ℕ) × (state_found x more seat.station fs target frame ≡ Some o)
-  change_over h target frame before e none =
-      let here : changes_in a.over ≡ states_started before ++ (target, frame) ∷ [] =
-      sym (append-nil (changes_in a.over)) ∙ ap (λ k. changes_in a.over ++ duty_in k) (sym none) ∙ sym h.stately.started ∙ ap states_started e ∙ states_started-push before (record { service = Service.State target; frame = frame }) in
-      last_change x more seat.station fs a.over (states_started before) target frame here (over_outcomes table start is seat.station x more fs seat.slave.registers a h.stately)
+  change_over h target frame before e none = ended_last x more seat.station fs before (record { service = Service.State target; frame = frame })
+      (subst (StatesEnded x more seat.station fs) e (started_ended table start is seat.station x more fs seat.slave.registers a h.stately none))
 
   rows_over : (h : Holds) → a.hand ≡ None → is_free x seat.side seat.side.now ≡ true → (r : Rowed x law s table (state_over table start a.over) seat a h.carried.taken h.carried.rest) → LastOver x more seat.station fs a.started
   rows_over h none free r = subst (LastOver x more seat.station fs) (sym split) (last_over x more seat.station fs (starts_of (r.front ++ r.last)) (start_of r.now) (has r.place))

@@ -16,11 +16,11 @@ use Rattle.state_exchange.specs.Stated.{Stated, IsStated, Act, Service, Counting
 use Rattle.state_exchange.proofs.Acts.{mails_acts, mails_append, emitted_acts, left_none, executed}
 use Rattle.state_exchange.proofs.StatedLaw.{stated_law}
 use Rattle.task_model.specs.Accounts.{Duty, Account}
-use Rattle.task_model.specs.Promise.{TasksPromised, AllReplied, AllDone, services_in, states_started, state_found, IsOpenYet}
+use Rattle.task_model.specs.Promise.{TasksPromised, AllReplied, AllDone, services_in, state_found}
 use Rattle.task_model.proofs.Ghosts.{GhostRow, counting, starts_of, labels_of, mail_labels, Staged, Now, Rowed, Untouched, mail_labels_append, labels_append, shown_label, state_label}
 use Rattle.task_model.proofs.Begins.{accepted_begin}
-use Rattle.task_model.proofs.Stately.{Stately, state_over, at_hand, free_state, over_answers, over_outcomes, duty_outcome}
-use Rattle.task_model.proofs.Stately
+use Rattle.task_model.proofs.Orders.{StatesReplied}
+use Rattle.task_model.proofs.Stately.{state_over, free_state, duty_outcome, started_replied}
 use Rattle.task_model.proofs.Completed.{completed_rises, completed_ended}
 use Rattle.task_model.proofs.Newest.{Holds, answered}
 use Rattle.task_model.proofs.Replies.{AllLabelled, rows_labelled, replied_all}
@@ -53,13 +53,6 @@ module _ {V A M Q R : Type 0} (x : Exchange V A M Q R) (law : IsLawful x) (s : S
     pub labels : AllLabelled x more seat.station fs (mail_labels gs)
     pub below : StatesBelow x more seat.station fs fits.count 0 gs
 
-  pub open_yet : Kept → IsOpenYet x more seat.station fs a.hand
-  open_yet h = go a.hand refl
-    where
-      go : (hand : Option Duty) → a.hand ≡ hand → IsOpenYet x more seat.station fs hand
-      go None e = tt
-      go (Some duty) e = (duty_outcome table start is seat.station x more fs seat.slave.registers a duty h.stately e).0
-
   promise_of : Kept → (gs : List (GhostRow M Q R)) → Fitted gs → TasksPromised x s table more fs seat.station seat.start seat.side a seat.slave
   promise_of h gs k =
       let f = k.fits in
@@ -78,9 +71,8 @@ module _ {V A M Q R : Type 0} (x : Exchange V A M Q R) (law : IsLawful x) (s : S
         prefix = let few = f.prefix in omega (arith, few, size);
         behind = let few = f.behind in omega (arith, few, size);
         replied = subst (AllReplied x s table more seat.station fs (x.app seat.start, 0)) k.started
-            (replied_all x more seat.station fs s stated table gs (x.app seat.start, 0) a.over a.hand f.replied k.labels (ap states_started k.started ∙ h.stately.started)
-            (subst (λ n. Stately.AllTabled table n a.over) (sym h.begun) (over_answers table start is seat.station fs seat.slave.registers a h.stately))
-            (over_outcomes table start is seat.station x more fs seat.slave.registers a h.stately) (open_yet h));
+            (replied_all x more seat.station fs s stated table gs (x.app seat.start, 0) f.replied k.labels
+            (subst (λ n. StatesReplied x more seat.station fs table n (starts_of gs)) (sym h.begun) (subst (StatesReplied x more seat.station fs table start) (sym k.started) (started_replied table start is seat.station x more fs seat.slave.registers a h.stately))));
         in_done = subst (AllDone x more seat.station fs f.count 0) k.started (done_all x more seat.station fs f.count 0 gs f.in_done k.below k.labels);
         rises = completed_rises x more seat.station fs a.started h.completed;
         in_doubt = completed_ended x more seat.station fs a.started h.completed;

@@ -7,12 +7,11 @@ use Rattle.segment_model.specs.Record.{Frame, News, first_end, or_later, news_fr
 use Rattle.segment_model.specs.Ends.{Task, Outcome, ends, mails_end, all_written}
 use Rattle.segment_model.specs.Laws.{AllAnswered}
 use Rattle.state_model.specs.States.{Table}
-use Rattle.state_model.specs.Promises.{state_behind, answer_of}
+use Rattle.state_model.specs.Promises.{state_behind}
 use Rattle.state_exchange.specs.Stated.{Stated, IsStated, Act, Service, Counting, with_states}
-use Rattle.task_model.specs.Accounts.{Duty, Change}
-use Rattle.task_model.specs.Promise.{outcome_of, IsReply, AllReplied, state_of, states_started, changes_in, duty_in, state_found, AllFound, IsOpenYet}
+use Rattle.task_model.specs.Promise.{outcome_of, IsReply, AllReplied}
 use Rattle.task_model.proofs.Ghosts.{GhostRow, starts_of, Label, labels_of, label_by, mail_labels}
-use Rattle.task_model.proofs.Stately.{AllTabled}
+use Rattle.task_model.proofs.Orders.{state_on, StateReplied, StatesReplied}
 
 module _ {V A M Q R : Type 0} (x : Exchange V A M Q R) (more : M → Bool) (station : ℕ) (fs : List (Frame M)) where
   -- what the record gives for a service by mails
@@ -72,58 +71,25 @@ module _ {V A M Q R : Type 0} (x : Exchange V A M Q R) (more : M → Bool) (stat
 
     -- what is to be shown of rows behind services that leave this application
     abbrev RepliedAll : List (GhostRow M Q R) → Type 0
-    RepliedAll gs = (a : A × ℕ) (os : List (Change R)) (hand : Option Duty) → Replied both a gs → AllLabelled (mail_labels gs) → states_started (starts_of gs) ≡ changes_in os ++ duty_in hand →
-        AllTabled table (s.state a.0) os → AllFound x more station fs os → IsOpenYet x more station fs hand → AllReplied x s table more station fs a (starts_of gs)
+    RepliedAll gs = (a : A × ℕ) → Replied both a gs → AllLabelled (mail_labels gs) → StatesReplied x more station fs table (s.state a.0) (starts_of gs) → AllReplied x s table more station fs a (starts_of gs)
 
-    -- a row by mails
-    mails_first : (g : GhostRow M Q R) (gs : List (GhostRow M Q R)) → RepliedAll gs → (q : Q) (a : A × ℕ) (os : List (Change R)) (hand : Option Duty) →
-        ((answer : Outcome R × ℕ) → g.answer ≡ Some answer → answer.0 ≡ both.reply a (Service.Mails q)) → Replied both (both.exec a (Service.Mails q)) gs →
-        AllLabelled (label_by g (Service.Mails q) ++ mail_labels gs) → states_started (starts_of gs) ≡ changes_in os ++ duty_in hand → AllTabled table (s.state a.0) os → AllFound x more station fs os → IsOpenYet x more station fs hand →
-        ((o : Outcome R × ℕ) → mails_outcome q g.frame ≡ Some o → IsReply o.0 → o.0 ≡ both.reply a (Service.Mails q)) × AllReplied x s table more station fs (both.exec a (Service.Mails q)) (starts_of gs)
-    mails_first g gs next q a os hand reply replies labels started tabled outcomes opened = (
+    abbrev Reply : GhostRow M Q R → Service Q → A × ℕ → Type 0
+    Reply g service a = (o : Outcome R × ℕ) → outcome_of x more station fs (record { service = service; frame = g.frame }) ≡ Some o → IsReply o.0 → o.0 ≡ both.reply a service
+
+    -- a row, by mails or of a state service
+    replied_first : (g : GhostRow M Q R) (gs : List (GhostRow M Q R)) → RepliedAll gs → (service : Service Q) (a : A × ℕ) → ((answer : Outcome R × ℕ) → g.answer ≡ Some answer → answer.0 ≡ both.reply a service) → Replied both (both.exec a service) gs →
+        AllLabelled (label_by g service ++ mail_labels gs) → StateReplied x more station fs table (s.state a.0) (record { service = service; frame = g.frame }) service → StatesReplied x more station fs table (state_on table (s.state a.0) service) (starts_of gs) →
+        Reply g service a × AllReplied x s table more station fs (both.exec a service) (starts_of gs)
+    replied_first g gs next (Service.Mails q) a reply replies labels state states = (
       (λ o e is. reply o (reply_labelled (record { service = q; frame = g.frame; answer = g.answer }) labels.0 o e is)),
-      next (both.exec a (Service.Mails q)) os hand replies labels.1 started (subst (λ n. AllTabled table n os) (sym (stated.keeps a.0 q)) tabled) outcomes opened,
+      next (both.exec a (Service.Mails q)) replies labels.1 (subst (λ n. StatesReplied x more station fs table n (starts_of gs)) (sym (stated.keeps a.0 q)) states),
+    )
+    replied_first g gs next (Service.State target) a reply replies labels state states = (
+      (λ o e is. state o e),
+      next (both.exec a (Service.State target)) replies labels (subst (λ n. StatesReplied x more station fs table n (starts_of gs)) (sym (stated.is (state_behind table (s.state a.0) target) a.0)) states),
     )
 
-    -- a row of a state service: it is the first of those that are over, or the one in hand
-    state_first : (g : GhostRow M Q R) (gs : List (GhostRow M Q R)) → RepliedAll gs → (target : ℕ) (a : A × ℕ) (os : List (Change R)) (hand : Option Duty) →
-        Replied both (both.exec a (Service.State target)) gs → AllLabelled (mail_labels gs) → (target, g.frame) ∷ states_started (starts_of gs) ≡ changes_in os ++ duty_in hand → AllTabled table (s.state a.0) os →
-        AllFound x more station fs os → IsOpenYet x more station fs hand →
-        ((o : Outcome R × ℕ) → state_found x more station fs target g.frame ≡ Some o → IsReply o.0 → o.0 ≡ both.reply a (Service.State target)) × AllReplied x s table more station fs (both.exec a (Service.State target)) (starts_of gs)
-    state_first g gs next target a (c ∷ os) hand replies labels started tabled outcomes opened =
-        let both_are : (ℕ × ℕ) × (ℕ × ℕ) = ((target, g.frame), (c.target, c.frame)) in
-        let first : both_are.0 ≡ both_are.1 = cc in
-        let rest : states_started (starts_of gs) ≡ changes_in os ++ duty_in hand = cc in
-        let to : c.target ≡ target = sym (ap (λ p. p.0) first) in
-        let at : c.frame ≡ g.frame = sym (ap (λ p. p.1) first) in
-        let known : state_found x more station fs target g.frame ≡ Some (c.answer, c.completed) = subst (λ n. state_found x more station fs n g.frame ≡ Some (c.answer, c.completed)) to (subst (λ n. state_found x more station fs c.target n ≡ Some (c.answer, c.completed)) at outcomes.0) in
-        let is : c.answer ≡ answer_of (table (s.state a.0) target) = tabled.0 ∙ ap (λ n. answer_of (table (s.state a.0) n)) to in
-        let behind : s.state (both.exec a (Service.State target)).0 ≡ state_behind table (s.state a.0) c.target = stated.is (state_behind table (s.state a.0) target) a.0 ∙ ap (state_behind table (s.state a.0)) (sym to) in (
-          (λ o e reply.
-              let same : Some (c.answer, c.completed) ≡ Some o = sym known ∙ e in
-              let pair : Outcome R × ℕ = (c.answer, c.completed) in
-              let one : pair ≡ o = cc in
-              sym (ap (λ p. p.0) one) ∙ is),
-          next (both.exec a (Service.State target)) os hand replies labels rest (subst (λ n. AllTabled table n os) (sym behind) tabled.1) outcomes.1 opened,
-        )
-    state_first g gs next target a [] None replies labels started tabled outcomes opened = absurd (cc)
-    state_first g gs next target a [] (Some duty) replies labels started tabled outcomes opened =
-        let both_are : (ℕ × ℕ) × (ℕ × ℕ) = ((target, g.frame), (duty.target, duty.frame)) in
-        let first : both_are.0 ≡ both_are.1 = cc in
-        let rest : states_started (starts_of gs) ≡ [] = cc in
-        let none : state_found x more station fs target g.frame ≡ None = ap (λ (p : ℕ × ℕ). state_found x more station fs p.0 p.1) first ∙ opened in (
-          (λ o e reply. absurd (let no : None ≡ Some o = sym none ∙ e in cc)),
-          next (both.exec a (Service.State target)) [] None replies labels rest tt tt tt,
-        )
-
-    either : (g : GhostRow M Q R) (gs : List (GhostRow M Q R)) → RepliedAll gs → (service : Service Q) (a : A × ℕ) (os : List (Change R)) (hand : Option Duty) →
-        ((answer : Outcome R × ℕ) → g.answer ≡ Some answer → answer.0 ≡ both.reply a service) → Replied both (both.exec a service) gs → AllLabelled (label_by g service ++ mail_labels gs) →
-        state_of service g.frame ++ states_started (starts_of gs) ≡ changes_in os ++ duty_in hand → AllTabled table (s.state a.0) os → AllFound x more station fs os → IsOpenYet x more station fs hand →
-        ((o : Outcome R × ℕ) → outcome_of x more station fs (record { service = service; frame = g.frame }) ≡ Some o → IsReply o.0 → o.0 ≡ both.reply a service) × AllReplied x s table more station fs (both.exec a service) (starts_of gs)
-    either g gs next (Service.Mails q) a os hand reply replies labels started tabled outcomes opened = mails_first g gs next q a os hand reply replies labels started tabled outcomes opened
-    either g gs next (Service.State target) a os hand reply replies labels started tabled outcomes opened = state_first g gs next target a os hand replies labels started tabled outcomes opened
-
+    -- EACH REPLY is its application's, in the AL state that stood
     pub replied_all : (gs : List (GhostRow M Q R)) → RepliedAll gs
-    replied_all [] a os hand replies labels started tabled outcomes opened = tt
-    replied_all (g ∷ gs) a os hand replies labels started tabled outcomes opened =
-        either g gs (replied_all gs) g.service a os hand replies.0 replies.1 labels started tabled outcomes opened
+    replied_all [] a replies labels states = tt
+    replied_all (g ∷ gs) a replies labels states = replied_first g gs (replied_all gs) g.service a replies.0 replies.1 labels states.0 states.1

@@ -1,5 +1,5 @@
 -- The registers of a slave, the account of its services and the record of its statuses: together they are a run of state services.
-use Rattle.std.proofs.Common.{◌≡◌, ℕ, ◌≤◌, ◌&&◌, Bool, true, false, Option, Some, None, List, [], ◌∷◌, ◌++◌, map, length, refl, ap, sym, ◌∙◌, subst, arith, append-nil, append_assoc, length-append, if◌then◌else◌}
+use Rattle.std.proofs.Common.{◌≡◌, ℕ, ◌<◌, ◌≤◌, ◌&&◌, Bool, true, false, Option, Some, None, List, [], ◌∷◌, ◌++◌, map, length, refl, ap, sym, ◌∙◌, subst, arith, append-nil, length-append, if◌then◌else◌}
 use Rattle.std.specs.Prelude.{⊤}
 use Rattle.exchange_model.specs.Exchange.{Exchange}
 use Rattle.exchange_model.specs.Rows.{answer_after}
@@ -17,10 +17,11 @@ use Rattle.state_model.proofs.Words.{Idle, InHand}
 use Rattle.state_model.proofs.Kept.{Holds, HoldsAt, happens_holds, promised}
 use Rattle.state_model.proofs.News.{by_statuses}
 use Rattle.state_exchange.specs.Stated.{Service}
-use Rattle.task_model.specs.Accounts.{Started, Stage, Duty, Change, Account, Pick, new_account, starts, state_begins, account_begins, account_next, account_by, turn_progress, is_free, is_acknowledged}
-use Rattle.task_model.specs.Promise.{state_of, states_started, changes_in, duty_in, AllFound}
+use Rattle.task_model.specs.Accounts.{Stage, Duty, Change, Account, Pick, Progress, new_account, starts, state_begins, account_begins, account_next, account_by, turn_progress, is_free, is_acknowledged}
 use Rattle.task_model.proofs.Rings.{statuses-append}
 use Rattle.task_model.proofs.Served.{Served, goes_on, duty_of}
+use Rattle.task_model.specs.Promise.{AllFound, IsOpenYet}
+use Rattle.task_model.proofs.Orders.{InOrder, AllTabled, StatesReplied, StatesEnded, mails_start, state_start, order_push, order_later, order_on, order_over, states_replied, states_ended}
 use Rattle.task_model.proofs.Carries.{StaysOr, idle_carry, hand_carry}
 
 -- the AL state behind the state services that are over
@@ -78,7 +79,7 @@ pub record Stately {M Q R : Type 0} (table : Table) (start : ℕ) (is : IsTable 
   pub holds : Holds table is.stays start closed (hand_of station fs a.hand) r
   pub hand : HandOpen R station fs a.hand
   pub over : AllChanged station fs closed a.over
-  pub started : states_started a.started ≡ changes_in a.over ++ duty_in a.hand
+  pub order : InOrder (length fs) a.started a.over a.hand
 
 -- what a state service in hand, or none, leaves known of the registers, with the AL state behind those that are over
 abbrev pub AtStage : Table → ℕ → ℕ → Stage → Registers → Type 0
@@ -89,11 +90,6 @@ abbrev pub AtHand : Table → ℕ → Option Duty → Registers → Type 0
 AtHand table from None r = Idle table from r
 AtHand table from (Some duty) r = AtStage table from duty.target duty.stage r
 
--- each answer is the table's, in the state behind those before it
-abbrev pub AllTabled : {R : Type 0} → Table → ℕ → List (Change R) → Type 0
-AllTabled table from [] = ⊤
-AllTabled table from (o ∷ os) = (o.answer ≡ answer_of (table from o.target)) × AllTabled table (state_behind table from o.target) os
-
 -- what a step of the processor may do to the AL state
 abbrev pub StageStep : Table → ℕ → ℕ → Stage → Registers → Type 0
 StageStep table from target Stage.Drains r = (carry table r).state ≡ r.state
@@ -102,14 +98,6 @@ StageStep table from target (Stage.Goes phase) r = StaysOr table from target r
 abbrev pub StateStep : Table → ℕ → Option Duty → Registers → Type 0
 StateStep table from None r = (carry table r).state ≡ r.state
 StateStep table from (Some duty) r = StageStep table from duty.target duty.stage r
-
-pub states_started-push : {Q : Type 0} (rs : List (Started Q)) (r : Started Q) → states_started (rs ++ r ∷ []) ≡ states_started rs ++ state_of r.service r.frame
-states_started-push [] r = append-nil (state_of r.service r.frame)
-states_started-push (p ∷ rs) r = ap (λ l. state_of p.service p.frame ++ l) (states_started-push rs r) ∙ sym (append_assoc (state_of p.service p.frame) (states_started rs) (state_of r.service r.frame))
-
-changes_in-push : {R : Type 0} (cs : List (Change R)) (c : Change R) → changes_in (cs ++ c ∷ []) ≡ changes_in cs ++ (c.target, c.frame) ∷ []
-changes_in-push [] c = refl
-changes_in-push (d ∷ cs) c = ap (λ l. (d.target, d.frame) ∷ l) (changes_in-push cs c)
 
 pub state_over-push : {R : Type 0} (table : Table) (from : ℕ) (cs : List (Change R)) (c : Change R) → state_over table from (cs ++ c ∷ []) ≡ state_behind table (state_over table from cs) c.target
 state_over-push table from [] c = refl
@@ -156,6 +144,9 @@ module _ {M : Type 0} (station : ℕ) where
 
   longer : (fs : List (Frame M)) (f : Frame M) (n : ℕ) → n ≤ length fs → n ≤ length (fs ++ f ∷ [])
   longer fs f n le = subst (λ k. n ≤ k) (sym (length-append fs (f ∷ []))) (omega (arith, le))
+
+  later_end : (fs : List (Frame M)) (f : Frame M) (n : ℕ) → n ≤ length fs → n < length (fs ++ f ∷ [])
+  later_end fs f n le = subst (λ k. n < k) (sym (length-append fs (f ∷ []))) (omega (arith, le))
 
   -- what is over stays so
   changed_stays : {R : Type 0} (fs : List (Frame M)) (f : Frame M) (c : Closed M R) (o : Change R) → IsChanged station fs c o → IsChanged station (fs ++ f ∷ []) c o
@@ -207,14 +198,14 @@ module _ {M Q R : Type 0} (table : Table) (start : ℕ) (is : IsTable table star
       Stately table start is station fs r (account_next x acknowledged (length fs) d a p)
   next_stately x acknowledged fs d r a p k = go a.hand p.begin refl
     where
-      mails : (q : Q) (b : Bool) → Stately table start is station fs r (if b then record a { started = starts a (Service.Mails q) (length fs) } else a)
-      mails q false = k
-      mails q true = record {
+      mails : (q : Q) (b : Bool) → a.hand ≡ None → Stately table start is station fs r (if b then record a { started = starts a (Service.Mails q) (length fs) } else a)
+      mails q false e = k
+      mails q true e = record {
         closed = k.closed;
         holds = k.holds;
         hand = k.hand;
         over = k.over;
-        started = states_started-push a.started (record { service = Service.Mails q; frame = length fs }) ∙ append-nil (states_started a.started) ∙ k.started;
+        order = order_push (length fs) a.started a.over a.hand a.hand (mails_start q (length fs)) e refl (subst (λ h. InOrder {R = R} (length fs) (mails_start q (length fs) ∷ []) [] h) (sym e) (InOrder.by_mails q (length fs) [] InOrder.nothing)) k.order;
       }
 
       state : (target : ℕ) (b : Bool) → a.hand ≡ None → Stately table start is station fs r (if b then state_begins a target (length fs) else a)
@@ -228,22 +219,20 @@ module _ {M Q R : Type 0} (table : Table) (start : ℕ) (is : IsTable table star
           open_yet = ap (first_end (state_ends {R = R} target None) (length fs) []) (news_from-none station fs);
         };
         over = k.over;
-        started =
-            states_started-push a.started (record { service = Service.State target; frame = length fs })
-            ∙ ap (λ l. l ++ (target, length fs) ∷ []) (k.started ∙ ap (λ h. changes_in a.over ++ duty_in h) e ∙ append-nil (changes_in a.over));
+        order = order_push (length fs) a.started a.over a.hand (Some (duty_of target (length fs) Stage.Drains)) (state_start target (length fs)) e refl (InOrder.in_hand (duty_of target (length fs) Stage.Drains)) k.order;
       }
 
       go : (hand : Option Duty) (wish : Option (Service Q)) → a.hand ≡ hand → Stately table start is station fs r (account_begins x acknowledged (length fs) d a hand wish)
       go (Some duty) wish e = k
       go None None e = k
-      go None (Some (Service.Mails q)) e = mails q (x.valid q && is_free x d d.now)
+      go None (Some (Service.Mails q)) e = mails q (x.valid q && is_free x d d.now) e
       go None (Some (Service.State target)) e = state target (is_free x d d.now && is_acknowledged acknowledged d d.now) e
 
   -- a frame that does nothing here
   quiet_stately : (fs : List (Frame M)) (f : Frame M) (r : Registers) (a : Account Q R) → statuses (frame_news station (kept_of station fs) f) ≡ [] → Stately table start is station fs r a → Stately table start is station (fs ++ f ∷ []) r a
   quiet_stately fs f r a none k =
       let both = go a.hand k.hand k.holds in
-      record { closed = k.closed; holds = both.0; hand = both.1; over = all_stay station fs f k.closed a.over k.over; started = k.started }
+      record { closed = k.closed; holds = both.0; hand = both.1; over = all_stay station fs f k.closed a.over k.over; order = order_later (length fs) (length (fs ++ f ∷ [])) a.started a.over a.hand (longer station fs f (length fs) (omega arith)) k.order }
     where
       same : (begun : ℕ) → begun ≤ length fs → statuses_from station (fs ++ f ∷ []) begun ≡ statuses_from station fs begun
       same begun le = statuses_push station fs f begun le ∙ ap (λ l. statuses_from station fs begun ++ l) none ∙ append-nil (statuses_from station fs begun)
@@ -267,7 +256,8 @@ module _ {M Q R : Type 0} (table : Table) (start : ℕ) (is : IsTable table star
         holds = next;
         hand = still_open table start is station fs f n k.closed target begun stage k.hand.begun k.hand.open_yet next (subst (λ l. DrainsQuietly l stage) (sym e) drains);
         over = all_stay station fs f k.closed a.over k.over;
-        started = k.started;
+        order = order_later (length fs) (length (fs ++ f ∷ [])) a.started a.over (Some (duty_of target begun stage)) (longer station fs f (length fs) (omega arith))
+            (order_on (length fs) a.started a.over (Some (duty_of target begun old)) target begun old stage refl k.order);
       }
 
   -- a frame by which it ends
@@ -290,7 +280,8 @@ module _ {M Q R : Type 0} (table : Table) (start : ℕ) (is : IsTable table star
               ∙ ap (λ l. answer_after (length fs) None (state_ends {R = R} target None l)) e
               ∙ ap (answer_after (length fs) None) (told_last table start k.closed c holds.told);
         });
-        started = k.started ∙ sym (append-nil (changes_in (a.over ++ o ∷ [])) ∙ changes_in-push a.over o);
+        order = order_over (length (fs ++ f ∷ [])) a.started a.over (Some (duty_of target begun old)) target begun old answer (length fs) (later_end station fs f (length fs) (omega arith)) refl
+            (order_later (length fs) (length (fs ++ f ∷ [])) a.started a.over (Some (duty_of target begun old)) (longer station fs f (length fs) (omega arith)) k.order);
       }
 
   -- one more status
@@ -364,7 +355,7 @@ module _ {M Q R : Type 0} (table : Table) (start : ℕ) (is : IsTable table star
     holds = happens_holds table is.stays start (states_at table start is station r (hand_of station fs a.hand) k.closed) Event.Step k.holds;
     hand = k.hand;
     over = k.over;
-    started = k.started;
+    order = k.order;
   }
 
   -- AT THE END OF BRING-UP
@@ -379,7 +370,7 @@ module _ {M Q R : Type 0} (table : Table) (start : ℕ) (is : IsTable table star
     };
     hand = tt;
     over = tt;
-    started = refl;
+    order = InOrder.nothing;
   }
 
   -- WHAT IS KNOWN OF THE REGISTERS, with the AL state behind the state services that are over: with none in hand, or while it drains, the state is
@@ -398,6 +389,11 @@ module _ {M Q R : Type 0} (table : Table) (start : ℕ) (is : IsTable table star
   pub free_state : (fs : List (Frame M)) (r : Registers) (a : Account Q R) → Stately table start is station fs r a → a.hand ≡ None → (r.state ≡ state_over table start a.over) × (r.refused ≡ None)
   free_state fs r a k e = let idle = subst (λ h. AtHand table (state_over table start a.over) h r) e (at_hand fs r a k) in (idle.state, idle.refused)
 
+  -- behind the frame that closed a service the state is the one behind it
+  pub closed_state : (fs : List (Frame M)) (r : Registers) (a : Account Q R) (os : List (Change R)) (o : Change R) → Stately table start is station fs r a → a.hand ≡ None → a.over ≡ os ++ o ∷ [] →
+      r.state ≡ state_behind table (state_over table start os) o.target
+  closed_state fs r a os o k none e = (free_state fs r a k none).0 ∙ ap (state_over table start) e ∙ state_over-push table start os o
+
   -- of each state service that is over the answer is the table's
   pub over_answers : (fs : List (Frame M)) (r : Registers) (a : Account Q R) → Stately table start is station fs r a → AllTabled table start a.over
   over_answers fs r a k = go start k.closed a.over k.holds.told k.over
@@ -410,6 +406,17 @@ module _ {M Q R : Type 0} (table : Table) (start : ℕ) (is : IsTable table star
         all.0.same ∙ told.0 ∙ ap (λ t. answer_of (table from t)) (sym all.0.target),
         go (state_behind table from o.target) cs os (subst (λ t. AllTold table (state_behind table from t) cs) (sym all.0.target) told.2) all.1,
       )
+
+  -- so it is of the service that a frame just closed, and the state is the one behind it
+  pub closing : (fs : List (Frame M)) (r : Registers) (frame : ℕ) (a : Account Q R) (duty : Duty) (answer : Outcome R) → Stately table start is station fs r (account_by frame a duty (Progress.Over answer)) →
+      (answer ≡ answer_of (table (state_over table start a.over) duty.target)) × (r.state ≡ state_behind table (state_over table start a.over) duty.target)
+  closing fs r frame a duty answer k =
+      let o : Change R = record { target = duty.target; frame = duty.frame; answer = answer; completed = frame } in
+      (last start a.over (over_answers fs r (account_by frame a duty (Progress.Over answer)) k), closed_state fs r (account_by frame a duty (Progress.Over answer)) a.over o k refl refl)
+    where
+      last : (from : ℕ) (os : List (Change R)) → AllTabled table from (os ++ record { target = duty.target; frame = duty.frame; answer = answer; completed = frame } ∷ []) → answer ≡ answer_of (table (state_over table from os) duty.target)
+      last from [] tabled = tabled.0
+      last from (p ∷ os) tabled = last (state_behind table from p.target) os tabled.1
 
   -- and the outcome by the record is that answer, of an earlier frame
   pub over_outcomes : {V A : Type 0} (x : Exchange V A M Q R) (more : M → Bool) (fs : List (Frame M)) (r : Registers) (a : Account Q R) → Stately table start is station fs r a → AllFound x more station fs a.over
@@ -437,3 +444,19 @@ module _ {M Q R : Type 0} (table : Table) (start : ℕ) (is : IsTable table star
           stage : (stage : Stage) → AtStage table (state_over table start a.over) duty.target stage r → StageStep table (state_over table start a.over) duty.target stage r
           stage Stage.Drains k = idle_carry table (state_over table start a.over) r k
           stage (Stage.Goes phase) k = hand_carry table (state_over table start a.over) duty.target phase r k
+
+  -- OF THE STATE SERVICES AMONG ALL THAT CAME INTO HAND, by the record: each outcome is the table's, in the state behind those before it, and there
+  -- is one of each where none is in hand
+  pub duty_open : {V A : Type 0} (x : Exchange V A M Q R) (more : M → Bool) (fs : List (Frame M)) (r : Registers) (a : Account Q R) → Stately table start is station fs r a → IsOpenYet x more station fs a.hand
+  duty_open x more fs r a k = go a.hand k.hand
+    where
+      go : (hand : Option Duty) → HandOpen R station fs hand → IsOpenYet x more station fs hand
+      go None o = tt
+      go (Some duty) o = o.open_yet
+
+  pub started_replied : {V A : Type 0} (x : Exchange V A M Q R) (more : M → Bool) (fs : List (Frame M)) (r : Registers) (a : Account Q R) → Stately table start is station fs r a → StatesReplied x more station fs table start a.started
+  started_replied x more fs r a k =
+      states_replied x more station fs table (length fs) start a.started a.over a.hand k.order (over_outcomes x more fs r a k) (over_answers fs r a k) (duty_open x more fs r a k)
+
+  pub started_ended : {V A : Type 0} (x : Exchange V A M Q R) (more : M → Bool) (fs : List (Frame M)) (r : Registers) (a : Account Q R) → Stately table start is station fs r a → a.hand ≡ None → StatesEnded x more station fs a.started
+  started_ended x more fs r a k e = states_ended x more station fs (length fs) a.started a.over a.hand e k.order (over_outcomes x more fs r a k)
