@@ -96,6 +96,21 @@ module _ {V A M Q R : Type 0} (x : Exchange V A M Q R) (law : IsLawful x) (s : S
         completed = c.completed;
       }
 
+  abbrev Behind : List (Frame M) → Seat V M Q R → Type 0
+  Behind fs seat = SeatAgrees x seat × Records x law fs seat
+
+  -- the invariant beside a seat that began with the same server, where each part of it is kept
+  keeps_whole : (fs now : List (Frame M)) (p : Planned V) (seat t : Seat V M Q R) (a b : Account Q R) → t.start ≡ seat.start → Whole fs p seat a → IsStately x s processor table now p t b → Behind now t →
+      (p.registers.station ≡ p.station → Carries fs p seat a → Carries now p t b) → Whole now p t b
+  keeps_whole fs now p seat t a b same k is behind carries = record {
+    is = is;
+    ready = ap x.ready same ∙ k.ready;
+    start = same ∙ k.start;
+    agrees = behind.0;
+    records = behind.1;
+    carries = λ answers. carries answers (k.carries answers);
+  }
+
   -- BEFORE A FRAME
   next_carries : (fs : List (Frame M)) (p : Planned V) (seat : Seat V M Q R) (a : Account Q R) (pick : Pick Q) → Whole fs p seat a → p.registers.station ≡ p.station →
       Carries fs p (seat_next x (length fs) seat (mails_choice a pick)) (account_next x s.acknowledged (length fs) seat.side a pick)
@@ -117,19 +132,11 @@ module _ {V A M Q R : Type 0} (x : Exchange V A M Q R) (law : IsLawful x) (s : S
       }
 
   next_whole : (fs : List (Frame M)) (p : Planned V) (seat : Seat V M Q R) (a : Account Q R) (pick : Pick Q) → Whole fs p seat a → Whole fs p (seat_next x (length fs) seat (mails_choice a pick)) (account_next x s.acknowledged (length fs) seat.side a pick)
-  next_whole fs p seat a pick k = record {
-    is = next_is x s processor table s.acknowledged fs p seat a pick k.is;
-    ready = k.ready;
-    start = k.start;
-    agrees = next_agrees x (length fs) seat (mails_choice a pick) k.agrees;
-    records = (nexts_records x law fs (seat ∷ []) (mails_choice a pick ∷ []) (k.records, tt)).0;
-    carries = next_carries fs p seat a pick k;
-  }
+  next_whole fs p seat a pick k = keeps_whole fs fs p seat (seat_next x (length fs) seat (mails_choice a pick)) a (account_next x s.acknowledged (length fs) seat.side a pick) refl k
+      (next_is x s processor table s.acknowledged fs p seat a pick k.is)
+      (next_agrees x (length fs) seat (mails_choice a pick) k.agrees, (nexts_records x law fs (seat ∷ []) (mails_choice a pick ∷ []) (k.records, tt)).0) (λ answers c. next_carries fs p seat a pick k answers)
 
   -- A FRAME THAT CAME BACK
-  abbrev Behind : List (Frame M) → Seat V M Q R → Type 0
-  Behind fs seat = SeatAgrees x seat × Records x law fs seat
-
   abbrev Sent : List (Frame M) → List (Datagram M) → Planned V → Seat V M Q R → Account Q R → Type 0
   Sent fs sent p seat a = IsFrameFor seat.station seat.side.halves (grams sent) × Whole fs p seat a
 
@@ -137,77 +144,47 @@ module _ {V A M Q R : Type 0} (x : Exchange V A M Q R) (law : IsLawful x) (s : S
       IsPlaced p seat a → SeatMet (length fs) p seat a ds f.back → Behind (fs ++ f ∷ []) (seat_back x (length fs) seat ds f.back) → Sent fs f.sent p seat a →
       Whole (fs ++ f ∷ []) p (seat_back x (length fs) seat ds f.back) (account_back seat.station (length fs) a f.back)
   back_whole fs f same p seat a ds placed met now k =
+      let b = account_back seat.station (length fs) a f.back in
       let kept = back_is x s processor table fs f p seat a ds placed met tt k.1.is in
-      record {
-        is = kept;
-        ready = k.1.ready;
-        start = k.1.start;
-        agrees = now.0;
-        records = now.1;
-        carries = λ answers. (
-            let c = k.1.carries answers in
-            record {
-              carried = carried_back x law s (table p.station) stated p.registers.state seat a (account_back seat.station (length fs) a f.back) _ (length fs) _ ds f.back k.1.ready k.1.agrees now.0 (met.served answers 0)
-                  (λ none. (free_state (table p.station) p.registers.state kept.brought.sits seat.station (fs ++ f ∷ []) (slave_after seat.station seat.slave ds).registers (account_back seat.station (length fs) a f.back) (kept.stately answers) none).0)
-                  c.carried;
-              posts = back_posts x law seat.station fs f seat.side (same seat.station) (frame_tells seat.station (kept_of seat.station fs).told seat.side.halves (grams f.sent) k.0) c.posts;
-              completed = completed_back x more seat.station (fs ++ f ∷ []) (length fs) a f.back (completed_frame x more seat.station fs f a.started c.completed);
-            });
-      }
+      keeps_whole fs (fs ++ f ∷ []) p seat (seat_back x (length fs) seat ds f.back) a b refl k.1 kept now (λ answers c. record {
+        carried = carried_back x law s (table p.station) stated p.registers.state seat a b _ (length fs) _ ds f.back k.1.ready k.1.agrees now.0 (met.served answers 0)
+            (λ none. (free_state (table p.station) p.registers.state kept.brought.sits seat.station (fs ++ f ∷ []) (slave_after seat.station seat.slave ds).registers b (kept.stately answers) none).0)
+            c.carried;
+        posts = back_posts x law seat.station fs f seat.side (same seat.station) (frame_tells seat.station (kept_of seat.station fs).told seat.side.halves (grams f.sent) k.0) c.posts;
+        completed = completed_back x more seat.station (fs ++ f ∷ []) (length fs) a f.back (completed_frame x more seat.station fs f a.started c.completed);
+      })
 
   -- A LOST FRAME
+  loses : (fs : List (Frame M)) (f : Frame M) → f.back ≡ [] → (p : Planned V) (seat : Seat V M Q R) (a : Account Q R) (slave : Slave V M) → (let t = record seat { side = side_lost seat.station f.sent seat.side; slave = slave } in
+      IsStately x s processor table (fs ++ f ∷ []) p t a → Behind (fs ++ f ∷ []) t → Sent fs f.sent p seat a →
+      ((from : ℕ) → Carried x law s (table p.station) from seat a → Carried x law s (table p.station) from t a) → Whole (fs ++ f ∷ []) p t a)
+  loses fs f e p seat a slave is now k carried = keeps_whole fs (fs ++ f ∷ []) p seat (record seat { side = side_lost seat.station f.sent seat.side; slave = slave }) a a refl k.1 is now (λ answers c. record {
+    carried = carried (state_over (table p.station) p.registers.state a.over) c.carried;
+    posts = lost_posts x law seat.station fs f seat.side e (frame_tells seat.station (kept_of seat.station fs).told seat.side.halves (grams f.sent) k.0) c.posts;
+    completed = completed_frame x more seat.station fs f a.started c.completed;
+  })
+
   lost_whole : (fs : List (Frame M)) (f : Frame M) → f.back ≡ [] → (p : Planned V) (seat : Seat V M Q R) (a : Account Q R) (ds : List (Datagram M)) → (let t = record seat { side = side_lost seat.station f.sent seat.side; slave = slave_after seat.station seat.slave ds } in
       IsPlaced p seat a → SeatMet (length fs) p seat a ds (frame_after seat.station seat.slave ds) → Behind (fs ++ f ∷ []) t → Sent fs f.sent p seat a → Whole (fs ++ f ∷ []) p t a)
-  lost_whole fs f e p seat a ds placed met now k = record {
-    is = lost_is x s processor table fs f e p seat a ds placed met tt k.1.is;
-    ready = k.1.ready;
-    start = k.1.start;
-    agrees = now.0;
-    records = now.1;
-    carries = λ answers. (
-        let c = k.1.carries answers in
-        record {
-          carried = carried_met x law s (table p.station) stated (state_over (table p.station) p.registers.state a.over) seat a f.sent ds c.carried;
-          posts = lost_posts x law seat.station fs f seat.side e (frame_tells seat.station (kept_of seat.station fs).told seat.side.halves (grams f.sent) k.0) c.posts;
-          completed = completed_frame x more seat.station fs f a.started c.completed;
-        });
-  }
+  lost_whole fs f e p seat a ds placed met now k = loses fs f e p seat a (slave_after seat.station seat.slave ds) (lost_is x s processor table fs f e p seat a ds placed met tt k.1.is) now k
+      (λ from c. carried_met x law s (table p.station) stated from seat a f.sent ds c)
 
   missed_whole : (fs : List (Frame M)) (f : Frame M) → f.back ≡ [] → (p : Planned V) (seat : Seat V M Q R) (a : Account Q R) → (let t = record seat { side = side_lost seat.station f.sent seat.side } in
       IsPlaced p seat a → Behind (fs ++ f ∷ []) t → Sent fs f.sent p seat a → Whole (fs ++ f ∷ []) p t a)
-  missed_whole fs f e p seat a placed now k = record {
-    is = missed_is x s processor table fs f e p seat a placed tt k.1.is;
-    ready = k.1.ready;
-    start = k.1.start;
-    agrees = now.0;
-    records = now.1;
-    carries = λ answers. (
-        let c = k.1.carries answers in
-        record {
-          carried = carried_missed x law s (table p.station) stated (state_over (table p.station) p.registers.state a.over) seat a f.sent c.carried;
-          posts = lost_posts x law seat.station fs f seat.side e (frame_tells seat.station (kept_of seat.station fs).told seat.side.halves (grams f.sent) k.0) c.posts;
-          completed = completed_frame x more seat.station fs f a.started c.completed;
-        });
-  }
+  missed_whole fs f e p seat a placed now k =
+      loses fs f e p seat a seat.slave (missed_is x s processor table fs f e p seat a placed tt k.1.is) now k (λ from c. carried_missed x law s (table p.station) stated from seat a f.sent c)
 
   -- A STEP OF THE PROCESSOR
   step_whole : (fs : List (Frame M)) (p : Planned V) (seat : Seat V M Q R) (a : Account Q R) → Whole fs p seat a → Whole fs p (seat_steps x processor seat) a
-  step_whole fs p seat a k = record {
-    is = step_is x s processor table fs p seat a k.is;
-    ready = k.ready;
-    start = k.start;
-    agrees = step_agrees x processor seat k.agrees;
-    records = record { listens = k.records.listens; rises = k.records.rises; hears = k.records.hears };
-    carries = λ answers. (
-        let c = k.carries answers in
-        record {
-          carried = carried_steps x law s (table p.station) stated (state_over (table p.station) p.registers.state a.over) seat a processor tells
-              (k.is.brought.carries seat.slave.registers k.is.placed.place.station k.is.placed.place.first k.is.placed.place.second)
-              (step_state (table p.station) p.registers.state k.is.brought.sits seat.station fs seat.slave.registers a (k.is.stately answers)) k.ready (step_agrees x processor seat k.agrees) c.carried;
-          posts = c.posts;
-          completed = c.completed;
-        });
-  }
+  step_whole fs p seat a k =
+      let agrees = step_agrees x processor seat k.agrees in
+      keeps_whole fs fs p seat (seat_steps x processor seat) a a refl k (step_is x s processor table fs p seat a k.is) (agrees, record { listens = k.records.listens; rises = k.records.rises; hears = k.records.hears }) (λ answers c. record {
+        carried = carried_steps x law s (table p.station) stated (state_over (table p.station) p.registers.state a.over) seat a processor tells
+            (k.is.brought.carries seat.slave.registers k.is.placed.place.station k.is.placed.place.first k.is.placed.place.second)
+            (step_state (table p.station) p.registers.state k.is.brought.sits seat.station fs seat.slave.registers a (k.is.stately answers)) k.ready agrees c.carried;
+        posts = c.posts;
+        completed = c.completed;
+      })
 
   -- THE SESSION: all slaves, and that no station stands twice
   pub record Keeps (ps : List (Planned V)) (w : TaskSession V M Q R) : Type 0 where

@@ -16,9 +16,9 @@ use Rattle.state_exchange.specs.Toys.{Desk, desk, desk_states, steps}
 use Rattle.state_exchange.proofs.ToyLaw.{desk_law, desk_is_stated}
 use Rattle.task_model.specs.Accounts.{Started, Account, IsServed}
 use Rattle.task_model.specs.Tasks.{TaskTurn, TaskSession, IsTaskPlan, IsTasked, MayRun, new_tasks, run}
-use Rattle.task_model.specs.Promise.{EachTask, TasksPromised, outcome_of, mails_started, states_started}
-use Rattle.task_model.specs.Books.{task_answers}
-use Rattle.task_model.proofs.Sessions.{tasks_promised}
+use Rattle.task_model.specs.Promise.{EachTask, TasksPromised, outcome_of, services_in, mails_started, states_started}
+use Rattle.task_model.specs.Books.{task_answers, TasksDoneIf}
+use Rattle.task_model.proofs.Sessions.{tasks_promised, tasks_done}
 
 abbrev Task : Type 0
 Task = Stated.Service Service
@@ -172,3 +172,13 @@ kept = tasks_promised desk desk_law desk_states desk_is_stated processor (λ sta
 -- and what they say with nothing left
 rested : EachTask (λ station start d a n. IsSettled n × WantsNothing desk d × (a.hand ≡ None)) one (sides_of ended.session.seats) ended.accounts (ring_of ended.session.seats)
 rested = ((refl, refl, λ answers. (record { first = refl; second = refl; withdrawn = refl; waiting = refl }, record { idle = refl; clear = refl; nothing = refl }, refl)), tt)
+
+-- so with its script begun all of it is done
+abbrev script : List Task
+script = Stated.Service.Mails (sum 3) ∷ Stated.Service.State 1 ∷ Stated.Service.State 2 ∷ Stated.Service.Mails (sum 3) ∷ []
+
+all_begun : map (λ a. services_in a.started) ended.accounts ≡ script ∷ []
+all_begun = refl
+
+all_done : EachTask (λ station start d a n. TasksDoneIf desk desk_states steps (λ m. false) (λ station. script) ended.session.frames station start d a n) one (sides_of ended.session.seats) ended.accounts (ring_of ended.session.seats)
+all_done = tasks_done desk desk_law desk_states desk_is_stated processor (λ station. steps) (λ m. false) plan.tells one plan (sides_of ended.session.seats) ended.accounts (ring_of ended.session.seats) ended.session.frames tasked (λ station. script)
