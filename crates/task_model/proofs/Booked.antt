@@ -1,10 +1,10 @@
 -- What a book takes of a slave is what the record gives, from what its seat and its account carry.
-use Rattle.std.proofs.Common.{◌≡◌, inl, inr, ℕ, Bool, true, Option, Some, None, List, [], ◌∷◌, ◌++◌, map, length, refl, ap, sym, ◌∙◌, subst}
+use Rattle.std.proofs.Common.{◌≡◌, inl, inr, ℕ, Bool, Option, Some, None, List, [], ◌∷◌, ◌++◌, map, length, refl, ap, sym, ◌∙◌, subst}
 use Rattle.exchange_model.specs.Exchange.{Exchange, IsLawful}
 use Rattle.exchange_model.specs.Rows.{Row}
 use Rattle.segment_model.specs.Record.{Frame}
 use Rattle.segment_model.specs.Seats.{Seat, newest, rows_of}
-use Rattle.segment_model.specs.Laws.{HandedBy, KnowsCounters, NothingInHand}
+use Rattle.segment_model.specs.Laws.{HandedBy, KnowsCounters}
 use Rattle.segment_model.specs.Books
 use Rattle.segment_model.proofs.Rising.{RisesNow, rises_all}
 use Rattle.segment_model.proofs.Handed.{BegunBy, handed_by}
@@ -12,14 +12,14 @@ use Rattle.segment_model.proofs.Hands.{each_counted}
 use Rattle.state_model.specs.States.{Table}
 use Rattle.state_model.specs.Promises.{IsTable}
 use Rattle.state_exchange.specs.Stated.{Stated, IsStated, Service}
-use Rattle.task_model.specs.Accounts.{Started, Account, is_free}
+use Rattle.task_model.specs.Accounts.{Started, Account}
 use Rattle.task_model.specs.Promise.{AllEnded, TasksAnswered, mail_of, mails_started, rows_started}
 use Rattle.task_model.specs.Books.{task_answers, TasksPast, TasksEndedIf, TasksDoneIf}
 use Rattle.task_model.proofs.Ghosts.{GhostRow, Label, starts_of, labels_of, label_by, mail_labels}
 use Rattle.task_model.proofs.Orders.{order_states}
 use Rattle.task_model.proofs.Stately.{state_over, over_outcomes, duty_open}
-use Rattle.task_model.proofs.Completed.{completed_ended, all_ended}
-use Rattle.task_model.proofs.Newest.{Holds, answered, side_facts, newest_over}
+use Rattle.task_model.proofs.Completed.{completed_ended}
+use Rattle.task_model.proofs.Newest.{Holds, answered, side_facts, ended_free}
 use Rattle.task_model.proofs.Promised.{all_labels}
 use Rattle.task_model.proofs.Resting.{rests}
 
@@ -87,12 +87,7 @@ module _ {V A M Q R : Type 0} (x : Exchange V A M Q R) (law : IsLawful x) (s : S
   tasks_past = answers_ended x more seat.station fs _ (completed_ended x more seat.station fs a.started h.completed)
 
   pub tasks_ended : TasksEndedIf x more fs seat.station seat.start seat.side a seat.slave
-  tasks_ended idle nothing = answers_ended x more seat.station fs a.started
-      (all_ended x more seat.station fs a.started h.completed (newest_over x law s stated table more start is fs seat a h idle (free seat.side.now nothing)))
-    where
-      free : (now : Option (Row M Q R)) → NothingInHand x seat.side now → is_free x seat.side now ≡ true
-      free None n = refl
-      free (Some r) n = n
+  tasks_ended idle nothing = answers_ended x more seat.station fs a.started (ended_free x law s stated table more start is fs seat a h idle nothing)
 
   pub tasks_done : (scripted : ℕ → List (Service Q)) → TasksDoneIf x s table more scripted fs seat.station seat.start seat.side a seat.slave
   tasks_done scripted settled wants idle all = record {
