@@ -1,11 +1,7 @@
 -- The longest first part of what came into hand of which just so many count.
-use Rattle.std.proofs.Common.{◌≡◌, ℕ, zero, suc, ◌+◌, ◌-◌, ◌≤◌, ◌&&◌, Bool, true, false, List, [], ◌∷◌, ◌++◌, take, length, refl, ap, sym, ◌∙◌, arith, if◌then◌else◌, append_assoc}
+use Rattle.std.proofs.Common.{◌≡◌, ℕ, zero, suc, ◌-◌, ◌≤◌, ◌&&◌, Bool, true, false, List, [], ◌∷◌, ◌++◌, take, refl, ap, sym, ◌∙◌, arith, if◌then◌else◌}
 use Rattle.exchange_model.specs.Prefix.{IsPrefixOf}
-use Rattle.exchange_model.specs.Exchange.{Exchange}
-use Rattle.exchange_model.specs.Rows.{exec_all}
-use Rattle.segment_model.specs.Ends.{Task}
-use Rattle.state_model.specs.States.{Table}
-use Rattle.state_model.specs.Order.{Begun, count_of, is_zero, one_less, done, services_of, service_in, all_behind, states_behind, state_after, app_behind, Scripted, Scripted.nothing, Scripted.mails, Scripted.state}
+use Rattle.state_model.specs.Order.{Begun, count_of, is_zero, one_less, done, services_of, Scripted, Scripted.nothing, Scripted.mails, Scripted.state}
 
 module _ {M Q : Type 0} where
   -- all of a first part is done of which no more count
@@ -56,39 +52,3 @@ module _ {M Q : Type 0} where
   services_done zero b (mails q bs s) = refl
   services_done (suc k) b (mails q bs s) = ap (λ l. q ∷ l) (services_done k bs s)
   services_done k b (state target bs s) = services_done k bs s
-
-  pub count_scripted : (bs : List (Begun M Q)) → Scripted bs → count_of bs ≡ length (services_of bs)
-  count_scripted bs nothing = refl
-  count_scripted b (mails q bs s) = ap suc (count_scripted bs s)
-  count_scripted b (state target bs s) = count_scripted bs s
-
-  pub scripted_append : (bs cs : List (Begun M Q)) → Scripted bs → Scripted cs → Scripted (bs ++ cs)
-  scripted_append bs cs nothing t = t
-  scripted_append b cs (mails q bs s) t = mails q (bs ++ cs) (scripted_append bs cs s t)
-  scripted_append b cs (state target bs s) t = state target (bs ++ cs) (scripted_append bs cs s t)
-
-  pub states_append : (table : Table) (from : ℕ) (bs cs : List (Begun M Q)) → states_behind table from (bs ++ cs) ≡ states_behind table (states_behind table from bs) cs
-  states_append table from [] cs = refl
-  states_append table from (b ∷ bs) cs = states_append table (state_after table from b.task) bs cs
-
-  pub count_append : (bs cs : List (Begun M Q)) → count_of (bs ++ cs) ≡ count_of bs + count_of cs
-  count_append [] cs = let e : count_of cs ≡ 0 + count_of cs = omega arith in e
-  count_append (b ∷ bs) cs = go b.counts (count_append bs cs)
-    where
-      go : (c : Bool) → count_of (bs ++ cs) ≡ count_of bs + count_of cs → (if c then suc (count_of (bs ++ cs)) else count_of (bs ++ cs)) ≡ (if c then suc (count_of bs) else count_of bs) + count_of cs
-      go true e = let f : suc (count_of (bs ++ cs)) ≡ suc (count_of bs) + count_of cs = omega (arith, e) in f
-      go false e = e
-
-  pub services_append : (bs cs : List (Begun M Q)) → services_of (bs ++ cs) ≡ services_of bs ++ services_of cs
-  services_append [] cs = refl
-  services_append (b ∷ bs) cs = ap (λ l. service_in b.task ++ l) (services_append bs cs) ∙ sym (append_assoc (service_in b.task) (services_of bs) (services_of cs))
-
-  -- the fold is that of the services by mails beside that of the state services
-  pub all_behind_is : {V A R : Type 0} (x : Exchange V A M Q R) (table : Table) (a : A) (from : ℕ) (bs : List (Begun M Q)) → all_behind x table a from bs ≡ (exec_all x a (services_of bs), states_behind table from bs)
-  all_behind_is x table a from [] = refl
-  all_behind_is x table a from (b ∷ bs) = all_behind_is x table (app_behind x a b.task) (state_after table from b.task) bs ∙ ap (λ e. (e, states_behind table (state_after table from b.task) bs)) (go b.task)
-    where
-      go : (t : Task M Q) → exec_all x (app_behind x a t) (services_of bs) ≡ exec_all x a (service_in t ++ services_of bs)
-      go (Task.Mails q) = refl
-      go (Task.State target) = refl
-      go (Task.Passed m) = refl

@@ -1,16 +1,15 @@
--- Computed runs: a table of three states that meets what is asked of a table; a refusal with lost writes and a slow slave; and a state service
--- between services by mails.
-use Rattle.std.proofs.Common.{◌≡◌, ℕ, ◌==◌, ◌&&◌, ◌||◌, Bool, true, false, Option, Some, None, List, [], ◌∷◌, ◌++◌, refl, ap, ◌∙◌, arith, map}
+-- Computed runs: a table of three states that meets what is asked of a table; a refusal with lost writes and a slow slave; and what
+-- mails that are passed on count.
+use Rattle.std.proofs.Common.{◌≡◌, ℕ, ◌==◌, ◌&&◌, ◌||◌, Bool, true, false, Option, Some, None, List, [], ◌∷◌, refl, ap, ◌∙◌, arith, map}
 use Rattle.std.proofs.lemmas.Bool.Decides.{nat_tests}
 use Rattle.link_model.specs.Link.{Fate}
 use Rattle.segment_model.specs.Slaves.{Registers}
 use Rattle.segment_model.specs.Record.{News}
 use Rattle.segment_model.specs.Ends.{Task, Outcome}
-use Rattle.exchange_model.specs.Toy.{Mail, first, second, posted, held, total, refused, noted, Service, sum, post, Adder, adder, finish}
+use Rattle.exchange_model.specs.Toy.{Mail, first, second, posted, held, total, refused, noted, Service, sum, Adder, adder, finish}
 use Rattle.state_model.specs.States.{Table, States, Event, run, new_states}
 use Rattle.state_model.specs.Promises.{IsTable}
-use Rattle.state_model.specs.Order.{by_mails, by_state, IsQuiet, weighed, done, tasks_of}
-use Rattle.state_model.specs.Together.{Beside, Happening, all_after, new_beside, done_of, AllMay}
+use Rattle.state_model.specs.Order.{IsQuiet, weighed, done, tasks_of}
 
 -- PreOp, SafeOp and Op by their neighbours; any other change between them gets code 17, and any other state code 18
 abbrev is_known : ℕ → Bool
@@ -59,35 +58,6 @@ answers = refl
 
 stands_in : (ended.registers.state ≡ 4) × (ended.registers.refused ≡ None) × (ended.hand ≡ None)
 stands_in = (refl, refl, refl)
-
--- A sum, then a packet that is written and not yet taken when SafeOp comes into hand and drains; then the packet is taken, the drain ends and the
--- state is written; then another sum.
-abbrev before_drain : List (Happening Service)
-before_drain = Happening.Mails (sum 3) ∷ Happening.Handled ∷ Happening.Mails (post 4) ∷ Happening.State 4 ∷ []
-
-abbrev in_doubt : List (Happening Service)
-in_doubt = before_drain ++ Happening.Handled ∷ Happening.Drained 4 ∷ Happening.Alters (Event.Write Fate.Pass) ∷ []
-
-abbrev all : List (Happening Service)
-all = in_doubt ++ Happening.Alters Event.Step ∷ Happening.Alters (Event.Read Fate.Pass) ∷ Happening.Mails (sum 5) ∷ []
-
-abbrev new : Beside Mail Service ℕ
-new = new_beside blank 2
-
--- in the drain the packet is not done, nor is the state service behind it; once the packet is taken the state service, whose word waits at the
--- slave, is left out; and carried out it is in its place
-done_draining : done_of table 2 (all_after table new before_drain) ≡ by_mails (sum 3) ∷ []
-done_draining = refl
-
-done_in_doubt : done_of table 2 (all_after table new in_doubt) ≡ by_mails (sum 3) ∷ by_mails (post 4) ∷ []
-done_in_doubt = refl
-
-done_behind : done_of table 2 (all_after table new all) ≡ by_mails (sum 3) ∷ by_mails (post 4) ∷ by_state 4 ∷ []
-done_behind = refl
-
--- and each may come where it comes
-may : AllMay table new all
-may = ((refl, refl), (omega arith, ((refl, refl), ((refl, refl, omega arith), (omega arith, ((refl, refl), (tt, (tt, (tt, ((refl, refl), tt))))))))))
 
 -- the adder keeps its total where it counts nothing
 adder_quiet : IsQuiet adder

@@ -1,5 +1,4 @@
 pub mod States
 pub mod Promises
 pub mod Order
-pub mod Together
 pub mod Met

@@ -2,8 +2,6 @@
 use Rattle.std.specs.Prelude.{◌≡◌, ◌⊎◌, ℕ, zero, suc, ◌==◌, ◌&&◌, Bool, true, false, not, if◌then◌else◌, List, [], ◌∷◌, ◌++◌, map, ⊤}
 use Rattle.exchange_model.specs.Exchange.{Exchange, after}
 use Rattle.segment_model.specs.Ends.{Task}
-use Rattle.state_model.specs.States.{Table}
-use Rattle.state_model.specs.Promises.{state_behind}
 
 -- a task that came into hand, and whether the slave counts it among the services that it carried out
 pub record Begun (M Q : Type 0) : Type 0 where
@@ -40,28 +38,6 @@ service_in (Task.Passed m) = []
 abbrev pub services_of : {M Q : Type 0} → List (Begun M Q) → List Q
 services_of [] = []
 services_of (b ∷ bs) = service_in b.task ++ services_of bs
-
--- what a scripted task does to the application: a state service leaves it
-abbrev pub app_behind : {V A M Q R : Type 0} → Exchange V A M Q R → A → Task M Q → A
-app_behind x a (Task.Mails q) = x.exec a q
-app_behind x a (Task.State target) = a
-app_behind x a (Task.Passed m) = a
-
--- what a task does to the AL state: a state service brings it to its target, or, refused, leaves it
-abbrev pub state_after : {M Q : Type 0} → Table → ℕ → Task M Q → ℕ
-state_after table from (Task.Mails q) = from
-state_after table from (Task.State target) = state_behind table from target
-state_after table from (Task.Passed m) = from
-
--- THE FOLD: application and AL state behind scripted tasks
-abbrev pub all_behind : {V A M Q R : Type 0} → Exchange V A M Q R → Table → A → ℕ → List (Begun M Q) → A × ℕ
-all_behind x table a from [] = (a, from)
-all_behind x table a from (b ∷ bs) = all_behind x table (app_behind x a b.task) (state_after table from b.task) bs
-
--- the AL state alone behind tasks
-abbrev pub states_behind : {M Q : Type 0} → Table → ℕ → List (Begun M Q) → ℕ
-states_behind table from [] = from
-states_behind table from (b ∷ bs) = states_behind table (state_after table from b.task) bs
 
 -- a service by mails that came into hand, which counts
 abbrev pub by_mails : {M Q : Type 0} → Q → Begun M Q

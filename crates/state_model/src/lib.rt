@@ -5,7 +5,7 @@
 ghost use Rattle.std.specs.Prelude.{◌≡◌, ◌≤◌, ◌+◌, ◌-◌, ℕ, suc, Bool, true, false, Option, Some, None, List, [], ◌∷◌, ◌++◌, length, take};
 ghost use Rattle.exchange_model.specs.Prefix.{IsPrefixOf};
 ghost use Rattle.exchange_model.specs.Exchange.{Exchange, IsLawful, after};
-ghost use Rattle.exchange_model.specs.Rows.{Row, Fits, services};
+ghost use Rattle.exchange_model.specs.Rows.{Row, Fits};
 ghost use Rattle.exchange_model.specs.Laws.{Moment};
 ghost use Rattle.link_model.specs.Link.{Link};
 ghost use Rattle.link_model.specs.Agree.{Agrees};
@@ -17,7 +17,6 @@ ghost use Rattle.state_model.specs.States.{Table, Event, carry, word_met, run, n
 ghost use Rattle.state_model.specs.Promises.{IsTable, StatesPromised, statuses};
 ghost use Rattle.state_model.specs.Order.{Begun, count_of, done, services_of, Scripted, tasks_of, weighed, servers_behind, EachOne, IsQuiet};
 ghost use Rattle.state_model.specs.Met.{Writes};
-ghost use Rattle.state_model.specs.Together.{Happening, AllMay, all_after, new_beside, done_of, AppFits};
 
 /// What state services promise, whatever frames are lost and however slow the slave's processor is. The AL state is the one behind the closed
 /// services, or with one in hand that or its target's; a refusal leaves it. The error flag stands for a refusal of the service in hand alone, with
@@ -77,35 +76,6 @@ pub fn done_law<M, Q>()
 
     // Of scripted tasks it has just the first services by mails.
     ensures services { (k : ℕ) (bs : List (Begun M Q)) → Scripted bs → services_of (done k bs) ≡ take k (services_of bs) }
-{}
-
-/// Services by mails and state services of one slave, in any order, each state service behind its drain, whatever frames are lost and however
-/// slow the slave's processor is.
-pub fn beside_law<V, A, M, Q, R>()
-    // The state services keep their promise.
-    ensures promised { (table : Table) (start : ℕ) → IsTable table start → (r : Registers) (hs : List (Happening Q)) → let new = new_beside {M = M} {Q = Q} {R = R} r start in
-        AllMay table new hs → StatesPromised table start (all_after table new hs).states }
-
-    // Where the rows of the services by mails fit, application and AL state are together the fold over what is done, where a state service in
-    // hand is left out if the AL state isn't the one behind it.
-    ensures fits { (x : Exchange V A M Q R) (table : Table) (start : ℕ) → IsTable table start → (r : Registers) (hs : List (Happening Q)) → let new = new_beside {M = M} {Q = Q} {R = R} r start in let w = all_after table new hs in
-        AllMay table new hs → (v : V) (rows : List (Row M Q R)) (server : V) (accepted : List M) → (f : Fits x v rows server accepted) → services rows ≡ services_of w.begun → f.count ≡ w.handled →
-        AppFits x table (x.app v) start w (x.app server) }
-
-    // And where the server has carried out all rows, as a drain shows, all services by mails that came into hand are carried out.
-    ensures drained { (x : Exchange V A M Q R) (table : Table) (start : ℕ) → IsTable table start → (r : Registers) (hs : List (Happening Q)) → let new = new_beside {M = M} {Q = Q} {R = R} r start in let w = all_after table new hs in
-        AllMay table new hs → (v : V) (rows : List (Row M Q R)) (server : V) (accepted : List M) → (f : Fits x v rows server accepted) → services rows ≡ services_of w.begun → f.count ≡ w.handled →
-        x.handled server ≡ x.handled v + length rows → w.handled ≡ count_of w.begun }
-
-    // Or all but one, as where the newest is over.
-    ensures few { (x : Exchange V A M Q R) (table : Table) (start : ℕ) → IsTable table start → (r : Registers) (hs : List (Happening Q)) → let new = new_beside {M = M} {Q = Q} {R = R} r start in let w = all_after table new hs in
-        AllMay table new hs → (v : V) (rows : List (Row M Q R)) (server : V) (accepted : List M) → (f : Fits x v rows server accepted) → services rows ≡ services_of w.begun → f.count ≡ w.handled →
-        x.handled v + length rows ≤ x.handled server + 1 → count_of w.begun ≤ w.handled + 1 }
-
-    // At most two of all that came into hand are not done.
-    ensures behind { (x : Exchange V A M Q R) (table : Table) (start : ℕ) → IsTable table start → (r : Registers) (hs : List (Happening Q)) → let new = new_beside {M = M} {Q = Q} {R = R} r start in let w = all_after table new hs in
-        AllMay table new hs → (v : V) (rows : List (Row M Q R)) (server : V) (accepted : List M) → (f : Fits x v rows server accepted) → services rows ≡ services_of w.begun → f.count ≡ w.handled →
-        length w.begun ≤ length (done_of table start w) + 2 }
 {}
 
 /// A serving: mails that are passed on count where the server counts one more for them.

@@ -22,7 +22,7 @@ use Rattle.state_exchange.proofs.Acts.{acts_append, acts_length, acts_same, begi
 use Rattle.state_exchange.proofs.StatedLaw.{stated_law}
 use Rattle.state_exchange.proofs.Takens.{answered_taken}
 use Rattle.task_model.specs.Accounts.{Account, Duty, Pick, mails_begin, mails_choice, is_free, is_acknowledged, starts, state_begins, account_begins, account_next}
-use Rattle.task_model.proofs.Ghosts.{GhostRow, counting, starts_of, labels_of, mail_labels, Shows, Rested, RestedRow, Staged, MailsNow, StateNow, Rowed, Untouched, Carried, starts_append, starts_now, labels_append, mail_labels_append, shown_label, state_label}
+use Rattle.task_model.proofs.Ghosts.{GhostRow, counting, starts_of, labels_of, mail_labels, Shows, Rested, RestedRow, Staged, MailsNow, StateNow, Rowed, Untouched, Carried, starts_append, starts_now, labels_append, mail_labels_append, shown_label, state_label, Now, Rows, other_rows}
 
 -- what was accepted was given
 pub accepted_begin : {M : Type 0} (accepted offered waiting : List M) (g : List (Act M)) → g ≡ acts (offered ++ waiting) → Mails.IsPrefixOf accepted offered → IsPrefixOf (acts accepted) g
@@ -232,65 +232,49 @@ module _ {V A M Q R : Type 0} (x : Exchange V A M Q R) (law : IsLawful x) (s : S
   abbrev pub sided : Seat V M Q R → Side M Q R → Seat V M Q R
   sided seat d = record seat { side = d }
 
+  -- the rows of a seat with one more, of a service that begins
+  began : (from : ℕ) (seat : Seat V M Q R) (a : Account Q R) (taken : List (Act M)) (rest : List M) (o : Opening seat a taken rest) (service : Service Q) (frame : ℕ) (b : Begun seat taken rest o.before service frame) (side : Side M Q R) (hand : Option Duty) →
+      Now x law s table from seat.slave.registers.state rest side hand (b.front ++ b.last) (begun service frame) → Rows x law s table from (sided seat side) (record a { started = starts a service frame; hand = hand }) taken rest
+  began from seat a taken rest o service frame b side hand place = inr (record {
+    front = b.front;
+    last = b.last;
+    now = begun service frame;
+    moment = b.moment;
+    started =
+        starts_append (b.front ++ b.last) (begun service frame ∷ []) ∙ ap (λ l. starts_of l ++ record { service = service; frame = frame } ∷ []) b.is
+        ∙ ap (λ l. l ++ record { service = service; frame = frame } ∷ []) o.started;
+    mails_last = b.mails_last;
+    place = place;
+  })
+
   -- a service by mails comes into hand
   begins_mails : (from : ℕ) (seat : Seat V M Q R) (a : Account Q R) (c : Carried x law s table from seat a) → Opening seat a c.taken c.rest → (q : Q) (frame : ℕ) (past : List (Row M Q R)) → labels_of past ≡ labels_of (rows_of seat.side) →
       x.valid q ≡ true → a.hand ≡ None → Carried x law s table from (sided seat (record seat.side { past = past; now = Some (begun q frame) })) (record a { started = starts a (Service.Mails q) frame })
   begins_mails from seat a c o q frame past labels valid free =
       let b = o.next (Service.Mails q) frame valid in
-      record {
-        taken = c.taken;
-        rest = c.rest;
-        taken_is = c.taken_is;
-        held_is = c.held_is;
-        serves = c.serves;
-        gave = c.gave;
-        state = c.state;
-        rows = inr (record {
-          front = b.front;
-          last = b.last;
-          now = begun (Service.Mails q) frame;
-          moment = b.moment;
-          started = starts_append (b.front ++ b.last) (begun (Service.Mails q) frame ∷ []) ∙ ap (λ l. starts_of l ++ record { service = Service.Mails q; frame = frame } ∷ []) b.is ∙ ap (λ l. l ++ record { service = Service.Mails q; frame = frame } ∷ []) o.started;
-          mails_last = b.mails_last;
-          place = inl (record {
-            row = begun q frame;
-            is = refl;
-            shows = record { service = refl; frame = refl; told = refl; heard = refl; answer = refl };
-            past = ap mail_labels b.is ∙ o.labels ∙ sym labels;
-            free = free;
-          });
-        });
-      }
+      other_rows x law s table from from seat (record seat.side { past = past; now = Some (begun q frame) }) seat.accepted a (record a { started = starts a (Service.Mails q) frame }) c
+      (began from seat a c.taken c.rest o (Service.Mails q) frame b (record seat.side { past = past; now = Some (begun q frame) }) a.hand (inl (record {
+        row = begun q frame;
+        is = refl;
+        shows = record { service = refl; frame = refl; told = refl; heard = refl; answer = refl };
+        past = ap mail_labels b.is ∙ o.labels ∙ sym labels;
+        free = free;
+      })))
 
   -- a state service comes into hand
   begins_state : (from : ℕ) (seat : Seat V M Q R) (a : Account Q R) (c : Carried x law s table from seat a) → Opening seat a c.taken c.rest → (target frame : ℕ) → is_acknowledged s.acknowledged seat.side seat.side.now ≡ true →
       seat.slave.registers.state ≡ from → Carried x law s table from seat (state_begins a target frame)
   begins_state from seat a c o target frame acknowledged state =
       let b = o.next (Service.State target) frame refl in
-      record {
-        taken = c.taken;
-        rest = c.rest;
-        taken_is = c.taken_is;
-        held_is = c.held_is;
-        serves = c.serves;
-        gave = c.gave;
-        state = c.state;
-        rows = inr (record {
-          front = b.front;
-          last = b.last;
-          now = begun (Service.State target) frame;
-          moment = b.moment;
-          started = starts_append (b.front ++ b.last) (begun (Service.State target) frame ∷ []) ∙ ap (λ l. starts_of l ++ record { service = Service.State target; frame = frame } ∷ []) b.is ∙ ap (λ l. l ++ record { service = Service.State target; frame = frame } ∷ []) o.started;
-          mails_last = b.mails_last;
-          place = inr (record {
-            target = target;
-            service = refl;
-            past = ap mail_labels b.is ∙ o.labels;
-            rested = o.rested;
-            stage = (refl, refl, (refl, state, o.drained acknowledged));
-          });
-        });
-      }
+      let new = state_begins a target frame in
+      other_rows x law s table from from seat seat.side seat.accepted a new c
+      (began from seat a c.taken c.rest o (Service.State target) frame b seat.side new.hand (inr (record {
+        target = target;
+        service = refl;
+        past = ap mail_labels b.is ∙ o.labels;
+        rested = o.rested;
+        stage = (refl, refl, (refl, state, o.drained acknowledged));
+      })))
 
   -- a service that is wished for comes into hand, where it may
   pub carried_begins : (from : ℕ) (seat : Seat V M Q R) (a : Account Q R) (frame : ℕ) (wish : Option (Service Q)) → x.ready seat.start ≡ true → SeatAgrees x seat → (a.hand ≡ None → seat.slave.registers.state ≡ from) → Carried x law s table from seat a →

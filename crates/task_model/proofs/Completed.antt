@@ -9,10 +9,9 @@ use Rattle.segment_model.specs.Record.{Frame, is_for, first_end, joined, news_fr
 use Rattle.segment_model.specs.Ends.{Outcome, ends}
 use Rattle.segment_model.specs.Seats.{Side}
 use Rattle.segment_model.proofs.Answers.{kept_of, news_from-none, outcome-push}
-use Rattle.state_model.specs.Together.{but_last}
 use Rattle.state_exchange.specs.Stated.{Service}
 use Rattle.task_model.specs.Accounts.{Started, Duty, Account, Pick, Progress, is_free, is_acknowledged, starts, state_begins, account_begins, account_next, account_by, account_met, account_back, access_done}
-use Rattle.task_model.specs.Promise.{task_of, outcome_of, AllRise, AllEnded}
+use Rattle.task_model.specs.Promise.{task_of, outcome_of, AllRise, AllEnded, but_last}
 
 -- a choice ends no state service
 pub over_next : {V A M Q R : Type 0} (x : Exchange V A M Q R) (acknowledged : Q → Bool) (frame : ℕ) (d : Side M Q R) (a : Account Q R) (p : Pick Q) → (account_next x acknowledged frame d a p).over ≡ a.over

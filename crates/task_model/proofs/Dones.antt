@@ -10,9 +10,9 @@ use Rattle.exchange_model.proofs.Steps.{handed_whole}
 use Rattle.segment_model.specs.Record.{Frame}
 use Rattle.segment_model.specs.Ends.{Outcome}
 use Rattle.state_exchange.specs.Stated.{Service, states_in}
-use Rattle.task_model.specs.Promise.{outcome_of, IsReply, AllDone, mails_in, services_in}
+use Rattle.task_model.specs.Promise.{outcome_of, IsReply, AllDone, mails_in, services_in, state_found}
 use Rattle.task_model.proofs.Ghosts.{GhostRow, starts_of, label_by, mail_labels}
-use Rattle.task_model.proofs.Replies.{AllLabelled, reply_labelled, state_found}
+use Rattle.task_model.proofs.Replies.{AllLabelled, reply_labelled}
 
 -- services go by mails or change the AL state
 pub by_kind : {Q : Type 0} (qs : List (Service Q)) → mails_in qs + states_in qs ≡ length qs

@@ -1,10 +1,11 @@
 -- The rows of a slave's services by mails and state services as rows of one exchange of both, beside the session's side of its mails: ghosts
 -- that no master keeps. What a control word does stands in them where the slave's AL state changes, or at last where its service is closed.
-use Rattle.std.proofs.Common.{◌≡◌, ◌⊎◌, ℕ, ◌+◌, true, false, Option, None, Some, List, [], ◌∷◌, ◌++◌, map, refl, sym, ap, ◌∙◌, append_assoc, arith}
+use Rattle.std.proofs.Common.{◌≡◌, ◌⊎◌, inl, inr, ℕ, ◌+◌, true, false, Option, None, Some, List, [], ◌∷◌, ◌++◌, map, refl, sym, ap, ◌∙◌, append_assoc, arith}
 use Rattle.exchange_model.specs.Exchange.{Exchange, IsLawful, after, given}
 use Rattle.exchange_model.specs.Rows.{Row, left, services}
 use Rattle.exchange_model.specs.Laws.{Moment}
 use Rattle.link_model.specs.Mails.{LinkMail}
+use Rattle.segment_model.specs.Slaves.{Slave}
 use Rattle.segment_model.specs.Ends.{Outcome}
 use Rattle.segment_model.specs.Seats.{Side, Seat, rows_of}
 use Rattle.segment_model.specs.Laws.{as_outcome}
@@ -130,6 +131,38 @@ module _ {V A M Q R : Type 0} (x : Exchange V A M Q R) (law : IsLawful x) (s : S
     pub gave : given (with_states x s table).serve (counting seat.start) taken ≡ acts (seat.offered ++ seat.slave.node.server.waiting)
     pub state : seat.slave.registers.state ≡ s.state (x.app seat.slave.node.server.server)
     pub rows : Untouched seat a taken ⊎ Rowed from seat a taken rest
+
+  abbrev pub Rows : ℕ → Seat V M Q R → Account Q R → List (Act M) → List M → Type 0
+  Rows from seat a taken rest = Untouched seat a taken ⊎ Rowed from seat a taken rest
+
+  -- the same acts at the same slave, beside other rows
+  pub other_rows : (from from' : ℕ) (seat : Seat V M Q R) (side : Side M Q R) (accepted : List M) (a b : Account Q R) (c : Carried from seat a) →
+      (let t = record seat { side = side; accepted = accepted } in Rows from' t b c.taken c.rest → Carried from' t b)
+  other_rows from from' seat side accepted a b c rows = record {
+    taken = c.taken;
+    rest = c.rest;
+    taken_is = c.taken_is;
+    held_is = c.held_is;
+    serves = c.serves;
+    gave = c.gave;
+    state = c.state;
+    rows = rows;
+  }
+
+  -- the same rows beside another side with the same rows by mails and another slave, where the newest has its place there
+  pub placed_rows : (from : ℕ) (seat : Seat V M Q R) (side : Side M Q R) (slave : Slave V M) (a : Account Q R) (taken : List (Act M)) (rest : List M) → side.past ≡ seat.side.past → side.now ≡ seat.side.now →
+      ((before : List (GhostRow M Q R)) (g : GhostRow M Q R) → Now from seat.slave.registers.state rest seat.side a.hand before g → Now from slave.registers.state rest side a.hand before g) →
+      Rows from seat a taken rest → Rows from (record seat { side = side; slave = slave }) a taken rest
+  placed_rows from seat side slave a taken rest past now place (inl u) = inl (record { started = u.started; hand = u.hand; past = past ∙ u.past; now = now ∙ u.now; held = u.held; none = u.none })
+  placed_rows from seat side slave a taken rest past now place (inr r) = inr (record {
+    front = r.front;
+    last = r.last;
+    now = r.now;
+    moment = r.moment;
+    started = r.started;
+    mails_last = r.mails_last;
+    place = place (r.front ++ r.last) r.now r.place;
+  })
 
 -- lists of rows one behind the other
 pub starts_append : {M Q R : Type 0} (gs hs : List (GhostRow M Q R)) → starts_of (gs ++ hs) ≡ starts_of gs ++ starts_of hs

@@ -16,5 +16,6 @@ pub mod Dones
 pub mod Newest
 pub mod Promised
 pub mod Resting
+pub mod Booked
 pub mod Sessions
 mod ToyRun

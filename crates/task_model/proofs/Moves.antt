@@ -32,7 +32,7 @@ use Rattle.state_exchange.proofs.StatedLaw.{stated_law}
 use Rattle.task_model.specs.Accounts.{Account, Duty, Stage, account_by, turn_progress}
 use Rattle.task_model.proofs.Served.{Served, goes_on, duty_of}
 use Rattle.task_model.proofs.Stately.{state_over, state_over-push}
-use Rattle.task_model.proofs.Ghosts.{GhostRow, counting, label_of, labels_of, Shows, Rested, RestedRow, StagedBy, Staged, StateNow, Rowed, Carried, starts_now, labels_append}
+use Rattle.task_model.proofs.Ghosts.{GhostRow, counting, label_of, labels_of, Shows, Rested, RestedRow, StagedBy, Staged, StateNow, Rowed, Carried, starts_now, labels_append, other_rows, placed_rows}
 use Rattle.task_model.proofs.Begins.{accepted_begin, same_moment}
 
 -- WHAT A SLAVE'S FRAMES LEAVE
@@ -101,21 +101,10 @@ module _ {V A M Q R : Type 0} (x : Exchange V A M Q R) (law : IsLawful x) (s : S
     serves = c.serves ∙ ap (λ v. v.server) (sym e);
     gave = c.gave ∙ ap (λ v. acts (seat.offered ++ v.waiting)) (sym e);
     state = f ∙ c.state ∙ ap (λ v. s.state (x.app v.server)) (sym e);
-    rows = elim c.rows [
-      | inl u ↦ inl (record { started = u.started; hand = u.hand; past = u.past; now = u.now; held = u.held; none = u.none })
-      | inr r ↦ inr (record {
-        front = r.front;
-        last = r.last;
-        now = r.now;
-        moment = r.moment;
-        started = r.started;
-        mails_last = r.mails_last;
-        place = elim r.place [
-          | inl p ↦ inl p
-          | inr p ↦ inr (subst (λ st. StateNow x law s table from st c.rest seat.side a.hand (r.front ++ r.last) r.now) (sym f) p)
-        ];
-      })
-    ];
+    rows = placed_rows x law s table from seat seat.side slave a c.taken c.rest refl refl (λ before g place. (elim place [
+      | inl p ↦ inl p
+      | inr p ↦ inr (subst (λ st. StateNow x law s table from st c.rest seat.side a.hand before g) (sym f) p)
+    ])) c.rows;
   }
 
   -- THE STATE SERVICE IN HAND
@@ -135,24 +124,15 @@ module _ {V A M Q R : Type 0} (x : Exchange V A M Q R) (law : IsLawful x) (s : S
   restaged : (from from' : ℕ) (seat : Seat V M Q R) (a b : Account Q R) (c : Carried x law s table from seat a) (r : Rowed x law s table from seat a c.taken c.rest)
       (n : StateNow x law s table from seat.slave.registers.state c.rest seat.side a.hand (r.front ++ r.last) r.now) → b.started ≡ a.started →
       Staged table from' seat.slave.registers.state c.rest seat.side.halves.out.holding n.target r.now.frame b.hand r.now.told → Carried x law s table from' seat b
-  restaged from from' seat a b c r n e stage = record {
-    taken = c.taken;
-    rest = c.rest;
-    taken_is = c.taken_is;
-    held_is = c.held_is;
-    serves = c.serves;
-    gave = c.gave;
-    state = c.state;
-    rows = inr (record {
-      front = r.front;
-      last = r.last;
-      now = r.now;
-      moment = r.moment;
-      started = r.started ∙ sym e;
-      mails_last = r.mails_last;
-      place = inr (record { target = n.target; service = n.service; past = n.past; rested = n.rested; stage = stage });
-    });
-  }
+  restaged from from' seat a b c r n e stage = other_rows x law s table from from' seat seat.side seat.accepted a b c (inr (record {
+    front = r.front;
+    last = r.last;
+    now = r.now;
+    moment = r.moment;
+    started = r.started ∙ sym e;
+    mails_last = r.mails_last;
+    place = inr (record { target = n.target; service = n.service; past = n.past; rested = n.rested; stage = stage });
+  }))
 
   -- its control word is told and taken: what the server is behind it, and what it tells
   pub record Worded (from : ℕ) (seat : Seat V M Q R) (a : Account Q R) (c : Carried x law s table from seat a) (r : Rowed x law s table from seat a c.taken c.rest) (target : ℕ) : Type 0 where
@@ -182,6 +162,31 @@ module _ {V A M Q R : Type 0} (x : Exchange V A M Q R) (law : IsLawful x) (s : S
         moment = Moments.takes y (stated_law x s table stated law) (counting seat.start) ready r.front r.last (row_told word r.now) _ c.taken (acts seat.accepted) told_at (word ∷ []) (acts c.rest, refl);
       }
 
+  -- so it carries on with that word, beside a slave whose server was told it
+  pub worded : (from from' : ℕ) (seat : Seat V M Q R) (a b : Account Q R) (slave : Slave V M) (c : Carried x law s table from seat a) (r : Rowed x law s table from seat a c.taken c.rest)
+      (n : StateNow x law s table from seat.slave.registers.state c.rest seat.side a.hand (r.front ++ r.last) r.now) → Worded from seat a c r n.target → b.started ≡ a.started →
+      s.tell (state_behind table seat.slave.registers.state n.target) seat.slave.node.server.server ≡ slave.node.server.server → slave.node.server.waiting ≡ seat.slave.node.server.waiting →
+      slave.registers.state ≡ s.state (x.app slave.node.server.server) →
+      Staged table from' slave.registers.state c.rest seat.side.halves.out.holding n.target r.now.frame b.hand (r.now.told ++ Act.Word n.target ∷ []) → Carried x law s table from' (record seat { slave = slave }) b
+  worded from from' seat a b slave c r n w e told waits state stage = record {
+    taken = c.taken ++ Act.Word n.target ∷ [];
+    rest = c.rest;
+    taken_is = w.mails;
+    held_is = c.held_is;
+    serves = w.server ∙ told;
+    gave = w.gave ∙ ap (λ l. acts (seat.offered ++ l)) (sym waits);
+    state = state;
+    rows = inr (record {
+      front = r.front;
+      last = r.last;
+      now = row_told (Act.Word n.target) r.now;
+      moment = w.moment;
+      started = starts_now (r.front ++ r.last) (row_told (Act.Word n.target) r.now) r.now refl ∙ r.started ∙ sym e;
+      mails_last = r.mails_last;
+      place = inr (record { target = n.target; service = n.service; past = n.past; rested = n.rested; stage = stage });
+    });
+  }
+
   -- behind a drain all mails held are taken
   drain_over : (from : ℕ) (seat : Seat V M Q R) (rest : List M) (target frame : ℕ) (told : List (Act M)) → SeatAgrees x seat → seat.held ≡ seat.taken ++ rest → seat.slave.node.out.box ≡ None →
       StagedBy table from seat.slave.registers.state rest seat.side.halves.out.holding target Stage.Drains told → rest ≡ []
@@ -198,30 +203,8 @@ module _ {V A M Q R : Type 0} (x : Exchange V A M Q R) (law : IsLawful x) (s : S
     | inl wait ↦
         let w = word_taken from seat a ready c r n stage.0 wait.0 in
         let still : state_behind table seat.slave.registers.state n.target ≡ s.state (x.app seat.slave.node.server.server) = ap (λ st. state_behind table st n.target) wait.1 ∙ sym stands ∙ c.state in
-        record {
-          taken = c.taken ++ Act.Word n.target ∷ [];
-          rest = c.rest;
-          taken_is = w.mails;
-          held_is = c.held_is;
-          serves = w.server ∙ ap (λ st. s.tell st seat.slave.node.server.server) still ∙ stated.same seat.slave.node.server.server;
-          gave = w.gave;
-          state = c.state;
-          rows = inr (record {
-            front = r.front;
-            last = r.last;
-            now = row_told (Act.Word n.target) r.now;
-            moment = w.moment;
-            started = starts_now (r.front ++ r.last) (row_told (Act.Word n.target) r.now) r.now refl ∙ r.started ∙ sym e;
-            mails_last = r.mails_last;
-            place = inr (record {
-              target = n.target;
-              service = n.service;
-              past = n.past;
-              rested = n.rested;
-              stage = subst (λ h. Staged table from' seat.slave.registers.state c.rest seat.side.halves.out.holding n.target r.now.frame h (r.now.told ++ Act.Word n.target ∷ [])) (sym f) (stage.0, w.told);
-            });
-          });
-        }
+        worded from from' seat a b seat.slave c r n w e (ap (λ st. s.tell st seat.slave.node.server.server) still ∙ stated.same seat.slave.node.server.server) refl c.state
+        (subst (λ h. Staged table from' seat.slave.registers.state c.rest seat.side.halves.out.holding n.target r.now.frame h (r.now.told ++ Act.Word n.target ∷ [])) (sym f) (stage.0, w.told))
     | inr worded ↦ restaged from from' seat a b c r n e
         (subst (λ h. Staged table from' seat.slave.registers.state c.rest seat.side.halves.out.holding n.target r.now.frame h r.now.told) (sym f) (stage.0, worded.0))
   ]
@@ -328,39 +311,30 @@ module _ {V A M Q R : Type 0} (x : Exchange V A M Q R) (law : IsLawful x) (s : S
       (let t = record seat { side = side_back x frame seat.station back seat.side; accepted = seat.accepted ++ Frames.all_accepted seat.station seat.side.halves (grams back) } in
       SeatAgrees x t → Carried x law s table from seat a → Carried x law s table from t a)
   carried_hears from seat a frame back ready agrees c =
-      record {
-        taken = c.taken;
-        rest = c.rest;
-        taken_is = c.taken_is;
-        held_is = c.held_is;
-        serves = c.serves;
-        gave = c.gave;
-        state = c.state;
-        rows = elim c.rows [
-          | inl u ↦ inl (record { started = u.started; hand = u.hand; past = u.past; now = ap (option_map (λ r. row_heard x frame ms r)) u.now; held = u.held; none = u.none })
-          | inr r ↦ inr (record {
-            front = r.front;
-            last = r.last;
-            now = row_heard (with_states x s table) frame (acts ms) r.now;
-            moment = heard_at r;
-            started = starts_now (r.front ++ r.last) (row_heard (with_states x s table) frame (acts ms) r.now) r.now refl ∙ r.started;
-            mails_last = r.mails_last;
-            place = elim r.place [
-              | inl p ↦ inl (record { row = row_heard x frame ms p.row; is = ap (option_map (λ r. row_heard x frame ms r)) p.is; shows = shows_heard frame ms r.now p.row p.shows; past = p.past; free = p.free })
-              | inr p ↦
-                  let silent = quiet seat.start ready r.front r.last (row_heard (with_states x s table) frame (acts ms) r.now) (c.taken ++ acts c.rest) c.taken (acts (seat.accepted ++ ms)) p.target ms r.now.heard p.service refl (heard_at r) in
-                  let k = rests_heard frame ms seat.side.past seat.side.now silent p.rested in
-                  inr (record {
-                    target = p.target;
-                    service = p.service;
-                    past = p.past ∙ sym k.1;
-                    rested = k.0;
-                    stage = staged_on table from seat.slave.registers.state c.rest c.rest seat.side.halves.out.holding _ p.target r.now.frame a.hand r.now.told (λ e. e) (idle_back seat.station seat.side.halves back) p.stage;
-                  })
-            ];
-          })
-        ];
-      }
+      other_rows x law s table from from seat (side_back x frame seat.station back seat.side) (seat.accepted ++ ms) a a c (elim c.rows [
+        | inl u ↦ inl (record { started = u.started; hand = u.hand; past = u.past; now = ap (option_map (λ r. row_heard x frame ms r)) u.now; held = u.held; none = u.none })
+        | inr r ↦ inr (record {
+          front = r.front;
+          last = r.last;
+          now = row_heard (with_states x s table) frame (acts ms) r.now;
+          moment = heard_at r;
+          started = starts_now (r.front ++ r.last) (row_heard (with_states x s table) frame (acts ms) r.now) r.now refl ∙ r.started;
+          mails_last = r.mails_last;
+          place = elim r.place [
+            | inl p ↦ inl (record { row = row_heard x frame ms p.row; is = ap (option_map (λ r. row_heard x frame ms r)) p.is; shows = shows_heard frame ms r.now p.row p.shows; past = p.past; free = p.free })
+            | inr p ↦
+                let silent = quiet seat.start ready r.front r.last (row_heard (with_states x s table) frame (acts ms) r.now) (c.taken ++ acts c.rest) c.taken (acts (seat.accepted ++ ms)) p.target ms r.now.heard p.service refl (heard_at r) in
+                let k = rests_heard frame ms seat.side.past seat.side.now silent p.rested in
+                inr (record {
+                  target = p.target;
+                  service = p.service;
+                  past = p.past ∙ sym k.1;
+                  rested = k.0;
+                  stage = staged_on table from seat.slave.registers.state c.rest c.rest seat.side.halves.out.holding _ p.target r.now.frame a.hand r.now.told (λ e. e) (idle_back seat.station seat.side.halves back) p.stage;
+                })
+          ];
+        })
+      ])
     where
       ms : List M
       ms = Frames.all_accepted seat.station seat.side.halves (grams back)
@@ -386,37 +360,18 @@ module _ {V A M Q R : Type 0} (x : Exchange V A M Q R) (law : IsLawful x) (s : S
 
   -- A LOST FRAME, that the slave missed
   pub carried_missed : (from : ℕ) (seat : Seat V M Q R) (a : Account Q R) (sent : List (Datagram M)) → Carried x law s table from seat a → Carried x law s table from (record seat { side = side_lost seat.station sent seat.side }) a
-  carried_missed from seat a sent c = record {
-    taken = c.taken;
-    rest = c.rest;
-    taken_is = c.taken_is;
-    held_is = c.held_is;
-    serves = c.serves;
-    gave = c.gave;
-    state = c.state;
-    rows = elim c.rows [
-      | inl u ↦ inl (record { started = u.started; hand = u.hand; past = u.past; now = u.now; held = u.held; none = u.none })
-      | inr r ↦ inr (record {
-        front = r.front;
-        last = r.last;
-        now = r.now;
-        moment = r.moment;
-        started = r.started;
-        mails_last = r.mails_last;
-        place = elim r.place [
-          | inl p ↦ inl (record { row = p.row; is = p.is; shows = p.shows; past = p.past; free = p.free })
-          | inr p ↦ inr (record {
-            target = p.target;
-            service = p.service;
-            past = p.past;
-            rested = p.rested;
-            stage = staged_on table from seat.slave.registers.state c.rest c.rest seat.side.halves.out.holding _ p.target r.now.frame a.hand r.now.told (λ e. e)
-                (λ e. ap (λ o. o.holding) (losts_out seat.station seat.side.halves (grams sent)) ∙ e) p.stage;
-          })
-        ];
-      })
-    ];
-  }
+  carried_missed from seat a sent c = other_rows x law s table from from seat (side_lost seat.station sent seat.side) seat.accepted a a c
+      (placed_rows x law s table from seat (side_lost seat.station sent seat.side) seat.slave a c.taken c.rest refl refl (λ before g place. (elim place [
+        | inl p ↦ inl (record { row = p.row; is = p.is; shows = p.shows; past = p.past; free = p.free })
+        | inr p ↦ inr (record {
+          target = p.target;
+          service = p.service;
+          past = p.past;
+          rested = p.rested;
+          stage = staged_on table from seat.slave.registers.state c.rest c.rest seat.side.halves.out.holding _ p.target g.frame a.hand g.told (λ e. e)
+              (λ e. ap (λ o. o.holding) (losts_out seat.station seat.side.halves (grams sent)) ∙ e) p.stage;
+        })
+      ])) c.rows)
 
   -- or met
   pub carried_met : (from : ℕ) (seat : Seat V M Q R) (a : Account Q R) (sent ds : List (Datagram M)) → Carried x law s table from seat a → Carried x law s table from (record seat { side = side_lost seat.station sent seat.side; slave = slave_after seat.station seat.slave ds }) a

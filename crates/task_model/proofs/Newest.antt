@@ -5,7 +5,7 @@ use Rattle.exchange_model.specs.Rows.{Row}
 use Rattle.segment_model.specs.Record.{Frame}
 use Rattle.segment_model.specs.Ends.{Outcome}
 use Rattle.segment_model.specs.Seats.{Seat, newest, rows_of, is_over}
-use Rattle.segment_model.specs.Laws.{AllAnswered, NowHanded}
+use Rattle.segment_model.specs.Laws.{AllAnswered, NowHanded, NothingInHand}
 use Rattle.segment_model.proofs.Overs.{over_parts}
 use Rattle.segment_model.proofs.Sounds.{SeatAgrees}
 use Rattle.segment_model.proofs.Kept.{Records, rows_answered}
@@ -15,12 +15,13 @@ use Rattle.state_model.specs.States.{Table}
 use Rattle.state_model.specs.Promises.{IsTable}
 use Rattle.state_exchange.specs.Stated.{Stated, IsStated, Service, acts}
 use Rattle.task_model.specs.Accounts.{Started, Account, is_free}
+use Rattle.task_model.specs.Promise.{state_found, AllEnded}
 use Rattle.task_model.proofs.Ghosts.{start_of, starts_of, Rested, MailsNow, StateNow, Rowed, Carried, starts_append}
 use Rattle.task_model.proofs.Begins.{mails_facts}
 use Rattle.task_model.proofs.Orders.{StatesEnded, ended_last}
 use Rattle.task_model.proofs.Stately.{Stately, state_over, started_ended}
-use Rattle.task_model.proofs.Completed.{HasOutcome, LastOver, Completed, last_over}
-use Rattle.task_model.proofs.Replies.{mails_outcome, state_found}
+use Rattle.task_model.proofs.Completed.{HasOutcome, LastOver, Completed, last_over, all_ended}
+use Rattle.task_model.proofs.Replies.{mails_outcome}
 
 some_is : {X : Type 0} (found : Option X) → is_some found ≡ true → (o : X) × (found ≡ Some o)
 some_is None e = absurd (cc)
@@ -97,3 +98,12 @@ module _ {V A M Q R : Type 0} (x : Exchange V A M Q R) (law : IsLawful x) (s : S
     | inl u ↦ subst (LastOver x more seat.station fs) (sym u.started) tt
     | inr r ↦ rows_over h none free r
   ]
+
+  -- nothing in hand by mails leaves the side free
+  pub free_side : (now : Option (Row M Q R)) → NothingInHand x seat.side now → is_free x seat.side now ≡ true
+  free_side None n = refl
+  free_side (Some r) n = n
+
+  -- so with nothing in hand all services have their outcomes
+  pub ended_free : Holds → a.hand ≡ None → NothingInHand x seat.side seat.side.now → AllEnded x more seat.station fs a.started
+  ended_free h none nothing = all_ended x more seat.station fs a.started h.completed (newest_over h none (free_side seat.side.now nothing))

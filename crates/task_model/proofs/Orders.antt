@@ -1,14 +1,14 @@
 -- The state services that are over and the one in hand are just those of all services that came into hand, in order.
-use Rattle.std.proofs.Common.{◌≡◌, ℕ, ◌<◌, ◌≤◌, Option, Some, None, Bool, List, [], ◌∷◌, ◌++◌, length, refl, ap, sym, ◌∙◌, subst, arith}
+use Rattle.std.proofs.Common.{◌≡◌, ℕ, ◌<◌, ◌≤◌, Option, Some, None, Bool, List, [], ◌∷◌, ◌++◌, refl, ap, sym, ◌∙◌, subst, arith}
 use Rattle.std.specs.Prelude.{⊤}
 use Rattle.exchange_model.specs.Exchange.{Exchange}
-use Rattle.segment_model.specs.Record.{Frame, first_end, news_from}
-use Rattle.segment_model.specs.Ends.{Task, Outcome, ends}
+use Rattle.segment_model.specs.Record.{Frame}
+use Rattle.segment_model.specs.Ends.{Outcome}
 use Rattle.state_model.specs.States.{Table}
 use Rattle.state_model.specs.Promises.{state_behind, answer_of}
 use Rattle.state_exchange.specs.Stated.{Service}
 use Rattle.task_model.specs.Accounts.{Started, Stage, Duty, Change}
-use Rattle.task_model.specs.Promise.{outcome_of, next_start}
+use Rattle.task_model.specs.Promise.{outcome_of, next_start, states_started, changes_in, duty_in, AllFound, IsOpenYet}
 use Rattle.task_model.proofs.Served.{duty_of}
 
 abbrev pub state_start : {Q : Type 0} → ℕ → ℕ → Started Q
@@ -70,6 +70,13 @@ module _ {Q R : Type 0} where
       let o : Change R = record { target = target; frame = begun; answer = answer; completed = completed } in
       subst (λ d. InOrder {Q = Q} {R = R} end (state_start d.target d.frame ∷ []) (o ∷ []) None) (sym same) (InOrder.changed o [] below InOrder.nothing)
 
+-- the state services that came into hand are those that are over and behind them the one in hand
+pub order_states : {Q R : Type 0} (end : ℕ) (rs : List (Started Q)) (os : List (Change R)) (hand : Option Duty) → InOrder end rs os hand → states_started rs ≡ changes_in os ++ duty_in hand
+order_states end ps ns hand InOrder.nothing = refl
+order_states end ps ns hand (InOrder.by_mails {os = os} q frame rs rest) = order_states end rs os hand rest
+order_states end ps ns hand (InOrder.changed {os = os} o rs before rest) = ap (λ l. (o.target, o.frame) ∷ l) (order_states end rs os hand rest)
+order_states end ps ns hand (InOrder.in_hand duty) = refl
+
 -- each answer is the table's, in the state behind those before it
 abbrev pub AllTabled : {R : Type 0} → Table → ℕ → List (Change R) → Type 0
 AllTabled table from [] = ⊤
@@ -81,16 +88,6 @@ state_on table from (Service.Mails q) = from
 state_on table from (Service.State target) = state_behind table from target
 
 module _ {V A M Q R : Type 0} (x : Exchange V A M Q R) (more : M → Bool) (station : ℕ) (fs : List (Frame M)) where
-  -- each is the outcome that the table of completed services gives for the record, of a frame before the last
-  abbrev pub AllOutcomes : List (Change R) → Type 0
-  AllOutcomes [] = ⊤
-  AllOutcomes (o ∷ os) = ((first_end (ends x more (Task.State o.target)) o.frame [] (news_from station o.frame fs) ≡ Some (o.answer, o.completed)) × (o.completed < length fs)) × AllOutcomes os
-
-  -- that of the one in hand is open
-  abbrev pub DutyOpen : Option Duty → Type 0
-  DutyOpen None = ⊤
-  DutyOpen (Some duty) = first_end (ends x more (Task.State duty.target)) duty.frame [] (news_from station duty.frame fs) ≡ None
-
   -- OF THE STATE SERVICES AMONG ALL THAT CAME INTO HAND: each outcome is the table's, in the state behind those before it
   abbrev pub StateReplied : Table → ℕ → Started Q → Service Q → Type 0
   StateReplied table from r (Service.Mails q) = ⊤
@@ -109,20 +106,20 @@ module _ {V A M Q R : Type 0} (x : Exchange V A M Q R) (more : M → Bool) (stat
   StatesEnded [] = ⊤
   StatesEnded (r ∷ rs) = StateEnded r r.service × StatesEnded rs
 
-  pub states_replied : (table : Table) (end from : ℕ) (rs : List (Started Q)) (os : List (Change R)) (hand : Option Duty) → InOrder end rs os hand → AllOutcomes os → AllTabled table from os → DutyOpen hand → StatesReplied table from rs
+  pub states_replied : (table : Table) (end from : ℕ) (rs : List (Started Q)) (os : List (Change R)) (hand : Option Duty) → InOrder end rs os hand → AllFound x more station fs os → AllTabled table from os → IsOpenYet x more station fs hand → StatesReplied table from rs
   states_replied table end from ps ns hand InOrder.nothing all tabled none = tt
   states_replied table end from ps ns hand (InOrder.by_mails {os = os} q frame rs rest) all tabled none = (tt, states_replied table end from rs os hand rest all tabled none)
   states_replied table end from ps ns hand (InOrder.changed {os = os} o rs before rest) all tabled none = (
-    λ a e. (let same : Some (o.answer, o.completed) ≡ Some a = sym all.0.0 ∙ e in let is : a ≡ (o.answer, o.completed) = cc in ap (λ b. b.0) is) ∙ tabled.0,
+    λ a e. (let same : Some (o.answer, o.completed) ≡ Some a = sym all.0 ∙ e in let is : a ≡ (o.answer, o.completed) = cc in ap (λ b. b.0) is) ∙ tabled.0,
     states_replied table end (state_behind table from o.target) rs os hand rest all.1 tabled.1 none,
   )
   states_replied table end from ps ns hand (InOrder.in_hand duty) all tabled none = (λ a e. absurd (let no : None ≡ Some a = sym none ∙ e in cc), tt)
 
   -- with none in hand all have one
-  pub states_ended : (end : ℕ) (rs : List (Started Q)) (os : List (Change R)) (hand : Option Duty) → hand ≡ None → InOrder end rs os hand → AllOutcomes os → StatesEnded rs
+  pub states_ended : (end : ℕ) (rs : List (Started Q)) (os : List (Change R)) (hand : Option Duty) → hand ≡ None → InOrder end rs os hand → AllFound x more station fs os → StatesEnded rs
   states_ended end ps ns hand e InOrder.nothing all = tt
   states_ended end ps ns hand e (InOrder.by_mails {os = os} q frame rs rest) all = (tt, states_ended end rs os hand e rest all)
-  states_ended end ps ns hand e (InOrder.changed {os = os} o rs before rest) all = (((o.answer, o.completed), all.0.0), states_ended end rs os hand e rest all.1)
+  states_ended end ps ns hand e (InOrder.changed {os = os} o rs before rest) all = (((o.answer, o.completed), all.0), states_ended end rs os hand e rest all.1)
   states_ended end ps ns hand e (InOrder.in_hand duty) all = absurd (cc)
 
   -- so the last one has

@@ -16,14 +16,14 @@ use Rattle.state_exchange.specs.Stated.{Stated, IsStated, Act, Service, Counting
 use Rattle.state_exchange.proofs.Acts.{mails_acts, mails_append, emitted_acts, left_none, executed}
 use Rattle.state_exchange.proofs.StatedLaw.{stated_law}
 use Rattle.task_model.specs.Accounts.{Duty, Account}
-use Rattle.task_model.specs.Promise.{TasksPromised, AllReplied, AllDone, services_in}
+use Rattle.task_model.specs.Promise.{TasksPromised, AllReplied, AllDone, services_in, state_found}
 use Rattle.task_model.proofs.Ghosts.{GhostRow, counting, starts_of, labels_of, mail_labels, Staged, Now, Rowed, Untouched, mail_labels_append, labels_append, shown_label, state_label}
 use Rattle.task_model.proofs.Begins.{accepted_begin}
 use Rattle.task_model.proofs.Orders.{StatesReplied}
 use Rattle.task_model.proofs.Stately.{state_over, free_state, duty_outcome, started_replied}
 use Rattle.task_model.proofs.Completed.{completed_rises, completed_ended}
 use Rattle.task_model.proofs.Newest.{Holds, answered}
-use Rattle.task_model.proofs.Replies.{AllLabelled, rows_labelled, replied_all, state_found}
+use Rattle.task_model.proofs.Replies.{AllLabelled, rows_labelled, replied_all}
 use Rattle.task_model.proofs.Dones.{StateBelow, StatesBelow, by_kind, services_same, starts_length, services_length, front_below, all_counted, below_all, done_all}
 
 -- the emissions among acts that begin others
@@ -108,7 +108,7 @@ module _ {V A M Q R : Type 0} (x : Exchange V A M Q R) (law : IsLawful x) (s : S
       }
 
   -- the labels of all rows are those of the side
-  all_labels : (before : List (GhostRow M Q R)) (now : GhostRow M Q R) (from state : ℕ) (rest : List M) → Now x law s table from state rest seat.side a.hand before now → mail_labels (before ++ now ∷ []) ≡ labels_of (rows_of seat.side)
+  pub all_labels : (before : List (GhostRow M Q R)) (now : GhostRow M Q R) (from state : ℕ) (rest : List M) → Now x law s table from state rest seat.side a.hand before now → mail_labels (before ++ now ∷ []) ≡ labels_of (rows_of seat.side)
   all_labels before now from state rest (inl m) =
       mail_labels_append before (now ∷ []) ∙ ap₂ (λ (l k : List _). l ++ (k ++ [])) m.past (shown_label now m.row m.shows) ∙ sym (labels_append seat.side.past (m.row ∷ []))
       ∙ ap (λ n. labels_of (seat.side.past ++ newest n)) (sym m.is)

@@ -18,9 +18,6 @@ module _ {V A M Q R : Type 0} (x : Exchange V A M Q R) (more : M → Bool) (stat
   abbrev pub mails_outcome : Q → ℕ → Option (Outcome R × ℕ)
   mails_outcome q frame = first_end (ends x more (Task.Mails q)) frame [] (news_from station frame fs)
 
-  abbrev pub state_found : ℕ → ℕ → Option (Outcome R × ℕ)
-  state_found target frame = first_end (ends x more (Task.State target)) frame [] (news_from station frame fs)
-
   -- a row by mails has the answer that the record gives
   abbrev pub IsLabelled : Label Q R → Type 0
   IsLabelled l = x.handed l.service ≡ false → l.answer ≡ mails_outcome l.service l.frame

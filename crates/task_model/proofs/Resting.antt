@@ -1,5 +1,5 @@
 -- With nothing left all services of a slave are carried out, each has its outcome, and all emissions were heard.
-use Rattle.std.proofs.Common.{◌≡◌, inl, inr, ℕ, ◌+◌, Bool, true, Option, Some, None, option_map, List, [], ◌∷◌, ◌++◌, length, refl, ap, sym, ◌∙◌, subst, arith, append-nil}
+use Rattle.std.proofs.Common.{◌≡◌, inl, inr, ℕ, ◌+◌, Bool, true, Some, None, option_map, List, [], ◌∷◌, ◌++◌, length, ap, sym, ◌∙◌, subst, arith, append-nil}
 use Rattle.exchange_model.specs.Exchange.{Exchange, IsLawful, after, given, emitted}
 use Rattle.exchange_model.specs.Rows.{Row, Rest, left, services, exec_all, emits_all}
 use Rattle.exchange_model.proofs.Lists.{append_cancel}
@@ -7,7 +7,7 @@ use Rattle.exchange_model.proofs.Moments
 use Rattle.segment_model.specs.Record.{Frame}
 use Rattle.segment_model.specs.Ends.{Outcome}
 use Rattle.segment_model.specs.Seats.{Seat, link_of}
-use Rattle.segment_model.specs.Laws.{IsSettled, WantsNothing, NothingInHand}
+use Rattle.segment_model.specs.Laws.{IsSettled, WantsNothing}
 use Rattle.segment_model.proofs.Overs.{over_parts}
 use Rattle.segment_model.proofs.Rests.{all_taken, all_offered}
 use Rattle.state_model.specs.States.{Table}
@@ -19,8 +19,7 @@ use Rattle.task_model.specs.Accounts.{Account, is_free}
 use Rattle.task_model.specs.Promise.{TasksRest, services_in}
 use Rattle.task_model.proofs.Ghosts.{GhostRow, counting, starts_of, MailsNow, StateNow, Staged, Rowed, Untouched}
 use Rattle.task_model.proofs.Stately.{state_over}
-use Rattle.task_model.proofs.Completed.{all_ended}
-use Rattle.task_model.proofs.Newest.{Holds, newest_over}
+use Rattle.task_model.proofs.Newest.{Holds, free_side, ended_free}
 use Rattle.task_model.proofs.Dones.{by_kind, services_same, services_length}
 
 module _ {V A M Q R : Type 0} (x : Exchange V A M Q R) (law : IsLawful x) (s : Stated V A Q) (stated : IsStated x s) (table : Table) (more : M → Bool) (start : ℕ) (is : IsTable table start)
@@ -32,11 +31,7 @@ module _ {V A M Q R : Type 0} (x : Exchange V A M Q R) (law : IsLawful x) (s : S
   at_start = counting seat.start
 
   free : is_free x seat.side seat.side.now ≡ true
-  free = go seat.side.now wants.nothing
-    where
-      go : (now : Option (Row M Q R)) → NothingInHand x seat.side now → is_free x seat.side now ≡ true
-      go None n = refl
-      go (Some r) n = n
+  free = free_side x law s stated table more start is fs seat a seat.side.now wants.nothing
 
   -- all acts held are taken, and all that was given is accepted
   none_left : h.carried.rest ≡ []
@@ -99,7 +94,7 @@ module _ {V A M Q R : Type 0} (x : Exchange V A M Q R) (law : IsLawful x) (s : S
       record {
         app = ap x.app (sym h.carried.serves) ∙ ap (λ (p : A × ℕ). p.0) done;
         handled = ap x.handled (sym h.carried.serves) ∙ omega (arith, size, words, kinds, handled);
-        ended = all_ended x more seat.station fs a.started h.completed (newest_over x law s stated table more start is fs seat a h idle free);
+        ended = ended_free x law s stated table more start is fs seat a h idle wants.nothing;
         emissions = ap (emitted x.emission) (sym h.records.hears)
             ∙ sym (ap mails (emitted_acts x.emission seat.accepted) ∙ mails_acts (emitted x.emission seat.accepted))
             ∙ ap mails r.emissions ∙ ap (λ l. mails (emits_all both (x.app seat.start, 0) l)) qs;

@@ -6,7 +6,7 @@ use Rattle.link_model.specs.Frames.{IsFrameFor}
 use Rattle.segment_model.specs.Slaves.{Slave, Processor, Datagram, Ring, grams, slave_after, frame_after, ring_back}
 use Rattle.segment_model.specs.Record.{Frame}
 use Rattle.segment_model.specs.Seats.{Side, Seat, Planned, AllReady, IsFrame, IsOpening, ring_of, sides_of, seat_next, seats_next, seat_back, seats_after, side_begins, side_lost, seat_steps, writes, new_seats}
-use Rattle.segment_model.specs.Laws.{EachSeat}
+use Rattle.segment_model.specs.Laws.{EachSeat, HandedBy, KnowsCounters}
 use Rattle.segment_model.proofs.Answers.{kept_of}
 use Rattle.segment_model.proofs.Sounds.{SeatAgrees, next_agrees, step_agrees}
 use Rattle.segment_model.proofs.Written.{frame_tells}
@@ -15,10 +15,12 @@ use Rattle.segment_model.proofs.Handed.{Posts, next_posts, back_posts, lost_post
 use Rattle.segment_model.proofs.Hands.{SeatPosts, new_posts}
 use Rattle.segment_model.proofs.Kept.{Records, Follows, nexts_records, nexts_follow, afters_follow, turn_follows, new_follows}
 use Rattle.state_model.specs.States.{Table}
-use Rattle.state_exchange.specs.Stated.{Stated, IsStated}
+use Rattle.state_model.specs.Promises.{IsTable}
+use Rattle.state_exchange.specs.Stated.{Stated, IsStated, Service}
 use Rattle.task_model.specs.Accounts.{Account, Pick, mails_begin, mails_choice, account_begins, account_next, account_back}
 use Rattle.task_model.specs.Tasks.{TaskTurn, TaskSession, AllBrought, IsTaskPlan, IsTasked, AreServed, MayRun, mails_choices, mails_turn, accounts_next, accounts_after, happens, run, new_accounts, new_tasks}
-use Rattle.task_model.specs.Promise.{EachTask, TasksPromised, TasksRest, TasksRestIf}
+use Rattle.task_model.specs.Promise.{EachTask, TasksPromised, TasksRestIf, TasksAnswered}
+use Rattle.task_model.specs.Books.{TasksPast, TasksEndedIf, TasksDoneIf}
 use Rattle.task_model.proofs.Stately.{state_over, free_state, step_state}
 use Rattle.task_model.proofs.Walks.{EachOne, IsPlaced, AllApart, SeatMet, seats_apart, all_apart, all_reach, each_map, each_next, each_back, each_lost, each_steps}
 use Rattle.task_model.proofs.Turns.{IsStately, next_is, back_is, lost_is, missed_is, step_is, new_is}
@@ -30,6 +32,7 @@ use Rattle.task_model.proofs.Completed.{Completed, over_next, completed_frame, c
 use Rattle.task_model.proofs.Newest.{Holds, side_facts, newest_over}
 use Rattle.task_model.proofs.Promised.{promised}
 use Rattle.task_model.proofs.Resting.{rests}
+use Rattle.task_model.proofs.Booked
 
 -- facts of the seats beside facts of each slave
 each_seats : {V M Q R : Type 0} (P : Seat V M Q R → Type 0) (O : Planned V → Seat V M Q R → Account Q R → Type 0) (ps : List (Planned V)) (ss : List (Seat V M Q R)) (more : List (Account Q R)) → EachSeat P ss → EachOne O ps ss more →
@@ -93,6 +96,21 @@ module _ {V A M Q R : Type 0} (x : Exchange V A M Q R) (law : IsLawful x) (s : S
         completed = c.completed;
       }
 
+  abbrev Behind : List (Frame M) → Seat V M Q R → Type 0
+  Behind fs seat = SeatAgrees x seat × Records x law fs seat
+
+  -- the invariant beside a seat that began with the same server, where each part of it is kept
+  keeps_whole : (fs now : List (Frame M)) (p : Planned V) (seat t : Seat V M Q R) (a b : Account Q R) → t.start ≡ seat.start → Whole fs p seat a → IsStately x s processor table now p t b → Behind now t →
+      (p.registers.station ≡ p.station → Carries fs p seat a → Carries now p t b) → Whole now p t b
+  keeps_whole fs now p seat t a b same k is behind carries = record {
+    is = is;
+    ready = ap x.ready same ∙ k.ready;
+    start = same ∙ k.start;
+    agrees = behind.0;
+    records = behind.1;
+    carries = λ answers. carries answers (k.carries answers);
+  }
+
   -- BEFORE A FRAME
   next_carries : (fs : List (Frame M)) (p : Planned V) (seat : Seat V M Q R) (a : Account Q R) (pick : Pick Q) → Whole fs p seat a → p.registers.station ≡ p.station →
       Carries fs p (seat_next x (length fs) seat (mails_choice a pick)) (account_next x s.acknowledged (length fs) seat.side a pick)
@@ -114,19 +132,11 @@ module _ {V A M Q R : Type 0} (x : Exchange V A M Q R) (law : IsLawful x) (s : S
       }
 
   next_whole : (fs : List (Frame M)) (p : Planned V) (seat : Seat V M Q R) (a : Account Q R) (pick : Pick Q) → Whole fs p seat a → Whole fs p (seat_next x (length fs) seat (mails_choice a pick)) (account_next x s.acknowledged (length fs) seat.side a pick)
-  next_whole fs p seat a pick k = record {
-    is = next_is x s processor table s.acknowledged fs p seat a pick k.is;
-    ready = k.ready;
-    start = k.start;
-    agrees = next_agrees x (length fs) seat (mails_choice a pick) k.agrees;
-    records = (nexts_records x law fs (seat ∷ []) (mails_choice a pick ∷ []) (k.records, tt)).0;
-    carries = next_carries fs p seat a pick k;
-  }
+  next_whole fs p seat a pick k = keeps_whole fs fs p seat (seat_next x (length fs) seat (mails_choice a pick)) a (account_next x s.acknowledged (length fs) seat.side a pick) refl k
+      (next_is x s processor table s.acknowledged fs p seat a pick k.is)
+      (next_agrees x (length fs) seat (mails_choice a pick) k.agrees, (nexts_records x law fs (seat ∷ []) (mails_choice a pick ∷ []) (k.records, tt)).0) (λ answers c. next_carries fs p seat a pick k answers)
 
   -- A FRAME THAT CAME BACK
-  abbrev Behind : List (Frame M) → Seat V M Q R → Type 0
-  Behind fs seat = SeatAgrees x seat × Records x law fs seat
-
   abbrev Sent : List (Frame M) → List (Datagram M) → Planned V → Seat V M Q R → Account Q R → Type 0
   Sent fs sent p seat a = IsFrameFor seat.station seat.side.halves (grams sent) × Whole fs p seat a
 
@@ -134,77 +144,47 @@ module _ {V A M Q R : Type 0} (x : Exchange V A M Q R) (law : IsLawful x) (s : S
       IsPlaced p seat a → SeatMet (length fs) p seat a ds f.back → Behind (fs ++ f ∷ []) (seat_back x (length fs) seat ds f.back) → Sent fs f.sent p seat a →
       Whole (fs ++ f ∷ []) p (seat_back x (length fs) seat ds f.back) (account_back seat.station (length fs) a f.back)
   back_whole fs f same p seat a ds placed met now k =
+      let b = account_back seat.station (length fs) a f.back in
       let kept = back_is x s processor table fs f p seat a ds placed met tt k.1.is in
-      record {
-        is = kept;
-        ready = k.1.ready;
-        start = k.1.start;
-        agrees = now.0;
-        records = now.1;
-        carries = λ answers. (
-            let c = k.1.carries answers in
-            record {
-              carried = carried_back x law s (table p.station) stated p.registers.state seat a (account_back seat.station (length fs) a f.back) _ (length fs) _ ds f.back k.1.ready k.1.agrees now.0 (met.served answers 0)
-                  (λ none. (free_state (table p.station) p.registers.state kept.brought.sits seat.station (fs ++ f ∷ []) (slave_after seat.station seat.slave ds).registers (account_back seat.station (length fs) a f.back) (kept.stately answers) none).0)
-                  c.carried;
-              posts = back_posts x law seat.station fs f seat.side (same seat.station) (frame_tells seat.station (kept_of seat.station fs).told seat.side.halves (grams f.sent) k.0) c.posts;
-              completed = completed_back x more seat.station (fs ++ f ∷ []) (length fs) a f.back (completed_frame x more seat.station fs f a.started c.completed);
-            });
-      }
+      keeps_whole fs (fs ++ f ∷ []) p seat (seat_back x (length fs) seat ds f.back) a b refl k.1 kept now (λ answers c. record {
+        carried = carried_back x law s (table p.station) stated p.registers.state seat a b _ (length fs) _ ds f.back k.1.ready k.1.agrees now.0 (met.served answers 0)
+            (λ none. (free_state (table p.station) p.registers.state kept.brought.sits seat.station (fs ++ f ∷ []) (slave_after seat.station seat.slave ds).registers b (kept.stately answers) none).0)
+            c.carried;
+        posts = back_posts x law seat.station fs f seat.side (same seat.station) (frame_tells seat.station (kept_of seat.station fs).told seat.side.halves (grams f.sent) k.0) c.posts;
+        completed = completed_back x more seat.station (fs ++ f ∷ []) (length fs) a f.back (completed_frame x more seat.station fs f a.started c.completed);
+      })
 
   -- A LOST FRAME
+  loses : (fs : List (Frame M)) (f : Frame M) → f.back ≡ [] → (p : Planned V) (seat : Seat V M Q R) (a : Account Q R) (slave : Slave V M) → (let t = record seat { side = side_lost seat.station f.sent seat.side; slave = slave } in
+      IsStately x s processor table (fs ++ f ∷ []) p t a → Behind (fs ++ f ∷ []) t → Sent fs f.sent p seat a →
+      ((from : ℕ) → Carried x law s (table p.station) from seat a → Carried x law s (table p.station) from t a) → Whole (fs ++ f ∷ []) p t a)
+  loses fs f e p seat a slave is now k carried = keeps_whole fs (fs ++ f ∷ []) p seat (record seat { side = side_lost seat.station f.sent seat.side; slave = slave }) a a refl k.1 is now (λ answers c. record {
+    carried = carried (state_over (table p.station) p.registers.state a.over) c.carried;
+    posts = lost_posts x law seat.station fs f seat.side e (frame_tells seat.station (kept_of seat.station fs).told seat.side.halves (grams f.sent) k.0) c.posts;
+    completed = completed_frame x more seat.station fs f a.started c.completed;
+  })
+
   lost_whole : (fs : List (Frame M)) (f : Frame M) → f.back ≡ [] → (p : Planned V) (seat : Seat V M Q R) (a : Account Q R) (ds : List (Datagram M)) → (let t = record seat { side = side_lost seat.station f.sent seat.side; slave = slave_after seat.station seat.slave ds } in
       IsPlaced p seat a → SeatMet (length fs) p seat a ds (frame_after seat.station seat.slave ds) → Behind (fs ++ f ∷ []) t → Sent fs f.sent p seat a → Whole (fs ++ f ∷ []) p t a)
-  lost_whole fs f e p seat a ds placed met now k = record {
-    is = lost_is x s processor table fs f e p seat a ds placed met tt k.1.is;
-    ready = k.1.ready;
-    start = k.1.start;
-    agrees = now.0;
-    records = now.1;
-    carries = λ answers. (
-        let c = k.1.carries answers in
-        record {
-          carried = carried_met x law s (table p.station) stated (state_over (table p.station) p.registers.state a.over) seat a f.sent ds c.carried;
-          posts = lost_posts x law seat.station fs f seat.side e (frame_tells seat.station (kept_of seat.station fs).told seat.side.halves (grams f.sent) k.0) c.posts;
-          completed = completed_frame x more seat.station fs f a.started c.completed;
-        });
-  }
+  lost_whole fs f e p seat a ds placed met now k = loses fs f e p seat a (slave_after seat.station seat.slave ds) (lost_is x s processor table fs f e p seat a ds placed met tt k.1.is) now k
+      (λ from c. carried_met x law s (table p.station) stated from seat a f.sent ds c)
 
   missed_whole : (fs : List (Frame M)) (f : Frame M) → f.back ≡ [] → (p : Planned V) (seat : Seat V M Q R) (a : Account Q R) → (let t = record seat { side = side_lost seat.station f.sent seat.side } in
       IsPlaced p seat a → Behind (fs ++ f ∷ []) t → Sent fs f.sent p seat a → Whole (fs ++ f ∷ []) p t a)
-  missed_whole fs f e p seat a placed now k = record {
-    is = missed_is x s processor table fs f e p seat a placed tt k.1.is;
-    ready = k.1.ready;
-    start = k.1.start;
-    agrees = now.0;
-    records = now.1;
-    carries = λ answers. (
-        let c = k.1.carries answers in
-        record {
-          carried = carried_missed x law s (table p.station) stated (state_over (table p.station) p.registers.state a.over) seat a f.sent c.carried;
-          posts = lost_posts x law seat.station fs f seat.side e (frame_tells seat.station (kept_of seat.station fs).told seat.side.halves (grams f.sent) k.0) c.posts;
-          completed = completed_frame x more seat.station fs f a.started c.completed;
-        });
-  }
+  missed_whole fs f e p seat a placed now k =
+      loses fs f e p seat a seat.slave (missed_is x s processor table fs f e p seat a placed tt k.1.is) now k (λ from c. carried_missed x law s (table p.station) stated from seat a f.sent c)
 
   -- A STEP OF THE PROCESSOR
   step_whole : (fs : List (Frame M)) (p : Planned V) (seat : Seat V M Q R) (a : Account Q R) → Whole fs p seat a → Whole fs p (seat_steps x processor seat) a
-  step_whole fs p seat a k = record {
-    is = step_is x s processor table fs p seat a k.is;
-    ready = k.ready;
-    start = k.start;
-    agrees = step_agrees x processor seat k.agrees;
-    records = record { listens = k.records.listens; rises = k.records.rises; hears = k.records.hears };
-    carries = λ answers. (
-        let c = k.carries answers in
-        record {
-          carried = carried_steps x law s (table p.station) stated (state_over (table p.station) p.registers.state a.over) seat a processor tells
-              (k.is.brought.carries seat.slave.registers k.is.placed.place.station k.is.placed.place.first k.is.placed.place.second)
-              (step_state (table p.station) p.registers.state k.is.brought.sits seat.station fs seat.slave.registers a (k.is.stately answers)) k.ready (step_agrees x processor seat k.agrees) c.carried;
-          posts = c.posts;
-          completed = c.completed;
-        });
-  }
+  step_whole fs p seat a k =
+      let agrees = step_agrees x processor seat k.agrees in
+      keeps_whole fs fs p seat (seat_steps x processor seat) a a refl k (step_is x s processor table fs p seat a k.is) (agrees, record { listens = k.records.listens; rises = k.records.rises; hears = k.records.hears }) (λ answers c. record {
+        carried = carried_steps x law s (table p.station) stated (state_over (table p.station) p.registers.state a.over) seat a processor tells
+            (k.is.brought.carries seat.slave.registers k.is.placed.place.station k.is.placed.place.first k.is.placed.place.second)
+            (step_state (table p.station) p.registers.state k.is.brought.sits seat.station fs seat.slave.registers a (k.is.stately answers)) k.ready agrees c.carried;
+        posts = c.posts;
+        completed = c.completed;
+      })
 
   -- THE SESSION: all slaves, and that no station stands twice
   pub record Keeps (ps : List (Planned V)) (w : TaskSession V M Q R) : Type 0 where
@@ -307,24 +287,6 @@ module _ {V A M Q R : Type 0} (x : Exchange V A M Q R) (law : IsLawful x) (s : S
     session_keeps : (opening : List (Frame M)) → IsOpening opening → (ts : List (TaskTurn M Q)) → MayRun x s.acknowledged processor (new_tasks {Q = Q} {R = R} opening ps) ts → Keeps ps (run x s.acknowledged processor (new_tasks opening ps) ts)
     session_keeps opening quiet ts may = run_keeps ps (new_tasks opening ps) ts (all_apart [] ps plan.apart) may (new_keeps opening quiet ps plan)
 
-    one_promised : (fs : List (Frame M)) (p : Planned V) (seat : Seat V M Q R) (a : Account Q R) → Whole fs p seat a →
-        (seat.station ≡ p.station) × (seat.start ≡ p.server) × (p.registers.station ≡ p.station → TasksPromised x s (table seat.station) more fs seat.station seat.start seat.side a seat.slave)
-    one_promised fs p seat a k = (
-      k.is.placed.station,
-      k.start,
-      λ answers. subst (λ n. TasksPromised x s (table n) more fs seat.station seat.start seat.side a seat.slave) (sym k.is.placed.station)
-          (promised x law s stated (table p.station) more p.registers.state k.is.brought.sits fs seat a (holds fs p seat a k answers)),
-    )
-
-    one_rests : (fs : List (Frame M)) (p : Planned V) (seat : Seat V M Q R) (a : Account Q R) → Whole fs p seat a →
-        (seat.station ≡ p.station) × (seat.start ≡ p.server) × (p.registers.station ≡ p.station → TasksRestIf x s (table seat.station) more fs seat.station seat.start seat.side a seat.slave)
-    one_rests fs p seat a k = (
-      k.is.placed.station,
-      k.start,
-      λ answers settled wants idle. subst (λ n. TasksRest x s (table n) more fs seat.station seat.start seat.side a seat.slave) (sym k.is.placed.station)
-          (rests x law s stated (table p.station) more p.registers.state k.is.brought.sits fs seat a (holds fs p seat a k answers) settled wants idle),
-    )
-
     module _ (ds : List (ℕ × Side M Q R)) (accounts : List (Account Q R)) (ns : Ring V M) (fs : List (Frame M)) (b : IsTasked x s.acknowledged processor ps ds accounts ns fs) where
       abbrev now : TaskSession V M Q R
       now = run x s.acknowledged processor (new_tasks b.opening ps) b.turns
@@ -333,16 +295,41 @@ module _ {V A M Q R : Type 0} (x : Exchange V A M Q R) (law : IsLawful x) (s : S
       of_session P h = subst (λ l. EachTask (P fs) ps ds accounts l) b.ring (subst (λ l. EachTask (P fs) ps ds l (ring_of now.session.seats)) b.counted
           (subst (λ l. EachTask (P fs) ps l now.accounts (ring_of now.session.seats)) b.sides (subst (λ l. EachTask (P l) ps (sides_of now.session.seats) now.accounts (ring_of now.session.seats)) b.frames h)))
 
-      pub tasks_promised : EachTask (λ station start d a n. TasksPromised x s (table station) more fs station start d a n) ps ds accounts ns
-      tasks_promised =
+      -- a fact of each slave of which all this is kept
+      of_slaves : (P : Table → List (Frame M) → ℕ → V → Side M Q R → Account Q R → Slave V M → Type 0) →
+          ((t : Table) (begun : ℕ) (is : IsTable t begun) (fs : List (Frame M)) (seat : Seat V M Q R) (a : Account Q R) → Holds x law s stated t more begun is fs seat a → P t fs seat.station seat.start seat.side a seat.slave) →
+          EachTask (λ station start d a n. P (table station) fs station start d a n) ps ds accounts ns
+      of_slaves P one =
           let kept = session_keeps b.opening b.quiet b.turns b.may in
-          of_session (λ fs station start d a n. TasksPromised x s (table station) more fs station start d a n)
-          (each_task (λ station start d a n. TasksPromised x s (table station) more now.session.frames station start d a n) ps now.session.seats now.accounts
-          (each_map (Whole now.session.frames) _ (one_promised now.session.frames) ps now.session.seats now.accounts kept.each))
+          of_session (λ fs station start d a n. P (table station) fs station start d a n)
+          (each_task (λ station start d a n. P (table station) now.session.frames station start d a n) ps now.session.seats now.accounts
+          (each_map (Whole now.session.frames) _ (λ p seat a k. (
+            k.is.placed.station,
+            k.start,
+            λ answers. subst (λ n. P (table n) now.session.frames seat.station seat.start seat.side a seat.slave) (sym k.is.placed.station)
+                (one (table p.station) p.registers.state k.is.brought.sits now.session.frames seat a (holds now.session.frames p seat a k answers)),
+          )) ps now.session.seats now.accounts kept.each))
+
+      pub tasks_promised : EachTask (λ station start d a n. TasksPromised x s (table station) more fs station start d a n) ps ds accounts ns
+      tasks_promised = of_slaves (λ t fs station start d a n. TasksPromised x s t more fs station start d a n) (λ t begun is fs seat a h. promised x law s stated t more begun is fs seat a h)
 
       pub tasks_rest : EachTask (λ station start d a n. TasksRestIf x s (table station) more fs station start d a n) ps ds accounts ns
-      tasks_rest =
-          let kept = session_keeps b.opening b.quiet b.turns b.may in
-          of_session (λ fs station start d a n. TasksRestIf x s (table station) more fs station start d a n)
-          (each_task (λ station start d a n. TasksRestIf x s (table station) more now.session.frames station start d a n) ps now.session.seats now.accounts
-          (each_map (Whole now.session.frames) _ (one_rests now.session.frames) ps now.session.seats now.accounts kept.each))
+      tasks_rest = of_slaves (λ t fs station start d a n. TasksRestIf x s t more fs station start d a n) (λ t begun is fs seat a h. rests x law s stated t more begun is fs seat a h)
+
+      pub tasks_answered : EachTask (λ station start d a n. TasksAnswered x s (table station) more fs station start d a n) ps ds accounts ns
+      tasks_answered = of_slaves (λ t fs station start d a n. TasksAnswered x s t more fs station start d a n) (λ t begun is fs seat a h. Booked.tasks_answered x law s stated t more begun is fs seat a h)
+
+      pub tasks_handed : EachTask (λ station start d a n. HandedBy x more fs station start d n) ps ds accounts ns
+      tasks_handed = of_slaves (λ t fs station start d a n. HandedBy x more fs station start d n) (λ t begun is fs seat a h. Booked.tasks_handed x law s stated t more begun is fs seat a h)
+
+      pub tasks_counted : EachTask (λ station start d a n. KnowsCounters fs station start d n) ps ds accounts ns
+      tasks_counted = of_slaves (λ t fs station start d a n. KnowsCounters fs station start d n) (λ t begun is fs seat a h. Booked.tasks_counted x law s stated t more begun is fs seat a h)
+
+      pub tasks_past : EachTask (λ station start d a n. TasksPast x more fs station start d a n) ps ds accounts ns
+      tasks_past = of_slaves (λ t fs station start d a n. TasksPast x more fs station start d a n) (λ t begun is fs seat a h. Booked.tasks_past x law s stated t more begun is fs seat a h)
+
+      pub tasks_ended : EachTask (λ station start d a n. TasksEndedIf x more fs station start d a n) ps ds accounts ns
+      tasks_ended = of_slaves (λ t fs station start d a n. TasksEndedIf x more fs station start d a n) (λ t begun is fs seat a h. Booked.tasks_ended x law s stated t more begun is fs seat a h)
+
+      pub tasks_done : (scripted : ℕ → List (Service Q)) → EachTask (λ station start d a n. TasksDoneIf x s (table station) more scripted fs station start d a n) ps ds accounts ns
+      tasks_done scripted = of_slaves (λ t fs station start d a n. TasksDoneIf x s t more scripted fs station start d a n) (λ t begun is fs seat a h. Booked.tasks_done x law s stated t more begun is fs seat a h scripted)

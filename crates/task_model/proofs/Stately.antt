@@ -20,7 +20,8 @@ use Rattle.state_exchange.specs.Stated.{Service}
 use Rattle.task_model.specs.Accounts.{Stage, Duty, Change, Account, Pick, Progress, new_account, starts, state_begins, account_begins, account_next, account_by, turn_progress, is_free, is_acknowledged}
 use Rattle.task_model.proofs.Rings.{statuses-append}
 use Rattle.task_model.proofs.Served.{Served, goes_on, duty_of}
-use Rattle.task_model.proofs.Orders.{InOrder, AllTabled, AllOutcomes, DutyOpen, StatesReplied, StatesEnded, mails_start, state_start, order_push, order_later, order_on, order_over, states_replied, states_ended}
+use Rattle.task_model.specs.Promise.{AllFound, IsOpenYet}
+use Rattle.task_model.proofs.Orders.{InOrder, AllTabled, StatesReplied, StatesEnded, mails_start, state_start, order_push, order_later, order_on, order_over, states_replied, states_ended}
 use Rattle.task_model.proofs.Carries.{StaysOr, idle_carry, hand_carry}
 
 -- the AL state behind the state services that are over
@@ -65,7 +66,6 @@ pub record IsChanged {M R : Type 0} (station : ℕ) (fs : List (Frame M)) (c : C
   pub target : o.target ≡ c.target
   pub same : o.answer ≡ c.answer
   pub begun : o.frame ≤ length fs
-  pub ended : o.completed < length fs
   pub outcome : state_outcome R station fs o.target o.frame ≡ Some (o.answer, o.completed)
 
 abbrev pub AllChanged : {M R : Type 0} → ℕ → List (Frame M) → List (Closed M R) → List (Change R) → Type 0
@@ -154,14 +154,10 @@ module _ {M : Type 0} (station : ℕ) where
     target = is.target;
     same = is.same;
     begun = longer fs f o.frame is.begun;
-    ended = longer_end is.ended;
     outcome =
         outcome-push (state_ends {R = R} o.target None) station o.frame fs f is.begun
         ∙ ap (λ old. answer_after (length fs) old (state_ends {R = R} o.target None (joined (news_from station o.frame fs) ++ frame_news station (kept_of station fs) f))) is.outcome;
   }
-    where
-      longer_end : o.completed < length fs → o.completed < length (fs ++ f ∷ [])
-      longer_end below = subst (λ k. o.completed < k) (sym (length-append fs (f ∷ []))) (omega (arith, below))
 
   all_stay : {R : Type 0} (fs : List (Frame M)) (f : Frame M) (cs : List (Closed M R)) (os : List (Change R)) → AllChanged station fs cs os → AllChanged station (fs ++ f ∷ []) cs os
   all_stay fs f [] [] all = tt
@@ -279,7 +275,6 @@ module _ {M Q R : Type 0} (table : Table) (start : ℕ) (is : IsTable table star
           target = refl;
           same = refl;
           begun = longer station fs f begun k.hand.begun;
-          ended = later_end station fs f (length fs) (omega arith);
           outcome =
               outcome_push station R fs f target begun k.hand.begun k.hand.open_yet
               ∙ ap (λ l. answer_after (length fs) None (state_ends {R = R} target None l)) e
@@ -424,14 +419,14 @@ module _ {M Q R : Type 0} (table : Table) (start : ℕ) (is : IsTable table star
       last from (p ∷ os) tabled = last (state_behind table from p.target) os tabled.1
 
   -- and the outcome by the record is that answer, of an earlier frame
-  pub over_outcomes : {V A : Type 0} (x : Exchange V A M Q R) (more : M → Bool) (fs : List (Frame M)) (r : Registers) (a : Account Q R) → Stately table start is station fs r a → AllOutcomes x more station fs a.over
+  pub over_outcomes : {V A : Type 0} (x : Exchange V A M Q R) (more : M → Bool) (fs : List (Frame M)) (r : Registers) (a : Account Q R) → Stately table start is station fs r a → AllFound x more station fs a.over
   over_outcomes x more fs r a k = go k.closed a.over k.over
     where
-      go : (cs : List (Closed M R)) (os : List (Change R)) → AllChanged station fs cs os → AllOutcomes x more station fs os
+      go : (cs : List (Closed M R)) (os : List (Change R)) → AllChanged station fs cs os → AllFound x more station fs os
       go [] [] all = tt
       go [] (o ∷ os) all = absurd all
       go (c ∷ cs) [] all = absurd all
-      go (c ∷ cs) (o ∷ os) all = ((all.0.outcome, all.0.ended), go cs os all.1)
+      go (c ∷ cs) (o ∷ os) all = (all.0.outcome, go cs os all.1)
 
   -- that of the one in hand is open
   pub duty_outcome : {V A : Type 0} (x : Exchange V A M Q R) (more : M → Bool) (fs : List (Frame M)) (r : Registers) (a : Account Q R) (duty : Duty) → Stately table start is station fs r a → a.hand ≡ Some duty →
@@ -452,10 +447,10 @@ module _ {M Q R : Type 0} (table : Table) (start : ℕ) (is : IsTable table star
 
   -- OF THE STATE SERVICES AMONG ALL THAT CAME INTO HAND, by the record: each outcome is the table's, in the state behind those before it, and there
   -- is one of each where none is in hand
-  duty_open : {V A : Type 0} (x : Exchange V A M Q R) (more : M → Bool) (fs : List (Frame M)) (r : Registers) (a : Account Q R) → Stately table start is station fs r a → DutyOpen x more station fs a.hand
+  pub duty_open : {V A : Type 0} (x : Exchange V A M Q R) (more : M → Bool) (fs : List (Frame M)) (r : Registers) (a : Account Q R) → Stately table start is station fs r a → IsOpenYet x more station fs a.hand
   duty_open x more fs r a k = go a.hand k.hand
     where
-      go : (hand : Option Duty) → HandOpen R station fs hand → DutyOpen x more station fs hand
+      go : (hand : Option Duty) → HandOpen R station fs hand → IsOpenYet x more station fs hand
       go None o = tt
       go (Some duty) o = o.open_yet
 

@@ -2,7 +2,6 @@
 -- bring-up.
 use Rattle.std.proofs.Common.{◌≡◌, ◌⊎◌, inl, inr, ℕ, true, Option, None, Some, List, [], ◌∷◌, ◌++◌, refl, sym, ap, ap₂, ◌∙◌, subst, append_assoc}
 use Rattle.exchange_model.specs.Exchange.{Exchange, IsLawful, after, given}
-use Rattle.exchange_model.specs.Rows.{row_told}
 use Rattle.exchange_model.proofs.Lists.{append_none, append_cancel}
 use Rattle.exchange_model.proofs.Words.{after-append, given-append}
 use Rattle.exchange_model.proofs.Moments
@@ -21,9 +20,9 @@ use Rattle.task_model.specs.Accounts.{Account, Duty, Stage, new_account}
 use Rattle.task_model.proofs.Carries.{StaysOr}
 use Rattle.task_model.proofs.Served.{duty_of}
 use Rattle.task_model.proofs.Stately.{StageStep, StateStep}
-use Rattle.task_model.proofs.Ghosts.{counting, starts_now, Staged, StateNow, Rowed, Carried}
+use Rattle.task_model.proofs.Ghosts.{counting, Staged, StateNow, Rowed, Carried}
 use Rattle.task_model.proofs.Begins.{same_moment}
-use Rattle.task_model.proofs.Moves.{carried_slave, in_hand, staged_on, word_taken}
+use Rattle.task_model.proofs.Moves.{carried_slave, in_hand, staged_on, word_taken, worded}
 
 -- the AL state stays, or a state service in hand changed it
 abbrev pub Shifts : Table → ℕ → Option Duty → ℕ → ℕ → Type 0
@@ -67,31 +66,9 @@ module _ {V A M Q R : Type 0} (x : Exchange V A M Q R) (law : IsLawful x) (s : S
         first r n is st none =
             let v = seat.slave.node.server.server in
             let w = word_taken x law s table stated from seat a ready c r n st.2.0 none in
-            record {
-              taken = c.taken ++ Act.Word n.target ∷ [];
-              rest = c.rest;
-              taken_is = w.mails;
-              held_is = c.held_is;
-              serves = w.server ∙ ap (λ o. s.tell (state_behind table o n.target) v) old ∙ ap (λ o. s.tell o v) (sym is) ∙ ap (λ z. z.server) (sym tells);
-              gave = w.gave ∙ ap (λ z. acts (seat.offered ++ z.waiting)) (sym tells);
-              state = sym (ap s.state (stated.app slave.registers.state v) ∙ stated.is slave.registers.state (x.app v)) ∙ ap (λ z. s.state (x.app z.server)) (sym tells);
-              rows = inr (record {
-                front = r.front;
-                last = r.last;
-                now = row_told (Act.Word n.target) r.now;
-                moment = w.moment;
-                started = starts_now (r.front ++ r.last) (row_told (Act.Word n.target) r.now) r.now refl ∙ r.started;
-                mails_last = r.mails_last;
-                place = inr (record {
-                  target = n.target;
-                  service = n.service;
-                  past = n.past;
-                  rested = n.rested;
-                  stage = subst (λ h. Staged table from slave.registers.state c.rest seat.side.halves.out.holding n.target r.now.frame h (r.now.told ++ Act.Word n.target ∷ [])) (sym hand)
-                      (st.0, st.1, (st.2.0, inr (w.told, is)));
-                });
-              });
-            }
+            worded x law s table stated from from seat a a slave c r n w refl (ap (λ o. s.tell (state_behind table o n.target) v) old ∙ ap (λ o. s.tell o v) (sym is) ∙ ap (λ z. z.server) (sym tells)) (ap (λ z. z.waiting) tells)
+            (sym (ap s.state (stated.app slave.registers.state v) ∙ stated.is slave.registers.state (x.app v)) ∙ ap (λ z. s.state (x.app z.server)) (sym tells))
+            (subst (λ h. Staged table from slave.registers.state c.rest seat.side.halves.out.holding n.target r.now.frame h (r.now.told ++ Act.Word n.target ∷ [])) (sym hand) (st.0, st.1, (st.2.0, inr (w.told, is))))
 
     pub carried_tells : Shifts table from a.hand seat.slave.registers.state slave.registers.state → Carried x law s table from (record seat { slave = slave }) a
     carried_tells (inl same) = no_news same

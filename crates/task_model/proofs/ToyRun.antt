@@ -7,6 +7,7 @@ use Rattle.link_model.specs.Segment.{RingFate}
 use Rattle.segment_model.specs.Slaves.{Processor, Address, Access, Datagram}
 use Rattle.segment_model.specs.Record.{heard}
 use Rattle.segment_model.specs.Ends.{Outcome}
+use Rattle.segment_model.specs.Books.{Answer}
 use Rattle.segment_model.specs.Laws.{IsSettled, WantsNothing}
 use Rattle.segment_model.specs.Seats.{Planned, sides_of, ring_of}
 use Rattle.state_model.specs.States
@@ -15,8 +16,9 @@ use Rattle.state_exchange.specs.Toys.{Desk, desk, desk_states, steps}
 use Rattle.state_exchange.proofs.ToyLaw.{desk_law, desk_is_stated}
 use Rattle.task_model.specs.Accounts.{Started, Account, IsServed}
 use Rattle.task_model.specs.Tasks.{TaskTurn, TaskSession, IsTaskPlan, IsTasked, MayRun, new_tasks, run}
-use Rattle.task_model.specs.Promise.{EachTask, TasksPromised, outcome_of}
-use Rattle.task_model.proofs.Sessions.{tasks_promised}
+use Rattle.task_model.specs.Promise.{EachTask, TasksPromised, outcome_of, services_in, mails_started, states_started}
+use Rattle.task_model.specs.Books.{task_answers, TasksDoneIf}
+use Rattle.task_model.proofs.Sessions.{tasks_promised, tasks_done}
 
 abbrev Task : Type 0
 Task = Stated.Service Service
@@ -122,8 +124,30 @@ outcomes accounts = map (λ a. map outcome a.started) accounts
 all_outcomes : outcomes ended.accounts ≡ (Some (Outcome.Replied None, 1) ∷ Some (Outcome.Reached, 6) ∷ Some (Outcome.Refused 17, 11) ∷ Some (Outcome.Replied (Some 3), 15) ∷ []) ∷ []
 all_outcomes = refl
 
+-- as a book has them: the answers of a script of five services, of which one did not begin; and early on, with the first state service in hand,
+-- of a script of four
+abbrev answers : TaskSession Desk Mail Service (Option ℕ) → ℕ → List (List (Answer (Option ℕ)))
+answers w left = map (λ a. task_answers desk (λ m. false) 4097 w.session.frames a.started left) w.accounts
+
+all_answers : answers ended 1 ≡
+    (Answer.Ended (Outcome.Replied None) 1 ∷ Answer.Ended Outcome.Reached 6 ∷ Answer.Ended (Outcome.Refused 17) 11 ∷ Answer.Ended (Outcome.Replied (Some 3)) 15 ∷ Answer.NotSent ∷ []) ∷ []
+all_answers = refl
+
+abbrev early : TaskSession Desk Mail Service (Option ℕ)
+early = run desk desk_states.acknowledged processor begun (take 6 turns)
+
+early_answers : answers early 2 ≡ (Answer.Ended (Outcome.Replied None) 1 ∷ Answer.InDoubt ∷ Answer.NotSent ∷ Answer.NotSent ∷ []) ∷ []
+early_answers = refl
+
+-- the services of either kind, with their frames
+by_mails : map (λ a. mails_started a.started) ended.accounts ≡ ((sum 3, 0) ∷ (sum 3, 12) ∷ []) ∷ []
+by_mails = refl
+
+by_state : map (λ a. states_started a.started) ended.accounts ≡ ((1, 2) ∷ (2, 7) ∷ []) ∷ []
+by_state = refl
+
 -- while the processor was slow the status showed the old state, and no answer
-still_slow : map (λ a. a.over) (run desk desk_states.acknowledged processor begun (take 6 turns)).accounts ≡ [] ∷ []
+still_slow : map (λ a. a.over) early.accounts ≡ [] ∷ []
 still_slow = refl
 
 -- and each frame is one that the master may send: a write or a read of a mailbox, or the access of the state service in hand
@@ -148,3 +172,13 @@ kept = tasks_promised desk desk_law desk_states desk_is_stated processor (λ sta
 -- and what they say with nothing left
 rested : EachTask (λ station start d a n. IsSettled n × WantsNothing desk d × (a.hand ≡ None)) one (sides_of ended.session.seats) ended.accounts (ring_of ended.session.seats)
 rested = ((refl, refl, λ answers. (record { first = refl; second = refl; withdrawn = refl; waiting = refl }, record { idle = refl; clear = refl; nothing = refl }, refl)), tt)
+
+-- so with its script begun all of it is done
+abbrev script : List Task
+script = Stated.Service.Mails (sum 3) ∷ Stated.Service.State 1 ∷ Stated.Service.State 2 ∷ Stated.Service.Mails (sum 3) ∷ []
+
+all_begun : map (λ a. services_in a.started) ended.accounts ≡ script ∷ []
+all_begun = refl
+
+all_done : EachTask (λ station start d a n. TasksDoneIf desk desk_states steps (λ m. false) (λ station. script) ended.session.frames station start d a n) one (sides_of ended.session.seats) ended.accounts (ring_of ended.session.seats)
+all_done = tasks_done desk desk_law desk_states desk_is_stated processor (λ station. steps) (λ m. false) plan.tells one plan (sides_of ended.session.seats) ended.accounts (ring_of ended.session.seats) ended.session.frames tasked (λ station. script)

@@ -1,3 +1,4 @@
 pub mod Accounts
 pub mod Tasks
 pub mod Promise
+pub mod Books

@@ -1,17 +1,16 @@
 -- What a session of services by mails and state services promises of each slave.
-use Rattle.std.specs.Prelude.{◌≡◌, ℕ, suc, ◌+◌, ◌<◌, ◌≤◌, Bool, Option, Some, None, List, [], ◌∷◌, map, take, length, ⊤}
+use Rattle.std.specs.Prelude.{◌≡◌, ℕ, suc, ◌+◌, ◌<◌, ◌≤◌, Bool, Option, Some, None, List, [], ◌∷◌, ◌++◌, map, take, length, ⊤}
 use Rattle.exchange_model.specs.Prefix.{IsPrefixOf}
 use Rattle.exchange_model.specs.Exchange.{Exchange, emitted}
-use Rattle.exchange_model.specs.Rows.{exec_all, emits_all}
+use Rattle.exchange_model.specs.Rows.{Row, exec_all, emits_all}
 use Rattle.segment_model.specs.Slaves.{Slave, Ring}
 use Rattle.segment_model.specs.Record.{Frame, first_end, news_from, heard}
 use Rattle.segment_model.specs.Ends.{Task, Outcome, ends}
-use Rattle.segment_model.specs.Seats.{Side, Planned}
-use Rattle.segment_model.specs.Laws.{IsSettled, WantsNothing}
+use Rattle.segment_model.specs.Seats.{Side, Planned, rows_of}
+use Rattle.segment_model.specs.Laws.{AllAnswered, IsSettled, WantsNothing}
 use Rattle.state_model.specs.States.{Table}
-use Rattle.state_model.specs.Together.{but_last}
 use Rattle.state_exchange.specs.Stated.{Stated, Service, with_states, mails}
-use Rattle.task_model.specs.Accounts.{Started, Account}
+use Rattle.task_model.specs.Accounts.{Started, Duty, Change, Account}
 
 -- a service as a task of the table of completed services
 abbrev pub task_of : {M Q : Type 0} → Service Q → Task M Q
@@ -68,6 +67,12 @@ abbrev pub AllEnded : {V A M Q R : Type 0} → Exchange V A M Q R → (M → Boo
 AllEnded x more station fs [] = ⊤
 AllEnded {R = R} x more station fs (r ∷ rs) = ((o : Outcome R × ℕ) × (outcome_of x more station fs r ≡ Some o)) × AllEnded x more station fs rs
 
+-- all but the last
+abbrev pub but_last : {X : Type 0} → List X → List X
+but_last [] = []
+but_last (x ∷ []) = []
+but_last (x ∷ (y ∷ more)) = x ∷ but_last (y ∷ more)
+
 -- THE PROMISE for one slave: it has carried out just the first count of the services that came into hand, by mails and AL states, each once and
 -- in order; each answer is its application's, in the AL state that stood; at most two services are not among these, and only the newest can be
 -- in doubt
@@ -87,6 +92,63 @@ pub record TasksPromised {V A M Q R : Type 0} (x : Exchange V A M Q R) (s : Stat
   pub emissions : IsPrefixOf (emitted x.emission (heard station fs)) (mails (emits_all (with_states x s table) (x.app start, 0) (take count (services_in a.started))))
   -- with no state service in hand no error flag stands
   pub flag : a.hand ≡ None → n.registers.refused ≡ None
+
+-- a service by mails with its frame, where it is one
+abbrev pub mail_of : {Q : Type 0} → Service Q → ℕ → List (Q × ℕ)
+mail_of (Service.Mails q) frame = (q, frame) ∷ []
+mail_of (Service.State target) frame = []
+
+-- the services by mails among those that came into hand, with their frames
+abbrev pub mails_started : {Q : Type 0} → List (Started Q) → List (Q × ℕ)
+mails_started [] = []
+mails_started (r ∷ rs) = mail_of r.service r.frame ++ mails_started rs
+
+-- the services of rows, with their frames
+abbrev pub rows_started : {M Q R : Type 0} → List (Row M Q R) → List (Q × ℕ)
+rows_started rs = map (λ r. (r.service, r.frame)) rs
+
+-- the target of a state service with its frame, where it is one
+abbrev pub state_of : {Q : Type 0} → Service Q → ℕ → List (ℕ × ℕ)
+state_of (Service.Mails q) frame = []
+state_of (Service.State target) frame = (target, frame) ∷ []
+
+-- the state services among those that came into hand, by their targets and frames
+abbrev pub states_started : {Q : Type 0} → List (Started Q) → List (ℕ × ℕ)
+states_started [] = []
+states_started (r ∷ rs) = state_of r.service r.frame ++ states_started rs
+
+-- those that are over
+abbrev pub changes_in : {R : Type 0} → List (Change R) → List (ℕ × ℕ)
+changes_in cs = map (λ c. (c.target, c.frame)) cs
+
+-- the one in hand
+abbrev pub duty_in : Option Duty → List (ℕ × ℕ)
+duty_in None = []
+duty_in (Some duty) = (duty.target, duty.frame) ∷ []
+
+-- the outcome of a state service by the record, with the frame that completed it
+abbrev pub state_found : {V A M Q R : Type 0} → Exchange V A M Q R → (M → Bool) → ℕ → List (Frame M) → ℕ → ℕ → Option (Outcome R × ℕ)
+state_found x more station fs target frame = outcome_of x more station fs (record { service = Service.State target; frame = frame })
+
+-- each that is over has by the record just its answer, of the frame that completed it
+abbrev pub AllFound : {V A M Q R : Type 0} → Exchange V A M Q R → (M → Bool) → ℕ → List (Frame M) → List (Change R) → Type 0
+AllFound x more station fs [] = ⊤
+AllFound x more station fs (c ∷ cs) = (state_found x more station fs c.target c.frame ≡ Some (c.answer, c.completed)) × AllFound x more station fs cs
+
+-- the one in hand has none yet
+abbrev pub IsOpenYet : {V A M Q R : Type 0} → Exchange V A M Q R → (M → Bool) → ℕ → List (Frame M) → Option Duty → Type 0
+IsOpenYet x more station fs None = ⊤
+IsOpenYet x more station fs (Some duty) = state_found x more station fs duty.target duty.frame ≡ None
+
+-- WHAT A BOOK TAKES of one slave is what the record gives: its services by mails are the rows of the master's side, each with the record's
+-- answer; its state services are those that are over, each with the record's outcome, and behind them the one in hand, which has none
+pub record TasksAnswered {V A M Q R : Type 0} (x : Exchange V A M Q R) (s : Stated V A Q) (table : Table) (more : M → Bool) (fs : List (Frame M))
+    (station : ℕ) (start : V) (d : Side M Q R) (a : Account Q R) (n : Slave V M) : Type 0 where
+  pub mails : mails_started a.started ≡ rows_started (rows_of d)
+  pub answers : AllAnswered x more station fs (rows_of d)
+  pub states : states_started a.started ≡ changes_in a.over ++ duty_in a.hand
+  pub over : AllFound x more station fs a.over
+  pub hand : IsOpenYet x more station fs a.hand
 
 -- WITH NOTHING LEFT: all services are carried out, each has its outcome, and all emissions were heard
 pub record TasksRest {V A M Q R : Type 0} (x : Exchange V A M Q R) (s : Stated V A Q) (table : Table) (more : M → Bool) (fs : List (Frame M))
