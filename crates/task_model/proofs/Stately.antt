@@ -389,11 +389,6 @@ module _ {M Q R : Type 0} (table : Table) (start : ℕ) (is : IsTable table star
   pub free_state : (fs : List (Frame M)) (r : Registers) (a : Account Q R) → Stately table start is station fs r a → a.hand ≡ None → (r.state ≡ state_over table start a.over) × (r.refused ≡ None)
   free_state fs r a k e = let idle = subst (λ h. AtHand table (state_over table start a.over) h r) e (at_hand fs r a k) in (idle.state, idle.refused)
 
-  -- behind the frame that closed a service the state is the one behind it
-  pub closed_state : (fs : List (Frame M)) (r : Registers) (a : Account Q R) (os : List (Change R)) (o : Change R) → Stately table start is station fs r a → a.hand ≡ None → a.over ≡ os ++ o ∷ [] →
-      r.state ≡ state_behind table (state_over table start os) o.target
-  closed_state fs r a os o k none e = (free_state fs r a k none).0 ∙ ap (state_over table start) e ∙ state_over-push table start os o
-
   -- of each state service that is over the answer is the table's
   pub over_answers : (fs : List (Frame M)) (r : Registers) (a : Account Q R) → Stately table start is station fs r a → AllTabled table start a.over
   over_answers fs r a k = go start k.closed a.over k.holds.told k.over
@@ -406,17 +401,6 @@ module _ {M Q R : Type 0} (table : Table) (start : ℕ) (is : IsTable table star
         all.0.same ∙ told.0 ∙ ap (λ t. answer_of (table from t)) (sym all.0.target),
         go (state_behind table from o.target) cs os (subst (λ t. AllTold table (state_behind table from t) cs) (sym all.0.target) told.2) all.1,
       )
-
-  -- so it is of the service that a frame just closed, and the state is the one behind it
-  pub closing : (fs : List (Frame M)) (r : Registers) (frame : ℕ) (a : Account Q R) (duty : Duty) (answer : Outcome R) → Stately table start is station fs r (account_by frame a duty (Progress.Over answer)) →
-      (answer ≡ answer_of (table (state_over table start a.over) duty.target)) × (r.state ≡ state_behind table (state_over table start a.over) duty.target)
-  closing fs r frame a duty answer k =
-      let o : Change R = record { target = duty.target; frame = duty.frame; answer = answer; completed = frame } in
-      (last start a.over (over_answers fs r (account_by frame a duty (Progress.Over answer)) k), closed_state fs r (account_by frame a duty (Progress.Over answer)) a.over o k refl refl)
-    where
-      last : (from : ℕ) (os : List (Change R)) → AllTabled table from (os ++ record { target = duty.target; frame = duty.frame; answer = answer; completed = frame } ∷ []) → answer ≡ answer_of (table (state_over table from os) duty.target)
-      last from [] tabled = tabled.0
-      last from (p ∷ os) tabled = last (state_behind table from p.target) os tabled.1
 
   -- and the outcome by the record is that answer, of an earlier frame
   pub over_outcomes : {V A : Type 0} (x : Exchange V A M Q R) (more : M → Bool) (fs : List (Frame M)) (r : Registers) (a : Account Q R) → Stately table start is station fs r a → AllFound x more station fs a.over
