@@ -17,7 +17,7 @@ use Rattle.state_model.proofs.Words.{Idle, InHand}
 use Rattle.state_model.proofs.Kept.{Holds, HoldsAt, happens_holds, promised}
 use Rattle.state_model.proofs.News.{by_statuses}
 use Rattle.state_exchange.specs.Stated.{Service}
-use Rattle.task_model.specs.Accounts.{Stage, Duty, Change, Account, Pick, Progress, new_account, starts, state_begins, account_begins, account_next, account_by, turn_progress, is_free, is_acknowledged}
+use Rattle.task_model.specs.Accounts.{Stage, Duty, Change, Account, Pick, new_account, starts, state_begins, account_begins, account_next, account_by, turn_progress, is_free, is_acknowledged}
 use Rattle.task_model.proofs.Rings.{statuses-append}
 use Rattle.task_model.proofs.Served.{Served, goes_on, duty_of}
 use Rattle.task_model.specs.Promise.{AllFound, IsOpenYet}
