@@ -7,6 +7,7 @@ ghost use Rattle.coe_model.specs.Model.{AreMailboxes};
 ghost use Rattle.coe_model.specs.Octets.{body_heard, mail_heard};
 ghost use Rattle.coe_server.specs.Serving.{transfer_of, waiting_mails};
 ghost use Rattle.coe_client.specs.Talk.{service_view, octets_in, is_over};
+ghost use Rattle.coe_law.specs.Mailboxes.{lengths_of};
 ghost use Rattle.coe_law.specs.Talks.{means, emission_mails, areas_of, all_mails, Hears, IsAwaited, IsGiven, packet_mails};
 
 use crate::carried::{Carried, Emission};
@@ -76,7 +77,7 @@ fn hear_all(
     mailboxes: &mut Mailboxes,
     emission: &mut Option<Emission>,
 )
-    requires long { mailboxes.old.back ≡ server.old.room }
+    requires long { (lengths_of mailboxes.old).back ≡ server.old.room }
     requires awaited { IsAwaited client.old (plain is_emission (waiting_mails server.old)) }
     requires one { length (emission_mails emission.old ++ emitted is_emission (waiting_mails server.old)) ≤ 1 }
     ensures hears { Hears client.old (plain is_emission (waiting_mails server.old)) client.new }
@@ -85,7 +86,7 @@ fn hear_all(
     ensures transfer { transfer_of server.new ≡ transfer_of server.old }
     ensures room { server.new.room ≡ server.old.room }
     ensures eoe { server.new.eoe ≡ server.old.eoe }
-    ensures lengths { mailboxes.new ≡ mailboxes.old }
+    ensures lengths { lengths_of mailboxes.new ≡ lengths_of mailboxes.old }
 {
     while server.waiting() {
         let given = server.next();
@@ -120,7 +121,7 @@ pub fn carry_out(
     al: u8,
     service: &SdoService,
 ) -> Carried
-    requires lengths { mailboxes.old ≡ areas_of client.old server.old }
+    requires lengths { lengths_of mailboxes.old ≡ areas_of client.old server.old }
     requires size { octets_in service.now ≤ 16384 }
     requires areas { AreMailboxes (areas_of client.old server.old) }
     requires silent { waiting_mails server.old ≡ [] }
@@ -131,7 +132,7 @@ pub fn carry_out(
     ensures mails { result.mails ≡ length (all_mails al client.old server.old objects.old (service_view service.now)) }
     ensures silent { waiting_mails server.new ≡ [] }
     ensures areas { areas_of client.new server.new ≡ areas_of client.old server.old }
-    ensures lengths { mailboxes.new ≡ mailboxes.old }
+    ensures lengths { lengths_of mailboxes.new ≡ lengths_of mailboxes.old }
     ensures eoe { server.new.eoe ≡ server.old.eoe }
 {
     let _objects = objects.len();

@@ -26,13 +26,14 @@ impl Model for Bench {
     ghost use Rattle.object_dictionary.specs.Dictionary.{Table};
     ghost use Rattle.coe_model.specs.Model.{AreMailboxes};
     ghost use Rattle.coe_server.specs.Serving.{waiting_mails};
+    ghost use Rattle.coe_law.specs.Mailboxes.{lengths_of};
     ghost use Rattle.coe_law.specs.Talks.{areas_of};
 
     ghost Value = { Table };
 
     ghost view = { λ b. b.objects };
 
-    ghost invariant = { λ b. AreMailboxes (areas_of b.client b.server) × (b.mailboxes ≡ areas_of b.client b.server) × (waiting_mails b.server ≡ []) };
+    ghost invariant = { λ b. AreMailboxes (areas_of b.client b.server) × (lengths_of b.mailboxes ≡ areas_of b.client b.server) × (waiting_mails b.server ≡ []) };
 }
 
 fn bench_of(alloc: Global, objects: Objects) -> Result<Bench, NoMemory> {

@@ -24,16 +24,17 @@ more_part : (f opcode part : ℕ) (bytes : List ℕ) → part < length bytes →
     information_parts (suc f) opcode part bytes ≡ mail (Information opcode true (parts_of part (length bytes - part)) (record { items = take part bytes })) ∷ information_parts f opcode part (drop part bytes)
 more_part f opcode part bytes more = rw (lt-leb (length bytes) part more) refl
 
-pub part_given : (room opcode at : ℕ) (told rest items : List ℕ) → rest ≡ drop at told → items ≡ take (room - 12) rest → 64 ≤ room → room - 12 < length rest →
+pub part_given : (room opcode at : ℕ) (told items : List ℕ) (rest : ℕ) → rest ≡ length told - at → items ≡ take (room - 12) (drop at told) → 64 ≤ room → room - 12 < rest →
     information_parts (suc (length told)) opcode (room - 12) (drop at told)
-    ≡ mail (Information opcode true ((length rest - (room - 12) + (room - 12) - 1) / (room - 12)) (record { items = items })) ∷ information_parts (suc (length told)) opcode (room - 12) (drop (at + (room - 12)) told)
-part_given room opcode at told rest items is taken least more =
+    ≡ mail (Information opcode true ((rest - (room - 12) + (room - 12) - 1) / (room - 12)) (record { items = items })) ∷ information_parts (suc (length told)) opcode (room - 12) (drop (at + (room - 12)) told)
+part_given room opcode at told items rest is taken least more =
     let part = room - 12 in
-    let on : drop part rest ≡ drop (at + part) told = ap (drop part) is ∙ drop-drop part at told in
-    let long : length rest ≡ length told - at = ap length is ∙ length-drop at told in
-    ap (information_parts (suc (length told)) opcode part) (sym is)
-    ∙ more_part (length told) opcode part rest more
-    ∙ ap (λ i. mail (Information opcode true (parts_of part (length rest - part)) (record { items = i })) ∷ information_parts (length told) opcode part (drop part rest)) (sym taken)
-    ∙ ap (λ l. mail (Information opcode true (parts_of part (length rest - part)) (record { items = items })) ∷ l)
-    (parts_fuel (length told) (suc (length told)) opcode part (drop part rest) (omega arith) (omega (arith, length-drop part rest, long)) (omega (arith, length-drop part rest, long))
-    ∙ ap (information_parts (suc (length told)) opcode part) on)
+    let left = drop at told in
+    let long : length left ≡ rest = length-drop at told ∙ sym is in
+    let longer : part < length left = omega (arith, long, more) in
+    more_part (length told) opcode part left longer
+    ∙ ap (λ i. mail (Information opcode true (parts_of part (length left - part)) (record { items = i })) ∷ information_parts (length told) opcode part (drop part left)) (sym taken)
+    ∙ ap (λ n. mail (Information opcode true (parts_of part (n - part)) (record { items = items })) ∷ information_parts (length told) opcode part (drop part left)) long
+    ∙ ap (λ l. mail (Information opcode true (parts_of part (rest - part)) (record { items = items })) ∷ l)
+    (parts_fuel (length told) (suc (length told)) opcode part (drop part left) (omega arith) (omega (arith, length-drop part left, long, is)) (omega (arith, length-drop part left, long, is))
+    ∙ ap (information_parts (suc (length told)) opcode part) (drop-drop part at told))

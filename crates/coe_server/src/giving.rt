@@ -9,26 +9,9 @@ use crate::server::CoeServer;
 use crate::state::{Emitted, Pending};
 use arrayvec::ArrayVec;
 use coe_codec::Coe;
+use coe_values::Slot;
 use ec_fields::buffer_of;
 use mailbox_mail::{Kind, Mail, error_mail};
-
-// The octets from a place on; none where it is behind the end.
-fn from(bytes: &[u8], at: usize) -> &[u8]
-    ensures { result.now ≡ drop at bytes.now }
-{
-    if at >= bytes.len() { &[] } else { &bytes[at..] }
-}
-
-// At most so many octets.
-fn upto(bytes: &[u8], len: usize) -> &[u8]
-    ensures { result.now ≡ take len bytes.now }
-{
-    if len >= bytes.len() {
-        bytes
-    } else {
-        &bytes[..len]
-    }
-}
 
 // The mail of a message, to nobody and not yet counted.
 fn written(message: &Coe) -> Mail
@@ -103,10 +86,10 @@ impl CoeServer {
         ensures short { IsShort self.old.room result }
     {
         let _ = &self.pending;
-        let rest = from(self.told.bytes(), at as usize);
+        let rest = self.values.len(Slot::Told) - at as usize;
         let part = self.room as usize - 12;
-        if rest.len() <= part {
-            let bytes = buffer_of(rest);
+        if rest <= part {
+            let bytes = self.values.rest(Slot::Told, at as usize);
             self.pending = Pending::Nothing;
             return Coe::Information {
                 opcode,
@@ -115,8 +98,8 @@ impl CoeServer {
                 bytes,
             };
         }
-        let left = ((rest.len() - part + part - 1) / part) as u16;
-        let bytes = buffer_of(upto(rest, part));
+        let left = ((rest - part + part - 1) / part) as u16;
+        let bytes = self.values.part(Slot::Told, at as usize, part);
         self.pending = Pending::Parts {
             opcode,
             from: at + part as u32,
@@ -137,7 +120,6 @@ impl CoeServer {
         ensures spelled { IfOk result HasSpelling }
         ensures short { IfOk result (IsShort self.old.room) }
     {
-        let value = self.value.bytes();
         let room = self.room as usize - 9;
         let answer = match self.pending {
             Pending::Nothing => unreachable!(),
@@ -154,7 +136,7 @@ impl CoeServer {
             Pending::Error { code } => Ok(Coe::InformationError { code }),
             Pending::Failed { detail } => Err(detail),
             Pending::Whole { target } => {
-                let bytes = buffer_of(value);
+                let bytes = self.values.rest(Slot::Value, 0);
                 Ok(Coe::ExpeditedAnswer {
                     index: target.index,
                     sub: target.sub,
@@ -162,8 +144,8 @@ impl CoeServer {
                 })
             }
             Pending::First { target, upto: len } => {
-                let size = value.len() as u32;
-                let bytes = buffer_of(upto(value, len as usize));
+                let size = self.values.len(Slot::Value) as u32;
+                let bytes = self.values.part(Slot::Value, 0, len as usize);
                 Ok(Coe::FirstAnswer {
                     index: target.index,
                     sub: target.sub,
@@ -172,7 +154,7 @@ impl CoeServer {
                 })
             }
             Pending::Part { from: at, toggle } => {
-                let bytes = buffer_of(upto(from(value, at as usize), room));
+                let bytes = self.values.part(Slot::Value, at as usize, room);
                 Ok(Coe::UploadSegmentAnswer {
                     toggle,
                     last: false,
@@ -180,7 +162,7 @@ impl CoeServer {
                 })
             }
             Pending::Last { from: at, toggle } => {
-                let bytes = buffer_of(from(value, at as usize));
+                let bytes = self.values.rest(Slot::Value, at as usize);
                 Ok(Coe::UploadSegmentAnswer {
                     toggle,
                     last: true,

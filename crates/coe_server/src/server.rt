@@ -4,12 +4,13 @@ ghost use Rattle.coe_server.specs.Serving.{transfer_of, waiting_mails, told_of, 
 
 use crate::state::{Emitted, Pending, State};
 use arrayvec::ArrayVec;
+use coe_values::Values;
 use ec_fields::{NoMemory, Transfer};
 use std::alloc::Global;
 use std::marker::Model;
 
 /// The most octets that a value has.
-pub(crate) const MOST: usize = 16_384;
+const MOST: usize = 16_384;
 
 /// A server over the objects of one slave. It takes all its memory when it is made.
 #[derive(Debug, Drop)]
@@ -17,9 +18,10 @@ pub struct CoeServer {
     pub(crate) eoe: bool,
     pub(crate) room: u16,
     pub(crate) state: State,
-    pub(crate) value: Transfer,
     pub(crate) pending: Pending,
-    pub(crate) told: Transfer,
+    pub(crate) values: Values,
+    /// Where a value stands whole while the objects are called; between calls it means nothing.
+    pub(crate) whole: Transfer,
     pub(crate) emitted: Emitted,
     pub(crate) octets: ArrayVec<u8, 1514>,
 }
@@ -30,9 +32,9 @@ impl Model for CoeServer {
 
     ghost Value = { Serving };
 
-    ghost view = { λ c. record { eoe = c.eoe; room = c.room; state = c.state; value = c.value.octets; pending = c.pending; told = c.told.octets; emitted = c.emitted; octets = c.octets.items } };
+    ghost view = { λ c. record { eoe = c.eoe; room = c.room; state = c.state; value = c.values.value; pending = c.pending; told = c.values.told; emitted = c.emitted; octets = c.octets.items } };
 
-    ghost invariant = { λ c. (64 ≤ c.room) × (c.room ≤ 1486) × (c.value.limit ≡ 16384) × (c.told.limit ≡ 16384) × (is_sound c.state c.value.octets ≡ true) × (is_told c.room c.value.octets c.told.octets c.pending ≡ true) × (is_emitted c.emitted c.octets.items ≡ true) };
+    ghost invariant = { λ c. (64 ≤ c.room) × (c.room ≤ 1486) × (c.whole.limit ≡ 16384) × (is_sound c.state c.values.value ≡ true) × (is_told c.room c.values.value c.values.told c.pending ≡ true) × (is_emitted c.emitted c.octets.items ≡ true) };
 }
 
 impl CoeServer {
@@ -45,15 +47,15 @@ impl CoeServer {
         ensures room { IfOk result (λ c. c.room ≡ in_len) }
         ensures eoe { IfOk result (λ c. c.eoe ≡ eoe) }
     {
-        let value = Transfer::new(alloc, MOST)?;
-        let told = Transfer::new(alloc, MOST)?;
+        let values = Values::new(alloc)?;
+        let whole = Transfer::new(alloc, MOST)?;
         Ok(CoeServer {
             eoe,
             room: in_len,
             state: State::Idle,
-            value,
             pending: Pending::Nothing,
-            told,
+            values,
+            whole,
             emitted: Emitted::Nothing,
             octets: ArrayVec::new(),
         })

@@ -11,7 +11,15 @@ use crate::dictionary::{Dictionary, Question, Target};
 use crate::server::CoeServer;
 use crate::state::{Emitted, Pending, State};
 use coe_codec::{Coe, CoeFault};
-use ec_fields::{buffer_of, u16_at};
+use coe_values::Slot;
+use ec_fields::u16_at;
+use object_dictionary::{TOO_LONG, TOO_SHORT};
+
+/// The toggle bit doesn't alternate (CiA 301, "SDO abort codes").
+const TOGGLE_NOT_ALTERNATED: u32 = 0x0503_0000;
+
+/// The command specifier isn't valid here, or unknown (CiA 301, "SDO abort codes").
+const COMMAND_NOT_VALID: u32 = 0x0504_0001;
 
 const NOWHERE: Target = Target {
     index: 0,
@@ -38,10 +46,10 @@ impl CoeServer {
         if target.all || target.sub != 1 {
             self.emitted = Emitted::Nothing;
         } else if target.index == 0x2F00 {
-            self.octets = buffer_of(self.value.bytes());
+            self.octets = self.values.rest(Slot::Value, 0);
             self.emitted = Emitted::Emergency;
         } else if self.eoe && target.index == 0x2F01 {
-            self.octets = buffer_of(self.value.bytes());
+            self.octets = self.values.rest(Slot::Value, 0);
             self.emitted = Emitted::Packet;
         } else {
             self.emitted = Emitted::Nothing;
@@ -61,7 +69,8 @@ impl CoeServer {
         ensures room { self.new.room ≡ self.old.room }
         ensures eoe { self.new.eoe ≡ self.old.eoe }
     {
-        if let Some(code) = objects.download(target, self.value.bytes(), al) {
+        self.values.copy_to(Slot::Value, &mut self.whole);
+        if let Some(code) = objects.download(target, self.whole.bytes(), al) {
             return self.refuse(target, code);
         }
         self.tell(State::Idle, answer);
@@ -75,8 +84,7 @@ impl CoeServer {
         ensures { self.new ≡ record (told_of self.old State.Idle Pending.Nothing) { value = bytes.now } }
     {
         self.tell(State::Idle, Pending::Nothing);
-        self.value.clear();
-        let _fits = self.value.add(bytes);
+        self.values.begin(Slot::Value, bytes);
     }
 
     fn take_whole<D: Dictionary>(
@@ -142,29 +150,29 @@ impl CoeServer {
         ensures eoe { self.new.eoe ≡ self.old.eoe }
     {
         match self.state {
-            State::Idle => self.refuse(NOWHERE, 0x0504_0001),
+            State::Idle => self.refuse(NOWHERE, COMMAND_NOT_VALID),
             State::Uploading {
                 target,
                 from: _,
                 toggle: _,
-            } => self.refuse(target, 0x0504_0001),
+            } => self.refuse(target, COMMAND_NOT_VALID),
             State::Downloading {
                 target,
                 size,
                 toggle: expected,
             } => {
-                let left = size as usize - self.value.bytes().len();
+                let left = size as usize - self.values.len(Slot::Value);
                 if expected != toggle {
-                    return self.refuse(target, 0x0503_0000);
+                    return self.refuse(target, TOGGLE_NOT_ALTERNATED);
                 }
                 if bytes.len() > left {
-                    return self.refuse(target, 0x0607_0012);
+                    return self.refuse(target, TOO_LONG);
                 }
                 if last && bytes.len() < left {
-                    return self.refuse(target, 0x0607_0013);
+                    return self.refuse(target, TOO_SHORT);
                 }
                 self.pending = Pending::Nothing;
-                let _fits = self.value.add(bytes);
+                self.values.append(Slot::Value, bytes);
                 if last {
                     return self.finish(objects, al, target, Pending::SegmentAnswer { toggle });
                 }
@@ -187,10 +195,11 @@ impl CoeServer {
         ensures eoe { self.new.eoe ≡ self.old.eoe }
     {
         self.tell(State::Idle, Pending::Nothing);
-        if let Some(code) = objects.upload(target, al, &mut self.value) {
+        if let Some(code) = objects.upload(target, al, &mut self.whole) {
             return self.refuse(target, code);
         }
-        let len = self.value.bytes().len();
+        self.values.begin(Slot::Value, self.whole.bytes());
+        let len = self.values.len(Slot::Value);
         let room = self.room as usize - 16;
         if 1 <= len && len <= 4 {
             self.tell(State::Idle, Pending::Whole { target });
@@ -222,25 +231,25 @@ impl CoeServer {
         ensures eoe { self.new.eoe ≡ self.old.eoe }
     {
         match self.state {
-            State::Idle => self.refuse(NOWHERE, 0x0504_0001),
+            State::Idle => self.refuse(NOWHERE, COMMAND_NOT_VALID),
             State::Downloading {
                 target,
                 size: _,
                 toggle: _,
-            } => self.refuse(target, 0x0504_0001),
+            } => self.refuse(target, COMMAND_NOT_VALID),
             State::Uploading {
                 target,
                 from,
                 toggle: expected,
             } => {
                 let part = self.room as usize - 9;
-                let left = self.value.bytes().len() - from as usize;
+                let left = self.values.len(Slot::Value) - from as usize;
                 if expected != toggle {
                     self.tell(
                         State::Idle,
                         Pending::Abort {
                             target,
-                            code: 0x0503_0000,
+                            code: TOGGLE_NOT_ALTERNATED,
                         },
                     );
                 } else if left <= part {
@@ -267,10 +276,11 @@ impl CoeServer {
         ensures eoe { self.new.eoe ≡ self.old.eoe }
     {
         self.tell(self.state, Pending::Nothing);
-        if let Some(code) = objects.info(question, al, &mut self.told) {
+        if let Some(code) = objects.info(question, al, &mut self.whole) {
             self.tell(self.state, Pending::Error { code });
             return true;
         }
+        self.values.begin(Slot::Told, self.whole.bytes());
         let opcode = match question {
             Question::List { kind: _ } => 2,
             Question::Object { index: _ } => 4,
@@ -296,11 +306,16 @@ impl CoeServer {
 
     // An information mail that asks nothing.
     fn deny(&mut self) -> bool
-        ensures told { self.new ≡ told_of self.old self.old.state (Pending.Error 0x05040001) }
+        ensures told { self.new ≡ told_of self.old self.old.state (Pending.Error COMMAND_NOT_VALID) }
         ensures counts { result ≡ true }
     {
         let _ = &self.state;
-        self.tell(self.state, Pending::Error { code: 0x0504_0001 });
+        self.tell(
+            self.state,
+            Pending::Error {
+                code: COMMAND_NOT_VALID,
+            },
+        );
         true
     }
 
@@ -423,7 +438,7 @@ impl CoeServer {
     // The entry that an SDO request of an unknown command names.
     fn abort_unknown(&mut self, body: &[u8]) -> bool
         requires { 6 ≤ length body.now }
-        ensures told { self.new ≡ told_of self.old State.Idle (Pending.Abort (record { index = number_at 2 body.now 3; sub = slice_index body.now 5; all = false }) 0x05040001) }
+        ensures told { self.new ≡ told_of self.old State.Idle (Pending.Abort (record { index = number_at 2 body.now 3; sub = slice_index body.now 5; all = false }) COMMAND_NOT_VALID) }
         ensures counts { result ≡ true }
     {
         let target = Target {
@@ -431,7 +446,7 @@ impl CoeServer {
             sub: body[5],
             all: false,
         };
-        self.refuse(target, 0x0504_0001)
+        self.refuse(target, COMMAND_NOT_VALID)
     }
 
     fn take_unread<D: Dictionary>(&mut self, _objects: &D, fault: CoeFault, body: &[u8]) -> bool

@@ -26,13 +26,14 @@ impl Model for Link {
     ghost use Rattle.std.specs.Prelude.{◌≡◌, [], false, ⊤};
     ghost use Rattle.coe_model.specs.Model.{AreMailboxes};
     ghost use Rattle.coe_server.specs.Serving.{waiting_mails};
+    ghost use Rattle.coe_law.specs.Mailboxes.{lengths_of};
     ghost use Rattle.coe_law.specs.Talks.{areas_of};
 
     ghost Value = { ⊤ };
 
     ghost view = { λ l. tt };
 
-    ghost invariant = { λ l. AreMailboxes (areas_of l.client l.server) × (l.mailboxes ≡ areas_of l.client l.server) × (waiting_mails l.server ≡ []) × (l.server.eoe ≡ false) };
+    ghost invariant = { λ l. AreMailboxes (areas_of l.client l.server) × (lengths_of l.mailboxes ≡ areas_of l.client l.server) × (waiting_mails l.server ≡ []) × (l.server.eoe ≡ false) };
 }
 
 impl Link {

@@ -59,7 +59,7 @@ loop-body-preserved c =
             (c.hear_all.ensures.room ∙ c.take_packet.ensures.room ∙ c.take-counts.ensures.room ∙ i.2.back_room)
             (c.hear_all.ensures.eoe ∙ c.take_packet.ensures.eoe ∙ c.take-counts.ensures.eoe ∙ i.2.serves),
       ),
-      c.hear_all.ensures.lengths ∙ c.request-request.ensures.same ∙ c.loop-body.invariant.1,
+      c.hear_all.ensures.lengths ∙ c.request-request.ensures.lengths ∙ c.loop-body.invariant.1,
     )
 
 pub reply-requires : goal.reply-requires

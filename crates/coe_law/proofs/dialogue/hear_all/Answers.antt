@@ -48,5 +48,5 @@ loop-server-preserved c =
       c.next-given.ensures.transfer ∙ i.4,
       c.next-given.ensures.room ∙ i.5,
       c.next-given.ensures.eoe ∙ i.6,
-      c.answer-heard.ensures.same ∙ i.7,
+      c.answer-heard.ensures.lengths ∙ i.7,
     )

@@ -1,0 +1,83 @@
+ghost use Rattle.std.specs.Prelude.{◌≡◌, ℕ, ◌+◌, ◌-◌, ◌≤◌, [], ◌++◌, length, take, drop, min, Option, Some, None};
+ghost use Rattle.block_pool.specs.Region.{chain_of};
+ghost use Rattle.coe_values.specs.Chains.{octets_at, IsSound, AreChains, Holds};
+
+use block_pool::{ChainId, Pool};
+
+// The chain is no more; its blocks are free at once.
+fn end(pool: &mut Pool, chain: &mut Option<ChainId>)
+    requires { (other : Option ℕ) × AreChains pool.old chain.old other }
+    ensures none { chain.new ≡ None }
+    ensures ended { (other : Option ℕ) → AreChains pool.old chain.old other → Holds pool.old [] pool.new None other }
+{
+    if let Some(id) = chain.take() {
+        pool.close(id);
+    }
+}
+
+// An empty chain. There is a place for it, since one of the two isn't begun.
+fn begin(pool: &mut Pool) -> ChainId
+    requires { (other : Option ℕ) × AreChains pool.old None other }
+    ensures { (other : Option ℕ) → AreChains pool.old None other → Holds pool.old [] pool.new (Some result) other }
+{
+    match pool.begin() {
+        Some(id) => id,
+        None => unreachable!(),
+    }
+}
+
+// Octets behind those of the chain. They fit: each chain has 128 blocks at most.
+fn extend(pool: &mut Pool, id: &ChainId, bytes: &[u8])
+    requires held { (other : Option ℕ) × AreChains pool.old (Some id.now) other }
+    requires short { length (chain_of pool.old id.now) + length bytes.now ≤ 16384 }
+    ensures { (other : Option ℕ) → AreChains pool.old (Some id.now) other → Holds pool.old (chain_of pool.old id.now ++ bytes.now) pool.new (Some id.now) other }
+{
+    pool.append(id, bytes).unwrap();
+}
+
+/// These octets in place of those of the chain.
+pub fn renew(pool: &mut Pool, chain: &mut Option<ChainId>, bytes: &[u8])
+    requires held { (other : Option ℕ) × AreChains pool.old chain.old other }
+    requires short { length bytes.now ≤ 16384 }
+    ensures { (other : Option ℕ) → AreChains pool.old chain.old other → Holds pool.old bytes.now pool.new chain.new other }
+{
+    end(pool, chain);
+    let id = begin(pool);
+    extend(pool, &id, bytes);
+    *chain = Some(id);
+}
+
+/// Octets behind those of the chain.
+pub fn append(pool: &mut Pool, chain: &mut Option<ChainId>, bytes: &[u8])
+    requires held { (other : Option ℕ) × AreChains pool.old chain.old other }
+    requires short { length (octets_at pool.old chain.old) + length bytes.now ≤ 16384 }
+    ensures { (other : Option ℕ) → AreChains pool.old chain.old other → Holds pool.old (octets_at pool.old chain.old ++ bytes.now) pool.new chain.new other }
+{
+    match chain {
+        None => renew(pool, chain, bytes),
+        Some(id) => extend(pool, id, bytes),
+    }
+}
+
+/// How many octets the chain has.
+pub fn len(pool: &Pool, chain: &Option<ChainId>) -> usize
+    requires { IsSound pool.now chain.now }
+    ensures { result ≡ length (octets_at pool.now chain.now) }
+{
+    match chain {
+        None => 0,
+        Some(id) => pool.len(id),
+    }
+}
+
+/// Copies the octets of the chain from a place on, as many as there are and fit, and says how many.
+pub fn read_at(pool: &Pool, chain: &Option<ChainId>, at: usize, into: &mut [u8]) -> usize
+    requires { IsSound pool.now chain.now }
+    ensures count { result ≡ min (length (octets_at pool.now chain.now) - at) (length into.old) }
+    ensures copied { into.new ≡ take result (drop at (octets_at pool.now chain.now)) ++ drop result into.old }
+{
+    match chain {
+        None => 0,
+        Some(id) => pool.read_at(id, at, into),
+    }
+}
