@@ -14,7 +14,8 @@ use slave_app::Reply;
 use std::alloc::Global;
 use std::marker::Model;
 
-/// The client of a slave, the slave's server, and the two mailboxes between them.
+/// The client of a slave, the slave's server, and the two mailboxes between them. They are seen as the lengths of the
+/// mailboxes.
 #[derive(Debug, Drop)]
 pub struct Link {
     client: CoeClient,
@@ -23,15 +24,16 @@ pub struct Link {
 }
 
 impl Model for Link {
-    ghost use Rattle.std.specs.Prelude.{◌≡◌, [], false, ⊤};
+    ghost use Rattle.std.specs.Prelude.{◌≡◌, [], false};
+    ghost use Rattle.coe_model.specs.Client.{Areas};
     ghost use Rattle.coe_model.specs.Model.{AreMailboxes};
     ghost use Rattle.coe_server.specs.Serving.{waiting_mails};
     ghost use Rattle.coe_law.specs.Mailboxes.{lengths_of};
     ghost use Rattle.coe_law.specs.Talks.{areas_of};
 
-    ghost Value = { ⊤ };
+    ghost Value = { Areas };
 
-    ghost view = { λ l. tt };
+    ghost view = { λ l. areas_of l.client l.server };
 
     ghost invariant = { λ l. AreMailboxes (areas_of l.client l.server) × (lengths_of l.mailboxes ≡ areas_of l.client l.server) × (waiting_mails l.server ≡ []) × (l.server.eoe ≡ false) };
 }
@@ -43,6 +45,7 @@ impl Link {
         requires out_most { out_len ≤ 1486 }
         requires in_least { 64 ≤ in_len }
         requires in_most { in_len ≤ 1486 }
+        ensures { IfOk result (λ link. link ≡ record { out = out_len; back = in_len }) }
     {
         let client = CoeClient::new(alloc, out_len, in_len)?;
         let server = CoeServer::new(alloc, false, in_len)?;
@@ -76,7 +79,8 @@ pub fn exchange(
 ) -> Result<Performed, NoMemory>
     requires sdo { IsSdo service.now }
     requires few { app.old.handled < 2 ^ 64 - 1 }
-    ensures { IfOk result (λ performed. sdo_meaning app.old service.now ≡ (app.new, performed)) }
+    ensures meaning { IfOk result (λ performed. sdo_meaning app.old service.now ≡ (app.new, performed)) }
+    ensures lengths { link.new ≡ link.old }
 {
     let al = app.al;
     let carried = carry_out(
