@@ -73,10 +73,12 @@ serve_act x s table c (Act.Mail m) = (record c { server = (x.serve c.server m).0
 serve_act x s table c (Act.Word target) =
     (record { server = s.tell (state_behind table (s.state (x.app c.server)) target) c.server; words = suc c.words }, [])
 
+-- a control word is no emission
 abbrev pub act_emission : {M : Type 0} → (M → Bool) → Act M → Bool
 act_emission emission (Act.Mail m) = emission m
 act_emission emission (Act.Word target) = false
 
+-- the laws speak of each state service
 abbrev pub service_valid : {V A M Q R : Type 0} → Exchange V A M Q R → Service Q → Bool
 service_valid x (Service.Mails q) = x.valid q
 service_valid x (Service.State target) = true
@@ -86,23 +88,27 @@ abbrev pub planned_by : {V A M Q R : Type 0} → Exchange V A M Q R → Q → Op
 planned_by x q None = []
 planned_by x q (Some hs) = acts (x.planned q hs)
 
+-- the client of a state service has its control word
 abbrev pub service_planned : {V A M Q R : Type 0} → Exchange V A M Q R → Service Q → List (Act M) → List (Act M)
 service_planned x (Service.Mails q) hs = planned_by x q (all_mails hs)
 service_planned x (Service.State target) hs = Act.Word target ∷ []
 
+-- the reply of a service by mails, where only mails were heard
 abbrev pub ends_by : {V A M Q R : Type 0} → Exchange V A M Q R → Q → Option (List M) → Option (Outcome R)
 ends_by x q None = None
 ends_by x q (Some hs) = option_map (λ r. Outcome.Replied r) (x.ends q hs)
 
+-- a state service has no reply by mails: a status ends it
 abbrev pub service_ends : {V A M Q R : Type 0} → Exchange V A M Q R → Service Q → List (Act M) → Option (Outcome R)
 service_ends x (Service.Mails q) hs = ends_by x q (all_mails hs)
 service_ends x (Service.State target) hs = None
 
--- a state service has no reply by mails
+-- a state service is over without a reply by mails, like one that ends with its last write
 abbrev pub service_handed : {V A M Q R : Type 0} → Exchange V A M Q R → Service Q → Bool
 service_handed x (Service.Mails q) = x.handed q
 service_handed x (Service.State target) = true
 
+-- all acts of a service: its mails, or its control word
 abbrev pub service_full : {V A M Q R : Type 0} → Exchange V A M Q R → V → Service Q → List (Act M)
 service_full x v (Service.Mails q) = acts (x.full v q)
 service_full x v (Service.State target) = Act.Word target ∷ []
@@ -117,6 +123,7 @@ abbrev pub service_reply : {V A M Q R : Type 0} → Exchange V A M Q R → State
 service_reply x s table a (Service.Mails q) = Outcome.Replied (x.reply a.0 q)
 service_reply x s table a (Service.State target) = answer_of (table (s.state a.0) target)
 
+-- a state service emits nothing
 abbrev pub service_emits : {V A M Q R : Type 0} → Exchange V A M Q R → A × ℕ → Service Q → List (Act M)
 service_emits x a (Service.Mails q) = acts (x.emits a.0 q)
 service_emits x a (Service.State target) = []

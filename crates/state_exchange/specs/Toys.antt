@@ -35,10 +35,12 @@ refuse v (total n) = (v, refused ∷ [])
 refuse v refused = (v, refused ∷ [])
 refuse v (noted n) = (v, refused ∷ [])
 
+-- by whether the state adds
 abbrev pub serve_in : Bool → Adder → Mail → Adder × List Mail
 serve_in true v m = Toy.serve v m
 serve_in false v m = refuse v m
 
+-- a mail taken in the state that stands, which stays
 abbrev pub serve : Desk → Mail → Desk × List Mail
 serve d m = (record d { adder = (serve_in (adds d.state) d.adder m).0 }, (serve_in (adds d.state) d.adder m).1)
 
@@ -48,18 +50,22 @@ ends (sum n) (held ∷ total value ∷ []) = Some (Some value)
 ends (sum n) (refused ∷ []) = Some None
 ends _ _ = None
 
+-- what a service does to the sheet
 abbrev pub exec_in : Bool → Sheet → Service → Sheet
 exec_in true a q = record a { value = a.value + number q }
 exec_in false a q = a
 
+-- what it replies
 abbrev pub reply_in : Bool → Sheet → Service → Option ℕ
 reply_in true a q = Some (a.value + number q)
 reply_in false a q = None
 
+-- and what it emits
 abbrev pub emits_in : Bool → Service → List Mail
 emits_in true q = noted (number q) ∷ []
 emits_in false q = []
 
+-- the adder with its state as an exchange
 abbrev pub desk : Exchange Desk Sheet Mail Service (Option ℕ)
 desk = record {
   serve = serve;
@@ -119,5 +125,6 @@ abbrev pub replies : Sheet × ℕ → List (Stated.Service Service) → List (Ou
 replies a [] = []
 replies a (q ∷ qs) = stated_desk.reply a q ∷ replies (stated_desk.exec a q) qs
 
+-- those of the tried services: refused, reached, refused with 17, and the total
 abbrev pub told : List (Outcome (Option ℕ))
 told = Outcome.Replied None ∷ Outcome.Reached ∷ Outcome.Refused 17 ∷ Outcome.Replied (Some 3) ∷ []

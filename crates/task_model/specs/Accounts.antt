@@ -98,10 +98,12 @@ phase_access target Phase.Await = Access.ReadState
 phase_access target (Phase.Acknowledge state code) = Access.SetControl state true
 phase_access target (Phase.Recover code) = Access.ReadState
 
+-- while it drains it sends none of its own
 abbrev pub stage_access : ℕ → Stage → Option Access
 stage_access target Stage.Drains = None
 stage_access target (Stage.Goes phase) = Some (phase_access target phase)
 
+-- with no state service in hand there is none
 abbrev pub duty_access : Option Duty → Option Access
 duty_access None = None
 duty_access (Some duty) = stage_access duty.target duty.stage
@@ -146,6 +148,7 @@ pub data Progress (R : Type 0) : Type 0 where
   On : Stage → Progress R
   Over : Outcome R → Progress R
 
+-- a phase that goes on, or the answer that ends it
 abbrev pub turn_progress : {R : Type 0} → Turn R → Progress R
 turn_progress (Turn.Goes phase) = Progress.On (Stage.Goes phase)
 turn_progress (Turn.Ends answer) = Progress.Over answer
@@ -164,6 +167,7 @@ found_done target Stage.Drains (Some (Found.State state refused)) = Progress.On 
 found_done target (Stage.Goes phase) (Some (Found.Full full)) = Progress.On (Stage.Goes phase)
 found_done target (Stage.Goes phase) (Some (Found.State state refused)) = turn_progress (shown target phase state refused)
 
+-- by the access that was done: a control word was written, a status or the state of mailbox 0 was found; any other leaves it
 abbrev pub access_done : {R : Type 0} → ℕ → Stage → Access → Option Found → Progress R
 access_done target stage (Access.SetStation station) found = Progress.On stage
 access_done target stage (Access.SetFirst right) found = Progress.On stage
