@@ -82,13 +82,13 @@ module _ {V A M Q R : Type 0} (x : Exchange V A M Q R) (law : IsLawful x) (s : S
     pub records : Records x law fs seat
     pub carries : p.registers.station ≡ p.station → Carries fs p seat a
 
-  pub holds : (fs : List (Frame M)) (p : Planned V) (seat : Seat V M Q R) (a : Account Q R) (k : Whole fs p seat a) → p.registers.station ≡ p.station → Holds x law s stated (table p.station) more p.registers.state k.is.brought.sits fs seat a
+  pub holds : (fs : List (Frame M)) (p : Planned V) (seat : Seat V M Q R) (a : Account Q R) (k : Whole fs p seat a) → (answers : p.registers.station ≡ p.station) → Holds x law s stated (table p.station) more p.registers.state (k.is.brought answers).sits fs seat a
   holds fs p seat a k answers =
       let c = k.carries answers in
       record {
         ready = k.ready;
         agrees = k.agrees;
-        begun = ap (λ v. s.state (x.app v)) k.start ∙ k.is.brought.state;
+        begun = ap (λ v. s.state (x.app v)) k.start ∙ (k.is.brought answers).state;
         stately = k.is.stately answers;
         carried = c.carried;
         records = k.records;
@@ -117,7 +117,7 @@ module _ {V A M Q R : Type 0} (x : Exchange V A M Q R) (law : IsLawful x) (s : S
   next_carries fs p seat a pick k answers =
       let from = state_over (table p.station) p.registers.state a.over in
       let h = holds fs p seat a k answers in
-      let stands = λ (none : a.hand ≡ None). (free_state (table p.station) p.registers.state k.is.brought.sits seat.station fs seat.slave.registers a h.stately none).0 in
+      let stands = λ (none : a.hand ≡ None). (free_state (table p.station) p.registers.state (k.is.brought answers).sits seat.station fs seat.slave.registers a h.stately none).0 in
       let began = carried_begins x law s (table p.station) stated from seat a (length fs) pick.begin k.ready k.agrees stands h.carried in
       let side = side_begins x (length fs) seat.side seat.side.now (mails_begin a.hand pick.begin) in
       let b = account_begins x s.acknowledged (length fs) seat.side a a.hand pick.begin in
@@ -125,10 +125,10 @@ module _ {V A M Q R : Type 0} (x : Exchange V A M Q R) (law : IsLawful x) (s : S
         carried = subst (λ os. Carried x law s (table p.station) (state_over (table p.station) p.registers.state os) (seat_next x (length fs) seat (mails_choice a pick)) (account_next x s.acknowledged (length fs) seat.side a pick))
             (sym (over_next x s.acknowledged (length fs) seat.side a pick)) (carried_next x law s (table p.station) stated from seat a (length fs) pick k.ready k.agrees stands h.carried);
         posts = next_posts x law seat.station fs seat.side (mails_choice a pick)
-            (side_facts x law s stated (table p.station) more p.registers.state k.is.brought.sits fs seat a k.ready from h.carried)
-            (side_facts x law s stated (table p.station) more p.registers.state k.is.brought.sits fs (record seat { side = side }) b k.ready from began)
+            (side_facts x law s stated (table p.station) more p.registers.state (k.is.brought answers).sits fs seat a k.ready from h.carried)
+            (side_facts x law s stated (table p.station) more p.registers.state (k.is.brought answers).sits fs (record seat { side = side }) b k.ready from began)
             h.posts;
-        completed = completed_next x more seat.station s.acknowledged fs seat.side a h.completed pick (newest_over x law s stated (table p.station) more p.registers.state k.is.brought.sits fs seat a h);
+        completed = completed_next x more seat.station s.acknowledged fs seat.side a h.completed pick (newest_over x law s stated (table p.station) more p.registers.state (k.is.brought answers).sits fs seat a h);
       }
 
   next_whole : (fs : List (Frame M)) (p : Planned V) (seat : Seat V M Q R) (a : Account Q R) (pick : Pick Q) → Whole fs p seat a → Whole fs p (seat_next x (length fs) seat (mails_choice a pick)) (account_next x s.acknowledged (length fs) seat.side a pick)
@@ -148,7 +148,7 @@ module _ {V A M Q R : Type 0} (x : Exchange V A M Q R) (law : IsLawful x) (s : S
       let kept = back_is x s processor table fs f p seat a ds placed met tt k.1.is in
       keeps_whole fs (fs ++ f ∷ []) p seat (seat_back x (length fs) seat ds f.back) a b refl k.1 kept now (λ answers c. record {
         carried = carried_back x law s (table p.station) stated p.registers.state seat a b _ (length fs) _ ds f.back k.1.ready k.1.agrees now.0 (met.served answers 0)
-            (λ none. (free_state (table p.station) p.registers.state kept.brought.sits seat.station (fs ++ f ∷ []) (slave_after seat.station seat.slave ds).registers b (kept.stately answers) none).0)
+            (λ none. (free_state (table p.station) p.registers.state (kept.brought answers).sits seat.station (fs ++ f ∷ []) (slave_after seat.station seat.slave ds).registers b (kept.stately answers) none).0)
             c.carried;
         posts = back_posts x law seat.station fs f seat.side (same seat.station) (frame_tells seat.station (kept_of seat.station fs).told seat.side.halves (grams f.sent) k.0) c.posts;
         completed = completed_back x more seat.station (fs ++ f ∷ []) (length fs) a f.back (completed_frame x more seat.station fs f a.started c.completed);
@@ -180,8 +180,8 @@ module _ {V A M Q R : Type 0} (x : Exchange V A M Q R) (law : IsLawful x) (s : S
       let agrees = step_agrees x processor seat k.agrees in
       keeps_whole fs fs p seat (seat_steps x processor seat) a a refl k (step_is x s processor table fs p seat a k.is) (agrees, record { listens = k.records.listens; rises = k.records.rises; hears = k.records.hears }) (λ answers c. record {
         carried = carried_steps x law s (table p.station) stated (state_over (table p.station) p.registers.state a.over) seat a processor tells
-            (k.is.brought.carries seat.slave.registers k.is.placed.place.station k.is.placed.place.first k.is.placed.place.second)
-            (step_state (table p.station) p.registers.state k.is.brought.sits seat.station fs seat.slave.registers a (k.is.stately answers)) k.ready agrees c.carried;
+            (k.is.carries seat.slave.registers k.is.placed.place.station k.is.placed.place.first k.is.placed.place.second)
+            (step_state (table p.station) p.registers.state (k.is.brought answers).sits seat.station fs seat.slave.registers a (k.is.stately answers)) k.ready agrees c.carried;
         posts = c.posts;
         completed = c.completed;
       })
@@ -266,7 +266,7 @@ module _ {V A M Q R : Type 0} (x : Exchange V A M Q R) (law : IsLawful x) (s : S
       agrees = agrees.0;
       records = records.0;
       carries = λ answers. record {
-        carried = carried_new x law s (table p.station) stated p.registers.state p brought.0.state;
+        carried = carried_new x law s (table p.station) stated p.registers.state p (brought.0.1 answers).state;
         posts = posts.0;
         completed = tt;
       };
@@ -307,7 +307,7 @@ module _ {V A M Q R : Type 0} (x : Exchange V A M Q R) (law : IsLawful x) (s : S
             k.is.placed.station,
             k.start,
             λ answers. subst (λ n. P (table n) now.session.frames seat.station seat.start seat.side a seat.slave) (sym k.is.placed.station)
-                (one (table p.station) p.registers.state k.is.brought.sits now.session.frames seat a (holds now.session.frames p seat a k answers)),
+                (one (table p.station) p.registers.state (k.is.brought answers).sits now.session.frames seat a (holds now.session.frames p seat a k answers)),
           )) ps now.session.seats now.accounts kept.each))
 
       pub tasks_promised : EachTask (λ station start d a n. TasksPromised x s (table station) more fs station start d a n) ps ds accounts ns

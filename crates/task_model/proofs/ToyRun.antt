@@ -160,7 +160,7 @@ plan = record {
   plan = record { stations = (tt, tt); ready = (refl, tt) };
   apart = ((tt, tt), tt);
   tells = λ state v. refl;
-  brought = (record { control = refl; refused = refl; sits = record { sits = refl; stays = λ from to e. e }; state = refl; carries = λ r station first second. refl }, tt);
+  brought = ((λ r station first second. refl, λ answers. record { control = refl; refused = refl; sits = record { sits = refl; stays = λ from to e. e }; state = refl }), tt);
 }
 
 tasked : IsTasked desk desk_states.acknowledged processor one (sides_of ended.session.seats) ended.accounts (ring_of ended.session.seats) ended.session.frames

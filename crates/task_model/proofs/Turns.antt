@@ -11,7 +11,7 @@ use Rattle.state_model.specs.States.{Table}
 use Rattle.state_model.specs.Promises.{statuses}
 use Rattle.state_exchange.specs.Stated.{Stated}
 use Rattle.task_model.specs.Accounts.{Account, Pick, mails_choice, account_next, account_back}
-use Rattle.task_model.specs.Tasks.{IsBrought, AllBrought, new_accounts}
+use Rattle.task_model.specs.Tasks.{Answers, IsBrought, CarriesWords, AllBrought, new_accounts}
 use Rattle.task_model.proofs.Rings.{SamePlace, same_place, place_on}
 use Rattle.task_model.proofs.Carries.{carry_place}
 use Rattle.task_model.proofs.Stately.{Stately, next_stately, back_stately, lost_stately, missed_stately, step_stately, new_stately, statuses_frame}
@@ -20,26 +20,29 @@ use Rattle.task_model.proofs.Walks.{EachOne, IsPlaced, SeatMet}
 module _ {V A M Q R : Type 0} (x : Exchange V A M Q R) (stated : Stated V A Q) (processor : Processor V) (table : ℕ → Table) where
   -- THE INVARIANT of one slave of a plan
   pub record IsStately (fs : List (Frame M)) (p : Planned V) (s : Seat V M Q R) (a : Account Q R) : Type 0 where
-    pub brought : IsBrought x stated processor table p
+    pub carries : CarriesWords processor (table p.station) p
+    pub brought : Answers p → IsBrought x stated table p
     pub placed : IsPlaced p s a
-    pub stately : p.registers.station ≡ p.station → Stately (table p.station) p.registers.state brought.sits s.station fs s.slave.registers a
+    pub stately : (answers : Answers p) → Stately (table p.station) p.registers.state (brought answers).sits s.station fs s.slave.registers a
 
   -- a choice
   pub next_is : (acknowledged : Q → Bool) (fs : List (Frame M)) (p : Planned V) (s : Seat V M Q R) (a : Account Q R) (pick : Pick Q) → IsStately fs p s a →
       IsStately fs p (seat_next x (length fs) s (mails_choice a pick)) (account_next x acknowledged (length fs) s.side a pick)
   next_is acknowledged fs p s a pick k = record {
+    carries = k.carries;
     brought = k.brought;
     placed = record { station = k.placed.station; place = k.placed.place };
-    stately = λ answers. next_stately (table p.station) p.registers.state k.brought.sits s.station x acknowledged fs s.side s.slave.registers a pick (k.stately answers);
+    stately = λ answers. next_stately (table p.station) p.registers.state (k.brought answers).sits s.station x acknowledged fs s.side s.slave.registers a pick (k.stately answers);
   }
 
   -- a frame that came back
   pub back_is : (fs : List (Frame M)) (f : Frame M) (p : Planned V) (s : Seat V M Q R) (a : Account Q R) (ds : List (Datagram M)) → IsPlaced p s a → SeatMet (length fs) p s a ds f.back → ⊤ → IsStately fs p s a →
       IsStately (fs ++ f ∷ []) p (seat_back x (length fs) s ds f.back) (account_back s.station (length fs) a f.back)
   back_is fs f p s a ds placed met now k = record {
+    carries = k.carries;
     brought = k.brought;
     placed = record { station = placed.station; place = place_on p.registers s.slave.registers (slave_after s.station s.slave ds).registers placed.place met.place };
-    stately = λ answers. back_stately (table p.station) p.registers.state k.brought.sits s.station fs f s.slave.registers (slave_after s.station s.slave ds).registers s.slave.node.out.box a (account_back s.station (length fs) a f.back) _
+    stately = λ answers. back_stately (table p.station) p.registers.state (k.brought answers).sits s.station fs f s.slave.registers (slave_after s.station s.slave ds).registers s.slave.node.out.box a (account_back s.station (length fs) a f.back) _
         (statuses_frame s.station fs f) (met.served answers (kept_of s.station fs).heard) (k.stately answers);
   }
 
@@ -50,28 +53,31 @@ module _ {V A M Q R : Type 0} (x : Exchange V A M Q R) (stated : Stated V A Q) (
   pub lost_is : (fs : List (Frame M)) (f : Frame M) → f.back ≡ [] → (p : Planned V) (s : Seat V M Q R) (a : Account Q R) (ds : List (Datagram M)) → IsPlaced p s a → SeatMet (length fs) p s a ds (frame_after s.station s.slave ds) → ⊤ → IsStately fs p s a →
       IsStately (fs ++ f ∷ []) p (record s { side = side_lost s.station f.sent s.side; slave = slave_after s.station s.slave ds }) a
   lost_is fs f e p s a ds placed met now k = record {
+    carries = k.carries;
     brought = k.brought;
     placed = record { station = placed.station; place = place_on p.registers s.slave.registers (slave_after s.station s.slave ds).registers placed.place met.place };
-    stately = λ answers. lost_stately (table p.station) p.registers.state k.brought.sits s.station fs f s.slave.registers (slave_after s.station s.slave ds).registers s.slave.node.out.box a _ _
+    stately = λ answers. lost_stately (table p.station) p.registers.state (k.brought answers).sits s.station fs f s.slave.registers (slave_after s.station s.slave ds).registers s.slave.node.out.box a _ _
         (none_lost s.station fs f e) (met.served answers 0) (k.stately answers);
   }
 
   pub missed_is : (fs : List (Frame M)) (f : Frame M) → f.back ≡ [] → (p : Planned V) (s : Seat V M Q R) (a : Account Q R) → IsPlaced p s a → ⊤ → IsStately fs p s a → IsStately (fs ++ f ∷ []) p (record s { side = side_lost s.station f.sent s.side }) a
   missed_is fs f e p s a placed now k = record {
+    carries = k.carries;
     brought = k.brought;
     placed = record { station = placed.station; place = placed.place };
-    stately = λ answers. missed_stately (table p.station) p.registers.state k.brought.sits s.station fs f s.slave.registers a (none_lost s.station fs f e) (k.stately answers);
+    stately = λ answers. missed_stately (table p.station) p.registers.state (k.brought answers).sits s.station fs f s.slave.registers a (none_lost s.station fs f e) (k.stately answers);
   }
 
   -- a step of the processor
   pub step_is : (fs : List (Frame M)) (p : Planned V) (s : Seat V M Q R) (a : Account Q R) → IsStately fs p s a → IsStately fs p (seat_steps x processor s) a
   step_is fs p s a k =
       let r = s.slave.registers in
-      let same : processor.carry r ≡ States.carry (table p.station) r = k.brought.carries r k.placed.place.station k.placed.place.first k.placed.place.second in
+      let same : processor.carry r ≡ States.carry (table p.station) r = k.carries r k.placed.place.station k.placed.place.first k.placed.place.second in
       record {
+        carries = k.carries;
         brought = k.brought;
         placed = record { station = k.placed.station; place = place_on p.registers r (processor.carry r) k.placed.place (subst (SamePlace r) (sym same) (carry_place (table p.station) r)) };
-        stately = λ answers. subst (λ n. Stately (table p.station) p.registers.state k.brought.sits s.station fs n a) (sym same) (step_stately (table p.station) p.registers.state k.brought.sits s.station fs r a (k.stately answers));
+        stately = λ answers. subst (λ n. Stately (table p.station) p.registers.state (k.brought answers).sits s.station fs n a) (sym same) (step_stately (table p.station) p.registers.state (k.brought answers).sits s.station fs r a (k.stately answers));
       }
 
   -- AT THE END OF BRING-UP
@@ -79,9 +85,10 @@ module _ {V A M Q R : Type 0} (x : Exchange V A M Q R) (stated : Stated V A Q) (
   new_is opening [] brought = tt
   new_is opening (p ∷ ps) brought = (
     record {
-      brought = brought.0;
+      carries = brought.0.0;
+      brought = brought.0.1;
       placed = record { station = refl; place = same_place p.registers };
-      stately = λ answers. new_stately (table p.station) p.registers.state brought.0.sits p.station opening p.registers refl brought.0.control brought.0.refused;
+      stately = λ answers. new_stately (table p.station) p.registers.state (brought.0.1 answers).sits p.station opening p.registers refl (brought.0.1 answers).control (brought.0.1 answers).refused;
     },
     new_is opening ps brought.1,
   )

@@ -103,20 +103,23 @@ Apart before [] = ⊤
 Apart before (p ∷ ps) = (Nobody p.station before × Nobody p.station ps) × Apart (before ++ p ∷ []) ps
 
 -- the registers of a slave as bring-up leaves them
-pub record IsBrought {V A M Q R : Type 0} (x : Exchange V A M Q R) (s : Stated V A Q) (processor : Processor V) (table : ℕ → Table) (p : Planned V) : Type 0 where
+pub record IsBrought {V A M Q R : Type 0} (x : Exchange V A M Q R) (s : Stated V A Q) (table : ℕ → Table) (p : Planned V) : Type 0 where
   -- no control word waits and no error flag stands
   pub control : p.registers.control ≡ None
   pub refused : p.registers.refused ≡ None
   -- the slave may be in its state, and its server knows it
   pub sits : IsTable (table p.station) p.registers.state
   pub state : s.state (x.app p.server) ≡ p.registers.state
-  -- its processor carries out control words by its table
-  pub carries : (r : Registers) → r.station ≡ p.registers.station → r.first ≡ p.registers.first → r.second ≡ p.registers.second → processor.carry r ≡ States.carry (table p.station) r
 
--- each of these is brought up
+-- a slave's processor carries out control words by its table
+abbrev pub CarriesWords : {V : Type 0} → Processor V → Table → Planned V → Type 0
+CarriesWords processor table p = (r : Registers) → r.station ≡ p.registers.station → r.first ≡ p.registers.first → r.second ≡ p.registers.second → processor.carry r ≡ States.carry table r
+
+-- each of these does, and is brought up where it answers to its station
 abbrev pub AllBrought : {V A M Q R : Type 0} → Exchange V A M Q R → Stated V A Q → Processor V → (ℕ → Table) → List (Planned V) → Type 0
 AllBrought x s processor table [] = ⊤
-AllBrought x s processor table (p ∷ ps) = IsBrought x s processor table p × AllBrought x s processor table ps
+AllBrought x s processor table (p ∷ ps) =
+    (CarriesWords processor (table p.station) p × (Answers p → IsBrought x s table p)) × AllBrought x s processor table ps
 
 -- a plan of which the laws of such sessions speak; `table` has the table of each station
 pub record IsTaskPlan {V A M Q R : Type 0} (x : Exchange V A M Q R) (s : Stated V A Q) (processor : Processor V) (table : ℕ → Table) (ps : List (Planned V)) : Type 0 where
