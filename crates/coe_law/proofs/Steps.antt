@@ -1,5 +1,6 @@
 -- From one mail of the client to the next: client, server and objects go on as the model does.
 use Rattle.std.proofs.Common.{◌≡◌, ℕ, ◌+◌, ◌<◌, ◌≤◌, Bool, true, false, List, [], ◌∷◌, ◌++◌, length, Option, None, Some, Result, Ok, Err, refl, sym, ap, ◌∙◌, arith, append_assoc, append-nil, length-append}
+use Rattle.exchange_model.specs.Areas.{Areas, AreMailboxes}
 use Rattle.exchange_model.specs.Exchange.{after, given, plain, emitted}
 use Rattle.exchange_model.proofs.Words.{after-append, given-append, plain-append, plain_given-append}
 use Rattle.object_dictionary.specs.Dictionary.{Table}
@@ -9,8 +10,8 @@ use Rattle.object_dictionary.specs.declared.service.SdoService.{SdoService}
 use Rattle.coe_model.specs.Tables.{Target, Tables, AreLawful}
 use Rattle.coe_model.specs.Server.{Emission, emergency, packet, emission_of, issued, Server, serve, outcome}
 use Rattle.coe_model.specs.Meaning.{Service, download, upload, information, meaning_of, download_means, value_means}
-use Rattle.coe_model.specs.Client.{Areas, ends}
-use Rattle.coe_model.specs.Model.{AreMailboxes, planned, full, value_length}
+use Rattle.coe_model.specs.Client.{ends}
+use Rattle.coe_model.specs.Model.{planned, full, value_length}
 use Rattle.coe_model.proofs.CoeLaw.{kept, bound, client_follows}
 use Rattle.coe_model.proofs.Progress.{goes_on}
 use Rattle.coe_server.specs.declared.state.Emitted.{Emitted}

@@ -3,7 +3,7 @@ use Rattle.std.specs.Prelude.{ℕ, ◌+◌, ◌-◌, List, ◌++◌, length, rep
 use Rattle.mailbox_mail.specs.declared.mail.Mail.{Mail}
 use Rattle.mailbox_mail.specs.Counter.{counter_behind}
 use Rattle.mailbox_mail.specs.Mail.{mail_text}
-use Rattle.coe_model.specs.Client.{Areas}
+use Rattle.exchange_model.specs.Areas.{Areas}
 
 -- a mailbox: the counter of the last mail written there, 0 before the first, and the octets of its area
 pub record Posted : Type 0 where

@@ -1,5 +1,6 @@
 -- A client and a server on one object dictionary, at a moment between two of the client's mails.
 use Rattle.std.specs.Prelude.{◌≡◌, ℕ, Bool, List, [], ◌∷◌, ◌++◌, length, Option, None, Some}
+use Rattle.exchange_model.specs.Areas.{Areas}
 use Rattle.exchange_model.specs.Prefix.{IsPrefixOf}
 use Rattle.exchange_model.specs.Exchange.{after, given, plain, emitted}
 use Rattle.object_dictionary.specs.Dictionary.{Table}
@@ -7,7 +8,7 @@ use Rattle.coe_model.specs.Mails.{CoeMail, mail, fragment, Emergency, is_emissio
 use Rattle.coe_model.specs.Tables.{Tables}
 use Rattle.coe_model.specs.Server.{Server, serve}
 use Rattle.coe_model.specs.Meaning.{Service, Reply, Meaning, meaning_of}
-use Rattle.coe_model.specs.Client.{Areas, ends}
+use Rattle.coe_model.specs.Client.{ends}
 use Rattle.coe_model.specs.Model.{planned, full}
 use Rattle.coe_server.specs.ObjectTables.{tables_with}
 use Rattle.coe_server.specs.declared.state.Emitted.{Emitted}

@@ -24,7 +24,7 @@ struct Bench {
 impl Model for Bench {
     ghost use Rattle.std.specs.Prelude.{◌≡◌, []};
     ghost use Rattle.object_dictionary.specs.Dictionary.{Table};
-    ghost use Rattle.coe_model.specs.Model.{AreMailboxes};
+    ghost use Rattle.exchange_model.specs.Areas.{AreMailboxes};
     ghost use Rattle.coe_server.specs.Serving.{waiting_mails};
     ghost use Rattle.coe_law.specs.Mailboxes.{lengths_of};
     ghost use Rattle.coe_law.specs.Talks.{areas_of};

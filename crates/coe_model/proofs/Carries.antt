@@ -1,5 +1,6 @@
 -- One mail of a service after the other: what a server has done when a service is over, and that it has done nothing before its last mail.
 use Rattle.std.proofs.Common.{◌≡◌, ◌⊎◌, inl, inr, ℕ, suc, Bool, true, false, List, [], ◌∷◌, ◌++◌, Option, Some, refl, ap, ◌∙◌, subst, append-nil, length, ◌≤◌}
+use Rattle.exchange_model.specs.Areas.{Areas}
 use Rattle.exchange_model.specs.Exchange.{Before, Behind, after, given, plain, emitted}
 use Rattle.exchange_model.specs.Dialogue.{next, stop, sent, turn_at}
 use Rattle.exchange_model.proofs.Turns.{sent_onward, sent_over}
@@ -7,7 +8,7 @@ use Rattle.coe_model.specs.Mails.{CoeMail, is_emission}
 use Rattle.coe_model.specs.Tables.{Tables}
 use Rattle.coe_model.specs.Server.{Transfer, Outcome, Server, outcome, goes_on, issued, behind, serve}
 use Rattle.coe_model.specs.Meaning.{Meaning, Service, Reply, meaning_of}
-use Rattle.coe_model.specs.Client.{Areas, decide, ends}
+use Rattle.coe_model.specs.Client.{decide, ends}
 use Rattle.coe_model.specs.Model.{coe_exchange}
 use Rattle.coe_model.proofs.Basics.{answer_plain, answer_emitted}
 

@@ -1,6 +1,7 @@
 -- CoE owes the laws of an exchange and keeps them: for every service, value and size, through mailboxes of any lengths, and from a server
 -- with any unfinished transfer.
 use Rattle.std.proofs.Common.{None, Option, ◌≡◌, inl, inr, ℕ, zero, suc, ◌<◌, ◌≤◌, Bool, true, false, not, List, [], ◌∷◌, ◌++◌, length, Some, Result, Ok, Err, refl, sym, ap, ◌∙◌, subst, arith, append-nil, length-append}
+use Rattle.exchange_model.specs.Areas.{Areas, AreMailboxes}
 use Rattle.exchange_model.specs.Prefix.{IsPrefixOf}
 use Rattle.exchange_model.specs.Exchange.{IsLawful, Behind, after, given, plain}
 use Rattle.exchange_model.specs.Dialogue.{said, Decides}
@@ -11,8 +12,8 @@ use Rattle.coe_model.specs.Mails.{CoeMail, mail, Upload, UploadSegment, is_emiss
 use Rattle.coe_model.specs.Tables.{Target, Ask, Tables, AreLawful}
 use Rattle.coe_model.specs.Server.{Emission, emergency, packet, Server, emission_of, issued, serve, one_more, outcome}
 use Rattle.coe_model.specs.Meaning.{Service, download, upload, information, download_means, value_means, meaning_of}
-use Rattle.coe_model.specs.Client.{Areas, mails_of, decide, ends, requests, download_mails, information_mail}
-use Rattle.coe_model.specs.Model.{AreMailboxes, turns, planned, full, value_length, coe_exchange}
+use Rattle.coe_model.specs.Client.{mails_of, decide, ends, requests, download_mails, information_mail}
+use Rattle.coe_model.specs.Model.{turns, planned, full, value_length, coe_exchange}
 use Rattle.coe_model.proofs.Carries.{Kept, kept_from_carried}
 use Rattle.coe_model.proofs.DownloadLaw.{download_carried}
 use Rattle.coe_model.proofs.UploadLaw.{upload_by}

@@ -1,6 +1,7 @@
 -- A download carries out its service, of any value, through mailboxes of any lengths, and from a server with any unfinished transfer.
 use Rattle.std.proofs.Common.{◌≡◌, ◌⊎◌, inl, inr, ℕ, zero, suc, ◌+◌, ◌-◌, ◌<◌, ◌≤◌, Bool, true, false, not, List, [], ◌∷◌, ◌++◌, length, take, drop, Option, None, Some, Result, Ok, Err, refl, sym, ap, ◌∙◌, subst, arith, append_assoc, length-append, length-drop, length-take, take-append-drop, take_all, eq-eqb, ne_eqb, le-ltb, le-leb}
 use Rattle.std.proofs.lemmas.Bool.{cases_lt, lt-leb}
+use Rattle.exchange_model.specs.Areas.{Areas}
 use Rattle.exchange_model.specs.Dialogue.{next}
 use Rattle.exchange_model.proofs.Turns.{sent_none}
 use Rattle.mailbox_mail.specs.declared.outcome.ReplyKind.{ReplyKind}
@@ -8,7 +9,7 @@ use Rattle.coe_model.specs.Mails.{CoeMail, mail, is_emission, Segment, SegmentAn
 use Rattle.coe_model.specs.Tables.{Target, Tables, AreLawful}
 use Rattle.coe_model.specs.Server.{idle, downloading, Server, outcome, ended, goes_on, stored, takes_whole, takes_first, takes_segment, begins, download_answer, abort, parts_of, is_expedited, serve}
 use Rattle.coe_model.specs.Meaning.{Reply, download_means}
-use Rattle.coe_model.specs.Client.{Areas, decide, segments, download_mails, segments_end, download_ends}
+use Rattle.coe_model.specs.Client.{decide, segments, download_mails, segments_end, download_ends}
 use Rattle.coe_model.proofs.Basics.{same_itself, is_of_itself, no_parts, one_part, more_parts}
 use Rattle.coe_model.proofs.Carries.{Carried, carried_one, carried_more, gone_on, talk, talk_onward, talk_over}
 

@@ -1,6 +1,7 @@
 -- An information request is answered by the whole answer, in parts that fit a mailbox of any length.
 use Rattle.std.proofs.Common.{◌≡◌, inl, inr, ℕ, zero, suc, ◌-◌, ◌<◌, ◌≤◌, Bool, true, false, List, [], ◌∷◌, ◌++◌, length, take, drop, None, Some, Result, Ok, Err, refl, sym, ap, ◌∙◌, subst, arith, append-nil, append_assoc, length-append, length-drop, length-take, take-append-drop, eq-eqb, le-ltb, le-leb}
 use Rattle.std.proofs.lemmas.Bool.{cases_lt, lt-leb}
+use Rattle.exchange_model.specs.Areas.{Areas}
 use Rattle.exchange_model.specs.Exchange.{Before, plain, emitted}
 use Rattle.exchange_model.specs.Dialogue.{turn_at, rest_at}
 use Rattle.exchange_model.proofs.Turns.{sent_waits}
@@ -9,7 +10,7 @@ use Rattle.coe_model.specs.Mails.{CoeMail, mail, is_emission, Information, Infor
 use Rattle.coe_model.specs.Tables.{Ask, list, object, entry, Tables, AreLawful}
 use Rattle.coe_model.specs.Server.{Server, outcome, ended, informed, information_parts, parts_of, answer_opcode, behind, serve}
 use Rattle.coe_model.specs.Meaning.{information, value_means}
-use Rattle.coe_model.specs.Client.{Areas, decide, information_mail, information_ends}
+use Rattle.coe_model.specs.Client.{decide, information_mail, information_ends}
 use Rattle.coe_model.specs.Model.{coe_exchange}
 use Rattle.coe_model.proofs.Carries.{Carried, carried_one, before_none, talk, talk_over, Kept, kept_from_carried}
 

@@ -1,6 +1,7 @@
 -- A server answers each SDO request by one mail.
 use Rattle.std.proofs.Common.{◌≡◌, ℕ, zero, suc, ◌-◌, ◌≤◌, inl, inr, Bool, true, false, not, List, [], ◌∷◌, ◌++◌, length, drop, if◌then◌else◌, Option, None, Some, Result, Ok, Err, refl, ap, ◌∙◌, arith, nat_lt, nat_le, ◌==◌, le-leb}
 use Rattle.std.proofs.lemmas.Bool.{cases_lt, lt-leb}
+use Rattle.exchange_model.specs.Areas.{Areas}
 use Rattle.exchange_model.specs.Exchange.{given, plain}
 use Rattle.exchange_model.specs.Dialogue.{next, again, stop, Decides}
 use Rattle.exchange_model.proofs.Turns.{one_answer}
@@ -9,7 +10,7 @@ use Rattle.exchange_model.proofs.Words.{plain-append}
 use Rattle.coe_model.specs.Mails.{Coe, CoeMail, mail, unread, failed, fragment, other, is_emission, Expedited, First, Upload, Segment, UploadSegment, FirstAnswer, UploadSegmentAnswer}
 use Rattle.coe_model.specs.Tables.{Target, Tables}
 use Rattle.coe_model.specs.Server.{Transfer, idle, downloading, uploading, Outcome, Server, outcome, stored, begins, takes_first, takes_segment, takes_upload_segment, opened, is_expedited, download_answer, same, issued, serve}
-use Rattle.coe_model.specs.Client.{Areas, decide, turn_of, segments, download_mails, requests}
+use Rattle.coe_model.specs.Client.{decide, turn_of, segments, download_mails, requests}
 use Rattle.coe_model.proofs.Basics.{answer_plain}
 
 abbrev pub is_request : CoeMail → Bool

@@ -2,6 +2,7 @@
 use Rattle.std.proofs.Common.{◌≡◌, inl, inr, ℕ, zero, suc, ◌+◌, ◌-◌, ◌<◌, ◌≤◌, Bool, true, false, not, ◌&&◌, nat_lt, nat_le, ◌==◌, div-le_self, leb-true, List, [], ◌∷◌, ◌++◌, map, length, drop, if◌then◌else◌, Option, None, Some, Result, Ok, Err, refl, sym, subst, arith, length-drop, length-take, le-leb, ltb-true, le_refl, leb-false}
 use Rattle.std.proofs.lemmas.Bool.{cases_lt, lt-leb}
 use Rattle.coe_codec.specs.Reading.{is_information}
+use Rattle.exchange_model.specs.Areas.{Areas, AreMailboxes}
 use Rattle.exchange_model.specs.Exchange.{given, plain}
 use Rattle.exchange_model.specs.Dialogue.{Turn, next, again, stop, chosen, turn_at, sent}
 use Rattle.exchange_model.specs.Lifted.{EachOf, Spells}
@@ -10,8 +11,8 @@ use Rattle.coe_model.specs.Mails.{CoeMail, mail, fragment, is_emission, Expedite
 use Rattle.coe_model.specs.Tables.{Target, Ask, list, object, entry, Tables, AreLawful}
 use Rattle.coe_model.specs.Server.{Transfer, idle, downloading, uploading, Emission, emergency, packet, Outcome, Server, outcome, ended, abort, stored, begins, takes_first, takes_segment, takes_upload_segment, opened, is_expedited, informed, information_parts, parts_of, answer_opcode, download_answer, emission_of, issued, serve, same}
 use Rattle.coe_model.specs.Meaning.{Service, download, upload, information}
-use Rattle.coe_model.specs.Client.{Areas, decide, segments, download_mails, requests, mails_of, information_mail}
-use Rattle.coe_model.specs.Model.{AreMailboxes, is_target, is_service, are_octets, turns, full, coe_exchange}
+use Rattle.coe_model.specs.Client.{decide, segments, download_mails, requests, mails_of, information_mail}
+use Rattle.coe_model.specs.Model.{is_target, is_service, are_octets, turns, full, coe_exchange}
 use Rattle.coe_model.specs.Octets.{is_fragment, AreSpelled, mail_heard, mail_written}
 use Rattle.coe_model.proofs.Spelling.{IsSpelled, all_read_back}
 use Rattle.coe_model.proofs.Speaks.{never}

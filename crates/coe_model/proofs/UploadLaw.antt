@@ -1,6 +1,7 @@
 -- An upload gives the whole value, through mailboxes of any lengths, and counts at its first mail.
 use Rattle.std.proofs.Common.{◌≡◌, ◌⊎◌, inl, inr, ℕ, zero, suc, ◌+◌, ◌-◌, ◌<◌, ◌≤◌, Bool, true, false, not, List, [], ◌∷◌, ◌++◌, length, take, drop, Some, Result, Ok, Err, refl, sym, ap, ◌∙◌, subst, arith, append-nil, append_assoc, length-append, length-drop, length-take, take-append-drop, eq-eqb, ne_eqb, lt-ltb, le-ltb, le-leb}
 use Rattle.std.proofs.lemmas.Bool.{cases_lt, lt-leb}
+use Rattle.exchange_model.specs.Areas.{Areas}
 use Rattle.exchange_model.specs.Exchange.{Before, Behind, after, given, plain, emitted}
 use Rattle.exchange_model.specs.Dialogue.{next, stop}
 use Rattle.mailbox_mail.specs.declared.outcome.ReplyKind.{ReplyKind}
@@ -8,7 +9,7 @@ use Rattle.coe_model.specs.Mails.{CoeMail, mail, is_emission, Upload, ExpeditedA
 use Rattle.coe_model.specs.Tables.{Target, Tables}
 use Rattle.coe_model.specs.Server.{idle, uploading, Server, outcome, ended, goes_on, opened, takes_upload_segment, abort, is_expedited, behind, serve}
 use Rattle.coe_model.specs.Meaning.{upload, value_means, meaning_of}
-use Rattle.coe_model.specs.Client.{Areas, decide, requests, parts_end, upload_ends, most}
+use Rattle.coe_model.specs.Client.{decide, requests, parts_end, upload_ends, most}
 use Rattle.coe_model.specs.Model.{coe_exchange, value_length}
 use Rattle.coe_model.proofs.Basics.{same_itself, is_of_itself}
 use Rattle.coe_model.proofs.Carries.{Carried, carried_one, before_none, still_none, still_more, gone_on, talk, talk_onward, talk_over, Kept, kept_from_carried}

@@ -2,12 +2,13 @@
 use Rattle.std.proofs.Common.{◌≡◌, ℕ, zero, suc, ◌+◌, ◌≤◌, ◌&&◌, ◌==◌, not, nat_lt, Bool, true, false, List, [], ◌∷◌, ◌++◌, length, take, replicate, if◌then◌else◌, Option, None, Some, Result, Ok, Err, refl, ap, arith, length-take}
 use Rattle.mailbox_mail.specs.declared.outcome.ReplyKind.{ReplyKind}
 use Rattle.coe_codec.specs.Writing.{coe_text}
+use Rattle.exchange_model.specs.Areas.{Areas}
 use Rattle.exchange_model.specs.Exchange.{after, given}
 use Rattle.coe_model.specs.Mails.{CoeMail, mail, failed, unread, Size, Emergency, First, DownloadAnswer, FirstAnswer, Segment, SegmentAnswer, UploadSegmentAnswer, Abort, ListRequest, Information}
 use Rattle.coe_model.specs.Tables.{Target, list, Tables, AreLawful}
 use Rattle.coe_model.specs.Server.{Server, idle, downloading, serve}
 use Rattle.coe_model.specs.Meaning.{download, upload, information, meaning_of}
-use Rattle.coe_model.specs.Client.{Areas, ends, mails_of}
+use Rattle.coe_model.specs.Client.{ends, mails_of}
 use Rattle.coe_model.specs.Model.{full}
 use Rattle.coe_model.specs.Octets.{body_heard}
 

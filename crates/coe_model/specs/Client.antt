@@ -1,16 +1,12 @@
 -- A CoE client: the mails that it sends for a service, and the reply that the mails it hears complete.
 use Rattle.std.specs.Prelude.{ℕ, zero, suc, ◌-◌, ◌==◌, ◌&&◌, ◌||◌, not, nat_le, nat_lt, Bool, true, false, List, [], ◌∷◌, ◌++◌, length, take, drop, if◌then◌else◌, Option, None, Some}
 use Rattle.mailbox_mail.specs.declared.outcome.ReplyKind.{ReplyKind}
+use Rattle.exchange_model.specs.Areas.{Areas}
 use Rattle.exchange_model.specs.Dialogue.{Turn, next, stop}
 use Rattle.coe_model.specs.Mails.{Coe, Expedited, First, Upload, DownloadAnswer, ExpeditedAnswer, FirstAnswer, Segment, SegmentAnswer, UploadSegment, UploadSegmentAnswer, Abort, ListRequest, ObjectRequest, EntryRequest, Information, InformationError, CoeMail, mail, failed}
 use Rattle.coe_model.specs.Tables.{Target, Ask, list, object, entry}
 use Rattle.coe_model.specs.Server.{same, is_expedited, parts_of, answer_opcode}
 use Rattle.coe_model.specs.Meaning.{Service, download, upload, information, Reply}
-
--- the lengths of a slave's two mailboxes: of the one that requests go through, and of the one for answers
-pub record Areas : Type 0 where
-  pub out : ℕ
-  pub back : ℕ
 
 -- the segments of what is left of a value, in parts of this length. fuel is at least the number of octets
 abbrev pub segments : ℕ → ℕ → Bool → List ℕ → List CoeMail

@@ -1,19 +1,13 @@
 -- CoE as an exchange: the server against the services of its client.
 use Rattle.std.specs.Prelude.{ℕ, suc, ◌≤◌, ◌&&◌, nat_le, nat_lt, Bool, true, false, List, [], ◌∷◌, length, Result, Ok, Err}
-use Rattle.exchange_model.specs.Exchange.{Exchange}
+use Rattle.exchange_model.specs.Areas.{Areas}
+use Rattle.exchange_model.specs.Exchange.{Exchange, Speech}
 use Rattle.exchange_model.specs.Dialogue.{said, sent}
 use Rattle.coe_model.specs.Mails.{CoeMail, is_emission}
 use Rattle.coe_model.specs.Tables.{Target, list, object, entry, Tables}
 use Rattle.coe_model.specs.Server.{Server, serve}
 use Rattle.coe_model.specs.Meaning.{Service, download, upload, information, Reply, meaning_of}
-use Rattle.coe_model.specs.Client.{Areas, mails_of, decide, ends}
-
--- lengths that a slave's mailboxes may have
-pub record AreMailboxes (areas : Areas) : Type 0 where
-  pub out_least : 64 ≤ areas.out
-  pub out_most : areas.out ≤ 1486
-  pub back_least : 64 ≤ areas.back
-  pub back_most : areas.back ≤ 1486
+use Rattle.coe_model.specs.Client.{mails_of, decide, ends}
 
 abbrev pub are_octets : List ℕ → Bool
 are_octets [] = true
@@ -48,17 +42,17 @@ planned room q hs = said decide (suc (length hs)) (mails_of room q (length hs)) 
 abbrev pub full : {S : Type 0} → Tables S → Bool → Areas → Server S → Service → List CoeMail
 full o eoe areas v q = sent (serve o eoe areas.back) is_emission decide (turns o v.app q) v (mails_of areas.out q (turns o v.app q))
 
+-- what its client speaks, at mailboxes of these lengths
+abbrev pub coe_speech : Areas → Speech CoeMail Service Reply
+coe_speech areas = record { emission = is_emission; valid = is_service; planned = planned areas.out; ends = ends areas.out; handed = λ q. false }
+
 abbrev pub coe_exchange : {S : Type 0} → Tables S → Bool → Areas → Exchange (Server S) S CoeMail Service Reply
 coe_exchange o eoe areas = record {
   serve = serve o eoe areas.back;
   app = λ v. v.app;
   handled = λ v. v.handled;
-  emission = is_emission;
   ready = λ v. o.valid v.app;
-  valid = is_service;
-  planned = planned areas.out;
-  ends = ends areas.out;
-  handed = λ q. false;
+  speech = coe_speech areas;
   full = full o eoe areas;
   exec = λ a q. (meaning_of o eoe a q).app;
   reply = λ a q. (meaning_of o eoe a q).reply;

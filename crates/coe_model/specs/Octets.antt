@@ -8,13 +8,13 @@ use Rattle.mailbox_mail.specs.declared.mail.Kind.TheVariants.{Error, EoE, CoE, V
 use Rattle.coe_codec.specs.Fields.{service_in}
 use Rattle.coe_codec.specs.Reading.{coe_read}
 use Rattle.coe_codec.specs.Writing.{coe_text}
+use Rattle.exchange_model.specs.Areas.{Areas}
 use Rattle.exchange_model.specs.Exchange.{Exchange}
 use Rattle.exchange_model.specs.Lifted.{EachOf, lifted}
 use Rattle.coe_model.specs.Mails.{Coe, CoeFault, CoeMail, mail, unread, failed, fragment, other}
 use Rattle.coe_model.specs.Tables.{Target, Ask, Tables}
 use Rattle.coe_model.specs.Server.{Server, emission_of, emergency}
 use Rattle.coe_model.specs.Meaning.{Service, Reply}
-use Rattle.coe_model.specs.Client.{Areas}
 use Rattle.coe_model.specs.Model.{coe_exchange}
 
 -- a CoE body: the mail in it, or its fault with what a server answers that by

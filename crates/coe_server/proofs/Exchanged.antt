@@ -3,7 +3,7 @@ use Rattle.std.proofs.Common.{◌≡◌, ℕ, Bool, List, ap, ◌∙◌, map}
 use Rattle.mailbox_mail.specs.declared.mail.Kind.TheVariants.{CoE}
 use Rattle.coe_model.specs.Tables.{Tables}
 use Rattle.coe_model.specs.Server.{Transfer, Outcome, Server, outcome, behind}
-use Rattle.coe_model.specs.Client.{Areas}
+use Rattle.exchange_model.specs.Areas.{Areas}
 use Rattle.coe_model.specs.Octets.{body_heard, mail_written, mail_with, coe_mail_exchange}
 use Rattle.coe_server.specs.Serving.{Serving, transfer_of, outcome_of, served_of}
 

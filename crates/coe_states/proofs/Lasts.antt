@@ -1,18 +1,18 @@
 -- Each mail of a CoE service brings a reply at least.
 use Rattle.std.proofs.Common.{◌≡◌, Bool, true, List, [], ◌∷◌, ◌++◌, length, Some, refl, ap, ◌∙◌, subst, arith, length-append}
-use Rattle.exchange_model.specs.Exchange.{given, plain}
+use Rattle.exchange_model.specs.Areas.{Areas, AreMailboxes}
+use Rattle.exchange_model.specs.Exchange.{AnswersLast, given, plain}
 use Rattle.coe_model.specs.Mails.{CoeMail, is_emission}
 use Rattle.coe_model.specs.Tables.{Ask, Tables, AreLawful}
 use Rattle.coe_model.specs.Server.{Server, serve}
 use Rattle.coe_model.specs.Meaning.{Service, download, upload, information, meaning_of}
-use Rattle.coe_model.specs.Client.{Areas, ends}
-use Rattle.coe_model.specs.Model.{AreMailboxes, full, coe_exchange}
+use Rattle.coe_model.specs.Client.{ends}
+use Rattle.coe_model.specs.Model.{full, coe_exchange}
 use Rattle.coe_model.specs.Octets.{AreSpelled, mail_heard, mail_written, coe_mail_exchange}
 use Rattle.coe_model.proofs.Speaks.{AllRequests, is_request, replies_counted}
 use Rattle.coe_model.proofs.CoeLaw.{IsSdo, kept, full_all, ask_full}
 use Rattle.coe_model.proofs.Spelled.{coe_spells}
-use Rattle.state_exchange.specs.Stated.{AnswersLast}
-use Rattle.state_exchange.proofs.Lasts.{each_front, lifted_last}
+use Rattle.exchange_model.proofs.Lasts.{each_front, lifted_last}
 use Rattle.coe_states.specs.States.{acknowledged}
 
 module _ {S : Type 0} (o : Tables S) (law : AreLawful o) (eoe : Bool) (areas : Areas) (sized : AreMailboxes areas) where

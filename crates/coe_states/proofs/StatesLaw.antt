@@ -1,10 +1,10 @@
 -- CoE over tables at each AL state, as a family of exchanges.
 use Rattle.std.proofs.Common.{ℕ, Bool, refl}
+use Rattle.exchange_model.specs.Areas.{Areas, AreMailboxes}
 use Rattle.exchange_model.specs.Exchange.{IsLawful}
 use Rattle.exchange_model.proofs.Lifting.{lifted_law}
 use Rattle.coe_model.specs.Tables.{Tables, AreLawful}
-use Rattle.coe_model.specs.Client.{Areas}
-use Rattle.coe_model.specs.Model.{AreMailboxes, coe_exchange}
+use Rattle.coe_model.specs.Model.{coe_exchange}
 use Rattle.coe_model.specs.Octets.{AreSpelled, mail_heard, mail_written, coe_mail_exchange}
 use Rattle.coe_model.proofs.CoeLaw.{coe_law}
 use Rattle.coe_model.proofs.Spelled.{coe_spells}

@@ -1,10 +1,10 @@
 -- The small dictionary is lawful in each AL state, its mails have spellings, and so is its slave with state services.
 use Rattle.std.proofs.Common.{◌≡◌, ℕ, ◌<◌, ◌≤◌, ◌==◌, ◌&&◌, ◌||◌, not, nat_le, nat_lt, Bool, true, false, if◌then◌else◌, List, length, Option, None, Some, Ok, Err, refl, ap, ◌∙◌, subst, arith, leb-true, le-leb}
 use Rattle.std.proofs.lemmas.Bool.{eqb-true, ltb-false}
+use Rattle.exchange_model.specs.Areas.{AreMailboxes}
 use Rattle.exchange_model.specs.Exchange.{IsLawful}
 use Rattle.coe_model.specs.Tables.{Target, AreLawful}
 use Rattle.coe_model.specs.Server.{emission_of, emergency, packet}
-use Rattle.coe_model.specs.Model.{AreMailboxes}
 use Rattle.coe_model.specs.Octets.{AreSpelled}
 use Rattle.state_exchange.specs.Families.{states_of}
 use Rattle.state_exchange.proofs.StatedLaw.{stated_law}

@@ -1,12 +1,12 @@
 -- CoE over tables at each AL state, as one exchange whose server and application have the AL state that stands.
 use Rattle.std.specs.Prelude.{◌≡◌, ℕ, Bool, false}
 use Rattle.mailbox_mail.specs.declared.mail.Mail.{Mail}
+use Rattle.exchange_model.specs.Areas.{Areas}
 use Rattle.exchange_model.specs.Exchange.{Exchange}
 use Rattle.coe_model.specs.Mails.{CoeMail}
 use Rattle.coe_model.specs.Tables.{Tables}
 use Rattle.coe_model.specs.Server.{Server}
 use Rattle.coe_model.specs.Meaning.{Service, Reply}
-use Rattle.coe_model.specs.Client.{Areas}
 use Rattle.coe_model.specs.Model.{coe_exchange}
 use Rattle.coe_model.specs.Octets.{coe_mail_exchange}
 use Rattle.state_exchange.specs.Families.{InState, in_states}

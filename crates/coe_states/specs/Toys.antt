@@ -1,6 +1,7 @@
 -- A small dictionary of one object, which may be written in one AL state alone, and a run of its slave with a state service between.
 use Rattle.std.specs.Prelude.{ℕ, ◌==◌, nat_le, nat_lt, Bool, true, false, if◌then◌else◌, List, [], ◌∷◌, length, Option, None, Some, Result, Ok, Err}
 use Rattle.mailbox_mail.specs.declared.outcome.ReplyKind.{ReplyKind}
+use Rattle.exchange_model.specs.Areas.{Areas}
 use Rattle.exchange_model.specs.Exchange.{Exchange}
 use Rattle.segment_model.specs.Ends.{Outcome}
 use Rattle.state_model.specs.States.{Table}
@@ -8,7 +9,6 @@ use Rattle.coe_model.specs.Mails.{CoeMail, mail, Expedited, Upload, DownloadAnsw
 use Rattle.coe_model.specs.Tables.{Target, Tables}
 use Rattle.coe_model.specs.Server.{Server, idle}
 use Rattle.coe_model.specs.Meaning.{Service, download, upload, Reply}
-use Rattle.coe_model.specs.Client.{Areas}
 use Rattle.state_exchange.specs.Stated.{Act, Counting, with_states}
 use Rattle.state_exchange.specs.Stated
 use Rattle.state_exchange.specs.Families.{InState, states_of}

@@ -25,8 +25,7 @@ pub struct Link {
 
 impl Model for Link {
     ghost use Rattle.std.specs.Prelude.{◌≡◌, [], false};
-    ghost use Rattle.coe_model.specs.Client.{Areas};
-    ghost use Rattle.coe_model.specs.Model.{AreMailboxes};
+    ghost use Rattle.exchange_model.specs.Areas.{Areas, AreMailboxes};
     ghost use Rattle.coe_server.specs.Serving.{waiting_mails};
     ghost use Rattle.coe_law.specs.Mailboxes.{lengths_of};
     ghost use Rattle.coe_law.specs.Talks.{areas_of};

@@ -6,13 +6,14 @@ use Rattle.eoe.specs.Address.{is_block}
 use Rattle.eoe.specs.declared.message.Fragment.{Fragment}
 use Rattle.eoe.specs.Cutting.{fragments_of}
 use Rattle.eoe.proofs.Whole.{every_area_gives_the_packet}
+use Rattle.exchange_model.specs.Areas.{Areas, AreMailboxes}
 use Rattle.exchange_model.specs.Exchange.{IsLawful, Before, Behind, after, given, plain, emitted}
 use Rattle.exchange_model.proofs.Lists.{prefix_refl}
 use Rattle.eoe_model.specs.Mails.{EoeMail, mail, SetIpAnswer, GetIpAnswer, part, is_emission}
 use Rattle.eoe_model.specs.Network.{Network, IsSound, Station, is_ready}
 use Rattle.eoe_model.specs.Server.{Server, sends, delivered, addressed, set_answer, behind, outcome, serve, one_more}
 use Rattle.eoe_model.specs.Client.{Service, packet, set_ip, get_ip, is_service, is_handed, mails_of, Reply, set_means, meaning_of, ends}
-use Rattle.eoe_model.specs.Model.{Areas, AreMailboxes, eoe_exchange}
+use Rattle.eoe_model.specs.Model.{eoe_exchange}
 use Rattle.eoe_model.proofs.Packets.{Idle, Carried, carried_one, delivers}
 
 -- the fragments that a server sends are emissions

@@ -6,12 +6,13 @@ use Rattle.byteorder.specs.Endian.{little_bytes}
 use Rattle.ec_fields.specs.Fields.{bits_of}
 use Rattle.eoe.specs.Message.{IsWhole, IsSpellable, first_of, second_of, octets_of, message_in, eoe_read, eoe_text}
 use Rattle.eoe.specs.Cutting.{blocks_of, fragment_at, fragments_from}
+use Rattle.exchange_model.specs.Areas.{Areas, AreMailboxes}
 use Rattle.exchange_model.specs.Lifted.{EachOf, ReadsBack, Spells}
 use Rattle.eoe_model.specs.Mails.{Eoe, Part, SetIp, SetIpAnswer, GetIp, GetIpAnswer, EoeMail, mail, part, packet_mails}
 use Rattle.eoe_model.specs.Network.{Network, IsSound, IsSpelled, is_ready}
 use Rattle.eoe_model.specs.Server.{Server, sends, addressed}
 use Rattle.eoe_model.specs.Client.{Service, packet, set_ip, get_ip, is_service, mails_of}
-use Rattle.eoe_model.specs.Model.{Areas, AreMailboxes, eoe_exchange}
+use Rattle.eoe_model.specs.Model.{eoe_exchange}
 use Rattle.eoe_model.specs.Octets.{heard, mail_heard, mail_written}
 use Rattle.eoe_model.proofs.EoeLaw.{kept, gives, answer_to_set, both_are}
 

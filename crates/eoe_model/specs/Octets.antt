@@ -7,13 +7,14 @@ use Rattle.mailbox_mail.specs.declared.mail.Mail.{Mail}
 use Rattle.mailbox_mail.specs.declared.mail.Kind.{Kind}
 use Rattle.mailbox_mail.specs.declared.mail.Kind.TheVariants.{Error, EoE, VoE}
 use Rattle.eoe.specs.Message.{eoe_read, eoe_text}
+use Rattle.exchange_model.specs.Areas.{Areas}
 use Rattle.exchange_model.specs.Exchange.{Exchange}
 use Rattle.exchange_model.specs.Lifted.{lifted}
 use Rattle.eoe_model.specs.Mails.{Eoe, EoeFault, EoeMail, mail, unread, unsupported, failed, other}
 use Rattle.eoe_model.specs.Network.{Network, Station}
 use Rattle.eoe_model.specs.Server.{Server}
 use Rattle.eoe_model.specs.Client.{Service, Reply}
-use Rattle.eoe_model.specs.Model.{Areas, eoe_exchange}
+use Rattle.eoe_model.specs.Model.{eoe_exchange}
 
 -- an EoE body: the message in it, or its fault with the type in its first word
 abbrev pub heard : List ℕ → Result Eoe EoeFault → EoeMail

@@ -7,12 +7,13 @@ ghost use Rattle.std.specs.Prelude.{◌≡◌, ◌≤◌, ◌⊎◌, ◌*◌, �
 ghost use Rattle.eoe.specs.declared.joining.Unfinished.{Unfinished};
 ghost use Rattle.eoe.specs.Cutting.{fragments_of};
 ghost use Rattle.eoe.specs.Joining.{joins, GivesWhole};
+ghost use Rattle.exchange_model.specs.Areas.{Areas, AreMailboxes};
 ghost use Rattle.exchange_model.specs.Exchange.{IsLawful, Before, Behind, after, given, plain, emitted};
 ghost use Rattle.eoe_model.specs.Mails.{EoeMail, is_emission};
 ghost use Rattle.eoe_model.specs.Network.{Network, IsSound, IsSpelled, is_ready};
 ghost use Rattle.eoe_model.specs.Server.{Server, serve};
 ghost use Rattle.eoe_model.specs.Client.{Service, is_service, is_handed, mails_of, meaning_of, ends};
-ghost use Rattle.eoe_model.specs.Model.{Areas, AreMailboxes, eoe_exchange};
+ghost use Rattle.eoe_model.specs.Model.{eoe_exchange};
 ghost use Rattle.eoe_model.specs.Octets.{eoe_mail_exchange};
 
 /// EoE keeps the laws of an exchange: for each packet of 14 to 1,514 octets with any frame number, each address block and each pair of mailbox

@@ -8,5 +8,6 @@ pub mod Steps
 pub mod Promises
 pub mod Moments
 pub mod Lifting
+pub mod Lasts
 pub mod Toys
 pub mod ToyRun

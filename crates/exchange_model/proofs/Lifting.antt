@@ -83,7 +83,7 @@ module _ {V A M N Q R : Type 0} (x : Exchange V A M Q R) (read : N → M) (write
   before_lifted v p told answered before = record {
     app = ap x.app (after_lifted v p told) ∙ before.app;
     handled = ap x.handled (after_lifted v p told) ∙ before.handled;
-    emitted = ap (filter (λ n. x.emission (read n))) (given_lifted v p told) ∙ filter_lifted x.emission (given x.serve v p) answered ∙ ap (map write) before.emitted;
+    emitted = ap (filter (λ n. x.speech.emission (read n))) (given_lifted v p told) ∙ filter_lifted x.speech.emission (given x.serve v p) answered ∙ ap (map write) before.emitted;
   }
 
   behind_lifted : (v : V) (q : Q) (p : List M) → EachOf (ReadsBack read write) p → EachOf (ReadsBack read write) (given x.serve v p) → Behind x v q p → Behind (lifted x read write) v q (map write p)
@@ -91,28 +91,28 @@ module _ {V A M N Q R : Type 0} (x : Exchange V A M Q R) (read : N → M) (write
     app = ap x.app (after_lifted v p told) ∙ behind.app;
     handled = ap x.handled (after_lifted v p told) ∙ behind.handled;
     emitted = subst (λ es. IsPrefixOf es (map write (x.emits (x.app v) q)))
-        (sym (ap (filter (λ n. x.emission (read n))) (given_lifted v p told) ∙ filter_lifted x.emission (given x.serve v p) answered))
-        (map_begin write (emitted x.emission (given x.serve v p)) (x.emits (x.app v) q) behind.emitted);
+        (sym (ap (filter (λ n. x.speech.emission (read n))) (given_lifted v p told) ∙ filter_lifted x.speech.emission (given x.serve v p) answered))
+        (map_begin write (emitted x.speech.emission (given x.serve v p)) (x.emits (x.app v) q) behind.emitted);
   }
 
   module _ (law : IsLawful x) (spells : Spells x read write) where
     -- what is given for all mails, and for a first part of them
-    replies : (v : V) (q : Q) → x.ready v ≡ true → x.valid q ≡ true →
-        plain (λ n. x.emission (read n)) (given (lifted_serve x.serve read write) v (map write (x.full v q))) ≡ map write (plain x.emission (given x.serve v (x.full v q)))
+    replies : (v : V) (q : Q) → x.ready v ≡ true → x.speech.valid q ≡ true →
+        plain (λ n. x.speech.emission (read n)) (given (lifted_serve x.serve read write) v (map write (x.full v q))) ≡ map write (plain x.speech.emission (given x.serve v (x.full v q)))
     replies v q ready valid =
-        ap (filter (λ n. not (x.emission (read n)))) (given_lifted v (x.full v q) (spells.told v q ready valid))
-        ∙ filter_lifted (λ m. not (x.emission m)) (given x.serve v (x.full v q)) (spells.answered v q ready valid)
+        ap (filter (λ n. not (x.speech.emission (read n)))) (given_lifted v (x.full v q) (spells.told v q ready valid))
+        ∙ filter_lifted (λ m. not (x.speech.emission m)) (given x.serve v (x.full v q)) (spells.answered v q ready valid)
 
-    replies_back : (v : V) (q : Q) → x.ready v ≡ true → x.valid q ≡ true → EachOf (ReadsBack read write) (plain x.emission (given x.serve v (x.full v q)))
-    replies_back v q ready valid = each_filter _ (λ m. not (x.emission m)) (given x.serve v (x.full v q)) (spells.answered v q ready valid)
+    replies_back : (v : V) (q : Q) → x.ready v ≡ true → x.speech.valid q ≡ true → EachOf (ReadsBack read write) (plain x.speech.emission (given x.serve v (x.full v q)))
+    replies_back v q ready valid = each_filter _ (λ m. not (x.speech.emission m)) (given x.serve v (x.full v q)) (spells.answered v q ready valid)
 
-    told_part : (v : V) (q : Q) → x.ready v ≡ true → x.valid q ≡ true → (p r : List M) → x.full v q ≡ p ++ r → EachOf (ReadsBack read write) p
+    told_part : (v : V) (q : Q) → x.ready v ≡ true → x.speech.valid q ≡ true → (p r : List M) → x.full v q ≡ p ++ r → EachOf (ReadsBack read write) p
     told_part v q ready valid p r e = each_left _ p r (subst (EachOf (ReadsBack read write)) e (spells.told v q ready valid))
 
-    answered_part : (v : V) (q : Q) → x.ready v ≡ true → x.valid q ≡ true → (p r : List M) → x.full v q ≡ p ++ r → EachOf (ReadsBack read write) (given x.serve v p)
+    answered_part : (v : V) (q : Q) → x.ready v ≡ true → x.speech.valid q ≡ true → (p r : List M) → x.full v q ≡ p ++ r → EachOf (ReadsBack read write) (given x.serve v p)
     answered_part v q ready valid p r e = each_begin _ (given x.serve v p) (given x.serve v (x.full v q)) (given_part x.serve v p (x.full v q) (r, sym e)) (spells.answered v q ready valid)
 
-    lifted_part : (v : V) (q : Q) → x.ready v ≡ true → x.valid q ≡ true → (ps rs : List N) → map write (x.full v q) ≡ ps ++ rs →
+    lifted_part : (v : V) (q : Q) → x.ready v ≡ true → x.speech.valid q ≡ true → (ps rs : List N) → map write (x.full v q) ≡ ps ++ rs →
         Before (lifted x read write) v ps ⊎ Behind (lifted x read write) v q ps
     lifted_part v q ready valid ps rs e =
         let c = cut_before write (x.full v q) ps rs e in
@@ -123,32 +123,32 @@ module _ {V A M N Q R : Type 0} (x : Exchange V A M Q R) (read : N → M) (write
           | inr behind ↦ inr (subst (Behind (lifted x read write) v q) (sym c.front_is) (behind_lifted v q c.front told answered behind))
         ]
 
-    lifted_counted : (v : V) (q : Q) → x.ready v ≡ true → x.valid q ≡ true → x.handed q ≡ false → (ps rs : List N) → map write (x.full v q) ≡ ps ++ rs →
-        plain (λ n. x.emission (read n)) (given (lifted_serve x.serve read write) v ps) ≡ plain (λ n. x.emission (read n)) (given (lifted_serve x.serve read write) v (map write (x.full v q))) →
+    lifted_counted : (v : V) (q : Q) → x.ready v ≡ true → x.speech.valid q ≡ true → x.speech.handed q ≡ false → (ps rs : List N) → map write (x.full v q) ≡ ps ++ rs →
+        plain (λ n. x.speech.emission (read n)) (given (lifted_serve x.serve read write) v ps) ≡ plain (λ n. x.speech.emission (read n)) (given (lifted_serve x.serve read write) v (map write (x.full v q))) →
         Behind (lifted x read write) v q ps
     lifted_counted v q ready valid answers ps rs e same =
         let c = cut_before write (x.full v q) ps rs e in
         let told = told_part v q ready valid c.front c.rest c.whole in
         let answered = answered_part v q ready valid c.front c.rest c.whole in
-        let some : map write (plain x.emission (given x.serve v c.front)) ≡ map write (plain x.emission (given x.serve v (x.full v q))) =
-        sym (ap (λ l. plain (λ n. x.emission (read n)) (given (lifted_serve x.serve read write) v l)) c.front_is
-        ∙ ap (filter (λ n. not (x.emission (read n)))) (given_lifted v c.front told)
-        ∙ filter_lifted (λ m. not (x.emission m)) (given x.serve v c.front) answered)
+        let some : map write (plain x.speech.emission (given x.serve v c.front)) ≡ map write (plain x.speech.emission (given x.serve v (x.full v q))) =
+        sym (ap (λ l. plain (λ n. x.speech.emission (read n)) (given (lifted_serve x.serve read write) v l)) c.front_is
+        ∙ ap (filter (λ n. not (x.speech.emission (read n)))) (given_lifted v c.front told)
+        ∙ filter_lifted (λ m. not (x.speech.emission m)) (given x.serve v c.front) answered)
         ∙ same ∙ replies v q ready valid in
-        let equal : plain x.emission (given x.serve v c.front) ≡ plain x.emission (given x.serve v (x.full v q)) =
-        sym (all_back _ (each_filter _ (λ m. not (x.emission m)) (given x.serve v c.front) answered)) ∙ ap (map read) some ∙ all_back _ (replies_back v q ready valid) in
+        let equal : plain x.speech.emission (given x.serve v c.front) ≡ plain x.speech.emission (given x.serve v (x.full v q)) =
+        sym (all_back _ (each_filter _ (λ m. not (x.speech.emission m)) (given x.serve v c.front) answered)) ∙ ap (map read) some ∙ all_back _ (replies_back v q ready valid) in
         subst (Behind (lifted x read write) v q) (sym c.front_is) (behind_lifted v q c.front told answered (law.counted v q ready valid answers c.front c.rest c.whole equal))
 
-    lifted_follows : (v : V) (q : Q) → x.ready v ≡ true → x.valid q ≡ true → (hs more : List N) →
-        plain (λ n. x.emission (read n)) (given (lifted_serve x.serve read write) v (map write (x.full v q))) ≡ hs ++ more → IsPrefixOf (map write (x.planned q (map read hs))) (map write (x.full v q))
+    lifted_follows : (v : V) (q : Q) → x.ready v ≡ true → x.speech.valid q ≡ true → (hs more : List N) →
+        plain (λ n. x.speech.emission (read n)) (given (lifted_serve x.serve read write) v (map write (x.full v q))) ≡ hs ++ more → IsPrefixOf (map write (x.speech.planned q (map read hs))) (map write (x.full v q))
     lifted_follows v q ready valid hs more e =
-        let c = cut_before write (plain x.emission (given x.serve v (x.full v q))) hs more (sym (replies v q ready valid) ∙ e) in
+        let c = cut_before write (plain x.speech.emission (given x.serve v (x.full v q))) hs more (sym (replies v q ready valid) ∙ e) in
         let back = each_left _ c.front c.rest (subst (EachOf (ReadsBack read write)) c.whole (replies_back v q ready valid)) in
         let read_is : map read hs ≡ c.front = ap (map read) c.front_is ∙ all_back c.front back in
-        subst (λ l. IsPrefixOf (map write (x.planned q l)) (map write (x.full v q))) (sym read_is)
-        (map_begin write (x.planned q c.front) (x.full v q) (law.follows v q ready valid c.front c.rest c.whole))
+        subst (λ l. IsPrefixOf (map write (x.speech.planned q l)) (map write (x.full v q))) (sym read_is)
+        (map_begin write (x.speech.planned q c.front) (x.full v q) (law.follows v q ready valid c.front c.rest c.whole))
 
-    lifted_some : (v : V) (q : Q) → x.ready v ≡ true → x.valid q ≡ true → x.handed q ≡ true → map write (x.full v q) ≢ []
+    lifted_some : (v : V) (q : Q) → x.ready v ≡ true → x.speech.valid q ≡ true → x.speech.handed q ≡ true → map write (x.full v q) ≢ []
     lifted_some v q ready valid posts = nothing (x.full v q) (law.some v q ready valid posts)
       where
         nothing : (ms : List M) → ms ≢ [] → map write ms ≢ []
@@ -160,17 +160,17 @@ module _ {V A M N Q R : Type 0} (x : Exchange V A M Q R) (read : N → M) (write
     lifted_law = record {
       ready = λ v q ready valid. ap x.ready (after_lifted v (x.full v q) (spells.told v q ready valid)) ∙ law.ready v q ready valid;
       whole = λ v q ready valid. behind_lifted v q (x.full v q) (spells.told v q ready valid) (spells.answered v q ready valid) (law.whole v q ready valid);
-      all_emitted = λ v q ready valid. ap (filter (λ n. x.emission (read n))) (given_lifted v (x.full v q) (spells.told v q ready valid))
-          ∙ filter_lifted x.emission (given x.serve v (x.full v q)) (spells.answered v q ready valid) ∙ ap (map write) (law.all_emitted v q ready valid);
-      replied = λ v q ready valid answers. ap (λ l. x.ends q (map read l)) (replies v q ready valid) ∙ ap (x.ends q) (all_back _ (replies_back v q ready valid)) ∙ law.replied v q ready valid answers;
+      all_emitted = λ v q ready valid. ap (filter (λ n. x.speech.emission (read n))) (given_lifted v (x.full v q) (spells.told v q ready valid))
+          ∙ filter_lifted x.speech.emission (given x.serve v (x.full v q)) (spells.answered v q ready valid) ∙ ap (map write) (law.all_emitted v q ready valid);
+      replied = λ v q ready valid answers. ap (λ l. x.speech.ends q (map read l)) (replies v q ready valid) ∙ ap (x.speech.ends q) (all_back _ (replies_back v q ready valid)) ∙ law.replied v q ready valid answers;
       silent = λ v q ready valid posts. replies v q ready valid ∙ ap (map write) (law.silent v q ready valid posts);
       part = lifted_part;
       counted = lifted_counted;
       none = law.none;
-      ended = λ q hs h more r e. ap (x.ends q) (map_append read hs (h ∷ more)) ∙ law.ended q (map read hs) (read h) (map read more) r e;
+      ended = λ q hs h more r e. ap (x.speech.ends q) (map_append read hs (h ∷ more)) ∙ law.ended q (map read hs) (read h) (map read more) r e;
       follows = lifted_follows;
-      all_planned = λ v q ready valid. ap (λ l. map write (x.planned q (map read l))) (replies v q ready valid)
-          ∙ ap (λ l. map write (x.planned q l)) (all_back _ (replies_back v q ready valid)) ∙ ap (map write) (law.all_planned v q ready valid);
+      all_planned = λ v q ready valid. ap (λ l. map write (x.speech.planned q (map read l))) (replies v q ready valid)
+          ∙ ap (λ l. map write (x.speech.planned q l)) (all_back _ (replies_back v q ready valid)) ∙ ap (map write) (law.all_planned v q ready valid);
       unanswered = λ q hs posts. law.unanswered q (map read hs) posts;
       some = lifted_some;
       grows = λ v n. law.grows v (read n);

@@ -1,5 +1,5 @@
 -- Beginnings of lists, and where a list that was put together twice was cut.
-use Rattle.std.proofs.Common.{◌≡◌, ◌⊎◌, inl, inr, Bool, true, false, cond, List, [], ◌∷◌, ◌++◌, filter, length, drop, refl, sym, ap, ◌∙◌, append_assoc, append-nil}
+use Rattle.std.proofs.Common.{◌≡◌, ◌⊎◌, inl, inr, Bool, true, false, cond, List, [], ◌∷◌, ◌++◌, filter, length, drop, map, refl, sym, ap, ◌∙◌, append_assoc, append-nil}
 use Rattle.exchange_model.specs.Prefix.{IsPrefixOf}
 
 -- two ways to cut one list: the second cut stands behind the first, or before it
@@ -30,6 +30,16 @@ filter-append p (x ∷ xs) ys = put (p x) (filter-append p xs ys)
         cond b (x ∷ filter p (xs ++ ys)) (filter p (xs ++ ys)) ≡ cond b (x ∷ filter p xs) (filter p xs) ++ filter p ys
     put true e = ap (λ zs. x ∷ zs) e
     put false e = e
+
+-- a test of what is made keeps what is made of those that it keeps
+pub filter_mapped : {X Y : Type 0} (f : X → Y) (p : Y → Bool) (xs : List X) → filter p (map f xs) ≡ map f (filter (λ x. p (f x)) xs)
+filter_mapped f p [] = refl
+filter_mapped f p (x ∷ xs) = keep (p (f x)) (filter_mapped f p xs)
+  where
+    keep : (b : Bool) → filter p (map f xs) ≡ map f (filter (λ z. p (f z)) xs) →
+        cond b (f x ∷ filter p (map f xs)) (filter p (map f xs)) ≡ map f (cond b (x ∷ filter (λ z. p (f z)) xs) (filter (λ z. p (f z)) xs))
+    keep true e = ap (λ l. f x ∷ l) e
+    keep false e = e
 
 pub filter_both : {X : Type 0} (p : X → Bool) (xs ys : List X) → IsPrefixOf xs ys → IsPrefixOf (filter p xs) (filter p ys)
 filter_both p xs ys h = (filter p h.0, sym (filter-append p xs h.0) ∙ ap (filter p) h.1)

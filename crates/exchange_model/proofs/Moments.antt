@@ -10,11 +10,11 @@ use Rattle.exchange_model.proofs.Steps.{first_fits, held_fits, taken_fits, heard
 use Rattle.exchange_model.proofs.Promises.{rows_fit, rows_rest}
 
 module _ {V A M Q R : Type 0} (x : Exchange V A M Q R) (law : IsLawful x) (v : V) (ready : x.ready v ≡ true) where
-  pub first : (q : Q) (frame : ℕ) → x.valid q ≡ true → Moment x v [] [] (begun q frame) [] [] []
+  pub first : (q : Q) (frame : ℕ) → x.speech.valid q ≡ true → Moment x v [] [] (begun q frame) [] [] []
   first q frame valid = record { fits = first_fits x law v ready q frame valid; order = ([], refl); hears = ([], refl) }
 
   module _ (front last : List (Row M Q R)) (now : Row M Q R) (held taken accepted : List M) (at : Moment x v front last now held taken accepted) where
-    pub holds : (m : M) (more : List M) → left x now ≡ m ∷ more → Moment x v front last (row_told m now) (held ++ m ∷ []) taken accepted
+    pub holds : (m : M) (more : List M) → left x.speech now ≡ m ∷ more → Moment x v front last (row_told m now) (held ++ m ∷ []) taken accepted
     holds m more next = record {
       fits = held_fits x law v ready front last now held taken accepted at.fits at.order at.hears m more next;
       order = prefix_more taken held (m ∷ []) at.order;
@@ -28,14 +28,14 @@ module _ {V A M Q R : Type 0} (x : Exchange V A M Q R) (law : IsLawful x) (v : V
       hears = prefix_trans accepted (given x.serve v taken) (given x.serve v (taken ++ ms)) at.hears (given_part x.serve v taken (taken ++ ms) (ms, refl));
     }
 
-    pub hears : (ms : List M) (frame : ℕ) → IsPrefixOf (accepted ++ ms) (given x.serve v taken) → Moment x v front last (row_heard x frame ms now) held taken (accepted ++ ms)
+    pub hears : (ms : List M) (frame : ℕ) → IsPrefixOf (accepted ++ ms) (given x.serve v taken) → Moment x v front last (row_heard x.speech frame ms now) held taken (accepted ++ ms)
     hears ms frame more = record {
       fits = heard_fits x law v ready front last now held taken accepted at.fits at.order ms more frame;
       order = at.order;
       hears = more;
     }
 
-    pub answered : (answer : R × ℕ) → now.answer ≡ Some answer → left x now ≡ [] → (q : Q) (frame : ℕ) → x.valid q ≡ true →
+    pub answered : (answer : R × ℕ) → now.answer ≡ Some answer → left x.speech now ≡ [] → (q : Q) (frame : ℕ) → x.speech.valid q ≡ true →
         Moment x v (front ++ last) (now ∷ []) (begun q frame) held taken accepted
     answered answer is over q frame valid = record {
       fits = answered_next x law v ready front last now held taken accepted at.fits at.order at.hears answer is over q frame valid;
@@ -43,7 +43,7 @@ module _ {V A M Q R : Type 0} (x : Exchange V A M Q R) (law : IsLawful x) (v : V
       hears = at.hears;
     }
 
-    pub handed : x.handed now.service ≡ true → left x now ≡ [] → length held ≤ length taken + 1 → (q : Q) (frame : ℕ) → x.valid q ≡ true →
+    pub handed : x.speech.handed now.service ≡ true → left x.speech now ≡ [] → length held ≤ length taken + 1 → (q : Q) (frame : ℕ) → x.speech.valid q ≡ true →
         Moment x v (front ++ last) (now ∷ []) (begun q frame) held taken accepted
     handed posts over few q frame valid =
         let one : length at.order.0 ≤ 1 = omega (arith, ap length at.order.1, length-append taken at.order.0) in
@@ -56,12 +56,12 @@ module _ {V A M Q R : Type 0} (x : Exchange V A M Q R) (law : IsLawful x) (v : V
     pub fits : Fits x v (front ++ last ++ now ∷ []) (after x.serve v taken) accepted
     fits = rows_fit x law v ready front last now held taken accepted at.fits at.order at.hears
 
-    pub rest_answered : (answer : R × ℕ) → now.answer ≡ Some answer → left x now ≡ [] → taken ≡ held → accepted ≡ given x.serve v taken →
+    pub rest_answered : (answer : R × ℕ) → now.answer ≡ Some answer → left x.speech now ≡ [] → taken ≡ held → accepted ≡ given x.serve v taken →
         Rest x v (front ++ last ++ now ∷ []) (after x.serve v taken) accepted
     rest_answered answer is over = rows_rest x law v ready front last now held taken accepted at.fits at.order at.hears
         (answered_whole x law v ready front last now held taken accepted at.fits at.order at.hears answer is over).0
 
-    pub rest_handed : x.handed now.service ≡ true → left x now ≡ [] → taken ≡ held → accepted ≡ given x.serve v taken →
+    pub rest_handed : x.speech.handed now.service ≡ true → left x.speech now ≡ [] → taken ≡ held → accepted ≡ given x.serve v taken →
         Rest x v (front ++ last ++ now ∷ []) (after x.serve v taken) accepted
     rest_handed posts over = rows_rest x law v ready front last now held taken accepted at.fits at.order at.hears
         (handed_whole x law v ready front last now held taken accepted at.fits at.order at.hears posts over)

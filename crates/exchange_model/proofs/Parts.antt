@@ -12,7 +12,7 @@ pub record Done {V A M Q R : Type 0} (x : Exchange V A M Q R) (v : V) (rows : Li
   pub handled : x.handled (after x.serve v taken) ≡ x.handled v + count
   pub app : x.app (after x.serve v taken) ≡ exec_all x (x.app v) (take count (services rows))
   pub prefix : count ≤ length rows
-  pub emissions : IsPrefixOf (emitted x.emission (given x.serve v taken)) (emits_all x (x.app v) (take count (services rows)))
+  pub emissions : IsPrefixOf (emitted x.speech.emission (given x.serve v taken)) (emits_all x (x.app v) (take count (services rows)))
 
 module _ {V A M Q R : Type 0} (x : Exchange V A M Q R) (law : IsLawful x) where
   row_done : (v : V) (r : Row M Q R) (rows : List (Row M Q R)) (taken : List M) → Before x v taken ⊎ Behind x v r.service taken → Done x v (r ∷ rows) taken
@@ -37,21 +37,21 @@ module _ {V A M Q R : Type 0} (x : Exchange V A M Q R) (law : IsLawful x) where
       let all = law.whole v r.service ready whole.valid in
       let behind : Behind x v r.service r.told = subst (Behind x v r.service) (sym whole.told) all in
       let same : after x.serve v (r.told ++ taken) ≡ after x.serve (after x.serve v r.told) taken = after-append x.serve v r.told taken in
-      let emits : emitted x.emission (given x.serve v r.told) ≡ x.emits (x.app v) r.service =
-      ap (λ ms. emitted x.emission (given x.serve v ms)) whole.told ∙ law.all_emitted v r.service ready whole.valid in
+      let emits : emitted x.speech.emission (given x.serve v r.told) ≡ x.emits (x.app v) r.service =
+      ap (λ ms. emitted x.speech.emission (given x.serve v ms)) whole.told ∙ law.all_emitted v r.service ready whole.valid in
       record {
         count = suc done.count;
         handled = ap x.handled same ∙ done.handled ∙ ap (λ n. n + done.count) behind.handled ∙ omega arith;
         app = ap x.app same ∙ done.app ∙ ap (λ a. exec_all x a (take done.count (services rows))) behind.app;
         prefix = omega (arith, done.prefix);
         emissions = subst (λ es. IsPrefixOf es (emits_all x (x.app v) (take (suc done.count) (services (r ∷ rows)))))
-            (sym (ap (emitted x.emission) (given-append x.serve v r.told taken) ∙ filter-append x.emission _ _))
-            (subst (λ es. IsPrefixOf (es ++ emitted x.emission (given x.serve (after x.serve v r.told) taken)) (emits_all x (x.app v) (take (suc done.count) (services (r ∷ rows))))) (sym emits)
+            (sym (ap (emitted x.speech.emission) (given-append x.serve v r.told taken) ∙ filter-append x.speech.emission _ _))
+            (subst (λ es. IsPrefixOf (es ++ emitted x.speech.emission (given x.serve (after x.serve v r.told) taken)) (emits_all x (x.app v) (take (suc done.count) (services (r ∷ rows))))) (sym emits)
             (prefix_behind (x.emits (x.app v) r.service) _ _
-            (subst (λ a. IsPrefixOf (emitted x.emission (given x.serve (after x.serve v r.told) taken)) (emits_all x a (take done.count (services rows)))) behind.app done.emissions)));
+            (subst (λ a. IsPrefixOf (emitted x.speech.emission (given x.serve (after x.serve v r.told) taken)) (emits_all x a (take done.count (services rows)))) behind.app done.emissions)));
       }
 
-  pub part_done : (v : V) (past : List (Row M Q R)) (now : Row M Q R) (taken rest : List M) → x.ready v ≡ true → Settled x v past → x.valid now.service ≡ true →
+  pub part_done : (v : V) (past : List (Row M Q R)) (now : Row M Q R) (taken rest : List M) → x.ready v ≡ true → Settled x v past → x.speech.valid now.service ≡ true →
       IsPrefixOf now.told (x.full (after x.serve v (told_all past)) now.service) → told_all past ++ now.told ≡ taken ++ rest → Done x v (past ++ now ∷ []) taken
   part_done v [] now taken rest ready settled valid mine e =
       row_done v now [] taken (law.part v now.service ready valid taken (rest ++ mine.0) (sym mine.1 ∙ ap (λ l. l ++ mine.0) e ∙ append_assoc taken rest mine.0))

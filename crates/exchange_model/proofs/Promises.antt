@@ -60,7 +60,7 @@ module _ {V A M Q R : Type 0} (x : Exchange V A M Q R) (law : IsLawful x) where
       tt,
     )
       where
-        last_by_reply : (w : V) (rs : List (Row M Q R)) (one : Row M Q R) → Settled x w (rs ++ one ∷ []) → (answer : R × ℕ) → one.answer ≡ Some answer → x.handed one.service ≡ false
+        last_by_reply : (w : V) (rs : List (Row M Q R)) (one : Row M Q R) → Settled x w (rs ++ one ∷ []) → (answer : R × ℕ) → one.answer ≡ Some answer → x.speech.handed one.service ≡ false
         last_by_reply w [] one settled answer e = settled.0.by_reply answer e
         last_by_reply w (first ∷ rs) one settled answer e = last_by_reply (after x.serve w first.told) rs one settled.1 answer e
     last_done (r ∷ s ∷ rows) is few = absurd (omega arith)
@@ -86,7 +86,7 @@ module _ {V A M Q R : Type 0} (x : Exchange V A M Q R) (law : IsLawful x) where
           ((λ answer e. let below = now_done answer e in omega arith), tt);
       replied = replied_last (x.app v) (front ++ last) now (settled_replied v (front ++ last) ready fits.settled)
           (λ answer e. (finish answer e).is ∙ ap (λ a. x.reply a now.service) (settled_app x law v (front ++ last) ready fits.settled));
-      emissions = prefix_trans _ _ _ (filter_both x.emission accepted (given x.serve v taken) hears) done.emissions;
+      emissions = prefix_trans _ _ _ (filter_both x.speech.emission accepted (given x.serve v taken) hears) done.emissions;
     }
 
     -- with nothing left the server has carried out all
@@ -98,6 +98,6 @@ module _ {V A M Q R : Type 0} (x : Exchange V A M Q R) (law : IsLawful x) where
         record {
           handled = ap (λ ms. x.handled (after x.serve v ms)) same ∙ settled_handled x law v (front ++ last ++ now ∷ []) ready settled;
           app = ap (λ ms. x.app (after x.serve v ms)) same ∙ settled_app x law v (front ++ last ++ now ∷ []) ready settled;
-          emissions = ap (emitted x.emission) all_given ∙ ap (λ ms. emitted x.emission (given x.serve v ms)) same
+          emissions = ap (emitted x.speech.emission) all_given ∙ ap (λ ms. emitted x.speech.emission (given x.serve v ms)) same
               ∙ settled_emits x law v (front ++ last ++ now ∷ []) ready settled;
         }

@@ -44,12 +44,12 @@ module _ {V A M Q R : Type 0} (x : Exchange V A M Q R) (law : IsLawful x) where
       ap x.app (after-append x.serve v r.told (told_all rs)) ∙ settled_app (after x.serve v r.told) rs (whole_ready v r ready settled.0) settled.1
       ∙ ap (λ a. exec_all x a (services rs)) (whole_behind v r ready settled.0).app
 
-  pub settled_heard : (v : V) (rs : List (Row M Q R)) → Settled x v rs → plain x.emission (heard_all rs) ≡ plain x.emission (given x.serve v (told_all rs))
+  pub settled_heard : (v : V) (rs : List (Row M Q R)) → Settled x v rs → plain x.speech.emission (heard_all rs) ≡ plain x.speech.emission (given x.serve v (told_all rs))
   settled_heard v [] settled = refl
   settled_heard v (r ∷ rs) settled =
       filter-append _ r.heard (heard_all rs)
       ∙ ap₂ (λ (a b : List M). a ++ b) settled.0.heard (settled_heard (after x.serve v r.told) rs settled.1)
-      ∙ sym (ap (plain x.emission) (given-append x.serve v r.told (told_all rs)) ∙ filter-append _ (given x.serve v r.told) (given x.serve (after x.serve v r.told) (told_all rs)))
+      ∙ sym (ap (plain x.speech.emission) (given-append x.serve v r.told (told_all rs)) ∙ filter-append _ (given x.serve v r.told) (given x.serve (after x.serve v r.told) (told_all rs)))
 
   pub settled_more : (v : V) (rs : List (Row M Q R)) (r : Row M Q R) → Settled x v rs → IsWhole x (after x.serve v (told_all rs)) r → Settled x v (rs ++ r ∷ [])
   settled_more v [] r settled whole = (whole, tt)
@@ -60,13 +60,13 @@ module _ {V A M Q R : Type 0} (x : Exchange V A M Q R) (law : IsLawful x) where
   settled_front v [] ss settled = tt
   settled_front v (r ∷ rs) ss settled = (settled.0, settled_front (after x.serve v r.told) rs ss settled.1)
 
-  pub settled_emits : (v : V) (rs : List (Row M Q R)) → x.ready v ≡ true → Settled x v rs → emitted x.emission (given x.serve v (told_all rs)) ≡ emits_all x (x.app v) (services rs)
+  pub settled_emits : (v : V) (rs : List (Row M Q R)) → x.ready v ≡ true → Settled x v rs → emitted x.speech.emission (given x.serve v (told_all rs)) ≡ emits_all x (x.app v) (services rs)
   settled_emits v [] ready settled = refl
   settled_emits v (r ∷ rs) ready settled =
-      let own : emitted x.emission (given x.serve v r.told) ≡ x.emits (x.app v) r.service =
-      ap (λ ms. emitted x.emission (given x.serve v ms)) settled.0.told ∙ law.all_emitted v r.service ready settled.0.valid in
-      let later : emitted x.emission (given x.serve (after x.serve v r.told) (told_all rs)) ≡ emits_all x (x.exec (x.app v) r.service) (services rs) =
+      let own : emitted x.speech.emission (given x.serve v r.told) ≡ x.emits (x.app v) r.service =
+      ap (λ ms. emitted x.speech.emission (given x.serve v ms)) settled.0.told ∙ law.all_emitted v r.service ready settled.0.valid in
+      let later : emitted x.speech.emission (given x.serve (after x.serve v r.told) (told_all rs)) ≡ emits_all x (x.exec (x.app v) r.service) (services rs) =
       settled_emits (after x.serve v r.told) rs (whole_ready v r ready settled.0) settled.1 ∙ ap (λ a. emits_all x a (services rs)) (whole_behind v r ready settled.0).app in
-      ap (emitted x.emission) (given-append x.serve v r.told (told_all rs))
-      ∙ filter-append x.emission (given x.serve v r.told) (given x.serve (after x.serve v r.told) (told_all rs))
+      ap (emitted x.speech.emission) (given-append x.serve v r.told (told_all rs))
+      ∙ filter-append x.speech.emission (given x.serve v r.told) (given x.serve (after x.serve v r.told) (told_all rs))
       ∙ ap₂ (λ (a b : List M). a ++ b) own later

@@ -5,3 +5,4 @@ pub mod Rows
 pub mod Laws
 pub mod Lifted
 pub mod Toy
+pub mod Areas

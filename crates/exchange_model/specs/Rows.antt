@@ -2,7 +2,7 @@
 -- Held are the mails that the client's side took up, taken those that the server took, accepted those that the client's side heard.
 use Rattle.std.specs.Prelude.{◌≡◌, ℕ, suc, ◌+◌, ◌<◌, ◌≤◌, true, false, List, [], ◌∷◌, ◌++◌, map, take, drop, length, Option, None, Some}
 use Rattle.exchange_model.specs.Prefix.{IsPrefixOf}
-use Rattle.exchange_model.specs.Exchange.{Exchange, after, given, plain, emitted}
+use Rattle.exchange_model.specs.Exchange.{Exchange, Speech, after, given, plain, emitted}
 
 -- a service that came into hand: the frame at which it did, the mails held for it, the mails heard since, and the reply with its frame
 pub record Row (M Q R : Type 0) : Type 0 where
@@ -23,7 +23,7 @@ answer_after frame None None = None
 answer_after frame None (Some reply) = Some (reply, frame)
 
 -- the row behind the mails heard in one frame
-abbrev pub row_heard : {V A M Q R : Type 0} → Exchange V A M Q R → ℕ → List M → Row M Q R → Row M Q R
+abbrev pub row_heard : {M Q R : Type 0} → Speech M Q R → ℕ → List M → Row M Q R → Row M Q R
 row_heard x frame ms r = record r {
   heard = r.heard ++ ms;
   answer = answer_after frame r.answer (x.ends r.service (plain x.emission (r.heard ++ ms)));
@@ -34,7 +34,7 @@ abbrev pub row_told : {M Q R : Type 0} → M → Row M Q R → Row M Q R
 row_told m r = record r { told = r.told ++ m ∷ [] }
 
 -- the mails that the client of a row has left to send, as far as it has heard
-abbrev pub left : {V A M Q R : Type 0} → Exchange V A M Q R → Row M Q R → List M
+abbrev pub left : {M Q R : Type 0} → Speech M Q R → Row M Q R → List M
 left x r = drop (length r.told) (x.planned r.service (plain x.emission r.heard))
 
 -- all mails held for these rows, all that were heard in them, and their services, in order
@@ -61,14 +61,14 @@ emits_all x a (q ∷ qs) = x.emits a q ++ emits_all x (x.exec a q) qs
 -- A row that is over; v is the server behind all rows before it.
 pub record IsWhole {V A M Q R : Type 0} (x : Exchange V A M Q R) (v : V) (r : Row M Q R) : Type 0 where
   -- its service is one of which the laws speak
-  pub valid : x.valid r.service ≡ true
+  pub valid : x.speech.valid r.service ≡ true
   -- all mails of the service were held for it
   pub told : r.told ≡ x.full v r.service
   -- all its replies were heard in it
-  pub heard : plain x.emission r.heard ≡ plain x.emission (given x.serve v r.told)
+  pub heard : plain x.speech.emission r.heard ≡ plain x.speech.emission (given x.serve v r.told)
   -- an answer is the reply of its service, which has one
   pub reply : (answer : R × ℕ) → r.answer ≡ Some answer → answer.0 ≡ x.reply (x.app v) r.service
-  pub by_reply : (answer : R × ℕ) → r.answer ≡ Some answer → x.handed r.service ≡ false
+  pub by_reply : (answer : R × ℕ) → r.answer ≡ Some answer → x.speech.handed r.service ≡ false
 
 -- rows of which each is over
 abbrev pub Settled : {V A M Q R : Type 0} → Exchange V A M Q R → V → List (Row M Q R) → Type 0
@@ -79,7 +79,7 @@ Settled x v (r ∷ rs) = IsWhole x v r × Settled x (after x.serve v r.told) rs
 -- next one begins, and last has the row before it or, where that was taken whole, nothing.
 pub record Fitting {V A M Q R : Type 0} (x : Exchange V A M Q R) (v : V) (front last : List (Row M Q R)) (now : Row M Q R)
     (held taken accepted : List M) : Type 0 where
-  pub valid : x.valid now.service ≡ true
+  pub valid : x.speech.valid now.service ≡ true
   -- all rows but the newest are over
   pub settled : Settled x v (front ++ last)
   -- what is held for the newest is a first part of its service's mails
@@ -91,10 +91,10 @@ pub record Fitting {V A M Q R : Type 0} (x : Exchange V A M Q R) (v : V) (front 
   pub all_taken : IsPrefixOf (told_all front) taken
   pub one : length last ≤ 1
   -- a row before the newest that has a reply is carried out
-  pub counted : (r : Row M Q R) → last ≡ r ∷ [] → x.handed r.service ≡ false →
+  pub counted : (r : Row M Q R) → last ≡ r ∷ [] → x.speech.handed r.service ≡ false →
       x.handled v + length (front ++ last) ≤ x.handled (after x.serve v taken)
   -- an answer of the newest comes from the mails heard for it
-  pub answered : (answer : R × ℕ) → now.answer ≡ Some answer → (x.handed now.service ≡ false) × (x.ends now.service (plain x.emission now.heard) ≡ Some answer.0)
+  pub answered : (answer : R × ℕ) → now.answer ≡ Some answer → (x.speech.handed now.service ≡ false) × (x.speech.ends now.service (plain x.speech.emission now.heard) ≡ Some answer.0)
 
 -- each answered row, the first of them with this number, is among the first count
 abbrev pub InDone : {M Q R : Type 0} → ℕ → ℕ → List (Row M Q R) → Type 0
@@ -117,10 +117,10 @@ pub record Fits {V A M Q R : Type 0} (x : Exchange V A M Q R) (v : V) (rows : Li
   pub in_done : InDone count 0 rows
   pub replied : Replied x (x.app v) rows
   -- the emissions that were accepted are the first of those that these services emit
-  pub emissions : IsPrefixOf (emitted x.emission accepted) (emits_all x (x.app v) (take count (services rows)))
+  pub emissions : IsPrefixOf (emitted x.speech.emission accepted) (emits_all x (x.app v) (take count (services rows)))
 
 -- WHAT ROWS PROMISE WITH NOTHING LEFT: the server has carried out all their services, each once and in order, and all emissions were accepted
 pub record Rest {V A M Q R : Type 0} (x : Exchange V A M Q R) (v : V) (rows : List (Row M Q R)) (w : V) (accepted : List M) : Type 0 where
   pub handled : x.handled w ≡ x.handled v + length rows
   pub app : x.app w ≡ exec_all x (x.app v) (services rows)
-  pub emissions : emitted x.emission accepted ≡ emits_all x (x.app v) (services rows)
+  pub emissions : emitted x.speech.emission accepted ≡ emits_all x (x.app v) (services rows)

@@ -1,7 +1,7 @@
 -- A small exchange that owes the laws: an adder. A sum takes two mails, the second is answered by the sum and an emission behind it;
 -- a posted number takes one mail, which is answered by nothing, and emits as well.
 use Rattle.std.specs.Prelude.{ℕ, suc, ◌+◌, Bool, true, false, List, [], ◌∷◌, Option, None, Some}
-use Rattle.exchange_model.specs.Exchange.{Exchange}
+use Rattle.exchange_model.specs.Exchange.{Exchange, Speech}
 use Rattle.exchange_model.specs.Dialogue.{Turn, next, stop, said, sent}
 
 pub data Mail : Type 0 where
@@ -74,17 +74,17 @@ abbrev pub number : Service → ℕ
 number (sum n) = n
 number (post n) = n
 
+-- what its client speaks
+abbrev pub speech : Speech Mail Service ℕ
+speech = record { emission = emission; valid = λ q. true; planned = λ q hs. said decide 2 (mails q) hs; ends = ends; handed = handed }
+
 abbrev pub adder : Exchange Adder ℕ Mail Service ℕ
 adder = record {
   serve = serve;
   app = λ v. v.value;
   handled = λ v. v.handled;
-  emission = emission;
   ready = λ v. true;
-  valid = λ q. true;
-  planned = λ q hs. said decide 2 (mails q) hs;
-  ends = ends;
-  handed = handed;
+  speech = speech;
   full = λ v q. sent serve emission decide 2 v (mails q);
   exec = λ a q. a + number q;
   reply = λ a q. a + number q;

@@ -1,3 +1,3 @@
 pub mod SumLaw
-pub mod TwoLaw
-pub mod ToyLaw
+pub mod RefusingLaw
+mod ToyLaw

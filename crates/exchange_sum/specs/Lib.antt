@@ -1,3 +1,3 @@
 pub mod Sides
-pub mod Two
+pub mod Refusing
 pub mod Toys

@@ -1,9 +1,9 @@
--- Adders side by side over one sum: the mails of each have its number.
-use Rattle.std.specs.Prelude.{ℕ, ◌==◌, nat_le, Bool, Option}
+-- Adders side by side over one sum, as many as there are numbers: the mails of each have its number, and each has a half sum of its own.
+use Rattle.std.specs.Prelude.{ℕ, ◌==◌, if◌then◌else◌, Option, true, List, map}
 use Rattle.exchange_model.specs.Exchange.{Exchange}
 use Rattle.exchange_model.specs.Lifted.{lifted}
 use Rattle.exchange_model.specs.Toy.{Mail, Service, Adder, emission, adder}
-use Rattle.exchange_sum.specs.Two.{Seat, Joint, Which, of, both_of, both_seat}
+use Rattle.exchange_sum.specs.Sides.{Slave, joined}
 
 -- a mail with the number of its adder
 abbrev pub Numbered : Type 0
@@ -19,17 +19,28 @@ numbered number m = (number, m)
 abbrev pub adder_of : ℕ → Exchange Adder ℕ Numbered Service ℕ
 adder_of number = lifted adder content (numbered number)
 
--- an adder is the sum, the count and a half sum
-abbrev pub adder_seat : Seat Adder ℕ (Option ℕ)
-adder_seat = record { made = λ a n t. record { value = a; handled = n; half = t }; rest = λ v. v.half }
+-- all of them: the sum, the count, and the half sum of each
+pub record Joint : Type 0 where
+  pub value : ℕ
+  pub handled : ℕ
+  pub halves : ℕ → Option ℕ
 
-abbrev pub is_emission : Numbered → Bool
-is_emission n = emission n.1
+-- what one of them sees
+abbrev pub seat : ℕ → Joint → Adder
+seat number j = record { value = j.value; handled = j.handled; half = j.halves number }
 
--- adders 0 and 1
-abbrev pub two_adders : Exchange (Joint ℕ (Option ℕ) (Option ℕ)) ℕ Numbered ((i : Which) × of Service Service i) ℕ
-two_adders = both_of (adder_of 0) (adder_of 1) adder_seat adder_seat (λ n. n.0 == 0) is_emission
+-- and all behind a step of one
+abbrev pub reseated : ℕ → Joint → Adder → Joint
+reseated number j v = record { value = v.value; handled = v.handled; halves = λ other. if number == other then v.half else j.halves other }
 
--- and adder 2 beside both
-abbrev pub three_adders : Exchange (Joint ℕ (Option ℕ × Option ℕ) (Option ℕ)) ℕ Numbered ((i : Which) × of ((i : Which) × of Service Service i) Service i) ℕ
-three_adders = both_of two_adders (adder_of 2) (both_seat (adder_of 0) (adder_of 1) adder_seat adder_seat) adder_seat (λ n. nat_le n.0 1) is_emission
+abbrev pub slave : Slave Joint ℕ Numbered
+slave = record {
+  serve = λ j m. (reseated m.0 j (adder.serve (seat m.0 j) m.1).0, map (numbered m.0) (adder.serve (seat m.0 j) m.1).1);
+  app = λ j. j.value;
+  handled = λ j. j.handled;
+  emission = λ m. emission m.1;
+  ready = λ j. true;
+}
+
+abbrev pub adders : Exchange Joint ℕ Numbered ((number : ℕ) × Service) ℕ
+adders = joined slave adder_of seat

@@ -5,7 +5,8 @@ use Rattle.foe_codec.specs.Message.{is_name}
 use Rattle.foe_model.specs.Mails.{Read, Write, Data, Ack, FoeMail, mail}
 use Rattle.foe_model.specs.Server.{packet_room, packet_of}
 use Rattle.foe_model.specs.Meaning.{Reply}
-use Rattle.foe_model.specs.Client.{Areas, at_end, is_busy, acks_end, packets_end}
+use Rattle.exchange_model.specs.Areas.{Areas}
+use Rattle.foe_model.specs.Client.{at_end, is_busy, acks_end, packets_end}
 use Rattle.foe_client.specs.declared.state.Unsent.{Unsent}
 use Rattle.foe_client.specs.declared.state.Awaits.{Awaits}
 

@@ -2,7 +2,8 @@ ghost use Rattle.std.specs.Prelude.{◌≡◌, ◌≤◌, ◌<◌, ◌+◌, List
 ghost use Rattle.foe_codec.specs.Message.{is_name};
 ghost use Rattle.foe_model.specs.Mails.{FoeMail};
 ghost use Rattle.foe_model.specs.Meaning.{Service, read, write};
-ghost use Rattle.foe_model.specs.Client.{Areas, full_packets, ends};
+ghost use Rattle.exchange_model.specs.Areas.{Areas};
+ghost use Rattle.foe_model.specs.Client.{full_packets, ends};
 ghost use Rattle.foe_model.specs.Model.{planned};
 ghost use Rattle.foe_client.specs.Talk.{areas_of, later, awaited, is_over, begun, IsFresh};
 

@@ -1,5 +1,6 @@
 -- One mail of a service after the other: what a server has done when a service is over, and that it has done nothing before its last mail.
 use Rattle.std.proofs.Common.{◌≡◌, ◌⊎◌, inl, inr, ℕ, suc, ◌≤◌, true, List, [], ◌∷◌, ◌++◌, length, Option, Some, refl, ap, ◌∙◌, subst, append-nil, arith}
+use Rattle.exchange_model.specs.Areas.{Areas}
 use Rattle.exchange_model.specs.Exchange.{Before, Behind, after, given, plain, emitted}
 use Rattle.exchange_model.specs.Dialogue.{next, again, stop, sent, turn_at}
 use Rattle.exchange_model.proofs.Turns.{sent_onward, sent_repeated, sent_over, sent_waits}
@@ -7,7 +8,7 @@ use Rattle.foe_model.specs.Mails.{FoeMail, is_emission}
 use Rattle.foe_model.specs.Files.{Files}
 use Rattle.foe_model.specs.Server.{Transfer, Outcome, Server, outcome, goes_on, silent, behind, serve}
 use Rattle.foe_model.specs.Meaning.{Meaning, Service, Reply, meaning_of}
-use Rattle.foe_model.specs.Client.{Areas, decide, turn_behind, ends}
+use Rattle.foe_model.specs.Client.{decide, turn_behind, ends}
 use Rattle.foe_model.specs.Model.{foe_exchange}
 
 -- all mails of an FoE server are replies

@@ -4,7 +4,8 @@ use Rattle.mailbox_mail.specs.declared.outcome.ReplyKind.{ReplyKind}
 use Rattle.foe_model.specs.Mails.{FoeMail, mail, failed, Error}
 use Rattle.foe_model.specs.Server.{is_last}
 use Rattle.foe_model.specs.Meaning.{Service, read, write, Reply}
-use Rattle.foe_model.specs.Client.{Areas, at_end, refused_by, is_ack, is_busy, last_end, acks_end, is_packet, octets_in, most, packets_end, full_packets, ends}
+use Rattle.exchange_model.specs.Areas.{Areas}
+use Rattle.foe_model.specs.Client.{at_end, refused_by, is_ack, is_busy, last_end, acks_end, is_packet, octets_in, most, packets_end, full_packets, ends}
 
 module _ (h : FoeMail) (more : List FoeMail) where
   end_closed : (ms : List FoeMail) (r : Reply) → at_end (ms ++ h ∷ more) r ≡ None

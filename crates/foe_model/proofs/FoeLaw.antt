@@ -1,6 +1,7 @@
 -- FoE owes the laws of an exchange and keeps them: for every service and size, through mailboxes of any lengths, and from a server with any
 -- unfinished transfer.
 use Rattle.std.proofs.Common.{◌≡◌, ◌⊎◌, inl, inr, ℕ, zero, suc, ◌+◌, ◌<◌, ◌≤◌, Bool, true, false, List, [], ◌∷◌, ◌++◌, length, if◌then◌else◌, Option, None, Some, refl, sym, ap, ◌∙◌, subst, arith, append-nil, length-append}
+use Rattle.exchange_model.specs.Areas.{Areas, AreMailboxes}
 use Rattle.exchange_model.specs.Prefix.{IsPrefixOf}
 use Rattle.exchange_model.specs.Exchange.{IsLawful, Before, Behind, after, given, plain}
 use Rattle.exchange_model.specs.Dialogue.{said}
@@ -12,8 +13,8 @@ use Rattle.foe_model.specs.Files.{Files, AreLawful}
 use Rattle.mailbox_mail.specs.declared.outcome.ReplyKind.{ReplyKind}
 use Rattle.foe_model.specs.Server.{Server, outcome, opened, one_more}
 use Rattle.foe_model.specs.Meaning.{Service, read, write, refused, read_means, write_means, meaning_of}
-use Rattle.foe_model.specs.Client.{Areas, mails_of, acks, decide, ends}
-use Rattle.foe_model.specs.Model.{AreMailboxes, read_length, turns, planned, full, foe_exchange}
+use Rattle.foe_model.specs.Client.{mails_of, acks, decide, ends}
+use Rattle.foe_model.specs.Model.{read_length, turns, planned, full, foe_exchange}
 use Rattle.foe_model.proofs.Carries.{step, Kept, kept_from_carried, all_plain, none_emitted}
 use Rattle.foe_model.proofs.WriteLaw.{write_carried}
 use Rattle.foe_model.proofs.ReadLaw.{read_kept}

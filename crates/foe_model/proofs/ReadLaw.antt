@@ -1,13 +1,14 @@
 -- A read gives the whole file, of any size, through mailboxes of any lengths, and counts at its request.
 use Rattle.std.proofs.Common.{◌≡◌, ◌⊎◌, inl, inr, ℕ, zero, suc, ◌+◌, ◌<◌, ◌≤◌, true, false, List, [], ◌∷◌, ◌++◌, length, take, drop, Option, None, Some, refl, sym, ap, ◌∙◌, subst, arith, append_assoc, append-nil, length-append, length-drop, length-take, take-append-drop, take_all, eq-eqb, lt-ltb, le-ltb, nat_lt}
 use Rattle.std.proofs.lemmas.Bool.{cases_lt}
+use Rattle.exchange_model.specs.Areas.{Areas}
 use Rattle.exchange_model.specs.Exchange.{Before, Behind, after, given}
 use Rattle.mailbox_mail.specs.declared.outcome.ReplyKind.{ReplyKind}
 use Rattle.foe_model.specs.Mails.{FoeMail, mail, Read, Ack}
 use Rattle.foe_model.specs.Files.{Files, AreLawful}
 use Rattle.foe_model.specs.Server.{idle, reading, Server, ended, goes_on, silent, refusal, packet_room, packet_of, opened, takes_ack, behind}
 use Rattle.foe_model.specs.Meaning.{read, read_means, meaning_of}
-use Rattle.foe_model.specs.Client.{Areas, acks, most, packets_end}
+use Rattle.foe_model.specs.Client.{acks, most, packets_end}
 use Rattle.foe_model.specs.Model.{read_length, foe_exchange}
 use Rattle.foe_model.proofs.Carries.{step, takes, talk, Still, still_none, still_more, talk_onward, talk_over, talk_waits, Kept, before, none_emitted}
 

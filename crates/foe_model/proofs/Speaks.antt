@@ -1,5 +1,6 @@
 -- A server answers a mail by at most one, and each mail of a write by one.
 use Rattle.std.proofs.Common.{◌≡◌, ℕ, zero, suc, ◌+◌, ◌≤◌, Bool, true, false, not, List, [], ◌∷◌, ◌++◌, length, drop, if◌then◌else◌, Option, None, Some, refl, ap, ◌∙◌, arith, nat_lt, ◌==◌, length-append}
+use Rattle.exchange_model.specs.Areas.{Areas}
 use Rattle.exchange_model.specs.Exchange.{given, plain}
 use Rattle.exchange_model.specs.Dialogue.{Decides}
 use Rattle.exchange_model.specs.Lifted.{EachOf}
@@ -7,7 +8,7 @@ use Rattle.exchange_model.proofs.Turns.{one_answer}
 use Rattle.foe_model.specs.Mails.{Read, Write, Data, Ack, Error, Busy, FoeFault, Short, Opcode, Name, FoeMail, mail, unread, failed, other, is_emission}
 use Rattle.foe_model.specs.Files.{Files}
 use Rattle.foe_model.specs.Server.{Transfer, idle, reading, writing, closing, Outcome, Server, begun, opened, closes, stores, takes_data, takes_ack, takes_unread, is_last, packet_room}
-use Rattle.foe_model.specs.Client.{Areas, decide, packets}
+use Rattle.foe_model.specs.Client.{decide, packets}
 use Rattle.foe_model.proofs.Carries.{step, takes, all_plain}
 
 -- a request to write, or a packet

@@ -2,6 +2,7 @@
 use Rattle.std.proofs.Common.{◌≡◌, inl, inr, ℕ, zero, suc, ◌+◌, ◌*◌, ◌/◌, ◌%◌, ◌^◌, ◌<◌, ◌≤◌, Bool, true, false, not, ◌&&◌, nat_lt, nat_le, ◌==◌, List, [], ◌∷◌, ◌++◌, length, drop, if◌then◌else◌, Option, None, Some, Ok, refl, ap, ◌∙◌, arith, leb-true, ltb-true, le-ltb, eqb-true}
 use Rattle.byteorder.specs.Endian.{little_bytes}
 use Rattle.foe_codec.specs.Message.{is_name, opcode_of, field_of, octets_of, message_in, foe_read, foe_text}
+use Rattle.exchange_model.specs.Areas.{Areas, AreMailboxes}
 use Rattle.exchange_model.specs.Exchange.{after, given}
 use Rattle.exchange_model.specs.Lifted.{EachOf, ReadsBack, Spells}
 use Rattle.exchange_model.proofs.Turns.{sent_each}
@@ -9,8 +10,8 @@ use Rattle.foe_model.specs.Mails.{Foe, Read, Write, Data, Ack, Error, Busy, FoeM
 use Rattle.foe_model.specs.Files.{Files, AreLawful, AreSpelled}
 use Rattle.foe_model.specs.Server.{Transfer, idle, reading, writing, closing, Outcome, Server, packet_room, is_last, begun, opened, closes, stores, takes_data, takes_ack}
 use Rattle.foe_model.specs.Meaning.{Service, read, write}
-use Rattle.foe_model.specs.Client.{Areas, packets, acks, mails_of, decide}
-use Rattle.foe_model.specs.Model.{AreMailboxes, read_length, is_service, turns, full, foe_exchange}
+use Rattle.foe_model.specs.Client.{packets, acks, mails_of, decide}
+use Rattle.foe_model.specs.Model.{read_length, is_service, turns, full, foe_exchange}
 use Rattle.foe_model.specs.Octets.{heard, mail_heard, mail_written}
 use Rattle.foe_model.proofs.Carries.{step, takes}
 use Rattle.foe_model.proofs.FoeLaw.{kept, means_valid}

@@ -2,12 +2,13 @@
 use Rattle.std.proofs.Common.{◌≡◌, ℕ, ◌+◌, ◌-◌, ◌/◌, ◌<◌, ◌≤◌, nat_le, ◌&&◌, ◌==◌, Bool, true, false, not, List, [], ◌∷◌, length, replicate, if◌then◌else◌, Option, None, Some, refl, arith, leb-true, le-leb}
 use Rattle.mailbox_mail.specs.declared.outcome.ReplyKind.{ReplyKind}
 use Rattle.mailbox_mail.specs.declared.mail.Kind.TheVariants.{FoE}
+use Rattle.exchange_model.specs.Areas.{Areas}
 use Rattle.exchange_model.specs.Exchange.{after, given}
 use Rattle.foe_model.specs.Mails.{FoeMail, mail, unread, failed, Read, Write, Data, Ack, Error, Busy, Short, Opcode, Name}
 use Rattle.foe_model.specs.Files.{Files, AreLawful, AreSpelled}
 use Rattle.foe_model.specs.Server.{Server, idle, reading, serve}
 use Rattle.foe_model.specs.Meaning.{read, write, meaning_of}
-use Rattle.foe_model.specs.Client.{Areas, ends}
+use Rattle.foe_model.specs.Client.{ends}
 use Rattle.foe_model.specs.Model.{full, planned}
 use Rattle.foe_model.specs.Octets.{body_heard, mail_written, mail_with}
 

@@ -1,6 +1,7 @@
 -- A write carries out its service: a file of any size, through mailboxes of any lengths, with busy answers, and with room that ends in mid-transfer.
 use Rattle.std.proofs.Common.{◌≡◌, inl, inr, ℕ, zero, suc, ◌+◌, ◌/◌, ◌<◌, ◌≤◌, Bool, true, false, List, [], ◌∷◌, ◌++◌, length, take, drop, Option, None, Some, refl, sym, ap, ◌∙◌, subst, arith, append_assoc, length-append, length-drop, length-take, take-append-drop, take_all, eq-eqb, lt-ltb, le-ltb, nat_lt}
 use Rattle.std.proofs.lemmas.Bool.{cases_lt}
+use Rattle.exchange_model.specs.Areas.{Areas}
 use Rattle.exchange_model.specs.Dialogue.{stop}
 use Rattle.exchange_model.proofs.Turns.{sent_none}
 use Rattle.mailbox_mail.specs.declared.outcome.ReplyKind.{ReplyKind}
@@ -8,7 +9,7 @@ use Rattle.foe_model.specs.Mails.{FoeMail, mail, is_emission, Write, Data, Busy}
 use Rattle.foe_model.specs.Files.{Files, AreLawful}
 use Rattle.foe_model.specs.Server.{idle, writing, closing, Server, ended, goes_on, refusal, ack, packet_room, packet_of, is_last, begun, closes, stores, takes_data}
 use Rattle.foe_model.specs.Meaning.{Meaning, write_means}
-use Rattle.foe_model.specs.Client.{Areas, decide, packets, last_end, acks_end, full_packets, turn_behind, write_turn}
+use Rattle.foe_model.specs.Client.{decide, packets, last_end, acks_end, full_packets, turn_behind, write_turn}
 use Rattle.foe_model.proofs.Counts.{none_full, one_full}
 use Rattle.foe_model.proofs.Carries.{step, takes, talk, Carried, carried_one, carried_more, gone_on, talk_onward, talk_again, talk_over}
 

@@ -1,15 +1,11 @@
 -- An FoE client: the mails that it sends for a service, and the reply that the mails it hears complete.
 use Rattle.std.specs.Prelude.{ℕ, zero, suc, ◌+◌, ◌/◌, ◌==◌, nat_lt, Bool, true, false, List, [], ◌∷◌, ◌++◌, length, drop, if◌then◌else◌, Option, None, Some}
 use Rattle.mailbox_mail.specs.declared.outcome.ReplyKind.{ReplyKind}
+use Rattle.exchange_model.specs.Areas.{Areas}
 use Rattle.exchange_model.specs.Dialogue.{Turn, next, again, stop}
 use Rattle.foe_model.specs.Mails.{Read, Write, Data, Ack, Error, Busy, FoeMail, mail, failed}
 use Rattle.foe_model.specs.Server.{packet_room, packet_of, is_last}
 use Rattle.foe_model.specs.Meaning.{Service, read, write, Reply}
-
--- the lengths of a slave's two mailboxes: of the one that requests go through, and of the one for answers
-pub record Areas : Type 0 where
-  pub out : ℕ
-  pub back : ℕ
 
 -- the packets of what is left of a file, the first with this number: full ones, and a last one that isn't full, if need be an empty one.
 -- fuel is more than the number of octets

@@ -1,20 +1,14 @@
 -- FoE as an exchange: the server against the services of its client.
 use Rattle.std.specs.Prelude.{ℕ, suc, ◌+◌, ◌≤◌, ◌&&◌, nat_le, nat_lt, Bool, false, List, [], length, Option, None, Some}
-use Rattle.exchange_model.specs.Exchange.{Exchange}
+use Rattle.exchange_model.specs.Areas.{Areas}
+use Rattle.exchange_model.specs.Exchange.{Exchange, Speech}
 use Rattle.exchange_model.specs.Dialogue.{said, sent}
 use Rattle.foe_codec.specs.Message.{is_name}
 use Rattle.foe_model.specs.Mails.{FoeMail, is_emission}
 use Rattle.foe_model.specs.Files.{Files}
 use Rattle.foe_model.specs.Server.{Server, serve}
 use Rattle.foe_model.specs.Meaning.{Service, read, write, Reply, meaning_of}
-use Rattle.foe_model.specs.Client.{Areas, mails_of, decide, ends}
-
--- lengths that a slave's mailboxes may have
-pub record AreMailboxes (areas : Areas) : Type 0 where
-  pub out_least : 64 ≤ areas.out
-  pub out_most : areas.out ≤ 1486
-  pub back_least : 64 ≤ areas.back
-  pub back_most : areas.back ≤ 1486
+use Rattle.foe_model.specs.Client.{mails_of, decide, ends}
 
 -- a service whose name and password fit their fields, and whose file is no longer than a transfer
 abbrev pub is_service : Service → Bool
@@ -39,17 +33,17 @@ planned out q hs = said (decide out) (suc (length hs)) (mails_of out q (length h
 abbrev pub full : {S : Type 0} → Files S → Areas → Server S → Service → List FoeMail
 full o areas v q = sent (serve o areas.out areas.back) is_emission (decide areas.out) (turns o v.app q) v (mails_of areas.out q (turns o v.app q))
 
+-- what its client speaks, at mailboxes of these lengths
+abbrev pub foe_speech : Areas → Speech FoeMail Service Reply
+foe_speech areas = record { emission = is_emission; valid = is_service; planned = planned areas.out; ends = ends areas; handed = λ q. false }
+
 abbrev pub foe_exchange : {S : Type 0} → Files S → Areas → Exchange (Server S) S FoeMail Service Reply
 foe_exchange o areas = record {
   serve = serve o areas.out areas.back;
   app = λ v. v.app;
   handled = λ v. v.handled;
-  emission = is_emission;
   ready = λ v. o.valid v.app;
-  valid = is_service;
-  planned = planned areas.out;
-  ends = ends areas;
-  handed = λ q. false;
+  speech = foe_speech areas;
   full = full o areas;
   exec = λ a q. (meaning_of o a q).app;
   reply = λ a q. (meaning_of o a q).reply;

@@ -6,13 +6,13 @@ use Rattle.mailbox_mail.specs.declared.mail.Mail.{Mail}
 use Rattle.mailbox_mail.specs.declared.mail.Kind.{Kind}
 use Rattle.mailbox_mail.specs.declared.mail.Kind.TheVariants.{Error, FoE, VoE}
 use Rattle.foe_codec.specs.Message.{foe_read, foe_text}
+use Rattle.exchange_model.specs.Areas.{Areas}
 use Rattle.exchange_model.specs.Exchange.{Exchange}
 use Rattle.exchange_model.specs.Lifted.{lifted}
 use Rattle.foe_model.specs.Mails.{Foe, FoeFault, FoeMail, mail, unread, failed, other}
 use Rattle.foe_model.specs.Files.{Files}
 use Rattle.foe_model.specs.Server.{Server}
 use Rattle.foe_model.specs.Meaning.{Service, Reply}
-use Rattle.foe_model.specs.Client.{Areas}
 use Rattle.foe_model.specs.Model.{foe_exchange}
 
 -- an FoE body: the message in it, or its fault

@@ -4,15 +4,16 @@
 #![tactic(auto)]
 
 ghost use Rattle.std.specs.Prelude.{◌≡◌, ◌⊎◌, ℕ, suc, true, List, ◌++◌, Some};
+ghost use Rattle.exchange_model.specs.Areas.{Areas, AreMailboxes};
 ghost use Rattle.exchange_model.specs.Prefix.{IsPrefixOf};
 ghost use Rattle.exchange_model.specs.Exchange.{IsLawful, Before, Behind, after, given};
 ghost use Rattle.foe_model.specs.Mails.{FoeMail};
 ghost use Rattle.foe_model.specs.Files.{Files, AreLawful, AreSpelled};
 ghost use Rattle.foe_model.specs.Server.{Server, serve};
 ghost use Rattle.foe_model.specs.Meaning.{Service, meaning_of};
-ghost use Rattle.foe_model.specs.Client.{Areas, ends};
+ghost use Rattle.foe_model.specs.Client.{ends};
 ghost use Rattle.foe_model.specs.Octets.{foe_mail_exchange};
-ghost use Rattle.foe_model.specs.Model.{AreMailboxes, full, foe_exchange};
+ghost use Rattle.foe_model.specs.Model.{full, foe_exchange};
 
 /// FoE keeps the laws of an exchange: for each read and each write of 0 to 131,072 octets, with any number of busy answers and with files whose
 /// room ends in mid-transfer, each pair of mailbox lengths, and a server with any unfinished transfer, over any lawful files.

@@ -1,8 +1,7 @@
 ghost use Rattle.std.specs.Prelude.{ℕ};
+ghost use Rattle.exchange_model.specs.Areas.{Areas, AreMailboxes};
 ghost use Rattle.exchange_model.specs.Exchange.{IsLawful};
 ghost use Rattle.foe_model.specs.Files.{AreLawful, AreSpelled};
-ghost use Rattle.foe_model.specs.Client.{Areas};
-ghost use Rattle.foe_model.specs.Model.{AreMailboxes};
 ghost use Rattle.foe_model.specs.Octets.{foe_mail_exchange};
 ghost use Rattle.foe_server.specs.Stores.{store_files};
 

@@ -1,5 +1,5 @@
 -- A frame does to a station what the datagrams to that station do alone.
-use Rattle.std.proofs.Common.{◌≡◌, ◌≢◌, ℕ, ◌==◌, Bool, true, false, Option, Some, None, List, [], ◌∷◌, ◌++◌, refl, ap, sym, ◌∙◌, if◌then◌else◌, eqb-true}
+use Rattle.std.proofs.Common.{◌≡◌, ◌≢◌, ℕ, ◌==◌, Bool, true, false, Option, Some, None, List, [], ◌∷◌, ◌++◌, refl, ap, sym, ◌∙◌, if◌then◌else◌, eqb-true, append-nil}
 use Rattle.link_model.specs.Mails.{LinkMail}
 use Rattle.link_model.specs.Slave.{Node}
 use Rattle.link_model.specs.Link.{Halves}
@@ -100,3 +100,38 @@ own-grams_other {B} {S} station other n (g ∷ gs) ne = go (g.station == other) 
     go true false e f met same = own-foreign station (gram_meets n g.ask g) _ (ap (λ k. k == station) (station-gram_meets n g.ask g) ∙ f) ∙ met
     go false true e f met same = own-mine station g _ f ∙ ap (λ xs. g ∷ xs) same
     go false false e f met same = own-foreign station g _ f ∙ same
+
+-- and its ask
+pub ask-gram_meets : {B S : Type 0} (n : Node B S) (ask : Ask B) (g : Gram B) → (gram_meets n ask g).ask ≡ g.ask
+ask-gram_meets {B} n (Ask.WriteMail m) g = go n.out.box
+  where
+    go : (box : Option (LinkMail B)) → (write_done g box).ask ≡ g.ask
+    go None = refl
+    go (Some stands) = refl
+ask-gram_meets {B} n Ask.ReadMail g = go n.inn.box
+  where
+    go : (box : Option (LinkMail B)) → (read_done g box).ask ≡ g.ask
+    go None = refl
+    go (Some stands) = refl
+ask-gram_meets n (Ask.WriteRequest bit) g = refl
+ask-gram_meets n Ask.ReadAcknowledge g = refl
+ask-gram_meets n Ask.Other g = refl
+
+-- A frame with one datagram of the station, or with none, at a master's halves.
+pub halves_after-one : {B : Type 0} (station : ℕ) (h : Halves B) (gs : List (Gram B)) (g : Gram B) → own station gs ≡ g ∷ [] → halves_after station h gs ≡ halves_answered h g.ask g
+halves_after-one station h gs g e = halves_after-own station h gs ∙ ap (halves_all h) e
+
+pub halves_after-none : {B : Type 0} (station : ℕ) (h : Halves B) (gs : List (Gram B)) → own station gs ≡ [] → halves_after station h gs ≡ h
+halves_after-none station h gs e = halves_after-own station h gs ∙ ap (halves_all h) e
+
+pub halves_without-one : {B : Type 0} (station : ℕ) (h : Halves B) (gs : List (Gram B)) (g : Gram B) → own station gs ≡ g ∷ [] → halves_without station h gs ≡ halves_lost h g.ask
+halves_without-one station h gs g e = halves_without-own station h gs ∙ ap (lost_all h) e
+
+pub halves_without-none : {B : Type 0} (station : ℕ) (h : Halves B) (gs : List (Gram B)) → own station gs ≡ [] → halves_without station h gs ≡ h
+halves_without-none station h gs e = halves_without-own station h gs ∙ ap (lost_all h) e
+
+pub all_accepted-one : {B : Type 0} (station : ℕ) (h : Halves B) (gs : List (Gram B)) (g : Gram B) → own station gs ≡ g ∷ [] → all_accepted station h gs ≡ halves_accept h g.ask g
+all_accepted-one station h gs g e = all_accepted-own station h gs ∙ ap (accepted_all h) e ∙ append-nil (halves_accept h g.ask g)
+
+pub all_accepted-none : {B : Type 0} (station : ℕ) (h : Halves B) (gs : List (Gram B)) → own station gs ≡ [] → all_accepted station h gs ≡ []
+all_accepted-none station h gs e = all_accepted-own station h gs ∙ ap (accepted_all h) e

@@ -3,10 +3,9 @@
 #![tactic(auto)]
 
 ghost use Rattle.std.specs.Prelude.{◌≡◌, ℕ, Bool, true, List};
+ghost use Rattle.exchange_model.specs.Areas.{Areas, AreMailboxes};
 ghost use Rattle.exchange_model.specs.Exchange.{IsLawful};
 ghost use Rattle.exchange_model.specs.Lifted.{EachOf};
-ghost use Rattle.coe_model.specs.Client.{Areas};
-ghost use Rattle.coe_model.specs.Model.{AreMailboxes};
 ghost use Rattle.coe_model.specs.Octets.{is_fragment};
 ghost use Rattle.coe_server.specs.ObjectTables.{tables_with};
 ghost use Rattle.state_exchange.specs.Stated.{IsStated};

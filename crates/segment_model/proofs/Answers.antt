@@ -105,7 +105,7 @@ halves_without-last station h (g ∷ gs) = halves_without-last station (if g.sta
 module _ {V A M Q R : Type 0} (x : Exchange V A M Q R) (law : IsLawful x) where
   -- what a service is answered by, over news
   abbrev pub reply_end : Q → List (News M) → Option R
-  reply_end q ns = x.ends q (plain x.emission (mails_heard ns))
+  reply_end q ns = x.speech.ends q (plain x.speech.emission (mails_heard ns))
 
   abbrev pub first_reply : ℕ → List (Frame M) → Row M Q R → Option (R × ℕ)
   first_reply station fs r = first_end (reply_end r.service) r.frame [] (news_from station r.frame fs)
@@ -114,13 +114,13 @@ module _ {V A M Q R : Type 0} (x : Exchange V A M Q R) (law : IsLawful x) where
   pub record Closed (station : ℕ) (fs : List (Frame M)) (r : Row M Q R) : Type 0 where
     pub begun : r.frame ≤ length fs
     pub same : r.answer ≡ first_reply station fs r
-    pub over : ((answer : R × ℕ) × (r.answer ≡ Some answer)) ⊎ (x.handed r.service ≡ true)
+    pub over : ((answer : R × ℕ) × (r.answer ≡ Some answer)) ⊎ (x.speech.handed r.service ≡ true)
 
   pub record Open (station : ℕ) (fs : List (Frame M)) (r : Row M Q R) : Type 0 where
     pub begun : r.frame ≤ length fs
     pub same : r.answer ≡ first_reply station fs r
     pub hears : r.heard ≡ mails_heard (joined (news_from station r.frame fs))
-    pub quiet : r.answer ≡ None → x.ends r.service (plain x.emission r.heard) ≡ None
+    pub quiet : r.answer ≡ None → x.speech.ends r.service (plain x.speech.emission r.heard) ≡ None
 
   abbrev pub AllClosed : ℕ → List (Frame M) → List (Row M Q R) → Type 0
   AllClosed station fs [] = ⊤
@@ -136,10 +136,10 @@ module _ {V A M Q R : Type 0} (x : Exchange V A M Q R) (law : IsLawful x) where
     pub now : OpenNow station fs d.now
 
   push_reply : (station : ℕ) (fs : List (Frame M)) (f : Frame M) (r : Row M Q R) → r.frame ≤ length fs →
-      first_reply station (fs ++ f ∷ []) r ≡ answer_after (length fs) (first_reply station fs r) (x.ends r.service (plain x.emission (mails_heard (joined (news_from station r.frame fs)) ++ mails_heard (frame_news station (kept_of station fs) f))))
+      first_reply station (fs ++ f ∷ []) r ≡ answer_after (length fs) (first_reply station fs r) (x.speech.ends r.service (plain x.speech.emission (mails_heard (joined (news_from station r.frame fs)) ++ mails_heard (frame_news station (kept_of station fs) f))))
   push_reply station fs f r le =
       outcome-push (reply_end r.service) station r.frame fs f le
-      ∙ ap (λ l. answer_after (length fs) (first_reply station fs r) (x.ends r.service (plain x.emission l))) (mails_heard-append (joined (news_from station r.frame fs)) (frame_news station (kept_of station fs) f))
+      ∙ ap (λ l. answer_after (length fs) (first_reply station fs r) (x.speech.ends r.service (plain x.speech.emission l))) (mails_heard-append (joined (news_from station r.frame fs)) (frame_news station (kept_of station fs) f))
 
   -- no further frame changes a row that is over
   closed_stays : (station : ℕ) (fs : List (Frame M)) (f : Frame M) (r : Row M Q R) → Closed station fs r → Closed station (fs ++ f ∷ []) r
@@ -150,13 +150,13 @@ module _ {V A M Q R : Type 0} (x : Exchange V A M Q R) (law : IsLawful x) where
   }
     where
       found : Option R
-      found = x.ends r.service (plain x.emission (mails_heard (joined (news_from station r.frame fs)) ++ mails_heard (frame_news station (kept_of station fs) f)))
+      found = x.speech.ends r.service (plain x.speech.emission (mails_heard (joined (news_from station r.frame fs)) ++ mails_heard (frame_news station (kept_of station fs) f)))
 
       keeps : (answer : Option (R × ℕ)) → answer_after (length fs) answer None ≡ answer
       keeps None = refl
       keeps (Some a) = refl
 
-      go : ((answer : R × ℕ) × (r.answer ≡ Some answer)) ⊎ (x.handed r.service ≡ true) → r.answer ≡ first_reply station (fs ++ f ∷ []) r
+      go : ((answer : R × ℕ) × (r.answer ≡ Some answer)) ⊎ (x.speech.handed r.service ≡ true) → r.answer ≡ first_reply station (fs ++ f ∷ []) r
       go (inl a) = a.1 ∙ ap (λ b. answer_after (length fs) b found) (sym a.1 ∙ c.same) ∙ sym (push_reply station fs f r c.begun)
       go (inr h) =
           c.same ∙ sym (keeps (first_reply station fs r)) ∙ ap (answer_after (length fs) (first_reply station fs r)) (sym (law.unanswered r.service _ h))
@@ -167,17 +167,17 @@ module _ {V A M Q R : Type 0} (x : Exchange V A M Q R) (law : IsLawful x) where
   all_stay station fs f (r ∷ rs) c = (closed_stays station fs f r c.0, all_stay station fs f rs c.1)
 
   -- the newest row behind one more frame, by the mails that it brought
-  open_hears : (station : ℕ) (fs : List (Frame M)) (f : Frame M) (r : Row M Q R) (ms : List M) → mails_heard (frame_news station (kept_of station fs) f) ≡ ms → Open station fs r → Open station (fs ++ f ∷ []) (row_heard x (length fs) ms r)
+  open_hears : (station : ℕ) (fs : List (Frame M)) (f : Frame M) (r : Row M Q R) (ms : List M) → mails_heard (frame_news station (kept_of station fs) f) ≡ ms → Open station fs r → Open station (fs ++ f ∷ []) (row_heard x.speech (length fs) ms r)
   open_hears station fs f r ms e o = record {
     begun = subst (λ n. r.frame ≤ n) (sym (length-append fs (f ∷ []))) (omega (arith, o.begun));
     same =
-        ap (λ a. answer_after (length fs) a (x.ends r.service (plain x.emission (r.heard ++ ms)))) o.same
-        ∙ ap (λ l. answer_after (length fs) (first_reply station fs r) (x.ends r.service (plain x.emission l))) (ap (λ l. l ++ ms) o.hears ∙ ap (λ l. mails_heard (joined (news_from station r.frame fs)) ++ l) (sym e))
+        ap (λ a. answer_after (length fs) a (x.speech.ends r.service (plain x.speech.emission (r.heard ++ ms)))) o.same
+        ∙ ap (λ l. answer_after (length fs) (first_reply station fs r) (x.speech.ends r.service (plain x.speech.emission l))) (ap (λ l. l ++ ms) o.hears ∙ ap (λ l. mails_heard (joined (news_from station r.frame fs)) ++ l) (sym e))
         ∙ sym (push_reply station fs f r o.begun);
     hears =
         ap (λ l. l ++ ms) o.hears ∙ ap (λ l. mails_heard (joined (news_from station r.frame fs)) ++ l) (sym e)
         ∙ sym (ap mails_heard (ap joined (news_from-push station r.frame fs f o.begun) ∙ joined-append (news_from station r.frame fs) _) ∙ mails_heard-append (joined (news_from station r.frame fs)) _);
-    quiet = silent r.answer (x.ends r.service (plain x.emission (r.heard ++ ms)));
+    quiet = silent r.answer (x.speech.ends r.service (plain x.speech.emission (r.heard ++ ms)));
   }
     where
       silent : (old : Option (R × ℕ)) (new : Option R) → answer_after (length fs) old new ≡ None → new ≡ None
@@ -189,15 +189,15 @@ module _ {V A M Q R : Type 0} (x : Exchange V A M Q R) (law : IsLawful x) where
   open_waits : (station : ℕ) (fs : List (Frame M)) (f : Frame M) (r : Row M Q R) → mails_heard (frame_news station (kept_of station fs) f) ≡ [] → Open station fs r → Open station (fs ++ f ∷ []) r
   open_waits station fs f r e o =
       let heard = open_hears station fs f r [] e o in
-      let same : row_heard x (length fs) [] r ≡ r = λ i. record r { heard = append-nil r.heard i; answer = (ap (λ l. answer_after (length fs) r.answer (x.ends r.service (plain x.emission l))) (append-nil r.heard) ∙ idle r.answer o.quiet) i } in
+      let same : row_heard x.speech (length fs) [] r ≡ r = λ i. record r { heard = append-nil r.heard i; answer = (ap (λ l. answer_after (length fs) r.answer (x.speech.ends r.service (plain x.speech.emission l))) (append-nil r.heard) ∙ idle r.answer o.quiet) i } in
       subst (Open station (fs ++ f ∷ [])) same heard
     where
-      idle : (answer : Option (R × ℕ)) → (answer ≡ None → x.ends r.service (plain x.emission r.heard) ≡ None) → answer_after (length fs) answer (x.ends r.service (plain x.emission r.heard)) ≡ answer
+      idle : (answer : Option (R × ℕ)) → (answer ≡ None → x.speech.ends r.service (plain x.speech.emission r.heard) ≡ None) → answer_after (length fs) answer (x.speech.ends r.service (plain x.speech.emission r.heard)) ≡ answer
       idle None quiet = ap (answer_after (length fs) None) (quiet refl)
       idle (Some a) quiet = refl
 
   -- what a choice makes of a side: rows begin with the number of the frame, and only behind a row that is over
-  began_listens : (station : ℕ) (fs : List (Frame M)) (d : Side M Q R) (now : Option (Row M Q R)) (begin : Option Q) → d.now ≡ now → Listens station fs d → Listens station fs (side_begins x (length fs) d now begin)
+  began_listens : (station : ℕ) (fs : List (Frame M)) (d : Side M Q R) (now : Option (Row M Q R)) (begin : Option Q) → d.now ≡ now → Listens station fs d → Listens station fs (side_begins x.speech (length fs) d now begin)
   began_listens station fs d now begin e l = go now begin e
     where
       fresh : (q : Q) → Open station fs (begun q (length fs))
@@ -212,10 +212,10 @@ module _ {V A M Q R : Type 0} (x : Exchange V A M Q R) (law : IsLawful x) where
       past_and [] r c k = (k, tt)
       past_and (p ∷ rs) r c k = (c.0, past_and rs r c.1 k)
 
-      over : (r : Row M Q R) → is_over x d.halves.out.holding d.fresh r ≡ true → ((answer : R × ℕ) × (r.answer ≡ Some answer)) ⊎ (x.handed r.service ≡ true)
+      over : (r : Row M Q R) → is_over x.speech d.halves.out.holding d.fresh r ≡ true → ((answer : R × ℕ) × (r.answer ≡ Some answer)) ⊎ (x.speech.handed r.service ≡ true)
       over r o = elim (over_parts x d.halves.out.holding d.fresh r o).1 [ inl h ↦ inr h.0 | inr a ↦ inl a.0 ]
 
-      next : (q : Q) (r : Row M Q R) → d.now ≡ Some r → (valid over_now : Bool) → is_over x d.halves.out.holding d.fresh r ≡ over_now → Listens station fs (if valid && over_now then record d { past = d.past ++ r ∷ []; now = Some (begun q (length fs)) } else d)
+      next : (q : Q) (r : Row M Q R) → d.now ≡ Some r → (valid over_now : Bool) → is_over x.speech d.halves.out.holding d.fresh r ≡ over_now → Listens station fs (if valid && over_now then record d { past = d.past ++ r ∷ []; now = Some (begun q (length fs)) } else d)
       next q r e false over_now o = l
       next q r e true false o = l
       next q r e true true o =
@@ -227,10 +227,10 @@ module _ {V A M Q R : Type 0} (x : Exchange V A M Q R) (law : IsLawful x) where
       first q false = l
       first q true = record { kept = l.kept; past = l.past; now = fresh q }
 
-      go : (now : Option (Row M Q R)) (begin : Option Q) → d.now ≡ now → Listens station fs (side_begins x (length fs) d now begin)
+      go : (now : Option (Row M Q R)) (begin : Option Q) → d.now ≡ now → Listens station fs (side_begins x.speech (length fs) d now begin)
       go now None e = l
-      go None (Some q) e = first q (x.valid q)
-      go (Some r) (Some q) e = next q r e (x.valid q) (is_over x d.halves.out.holding d.fresh r) refl
+      go None (Some q) e = first q (x.speech.valid q)
+      go (Some r) (Some q) e = next q r e (x.speech.valid q) (is_over x.speech d.halves.out.holding d.fresh r) refl
 
   held_listens : (station : ℕ) (fs : List (Frame M)) (d : Side M Q R) (ms : List M) → Listens station fs d → Listens station fs (side_holds d ms)
   held_listens station fs d [] l = l
@@ -240,13 +240,13 @@ module _ {V A M Q R : Type 0} (x : Exchange V A M Q R) (law : IsLawful x) where
       go None o = tt
       go (Some r) o = record { begun = o.begun; same = o.same; hears = o.hears; quiet = o.quiet }
 
-  pub next_listens : (station : ℕ) (fs : List (Frame M)) (d : Side M Q R) (c : Choice Q) → Listens station fs d → Listens station fs (side_next x (length fs) d c)
+  pub next_listens : (station : ℕ) (fs : List (Frame M)) (d : Side M Q R) (c : Choice Q) → Listens station fs d → Listens station fs (side_next x.speech (length fs) d c)
   next_listens station fs d c l =
-      let e = side_begins x (length fs) d d.now c.begin in
-      held_listens station fs e (next_mail x e.now e.halves.out.holding c.hold) (began_listens station fs d d.now c.begin refl l)
+      let e = side_begins x.speech (length fs) d d.now c.begin in
+      held_listens station fs e (next_mail x.speech e.now e.halves.out.holding c.hold) (began_listens station fs d d.now c.begin refl l)
 
   -- and a frame: it came back
-  pub back_listens : (station : ℕ) (fs : List (Frame M)) (d : Side M Q R) (f : Frame M) → Listens station fs d → Listens station (fs ++ f ∷ []) (side_back x (length fs) station f.back d)
+  pub back_listens : (station : ℕ) (fs : List (Frame M)) (d : Side M Q R) (f : Frame M) → Listens station fs d → Listens station (fs ++ f ∷ []) (side_back x.speech (length fs) station f.back d)
   back_listens station fs d f l = record {
     kept = sym (kept_back station d.halves f.back) ∙ ap (λ k. kept_in k) l.kept ∙ sym (ap (λ k. k.heard) (kept_all-push station nothing_kept fs f));
     past = all_stay station fs f d.past l.past;
@@ -259,7 +259,7 @@ module _ {V A M Q R : Type 0} (x : Exchange V A M Q R) (law : IsLawful x) where
       ms : List M
       ms = all_accepted station d.halves (grams f.back)
 
-      go : (now : Option (Row M Q R)) → OpenNow station fs now → OpenNow station (fs ++ f ∷ []) (option_map (λ r. row_heard x (length fs) ms r) now)
+      go : (now : Option (Row M Q R)) → OpenNow station fs now → OpenNow station (fs ++ f ∷ []) (option_map (λ r. row_heard x.speech (length fs) ms r) now)
       go None o = tt
       go (Some r) o = open_hears station fs f r ms (heard_frame station (kept_of station fs) d.halves f l.kept) o
 

@@ -59,13 +59,13 @@ module _ {V A M Q R : Type 0} (x : Exchange V A M Q R) (law : IsLawful x) where
 
   -- a service comes into hand
   pub begins_fit : (v : V) → x.ready v ≡ true → (w : Link M (Serving V M)) → Sound x v w → (frame : ℕ) (d : Side M Q R) (now : Option (Row M Q R)) (begin : Option Q) → d.now ≡ now → d.halves ≡ w.halves →
-      NowFits v d.past now w.held w.taken w.accepted → (let e = side_begins x frame d now begin in NowFits v e.past e.now w.held w.taken w.accepted)
+      NowFits v d.past now w.held w.taken w.accepted → (let e = side_begins x.speech frame d now begin in NowFits v e.past e.now w.held w.taken w.accepted)
   begins_fit v ready w s frame d now begin e f h = go now begin e h
     where
       stays : (now : Option (Row M Q R)) → d.now ≡ now → NowFits v d.past now w.held w.taken w.accepted → NowFits v d.past d.now w.held w.taken w.accepted
       stays now e h = subst (λ n. NowFits v d.past n w.held w.taken w.accepted) (sym e) h
 
-      first : (q : Q) (valid : Bool) → x.valid q ≡ valid → d.now ≡ None → NowFits v d.past None w.held w.taken w.accepted →
+      first : (q : Q) (valid : Bool) → x.speech.valid q ≡ valid → d.now ≡ None → NowFits v d.past None w.held w.taken w.accepted →
           (let t = if valid then record d { now = Some (begun q frame) } else d in NowFits v t.past t.now w.held w.taken w.accepted)
       first q false g e h = stays None e h
       first q true g e h =
@@ -75,7 +75,7 @@ module _ {V A M Q R : Type 0} (x : Exchange V A M Q R) (law : IsLawful x) where
           let held = sym h.1 in
           record { front = []; last = []; split = h.0; moment = subst (λ l. Moment x v [] [] (begun q frame) w.held w.taken l) accepted (subst (λ l. Moment x v [] [] (begun q frame) w.held l []) taken (subst (λ l. Moment x v [] [] (begun q frame) l [] []) held start)) }
 
-      more : (q : Q) (r : Row M Q R) → x.valid q ≡ true → is_over x d.halves.out.holding d.fresh r ≡ true →
+      more : (q : Q) (r : Row M Q R) → x.speech.valid q ≡ true → is_over x.speech d.halves.out.holding d.fresh r ≡ true →
           (front last : List (Row M Q R)) → Moment x v front last r w.held w.taken w.accepted → Moment x v (front ++ last) (r ∷ []) (begun q frame) w.held w.taken w.accepted
       more q r g o front last at =
           let parts = over_parts x d.halves.out.holding d.fresh r o in
@@ -84,7 +84,7 @@ module _ {V A M Q R : Type 0} (x : Exchange V A M Q R) (law : IsLawful x) where
             | inr a ↦ Moments.answered x law v ready front last r w.held w.taken w.accepted at a.0.0 a.0.1 parts.0 q frame g
           ]
 
-      next : (q : Q) (r : Row M Q R) → d.now ≡ Some r → NowFits v d.past (Some r) w.held w.taken w.accepted → (valid over : Bool) → x.valid q ≡ valid → is_over x d.halves.out.holding d.fresh r ≡ over →
+      next : (q : Q) (r : Row M Q R) → d.now ≡ Some r → NowFits v d.past (Some r) w.held w.taken w.accepted → (valid over : Bool) → x.speech.valid q ≡ valid → is_over x.speech d.halves.out.holding d.fresh r ≡ over →
           (let t = if valid && over then record d { past = d.past ++ r ∷ []; now = Some (begun q frame) } else d in NowFits v t.past t.now w.held w.taken w.accepted)
       next q r e h false over g o = stays (Some r) e h
       next q r e h true false g o = stays (Some r) e h
@@ -92,43 +92,43 @@ module _ {V A M Q R : Type 0} (x : Exchange V A M Q R) (law : IsLawful x) where
           let at = more q r g o h.front h.last h.moment in
           record { front = h.front ++ h.last; last = r ∷ []; split = ap (λ l. l ++ r ∷ []) h.split; moment = at }
 
-      go : (now : Option (Row M Q R)) (begin : Option Q) → d.now ≡ now → NowFits v d.past now w.held w.taken w.accepted → (let e = side_begins x frame d now begin in NowFits v e.past e.now w.held w.taken w.accepted)
+      go : (now : Option (Row M Q R)) (begin : Option Q) → d.now ≡ now → NowFits v d.past now w.held w.taken w.accepted → (let e = side_begins x.speech frame d now begin in NowFits v e.past e.now w.held w.taken w.accepted)
       go now None e h = stays now e h
-      go None (Some q) e h = first q (x.valid q) refl e h
-      go (Some r) (Some q) e h = next q r e h (x.valid q) (is_over x d.halves.out.holding d.fresh r) refl refl
+      go None (Some q) e h = first q (x.speech.valid q) refl e h
+      go (Some r) (Some q) e h = next q r e h (x.speech.valid q) (is_over x.speech d.halves.out.holding d.fresh r) refl refl
 
   -- the next mail is taken up
   holds_fit : (v : V) → x.ready v ≡ true → (d : Side M Q R) (held taken accepted : List M) (holding : Option (LinkMail M)) (hold : Bool) →
-      NowFits v d.past d.now held taken accepted → (let ms = next_mail x d.now holding hold in let e = side_holds d ms in NowFits v e.past e.now (held ++ ms) taken accepted)
+      NowFits v d.past d.now held taken accepted → (let ms = next_mail x.speech d.now holding hold in let e = side_holds d ms in NowFits v e.past e.now (held ++ ms) taken accepted)
   holds_fit v ready d held taken accepted holding hold h = go d.now holding hold refl
     where
       same : NowFits v d.past d.now (held ++ []) taken accepted
       same = subst (λ l. NowFits v d.past d.now l taken accepted) (sym (append-nil held)) h
 
-      one : (r : Row M Q R) (m : M) (more : List M) → d.now ≡ Some r → left x r ≡ m ∷ more → NowFits v d.past (option_map (λ r. row_told m r) d.now) (held ++ m ∷ []) taken accepted
+      one : (r : Row M Q R) (m : M) (more : List M) → d.now ≡ Some r → left x.speech r ≡ m ∷ more → NowFits v d.past (option_map (λ r. row_told m r) d.now) (held ++ m ∷ []) taken accepted
       one r m more e f =
           let k : NowFits v d.past (Some r) held taken accepted = subst (λ n. NowFits v d.past n held taken accepted) e h in
           let at = Moments.holds x law v ready k.front k.last r held taken accepted k.moment m more f in
           subst (λ n. NowFits v d.past (option_map (λ r. row_told m r) n) (held ++ m ∷ []) taken accepted) (sym e) (record { front = k.front; last = k.last; split = k.split; moment = at })
 
-      first : (r : Row M Q R) (ms : List M) → d.now ≡ Some r → left x r ≡ ms → (let e = side_holds d (first_left ms) in NowFits v e.past e.now (held ++ first_left ms) taken accepted)
+      first : (r : Row M Q R) (ms : List M) → d.now ≡ Some r → left x.speech r ≡ ms → (let e = side_holds d (first_left ms) in NowFits v e.past e.now (held ++ first_left ms) taken accepted)
       first r [] e f = same
       first r (m ∷ ms) e f = one r m ms e f
 
-      go : (now : Option (Row M Q R)) (holding : Option (LinkMail M)) (hold : Bool) → d.now ≡ now → (let ms = next_mail x now holding hold in let e = side_holds d ms in NowFits v e.past e.now (held ++ ms) taken accepted)
+      go : (now : Option (Row M Q R)) (holding : Option (LinkMail M)) (hold : Bool) → d.now ≡ now → (let ms = next_mail x.speech now holding hold in let e = side_holds d ms in NowFits v e.past e.now (held ++ ms) taken accepted)
       go now holding false e = same
       go None holding true e = same
       go (Some r) (Some m) true e = same
-      go (Some r) None true e = first r (left x r) e refl
+      go (Some r) None true e = first r (left x.speech r) e refl
 
   next_fits : (frame : ℕ) (s : Seat V M Q R) (c : Choice Q) → x.ready s.start ≡ true → SeatSound x s → Fitted s → Fitted (seat_next x frame s c)
   next_fits frame s c ready h f =
-      let e = side_begins x frame s.side s.side.now c.begin in
+      let e = side_begins x.speech frame s.side s.side.now c.begin in
       holds_fit s.start ready e s.held s.taken s.accepted e.halves.out.holding c.hold (begins_fit s.start ready (link_of s) h frame s.side s.side.now c.begin refl refl f)
 
   -- mails are heard
   hears_fit : (v : V) → x.ready v ≡ true → (past : List (Row M Q R)) (now : Option (Row M Q R)) (held taken accepted ms : List M) (frame : ℕ) → IsPrefixOf (accepted ++ ms) (given x.serve v taken) →
-      NowFits v past now held taken accepted → NowFits v past (option_map (λ r. row_heard x frame ms r) now) held taken (accepted ++ ms)
+      NowFits v past now held taken accepted → NowFits v past (option_map (λ r. row_heard x.speech frame ms r) now) held taken (accepted ++ ms)
   hears_fit v ready past None held taken accepted ms frame p h = h
   hears_fit v ready past (Some r) held taken accepted ms frame p h =
       record { front = h.front; last = h.last; split = h.split; moment = Moments.hears x law v ready h.front h.last r held taken accepted h.moment ms frame p }

@@ -65,10 +65,10 @@ quiet_frames e none station frame front (f ∷ fs) le n =
     ∙ quiet_push e none station frame front f le n.0.0 n.0.1
 
 -- no news complete nothing
-pub ends_none : {V A M Q R : Type 0} (x : Exchange V A M Q R) → IsLawful x → (more : M → Bool) (task : Task M Q) → ends x more task [] ≡ None
-ends_none x law more (Task.Mails q) = go (x.handed q)
+pub ends_none : {V A M Q R : Type 0} (x : Exchange V A M Q R) → IsLawful x → (more : M → Bool) (task : Task M Q) → ends x.speech more task [] ≡ None
+ends_none x law more (Task.Mails q) = go (x.speech.handed q)
   where
-    go : (b : Bool) → mails_end x q b [] ≡ None
+    go : (b : Bool) → mails_end x.speech q b [] ≡ None
     go true = refl
     go false = ap (λ r. option_map (λ r. Outcome.Replied r) r) (law.none q)
 ends_none x law more (Task.State target) = refl

@@ -30,13 +30,13 @@ module _ {V A M Q R : Type 0} (x : Exchange V A M Q R) (law : IsLawful x) where
   BeginFacts k [] cs = ⊤
   BeginFacts k (s ∷ ss) [] = ⊤
   BeginFacts k (s ∷ ss) (c ∷ cs) =
-      (NowFacts x law s.side.past s.side.now × (let e = Seats.side_begins x k s.side s.side.now c.begin in NowFacts x law e.past e.now)) × BeginFacts k ss cs
+      (NowFacts x law s.side.past s.side.now × (let e = Seats.side_begins x.speech k s.side s.side.now c.begin in NowFacts x law e.past e.now)) × BeginFacts k ss cs
 
   fitted_facts : (k : ℕ) (ss : List (Seat V M Q R)) (cs : List (Choice Q)) → EachSeat (IsReady x law) ss → EachSeat (SeatSound x) ss → EachSeat (Fitted x law) ss → BeginFacts k ss cs
   fitted_facts k [] cs r h f = tt
   fitted_facts k (s ∷ ss) [] r h f = tt
   fitted_facts k (s ∷ ss) (c ∷ cs) r h f =
-      let e = Seats.side_begins x k s.side s.side.now c.begin in
+      let e = Seats.side_begins x.speech k s.side s.side.now c.begin in
       let fits = begins_fit x law s.start r.0 (link_of s) h.0 k s.side s.side.now c.begin refl refl f.0 in
       ((facts_of x law s.start r.0 s.side.past s.side.now s.held s.taken s.accepted f.0, facts_of x law s.start r.0 e.past e.now s.held s.taken s.accepted fits), fitted_facts k ss cs r.1 h.1 f.1)
 
@@ -51,7 +51,7 @@ module _ {V A M Q R : Type 0} (x : Exchange V A M Q R) (law : IsLawful x) where
 
   -- what frames keep of each side
   module _ (P : ℕ → List (Frame M) → Side M Q R → Type 0)
-      (back : (station : ℕ) (fs : List (Frame M)) (f : Frame M) (d : Side M Q R) → writes station (grams f.back) ≡ writes station (grams f.sent) → TellsOf station fs f d → P station fs d → P station (fs ++ f ∷ []) (side_back x (length fs) station f.back d))
+      (back : (station : ℕ) (fs : List (Frame M)) (f : Frame M) (d : Side M Q R) → writes station (grams f.back) ≡ writes station (grams f.sent) → TellsOf station fs f d → P station fs d → P station (fs ++ f ∷ []) (side_back x.speech (length fs) station f.back d))
       (lost : (station : ℕ) (fs : List (Frame M)) (f : Frame M) (d : Side M Q R) → f.back ≡ [] → TellsOf station fs f d → P station fs d → P station (fs ++ f ∷ []) (side_lost station f.sent d)) where
     abbrev Of : List (Frame M) → Seat V M Q R → Type 0
     Of fs s = P s.station fs s.side

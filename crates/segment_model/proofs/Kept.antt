@@ -274,16 +274,16 @@ module _ {V A M Q R : Type 0} (x : Exchange V A M Q R) (law : IsLawful x) where
   never e n f before [] = refl
   never e n f before (ns ∷ nss) = ap (λ r. or_later r f (first_end e (suc f) (before ++ ns) nss)) (n (before ++ ns)) ∙ never e n (suc f) (before ++ ns) nss
 
-  row_answered : (more : M → Bool) (station : ℕ) (fs : List (Frame M)) (r : Row M Q R) → r.answer ≡ first_reply x law station fs r → IsAnswered x more station fs r
+  row_answered : (more : M → Bool) (station : ℕ) (fs : List (Frame M)) (r : Row M Q R) → r.answer ≡ first_reply x law station fs r → IsAnswered x.speech more station fs r
   row_answered more station fs r same = record {
     replied = λ replies.
         ap as_outcome same
         ∙ sym (first_outcome (reply_end x law r.service) r.frame [] (news_from station r.frame fs))
-        ∙ ap (λ b. first_end (mails_end x r.service b) r.frame [] (news_from station r.frame fs)) (sym replies);
+        ∙ ap (λ b. first_end (mails_end x.speech r.service b) r.frame [] (news_from station r.frame fs)) (sym replies);
     handed = λ posts. same ∙ never (reply_end x law r.service) (λ ns. law.unanswered r.service _ posts) r.frame [] (news_from station r.frame fs);
   }
 
-  pub rows_answered : (more : M → Bool) (station : ℕ) (fs : List (Frame M)) (past : List (Row M Q R)) (now : Option (Row M Q R)) → AllClosed x law station fs past → OpenNow x law station fs now → AllAnswered x more station fs (past ++ newest now)
+  pub rows_answered : (more : M → Bool) (station : ℕ) (fs : List (Frame M)) (past : List (Row M Q R)) (now : Option (Row M Q R)) → AllClosed x law station fs past → OpenNow x law station fs now → AllAnswered x.speech more station fs (past ++ newest now)
   rows_answered more station fs [] None c o = tt
   rows_answered more station fs [] (Some r) c o = (row_answered more station fs r o.same, tt)
   rows_answered more station fs (r ∷ rs) now c o = (row_answered more station fs r c.0.same, rows_answered more station fs rs now c.1 o)

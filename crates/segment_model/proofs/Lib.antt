@@ -23,3 +23,4 @@ mod Trials
 mod Table
 mod Paces
 pub mod Openings
+pub mod Returning

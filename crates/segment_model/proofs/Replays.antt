@@ -15,7 +15,7 @@ module _ {V A M Q R : Type 0} (x : Exchange V A M Q R) where
   nexts_ring k (s ∷ ss) [] = refl
   nexts_ring k (s ∷ ss) (c ∷ cs) = ap (λ l. (s.station, s.slave) ∷ l) (nexts_ring k ss cs)
 
-  pub nexts_sides : (k : ℕ) (ss : List (Seat V M Q R)) (cs : List (Choice Q)) → sides_of (seats_next x k ss cs) ≡ sides_next x k (sides_of ss) cs
+  pub nexts_sides : (k : ℕ) (ss : List (Seat V M Q R)) (cs : List (Choice Q)) → sides_of (seats_next x k ss cs) ≡ sides_next x.speech k (sides_of ss) cs
   nexts_sides k [] cs = refl
   nexts_sides k (s ∷ ss) [] = refl
   nexts_sides k (s ∷ ss) (c ∷ cs) = ap (λ l. (s.station, (seat_next x k s c).side) ∷ l) (nexts_sides k ss cs)
@@ -24,7 +24,7 @@ module _ {V A M Q R : Type 0} (x : Exchange V A M Q R) where
   backs_ring k [] ds back = refl
   backs_ring k (s ∷ ss) ds back = ap (λ l. (s.station, (seat_back x k s ds back).slave) ∷ l) (backs_ring k ss (frame_after s.station s.slave ds) back)
 
-  backs_sides : (k : ℕ) (ss : List (Seat V M Q R)) (ds back : List (Datagram M)) → sides_of (seats_back x k ss ds back) ≡ sides_back x k back (sides_of ss)
+  backs_sides : (k : ℕ) (ss : List (Seat V M Q R)) (ds back : List (Datagram M)) → sides_of (seats_back x k ss ds back) ≡ sides_back x.speech k back (sides_of ss)
   backs_sides k [] ds back = refl
   backs_sides k (s ∷ ss) ds back = ap (λ l. (s.station, (seat_back x k s ds back).side) ∷ l) (backs_sides k ss (frame_after s.station s.slave ds) back)
 
@@ -43,7 +43,7 @@ module _ {V A M Q R : Type 0} (x : Exchange V A M Q R) where
   afters_ring k ss ds RingFate.Back = backs_ring k ss ds (ring_back (ring_of ss) ds RingFate.Back)
   afters_ring k ss ds (RingFate.Lost after) = losts_ring after ss ds ds
 
-  afters_sides : (k : ℕ) (ss : List (Seat V M Q R)) (ds : List (Datagram M)) (fate : RingFate) → sides_of (seats_after x k ss ds fate) ≡ sides_after x k ds fate (ring_back (ring_of ss) ds fate) (sides_of ss)
+  afters_sides : (k : ℕ) (ss : List (Seat V M Q R)) (ds : List (Datagram M)) (fate : RingFate) → sides_of (seats_after x k ss ds fate) ≡ sides_after x.speech k ds fate (ring_back (ring_of ss) ds fate) (sides_of ss)
   afters_sides k ss ds RingFate.Back = backs_sides k ss ds (ring_back (ring_of ss) ds RingFate.Back)
   afters_sides k ss ds (RingFate.Lost after) = losts_sides after ss ds ds
 
@@ -76,14 +76,14 @@ module _ {V A M Q R : Type 0} (x : Exchange V A M Q R) where
   turn_back w t = ap (λ ns. ring_back ns t.move.sent t.move.fate) (nexts_ring (length w.frames) w.seats t.choices)
 
   pub turn_sides : (processor : Processor V) (w : Session V M Q R) (t : Turn M Q) →
-      sides_of (happens x processor w t).seats ≡ sides_after x (length w.frames) t.move.sent t.move.fate (ring_back (ring_of w.seats) t.move.sent t.move.fate) (sides_next x (length w.frames) (sides_of w.seats) t.choices)
+      sides_of (happens x processor w t).seats ≡ sides_after x.speech (length w.frames) t.move.sent t.move.fate (ring_back (ring_of w.seats) t.move.sent t.move.fate) (sides_next x.speech (length w.frames) (sides_of w.seats) t.choices)
   turn_sides processor w t =
       let k = length w.frames in
       let next = seats_next x k w.seats t.choices in
       steps_sides processor (seats_after x k next t.move.sent t.move.fate) t.move.steps
       ∙ afters_sides k next t.move.sent t.move.fate
-      ∙ ap (λ back. sides_after x k t.move.sent t.move.fate back (sides_of next)) (turn_back w t)
-      ∙ ap (sides_after x k t.move.sent t.move.fate (ring_back (ring_of w.seats) t.move.sent t.move.fate)) (nexts_sides k w.seats t.choices)
+      ∙ ap (λ back. sides_after x.speech k t.move.sent t.move.fate back (sides_of next)) (turn_back w t)
+      ∙ ap (sides_after x.speech k t.move.sent t.move.fate (ring_back (ring_of w.seats) t.move.sent t.move.fate)) (nexts_sides k w.seats t.choices)
 
   -- a session is the replay of its moves
   pub run_ring : (processor : Processor V) (w : Session V M Q R) (ts : List (Turn M Q)) → ring_of (run x processor w ts).seats ≡ replayed x processor (ring_of w.seats) (moves ts)
@@ -119,14 +119,14 @@ module _ {V A M Q R : Type 0} (x : Exchange V A M Q R) where
 
   -- a master and a ring that meet in a frame stay a session
   pub bound_step : (processor : Processor V) (ps : List (Planned V)) (ds : List (ℕ × Side M Q R)) (ns : Ring V M) (fs : List (Frame M)) → IsBound x processor ps ds ns fs → (cs : List (Choice Q)) (m : Move M) →
-      IsFrameOf (sides_next x (length fs) ds cs) m.sent →
-      IsBound x processor ps (sides_after x (length fs) m.sent m.fate (ring_back ns m.sent m.fate) (sides_next x (length fs) ds cs)) (ring_steps x processor (ring_after ns m.sent m.fate) m.steps) (fs ++ frame_of ns m ∷ [])
+      IsFrameOf (sides_next x.speech (length fs) ds cs) m.sent →
+      IsBound x processor ps (sides_after x.speech (length fs) m.sent m.fate (ring_back ns m.sent m.fate) (sides_next x.speech (length fs) ds cs)) (ring_steps x processor (ring_after ns m.sent m.fate) m.steps) (fs ++ frame_of ns m ∷ [])
   bound_step processor ps ds ns fs b cs m f =
       let z = run x processor (new_session b.opening ps) b.turns in
       let t : Turn M Q = record { choices = cs; move = m } in
       let k = b.frames in
       let asked : IsFrameOf (sides_of (seats_next x (length z.frames) z.seats cs)) m.sent =
-      subst (λ l. IsFrameOf l m.sent) (ap (λ l. sides_next x (length fs) l cs) (sym b.sides) ∙ ap (λ l. sides_next x (length l) (sides_of z.seats) cs) (sym k) ∙ sym (nexts_sides (length z.frames) z.seats cs)) f in
+      subst (λ l. IsFrameOf l m.sent) (ap (λ l. sides_next x.speech (length fs) l cs) (sym b.sides) ∙ ap (λ l. sides_next x.speech (length l) (sides_of z.seats) cs) (sym k) ∙ sym (nexts_sides (length z.frames) z.seats cs)) f in
       record {
         opening = b.opening;
         quiet = b.quiet;
@@ -134,7 +134,7 @@ module _ {V A M Q R : Type 0} (x : Exchange V A M Q R) where
         may = may-append processor (new_session b.opening ps) b.turns t b.may (frame_from (seats_next x (length z.frames) z.seats cs) m.sent asked);
         sides =
             ap (λ w. sides_of w.seats) (run-append processor (new_session b.opening ps) b.turns t) ∙ turn_sides processor z t
-            ∙ (λ i. sides_after x (length (k i)) m.sent m.fate (ring_back (b.ring i) m.sent m.fate) (sides_next x (length (k i)) (b.sides i) cs));
+            ∙ (λ i. sides_after x.speech (length (k i)) m.sent m.fate (ring_back (b.ring i) m.sent m.fate) (sides_next x.speech (length (k i)) (b.sides i) cs));
         ring = ap (λ w. ring_of w.seats) (run-append processor (new_session b.opening ps) b.turns t) ∙ turn_ring processor z t ∙ ap (λ ns. ring_steps x processor (ring_after ns m.sent m.fate) m.steps) b.ring;
         frames = ap (λ w. w.frames) (run-append processor (new_session b.opening ps) b.turns t) ∙ turn_frames processor z t ∙ (λ i. k i ++ frame_of (b.ring i) m ∷ []);
       }

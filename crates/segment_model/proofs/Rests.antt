@@ -71,7 +71,7 @@ module _ {V A M Q R : Type 0} (x : Exchange V A M Q R) (law : IsLawful x) where
       served : after x.serve s.start s.taken ≡ s.slave.node.server.server
       served = sym h.serves.server
 
-      go : (now : Option (Row M Q R)) → NowFits x law s.start s.side.past now s.held s.taken s.accepted → NothingInHand x s.side now → Rest x s.start (s.side.past ++ newest now) s.slave.node.server.server s.accepted
+      go : (now : Option (Row M Q R)) → NowFits x law s.start s.side.past now s.held s.taken s.accepted → NothingInHand x.speech s.side now → Rest x s.start (s.side.past ++ newest now) s.slave.node.server.server s.accepted
       go None k n =
           let none = nothing_taken x law s.start (link_of s) h k.1 in
           let nothing = nothing_accepted x law s.start (link_of s) h k.1 in

@@ -28,14 +28,14 @@ module _ {V A M Q R : Type 0} (x : Exchange V A M Q R) where
   fresh : (past : List (Row M Q R)) (q : Q) (k : ℕ) → Rises past k → RisesTo past (begun q k) k
   fresh past q k h = record { before = h; answer = λ a e. absurd (let none : None ≡ Some a = e in cc); frame = omega arith }
 
-  began_rises : (d : Side M Q R) (k : ℕ) (now : Option (Row M Q R)) (begin : Option Q) → d.now ≡ now → RisesNow d.past now k → (let e = side_begins x k d now begin in RisesNow e.past e.now k)
+  began_rises : (d : Side M Q R) (k : ℕ) (now : Option (Row M Q R)) (begin : Option Q) → d.now ≡ now → RisesNow d.past now k → (let e = side_begins x.speech k d now begin in RisesNow e.past e.now k)
   began_rises d k now None e h = subst (λ n. RisesNow d.past n k) (sym e) h
-  began_rises d k None (Some q) e h = go (x.valid q)
+  began_rises d k None (Some q) e h = go (x.speech.valid q)
     where
       go : (b : Bool) → (let t = if b then record d { now = Some (begun q k) } else d in RisesNow t.past t.now k)
       go true = fresh d.past q k (subst (λ l. Rises l k) (sym h) tt)
       go false = subst (λ n. RisesNow d.past n k) (sym e) h
-  began_rises d k (Some r) (Some q) e h = go (x.valid q && is_over x d.halves.out.holding d.fresh r)
+  began_rises d k (Some r) (Some q) e h = go (x.speech.valid q && is_over x.speech d.halves.out.holding d.fresh r)
     where
       go : (b : Bool) → (let t = if b then record d { past = d.past ++ r ∷ []; now = Some (begun q k) } else d in RisesNow t.past t.now k)
       go true = fresh (d.past ++ r ∷ []) q k (rises_more d.past r k h.before h.answer)
@@ -49,12 +49,12 @@ module _ {V A M Q R : Type 0} (x : Exchange V A M Q R) where
       go None h = h
       go (Some r) h = record { before = h.before; answer = h.answer; frame = h.frame }
 
-  pub next_rises : (d : Side M Q R) (c : Choice Q) (k : ℕ) → RisesNow d.past d.now k → (let e = side_next x k d c in RisesNow e.past e.now k)
-  next_rises d c k h = held_rises (side_begins x k d d.now c.begin) _ k (began_rises d k d.now c.begin refl h)
+  pub next_rises : (d : Side M Q R) (c : Choice Q) (k : ℕ) → RisesNow d.past d.now k → (let e = side_next x.speech k d c in RisesNow e.past e.now k)
+  next_rises d c k h = held_rises (side_begins x.speech k d d.now c.begin) _ k (began_rises d k d.now c.begin refl h)
 
-  pub heard_rises : (past : List (Row M Q R)) (now : Option (Row M Q R)) (ms : List M) (k : ℕ) → RisesNow past now k → RisesNow past (option_map (λ r. row_heard x k ms r) now) (suc k)
+  pub heard_rises : (past : List (Row M Q R)) (now : Option (Row M Q R)) (ms : List M) (k : ℕ) → RisesNow past now k → RisesNow past (option_map (λ r. row_heard x.speech k ms r) now) (suc k)
   heard_rises past None ms k h = h
-  heard_rises past (Some r) ms k h = record { before = h.before; answer = go r.answer (x.ends r.service (plain x.emission (r.heard ++ ms))) h.answer; frame = let f = h.frame in omega (arith, f) }
+  heard_rises past (Some r) ms k h = record { before = h.before; answer = go r.answer (x.speech.ends r.service (plain x.speech.emission (r.heard ++ ms))) h.answer; frame = let f = h.frame in omega (arith, f) }
     where
       go : (old : Option (R × ℕ)) (new : Option R) → ((answer : R × ℕ) → old ≡ Some answer → answer.1 < k) → (answer : R × ℕ) → answer_after k old new ≡ Some answer → answer.1 < suc k
       go None None h a e = absurd (let none : None ≡ Some a = e in cc)

@@ -76,21 +76,21 @@ module _ {V A M Q R : Type 0} (x : Exchange V A M Q R) where
   frame_agrees frame ss ds fate d f h = frames_keep (λ v w. Agrees w) (λ v fate gs w a. run_keeps (serving x) w (events_of fate gs) a) frame ss ds fate d f h
 
   -- a choice: rows that begin leave the halves, and an idle half takes a mail up
-  pub began_halves : (frame : ℕ) (d : Side M Q R) (now : Option (Row M Q R)) (begin : Option Q) → (side_begins x frame d now begin).halves ≡ d.halves
+  pub began_halves : (frame : ℕ) (d : Side M Q R) (now : Option (Row M Q R)) (begin : Option Q) → (side_begins x.speech frame d now begin).halves ≡ d.halves
   began_halves frame d now None = refl
-  began_halves frame d None (Some q) = go (x.valid q)
+  began_halves frame d None (Some q) = go (x.speech.valid q)
     where
       go : (b : Bool) → (if b then record d { now = Some (begun q frame) } else d).halves ≡ d.halves
       go true = refl
       go false = refl
-  began_halves frame d (Some r) (Some q) = go (x.valid q && is_over x d.halves.out.holding d.fresh r)
+  began_halves frame d (Some r) (Some q) = go (x.speech.valid q && is_over x.speech d.halves.out.holding d.fresh r)
     where
       go : (b : Bool) → (if b then record d { past = d.past ++ r ∷ []; now = Some (begun q frame) } else d).halves ≡ d.halves
       go true = refl
       go false = refl
 
   holds_agrees : (d : Side M Q R) (w : Link M (Serving V M)) (now : Option (Row M Q R)) (holding : Option (LinkMail M)) (hold : Bool) → d.halves.out.holding ≡ holding → w.halves ≡ d.halves → Agrees w →
-      Agrees (record w { halves = (side_holds d (next_mail x now holding hold)).halves; held = w.held ++ next_mail x now holding hold })
+      Agrees (record w { halves = (side_holds d (next_mail x.speech now holding hold)).halves; held = w.held ++ next_mail x.speech now holding hold })
   holds_agrees d w now holding hold e f a = go now holding hold e
     where
       none : Agrees (record w { halves = d.halves; held = w.held ++ [] })
@@ -105,15 +105,15 @@ module _ {V A M Q R : Type 0} (x : Exchange V A M Q R) where
       first [] e = none
       first (m ∷ ms) e = one m e
 
-      go : (now : Option (Row M Q R)) (holding : Option (LinkMail M)) (hold : Bool) → d.halves.out.holding ≡ holding → Agrees (record w { halves = (side_holds d (next_mail x now holding hold)).halves; held = w.held ++ next_mail x now holding hold })
+      go : (now : Option (Row M Q R)) (holding : Option (LinkMail M)) (hold : Bool) → d.halves.out.holding ≡ holding → Agrees (record w { halves = (side_holds d (next_mail x.speech now holding hold)).halves; held = w.held ++ next_mail x.speech now holding hold })
       go now holding false e = none
       go None holding true e = none
       go (Some r) (Some m) true e = none
-      go (Some r) None true e = first (left x r) e
+      go (Some r) None true e = first (left x.speech r) e
 
   pub next_agrees : (frame : ℕ) (s : Seat V M Q R) (c : Choice Q) → SeatAgrees s → SeatAgrees (seat_next x frame s c)
   next_agrees frame s c h =
-      let e = side_begins x frame s.side s.side.now c.begin in
+      let e = side_begins x.speech frame s.side s.side.now c.begin in
       holds_agrees e (link_of s) e.now e.halves.out.holding c.hold refl (sym (began_halves frame s.side s.side.now c.begin)) h
 
   pub nexts_agree : (frame : ℕ) (ss : List (Seat V M Q R)) (cs : List (Choice Q)) → EachSeat SeatAgrees ss → EachSeat SeatAgrees (seats_next x frame ss cs)

@@ -13,7 +13,7 @@ goes_on held = true
 goes_on _ = false
 
 abbrev told_by : Task Mail Service → List (List (News Mail)) → Option (Outcome ℕ × ℕ)
-told_by task news = first_end (ends adder goes_on task) 5 [] news
+told_by task news = first_end (ends adder.speech goes_on task) 5 [] news
 
 abbrev here : List (News Mail)
 here = News.Told (posted 1) ∷ News.Written ∷ []

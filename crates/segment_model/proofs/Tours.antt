@@ -1,31 +1,35 @@
 -- A lost frame's slaves come again until they are given up, and no later frame carries a slave that is given up.
-use Rattle.std.proofs.Common.{◌≡◌, ◌⊎◌, inl, inr, ℕ, zero, suc, ◌-◌, ◌<◌, ◌≤◌, ◌==◌, leb, Bool, true, false, not, cond, Option, Some, None, List, [], ◌∷◌, ◌++◌, map, take, drop, length, refl, ap, sym, ◌∙◌, subst, arith, append_assoc, append-nil, length-append, if◌then◌else◌, eqb-true}
+use Rattle.std.proofs.Common.{◌≡◌, ◌⊎◌, inl, inr, ℕ, zero, suc, ◌-◌, ◌<◌, ◌≤◌, ◌==◌, leb, Bool, true, false, not, cond, Option, Some, None, List, [], ◌∷◌, ◌++◌, map, take, drop, filter, length, refl, ap, sym, ◌∙◌, subst, arith, append_assoc, append-nil, length-append, if◌then◌else◌, eqb-true}
 use Rattle.std.specs.Prelude.{⊤, nat_lt}
 use Rattle.std.proofs.lemmas.Bool.Decides.{leb_tells}
 use Rattle.std.proofs.lemmas.List.{drop-append-le}
 use Rattle.link_model.specs.Segment.{RingFate}
 use Rattle.segment_model.specs.Slaves.{Datagram}
 use Rattle.segment_model.specs.Record.{Frame, back_news}
-use Rattle.segment_model.specs.Visits.{Stop, Tour, carried, split_behind, round, Fills, IsVisit, shows, opening_after, is_among, without, visited, last_of, tour_after, Visits, Absent, NeverCarried, new_tour, tour_over, IsLost, AllLost, AllMissed, IsGivenUp}
+use Rattle.segment_model.specs.Visits.{Stop, Tour, carried, split_behind, is_live, round, Fills, IsVisit, shows, opening_after, is_among, without, visited, last_of, tour_after, Visits, Absent, NeverCarried, new_tour, tour_over, IsLost, AllLost, AllMissed, IsGivenUp}
 
 abbrev stations : List Stop → List ℕ
 stations ss = map (λ s. s.station) ss
 
-absent-append : (n : ℕ) (xs ys : List Stop) → Absent n (stations xs) → Absent n (stations ys) → Absent n (stations (xs ++ ys))
-absent-append n [] ys a b = b
-absent-append n (x ∷ xs) ys a b = (a.0, absent-append n xs ys a.1 b)
+not_live : (n : ℕ) (live : List Stop) → Absent n (stations live) → is_live n live ≡ false
+not_live n [] a = refl
+not_live n (s ∷ ss) a = ap (λ b. if b then true else is_live n ss) a.0 ∙ not_live n ss a.1
 
-absent_split : (n last : ℕ) (passed ss : List Stop) → Absent n (stations passed) → Absent n (stations ss) → Absent n (stations (split_behind last passed ss))
-absent_split n last passed [] a b = a
-absent_split n last passed (s ∷ ss) a b = go (s.station == last) (absent_split n last (passed ++ s ∷ []) ss (absent-append n passed (s ∷ []) a (b.0, tt)) b.1)
+absent_live : (n : ℕ) (live xs : List Stop) → is_live n live ≡ false → Absent n (stations (filter (λ s. is_live s.station live) xs))
+absent_live n live [] out = tt
+absent_live n live (x ∷ xs) out = go (is_live x.station live) refl (absent_live n live xs out)
   where
-    go : (c : Bool) → Absent n (stations (split_behind last (passed ++ s ∷ []) ss)) → Absent n (stations (if c then ss ++ passed ++ s ∷ [] else split_behind last (passed ++ s ∷ []) ss))
-    go true h = absent-append n (ss ++ passed) (s ∷ []) (absent-append n ss passed b.1 a) (b.0, tt)
-    go false h = h
+    other : (b : Bool) → (x.station == n) ≡ b → is_live x.station live ≡ true → (x.station == n) ≡ false
+    other false e is = e
+    other true e is = absurd (let same : x.station ≡ n = eqb-true x.station n e in let clash : is_live n live ≡ true = subst (λ k. is_live k live ≡ true) same is in cc)
 
-absent_round : (n : ℕ) (last : Option ℕ) (live : List Stop) → Absent n (stations live) → Absent n (stations (round last live))
-absent_round n None live a = a
-absent_round n (Some last) live a = absent_split n last [] live tt a
+    go : (b : Bool) → is_live x.station live ≡ b → Absent n (stations (filter (λ s. is_live s.station live) xs)) → Absent n (stations (if b then x ∷ filter (λ s. is_live s.station live) xs else filter (λ s. is_live s.station live) xs))
+    go true is rest = (other (x.station == n) refl is, rest)
+    go false is rest = rest
+
+absent_round : (n : ℕ) (ring : List Stop) (last : Option ℕ) (live : List Stop) → Absent n (stations live) → Absent n (stations (round ring last live))
+absent_round n ring None live a = a
+absent_round n ring (Some last) live a = absent_live n live (split_behind last [] ring) (not_live n live a)
 
 fills_absent : (n size : ℕ) (ss : List Stop) (cs : List ℕ) → Absent n (stations ss) → Fills size ss cs → Absent n cs
 fills_absent n size [] [] a f = tt
@@ -75,7 +79,7 @@ gone_after n retry t cs f (RingFate.Lost after) a g = go (nat_lt t.missed retry)
 never : {M : Type 0} (size : List (Datagram M) → ℕ) (retry n : ℕ) (ring : List Stop) (t : Tour) (fs : List (Frame M)) → Visits size retry ring t fs → Gone n t → NeverCarried ring n fs
 never size retry n ring t [] v g = tt
 never size retry n ring t (f ∷ fs) v g =
-    let a = visit_absent n (size f.sent) t.again t.opening (round t.last t.live) (carried ring f.sent) g.again g.opening (absent_round n t.last t.live g.live) v.0 in
+    let a = visit_absent n (size f.sent) t.again t.opening (round ring t.last t.live) (carried ring f.sent) g.again g.opening (absent_round n ring t.last t.live g.live) v.0 in
     (a, never size retry n ring (tour_after retry t (carried ring f.sent) f f.fate) fs v.1 (gone_after n retry t (carried ring f.sent) f f.fate a g))
 
 -- those that are given up are gone
@@ -108,7 +112,7 @@ lost_again size retry after ring t f g fs v e m =
     let gone : Tour = record { opening = without cs t.opening; live = without cs t.live; last = visited t.opening (last_of t.last cs); again = None; missed = 0 } in
     let is : tour_after retry t cs f f.fate ≡ next = ap (tour_after retry t cs f) e ∙ ap (λ b. if b then next else gone) m in
     let w = v.1.0 in
-    subst (λ u. IsVisit (size g.sent) u.again u.opening (round u.last u.live) (carried ring g.sent)) is w
+    subst (λ u. IsVisit (size g.sent) u.again u.opening (round ring u.last u.live) (carried ring g.sent)) is w
 
 -- the frames lost in a row, by what comes again
 abbrev LostSo : {M : Type 0} → List Stop → ℕ → Option (List ℕ) → List (Frame M) → Type 0
@@ -137,7 +141,7 @@ lost_same : {M : Type 0} (size missed : ℕ) (ring : List Stop) (again : Option 
 lost_same size missed ring None opening ss done cs m l v = subst (AllLost ring cs) (sym (drop_whole done (length done - missed) (omega (arith, l)))) tt
 lost_same size missed ring (Some same) opening ss done cs m l v = subst (λ c. AllLost ring c (drop (length done - missed) done)) (sym v) l
 
-history_after : {M : Type 0} (size retry : ℕ) (ring : List Stop) (t : Tour) (done : List (Frame M)) (f : Frame M) (fate : RingFate) → f.fate ≡ fate → IsVisit size t.again t.opening (round t.last t.live) (carried ring f.sent) → History retry ring t done →
+history_after : {M : Type 0} (size retry : ℕ) (ring : List Stop) (t : Tour) (done : List (Frame M)) (f : Frame M) (fate : RingFate) → f.fate ≡ fate → IsVisit size t.again t.opening (round ring t.last t.live) (carried ring f.sent) → History retry ring t done →
     History retry ring (tour_after retry t (carried ring f.sent) f fate) (done ++ f ∷ [])
 history_after size retry ring t done f RingFate.Back e v h = record { most = omega arith; long = omega arith; lost = refl }
 history_after {M} size retry ring t done f (RingFate.Lost after) e v h = go (leb_tells (suc t.missed) retry) (nat_lt t.missed retry) refl
@@ -163,7 +167,7 @@ history_after {M} size retry ring t done f (RingFate.Lost after) e v h = go (leb
         record {
           most = less;
           long = omega (arith, l, m);
-          lost = subst (AllLost ring cs) (sym same) (lost_more ring cs (drop (length done - t.missed) done) f (lost_same size t.missed ring t.again t.opening (round t.last t.live) done cs h.long h.lost v) is_lost refl);
+          lost = subst (AllLost ring cs) (sym same) (lost_more ring cs (drop (length done - t.missed) done) f (lost_same size t.missed ring t.again t.opening (round ring t.last t.live) done cs h.long h.lost v) is_lost refl);
         }
 
     go : ((leb (suc t.missed) retry ≡ true) × (suc t.missed ≤ retry)) ⊎ ((leb (suc t.missed) retry ≡ false) × (retry < suc t.missed)) → (b : Bool) → nat_lt t.missed retry ≡ b → History retry ring (if b then lost else gone) (done ++ f ∷ [])
@@ -186,7 +190,7 @@ given_up_at size retry ring stops front f rest v e =
     let begins : History retry ring (new_tour stops) [] = record { most = omega arith; long = omega arith; lost = refl } in
     let h = history_over size retry ring (new_tour stops) [] front (f ∷ rest) v begins in
     let all : t.missed ≡ retry = enough t.missed retry e h.0.most in
-    let a = lost_same (size f.sent) t.missed ring t.again t.opening (round t.last t.live) front (carried ring f.sent) h.0.long h.0.lost h.1.0 in
+    let a = lost_same (size f.sent) t.missed ring t.again t.opening (round ring t.last t.live) front (carried ring f.sent) h.0.long h.0.lost h.1.0 in
     ((subst (λ k. k ≤ length front) all h.0.long, subst (λ k. AllLost ring (carried ring f.sent) (drop (length front - k) front)) all a), h.1)
   where
     enough : (m r : ℕ) → nat_lt m r ≡ false → m ≤ r → m ≡ r

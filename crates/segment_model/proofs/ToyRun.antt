@@ -98,7 +98,7 @@ answered_while_held = refl
 
 -- what the record says of each service, from its own frame on: the second mail of the sum, written again in the row of the post, is no mail of it
 abbrev outcome : ℕ → ℕ → Service → Option (Outcome ℕ × ℕ)
-outcome station frame q = first_end (ends adder (λ m. false) (Task.Mails q)) frame [] (news_from station frame ended.frames)
+outcome station frame q = first_end (ends adder.speech (λ m. false) (Task.Mails q)) frame [] (news_from station frame ended.frames)
 
 outcomes : (outcome 4097 0 (sum 3) ≡ Some (Outcome.Replied 3, 8)) × (outcome 4097 9 (post 4) ≡ Some (Outcome.Handed, 11)) × (outcome 4098 9 (post 7) ≡ Some (Outcome.Handed, 9))
 outcomes = (refl, refl, refl)

@@ -1,6 +1,6 @@
 -- The book of a run: the answer of each service of a slave, from its frames, and when all is done.
 use Rattle.std.specs.Prelude.{◌≡◌, ℕ, zero, suc, Bool, Option, Some, None, List, [], ◌∷◌, ⊤}
-use Rattle.exchange_model.specs.Exchange.{Exchange}
+use Rattle.exchange_model.specs.Exchange.{Exchange, Speech}
 use Rattle.exchange_model.specs.Rows.{Row, services}
 use Rattle.segment_model.specs.Slaves.{Slave}
 use Rattle.segment_model.specs.Record.{Frame, first_end, news_from}
@@ -25,7 +25,7 @@ not_sent zero = []
 not_sent (suc n) = Answer.NotSent ∷ not_sent n
 
 -- the answers of rows, and behind them those of so many services that did not begin
-abbrev pub answers_of : {V A M Q R : Type 0} → Exchange V A M Q R → (M → Bool) → ℕ → List (Frame M) → List (Row M Q R) → ℕ → List (Answer R)
+abbrev pub answers_of : {M Q R : Type 0} → Speech M Q R → (M → Bool) → ℕ → List (Frame M) → List (Row M Q R) → ℕ → List (Answer R)
 answers_of x more station fs [] left = not_sent left
 answers_of x more station fs (r ∷ rs) left =
     answer_from (first_end (ends x more (Task.Mails r.service)) r.frame [] (news_from station r.frame fs)) ∷ answers_of x more station fs rs left
@@ -43,17 +43,17 @@ pub record IsDone {V A M Q R : Type 0} (x : Exchange V A M Q R) (more : M → Bo
   pub live : given_up ≡ None
   pub begun : services (rows_of d) ≡ scripted
   pub rests : Rests x fs station start d n
-  pub ended : AllEnded (answers_of x more station fs (rows_of d) 0)
+  pub ended : AllEnded (answers_of x.speech more station fs (rows_of d) 0)
 
 -- of the services of a slave that began only the newest can be in doubt
 abbrev pub PastEnded : {V A M Q R : Type 0} → Exchange V A M Q R → (M → Bool) → List (Frame M) → ℕ → V → Side M Q R → Slave V M → Type 0
-PastEnded x more fs station start d n = AllEnded (answers_of x more station fs d.past 0)
+PastEnded x more fs station start d n = AllEnded (answers_of x.speech more station fs d.past 0)
 
 -- none of them is, where nothing is in hand
 abbrev pub EndedIf : {V A M Q R : Type 0} → Exchange V A M Q R → (M → Bool) → List (Frame M) → ℕ → V → Side M Q R → Slave V M → Type 0
-EndedIf x more fs station start d n = NothingInHand x d d.now → AllEnded (answers_of x more station fs (rows_of d) 0)
+EndedIf x more fs station start d n = NothingInHand x.speech d d.now → AllEnded (answers_of x.speech more station fs (rows_of d) 0)
 
 -- all is done of a slave that is settled, of which the master wants nothing, and of which all scripted services have begun
 abbrev pub DoneIf : {V A M Q R : Type 0} → Exchange V A M Q R → (M → Bool) → (ℕ → List Q) → List (Frame M) → ℕ → V → Side M Q R → Slave V M → Type 0
 DoneIf x more scripted fs station start d n =
-    IsSettled n → WantsNothing x d → services (rows_of d) ≡ scripted station → IsDone x more fs (scripted station) None station start d n
+    IsSettled n → WantsNothing x.speech d → services (rows_of d) ≡ scripted station → IsDone x more fs (scripted station) None station start d n

@@ -1,6 +1,6 @@
 -- When a service is complete, by the news of its slave from the frame on at which it came into hand: the table of completed services.
 use Rattle.std.specs.Prelude.{ℕ, ◌-◌, ◌==◌, Bool, true, false, if◌then◌else◌, Option, Some, None, option_map, List, [], ◌∷◌, length}
-use Rattle.exchange_model.specs.Exchange.{Exchange, plain}
+use Rattle.exchange_model.specs.Exchange.{Speech, plain}
 use Rattle.link_model.specs.Mails.{first_of}
 use Rattle.segment_model.specs.Record.{News, mails_heard}
 
@@ -65,12 +65,12 @@ passed_ends emission more (Some p) [] = None
 passed_ends emission more (Some p) (n ∷ ns) = passed_ends emission more (passing_after emission more p n) ns
 
 -- a service that has replies ends with them; one that has none with the write of its last mail
-abbrev pub mails_end : {V A M Q R : Type 0} → Exchange V A M Q R → Q → Bool → List (News M) → Option (Outcome R)
+abbrev pub mails_end : {M Q R : Type 0} → Speech M Q R → Q → Bool → List (News M) → Option (Outcome R)
 mails_end x q false ns = option_map (λ r. Outcome.Replied r) (x.ends q (plain x.emission (mails_heard ns)))
 mails_end x q true ns = if all_written (length (x.planned q [])) ns then Some Outcome.Handed else None
 
 -- THE TABLE: what these news complete of a task
-abbrev pub ends : {V A M Q R : Type 0} → Exchange V A M Q R → (M → Bool) → Task M Q → List (News M) → Option (Outcome R)
+abbrev pub ends : {M Q R : Type 0} → Speech M Q R → (M → Bool) → Task M Q → List (News M) → Option (Outcome R)
 ends x more (Task.Mails q) ns = mails_end x q (x.handed q) ns
 ends x more (Task.State target) ns = state_ends target None ns
 ends x more (Task.Passed m) ns = passed_ends x.emission more (Some Passing.Waiting) ns

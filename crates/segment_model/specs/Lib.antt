@@ -1,5 +1,6 @@
 pub mod Slaves
 pub mod Record
+pub mod Returned
 pub mod Ends
 pub mod Seats
 pub mod Laws

@@ -1,6 +1,6 @@
 -- A session with a segment: per slave the master's side, the slave, and the mails that went between them; its steps by frames; its record.
 use Rattle.std.specs.Prelude.{◌≡◌, ℕ, zero, suc, ◌==◌, ◌&&◌, ◌||◌, Bool, true, false, not, is_none, is_some, if◌then◌else◌, Option, Some, None, option_map, List, [], ◌∷◌, ◌++◌, map, length, ⊤}
-use Rattle.exchange_model.specs.Exchange.{Exchange}
+use Rattle.exchange_model.specs.Exchange.{Exchange, Speech}
 use Rattle.exchange_model.specs.Rows.{Row, begun, row_heard, row_told, left}
 use Rattle.link_model.specs.Master.{out_hold}
 use Rattle.link_model.specs.Slave.{node_look, node_take, node_takes, node_offers}
@@ -64,11 +64,11 @@ is_none_left (m ∷ ms) = false
 
 -- a row is over: nothing is left to tell, and it has its answer and its last mail was sent, or, where it ends with its last write, that
 -- write is done
-abbrev pub is_over : {V A M Q R : Type 0} → Exchange V A M Q R → Option (LinkMail M) → Bool → Row M Q R → Bool
+abbrev pub is_over : {M Q R : Type 0} → Speech M Q R → Option (LinkMail M) → Bool → Row M Q R → Bool
 is_over x holding fresh r = is_none_left (left x r) && (if x.handed r.service then is_none holding else is_some r.answer && not fresh)
 
 -- a service comes into hand, where it is one of those that the laws speak of and the newest row is over
-abbrev pub side_begins : {V A M Q R : Type 0} → Exchange V A M Q R → ℕ → Side M Q R → Option (Row M Q R) → Option Q → Side M Q R
+abbrev pub side_begins : {M Q R : Type 0} → Speech M Q R → ℕ → Side M Q R → Option (Row M Q R) → Option Q → Side M Q R
 side_begins x frame d now None = d
 side_begins x frame d None (Some q) = if x.valid q then record d { now = Some (begun q frame) } else d
 side_begins x frame d (Some r) (Some q) =
@@ -80,7 +80,7 @@ first_left [] = []
 first_left (m ∷ ms) = m ∷ []
 
 -- the next mail of the row in hand is taken up, where the outward half is idle
-abbrev pub next_mail : {V A M Q R : Type 0} → Exchange V A M Q R → Option (Row M Q R) → Option (LinkMail M) → Bool → List M
+abbrev pub next_mail : {M Q R : Type 0} → Speech M Q R → Option (Row M Q R) → Option (LinkMail M) → Bool → List M
 next_mail x now holding false = []
 next_mail x None holding true = []
 next_mail x (Some r) (Some m) true = []
@@ -97,13 +97,13 @@ side_holds d (m ∷ ms) = record {
 }
 
 -- the side before a frame, by this choice
-abbrev pub side_next : {V A M Q R : Type 0} → Exchange V A M Q R → ℕ → Side M Q R → Choice Q → Side M Q R
+abbrev pub side_next : {M Q R : Type 0} → Speech M Q R → ℕ → Side M Q R → Choice Q → Side M Q R
 side_next x frame d c =
     let e = side_begins x frame d d.now c.begin in
     side_holds e (next_mail x e.now e.halves.out.holding c.hold)
 
 -- the mails that it takes up by this choice
-abbrev pub side_takes_up : {V A M Q R : Type 0} → Exchange V A M Q R → ℕ → Side M Q R → Choice Q → List M
+abbrev pub side_takes_up : {M Q R : Type 0} → Speech M Q R → ℕ → Side M Q R → Choice Q → List M
 side_takes_up x frame d c =
     let e = side_begins x frame d d.now c.begin in
     next_mail x e.now e.halves.out.holding c.hold
@@ -122,7 +122,7 @@ writes station [] = false
 writes station (g ∷ gs) = if g.station == station then is_write g.ask || writes station gs else writes station gs
 
 -- the side of this station behind a frame that came back
-abbrev pub side_back : {V A M Q R : Type 0} → Exchange V A M Q R → ℕ → ℕ → List (Datagram M) → Side M Q R → Side M Q R
+abbrev pub side_back : {M Q R : Type 0} → Speech M Q R → ℕ → ℕ → List (Datagram M) → Side M Q R → Side M Q R
 side_back x frame station back d = record {
   halves = halves_after station d.halves (grams back);
   fresh = d.fresh && not (writes station (grams back));
@@ -136,7 +136,7 @@ side_lost station sent d = record d { halves = halves_without station d.halves (
 
 -- the seat before a frame
 abbrev pub seat_next : {V A M Q R : Type 0} → Exchange V A M Q R → ℕ → Seat V M Q R → Choice Q → Seat V M Q R
-seat_next x frame s c = record s { side = side_next x frame s.side c; held = s.held ++ side_takes_up x frame s.side c }
+seat_next x frame s c = record s { side = side_next x.speech frame s.side c; held = s.held ++ side_takes_up x.speech frame s.side c }
 
 -- all seats before a frame, by a choice each
 abbrev pub seats_next : {V A M Q R : Type 0} → Exchange V A M Q R → ℕ → List (Seat V M Q R) → List (Choice Q) → List (Seat V M Q R)
@@ -147,7 +147,7 @@ seats_next x frame (s ∷ ss) (c ∷ cs) = seat_next x frame s c ∷ seats_next 
 -- a seat behind a frame that came back as `back`
 abbrev pub seat_back : {V A M Q R : Type 0} → Exchange V A M Q R → ℕ → Seat V M Q R → List (Datagram M) → List (Datagram M) → Seat V M Q R
 seat_back x frame s ds back = record s {
-  side = side_back x frame s.station back s.side;
+  side = side_back x.speech frame s.station back s.side;
   slave = slave_after s.station s.slave ds;
   accepted = s.accepted ++ all_accepted s.station s.side.halves (grams back);
 }

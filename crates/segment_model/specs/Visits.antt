@@ -40,15 +40,20 @@ abbrev pub carried : {M : Type 0} → List Stop → List (Datagram M) → List �
 carried ring [] = []
 carried ring (d ∷ ds) = addressed ring d.address ++ carried ring ds
 
--- the live slaves from the one behind the last one carried, in ring order and round again
+-- the slaves from the one behind the last one carried, in ring order and round again
 abbrev pub split_behind : ℕ → List Stop → List Stop → List Stop
 split_behind last passed [] = passed
 split_behind last passed (s ∷ ss) = if s.station == last then ss ++ passed ++ s ∷ [] else split_behind last (passed ++ s ∷ []) ss
 
--- a round of the live slaves
-abbrev pub round : Option ℕ → List Stop → List Stop
-round None live = live
-round (Some last) live = split_behind last [] live
+-- this station is one of these slaves'
+abbrev pub is_live : ℕ → List Stop → Bool
+is_live n [] = false
+is_live n (s ∷ ss) = if s.station == n then true else is_live n ss
+
+-- a round of the live slaves: from the one behind the last one carried, which may be given up, in ring order
+abbrev pub round : List Stop → Option ℕ → List Stop → List Stop
+round ring None live = live
+round ring (Some last) live = filter (λ s. is_live s.station live) (split_behind last [] ring)
 
 -- the frame carries the first slaves of a round, at least one, and leaves out none that would fit
 abbrev pub Fills : ℕ → List Stop → List ℕ → Type 0
@@ -116,7 +121,7 @@ tour_after retry t cs f (RingFate.Lost after) =
 abbrev pub Visits : {M : Type 0} → (List (Datagram M) → ℕ) → ℕ → List Stop → Tour → List (Frame M) → Type 0
 Visits size retry ring t [] = ⊤
 Visits size retry ring t (f ∷ fs) =
-    IsVisit (size f.sent) t.again t.opening (round t.last t.live) (carried ring f.sent)
+    IsVisit (size f.sent) t.again t.opening (round ring t.last t.live) (carried ring f.sent)
     × Visits size retry ring (tour_after retry t (carried ring f.sent) f f.fate) fs
 
 -- this station is none of these

@@ -5,6 +5,7 @@ ghost use Rattle.exchange_model.specs.Exchange.{Exchange, IsLawful};
 ghost use Rattle.exchange_model.specs.Rows.{answer_after};
 ghost use Rattle.segment_model.specs.Slaves.{Processor, IsStill, Datagram, Ring, Move, ring_after, ring_back, ring_steps, replayed, paced};
 ghost use Rattle.segment_model.specs.Record.{Frame, frame_of, recorded, sent_fates, news_from, first_end, frame_news, kept_all, nothing_kept, joined, news_each, counted_each};
+ghost use Rattle.segment_model.specs.Returned.{Returns};
 ghost use Rattle.segment_model.specs.Ends.{Task, ends};
 ghost use Rattle.segment_model.specs.GiveUps.{NoneFor};
 ghost use Rattle.segment_model.specs.Seats.{Side, Choice, Turn, Planned, IsPlan, MayRun, IsOpening, run, new_session, ring_of, sides_of, moves};
@@ -65,21 +66,27 @@ pub fn split_law<V, A, M, Q, R>()
 
     // The master's sides go on by its choices and by what came back or was lost, the ring by the frame, its fate and its steps.
     ensures steps { (x : Exchange V A M Q R) (processor : Processor V) (ps : List (Planned V)) (ds : List (ℕ × Side M Q R)) (ns : Ring V M) (fs : List (Frame M)) →
-        IsBound x processor ps ds ns fs → (cs : List (Choice Q)) (m : Move M) → let asked = sides_next x (length fs) ds cs in IsFrameOf asked m.sent →
-        IsBound x processor ps (sides_after x (length fs) m.sent m.fate (ring_back ns m.sent m.fate) asked) (ring_steps x processor (ring_after ns m.sent m.fate) m.steps) (fs ++ frame_of ns m ∷ []) }
+        IsBound x processor ps ds ns fs → (cs : List (Choice Q)) (m : Move M) → let asked = sides_next x.speech (length fs) ds cs in IsFrameOf asked m.sent →
+        IsBound x processor ps (sides_after x.speech (length fs) m.sent m.fate (ring_back ns m.sent m.fate) asked) (ring_steps x processor (ring_after ns m.sent m.fate) m.steps) (fs ++ frame_of ns m ∷ []) }
 
     // And each run of a session is such a meeting.
     ensures runs { (x : Exchange V A M Q R) (processor : Processor V) (ps : List (Planned V)) (opening : List (Frame M)) → IsOpening opening → (ts : List (Turn M Q)) →
         let new = new_session {Q = Q} {R = R} opening ps in MayRun x processor new ts → let w = run x processor new ts in IsBound x processor ps (sides_of w.seats) (ring_of w.seats) w.frames }
 {}
 
+/// What comes back of a frame is the return of what was sent: datagram by datagram with the same station, ask and access, and addressed to
+/// the same station. So a master may go by what it asked.
+pub fn return_law<V, M>()
+    ensures { (ns : Ring V M) (sent : List (Datagram M)) → Returns sent (ring_back ns sent RingFate.Back) }
+{}
+
 /// An outcome, of a task of whichever kind, frame by frame: there is none before its first frame, and one frame more completes it by the news
 /// of that frame behind those before, or leaves the outcome that is there.
 pub fn outcome_law<V, A, M, Q, R>()
-    ensures begins { (x : Exchange V A M Q R) (more : M → Bool) (task : Task M Q) (station : ℕ) (fs : List (Frame M)) → first_end (ends x more task) (length fs) [] (news_from station (length fs) fs) ≡ None }
+    ensures begins { (x : Exchange V A M Q R) (more : M → Bool) (task : Task M Q) (station : ℕ) (fs : List (Frame M)) → first_end (ends x.speech more task) (length fs) [] (news_from station (length fs) fs) ≡ None }
     ensures grows { (x : Exchange V A M Q R) (more : M → Bool) (task : Task M Q) (station frame : ℕ) (fs : List (Frame M)) (f : Frame M) → frame ≤ length fs →
-        first_end (ends x more task) frame [] (news_from station frame (fs ++ f ∷ [])) ≡
-        answer_after (length fs) (first_end (ends x more task) frame [] (news_from station frame fs)) (ends x more task (joined (news_from station frame fs) ++ frame_news station (kept_all station nothing_kept fs) f)) }
+        first_end (ends x.speech more task) frame [] (news_from station frame (fs ++ f ∷ [])) ≡
+        answer_after (length fs) (first_end (ends x.speech more task) frame [] (news_from station frame fs)) (ends x.speech more task (joined (news_from station frame fs) ++ frame_news station (kept_all station nothing_kept fs) f)) }
 {}
 
 /// At pace 1 each empty read counts: the news of a slave are those of the record.
@@ -90,7 +97,7 @@ pub fn pace_law<M>()
 /// A give-up: frames that carry nothing for a slave complete nothing, so what its tasks come to is told by the frames before.
 pub fn give_up_law<V, A, M, Q, R>()
     ensures { (x : Exchange V A M Q R) → IsLawful x → (more : M → Bool) (task : Task M Q) (station frame : ℕ) (front behind : List (Frame M)) → frame ≤ length front → NoneFor station behind →
-        first_end (ends x more task) frame [] (news_from station frame (front ++ behind)) ≡ first_end (ends x more task) frame [] (news_from station frame front) }
+        first_end (ends x.speech more task) frame [] (news_from station frame (front ++ behind)) ≡ first_end (ends x.speech more task) frame [] (news_from station frame front) }
 {}
 
 /// Visits: behind a lost frame by which no slave is given up the next frame carries the same slaves; and by a lost frame behind `retry` lost

@@ -1,6 +1,6 @@
+ghost use Rattle.exchange_model.specs.Areas.{Areas, AreMailboxes};
 ghost use Rattle.exchange_model.specs.Exchange.{IsLawful};
 ghost use Rattle.soe_model.specs.Elements.{AreLawful};
-ghost use Rattle.soe_model.specs.Model.{Areas, AreMailboxes};
 ghost use Rattle.soe_model.specs.Octets.{soe_mail_exchange};
 ghost use Rattle.soe.specs.Idns.{idn_elements};
 

@@ -50,14 +50,14 @@ module _ {S : Type 0} (o : Elements S) (room : ℕ) where
       early (k ∷ []) h r e = absurd (cc)
       early (k ∷ l ∷ p) h r e = absurd (cc)
 
-  idle_more : (v w : Server S) (m : SoeMail) (p : List SoeMail) → serve o room v m ≡ (w, []) → w.app ≡ v.app → w.handled ≡ v.handled → Idle w p → Idle v (m ∷ p)
+  pub idle_more : (v w : Server S) (m : SoeMail) (p : List SoeMail) → serve o room v m ≡ (w, []) → w.app ≡ v.app → w.handled ≡ v.handled → Idle w p → Idle v (m ∷ p)
   idle_more v w m p one same count rest = record {
     app = ap (λ y. (after (serve o room) y.0 p).app) one ∙ rest.app ∙ same;
     handled = ap (λ y. (after (serve o room) y.0 p).handled) one ∙ rest.handled ∙ count;
     given = ap (λ y. y.1 ++ given (serve o room) y.0 p) one ∙ rest.given;
   }
 
-  early_more : (v w : Server S) (m : SoeMail) (ms : List SoeMail) → serve o room v m ≡ (w, []) → w.app ≡ v.app → w.handled ≡ v.handled →
+  pub early_more : (v w : Server S) (m : SoeMail) (ms : List SoeMail) → serve o room v m ≡ (w, []) → w.app ≡ v.app → w.handled ≡ v.handled →
       ((p : List SoeMail) (h : SoeMail) (r : List SoeMail) → ms ≡ p ++ h ∷ r → Idle w p) → (p : List SoeMail) (h : SoeMail) (r : List SoeMail) → m ∷ ms ≡ p ++ h ∷ r → Idle v p
   early_more v w m ms one same count late [] h r e = idle_none v
   early_more v w m ms one same count late (k ∷ p) h r e =
@@ -65,7 +65,7 @@ module _ {S : Type 0} (o : Elements S) (room : ℕ) where
       let rest : ms ≡ p ++ h ∷ r = cc in
       subst (λ k. Idle v (k ∷ p)) first (idle_more v w m p one same count (late p h r rest))
 
-  carried_more : (v w : Server S) (m : SoeMail) (ms : List SoeMail) (left : S) (gives : List SoeMail) → serve o room v m ≡ (w, []) →
+  pub carried_more : (v w : Server S) (m : SoeMail) (ms : List SoeMail) (left : S) (gives : List SoeMail) → serve o room v m ≡ (w, []) →
       w.app ≡ v.app → w.handled ≡ v.handled → Carried w ms left gives → Carried v (m ∷ ms) left gives
   carried_more v w m ms left gives one same count rest = record {
     app = ap (λ y. (after (serve o room) y.0 ms).app) one ∙ rest.app;
@@ -82,14 +82,14 @@ module _ {S : Type 0} (o : Elements S) (room : ℕ) where
   pub came_none : (t : Target) → Came None t []
   came_none t incomplete field bytes = refl
 
-  came_more : (t : Target) (got : List ℕ) → Came (Some (record { opcode = 3; drive = t.drive; elements = t.elements; octets = got })) t got
+  pub came_more : (t : Target) (got : List ℕ) → Came (Some (record { opcode = 3; drive = t.drive; elements = t.elements; octets = got })) t got
   came_more t got incomplete field bytes =
       let drive = eq-eqb t.drive t.drive refl in
       let flags = eq-eqb t.elements t.elements refl in
       rw (drive, flags) refl
 
   -- the last fragment writes what came, whatever that comes to
-  last_written : (v : Server S) (t : Target) (got bytes : List ℕ) (r : Result S ℕ) → gathered v.join (message 3 false t t.idn bytes) ≡ got ++ bytes → o.write v.app t (got ++ bytes) ≡ r →
+  pub last_written : (v : Server S) (t : Target) (got bytes : List ℕ) (r : Result S ℕ) → gathered v.join (message 3 false t t.idn bytes) ≡ got ++ bytes → o.write v.app t (got ++ bytes) ≡ r →
       Carried v (mail (message 3 false t t.idn bytes) ∷ []) (left_by v.app r) (answer_to t r)
   last_written v t got bytes (Ok changed) all is =
       carried_one v (record { app = changed; handled = suc v.handled; join = None }) _ _ (ap (λ l. behind v.handled (written v.app t (o.write v.app t l))) all ∙ ap (λ r. behind v.handled (written v.app t r)) is) refl refl
@@ -102,7 +102,7 @@ module _ {S : Type 0} (o : Elements S) (room : ℕ) where
       ap (λ l. take 16384 (l ++ bytes)) (came incomplete field bytes) ∙ take_all 16384 (got ++ bytes) (omega (arith, length-append got bytes))
 
   -- the server behind a fragment of a write
-  abbrev waiting : Server S → Target → List ℕ → Server S
+  abbrev pub waiting : Server S → Target → List ℕ → Server S
   waiting v t got = record v { join = Some (record { opcode = 3; drive = t.drive; elements = t.elements; octets = got }) }
 
   -- ALL FRAGMENTS OF A WRITE CARRY IT OUT

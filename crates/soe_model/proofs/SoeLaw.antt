@@ -7,21 +7,22 @@ use Rattle.std.proofs.lemmas.List.{take-append-drop, append_assoc, length-take-l
 use Rattle.byteorder.specs.Endian.{little_bytes}
 use Rattle.ec_fields.specs.Fields.{number_at}
 use Rattle.mailbox_mail.specs.declared.outcome.ReplyKind.{ReplyKind}
+use Rattle.exchange_model.specs.Areas.{Areas, AreMailboxes}
 use Rattle.exchange_model.specs.Exchange.{IsLawful, Before, Behind, after, given, plain, emitted}
 use Rattle.exchange_model.proofs.Lists.{prefix_refl}
 use Rattle.soe_model.specs.Elements.{Target, Elements, AreLawful}
 use Rattle.soe_model.specs.Mails.{SoeMail, mail, unread, failed, other, is_emission, message, refusal, parts_of, fragments, fragments_of}
 use Rattle.soe_model.specs.Server.{Join, Server, most, ahead, asked, behind, outcome, serve, one_more}
 use Rattle.soe_model.specs.Client.{Service, read, write, is_target, is_service, mails_of, Reply, read_means, write_means, meaning_of, at_end, is_refusal, refused, is_part, is_incomplete, octets_of, read_ends, is_written, write_ends, ends}
-use Rattle.soe_model.specs.Model.{Areas, AreMailboxes, is_ready, soe_exchange}
+use Rattle.soe_model.specs.Model.{is_ready, soe_exchange}
 use Rattle.soe_model.proofs.Carries.{Idle, Carried, carried_one, writes, left_by, answer_to}
 
 -- a server sends nothing of itself
-none_emitted : (ms : List SoeMail) → emitted is_emission ms ≡ []
+pub none_emitted : (ms : List SoeMail) → emitted is_emission ms ≡ []
 none_emitted [] = refl
 none_emitted (m ∷ ms) = none_emitted ms
 
-all_plain : (ms : List SoeMail) → plain is_emission ms ≡ ms
+pub all_plain : (ms : List SoeMail) → plain is_emission ms ≡ ms
 all_plain [] = refl
 all_plain (m ∷ ms) = ap (λ l. m ∷ l) (all_plain ms)
 
@@ -70,11 +71,11 @@ write_closed t (m ∷ hs) h more r e = by (is_written t m)
     by true = end_closed hs h more (ReplyKind.Done, [])
     by false = refused_closed 4 t m hs h more
 
-closed : (q : Service) (hs : List SoeMail) (h : SoeMail) (more : List SoeMail) (r : Reply) → ends q hs ≡ Some r → ends q (hs ++ h ∷ more) ≡ None
+pub closed : (q : Service) (hs : List SoeMail) (h : SoeMail) (more : List SoeMail) (r : Reply) → ends q hs ≡ Some r → ends q (hs ++ h ∷ more) ≡ None
 closed (read t) hs h more r e = read_closed t [] hs h more r e
 closed (write t bytes) hs h more r e = write_closed t hs h more r e
 
-ends_none : (q : Service) → ends q [] ≡ None
+pub ends_none : (q : Service) → ends q [] ≡ None
 ends_none (read t) = refl
 ends_none (write t bytes) = refl
 
@@ -155,15 +156,15 @@ module _ {S : Type 0} (o : Elements S) (lawful : AreLawful o) (areas : Areas) (s
   gives v (read t) = answer_to_read t (o.read v.app t)
   gives v (write t bytes) = answer_to t (o.write v.app t bytes)
 
-  read_carried : (v : Server S) (t : Target) (r : Result (List ℕ) ℕ) → o.read v.app t ≡ r → Carried o areas.back v (mails_of areas.out (read t)) v.app (answer_to_read t r)
+  pub read_carried : (v : Server S) (t : Target) (r : Result (List ℕ) ℕ) → o.read v.app t ≡ r → Carried o areas.back v (mails_of areas.out (read t)) v.app (answer_to_read t r)
   read_carried v t (Ok bytes) is = carried_one o areas.back v (record { app = v.app; handled = suc v.handled; join = None }) _ _ (ap (λ r. behind v.handled (asked areas.back v.app t r)) is) refl refl
   read_carried v t (Err code) is = carried_one o areas.back v (record { app = v.app; handled = suc v.handled; join = None }) _ _ (ap (λ r. behind v.handled (asked areas.back v.app t r)) is) refl refl
 
-  read_app : (app : S) (r : Result (List ℕ) ℕ) → (read_means app r).app ≡ app
+  pub read_app : (app : S) (r : Result (List ℕ) ℕ) → (read_means app r).app ≡ app
   read_app app (Ok bytes) = refl
   read_app app (Err code) = refl
 
-  write_app : (app : S) (r : Result S ℕ) → (write_means app r).app ≡ left_by app r
+  pub write_app : (app : S) (r : Result S ℕ) → (write_means app r).app ≡ left_by app r
   write_app app (Ok changed) = refl
   write_app app (Err code) = refl
 
@@ -179,7 +180,7 @@ module _ {S : Type 0} (o : Elements S) (lawful : AreLawful o) (areas : Areas) (s
       (writes o areas.back (suc (length bytes)) (areas.out - 10) v t [] bytes (omega (arith, least)) (omega arith) (omega (arith, few))
       (λ incomplete field octets. ap (λ j. ahead j (message 3 incomplete t field octets)) (no_join v.join now.1)))
 
-  value_replied : (t : Target) (app : S) (r : Result (List ℕ) ℕ) → o.valid app ≡ true → o.read app t ≡ r → read_ends t [] (answer_to_read t r) ≡ Some (read_means app r).reply
+  pub value_replied : (t : Target) (app : S) (r : Result (List ℕ) ℕ) → o.valid app ≡ true → o.read app t ≡ r → read_ends t [] (answer_to_read t r) ≡ Some (read_means app r).reply
   value_replied t app (Ok bytes) fine is =
       let few = lawful.short app t bytes fine is in
       let least = sized.back_least in
@@ -187,7 +188,7 @@ module _ {S : Type 0} (o : Elements S) (lawful : AreLawful o) (areas : Areas) (s
   value_replied t app (Err code) fine is =
       refusal_read 2 t code (lawful.read_code app t code fine is)
 
-  write_replied : (t : Target) (bytes : List ℕ) (app : S) (r : Result S ℕ) → o.valid app ≡ true → o.write app t bytes ≡ r → write_ends t (answer_to t r) ≡ Some (write_means app r).reply
+  pub write_replied : (t : Target) (bytes : List ℕ) (app : S) (r : Result S ℕ) → o.valid app ≡ true → o.write app t bytes ≡ r → write_ends t (answer_to t r) ≡ Some (write_means app r).reply
   write_replied t bytes app (Ok changed) fine is = let done_is = written_is t in rw done_is refl
   write_replied t bytes app (Err code) fine is = refusal_read 4 t code (lawful.write_code app t bytes code fine is)
 
@@ -228,7 +229,7 @@ module _ {S : Type 0} (o : Elements S) (lawful : AreLawful o) (areas : Areas) (s
       let none = ends_none q in cc)
 
   -- a service leaves a server of which the laws speak
-  write_ready : (app : S) (t : Target) (bytes : List ℕ) (r : Result S ℕ) → o.valid app ≡ true → o.write app t bytes ≡ r → o.valid (write_means app r).app ≡ true
+  pub write_ready : (app : S) (t : Target) (bytes : List ℕ) (r : Result S ℕ) → o.valid app ≡ true → o.write app t bytes ≡ r → o.valid (write_means app r).app ≡ true
   write_ready app t bytes (Ok changed) fine is = lawful.stays app changed t bytes fine is
   write_ready app t bytes (Err code) fine is = fine
 
@@ -244,7 +245,7 @@ module _ {S : Type 0} (o : Elements S) (lawful : AreLawful o) (areas : Areas) (s
       ∙ ap (λ j. o.valid (meaning_of o v.app q).app && is_none j) all.join
       ∙ ap (λ b. b && true) fine
 
-  grows : (b : Bool) (n : ℕ) → n ≤ one_more b n
+  pub grows : (b : Bool) (n : ℕ) → n ≤ one_more b n
   grows true n = omega arith
   grows false n = omega arith
 

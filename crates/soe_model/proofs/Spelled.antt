@@ -6,12 +6,13 @@ use Rattle.std.proofs.Math.Nat.{div-le_of_le-mul}
 use Rattle.byteorder.specs.Endian.{little_bytes}
 use Rattle.ec_fields.specs.Fields.{bits_of}
 use Rattle.soe_codec.specs.Message.{is_opcode, has_fragments, word_of, message_in, soe_read, soe_text}
+use Rattle.exchange_model.specs.Areas.{Areas, AreMailboxes}
 use Rattle.exchange_model.specs.Lifted.{EachOf, ReadsBack, Spells}
 use Rattle.soe_model.specs.Elements.{Target, Elements, AreLawful}
 use Rattle.soe_model.specs.Mails.{Soe, SoeMail, mail, refusal, parts_of, fragments}
 use Rattle.soe_model.specs.Server.{Server, most}
 use Rattle.soe_model.specs.Client.{Service, read, write, is_target, is_service, mails_of}
-use Rattle.soe_model.specs.Model.{Areas, AreMailboxes, is_ready, soe_exchange}
+use Rattle.soe_model.specs.Model.{is_ready, soe_exchange}
 use Rattle.soe_model.specs.Octets.{heard, mail_heard, mail_written}
 use Rattle.soe_model.proofs.Carries.{answer_to}
 use Rattle.soe_model.proofs.SoeLaw.{kept, gives, answer_to_read, both_are}

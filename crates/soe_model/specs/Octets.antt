@@ -6,13 +6,14 @@ use Rattle.mailbox_mail.specs.declared.mail.Mail.{Mail}
 use Rattle.mailbox_mail.specs.declared.mail.Kind.{Kind}
 use Rattle.mailbox_mail.specs.declared.mail.Kind.TheVariants.{Error, SoE, VoE}
 use Rattle.soe_codec.specs.Message.{soe_read, soe_text}
+use Rattle.exchange_model.specs.Areas.{Areas}
 use Rattle.exchange_model.specs.Exchange.{Exchange}
 use Rattle.exchange_model.specs.Lifted.{lifted}
 use Rattle.soe_model.specs.Elements.{Elements}
 use Rattle.soe_model.specs.Mails.{Soe, SoeFault, SoeMail, mail, unread, failed, other}
 use Rattle.soe_model.specs.Server.{Server}
 use Rattle.soe_model.specs.Client.{Service, Reply}
-use Rattle.soe_model.specs.Model.{Areas, soe_exchange}
+use Rattle.soe_model.specs.Model.{soe_exchange}
 
 -- the incomplete bit of a body's word
 abbrev pub is_marked : List ℕ → Bool

@@ -4,12 +4,13 @@
 #![tactic(auto)]
 
 ghost use Rattle.std.specs.Prelude.{◌≡◌, ◌⊎◌, suc, true, List, [], ◌∷◌, ◌++◌, Some};
+ghost use Rattle.exchange_model.specs.Areas.{Areas, AreMailboxes};
 ghost use Rattle.exchange_model.specs.Exchange.{IsLawful, Before, Behind, after, given};
 ghost use Rattle.soe_model.specs.Elements.{Elements, AreLawful};
 ghost use Rattle.soe_model.specs.Mails.{SoeMail};
 ghost use Rattle.soe_model.specs.Server.{Server, serve};
 ghost use Rattle.soe_model.specs.Client.{Service, is_service, mails_of, meaning_of, ends};
-ghost use Rattle.soe_model.specs.Model.{Areas, AreMailboxes, is_ready, soe_exchange};
+ghost use Rattle.soe_model.specs.Model.{is_ready, soe_exchange};
 ghost use Rattle.soe_model.specs.Octets.{soe_mail_exchange};
 
 /// SoE keeps the laws of an exchange: for each element that is read or written, with a value of up to 16,384 octets, each pair of mailbox

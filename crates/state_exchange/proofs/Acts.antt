@@ -5,7 +5,7 @@ use Rattle.std.specs.List.{drop-map}
 use Rattle.exchange_model.specs.Prefix.{IsPrefixOf}
 use Rattle.exchange_model.specs.Exchange.{Exchange, after, given, plain, emitted}
 use Rattle.exchange_model.specs.Rows.{Row, left, exec_all}
-use Rattle.exchange_model.proofs.Lists.{drop_past}
+use Rattle.exchange_model.proofs.Lists.{drop_past, filter_mapped}
 use Rattle.segment_model.specs.Ends.{Outcome}
 use Rattle.state_model.specs.States.{Table}
 use Rattle.state_model.specs.Promises.{state_behind}
@@ -87,16 +87,6 @@ rest_acts (m ∷ ms) (a ∷ front) rest e =
 pub cut_mails : {M : Type 0} (ms : List M) (front rest : List (Act M)) → acts ms ≡ front ++ rest → ms ≡ mails front ++ mails rest
 cut_mails ms front rest e = sym (mails_acts ms) ∙ ap mails e ∙ mails_append front rest
 
--- a test of what is made keeps what is made of those that it keeps
-pub filter_mapped : {X Y : Type 0} (f : X → Y) (p : Y → Bool) (xs : List X) → filter p (map f xs) ≡ map f (filter (λ x. p (f x)) xs)
-filter_mapped f p [] = refl
-filter_mapped f p (x ∷ xs) = keep (p (f x)) (filter_mapped f p xs)
-  where
-    keep : (b : Bool) → filter p (map f xs) ≡ map f (filter (λ z. p (f z)) xs) →
-        cond b (f x ∷ filter p (map f xs)) (filter p (map f xs)) ≡ map f (cond b (x ∷ filter (λ z. p (f z)) xs) (filter (λ z. p (f z)) xs))
-    keep true e = ap (λ l. f x ∷ l) e
-    keep false e = e
-
 -- a test of acts that is one of their mails keeps the same ones
 pub filter_acts : {M : Type 0} (p : Act M → Bool) (ms : List M) → filter p (acts ms) ≡ acts (filter (λ m. p (Act.Mail m)) ms)
 filter_acts p ms = filter_mapped (λ m. Act.Mail m) p ms
@@ -122,12 +112,12 @@ module _ {V A M Q R : Type 0} (x : Exchange V A M Q R) (s : Stated V A Q) (table
       ∙ sym (acts_append (x.serve c.server m).1 (given x.serve (x.serve c.server m).0 ms))
 
   pub plain_given_acts : (c : Counting V) (ms : List M) →
-      plain (act_emission x.emission) (given (with_states x s table).serve c (acts ms)) ≡ acts (plain x.emission (given x.serve c.server ms))
-  plain_given_acts c ms = ap (plain (act_emission x.emission)) (given_acts c ms) ∙ plain_acts x.emission (given x.serve c.server ms)
+      plain (act_emission x.speech.emission) (given (with_states x s table).serve c (acts ms)) ≡ acts (plain x.speech.emission (given x.serve c.server ms))
+  plain_given_acts c ms = ap (plain (act_emission x.speech.emission)) (given_acts c ms) ∙ plain_acts x.speech.emission (given x.serve c.server ms)
 
   pub emitted_given_acts : (c : Counting V) (ms : List M) →
-      emitted (act_emission x.emission) (given (with_states x s table).serve c (acts ms)) ≡ acts (emitted x.emission (given x.serve c.server ms))
-  emitted_given_acts c ms = ap (emitted (act_emission x.emission)) (given_acts c ms) ∙ emitted_acts x.emission (given x.serve c.server ms)
+      emitted (act_emission x.speech.emission) (given (with_states x s table).serve c (acts ms)) ≡ acts (emitted x.speech.emission (given x.serve c.server ms))
+  emitted_given_acts c ms = ap (emitted (act_emission x.speech.emission)) (given_acts c ms) ∙ emitted_acts x.speech.emission (given x.serve c.server ms)
 
   -- all that a server gives are mails
   pub given_mails : (c : Counting V) (taken : List (Act M)) → acts (mails (given (with_states x s table).serve c taken)) ≡ given (with_states x s table).serve c taken
@@ -173,22 +163,22 @@ module _ {V A M Q R : Type 0} (x : Exchange V A M Q R) (s : Stated V A Q) (table
 
   -- a row by mails has left what its client without states has
   pub left_mails : (shown : Row (Act M) (Service Q) (Outcome R)) (r : Row M Q R) → shown.service ≡ Service.Mails r.service → shown.told ≡ acts r.told → shown.heard ≡ acts r.heard →
-      left (with_states x s table) shown ≡ acts (left x r)
+      left (with_states x s table).speech shown ≡ acts (left x.speech r)
   left_mails shown r service told heard =
-      ap (λ q. drop (length shown.told) ((with_states x s table).planned q (plain (act_emission x.emission) shown.heard))) service
-      ∙ ap₂ (λ (n : ℕ) (hs : List (Act M)). drop n (planned_by x r.service (all_mails hs))) (ap length told ∙ acts_length r.told)
-      (ap (plain (act_emission x.emission)) heard ∙ plain_acts x.emission r.heard)
-      ∙ ap (λ found. drop (length r.told) (planned_by x r.service found)) (all_acts (plain x.emission r.heard))
-      ∙ acts_drop (length r.told) (x.planned r.service (plain x.emission r.heard))
+      ap (λ q. drop (length shown.told) ((with_states x s table).speech.planned q (plain (act_emission x.speech.emission) shown.heard))) service
+      ∙ ap₂ (λ (n : ℕ) (hs : List (Act M)). drop n (planned_by x.speech r.service (all_mails hs))) (ap length told ∙ acts_length r.told)
+      (ap (plain (act_emission x.speech.emission)) heard ∙ plain_acts x.speech.emission r.heard)
+      ∙ ap (λ found. drop (length r.told) (planned_by x.speech r.service found)) (all_acts (plain x.speech.emission r.heard))
+      ∙ acts_drop (length r.told) (x.speech.planned r.service (plain x.speech.emission r.heard))
 
   -- a state service has its control word left, until it is told
   pub left_word : (shown : Row (Act M) (Service Q) (Outcome R)) (target : ℕ) → shown.service ≡ Service.State target → shown.told ≡ [] →
-      left (with_states x s table) shown ≡ Act.Word target ∷ []
+      left (with_states x s table).speech shown ≡ Act.Word target ∷ []
   left_word shown target service told =
-      ap₂ (λ (n : ℕ) (q : Service Q). drop n ((with_states x s table).planned q (plain (act_emission x.emission) shown.heard))) (ap length told) service
+      ap₂ (λ (n : ℕ) (q : Service Q). drop n ((with_states x s table).speech.planned q (plain (act_emission x.speech.emission) shown.heard))) (ap length told) service
 
   pub left_none : (shown : Row (Act M) (Service Q) (Outcome R)) (target : ℕ) (a : Act M) (more : List (Act M)) → shown.service ≡ Service.State target → shown.told ≡ a ∷ more →
-      left (with_states x s table) shown ≡ []
+      left (with_states x s table).speech shown ≡ []
   left_none shown target a more service told =
-      ap₂ (λ (n : ℕ) (q : Service Q). drop n ((with_states x s table).planned q (plain (act_emission x.emission) shown.heard))) (ap length told) service
+      ap₂ (λ (n : ℕ) (q : Service Q). drop n ((with_states x s table).speech.planned q (plain (act_emission x.speech.emission) shown.heard))) (ap length told) service
       ∙ drop_past (Act.Word target ∷ []) more

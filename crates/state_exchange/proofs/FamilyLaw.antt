@@ -2,8 +2,8 @@
 use Rattle.std.proofs.Common.{◌≡◌, ◌⊎◌, inl, inr, ℕ, Bool, true, not, List, [], ◌∷◌, ◌++◌, refl, sym, ap, ◌∙◌, subst}
 use Rattle.std.proofs.lemmas.List.Elements.{filter_agree}
 use Rattle.exchange_model.specs.Prefix.{IsPrefixOf}
-use Rattle.exchange_model.specs.Exchange.{Exchange, IsLawful, Before, Behind, after, given, plain, emitted}
-use Rattle.state_exchange.specs.Stated.{AnswersLast, IsStated}
+use Rattle.exchange_model.specs.Exchange.{Exchange, IsLawful, AnswersLast, Before, Behind, after, given, plain, emitted}
+use Rattle.state_exchange.specs.Stated.{IsStated}
 use Rattle.state_exchange.specs.Families.{InState, AreOneClient, AreOne, in_states, states_of}
 
 module _ {V A M Q R : Type 0} (x : ℕ → Exchange V A M Q R) where
@@ -20,15 +20,15 @@ module _ {V A M Q R : Type 0} (x : ℕ → Exchange V A M Q R) where
   given_in v (m ∷ ms) = ap (λ l. ((x v.state).serve v.inner m).1 ++ l) (given_in (record v { inner = ((x v.state).serve v.inner m).0 }) ms)
 
   module _ (one : AreOneClient x) where
-    pub plain_given_in : (v : InState V) (ms : List M) → plain family.emission (given family.serve v ms) ≡ plain (x v.state).emission (given (x v.state).serve v.inner ms)
+    pub plain_given_in : (v : InState V) (ms : List M) → plain family.speech.emission (given family.serve v ms) ≡ plain (x v.state).speech.emission (given (x v.state).serve v.inner ms)
     plain_given_in v ms =
-        ap (plain family.emission) (given_in v ms)
-        ∙ filter_agree (λ m. not ((x 0).emission m)) (λ m. not ((x v.state).emission m)) (λ m. ap not (sym (one.emission v.state m))) (given (x v.state).serve v.inner ms)
+        ap (plain family.speech.emission) (given_in v ms)
+        ∙ filter_agree (λ m. not ((x 0).speech.emission m)) (λ m. not ((x v.state).speech.emission m)) (λ m. ap not (sym (one.emission v.state m))) (given (x v.state).serve v.inner ms)
 
-    pub emitted_given_in : (v : InState V) (ms : List M) → emitted family.emission (given family.serve v ms) ≡ emitted (x v.state).emission (given (x v.state).serve v.inner ms)
+    pub emitted_given_in : (v : InState V) (ms : List M) → emitted family.speech.emission (given family.serve v ms) ≡ emitted (x v.state).speech.emission (given (x v.state).serve v.inner ms)
     emitted_given_in v ms =
-        ap (emitted family.emission) (given_in v ms)
-        ∙ filter_agree (x 0).emission (x v.state).emission (λ m. sym (one.emission v.state m)) (given (x v.state).serve v.inner ms)
+        ap (emitted family.speech.emission) (given_in v ms)
+        ∙ filter_agree (x 0).speech.emission (x v.state).speech.emission (λ m. sym (one.emission v.state m)) (given (x v.state).serve v.inner ms)
 
     before_in : (v : InState V) (ms : List M) → Before (x v.state) v.inner ms → Before family v ms
     before_in v ms b = record {
@@ -45,12 +45,12 @@ module _ {V A M Q R : Type 0} (x : ℕ → Exchange V A M Q R) where
     }
 
     -- replies to a first part that are all replies, are so for the member
-    same_in : (v : InState V) (q : Q) (p : List M) → plain family.emission (given family.serve v p) ≡ plain family.emission (given family.serve v (family.full v q)) →
-        plain (x v.state).emission (given (x v.state).serve v.inner p) ≡ plain (x v.state).emission (given (x v.state).serve v.inner ((x v.state).full v.inner q))
+    same_in : (v : InState V) (q : Q) (p : List M) → plain family.speech.emission (given family.serve v p) ≡ plain family.speech.emission (given family.serve v (family.full v q)) →
+        plain (x v.state).speech.emission (given (x v.state).serve v.inner p) ≡ plain (x v.state).speech.emission (given (x v.state).serve v.inner ((x v.state).full v.inner q))
     same_in v q p same = sym (plain_given_in v p) ∙ same ∙ plain_given_in v (family.full v q)
 
     module _ (law : (state : ℕ) → IsLawful (x state)) where
-      part_in : (v : InState V) (q : Q) → family.ready v ≡ true → family.valid q ≡ true → (p r : List M) → family.full v q ≡ p ++ r → Before family v p ⊎ Behind family v q p
+      part_in : (v : InState V) (q : Q) → family.ready v ≡ true → family.speech.valid q ≡ true → (p r : List M) → family.full v q ≡ p ++ r → Before family v p ⊎ Behind family v q p
       part_in v q ready valid p r e = elim ((law v.state).part v.inner q ready (one.valid v.state q ∙ valid) p r e) [
         | inl b ↦ inl (before_in v p b)
         | inr b ↦ inr (behind_in v q p b)
@@ -61,8 +61,8 @@ module _ {V A M Q R : Type 0} (x : ℕ → Exchange V A M Q R) where
         ready = λ v q ready valid. ap family.ready (after_in v (family.full v q)) ∙ (law v.state).ready v.inner q ready (one.valid v.state q ∙ valid);
         whole = λ v q ready valid. behind_in v q (family.full v q) ((law v.state).whole v.inner q ready (one.valid v.state q ∙ valid));
         all_emitted = λ v q ready valid. emitted_given_in v (family.full v q) ∙ (law v.state).all_emitted v.inner q ready (one.valid v.state q ∙ valid);
-        replied = λ v q ready valid answers. ap (family.ends q) (plain_given_in v (family.full v q))
-            ∙ sym (one.ends v.state q (plain (x v.state).emission (given (x v.state).serve v.inner (family.full v q))))
+        replied = λ v q ready valid answers. ap (family.speech.ends q) (plain_given_in v (family.full v q))
+            ∙ sym (one.ends v.state q (plain (x v.state).speech.emission (given (x v.state).serve v.inner (family.full v q))))
             ∙ (law v.state).replied v.inner q ready (one.valid v.state q ∙ valid) (one.handed v.state q ∙ answers);
         silent = λ v q ready valid posts. plain_given_in v (family.full v q) ∙ (law v.state).silent v.inner q ready (one.valid v.state q ∙ valid) (one.handed v.state q ∙ posts);
         part = part_in;
@@ -72,8 +72,8 @@ module _ {V A M Q R : Type 0} (x : ℕ → Exchange V A M Q R) where
         ended = (law 0).ended;
         follows = λ v q ready valid hs more e. subst (λ l. IsPrefixOf l (family.full v q)) (one.planned v.state q hs)
             ((law v.state).follows v.inner q ready (one.valid v.state q ∙ valid) hs more (sym (plain_given_in v (family.full v q)) ∙ e));
-        all_planned = λ v q ready valid. ap (family.planned q) (plain_given_in v (family.full v q))
-            ∙ sym (one.planned v.state q (plain (x v.state).emission (given (x v.state).serve v.inner (family.full v q))))
+        all_planned = λ v q ready valid. ap (family.speech.planned q) (plain_given_in v (family.full v q))
+            ∙ sym (one.planned v.state q (plain (x v.state).speech.emission (given (x v.state).serve v.inner (family.full v q))))
             ∙ (law v.state).all_planned v.inner q ready (one.valid v.state q ∙ valid);
         unanswered = (law 0).unanswered;
         some = λ v q ready valid posts. (law v.state).some v.inner q ready (one.valid v.state q ∙ valid) (one.handed v.state q ∙ posts);

@@ -2,5 +2,4 @@ pub mod Acts
 pub mod StatedLaw
 pub mod Takens
 pub mod FamilyLaw
-pub mod Lasts
 pub mod ToyLaw

@@ -21,11 +21,11 @@ pub record Answered {V A M Q R : Type 0} (x : Exchange V A M Q R) (w : V) (q : Q
   pub rest : List M
   pub held_is : taken ++ rest ≡ held
   pub full_is : x.full w q ≡ own ++ rest
-  pub all_given : plain x.emission (given x.serve w own) ≡ plain x.emission (given x.serve w (x.full w q))
+  pub all_given : plain x.speech.emission (given x.serve w own) ≡ plain x.speech.emission (given x.serve w (x.full w q))
 
 module _ {V A M Q R : Type 0} (x : Exchange V A M Q R) (law : IsLawful x) (v : V) (ready : x.ready v ≡ true)
     (front last : List (Row M Q R)) (now : Row M Q R) (held taken accepted : List M) (at : Moment x v front last now held taken accepted) where
-  pub answered_rest : (answer : R × ℕ) → now.answer ≡ Some answer → left x now ≡ [] → Answered x (after x.serve v (told_all (front ++ last))) now.service held taken
+  pub answered_rest : (answer : R × ℕ) → now.answer ≡ Some answer → left x.speech now ≡ [] → Answered x (after x.serve v (told_all (front ++ last))) now.service held taken
   answered_rest answer is over =
       let fits = at.fits in
       elim (reached_or_waits x law v (front ++ last) now held taken accepted fits.settled fits.all_held fits.all_accepted at.order at.hears) [
@@ -39,13 +39,13 @@ module _ {V A M Q R : Type 0} (x : Exchange V A M Q R) (law : IsLawful x) (v : V
               rest = at.order.0;
               held_is = at.order.1;
               full_is = whole;
-              all_given = both_ways (plain x.emission (given x.serve w here.own)) (plain x.emission (given x.serve w all))
+              all_given = both_ways (plain x.speech.emission (given x.serve w here.own)) (plain x.speech.emission (given x.serve w all))
                   (filter_both _ _ _ (given_part x.serve w here.own all (at.order.0, sym whole)))
-                  (subst (λ l. IsPrefixOf l (plain x.emission (given x.serve w here.own))) done.1.all_heard here.hears);
+                  (subst (λ l. IsPrefixOf l (plain x.speech.emission (given x.serve w here.own))) done.1.all_heard here.hears);
             }
         | inr wait ↦ absurd (
             let found = (fits.answered answer is).1 in
-            let none : x.ends now.service (plain x.emission now.heard) ≡ None = ap (x.ends now.service) wait.quiet ∙ law.none now.service in
+            let none : x.speech.ends now.service (plain x.speech.emission now.heard) ≡ None = ap (x.speech.ends now.service) wait.quiet ∙ law.none now.service in
             cc)
       ]
 
@@ -54,13 +54,13 @@ module _ {V A M Q R : Type 0} (x : Exchange V A M Q R) (s : Stated V A Q) (table
   both = with_states x s table
 
   -- where all replies of a service by mails came that has no acknowledgement, nothing of it is left
-  none_left : (w : Counting V) (q : Q) (held taken : List (Act M)) → x.ready w.server ≡ true → x.valid q ≡ true → x.handed q ≡ false → s.acknowledged q ≡ false →
+  none_left : (w : Counting V) (q : Q) (held taken : List (Act M)) → x.ready w.server ≡ true → x.speech.valid q ≡ true → x.speech.handed q ≡ false → s.acknowledged q ≡ false →
       Answered both w (Service.Mails q) held taken → taken ≡ held
   none_left w q held taken ready valid replies quiet a =
       let all = x.full w.server q in
       let own : acts (mails a.own) ≡ a.own = front_acts all a.own a.rest a.full_is in
-      let equal : acts (plain x.emission (given x.serve w.server (mails a.own))) ≡ acts (plain x.emission (given x.serve w.server all)) =
-      sym (plain_given_acts x s table w (mails a.own)) ∙ ap (λ l. plain both.emission (given both.serve w l)) own ∙ a.all_given ∙ plain_given_acts x s table w all in
+      let equal : acts (plain x.speech.emission (given x.serve w.server (mails a.own))) ≡ acts (plain x.speech.emission (given x.serve w.server all)) =
+      sym (plain_given_acts x s table w (mails a.own)) ∙ ap (λ l. plain both.speech.emission (given both.serve w l)) own ∙ a.all_given ∙ plain_given_acts x s table w all in
       let none : mails a.rest ≡ [] = stated.last w.server q ready valid replies quiet (mails a.own) (mails a.rest) (cut_mails all a.own a.rest a.full_is) (acts_same _ _ equal) in
       let rest : a.rest ≡ [] = sym (rest_acts all a.own a.rest a.full_is) ∙ ap acts none in
       sym (append-nil taken) ∙ ap (λ l. taken ++ l) (sym rest) ∙ a.held_is
@@ -68,10 +68,10 @@ module _ {V A M Q R : Type 0} (x : Exchange V A M Q R) (s : Stated V A Q) (table
   module _ (v : Counting V) (ready : x.ready v.server ≡ true) (front last : List (Row (Act M) (Service Q) (Outcome R))) (now : Row (Act M) (Service Q) (Outcome R))
       (held taken accepted : List (Act M)) (at : Moment (with_states x s table) v front last now held taken accepted) where
     -- with its answer, and nothing left to tell, a service by mails that has no acknowledgement was taken whole
-    pub answered_taken : (q : Q) → now.service ≡ Service.Mails q → s.acknowledged q ≡ false → (answer : Outcome R × ℕ) → now.answer ≡ Some answer → left (with_states x s table) now ≡ [] → taken ≡ held
+    pub answered_taken : (q : Q) → now.service ≡ Service.Mails q → s.acknowledged q ≡ false → (answer : Outcome R × ℕ) → now.answer ≡ Some answer → left (with_states x s table).speech now ≡ [] → taken ≡ held
     answered_taken q service quiet answer is over =
         let lawful = stated_law x s table stated law in
         let w = after both.serve v (told_all (front ++ last)) in
         none_left w q held taken (settled_ready both lawful v (front ++ last) ready at.fits.settled)
-        (ap both.valid (sym service) ∙ at.fits.valid) (ap both.handed (sym service) ∙ (at.fits.answered answer is).0) quiet
+        (ap both.speech.valid (sym service) ∙ at.fits.valid) (ap both.speech.handed (sym service) ∙ (at.fits.answered answer is).0) quiet
         (subst (λ service. Answered both w service held taken) service (answered_rest both lawful v ready front last now held taken accepted at answer is over))

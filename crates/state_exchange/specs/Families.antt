@@ -10,11 +10,11 @@ pub record InState (X : Type 0) : Type 0 where
 
 -- no member's client depends on the AL state, which only the server knows
 pub record AreOneClient {V A M Q R : Type 0} (x : ℕ → Exchange V A M Q R) : Type 0 where
-  pub emission : (state : ℕ) (m : M) → (x state).emission m ≡ (x 0).emission m
-  pub valid : (state : ℕ) (q : Q) → (x state).valid q ≡ (x 0).valid q
-  pub planned : (state : ℕ) (q : Q) (hs : List M) → (x state).planned q hs ≡ (x 0).planned q hs
-  pub ends : (state : ℕ) (q : Q) (hs : List M) → (x state).ends q hs ≡ (x 0).ends q hs
-  pub handed : (state : ℕ) (q : Q) → (x state).handed q ≡ (x 0).handed q
+  pub emission : (state : ℕ) (m : M) → (x state).speech.emission m ≡ (x 0).speech.emission m
+  pub valid : (state : ℕ) (q : Q) → (x state).speech.valid q ≡ (x 0).speech.valid q
+  pub planned : (state : ℕ) (q : Q) (hs : List M) → (x state).speech.planned q hs ≡ (x 0).speech.planned q hs
+  pub ends : (state : ℕ) (q : Q) (hs : List M) → (x state).speech.ends q hs ≡ (x 0).speech.ends q hs
+  pub handed : (state : ℕ) (q : Q) → (x state).speech.handed q ≡ (x 0).speech.handed q
 
 -- and each member sees the same in a server, so that a change of the AL state alone leaves all that
 pub record AreOne {V A M Q R : Type 0} (x : ℕ → Exchange V A M Q R) : Type 0 where
@@ -29,12 +29,8 @@ in_states x = record {
   serve = λ v m. (record v { inner = ((x v.state).serve v.inner m).0 }, ((x v.state).serve v.inner m).1);
   app = λ v. record { inner = (x v.state).app v.inner; state = v.state };
   handled = λ v. (x v.state).handled v.inner;
-  emission = (x 0).emission;
   ready = λ v. (x v.state).ready v.inner;
-  valid = (x 0).valid;
-  planned = (x 0).planned;
-  ends = (x 0).ends;
-  handed = (x 0).handed;
+  speech = (x 0).speech;
   full = λ v q. (x v.state).full v.inner q;
   exec = λ a q. record a { inner = (x a.state).exec a.inner q };
   reply = λ a q. (x a.state).reply a.inner q;

@@ -1,6 +1,6 @@
 -- An exchange whose application has an AL state, with its state services beside the services by mails: one exchange of both.
 use Rattle.std.specs.Prelude.{◌≡◌, ◌+◌, ℕ, suc, Bool, true, false, Option, Some, None, option_map, List, [], ◌∷◌, ◌++◌, map}
-use Rattle.exchange_model.specs.Exchange.{Exchange, plain, given}
+use Rattle.exchange_model.specs.Exchange.{Exchange, Speech, AnswersLast}
 use Rattle.segment_model.specs.Ends.{Outcome}
 use Rattle.state_model.specs.States.{Table}
 use Rattle.state_model.specs.Promises.{state_behind, answer_of}
@@ -14,12 +14,6 @@ pub record Stated (V A Q : Type 0) : Type 0 where
   pub state : A → ℕ
   -- whether the last mail of a service is an acknowledgement, which brings no reply
   pub acknowledged : Q → Bool
-
--- each mail of a service brings a reply at last, but for an acknowledgement: with all replies all mails were taken
-abbrev pub AnswersLast : {V A M Q R : Type 0} → Exchange V A M Q R → (Q → Bool) → Type 0
-AnswersLast {V} {M = M} {Q = Q} x acknowledged =
-    (v : V) (q : Q) → x.ready v ≡ true → x.valid q ≡ true → x.handed q ≡ false → acknowledged q ≡ false → (p r : List M) → x.full v q ≡ p ++ r →
-    plain x.emission (given x.serve v p) ≡ plain x.emission (given x.serve v (x.full v q)) → r ≡ []
 
 -- what such an exchange owes beside the laws of exchange
 pub record IsStated {V A M Q R : Type 0} (x : Exchange V A M Q R) (s : Stated V A Q) : Type 0 where
@@ -79,32 +73,32 @@ act_emission emission (Act.Mail m) = emission m
 act_emission emission (Act.Word target) = false
 
 -- the laws speak of each state service
-abbrev pub service_valid : {V A M Q R : Type 0} → Exchange V A M Q R → Service Q → Bool
+abbrev pub service_valid : {M Q R : Type 0} → Speech M Q R → Service Q → Bool
 service_valid x (Service.Mails q) = x.valid q
 service_valid x (Service.State target) = true
 
 -- the client's acts, until it has to hear more; what hears a control word is no client of a service by mails
-abbrev pub planned_by : {V A M Q R : Type 0} → Exchange V A M Q R → Q → Option (List M) → List (Act M)
+abbrev pub planned_by : {M Q R : Type 0} → Speech M Q R → Q → Option (List M) → List (Act M)
 planned_by x q None = []
 planned_by x q (Some hs) = acts (x.planned q hs)
 
 -- the client of a state service has its control word
-abbrev pub service_planned : {V A M Q R : Type 0} → Exchange V A M Q R → Service Q → List (Act M) → List (Act M)
+abbrev pub service_planned : {M Q R : Type 0} → Speech M Q R → Service Q → List (Act M) → List (Act M)
 service_planned x (Service.Mails q) hs = planned_by x q (all_mails hs)
 service_planned x (Service.State target) hs = Act.Word target ∷ []
 
 -- the reply of a service by mails, where only mails were heard
-abbrev pub ends_by : {V A M Q R : Type 0} → Exchange V A M Q R → Q → Option (List M) → Option (Outcome R)
+abbrev pub ends_by : {M Q R : Type 0} → Speech M Q R → Q → Option (List M) → Option (Outcome R)
 ends_by x q None = None
 ends_by x q (Some hs) = option_map (λ r. Outcome.Replied r) (x.ends q hs)
 
 -- a state service has no reply by mails: a status ends it
-abbrev pub service_ends : {V A M Q R : Type 0} → Exchange V A M Q R → Service Q → List (Act M) → Option (Outcome R)
+abbrev pub service_ends : {M Q R : Type 0} → Speech M Q R → Service Q → List (Act M) → Option (Outcome R)
 service_ends x (Service.Mails q) hs = ends_by x q (all_mails hs)
 service_ends x (Service.State target) hs = None
 
 -- a state service is over without a reply by mails, like one that ends with its last write
-abbrev pub service_handed : {V A M Q R : Type 0} → Exchange V A M Q R → Service Q → Bool
+abbrev pub service_handed : {M Q R : Type 0} → Speech M Q R → Service Q → Bool
 service_handed x (Service.Mails q) = x.handed q
 service_handed x (Service.State target) = true
 
@@ -134,18 +128,24 @@ states_in [] = 0
 states_in (Service.Mails q ∷ qs) = states_in qs
 states_in (Service.State target ∷ qs) = suc (states_in qs)
 
+-- what the client of both speaks
+abbrev pub service_speech : {M Q R : Type 0} → Speech M Q R → Speech (Act M) (Service Q) (Outcome R)
+service_speech x = record {
+  emission = act_emission x.emission;
+  valid = service_valid x;
+  planned = service_planned x;
+  ends = service_ends x;
+  handed = service_handed x;
+}
+
 -- BOTH AS ONE EXCHANGE: it counts services by mails and state services alike; beside the application stands how many state services were done
 abbrev pub with_states : {V A M Q R : Type 0} → Exchange V A M Q R → Stated V A Q → Table → Exchange (Counting V) (A × ℕ) (Act M) (Service Q) (Outcome R)
 with_states x s table = record {
   serve = λ c a. serve_act x s table c a;
   app = λ c. (x.app c.server, c.words);
   handled = λ c. x.handled c.server + c.words;
-  emission = act_emission x.emission;
   ready = λ c. x.ready c.server;
-  valid = service_valid x;
-  planned = service_planned x;
-  ends = service_ends x;
-  handed = service_handed x;
+  speech = service_speech x.speech;
   full = λ c q. service_full x c.server q;
   exec = service_exec x s table;
   reply = service_reply x s table;

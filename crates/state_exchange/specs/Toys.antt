@@ -1,6 +1,6 @@
 -- A small exchange with an AL state: the adder with a state beside its value, which adds in one state alone.
 use Rattle.std.specs.Prelude.{ℕ, zero, suc, ◌+◌, nat_le, Bool, true, false, if◌then◌else◌, List, [], ◌∷◌, Option, None, Some}
-use Rattle.exchange_model.specs.Exchange.{Exchange}
+use Rattle.exchange_model.specs.Exchange.{Exchange, Speech}
 use Rattle.exchange_model.specs.Dialogue.{said, sent}
 use Rattle.exchange_model.specs.Toy.{Mail, first, second, posted, held, total, refused, noted, Service, sum, post, Adder, emission, decide, handed, number}
 use Rattle.exchange_model.specs.Toy
@@ -65,18 +65,18 @@ abbrev pub emits_in : Bool → Service → List Mail
 emits_in true q = noted (number q) ∷ []
 emits_in false q = []
 
+-- what its client speaks
+abbrev pub speech : Speech Mail Service (Option ℕ)
+speech = record { emission = emission; valid = λ q. true; planned = λ q hs. said decide 2 (Toy.mails q) hs; ends = ends; handed = handed }
+
 -- the adder with its state as an exchange
 abbrev pub desk : Exchange Desk Sheet Mail Service (Option ℕ)
 desk = record {
   serve = serve;
   app = λ d. record { value = d.adder.value; state = d.state };
   handled = λ d. d.adder.handled;
-  emission = emission;
   ready = λ d. true;
-  valid = λ q. true;
-  planned = λ q hs. said decide 2 (Toy.mails q) hs;
-  ends = ends;
-  handed = handed;
+  speech = speech;
   full = λ d q. sent serve emission decide 2 d (Toy.mails q);
   exec = λ a q. exec_in (adds a.state) a q;
   reply = λ a q. reply_in (adds a.state) a q;

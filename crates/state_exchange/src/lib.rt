@@ -3,11 +3,10 @@
 #![tactic(auto)]
 
 ghost use Rattle.std.specs.Prelude.{◌≡◌, ℕ, Bool, length};
-ghost use Rattle.exchange_model.specs.Exchange.{Exchange, IsLawful, after, given};
-ghost use Rattle.exchange_model.specs.Lifted.{Spells, lifted};
+ghost use Rattle.exchange_model.specs.Exchange.{Exchange, IsLawful, AnswersLast, after, given};
 ghost use Rattle.exchange_model.specs.Rows.{exec_all};
 ghost use Rattle.state_model.specs.States.{Table};
-ghost use Rattle.state_exchange.specs.Stated.{Stated, AnswersLast, IsStated, with_states};
+ghost use Rattle.state_exchange.specs.Stated.{Stated, IsStated, with_states};
 ghost use Rattle.state_exchange.specs.Families.{AreOneClient, AreOne, in_states, states_of};
 ghost use Rattle.state_exchange.specs.Toys.{desk, desk_states, stated_desk, start, tried, taken, heard, ended, replies, told};
 
@@ -22,11 +21,6 @@ pub fn states_are_lawful<V, A, M, Q, R>()
 pub fn families_are_stated<V, A, M, Q, R>()
     ensures lawful { (x : ℕ → Exchange V A M Q R) → AreOneClient x → ((state : ℕ) → IsLawful (x state)) → IsLawful (in_states x) }
     ensures stated { (x : ℕ → Exchange V A M Q R) (acknowledged : Q → Bool) → AreOne x → ((state : ℕ) → AnswersLast (x state) acknowledged) → IsStated (in_states x) (states_of acknowledged) }
-{}
-
-/// Where each mail of a service brings a reply at last, so does what it is written as.
-pub fn spellings_answer_last<V, A, M, N, Q, R>()
-    ensures { (x : Exchange V A M Q R) (read : N → M) (write : M → N) (acknowledged : Q → Bool) → Spells x read write → AnswersLast x acknowledged → AnswersLast (lifted x read write) acknowledged }
 {}
 
 /// The laws can be met: an adder with an AL state, which adds in one state alone, owes and keeps those of exchange and those of an AL state,

@@ -44,9 +44,9 @@ in_done_last count number [] r all answer e = let below = all.0 answer e in omeg
 in_done_last count number (s ∷ rs) r all answer e = let below = in_done_last count (suc number) rs r all.1 answer e in omega (arith, below)
 
 -- nothing is left of a row that is over, and it ends with its last write, which is done, or it has its answer
-over_parts : {V A M Q R : Type 0} (x : Exchange V A M Q R) (holding : Option (LinkMail M)) (fresh : Bool) (r : Row M Q R) → is_over x holding fresh r ≡ true →
-    (left x r ≡ []) × (((x.handed r.service ≡ true) × (holding ≡ None)) ⊎ ((a : R × ℕ) × (r.answer ≡ Some a)))
-over_parts {M = M} {R = R} x holding fresh r e = (parts.0, go (x.handed r.service) refl parts.1)
+over_parts : {V A M Q R : Type 0} (x : Exchange V A M Q R) (holding : Option (LinkMail M)) (fresh : Bool) (r : Row M Q R) → is_over x.speech holding fresh r ≡ true →
+    (left x.speech r ≡ []) × (((x.speech.handed r.service ≡ true) × (holding ≡ None)) ⊎ ((a : R × ℕ) × (r.answer ≡ Some a)))
+over_parts {M = M} {R = R} x holding fresh r e = (parts.0, go (x.speech.handed r.service) refl parts.1)
   where
     empty : (ms : List M) (b : Bool) → is_none_left ms && b ≡ true → (ms ≡ []) × (b ≡ true)
     empty [] b e = (refl, e)
@@ -60,10 +60,10 @@ over_parts {M = M} {R = R} x holding fresh r e = (parts.0, go (x.handed r.servic
     has None e = absurd (cc)
     has (Some a) e = (a, refl)
 
-    parts : (left x r ≡ []) × ((if x.handed r.service then is_none holding else is_some r.answer && not fresh) ≡ true)
-    parts = empty (left x r) (if x.handed r.service then is_none holding else is_some r.answer && not fresh) e
+    parts : (left x.speech r ≡ []) × ((if x.speech.handed r.service then is_none holding else is_some r.answer && not fresh) ≡ true)
+    parts = empty (left x.speech r) (if x.speech.handed r.service then is_none holding else is_some r.answer && not fresh) e
 
-    go : (handed : Bool) → x.handed r.service ≡ handed → (if handed then is_none holding else is_some r.answer && not fresh) ≡ true → ((x.handed r.service ≡ true) × (holding ≡ None)) ⊎ ((a : R × ℕ) × (r.answer ≡ Some a))
+    go : (handed : Bool) → x.speech.handed r.service ≡ handed → (if handed then is_none holding else is_some r.answer && not fresh) ≡ true → ((x.speech.handed r.service ≡ true) × (holding ≡ None)) ⊎ ((a : R × ℕ) × (r.answer ≡ Some a))
     go true h f = inl (h, idle holding f)
     go false h f = inr (has r.answer f)
 
@@ -85,14 +85,14 @@ module _ {V A M Q R : Type 0} (x : Exchange V A M Q R) (law : IsLawful x) (v : V
       fits.handled ∙ (let same : x.handled v + fits.count ≡ x.handled v + length (front ++ last ++ now ∷ []) = omega (arith, below, fits.prefix, length-append (front ++ last) (now ∷ [])) in same)
 
   -- one that ends with its last write was, once all mails held are taken
-  drained_handed : (held taken accepted : List M) → Moment x v front last now held taken accepted → x.handed now.service ≡ true → left x now ≡ [] → taken ≡ held → x.handled (after x.serve v taken) ≡ x.handled v + length (front ++ last ++ now ∷ [])
+  drained_handed : (held taken accepted : List M) → Moment x v front last now held taken accepted → x.speech.handed now.service ≡ true → left x.speech now ≡ [] → taken ≡ held → x.handled (after x.serve v taken) ≡ x.handled v + length (front ++ last ++ now ∷ [])
   drained_handed held taken accepted at posts over all =
       let whole = handed_whole x law v ready front last now held taken accepted at.fits at.order at.hears posts over in
       let settled = settled_more x law v (front ++ last) now at.fits.settled whole in
       let same : taken ≡ told_all (front ++ last ++ now ∷ []) = all ∙ at.fits.all_held ∙ sym (told_all_last (front ++ last) now) in
       ap (λ ms. x.handled (after x.serve v ms)) same ∙ settled_handled x law v (front ++ last ++ now ∷ []) ready settled
 
-  pub drained : {S : Type 0} (w : Link M S) → Agrees w → Moment x v front last now w.held w.taken w.accepted → (fresh : Bool) → is_over x w.halves.out.holding fresh now ≡ true → w.node.out.box ≡ None →
+  pub drained : {S : Type 0} (w : Link M S) → Agrees w → Moment x v front last now w.held w.taken w.accepted → (fresh : Bool) → is_over x.speech w.halves.out.holding fresh now ≡ true → w.node.out.box ≡ None →
       x.handled (after x.serve v w.taken) ≡ x.handled v + length (front ++ last ++ now ∷ [])
   drained w agrees at fresh over box =
       let parts = over_parts x w.halves.out.holding fresh now over in
@@ -109,7 +109,7 @@ module _ {V A M Q R : Type 0} (x : Exchange V A M Q R) (law : IsLawful x) (v : V
       let number = fits.handled in
       omega (arith, behind, number, length-append (front ++ last ++ now ∷ []) (begun now.service 0 ∷ []), length-append (front ++ last) (now ∷ []))
 
-  pub few : {S : Type 0} (w : Link M S) → Agrees w → Moment x v front last now w.held w.taken w.accepted → (fresh : Bool) → is_over x w.halves.out.holding fresh now ≡ true →
+  pub few : {S : Type 0} (w : Link M S) → Agrees w → Moment x v front last now w.held w.taken w.accepted → (fresh : Bool) → is_over x.speech w.halves.out.holding fresh now ≡ true →
       x.handled v + length (front ++ last ++ now ∷ []) ≤ x.handled (after x.serve v w.taken) + 1
   few w agrees at fresh over =
       let parts = over_parts x w.halves.out.holding fresh now over in

@@ -52,12 +52,12 @@ pub fn drain_law<V, A, M, Q, R, S>()
     // With the newest row over and mailbox 0 empty, the server has carried out the services of all rows. A mail of an answered row may still be
     // held: it is a repeat.
     ensures drained { (x : Exchange V A M Q R) → IsLawful x → (v : V) → x.ready v ≡ true → (front last : List (Row M Q R)) (now : Row M Q R) (w : Link M S) → Agrees w →
-        Moment x v front last now w.held w.taken w.accepted → (fresh : Bool) → is_over x w.halves.out.holding fresh now ≡ true → w.node.out.box ≡ None →
+        Moment x v front last now w.held w.taken w.accepted → (fresh : Bool) → is_over x.speech w.halves.out.holding fresh now ≡ true → w.node.out.box ≡ None →
         x.handled (after x.serve v w.taken) ≡ x.handled v + length (front ++ last ++ now ∷ []) }
 
     // With the newest row over all but one are carried out, so a state service may come into hand.
     ensures few { (x : Exchange V A M Q R) → IsLawful x → (v : V) → x.ready v ≡ true → (front last : List (Row M Q R)) (now : Row M Q R) (w : Link M S) → Agrees w →
-        Moment x v front last now w.held w.taken w.accepted → (fresh : Bool) → is_over x w.halves.out.holding fresh now ≡ true →
+        Moment x v front last now w.held w.taken w.accepted → (fresh : Bool) → is_over x.speech w.halves.out.holding fresh now ≡ true →
         x.handled v + length (front ++ last ++ now ∷ []) ≤ x.handled (after x.serve v w.taken) + 1 }
 
     // A drained slave stays so, whatever the server takes, while no further row begins.

@@ -72,15 +72,15 @@ same_moment x v front last now held held' taken taken' accepted accepted' e f g 
 module _ {V A M Q R : Type 0} (x : Exchange V A M Q R) (law : IsLawful x) (s : Stated V A Q) (table : Table) (stated : IsStated x s) where
   -- what is known of a row by mails that ends with its last write
   pub mails_facts : (v : V) → x.ready v ≡ true → (front last : List (GhostRow M Q R)) (g : GhostRow M Q R) (held taken accepted : List (Act M)) → Moment (with_states x s table) (counting v) front last g held taken accepted →
-      (r : Row M Q R) → Shows g r → x.handed r.service ≡ true → Facts x law r
+      (r : Row M Q R) → Shows g r → x.speech.handed r.service ≡ true → Facts x law r
   mails_facts v ready front last g held taken accepted at r h posts =
       let y = with_states x s table in
       let f = facts_of y (stated_law x s table stated law) (counting v) ready (front ++ last) (Some g) held taken accepted (record { front = front; last = last; split = refl; moment = at })
-      (ap (service_handed x) h.service ∙ posts) in
-      let planned : service_planned x g.service [] ≡ acts (x.planned r.service []) = ap (λ q. service_planned x q []) h.service in
+      (ap (service_handed x.speech) h.service ∙ posts) in
+      let planned : service_planned x.speech g.service [] ≡ acts (x.speech.planned r.service []) = ap (λ q. service_planned x.speech q []) h.service in
       record {
-        silent = no_acts (plain x.emission r.heard) (sym (plain_acts x.emission r.heard) ∙ ap (plain y.emission) (sym h.heard) ∙ f.silent);
-        mine = begin_acts r.told (x.planned r.service []) (subst (λ l. IsPrefixOf l (acts (x.planned r.service []))) h.told (subst (IsPrefixOf g.told) planned f.mine));
+        silent = no_acts (plain x.speech.emission r.heard) (sym (plain_acts x.speech.emission r.heard) ∙ ap (plain y.speech.emission) (sym h.heard) ∙ f.silent);
+        mine = begin_acts r.told (x.speech.planned r.service []) (subst (λ l. IsPrefixOf l (acts (x.speech.planned r.service []))) h.told (subst (IsPrefixOf g.told) planned f.mine));
         some = λ none. f.some (planned ∙ ap acts none);
       }
 
@@ -99,7 +99,7 @@ module _ {V A M Q R : Type 0} (x : Exchange V A M Q R) (law : IsLawful x) (s : S
     pub labels : mail_labels before ≡ labels_of (rows_of seat.side)
     pub rested : Rested x law seat.side.past seat.side.now
     pub drained : is_acknowledged s.acknowledged seat.side seat.side.now ≡ true → (seat.side.halves.out.holding ≡ None) ⊎ (rest ≡ [])
-    pub next : (q : Service Q) (frame : ℕ) → service_valid x q ≡ true → Begun seat taken rest before q frame
+    pub next : (q : Service Q) (frame : ℕ) → service_valid x.speech q ≡ true → Begun seat taken rest before q frame
 
   opens_first : (from : ℕ) (seat : Seat V M Q R) (a : Account Q R) → x.ready seat.start ≡ true → SeatAgrees x seat → (c : Carried x law s table from seat a) → Untouched x law s table seat a c.taken → Opening seat a c.taken c.rest
   opens_first from seat a ready agrees c u =
@@ -125,7 +125,7 @@ module _ {V A M Q R : Type 0} (x : Exchange V A M Q R) (law : IsLawful x) (s : S
 
   -- of a row by mails that is over
   opens_mails : (from : ℕ) (seat : Seat V M Q R) (a : Account Q R) → x.ready seat.start ≡ true → SeatAgrees x seat → (c : Carried x law s table from seat a) → (r : Rowed x law s table from seat a c.taken c.rest) →
-      (m : MailsNow seat.side a.hand (r.front ++ r.last) r.now) → is_over x seat.side.halves.out.holding seat.side.fresh m.row ≡ true → Opening seat a c.taken c.rest
+      (m : MailsNow seat.side a.hand (r.front ++ r.last) r.now) → is_over x.speech seat.side.halves.out.holding seat.side.fresh m.row ≡ true → Opening seat a c.taken c.rest
   opens_mails from seat a ready agrees c r m over =
       record {
         before = r.front ++ r.last ++ r.now ∷ [];
@@ -144,22 +144,22 @@ module _ {V A M Q R : Type 0} (x : Exchange V A M Q R) (law : IsLawful x) (s : S
         };
       }
     where
-      parts : (left x m.row ≡ []) × (((x.handed m.row.service ≡ true) × (seat.side.halves.out.holding ≡ None)) ⊎ (((a : R × ℕ) × (m.row.answer ≡ Some a)) × (seat.side.fresh ≡ false)))
+      parts : (left x.speech m.row ≡ []) × (((x.speech.handed m.row.service ≡ true) × (seat.side.halves.out.holding ≡ None)) ⊎ (((a : R × ℕ) × (m.row.answer ≡ Some a)) × (seat.side.fresh ≡ false)))
       parts = over_parts x seat.side.halves.out.holding seat.side.fresh m.row over
 
       lawful : IsLawful (with_states x s table)
       lawful = stated_law x s table stated law
 
-      nothing : left (with_states x s table) r.now ≡ []
+      nothing : left (with_states x s table).speech r.now ≡ []
       nothing = left_mails x s table r.now m.row m.shows.service m.shows.told m.shows.heard ∙ ap acts parts.0
 
       answer : (b : R × ℕ) → m.row.answer ≡ Some b → r.now.answer ≡ Some (Outcome.Replied b.0, b.1)
       answer b e = m.shows.answer ∙ ap (λ o. option_map (λ (c : R × ℕ). (Outcome.Replied c.0, c.1)) o) e
 
-      done : (((a : R × ℕ) × (m.row.answer ≡ Some a)) × (x.handed m.row.service ≡ false)) ⊎ ((x.handed m.row.service ≡ true) × Facts x law m.row)
+      done : (((a : R × ℕ) × (m.row.answer ≡ Some a)) × (x.speech.handed m.row.service ≡ false)) ⊎ ((x.speech.handed m.row.service ≡ true) × Facts x law m.row)
       done = elim parts.1 [
         | inl h ↦ inr (h.0, mails_facts seat.start ready r.front r.last r.now (c.taken ++ acts c.rest) c.taken (acts seat.accepted) r.moment m.row m.shows h.0)
-        | inr b ↦ inl (b.0, sym (ap (service_handed x) m.shows.service) ∙ (r.moment.fits.answered (Outcome.Replied b.0.0.0, b.0.0.1) (answer b.0.0 b.0.1)).0)
+        | inr b ↦ inl (b.0, sym (ap (service_handed x.speech) m.shows.service) ∙ (r.moment.fits.answered (Outcome.Replied b.0.0.0, b.0.0.1) (answer b.0.0 b.0.1)).0)
       ]
 
       short : seat.side.halves.out.holding ≡ None → length (c.taken ++ acts c.rest) ≤ length c.taken + 1
@@ -170,14 +170,14 @@ module _ {V A M Q R : Type 0} (x : Exchange V A M Q R) (law : IsLawful x) (s : S
           let l4 = acts_length c.rest in
           omega (arith, l1, l2, l3, l4)
 
-      next : ((x.handed m.row.service ≡ true) × (seat.side.halves.out.holding ≡ None)) ⊎ (((a : R × ℕ) × (m.row.answer ≡ Some a)) × (seat.side.fresh ≡ false)) → (q : Service Q) (frame : ℕ) → service_valid x q ≡ true →
+      next : ((x.speech.handed m.row.service ≡ true) × (seat.side.halves.out.holding ≡ None)) ⊎ (((a : R × ℕ) × (m.row.answer ≡ Some a)) × (seat.side.fresh ≡ false)) → (q : Service Q) (frame : ℕ) → service_valid x.speech q ≡ true →
           Moment (with_states x s table) (counting seat.start) (r.front ++ r.last) (r.now ∷ []) (begun q frame) (c.taken ++ acts c.rest) c.taken (acts seat.accepted)
       next (inl h) q frame valid =
-          Moments.handed (with_states x s table) lawful (counting seat.start) ready r.front r.last r.now (c.taken ++ acts c.rest) c.taken (acts seat.accepted) r.moment (ap (service_handed x) m.shows.service ∙ h.0) nothing (short h.1) q frame valid
+          Moments.handed (with_states x s table) lawful (counting seat.start) ready r.front r.last r.now (c.taken ++ acts c.rest) c.taken (acts seat.accepted) r.moment (ap (service_handed x.speech) m.shows.service ∙ h.0) nothing (short h.1) q frame valid
       next (inr b) q frame valid =
           Moments.answered (with_states x s table) lawful (counting seat.start) ready r.front r.last r.now (c.taken ++ acts c.rest) c.taken (acts seat.accepted) r.moment (Outcome.Replied b.0.0.0, b.0.0.1) (answer b.0.0 b.0.1) nothing q frame valid
 
-      drained : ((x.handed m.row.service ≡ true) × (seat.side.halves.out.holding ≡ None)) ⊎ (((a : R × ℕ) × (m.row.answer ≡ Some a)) × (seat.side.fresh ≡ false)) → (acknowledged : Bool) → s.acknowledged m.row.service ≡ acknowledged →
+      drained : ((x.speech.handed m.row.service ≡ true) × (seat.side.halves.out.holding ≡ None)) ⊎ (((a : R × ℕ) × (m.row.answer ≡ Some a)) × (seat.side.fresh ≡ false)) → (acknowledged : Bool) → s.acknowledged m.row.service ≡ acknowledged →
           (if acknowledged then is_none seat.side.halves.out.holding else true) ≡ true → (seat.side.halves.out.holding ≡ None) ⊎ (c.rest ≡ [])
       drained (inl h) acknowledged e k = inl h.1
       drained (inr b) true e k = inl (idle seat.side.halves.out.holding k)
@@ -213,17 +213,17 @@ module _ {V A M Q R : Type 0} (x : Exchange V A M Q R) (law : IsLawful x) (s : S
       same : held ≡ c.taken
       same = ap (λ l. c.taken ++ acts l) over.0 ∙ append-nil c.taken
 
-      next : (q : Service Q) (frame : ℕ) → service_valid x q ≡ true → Moment (with_states x s table) (counting seat.start) (r.front ++ r.last) (r.now ∷ []) (begun q frame) held c.taken (acts seat.accepted)
+      next : (q : Service Q) (frame : ℕ) → service_valid x.speech q ≡ true → Moment (with_states x s table) (counting seat.start) (r.front ++ r.last) (r.now ∷ []) (begun q frame) held c.taken (acts seat.accepted)
       next q frame valid =
-          Moments.handed (with_states x s table) (stated_law x s table stated law) (counting seat.start) ready r.front r.last r.now held c.taken (acts seat.accepted) r.moment (ap (service_handed x) n.service)
+          Moments.handed (with_states x s table) (stated_law x s table stated law) (counting seat.start) ready r.front r.last r.now held c.taken (acts seat.accepted) r.moment (ap (service_handed x.speech) n.service)
           (left_none x s table r.now n.target (Act.Word n.target) [] n.service over.1) (let l = ap length same in omega (arith, l)) q frame valid
 
   -- where nothing is in hand and the newest row by mails is over, the next service may begin
-  pub opens : (from : ℕ) (seat : Seat V M Q R) (a : Account Q R) → x.ready seat.start ≡ true → SeatAgrees x seat → (c : Carried x law s table from seat a) → a.hand ≡ None → is_free x seat.side seat.side.now ≡ true → Opening seat a c.taken c.rest
+  pub opens : (from : ℕ) (seat : Seat V M Q R) (a : Account Q R) → x.ready seat.start ≡ true → SeatAgrees x seat → (c : Carried x law s table from seat a) → a.hand ≡ None → is_free x.speech seat.side seat.side.now ≡ true → Opening seat a c.taken c.rest
   opens from seat a ready agrees c idle free = elim c.rows [
     | inl u ↦ opens_first from seat a ready agrees c u
     | inr r ↦ elim r.place [
-      | inl m ↦ opens_mails from seat a ready agrees c r m (sym (ap (is_free x seat.side) m.is) ∙ free)
+      | inl m ↦ opens_mails from seat a ready agrees c r m (sym (ap (is_free x.speech seat.side) m.is) ∙ free)
       | inr n ↦ opens_state from seat a ready c r n idle
     ]
   ]
@@ -249,7 +249,7 @@ module _ {V A M Q R : Type 0} (x : Exchange V A M Q R) (law : IsLawful x) (s : S
 
   -- a service by mails comes into hand
   begins_mails : (from : ℕ) (seat : Seat V M Q R) (a : Account Q R) (c : Carried x law s table from seat a) → Opening seat a c.taken c.rest → (q : Q) (frame : ℕ) (past : List (Row M Q R)) → labels_of past ≡ labels_of (rows_of seat.side) →
-      x.valid q ≡ true → a.hand ≡ None → Carried x law s table from (sided seat (record seat.side { past = past; now = Some (begun q frame) })) (record a { started = starts a (Service.Mails q) frame })
+      x.speech.valid q ≡ true → a.hand ≡ None → Carried x law s table from (sided seat (record seat.side { past = past; now = Some (begun q frame) })) (record a { started = starts a (Service.Mails q) frame })
   begins_mails from seat a c o q frame past labels valid free =
       let b = o.next (Service.Mails q) frame valid in
       other_rows x law s table from from seat (record seat.side { past = past; now = Some (begun q frame) }) seat.accepted a (record a { started = starts a (Service.Mails q) frame }) c
@@ -278,42 +278,42 @@ module _ {V A M Q R : Type 0} (x : Exchange V A M Q R) (law : IsLawful x) (s : S
 
   -- a service that is wished for comes into hand, where it may
   pub carried_begins : (from : ℕ) (seat : Seat V M Q R) (a : Account Q R) (frame : ℕ) (wish : Option (Service Q)) → x.ready seat.start ≡ true → SeatAgrees x seat → (a.hand ≡ None → seat.slave.registers.state ≡ from) → Carried x law s table from seat a →
-      Carried x law s table from (sided seat (side_begins x frame seat.side seat.side.now (mails_begin a.hand wish))) (account_begins x s.acknowledged frame seat.side a a.hand wish)
+      Carried x law s table from (sided seat (side_begins x.speech frame seat.side seat.side.now (mails_begin a.hand wish))) (account_begins x.speech s.acknowledged frame seat.side a a.hand wish)
   carried_begins from seat a frame wish ready agrees stands c = go a.hand wish refl
     where
-      free_now : (now : Option (Row M Q R)) → seat.side.now ≡ now → is_free x seat.side now ≡ true → is_free x seat.side seat.side.now ≡ true
-      free_now now n f = ap (is_free x seat.side) n ∙ f
+      free_now : (now : Option (Row M Q R)) → seat.side.now ≡ now → is_free x.speech seat.side now ≡ true → is_free x.speech seat.side seat.side.now ≡ true
+      free_now now n f = ap (is_free x.speech seat.side) n ∙ f
 
       by_mails : (q : Q) (now : Option (Row M Q R)) → seat.side.now ≡ now → a.hand ≡ None →
-          Carried x law s table from (sided seat (side_begins x frame seat.side now (Some q))) (if x.valid q && is_free x seat.side now then record a { started = starts a (Service.Mails q) frame } else a)
-      by_mails q None n e = one (x.valid q) refl
+          Carried x law s table from (sided seat (side_begins x.speech frame seat.side now (Some q))) (if x.speech.valid q && is_free x.speech seat.side now then record a { started = starts a (Service.Mails q) frame } else a)
+      by_mails q None n e = one (x.speech.valid q) refl
         where
-          one : (valid : Bool) → x.valid q ≡ valid → Carried x law s table from (sided seat (if valid then record seat.side { now = Some (begun q frame) } else seat.side)) (if valid && true then record a { started = starts a (Service.Mails q) frame } else a)
+          one : (valid : Bool) → x.speech.valid q ≡ valid → Carried x law s table from (sided seat (if valid then record seat.side { now = Some (begun q frame) } else seat.side)) (if valid && true then record a { started = starts a (Service.Mails q) frame } else a)
           one false v = c
           one true v = begins_mails from seat a c (opens from seat a ready agrees c e (free_now None n refl)) q frame seat.side.past
               (ap labels_of (sym (append-nil seat.side.past)) ∙ ap (λ (o : Option (Row M Q R)). labels_of (seat.side.past ++ newest o)) (sym n)) v e
-      by_mails q (Some r) n e = one (x.valid q) (is_over x seat.side.halves.out.holding seat.side.fresh r) refl refl
+      by_mails q (Some r) n e = one (x.speech.valid q) (is_over x.speech seat.side.halves.out.holding seat.side.fresh r) refl refl
         where
-          one : (valid over : Bool) → x.valid q ≡ valid → is_over x seat.side.halves.out.holding seat.side.fresh r ≡ over →
+          one : (valid over : Bool) → x.speech.valid q ≡ valid → is_over x.speech seat.side.halves.out.holding seat.side.fresh r ≡ over →
               Carried x law s table from (sided seat (if valid && over then record seat.side { past = seat.side.past ++ r ∷ []; now = Some (begun q frame) } else seat.side)) (if valid && over then record a { started = starts a (Service.Mails q) frame } else a)
           one false over v o = c
           one true false v o = c
           one true true v o = begins_mails from seat a c (opens from seat a ready agrees c e (free_now (Some r) n o)) q frame (seat.side.past ++ r ∷ [])
               (ap (λ (o : Option (Row M Q R)). labels_of (seat.side.past ++ newest o)) (sym n)) v e
 
-      by_state : (target : ℕ) (may : Bool) → is_free x seat.side seat.side.now && is_acknowledged s.acknowledged seat.side seat.side.now ≡ may → a.hand ≡ None →
+      by_state : (target : ℕ) (may : Bool) → is_free x.speech seat.side seat.side.now && is_acknowledged s.acknowledged seat.side seat.side.now ≡ may → a.hand ≡ None →
           Carried x law s table from seat (if may then state_begins a target frame else a)
       by_state target false m e = c
       by_state target true m e =
-          let parts = and_parts (is_free x seat.side seat.side.now) (is_acknowledged s.acknowledged seat.side seat.side.now) m in
+          let parts = and_parts (is_free x.speech seat.side seat.side.now) (is_acknowledged s.acknowledged seat.side seat.side.now) m in
           begins_state from seat a c (opens from seat a ready agrees c e parts.0) target frame parts.1 (stands e)
 
       go : (hand : Option Duty) (wish : Option (Service Q)) → a.hand ≡ hand →
-          Carried x law s table from (sided seat (side_begins x frame seat.side seat.side.now (mails_begin hand wish))) (account_begins x s.acknowledged frame seat.side a hand wish)
-      go (Some duty) wish e = c
-      go None None e = c
+          Carried x law s table from (sided seat (side_begins x.speech frame seat.side seat.side.now (mails_begin hand wish))) (account_begins x.speech s.acknowledged frame seat.side a hand wish)
+      go hand None e = c
+      go (Some duty) (Some wish) e = c
       go None (Some (Service.Mails q)) e = by_mails q seat.side.now refl e
-      go None (Some (Service.State target)) e = by_state target (is_free x seat.side seat.side.now && is_acknowledged s.acknowledged seat.side seat.side.now) refl e
+      go None (Some (Service.State target)) e = by_state target (is_free x.speech seat.side seat.side.now && is_acknowledged s.acknowledged seat.side seat.side.now) refl e
 
   -- a seat that takes these mails up
   abbrev holds_of : Seat V M Q R → List M → Seat V M Q R
@@ -321,10 +321,10 @@ module _ {V A M Q R : Type 0} (x : Exchange V A M Q R) (law : IsLawful x) (s : S
 
   -- one mail is taken up
   holds_mail : (from : ℕ) (seat : Seat V M Q R) (a : Account Q R) → x.ready seat.start ≡ true → (c : Carried x law s table from seat a) (r : Rowed x law s table from seat a c.taken c.rest) → (p : MailsNow seat.side a.hand (r.front ++ r.last) r.now) → (m : M) (more : List M) →
-      left x p.row ≡ m ∷ more → Carried x law s table from (holds_of seat (m ∷ [])) a
+      left x.speech p.row ≡ m ∷ more → Carried x law s table from (holds_of seat (m ∷ [])) a
   holds_mail from seat a ready c r p m more next =
       let y = with_states x s table in
-      let here : left y r.now ≡ Act.Mail m ∷ acts more = left_mails x s table r.now p.row p.shows.service p.shows.told p.shows.heard ∙ ap acts next in
+      let here : left y.speech r.now ≡ Act.Mail m ∷ acts more = left_mails x s table r.now p.row p.shows.service p.shows.told p.shows.heard ∙ ap acts next in
       let at = Moments.holds y (stated_law x s table stated law) (counting seat.start) ready r.front r.last r.now (c.taken ++ acts c.rest) c.taken (acts seat.accepted) r.moment (Act.Mail m) (acts more) here in
       let held : (c.taken ++ acts c.rest) ++ Act.Mail m ∷ [] ≡ c.taken ++ acts (c.rest ++ m ∷ []) = append_assoc c.taken (acts c.rest) (Act.Mail m ∷ []) ∙ ap (λ l. c.taken ++ l) (sym (acts_append c.rest (m ∷ []))) in
       record {
@@ -352,36 +352,36 @@ module _ {V A M Q R : Type 0} (x : Exchange V A M Q R) (law : IsLawful x) (s : S
         });
       }
 
-  nothing_left : (past : List (Row M Q R)) (now : Option (Row M Q R)) (r : Row M Q R) → now ≡ Some r → Rested x law past now → left x r ≡ []
+  nothing_left : (past : List (Row M Q R)) (now : Option (Row M Q R)) (r : Row M Q R) → now ≡ Some r → Rested x law past now → left x.speech r ≡ []
   nothing_left past now r e h = let k : RestedRow x law r = subst (Rested x law past) e h in k.left
 
-  pub carried_holds : (from : ℕ) (seat : Seat V M Q R) (a : Account Q R) (hold : Bool) → x.ready seat.start ≡ true → Carried x law s table from seat a → Carried x law s table from (holds_of seat (next_mail x seat.side.now seat.side.halves.out.holding hold)) a
+  pub carried_holds : (from : ℕ) (seat : Seat V M Q R) (a : Account Q R) (hold : Bool) → x.ready seat.start ≡ true → Carried x law s table from seat a → Carried x law s table from (holds_of seat (next_mail x.speech seat.side.now seat.side.halves.out.holding hold)) a
   carried_holds from seat a hold ready c = go seat.side.now seat.side.halves.out.holding hold refl
     where
       same : Carried x law s table from (holds_of seat []) a
       same = subst (λ l. Carried x law s table from (record seat { held = l }) a) (sym (append-nil seat.held)) c
 
-      one : (r : Row M Q R) (m : M) (more : List M) → seat.side.now ≡ Some r → left x r ≡ m ∷ more → Carried x law s table from (holds_of seat (m ∷ [])) a
+      one : (r : Row M Q R) (m : M) (more : List M) → seat.side.now ≡ Some r → left x.speech r ≡ m ∷ more → Carried x law s table from (holds_of seat (m ∷ [])) a
       one r m more n l = elim c.rows [
         | inl u ↦ absurd (let bad : None ≡ Some r = sym u.now ∙ n in cc)
         | inr k ↦ elim k.place [
-          | inl p ↦ holds_mail from seat a ready c k p m more (let e : Some p.row ≡ Some r = sym p.is ∙ n in let same : p.row ≡ r = cc in ap (left x) same ∙ l)
+          | inl p ↦ holds_mail from seat a ready c k p m more (let e : Some p.row ≡ Some r = sym p.is ∙ n in let same : p.row ≡ r = cc in ap (left x.speech) same ∙ l)
           | inr p ↦ absurd (let none = nothing_left seat.side.past seat.side.now r n p.rested in let bad : [] ≡ m ∷ more = sym none ∙ l in cc)
         ]
       ]
 
-      first : (r : Row M Q R) (ms : List M) → seat.side.now ≡ Some r → left x r ≡ ms → Carried x law s table from (holds_of seat (first_left ms)) a
+      first : (r : Row M Q R) (ms : List M) → seat.side.now ≡ Some r → left x.speech r ≡ ms → Carried x law s table from (holds_of seat (first_left ms)) a
       first r [] n l = same
       first r (m ∷ more) n l = one r m more n l
 
-      go : (now : Option (Row M Q R)) (holding : Option (LinkMail M)) (hold : Bool) → seat.side.now ≡ now → Carried x law s table from (holds_of seat (next_mail x now holding hold)) a
+      go : (now : Option (Row M Q R)) (holding : Option (LinkMail M)) (hold : Bool) → seat.side.now ≡ now → Carried x law s table from (holds_of seat (next_mail x.speech now holding hold)) a
       go now holding false n = same
       go None holding true n = same
       go (Some r) (Some m) true n = same
-      go (Some r) None true n = first r (left x r) n refl
+      go (Some r) None true n = first r (left x.speech r) n refl
 
   -- BEFORE A FRAME: by the master's choice for the mails, and its account
   pub carried_next : (from : ℕ) (seat : Seat V M Q R) (a : Account Q R) (frame : ℕ) (p : Pick Q) → x.ready seat.start ≡ true → SeatAgrees x seat → (a.hand ≡ None → seat.slave.registers.state ≡ from) → Carried x law s table from seat a →
-      Carried x law s table from (seat_next x frame seat (mails_choice a p)) (account_next x s.acknowledged frame seat.side a p)
+      Carried x law s table from (seat_next x frame seat (mails_choice a p)) (account_next x.speech s.acknowledged frame seat.side a p)
   carried_next from seat a frame p ready agrees stands c =
-      carried_holds from (sided seat (side_begins x frame seat.side seat.side.now (mails_begin a.hand p.begin))) (account_next x s.acknowledged frame seat.side a p) p.hold ready (carried_begins from seat a frame p.begin ready agrees stands c)
+      carried_holds from (sided seat (side_begins x.speech frame seat.side seat.side.now (mails_begin a.hand p.begin))) (account_next x.speech s.acknowledged frame seat.side a p) p.hold ready (carried_begins from seat a frame p.begin ready agrees stands c)

@@ -43,10 +43,10 @@ row_keys [] = refl
 row_keys (r ∷ rs) = ap (λ l. (r.service, r.frame) ∷ l) (row_keys rs)
 
 -- services that have outcomes have ended
-answers_ended : {V A M Q R : Type 0} (x : Exchange V A M Q R) (more : M → Bool) (station : ℕ) (fs : List (Frame M)) (rs : List (Started Q)) → AllEnded x more station fs rs → Books.AllEnded (task_answers x more station fs rs 0)
+answers_ended : {V A M Q R : Type 0} (x : Exchange V A M Q R) (more : M → Bool) (station : ℕ) (fs : List (Frame M)) (rs : List (Started Q)) → AllEnded x.speech more station fs rs → Books.AllEnded (task_answers x.speech more station fs rs 0)
 answers_ended x more station fs [] e = tt
 answers_ended x more station fs (r ∷ rs) e =
-    subst (λ found. Books.AllEnded (Books.answer_from found ∷ task_answers x more station fs rs 0)) (sym e.0.1) (answers_ended x more station fs rs e.1)
+    subst (λ found. Books.AllEnded (Books.answer_from found ∷ task_answers x.speech more station fs rs 0)) (sym e.0.1) (answers_ended x more station fs rs e.1)
 
 module _ {V A M Q R : Type 0} (x : Exchange V A M Q R) (law : IsLawful x) (s : Stated V A Q) (stated : IsStated x s) (table : Table) (more : M → Bool) (start : ℕ) (is : IsTable table start)
     (fs : List (Frame M)) (seat : Seat V M Q R) (a : Account Q R) (h : Holds x law s stated table more start is fs seat a) where

@@ -14,18 +14,18 @@ use Rattle.task_model.specs.Accounts.{Started, Duty, Account, Pick, Progress, is
 use Rattle.task_model.specs.Promise.{task_of, outcome_of, AllRise, AllEnded, but_last}
 
 -- a choice ends no state service
-pub over_next : {V A M Q R : Type 0} (x : Exchange V A M Q R) (acknowledged : Q → Bool) (frame : ℕ) (d : Side M Q R) (a : Account Q R) (p : Pick Q) → (account_next x acknowledged frame d a p).over ≡ a.over
+pub over_next : {V A M Q R : Type 0} (x : Exchange V A M Q R) (acknowledged : Q → Bool) (frame : ℕ) (d : Side M Q R) (a : Account Q R) (p : Pick Q) → (account_next x.speech acknowledged frame d a p).over ≡ a.over
 over_next {Q = Q} {R = R} x acknowledged frame d a p = go a.hand p.begin
   where
     either : (b : Bool) (c : Account Q R) → c.over ≡ a.over → (if b then c else a).over ≡ a.over
     either true c e = e
     either false c e = refl
 
-    go : (hand : Option Duty) (wish : Option (Service Q)) → (account_begins x acknowledged frame d a hand wish).over ≡ a.over
-    go (Some duty) wish = refl
-    go None None = refl
-    go None (Some (Service.Mails q)) = either (x.valid q && is_free x d d.now) (record a { started = starts a (Service.Mails q) frame }) refl
-    go None (Some (Service.State target)) = either (is_free x d d.now && is_acknowledged acknowledged d d.now) (state_begins a target frame) refl
+    go : (hand : Option Duty) (wish : Option (Service Q)) → (account_begins x.speech acknowledged frame d a hand wish).over ≡ a.over
+    go hand None = refl
+    go (Some duty) (Some wish) = refl
+    go None (Some (Service.Mails q)) = either (x.speech.valid q && is_free x.speech d d.now) (record a { started = starts a (Service.Mails q) frame }) refl
+    go None (Some (Service.State target)) = either (is_free x.speech d d.now && is_acknowledged acknowledged d d.now) (state_begins a target frame) refl
 
 -- what a frame brought back starts nothing
 started_by : {Q R : Type 0} (frame : ℕ) (a : Account Q R) (duty : Duty) (p : Progress R) → (account_by frame a duty p).started ≡ a.started
@@ -47,7 +47,7 @@ started_back station frame a (d ∷ ds) = started_back station frame (account_me
 module _ {V A M Q R : Type 0} (x : Exchange V A M Q R) (more : M → Bool) (station : ℕ) where
   -- an outcome is there
   abbrev pub HasOutcome : List (Frame M) → Started Q → Type 0
-  HasOutcome fs r = (o : Outcome R × ℕ) × (outcome_of x more station fs r ≡ Some o)
+  HasOutcome fs r = (o : Outcome R × ℕ) × (outcome_of x.speech more station fs r ≡ Some o)
 
   -- a service before another, which came into hand before the frame with this number
   pub record IsEnded (fs : List (Frame M)) (r : Started Q) (next : ℕ) : Type 0 where
@@ -58,7 +58,7 @@ module _ {V A M Q R : Type 0} (x : Exchange V A M Q R) (more : M → Bool) (stat
   -- the newest
   pub record IsNewest (fs : List (Frame M)) (r : Started Q) : Type 0 where
     pub begun : r.frame ≤ length fs
-    pub below : (o : Outcome R × ℕ) → outcome_of x more station fs r ≡ Some o → o.1 < length fs
+    pub below : (o : Outcome R × ℕ) → outcome_of x.speech more station fs r ≡ Some o → o.1 < length fs
 
   -- THE INVARIANT of an account
   abbrev pub Completed : List (Frame M) → List (Started Q) → Type 0
@@ -78,44 +78,44 @@ module _ {V A M Q R : Type 0} (x : Exchange V A M Q R) (more : M → Bool) (stat
   last_over fs (s ∷ (t ∷ rs)) r h = last_over fs (t ∷ rs) r h
 
   -- what the promise has of it
-  pub completed_rises : (fs : List (Frame M)) (rs : List (Started Q)) → Completed fs rs → AllRise x more station fs rs (length fs)
+  pub completed_rises : (fs : List (Frame M)) (rs : List (Started Q)) → Completed fs rs → AllRise x.speech more station fs rs (length fs)
   completed_rises fs [] c = tt
   completed_rises fs (r ∷ []) c = (c.below, tt)
   completed_rises fs (r ∷ (s ∷ rs)) c = (early, completed_rises fs (s ∷ rs) c.1)
     where
-      early : (o : Outcome R × ℕ) → outcome_of x more station fs r ≡ Some o → o.1 < s.frame
+      early : (o : Outcome R × ℕ) → outcome_of x.speech more station fs r ≡ Some o → o.1 < s.frame
       early o e =
           let found : Some c.0.has.0 ≡ Some o = sym c.0.has.1 ∙ e in
           let same : c.0.has.0 ≡ o = cc in
           subst (λ p. p.1 < s.frame) same c.0.below
 
-  pub completed_ended : (fs : List (Frame M)) (rs : List (Started Q)) → Completed fs rs → AllEnded x more station fs (but_last rs)
+  pub completed_ended : (fs : List (Frame M)) (rs : List (Started Q)) → Completed fs rs → AllEnded x.speech more station fs (but_last rs)
   completed_ended fs [] c = tt
   completed_ended fs (r ∷ []) c = tt
   completed_ended fs (r ∷ (s ∷ rs)) c = (c.0.has, completed_ended fs (s ∷ rs) c.1)
 
-  pub all_ended : (fs : List (Frame M)) (rs : List (Started Q)) → Completed fs rs → LastOver fs rs → AllEnded x more station fs rs
+  pub all_ended : (fs : List (Frame M)) (rs : List (Started Q)) → Completed fs rs → LastOver fs rs → AllEnded x.speech more station fs rs
   all_ended fs [] c l = tt
   all_ended fs (r ∷ []) c l = (l, tt)
   all_ended fs (r ∷ (s ∷ rs)) c l = (c.0.has, all_ended fs (s ∷ rs) c.1 l)
 
   -- ONE FRAME MORE
   found : List (Frame M) → Frame M → Started Q → Option (Outcome R)
-  found fs f r = ends x more (task_of r.service) (joined (news_from station r.frame fs) ++ frame_news station (kept_of station fs) f)
+  found fs f r = ends x.speech more (task_of r.service) (joined (news_from station r.frame fs) ++ frame_news station (kept_of station fs) f)
 
-  pushed : (fs : List (Frame M)) (f : Frame M) (r : Started Q) → r.frame ≤ length fs → (new : Option (Outcome R)) × (outcome_of x more station (fs ++ f ∷ []) r ≡ answer_after (length fs) (outcome_of x more station fs r) new)
-  pushed fs f r le = (_, outcome-push (ends x more (task_of r.service)) station r.frame fs f le)
+  pushed : (fs : List (Frame M)) (f : Frame M) (r : Started Q) → r.frame ≤ length fs → (new : Option (Outcome R)) × (outcome_of x.speech more station (fs ++ f ∷ []) r ≡ answer_after (length fs) (outcome_of x.speech more station fs r) new)
+  pushed fs f r le = (_, outcome-push (ends x.speech more (task_of r.service)) station r.frame fs f le)
 
   longer : (fs : List (Frame M)) (f : Frame M) (n : ℕ) → n ≤ length fs → n ≤ length (fs ++ f ∷ [])
   longer fs f n le = let l = length-append fs (f ∷ []) in omega (arith, l, le)
 
-  pub has_stays : (fs : List (Frame M)) (f : Frame M) (r : Started Q) → r.frame ≤ length fs → (o : Outcome R × ℕ) → outcome_of x more station fs r ≡ Some o → outcome_of x more station (fs ++ f ∷ []) r ≡ Some o
+  pub has_stays : (fs : List (Frame M)) (f : Frame M) (r : Started Q) → r.frame ≤ length fs → (o : Outcome R × ℕ) → outcome_of x.speech more station fs r ≡ Some o → outcome_of x.speech more station (fs ++ f ∷ []) r ≡ Some o
   has_stays fs f r le o e = let p = pushed fs f r le in p.1 ∙ ap (λ old. answer_after (length fs) old p.0) e
 
   newest_frame : (fs : List (Frame M)) (f : Frame M) (r : Started Q) → IsNewest fs r → IsNewest (fs ++ f ∷ []) r
-  newest_frame fs f r n = record { begun = longer fs f r.frame n.begun; below = λ o e. go (outcome_of x more station fs r) p.0 n.below o (sym p.1 ∙ e) }
+  newest_frame fs f r n = record { begun = longer fs f r.frame n.begun; below = λ o e. go (outcome_of x.speech more station fs r) p.0 n.below o (sym p.1 ∙ e) }
     where
-      p : (new : Option (Outcome R)) × (outcome_of x more station (fs ++ f ∷ []) r ≡ answer_after (length fs) (outcome_of x more station fs r) new)
+      p : (new : Option (Outcome R)) × (outcome_of x.speech more station (fs ++ f ∷ []) r ≡ answer_after (length fs) (outcome_of x.speech more station fs r) new)
       p = pushed fs f r n.begun
 
       go : (old : Option (Outcome R × ℕ)) (new : Option (Outcome R)) → ((o : Outcome R × ℕ) → old ≡ Some o → o.1 < length fs) → (o : Outcome R × ℕ) → answer_after (length fs) old new ≡ Some o → o.1 < length (fs ++ f ∷ [])
@@ -148,7 +148,7 @@ module _ {V A M Q R : Type 0} (x : Exchange V A M Q R) (more : M → Bool) (stat
   fresh fs service = record {
     begun = omega arith;
     below = λ o e. absurd (
-        let none : outcome_of x more station fs (record { service = service; frame = length fs }) ≡ None = ap (first_end (ends x more (task_of service)) (length fs) []) (news_from-none station fs) in
+        let none : outcome_of x.speech more station fs (record { service = service; frame = length fs }) ≡ None = ap (first_end (ends x.speech more (task_of service)) (length fs) []) (news_from-none station fs) in
         cc);
   }
 
@@ -162,21 +162,21 @@ module _ {V A M Q R : Type 0} (x : Exchange V A M Q R) (more : M → Bool) (stat
 
   -- a choice keeps it, where the newest service is over if none is in hand and the side is free
   module _ (acknowledged : Q → Bool) (fs : List (Frame M)) (d : Side M Q R) (a : Account Q R) (c : Completed fs a.started) where
-    begins : (hand : Option Duty) (wish : Option (Service Q)) → (hand ≡ None → is_free x d d.now ≡ true → LastOver fs a.started) → Completed fs (account_begins x acknowledged (length fs) d a hand wish).started
-    begins (Some duty) wish over = c
-    begins None None over = c
-    begins None (Some (Service.Mails q)) over = go (x.valid q && is_free x d d.now) refl
+    begins : (hand : Option Duty) (wish : Option (Service Q)) → (hand ≡ None → is_free x.speech d d.now ≡ true → LastOver fs a.started) → Completed fs (account_begins x.speech acknowledged (length fs) d a hand wish).started
+    begins hand None over = c
+    begins (Some duty) (Some wish) over = c
+    begins None (Some (Service.Mails q)) over = go (x.speech.valid q && is_free x.speech d d.now) refl
       where
-        go : (b : Bool) → x.valid q && is_free x d d.now ≡ b → Completed fs (if b then record a { started = starts a (Service.Mails q) (length fs) } else a).started
+        go : (b : Bool) → x.speech.valid q && is_free x.speech d d.now ≡ b → Completed fs (if b then record a { started = starts a (Service.Mails q) (length fs) } else a).started
         go false e = c
-        go true e = completed_push fs a.started (Service.Mails q) c (over refl (and_parts (x.valid q) (is_free x d d.now) e).1)
-    begins None (Some (Service.State target)) over = go (is_free x d d.now && is_acknowledged acknowledged d d.now) refl
+        go true e = completed_push fs a.started (Service.Mails q) c (over refl (and_parts (x.speech.valid q) (is_free x.speech d d.now) e).1)
+    begins None (Some (Service.State target)) over = go (is_free x.speech d d.now && is_acknowledged acknowledged d d.now) refl
       where
-        go : (b : Bool) → is_free x d d.now && is_acknowledged acknowledged d d.now ≡ b → Completed fs (if b then state_begins a target (length fs) else a).started
+        go : (b : Bool) → is_free x.speech d d.now && is_acknowledged acknowledged d d.now ≡ b → Completed fs (if b then state_begins a target (length fs) else a).started
         go false e = c
-        go true e = completed_push fs a.started (Service.State target) c (over refl (and_parts (is_free x d d.now) (is_acknowledged acknowledged d d.now) e).0)
+        go true e = completed_push fs a.started (Service.State target) c (over refl (and_parts (is_free x.speech d d.now) (is_acknowledged acknowledged d d.now) e).0)
 
-    pub completed_next : (p : Pick Q) → (a.hand ≡ None → is_free x d d.now ≡ true → LastOver fs a.started) → Completed fs (account_next x acknowledged (length fs) d a p).started
+    pub completed_next : (p : Pick Q) → (a.hand ≡ None → is_free x.speech d d.now ≡ true → LastOver fs a.started) → Completed fs (account_next x.speech acknowledged (length fs) d a p).started
     completed_next p over = begins a.hand p.begin over
 
   -- what came back

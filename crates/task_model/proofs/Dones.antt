@@ -46,7 +46,7 @@ module _ {V A M Q R : Type 0} (x : Exchange V A M Q R) (law : IsLawful x) (v : V
       omega (arith, more, counts, whole)
 
   -- and all rows are, where the newest ends with its last write, nothing is left of it, and all was taken
-  pub all_counted : x.handed now.service ≡ true → left x now ≡ [] → taken ≡ held → f.count ≡ length (front ++ last ++ now ∷ [])
+  pub all_counted : x.speech.handed now.service ≡ true → left x.speech now ≡ [] → taken ≡ held → f.count ≡ length (front ++ last ++ now ∷ [])
   all_counted posts over same =
       let whole = handed_whole x law v ready front last now held taken accepted at.fits at.order at.hears posts over in
       let settled = settled_more x law v (front ++ last) now at.fits.settled whole in
@@ -66,7 +66,7 @@ module _ {V A M Q R : Type 0} (x : Exchange V A M Q R) (more : M → Bool) (stat
   -- each state service of these rows that is over, the first row with this number, is among the first count
   abbrev pub StateBelow : ℕ → ℕ → ℕ → Service Q → Type 0
   StateBelow count number frame (Service.Mails q) = ⊤
-  StateBelow count number frame (Service.State target) = (o : Outcome R × ℕ) → state_found x more station fs target frame ≡ Some o → number < count
+  StateBelow count number frame (Service.State target) = (o : Outcome R × ℕ) → state_found x.speech more station fs target frame ≡ Some o → number < count
 
   abbrev pub StatesBelow : ℕ → ℕ → List (GhostRow M Q R) → Type 0
   StatesBelow count number [] = ⊤
@@ -105,12 +105,12 @@ module _ {V A M Q R : Type 0} (x : Exchange V A M Q R) (more : M → Bool) (stat
 
   -- EACH REPLY is of one of the first count
   done_first : (count number : ℕ) (g : GhostRow M Q R) (gs : List (GhostRow M Q R)) (service : Service Q) → ((answer : Outcome R × ℕ) → g.answer ≡ Some answer → number < count) → StateBelow count number g.frame service →
-      AllLabelled x more station fs (label_by g service ++ mail_labels gs) → (AllLabelled x more station fs (mail_labels gs) → AllDone x more station fs count (suc number) (starts_of gs)) →
-      ((o : Outcome R × ℕ) → outcome_of x more station fs (record { service = service; frame = g.frame }) ≡ Some o → IsReply o.0 → number < count) × AllDone x more station fs count (suc number) (starts_of gs)
+      AllLabelled x more station fs (label_by g service ++ mail_labels gs) → (AllLabelled x more station fs (mail_labels gs) → AllDone x.speech more station fs count (suc number) (starts_of gs)) →
+      ((o : Outcome R × ℕ) → outcome_of x.speech more station fs (record { service = service; frame = g.frame }) ≡ Some o → IsReply o.0 → number < count) × AllDone x.speech more station fs count (suc number) (starts_of gs)
   done_first count number g gs (Service.Mails q) done below labels next =
       ((λ o e is. done o (reply_labelled x more station fs (record { service = q; frame = g.frame; answer = g.answer }) labels.0 o e is)), next labels.1)
   done_first count number g gs (Service.State target) done below labels next = ((λ o e is. below o e), next labels)
 
-  pub done_all : (count number : ℕ) (gs : List (GhostRow M Q R)) → InDone count number gs → StatesBelow count number gs → AllLabelled x more station fs (mail_labels gs) → AllDone x more station fs count number (starts_of gs)
+  pub done_all : (count number : ℕ) (gs : List (GhostRow M Q R)) → InDone count number gs → StatesBelow count number gs → AllLabelled x more station fs (mail_labels gs) → AllDone x.speech more station fs count number (starts_of gs)
   done_all count number [] done below labels = tt
   done_all count number (g ∷ gs) done below labels = done_first count number g gs g.service done.0 below.0 labels (λ rest. done_all count (suc number) gs done.1 below.1 rest)

@@ -62,8 +62,8 @@ pub record Shows {M Q R : Type 0} (g : GhostRow M Q R) (r : Row M Q R) : Type 0 
 module _ {V A M Q R : Type 0} (x : Exchange V A M Q R) (law : IsLawful x) where
   -- the newest row by mails where a state service came behind it: nothing is left of it, and no mail answers it any more
   pub record RestedRow (r : Row M Q R) : Type 0 where
-    pub left : left x r ≡ []
-    pub done : (((a : R × ℕ) × (r.answer ≡ Some a)) × (x.handed r.service ≡ false)) ⊎ ((x.handed r.service ≡ true) × Facts x law r)
+    pub left : left x.speech r ≡ []
+    pub done : (((a : R × ℕ) × (r.answer ≡ Some a)) × (x.speech.handed r.service ≡ false)) ⊎ ((x.speech.handed r.service ≡ true) × Facts x law r)
 
   abbrev pub Rested : List (Row M Q R) → Option (Row M Q R) → Type 0
   Rested past None = past ≡ []

@@ -19,3 +19,4 @@ pub mod Resting
 pub mod Booked
 pub mod Sessions
 mod ToyRun
+pub mod Owned

@@ -257,18 +257,18 @@ module _ {V A M Q R : Type 0} (x : Exchange V A M Q R) (law : IsLawful x) (s : S
   answer_shown frame None None = refl
   answer_shown frame None (Some r) = refl
 
-  shows_heard : (frame : ℕ) (ms : List M) (g : GhostRow M Q R) (r : Row M Q R) → Shows g r → Shows (row_heard (with_states x s table) frame (acts ms) g) (row_heard x frame ms r)
+  shows_heard : (frame : ℕ) (ms : List M) (g : GhostRow M Q R) (r : Row M Q R) → Shows g r → Shows (row_heard (with_states x s table).speech frame (acts ms) g) (row_heard x.speech frame ms r)
   shows_heard frame ms g r h =
       let all : g.heard ++ acts ms ≡ acts (r.heard ++ ms) = ap (λ l. l ++ acts ms) h.heard ∙ sym (acts_append r.heard ms) in
-      let found : service_ends x g.service (plain (act_emission x.emission) (g.heard ++ acts ms)) ≡ option_map (λ r. Outcome.Replied r) (x.ends r.service (plain x.emission (r.heard ++ ms))) =
-      ap₂ (λ (q : Service Q) (l : List (Act M)). service_ends x q l) h.service (ap (plain (act_emission x.emission)) all ∙ plain_acts x.emission (r.heard ++ ms))
-      ∙ ap (λ l. ends_by x r.service l) (all_acts (plain x.emission (r.heard ++ ms))) in
+      let found : service_ends x.speech g.service (plain (act_emission x.speech.emission) (g.heard ++ acts ms)) ≡ option_map (λ r. Outcome.Replied r) (x.speech.ends r.service (plain x.speech.emission (r.heard ++ ms))) =
+      ap₂ (λ (q : Service Q) (l : List (Act M)). service_ends x.speech q l) h.service (ap (plain (act_emission x.speech.emission)) all ∙ plain_acts x.speech.emission (r.heard ++ ms))
+      ∙ ap (λ l. ends_by x.speech r.service l) (all_acts (plain x.speech.emission (r.heard ++ ms))) in
       record {
         service = h.service;
         frame = h.frame;
         told = h.told;
         heard = all;
-        answer = ap₂ (λ (a : Option (Outcome R × ℕ)) (f : Option (Outcome R)). answer_after frame a f) h.answer found ∙ answer_shown frame r.answer (x.ends r.service (plain x.emission (r.heard ++ ms)));
+        answer = ap₂ (λ (a : Option (Outcome R × ℕ)) (f : Option (Outcome R)). answer_after frame a f) h.answer found ∙ answer_shown frame r.answer (x.speech.ends r.service (plain x.speech.emission (r.heard ++ ms)));
       }
 
   stays_unanswered : (frame : ℕ) (answer : Option (R × ℕ)) (found : Option R) → found ≡ None → answer_after frame answer found ≡ answer
@@ -276,54 +276,54 @@ module _ {V A M Q R : Type 0} (x : Exchange V A M Q R) (law : IsLawful x) (s : S
   stays_unanswered frame None found e = ap (answer_after frame None) e
 
   -- a row that rests hears emissions alone
-  rested_heard : (frame : ℕ) (ms : List M) (r : Row M Q R) → plain x.emission ms ≡ [] → RestedRow x law r → RestedRow x law (row_heard x frame ms r) × (label_of (row_heard x frame ms r) ≡ label_of r)
+  rested_heard : (frame : ℕ) (ms : List M) (r : Row M Q R) → plain x.speech.emission ms ≡ [] → RestedRow x law r → RestedRow x law (row_heard x.speech frame ms r) × (label_of (row_heard x.speech frame ms r) ≡ label_of r)
   rested_heard frame ms r e k =
-      let same : plain x.emission (r.heard ++ ms) ≡ plain x.emission r.heard = plain-append x.emission r.heard ms ∙ ap (λ l. plain x.emission r.heard ++ l) e ∙ append-nil (plain x.emission r.heard) in
-      let found = x.ends r.service (plain x.emission (r.heard ++ ms)) in
-      let nothing : left x (row_heard x frame ms r) ≡ [] = ap (λ hs. drop (length r.told) (x.planned r.service hs)) same ∙ k.left in
+      let same : plain x.speech.emission (r.heard ++ ms) ≡ plain x.speech.emission r.heard = plain-append x.speech.emission r.heard ms ∙ ap (λ l. plain x.speech.emission r.heard ++ l) e ∙ append-nil (plain x.speech.emission r.heard) in
+      let found = x.speech.ends r.service (plain x.speech.emission (r.heard ++ ms)) in
+      let nothing : left x.speech (row_heard x.speech frame ms r) ≡ [] = ap (λ hs. drop (length r.told) (x.speech.planned r.service hs)) same ∙ k.left in
       elim k.done [
         | inl b ↦
             let answer : answer_after frame r.answer found ≡ Some b.0.0 = ap (λ o. answer_after frame o found) b.0.1 in
             (record { left = nothing; done = inl ((b.0.0, answer), b.1) }, ap (λ o. record { service = r.service; frame = r.frame; answer = as_outcome o }) (answer ∙ sym b.0.1))
         | inr h ↦
             let f : Facts x law r = h.1 in
-            let none = stays_unanswered frame r.answer found (law.unanswered r.service (plain x.emission (r.heard ++ ms)) h.0) in
+            let none = stays_unanswered frame r.answer found (law.unanswered r.service (plain x.speech.emission (r.heard ++ ms)) h.0) in
             (record { left = nothing; done = inr (h.0, record { silent = same ∙ f.silent; mine = f.mine; some = f.some }) }, ap (λ o. record { service = r.service; frame = r.frame; answer = as_outcome o }) none)
       ]
 
-  rests_heard : (frame : ℕ) (ms : List M) (past : List (Row M Q R)) (now : Option (Row M Q R)) → plain x.emission ms ≡ [] → Rested x law past now →
-      (let more = option_map (λ r. row_heard x frame ms r) now in Rested x law past more × (labels_of (past ++ newest more) ≡ labels_of (past ++ newest now)))
+  rests_heard : (frame : ℕ) (ms : List M) (past : List (Row M Q R)) (now : Option (Row M Q R)) → plain x.speech.emission ms ≡ [] → Rested x law past now →
+      (let more = option_map (λ r. row_heard x.speech frame ms r) now in Rested x law past more × (labels_of (past ++ newest more) ≡ labels_of (past ++ newest now)))
   rests_heard frame ms past None e k = (k, refl)
   rests_heard frame ms past (Some r) e k =
       let h = rested_heard frame ms r e k in
-      (h.0, labels_append past (row_heard x frame ms r ∷ []) ∙ ap (λ l. labels_of past ++ l ∷ []) h.1 ∙ sym (labels_append past (r ∷ [])))
+      (h.0, labels_append past (row_heard x.speech frame ms r ∷ []) ∙ ap (λ l. labels_of past ++ l ∷ []) h.1 ∙ sym (labels_append past (r ∷ [])))
 
   -- while a state service is the newest no reply is heard
   quiet : (v : V) → x.ready v ≡ true → (front last : List (GhostRow M Q R)) (g : GhostRow M Q R) (held taken accepted : List (Act M)) (target : ℕ) (ms : List M) (before : List (Act M)) → g.service ≡ Service.State target → g.heard ≡ before ++ acts ms →
-      Moment (with_states x s table) (counting v) front last g held taken accepted → plain x.emission ms ≡ []
+      Moment (with_states x s table) (counting v) front last g held taken accepted → plain x.speech.emission ms ≡ []
   quiet v ready front last g held taken accepted target ms before service heard at =
       let y = with_states x s table in
-      let f = facts_of y (stated_law x s table stated law) (counting v) ready (front ++ last) (Some g) held taken accepted (record { front = front; last = last; split = refl; moment = at }) (ap (service_handed x) service) in
-      let none = sym (plain-append (act_emission x.emission) before (acts ms)) ∙ ap (plain (act_emission x.emission)) (sym heard) ∙ f.silent in
-      acts_same (plain x.emission ms) [] (sym (plain_acts x.emission ms) ∙ (append_none _ _ none).1)
+      let f = facts_of y (stated_law x s table stated law) (counting v) ready (front ++ last) (Some g) held taken accepted (record { front = front; last = last; split = refl; moment = at }) (ap (service_handed x.speech) service) in
+      let none = sym (plain-append (act_emission x.speech.emission) before (acts ms)) ∙ ap (plain (act_emission x.speech.emission)) (sym heard) ∙ f.silent in
+      acts_same (plain x.speech.emission ms) [] (sym (plain_acts x.speech.emission ms) ∙ (append_none _ _ none).1)
 
   pub carried_hears : (from : ℕ) (seat : Seat V M Q R) (a : Account Q R) (frame : ℕ) (back : List (Datagram M)) → x.ready seat.start ≡ true →
-      (let t = record seat { side = side_back x frame seat.station back seat.side; accepted = seat.accepted ++ Frames.all_accepted seat.station seat.side.halves (grams back) } in
+      (let t = record seat { side = side_back x.speech frame seat.station back seat.side; accepted = seat.accepted ++ Frames.all_accepted seat.station seat.side.halves (grams back) } in
       SeatAgrees x t → Carried x law s table from seat a → Carried x law s table from t a)
   carried_hears from seat a frame back ready agrees c =
-      other_rows x law s table from from seat (side_back x frame seat.station back seat.side) (seat.accepted ++ ms) a a c (elim c.rows [
-        | inl u ↦ inl (record { started = u.started; hand = u.hand; past = u.past; now = ap (option_map (λ r. row_heard x frame ms r)) u.now; held = u.held; none = u.none })
+      other_rows x law s table from from seat (side_back x.speech frame seat.station back seat.side) (seat.accepted ++ ms) a a c (elim c.rows [
+        | inl u ↦ inl (record { started = u.started; hand = u.hand; past = u.past; now = ap (option_map (λ r. row_heard x.speech frame ms r)) u.now; held = u.held; none = u.none })
         | inr r ↦ inr (record {
           front = r.front;
           last = r.last;
-          now = row_heard (with_states x s table) frame (acts ms) r.now;
+          now = row_heard (with_states x s table).speech frame (acts ms) r.now;
           moment = heard_at r;
-          started = starts_now (r.front ++ r.last) (row_heard (with_states x s table) frame (acts ms) r.now) r.now refl ∙ r.started;
+          started = starts_now (r.front ++ r.last) (row_heard (with_states x s table).speech frame (acts ms) r.now) r.now refl ∙ r.started;
           mails_last = r.mails_last;
           place = elim r.place [
-            | inl p ↦ inl (record { row = row_heard x frame ms p.row; is = ap (option_map (λ r. row_heard x frame ms r)) p.is; shows = shows_heard frame ms r.now p.row p.shows; past = p.past; free = p.free })
+            | inl p ↦ inl (record { row = row_heard x.speech frame ms p.row; is = ap (option_map (λ r. row_heard x.speech frame ms r)) p.is; shows = shows_heard frame ms r.now p.row p.shows; past = p.past; free = p.free })
             | inr p ↦
-                let silent = quiet seat.start ready r.front r.last (row_heard (with_states x s table) frame (acts ms) r.now) (c.taken ++ acts c.rest) c.taken (acts (seat.accepted ++ ms)) p.target ms r.now.heard p.service refl (heard_at r) in
+                let silent = quiet seat.start ready r.front r.last (row_heard (with_states x s table).speech frame (acts ms) r.now) (c.taken ++ acts c.rest) c.taken (acts (seat.accepted ++ ms)) p.target ms r.now.heard p.service refl (heard_at r) in
                 let k = rests_heard frame ms seat.side.past seat.side.now silent p.rested in
                 inr (record {
                   target = p.target;
@@ -342,10 +342,10 @@ module _ {V A M Q R : Type 0} (x : Exchange V A M Q R) (law : IsLawful x) (s : S
       given_more : IsPrefixOf (acts seat.accepted ++ acts ms) (given (with_states x s table).serve (counting seat.start) c.taken)
       given_more = subst (λ l. IsPrefixOf l (given (with_states x s table).serve (counting seat.start) c.taken)) (acts_append seat.accepted ms)
           (accepted_begin (seat.accepted ++ ms) seat.offered seat.slave.node.server.waiting _ c.gave
-          (accepted_of_offered (link_of (record seat { side = side_back x frame seat.station back seat.side; accepted = seat.accepted ++ ms })) agrees))
+          (accepted_of_offered (link_of (record seat { side = side_back x.speech frame seat.station back seat.side; accepted = seat.accepted ++ ms })) agrees))
 
-      heard_at : (r : Rowed x law s table from seat a c.taken c.rest) → Moment (with_states x s table) (counting seat.start) r.front r.last (row_heard (with_states x s table) frame (acts ms) r.now) (c.taken ++ acts c.rest) c.taken (acts (seat.accepted ++ ms))
-      heard_at r = same_moment (with_states x s table) (counting seat.start) r.front r.last (row_heard (with_states x s table) frame (acts ms) r.now) _ _ c.taken c.taken _ _ refl refl (sym (acts_append seat.accepted ms))
+      heard_at : (r : Rowed x law s table from seat a c.taken c.rest) → Moment (with_states x s table) (counting seat.start) r.front r.last (row_heard (with_states x s table).speech frame (acts ms) r.now) (c.taken ++ acts c.rest) c.taken (acts (seat.accepted ++ ms))
+      heard_at r = same_moment (with_states x s table) (counting seat.start) r.front r.last (row_heard (with_states x s table).speech frame (acts ms) r.now) _ _ c.taken c.taken _ _ refl refl (sym (acts_append seat.accepted ms))
           (Moments.hears (with_states x s table) (stated_law x s table stated law) (counting seat.start) ready r.front r.last r.now (c.taken ++ acts c.rest) c.taken (acts seat.accepted) r.moment (acts ms) frame given_more)
 
   -- A FRAME THAT CAME BACK

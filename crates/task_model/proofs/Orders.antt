@@ -91,7 +91,7 @@ module _ {V A M Q R : Type 0} (x : Exchange V A M Q R) (more : M → Bool) (stat
   -- OF THE STATE SERVICES AMONG ALL THAT CAME INTO HAND: each outcome is the table's, in the state behind those before it
   abbrev pub StateReplied : Table → ℕ → Started Q → Service Q → Type 0
   StateReplied table from r (Service.Mails q) = ⊤
-  StateReplied table from r (Service.State target) = (o : Outcome R × ℕ) → outcome_of x more station fs r ≡ Some o → o.0 ≡ answer_of (table from target)
+  StateReplied table from r (Service.State target) = (o : Outcome R × ℕ) → outcome_of x.speech more station fs r ≡ Some o → o.0 ≡ answer_of (table from target)
 
   abbrev pub StatesReplied : Table → ℕ → List (Started Q) → Type 0
   StatesReplied table from [] = ⊤
@@ -100,13 +100,13 @@ module _ {V A M Q R : Type 0} (x : Exchange V A M Q R) (more : M → Bool) (stat
   -- and each of these has one
   abbrev pub StateEnded : Started Q → Service Q → Type 0
   StateEnded r (Service.Mails q) = ⊤
-  StateEnded r (Service.State target) = (o : Outcome R × ℕ) × (outcome_of x more station fs r ≡ Some o)
+  StateEnded r (Service.State target) = (o : Outcome R × ℕ) × (outcome_of x.speech more station fs r ≡ Some o)
 
   abbrev pub StatesEnded : List (Started Q) → Type 0
   StatesEnded [] = ⊤
   StatesEnded (r ∷ rs) = StateEnded r r.service × StatesEnded rs
 
-  pub states_replied : (table : Table) (end from : ℕ) (rs : List (Started Q)) (os : List (Change R)) (hand : Option Duty) → InOrder end rs os hand → AllFound x more station fs os → AllTabled table from os → IsOpenYet x more station fs hand → StatesReplied table from rs
+  pub states_replied : (table : Table) (end from : ℕ) (rs : List (Started Q)) (os : List (Change R)) (hand : Option Duty) → InOrder end rs os hand → AllFound x.speech more station fs os → AllTabled table from os → IsOpenYet x.speech more station fs hand → StatesReplied table from rs
   states_replied table end from ps ns hand InOrder.nothing all tabled none = tt
   states_replied table end from ps ns hand (InOrder.by_mails {os = os} q frame rs rest) all tabled none = (tt, states_replied table end from rs os hand rest all tabled none)
   states_replied table end from ps ns hand (InOrder.changed {os = os} o rs before rest) all tabled none = (
@@ -116,7 +116,7 @@ module _ {V A M Q R : Type 0} (x : Exchange V A M Q R) (more : M → Bool) (stat
   states_replied table end from ps ns hand (InOrder.in_hand duty) all tabled none = (λ a e. absurd (let no : None ≡ Some a = sym none ∙ e in cc), tt)
 
   -- with none in hand all have one
-  pub states_ended : (end : ℕ) (rs : List (Started Q)) (os : List (Change R)) (hand : Option Duty) → hand ≡ None → InOrder end rs os hand → AllFound x more station fs os → StatesEnded rs
+  pub states_ended : (end : ℕ) (rs : List (Started Q)) (os : List (Change R)) (hand : Option Duty) → hand ≡ None → InOrder end rs os hand → AllFound x.speech more station fs os → StatesEnded rs
   states_ended end ps ns hand e InOrder.nothing all = tt
   states_ended end ps ns hand e (InOrder.by_mails {os = os} q frame rs rest) all = (tt, states_ended end rs os hand e rest all)
   states_ended end ps ns hand e (InOrder.changed {os = os} o rs before rest) all = (((o.answer, o.completed), all.0), states_ended end rs os hand e rest all.1)

@@ -73,13 +73,13 @@ module _ {V A M Q R : Type 0} (x : Exchange V A M Q R) (law : IsLawful x) (s : S
         replied = subst (AllReplied x s table more seat.station fs (x.app seat.start, 0)) k.started
             (replied_all x more seat.station fs s stated table gs (x.app seat.start, 0) f.replied k.labels
             (subst (λ n. StatesReplied x more seat.station fs table n (starts_of gs)) (sym h.begun) (subst (StatesReplied x more seat.station fs table start) (sym k.started) (started_replied table start is seat.station x more fs seat.slave.registers a h.stately))));
-        in_done = subst (AllDone x more seat.station fs f.count 0) k.started (done_all x more seat.station fs f.count 0 gs f.in_done k.below k.labels);
+        in_done = subst (AllDone x.speech more seat.station fs f.count 0) k.started (done_all x more seat.station fs f.count 0 gs f.in_done k.below k.labels);
         rises = completed_rises x more seat.station fs a.started h.completed;
         in_doubt = completed_ended x more seat.station fs a.started h.completed;
-        emissions = subst (λ l. IsPrefixOf (emitted x.emission l) (mails (emits_all both (x.app seat.start, 0) (take f.count (services_in a.started))))) h.records.hears
-            (subst (λ l. IsPrefixOf (emitted x.emission seat.accepted) (mails (emits_all both (x.app seat.start, 0) (take f.count l)))) qs
-            (subst (λ l. IsPrefixOf l (mails (emits_all both (x.app seat.start, 0) (take f.count (services gs))))) (ap mails (emitted_acts x.emission seat.accepted) ∙ mails_acts (emitted x.emission seat.accepted))
-            (mails_begin (emitted both.emission (acts seat.accepted)) (emits_all both (x.app seat.start, 0) (take f.count (services gs))) f.emissions)));
+        emissions = subst (λ l. IsPrefixOf (emitted x.speech.emission l) (mails (emits_all both (x.app seat.start, 0) (take f.count (services_in a.started))))) h.records.hears
+            (subst (λ l. IsPrefixOf (emitted x.speech.emission seat.accepted) (mails (emits_all both (x.app seat.start, 0) (take f.count l)))) qs
+            (subst (λ l. IsPrefixOf l (mails (emits_all both (x.app seat.start, 0) (take f.count (services gs))))) (ap mails (emitted_acts x.speech.emission seat.accepted) ∙ mails_acts (emitted x.speech.emission seat.accepted))
+            (mails_begin (emitted both.speech.emission (acts seat.accepted)) (emits_all both (x.app seat.start, 0) (take f.count (services gs))) f.emissions)));
         flag = λ none. (free_state table start is seat.station fs seat.slave.registers a h.stately none).1;
       }
 
@@ -101,7 +101,7 @@ module _ {V A M Q R : Type 0} (x : Exchange V A M Q R) (law : IsLawful x) (s : S
           behind = omega arith;
           in_done = tt;
           replied = tt;
-          emissions = ([], ap (λ l. emitted both.emission l ++ []) none);
+          emissions = ([], ap (λ l. emitted both.speech.emission l ++ []) none);
         };
         labels = tt;
         below = tt;
@@ -124,7 +124,7 @@ module _ {V A M Q R : Type 0} (x : Exchange V A M Q R) (law : IsLawful x) (s : S
     fits = Moments.fits both lawful at_start h.ready r.front r.last r.now held h.carried.taken (acts seat.accepted) r.moment
 
     counted : (target : ℕ) → r.now.service ≡ Service.State target → h.carried.rest ≡ [] → r.now.told ≡ Act.Word target ∷ [] → fits.count ≡ length (r.front ++ r.last ++ r.now ∷ [])
-    counted target service rest told = all_counted both lawful at_start h.ready r.front r.last r.now held h.carried.taken (acts seat.accepted) r.moment fits (ap (service_handed x) service)
+    counted target service rest told = all_counted both lawful at_start h.ready r.front r.last r.now held h.carried.taken (acts seat.accepted) r.moment fits (ap (service_handed x.speech) service)
         (left_none x s table r.now target (Act.Word target) [] service told) (sym (append-nil h.carried.taken) ∙ ap (λ l. h.carried.taken ++ acts l) (sym rest))
 
     newest_below : Now x law s table (state_over table start a.over) seat.slave.registers.state h.carried.rest seat.side a.hand (r.front ++ r.last) r.now → StateBelow x more seat.station fs fits.count (length (r.front ++ r.last)) r.now.frame r.now.service
@@ -132,14 +132,14 @@ module _ {V A M Q R : Type 0} (x : Exchange V A M Q R) (law : IsLawful x) (s : S
     newest_below (inr n) = subst (StateBelow x more seat.station fs fits.count (length (r.front ++ r.last)) r.now.frame) (sym n.service) (go a.hand refl n.stage)
       where
         go : (hand : Option Duty) → a.hand ≡ hand → Staged table (state_over table start a.over) seat.slave.registers.state h.carried.rest seat.side.halves.out.holding n.target r.now.frame hand r.now.told →
-            (o : Outcome R × ℕ) → state_found x more seat.station fs n.target r.now.frame ≡ Some o → length (r.front ++ r.last) < fits.count
+            (o : Outcome R × ℕ) → state_found x.speech more seat.station fs n.target r.now.frame ≡ Some o → length (r.front ++ r.last) < fits.count
         go None e stage o found =
             let all = counted n.target n.service stage.0 stage.1 in
             let size = length-append (r.front ++ r.last) (r.now ∷ []) in
             omega (arith, all, size)
         go (Some duty) e stage o found =
             let open_now = (duty_outcome table start is seat.station x more fs seat.slave.registers a duty h.stately e).0 in
-            let none : state_found x more seat.station fs n.target r.now.frame ≡ None = sym (ap₂ (λ (t k : ℕ). state_found x more seat.station fs t k) stage.0 stage.1) ∙ open_now in
+            let none : state_found x.speech more seat.station fs n.target r.now.frame ≡ None = sym (ap₂ (λ (t k : ℕ). state_found x.speech more seat.station fs t k) stage.0 stage.1) ∙ open_now in
             absurd (let no : None ≡ Some o = sym none ∙ found in cc)
 
   pub promised : Kept → TasksPromised x s table more fs seat.station seat.start seat.side a seat.slave

@@ -23,14 +23,14 @@ use Rattle.task_model.proofs.Newest.{Holds, free_side, ended_free}
 use Rattle.task_model.proofs.Dones.{by_kind, services_same, services_length}
 
 module _ {V A M Q R : Type 0} (x : Exchange V A M Q R) (law : IsLawful x) (s : Stated V A Q) (stated : IsStated x s) (table : Table) (more : M → Bool) (start : ℕ) (is : IsTable table start)
-    (fs : List (Frame M)) (seat : Seat V M Q R) (a : Account Q R) (h : Holds x law s stated table more start is fs seat a) (settled : IsSettled seat.slave) (wants : WantsNothing x seat.side) (idle : a.hand ≡ None) where
+    (fs : List (Frame M)) (seat : Seat V M Q R) (a : Account Q R) (h : Holds x law s stated table more start is fs seat a) (settled : IsSettled seat.slave) (wants : WantsNothing x.speech seat.side) (idle : a.hand ≡ None) where
   abbrev both : Exchange (Counting V) (A × ℕ) (Act M) (Service Q) (Outcome R)
   both = with_states x s table
 
   abbrev at_start : Counting V
   at_start = counting seat.start
 
-  free : is_free x seat.side seat.side.now ≡ true
+  free : is_free x.speech seat.side seat.side.now ≡ true
   free = free_side x law s stated table more start is fs seat a seat.side.now wants.nothing
 
   -- all acts held are taken, and all that was given is accepted
@@ -51,7 +51,7 @@ module _ {V A M Q R : Type 0} (x : Exchange V A M Q R) (law : IsLawful x) (s : S
       record {
         handled = ap both.handled start ∙ omega arith;
         app = ap both.app start;
-        emissions = ap (emitted both.emission) (all_heard ∙ ap (given both.serve at_start) u.none);
+        emissions = ap (emitted both.speech.emission) (all_heard ∙ ap (given both.serve at_start) u.none);
       }
 
   rest_rows : (r : Rowed x law s table (state_over table start a.over) seat a h.carried.taken h.carried.rest) → Rested (r.front ++ r.last ++ r.now ∷ [])
@@ -68,10 +68,10 @@ module _ {V A M Q R : Type 0} (x : Exchange V A M Q R) (law : IsLawful x) (s : S
 
       by_mails : MailsNow seat.side a.hand (r.front ++ r.last) r.now → Rested (r.front ++ r.last ++ r.now ∷ [])
       by_mails m =
-          let parts = over_parts x seat.side.halves.out.holding seat.side.fresh m.row (sym (ap (is_free x seat.side) m.is) ∙ free) in
-          let nothing : left both r.now ≡ [] = left_mails x s table r.now m.row m.shows.service m.shows.told m.shows.heard ∙ ap acts parts.0 in
+          let parts = over_parts x seat.side.halves.out.holding seat.side.fresh m.row (sym (ap (is_free x.speech seat.side) m.is) ∙ free) in
+          let nothing : left both.speech r.now ≡ [] = left_mails x s table r.now m.row m.shows.service m.shows.told m.shows.heard ∙ ap acts parts.0 in
           elim parts.1 [
-            | inl p ↦ Moments.rest_handed both (stated_law x s table stated law) at_start h.ready r.front r.last r.now held h.carried.taken (acts seat.accepted) r.moment (ap (service_handed x) m.shows.service ∙ p.0) nothing same all_heard
+            | inl p ↦ Moments.rest_handed both (stated_law x s table stated law) at_start h.ready r.front r.last r.now held h.carried.taken (acts seat.accepted) r.moment (ap (service_handed x.speech) m.shows.service ∙ p.0) nothing same all_heard
             | inr b ↦ Moments.rest_answered both (stated_law x s table stated law) at_start h.ready r.front r.last r.now held h.carried.taken (acts seat.accepted) r.moment (Outcome.Replied b.0.0.0, b.0.0.1) (answer m.row m.shows.answer b.0.0 b.0.1) nothing same all_heard
           ]
 
@@ -79,7 +79,7 @@ module _ {V A M Q R : Type 0} (x : Exchange V A M Q R) (law : IsLawful x) (s : S
       by_state n =
           let over : (h.carried.rest ≡ []) × (r.now.told ≡ Act.Word n.target ∷ []) =
           subst (λ k. Staged table (state_over table start a.over) seat.slave.registers.state h.carried.rest seat.side.halves.out.holding n.target r.now.frame k r.now.told) idle n.stage in
-          Moments.rest_handed both (stated_law x s table stated law) at_start h.ready r.front r.last r.now held h.carried.taken (acts seat.accepted) r.moment (ap (service_handed x) n.service)
+          Moments.rest_handed both (stated_law x s table stated law) at_start h.ready r.front r.last r.now held h.carried.taken (acts seat.accepted) r.moment (ap (service_handed x.speech) n.service)
           (left_none x s table r.now n.target (Act.Word n.target) [] n.service over.1) same all_heard
 
   rest_of : (gs : List (GhostRow M Q R)) → starts_of gs ≡ a.started → Rested gs → TasksRest x s table more fs seat.station seat.start seat.side a seat.slave
@@ -95,8 +95,8 @@ module _ {V A M Q R : Type 0} (x : Exchange V A M Q R) (law : IsLawful x) (s : S
         app = ap x.app (sym h.carried.serves) ∙ ap (λ (p : A × ℕ). p.0) done;
         handled = ap x.handled (sym h.carried.serves) ∙ omega (arith, size, words, kinds, handled);
         ended = ended_free x law s stated table more start is fs seat a h idle wants.nothing;
-        emissions = ap (emitted x.emission) (sym h.records.hears)
-            ∙ sym (ap mails (emitted_acts x.emission seat.accepted) ∙ mails_acts (emitted x.emission seat.accepted))
+        emissions = ap (emitted x.speech.emission) (sym h.records.hears)
+            ∙ sym (ap mails (emitted_acts x.speech.emission seat.accepted) ∙ mails_acts (emitted x.speech.emission seat.accepted))
             ∙ ap mails r.emissions ∙ ap (λ l. mails (emits_all both (x.app seat.start, 0) l)) qs;
       }
 

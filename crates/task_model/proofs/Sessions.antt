@@ -113,16 +113,16 @@ module _ {V A M Q R : Type 0} (x : Exchange V A M Q R) (law : IsLawful x) (s : S
 
   -- BEFORE A FRAME
   next_carries : (fs : List (Frame M)) (p : Planned V) (seat : Seat V M Q R) (a : Account Q R) (pick : Pick Q) → Whole fs p seat a → p.registers.station ≡ p.station →
-      Carries fs p (seat_next x (length fs) seat (mails_choice a pick)) (account_next x s.acknowledged (length fs) seat.side a pick)
+      Carries fs p (seat_next x (length fs) seat (mails_choice a pick)) (account_next x.speech s.acknowledged (length fs) seat.side a pick)
   next_carries fs p seat a pick k answers =
       let from = state_over (table p.station) p.registers.state a.over in
       let h = holds fs p seat a k answers in
       let stands = λ (none : a.hand ≡ None). (free_state (table p.station) p.registers.state (k.is.brought answers).sits seat.station fs seat.slave.registers a h.stately none).0 in
       let began = carried_begins x law s (table p.station) stated from seat a (length fs) pick.begin k.ready k.agrees stands h.carried in
-      let side = side_begins x (length fs) seat.side seat.side.now (mails_begin a.hand pick.begin) in
-      let b = account_begins x s.acknowledged (length fs) seat.side a a.hand pick.begin in
+      let side = side_begins x.speech (length fs) seat.side seat.side.now (mails_begin a.hand pick.begin) in
+      let b = account_begins x.speech s.acknowledged (length fs) seat.side a a.hand pick.begin in
       record {
-        carried = subst (λ os. Carried x law s (table p.station) (state_over (table p.station) p.registers.state os) (seat_next x (length fs) seat (mails_choice a pick)) (account_next x s.acknowledged (length fs) seat.side a pick))
+        carried = subst (λ os. Carried x law s (table p.station) (state_over (table p.station) p.registers.state os) (seat_next x (length fs) seat (mails_choice a pick)) (account_next x.speech s.acknowledged (length fs) seat.side a pick))
             (sym (over_next x s.acknowledged (length fs) seat.side a pick)) (carried_next x law s (table p.station) stated from seat a (length fs) pick k.ready k.agrees stands h.carried);
         posts = next_posts x law seat.station fs seat.side (mails_choice a pick)
             (side_facts x law s stated (table p.station) more p.registers.state (k.is.brought answers).sits fs seat a k.ready from h.carried)
@@ -131,8 +131,8 @@ module _ {V A M Q R : Type 0} (x : Exchange V A M Q R) (law : IsLawful x) (s : S
         completed = completed_next x more seat.station s.acknowledged fs seat.side a h.completed pick (newest_over x law s stated (table p.station) more p.registers.state (k.is.brought answers).sits fs seat a h);
       }
 
-  next_whole : (fs : List (Frame M)) (p : Planned V) (seat : Seat V M Q R) (a : Account Q R) (pick : Pick Q) → Whole fs p seat a → Whole fs p (seat_next x (length fs) seat (mails_choice a pick)) (account_next x s.acknowledged (length fs) seat.side a pick)
-  next_whole fs p seat a pick k = keeps_whole fs fs p seat (seat_next x (length fs) seat (mails_choice a pick)) a (account_next x s.acknowledged (length fs) seat.side a pick) refl k
+  next_whole : (fs : List (Frame M)) (p : Planned V) (seat : Seat V M Q R) (a : Account Q R) (pick : Pick Q) → Whole fs p seat a → Whole fs p (seat_next x (length fs) seat (mails_choice a pick)) (account_next x.speech s.acknowledged (length fs) seat.side a pick)
+  next_whole fs p seat a pick k = keeps_whole fs fs p seat (seat_next x (length fs) seat (mails_choice a pick)) a (account_next x.speech s.acknowledged (length fs) seat.side a pick) refl k
       (next_is x s processor table s.acknowledged fs p seat a pick k.is)
       (next_agrees x (length fs) seat (mails_choice a pick) k.agrees, (nexts_records x law fs (seat ∷ []) (mails_choice a pick ∷ []) (k.records, tt)).0) (λ answers c. next_carries fs p seat a pick k answers)
 
@@ -232,13 +232,13 @@ module _ {V A M Q R : Type 0} (x : Exchange V A M Q R) (law : IsLawful x) (s : S
   turn_keeps : (ps : List (Planned V)) (w : TaskSession V M Q R) (t : TaskTurn M Q) → AllApart ps →
       (let n = length w.session.frames in
       let asked = seats_next x n w.session.seats (mails_choices w.accounts t.picks) in
-      IsFrame asked t.move.sent × AreServed (sides_of asked) (accounts_next x s.acknowledged n (sides_of w.session.seats) w.accounts t.picks) t.move.sent) →
+      IsFrame asked t.move.sent × AreServed (sides_of asked) (accounts_next x.speech s.acknowledged n (sides_of w.session.seats) w.accounts t.picks) t.move.sent) →
       Keeps ps w → Keeps ps (happens x s.acknowledged processor w t)
   turn_keeps ps w t apart may h =
       let fs = w.session.frames in
       let cs = mails_choices w.accounts t.picks in
       let asked = seats_next x (length fs) w.session.seats cs in
-      let counted = accounts_next x s.acknowledged (length fs) (sides_of w.session.seats) w.accounts t.picks in
+      let counted = accounts_next x.speech s.acknowledged (length fs) (sides_of w.session.seats) w.accounts t.picks in
       let f : Frame M = record { sent = t.move.sent; fate = t.move.fate; back = ring_back (ring_of asked) t.move.sent t.move.fate } in
       let follow = follows fs ps w.session.seats w.accounts h.stations h.each in
       let next = each_next x (Whole fs) s.acknowledged (length fs) (next_whole fs) ps w.session.seats w.accounts t.picks h.each in

@@ -49,7 +49,7 @@ module _ {V A M Q R : Type 0} (x : Exchange V A M Q R) (acknowledged : Q → Boo
   MayTurn z t =
       let n = length z.session.frames in
       let asked = seats_next x n z.session.seats (mails_choices z.accounts t.picks) in
-      IsFrame asked t.move.sent × AreServed (sides_of asked) (accounts_next x acknowledged n (sides_of z.session.seats) z.accounts t.picks) t.move.sent
+      IsFrame asked t.move.sent × AreServed (sides_of asked) (accounts_next x.speech acknowledged n (sides_of z.session.seats) z.accounts t.picks) t.move.sent
 
   may-append : (w : TaskSession V M Q R) (ts : List (TaskTurn M Q)) (t : TaskTurn M Q) → MayRun x acknowledged processor w ts → MayTurn (run x acknowledged processor w ts) t → MayRun x acknowledged processor w (ts ++ t ∷ [])
   may-append w [] t m f = (f, tt)
@@ -72,22 +72,22 @@ module _ {V A M Q R : Type 0} (x : Exchange V A M Q R) (acknowledged : Q → Boo
     turn = record { picks = picks; move = m }
 
     abbrev asked : List (ℕ × Side M Q R)
-    asked = sides_next x (length fs) ds (mails_choices accounts picks)
+    asked = sides_next x.speech (length fs) ds (mails_choices accounts picks)
 
     abbrev counted : List (Account Q R)
-    counted = accounts_next x acknowledged (length fs) ds accounts picks
+    counted = accounts_next x.speech acknowledged (length fs) ds accounts picks
 
     -- what the master asks, over the session that it has come to
     asked_is : sides_of (seats_next x (length now.session.frames) now.session.seats (mails_choices now.accounts picks)) ≡ asked
-    asked_is = nexts_sides x (length now.session.frames) now.session.seats (mails_choices now.accounts picks) ∙ (λ i. sides_next x (length (b.frames i)) (b.sides i) (mails_choices (b.counted i) picks))
+    asked_is = nexts_sides x (length now.session.frames) now.session.seats (mails_choices now.accounts picks) ∙ (λ i. sides_next x.speech (length (b.frames i)) (b.sides i) (mails_choices (b.counted i) picks))
 
-    counted_is : accounts_next x acknowledged (length now.session.frames) (sides_of now.session.seats) now.accounts picks ≡ counted
-    counted_is = λ i. accounts_next x acknowledged (length (b.frames i)) (b.sides i) (b.counted i) picks
+    counted_is : accounts_next x.speech acknowledged (length now.session.frames) (sides_of now.session.seats) now.accounts picks ≡ counted
+    counted_is = λ i. accounts_next x.speech acknowledged (length (b.frames i)) (b.sides i) (b.counted i) picks
 
     may_turn : IsFrameOf asked m.sent → AreServed asked counted m.sent → MayTurn now turn
     may_turn f s = (
       frame_from x (seats_next x (length now.session.frames) now.session.seats (mails_choices now.accounts picks)) m.sent (subst (λ l. IsFrameOf l m.sent) (sym asked_is) f),
-      subst (λ l. AreServed l (accounts_next x acknowledged (length now.session.frames) (sides_of now.session.seats) now.accounts picks) m.sent) (sym asked_is)
+      subst (λ l. AreServed l (accounts_next x.speech acknowledged (length now.session.frames) (sides_of now.session.seats) now.accounts picks) m.sent) (sym asked_is)
           (subst (λ l. AreServed asked l m.sent) (sym counted_is) s),
     )
 
@@ -96,7 +96,7 @@ module _ {V A M Q R : Type 0} (x : Exchange V A M Q R) (acknowledged : Q → Boo
 
     -- a master and a ring that meet in a frame stay such a session
     pub tasked_step : IsFrameOf asked m.sent → AreServed asked counted m.sent →
-        IsTasked x acknowledged processor ps (sides_after x (length fs) m.sent m.fate (ring_back ns m.sent m.fate) asked) (accounts_after (length fs) asked counted m.fate (ring_back ns m.sent m.fate))
+        IsTasked x acknowledged processor ps (sides_after x.speech (length fs) m.sent m.fate (ring_back ns m.sent m.fate) asked) (accounts_after (length fs) asked counted m.fate (ring_back ns m.sent m.fate))
         (ring_steps x processor (ring_after ns m.sent m.fate) m.steps) (fs ++ frame_of ns m ∷ [])
     tasked_step f s =
         let more = run-append (new_tasks b.opening ps) b.turns turn in
@@ -108,7 +108,7 @@ module _ {V A M Q R : Type 0} (x : Exchange V A M Q R) (acknowledged : Q → Boo
           may = may-append (new_tasks b.opening ps) b.turns turn b.may (may_turn f s);
           sides =
               ap (λ w. sides_of w.session.seats) more ∙ turn_sides x processor now.session mails
-              ∙ (λ i. sides_after x (length (b.frames i)) m.sent m.fate (ring_back (b.ring i) m.sent m.fate) (sides_next x (length (b.frames i)) (b.sides i) (mails_choices (b.counted i) picks)));
+              ∙ (λ i. sides_after x.speech (length (b.frames i)) m.sent m.fate (ring_back (b.ring i) m.sent m.fate) (sides_next x.speech (length (b.frames i)) (b.sides i) (mails_choices (b.counted i) picks)));
           counted = ap (λ w. w.accounts) more ∙ (λ i. accounts_after (length (b.frames i)) (asked_is i) (counted_is i) m.fate (back_is i));
           ring = ap (λ w. ring_of w.session.seats) more ∙ turn_ring x processor now.session mails ∙ ap (λ l. ring_steps x processor (ring_after l m.sent m.fate) m.steps) b.ring;
           frames = ap (λ w. w.session.frames) more ∙ turn_frames x processor now.session mails ∙ (λ i. b.frames i ++ frame_of (b.ring i) m ∷ []);

@@ -195,7 +195,7 @@ module _ {M R : Type 0} (table : Table) (start : ℕ) (is : IsTable table start)
 module _ {M Q R : Type 0} (table : Table) (start : ℕ) (is : IsTable table start) (station : ℕ) where
   -- A CHOICE
   pub next_stately : {V A : Type 0} (x : Exchange V A M Q R) (acknowledged : Q → Bool) (fs : List (Frame M)) (d : Side M Q R) (r : Registers) (a : Account Q R) (p : Pick Q) → Stately table start is station fs r a →
-      Stately table start is station fs r (account_next x acknowledged (length fs) d a p)
+      Stately table start is station fs r (account_next x.speech acknowledged (length fs) d a p)
   next_stately x acknowledged fs d r a p k = go a.hand p.begin refl
     where
       mails : (q : Q) (b : Bool) → a.hand ≡ None → Stately table start is station fs r (if b then record a { started = starts a (Service.Mails q) (length fs) } else a)
@@ -222,11 +222,11 @@ module _ {M Q R : Type 0} (table : Table) (start : ℕ) (is : IsTable table star
         order = order_push (length fs) a.started a.over a.hand (Some (duty_of target (length fs) Stage.Drains)) (state_start target (length fs)) e refl (InOrder.in_hand (duty_of target (length fs) Stage.Drains)) k.order;
       }
 
-      go : (hand : Option Duty) (wish : Option (Service Q)) → a.hand ≡ hand → Stately table start is station fs r (account_begins x acknowledged (length fs) d a hand wish)
-      go (Some duty) wish e = k
-      go None None e = k
-      go None (Some (Service.Mails q)) e = mails q (x.valid q && is_free x d d.now) e
-      go None (Some (Service.State target)) e = state target (is_free x d d.now && is_acknowledged acknowledged d d.now) e
+      go : (hand : Option Duty) (wish : Option (Service Q)) → a.hand ≡ hand → Stately table start is station fs r (account_begins x.speech acknowledged (length fs) d a hand wish)
+      go hand None e = k
+      go (Some duty) (Some wish) e = k
+      go None (Some (Service.Mails q)) e = mails q (x.speech.valid q && is_free x.speech d d.now) e
+      go None (Some (Service.State target)) e = state target (is_free x.speech d d.now && is_acknowledged acknowledged d d.now) e
 
   -- a frame that does nothing here
   quiet_stately : (fs : List (Frame M)) (f : Frame M) (r : Registers) (a : Account Q R) → statuses (frame_news station (kept_of station fs) f) ≡ [] → Stately table start is station fs r a → Stately table start is station (fs ++ f ∷ []) r a
@@ -359,13 +359,13 @@ module _ {M Q R : Type 0} (table : Table) (start : ℕ) (is : IsTable table star
   }
 
   -- AT THE END OF BRING-UP
-  pub new_stately : (fs : List (Frame M)) (r : Registers) → r.state ≡ start → r.control ≡ None → r.refused ≡ None → Stately {M = M} {Q = Q} {R = R} table start is station fs r new_account
+  pub new_stately : (fs : List (Frame M)) (r : Registers) → r.state ≡ start → ((word : ℕ × Bool) → r.control ≡ Some word → word.0 ≡ start) → r.refused ≡ None → Stately {M = M} {Q = Q} {R = R} table start is station fs r new_account
   new_stately fs r state control refused = record {
     closed = [];
     holds = record {
       told = tt;
       sits = is.sits;
-      kept = record { state = state; refused = refused; word = λ word e. absurd (let no = sym control ∙ e in cc) };
+      kept = record { state = state; refused = refused; word = control };
       reads = tt;
     };
     hand = tt;
@@ -403,10 +403,10 @@ module _ {M Q R : Type 0} (table : Table) (start : ℕ) (is : IsTable table star
       )
 
   -- and the outcome by the record is that answer, of an earlier frame
-  pub over_outcomes : {V A : Type 0} (x : Exchange V A M Q R) (more : M → Bool) (fs : List (Frame M)) (r : Registers) (a : Account Q R) → Stately table start is station fs r a → AllFound x more station fs a.over
+  pub over_outcomes : {V A : Type 0} (x : Exchange V A M Q R) (more : M → Bool) (fs : List (Frame M)) (r : Registers) (a : Account Q R) → Stately table start is station fs r a → AllFound x.speech more station fs a.over
   over_outcomes x more fs r a k = go k.closed a.over k.over
     where
-      go : (cs : List (Closed M R)) (os : List (Change R)) → AllChanged station fs cs os → AllFound x more station fs os
+      go : (cs : List (Closed M R)) (os : List (Change R)) → AllChanged station fs cs os → AllFound x.speech more station fs os
       go [] [] all = tt
       go [] (o ∷ os) all = absurd all
       go (c ∷ cs) [] all = absurd all
@@ -414,7 +414,7 @@ module _ {M Q R : Type 0} (table : Table) (start : ℕ) (is : IsTable table star
 
   -- that of the one in hand is open
   pub duty_outcome : {V A : Type 0} (x : Exchange V A M Q R) (more : M → Bool) (fs : List (Frame M)) (r : Registers) (a : Account Q R) (duty : Duty) → Stately table start is station fs r a → a.hand ≡ Some duty →
-      (first_end (ends x more (Task.State duty.target)) duty.frame [] (news_from station duty.frame fs) ≡ None) × (duty.frame ≤ length fs)
+      (first_end (ends x.speech more (Task.State duty.target)) duty.frame [] (news_from station duty.frame fs) ≡ None) × (duty.frame ≤ length fs)
   duty_outcome x more fs r a duty k e = let o : IsOpen R station fs duty = subst (HandOpen R station fs) e k.hand in (o.open_yet, o.begun)
 
   -- a step of the processor leaves the state, or a state service in hand goes through its phases and the state becomes the one behind it
@@ -431,10 +431,10 @@ module _ {M Q R : Type 0} (table : Table) (start : ℕ) (is : IsTable table star
 
   -- OF THE STATE SERVICES AMONG ALL THAT CAME INTO HAND, by the record: each outcome is the table's, in the state behind those before it, and there
   -- is one of each where none is in hand
-  pub duty_open : {V A : Type 0} (x : Exchange V A M Q R) (more : M → Bool) (fs : List (Frame M)) (r : Registers) (a : Account Q R) → Stately table start is station fs r a → IsOpenYet x more station fs a.hand
+  pub duty_open : {V A : Type 0} (x : Exchange V A M Q R) (more : M → Bool) (fs : List (Frame M)) (r : Registers) (a : Account Q R) → Stately table start is station fs r a → IsOpenYet x.speech more station fs a.hand
   duty_open x more fs r a k = go a.hand k.hand
     where
-      go : (hand : Option Duty) → HandOpen R station fs hand → IsOpenYet x more station fs hand
+      go : (hand : Option Duty) → HandOpen R station fs hand → IsOpenYet x.speech more station fs hand
       go None o = tt
       go (Some duty) o = o.open_yet
 

@@ -116,7 +116,7 @@ all_heard = refl
 
 -- the outcome of each service by the record
 abbrev outcome : Started Service → Option (Outcome (Option ℕ) × ℕ)
-outcome s = outcome_of desk (λ m. false) 4097 ended.session.frames s
+outcome s = outcome_of desk.speech (λ m. false) 4097 ended.session.frames s
 
 abbrev outcomes : List (Account Service (Option ℕ)) → List (List (Option (Outcome (Option ℕ) × ℕ)))
 outcomes accounts = map (λ a. map outcome a.started) accounts
@@ -127,7 +127,7 @@ all_outcomes = refl
 -- as a book has them: the answers of a script of five services, of which one did not begin; and early on, with the first state service in hand,
 -- of a script of four
 abbrev answers : TaskSession Desk Mail Service (Option ℕ) → ℕ → List (List (Answer (Option ℕ)))
-answers w left = map (λ a. task_answers desk (λ m. false) 4097 w.session.frames a.started left) w.accounts
+answers w left = map (λ a. task_answers desk.speech (λ m. false) 4097 w.session.frames a.started left) w.accounts
 
 all_answers : answers ended 1 ≡
     (Answer.Ended (Outcome.Replied None) 1 ∷ Answer.Ended Outcome.Reached 6 ∷ Answer.Ended (Outcome.Refused 17) 11 ∷ Answer.Ended (Outcome.Replied (Some 3)) 15 ∷ Answer.NotSent ∷ []) ∷ []
@@ -160,7 +160,7 @@ plan = record {
   plan = record { stations = (tt, tt); ready = (refl, tt) };
   apart = ((tt, tt), tt);
   tells = λ state v. refl;
-  brought = ((λ r station first second. refl, λ answers. record { control = refl; refused = refl; sits = record { sits = refl; stays = λ from to e. e }; state = refl }), tt);
+  brought = ((λ r station first second. refl, λ answers. record { control = λ word e. absurd (cc); refused = refl; sits = record { sits = refl; stays = λ from to e. e }; state = refl }), tt);
 }
 
 tasked : IsTasked desk desk_states.acknowledged processor one (sides_of ended.session.seats) ended.accounts (ring_of ended.session.seats) ended.session.frames
@@ -170,7 +170,7 @@ kept : EachTask (λ station start d a n. TasksPromised desk desk_states steps (�
 kept = tasks_promised desk desk_law desk_states desk_is_stated processor (λ station. steps) (λ m. false) plan.tells one plan (sides_of ended.session.seats) ended.accounts (ring_of ended.session.seats) ended.session.frames tasked
 
 -- and what they say with nothing left
-rested : EachTask (λ station start d a n. IsSettled n × WantsNothing desk d × (a.hand ≡ None)) one (sides_of ended.session.seats) ended.accounts (ring_of ended.session.seats)
+rested : EachTask (λ station start d a n. IsSettled n × WantsNothing desk.speech d × (a.hand ≡ None)) one (sides_of ended.session.seats) ended.accounts (ring_of ended.session.seats)
 rested = ((refl, refl, λ answers. (record { first = refl; second = refl; withdrawn = refl; waiting = refl }, record { idle = refl; clear = refl; nothing = refl }, refl)), tt)
 
 -- so with its script begun all of it is done

@@ -27,7 +27,7 @@ module _ {V A M Q R : Type 0} (x : Exchange V A M Q R) (stated : Stated V A Q) (
 
   -- a choice
   pub next_is : (acknowledged : Q → Bool) (fs : List (Frame M)) (p : Planned V) (s : Seat V M Q R) (a : Account Q R) (pick : Pick Q) → IsStately fs p s a →
-      IsStately fs p (seat_next x (length fs) s (mails_choice a pick)) (account_next x acknowledged (length fs) s.side a pick)
+      IsStately fs p (seat_next x (length fs) s (mails_choice a pick)) (account_next x.speech acknowledged (length fs) s.side a pick)
   next_is acknowledged fs p s a pick k = record {
     carries = k.carries;
     brought = k.brought;

@@ -169,9 +169,9 @@ module _ {V A M Q R : Type 0} (x : Exchange V A M Q R) (frame : ℕ) (Before Beh
 module _ {V A M Q R : Type 0} (x : Exchange V A M Q R) (Of : Planned V → Seat V M Q R → Account Q R → Type 0) where
   -- CHOICES
   pub each_next : (acknowledged : Q → Bool) (frame : ℕ) →
-      ((p : Planned V) (s : Seat V M Q R) (a : Account Q R) (pick : Pick Q) → Of p s a → Of p (seat_next x frame s (mails_choice a pick)) (account_next x acknowledged frame s.side a pick)) →
+      ((p : Planned V) (s : Seat V M Q R) (a : Account Q R) (pick : Pick Q) → Of p s a → Of p (seat_next x frame s (mails_choice a pick)) (account_next x.speech acknowledged frame s.side a pick)) →
       (ps : List (Planned V)) (ss : List (Seat V M Q R)) (more : List (Account Q R)) (picks : List (Pick Q)) → EachOne Of ps ss more →
-      EachOne Of ps (seats_next x frame ss (mails_choices more picks)) (accounts_next x acknowledged frame (sides_of ss) more picks)
+      EachOne Of ps (seats_next x frame ss (mails_choices more picks)) (accounts_next x.speech acknowledged frame (sides_of ss) more picks)
   each_next acknowledged frame one [] [] [] picks h = tt
   each_next acknowledged frame one [] [] (a ∷ more) picks h = absurd h
   each_next acknowledged frame one [] (s ∷ ss) more picks h = absurd h

@@ -1,7 +1,7 @@
 -- The services of a slave as its master accounts for them: services by mails and state services in the order in which they came into hand, one
 -- in hand at a time, and what the master's datagrams make of a state service.
 use Rattle.std.specs.Prelude.{◌≡◌, ℕ, ◌==◌, ◌&&◌, Bool, true, false, not, is_none, if◌then◌else◌, Option, Some, None, List, [], ◌∷◌, ◌++◌}
-use Rattle.exchange_model.specs.Exchange.{Exchange}
+use Rattle.exchange_model.specs.Exchange.{Speech}
 use Rattle.exchange_model.specs.Rows.{Row}
 use Rattle.segment_model.specs.Slaves.{Datagram, Address, Access, Found}
 use Rattle.segment_model.specs.Record.{is_for}
@@ -50,8 +50,8 @@ pub record Pick (Q : Type 0) : Type 0 where
 
 -- a service by mails begins where no state service is in hand
 abbrev pub mails_begin : {Q : Type 0} → Option Duty → Option (Service Q) → Option Q
-mails_begin (Some duty) wish = None
-mails_begin None None = None
+mails_begin hand None = None
+mails_begin (Some duty) (Some wish) = None
 mails_begin None (Some (Service.Mails q)) = Some q
 mails_begin None (Some (Service.State target)) = None
 
@@ -60,7 +60,7 @@ abbrev pub mails_choice : {Q R : Type 0} → Account Q R → Pick Q → Choice Q
 mails_choice a p = record { begin = mails_begin a.hand p.begin; hold = p.hold }
 
 -- the newest service by mails is over
-abbrev pub is_free : {V A M Q R : Type 0} → Exchange V A M Q R → Side M Q R → Option (Row M Q R) → Bool
+abbrev pub is_free : {M Q R : Type 0} → Speech M Q R → Side M Q R → Option (Row M Q R) → Bool
 is_free x d None = true
 is_free x d (Some r) = is_over x d.halves.out.holding d.fresh r
 
@@ -79,16 +79,16 @@ state_begins a target frame =
     record a { started = starts a (Service.State target) frame; hand = Some (record { target = target; frame = frame; stage = Stage.Drains }) }
 
 -- the account before a frame with this number; a wish that may not be does nothing
-abbrev pub account_begins : {V A M Q R : Type 0} → Exchange V A M Q R → (Q → Bool) → ℕ → Side M Q R → Account Q R → Option Duty → Option (Service Q) → Account Q R
-account_begins x acknowledged frame d a (Some duty) wish = a
-account_begins x acknowledged frame d a None None = a
+abbrev pub account_begins : {M Q R : Type 0} → Speech M Q R → (Q → Bool) → ℕ → Side M Q R → Account Q R → Option Duty → Option (Service Q) → Account Q R
+account_begins x acknowledged frame d a hand None = a
+account_begins x acknowledged frame d a (Some duty) (Some wish) = a
 account_begins x acknowledged frame d a None (Some (Service.Mails q)) =
     if x.valid q && is_free x d d.now then record a { started = starts a (Service.Mails q) frame } else a
 account_begins x acknowledged frame d a None (Some (Service.State target)) =
     if is_free x d d.now && is_acknowledged acknowledged d d.now then state_begins a target frame else a
 
 -- the account before a frame, by this choice; `d` is the side of the mails as it stands
-abbrev pub account_next : {V A M Q R : Type 0} → Exchange V A M Q R → (Q → Bool) → ℕ → Side M Q R → Account Q R → Pick Q → Account Q R
+abbrev pub account_next : {M Q R : Type 0} → Speech M Q R → (Q → Bool) → ℕ → Side M Q R → Account Q R → Pick Q → Account Q R
 account_next x acknowledged frame d a p = account_begins x acknowledged frame d a a.hand p.begin
 
 -- the access that a state service in this phase sends: its control word, or the read of the status

@@ -1,7 +1,7 @@
 -- What a session of services by mails and state services promises of each slave.
 use Rattle.std.specs.Prelude.{◌≡◌, ℕ, suc, ◌+◌, ◌<◌, ◌≤◌, Bool, Option, Some, None, List, [], ◌∷◌, ◌++◌, map, take, length, ⊤}
 use Rattle.exchange_model.specs.Prefix.{IsPrefixOf}
-use Rattle.exchange_model.specs.Exchange.{Exchange, emitted}
+use Rattle.exchange_model.specs.Exchange.{Exchange, Speech, emitted}
 use Rattle.exchange_model.specs.Rows.{Row, exec_all, emits_all}
 use Rattle.segment_model.specs.Slaves.{Slave, Ring}
 use Rattle.segment_model.specs.Record.{Frame, first_end, news_from, heard}
@@ -18,7 +18,7 @@ task_of (Service.Mails q) = Task.Mails q
 task_of (Service.State target) = Task.State target
 
 -- the outcome of a service by the record, with the frame that completed it
-abbrev pub outcome_of : {V A M Q R : Type 0} → Exchange V A M Q R → (M → Bool) → ℕ → List (Frame M) → Started Q → Option (Outcome R × ℕ)
+abbrev pub outcome_of : {M Q R : Type 0} → Speech M Q R → (M → Bool) → ℕ → List (Frame M) → Started Q → Option (Outcome R × ℕ)
 outcome_of x more station fs s = first_end (ends x more (task_of s.service)) s.frame [] (news_from station s.frame fs)
 
 -- the services of these rows
@@ -42,11 +42,11 @@ IsReply (Outcome.Refused code) = ⊤
 abbrev pub AllReplied : {V A M Q R : Type 0} → Exchange V A M Q R → Stated V A Q → Table → (M → Bool) → ℕ → List (Frame M) → A × ℕ → List (Started Q) → Type 0
 AllReplied x s table more station fs a [] = ⊤
 AllReplied {R = R} x s table more station fs a (r ∷ rs) =
-    ((o : Outcome R × ℕ) → outcome_of x more station fs r ≡ Some o → IsReply o.0 → o.0 ≡ (with_states x s table).reply a r.service)
+    ((o : Outcome R × ℕ) → outcome_of x.speech more station fs r ≡ Some o → IsReply o.0 → o.0 ≡ (with_states x s table).reply a r.service)
     × AllReplied x s table more station fs ((with_states x s table).exec a r.service) rs
 
 -- and its service, the first of which has this number, is among the first count
-abbrev pub AllDone : {V A M Q R : Type 0} → Exchange V A M Q R → (M → Bool) → ℕ → List (Frame M) → ℕ → ℕ → List (Started Q) → Type 0
+abbrev pub AllDone : {M Q R : Type 0} → Speech M Q R → (M → Bool) → ℕ → List (Frame M) → ℕ → ℕ → List (Started Q) → Type 0
 AllDone x more station fs count number [] = ⊤
 AllDone {R = R} x more station fs count number (r ∷ rs) =
     ((o : Outcome R × ℕ) → outcome_of x more station fs r ≡ Some o → IsReply o.0 → number < count) × AllDone x more station fs count (suc number) rs
@@ -57,13 +57,13 @@ next_start [] end = end
 next_start (r ∷ rs) end = r.frame
 
 -- each outcome is of a frame before the next service came into hand, and before the frame with this number
-abbrev pub AllRise : {V A M Q R : Type 0} → Exchange V A M Q R → (M → Bool) → ℕ → List (Frame M) → List (Started Q) → ℕ → Type 0
+abbrev pub AllRise : {M Q R : Type 0} → Speech M Q R → (M → Bool) → ℕ → List (Frame M) → List (Started Q) → ℕ → Type 0
 AllRise x more station fs [] end = ⊤
 AllRise {R = R} x more station fs (r ∷ rs) end =
     ((o : Outcome R × ℕ) → outcome_of x more station fs r ≡ Some o → o.1 < next_start rs end) × AllRise x more station fs rs end
 
 -- each of these has an outcome
-abbrev pub AllEnded : {V A M Q R : Type 0} → Exchange V A M Q R → (M → Bool) → ℕ → List (Frame M) → List (Started Q) → Type 0
+abbrev pub AllEnded : {M Q R : Type 0} → Speech M Q R → (M → Bool) → ℕ → List (Frame M) → List (Started Q) → Type 0
 AllEnded x more station fs [] = ⊤
 AllEnded {R = R} x more station fs (r ∷ rs) = ((o : Outcome R × ℕ) × (outcome_of x more station fs r ≡ Some o)) × AllEnded x more station fs rs
 
@@ -85,11 +85,11 @@ pub record TasksPromised {V A M Q R : Type 0} (x : Exchange V A M Q R) (s : Stat
   pub prefix : count ≤ length a.started
   pub behind : length a.started ≤ count + 2
   pub replied : AllReplied x s table more station fs (x.app start, 0) a.started
-  pub in_done : AllDone x more station fs count 0 a.started
-  pub rises : AllRise x more station fs a.started (length fs)
-  pub in_doubt : AllEnded x more station fs (but_last a.started)
+  pub in_done : AllDone x.speech more station fs count 0 a.started
+  pub rises : AllRise x.speech more station fs a.started (length fs)
+  pub in_doubt : AllEnded x.speech more station fs (but_last a.started)
   -- the emissions that were heard are the first of those that these services emit
-  pub emissions : IsPrefixOf (emitted x.emission (heard station fs)) (mails (emits_all (with_states x s table) (x.app start, 0) (take count (services_in a.started))))
+  pub emissions : IsPrefixOf (emitted x.speech.emission (heard station fs)) (mails (emits_all (with_states x s table) (x.app start, 0) (take count (services_in a.started))))
   -- with no state service in hand no error flag stands
   pub flag : a.hand ≡ None → n.registers.refused ≡ None
 
@@ -127,16 +127,16 @@ duty_in None = []
 duty_in (Some duty) = (duty.target, duty.frame) ∷ []
 
 -- the outcome of a state service by the record, with the frame that completed it
-abbrev pub state_found : {V A M Q R : Type 0} → Exchange V A M Q R → (M → Bool) → ℕ → List (Frame M) → ℕ → ℕ → Option (Outcome R × ℕ)
+abbrev pub state_found : {M Q R : Type 0} → Speech M Q R → (M → Bool) → ℕ → List (Frame M) → ℕ → ℕ → Option (Outcome R × ℕ)
 state_found x more station fs target frame = outcome_of x more station fs (record { service = Service.State target; frame = frame })
 
 -- each that is over has by the record just its answer, of the frame that completed it
-abbrev pub AllFound : {V A M Q R : Type 0} → Exchange V A M Q R → (M → Bool) → ℕ → List (Frame M) → List (Change R) → Type 0
+abbrev pub AllFound : {M Q R : Type 0} → Speech M Q R → (M → Bool) → ℕ → List (Frame M) → List (Change R) → Type 0
 AllFound x more station fs [] = ⊤
 AllFound x more station fs (c ∷ cs) = (state_found x more station fs c.target c.frame ≡ Some (c.answer, c.completed)) × AllFound x more station fs cs
 
 -- the one in hand has none yet
-abbrev pub IsOpenYet : {V A M Q R : Type 0} → Exchange V A M Q R → (M → Bool) → ℕ → List (Frame M) → Option Duty → Type 0
+abbrev pub IsOpenYet : {M Q R : Type 0} → Speech M Q R → (M → Bool) → ℕ → List (Frame M) → Option Duty → Type 0
 IsOpenYet x more station fs None = ⊤
 IsOpenYet x more station fs (Some duty) = state_found x more station fs duty.target duty.frame ≡ None
 
@@ -145,22 +145,22 @@ IsOpenYet x more station fs (Some duty) = state_found x more station fs duty.tar
 pub record TasksAnswered {V A M Q R : Type 0} (x : Exchange V A M Q R) (s : Stated V A Q) (table : Table) (more : M → Bool) (fs : List (Frame M))
     (station : ℕ) (start : V) (d : Side M Q R) (a : Account Q R) (n : Slave V M) : Type 0 where
   pub mails : mails_started a.started ≡ rows_started (rows_of d)
-  pub answers : AllAnswered x more station fs (rows_of d)
+  pub answers : AllAnswered x.speech more station fs (rows_of d)
   pub states : states_started a.started ≡ changes_in a.over ++ duty_in a.hand
-  pub over : AllFound x more station fs a.over
-  pub hand : IsOpenYet x more station fs a.hand
+  pub over : AllFound x.speech more station fs a.over
+  pub hand : IsOpenYet x.speech more station fs a.hand
 
 -- WITH NOTHING LEFT: all services are carried out, each has its outcome, and all emissions were heard
 pub record TasksRest {V A M Q R : Type 0} (x : Exchange V A M Q R) (s : Stated V A Q) (table : Table) (more : M → Bool) (fs : List (Frame M))
     (station : ℕ) (start : V) (d : Side M Q R) (a : Account Q R) (n : Slave V M) : Type 0 where
   pub app : x.app n.node.server.server ≡ (exec_all (with_states x s table) (x.app start, 0) (services_in a.started)).0
   pub handled : x.handled n.node.server.server ≡ x.handled start + mails_in (services_in a.started)
-  pub ended : AllEnded x more station fs a.started
-  pub emissions : emitted x.emission (heard station fs) ≡ mails (emits_all (with_states x s table) (x.app start, 0) (services_in a.started))
+  pub ended : AllEnded x.speech more station fs a.started
+  pub emissions : emitted x.speech.emission (heard station fs) ≡ mails (emits_all (with_states x s table) (x.app start, 0) (services_in a.started))
 
 -- it rests where it is settled and the master wants nothing of it
 abbrev pub TasksRestIf : {V A M Q R : Type 0} → Exchange V A M Q R → Stated V A Q → Table → (M → Bool) → List (Frame M) → ℕ → V → Side M Q R → Account Q R → Slave V M → Type 0
-TasksRestIf x s table more fs station start d a n = IsSettled n → WantsNothing x d → a.hand ≡ None → TasksRest x s table more fs station start d a n
+TasksRestIf x s table more fs station start d a n = IsSettled n → WantsNothing x.speech d → a.hand ≡ None → TasksRest x s table more fs station start d a n
 
 -- a fact of each slave of a plan that answers to its station, in ring order
 abbrev pub EachTask : {V M Q R : Type 0} → (ℕ → V → Side M Q R → Account Q R → Slave V M → Type 0) → List (Planned V) → List (ℕ × Side M Q R) → List (Account Q R) → Ring V M → Type 0

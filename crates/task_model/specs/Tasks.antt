@@ -1,6 +1,6 @@
 -- A session in which services go by mails or change AL states: the session of the mails, and beside each slave its account.
-use Rattle.std.specs.Prelude.{◌≡◌, ℕ, ◌==◌, Bool, false, None, List, [], ◌∷◌, ◌++◌, map, length, ⊤}
-use Rattle.exchange_model.specs.Exchange.{Exchange}
+use Rattle.std.specs.Prelude.{◌≡◌, ℕ, ◌==◌, Bool, false, Some, None, List, [], ◌∷◌, ◌++◌, map, length, ⊤}
+use Rattle.exchange_model.specs.Exchange.{Exchange, Speech}
 use Rattle.link_model.specs.Segment.{RingFate}
 use Rattle.segment_model.specs.Slaves.{Registers, Processor, Datagram, Ring, ring_back, Move}
 use Rattle.segment_model.specs.Record.{Frame}
@@ -33,7 +33,7 @@ abbrev pub mails_turn : {M Q R : Type 0} → List (Account Q R) → TaskTurn M Q
 mails_turn accounts t = record { choices = mails_choices accounts t.picks; move = t.move }
 
 -- all accounts before a frame, by the sides of the mails as they stand
-abbrev pub accounts_next : {V A M Q R : Type 0} → Exchange V A M Q R → (Q → Bool) → ℕ → List (ℕ × Side M Q R) → List (Account Q R) → List (Pick Q) → List (Account Q R)
+abbrev pub accounts_next : {M Q R : Type 0} → Speech M Q R → (Q → Bool) → ℕ → List (ℕ × Side M Q R) → List (Account Q R) → List (Pick Q) → List (Account Q R)
 accounts_next x acknowledged frame ds [] ps = []
 accounts_next x acknowledged frame [] (a ∷ more) ps = a ∷ more
 accounts_next x acknowledged frame (d ∷ ds) (a ∷ more) [] = a ∷ more
@@ -63,7 +63,7 @@ happens x acknowledged processor w t =
     let asked = seats_next x n w.session.seats (mails_choices w.accounts t.picks) in
     record {
       session = Seats.happens x processor w.session (mails_turn w.accounts t);
-      accounts = accounts_after n (sides_of asked) (accounts_next x acknowledged n (sides_of w.session.seats) w.accounts t.picks) t.move.fate (ring_back (ring_of asked) t.move.sent t.move.fate);
+      accounts = accounts_after n (sides_of asked) (accounts_next x.speech acknowledged n (sides_of w.session.seats) w.accounts t.picks) t.move.fate (ring_back (ring_of asked) t.move.sent t.move.fate);
     }
 
 -- any list of them
@@ -77,7 +77,7 @@ MayRun x acknowledged processor w [] = ⊤
 MayRun x acknowledged processor w (t ∷ ts) =
     (let n = length w.session.frames in
     let asked = seats_next x n w.session.seats (mails_choices w.accounts t.picks) in
-    IsFrame asked t.move.sent × AreServed (sides_of asked) (accounts_next x acknowledged n (sides_of w.session.seats) w.accounts t.picks) t.move.sent)
+    IsFrame asked t.move.sent × AreServed (sides_of asked) (accounts_next x.speech acknowledged n (sides_of w.session.seats) w.accounts t.picks) t.move.sent)
     × MayRun x acknowledged processor (happens x acknowledged processor w t) ts
 
 -- the accounts at the end of bring-up
@@ -104,8 +104,8 @@ Apart before (p ∷ ps) = (Nobody p.station before × Nobody p.station ps) × Ap
 
 -- the registers of a slave as bring-up leaves them
 pub record IsBrought {V A M Q R : Type 0} (x : Exchange V A M Q R) (s : Stated V A Q) (table : ℕ → Table) (p : Planned V) : Type 0 where
-  -- no control word waits and no error flag stands
-  pub control : p.registers.control ≡ None
+  -- no error flag stands, and a control word that waits asks for the state that stands: a slow slave's may, whose write was lost and repeated
+  pub control : (word : ℕ × Bool) → p.registers.control ≡ Some word → word.0 ≡ p.registers.state
   pub refused : p.registers.refused ≡ None
   -- the slave may be in its state, and its server knows it
   pub sits : IsTable (table p.station) p.registers.state

@@ -73,9 +73,9 @@ pub fn tasks_split_law<V, A, M, Q, R>()
     // The master's sides and accounts go on by its choices and by what came back or was lost, the ring by the frame, its fate and its steps.
     ensures steps { (x : Exchange V A M Q R) (acknowledged : Q → Bool) (processor : Processor V) (ps : List (Planned V)) (ds : List (ℕ × Side M Q R)) (accounts : List (Account Q R)) (ns : Ring V M) (fs : List (Frame M)) →
         IsTasked x acknowledged processor ps ds accounts ns fs → (picks : List (Pick Q)) (m : Move M) →
-        let asked = sides_next x (length fs) ds (mails_choices accounts picks) in let counted = accounts_next x acknowledged (length fs) ds accounts picks in
+        let asked = sides_next x.speech (length fs) ds (mails_choices accounts picks) in let counted = accounts_next x.speech acknowledged (length fs) ds accounts picks in
         IsFrameOf asked m.sent → AreServed asked counted m.sent →
-        IsTasked x acknowledged processor ps (sides_after x (length fs) m.sent m.fate (ring_back ns m.sent m.fate) asked) (accounts_after (length fs) asked counted m.fate (ring_back ns m.sent m.fate))
+        IsTasked x acknowledged processor ps (sides_after x.speech (length fs) m.sent m.fate (ring_back ns m.sent m.fate) asked) (accounts_after (length fs) asked counted m.fate (ring_back ns m.sent m.fate))
         (ring_steps x processor (ring_after ns m.sent m.fate) m.steps) (fs ++ frame_of ns m ∷ []) }
 
     // And each run of such a session is such a meeting.

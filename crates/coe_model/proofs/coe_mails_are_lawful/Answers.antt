@@ -6,5 +6,5 @@ use Rattle.coe_model.proofs.Spelled.{coe_spells}
 use Rattle.coe_model.proofs.coe_mails_are_lawful.Goals as goal
 
 pub returns : goal.returns
-returns c = λ o eoe areas law spelled sized.
+returns g c = λ o eoe areas law spelled sized.
     lifted_law (coe_exchange o eoe areas) mail_heard mail_written (coe_law o law eoe areas sized) (coe_spells o law spelled eoe areas sized)

@@ -2,4 +2,4 @@ use Rattle.exchange_model.proofs.Lifting.{lifted_law}
 use Rattle.exchange_model.proofs.laws_of_spellings.Goals as goal
 
 pub returns : goal.returns
-returns c = λ x read write law spells. lifted_law x read write law spells
+returns g c = λ x read write law spells. lifted_law x read write law spells

@@ -1,7 +1,7 @@
 use Rattle.std.proofs.Common.{List, [], ◌∷◌, ◌++◌, subst, ap, arith, ◌∙◌}
+use Rattle.exchange_model.specs.Areas.{Areas}
 use Rattle.exchange_model.specs.Exchange.{plain}
 use Rattle.coe_model.specs.Mails.{CoeMail, is_emission}
-use Rattle.coe_model.specs.Client.{Areas}
 use Rattle.coe_model.specs.Octets.{mail_heard}
 use Rattle.coe_server.specs.Serving.{waiting_mails}
 use Rattle.coe_law.specs.Talks.{emission_mails, IsAwaited}

@@ -1,12 +1,11 @@
 -- Where each mail of a service brings a reply at last, so does what it is written as.
 use Rattle.std.proofs.Common.{◌≡◌, Bool, not, List, [], ◌∷◌, ◌++◌, map, refl, sym, ap, ◌∙◌, subst}
 use Rattle.std.proofs.lemmas.List.{map-append}
-use Rattle.exchange_model.specs.Exchange.{Exchange, given, plain}
+use Rattle.exchange_model.specs.Exchange.{Exchange, AnswersLast, given, plain}
 use Rattle.exchange_model.specs.Lifted.{EachOf, ReadsBack, Spells, lifted, lifted_serve}
+use Rattle.exchange_model.proofs.Lists.{filter_mapped}
 use Rattle.exchange_model.proofs.Lifting.{all_back}
 use Rattle.exchange_model.proofs.Words.{given_part}
-use Rattle.state_exchange.specs.Stated.{AnswersLast}
-use Rattle.state_exchange.proofs.Acts.{filter_mapped}
 
 pub each_front : {M : Type 0} (P : M → Type 0) (xs ys : List M) → EachOf P (xs ++ ys) → EachOf P xs
 each_front P [] ys all = tt
@@ -26,11 +25,11 @@ module _ {V A M N Q R : Type 0} (x : Exchange V A M Q R) (read : N → M) (write
 
   -- and read again it has the same replies
   replies_read : (v : V) (ns : List N) → EachOf (ReadsBack read write) (given x.serve v (map read ns)) →
-      map read (plain (λ n. x.emission (read n)) (given (lifted_serve x.serve read write) v ns)) ≡ plain x.emission (given x.serve v (map read ns))
+      map read (plain (λ n. x.speech.emission (read n)) (given (lifted_serve x.serve read write) v ns)) ≡ plain x.speech.emission (given x.serve v (map read ns))
   replies_read v ns back =
-      sym (filter_mapped read (λ m. not (x.emission m)) (given (lifted_serve x.serve read write) v ns))
-      ∙ ap (λ l. plain x.emission (map read l)) (given_read v ns)
-      ∙ ap (plain x.emission) (all_back x read write (given x.serve v (map read ns)) back)
+      sym (filter_mapped read (λ m. not (x.speech.emission m)) (given (lifted_serve x.serve read write) v ns))
+      ∙ ap (λ l. plain x.speech.emission (map read l)) (given_read v ns)
+      ∙ ap (plain x.speech.emission) (all_back x read write (given x.serve v (map read ns)) back)
 
   module _ (spells : Spells x read write) (acknowledged : Q → Bool) (last : AnswersLast x acknowledged) where
     pub lifted_last : AnswersLast (lifted x read write) acknowledged
@@ -41,7 +40,7 @@ module _ {V A M N Q R : Type 0} (x : Exchange V A M Q R) (read : N → M) (write
         let all_read = spells.answered v q ready valid in
         let begun = given_part x.serve v (map read ps) full (map read rs, sym cut) in
         let part_read = each_front (ReadsBack read write) (given x.serve v (map read ps)) begun.0 (subst (EachOf (ReadsBack read write)) (sym begun.1) all_read) in
-        let whole : map read (plain (λ n. x.emission (read n)) (given (lifted_serve x.serve read write) v (map write full))) ≡ plain x.emission (given x.serve v full) =
-        replies_read v (map write full) (subst (λ l. EachOf (ReadsBack read write) (given x.serve v l)) (sym known) all_read) ∙ ap (λ l. plain x.emission (given x.serve v l)) known in
-        let equal : plain x.emission (given x.serve v (map read ps)) ≡ plain x.emission (given x.serve v full) = sym (replies_read v ps part_read) ∙ ap (map read) same ∙ whole in
+        let whole : map read (plain (λ n. x.speech.emission (read n)) (given (lifted_serve x.serve read write) v (map write full))) ≡ plain x.speech.emission (given x.serve v full) =
+        replies_read v (map write full) (subst (λ l. EachOf (ReadsBack read write) (given x.serve v l)) (sym known) all_read) ∙ ap (λ l. plain x.speech.emission (given x.serve v l)) known in
+        let equal : plain x.speech.emission (given x.serve v (map read ps)) ≡ plain x.speech.emission (given x.serve v full) = sym (replies_read v ps part_read) ∙ ap (map read) same ∙ whole in
         none_mapped read rs (last v q ready valid answers quiet (map read ps) (map read rs) cut equal)
