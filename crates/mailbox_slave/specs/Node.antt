@@ -1,11 +1,12 @@
 -- The node of the link model that a box is with its registers and its server.
-use Rattle.std.specs.Prelude.{ℕ, Option, option_map, Ok}
+use Rattle.std.specs.Prelude.{◌≡◌, ℕ, true, Option, Some, option_map, Ok}
 use Rattle.mailbox_mail.specs.declared.mail.Mail.{Mail}
 use Rattle.link_model.specs.Slave.{OutSide, InSide, Node, Server}
 use Rattle.link_mails.specs.Body.{Body, uncounted, link_mail}
+use Rattle.esc_registers.specs.Area.{mail_area}
 use Rattle.esc_registers.specs.declared.registers.Registers.{Registers}
 use Rattle.mailbox_slave.specs.Kept.{Kept, offered}
-use Rattle.mailbox_slave.specs.Registers.{out_box, in_box, request_of, acknowledge_of}
+use Rattle.mailbox_slave.specs.Registers.{out_box, in_box, in_len, request_of, acknowledge_of}
 
 abbrev pub out_side : Kept → Registers → OutSide Body
 out_side k r = record { box = out_box r; last_taken = k.last_taken }
@@ -29,3 +30,7 @@ node_of k r s = record { out = out_side k r; inn = in_side k r; server = s }
 abbrev pub server_of : {S : Type 0} → (S → Body → ℕ → S) → (S → Option Mail) → (S → S) → ℕ → Server Body S
 server_of take next rest al =
     record { take = λ s body. take s body al; next = λ s. option_map (λ m. Ok (uncounted m)) (next s); rest = rest }
+
+-- where mailbox 1 is full, its octets are the one spelling of the mail offered
+abbrev pub IsSpelled : Kept → Registers → Type 0
+IsSpelled k r = r.in_manager.full ≡ true → (m : Mail) × (offered k ≡ Some m) × (r.in_manager.area ≡ mail_area (in_len r) m)

@@ -6,7 +6,8 @@ ghost use Rattle.link_model.specs.Slave.{noticed, repeated, looked, node_take, n
 ghost use Rattle.link_mails.specs.Body.{counted_as, link_mail, link_read};
 ghost use Rattle.mailbox_slave.specs.Kept.{IsCounted, FitsArea, KeptFits, is_at_rest};
 ghost use Rattle.mailbox_slave.specs.Registers.{in_box, in_len, acknowledge_of, ChangesIn, ChangesOut, ChangesBoxes};
-ghost use Rattle.mailbox_slave.specs.Node.{in_side, node_of, server_of};
+ghost use Rattle.esc_registers.specs.Area.{mail_area};
+ghost use Rattle.mailbox_slave.specs.Node.{in_side, node_of, server_of, IsSpelled};
 
 use crate::server::Server;
 use esc_registers::Esc;
@@ -56,6 +57,7 @@ impl SlaveBox {
     pub fn look(&mut self, esc: &mut Esc)
         requires { KeptFits (in_len esc.old) self.old }
         ensures side { in_side self.new esc.new ≡ looked (in_side self.old esc.old) }
+        ensures spelled { IsSpelled self.old esc.old → IsSpelled self.new esc.new }
         ensures last_taken { self.new.last_taken ≡ self.old.last_taken }
         ensures registers { ChangesIn esc.old esc.new }
         ensures kept { KeptFits (in_len esc.new) self.new }
@@ -70,6 +72,7 @@ impl SlaveBox {
     // Step 1.
     fn notice(&mut self, esc: &Esc)
         ensures side { in_side self.new esc.now ≡ (let s = in_side self.old esc.now in noticed s s.box s.offered) }
+        ensures spelled { IsSpelled self.old esc.now → IsSpelled self.new esc.now }
         ensures last_taken { self.new.last_taken ≡ self.old.last_taken }
         ensures kept { (len : ℕ) → KeptFits len self.old → KeptFits len self.new }
     {
@@ -86,6 +89,7 @@ impl SlaveBox {
     fn repeat(&mut self, esc: &mut Esc)
         requires { KeptFits (in_len esc.old) self.old }
         ensures side { in_side self.new esc.new ≡ (let s = in_side self.old esc.old in repeated s s.last_read) }
+        ensures spelled { IsSpelled self.old esc.old → IsSpelled self.new esc.new }
         ensures last_taken { self.new.last_taken ≡ self.old.last_taken }
         ensures registers { ChangesIn esc.old esc.new }
         ensures kept { KeptFits (in_len esc.new) self.new }
@@ -110,6 +114,7 @@ impl SlaveBox {
         requires room { S.room server.old + 6 ≤ in_len esc.old }
         requires kept { KeptFits (in_len esc.old) self.old }
         ensures node { node_of self.new esc.new server.new ≡ node_serve (server_of S.taken S.next_mail S.rest al) (node_of self.old esc.old server.old) }
+        ensures spelled { IsSpelled self.old esc.old → IsSpelled self.new esc.new }
         ensures registers { ChangesBoxes esc.old esc.new }
         ensures kept { KeptFits (in_len esc.new) self.new }
         ensures room { S.room server.new ≡ S.room server.old }
@@ -124,6 +129,7 @@ impl SlaveBox {
         requires room { S.room server.old + 6 ≤ in_len esc.old }
         requires kept { KeptFits (in_len esc.old) self.old }
         ensures node { node_of self.new esc.new server.new ≡ processor_step (server_of S.taken S.next_mail S.rest al) (node_of self.old esc.old server.old) }
+        ensures spelled { IsSpelled self.old esc.old → IsSpelled self.new esc.new }
         ensures registers { ChangesBoxes esc.old esc.new }
         ensures kept { KeptFits (in_len esc.new) self.new }
         ensures room { S.room server.new ≡ S.room server.old }
@@ -143,6 +149,7 @@ impl SlaveBox {
     fn take<S: Server>(&mut self, esc: &mut Esc, server: &mut S, al: u8)
         requires { S.ready server.old }
         ensures node { node_of self.new esc.new server.new ≡ node_take (server_of S.taken S.next_mail S.rest al) (node_of self.old esc.old server.old) }
+        ensures spelled { IsSpelled self.old esc.old → IsSpelled self.new esc.new }
         ensures own { self.new ≡ record self.old { last_taken = self.new.last_taken } }
         ensures registers { ChangesOut esc.old esc.new }
         ensures room { S.room server.new ≡ S.room server.old }
@@ -165,6 +172,7 @@ impl SlaveBox {
         requires room { S.room server.old + 6 ≤ in_len esc.old }
         requires kept { KeptFits (in_len esc.old) self.old }
         ensures node { (al : ℕ) → node_of self.new esc.new server.new ≡ node_offer (server_of S.taken S.next_mail S.rest al) (node_of self.old esc.old server.old) }
+        ensures spelled { IsSpelled self.old esc.old → IsSpelled self.new esc.new }
         ensures registers { ChangesIn esc.old esc.new }
         ensures kept { KeptFits (in_len esc.new) self.new }
         ensures room { S.room server.new ≡ S.room server.old }
@@ -188,6 +196,7 @@ impl SlaveBox {
         requires fits { FitsArea (in_len esc.old) mail }
         ensures own { self.new ≡ record self.old { again = false; fresh = Some mail } }
         ensures mail { in_box esc.new ≡ Some (link_mail mail) }
+        ensures text { esc.new.in_manager.area ≡ mail_area (in_len esc.old) mail }
         ensures registers { ChangesIn esc.old esc.new }
         ensures acknowledge { acknowledge_of esc.new ≡ acknowledge_of esc.old }
     {
@@ -229,6 +238,7 @@ fn place(esc: &mut Esc, mail: &Mail)
     requires counted { IsCounted mail.now }
     requires fits { FitsArea (in_len esc.old) mail.now }
     ensures mail { in_box esc.new ≡ Some (link_mail mail.now) }
+    ensures text { esc.new.in_manager.area ≡ mail_area (in_len esc.old) mail.now }
     ensures registers { ChangesIn esc.old esc.new }
     ensures acknowledge { acknowledge_of esc.new ≡ acknowledge_of esc.old }
 {
