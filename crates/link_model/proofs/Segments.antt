@@ -168,7 +168,7 @@ each_gives P Q gives (m ∷ ms) p = (gives m.link p.0, each_gives P Q gives ms p
 new_accord : {B S : Type 0} (ms : List (Member B S)) → AllNew ms → Each Accords ms
 new_accord {B} {S} ms n = each_gives (λ w. (s : S) × (w ≡ new_link s)) Accords (λ w e. subst Accords (sym e.1) (new_accords e.0)) ms n
 
-run_each : {B S : Type 0} (v : Server B S) (P : Link B S → Type 0) → ((w : Link B S) (e : Event B S) → P w → P (happens v w e)) → (ms : List (Member B S)) (es : List (SegmentEvent B S)) → Distinct (stations_of ms) → MayRun v ms es → Each P ms → Each P (segment_run v ms es)
+pub run_each : {B S : Type 0} (v : Server B S) (P : Link B S → Type 0) → ((w : Link B S) (e : Event B S) → P w → P (happens v w e)) → (ms : List (Member B S)) (es : List (SegmentEvent B S)) → Distinct (stations_of ms) → MayRun v ms es → Each P ms → Each P (segment_run v ms es)
 run_each v P kept ms [] d f p = p
 run_each v P kept ms (e ∷ es) d f p =
     run_each v P kept (segment_happens v ms e) es (subst Distinct (sym (segment_stations v ms e d f.0)) d) f.1 (segment_keeps_all v P kept ms e d f.0 p)

@@ -37,6 +37,7 @@ pub fn frame_law<B, S>()
 pub fn segment_law<B, S>()
     ensures kept { (v : Server B S) (ms : List (Member B S)) (e : SegmentEvent B S) → MayHappen ms e → SegmentAgrees ms → SegmentAgrees (segment_happens v ms e) }
     ensures agrees { (v : Server B S) (ms : List (Member B S)) (es : List (SegmentEvent B S)) → MayRun v ms es → SegmentAgrees ms → SegmentAgrees (segment_run v ms es) }
+    ensures accords { (v : Server B S) (ms : List (Member B S)) (es : List (SegmentEvent B S)) → Distinct (stations_of ms) → MayRun v ms es → Each Accords ms → Each Accords (segment_run v ms es) }
 
     // From the end of bring-up on.
     ensures numbers { (v : Server B S) (ms : List (Member B S)) (es : List (SegmentEvent B S)) → Distinct (stations_of ms) → AllNew ms → MayRun v ms es → Each Numbered (segment_run v ms es) }
