@@ -3,6 +3,7 @@
 #![tactic(auto)]
 
 mod capture;
+mod laws;
 mod order;
 mod reading;
 #[cfg(test)]
@@ -10,5 +11,6 @@ mod tests;
 mod writing;
 
 pub use capture::{Capture, PacketAt, PcapFault, Stamp};
+pub use laws::written_law;
 pub use reading::read;
 pub use writing::{write_head, write_packet};
