@@ -1,4 +1,4 @@
-ghost use Rattle.std.specs.Prelude.{◌≡◌, ◌≤◌, ◌<◌, ◌*◌, ◌/◌, ◌-◌, length, take, drop};
+ghost use Rattle.std.specs.Prelude.{◌≡◌, ◌≤◌, ◌<◌, ◌*◌, ◌/◌, ◌-◌, nat_le, length, take, drop};
 ghost use Rattle.eoe.specs.Cutting.{blocks_of, next_fragment, cutting_after};
 
 use crate::message::{Fragment, Packet};
@@ -66,6 +66,13 @@ fn piece(packet: &[u8], at: usize, size: usize) -> &[u8]
 }
 
 impl Fragmenter {
+    /// Whether no fragment is left.
+    pub fn is_over(&self) -> bool
+        ensures { result ≡ nat_le (length self.now.packet) self.now.at }
+    {
+        self.at >= self.packet.len()
+    }
+
     /// The next fragment, `None` exactly behind the last.
     pub fn next(&mut self) -> Option<Fragment>
         ensures fragment { result ≡ next_fragment self.old }

@@ -75,7 +75,7 @@ text_read : (e : Eoe) → IsSpellable e → second_of e < 65536 → eoe_read (eo
 text_read e s two = read_words (first_of e) (second_of e) (octets_of e) (first_fits e) two ∙ message_back e s two
 
 -- a mail of a service that has a spelling
-abbrev HasSpelling : EoeMail → Type 0
+abbrev pub HasSpelling : EoeMail → Type 0
 HasSpelling (mail e) = IsSpellable e × (second_of e < 65536)
 HasSpelling _ = ⊥
 
@@ -103,7 +103,7 @@ place_fits : (number offset frame : ℕ) → number < 2 ^ 6 → offset < 2 ^ 6 �
 place_fits number offset frame few near low = omega arith
 
 -- the fragments of a packet have spellings
-piece_spelled : (octets : List ℕ) (size frame k at : ℕ) → length octets ≤ 1514 → size % 32 ≡ 0 → frame < 16 → 32 * k ≤ at → at < length octets →
+pub piece_spelled : (octets : List ℕ) (size frame k at : ℕ) → length octets ≤ 1514 → size % 32 ≡ 0 → frame < 16 → 32 * k ≤ at → at < length octets →
     HasSpelling (part (fragment_at octets size frame k at))
 piece_spelled octets size frame k at short blocks low counted inside =
     let few : k < 2 ^ 6 = omega arith in

@@ -4,3 +4,4 @@ pub mod Server
 pub mod Client
 pub mod Model
 pub mod Octets
+pub mod Echo

@@ -2,7 +2,7 @@ pub mod Counts
 mod Carries
 mod WriteLaw
 mod ReadLaw
-mod Speaks
+pub mod Speaks
 mod Closing
 pub mod FoeLaw
 pub mod Spelled
