@@ -2,12 +2,13 @@ ghost use Rattle.std.specs.Prelude.{◌≡◌, ◌≤◌, ◌<◌, ◌+◌, ◌-
 ghost use Rattle.coe_model.specs.Server.{parts_of};
 ghost use Rattle.coe_model.specs.Client.{is_of};
 ghost use Rattle.coe_model.specs.Octets.{body_heard, mail_heard};
-ghost use Rattle.coe_client.specs.Talk.{target_of, HasOctets};
+ghost use Rattle.coe_client.specs.Talk.{target_of};
+ghost use Rattle.coe_codec.specs.View.{coe_seen, IsWithin};
 ghost use Rattle.coe_client.specs.Hear.{onward, refused, valued, answered, parted, hear_acceptance, hear_segment, hear_whole, hear_first, hear_part, hear_information, hear_abort, hear_error, hear_failed, hear_message, hear_mail, TookIs};
 
 use crate::client::{CoeClient, MOST};
 use crate::state::{Awaits, Task};
-use coe_codec::Coe;
+use coe_codec::CoeView;
 use ec_fields::u16_at;
 use mailbox_mail::{Kind, Mail, ReplyKind, Took};
 
@@ -294,69 +295,69 @@ impl CoeClient {
         }
     }
 
-    fn hear_message(&mut self, message: &Coe) -> Took
-        requires { HasOctets message.now }
-        ensures { (result, self.new) ≡ hear_message self.old message.now }
+    fn hear_message(&mut self, message: CoeView<'_>) -> Took
+        requires { IsWithin message }
+        ensures { (result, self.new) ≡ hear_message self.old (coe_seen message.entry) }
     {
         match message {
-            Coe::DownloadAnswer { index, sub } => self.hear_acceptance(*index, *sub),
-            Coe::SegmentAnswer { toggle } => self.hear_segment(*toggle),
-            Coe::ExpeditedAnswer { index, sub, bytes } => self.hear_whole(
-                *index,
-                *sub,
-                bytes.as_slice(),
+            CoeView::DownloadAnswer { index, sub } => self.hear_acceptance(index, sub),
+            CoeView::SegmentAnswer { toggle } => self.hear_segment(toggle),
+            CoeView::ExpeditedAnswer { index, sub, bytes } => self.hear_whole(
+                index,
+                sub,
+                bytes,
             ),
-            Coe::FirstAnswer {
+            CoeView::FirstAnswer {
                 index,
                 sub,
                 size,
                 bytes,
-            } => self.hear_first(*index, *sub, *size, bytes.as_slice()),
-            Coe::UploadSegmentAnswer {
+            } => self.hear_first(index, sub, size, bytes),
+            CoeView::UploadSegmentAnswer {
                 toggle,
                 last,
                 bytes,
-            } => self.hear_part(*toggle, *last, bytes.as_slice()),
-            Coe::Information {
+            } => self.hear_part(toggle, last, bytes),
+            CoeView::Information {
                 opcode,
                 incomplete,
                 left: _,
                 bytes,
-            } => self.hear_information(*opcode, *incomplete, bytes.as_slice()),
-            Coe::Abort {
+            } => self.hear_information(opcode, incomplete, bytes),
+            CoeView::Abort {
                 index: _,
                 sub: _,
                 code,
-            } => self.hear_abort(*code),
-            Coe::InformationError { code } => self.hear_error(*code),
-            Coe::Emergency { octets: _ }
-            | Coe::Expedited {
+            } => self.hear_abort(code),
+            CoeView::InformationError { code } => self.hear_error(code),
+            CoeView::Emergency { octets: _ }
+            | CoeView::Expedited {
                 index: _,
                 sub: _,
                 all: _,
                 bytes: _,
             }
-            | Coe::First {
+            | CoeView::First {
                 index: _,
                 sub: _,
                 all: _,
                 size: _,
                 bytes: _,
             }
-            | Coe::Upload {
+            | CoeView::Upload {
                 index: _,
                 sub: _,
                 all: _,
             }
-            | Coe::Segment {
+            | CoeView::Segment {
                 toggle: _,
                 last: _,
                 bytes: _,
             }
-            | Coe::UploadSegment { toggle: _ }
-            | Coe::ListRequest { kind: _ }
-            | Coe::ObjectRequest { index: _ }
-            | Coe::EntryRequest {
+            | CoeView::UploadSegment { toggle: _ }
+            | CoeView::ListRequest { kind: _ }
+            | CoeView::ObjectRequest { index: _ }
+            | CoeView::EntryRequest {
                 index: _,
                 sub: _,
                 info: _,
@@ -369,8 +370,8 @@ impl CoeClient {
         requires { length body.now ≤ 1480 }
         ensures { (result, self.new) ≡ hear_mail self.old (body_heard body.now) }
     {
-        match coe_codec::read(body) {
-            Ok(message) => self.hear_message(&message),
+        match coe_codec::view(body) {
+            Ok(message) => self.hear_message(message),
             Err(_) => Took::Foreign,
         }
     }

@@ -5,11 +5,13 @@
 mod fields;
 mod message;
 mod reading;
+mod viewing;
 mod writing;
 
 pub use message::{Coe, CoeFault};
 pub use reading::read;
-pub use writing::write;
+pub use viewing::{CoeView, view, view_of};
+pub use writing::{write, write_view};
 
 #[cfg(test)]
 mod tests;

@@ -1,10 +1,12 @@
 ghost use Rattle.std.specs.Prelude.{◌≡◌, ◌+◌, ◌*◌, ◌≤◌, [], ◌∷◌, ◌++◌, length, replicate, take};
 ghost use Rattle.byteorder.specs.Endian.{little_bytes};
 ghost use Rattle.coe_codec.specs.Coe.{IsCoe};
+ghost use Rattle.coe_codec.specs.View.{coe_seen, IsCapped};
 ghost use Rattle.coe_codec.specs.Writing.{HasSpelling, IsRanged, IsFew, coe_text, head_of, part_of, padding_of, target, opcode_head, command_of_segment, command_of_expedited};
 
 use crate::fields::number;
 use crate::message::Coe;
+use crate::viewing::{CoeView, view_of};
 use arrayvec::ArrayVec;
 use ec_fields::buffer_of;
 
@@ -69,220 +71,223 @@ fn code_head(code: u32) -> Head
     buffer_of(&[0, 128, 7, 0, 0, 0, a, b, c, d])
 }
 
-fn segment_command(toggle: bool, last: bool, bytes: &ArrayVec<u8, 1477>) -> u8
-    ensures { result ≡ command_of_segment toggle last bytes.now.items }
+fn segment_command(toggle: bool, last: bool, bytes: &[u8]) -> u8
+    ensures { result ≡ command_of_segment toggle last bytes.now }
 {
     let unused = 7usize.saturating_sub(bytes.len());
     number(last) + 2 * unused as u8 + 16 * number(toggle)
 }
 
-fn expedited_command(specifier: u8, bytes: &ArrayVec<u8, 4>) -> u8
-    requires { specifier ≤ 2 }
-    ensures command { result ≡ command_of_expedited specifier bytes.now.items }
+fn expedited_command(specifier: u8, bytes: &[u8]) -> u8
+    requires specifier { specifier ≤ 2 }
+    requires short { length bytes.now ≤ 4 }
+    ensures command { result ≡ command_of_expedited specifier bytes.now }
     ensures small { result ≤ 32 * specifier + 19 }
-    ensures few { length bytes.now.items ≤ 4 }
 {
     32 * specifier + 3 + 4 * (4 - bytes.len()) as u8
 }
 
-fn head(message: &Coe) -> Head
-    requires { HasSpelling message.now }
-    ensures head { result.items ≡ head_of message.now }
-    ensures ranged { IsRanged message.now }
-    ensures few { IsFew message.now }
+fn head(message: CoeView<'_>) -> Head
+    requires spelling { HasSpelling (coe_seen message) }
+    requires capped { IsCapped message }
+    ensures head { result.items ≡ head_of (coe_seen message.entry) }
+    ensures ranged { IsRanged (coe_seen message.entry) }
+    ensures few { IsFew (coe_seen message.entry) }
 {
     match message {
-        Coe::Emergency { octets: _ } => buffer_of(&[0, 16]),
-        Coe::Expedited {
+        CoeView::Emergency { octets: _ } => buffer_of(&[0, 16]),
+        CoeView::Expedited {
             index,
             sub,
             all,
             bytes,
         } => {
-            let command = expedited_command(1, bytes) + 16 * number(*all);
-            target_head(2, command, *index, *sub)
+            let command = expedited_command(1, bytes) + 16 * number(all);
+            target_head(2, command, index, sub)
         }
-        Coe::First {
+        CoeView::First {
             index,
             sub,
             all,
             size,
             bytes: _,
-        } => { numbered_head(2, 33 + 16 * number(*all), *index, *sub, *size) }
-        Coe::Upload { index, sub, all } => target_head(2, 64 + 16 * number(*all), *index, *sub),
-        Coe::DownloadAnswer { index, sub } => target_head(3, 96, *index, *sub),
-        Coe::ExpeditedAnswer { index, sub, bytes } => {
-            target_head(3, expedited_command(2, bytes), *index, *sub)
+        } => { numbered_head(2, 33 + 16 * number(all), index, sub, size) }
+        CoeView::Upload { index, sub, all } => target_head(2, 64 + 16 * number(all), index, sub),
+        CoeView::DownloadAnswer { index, sub } => target_head(3, 96, index, sub),
+        CoeView::ExpeditedAnswer { index, sub, bytes } => {
+            target_head(3, expedited_command(2, bytes), index, sub)
         }
-        Coe::FirstAnswer {
+        CoeView::FirstAnswer {
             index,
             sub,
             size,
             bytes: _,
-        } => { numbered_head(3, 65, *index, *sub, *size) }
-        Coe::Segment {
+        } => { numbered_head(3, 65, index, sub, size) }
+        CoeView::Segment {
             toggle,
             last,
             bytes,
-        } => { segment_head(2, segment_command(*toggle, *last, bytes)) }
-        Coe::SegmentAnswer { toggle } => segment_head(3, 32 + 16 * number(*toggle)),
-        Coe::UploadSegment { toggle } => segment_head(2, 96 + 16 * number(*toggle)),
-        Coe::UploadSegmentAnswer {
+        } => { segment_head(2, segment_command(toggle, last, bytes)) }
+        CoeView::SegmentAnswer { toggle } => segment_head(3, 32 + 16 * number(toggle)),
+        CoeView::UploadSegment { toggle } => segment_head(2, 96 + 16 * number(toggle)),
+        CoeView::UploadSegmentAnswer {
             toggle,
             last,
             bytes,
-        } => { segment_head(3, segment_command(*toggle, *last, bytes)) }
-        Coe::Abort { index, sub, code } => numbered_head(2, 128, *index, *sub, *code),
-        Coe::ListRequest { kind } => word_head(1, *kind),
-        Coe::ObjectRequest { index } => word_head(3, *index),
-        Coe::EntryRequest { index, sub, info } => entry_head(*index, *sub, *info),
-        Coe::Information {
+        } => { segment_head(3, segment_command(toggle, last, bytes)) }
+        CoeView::Abort { index, sub, code } => numbered_head(2, 128, index, sub, code),
+        CoeView::ListRequest { kind } => word_head(1, kind),
+        CoeView::ObjectRequest { index } => word_head(3, index),
+        CoeView::EntryRequest { index, sub, info } => entry_head(index, sub, info),
+        CoeView::Information {
             opcode,
             incomplete,
             left,
             bytes: _,
-        } => { part_head(*opcode + 128 * number(*incomplete), *left) }
-        Coe::InformationError { code } => code_head(*code),
+        } => { part_head(opcode + 128 * number(incomplete), left) }
+        CoeView::InformationError { code } => code_head(code),
     }
 }
 
-fn part(message: &Coe) -> &[u8]
-    ensures part { result.now ≡ part_of message.now }
-    ensures fits { length (head_of message.now) + length result.now + padding_of message.now ≤ 1480 }
+fn part(message: CoeView<'_>) -> &[u8]
+    requires { IsCapped message }
+    ensures part { result.now ≡ part_of (coe_seen message.entry) }
+    ensures fits { length (head_of (coe_seen message.entry)) + length result.now + padding_of (coe_seen message.entry) ≤ 1480 }
 {
     match message {
-        Coe::Emergency { octets } => octets.as_slice(),
-        Coe::Expedited {
+        CoeView::Emergency { octets } => octets,
+        CoeView::Expedited {
             index: _,
             sub: _,
             all: _,
             bytes,
-        } => bytes.as_slice(),
-        Coe::ExpeditedAnswer {
+        } => bytes,
+        CoeView::ExpeditedAnswer {
             index: _,
             sub: _,
             bytes,
-        } => bytes.as_slice(),
-        Coe::First {
+        } => bytes,
+        CoeView::First {
             index: _,
             sub: _,
             all: _,
             size: _,
             bytes,
-        } => bytes.as_slice(),
-        Coe::FirstAnswer {
+        } => bytes,
+        CoeView::FirstAnswer {
             index: _,
             sub: _,
             size: _,
             bytes,
-        } => bytes.as_slice(),
-        Coe::Segment {
+        } => bytes,
+        CoeView::Segment {
             toggle: _,
             last: _,
             bytes,
-        } => bytes.as_slice(),
-        Coe::UploadSegmentAnswer {
+        } => bytes,
+        CoeView::UploadSegmentAnswer {
             toggle: _,
             last: _,
             bytes,
-        } => bytes.as_slice(),
-        Coe::Information {
+        } => bytes,
+        CoeView::Information {
             opcode: _,
             incomplete: _,
             left: _,
             bytes,
-        } => bytes.as_slice(),
-        Coe::Upload {
+        } => bytes,
+        CoeView::Upload {
             index: _,
             sub: _,
             all: _,
         }
-        | Coe::DownloadAnswer { index: _, sub: _ }
-        | Coe::SegmentAnswer { toggle: _ }
-        | Coe::UploadSegment { toggle: _ }
-        | Coe::Abort {
+        | CoeView::DownloadAnswer { index: _, sub: _ }
+        | CoeView::SegmentAnswer { toggle: _ }
+        | CoeView::UploadSegment { toggle: _ }
+        | CoeView::Abort {
             index: _,
             sub: _,
             code: _,
         }
-        | Coe::ListRequest { kind: _ }
-        | Coe::ObjectRequest { index: _ }
-        | Coe::EntryRequest {
+        | CoeView::ListRequest { kind: _ }
+        | CoeView::ObjectRequest { index: _ }
+        | CoeView::EntryRequest {
             index: _,
             sub: _,
             info: _,
         }
-        | Coe::InformationError { code: _ } => &[],
+        | CoeView::InformationError { code: _ } => &[],
     }
 }
 
 // How many unused octets follow.
-fn padding(message: &Coe) -> usize
-    ensures unused { result ≡ padding_of message.now }
-    ensures within { padding_of message.now ≤ 7 }
+fn padding(message: CoeView<'_>) -> usize
+    requires { IsCapped message }
+    ensures unused { result ≡ padding_of (coe_seen message.entry) }
+    ensures within { padding_of (coe_seen message.entry) ≤ 7 }
 {
     match message {
-        Coe::Expedited {
+        CoeView::Expedited {
             index: _,
             sub: _,
             all: _,
             bytes,
         } => 4 - bytes.len(),
-        Coe::ExpeditedAnswer {
+        CoeView::ExpeditedAnswer {
             index: _,
             sub: _,
             bytes,
         } => 4 - bytes.len(),
-        Coe::Segment {
+        CoeView::Segment {
             toggle: _,
             last: _,
             bytes,
         } => 7usize.saturating_sub(bytes.len()),
-        Coe::UploadSegmentAnswer {
+        CoeView::UploadSegmentAnswer {
             toggle: _,
             last: _,
             bytes,
         } => { 7usize.saturating_sub(bytes.len()) }
-        Coe::Upload {
+        CoeView::Upload {
             index: _,
             sub: _,
             all: _,
         }
-        | Coe::DownloadAnswer { index: _, sub: _ } => 4,
-        Coe::SegmentAnswer { toggle: _ } | Coe::UploadSegment { toggle: _ } => 7,
-        Coe::Emergency { octets: _ }
-        | Coe::First {
+        | CoeView::DownloadAnswer { index: _, sub: _ } => 4,
+        CoeView::SegmentAnswer { toggle: _ } | CoeView::UploadSegment { toggle: _ } => 7,
+        CoeView::Emergency { octets: _ }
+        | CoeView::First {
             index: _,
             sub: _,
             all: _,
             size: _,
             bytes: _,
         }
-        | Coe::FirstAnswer {
+        | CoeView::FirstAnswer {
             index: _,
             sub: _,
             size: _,
             bytes: _,
         }
-        | Coe::Information {
+        | CoeView::Information {
             opcode: _,
             incomplete: _,
             left: _,
             bytes: _,
         }
-        | Coe::Abort {
+        | CoeView::Abort {
             index: _,
             sub: _,
             code: _,
         }
-        | Coe::ListRequest { kind: _ }
-        | Coe::ObjectRequest { index: _ }
-        | Coe::EntryRequest {
+        | CoeView::ListRequest { kind: _ }
+        | CoeView::ObjectRequest { index: _ }
+        | CoeView::EntryRequest {
             index: _,
             sub: _,
             info: _,
         }
-        | Coe::InformationError { code: _ } => 0,
+        | CoeView::InformationError { code: _ } => 0,
     }
 }
 
@@ -297,12 +302,12 @@ fn append(body: &mut ArrayVec<u8, 1480>, octets: &[u8])
     }
 }
 
-/// Writes the message's one spelling in place of a body's contents: reserved bits and unused octets
-/// are 0, an abort is written as a request, and a segment of fewer than 7 octets is padded.
-pub fn write(message: &Coe, body: &mut ArrayVec<u8, 1480>)
-    requires { HasSpelling message.now }
-    ensures octets { body.new.items ≡ coe_text message.now }
-    ensures spelled { IsCoe body.new.items message.now }
+/// Writes the one spelling of a message as it stands somewhere in place of a body's contents, as [`write`] does.
+pub fn write_view(message: CoeView<'_>, body: &mut ArrayVec<u8, 1480>)
+    requires spelling { HasSpelling (coe_seen message) }
+    requires capped { IsCapped message }
+    ensures octets { body.new.items ≡ coe_text (coe_seen message.entry) }
+    ensures spelled { IsCoe body.new.items (coe_seen message.entry) }
 {
     const ZEROS: [u8; 7] = [0; 7];
     let head = head(message);
@@ -310,4 +315,14 @@ pub fn write(message: &Coe, body: &mut ArrayVec<u8, 1480>)
     append(body, head.as_slice());
     append(body, part(message));
     append(body, &ZEROS[..padding(message)]);
+}
+
+/// Writes the message's one spelling in place of a body's contents: reserved bits and unused octets
+/// are 0, an abort is written as a request, and a segment of fewer than 7 octets is padded.
+pub fn write(message: &Coe, body: &mut ArrayVec<u8, 1480>)
+    requires { HasSpelling message.now }
+    ensures octets { body.new.items ≡ coe_text message.now }
+    ensures spelled { IsCoe body.new.items message.now }
+{
+    write_view(view_of(message), body);
 }

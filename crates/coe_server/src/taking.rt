@@ -5,12 +5,13 @@ ghost use Rattle.coe_codec.specs.Reading.{coe_read};
 ghost use Rattle.coe_model.specs.Tables.{nowhere};
 ghost use Rattle.coe_model.specs.Server.{emission_of, ended, abort, takes_whole, takes_first, begins, takes_segment, opened, takes_upload_segment, takes_ask, takes, takes_unread, outcome};
 ghost use Rattle.coe_model.specs.Octets.{body_heard};
-ghost use Rattle.coe_server.specs.Serving.{target_view, ask_view, transfer_of, told_of, outcome_of, emission_view, IsSmall, small_mail, IsFitting, IsWithin};
+ghost use Rattle.coe_server.specs.Serving.{target_view, ask_view, transfer_of, told_of, outcome_of, emission_view, IsSmall, small_mail, IsFitting};
+ghost use Rattle.coe_codec.specs.View.{coe_seen, IsWithin};
 
 use crate::dictionary::{Dictionary, Question, Target};
 use crate::server::CoeServer;
 use crate::state::{Emitted, Pending, State};
-use coe_codec::{Coe, CoeFault};
+use coe_codec::{CoeFault, CoeView};
 use coe_values::Slot;
 use ec_fields::u16_at;
 use object_dictionary::{TOO_LONG, TOO_SHORT};
@@ -319,14 +320,14 @@ impl CoeServer {
         true
     }
 
-    fn take_message<D: Dictionary>(&mut self, objects: &mut D, al: u8, message: &Coe) -> bool
-        requires { IsWithin message.now }
-        ensures does { takes (D.tables al) self.old.eoe self.old.room objects.old (transfer_of self.old) message.now ≡ outcome_of objects.new self.new result }
+    fn take_message<D: Dictionary>(&mut self, objects: &mut D, al: u8, message: CoeView<'_>) -> bool
+        requires { IsWithin message }
+        ensures does { takes (D.tables al) self.old.eoe self.old.room objects.old (transfer_of self.old) (coe_seen message.entry) ≡ outcome_of objects.new self.new result }
         ensures room { self.new.room ≡ self.old.room }
         ensures eoe { self.new.eoe ≡ self.old.eoe }
     {
         match message {
-            Coe::Expedited {
+            CoeView::Expedited {
                 index,
                 sub,
                 all,
@@ -336,14 +337,14 @@ impl CoeServer {
                     objects,
                     al,
                     Target {
-                        index: *index,
-                        sub: *sub,
-                        all: *all,
+                        index,
+                        sub,
+                        all,
                     },
-                    bytes.as_slice(),
+                    bytes,
                 )
             }
-            Coe::First {
+            CoeView::First {
                 index,
                 sub,
                 all,
@@ -354,30 +355,30 @@ impl CoeServer {
                     objects,
                     al,
                     Target {
-                        index: *index,
-                        sub: *sub,
-                        all: *all,
+                        index,
+                        sub,
+                        all,
                     },
-                    *size,
-                    bytes.as_slice(),
+                    size,
+                    bytes,
                 )
             }
-            Coe::Segment {
+            CoeView::Segment {
                 toggle,
                 last,
                 bytes,
-            } => self.take_segment(objects, al, *toggle, *last, bytes.as_slice()),
-            Coe::Upload { index, sub, all } => self.take_upload(
+            } => self.take_segment(objects, al, toggle, last, bytes),
+            CoeView::Upload { index, sub, all } => self.take_upload(
                 objects,
                 al,
                 Target {
-                    index: *index,
-                    sub: *sub,
-                    all: *all,
+                    index,
+                    sub,
+                    all,
                 },
             ),
-            Coe::UploadSegment { toggle } => self.take_upload_segment(objects, *toggle),
-            Coe::Abort {
+            CoeView::UploadSegment { toggle } => self.take_upload_segment(objects, toggle),
+            CoeView::Abort {
                 index: _,
                 sub: _,
                 code: _,
@@ -385,49 +386,49 @@ impl CoeServer {
                 self.tell(State::Idle, Pending::Nothing);
                 false
             }
-            Coe::ListRequest { kind } => self.take_question(
+            CoeView::ListRequest { kind } => self.take_question(
                 objects,
                 al,
-                Question::List { kind: *kind },
+                Question::List { kind },
             ),
-            Coe::ObjectRequest { index } => self.take_question(
+            CoeView::ObjectRequest { index } => self.take_question(
                 objects,
                 al,
-                Question::Object { index: *index },
+                Question::Object { index },
             ),
-            Coe::EntryRequest { index, sub, info } => {
+            CoeView::EntryRequest { index, sub, info } => {
                 self.take_question(
                     objects,
                     al,
                     Question::Entry {
-                        index: *index,
-                        sub: *sub,
-                        info: *info,
+                        index,
+                        sub,
+                        info,
                     },
                 )
             }
-            Coe::Information {
+            CoeView::Information {
                 opcode: _,
                 incomplete: _,
                 left: _,
                 bytes: _,
             }
-            | Coe::InformationError { code: _ } => self.deny(),
-            Coe::Emergency { octets: _ }
-            | Coe::DownloadAnswer { index: _, sub: _ }
-            | Coe::ExpeditedAnswer {
+            | CoeView::InformationError { code: _ } => self.deny(),
+            CoeView::Emergency { octets: _ }
+            | CoeView::DownloadAnswer { index: _, sub: _ }
+            | CoeView::ExpeditedAnswer {
                 index: _,
                 sub: _,
                 bytes: _,
             }
-            | Coe::FirstAnswer {
+            | CoeView::FirstAnswer {
                 index: _,
                 sub: _,
                 size: _,
                 bytes: _,
             }
-            | Coe::SegmentAnswer { toggle: _ }
-            | Coe::UploadSegmentAnswer {
+            | CoeView::SegmentAnswer { toggle: _ }
+            | CoeView::UploadSegmentAnswer {
                 toggle: _,
                 last: _,
                 bytes: _,
@@ -485,8 +486,8 @@ impl CoeServer {
         ensures room { self.new.room ≡ self.old.room }
         ensures eoe { self.new.eoe ≡ self.old.eoe }
     {
-        match coe_codec::read(body) {
-            Ok(message) => self.take_message(objects, al, &message),
+        match coe_codec::view(body) {
+            Ok(message) => self.take_message(objects, al, message),
             Err(fault) => self.take_unread(objects, fault, body),
         }
     }

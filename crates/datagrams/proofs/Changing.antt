@@ -80,7 +80,7 @@ MoreButLast-replaced (x ∷ y ∷ xs) behind d e same chain = (chain.0, MoreButL
 abbrev pub front_of : (octets : List ℕ) (ds front : List Datagram) → IsFrame octets ds → List ℕ
 front_of octets ds front f = f.addresses ++ (header_text (f.size + 2048 * f.reserved + 4096) ++ text_of front)
 
-length-front_of : (octets : List ℕ) (ds front : List Datagram) (f : IsFrame octets ds) → length (front_of octets ds front f) ≡ 16 + length (text_of front)
+pub length-front_of : (octets : List ℕ) (ds front : List Datagram) (f : IsFrame octets ds) → length (front_of octets ds front f) ≡ 16 + length (text_of front)
 length-front_of octets ds front f =
     let twelve = f.twelve in
     let a = length-append f.addresses (header_text (f.size + 2048 * f.reserved + 4096) ++ text_of front) in
@@ -123,7 +123,7 @@ IsFrame-replaced octets new front behind d e f is datagram same more =
       chain = MoreButLast-replaced front behind d e more f.chain;
     }
 
-each_at : (front behind : List Datagram) (d : Datagram) → Each IsDatagram (front ++ d ∷ behind) → IsDatagram d
+pub each_at : (front behind : List Datagram) (d : Datagram) → Each IsDatagram (front ++ d ∷ behind) → IsDatagram d
 each_at [] behind d each = each.0
 each_at (x ∷ xs) behind d each = each_at xs behind d each.1
 

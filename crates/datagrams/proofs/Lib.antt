@@ -4,3 +4,4 @@ pub mod Grammar
 pub mod Header
 pub mod Spelled
 pub mod Steps
+mod Walking

@@ -79,6 +79,11 @@ abbrev pub frame_of : Result (List Part) FrameFault → Result Frame FrameFault
 frame_of (Ok parts) = Ok (record { parts = record { items = parts } })
 frame_of (Err fault) = Err fault
 
+-- a fault with which something does not read, none where it reads
+abbrev pub FaultIs : Option FrameFault → Result Frame FrameFault → Type 0
+FaultIs (Some fault) r = r ≡ Err fault
+FaultIs None r = (frame : Frame) × (r ≡ Ok frame)
+
 -- what octets read as: the frame's parts, or the first fault
 abbrev pub frame_read : List ℕ → Result Frame FrameFault
 frame_read octets =

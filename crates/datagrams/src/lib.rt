@@ -14,5 +14,5 @@ mod writing;
 pub use command::Command;
 pub use frame::{Frame, FrameBuf, FrameFault, Part};
 pub use head::Head;
-pub use reading::read;
-pub use writing::{add, begin, finish, room, set};
+pub use reading::{fault, first, next, read};
+pub use writing::{Body, add, add_with, begin, finish, room, set};

@@ -1,9 +1,10 @@
-ghost use Rattle.std.specs.Prelude.{◌≡◌, ℕ, ◌+◌, ◌<◌, ◌≤◌, ◌^◌, List, length, IfOk, All};
-ghost use Rattle.datagrams.specs.Datagram.{Datagram, is_cut};
-ghost use Rattle.datagrams.specs.Frame.{IsFrame, IsPart, parts_of, part_from, parts_within, frame_of, frame_read};
+ghost use Rattle.std.specs.Prelude.{◌≡◌, ℕ, ◌+◌, ◌<◌, ◌≤◌, ◌^◌, List, ◌∷◌, ◌++◌, length, take, drop, slice_get, Some, Err, IfOk, IfSome, IfNone, All};
+ghost use Rattle.std.specs.Option.{option_to_list};
+ghost use Rattle.datagrams.specs.Datagram.{Datagram, is_cut, size_of, body_length, head_read};
+ghost use Rattle.datagrams.specs.Frame.{IsFrame, IsPart, text_of, parts_of, part_from, parts_within, frame_of, frame_read, FaultIs};
 
 use crate::frame::{Frame, FrameFault, Part};
-use crate::head::{BESIDE_BODY, body_len, head_at};
+use crate::head::{BESIDE_BODY, Head, body_len, head_at};
 use arrayvec::ArrayVec;
 use ec_fields::{bits, u16_at};
 
@@ -74,6 +75,93 @@ fn read_plain(bytes: &[u8]) -> Result<Frame, FrameFault>
         return Err(FrameFault::LengthWord);
     }
     read_parts(&bytes[FIRST..][..size])
+}
+
+// The fault with which octets within a frame's length do not read, `None` of those that read.
+fn walk(octets: &[u8]) -> Option<FrameFault>
+    requires { length octets.now < 2 ^ 11 }
+    ensures { FaultIs result (frame_of (parts_within (length octets.now) 16 octets.now)) }
+{
+    let mut start = 0;
+    'datagrams: loop {
+        let Some(part) = part_from(octets, start) else {
+            return Some(FrameFault::DatagramCut { at: FIRST + start });
+        };
+        start += BESIDE_BODY + part.head.len as usize;
+        if !part.head.more {
+            return None;
+        }
+        if start == octets.len() {
+            return Some(FrameFault::MoreButEnd);
+        }
+    }
+}
+
+// The same of a frame.
+fn fault_plain(bytes: &[u8]) -> Option<FrameFault>
+    ensures { FaultIs result (frame_read bytes.now) }
+{
+    if bytes.len() < FIRST {
+        return Some(FrameFault::Short);
+    }
+    if bytes[12] != 0x88 || bytes[13] != 0xA4 {
+        return Some(FrameFault::NotEtherCat);
+    }
+    let word = u16_at(bytes, 14);
+    if bits(word, 12, 4) != 1 {
+        return Some(FrameFault::WrongType);
+    }
+    let size = bits(word, 0, 11) as usize;
+    if bytes.len() - FIRST < size {
+        return Some(FrameFault::LengthWord);
+    }
+    walk(&bytes[FIRST..][..size])
+}
+
+/// The fault with which a frame does not read, `None` of one that reads. A frame that reads is walked by
+/// [`first`] and [`next`], without a list of its datagrams.
+pub fn fault(bytes: &[u8]) -> Option<FrameFault>
+    ensures fault { IfSome result (λ fault. frame_read bytes.now ≡ Err fault) }
+    ensures reads { IfNone result ((ds : List Datagram) × IsFrame bytes.now ds) }
+{
+    fault_plain(bytes)
+}
+
+// The head of the datagram at a place.
+fn head_in(bytes: &[u8], at: usize) -> Head
+    requires inside { at ≤ length bytes.now }
+    requires whole { 12 + body_length (drop at bytes.now) ≤ length (drop at bytes.now) }
+    ensures { result ≡ head_read (drop at bytes.now) }
+{
+    head_at(&bytes[at..])
+}
+
+/// The first datagram of a frame that reads.
+pub fn first(bytes: &[u8]) -> Part
+    requires { (ds : List Datagram) × IsFrame bytes.now ds }
+    ensures first { (ds : List Datagram) → IsFrame bytes.now ds → Some result ≡ slice_get (parts_of 16 ds) 0 }
+    ensures part { IsPart bytes.now result }
+{
+    Part {
+        at: FIRST,
+        head: head_in(bytes, FIRST),
+    }
+}
+
+/// The datagram behind this one in a frame that reads, `None` where it is the last.
+pub fn next(bytes: &[u8], part: &Part) -> Option<Part>
+    requires { IsPart bytes.now part.now }
+    ensures next { (front : List Datagram) (d : Datagram) (behind : List Datagram) → IsFrame bytes.now (front ++ d ∷ behind) → part.now.at ≡ 16 + length (text_of front) → part.now.head ≡ d.head → option_to_list result ≡ take 1 (parts_of (part.now.at + size_of d) behind) }
+    ensures part { IfSome result (IsPart bytes.now) }
+{
+    if !part.head.more {
+        return None;
+    }
+    let at = part.at + (BESIDE_BODY + part.head.len as usize);
+    Some(Part {
+        at,
+        head: head_in(bytes, at),
+    })
 }
 
 /// Reads a frame: its datagrams with their places, or the first fault (ETG.1000.4, 5.3 and 5.4).

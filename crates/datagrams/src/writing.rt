@@ -1,4 +1,4 @@
-ghost use Rattle.std.specs.Prelude.{◌≡◌, ℕ, ◌+◌, ◌-◌, ◌<◌, ◌≤◌, ◌^◌, List, [], ◌∷◌, ◌++◌, length, replicate};
+ghost use Rattle.std.specs.Prelude.{◌≡◌, ℕ, ◌+◌, ◌-◌, ◌<◌, ◌≤◌, ◌^◌, List, [], ◌∷◌, ◌++◌, length, replicate, take};
 ghost use Rattle.ec_fields.specs.Fields.{number_at, number_put};
 ghost use Rattle.datagrams.specs.Command.{IsNamed};
 ghost use Rattle.datagrams.specs.Datagram.{Datagram, IsSized, datagram_text};
@@ -94,6 +94,101 @@ pub fn add(frame: &mut FrameBuf, head: &Head, body: &[u8])
     ensures { (ds : List Datagram) → IsBegun frame.old.items ds → IsBegun frame.new.items (ds ++ datagram_of head.now body.now ∷ []) }
 {
     add_plain(frame, head, body);
+}
+
+/// What writes the body of a datagram in its place.
+pub trait Body {
+    ghost use Rattle.std.specs.Prelude.{◌≡◌, ℕ, List, length};
+
+    ghost octets: { Self → List ℕ };
+
+    /// How many octets the body has.
+    fn len(&self) -> usize
+        ensures { result ≡ length (octets self.now) };
+
+    /// Writes the body over octets of its length.
+    fn fill(&self, body: &mut [u8])
+        requires { length body.old ≡ length (octets self.now) }
+        ensures { body.new ≡ octets self.now };
+}
+
+// Zeros up to a length, 32 at a time while so many are missing.
+fn append_blocks(frame: &mut FrameBuf, end: usize)
+    requires { end ≤ 1514 }
+    ensures same { frame.new.items ++ replicate (end - length frame.new.items) 0 ≡ frame.old.items ++ replicate (end - length frame.old.items) 0 }
+{
+    while frame.len() + 32 <= end {
+        append(frame, &[0; 32]);
+    }
+}
+
+// Zeros up to a length.
+fn append_ones(frame: &mut FrameBuf, end: usize)
+    requires { end ≤ 1514 }
+    ensures { frame.new.items ≡ frame.old.items ++ replicate (end - length frame.old.items) 0 }
+{
+    while frame.len() < end {
+        frame.push(0);
+    }
+}
+
+// Zeros behind what stands there.
+fn append_zeros(frame: &mut FrameBuf, count: usize)
+    requires { length frame.old.items + count ≤ 1514 }
+    ensures { frame.new.items ≡ frame.old.items ++ replicate count 0 }
+{
+    let end = frame.len() + count;
+    append_blocks(frame, end);
+    append_ones(frame, end);
+}
+
+// Writes a body over the last octets.
+fn fill_last<B: Body>(frame: &mut FrameBuf, at: usize, body: &B)
+    requires { length frame.old.items ≡ at + length (B.octets body.now) }
+    ensures { frame.new.items ≡ take at frame.old.items ++ B.octets body.now }
+{
+    let octets = frame.as_mut_slice();
+    body.fill(&mut octets[at..]);
+}
+
+// Appends a body that fits.
+fn append_body<B: Body>(frame: &mut FrameBuf, body: &B)
+    requires { length frame.old.items + length (B.octets body.now) ≤ 1514 }
+    ensures { frame.new.items ≡ frame.old.items ++ B.octets body.now }
+{
+    let at = frame.len();
+    append_zeros(frame, body.len());
+    fill_last(frame, at, body);
+}
+
+// The same call, by the octets.
+fn add_with_plain<B: Body>(frame: &mut FrameBuf, head: &Head, body: &B)
+    requires header { 16 ≤ length frame.old.items }
+    requires inside { number_at 2 frame.old.items 14 + 8 ≤ length frame.old.items }
+    requires length { head.now.len ≡ length (B.octets body.now) }
+    requires some { 1 ≤ length (B.octets body.now) }
+    requires room { length (B.octets body.now) ≤ 1514 - length frame.old.items - 12 }
+    ensures octets { frame.new.items ≡ number_put 2 (marked frame.old.items) 14 (length frame.old.items) ++ datagram_text (datagram_of head.now (B.octets body.now)) }
+    ensures sized { IsSized (datagram_of head.now (B.octets body.now)) }
+{
+    mark_last(frame);
+    let place = frame.len() as u16;
+    put_u16(frame.as_mut_slice(), LENGTH_WORD, place);
+    let head = last_head(*head);
+    append(frame, &front_octets(&head));
+    append_body(frame, body);
+    append(frame, &head.counter.to_le_bytes());
+}
+
+/// The same as [`add`], where the body is written in its place.
+pub fn add_with<B: Body>(frame: &mut FrameBuf, head: &Head, body: &B)
+    requires begun { (ds : List Datagram) × IsBegun frame.old.items ds }
+    requires length { head.now.len ≡ length (B.octets body.now) }
+    requires some { 1 ≤ length (B.octets body.now) }
+    requires room { length (B.octets body.now) ≤ 1514 - length frame.old.items - 12 }
+    ensures { (ds : List Datagram) → IsBegun frame.old.items ds → IsBegun frame.new.items (ds ++ datagram_of head.now (B.octets body.now) ∷ []) }
+{
+    add_with_plain(frame, head, body);
 }
 
 // Zeros up to the least frame.

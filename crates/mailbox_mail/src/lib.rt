@@ -7,9 +7,9 @@ mod outcome;
 mod reading;
 mod writing;
 
-pub use mail::{BODY, HEADER, Kind, Mail, MailFault, error_mail, next_counter};
+pub use mail::{BODY, HEADER, Kind, Mail, MailFault, MailView, error_mail, next_counter};
 pub use outcome::{ReplyKind, Took};
-pub use reading::read;
+pub use reading::{read, read_into, refill, view};
 pub use writing::write;
 
 #[cfg(test)]

@@ -76,6 +76,15 @@ pub struct Mail {
     pub body: ArrayVec<u8, 1480>,
 }
 
+/// One mail as it stands in an area: its header, and its body where it lies.
+#[derive(Clone, Copy, Debug)]
+pub struct MailView<'a> {
+    pub address: u16,
+    pub kind: Kind,
+    pub counter: u8,
+    pub body: &'a [u8],
+}
+
 /// Why an area is no mail, in the order in which the parts are looked at.
 #[derive(Clone, Copy, Debug, PartialEq, Eq)]
 pub enum MailFault {

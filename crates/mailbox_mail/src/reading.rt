@@ -1,12 +1,15 @@
-ghost use Rattle.std.specs.Prelude.{◌≡◌, IfOk, MatchResult};
+ghost use Rattle.std.specs.Prelude.{◌≡◌, ◌≤◌, length, IfOk, MatchResult};
 ghost use Rattle.mailbox_mail.specs.Mail.{IsMail, mail_read, fault_of};
+ghost use Rattle.mailbox_mail.specs.View.{seen, mail_seen};
 
-use crate::mail::{BODY, HEADER, Kind, Mail, MailFault};
-use ec_fields::{buffer_of, u16_at};
+use crate::mail::{BODY, HEADER, Kind, Mail, MailFault, MailView};
+use arrayvec::ArrayVec;
+use ec_fields::u16_at;
 
-// The parts are judged in the order of the faults.
-fn read_parts(area: &[u8]) -> Result<Mail, MailFault>
-    ensures { result ≡ mail_read area.now }
+/// The mail at the head of an area as it stands there, as [`read`] reads it. Nothing is copied.
+pub fn view(area: &[u8]) -> Result<MailView<'_>, MailFault>
+    ensures mail { seen result ≡ mail_read area.now }
+    ensures within { IfOk result (λ v. length v.body.now ≤ 1480) }
 {
     if area.len() < HEADER {
         return Err(MailFault::Short);
@@ -18,12 +21,66 @@ fn read_parts(area: &[u8]) -> Result<Mail, MailFault>
     let marks = area[5];
     match Kind::of_code(marks % 16) {
         None => Err(MailFault::UnknownKind),
-        Some(kind) => Ok(Mail {
+        Some(kind) => Ok(MailView {
             address: u16_at(area, 2),
             kind,
             counter: marks / 16 % 8,
-            body: buffer_of(&area[HEADER..HEADER + len]),
+            body: &area[HEADER..HEADER + len],
         }),
+    }
+}
+
+/// Puts octets that fit in place of what a buffer held. Only these octets are moved.
+pub fn refill<const CAP: usize>(buffer: &mut ArrayVec<u8, CAP>, octets: &[u8])
+    requires { length octets.now ≤ CAP }
+    ensures { buffer.new.items ≡ octets.now }
+{
+    buffer.clear();
+    match buffer.try_extend_from_slice(octets) {
+        Ok(()) => {}
+        Err(_) => unreachable!(),
+    }
+}
+
+/// The same as [`read`], into a place that is kept: where a mail stands there, only the body's octets
+/// are moved.
+pub fn read_into(area: &[u8], into: &mut Result<Mail, MailFault>)
+    ensures { into.new ≡ mail_read area.now }
+{
+    match view(area) {
+        Err(fault) => *into = Err(fault),
+        Ok(found) => match into {
+            Ok(mail) => {
+                mail.address = found.address;
+                mail.kind = found.kind;
+                mail.counter = found.counter;
+                refill(&mut mail.body, found.body);
+            }
+            Err(_) => *into = Ok(mail_of(found)),
+        },
+    }
+}
+
+// The mail by itself.
+fn mail_of(mail: MailView<'_>) -> Mail
+    requires { length mail.body.now ≤ 1480 }
+    ensures { result ≡ mail_seen mail.entry }
+{
+    Mail {
+        address: mail.address,
+        kind: mail.kind,
+        counter: mail.counter,
+        body: ec_fields::buffer_of(mail.body),
+    }
+}
+
+// The parts are judged in the order of the faults.
+fn read_parts(area: &[u8]) -> Result<Mail, MailFault>
+    ensures { result ≡ mail_read area.now }
+{
+    match view(area) {
+        Err(fault) => Err(fault),
+        Ok(found) => Ok(mail_of(found)),
     }
 }
 

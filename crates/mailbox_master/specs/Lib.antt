@@ -3,3 +3,4 @@ pub mod Halves
 pub mod Next
 pub mod Access
 pub mod Any
+pub mod Seat

@@ -1,6 +1,7 @@
 //! A half in whichever state, for whoever keeps halves.
 
-ghost use Rattle.std.specs.Prelude.{◌≡◌, ◌+◌, ◌≤◌, ◌↔◌, IsTrue, None, Some, Ok, is_none, length};
+ghost use Rattle.std.specs.Prelude.{◌≡◌, ◌+◌, ◌≤◌, ◌↔◌, IsTrue, None, Some, Ok, is_none, length, option_map};
+ghost use Rattle.mailbox_master.specs.Seat.{got_seen};
 ghost use Rattle.link_model.specs.Master.{in_lost};
 ghost use Rattle.link_mails.specs.Body.{uncounted};
 ghost use Rattle.mailbox_master.specs.Access.{access_head, write_access};
@@ -9,6 +10,7 @@ ghost use Rattle.mailbox_master.specs.Any.{out_half_of, out_station, out_len, ou
 use crate::access::LinkState;
 use crate::inward::{AskedNext, DoubtNext, Got, Inward};
 use crate::outward::{OutNext, Outward};
+use crate::seat::GotView;
 use crate::states;
 use arrayvec::ArrayVec;
 use datagrams::Head;
@@ -101,6 +103,30 @@ impl InwardHalf {
             }
             InwardHalf::Refetch(refetch) => {
                 let (clear, got) = refetch.answered(counter, octets);
+                (InwardHalf::Clear(clear), Some(got))
+            }
+        }
+    }
+
+    /// The same as [`answered`](InwardHalf::answered), and what the read gave as it stands in the area.
+    pub fn seen<'a>(self, counter: u16, octets: &'a [u8]) -> (InwardHalf, Option<GotView<'a>>)
+        ensures half { in_half_of result.0 ≡ (let h = in_half_of self in in_returned h h.state counter octets.now) }
+        ensures got { option_map got_seen result.1 ≡ (let h = in_half_of self in in_got h h.state counter octets.now) }
+        ensures station { in_station result.0 ≡ in_station self }
+        ensures len { in_area_len result.0 ≡ in_area_len self }
+    {
+        match self {
+            InwardHalf::Clear(clear) => {
+                let (clear, got) = clear.read_seen(counter, octets);
+                (InwardHalf::Clear(clear), Some(got))
+            }
+            InwardHalf::Doubt(doubt) => (doubt_next(doubt.answered(counter)), None),
+            InwardHalf::Asked(asked) => {
+                let control = octets.first().copied().unwrap_or(0);
+                (asked_next(asked.answered(counter, control)), None)
+            }
+            InwardHalf::Refetch(refetch) => {
+                let (clear, got) = refetch.read_seen(counter, octets);
                 (InwardHalf::Clear(clear), Some(got))
             }
         }

@@ -8,6 +8,8 @@ ghost use Rattle.link_model.specs.Slave.{InSide};
 ghost use Rattle.link_model.specs.Agree.{InAgree};
 ghost use Rattle.link_mails.specs.Body.{Body};
 ghost use Rattle.mailbox_master.specs.Halves.{in_half, mail_brought, bit_1, request_met, SameIn};
+ghost use Rattle.mailbox_master.specs.Seat.{got_seen};
+ghost use Rattle.mailbox_master.specs.Access.{access_head, read_access};
 ghost use Rattle.mailbox_master.specs.Next.{got_by, accepted_by, doubt_next_half, is_still_doubt, SameDoubtNext, asked_next_half, is_still_asked, SameAskedNext};
 
 use crate::access::{ACTIVATE, ENABLE, LinkState, PDI_CONTROL, REPEAT, fill_blank, head_of};
@@ -16,8 +18,9 @@ use arrayvec::ArrayVec;
 use datagrams::register::IN_AREA;
 use datagrams::{Command, Head};
 use ec_fields::buffer_of;
+use crate::seat::GotView;
 use link_mails::{is_repeat, read_area};
-use mailbox_mail::{Mail, MailFault};
+use mailbox_mail::{Mail, MailFault, view};
 use std::marker::Model;
 
 /// The inward half of a link in the state `S`: it reads mailbox 1 of one slave.
@@ -88,6 +91,29 @@ pub fn new_inward(station: u16, len: u16) -> Inward<Clear>
     }
 }
 
+impl<S> Inward<S> {
+    // Its slave's station.
+    pub fn station(&self) -> u16
+        ensures { result ≡ self.now.station }
+    {
+        self.station
+    }
+
+    // Its repeat request.
+    pub fn bit(&self) -> bool
+        ensures { result ≡ self.now.bit }
+    {
+        self.bit
+    }
+
+    // The head of a read of mailbox 1.
+    pub fn read_head(&self, index: u8) -> Head
+        ensures { result ≡ access_head self.now.station index (read_access self.now.len) }
+    {
+        head_of(self.station, index, Command::Fprd, IN_AREA, self.len)
+    }
+}
+
 impl<S: Drop> Inward<S> {
     // The same half in another state, with this request.
     fn into_state<T>(self, bit: bool, state: T) -> Inward<T>
@@ -105,6 +131,25 @@ impl<S: Drop> Inward<S> {
             last,
             bit,
             state,
+        }
+    }
+
+    // The half behind a returned read of mailbox 1, and what that gave as it stands in the area.
+    pub fn read_seen<'a>(self, counter: u16, area: &'a [u8]) -> (Inward<Clear>, GotView<'a>)
+        ensures half { in_half InState.Clear result.0 ≡ read_answered (in_half InState.Clear self) (mail_brought counter (mail_read area.now)) }
+        ensures got { got_seen result.1 ≡ got_by self.last counter (mail_read area.now) }
+        ensures link { SameIn self result.0 }
+    {
+        let last = self.last;
+        let bit = self.bit;
+        let clear = self.into_state(bit, Clear);
+        if counter == 0 {
+            return (clear, GotView::Empty);
+        }
+        match view(area) {
+            Err(fault) => (clear, GotView::Bad(fault)),
+            Ok(mail) if is_repeat(last, mail.counter) => (clear, GotView::Repeat),
+            Ok(mail) => (clear.with_last(mail.counter), GotView::Mail(mail)),
         }
     }
 
@@ -129,6 +174,25 @@ impl<S: Drop> Inward<S> {
 }
 
 impl Inward<Clear> {
+    // The half that accepted a mail with this counter.
+    fn with_last(self, counter: u8) -> Inward<Clear>
+        ensures { result ≡ record { station = self.station; len = self.len; last = counter; bit = self.bit; state = record {} } }
+    {
+        let Inward {
+            station,
+            len,
+            bit,
+            ..
+        } = self;
+        Inward {
+            station,
+            len,
+            last: counter,
+            bit,
+            state: Clear,
+        }
+    }
+
     // The half with this mail as its last one.
     fn accept(self, mail: Mail) -> (Inward<Clear>, Got)
         ensures half { result.0 ≡ record { station = self.station; len = self.len; last = mail.counter; bit = self.bit; state = record {} } }

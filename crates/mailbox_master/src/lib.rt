@@ -6,12 +6,14 @@ mod access;
 mod halves;
 mod inward;
 mod outward;
+mod seat;
 mod states;
 
 pub use access::LinkState;
 pub use halves::{InwardHalf, OutwardHalf};
 pub use inward::{AskedNext, DoubtNext, Got, Inward, new_inward};
 pub use outward::{OutNext, OutState, Outward, new_outward};
+pub use seat::{GotView, OutwardSeat};
 pub use states::{Asked, Clear, Doubt, Holding, Idle, Refetch};
 
 #[cfg(test)]

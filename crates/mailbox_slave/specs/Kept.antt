@@ -1,5 +1,5 @@
 -- What the box of a slave keeps beside the registers.
-use Rattle.std.specs.Prelude.{◌≡◌, ℕ, ◌+◌, ◌≤◌, Bool, true, if◌then◌else◌, is_none, ◌&&◌, Option, None, IsSome, length}
+use Rattle.std.specs.Prelude.{◌≡◌, ℕ, ◌+◌, ◌≤◌, Bool, true, if◌then◌else◌, is_none, ◌&&◌, Option, Some, None, IsSome, length}
 use Rattle.std.specs.Option.{ForSome}
 use Rattle.mailbox_mail.specs.declared.mail.Mail.{Mail}
 
@@ -12,6 +12,18 @@ pub record Kept : Type 0 where
   pub last_read : Option Mail
   pub fresh : Option Mail
   pub withdrawn : Option Mail
+
+-- what two places for mails and the marks of what stands in them keep: turned, the last mail read is in the second
+-- place and the newest one in the first
+abbrev pub kept_of : ℕ → ℕ → Bool → Bool → Bool → Bool → Bool → Mail → Mail → Kept
+kept_of last_taken newest again turned has_read is_fresh is_withdrawn first second = record {
+  last_taken = last_taken;
+  newest = newest;
+  again = again;
+  last_read = if has_read then Some (if turned then second else first) else None;
+  fresh = if is_fresh then Some (if turned then first else second) else None;
+  withdrawn = if is_withdrawn then Some (if turned then first else second) else None;
+}
 
 -- the mail offered
 abbrev pub offered : Kept → Option Mail

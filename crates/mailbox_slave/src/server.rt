@@ -40,4 +40,16 @@ pub trait Server {
         ensures rest { self.new ≡ rest self.old }
         ensures fits { length result.body.items ≤ room self.old }
         ensures room { room self.new ≡ room self.old };
+
+    /// The same as [`next`](Server::next), into a mail that is kept: whoever has a fast form writes the
+    /// body in its place.
+    fn next_into(&mut self, into: &mut Mail)
+        requires { IsSome (next_mail self.old) }
+        ensures given { next_mail self.old ≡ Some into.new }
+        ensures rest { self.new ≡ rest self.old }
+        ensures fits { length into.new.body.items ≤ room self.old }
+        ensures room { room self.new ≡ room self.old }
+    {
+        *into = self.next();
+    }
 }

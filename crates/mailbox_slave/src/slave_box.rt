@@ -1,39 +1,46 @@
 //! The box: what a slave keeps of its mails beside its registers.
 
-ghost use Rattle.std.specs.Prelude.{◌≡◌, ℕ, MatchOption, ◌+◌, ◌≤◌, None, Some, true, false, is_some};
+ghost use Rattle.std.specs.Prelude.{◌≡◌, ℕ, MatchOption, ◌+◌, ◌≤◌, None, Some, true, false, is_some, IsSome, length, option_map};
+ghost use Rattle.std.specs.Option.{ForSome};
+ghost use Rattle.mailbox_mail.specs.Counter.{counter_behind};
 ghost use Rattle.mailbox_mail.specs.Mail.{mail_read};
 ghost use Rattle.link_model.specs.Slave.{noticed, repeated, looked, node_take, node_offer, node_serve, processor_step};
 ghost use Rattle.link_mails.specs.Body.{counted_as, link_mail, link_read};
 ghost use Rattle.mailbox_slave.specs.Kept.{IsCounted, FitsArea, KeptFits, is_at_rest};
 ghost use Rattle.mailbox_slave.specs.Registers.{in_box, in_len, acknowledge_of, ChangesIn, ChangesOut, ChangesBoxes};
-ghost use Rattle.esc_registers.specs.Area.{mail_area};
-ghost use Rattle.mailbox_slave.specs.Node.{in_side, node_of, server_of, IsSpelled};
+ghost use Rattle.mailbox_slave.specs.Node.{in_side, node_of, server_of};
 
 use crate::server::Server;
 use esc_registers::Esc;
-use link_mails::{is_repeat, read_area};
-use mailbox_mail::{Mail, MailFault, next_counter};
+use link_mails::is_repeat;
+use mailbox_mail::{Mail, MailFault, error_mail, next_counter, read_into, view};
 use std::marker::Model;
 
-/// What a slave keeps of its mails: which was taken last, and which it may have to offer again.
+/// What a slave keeps of its mails: which was taken last, and which it may have to offer again. The
+/// last mail read and the newest one stand in two places that change their parts: no mail is moved.
 #[derive(Debug, Drop)]
 pub struct SlaveBox {
     last_taken: u8,
     newest: u8,
     again: bool,
-    last_read: Option<Mail>,
-    fresh: Option<Mail>,
-    withdrawn: Option<Mail>,
+    turned: bool,
+    has_read: bool,
+    is_fresh: bool,
+    is_withdrawn: bool,
+    first: Mail,
+    second: Mail,
+    inbox: Result<Mail, MailFault>,
 }
 
 impl Model for SlaveBox {
-    ghost use Rattle.mailbox_slave.specs.Kept.{Kept, IsSound};
+    ghost use Rattle.std.specs.Prelude.{◌≡◌, ◌&&◌, false};
+    ghost use Rattle.mailbox_slave.specs.Kept.{Kept, IsSound, kept_of};
 
     ghost Value = { Kept };
 
-    ghost view = { λ b. record { last_taken = b.last_taken; newest = b.newest; again = b.again; last_read = b.last_read; fresh = b.fresh; withdrawn = b.withdrawn } };
+    ghost view = { λ b. kept_of b.last_taken b.newest b.again b.turned b.has_read b.is_fresh b.is_withdrawn b.first b.second };
 
-    ghost invariant = { λ b. IsSound (record { last_taken = b.last_taken; newest = b.newest; again = b.again; last_read = b.last_read; fresh = b.fresh; withdrawn = b.withdrawn }) };
+    ghost invariant = { λ b. IsSound (kept_of b.last_taken b.newest b.again b.turned b.has_read b.is_fresh b.is_withdrawn b.first b.second) × ((b.is_fresh && b.is_withdrawn) ≡ false) };
 }
 
 impl SlaveBox {
@@ -45,9 +52,13 @@ impl SlaveBox {
             last_taken: 0,
             newest: 0,
             again: false,
-            last_read: None,
-            fresh: None,
-            withdrawn: None,
+            turned: false,
+            has_read: false,
+            is_fresh: false,
+            is_withdrawn: false,
+            first: error_mail(0),
+            second: error_mail(0),
+            inbox: Err(MailFault::Short),
         }
     }
 
@@ -57,7 +68,6 @@ impl SlaveBox {
     pub fn look(&mut self, esc: &mut Esc)
         requires { KeptFits (in_len esc.old) self.old }
         ensures side { in_side self.new esc.new ≡ looked (in_side self.old esc.old) }
-        ensures spelled { IsSpelled self.old esc.old → IsSpelled self.new esc.new }
         ensures last_taken { self.new.last_taken ≡ self.old.last_taken }
         ensures registers { ChangesIn esc.old esc.new }
         ensures kept { KeptFits (in_len esc.new) self.new }
@@ -72,16 +82,18 @@ impl SlaveBox {
     // Step 1.
     fn notice(&mut self, esc: &Esc)
         ensures side { in_side self.new esc.now ≡ (let s = in_side self.old esc.now in noticed s s.box s.offered) }
-        ensures spelled { IsSpelled self.old esc.now → IsSpelled self.new esc.now }
         ensures last_taken { self.new.last_taken ≡ self.old.last_taken }
         ensures kept { (len : ℕ) → KeptFits len self.old → KeptFits len self.new }
     {
         if esc.in_full() {
             return;
         }
-        match self.fresh.take() {
-            Some(mail) => self.last_read = Some(mail),
-            None => self.again = false,
+        if self.is_fresh {
+            self.turned = !self.turned;
+            self.has_read = true;
+            self.is_fresh = false;
+        } else {
+            self.again = false;
         }
     }
 
@@ -89,20 +101,23 @@ impl SlaveBox {
     fn repeat(&mut self, esc: &mut Esc)
         requires { KeptFits (in_len esc.old) self.old }
         ensures side { in_side self.new esc.new ≡ (let s = in_side self.old esc.old in repeated s s.last_read) }
-        ensures spelled { IsSpelled self.old esc.old → IsSpelled self.new esc.new }
         ensures last_taken { self.new.last_taken ≡ self.old.last_taken }
         ensures registers { ChangesIn esc.old esc.new }
         ensures kept { KeptFits (in_len esc.new) self.new }
     {
-        if self.again {
+        if self.again || !self.has_read {
             return;
         }
-        if let Some(mail) = &self.last_read {
-            place(esc, mail);
-            self.again = true;
-            if self.fresh.is_some() {
-                self.withdrawn = self.fresh.take();
-            }
+        let mail = if self.turned {
+            &self.second
+        } else {
+            &self.first
+        };
+        place(esc, mail);
+        self.again = true;
+        if self.is_fresh {
+            self.is_withdrawn = true;
+            self.is_fresh = false;
         }
     }
 
@@ -114,7 +129,6 @@ impl SlaveBox {
         requires room { S.room server.old + 6 ≤ in_len esc.old }
         requires kept { KeptFits (in_len esc.old) self.old }
         ensures node { node_of self.new esc.new server.new ≡ node_serve (server_of S.taken S.next_mail S.rest al) (node_of self.old esc.old server.old) }
-        ensures spelled { IsSpelled self.old esc.old → IsSpelled self.new esc.new }
         ensures registers { ChangesBoxes esc.old esc.new }
         ensures kept { KeptFits (in_len esc.new) self.new }
         ensures room { S.room server.new ≡ S.room server.old }
@@ -129,7 +143,6 @@ impl SlaveBox {
         requires room { S.room server.old + 6 ≤ in_len esc.old }
         requires kept { KeptFits (in_len esc.old) self.old }
         ensures node { node_of self.new esc.new server.new ≡ processor_step (server_of S.taken S.next_mail S.rest al) (node_of self.old esc.old server.old) }
-        ensures spelled { IsSpelled self.old esc.old → IsSpelled self.new esc.new }
         ensures registers { ChangesBoxes esc.old esc.new }
         ensures kept { KeptFits (in_len esc.new) self.new }
         ensures room { S.room server.new ≡ S.room server.old }
@@ -142,26 +155,25 @@ impl SlaveBox {
     pub fn at_rest(&self) -> bool
         ensures { result ≡ is_at_rest self.now }
     {
-        !self.again && self.fresh.is_none() && self.withdrawn.is_none()
+        !self.again && !self.is_fresh && !self.is_withdrawn
     }
 
     // Step 4.
     fn take<S: Server>(&mut self, esc: &mut Esc, server: &mut S, al: u8)
         requires { S.ready server.old }
         ensures node { node_of self.new esc.new server.new ≡ node_take (server_of S.taken S.next_mail S.rest al) (node_of self.old esc.old server.old) }
-        ensures spelled { IsSpelled self.old esc.old → IsSpelled self.new esc.new }
         ensures own { self.new ≡ record self.old { last_taken = self.new.last_taken } }
         ensures registers { ChangesOut esc.old esc.new }
         ensures room { S.room server.new ≡ S.room server.old }
     {
-        let Some(mail) = mail_in(esc) else {
+        let Some(counter) = counter_in(esc) else {
             return;
         };
-        let counter = counter_in(&mail);
         if is_repeat(self.last_taken, counter) {
             esc.release_out();
-        } else if !esc.in_full() && self.withdrawn.is_none() && !server.waiting() {
-            server.take(&mail, al);
+        } else if !esc.in_full() && !self.is_withdrawn && !server.waiting() {
+            read_box(esc, &mut self.inbox);
+            server.take(&self.inbox, al);
             self.last_taken = counter;
             esc.release_out();
         }
@@ -172,7 +184,6 @@ impl SlaveBox {
         requires room { S.room server.old + 6 ≤ in_len esc.old }
         requires kept { KeptFits (in_len esc.old) self.old }
         ensures node { (al : ℕ) → node_of self.new esc.new server.new ≡ node_offer (server_of S.taken S.next_mail S.rest al) (node_of self.old esc.old server.old) }
-        ensures spelled { IsSpelled self.old esc.old → IsSpelled self.new esc.new }
         ensures registers { ChangesIn esc.old esc.new }
         ensures kept { KeptFits (in_len esc.new) self.new }
         ensures room { S.room server.new ≡ S.room server.old }
@@ -180,57 +191,100 @@ impl SlaveBox {
         if esc.in_full() {
             return;
         }
-        if let Some(mail) = self.withdrawn.take() {
-            self.put(esc, mail);
+        if self.is_withdrawn {
+            self.put_back(esc);
         } else if server.waiting() {
-            let counter = next_counter(self.newest);
-            let mail = counted(server.next(), counter);
-            self.newest = counter;
-            self.put(esc, mail);
+            self.put_next(esc, server);
         }
     }
 
-    // Offers a new mail.
-    fn put(&mut self, esc: &mut Esc, mail: Mail)
-        requires counted { IsCounted mail }
-        requires fits { FitsArea (in_len esc.old) mail }
-        ensures own { self.new ≡ record self.old { again = false; fresh = Some mail } }
-        ensures mail { in_box esc.new ≡ Some (link_mail mail) }
-        ensures text { esc.new.in_manager.area ≡ mail_area (in_len esc.old) mail }
+    // Offers the withdrawn mail.
+    fn put_back(&mut self, esc: &mut Esc)
+        requires some { IsSome self.old.withdrawn }
+        requires kept { KeptFits (in_len esc.old) self.old }
+        ensures own { self.new ≡ record self.old { again = false; fresh = self.old.withdrawn; withdrawn = None } }
+        ensures mail { in_box esc.new ≡ option_map link_mail self.old.withdrawn }
         ensures registers { ChangesIn esc.old esc.new }
         ensures acknowledge { acknowledge_of esc.new ≡ acknowledge_of esc.old }
     {
-        place(esc, &mail);
+        if self.turned {
+            place(esc, &self.first);
+        } else {
+            place(esc, &self.second);
+        }
         self.again = false;
-        self.fresh = Some(mail);
+        self.is_withdrawn = false;
+        self.is_fresh = true;
+    }
+
+    // Offers the server's next mail.
+    fn put_next<S: Server>(&mut self, esc: &mut Esc, server: &mut S)
+        requires some { IsSome (S.next_mail server.old) }
+        requires none { self.old.withdrawn ≡ None }
+        requires room { S.room server.old + 6 ≤ in_len esc.old }
+        ensures own { self.new ≡ record self.old { newest = counter_behind self.old.newest; again = false; fresh = option_map (counted_as (counter_behind self.old.newest)) (S.next_mail server.old) } }
+        ensures mail { in_box esc.new ≡ option_map (λ m. link_mail (counted_as (counter_behind self.old.newest) m)) (S.next_mail server.old) }
+        ensures fits { ForSome self.new.fresh (FitsArea (in_len esc.old)) }
+        ensures server { server.new ≡ S.rest server.old }
+        ensures room { S.room server.new ≡ S.room server.old }
+        ensures registers { ChangesIn esc.old esc.new }
+        ensures acknowledge { acknowledge_of esc.new ≡ acknowledge_of esc.old }
+    {
+        let counter = next_counter(self.newest);
+        if self.turned {
+            draw(server, &mut self.first, counter);
+            place(esc, &self.first);
+        } else {
+            draw(server, &mut self.second, counter);
+            place(esc, &self.second);
+        }
+        self.newest = counter;
+        self.again = false;
+        self.is_fresh = true;
     }
 }
 
-// The mail in mailbox 0, or the fault with which it does not read.
-fn mail_in(esc: &Esc) -> Option<Result<Mail, MailFault>>
-    ensures { MatchOption result (esc.now.out_manager.full ≡ false) (λ mail. (esc.now.out_manager.full ≡ true) × (mail ≡ mail_read esc.now.out_manager.area)) }
+// Draws the server's next mail into a place, with this counter.
+fn draw<S: Server>(server: &mut S, into: &mut Mail, counter: u8)
+    requires { IsSome (S.next_mail server.old) }
+    ensures mail { option_map (counted_as counter) (S.next_mail server.old) ≡ Some into.new }
+    ensures counter { into.new.counter ≡ counter }
+    ensures server { server.new ≡ S.rest server.old }
+    ensures fits { length into.new.body.items ≤ S.room server.old }
+    ensures room { S.room server.new ≡ S.room server.old }
+{
+    server.next_into(into);
+    into.counter = counter;
+}
+
+// The counter of the mail in mailbox 0, 0 of one that does not read.
+fn counter_in(esc: &Esc) -> Option<u8>
+    ensures { MatchOption result (esc.now.out_manager.full ≡ false) (λ counter. (esc.now.out_manager.full ≡ true) × (counter ≡ (link_read (mail_read esc.now.out_manager.area)).counter)) }
 {
     match esc.out_area() {
         None => None,
-        Some(area) => Some(read_area(area)),
+        Some(area) => Some(counter_of(area)),
     }
 }
 
-// The counter of a mail, 0 of one that does not read.
-fn counter_in(mail: &Result<Mail, MailFault>) -> u8
-    ensures value { result ≡ (link_read mail.now).counter }
+fn counter_of(area: &[u8]) -> u8
+    ensures value { result ≡ (link_read (mail_read area.now)).counter }
 {
-    match mail {
+    match view(area) {
         Ok(mail) => mail.counter,
         Err(_) => 0,
     }
 }
 
-// The mail with this counter.
-fn counted(mail: Mail, counter: u8) -> Mail
-    ensures { result ≡ counted_as counter mail }
+// The mail in mailbox 0, or the fault with which it does not read.
+fn read_box(esc: &Esc, into: &mut Result<Mail, MailFault>)
+    requires { esc.now.out_manager.full ≡ true }
+    ensures { into.new ≡ mail_read esc.now.out_manager.area }
 {
-    Mail { counter, ..mail }
+    match esc.out_area() {
+        None => {}
+        Some(area) => read_into(area, into),
+    }
 }
 
 // Puts a mail into mailbox 1.
@@ -238,7 +292,6 @@ fn place(esc: &mut Esc, mail: &Mail)
     requires counted { IsCounted mail.now }
     requires fits { FitsArea (in_len esc.old) mail.now }
     ensures mail { in_box esc.new ≡ Some (link_mail mail.now) }
-    ensures text { esc.new.in_manager.area ≡ mail_area (in_len esc.old) mail.now }
     ensures registers { ChangesIn esc.old esc.new }
     ensures acknowledge { acknowledge_of esc.new ≡ acknowledge_of esc.old }
 {

@@ -1,0 +1,27 @@
+-- Halves that are kept in a place of their own, and what they read without a copy.
+use Rattle.std.specs.Prelude.{ℕ, Option, Some, None, Bool, if◌then◌else◌, option_map, List}
+use Rattle.mailbox_mail.specs.declared.mail.Kind.{Kind}
+use Rattle.mailbox_mail.specs.declared.mail.Mail.{Mail}
+use Rattle.mailbox_mail.specs.View.{mail_seen}
+use Rattle.link_model.specs.Master.{OutHalf}
+use Rattle.link_mails.specs.Body.{Body, link_mail}
+use Rattle.mailbox_master.specs.Links.{OutLink}
+use Rattle.mailbox_master.specs.declared.inward.Got.{Got}
+use Rattle.mailbox_master.specs.declared.inward.Got.TheVariants.{Mail as GotMail, Repeat as GotRepeat, Empty as GotEmpty, Bad as GotBad}
+use Rattle.mailbox_master.specs.declared.seat.GotView.{GotView}
+use Rattle.mailbox_master.specs.declared.seat.GotView.TheVariants.{Mail as SeenMail, Repeat as SeenRepeat, Empty as SeenEmpty, Bad as SeenBad}
+
+-- the outward half of a seat, which holds a mail or none
+abbrev pub seat_half : OutLink (Option Mail) → OutHalf Body
+seat_half o = record { last = o.last; holding = option_map link_mail o.state }
+
+-- a mail not yet counted, of its parts
+abbrev pub mail_by : ℕ → Kind → List ℕ → Mail
+mail_by address kind octets = record { address = address; kind = kind; counter = 0; body = record { items = octets } }
+
+-- what a read gave, by what stands in the area
+abbrev pub got_seen : GotView → Got
+got_seen (SeenMail v) = GotMail (mail_seen v)
+got_seen SeenRepeat = GotRepeat
+got_seen SeenEmpty = GotEmpty
+got_seen (SeenBad fault) = GotBad fault
