@@ -28,6 +28,30 @@ pub fn refill<const CAP: usize>(buffer: &mut ArrayVec<u8, CAP>, octets: &[u8])
     append(buffer, behind);
 }
 
+/// Puts two parts that fit, one behind the other, in place of what a buffer held. Only these octets
+/// are moved, and no others are touched but those that are left over of a longer content.
+pub fn refill_parts<const CAP: usize>(
+    buffer: &mut ArrayVec<u8, CAP>,
+    head: &[u8],
+    behind: &[u8],
+)
+    requires { length head.now + length behind.now ≤ CAP }
+    ensures { buffer.new.items ≡ head.now ++ behind.now }
+{
+    if buffer.len() < head.len() {
+        refill(buffer, head);
+        append(buffer, behind);
+        return;
+    }
+    let kept = (buffer.len() - head.len()).min(behind.len());
+    let (over, more) = behind.split_at(kept);
+    buffer.truncate(head.len() + kept);
+    let (first, second) = buffer.as_mut_slice().split_at_mut(head.len());
+    first.copy_from_slice(head);
+    second.copy_from_slice(over);
+    append(buffer, more);
+}
+
 /// Appends octets that fit.
 pub fn append<const CAP: usize>(buffer: &mut ArrayVec<u8, CAP>, octets: &[u8])
     requires { length buffer.old.items + length octets.now ≤ CAP }
