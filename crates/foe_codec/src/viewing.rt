@@ -14,28 +14,12 @@ const LONGEST: usize = 32;
 /// A message as it stands in a body: its variants are those of [`Foe`], and its octets are where they lie.
 #[derive(Clone, Copy, Debug)]
 pub enum FoeView<'a> {
-    Read {
-        pass: u32,
-        name: &'a [u8],
-    },
-    Write {
-        pass: u32,
-        name: &'a [u8],
-    },
-    Data {
-        packet: u32,
-        bytes: &'a [u8],
-    },
-    Ack {
-        packet: u32,
-    },
-    Error {
-        code: u32,
-    },
-    Busy {
-        done: u16,
-        entire: u16,
-    },
+    Read { pass: u32, name: &'a [u8] },
+    Write { pass: u32, name: &'a [u8] },
+    Data { packet: u32, bytes: &'a [u8] },
+    Ack { packet: u32 },
+    Error { code: u32 },
+    Busy { done: u16, entire: u16 },
 }
 
 fn is_name(octets: &[u8]) -> bool
