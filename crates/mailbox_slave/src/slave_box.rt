@@ -8,7 +8,9 @@ ghost use Rattle.link_model.specs.Slave.{noticed, repeated, looked, node_take, n
 ghost use Rattle.link_mails.specs.Body.{counted_as, link_mail, link_read};
 ghost use Rattle.mailbox_slave.specs.Kept.{IsCounted, FitsArea, KeptFits, is_at_rest};
 ghost use Rattle.mailbox_slave.specs.Registers.{in_box, in_len, acknowledge_of, ChangesIn, ChangesOut, ChangesBoxes};
-ghost use Rattle.mailbox_slave.specs.Node.{in_side, node_of, server_of};
+ghost use Rattle.esc_registers.specs.Area.{mail_area};
+ghost use Rattle.mailbox_slave.specs.Node.{in_side, node_of, server_of, IsSpelled};
+ghost use Rattle.mailbox_slave.specs.Exact.{with_mail, kept_noticed, last_repeated, boxes_looked, mail_served, mail_offered, slave_served, slave_stepped};
 
 use crate::server::Server;
 use esc_registers::Esc;
@@ -67,7 +69,9 @@ impl SlaveBox {
     /// stands unread is withdrawn, and the request is acknowledged.
     pub fn look(&mut self, esc: &mut Esc)
         requires { KeptFits (in_len esc.old) self.old }
+        ensures exact { record { kept = self.new; registers = esc.new } ≡ boxes_looked self.old esc.old }
         ensures side { in_side self.new esc.new ≡ looked (in_side self.old esc.old) }
+        ensures spelled { IsSpelled self.old esc.old → IsSpelled self.new esc.new }
         ensures last_taken { self.new.last_taken ≡ self.old.last_taken }
         ensures registers { ChangesIn esc.old esc.new }
         ensures kept { KeptFits (in_len esc.new) self.new }
@@ -81,7 +85,9 @@ impl SlaveBox {
 
     // Step 1.
     fn notice(&mut self, esc: &Esc)
+        ensures exact { self.new ≡ kept_noticed self.old esc.now.in_manager.full }
         ensures side { in_side self.new esc.now ≡ (let s = in_side self.old esc.now in noticed s s.box s.offered) }
+        ensures spelled { IsSpelled self.old esc.now → IsSpelled self.new esc.now }
         ensures last_taken { self.new.last_taken ≡ self.old.last_taken }
         ensures kept { (len : ℕ) → KeptFits len self.old → KeptFits len self.new }
     {
@@ -100,7 +106,9 @@ impl SlaveBox {
     // The last read mail is offered again, unless it stands already.
     fn repeat(&mut self, esc: &mut Esc)
         requires { KeptFits (in_len esc.old) self.old }
+        ensures exact { record { kept = self.new; registers = esc.new } ≡ last_repeated self.old esc.old self.old.last_read }
         ensures side { in_side self.new esc.new ≡ (let s = in_side self.old esc.old in repeated s s.last_read) }
+        ensures spelled { IsSpelled self.old esc.old → IsSpelled self.new esc.new }
         ensures last_taken { self.new.last_taken ≡ self.old.last_taken }
         ensures registers { ChangesIn esc.old esc.new }
         ensures kept { KeptFits (in_len esc.new) self.new }
@@ -128,7 +136,9 @@ impl SlaveBox {
         requires ready { S.ready server.old }
         requires room { S.room server.old + 6 ≤ in_len esc.old }
         requires kept { KeptFits (in_len esc.old) self.old }
+        ensures exact { record { kept = self.new; registers = esc.new; server = server.new } ≡ slave_served S.taken S.next_mail S.rest al self.old esc.old server.old }
         ensures node { node_of self.new esc.new server.new ≡ node_serve (server_of S.taken S.next_mail S.rest al) (node_of self.old esc.old server.old) }
+        ensures spelled { IsSpelled self.old esc.old → IsSpelled self.new esc.new }
         ensures registers { ChangesBoxes esc.old esc.new }
         ensures kept { KeptFits (in_len esc.new) self.new }
         ensures room { S.room server.new ≡ S.room server.old }
@@ -142,7 +152,9 @@ impl SlaveBox {
         requires ready { S.ready server.old }
         requires room { S.room server.old + 6 ≤ in_len esc.old }
         requires kept { KeptFits (in_len esc.old) self.old }
+        ensures exact { record { kept = self.new; registers = esc.new; server = server.new } ≡ slave_stepped S.taken S.next_mail S.rest al self.old esc.old server.old }
         ensures node { node_of self.new esc.new server.new ≡ processor_step (server_of S.taken S.next_mail S.rest al) (node_of self.old esc.old server.old) }
+        ensures spelled { IsSpelled self.old esc.old → IsSpelled self.new esc.new }
         ensures registers { ChangesBoxes esc.old esc.new }
         ensures kept { KeptFits (in_len esc.new) self.new }
         ensures room { S.room server.new ≡ S.room server.old }
@@ -161,7 +173,9 @@ impl SlaveBox {
     // Step 4.
     fn take<S: Server>(&mut self, esc: &mut Esc, server: &mut S, al: u8)
         requires { S.ready server.old }
+        ensures exact { record { kept = self.new; registers = esc.new; server = server.new } ≡ mail_served S.taken S.next_mail al self.old esc.old server.old }
         ensures node { node_of self.new esc.new server.new ≡ node_take (server_of S.taken S.next_mail S.rest al) (node_of self.old esc.old server.old) }
+        ensures spelled { IsSpelled self.old esc.old → IsSpelled self.new esc.new }
         ensures own { self.new ≡ record self.old { last_taken = self.new.last_taken } }
         ensures registers { ChangesOut esc.old esc.new }
         ensures room { S.room server.new ≡ S.room server.old }
@@ -183,7 +197,9 @@ impl SlaveBox {
     fn offer<S: Server>(&mut self, esc: &mut Esc, server: &mut S)
         requires room { S.room server.old + 6 ≤ in_len esc.old }
         requires kept { KeptFits (in_len esc.old) self.old }
+        ensures exact { record { kept = self.new; registers = esc.new; server = server.new } ≡ mail_offered S.next_mail S.rest self.old esc.old server.old }
         ensures node { (al : ℕ) → node_of self.new esc.new server.new ≡ node_offer (server_of S.taken S.next_mail S.rest al) (node_of self.old esc.old server.old) }
+        ensures spelled { IsSpelled self.old esc.old → IsSpelled self.new esc.new }
         ensures registers { ChangesIn esc.old esc.new }
         ensures kept { KeptFits (in_len esc.new) self.new }
         ensures room { S.room server.new ≡ S.room server.old }
@@ -203,9 +219,9 @@ impl SlaveBox {
         requires some { IsSome self.old.withdrawn }
         requires kept { KeptFits (in_len esc.old) self.old }
         ensures own { self.new ≡ record self.old { again = false; fresh = self.old.withdrawn; withdrawn = None } }
+        ensures exact { Some esc.new ≡ option_map (with_mail esc.old) self.old.withdrawn }
         ensures mail { in_box esc.new ≡ option_map link_mail self.old.withdrawn }
-        ensures registers { ChangesIn esc.old esc.new }
-        ensures acknowledge { acknowledge_of esc.new ≡ acknowledge_of esc.old }
+        ensures len { in_len esc.new ≡ in_len esc.old }
     {
         if self.turned {
             place(esc, &self.first);
@@ -223,12 +239,12 @@ impl SlaveBox {
         requires none { self.old.withdrawn ≡ None }
         requires room { S.room server.old + 6 ≤ in_len esc.old }
         ensures own { self.new ≡ record self.old { newest = counter_behind self.old.newest; again = false; fresh = option_map (counted_as (counter_behind self.old.newest)) (S.next_mail server.old) } }
+        ensures exact { Some esc.new ≡ option_map (λ m. with_mail esc.old (counted_as (counter_behind self.old.newest) m)) (S.next_mail server.old) }
         ensures mail { in_box esc.new ≡ option_map (λ m. link_mail (counted_as (counter_behind self.old.newest) m)) (S.next_mail server.old) }
+        ensures len { in_len esc.new ≡ in_len esc.old }
         ensures fits { ForSome self.new.fresh (FitsArea (in_len esc.old)) }
         ensures server { server.new ≡ S.rest server.old }
         ensures room { S.room server.new ≡ S.room server.old }
-        ensures registers { ChangesIn esc.old esc.new }
-        ensures acknowledge { acknowledge_of esc.new ≡ acknowledge_of esc.old }
     {
         let counter = next_counter(self.newest);
         if self.turned {
@@ -291,9 +307,9 @@ fn read_box(esc: &Esc, into: &mut Result<Mail, MailFault>)
 fn place(esc: &mut Esc, mail: &Mail)
     requires counted { IsCounted mail.now }
     requires fits { FitsArea (in_len esc.old) mail.now }
+    ensures exact { esc.new ≡ with_mail esc.old mail.now }
     ensures mail { in_box esc.new ≡ Some (link_mail mail.now) }
-    ensures registers { ChangesIn esc.old esc.new }
-    ensures acknowledge { acknowledge_of esc.new ≡ acknowledge_of esc.old }
+    ensures len { in_len esc.new ≡ in_len esc.old }
 {
     let _addressed = mail.address;
     let _length = mail.body.len();
