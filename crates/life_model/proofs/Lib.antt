@@ -1,0 +1,4 @@
+pub mod Owns
+pub mod Rings
+pub mod Eras
+pub mod Gives
