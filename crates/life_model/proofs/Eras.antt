@@ -79,7 +79,7 @@ module _ {V A M Q R : Type 0} (x : Exchange V A M Q R) (s : Stated V A Q) (proce
   era_begins spot cleared opened fs v r is plan answers =
       let nothing : drop (suc opened) fs ≡ [] = ap (λ k. drop k fs) (sym is) ∙ drop_all fs in
       let blanks : era_frames spot opened (length fs) fs ≡ replicate (suc opened) blank =
-          all_frames spot opened fs ∙ ap (λ l. replicate (suc opened) blank ++ map (λ f. own_frame spot.station spot.place f) l) nothing ∙ append-nil (replicate (suc opened) blank) in
+      all_frames spot opened fs ∙ ap (λ l. replicate (suc opened) blank ++ map (λ f. own_frame spot.station spot.place f) l) nothing ∙ append-nil (replicate (suc opened) blank) in
       record {
         plan = plan;
         answers = answers;
@@ -132,12 +132,12 @@ module _ {V A M Q R : Type 0} (x : Exchange V A M Q R) (s : Stated V A Q) (proce
         let ring = ring_steps x processor (ring_after one mine.sent mine.fate) mine.steps in
         let stands = alone-steps x processor spot.station spot.place m.steps (ring_after whole m.sent m.fate) (ring_after one mine.sent mine.fate) (alone-after spot.station spot.place before n behind m.sent m.fate at alone) in
         let turned = subst (λ k. IsFrameOf (sides_next x.speech k ds (mails_choices (e.account ∷ []) (p ∷ []))) mine.sent → AreServed (sides_next x.speech k ds (mails_choices (e.account ∷ []) (p ∷ []))) (accounts_next x.speech s.acknowledged k ds (e.account ∷ []) (p ∷ [])) mine.sent →
-            IsTasked x s.acknowledged processor (planned spot v r ∷ []) (sides_after x.speech k mine.sent mine.fate (ring_back one mine.sent mine.fate) (sides_next x.speech k ds (mails_choices (e.account ∷ []) (p ∷ []))))
-            (accounts_after k (sides_next x.speech k ds (mails_choices (e.account ∷ []) (p ∷ []))) (accounts_next x.speech s.acknowledged k ds (e.account ∷ []) (p ∷ [])) mine.fate (ring_back one mine.sent mine.fate)) ring (old ++ frame_of one mine ∷ []))
-            (frames_length spot opened fs le) (λ f served. tasked_step x s.acknowledged processor (planned spot v r ∷ []) ds (e.account ∷ []) one old b.tasked (p ∷ []) mine f served) (asks.halves, tt) (asks.served, tt) in
+        IsTasked x s.acknowledged processor (planned spot v r ∷ []) (sides_after x.speech k mine.sent mine.fate (ring_back one mine.sent mine.fate) (sides_next x.speech k ds (mails_choices (e.account ∷ []) (p ∷ []))))
+        (accounts_after k (sides_next x.speech k ds (mails_choices (e.account ∷ []) (p ∷ []))) (accounts_next x.speech s.acknowledged k ds (e.account ∷ []) (p ∷ [])) mine.fate (ring_back one mine.sent mine.fate)) ring (old ++ frame_of one mine ∷ []))
+        (frames_length spot opened fs le) (λ f served. tasked_step x s.acknowledged processor (planned spot v r ∷ []) ds (e.account ∷ []) one old b.tasked (p ∷ []) mine f served) (asks.halves, tt) (asks.served, tt) in
         let known = subst (λ bs. IsTasked x s.acknowledged processor (planned spot v r ∷ []) (sides_after x.speech (length fs) mine.sent mine.fate bs ((spot.station, next.side) ∷ []))
-            (accounts_after (length fs) ((spot.station, next.side) ∷ []) (next.account ∷ []) mine.fate bs) ring (old ++ record { sent = mine.sent; fate = mine.fate; back = bs } ∷ []))
-            (own-ring_back spot.station spot.place before n behind m.sent m.fate alone) turned in
+        (accounts_after (length fs) ((spot.station, next.side) ∷ []) (next.account ∷ []) mine.fate bs) ring (old ++ record { sent = mine.sent; fate = mine.fate; back = bs } ∷ []))
+        (own-ring_back spot.station spot.place before n behind m.sent m.fate alone) turned in
         record {
           slave = stands.slave;
           stands = record { before = stands.before; slave = stands.slave; behind = stands.behind; at = stands.at; whole_is = stands.whole_is; one_is = refl };

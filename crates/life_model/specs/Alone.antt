@@ -1,14 +1,8 @@
 -- A ring in which one slave is open while it meets a frame, and what it is for that slave: a ring of its own.
 use Rattle.std.specs.Prelude.{◌≡◌, ℕ, ◌<◌, List, [], ◌∷◌, ◌++◌, length, ⊤}
-use Rattle.exchange_model.specs.Exchange.{Exchange}
 use Rattle.link_model.specs.Segment.{RingFate}
-use Rattle.segment_model.specs.Slaves.{Processor, Slave, Datagram, Ring, Move, frame_after, all_back, ring_after, ring_back, ring_steps}
-use Rattle.segment_model.specs.Record.{Frame, frame_of}
-use Rattle.segment_model.specs.Seats.{Side, Planned}
-use Rattle.segment_model.specs.Split.{sides_after}
-use Rattle.task_model.specs.Accounts.{Account}
-use Rattle.task_model.specs.Tasks.{IsTasked, accounts_after}
-use Rattle.life_model.specs.Own.{own, own_fate, own_frame, AreSeen, IsOpen, AllApart}
+use Rattle.segment_model.specs.Slaves.{Slave, Datagram, Ring, frame_after, all_back}
+use Rattle.life_model.specs.Own.{AreSeen, IsOpen, AllApart}
 
 -- the datagrams are as octets give them, at each slave
 abbrev pub AllSeen : {V M : Type 0} → Ring V M → List (Datagram M) → Type 0

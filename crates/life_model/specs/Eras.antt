@@ -1,5 +1,5 @@
 -- The epochs of a slave, each a session of its own over the slave's own datagrams.
-use Rattle.std.specs.Prelude.{◌≡◌, ℕ, suc, ◌-◌, Option, Some, None, List, [], ◌∷◌, ◌++◌, map, replicate, take, drop, length}
+use Rattle.std.specs.Prelude.{◌≡◌, ℕ, suc, ◌-◌, Some, None, List, [], ◌∷◌, ◌++◌, map, replicate, take, drop, length}
 use Rattle.exchange_model.specs.Exchange.{Exchange, IsLawful}
 use Rattle.segment_model.specs.Slaves.{Registers, Processor, Slave, Ring, Move, ring_after, ring_steps}
 use Rattle.segment_model.specs.Record.{Frame, frame_of}
