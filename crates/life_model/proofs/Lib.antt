@@ -2,3 +2,4 @@ pub mod Owns
 pub mod Rings
 pub mod Eras
 pub mod Gives
+pub mod Lasts
