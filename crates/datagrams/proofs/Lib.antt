@@ -4,5 +4,6 @@ pub mod Changing
 pub mod Drafting
 pub mod Grammar
 pub mod Header
+pub mod Meeting
 pub mod Spelled
 pub mod Steps

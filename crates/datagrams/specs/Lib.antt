@@ -2,3 +2,4 @@ pub mod Command
 pub mod Datagram
 pub mod Draft
 pub mod Frame
+pub mod Meeting

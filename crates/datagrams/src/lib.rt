@@ -5,6 +5,7 @@
 mod command;
 mod frame;
 mod head;
+mod passing;
 mod reading;
 pub mod register;
 #[cfg(test)]
@@ -14,5 +15,6 @@ mod writing;
 pub use command::Command;
 pub use frame::{Frame, FrameBuf, FrameFault, Part};
 pub use head::Head;
+pub use passing::{Passage, pass};
 pub use reading::{fault, first, next, read};
 pub use writing::{Body, add, add_with, begin, finish, room, set};
