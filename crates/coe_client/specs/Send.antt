@@ -4,7 +4,7 @@ use Rattle.mailbox_mail.specs.declared.mail.Kind.TheVariants.{CoE}
 use Rattle.coe_codec.specs.Writing.{HasSpelling, coe_text}
 use Rattle.coe_model.specs.Mails.{Coe, CoeMail, mail, Expedited, First, Upload, Segment, UploadSegment, ListRequest, ObjectRequest, EntryRequest}
 use Rattle.coe_model.specs.Server.{is_expedited}
-use Rattle.coe_model.specs.Octets.{body_heard, mail_written, mail_with}
+use Rattle.coe_model.specs.Octets.{body_heard, coe_mail_written, mail_with}
 use Rattle.coe_client.specs.declared.state.Task.{Task}
 use Rattle.coe_client.specs.declared.state.Unsent.{Unsent}
 use Rattle.coe_client.specs.Talk.{Talking, later, awaited}
@@ -60,7 +60,7 @@ NextIs (Some message) old new =
 -- WHAT GOES OUT: the first of the mails that the client has left, in its one spelling, which reads as it
 pub record SendsNext (old : Talking) (octets : List ℕ) (new : Talking) : Type 0 where
   pub next : CoeMail
-  pub spelled : mail_written next ≡ mail_with CoE octets
+  pub spelled : coe_mail_written next ≡ mail_with CoE octets
   pub read : body_heard octets ≡ next
   pub mails : (hs : List CoeMail) → later old hs ≡ next ∷ later new hs
   pub room : new.room ≡ old.room

@@ -1,7 +1,7 @@
 ghost use Rattle.std.specs.Prelude.{◌≡◌, ◌≤◌, ◌<◌, ◌+◌, ◌-◌, length};
 ghost use Rattle.coe_model.specs.Server.{parts_of};
 ghost use Rattle.coe_model.specs.Client.{is_of};
-ghost use Rattle.coe_model.specs.Octets.{body_heard, mail_heard};
+ghost use Rattle.coe_model.specs.Octets.{body_heard, coe_mail_heard};
 ghost use Rattle.coe_client.specs.Talk.{target_of};
 ghost use Rattle.coe_codec.specs.View.{coe_seen, IsWithin};
 ghost use Rattle.coe_client.specs.Hear.{onward, refused, valued, answered, parted, hear_acceptance, hear_segment, hear_whole, hear_first, hear_part, hear_information, hear_abort, hear_error, hear_failed, hear_message, hear_mail, TookIs};
@@ -377,7 +377,7 @@ impl CoeClient {
     }
 
     fn hear_mail(&mut self, mail: &Mail) -> Took
-        ensures { (result, self.new) ≡ hear_mail self.old (mail_heard mail.now) }
+        ensures { (result, self.new) ≡ hear_mail self.old (coe_mail_heard mail.now) }
     {
         let body = mail.body.as_slice();
         match mail.kind {
@@ -395,7 +395,7 @@ impl CoeClient {
     /// Takes a mail that came from the slave. `Done` where it completes the reply of the service, `More` where it is awaited and the reply isn't
     /// complete yet, `Foreign` where it is none that may come next; then the client is unchanged (ETG.1000.6, "CANopen over EtherCAT").
     pub fn take(&mut self, mail: &Mail) -> Took
-        ensures { TookIs result self.old (mail_heard mail.now) self.new }
+        ensures { TookIs result self.old (coe_mail_heard mail.now) self.new }
     {
         let _ = &self.awaits;
         self.hear_mail(mail)

@@ -12,7 +12,7 @@ use Rattle.coe_model.specs.Server.{information_parts, parts_of}
 use Rattle.coe_server.specs.declared.state.Pending.{Pending}
 use Rattle.coe_server.specs.declared.state.Emitted.{Emitted}
 use Rattle.mailbox_mail.specs.declared.mail.Mail.{Mail}
-use Rattle.coe_model.specs.Octets.{mail_heard}
+use Rattle.coe_model.specs.Octets.{coe_mail_heard}
 use Rattle.coe_server.specs.Serving.{Serving, pending_mails, emergencies, waiting_mails, GivesNext}
 use Rattle.coe_client.specs.Talk.{Talking, later, awaited, is_over}
 use Rattle.coe_client.specs.Hear.{TookIs}
@@ -95,11 +95,11 @@ pub first_given : (c : Serving) (m : CoeMail) (rest : List CoeMail) → waiting_
 first_given c m rest is = (subst (EachOf IsGiven) is (waiting_given c)).0
 
 -- the mail that a server gives is the first that waited, as it is heard
-pub next_is : (old new : Serving) (written : Mail) → GivesNext old written new → waiting_mails old ≡ mail_heard written ∷ waiting_mails new
+pub next_is : (old new : Serving) (written : Mail) → GivesNext old written new → waiting_mails old ≡ coe_mail_heard written ∷ waiting_mails new
 next_is old new written g = g.rest ∙ ap (λ m. m ∷ waiting_mails new) (sym g.heard)
 
 -- and so it is where it was carried through a mailbox
-pub carried_is : (old new : Serving) (written carried : Mail) → mail_heard carried ≡ mail_heard written → GivesNext old written new → waiting_mails old ≡ mail_heard carried ∷ waiting_mails new
+pub carried_is : (old new : Serving) (written carried : Mail) → coe_mail_heard carried ≡ coe_mail_heard written → GivesNext old written new → waiting_mails old ≡ coe_mail_heard carried ∷ waiting_mails new
 carried_is old new written carried same g = next_is old new written g ∙ ap (λ m. m ∷ waiting_mails new) (sym same)
 
 -- of mails that wait, with one more of them heard

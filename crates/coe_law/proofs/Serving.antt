@@ -2,14 +2,14 @@
 use Rattle.std.proofs.Common.{◌≡◌, ℕ, Bool, List, [], ◌∷◌, ◌++◌, refl, sym, ap, ◌∙◌, append-nil}
 use Rattle.object_dictionary.specs.Dictionary.{Table}
 use Rattle.coe_model.specs.Mails.{CoeMail, mail, unread, failed, fragment, other, Emergency, Expedited, First, Upload, DownloadAnswer, ExpeditedAnswer, FirstAnswer, Segment, SegmentAnswer, UploadSegment, UploadSegmentAnswer, Abort, ListRequest, ObjectRequest, EntryRequest, Information, InformationError}
-use Rattle.coe_model.specs.Server.{Transfer, idle, downloading, uploading, Outcome, outcome, Server, serve, behind, issued}
+use Rattle.coe_model.specs.Server.{Transfer, idle, downloading, uploading, Outcome, coe_outcome, Server, serve, behind, issued}
 use Rattle.coe_server.specs.declared.state.Emitted.{Emitted}
 use Rattle.coe_server.specs.ObjectTables.{object_tables}
 use Rattle.coe_server.specs.Serving.{Serving, transfer_of, answers_of, waiting_mails, emergencies, emission_view, outcome_of}
 use Rattle.coe_law.specs.Talks.{tables, packet_by, packet_mails}
 
 -- how packets are cut matters to none of the server's outcomes
-same_outcome : (al : ℕ) (eoe : Bool) (room : ℕ) (app : Table) (transfer : Transfer) (m : CoeMail) → outcome (tables al) eoe room app transfer m ≡ outcome (object_tables al) eoe room app transfer m
+same_outcome : (al : ℕ) (eoe : Bool) (room : ℕ) (app : Table) (transfer : Transfer) (m : CoeMail) → coe_outcome (tables al) eoe room app transfer m ≡ coe_outcome (object_tables al) eoe room app transfer m
 same_outcome al eoe room app transfer (mail (Emergency octets)) = refl
 same_outcome al eoe room app transfer (mail (Expedited index sub all bytes)) = refl
 same_outcome al eoe room app transfer (mail (First index sub all size bytes)) = refl
@@ -51,10 +51,10 @@ issued_mails al objects answers Emitted.Emergency octets = sym (append-nil (answ
 issued_mails al objects answers Emitted.Packet octets = ap (λ l. l ++ fragment octets ∷ []) (sym (append-nil answers))
 
 pub served : (al : ℕ) (eoe : Bool) (room : ℕ) (w : Server Table) (m : CoeMail) (before objects : Table) (old server : Serving) (counts : Bool) → w.app ≡ before → w.transfer ≡ transfer_of old →
-    outcome (object_tables al) eoe room before (transfer_of old) m ≡ outcome_of objects server counts → Served al eoe room w m objects server
+    coe_outcome (object_tables al) eoe room before (transfer_of old) m ≡ outcome_of objects server counts → Served al eoe room w m objects server
 served al eoe room w m before objects old server counts app transfer does =
-    let is : outcome (tables al) eoe room w.app w.transfer m ≡ outcome_of objects server counts =
-    ap (λ a. outcome (tables al) eoe room a w.transfer m) app ∙ ap (λ t. outcome (tables al) eoe room before t m) transfer ∙ same_outcome al eoe room before (transfer_of old) m ∙ does in
+    let is : coe_outcome (tables al) eoe room w.app w.transfer m ≡ outcome_of objects server counts =
+    ap (λ a. coe_outcome (tables al) eoe room a w.transfer m) app ∙ ap (λ t. coe_outcome (tables al) eoe room before t m) transfer ∙ same_outcome al eoe room before (transfer_of old) m ∙ does in
     record {
       app = ap (λ (x : Outcome Table). (behind (tables al) w.handled x).0.app) is ∙ issued_app al objects server.emitted server.octets;
       transfer = ap (λ (x : Outcome Table). (behind (tables al) w.handled x).0.transfer) is;

@@ -8,7 +8,7 @@ use Rattle.object_dictionary.specs.Sound.{is_table}
 use Rattle.coe_model.specs.Mails.{CoeMail, is_emission}
 use Rattle.object_dictionary.specs.declared.service.SdoService.{SdoService}
 use Rattle.coe_model.specs.Tables.{Target, Tables, AreLawful}
-use Rattle.coe_model.specs.Server.{Emission, emergency, packet, emission_of, issued, Server, serve, outcome}
+use Rattle.coe_model.specs.Server.{Emission, emergency, packet, emission_of, issued, Server, serve, coe_outcome}
 use Rattle.coe_model.specs.Meaning.{Service, download, upload, information, meaning_of, download_means, value_means}
 use Rattle.coe_model.specs.Client.{ends}
 use Rattle.coe_model.specs.Model.{planned, full, value_length}
@@ -104,13 +104,13 @@ module _ (al : ℕ) (eoe : Bool) (areas : Areas) (sized : AreMailboxes areas) (v
   -- what the server's call did is what the model's server does
   pub served_by : (sent : List CoeMail) (client client1 : Talking) (server server1 : Serving) (objects objects1 : Table) (emission : Option Kept) (octets body : List ℕ) (counts : Bool) →
       Talks al eoe areas v q sent client server objects emission → (s : SendsNext client octets client1) → body ≡ octets →
-      outcome (object_tables al) server.eoe server.room objects (transfer_of server) (body_heard body) ≡ outcome_of objects1 server1 counts →
+      coe_outcome (object_tables al) server.eoe server.room objects (transfer_of server) (body_heard body) ≡ outcome_of objects1 server1 counts →
       Served al eoe areas.back (after (serve (tables al) eoe areas.back) v sent) s.next objects1 server1
   served_by sent client client1 server server1 objects objects1 emission octets body counts t s is does =
       served al eoe areas.back (after (serve (tables al) eoe areas.back) v sent) s.next objects objects1 server server1 counts t.app t.transfer
-      (ap (λ (b : Bool). outcome (object_tables al) b areas.back objects (transfer_of server) s.next) (sym t.serves)
-      ∙ ap (λ n. outcome (object_tables al) server.eoe n objects (transfer_of server) s.next) (sym t.back_room)
-      ∙ ap (outcome (object_tables al) server.eoe server.room objects (transfer_of server)) (sym s.read ∙ ap body_heard (sym is)) ∙ does)
+      (ap (λ (b : Bool). coe_outcome (object_tables al) b areas.back objects (transfer_of server) s.next) (sym t.serves)
+      ∙ ap (λ n. coe_outcome (object_tables al) server.eoe n objects (transfer_of server) s.next) (sym t.back_room)
+      ∙ ap (coe_outcome (object_tables al) server.eoe server.room objects (transfer_of server)) (sym s.read ∙ ap body_heard (sym is)) ∙ does)
 
   -- of a mail that is sent to a server behind these
   module _ (sent : List CoeMail) (client client1 : Talking) (server : Serving) (objects : Table) (emission : Option Kept) (octets : List ℕ)

@@ -4,7 +4,7 @@ ghost use Rattle.exchange_model.specs.Exchange.{plain, emitted};
 ghost use Rattle.object_dictionary.specs.Dictionary.{Table};
 ghost use Rattle.coe_model.specs.Mails.{CoeMail, mail, fragment, Emergency, is_emission};
 ghost use Rattle.coe_model.specs.Meaning.{meaning_of};
-ghost use Rattle.coe_model.specs.Octets.{body_heard, mail_heard};
+ghost use Rattle.coe_model.specs.Octets.{body_heard, coe_mail_heard};
 ghost use Rattle.coe_server.specs.Serving.{transfer_of, waiting_mails};
 ghost use Rattle.coe_client.specs.Talk.{service_view, octets_in, is_over};
 ghost use Rattle.coe_law.specs.Mailboxes.{lengths_of};
@@ -44,9 +44,9 @@ fn emergency_read(body: &[u8]) -> Option<ArrayVec<u8, 8>>
 
 // The emergency in a mail, if it is one.
 fn emergency_in(given: &Mail) -> Option<ArrayVec<u8, 8>>
-    requires { IsGiven (mail_heard given.now) }
-    ensures some { IfSome result (λ octets. mail_heard given.now ≡ mail (Emergency octets)) }
-    ensures none { result ≡ None → is_emission (mail_heard given.now) ≡ false }
+    requires { IsGiven (coe_mail_heard given.now) }
+    ensures some { IfSome result (λ octets. coe_mail_heard given.now ≡ mail (Emergency octets)) }
+    ensures none { result ≡ None → is_emission (coe_mail_heard given.now) ≡ false }
 {
     match given.kind {
         Kind::CoE => emergency_read(given.body.as_slice()),
@@ -56,11 +56,11 @@ fn emergency_in(given: &Mail) -> Option<ArrayVec<u8, 8>>
 
 // The client's side hears a mail; an emergency is kept beside it.
 fn hear(client: &mut CoeClient, given: &Mail, emission: &mut Option<Emission>)
-    requires given { IsGiven (mail_heard given.now) }
-    requires awaited { IsAwaited client.old (plain is_emission (mail_heard given.now ∷ [])) }
-    requires one { length (emission_mails emission.old ++ emitted is_emission (mail_heard given.now ∷ [])) ≤ 1 }
-    ensures hears { Hears client.old (plain is_emission (mail_heard given.now ∷ [])) client.new }
-    ensures emission { emission_mails emission.new ≡ emission_mails emission.old ++ emitted is_emission (mail_heard given.now ∷ []) }
+    requires given { IsGiven (coe_mail_heard given.now) }
+    requires awaited { IsAwaited client.old (plain is_emission (coe_mail_heard given.now ∷ [])) }
+    requires one { length (emission_mails emission.old ++ emitted is_emission (coe_mail_heard given.now ∷ [])) ≤ 1 }
+    ensures hears { Hears client.old (plain is_emission (coe_mail_heard given.now ∷ [])) client.new }
+    ensures emission { emission_mails emission.new ≡ emission_mails emission.old ++ emitted is_emission (coe_mail_heard given.now ∷ []) }
 {
     match emergency_in(given) {
         Some(octets) => *emission = Some(Emission::Emergency(octets)),

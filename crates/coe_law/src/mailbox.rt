@@ -1,7 +1,7 @@
 ghost use Rattle.std.specs.Prelude.{◌≡◌, ◌+◌, ◌≤◌, length, IfOk};
 ghost use Rattle.mailbox_mail.specs.Mail.{IsMail};
 ghost use Rattle.mailbox_mail.specs.declared.mail.Kind.TheVariants.{CoE};
-ghost use Rattle.coe_model.specs.Octets.{mail_heard, mail_with};
+ghost use Rattle.coe_model.specs.Octets.{coe_mail_heard, mail_with};
 ghost use Rattle.coe_law.specs.Mailboxes.{empty, counted, posted, lengths_of};
 
 use ec_fields::{NoMemory, buffer_of};
@@ -110,7 +110,7 @@ impl Mailboxes {
         ensures mail { result ≡ counted self.old.back mail }
         ensures area { self.new ≡ record self.old { back = posted self.old.back mail } }
         ensures read { IsMail self.new.back.area result }
-        ensures heard { mail_heard result ≡ mail_heard mail }
+        ensures heard { coe_mail_heard result ≡ coe_mail_heard mail }
         ensures lengths { lengths_of self.new ≡ lengths_of self.old }
     {
         self.inward.carry(mail)

@@ -6,7 +6,7 @@ use Rattle.exchange_model.specs.Dialogue.{next, stop, sent, turn_at}
 use Rattle.exchange_model.proofs.Turns.{sent_onward, sent_over}
 use Rattle.coe_model.specs.Mails.{CoeMail, is_emission}
 use Rattle.coe_model.specs.Tables.{Tables}
-use Rattle.coe_model.specs.Server.{Transfer, Outcome, Server, outcome, goes_on, issued, behind, serve}
+use Rattle.coe_model.specs.Server.{Transfer, Outcome, Server, coe_outcome, goes_on, issued, behind, serve}
 use Rattle.coe_model.specs.Meaning.{Meaning, Service, Reply, meaning_of}
 use Rattle.coe_model.specs.Client.{decide, ends}
 use Rattle.coe_model.specs.Model.{coe_exchange}
@@ -30,7 +30,7 @@ module _ {S : Type 0} (o : Tables S) (eoe : Bool) (areas : Areas) where
   before_none v = record { app = refl; handled = refl; emitted = refl }
 
   -- the one mail of a service, which it answers by a
-  pub carried_one : (v : Server S) (means : Meaning S) (reading : List CoeMail → Option Reply) (m a : CoeMail) (x : Outcome S) → outcome o eoe areas.back v.app v.transfer m ≡ x →
+  pub carried_one : (v : Server S) (means : Meaning S) (reading : List CoeMail → Option Reply) (m a : CoeMail) (x : Outcome S) → coe_outcome o eoe areas.back v.app v.transfer m ≡ x →
       x.counts ≡ true → x.answers ≡ a ∷ [] → is_emission a ≡ false → (issued o x.app x.emission).0 ≡ means.app → (issued o x.app x.emission).1 ≡ means.emits →
       reading (a ∷ []) ≡ Some means.reply → Carried v means reading (m ∷ [])
   carried_one v means reading m a x is counts answers calm app emits reply =
@@ -53,7 +53,7 @@ module _ {S : Type 0} (o : Tables S) (eoe : Bool) (areas : Areas) where
   abbrev pub gone_on : Server S → Transfer → Server S
   gone_on v transfer = record { app = v.app; handled = v.handled; transfer = transfer }
 
-  pub before_more : (v : Server S) (m a : CoeMail) (transfer : Transfer) → outcome o eoe areas.back v.app v.transfer m ≡ goes_on v.app transfer a → is_emission a ≡ false →
+  pub before_more : (v : Server S) (m a : CoeMail) (transfer : Transfer) → coe_outcome o eoe areas.back v.app v.transfer m ≡ goes_on v.app transfer a → is_emission a ≡ false →
       (p : List CoeMail) → Before (coe_exchange o eoe areas) (gone_on v transfer) p → Before (coe_exchange o eoe areas) v (m ∷ p)
   before_more v m a transfer is calm p before =
       let one : serve o eoe areas.back v m ≡ (gone_on v transfer, a ∷ []) = ap (behind o v.handled) is in
@@ -68,7 +68,7 @@ module _ {S : Type 0} (o : Tables S) (eoe : Bool) (areas : Areas) where
   still_none v [] r e = before_none v
   still_none v (k ∷ p) r e = absurd (cc)
 
-  pub still_more : (v : Server S) (m a : CoeMail) (transfer : Transfer) → outcome o eoe areas.back v.app v.transfer m ≡ goes_on v.app transfer a → is_emission a ≡ false →
+  pub still_more : (v : Server S) (m a : CoeMail) (transfer : Transfer) → coe_outcome o eoe areas.back v.app v.transfer m ≡ goes_on v.app transfer a → is_emission a ≡ false →
       (others : List CoeMail) → ((p r : List CoeMail) → others ≡ p ++ r → Before (coe_exchange o eoe areas) (gone_on v transfer) p) →
       (p r : List CoeMail) → m ∷ others ≡ p ++ r → Before (coe_exchange o eoe areas) v p
   still_more v m a transfer is calm others still [] r e = before_none v
@@ -79,7 +79,7 @@ module _ {S : Type 0} (o : Tables S) (eoe : Bool) (areas : Areas) where
 
   -- a mail with which a service goes on, which it answers by a
   pub carried_more : (v : Server S) (means : Meaning S) (reading later : List CoeMail → Option Reply) (m a : CoeMail) (transfer : Transfer) →
-      outcome o eoe areas.back v.app v.transfer m ≡ goes_on v.app transfer a → is_emission a ≡ false → ((hs : List CoeMail) → reading (a ∷ hs) ≡ later hs) →
+      coe_outcome o eoe areas.back v.app v.transfer m ≡ goes_on v.app transfer a → is_emission a ≡ false → ((hs : List CoeMail) → reading (a ∷ hs) ≡ later hs) →
       (ms : List CoeMail) → Carried (gone_on v transfer) means later ms → Carried v means reading (m ∷ ms)
   carried_more v means reading later m a transfer is calm reads ms rest =
       let one : serve o eoe areas.back v m ≡ (gone_on v transfer, a ∷ []) = ap (behind o v.handled) is in
@@ -99,18 +99,18 @@ module _ {S : Type 0} (o : Tables S) (eoe : Bool) (areas : Areas) where
           subst (λ k. Before (coe_exchange o eoe areas) v (k ∷ p)) first (before_more v m a transfer is calm p (rest.late p h r others))
 
   -- how the client goes on behind the one answer to its mail
-  answer_turn : (v : Server S) (m a : CoeMail) (x : Outcome S) → outcome o eoe areas.back v.app v.transfer m ≡ x → x.answers ≡ a ∷ [] → is_emission a ≡ false →
+  answer_turn : (v : Server S) (m a : CoeMail) (x : Outcome S) → coe_outcome o eoe areas.back v.app v.transfer m ≡ x → x.answers ≡ a ∷ [] → is_emission a ≡ false →
       turn_at decide m [] (plain is_emission (serve o eoe areas.back v m).1) ≡ decide m (a ∷ [])
   answer_turn v m a x is answers calm = ap (turn_at decide m [])
       (ap (λ y. plain is_emission (behind o v.handled y).1) is ∙ ap (λ l. plain is_emission (l ++ (issued o x.app x.emission).1)) answers ∙ answer_plain o x.app x.emission a calm)
 
-  pub talk_onward : (turns : ℕ) (v : Server S) (m a : CoeMail) (x : Outcome S) (ms : List CoeMail) → outcome o eoe areas.back v.app v.transfer m ≡ x → x.answers ≡ a ∷ [] → is_emission a ≡ false →
+  pub talk_onward : (turns : ℕ) (v : Server S) (m a : CoeMail) (x : Outcome S) (ms : List CoeMail) → coe_outcome o eoe areas.back v.app v.transfer m ≡ x → x.answers ≡ a ∷ [] → is_emission a ≡ false →
       decide m (a ∷ []) ≡ Some next → talk (suc turns) v (m ∷ ms) ≡ m ∷ talk turns (behind o v.handled x).0 ms
   talk_onward turns v m a x ms is answers calm onward =
       sent_onward (serve o eoe areas.back) is_emission decide turns v m ms (answer_turn v m a x is answers calm ∙ onward)
       ∙ ap (λ y. m ∷ talk turns (behind o v.handled y).0 ms) is
 
-  pub talk_over : (turns : ℕ) (v : Server S) (m a : CoeMail) (x : Outcome S) (ms : List CoeMail) → outcome o eoe areas.back v.app v.transfer m ≡ x → x.answers ≡ a ∷ [] → is_emission a ≡ false →
+  pub talk_over : (turns : ℕ) (v : Server S) (m a : CoeMail) (x : Outcome S) (ms : List CoeMail) → coe_outcome o eoe areas.back v.app v.transfer m ≡ x → x.answers ≡ a ∷ [] → is_emission a ≡ false →
       decide m (a ∷ []) ≡ Some stop → talk (suc turns) v (m ∷ ms) ≡ m ∷ []
   talk_over turns v m a x ms is answers calm over =
       sent_over (serve o eoe areas.back) is_emission decide turns v m ms (answer_turn v m a x is answers calm ∙ over)

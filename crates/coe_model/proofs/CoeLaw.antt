@@ -10,7 +10,7 @@ use Rattle.exchange_model.proofs.Words.{plain_given-append, plain-append}
 use Rattle.exchange_model.proofs.Turns.{follows, all_said, said_more, said_last, sent_last, sent_few, sent_each, each_append_right}
 use Rattle.coe_model.specs.Mails.{CoeMail, mail, Upload, UploadSegment, is_emission}
 use Rattle.coe_model.specs.Tables.{Target, Ask, Tables, AreLawful}
-use Rattle.coe_model.specs.Server.{Emission, emergency, packet, Server, emission_of, issued, serve, one_more, outcome}
+use Rattle.coe_model.specs.Server.{Emission, emergency, packet, Server, emission_of, issued, serve, one_more, coe_outcome}
 use Rattle.coe_model.specs.Meaning.{Service, download, upload, information, download_means, value_means, meaning_of}
 use Rattle.coe_model.specs.Client.{mails_of, decide, ends, requests, download_mails, information_mail}
 use Rattle.coe_model.specs.Model.{turns, planned, full, value_length, coe_exchange}
@@ -189,5 +189,5 @@ module _ {S : Type 0} (o : Tables S) (law : AreLawful o) (eoe : Bool) (areas : A
     all_planned = λ v q ready valid. client_plans v q ready;
     unanswered = λ q hs posts. absurd (cc);
     some = λ v q ready valid posts. absurd (cc);
-    grows = λ v m. more_handled (outcome o eoe areas.back v.app v.transfer m).counts v.handled;
+    grows = λ v m. more_handled (coe_outcome o eoe areas.back v.app v.transfer m).counts v.handled;
   }

@@ -7,7 +7,7 @@ use Rattle.exchange_model.proofs.Turns.{sent_none}
 use Rattle.mailbox_mail.specs.declared.outcome.ReplyKind.{ReplyKind}
 use Rattle.coe_model.specs.Mails.{CoeMail, mail, is_emission, Segment, SegmentAnswer, First, Expedited}
 use Rattle.coe_model.specs.Tables.{Target, Tables, AreLawful}
-use Rattle.coe_model.specs.Server.{idle, downloading, Server, outcome, ended, goes_on, stored, takes_whole, takes_first, takes_segment, begins, download_answer, abort, parts_of, is_expedited, serve}
+use Rattle.coe_model.specs.Server.{idle, downloading, Server, coe_outcome, ended, goes_on, stored, takes_whole, takes_first, takes_segment, begins, download_answer, abort, parts_of, is_expedited, serve}
 use Rattle.coe_model.specs.Meaning.{Reply, download_means}
 use Rattle.coe_model.specs.Client.{decide, segments, download_mails, segments_end, download_ends}
 use Rattle.coe_model.proofs.Basics.{same_itself, is_of_itself, no_parts, one_part, more_parts}
@@ -31,22 +31,22 @@ module _ {S : Type 0} (o : Tables S) (eoe : Bool) (areas : Areas) where
 
   -- the mail that brings the last octets: the tables store the value or refuse it
   whole_carried : (v : Server S) (t : Target) (bytes : List ℕ) (reading : List CoeMail → Option Reply) (m : CoeMail) (a : CoeMail) →
-      outcome o eoe areas.back v.app v.transfer m ≡ takes_whole o eoe v.app t bytes a → is_emission a ≡ false →
+      coe_outcome o eoe areas.back v.app v.transfer m ≡ takes_whole o eoe v.app t bytes a → is_emission a ≡ false →
       reading (a ∷ []) ≡ Some (ReplyKind.Done, []) → ((code : ℕ) → reading (abort t code ∷ []) ≡ Some (ReplyKind.Abort code, [])) →
       Carried o eoe areas v (download_means o eoe v.app t bytes (o.download v.app t bytes)) reading (m ∷ [])
   whole_carried v t bytes reading m a is calm done fails = by_answer (o.download v.app t bytes) is
     where
-      by_answer : (r : Result S ℕ) → outcome o eoe areas.back v.app v.transfer m ≡ stored eoe v.app t bytes a r →
+      by_answer : (r : Result S ℕ) → coe_outcome o eoe areas.back v.app v.transfer m ≡ stored eoe v.app t bytes a r →
           Carried o eoe areas v (download_means o eoe v.app t bytes r) reading (m ∷ [])
       by_answer (Ok changed) e = carried_one o eoe areas v (download_means o eoe v.app t bytes (Ok changed)) reading m a (stored eoe v.app t bytes a (Ok changed)) e refl refl calm refl refl done
       by_answer (Err code) e = carried_one o eoe areas v (download_means o eoe v.app t bytes (Err code)) reading m (abort t code) (stored eoe v.app t bytes a (Err code)) e refl refl refl refl refl (fails code)
 
   -- behind it the client has nothing to send
-  whole_talk : (turns : ℕ) (v : Server S) (t : Target) (bytes : List ℕ) (m : CoeMail) (a : CoeMail) → outcome o eoe areas.back v.app v.transfer m ≡ takes_whole o eoe v.app t bytes a →
+  whole_talk : (turns : ℕ) (v : Server S) (t : Target) (bytes : List ℕ) (m : CoeMail) (a : CoeMail) → coe_outcome o eoe areas.back v.app v.transfer m ≡ takes_whole o eoe v.app t bytes a →
       is_emission a ≡ false → decide m (a ∷ []) ≡ Some next → talk o eoe areas (suc turns) v (m ∷ []) ≡ m ∷ []
   whole_talk turns v t bytes m a is calm onward = by_answer (o.download v.app t bytes) is
     where
-      by_answer : (r : Result S ℕ) → outcome o eoe areas.back v.app v.transfer m ≡ stored eoe v.app t bytes a r → talk o eoe areas (suc turns) v (m ∷ []) ≡ m ∷ []
+      by_answer : (r : Result S ℕ) → coe_outcome o eoe areas.back v.app v.transfer m ≡ stored eoe v.app t bytes a r → talk o eoe areas (suc turns) v (m ∷ []) ≡ m ∷ []
       by_answer (Ok changed) e = talk_onward o eoe areas turns v m a (stored eoe v.app t bytes a (Ok changed)) [] e refl calm onward
           ∙ ap (λ l. m ∷ l) (sent_none (serve o eoe areas.back) is_emission decide turns _)
       by_answer (Err code) e = talk_over o eoe areas turns v m (abort t code) (stored eoe v.app t bytes a (Err code)) [] e refl refl refl
@@ -153,7 +153,7 @@ module _ {S : Type 0} (o : Tables S) (eoe : Bool) (areas : Areas) where
   Downloads v t bytes ms = Carried o eoe areas v (download_means o eoe v.app t bytes (o.download v.app t bytes)) (download_ends areas.out t bytes) ms
 
   one_mail : (turns : ℕ) (v : Server S) (t : Target) (bytes : List ℕ) (m : CoeMail) → 20 ≤ areas.out → length bytes ≤ areas.out - 16 →
-      outcome o eoe areas.back v.app v.transfer m ≡ takes_whole o eoe v.app t bytes (download_answer t) → Downloads v t bytes (talk o eoe areas (suc turns) v (m ∷ []))
+      coe_outcome o eoe areas.back v.app v.transfer m ≡ takes_whole o eoe v.app t bytes (download_answer t) → Downloads v t bytes (talk o eoe areas (suc turns) v (m ∷ []))
   one_mail turns v t bytes m long fits is =
       subst (Downloads v t bytes) (sym (whole_talk turns v t bytes m (download_answer t) is refl refl))
       (whole_carried v t bytes (download_ends areas.out t bytes) m (download_answer t) is refl (first_done areas.out t bytes long fits) (λ code. refl))

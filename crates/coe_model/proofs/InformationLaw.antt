@@ -8,7 +8,7 @@ use Rattle.exchange_model.proofs.Turns.{sent_waits}
 use Rattle.mailbox_mail.specs.declared.outcome.ReplyKind.{ReplyKind}
 use Rattle.coe_model.specs.Mails.{CoeMail, mail, is_emission, Information, InformationError}
 use Rattle.coe_model.specs.Tables.{Ask, list, object, entry, Tables, AreLawful}
-use Rattle.coe_model.specs.Server.{Server, outcome, ended, informed, information_parts, parts_of, answer_opcode, behind, serve}
+use Rattle.coe_model.specs.Server.{Server, coe_outcome, ended, informed, information_parts, parts_of, answer_opcode, behind, serve}
 use Rattle.coe_model.specs.Meaning.{information, value_means}
 use Rattle.coe_model.specs.Client.{decide, information_mail, information_ends}
 use Rattle.coe_model.specs.Model.{coe_exchange}
@@ -86,7 +86,7 @@ parts_read (suc fuel) opcode part got rest some enough few = elim (cases_lt part
 ]
 
 module _ {S : Type 0} (o : Tables S) (eoe : Bool) (areas : Areas) where
-  asked : (v : Server S) (a : Ask) → outcome o eoe areas.back v.app v.transfer (information_mail a) ≡ informed areas.back v.app v.transfer a (o.info v.app a)
+  asked : (v : Server S) (a : Ask) → coe_outcome o eoe areas.back v.app v.transfer (information_mail a) ≡ informed areas.back v.app v.transfer a (o.info v.app a)
   asked v (list kind) = refl
   asked v (object index) = refl
   asked v (entry index sub info) = refl
@@ -132,7 +132,7 @@ module _ {S : Type 0} (o : Tables S) (eoe : Bool) (areas : Areas) where
       Kept o eoe areas v (information a) 1 (talk o eoe areas (suc turns) v (information_mail a ∷ []))
   information_by turns v a (Err code) is wide few =
       let e = mail (InformationError code) in
-      let takes : outcome o eoe areas.back v.app v.transfer (information_mail a) ≡ ended v.app v.transfer e = asked v a ∙ ap (informed areas.back v.app v.transfer a) is in
+      let takes : coe_outcome o eoe areas.back v.app v.transfer (information_mail a) ≡ ended v.app v.transfer e = asked v a ∙ ap (informed areas.back v.app v.transfer a) is in
       subst (Kept o eoe areas v (information a) 1) (sym (talk_over o eoe areas turns v (information_mail a) e (ended v.app v.transfer e) [] takes refl refl refl))
       (kept_from_carried o eoe areas v (information a) 1 (information_mail a ∷ []) (omega arith)
       (subst (λ r. Carried o eoe areas v (value_means v.app r) (information_ends (answer_opcode a) []) (information_mail a ∷ [])) (sym is)
@@ -151,7 +151,7 @@ module _ {S : Type 0} (o : Tables S) (eoe : Bool) (areas : Areas) where
   -- the answers to a request leave nothing undecided, and are some
   decides_by : (v : Server S) (a : Ask) (r : Result (List ℕ) ℕ) → o.info v.app a ≡ r → rest_at decide (information_mail a) [] (plain is_emission (serve o eoe areas.back v (information_mail a)).1) ≡ []
   decides_by v a (Err code) is =
-      let takes : outcome o eoe areas.back v.app v.transfer (information_mail a) ≡ ended v.app v.transfer (mail (InformationError code)) = asked v a ∙ ap (informed areas.back v.app v.transfer a) is in
+      let takes : coe_outcome o eoe areas.back v.app v.transfer (information_mail a) ≡ ended v.app v.transfer (mail (InformationError code)) = asked v a ∙ ap (informed areas.back v.app v.transfer a) is in
       ap (λ y. rest_at decide (information_mail a) [] (plain is_emission (behind o v.handled y).1)) takes
   decides_by v a (Ok bytes) is = ap (λ y. rest_at decide (information_mail a) [] (plain is_emission y.1)) (informs v a bytes is)
       ∙ ap (rest_at decide (information_mail a) []) (parts_plain (answer bytes a) (answer_all bytes a)) ∙ parts_rest (information_mail a) (answer bytes a) (answer_all bytes a)

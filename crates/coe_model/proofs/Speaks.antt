@@ -9,7 +9,7 @@ use Rattle.exchange_model.specs.Lifted.{EachOf}
 use Rattle.exchange_model.proofs.Words.{plain-append}
 use Rattle.coe_model.specs.Mails.{Coe, CoeMail, mail, unread, failed, fragment, other, is_emission, Expedited, First, Upload, Segment, UploadSegment, FirstAnswer, UploadSegmentAnswer}
 use Rattle.coe_model.specs.Tables.{Target, Tables}
-use Rattle.coe_model.specs.Server.{Transfer, idle, downloading, uploading, Outcome, Server, outcome, stored, begins, takes_first, takes_segment, takes_upload_segment, opened, is_expedited, download_answer, same, issued, serve}
+use Rattle.coe_model.specs.Server.{Transfer, idle, downloading, uploading, Outcome, Server, coe_outcome, stored, begins, takes_first, takes_segment, takes_upload_segment, opened, is_expedited, download_answer, same, issued, serve}
 use Rattle.coe_model.specs.Client.{decide, turn_of, segments, download_mails, requests}
 use Rattle.coe_model.proofs.Basics.{answer_plain}
 
@@ -70,7 +70,7 @@ module _ {S : Type 0} (o : Tables S) (eoe : Bool) (areas : Areas) where
       either (not (same expected toggle)) _ _ (record { answer = _; is = refl; calm = refl })
       (either (nat_le (length rest) (areas.back - 9)) _ _ (record { answer = _; is = refl; calm = refl }) (record { answer = _; is = refl; calm = refl }))
 
-  speaks : (v : Server S) (m : CoeMail) → is_request m ≡ true → Speaks (outcome o eoe areas.back v.app v.transfer m)
+  speaks : (v : Server S) (m : CoeMail) → is_request m ≡ true → Speaks (coe_outcome o eoe areas.back v.app v.transfer m)
   speaks v (mail (Expedited index sub all bytes)) e =
       let t : Target = record { index = index; sub = sub; all = all } in by_stored v.app t bytes.items (download_answer t) refl (o.download v.app t bytes.items)
   speaks v (mail (First index sub all size bytes)) e = by_first v.app (record { index = index; sub = sub; all = all }) size bytes.items
@@ -82,7 +82,7 @@ module _ {S : Type 0} (o : Tables S) (eoe : Bool) (areas : Areas) where
   -- the one reply
   pub one_reply : (v : Server S) (m : CoeMail) → is_request m ≡ true → (a : CoeMail) × (plain is_emission (serve o eoe areas.back v m).1 ≡ a ∷ [])
   one_reply v m e =
-      let x = outcome o eoe areas.back v.app v.transfer m in
+      let x = coe_outcome o eoe areas.back v.app v.transfer m in
       let s = speaks v m e in
       (s.answer, ap (λ l. plain is_emission (l ++ (issued o x.app x.emission).1)) s.is ∙ answer_plain o x.app x.emission s.answer s.calm)
 

@@ -9,11 +9,11 @@ use Rattle.exchange_model.specs.Lifted.{EachOf, Spells}
 use Rattle.exchange_model.proofs.Turns.{sent_each, never_at, sent_last}
 use Rattle.coe_model.specs.Mails.{CoeMail, mail, fragment, is_emission, Expedited, First, Upload, Segment, SegmentAnswer, UploadSegment, Abort}
 use Rattle.coe_model.specs.Tables.{Target, Ask, list, object, entry, Tables, AreLawful}
-use Rattle.coe_model.specs.Server.{Transfer, idle, downloading, uploading, Emission, emergency, packet, Outcome, Server, outcome, ended, abort, stored, begins, takes_first, takes_segment, takes_upload_segment, opened, is_expedited, informed, information_parts, parts_of, answer_opcode, download_answer, emission_of, issued, serve, same}
+use Rattle.coe_model.specs.Server.{Transfer, idle, downloading, uploading, Emission, emergency, packet, Outcome, Server, coe_outcome, ended, abort, stored, begins, takes_first, takes_segment, takes_upload_segment, opened, is_expedited, informed, information_parts, parts_of, answer_opcode, download_answer, emission_of, issued, serve, same}
 use Rattle.coe_model.specs.Meaning.{Service, download, upload, information}
 use Rattle.coe_model.specs.Client.{decide, segments, download_mails, requests, mails_of, information_mail}
 use Rattle.coe_model.specs.Model.{is_target, is_service, are_octets, turns, full, coe_exchange}
-use Rattle.coe_model.specs.Octets.{is_fragment, AreSpelled, mail_heard, mail_written}
+use Rattle.coe_model.specs.Octets.{is_fragment, AreSpelled, coe_mail_heard, coe_mail_written}
 use Rattle.coe_model.proofs.Spelling.{IsSpelled, all_read_back}
 use Rattle.coe_model.proofs.Speaks.{never}
 use Rattle.coe_model.proofs.CoeLaw.{issued_valid}
@@ -158,7 +158,7 @@ module _ {S : Type 0} (o : Tables S) (law : AreLawful o) (spelled : AreSpelled o
   IsNext (mail (UploadSegment toggle)) = Unit {0}
   IsNext _ = ⊥
 
-  initiated : (v : Server S) → o.valid v.app ≡ true → (m : CoeMail) → IsInitiate m → IsSound o (outcome o eoe areas.back v.app v.transfer m)
+  initiated : (v : Server S) → o.valid v.app ≡ true → (m : CoeMail) → IsInitiate m → IsSound o (coe_outcome o eoe areas.back v.app v.transfer m)
   initiated v good (mail (Expedited index sub all bytes)) index_fits =
       let t : Target = record { index = index; sub = sub; all = all } in by_stored v.app good t bytes.items (download_answer t) index_fits (tt, index_fits, tt) (o.download v.app t bytes.items) refl
   initiated v good (mail (First index sub all size bytes)) index_fits = by_first v.app good (record { index = index; sub = sub; all = all }) size bytes.items index_fits
@@ -166,7 +166,7 @@ module _ {S : Type 0} (o : Tables S) (law : AreLawful o) (spelled : AreSpelled o
       let t : Target = record { index = index; sub = sub; all = all } in by_opened v.app good t index_fits (o.upload v.app t) refl
   initiated v good _ none = absurd none
 
-  went_on : (v : Server S) → o.valid v.app ≡ true → (m : CoeMail) → IsSoundTransfer v.transfer → IsNext m → IsSound o (outcome o eoe areas.back v.app v.transfer m)
+  went_on : (v : Server S) → o.valid v.app ≡ true → (m : CoeMail) → IsSoundTransfer v.transfer → IsNext m → IsSound o (coe_outcome o eoe areas.back v.app v.transfer m)
   went_on v good (mail (Segment toggle last bytes)) sound is = by_segment v.app good v.transfer toggle last bytes.items sound
   went_on v good (mail (UploadSegment toggle)) sound is = by_upload_segment v.app good v.transfer toggle sound
   went_on v good _ sound none = absurd none
@@ -182,7 +182,7 @@ module _ {S : Type 0} (o : Tables S) (law : AreLawful o) (spelled : AreSpelled o
   next_spelled : (v : Server S) → o.valid v.app ≡ true → (ms : List CoeMail) → IsSoundTransfer v.transfer → EachOf IsNext ms → EachOf IsSpelled (given (serve o eoe areas.back) v ms)
   next_spelled v good [] sound all = tt
   next_spelled v good (m ∷ ms) sound all =
-      let x = outcome o eoe areas.back v.app v.transfer m in
+      let x = coe_outcome o eoe areas.back v.app v.transfer m in
       let ok = went_on v good m sound all.0 in
       each_append IsSpelled (x.answers ++ (issued o x.app x.emission).1) _ (gives_spelled x ok) (next_spelled (serve o eoe areas.back v m).0 (issued_valid o law eoe areas sized x.app x.emission ok.valid) ms ok.transfer all.1)
 
@@ -194,7 +194,7 @@ module _ {S : Type 0} (o : Tables S) (law : AreLawful o) (spelled : AreSpelled o
   sdo_given : (v : Server S) → o.valid v.app ≡ true → (ms : List CoeMail) → AreSdo ms → EachOf IsSpelled (given (serve o eoe areas.back) v ms)
   sdo_given v good [] all = tt
   sdo_given v good (m ∷ ms) all =
-      let x = outcome o eoe areas.back v.app v.transfer m in
+      let x = coe_outcome o eoe areas.back v.app v.transfer m in
       let ok = initiated v good m all.0 in
       each_append IsSpelled (x.answers ++ (issued o x.app x.emission).1) _ (gives_spelled x ok) (next_spelled (serve o eoe areas.back v m).0 (issued_valid o law eoe areas sized x.app x.emission ok.valid) ms ok.transfer all.1)
 
@@ -306,7 +306,7 @@ module _ {S : Type 0} (o : Tables S) (law : AreLawful o) (spelled : AreSpelled o
   given_spelled v (information a) good e =
       subst (λ ms. EachOf IsSpelled (given (serve o eoe areas.back) v ms)) (sym (sent_last decide never (serve o eoe areas.back) is_emission 2 v (information_mail a))) (ask_given v good a)
 
-  pub coe_spells : Spells (coe_exchange o eoe areas) mail_heard mail_written
+  pub coe_spells : Spells (coe_exchange o eoe areas) coe_mail_heard coe_mail_written
   coe_spells = record {
     told = λ v q ready valid. all_read_back (full o eoe areas v q) (full_spelled v q valid);
     answered = λ v q ready valid. all_read_back (given (serve o eoe areas.back) v (full o eoe areas v q)) (given_spelled v q ready valid);

@@ -5,7 +5,7 @@ use Rattle.coe_codec.proofs.Spelled.{write-spelled}
 use Rattle.coe_codec.proofs.Only.{read-only}
 use Rattle.exchange_model.specs.Lifted.{EachOf, ReadsBack}
 use Rattle.coe_model.specs.Mails.{CoeMail, mail, unread, failed, fragment, other, other}
-use Rattle.coe_model.specs.Octets.{is_fragment, heard, mail_heard, mail_written}
+use Rattle.coe_model.specs.Octets.{is_fragment, heard, coe_mail_heard, coe_mail_written}
 
 -- a mail that has a spelling
 abbrev pub IsSpelled : CoeMail → Type 0
@@ -15,7 +15,7 @@ IsSpelled (failed detail) = detail < 65536
 IsSpelled (fragment body) = is_fragment body ≡ true
 IsSpelled (other body) = Unit {0}
 
-pub reads_back : (m : CoeMail) → IsSpelled m → ReadsBack mail_heard mail_written m
+pub reads_back : (m : CoeMail) → IsSpelled m → ReadsBack coe_mail_heard coe_mail_written m
 reads_back (mail c) s = ap (heard (coe_text c)) (read-only (coe_text c) c (write-spelled c s.0 s.1 s.2))
 reads_back (unread fault service index sub) s = absurd s
 reads_back (failed detail) s = ap failed (two detail s)
@@ -25,6 +25,6 @@ reads_back (failed detail) s = ap failed (two detail s)
 reads_back (fragment body) s = rw s refl
 reads_back (other body) s = refl
 
-pub all_read_back : (ms : List CoeMail) → EachOf IsSpelled ms → EachOf (ReadsBack mail_heard mail_written) ms
+pub all_read_back : (ms : List CoeMail) → EachOf IsSpelled ms → EachOf (ReadsBack coe_mail_heard coe_mail_written) ms
 all_read_back [] all = tt
 all_read_back (m ∷ ms) all = (reads_back m all.0, all_read_back ms all.1)

@@ -7,7 +7,7 @@ use Rattle.exchange_model.specs.Dialogue.{next, stop}
 use Rattle.mailbox_mail.specs.declared.outcome.ReplyKind.{ReplyKind}
 use Rattle.coe_model.specs.Mails.{CoeMail, mail, is_emission, Upload, ExpeditedAnswer, FirstAnswer, UploadSegment, UploadSegmentAnswer}
 use Rattle.coe_model.specs.Tables.{Target, Tables}
-use Rattle.coe_model.specs.Server.{idle, uploading, Server, outcome, ended, goes_on, opened, takes_upload_segment, abort, is_expedited, behind, serve}
+use Rattle.coe_model.specs.Server.{idle, uploading, Server, coe_outcome, ended, goes_on, opened, takes_upload_segment, abort, is_expedited, behind, serve}
 use Rattle.coe_model.specs.Meaning.{upload, value_means, meaning_of}
 use Rattle.coe_model.specs.Client.{decide, requests, parts_end, upload_ends, most}
 use Rattle.coe_model.specs.Model.{coe_exchange, value_length}
@@ -130,7 +130,7 @@ module _ {S : Type 0} (o : Tables S) (eoe : Bool) (areas : Areas) where
       is_emission a ≡ false → decide (request t) (a ∷ []) ≡ Some stop → (value_means v.app r).app ≡ v.app → (value_means v.app r).emits ≡ [] →
       upload_ends t (a ∷ []) ≡ Some (value_means v.app r).reply → 1 ≤ most → Kept o eoe areas v (upload t) most (talk o eoe areas (suc turns) v (request t ∷ ms))
   one_kept turns most v t ms r a is opens calm stops app emits reads least =
-      let takes : outcome o eoe areas.back v.app v.transfer (request t) ≡ ended v.app idle a = ap (opened areas.back v.app t) is ∙ opens in
+      let takes : coe_outcome o eoe areas.back v.app v.transfer (request t) ≡ ended v.app idle a = ap (opened areas.back v.app t) is ∙ opens in
       subst (Kept o eoe areas v (upload t) most) (sym (talk_over o eoe areas turns v (request t) a (ended v.app idle a) ms takes refl calm stops))
       (kept_from_carried o eoe areas v (upload t) most (request t ∷ []) least
       (subst (λ r. Carried o eoe areas v (value_means v.app r) (upload_ends t) (request t ∷ [])) (sym is)
@@ -144,7 +144,7 @@ module _ {S : Type 0} (o : Tables S) (eoe : Bool) (areas : Areas) where
       let a = mail (FirstAnswer t.index t.sub (length bytes) (record { items = take (areas.back - 16) bytes })) in
       let transfer = uploading t rest false in
       let w = in_upload v.app (suc v.handled) t rest false in
-      let takes : outcome o eoe areas.back v.app v.transfer (request t) ≡ ended v.app transfer a = ap (opened areas.back v.app t) is ∙ opened_part v.app t bytes long more in
+      let takes : coe_outcome o eoe areas.back v.app v.transfer (request t) ≡ ended v.app transfer a = ap (opened areas.back v.app t) is ∙ opened_part v.app t bytes long more in
       let one : serve o eoe areas.back v (request t) ≡ (w, a ∷ []) = ap (behind o v.handled) takes in
       let first : length (take (areas.back - 16) bytes) < length bytes = omega (arith, length-take (areas.back - 16) bytes) in
       let goes : decide (request t) (a ∷ []) ≡ Some next = rw (lt-ltb (length (take (areas.back - 16) bytes)) (length bytes) first) refl in

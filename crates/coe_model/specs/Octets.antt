@@ -39,19 +39,19 @@ by_kind Error body = if is_error body then failed (number_at 2 body 2) else othe
 by_kind EoE body = if is_fragment body then fragment body else other body
 by_kind _ body = other body
 
-abbrev pub mail_heard : Mail → CoeMail
-mail_heard m = by_kind m.kind m.body.items
+abbrev pub coe_mail_heard : Mail → CoeMail
+coe_mail_heard m = by_kind m.kind m.body.items
 
 -- a mail with this body, to nobody and not yet counted
 abbrev pub mail_with : Kind → List ℕ → Mail
 mail_with kind body = record { address = 0; kind = kind; counter = 0; body = record { items = body } }
 
-abbrev pub mail_written : CoeMail → Mail
-mail_written (mail c) = mail_with CoE (coe_text c)
-mail_written (unread fault service index sub) = mail_with CoE []
-mail_written (failed detail) = error_of detail
-mail_written (fragment body) = mail_with EoE body
-mail_written (other body) = mail_with VoE body
+abbrev pub coe_mail_written : CoeMail → Mail
+coe_mail_written (mail c) = mail_with CoE (coe_text c)
+coe_mail_written (unread fault service index sub) = mail_with CoE []
+coe_mail_written (failed detail) = error_of detail
+coe_mail_written (fragment body) = mail_with EoE body
+coe_mail_written (other body) = mail_with VoE body
 
 -- what a server needs of the tables besides, so that each answer has a spelling
 pub record AreSpelled {S : Type 0} (o : Tables S) : Type 0 where
@@ -67,4 +67,4 @@ pub record AreSpelled {S : Type 0} (o : Tables S) : Type 0 where
 
 -- CoE as an exchange of mailbox mails
 abbrev pub coe_mail_exchange : {S : Type 0} → Tables S → Bool → Areas → Exchange (Server S) S Mail Service Reply
-coe_mail_exchange o eoe areas = lifted (coe_exchange o eoe areas) mail_heard mail_written
+coe_mail_exchange o eoe areas = lifted (coe_exchange o eoe areas) coe_mail_heard coe_mail_written

@@ -149,27 +149,27 @@ takes_unread app transfer Size service index sub =
     if service == 1 || service == 3 then ended app transfer (failed 4) else ended app transfer (failed 8)
 
 -- room is the length of the mailbox that the answers go through
-abbrev pub takes : {S : Type 0} → Tables S → Bool → ℕ → S → Transfer → Coe → Outcome S
-takes o eoe room app transfer (Expedited index sub all bytes) =
+abbrev pub coe_takes : {S : Type 0} → Tables S → Bool → ℕ → S → Transfer → Coe → Outcome S
+coe_takes o eoe room app transfer (Expedited index sub all bytes) =
     let t : Target = record { index = index; sub = sub; all = all } in takes_whole o eoe app t bytes.items (download_answer t)
-takes o eoe room app transfer (First index sub all size bytes) = takes_first o eoe app (record { index = index; sub = sub; all = all }) size bytes.items
-takes o eoe room app transfer (Segment toggle last bytes) = takes_segment o eoe app transfer toggle last bytes.items
-takes o eoe room app transfer (Upload index sub all) = let t : Target = record { index = index; sub = sub; all = all } in opened room app t (o.upload app t)
-takes o eoe room app transfer (UploadSegment toggle) = takes_upload_segment room app transfer toggle
-takes o eoe room app transfer (Abort index sub code) = silent app idle
-takes o eoe room app transfer (ListRequest kind) = takes_ask o room app transfer (list kind)
-takes o eoe room app transfer (ObjectRequest index) = takes_ask o room app transfer (object index)
-takes o eoe room app transfer (EntryRequest index sub info) = takes_ask o room app transfer (entry index sub info)
-takes o eoe room app transfer (Information opcode incomplete left bytes) = unknown_command app transfer true 0 0
-takes o eoe room app transfer (InformationError code) = unknown_command app transfer true 0 0
-takes o eoe room app transfer _ = ended app transfer (failed 4)
+coe_takes o eoe room app transfer (First index sub all size bytes) = takes_first o eoe app (record { index = index; sub = sub; all = all }) size bytes.items
+coe_takes o eoe room app transfer (Segment toggle last bytes) = takes_segment o eoe app transfer toggle last bytes.items
+coe_takes o eoe room app transfer (Upload index sub all) = let t : Target = record { index = index; sub = sub; all = all } in opened room app t (o.upload app t)
+coe_takes o eoe room app transfer (UploadSegment toggle) = takes_upload_segment room app transfer toggle
+coe_takes o eoe room app transfer (Abort index sub code) = silent app idle
+coe_takes o eoe room app transfer (ListRequest kind) = takes_ask o room app transfer (list kind)
+coe_takes o eoe room app transfer (ObjectRequest index) = takes_ask o room app transfer (object index)
+coe_takes o eoe room app transfer (EntryRequest index sub info) = takes_ask o room app transfer (entry index sub info)
+coe_takes o eoe room app transfer (Information opcode incomplete left bytes) = unknown_command app transfer true 0 0
+coe_takes o eoe room app transfer (InformationError code) = unknown_command app transfer true 0 0
+coe_takes o eoe room app transfer _ = ended app transfer (failed 4)
 
-abbrev pub outcome : {S : Type 0} → Tables S → Bool → ℕ → S → Transfer → CoeMail → Outcome S
-outcome o eoe room app transfer (mail c) = takes o eoe room app transfer c
-outcome o eoe room app transfer (unread fault service index sub) = takes_unread app transfer fault service index sub
-outcome o eoe room app transfer (failed detail) = silent app transfer
-outcome o eoe room app transfer (fragment body) = silent app transfer
-outcome o eoe room app transfer (other body) = silent app transfer
+abbrev pub coe_outcome : {S : Type 0} → Tables S → Bool → ℕ → S → Transfer → CoeMail → Outcome S
+coe_outcome o eoe room app transfer (mail c) = coe_takes o eoe room app transfer c
+coe_outcome o eoe room app transfer (unread fault service index sub) = takes_unread app transfer fault service index sub
+coe_outcome o eoe room app transfer (failed detail) = silent app transfer
+coe_outcome o eoe room app transfer (fragment body) = silent app transfer
+coe_outcome o eoe room app transfer (other body) = silent app transfer
 
 -- a server, with the number of services that it has carried out
 pub record Server (S : Type 0) : Type 0 where
@@ -195,4 +195,4 @@ behind o handled x = (
 
 -- one mail taken: the server behind it, and what it gives
 abbrev pub serve : {S : Type 0} → Tables S → Bool → ℕ → Server S → CoeMail → Server S × List CoeMail
-serve o eoe room v m = behind o v.handled (outcome o eoe room v.app v.transfer m)
+serve o eoe room v m = behind o v.handled (coe_outcome o eoe room v.app v.transfer m)

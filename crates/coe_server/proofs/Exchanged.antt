@@ -2,15 +2,15 @@
 use Rattle.std.proofs.Common.{◌≡◌, ℕ, Bool, List, ap, ◌∙◌, map}
 use Rattle.mailbox_mail.specs.declared.mail.Kind.TheVariants.{CoE}
 use Rattle.coe_model.specs.Tables.{Tables}
-use Rattle.coe_model.specs.Server.{Transfer, Outcome, Server, outcome, behind}
+use Rattle.coe_model.specs.Server.{Transfer, Outcome, Server, coe_outcome, behind}
 use Rattle.exchange_model.specs.Areas.{Areas}
-use Rattle.coe_model.specs.Octets.{body_heard, mail_written, mail_with, coe_mail_exchange}
+use Rattle.coe_model.specs.Octets.{body_heard, coe_mail_written, mail_with, coe_mail_exchange}
 use Rattle.coe_server.specs.Serving.{Serving, transfer_of, outcome_of, served_of}
 
 pub exchanged : {S : Type 0} (o : Tables S) (areas : Areas) (v : Server S) (old new : Serving) (app : S) (counts : Bool) (body : List ℕ) → v.transfer ≡ transfer_of old → areas.back ≡ old.room →
-    outcome o old.eoe old.room v.app (transfer_of old) (body_heard body) ≡ outcome_of app new counts →
+    coe_outcome o old.eoe old.room v.app (transfer_of old) (body_heard body) ≡ outcome_of app new counts →
     (coe_mail_exchange o old.eoe areas).serve v (mail_with CoE body) ≡ served_of o app v.handled new counts
 exchanged {S} o areas v old new app counts body transfer back does =
-    let is : outcome o old.eoe areas.back v.app v.transfer (body_heard body) ≡ outcome_of app new counts =
-    ap (λ (t : Transfer). outcome o old.eoe areas.back v.app t (body_heard body)) transfer ∙ ap (λ n. outcome o old.eoe n v.app (transfer_of old) (body_heard body)) back ∙ does in
-    ap (λ (x : Outcome S). ((behind o v.handled x).0, map mail_written (behind o v.handled x).1)) is
+    let is : coe_outcome o old.eoe areas.back v.app v.transfer (body_heard body) ≡ outcome_of app new counts =
+    ap (λ (t : Transfer). coe_outcome o old.eoe areas.back v.app t (body_heard body)) transfer ∙ ap (λ n. coe_outcome o old.eoe n v.app (transfer_of old) (body_heard body)) back ∙ does in
+    ap (λ (x : Outcome S). ((behind o v.handled x).0, map coe_mail_written (behind o v.handled x).1)) is

@@ -7,7 +7,7 @@ use Rattle.coe_model.specs.Tables as Tables
 use Rattle.coe_model.specs.Server.{Transfer, idle, downloading, uploading, Emission, emergency, packet, Outcome, Server, issued, one_more, information_parts}
 pub use Rattle.object_dictionary.specs.Entries.{Stores}
 use Rattle.mailbox_mail.specs.declared.mail.Mail.{Mail}
-use Rattle.coe_model.specs.Octets.{mail_heard, mail_written}
+use Rattle.coe_model.specs.Octets.{coe_mail_heard, coe_mail_written}
 use Rattle.coe_server.specs.declared.dictionary.Target.{Target}
 use Rattle.coe_server.specs.declared.dictionary.Question.{Question}
 use Rattle.coe_server.specs.declared.state.State.{State}
@@ -135,8 +135,8 @@ reply_mail (Err detail) = failed detail
 -- the first of the mails that wait, in its one spelling, which reads as it
 pub record GivesNext (old : Serving) (written : Mail) (new : Serving) : Type 0 where
   pub first : CoeMail
-  pub spelled : written ≡ mail_written first
-  pub heard : mail_heard written ≡ first
+  pub spelled : written ≡ coe_mail_written first
+  pub heard : coe_mail_heard written ≡ first
   pub rest : waiting_mails old ≡ first ∷ waiting_mails new
 
 -- a server's message is short enough for the mailbox
@@ -156,5 +156,5 @@ IsShort room _ = ⊥
 abbrev pub served_of : {S : Type 0} → Tables.Tables S → S → ℕ → Serving → Bool → Server S × List Mail
 served_of o app handled c counts = (
   record { app = (issued o app (emission_view c.emitted c.octets)).0; handled = one_more counts handled; transfer = transfer_of c },
-  map mail_written (answers_of c ++ (issued o app (emission_view c.emitted c.octets)).1),
+  map coe_mail_written (answers_of c ++ (issued o app (emission_view c.emitted c.octets)).1),
 )

@@ -1,7 +1,7 @@
 ghost use Rattle.std.specs.Prelude.{◌≡◌, ◌≢◌, ◌≤◌, ◌<◌, ◌+◌, ◌-◌, ◌↔◌, List, [], ◌∷◌, ◌++◌, true, false, length, drop, take, Some, None, IfOk};
 ghost use Rattle.std.specs.Bool.{OnTrue, OnFalse};
 ghost use Rattle.coe_codec.specs.Writing.{HasSpelling};
-ghost use Rattle.coe_model.specs.Octets.{mail_heard, mail_written};
+ghost use Rattle.coe_model.specs.Octets.{coe_mail_heard, coe_mail_written};
 ghost use Rattle.coe_model.specs.Mails.{mail, failed};
 ghost use Rattle.coe_server.specs.Serving.{Serving, transfer_of, answers_of, waiting_mails, emergencies, emission_view, pending_mails, reply_mail, IsShort, GivesNext};
 
@@ -16,8 +16,8 @@ use mailbox_mail::{Kind, Mail, error_mail};
 // The mail of a message, to nobody and not yet counted.
 fn written(message: &Coe) -> Mail
     requires { HasSpelling message.now }
-    ensures spelled { result ≡ mail_written (mail message.now) }
-    ensures heard { mail_heard result ≡ mail message.now }
+    ensures spelled { result ≡ coe_mail_written (mail message.now) }
+    ensures heard { coe_mail_heard result ≡ mail message.now }
 {
     let mut body = ArrayVec::new();
     coe_codec::write(message, &mut body);
@@ -31,8 +31,8 @@ fn written(message: &Coe) -> Mail
 
 // The mail of a mailbox error.
 fn failed_mail(detail: u16) -> Mail
-    ensures spelled { result ≡ mail_written (failed detail) }
-    ensures heard { mail_heard result ≡ failed detail }
+    ensures spelled { result ≡ coe_mail_written (failed detail) }
+    ensures heard { coe_mail_heard result ≡ failed detail }
 {
     error_mail(detail)
 }

@@ -4,7 +4,7 @@ ghost use Rattle.exchange_model.specs.Areas.{Areas};
 ghost use Rattle.exchange_model.specs.Lifted.{EachOf};
 ghost use Rattle.mailbox_mail.specs.declared.mail.Kind.TheVariants.{CoE};
 ghost use Rattle.coe_model.specs.Tables.{Tables, AreLawful};
-ghost use Rattle.coe_model.specs.Server.{Server, outcome};
+ghost use Rattle.coe_model.specs.Server.{Server, coe_outcome};
 ghost use Rattle.coe_model.specs.Octets.{AreSpelled, is_fragment, body_heard, mail_with, coe_mail_exchange};
 ghost use Rattle.coe_server.specs.Serving.{Serving, transfer_of, outcome_of, served_of};
 ghost use Rattle.coe_server.specs.ObjectTables.{tables_with, object_tables};
@@ -65,6 +65,6 @@ pub fn objects_are_spelled()
 /// then gives. Stated at tables of numbers; the lemma holds at every kind of tables.
 pub fn calls_are_the_exchange<S>()
     ensures { (o : Tables S) (areas : Areas) (v : Server S) (old new : Serving) (app : S) (counts : Bool) (body : List ℕ) → v.transfer ≡ transfer_of old → areas.back ≡ old.room →
-        outcome o old.eoe old.room v.app (transfer_of old) (body_heard body) ≡ outcome_of app new counts →
+        coe_outcome o old.eoe old.room v.app (transfer_of old) (body_heard body) ≡ outcome_of app new counts →
         (coe_mail_exchange o old.eoe areas).serve v (mail_with CoE body) ≡ served_of o app v.handled new counts }
 {}

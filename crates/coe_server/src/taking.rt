@@ -3,7 +3,7 @@ ghost use Rattle.ec_fields.specs.Fields.{number_at};
 ghost use Rattle.coe_codec.specs.Fields.{service_in};
 ghost use Rattle.coe_codec.specs.Reading.{coe_read};
 ghost use Rattle.coe_model.specs.Tables.{nowhere};
-ghost use Rattle.coe_model.specs.Server.{emission_of, ended, abort, takes_whole, takes_first, begins, takes_segment, opened, takes_upload_segment, takes_ask, takes, takes_unread, outcome};
+ghost use Rattle.coe_model.specs.Server.{emission_of, ended, abort, takes_whole, takes_first, begins, takes_segment, opened, takes_upload_segment, takes_ask, coe_takes, takes_unread, coe_outcome};
 ghost use Rattle.coe_model.specs.Octets.{body_heard};
 ghost use Rattle.coe_server.specs.Serving.{target_view, ask_view, transfer_of, told_of, outcome_of, emission_view, IsSmall, small_mail, IsFitting};
 ghost use Rattle.coe_codec.specs.View.{coe_seen, IsWithin};
@@ -322,7 +322,7 @@ impl CoeServer {
 
     fn take_message<D: Dictionary>(&mut self, objects: &mut D, al: u8, message: CoeView<'_>) -> bool
         requires { IsWithin message }
-        ensures does { takes (D.tables al) self.old.eoe self.old.room objects.old (transfer_of self.old) (coe_seen message.entry) ≡ outcome_of objects.new self.new result }
+        ensures does { coe_takes (D.tables al) self.old.eoe self.old.room objects.old (transfer_of self.old) (coe_seen message.entry) ≡ outcome_of objects.new self.new result }
         ensures room { self.new.room ≡ self.old.room }
         ensures eoe { self.new.eoe ≡ self.old.eoe }
     {
@@ -482,7 +482,7 @@ impl CoeServer {
     /// it by a refusal; a part of a transfer that goes on carries out none (ETG.1000.6, "CANopen over EtherCAT").
     pub fn take<D: Dictionary>(&mut self, objects: &mut D, al: u8, body: &[u8]) -> bool
         requires { length body.now ≤ 1480 }
-        ensures does { outcome (D.tables al) self.old.eoe self.old.room objects.old (transfer_of self.old) (body_heard body.now) ≡ outcome_of objects.new self.new result }
+        ensures does { coe_outcome (D.tables al) self.old.eoe self.old.room objects.old (transfer_of self.old) (body_heard body.now) ≡ outcome_of objects.new self.new result }
         ensures room { self.new.room ≡ self.old.room }
         ensures eoe { self.new.eoe ≡ self.old.eoe }
     {

@@ -8,7 +8,7 @@ use Rattle.coe_model.specs.Server.{Server, serve}
 use Rattle.coe_model.specs.Meaning.{Service, download, upload, information, meaning_of}
 use Rattle.coe_model.specs.Client.{ends}
 use Rattle.coe_model.specs.Model.{full, coe_exchange}
-use Rattle.coe_model.specs.Octets.{AreSpelled, mail_heard, mail_written, coe_mail_exchange}
+use Rattle.coe_model.specs.Octets.{AreSpelled, coe_mail_heard, coe_mail_written, coe_mail_exchange}
 use Rattle.coe_model.proofs.Speaks.{AllRequests, is_request, replies_counted}
 use Rattle.coe_model.proofs.CoeLaw.{IsSdo, kept, full_all, ask_full}
 use Rattle.coe_model.proofs.Spelled.{coe_spells}
@@ -44,4 +44,4 @@ module _ {S : Type 0} (o : Tables S) (law : AreLawful o) (eoe : Bool) (areas : A
   coe_last v q ready valid answers quiet p r e same = by_service v q ready p r e same
 
   pub coe_mail_last : AreSpelled o → AnswersLast (coe_mail_exchange o eoe areas) acknowledged
-  coe_mail_last spelled = lifted_last (coe_exchange o eoe areas) mail_heard mail_written (coe_spells o law spelled eoe areas sized) acknowledged coe_last
+  coe_mail_last spelled = lifted_last (coe_exchange o eoe areas) coe_mail_heard coe_mail_written (coe_spells o law spelled eoe areas sized) acknowledged coe_last

@@ -5,7 +5,7 @@ use Rattle.exchange_model.specs.Exchange.{IsLawful}
 use Rattle.exchange_model.proofs.Lifting.{lifted_law}
 use Rattle.coe_model.specs.Tables.{Tables, AreLawful}
 use Rattle.coe_model.specs.Model.{coe_exchange}
-use Rattle.coe_model.specs.Octets.{AreSpelled, mail_heard, mail_written, coe_mail_exchange}
+use Rattle.coe_model.specs.Octets.{AreSpelled, coe_mail_heard, coe_mail_written, coe_mail_exchange}
 use Rattle.coe_model.proofs.CoeLaw.{coe_law}
 use Rattle.coe_model.proofs.Spelled.{coe_spells}
 use Rattle.state_exchange.specs.Stated.{IsStated}
@@ -45,7 +45,7 @@ module _ {S : Type 0} (o : ℕ → Tables S) (eoe : Bool) (areas : Areas) where
     module _ (spelled : (al : ℕ) → AreSpelled (o al)) where
       pub coe_mail_states_law : IsLawful (coe_mail_states o eoe areas)
       coe_mail_states_law = family_law (λ al. coe_mail_exchange (o al) eoe areas) one_mail_client
-          (λ al. lifted_law (coe_exchange (o al) eoe areas) mail_heard mail_written (coe_law (o al) (law al) eoe areas sized) (coe_spells (o al) (law al) (spelled al) eoe areas sized))
+          (λ al. lifted_law (coe_exchange (o al) eoe areas) coe_mail_heard coe_mail_written (coe_law (o al) (law al) eoe areas sized) (coe_spells (o al) (law al) (spelled al) eoe areas sized))
 
       pub coe_mail_states_are : AreOneKind o → IsStated (coe_mail_states o eoe areas) (states_of acknowledged)
       coe_mail_states_are kind = family_is_stated (λ al. coe_mail_exchange (o al) eoe areas)

@@ -11,7 +11,7 @@ use Rattle.exchange_model.specs.Exchange.{IsLawful, Before, Behind, after, given
 use Rattle.exchange_model.proofs.Lists.{prefix_refl}
 use Rattle.eoe_model.specs.Mails.{EoeMail, mail, SetIpAnswer, GetIpAnswer, part, is_emission}
 use Rattle.eoe_model.specs.Network.{Network, IsSound, Station, is_ready}
-use Rattle.eoe_model.specs.Server.{Server, sends, delivered, addressed, set_answer, behind, outcome, serve, one_more}
+use Rattle.eoe_model.specs.Server.{Server, sends, delivered, addressed, set_answer, behind, eoe_outcome, serve, one_more}
 use Rattle.eoe_model.specs.Client.{Service, packet, set_ip, get_ip, is_service, is_handed, mails_of, Reply, set_means, meaning_of, ends}
 use Rattle.eoe_model.specs.Model.{eoe_exchange}
 use Rattle.eoe_model.proofs.Packets.{Idle, Carried, carried_one, delivers}
@@ -193,5 +193,5 @@ module _ {S : Type 0} (o : Network S) (sound : IsSound o) (areas : Areas) (sized
     all_planned = λ v q ready valid. refl;
     unanswered = unanswered;
     some = λ v q ready valid posts. some v q valid;
-    grows = λ v m. grows (outcome o areas.back v.station v.unfinished m).counts v.handled;
+    grows = λ v m. grows (eoe_outcome o areas.back v.station v.unfinished m).counts v.handled;
   }

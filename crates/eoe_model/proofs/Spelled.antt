@@ -13,7 +13,7 @@ use Rattle.eoe_model.specs.Network.{Network, IsSound, IsSpelled, is_ready}
 use Rattle.eoe_model.specs.Server.{Server, sends, addressed}
 use Rattle.eoe_model.specs.Client.{Service, packet, set_ip, get_ip, is_service, mails_of}
 use Rattle.eoe_model.specs.Model.{eoe_exchange}
-use Rattle.eoe_model.specs.Octets.{heard, mail_heard, mail_written}
+use Rattle.eoe_model.specs.Octets.{heard, eoe_mail_heard, eoe_mail_written}
 use Rattle.eoe_model.proofs.EoeLaw.{kept, gives, answer_to_set, both_are}
 
 -- two words and octets behind them are read by these words
@@ -79,11 +79,11 @@ abbrev pub HasSpelling : EoeMail → Type 0
 HasSpelling (mail e) = IsSpellable e × (second_of e < 65536)
 HasSpelling _ = ⊥
 
-reads_back : (m : EoeMail) → HasSpelling m → ReadsBack mail_heard mail_written m
+reads_back : (m : EoeMail) → HasSpelling m → ReadsBack eoe_mail_heard eoe_mail_written m
 reads_back (mail e) s = ap (heard (eoe_text e)) (text_read e s.0 s.1)
 reads_back _ s = absurd s
 
-all_read_back : (ms : List EoeMail) → EachOf HasSpelling ms → EachOf (ReadsBack mail_heard mail_written) ms
+all_read_back : (ms : List EoeMail) → EachOf HasSpelling ms → EachOf (ReadsBack eoe_mail_heard eoe_mail_written) ms
 all_read_back [] all = tt
 all_read_back (m ∷ ms) all = (reads_back m all.0, all_read_back ms all.1)
 
@@ -155,9 +155,9 @@ module _ {S : Type 0} (o : Network S) (sound : IsSound o) (spelled : IsSpelled o
   answered v (set_ip block) ready = set_answered (addressed o areas.back v.station.app block)
   answered v get_ip ready = ((tt, omega arith), tt)
 
-  pub eoe_spells : Spells (eoe_exchange o areas) mail_heard mail_written
+  pub eoe_spells : Spells (eoe_exchange o areas) eoe_mail_heard eoe_mail_written
   eoe_spells = record {
     told = λ v q ready valid. all_read_back (mails_of areas.out q) (told q valid);
-    answered = λ v q ready valid. subst (EachOf (ReadsBack mail_heard mail_written)) (sym (kept o sound areas sized v q valid).given)
+    answered = λ v q ready valid. subst (EachOf (ReadsBack eoe_mail_heard eoe_mail_written)) (sym (kept o sound areas sized v q valid).given)
         (all_read_back (gives o sound areas sized v q) (answered v q ready));
   }

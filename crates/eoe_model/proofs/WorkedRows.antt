@@ -6,7 +6,7 @@ use Rattle.eoe_model.specs.Mails.{EoeMail, mail, unread, unsupported, failed, Se
 use Rattle.eoe_model.specs.Network.{Network, IsSound, IsSpelled}
 use Rattle.eoe_model.specs.Server.{Server, serve}
 use Rattle.eoe_model.specs.Client.{packet, set_ip, get_ip, mails_of, ends}
-use Rattle.eoe_model.specs.Octets.{mail_heard, mail_written, mail_with}
+use Rattle.eoe_model.specs.Octets.{eoe_mail_heard, eoe_mail_written, mail_with}
 use Rattle.mailbox_mail.specs.declared.mail.Kind.TheVariants.{EoE}
 
 abbrev back_of : List ℕ → Option (List ℕ)
@@ -100,14 +100,14 @@ reply_failed : ends get_ip (failed 2 ∷ []) ≡ Some (ReplyKind.MailboxError 2,
 reply_failed = refl
 
 -- octets of mails
-short_heard : mail_heard (mail_with EoE (0 ∷ 0 ∷ 0 ∷ [])) ≡ unread Short 0
+short_heard : eoe_mail_heard (mail_with EoE (0 ∷ 0 ∷ 0 ∷ [])) ≡ unread Short 0
 short_heard = refl
 
-wrong_heard : mail_heard (mail_with EoE (4 ∷ 1 ∷ 0 ∷ 0 ∷ [])) ≡ unread WrongType 4
+wrong_heard : eoe_mail_heard (mail_with EoE (4 ∷ 1 ∷ 0 ∷ 0 ∷ [])) ≡ unread WrongType 4
 wrong_heard = refl
 
-unsupported_written : mail_written (unsupported 5) ≡ mail_with EoE (5 ∷ 0 ∷ 2 ∷ 0 ∷ [])
+unsupported_written : eoe_mail_written (unsupported 5) ≡ mail_with EoE (5 ∷ 0 ∷ 2 ∷ 0 ∷ [])
 unsupported_written = refl
 
-last_written : mail_written (fragment true 47 47 0 (9 ∷ [])) ≡ mail_with EoE (0x00 ∷ 0x01 ∷ 0xEF ∷ 0x0B ∷ 9 ∷ [])
+last_written : eoe_mail_written (fragment true 47 47 0 (9 ∷ [])) ≡ mail_with EoE (0x00 ∷ 0x01 ∷ 0xEF ∷ 0x0B ∷ 9 ∷ [])
 last_written = refl

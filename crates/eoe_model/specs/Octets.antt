@@ -32,21 +32,21 @@ by_kind Error body = if is_error body then failed (number_at 2 body 2) else othe
 by_kind _ body = other body
 
 -- what a mailbox mail reads as
-abbrev pub mail_heard : Mail → EoeMail
-mail_heard m = by_kind m.kind m.body.items
+abbrev pub eoe_mail_heard : Mail → EoeMail
+eoe_mail_heard m = by_kind m.kind m.body.items
 
 -- a mail with this body, to nobody and not yet counted
 abbrev pub mail_with : Kind → List ℕ → Mail
 mail_with kind body = record { address = 0; kind = kind; counter = 0; body = record { items = body } }
 
 -- an answer to a type that isn't served has its type alone in the first word, and the result in the second
-abbrev pub mail_written : EoeMail → Mail
-mail_written (mail e) = mail_with EoE (eoe_text e)
-mail_written (unread fault kind) = mail_with EoE []
-mail_written (unsupported kind) = mail_with EoE (little_bytes 2 kind ++ little_bytes 2 2)
-mail_written (failed detail) = error_of detail
-mail_written (other body) = mail_with VoE body
+abbrev pub eoe_mail_written : EoeMail → Mail
+eoe_mail_written (mail e) = mail_with EoE (eoe_text e)
+eoe_mail_written (unread fault kind) = mail_with EoE []
+eoe_mail_written (unsupported kind) = mail_with EoE (little_bytes 2 kind ++ little_bytes 2 2)
+eoe_mail_written (failed detail) = error_of detail
+eoe_mail_written (other body) = mail_with VoE body
 
 -- EoE as an exchange of mailbox mails
 abbrev pub eoe_mail_exchange : {S : Type 0} → Network S → Areas → Exchange (Server S) (Station S) Mail Service Reply
-eoe_mail_exchange o areas = lifted (eoe_exchange o areas) mail_heard mail_written
+eoe_mail_exchange o areas = lifted (eoe_exchange o areas) eoe_mail_heard eoe_mail_written

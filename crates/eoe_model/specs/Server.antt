@@ -52,12 +52,12 @@ set_answer station unfinished (Some app) = answered (record station { app = app 
 set_answer station unfinished None = answered station unfinished (mail (SetIpAnswer 1) ∷ [])
 
 -- answers that come to a server get none
-abbrev pub takes : {S : Type 0} → Network S → ℕ → Station S → Option Unfinished → Eoe → Outcome S
-takes o room station unfinished (Part f) = joined o room station f.last (taken unfinished f).unfinished (taken unfinished f).joined
-takes o room station unfinished (SetIp block) = set_answer station unfinished (addressed o room station.app block.items)
-takes o room station unfinished GetIp = answered station unfinished (mail (GetIpAnswer 0 (record { items = o.block station.app })) ∷ [])
-takes o room station unfinished (SetIpAnswer result_code) = answered station unfinished []
-takes o room station unfinished (GetIpAnswer result_code block) = answered station unfinished []
+abbrev pub eoe_takes : {S : Type 0} → Network S → ℕ → Station S → Option Unfinished → Eoe → Outcome S
+eoe_takes o room station unfinished (Part f) = joined o room station f.last (taken unfinished f).unfinished (taken unfinished f).joined
+eoe_takes o room station unfinished (SetIp block) = set_answer station unfinished (addressed o room station.app block.items)
+eoe_takes o room station unfinished GetIp = answered station unfinished (mail (GetIpAnswer 0 (record { items = o.block station.app })) ∷ [])
+eoe_takes o room station unfinished (SetIpAnswer result_code) = answered station unfinished []
+eoe_takes o room station unfinished (GetIpAnswer result_code block) = answered station unfinished []
 
 -- a mail that does not read: too short, by mailbox error 6; an even type, by the type behind it with result 2; others by nothing. A fragment
 -- with part of a block isn't the last of a packet
@@ -67,12 +67,12 @@ takes_unread station unfinished WrongType kind = answered station unfinished (if
 takes_unread station unfinished Offset kind = silent station unfinished
 
 -- any mail. A mailbox error and a mail of another protocol are none of a server's
-abbrev pub outcome : {S : Type 0} → Network S → ℕ → Station S → Option Unfinished → EoeMail → Outcome S
-outcome o room station unfinished (mail e) = takes o room station unfinished e
-outcome o room station unfinished (unread fault kind) = takes_unread station unfinished fault kind
-outcome o room station unfinished (unsupported kind) = answered station unfinished []
-outcome o room station unfinished (failed detail) = silent station unfinished
-outcome o room station unfinished (other body) = silent station unfinished
+abbrev pub eoe_outcome : {S : Type 0} → Network S → ℕ → Station S → Option Unfinished → EoeMail → Outcome S
+eoe_outcome o room station unfinished (mail e) = eoe_takes o room station unfinished e
+eoe_outcome o room station unfinished (unread fault kind) = takes_unread station unfinished fault kind
+eoe_outcome o room station unfinished (unsupported kind) = answered station unfinished []
+eoe_outcome o room station unfinished (failed detail) = silent station unfinished
+eoe_outcome o room station unfinished (other body) = silent station unfinished
 
 -- a server, with the number of services that it has carried out
 pub record Server (S : Type 0) : Type 0 where
@@ -91,4 +91,4 @@ behind handled x = (record { station = x.station; handled = one_more x.counts ha
 
 -- one mail taken: the server behind it, and what it gives
 abbrev pub serve : {S : Type 0} → Network S → ℕ → Server S → EoeMail → Server S × List EoeMail
-serve o room v m = behind v.handled (outcome o room v.station v.unfinished m)
+serve o room v m = behind v.handled (eoe_outcome o room v.station v.unfinished m)

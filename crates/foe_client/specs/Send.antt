@@ -4,7 +4,7 @@ use Rattle.mailbox_mail.specs.declared.mail.Kind.TheVariants.{FoE}
 use Rattle.foe_codec.specs.Message.{IsSpellable, foe_text}
 use Rattle.foe_model.specs.Mails.{Foe, Read, Write, Data, Ack, FoeMail, mail}
 use Rattle.foe_model.specs.Server.{packet_room}
-use Rattle.foe_model.specs.Octets.{mail_written, mail_with}
+use Rattle.foe_model.specs.Octets.{foe_mail_written, mail_with}
 use Rattle.foe_client.specs.declared.state.Unsent.{Unsent}
 use Rattle.foe_client.specs.Talk.{Talking, areas_of, following, later, awaited}
 
@@ -36,6 +36,6 @@ NextIs (Some message) old new = IsNext message old new
 -- WHAT GOES OUT: the first of the mails that the client has left, in its one spelling, and no longer than the mailbox takes
 pub record SendsNext (old : Talking) (octets : List ℕ) (new : Talking) : Type 0 where
   pub next : FoeMail
-  pub spelled : mail_written next ≡ mail_with FoE octets
+  pub spelled : foe_mail_written next ≡ mail_with FoE octets
   pub mails : (hs : List FoeMail) → later old hs ≡ next ∷ later new hs
   pub areas : areas_of new ≡ areas_of old

@@ -1,5 +1,5 @@
 ghost use Rattle.std.specs.Prelude.{◌≡◌, ◌≤◌, length};
-ghost use Rattle.foe_model.specs.Octets.{body_heard, mail_heard};
+ghost use Rattle.foe_model.specs.Octets.{body_heard, foe_mail_heard};
 ghost use Rattle.foe_client.specs.Hear.{onward, refused, hear_data, hear_ack, hear_busy, hear_refusal, hear_message, hear_mail, TookIs};
 
 use crate::client::{FoeClient, HEADER, MOST};
@@ -123,7 +123,7 @@ impl FoeClient {
     }
 
     fn hear_mail(&mut self, mail: &Mail) -> Took
-        ensures { (result, self.new) ≡ hear_mail self.old (mail_heard mail.now) }
+        ensures { (result, self.new) ≡ hear_mail self.old (foe_mail_heard mail.now) }
     {
         let body = mail.body.as_slice();
         match mail.kind {
@@ -141,7 +141,7 @@ impl FoeClient {
     /// Takes a mail that came from the slave. `Done` where it completes the reply of the service, `More` where it is awaited and the reply isn't
     /// complete yet, `Foreign` where it is none that may come next; then the client is unchanged (ETG.1000.6, "File access over EtherCAT").
     pub fn take(&mut self, mail: &Mail) -> Took
-        ensures { TookIs result self.old (mail_heard mail.now) self.new }
+        ensures { TookIs result self.old (foe_mail_heard mail.now) self.new }
     {
         let _ = &self.awaits;
         self.hear_mail(mail)

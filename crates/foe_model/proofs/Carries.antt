@@ -6,7 +6,7 @@ use Rattle.exchange_model.specs.Dialogue.{next, again, stop, sent, turn_at}
 use Rattle.exchange_model.proofs.Turns.{sent_onward, sent_repeated, sent_over, sent_waits}
 use Rattle.foe_model.specs.Mails.{FoeMail, is_emission}
 use Rattle.foe_model.specs.Files.{Files}
-use Rattle.foe_model.specs.Server.{Transfer, Outcome, Server, outcome, goes_on, silent, behind, serve}
+use Rattle.foe_model.specs.Server.{Transfer, Outcome, Server, foe_outcome, goes_on, silent, behind, serve}
 use Rattle.foe_model.specs.Meaning.{Meaning, Service, Reply, meaning_of}
 use Rattle.foe_model.specs.Client.{decide, turn_behind, ends}
 use Rattle.foe_model.specs.Model.{foe_exchange}
@@ -24,8 +24,8 @@ module _ {S : Type 0} (o : Files S) (areas : Areas) where
   abbrev pub step : Server S → FoeMail → Server S × List FoeMail
   step v m = serve o areas.out areas.back v m
 
-  abbrev pub takes : Server S → FoeMail → Outcome S
-  takes v m = outcome o areas.out areas.back v.app v.transfer m
+  abbrev pub foe_takes : Server S → FoeMail → Outcome S
+  foe_takes v m = foe_outcome o areas.out areas.back v.app v.transfer m
 
   -- the mails that the client sends of these
   abbrev pub talk : ℕ → Server S → List FoeMail → List FoeMail
@@ -48,7 +48,7 @@ module _ {S : Type 0} (o : Files S) (areas : Areas) where
   still_none v = record { app = refl; handled = refl }
 
   -- the one mail of a service, which it answers by a
-  pub carried_one : (v : Server S) (means : Meaning S) (reading : List FoeMail → Option Reply) (most : ℕ) (m a : FoeMail) (x : Outcome S) → takes v m ≡ x → 1 ≤ most →
+  pub carried_one : (v : Server S) (means : Meaning S) (reading : List FoeMail → Option Reply) (most : ℕ) (m a : FoeMail) (x : Outcome S) → foe_takes v m ≡ x → 1 ≤ most →
       x.counts ≡ true → x.answers ≡ a ∷ [] → x.app ≡ means.app → reading (a ∷ []) ≡ Some means.reply → Carried v means reading most (m ∷ [])
   carried_one v means reading most m a x is some counts answers app reply = record {
     app = ap (λ y. (behind v.handled y).0.app) is ∙ app;
@@ -67,7 +67,7 @@ module _ {S : Type 0} (o : Files S) (areas : Areas) where
   abbrev pub gone_on : Server S → Transfer → Server S
   gone_on v transfer = record { app = v.app; handled = v.handled; transfer = transfer }
 
-  pub still_more : (v : Server S) (m a : FoeMail) (transfer : Transfer) → takes v m ≡ goes_on v.app transfer a → (p : List FoeMail) → Still (gone_on v transfer) p → Still v (m ∷ p)
+  pub still_more : (v : Server S) (m a : FoeMail) (transfer : Transfer) → foe_takes v m ≡ goes_on v.app transfer a → (p : List FoeMail) → Still (gone_on v transfer) p → Still v (m ∷ p)
   still_more v m a transfer is p still = record {
     app = ap (λ y. (after step (behind v.handled y).0 p).app) is ∙ still.app;
     handled = ap (λ y. (after step (behind v.handled y).0 p).handled) is ∙ still.handled;
@@ -75,7 +75,7 @@ module _ {S : Type 0} (o : Files S) (areas : Areas) where
 
   -- a mail with which a service goes on, which it answers by a
   pub carried_more : (v : Server S) (means : Meaning S) (reading later : List FoeMail → Option Reply) (most fewer : ℕ) (m a : FoeMail) (transfer : Transfer) →
-      takes v m ≡ goes_on v.app transfer a → suc fewer ≤ most → ((hs : List FoeMail) → reading (a ∷ hs) ≡ later hs) →
+      foe_takes v m ≡ goes_on v.app transfer a → suc fewer ≤ most → ((hs : List FoeMail) → reading (a ∷ hs) ≡ later hs) →
       (ms : List FoeMail) → Carried (gone_on v transfer) means later fewer ms → Carried v means reading most (m ∷ ms)
   carried_more v means reading later most fewer m a transfer is less reads ms rest = record {
     app = ap (λ y. (after step (behind v.handled y).0 ms).app) is ∙ rest.app;
@@ -93,30 +93,30 @@ module _ {S : Type 0} (o : Files S) (areas : Areas) where
           subst (λ k. Still v (k ∷ p)) first (still_more v m a transfer is p (rest.late p h r others))
 
   -- how the client goes on behind the one answer to its mail
-  answer_turn : (v : Server S) (m a : FoeMail) (x : Outcome S) → takes v m ≡ x → x.answers ≡ a ∷ [] →
+  answer_turn : (v : Server S) (m a : FoeMail) (x : Outcome S) → foe_takes v m ≡ x → x.answers ≡ a ∷ [] →
       turn_at (decide areas.out) m [] (plain is_emission (step v m).1) ≡ Some (turn_behind areas.out m a)
   answer_turn v m a x is answers =
       ap (turn_at (decide areas.out) m []) (ap (λ y. plain is_emission (behind v.handled y).1) is ∙ all_plain x.answers ∙ answers)
 
-  pub talk_onward : (turns : ℕ) (v : Server S) (m a : FoeMail) (x : Outcome S) (ms : List FoeMail) → takes v m ≡ x → x.answers ≡ a ∷ [] →
+  pub talk_onward : (turns : ℕ) (v : Server S) (m a : FoeMail) (x : Outcome S) (ms : List FoeMail) → foe_takes v m ≡ x → x.answers ≡ a ∷ [] →
       turn_behind areas.out m a ≡ next → talk (suc turns) v (m ∷ ms) ≡ m ∷ talk turns (behind v.handled x).0 ms
   talk_onward turns v m a x ms is answers onward =
       sent_onward step is_emission (decide areas.out) turns v m ms (answer_turn v m a x is answers ∙ ap Some onward)
       ∙ ap (λ y. m ∷ talk turns (behind v.handled y).0 ms) is
 
-  pub talk_again : (turns : ℕ) (v : Server S) (m a : FoeMail) (x : Outcome S) (ms : List FoeMail) → takes v m ≡ x → x.answers ≡ a ∷ [] →
+  pub talk_again : (turns : ℕ) (v : Server S) (m a : FoeMail) (x : Outcome S) (ms : List FoeMail) → foe_takes v m ≡ x → x.answers ≡ a ∷ [] →
       turn_behind areas.out m a ≡ again → talk (suc turns) v (m ∷ ms) ≡ m ∷ talk turns (behind v.handled x).0 (m ∷ ms)
   talk_again turns v m a x ms is answers repeated =
       sent_repeated step is_emission (decide areas.out) turns v m ms (answer_turn v m a x is answers ∙ ap Some repeated)
       ∙ ap (λ y. m ∷ talk turns (behind v.handled y).0 (m ∷ ms)) is
 
-  pub talk_over : (turns : ℕ) (v : Server S) (m a : FoeMail) (x : Outcome S) (ms : List FoeMail) → takes v m ≡ x → x.answers ≡ a ∷ [] →
+  pub talk_over : (turns : ℕ) (v : Server S) (m a : FoeMail) (x : Outcome S) (ms : List FoeMail) → foe_takes v m ≡ x → x.answers ≡ a ∷ [] →
       turn_behind areas.out m a ≡ stop → talk (suc turns) v (m ∷ ms) ≡ m ∷ []
   talk_over turns v m a x ms is answers over =
       sent_over step is_emission (decide areas.out) turns v m ms (answer_turn v m a x is answers ∙ ap Some over)
 
   -- a mail without an answer
-  pub talk_waits : (turns : ℕ) (v : Server S) (m : FoeMail) (app : S) (transfer : Transfer) (ms : List FoeMail) → takes v m ≡ silent app transfer → talk (suc turns) v (m ∷ ms) ≡ m ∷ []
+  pub talk_waits : (turns : ℕ) (v : Server S) (m : FoeMail) (app : S) (transfer : Transfer) (ms : List FoeMail) → foe_takes v m ≡ silent app transfer → talk (suc turns) v (m ∷ ms) ≡ m ∷ []
   talk_waits turns v m app transfer ms is = sent_waits step is_emission (decide areas.out) turns v m ms
       (ap (λ y. turn_at (decide areas.out) m [] (plain is_emission (behind v.handled y).1)) is)
 

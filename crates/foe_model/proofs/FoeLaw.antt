@@ -11,7 +11,7 @@ use Rattle.exchange_model.proofs.Turns.{follows, all_said, said_more, sent_each,
 use Rattle.foe_model.specs.Mails.{FoeMail, mail, Read, Ack, is_emission}
 use Rattle.foe_model.specs.Files.{Files, AreLawful}
 use Rattle.mailbox_mail.specs.declared.outcome.ReplyKind.{ReplyKind}
-use Rattle.foe_model.specs.Server.{Server, outcome, opened, one_more}
+use Rattle.foe_model.specs.Server.{Server, foe_outcome, opened, one_more}
 use Rattle.foe_model.specs.Meaning.{Service, read, write, refused, read_means, write_means, meaning_of}
 use Rattle.foe_model.specs.Client.{mails_of, acks, decide, ends}
 use Rattle.foe_model.specs.Model.{read_length, turns, planned, full, foe_exchange}
@@ -75,7 +75,7 @@ module _ {S : Type 0} (o : Files S) (law : AreLawful o) (areas : Areas) (sized :
 
   all_handled : (v : Server S) (ms : List FoeMail) → v.handled ≤ (after (step o areas) v ms).handled
   all_handled v [] = omega arith
-  all_handled v (m ∷ ms) = omega (arith, more_handled (outcome o areas.out areas.back v.app v.transfer m).counts v.handled, all_handled (step o areas v m).0 ms)
+  all_handled v (m ∷ ms) = omega (arith, more_handled (foe_outcome o areas.out areas.back v.app v.transfer m).counts v.handled, all_handled (step o areas v m).0 ms)
 
   -- a request to read counts, whatever answers it
   opened_counts : (app : S) (bytes : List ℕ) (found : Option ℕ) → (opened areas.back app bytes found).counts ≡ true
@@ -165,5 +165,5 @@ module _ {S : Type 0} (o : Files S) (law : AreLawful o) (areas : Areas) (sized :
     all_planned = λ v q ready valid. client_plans v q ready;
     unanswered = λ q hs posts. absurd (cc);
     some = λ v q ready valid posts. absurd (cc);
-    grows = λ v m. more_handled (outcome o areas.out areas.back v.app v.transfer m).counts v.handled;
+    grows = λ v m. more_handled (foe_outcome o areas.out areas.back v.app v.transfer m).counts v.handled;
   }

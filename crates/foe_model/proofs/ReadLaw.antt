@@ -10,7 +10,7 @@ use Rattle.foe_model.specs.Server.{idle, reading, Server, ended, goes_on, silent
 use Rattle.foe_model.specs.Meaning.{read, read_means, meaning_of}
 use Rattle.foe_model.specs.Client.{acks, most, packets_end}
 use Rattle.foe_model.specs.Model.{read_length, foe_exchange}
-use Rattle.foe_model.proofs.Carries.{step, takes, talk, Still, still_none, still_more, talk_onward, talk_over, talk_waits, Kept, before, none_emitted}
+use Rattle.foe_model.proofs.Carries.{step, foe_takes, talk, Still, still_none, still_more, talk_onward, talk_over, talk_waits, Kept, before, none_emitted}
 
 module _ {S : Type 0} (o : Files S) (areas : Areas) where
   abbrev room : ℕ
@@ -115,7 +115,7 @@ module _ {S : Type 0} (o : Files S) (areas : Areas) where
   refused_kept turns most v name pass code ms is some =
       let m = request name pass in
       let x = ended v.app idle (refusal code) in
-      let takes_is : takes o areas v m ≡ x = ap (opened areas.back v.app (o.get v.app name)) is in
+      let takes_is : foe_takes o areas v m ≡ x = ap (opened areas.back v.app (o.get v.app name)) is in
       let means : meaning_of o v.app (read name pass) ≡ read_means o v.app name (Some code) = ap (read_means o v.app name) is in
       subst (Kept o areas v (read name pass) most) (sym (talk_over o areas turns v m (refusal code) x ms takes_is refl refl)) (record {
         few = omega (arith, some);
@@ -124,7 +124,7 @@ module _ {S : Type 0} (o : Files S) (areas : Areas) where
         part = parts (counts takes_is means);
       })
     where
-      counts : takes o areas v (request name pass) ≡ ended v.app idle (refusal code) → meaning_of o v.app (read name pass) ≡ read_means o v.app name (Some code) →
+      counts : foe_takes o areas v (request name pass) ≡ ended v.app idle (refusal code) → meaning_of o v.app (read name pass) ≡ read_means o v.app name (Some code) →
           Behind (foe_exchange o areas) v (read name pass) (request name pass ∷ [])
       counts takes_is means = record {
         app = ap (λ y. (behind v.handled y).0.app) takes_is ∙ ap (λ y. y.app) (sym means);
@@ -148,7 +148,7 @@ module _ {S : Type 0} (o : Files S) (areas : Areas) where
       let a = packet_of areas.back 1 bytes in
       let x = ended v.app (reading 1 bytes) a in
       let w = in_read v.app (suc v.handled) 1 bytes in
-      let takes_is : takes o areas v m ≡ x = ap (opened areas.back v.app bytes) is in
+      let takes_is : foe_takes o areas v m ≡ x = ap (opened areas.back v.app bytes) is in
       let means : meaning_of o v.app (read name pass) ≡ read_means o v.app name None = ap (read_means o v.app name) is in
       let others = talk o areas turns w (acks n 1) in
       let fetched = all_fetched n turns v.app (suc v.handled) 1 bytes [] bytes wide fits refl many enough in
@@ -160,7 +160,7 @@ module _ {S : Type 0} (o : Files S) (areas : Areas) where
         part = parts takes_is means others fetched.still;
       })
     where
-      counted : takes o areas v (request name pass) ≡ ended v.app (reading 1 (o.get v.app name)) (packet_of areas.back 1 (o.get v.app name)) →
+      counted : foe_takes o areas v (request name pass) ≡ ended v.app (reading 1 (o.get v.app name)) (packet_of areas.back 1 (o.get v.app name)) →
           meaning_of o v.app (read name pass) ≡ read_means o v.app name None → (p : List FoeMail) → Still o areas (in_read v.app (suc v.handled) 1 (o.get v.app name)) p →
           Behind (foe_exchange o areas) v (read name pass) (request name pass ∷ p)
       counted takes_is means p still = record {
@@ -169,7 +169,7 @@ module _ {S : Type 0} (o : Files S) (areas : Areas) where
         emitted = ([], append-nil _ ∙ none_emitted (given (step o areas) v (request name pass ∷ p)));
       }
 
-      parts : takes o areas v (request name pass) ≡ ended v.app (reading 1 (o.get v.app name)) (packet_of areas.back 1 (o.get v.app name)) →
+      parts : foe_takes o areas v (request name pass) ≡ ended v.app (reading 1 (o.get v.app name)) (packet_of areas.back 1 (o.get v.app name)) →
           meaning_of o v.app (read name pass) ≡ read_means o v.app name None → (others : List FoeMail) → ((p r : List FoeMail) → others ≡ p ++ r → Still o areas (in_read v.app (suc v.handled) 1 (o.get v.app name)) p) →
           (p r : List FoeMail) → request name pass ∷ others ≡ p ++ r → Before (foe_exchange o areas) v p ⊎ Behind (foe_exchange o areas) v (read name pass) p
       parts takes_is means others still [] r e = inl (before o areas v [] (still_none o areas v))

@@ -9,7 +9,7 @@ use Rattle.foe_model.specs.Mails.{Read, Write, Data, Ack, Error, Busy, FoeFault,
 use Rattle.foe_model.specs.Files.{Files}
 use Rattle.foe_model.specs.Server.{Transfer, idle, reading, writing, closing, Outcome, Server, begun, opened, closes, stores, takes_data, takes_ack, takes_unread, is_last, packet_room}
 use Rattle.foe_model.specs.Client.{decide, packets}
-use Rattle.foe_model.proofs.Carries.{step, takes, all_plain}
+use Rattle.foe_model.proofs.Carries.{step, foe_takes, all_plain}
 
 -- a request to write, or a packet
 abbrev pub is_asked : FoeMail → Bool
@@ -47,13 +47,13 @@ module _ {S : Type 0} (o : Files S) (areas : Areas) where
   by_data app (writing name number got) packet part = either (packet == number + 1) _ _ (by_stores app name packet got part) (_, refl)
   by_data app (closing name number got told) packet part = either (packet == number) _ _ (by_closes app name number got told) (_, refl)
 
-  speaks : (v : Server S) (m : FoeMail) → is_asked m ≡ true → Speaks (takes o areas v m)
+  speaks : (v : Server S) (m : FoeMail) → is_asked m ≡ true → Speaks (foe_takes o areas v m)
   speaks v (mail (Write pass name)) e = by_begun v.app name.items (o.allowed v.app name.items pass true)
   speaks v (mail (Data packet bytes)) e = by_data v.app v.transfer packet bytes.items
   speaks v _ e = absurd (cc)
 
   pub one_reply : (v : Server S) (m : FoeMail) → is_asked m ≡ true → (a : FoeMail) × (plain is_emission (step o areas v m).1 ≡ a ∷ [])
-  one_reply v m e = let s = speaks v m e in (s.0, all_plain (takes o areas v m).answers ∙ s.1)
+  one_reply v m e = let s = speaks v m e in (s.0, all_plain (foe_takes o areas v m).answers ∙ s.1)
 
   -- at most one
   few_by : (x : Outcome S) → Speaks x → length x.answers ≤ 1
@@ -79,7 +79,7 @@ module _ {S : Type 0} (o : Files S) (areas : Areas) where
   few_unread app transfer Opcode = omega arith
   few_unread app transfer Name = omega arith
 
-  few_answers : (v : Server S) (m : FoeMail) → length (takes o areas v m).answers ≤ 1
+  few_answers : (v : Server S) (m : FoeMail) → length (foe_takes o areas v m).answers ≤ 1
   few_answers v (mail (Read pass name)) = few_opened v.app (o.get v.app name.items) (o.allowed v.app name.items pass false)
   few_answers v (mail (Write pass name)) = few_by (begun v.app name.items (o.allowed v.app name.items pass true)) (by_begun v.app name.items (o.allowed v.app name.items pass true))
   few_answers v (mail (Data packet bytes)) = few_by (takes_data o areas.out v.app v.transfer packet bytes.items) (by_data v.app v.transfer packet bytes.items)
@@ -94,7 +94,7 @@ module _ {S : Type 0} (o : Files S) (areas : Areas) where
   decided [] = tt
   decided (m ∷ ms) = (
     (λ v. one_answer (decide areas.out) m (plain is_emission (step o areas v m).1) refl
-        (omega (arith, few_answers v m, ap length (all_plain (takes o areas v m).answers)))),
+        (omega (arith, few_answers v m, ap length (all_plain (foe_takes o areas v m).answers)))),
     decided ms,
   )
 

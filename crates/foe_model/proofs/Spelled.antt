@@ -12,8 +12,8 @@ use Rattle.foe_model.specs.Server.{Transfer, idle, reading, writing, closing, Ou
 use Rattle.foe_model.specs.Meaning.{Service, read, write}
 use Rattle.foe_model.specs.Client.{packets, acks, mails_of, decide}
 use Rattle.foe_model.specs.Model.{read_length, is_service, turns, full, foe_exchange}
-use Rattle.foe_model.specs.Octets.{heard, mail_heard, mail_written}
-use Rattle.foe_model.proofs.Carries.{step, takes}
+use Rattle.foe_model.specs.Octets.{heard, foe_mail_heard, foe_mail_written}
+use Rattle.foe_model.proofs.Carries.{step, foe_takes}
 use Rattle.foe_model.proofs.FoeLaw.{kept, means_valid}
 
 -- opcode, field and octets behind them are read by these parts
@@ -63,11 +63,11 @@ abbrev HasSpelling : FoeMail → Type 0
 HasSpelling (mail f) = HasText f
 HasSpelling _ = ⊥
 
-reads_back : (m : FoeMail) → HasSpelling m → ReadsBack mail_heard mail_written m
+reads_back : (m : FoeMail) → HasSpelling m → ReadsBack foe_mail_heard foe_mail_written m
 reads_back (mail f) s = ap heard (text_read f s)
 reads_back _ s = absurd s
 
-all_read_back : (ms : List FoeMail) → EachOf HasSpelling ms → EachOf (ReadsBack mail_heard mail_written) ms
+all_read_back : (ms : List FoeMail) → EachOf HasSpelling ms → EachOf (ReadsBack foe_mail_heard foe_mail_written) ms
 all_read_back [] all = tt
 all_read_back (m ∷ ms) all = (reads_back m all.0, all_read_back ms all.1)
 
@@ -164,7 +164,7 @@ module _ {S : Type 0} (o : Files S) (law : AreLawful o) (spelled : AreSpelled o)
   ack_answers app (writing name number got) packet low = (omega arith, tt)
   ack_answers app (closing name number got t) packet low = (omega arith, tt)
 
-  answered : (v : Server S) (m : FoeMail) → o.valid v.app ≡ true → IsSent m → EachOf HasSpelling (takes o areas v m).answers
+  answered : (v : Server S) (m : FoeMail) → o.valid v.app ≡ true → IsSent m → EachOf HasSpelling (foe_takes o areas v m).answers
   answered v (mail (Read pass name)) sound s = opened_answers v.app name.items pass (o.allowed v.app name.items pass false) refl sound
   answered v (mail (Write pass name)) sound s = begun_answers v.app name.items pass (o.allowed v.app name.items pass true) refl sound
   answered v (mail (Data packet bytes)) sound s = data_answers v.app v.transfer packet bytes.items sound s
@@ -183,7 +183,7 @@ module _ {S : Type 0} (o : Files S) (law : AreLawful o) (spelled : AreSpelled o)
     | inr behind ↦ ap o.valid behind.app ∙ means_valid o law areas sized v.app q sound
   ]
 
-  pub foe_spells : Spells (foe_exchange o areas) mail_heard mail_written
+  pub foe_spells : Spells (foe_exchange o areas) foe_mail_heard foe_mail_written
   foe_spells = record {
     told = λ v q ready valid. all_read_back (full o areas v q) (all_sent_spelled (full o areas v q) (full_sent v q ready valid));
     answered = λ v q ready valid. all_read_back (given (step o areas) v (full o areas v q)) (all_answered v (full o areas v q) (full_sent v q ready valid) (still_valid v q ready));

@@ -10,7 +10,7 @@ use Rattle.foe_model.specs.Server.{Server, idle, reading, serve}
 use Rattle.foe_model.specs.Meaning.{read, write, meaning_of}
 use Rattle.foe_model.specs.Client.{ends}
 use Rattle.foe_model.specs.Model.{full, planned}
-use Rattle.foe_model.specs.Octets.{body_heard, mail_written, mail_with}
+use Rattle.foe_model.specs.Octets.{body_heard, foe_mail_written, mail_with}
 
 -- a file's octets in a region of so many blocks of 128 octets, and how often its last packet is answered by busy
 pub record Store : Type 0 where
@@ -100,10 +100,10 @@ files_spelled = record {
 empty_mails : full files areas (slave [] 64 0) (write name 0 []) ≡ request_to_write ∷ packet 1 [] ∷ []
 empty_mails = refl
 
-empty_octets : mail_written request_to_write ≡ mail_with FoE (2 ∷ 0 ∷ 0 ∷ 0 ∷ 0 ∷ 0 ∷ 0x61 ∷ [])
+empty_octets : foe_mail_written request_to_write ≡ mail_with FoE (2 ∷ 0 ∷ 0 ∷ 0 ∷ 0 ∷ 0 ∷ 0x61 ∷ [])
 empty_octets = refl
 
-empty_packet : mail_written (packet 1 []) ≡ mail_with FoE (3 ∷ 0 ∷ 1 ∷ 0 ∷ 0 ∷ 0 ∷ [])
+empty_packet : foe_mail_written (packet 1 []) ≡ mail_with FoE (3 ∷ 0 ∷ 1 ∷ 0 ∷ 0 ∷ 0 ∷ [])
 empty_packet = refl
 
 empty_given : given step (slave [] 64 0) (request_to_write ∷ packet 1 [] ∷ []) ≡ mail (Ack 0) ∷ mail (Ack 1) ∷ []
@@ -143,7 +143,7 @@ read_given = refl
 read_reply : ends areas (read name 0) (packet 1 (replicate 52 7) ∷ packet 2 (replicate 48 7) ∷ []) ≡ Some (ReplyKind.Value, replicate 100 7)
 read_reply = refl
 
-last_ack : mail_written (mail (Ack 2)) ≡ mail_with FoE (4 ∷ 0 ∷ 2 ∷ 0 ∷ 0 ∷ 0 ∷ [])
+last_ack : foe_mail_written (mail (Ack 2)) ≡ mail_with FoE (4 ∷ 0 ∷ 2 ∷ 0 ∷ 0 ∷ 0 ∷ [])
 last_ack = refl
 
 -- a file that fills its last packet has an empty one behind it

@@ -11,7 +11,7 @@ use Rattle.foe_model.specs.Server.{idle, writing, closing, Server, ended, goes_o
 use Rattle.foe_model.specs.Meaning.{Meaning, write_means}
 use Rattle.foe_model.specs.Client.{decide, packets, last_end, acks_end, full_packets, turn_behind, write_turn}
 use Rattle.foe_model.proofs.Counts.{none_full, one_full}
-use Rattle.foe_model.proofs.Carries.{step, takes, talk, Carried, carried_one, carried_more, gone_on, talk_onward, talk_again, talk_over}
+use Rattle.foe_model.proofs.Carries.{step, foe_takes, talk, Carried, carried_one, carried_more, gone_on, talk_onward, talk_again, talk_over}
 
 module _ {S : Type 0} (o : Files S) (areas : Areas) where
   abbrev room : ℕ
@@ -30,14 +30,14 @@ module _ {S : Type 0} (o : Files S) (areas : Areas) where
 
   -- the last packet, which is sent again behind each busy answer
   closed : (n turns : ℕ) (v : Server S) (name : List ℕ) (number : ℕ) (bytes : List ℕ) (told most : ℕ) (m : FoeMail) →
-      ((app : S) (got : List ℕ) (t : ℕ) → takes o areas (record { app = app; handled = v.handled; transfer = closing name number got t }) m ≡ closes o app name number got t) →
+      ((app : S) (got : List ℕ) (t : ℕ) → foe_takes o areas (record { app = app; handled = v.handled; transfer = closing name number got t }) m ≡ closes o app name number got t) →
       ((h : FoeMail) → turn_behind areas.out m h ≡ write_turn true h) →
-      takes o areas v m ≡ closes o v.app name number bytes told → told + n ≡ o.busy v.app name → n < turns → suc n ≤ most →
+      foe_takes o areas v m ≡ closes o v.app name number bytes told → told + n ≡ o.busy v.app name → n < turns → suc n ≤ most →
       Carried o areas v (done_with v.app name bytes) (last_end number) most (talk o areas turns v (m ∷ []))
   closed n zero v name number bytes told most m repeats turn is count enough few = absurd (omega arith)
   closed zero (suc turns) v name number bytes told most m repeats turn is count enough few =
       let over : nat_lt told (o.busy v.app name) ≡ false = le-ltb told (o.busy v.app name) (omega (arith, count)) in
-      let stored : takes o areas v m ≡ ended (o.put v.app name bytes) idle (ack number) = is ∙ rw over refl in
+      let stored : foe_takes o areas v m ≡ ended (o.put v.app name bytes) idle (ack number) = is ∙ rw over refl in
       subst (Carried o areas v (done_with v.app name bytes) (last_end number) most)
       (sym (talk_onward o areas turns v m (ack number) (ended (o.put v.app name bytes) idle (ack number)) [] stored refl (turn (ack number))
       ∙ ap (λ l. m ∷ l) (sent_none (step o areas) is_emission (decide areas.out) turns _)))
@@ -47,7 +47,7 @@ module _ {S : Type 0} (o : Files S) (areas : Areas) where
       let busy : nat_lt told (o.busy v.app name) ≡ true = lt-ltb told (o.busy v.app name) (omega (arith, count)) in
       let a : FoeMail = mail (Busy told (o.busy v.app name)) in
       let transfer = closing name number bytes (told + 1) in
-      let on : takes o areas v m ≡ goes_on v.app transfer a = is ∙ rw busy refl in
+      let on : foe_takes o areas v m ≡ goes_on v.app transfer a = is ∙ rw busy refl in
       subst (Carried o areas v (done_with v.app name bytes) (last_end number) most)
       (sym (talk_again o areas turns v m a (goes_on v.app transfer a) [] on refl (turn a)))
       (carried_more o areas v (done_with v.app name bytes) (last_end number) (last_end number) most (suc n) m a transfer on few (λ hs. refl)
@@ -76,7 +76,7 @@ module _ {S : Type 0} (o : Files S) (areas : Areas) where
       let v = in_write app handled name number got in
       let m = mail (Data (number + 1) (record { items = part })) in
       let x = ended app idle (refusal 0x8003) in
-      let is : takes o areas v m ≡ x = packet_taken app name number got part ∙ rw full refl in
+      let is : foe_takes o areas v m ≡ x = packet_taken app name number got part ∙ rw full refl in
       let none : o.has_room app (length bytes) ≡ false = not_more (o.has_room app (length bytes)) refl in
       subst (Stores app handled name bytes number got n most) (sym (talk_over o areas turns v m (refusal 0x8003) x ms is refl (stops (is_last areas.out part))))
       (carried_one o areas v (write_means o app name bytes None) (acks_end n (number + 1)) most m (refusal 0x8003) x is some refl refl
@@ -103,7 +103,7 @@ module _ {S : Type 0} (o : Files S) (areas : Areas) where
       let m = mail (Data (number + 1) (record { items = left })) in
       let all : packet_of areas.out (number + 1) left ≡ m = ap (λ l. mail (Data (number + 1) (record { items = l }))) (take_all room left (omega arith)) in
       let last : is_last areas.out left ≡ true = lt-ltb (length left) room short in
-      let is : takes o areas v m ≡ closes o app name (number + 1) bytes 0 =
+      let is : foe_takes o areas v m ≡ closes o app name (number + 1) bytes 0 =
       packet_taken app name number got left ∙ rw (fits, last) refl ∙ ap (λ l. closes o app name (number + 1) l 0) whole in
       let means : write_means o app name bytes None ≡ done_with app name bytes = rw (sym (ap length whole)) (rw fits refl) in
       let count : full_packets areas.out (length left) ≡ 0 = none_full room (length left) short in
@@ -125,7 +125,7 @@ module _ {S : Type 0} (o : Files S) (areas : Areas) where
       let a = ack (number + 1) in
       let transfer = writing name (number + 1) (got ++ part) in
       let full : is_last areas.out part ≡ false = le-ltb (length part) room long in
-      let is : takes o areas v m ≡ goes_on app transfer a = packet_taken app name number got part ∙ rw (fits, full) refl in
+      let is : foe_takes o areas v m ≡ goes_on app transfer a = packet_taken app name number got part ∙ rw (fits, full) refl in
       subst (Stores app handled name bytes number got (suc n) most) (sym (talk_onward o areas turns v m a (goes_on app transfer a) ms is refl refl))
       (carried_more o areas v (write_means o app name bytes None) (acks_end (suc n) (number + 1)) (acks_end n (number + 1 + 1)) most fewer m a transfer is less
       (more_reads n (number + 1)) (talk o areas turns (gone_on o areas v transfer) ms) later)

@@ -33,19 +33,19 @@ by_kind FoE body = body_heard body
 by_kind Error body = if is_error body then failed (number_at 2 body 2) else other body
 by_kind _ body = other body
 
-abbrev pub mail_heard : Mail → FoeMail
-mail_heard m = by_kind m.kind m.body.items
+abbrev pub foe_mail_heard : Mail → FoeMail
+foe_mail_heard m = by_kind m.kind m.body.items
 
 -- a mail with this body, to nobody and not yet counted
 abbrev pub mail_with : Kind → List ℕ → Mail
 mail_with kind body = record { address = 0; kind = kind; counter = 0; body = record { items = body } }
 
-abbrev pub mail_written : FoeMail → Mail
-mail_written (mail f) = mail_with FoE (foe_text f)
-mail_written (unread fault) = mail_with FoE []
-mail_written (failed detail) = error_of detail
-mail_written (other body) = mail_with VoE body
+abbrev pub foe_mail_written : FoeMail → Mail
+foe_mail_written (mail f) = mail_with FoE (foe_text f)
+foe_mail_written (unread fault) = mail_with FoE []
+foe_mail_written (failed detail) = error_of detail
+foe_mail_written (other body) = mail_with VoE body
 
 -- FoE as an exchange of mailbox mails
 abbrev pub foe_mail_exchange : {S : Type 0} → Files S → Areas → Exchange (Server S) S Mail Service Reply
-foe_mail_exchange o areas = lifted (foe_exchange o areas) mail_heard mail_written
+foe_mail_exchange o areas = lifted (foe_exchange o areas) foe_mail_heard foe_mail_written

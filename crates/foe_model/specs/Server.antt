@@ -109,19 +109,19 @@ takes_unread app transfer Opcode = ended app transfer (refusal 0x8004)
 takes_unread app transfer Name = ended app transfer (refusal 0x8001)
 
 -- out is the length of the mailbox that requests go through, back that of the one for answers
-abbrev pub takes : {S : Type 0} → Files S → ℕ → ℕ → S → Transfer → Foe → Outcome S
-takes o out back app transfer (Read pass name) = takes_read o back app name.items pass
-takes o out back app transfer (Write pass name) = takes_write o app name.items pass
-takes o out back app transfer (Data packet bytes) = takes_data o out app transfer packet bytes.items
-takes o out back app transfer (Ack packet) = takes_ack back app transfer packet
-takes o out back app transfer (Error code) = silent app idle
-takes o out back app transfer (Busy done entire) = ended app idle (refusal 0x8004)
+abbrev pub foe_takes : {S : Type 0} → Files S → ℕ → ℕ → S → Transfer → Foe → Outcome S
+foe_takes o out back app transfer (Read pass name) = takes_read o back app name.items pass
+foe_takes o out back app transfer (Write pass name) = takes_write o app name.items pass
+foe_takes o out back app transfer (Data packet bytes) = takes_data o out app transfer packet bytes.items
+foe_takes o out back app transfer (Ack packet) = takes_ack back app transfer packet
+foe_takes o out back app transfer (Error code) = silent app idle
+foe_takes o out back app transfer (Busy done entire) = ended app idle (refusal 0x8004)
 
-abbrev pub outcome : {S : Type 0} → Files S → ℕ → ℕ → S → Transfer → FoeMail → Outcome S
-outcome o out back app transfer (mail f) = takes o out back app transfer f
-outcome o out back app transfer (unread fault) = takes_unread app transfer fault
-outcome o out back app transfer (failed detail) = silent app transfer
-outcome o out back app transfer (other body) = silent app transfer
+abbrev pub foe_outcome : {S : Type 0} → Files S → ℕ → ℕ → S → Transfer → FoeMail → Outcome S
+foe_outcome o out back app transfer (mail f) = foe_takes o out back app transfer f
+foe_outcome o out back app transfer (unread fault) = takes_unread app transfer fault
+foe_outcome o out back app transfer (failed detail) = silent app transfer
+foe_outcome o out back app transfer (other body) = silent app transfer
 
 -- a server, with the number of services that it has carried out
 pub record Server (S : Type 0) : Type 0 where
@@ -138,4 +138,4 @@ behind handled x = (record { app = x.app; handled = one_more x.counts handled; t
 
 -- one mail taken: the server behind it, and what it gives
 abbrev pub serve : {S : Type 0} → Files S → ℕ → ℕ → Server S → FoeMail → Server S × List FoeMail
-serve o out back v m = behind v.handled (outcome o out back v.app v.transfer m)
+serve o out back v m = behind v.handled (foe_outcome o out back v.app v.transfer m)

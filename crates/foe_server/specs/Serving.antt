@@ -5,7 +5,7 @@ use Rattle.file_store.specs.Stored.{Stored, part_octets}
 use Rattle.mailbox_mail.specs.declared.mail.Mail.{Mail}
 use Rattle.foe_model.specs.Mails.{Foe, Data, Ack, Error, Busy, FoeMail, mail, failed}
 use Rattle.foe_model.specs.Server.{Transfer, idle, reading, writing, closing, Outcome, packet_of}
-use Rattle.foe_model.specs.Octets.{mail_written}
+use Rattle.foe_model.specs.Octets.{foe_mail_written}
 use Rattle.foe_server.specs.declared.state.State.{State}
 use Rattle.foe_server.specs.declared.state.Pending.{Pending}
 
@@ -86,7 +86,7 @@ reply_mail (Err detail) = failed detail
 -- the mail that waits, and behind it none
 pub record GivesNext (old : Serving) (store : Stored) (written : Mail) (new : Serving) : Type 0 where
   pub first : FoeMail
-  pub spelled : written ≡ mail_written first
+  pub spelled : written ≡ foe_mail_written first
   pub waited : waiting_mails old store ≡ first ∷ []
   pub rest : new ≡ record old { pending = Pending.Nothing }
 

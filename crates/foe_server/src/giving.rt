@@ -2,7 +2,7 @@ ghost use Rattle.std.specs.Prelude.{◌≡◌, ◌≢◌, ◌≤◌, ◌+◌, �
 ghost use Rattle.file_store.specs.Files.{get};
 ghost use Rattle.foe_codec.specs.Message.{IsSpellable};
 ghost use Rattle.foe_model.specs.Mails.{mail};
-ghost use Rattle.foe_model.specs.Octets.{mail_written};
+ghost use Rattle.foe_model.specs.Octets.{foe_mail_written};
 ghost use Rattle.foe_server.specs.Serving.{Serving, waiting_mails, reply_mail, GivesNext, IsShort};
 
 use crate::server::{FoeServer, PACKET_HEAD};
@@ -26,7 +26,7 @@ fn part_of(store: &Store, name: &[u8], from: usize, most: usize) -> ArrayVec<u8,
 // The mail of a message, to nobody and not yet counted.
 fn written(message: &Foe) -> Mail
     requires { IsSpellable message.now }
-    ensures { result ≡ mail_written (mail message.now) }
+    ensures { result ≡ foe_mail_written (mail message.now) }
 {
     let mut body = ArrayVec::new();
     foe_codec::write(message, &mut body);

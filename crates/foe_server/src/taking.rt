@@ -1,7 +1,7 @@
 ghost use Rattle.std.specs.Prelude.{◌≡◌, ◌≤◌, ◌+◌, ℕ, true, is_some, length, drop, None};
 ghost use Rattle.file_store.specs.Files.{file_of, get};
 ghost use Rattle.file_store.specs.Stored.{Stored, part_octets};
-ghost use Rattle.foe_model.specs.Server.{takes_read, takes_write, takes_data, stores, closes, takes_ack, continues, takes, takes_unread, outcome};
+ghost use Rattle.foe_model.specs.Server.{takes_read, takes_write, takes_data, stores, closes, takes_ack, continues, foe_takes, takes_unread, foe_outcome};
 ghost use Rattle.foe_model.specs.Octets.{body_heard};
 ghost use Rattle.foe_server.specs.Stores.{store_files};
 ghost use Rattle.foe_server.specs.Serving.{Serving, Serves, IsWriting, transfer_of, outcome_of, told_of};
@@ -179,7 +179,7 @@ impl FoeServer {
 
     fn take_message(&mut self, store: &mut Store, al: u8, message: &Foe) -> bool
         requires serves { Serves self.old store.old }
-        ensures does { takes (store_files al) self.old.out self.old.back store.old.kept (transfer_of self.old store.old) message.now ≡ outcome_of store.new self.new result }
+        ensures does { foe_takes (store_files al) self.old.out self.old.back store.old.kept (transfer_of self.old store.old) message.now ≡ outcome_of store.new self.new result }
         ensures serves { Serves self.new store.new }
         ensures out { self.new.out ≡ self.old.out }
         ensures back { self.new.back ≡ self.old.back }
@@ -217,7 +217,7 @@ impl FoeServer {
     pub fn take(&mut self, store: &mut Store, al: u8, body: &[u8]) -> bool
         requires body { length body.now ≤ 1480 }
         requires serves { Serves self.old store.old }
-        ensures does { outcome (store_files al) self.old.out self.old.back store.old.kept (transfer_of self.old store.old) (body_heard body.now) ≡ outcome_of store.new self.new result }
+        ensures does { foe_outcome (store_files al) self.old.out self.old.back store.old.kept (transfer_of self.old store.old) (body_heard body.now) ≡ outcome_of store.new self.new result }
         ensures serves { Serves self.new store.new }
         ensures out { self.new.out ≡ self.old.out }
         ensures back { self.new.back ≡ self.old.back }

@@ -4,7 +4,7 @@ use Rattle.mailbox_mail.specs.declared.mail.Mail.{Mail}
 use Rattle.soe_model.specs.Elements.{Target}
 use Rattle.soe_model.specs.Mails.{Soe, SoeMail, mail, failed, message, refusal, fragments}
 use Rattle.soe_model.specs.Server.{Join, Outcome}
-use Rattle.soe_model.specs.Octets.{mail_written}
+use Rattle.soe_model.specs.Octets.{soe_mail_written}
 use Rattle.soe.specs.declared.state.Subject.{Subject}
 use Rattle.soe.specs.declared.state.Common.{Common}
 use Rattle.soe.specs.declared.state.Pending.{Pending}
@@ -70,5 +70,5 @@ reply_mail (Err detail) = failed detail
 -- the first of the mails that wait
 pub record GivesNext (old : Serving) (written : Mail) (new : Serving) : Type 0 where
   pub first : SoeMail
-  pub spelled : written ≡ mail_written first
+  pub spelled : written ≡ soe_mail_written first
   pub rest : waiting_mails old ≡ first ∷ waiting_mails new

@@ -5,7 +5,7 @@ use Rattle.soe_codec.specs.Message.{IsSpellable}
 use Rattle.soe_model.specs.Elements.{Target}
 use Rattle.soe_model.specs.Mails.{Soe, SoeMail, mail, message, fragments}
 use Rattle.soe_model.specs.Client.{Reply, at_end, read_ends, write_ends}
-use Rattle.soe_model.specs.Octets.{mail_written, mail_with}
+use Rattle.soe_model.specs.Octets.{soe_mail_written, mail_with}
 use Rattle.soe.specs.declared.state.Task.{Task}
 use Rattle.soe.specs.declared.state.Unsent.{Unsent}
 use Rattle.soe.specs.declared.state.Awaits.{Awaits}
@@ -80,6 +80,6 @@ NextIs (Some s) old new = (left old ≡ mail s ∷ left new) × IsSpellable s ×
 -- WHAT GOES OUT: the first of the mails that the client has left, in its one spelling
 pub record SendsNext (old : Talking) (octets : List ℕ) (new : Talking) : Type 0 where
   pub next : SoeMail
-  pub spelled : mail_written next ≡ mail_with SoE octets
+  pub spelled : soe_mail_written next ≡ mail_with SoE octets
   pub mails : left old ≡ next ∷ left new
   pub room : new.room ≡ old.room

@@ -1,7 +1,7 @@
 ghost use Rattle.std.specs.Prelude.{◌≡◌, ◌≢◌, ◌≤◌, ◌+◌, ◌-◌, ◌↔◌, [], ◌∷◌, false, length, drop, take, IfOk};
 ghost use Rattle.soe_codec.specs.Message.{IsSpellable};
 ghost use Rattle.soe_model.specs.Mails.{mail};
-ghost use Rattle.soe_model.specs.Octets.{mail_written};
+ghost use Rattle.soe_model.specs.Octets.{soe_mail_written};
 ghost use Rattle.soe.specs.Serving.{join_of, waiting_mails, reply_mail, GivesNext};
 
 use crate::making::{from, message, refusal, upto};
@@ -15,7 +15,7 @@ use soe_codec::{READ_ANSWER, Soe, WRITE_ANSWER};
 // The mail of a message, to nobody and not yet counted.
 fn written(message: &Soe) -> Mail
     requires { IsSpellable message.now }
-    ensures { result ≡ mail_written (mail message.now) }
+    ensures { result ≡ soe_mail_written (mail message.now) }
 {
     let mut body = ArrayVec::new();
     soe_codec::write(message, &mut body);

@@ -1,6 +1,6 @@
 ghost use Rattle.std.specs.Prelude.{◌≡◌, ◌≤◌, ◌+◌, length};
 ghost use Rattle.soe_model.specs.Client.{is_answer, is_refusal};
-ghost use Rattle.soe_model.specs.Octets.{body_heard, mail_heard};
+ghost use Rattle.soe_model.specs.Octets.{body_heard, soe_mail_heard};
 ghost use Rattle.soe.specs.Serving.{subject_view};
 ghost use Rattle.soe.specs.Talk.{about};
 ghost use Rattle.soe.specs.Hear.{closed, valued, hear_refusal, hear_part, hear_answer, hear_message, hear_failed, hear_mail, TookIs};
@@ -124,7 +124,7 @@ impl SoeClient {
     }
 
     fn hear_mail(&mut self, mail: &Mail) -> Took
-        ensures { (result, self.new) ≡ hear_mail self.old (mail_heard mail.now) }
+        ensures { (result, self.new) ≡ hear_mail self.old (soe_mail_heard mail.now) }
     {
         let body = mail.body.as_slice();
         match mail.kind {
@@ -143,7 +143,7 @@ impl SoeClient {
     /// it is awaited and the reply isn't complete yet; `Foreign` where it is none that may come next, and then the client is unchanged
     /// (ETG.1000.6, "SoE").
     pub fn take(&mut self, mail: &Mail) -> Took
-        ensures { TookIs result self.old (mail_heard mail.now) self.new }
+        ensures { TookIs result self.old (soe_mail_heard mail.now) self.new }
     {
         let _ = &self.awaits;
         self.hear_mail(mail)

@@ -1,6 +1,6 @@
 ghost use Rattle.std.specs.Prelude.{◌≡◌, ◌≤◌, ◌<◌, ◌+◌, ◌^◌, ◌++◌, true, false, IsTrue, length, Err, None};
 ghost use Rattle.soe_codec.specs.Message.{IsSpellable, soe_read};
-ghost use Rattle.soe_model.specs.Server.{ahead, gathered, asked, written, takes, takes_whole, takes_unread, outcome};
+ghost use Rattle.soe_model.specs.Server.{ahead, gathered, asked, written, soe_takes, takes_whole, takes_unread, soe_outcome};
 ghost use Rattle.soe_model.specs.Octets.{body_heard, is_marked};
 ghost use Rattle.soe.specs.Idns.{idn_elements};
 ghost use Rattle.soe.specs.Serving.{subject_of, subject_view, join_of, goes_with, told_of, outcome_of};
@@ -66,7 +66,7 @@ impl SoeServer {
     // A fragment that isn't the last.
     fn take_fragment(&mut self, _idns: &IdnTable, message: &Soe) -> bool
         requires { IsTrue message.now.incomplete }
-        ensures does { takes idn_elements self.old.room _idns.now (join_of self.old) message.now ≡ outcome_of _idns.now self.new result }
+        ensures does { soe_takes idn_elements self.old.room _idns.now (join_of self.old) message.now ≡ outcome_of _idns.now self.new result }
         ensures room { self.new.room ≡ self.old.room }
     {
         self.gather(message);
@@ -155,7 +155,7 @@ impl SoeServer {
 
     fn take_message(&mut self, idns: &mut IdnTable, message: &Soe) -> bool
         requires { IsSpellable message.now }
-        ensures does { takes idn_elements self.old.room idns.old (join_of self.old) message.now ≡ outcome_of idns.new self.new result }
+        ensures does { soe_takes idn_elements self.old.room idns.old (join_of self.old) message.now ≡ outcome_of idns.new self.new result }
         ensures room { self.new.room ≡ self.old.room }
     {
         if message.incomplete {
@@ -196,7 +196,7 @@ impl SoeServer {
     /// mail of 4 octets or more with the incomplete bit carries out none and gets no answer (ETG.1000.6, "SoE").
     pub fn take(&mut self, idns: &mut IdnTable, body: &[u8]) -> bool
         requires { length body.now ≤ 1480 }
-        ensures does { outcome idn_elements self.old.room idns.old (join_of self.old) (body_heard body.now) ≡ outcome_of idns.new self.new result }
+        ensures does { soe_outcome idn_elements self.old.room idns.old (join_of self.old) (body_heard body.now) ≡ outcome_of idns.new self.new result }
         ensures room { self.new.room ≡ self.old.room }
     {
         match soe_codec::read(body) {

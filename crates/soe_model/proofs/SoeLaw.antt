@@ -12,7 +12,7 @@ use Rattle.exchange_model.specs.Exchange.{IsLawful, Before, Behind, after, given
 use Rattle.exchange_model.proofs.Lists.{prefix_refl}
 use Rattle.soe_model.specs.Elements.{Target, Elements, AreLawful}
 use Rattle.soe_model.specs.Mails.{SoeMail, mail, unread, failed, other, is_emission, message, refusal, parts_of, fragments, fragments_of}
-use Rattle.soe_model.specs.Server.{Join, Server, most, ahead, asked, behind, outcome, serve, one_more}
+use Rattle.soe_model.specs.Server.{Join, Server, most, ahead, asked, behind, soe_outcome, serve, one_more}
 use Rattle.soe_model.specs.Client.{Service, read, write, is_target, is_service, mails_of, Reply, read_means, write_means, meaning_of, at_end, is_refusal, refused, is_part, is_incomplete, octets_of, read_ends, is_written, write_ends, ends}
 use Rattle.soe_model.specs.Model.{is_ready, soe_exchange}
 use Rattle.soe_model.proofs.Carries.{Idle, Carried, carried_one, writes, left_by, answer_to}
@@ -265,5 +265,5 @@ module _ {S : Type 0} (o : Elements S) (lawful : AreLawful o) (areas : Areas) (s
     all_planned = λ v q ready valid. refl;
     unanswered = λ q hs posts. absurd (cc);
     some = λ v q ready valid posts. absurd (cc);
-    grows = λ v m. grows (outcome o areas.back v.app v.join m).counts v.handled;
+    grows = λ v m. grows (soe_outcome o areas.back v.app v.join m).counts v.handled;
   }

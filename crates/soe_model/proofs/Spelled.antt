@@ -13,7 +13,7 @@ use Rattle.soe_model.specs.Mails.{Soe, SoeMail, mail, refusal, parts_of, fragmen
 use Rattle.soe_model.specs.Server.{Server, most}
 use Rattle.soe_model.specs.Client.{Service, read, write, is_target, is_service, mails_of}
 use Rattle.soe_model.specs.Model.{is_ready, soe_exchange}
-use Rattle.soe_model.specs.Octets.{heard, mail_heard, mail_written}
+use Rattle.soe_model.specs.Octets.{heard, soe_mail_heard, soe_mail_written}
 use Rattle.soe_model.proofs.Carries.{answer_to}
 use Rattle.soe_model.proofs.SoeLaw.{kept, gives, answer_to_read, both_are}
 
@@ -120,11 +120,11 @@ abbrev HasSpelling : SoeMail → Type 0
 HasSpelling (mail s) = Fits s
 HasSpelling _ = ⊥
 
-reads_back : (m : SoeMail) → HasSpelling m → ReadsBack mail_heard mail_written m
+reads_back : (m : SoeMail) → HasSpelling m → ReadsBack soe_mail_heard soe_mail_written m
 reads_back (mail s) f = ap (heard (soe_text s)) (text_read s f)
 reads_back _ f = absurd f
 
-all_read_back : (ms : List SoeMail) → EachOf HasSpelling ms → EachOf (ReadsBack mail_heard mail_written) ms
+all_read_back : (ms : List SoeMail) → EachOf HasSpelling ms → EachOf (ReadsBack soe_mail_heard soe_mail_written) ms
 all_read_back [] all = tt
 all_read_back (m ∷ ms) all = (reads_back m all.0, all_read_back ms all.1)
 
@@ -193,9 +193,9 @@ module _ {S : Type 0} (o : Elements S) (lawful : AreLawful o) (areas : Areas) (s
       let size = both_are (is_target t) (nat_le (length bytes) most) valid in
       write_spelled t (o.write v.app t bytes) (near_of t size.0)
 
-  pub soe_spells : Spells (soe_exchange o areas) mail_heard mail_written
+  pub soe_spells : Spells (soe_exchange o areas) soe_mail_heard soe_mail_written
   soe_spells = record {
     told = λ v q ready valid. all_read_back (mails_of areas.out q) (told q valid);
-    answered = λ v q ready valid. subst (EachOf (ReadsBack mail_heard mail_written)) (sym (kept o lawful areas sized v q ready valid).given)
+    answered = λ v q ready valid. subst (EachOf (ReadsBack soe_mail_heard soe_mail_written)) (sym (kept o lawful areas sized v q ready valid).given)
         (all_read_back (gives o lawful areas sized v q) (answered v q ready valid));
   }

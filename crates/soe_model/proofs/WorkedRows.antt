@@ -7,7 +7,7 @@ use Rattle.soe_model.specs.Elements.{Target, Elements}
 use Rattle.soe_model.specs.Mails.{mail, unread, failed, Short, Opcode, Incomplete, message, refusal}
 use Rattle.soe_model.specs.Server.{Server, serve}
 use Rattle.soe_model.specs.Client.{read, write, mails_of, ends}
-use Rattle.soe_model.specs.Octets.{mail_heard, mail_written, mail_with}
+use Rattle.soe_model.specs.Octets.{soe_mail_heard, soe_mail_written, mail_with}
 
 abbrev is_value : Target → Bool
 is_value t = t.drive == 0 && t.idn == 200 && t.elements == 0x40
@@ -36,10 +36,10 @@ two_mails = refl
 one_mail : mails_of 64 (write value (replicate 54 7)) ≡ mail (message 3 false value 200 (replicate 54 7)) ∷ []
 one_mail = refl
 
-first_written : mail_written (mail (message 3 true value 1 (7 ∷ []))) ≡ mail_with SoE (0x0B ∷ 0x40 ∷ 0x01 ∷ 0x00 ∷ 7 ∷ [])
+first_written : soe_mail_written (mail (message 3 true value 1 (7 ∷ []))) ≡ mail_with SoE (0x0B ∷ 0x40 ∷ 0x01 ∷ 0x00 ∷ 7 ∷ [])
 first_written = refl
 
-last_written : mail_written (mail (message 3 false value 200 (7 ∷ []))) ≡ mail_with SoE (0x03 ∷ 0x40 ∷ 0xC8 ∷ 0x00 ∷ 7 ∷ [])
+last_written : soe_mail_written (mail (message 3 false value 200 (7 ∷ []))) ≡ mail_with SoE (0x03 ∷ 0x40 ∷ 0xC8 ∷ 0x00 ∷ 7 ∷ [])
 last_written = refl
 
 -- they write the value, and are one service
@@ -61,7 +61,7 @@ reads_whole : ends (read value) (mail (message 2 true value 9 (1 ∷ 2 ∷ [])) 
 reads_whole = refl
 
 -- a refusal has the error bit, the flags and the IDN of the request, and the code
-refusal_written : mail_written (mail (refusal 4 (record { drive = 0; idn = 100; elements = 0x40 }) 0x7007)) ≡ mail_with SoE (0x14 ∷ 0x40 ∷ 0x64 ∷ 0x00 ∷ 0x07 ∷ 0x70 ∷ [])
+refusal_written : soe_mail_written (mail (refusal 4 (record { drive = 0; idn = 100; elements = 0x40 }) 0x7007)) ≡ mail_with SoE (0x14 ∷ 0x40 ∷ 0x64 ∷ 0x00 ∷ 0x07 ∷ 0x70 ∷ [])
 refusal_written = refl
 
 refused : ends (write value (7 ∷ [])) (mail (refusal 4 value 0x7007) ∷ []) ≡ Some (ReplyKind.SoeError 0x7007, [])
@@ -89,8 +89,8 @@ errors : given (serve one_idn 64) fresh (unread Short false ∷ unread Opcode fa
 errors = refl
 
 -- octets of mails
-short_heard : mail_heard (mail_with SoE (0x0B ∷ 0x40 ∷ 0x01 ∷ [])) ≡ unread Short true
+short_heard : soe_mail_heard (mail_with SoE (0x0B ∷ 0x40 ∷ 0x01 ∷ [])) ≡ unread Short true
 short_heard = refl
 
-opcode_heard : mail_heard (mail_with SoE (0x08 ∷ 0x40 ∷ 0x01 ∷ 0x00 ∷ [])) ≡ unread Opcode true
+opcode_heard : soe_mail_heard (mail_with SoE (0x08 ∷ 0x40 ∷ 0x01 ∷ 0x00 ∷ [])) ≡ unread Opcode true
 opcode_heard = refl

@@ -38,19 +38,19 @@ by_kind Error body = if is_error body then failed (number_at 2 body 2) else othe
 by_kind _ body = other body
 
 -- what a mailbox mail reads as
-abbrev pub mail_heard : Mail → SoeMail
-mail_heard m = by_kind m.kind m.body.items
+abbrev pub soe_mail_heard : Mail → SoeMail
+soe_mail_heard m = by_kind m.kind m.body.items
 
 -- a mail with this body, to nobody and not yet counted
 abbrev pub mail_with : Kind → List ℕ → Mail
 mail_with kind body = record { address = 0; kind = kind; counter = 0; body = record { items = body } }
 
-abbrev pub mail_written : SoeMail → Mail
-mail_written (mail s) = mail_with SoE (soe_text s)
-mail_written (unread fault incomplete) = mail_with SoE []
-mail_written (failed detail) = error_of detail
-mail_written (other body) = mail_with VoE body
+abbrev pub soe_mail_written : SoeMail → Mail
+soe_mail_written (mail s) = mail_with SoE (soe_text s)
+soe_mail_written (unread fault incomplete) = mail_with SoE []
+soe_mail_written (failed detail) = error_of detail
+soe_mail_written (other body) = mail_with VoE body
 
 -- SoE as an exchange of mailbox mails
 abbrev pub soe_mail_exchange : {S : Type 0} → Elements S → Areas → Exchange (Server S) S Mail Service Reply
-soe_mail_exchange o areas = lifted (soe_exchange o areas) mail_heard mail_written
+soe_mail_exchange o areas = lifted (soe_exchange o areas) soe_mail_heard soe_mail_written

@@ -67,8 +67,8 @@ takes_whole o room app join s =
     else if s.opcode == 3 then written app (target_of s) (o.write app (target_of s) (gathered join s))
     else answered app None (failed 4 ∷ [])
 
-abbrev pub takes : {S : Type 0} → Elements S → ℕ → S → Option Join → Soe → Outcome S
-takes o room app join s = if s.incomplete then silent app (Some (joined join s)) else takes_whole o room app join s
+abbrev pub soe_takes : {S : Type 0} → Elements S → ℕ → S → Option Join → Soe → Outcome S
+soe_takes o room app join s = if s.incomplete then silent app (Some (joined join s)) else takes_whole o room app join s
 
 -- a mail that does not read leaves the join. With the incomplete bit it gets no answer; a short one is answered by mailbox error 6, an unknown
 -- opcode by 4
@@ -78,11 +78,11 @@ takes_unread app join Opcode incomplete = if incomplete then silent app join els
 takes_unread app join Incomplete incomplete = silent app join
 
 -- any mail. A mailbox error and a mail of another protocol are none of a server's
-abbrev pub outcome : {S : Type 0} → Elements S → ℕ → S → Option Join → SoeMail → Outcome S
-outcome o room app join (mail s) = takes o room app join s
-outcome o room app join (unread fault incomplete) = takes_unread app join fault incomplete
-outcome o room app join (failed detail) = silent app join
-outcome o room app join (other body) = silent app join
+abbrev pub soe_outcome : {S : Type 0} → Elements S → ℕ → S → Option Join → SoeMail → Outcome S
+soe_outcome o room app join (mail s) = soe_takes o room app join s
+soe_outcome o room app join (unread fault incomplete) = takes_unread app join fault incomplete
+soe_outcome o room app join (failed detail) = silent app join
+soe_outcome o room app join (other body) = silent app join
 
 -- a server, with the number of services that it has carried out
 pub record Server (S : Type 0) : Type 0 where
@@ -101,4 +101,4 @@ behind handled x = (record { app = x.app; handled = one_more x.counts handled; j
 
 -- one mail taken: the server behind it, and what it gives
 abbrev pub serve : {S : Type 0} → Elements S → ℕ → Server S → SoeMail → Server S × List SoeMail
-serve o room v m = behind v.handled (outcome o room v.app v.join m)
+serve o room v m = behind v.handled (soe_outcome o room v.app v.join m)

@@ -1,10 +1,10 @@
 use Rattle.exchange_model.proofs.Lifting.{lifted_law}
 use Rattle.coe_model.specs.Model.{coe_exchange}
-use Rattle.coe_model.specs.Octets.{mail_heard, mail_written}
+use Rattle.coe_model.specs.Octets.{coe_mail_heard, coe_mail_written}
 use Rattle.coe_model.proofs.CoeLaw.{coe_law}
 use Rattle.coe_model.proofs.Spelled.{coe_spells}
 use Rattle.coe_model.proofs.coe_mails_are_lawful.Goals as goal
 
 pub returns : goal.returns
 returns g c = λ o eoe areas law spelled sized.
-    lifted_law (coe_exchange o eoe areas) mail_heard mail_written (coe_law o law eoe areas sized) (coe_spells o law spelled eoe areas sized)
+    lifted_law (coe_exchange o eoe areas) coe_mail_heard coe_mail_written (coe_law o law eoe areas sized) (coe_spells o law spelled eoe areas sized)

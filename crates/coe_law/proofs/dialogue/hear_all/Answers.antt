@@ -2,7 +2,7 @@ use Rattle.std.proofs.Common.{List, [], ◌∷◌, ◌++◌, subst, ap, arith, �
 use Rattle.exchange_model.specs.Areas.{Areas}
 use Rattle.exchange_model.specs.Exchange.{plain}
 use Rattle.coe_model.specs.Mails.{CoeMail, is_emission}
-use Rattle.coe_model.specs.Octets.{mail_heard}
+use Rattle.coe_model.specs.Octets.{coe_mail_heard}
 use Rattle.coe_server.specs.Serving.{waiting_mails}
 use Rattle.coe_law.specs.Talks.{emission_mails, IsAwaited}
 use Rattle.coe_law.proofs.Hearing.{carried_is, one_more, few_left, emerged, awaited_behind, hears_more, first_given}
@@ -15,12 +15,12 @@ answer-heard-requires c =
 
 pub hear-requires-clause-given : goal.hear-requires-clause-given
 hear-requires-clause-given c =
-    first_given c.loop-server.server (mail_heard c.answer-heard.result) (waiting_mails c.next-given.new.self) (carried_is c.loop-server.server c.next-given.new.self c.next-given.result c.answer-heard.result c.answer-heard.ensures.heard c.next-given.ensures.next)
+    first_given c.loop-server.server (coe_mail_heard c.answer-heard.result) (waiting_mails c.next-given.new.self) (carried_is c.loop-server.server c.next-given.new.self c.next-given.result c.answer-heard.result c.answer-heard.ensures.heard c.next-given.ensures.next)
 
 pub hear-requires-clause-awaited : goal.hear-requires-clause-awaited
 hear-requires-clause-awaited c =
     let i = c.loop-server.invariant in
-    let m = mail_heard c.answer-heard.result in
+    let m = coe_mail_heard c.answer-heard.result in
     let more = waiting_mails c.next-given.new.self in
     let is = carried_is c.loop-server.server c.next-given.new.self c.next-given.result c.answer-heard.result c.answer-heard.ensures.heard c.next-given.ensures.next in
     let split = one_more (waiting_mails c.args.server.now) i.0 (waiting_mails c.loop-server.server) m more i.1 is in
@@ -29,7 +29,7 @@ hear-requires-clause-awaited c =
 pub hear-requires-clause-one : goal.hear-requires-clause-one
 hear-requires-clause-one c =
     let i = c.loop-server.invariant in
-    let m = mail_heard c.answer-heard.result in
+    let m = coe_mail_heard c.answer-heard.result in
     let more = waiting_mails c.next-given.new.self in
     let is = carried_is c.loop-server.server c.next-given.new.self c.next-given.result c.answer-heard.result c.answer-heard.ensures.heard c.next-given.ensures.next in
     let split = one_more (waiting_mails c.args.server.now) i.0 (waiting_mails c.loop-server.server) m more i.1 is in
@@ -38,7 +38,7 @@ hear-requires-clause-one c =
 pub loop-server-preserved : goal.loop-server-preserved
 loop-server-preserved c =
     let i = c.loop-server.invariant in
-    let m = mail_heard c.answer-heard.result in
+    let m = coe_mail_heard c.answer-heard.result in
     let more = waiting_mails c.next-given.new.self in
     let is = carried_is c.loop-server.server c.next-given.new.self c.next-given.result c.answer-heard.result c.answer-heard.ensures.heard c.next-given.ensures.next in (
       i.0 ++ m ∷ [],

@@ -1,6 +1,6 @@
 use Rattle.exchange_model.proofs.Lifting.{lifted_law}
 use Rattle.foe_model.specs.Model.{foe_exchange}
-use Rattle.foe_model.specs.Octets.{mail_heard, mail_written}
+use Rattle.foe_model.specs.Octets.{foe_mail_heard, foe_mail_written}
 use Rattle.foe_model.proofs.FoeLaw.{foe_law}
 use Rattle.foe_model.proofs.Spelled.{foe_spells}
 use Rattle.foe_server.specs.Stores.{store_files}
@@ -15,5 +15,5 @@ returns-clause-spelled c = files_are_spelled
 
 pub returns-clause-exchange : goal.returns-clause-exchange
 returns-clause-exchange c = λ al areas sized.
-    lifted_law (foe_exchange (store_files al) areas) mail_heard mail_written (foe_law (store_files al) (files_are_lawful al) areas sized)
+    lifted_law (foe_exchange (store_files al) areas) foe_mail_heard foe_mail_written (foe_law (store_files al) (files_are_lawful al) areas sized)
     (foe_spells (store_files al) (files_are_lawful al) (files_are_spelled al) areas sized)
