@@ -9,7 +9,7 @@ mod octets;
 mod rows;
 mod transfer;
 
-pub use buffer::buffer_of;
+pub use buffer::{append, append_u8, append_u16, append_u32, buffer_of, refill, refill_parts};
 pub use fields::{bits, put_bits, put_u16, put_u32, u8_at, u16_at, u32_at};
 pub use memory::NoMemory;
 pub use octets::Octets;

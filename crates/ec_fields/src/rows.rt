@@ -3,6 +3,7 @@ ghost use Rattle.std.specs.Option.{option_copied};
 ghost use Rattle.std.specs.Borrow.{sem};
 ghost use Rattle.ec_fields.specs.Rows.{LendsRow};
 
+use crate::memory::NoMemory;
 use std::alloc::Global;
 use std::marker::Model;
 
@@ -85,5 +86,18 @@ impl<T> Rows<T> {
         ensures { result.now ≡ self.now }
     {
         self.rows.as_slice()
+    }
+}
+
+impl<T: Drop> Rows<T> {
+    /// Appends a row. After `NoMemory` the list is as before, and the row is gone.
+    pub fn add(&mut self, row: T) -> Result<(), NoMemory>
+        ensures ok { OnOk result (self.new ≡ self.old ++ row ∷ []) }
+        ensures err { OnErr result (self.new ≡ self.old) }
+    {
+        match self.push(row) {
+            Ok(()) => Ok(()),
+            Err(_) => Err(NoMemory),
+        }
     }
 }

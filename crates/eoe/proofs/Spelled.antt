@@ -6,42 +6,15 @@ use Rattle.std.proofs.lemmas.List.{get_or-drop, drop_more}
 use Rattle.arrayvec.specs.ArrayVec.{ArrayVec}
 use Rattle.byteorder.specs.Endian.{little_bytes}
 use Rattle.ec_fields.specs.Fields.{number_at, bits_of}
+use Rattle.ec_fields.proofs.Cells.{AreOctets, words_here, two_fits}
 use Rattle.eoe.specs.declared.message.Eoe.{Eoe}
 use Rattle.eoe.specs.declared.message.Eoe.TheVariants.{Fragment as Part, SetIp, SetIpAnswer, GetIp, GetIpAnswer}
 use Rattle.eoe.specs.declared.message.EoeFault.{EoeFault}
 use Rattle.eoe.specs.declared.message.EoeFault.TheVariants.{Short, WrongType, Offset}
 use Rattle.eoe.specs.declared.message.Fragment.{Fragment}
 use Rattle.eoe.specs.Message.{IsWhole, Says, IsEoe, fragment_in, message_in, eoe_read}
-
--- each is below 256
-abbrev AreOctets : List ℕ → Type 0
-AreOctets octets = (i : ℕ) → get_or octets i 0 < 256
-
-two_bytes : (a b : ℕ) → a < 256 → b < 256 → little_bytes 2 (a + 256 * (b + 256 * 0)) ≡ a ∷ b ∷ []
-two_bytes a b ha hb =
-    let low : (a + 256 * (b + 256 * 0)) % 256 ≡ a = omega arith in
-    let high : (a + 256 * (b + 256 * 0)) / 256 % 256 ≡ b = omega arith in
-    rw (low, high) refl
-
-fits_two : (a b : ℕ) → a < 256 → b < 256 → a + 256 * (b + 256 * 0) < 2 ^ 16
-fits_two a b ha hb = omega arith
-
-next_cell : (octets rest : List ℕ) (i : ℕ) → i < length octets → drop (i + 1) octets ≡ rest → drop i octets ≡ get_or octets i 0 ∷ rest
-next_cell octets rest i h e = drop_more octets i 0 h ∙ ap (λ (x : List ℕ). get_or octets i 0 ∷ x) e
-
-cell_two : (octets : List ℕ) → number_at 2 octets 2 ≡ get_or octets 2 0 + 256 * (get_or octets 3 0 + 256 * 0)
-cell_two octets = rw (get_or-drop 2 octets 0 0, get_or-drop 2 octets 1 0) refl
-
--- the two words and the octets behind them
-words_here : (body : List ℕ) → AreOctets body → 4 ≤ length body
-    → body ≡ little_bytes 2 (number_at 2 body 0) ++ (little_bytes 2 (number_at 2 body 2) ++ drop 4 body)
-words_here body o long =
-    let cells : body ≡ get_or body 0 0 ∷ get_or body 1 0 ∷ get_or body 2 0 ∷ get_or body 3 0 ∷ drop 4 body =
-    next_cell body _ 0 (omega arith) (next_cell body _ 1 (omega arith) (next_cell body _ 2 (omega arith) (next_cell body _ 3 (omega arith) refl))) in
-    let first = two_bytes (get_or body 0 0) (get_or body 1 0) (o 0) (o 1) in
-    let second = ap (little_bytes 2) (cell_two body) ∙ two_bytes (get_or body 2 0) (get_or body 3 0) (o 2) (o 3) in
-    cells ∙ sym (ap (λ (x : List ℕ). x ++ (little_bytes 2 (number_at 2 body 2) ++ drop 4 body)) first
-    ∙ ap (λ (x : List ℕ). get_or body 0 0 ∷ get_or body 1 0 ∷ (x ++ drop 4 body)) second)
+use Rattle.eoe.specs.View.{eoe_seen, seen}
+use Rattle.eoe.specs.declared.viewing.EoeView.{EoeView}
 
 twice : (b : Bool) → (true && not b) ≡ false → b ≡ true
 twice true e = refl
@@ -106,11 +79,11 @@ eoe_read-found body e o h =
       second = number_at 2 body 2;
       rest = drop 4 body;
       text = words_here body o long;
-      first_fits = fits_two (get_or body 0 0) (get_or body 1 0) (o 0) (o 1);
-      second_fits = subst (λ (v : ℕ). v < 2 ^ 16) (sym (cell_two body)) (fits_two (get_or body 2 0) (get_or body 3 0) (o 2) (o 3));
+      first_fits = two_fits body 0 o;
+      second_fits = two_fits body 2 o;
       says = message_says (number_at 2 body 0) (number_at 2 body 2) (drop 4 body) e t.1;
     }
 
-pub found_in : (body : List ℕ) (r : Result Eoe EoeFault) → AreOctets body → r ≡ eoe_read body → IfOk r (IsEoe body)
-found_in body (Ok e) o h = eoe_read-found body e o (sym h)
+pub found_in : (body : List ℕ) (r : Result EoeView EoeFault) → AreOctets body → seen r ≡ eoe_read body → IfOk r (λ v. IsEoe body (eoe_seen v))
+found_in body (Ok v) o h = eoe_read-found body (eoe_seen v) o (sym h)
 found_in body (Err f) o h = tt

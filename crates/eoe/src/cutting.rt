@@ -2,7 +2,7 @@ ghost use Rattle.std.specs.Prelude.{◌≡◌, ◌≤◌, ◌<◌, ◌*◌, ◌/
 ghost use Rattle.eoe.specs.Cutting.{blocks_of, next_fragment, cutting_after};
 
 use crate::message::{Fragment, Packet};
-use crate::reading::BLOCK;
+use crate::viewing::BLOCK;
 use ec_fields::buffer_of;
 use std::marker::Model;
 

@@ -5,7 +5,7 @@ ghost use Rattle.eoe.specs.Joining.{is_awaited, awaited, added, extended, payloa
 
 use crate::cutting::blocks;
 use crate::message::{Fragment, Packet};
-use crate::reading::BLOCK;
+use crate::viewing::BLOCK;
 use std::marker::Model;
 
 /// The least and the greatest packet.

@@ -9,6 +9,7 @@ mod message;
 mod reading;
 #[cfg(test)]
 mod tests;
+mod viewing;
 mod writing;
 
 pub use address::{first_block, is_block};
@@ -16,4 +17,5 @@ pub use cutting::{Fragmenter, cut};
 pub use joining::{Joined, Reassembler, Unfinished};
 pub use message::{Block, Eoe, EoeFault, Fragment, Packet};
 pub use reading::read;
-pub use writing::write;
+pub use viewing::{EoeView, FragmentView, fragment_of, view, view_of};
+pub use writing::{write, write_view};

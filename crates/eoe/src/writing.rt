@@ -1,73 +1,87 @@
-ghost use Rattle.std.specs.Prelude.{◌≡◌, ◌≤◌, ◌+◌, ◌++◌, length};
-ghost use Rattle.byteorder.specs.Endian.{little_bytes};
-ghost use Rattle.eoe.specs.Message.{IsEoe, IsSpellable, first_of, second_of, octets_of, eoe_text};
+ghost use Rattle.std.specs.Prelude.{◌≡◌, ◌≤◌, length};
+ghost use Rattle.eoe.specs.Message.{IsEoe, IsFragment, IsSpellable, first_of, second_of, octets_of, eoe_text};
+ghost use Rattle.eoe.specs.View.{fragment_seen, eoe_seen, IsCapped};
 
-use crate::message::{Eoe, Fragment};
+use crate::message::Eoe;
+use crate::viewing::{EoeView, FragmentView, view_of};
 use arrayvec::ArrayVec;
-use ec_fields::buffer_of;
+use ec_fields::refill_parts;
 
 const LAST: u16 = 0x0100;
 
 const STAMPED: u16 = 0x0200;
 
 // The first word: type, and the marks of a fragment. Address messages have the last bit set.
-fn first_word(eoe: &Eoe) -> u16
-    ensures { result ≡ first_of eoe.now }
+fn first_word(message: EoeView<'_>) -> u16
+    ensures { result ≡ first_of (eoe_seen message.entry) }
 {
-    match eoe {
-        Eoe::Fragment(fragment) => {
+    match message {
+        EoeView::Fragment(fragment) => {
             let last = if fragment.last { LAST } else { 0 };
             let stamped = if fragment.stamped { STAMPED } else { 0 };
             last + stamped
         }
-        Eoe::SetIp(_) => 2 + LAST,
-        Eoe::SetIpAnswer(_) => 3 + LAST,
-        Eoe::GetIp => 6 + LAST,
-        Eoe::GetIpAnswer { .. } => 7 + LAST,
+        EoeView::SetIp(_) => 2 + LAST,
+        EoeView::SetIpAnswer(_) => 3 + LAST,
+        EoeView::GetIp => 6 + LAST,
+        EoeView::GetIpAnswer { .. } => 7 + LAST,
     }
 }
 
 // The second word: the place of a fragment, or the result of an answer.
-fn second_word(eoe: &Eoe) -> u16
-    requires { IsSpellable eoe.now }
-    ensures { result ≡ second_of eoe.now }
+fn second_word(message: EoeView<'_>) -> u16
+    requires { IsSpellable (eoe_seen message) }
+    ensures { result ≡ second_of (eoe_seen message.entry) }
 {
-    match eoe {
-        Eoe::Fragment(fragment) => place_word(fragment),
-        Eoe::SetIp(_) | Eoe::GetIp => 0,
-        Eoe::SetIpAnswer(result_code) => *result_code,
-        Eoe::GetIpAnswer { result_code, .. } => *result_code,
+    match message {
+        EoeView::Fragment(fragment) => place_word(fragment),
+        EoeView::SetIp(_) | EoeView::GetIp => 0,
+        EoeView::SetIpAnswer(result_code) => result_code,
+        EoeView::GetIpAnswer { result_code, .. } => result_code,
     }
 }
 
-fn place_word(fragment: &Fragment) -> u16
-    requires { IsSpellable (Eoe.Fragment fragment.now) }
-    ensures { result ≡ second_of (Eoe.Fragment fragment.now) }
+fn place_word(fragment: FragmentView<'_>) -> u16
+    requires { IsFragment (fragment_seen fragment) }
+    ensures { result ≡ second_of (Eoe.Fragment (fragment_seen fragment.entry)) }
 {
     fragment.number as u16 + 64 * fragment.offset as u16 + 4096 * fragment.frame as u16
 }
 
 // The octets behind the two words.
-fn octets(eoe: &Eoe) -> &[u8]
-    ensures value { result.now ≡ octets_of eoe.now }
+fn octets(message: EoeView<'_>) -> &[u8]
+    requires { IsCapped message }
+    ensures value { result.now ≡ octets_of (eoe_seen message.entry) }
     ensures fits { length result.now ≤ 1476 }
 {
-    match eoe {
-        Eoe::Fragment(fragment) => fragment.bytes.as_slice(),
-        Eoe::SetIp(block) | Eoe::GetIpAnswer { block, .. } => block.as_slice(),
-        Eoe::SetIpAnswer(_) | Eoe::GetIp => &[],
+    match message {
+        EoeView::Fragment(fragment) => fragment.bytes,
+        EoeView::SetIp(block) => block,
+        EoeView::GetIpAnswer { block, .. } => block,
+        EoeView::SetIpAnswer(_) | EoeView::GetIp => &[],
     }
 }
 
-// Appends octets that fit.
-fn append(body: &mut ArrayVec<u8, 1480>, octets: &[u8])
-    requires { length body.old.items + length octets.now ≤ 1480 }
-    ensures { body.new.items ≡ body.old.items ++ octets.now }
+// The octets, and that the second word is one.
+fn write_plain(message: EoeView<'_>, body: &mut ArrayVec<u8, 1480>)
+    requires spelling { IsSpellable (eoe_seen message) }
+    requires capped { IsCapped message }
+    ensures octets { body.new.items ≡ eoe_text (eoe_seen message.entry) }
+    ensures in_range { second_of (eoe_seen message.entry) ≤ 65535 }
 {
-    match body.try_extend_from_slice(octets) {
-        Ok(()) => {}
-        Err(_) => unreachable!(),
-    }
+    let [a, b] = first_word(message).to_le_bytes();
+    let [c, d] = second_word(message).to_le_bytes();
+    refill_parts(body, &[a, b, c, d], octets(message));
+}
+
+/// Writes a message as it stands somewhere as the body of an EoE mail, as [`write`] does.
+pub fn write_view(message: EoeView<'_>, body: &mut ArrayVec<u8, 1480>)
+    requires spelling { IsSpellable (eoe_seen message) }
+    requires capped { IsCapped message }
+    ensures octets { body.new.items ≡ eoe_text (eoe_seen message.entry) }
+    ensures spelled { IsEoe body.new.items (eoe_seen message.entry) }
+{
+    write_plain(message, body);
 }
 
 /// Writes a message as the body of an EoE mail, in place of what it held.
@@ -76,16 +90,5 @@ pub fn write(eoe: &Eoe, body: &mut ArrayVec<u8, 1480>)
     ensures octets { body.new.items ≡ eoe_text eoe.now }
     ensures spelled { IsEoe body.new.items eoe.now }
 {
-    write_plain(eoe, body);
-}
-
-fn write_plain(eoe: &Eoe, body: &mut ArrayVec<u8, 1480>)
-    requires { IsSpellable eoe.now }
-    ensures octets { body.new.items ≡ eoe_text eoe.now }
-    ensures in_range { second_of eoe.now ≤ 65535 }
-{
-    let second = second_word(eoe);
-    *body = buffer_of(&first_word(eoe).to_le_bytes());
-    append(body, &second.to_le_bytes());
-    append(body, octets(eoe));
+    write_view(view_of(eoe), body);
 }

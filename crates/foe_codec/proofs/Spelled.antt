@@ -5,44 +5,22 @@ use Rattle.std.proofs.lemmas.Bool.{eqb-true, ltb-false}
 use Rattle.std.proofs.lemmas.List.{get_or-drop, drop_more}
 use Rattle.byteorder.specs.Endian.{little_bytes}
 use Rattle.ec_fields.specs.Fields.{number_at}
+use Rattle.ec_fields.proofs.Cells.{AreOctets, next_cell, four_here, four_fits}
 use Rattle.foe_codec.specs.declared.message.Foe.{Foe}
 use Rattle.foe_codec.specs.declared.message.Foe.TheVariants.{Read, Write, Data, Ack, Error, Busy}
 use Rattle.foe_codec.specs.declared.message.FoeFault.{FoeFault}
 use Rattle.foe_codec.specs.declared.message.FoeFault.TheVariants.{Short, Opcode, Name}
-use Rattle.foe_codec.specs.Message.{is_name, Says, IsFoe, message_in, foe_read, opcode_of, field_of, octets_of, foe_text, IsSpellable, IsRanged, IsShort}
-
--- each is below 256
-abbrev AreOctets : List ℕ → Type 0
-AreOctets octets = (i : ℕ) → get_or octets i 0 < 256
-
-four_bytes : (a b c d : ℕ) → a < 256 → b < 256 → c < 256 → d < 256 →
-    little_bytes 4 (a + 256 * (b + 256 * (c + 256 * (d + 256 * 0)))) ≡ a ∷ b ∷ c ∷ d ∷ []
-four_bytes a b c d ha hb hc hd =
-    let n : ℕ = a + 256 * (b + 256 * (c + 256 * (d + 256 * 0))) in
-    let first : n % 256 ≡ a = omega arith in
-    let second : n / 256 % 256 ≡ b = omega arith in
-    let third : n / 65536 % 256 ≡ c = omega arith in
-    let fourth : n / 16777216 % 256 ≡ d = omega arith in
-    rw (first, second, third, fourth) refl
-
-fits_four : (a b c d : ℕ) → a < 256 → b < 256 → c < 256 → d < 256 → a + 256 * (b + 256 * (c + 256 * (d + 256 * 0))) < 2 ^ 32
-fits_four a b c d ha hb hc hd = omega arith
-
-next_cell : (octets rest : List ℕ) (i : ℕ) → i < length octets → drop (i + 1) octets ≡ rest → drop i octets ≡ get_or octets i 0 ∷ rest
-next_cell octets rest i h e = drop_more octets i 0 h ∙ ap (λ (x : List ℕ). get_or octets i 0 ∷ x) e
-
-cell_four : (octets : List ℕ) → number_at 4 octets 2 ≡ get_or octets 2 0 + 256 * (get_or octets 3 0 + 256 * (get_or octets 4 0 + 256 * (get_or octets 5 0 + 256 * 0)))
-cell_four octets = rw (get_or-drop 2 octets 0 0, get_or-drop 2 octets 1 0, get_or-drop 2 octets 2 0, get_or-drop 2 octets 3 0) refl
+use Rattle.foe_codec.specs.Message.{is_name, Says, IsFoe, message_in, foe_read, opcode_of, field_of, octets_of, foe_text, IsSpellable, IsRanged}
+use Rattle.foe_codec.specs.View.{foe_seen, seen, IsCapped}
+use Rattle.foe_codec.specs.declared.viewing.FoeView.{FoeView}
+use Rattle.foe_codec.specs.declared.viewing.FoeView.TheVariants.{Read as VRead, Write as VWrite, Data as VData, Ack as VAck, Error as VError, Busy as VBusy}
 
 -- opcode, reserved octet, field and the octets behind them
 parts_here : (body : List ℕ) → AreOctets body → 6 ≤ length body
     → body ≡ get_or body 0 0 ∷ get_or body 1 0 ∷ (little_bytes 4 (number_at 4 body 2) ++ drop 6 body)
 parts_here body o long =
-    let cells : body ≡ get_or body 0 0 ∷ get_or body 1 0 ∷ get_or body 2 0 ∷ get_or body 3 0 ∷ get_or body 4 0 ∷ get_or body 5 0 ∷ drop 6 body =
-    next_cell body _ 0 (omega arith) (next_cell body _ 1 (omega arith) (next_cell body _ 2 (omega arith) (next_cell body _ 3 (omega arith)
-    (next_cell body _ 4 (omega arith) (next_cell body _ 5 (omega arith) refl))))) in
-    let field = ap (little_bytes 4) (cell_four body) ∙ four_bytes (get_or body 2 0) (get_or body 3 0) (get_or body 4 0) (get_or body 5 0) (o 2) (o 3) (o 4) (o 5) in
-    cells ∙ sym (ap (λ (x : List ℕ). get_or body 0 0 ∷ get_or body 1 0 ∷ (x ++ drop 6 body)) field)
+    next_cell body _ 0 (omega arith) (next_cell body _ 1 (omega arith) refl)
+    ∙ ap (λ (x : List ℕ). get_or body 0 0 ∷ get_or body 1 0 ∷ x) (four_here body 2 o long)
 
 abbrev ok_foe : Foe → Result Foe FoeFault
 ok_foe f = Ok f
@@ -90,25 +68,25 @@ foe_read-found body f o h =
       field = number_at 4 body 2;
       rest = drop 6 body;
       text = parts_here body o long;
-      field_fits = subst (λ (v : ℕ). v < 2 ^ 32) (sym (cell_four body))
-          (fits_four (get_or body 2 0) (get_or body 3 0) (get_or body 4 0) (get_or body 5 0) (o 2) (o 3) (o 4) (o 5));
+      field_fits = four_fits body 2 o;
       says = message_says (get_or body 0 0) (number_at 4 body 2) (drop 6 body) f t.1;
     }
 
-pub found_in : (body : List ℕ) (r : Result Foe FoeFault) → AreOctets body → r ≡ foe_read body → IfOk r (IsFoe body)
-found_in body (Ok f) o h = foe_read-found body f o (sym h)
+pub found_in : (body : List ℕ) (r : Result FoeView FoeFault) → AreOctets body → seen r ≡ foe_read body → IfOk r (λ v. IsFoe body (foe_seen v))
+found_in body (Ok v) o h = foe_read-found body (foe_seen v) o (sym h)
 found_in body (Err fault) o h = tt
 
 fits_name : (octets : List ℕ) → 1 ≤ length octets → length octets ≤ 32 → is_name octets ≡ true
 fits_name octets some few = rw (le-leb 1 (length octets) some, le-leb (length octets) 32 few) refl
 
-text_says : (f : Foe) → IsSpellable f → IsRanged f → IsShort f → Says (opcode_of f) (field_of f) (octets_of f) f
-text_says (Read pass name) s r n = (refl, refl, refl, fits_name name.items s n)
-text_says (Write pass name) s r n = (refl, refl, refl, fits_name name.items s n)
-text_says (Data packet bytes) s r n = (refl, refl, refl)
-text_says (Ack packet) s r n = (refl, refl)
-text_says (Error code) s r n = (refl, refl)
-text_says (Busy done entire) s r n = (refl, omega (arith, r.0), omega (arith, r.0))
+text_says : (v : FoeView) → IsSpellable (foe_seen v) → IsRanged (foe_seen v) → IsCapped v
+    → Says (opcode_of (foe_seen v)) (field_of (foe_seen v)) (octets_of (foe_seen v)) (foe_seen v)
+text_says (VRead pass name) s r n = (refl, refl, refl, fits_name name.now s n)
+text_says (VWrite pass name) s r n = (refl, refl, refl, fits_name name.now s n)
+text_says (VData packet bytes) s r n = (refl, refl, refl)
+text_says (VAck packet) s r n = (refl, refl)
+text_says (VError code) s r n = (refl, refl)
+text_says (VBusy done entire) s r n = (refl, omega (arith, r.0), omega (arith, r.0))
 
 field_fits : (f : Foe) → IsRanged f → field_of f < 2 ^ 32
 field_fits (Read pass name) r = r
@@ -119,5 +97,7 @@ field_fits (Error code) r = r
 field_fits (Busy done entire) r = omega (arith, r.0, r.1)
 
 -- what is written is spelled
-pub text_spelled : (f : Foe) → IsSpellable f → IsRanged f → IsShort f → IsFoe (foe_text f) f
-text_spelled f s r n = record { opcode = opcode_of f; reserved = 0; field = field_of f; rest = octets_of f; text = refl; field_fits = field_fits f r; says = text_says f s r n }
+pub text_spelled : (v : FoeView) → IsSpellable (foe_seen v) → IsRanged (foe_seen v) → IsCapped v → IsFoe (foe_text (foe_seen v)) (foe_seen v)
+text_spelled v s r n =
+    let f : Foe = foe_seen v in
+    record { opcode = opcode_of f; reserved = 0; field = field_of f; rest = octets_of f; text = refl; field_fits = field_fits f r; says = text_says v s r n }

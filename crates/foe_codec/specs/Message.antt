@@ -93,9 +93,3 @@ IsRanged (Data packet bytes) = packet < 2 ^ 32
 IsRanged (Ack packet) = packet < 2 ^ 32
 IsRanged (Error code) = code < 2 ^ 32
 IsRanged (Busy done entire) = (done < 65536) × (entire < 65536)
-
--- the most octets of its name
-abbrev pub IsShort : Foe → Type 0
-IsShort (Read pass name) = length name.items ≤ 32
-IsShort (Write pass name) = length name.items ≤ 32
-IsShort _ = Unit {0}

@@ -5,8 +5,10 @@ mod message;
 mod reading;
 #[cfg(test)]
 mod tests;
+mod viewing;
 mod writing;
 
 pub use message::{Foe, FoeFault, Name};
 pub use reading::read;
-pub use writing::write;
+pub use viewing::{FoeView, view, view_of};
+pub use writing::{write, write_view};

@@ -1,68 +1,68 @@
-ghost use Rattle.std.specs.Prelude.{◌≡◌, ◌≤◌, ◌+◌, ◌++◌, length};
-ghost use Rattle.foe_codec.specs.Message.{IsFoe, IsSpellable, opcode_of, IsRanged, IsShort, field_of, octets_of, foe_text};
+ghost use Rattle.std.specs.Prelude.{◌≡◌, ◌≤◌, length};
+ghost use Rattle.foe_codec.specs.Message.{IsFoe, IsSpellable, opcode_of, IsRanged, field_of, octets_of, foe_text};
+ghost use Rattle.foe_codec.specs.View.{foe_seen, IsCapped};
 
 use crate::message::Foe;
+use crate::viewing::{FoeView, view_of};
 use arrayvec::ArrayVec;
-use ec_fields::buffer_of;
+use ec_fields::refill_parts;
 
-fn opcode(foe: &Foe) -> u8
-    ensures { result ≡ opcode_of foe.now }
+fn opcode(message: FoeView<'_>) -> u8
+    ensures { result ≡ opcode_of (foe_seen message.entry) }
 {
-    match foe {
-        Foe::Read { .. } => 1,
-        Foe::Write { .. } => 2,
-        Foe::Data { .. } => 3,
-        Foe::Ack { .. } => 4,
-        Foe::Error { .. } => 5,
-        Foe::Busy { .. } => 6,
+    match message {
+        FoeView::Read { .. } => 1,
+        FoeView::Write { .. } => 2,
+        FoeView::Data { .. } => 3,
+        FoeView::Ack { .. } => 4,
+        FoeView::Error { .. } => 5,
+        FoeView::Busy { .. } => 6,
     }
 }
 
-fn field(foe: &Foe) -> u32
-    ensures value { result ≡ field_of foe.now }
-    ensures ranged { IsRanged foe.now }
+fn field(message: FoeView<'_>) -> u32
+    ensures value { result ≡ field_of (foe_seen message.entry) }
+    ensures ranged { IsRanged (foe_seen message.entry) }
 {
-    match foe {
-        Foe::Read { pass, .. } | Foe::Write { pass, .. } => *pass,
-        Foe::Data { packet, .. } | Foe::Ack { packet } => *packet,
-        Foe::Error { code } => *code,
-        Foe::Busy { done, entire } => *done as u32 + 65536 * *entire as u32,
+    match message {
+        FoeView::Read { pass, .. } | FoeView::Write { pass, .. } => pass,
+        FoeView::Data { packet, .. } | FoeView::Ack { packet } => packet,
+        FoeView::Error { code } => code,
+        FoeView::Busy { done, entire } => done as u32 + 65536 * entire as u32,
     }
 }
 
 // The octets behind the field.
-fn octets(foe: &Foe) -> &[u8]
-    ensures value { result.now ≡ octets_of foe.now }
-    ensures named { IsShort foe.now }
+fn octets(message: FoeView<'_>) -> &[u8]
+    requires { IsCapped message }
+    ensures value { result.now ≡ octets_of (foe_seen message.entry) }
     ensures fits { length result.now ≤ 1474 }
 {
-    match foe {
-        Foe::Read { name, .. } | Foe::Write { name, .. } => name.as_slice(),
-        Foe::Data { bytes, .. } => bytes.as_slice(),
-        Foe::Ack { .. } | Foe::Error { .. } | Foe::Busy { .. } => &[],
+    match message {
+        FoeView::Read { name, .. } | FoeView::Write { name, .. } => name,
+        FoeView::Data { bytes, .. } => bytes,
+        FoeView::Ack { .. } | FoeView::Error { .. } | FoeView::Busy { .. } => &[],
     }
 }
 
-// Appends octets that fit.
-fn append(body: &mut ArrayVec<u8, 1480>, octets: &[u8])
-    requires { length body.old.items + length octets.now ≤ 1480 }
-    ensures { body.new.items ≡ body.old.items ++ octets.now }
+// The octets, and that the message's numbers are in their ranges.
+fn write_plain(message: FoeView<'_>, body: &mut ArrayVec<u8, 1480>)
+    requires { IsCapped message }
+    ensures octets { body.new.items ≡ foe_text (foe_seen message.entry) }
+    ensures ranged { IsRanged (foe_seen message.entry) }
 {
-    match body.try_extend_from_slice(octets) {
-        Ok(()) => {}
-        Err(_) => unreachable!(),
-    }
+    let [a, b, c, d] = field(message).to_le_bytes();
+    refill_parts(body, &[opcode(message), 0, a, b, c, d], octets(message));
 }
 
-// The octets, and that the message's numbers and name are in their ranges.
-fn write_plain(foe: &Foe, body: &mut ArrayVec<u8, 1480>)
-    ensures octets { body.new.items ≡ foe_text foe.now }
-    ensures ranged { IsRanged foe.now }
-    ensures named { IsShort foe.now }
+/// Writes a message as it stands somewhere as the body of an FoE mail, as [`write`] does.
+pub fn write_view(message: FoeView<'_>, body: &mut ArrayVec<u8, 1480>)
+    requires spelling { IsSpellable (foe_seen message) }
+    requires capped { IsCapped message }
+    ensures octets { body.new.items ≡ foe_text (foe_seen message.entry) }
+    ensures spelled { IsFoe body.new.items (foe_seen message.entry) }
 {
-    *body = buffer_of(&[opcode(foe), 0]);
-    append(body, &field(foe).to_le_bytes());
-    append(body, octets(foe));
+    write_plain(message, body);
 }
 
 /// Writes a message as the body of an FoE mail, in place of what it held. Error and busy texts are empty.
@@ -71,5 +71,5 @@ pub fn write(foe: &Foe, body: &mut ArrayVec<u8, 1480>)
     ensures octets { body.new.items ≡ foe_text foe.now }
     ensures spelled { IsFoe body.new.items foe.now }
 {
-    write_plain(foe, body);
+    write_view(view_of(foe), body);
 }

@@ -6,6 +6,7 @@ use Rattle.std.proofs.lemmas.List.{length-take-le, take-append-drop}
 use Rattle.std.proofs.Math.Seq.{take-append_seam}
 use Rattle.byteorder.specs.Endian.{little_bytes}
 use Rattle.ec_fields.specs.Fields.{number_at}
+use Rattle.ec_fields.proofs.Cells.{two_read}
 use Rattle.mailbox_mail.specs.Kind.{code_of, kind_of}
 use Rattle.mailbox_mail.specs.Mail.{mail_text, IsMail, type_in, is_past, fault_of, mail_in, mail_of, mail_read}
 use Rattle.mailbox_mail.specs.declared.mail.Kind.{Kind}
@@ -36,10 +37,6 @@ code_of-small CoE = omega arith
 code_of-small FoE = omega arith
 code_of-small SoE = omega arith
 code_of-small VoE = omega arith
-
--- a number of two octets reads as itself
-two_read : (n : ℕ) → n < 65536 → n % 256 + 256 * (n / 256 % 256 + 0) ≡ n
-two_read n small = omega arith
 
 -- header cells and the parts behind them make the octets of a mail
 join :

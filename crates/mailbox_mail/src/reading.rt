@@ -3,8 +3,7 @@ ghost use Rattle.mailbox_mail.specs.Mail.{IsMail, mail_read, fault_of};
 ghost use Rattle.mailbox_mail.specs.View.{seen, mail_seen};
 
 use crate::mail::{BODY, HEADER, Kind, Mail, MailFault, MailView};
-use arrayvec::ArrayVec;
-use ec_fields::u16_at;
+use ec_fields::{buffer_of, refill, u16_at};
 
 /// The mail at the head of an area as it stands there, as [`read`] reads it. Nothing is copied.
 pub fn view(area: &[u8]) -> Result<MailView<'_>, MailFault>
@@ -27,18 +26,6 @@ pub fn view(area: &[u8]) -> Result<MailView<'_>, MailFault>
             counter: marks / 16 % 8,
             body: &area[HEADER..HEADER + len],
         }),
-    }
-}
-
-/// Puts octets that fit in place of what a buffer held. Only these octets are moved.
-pub fn refill<const CAP: usize>(buffer: &mut ArrayVec<u8, CAP>, octets: &[u8])
-    requires { length octets.now ≤ CAP }
-    ensures { buffer.new.items ≡ octets.now }
-{
-    buffer.clear();
-    match buffer.try_extend_from_slice(octets) {
-        Ok(()) => {}
-        Err(_) => unreachable!(),
     }
 }
 
@@ -70,7 +57,7 @@ fn mail_of(mail: MailView<'_>) -> Mail
         address: mail.address,
         kind: mail.kind,
         counter: mail.counter,
-        body: ec_fields::buffer_of(mail.body),
+        body: buffer_of(mail.body),
     }
 }
 

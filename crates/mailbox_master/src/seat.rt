@@ -16,7 +16,8 @@ use crate::halves::InwardHalf;
 use crate::inward::new_inward;
 use datagrams::register::{IN_AREA, OUT_AREA};
 use datagrams::{Command, Head};
-use mailbox_mail::{Kind, Mail, MailFault, MailView, error_mail, next_counter, refill, write};
+use ec_fields::refill;
+use mailbox_mail::{Kind, Mail, MailFault, MailView, error_mail, next_counter, write};
 use std::marker::Model;
 use std::mem;
 

@@ -5,40 +5,13 @@ use Rattle.std.proofs.lemmas.Bool.{ltb-false}
 use Rattle.std.proofs.lemmas.List.{get_or-drop, drop_more}
 use Rattle.byteorder.specs.Endian.{little_bytes}
 use Rattle.ec_fields.specs.Fields.{number_at, bits_of}
+use Rattle.ec_fields.proofs.Cells.{AreOctets, words_here, two_fits}
 use Rattle.soe_codec.specs.declared.message.Soe.{Soe}
 use Rattle.soe_codec.specs.declared.message.SoeFault.{SoeFault}
 use Rattle.soe_codec.specs.declared.message.SoeFault.TheVariants.{Short, Opcode, Incomplete}
 use Rattle.soe_codec.specs.Message.{IsSoe, IsSpellable, is_opcode, has_fragments, message_in, soe_read}
-
--- each is below 256
-abbrev AreOctets : List ℕ → Type 0
-AreOctets octets = (i : ℕ) → get_or octets i 0 < 256
-
-two_bytes : (a b : ℕ) → a < 256 → b < 256 → little_bytes 2 (a + 256 * (b + 256 * 0)) ≡ a ∷ b ∷ []
-two_bytes a b ha hb =
-    let low : (a + 256 * (b + 256 * 0)) % 256 ≡ a = omega arith in
-    let high : (a + 256 * (b + 256 * 0)) / 256 % 256 ≡ b = omega arith in
-    rw (low, high) refl
-
-fits_two : (a b : ℕ) → a < 256 → b < 256 → a + 256 * (b + 256 * 0) < 2 ^ 16
-fits_two a b ha hb = omega arith
-
-next_cell : (octets rest : List ℕ) (i : ℕ) → i < length octets → drop (i + 1) octets ≡ rest → drop i octets ≡ get_or octets i 0 ∷ rest
-next_cell octets rest i h e = drop_more octets i 0 h ∙ ap (λ (x : List ℕ). get_or octets i 0 ∷ x) e
-
-cell_two : (octets : List ℕ) → number_at 2 octets 2 ≡ get_or octets 2 0 + 256 * (get_or octets 3 0 + 256 * 0)
-cell_two octets = rw (get_or-drop 2 octets 0 0, get_or-drop 2 octets 1 0) refl
-
--- the word, the field and the octets behind them
-words_here : (body : List ℕ) → AreOctets body → 4 ≤ length body
-    → body ≡ little_bytes 2 (number_at 2 body 0) ++ (little_bytes 2 (number_at 2 body 2) ++ drop 4 body)
-words_here body o long =
-    let cells : body ≡ get_or body 0 0 ∷ get_or body 1 0 ∷ get_or body 2 0 ∷ get_or body 3 0 ∷ drop 4 body =
-    next_cell body _ 0 (omega arith) (next_cell body _ 1 (omega arith) (next_cell body _ 2 (omega arith) (next_cell body _ 3 (omega arith) refl))) in
-    let first = two_bytes (get_or body 0 0) (get_or body 1 0) (o 0) (o 1) in
-    let second = ap (little_bytes 2) (cell_two body) ∙ two_bytes (get_or body 2 0) (get_or body 3 0) (o 2) (o 3) in
-    cells ∙ sym (ap (λ (x : List ℕ). x ++ (little_bytes 2 (number_at 2 body 2) ++ drop 4 body)) first
-    ∙ ap (λ (x : List ℕ). get_or body 0 0 ∷ get_or body 1 0 ∷ (x ++ drop 4 body)) second)
+use Rattle.soe_codec.specs.View.{soe_seen, seen}
+use Rattle.soe_codec.specs.declared.viewing.SoeView.{SoeView}
 
 abbrev ok_soe : Soe → Result Soe SoeFault
 ok_soe e = Ok e
@@ -88,8 +61,8 @@ soe_read-found body e o h =
     subst (IsSoe body) made.2 (record {
       word = word;
       text = words_here body o long;
-      word_fits = fits_two (get_or body 0 0) (get_or body 1 0) (o 0) (o 1);
-      field_fits = subst (λ (v : ℕ). v < 2 ^ 16) (sym (cell_two body)) (fits_two (get_or body 2 0) (get_or body 3 0) (o 2) (o 3));
+      word_fits = two_fits body 0 o;
+      field_fits = two_fits body 2 o;
       says = record { opcode = refl; incomplete = refl; error = refl; drive = refl; elements = refl };
       kind = record {
         opcode = not_true (is_opcode (bits_of word 0 3)) made.0;
@@ -97,13 +70,13 @@ soe_read-found body e o h =
       };
     })
 
-pub found_in : (body : List ℕ) (r : Result Soe SoeFault) → AreOctets body → r ≡ soe_read body → IfOk r (IsSoe body)
-found_in body (Ok e) o h = soe_read-found body e o (sym h)
+pub found_in : (body : List ℕ) (r : Result SoeView SoeFault) → AreOctets body → seen r ≡ soe_read body → IfOk r (λ v. IsSoe body (soe_seen v))
+found_in body (Ok v) o h = soe_read-found body (soe_seen v) o (sym h)
 found_in body (Err f) o h = tt
 
 -- and has a spelling
-pub spellable_from : (body : List ℕ) (r : Result Soe SoeFault) → IfOk r (IsSoe body) → IfOk r IsSpellable
-spellable_from body (Ok e) h = record { kind = h.kind; drive = subst (λ d. d < 2 ^ 3) h.says.drive (low_three h.word) }
+pub spellable_from : (body : List ℕ) (r : Result SoeView SoeFault) → IfOk r (λ v. IsSoe body (soe_seen v)) → IfOk r (λ v. IsSpellable (soe_seen v))
+spellable_from body (Ok v) h = record { kind = h.kind; drive = subst (λ d. d < 2 ^ 3) h.says.drive (low_three h.word) }
   where
     low_three : (word : ℕ) → bits_of word 5 3 < 2 ^ 3
     low_three word = omega arith

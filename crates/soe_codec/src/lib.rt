@@ -6,8 +6,10 @@ mod message;
 mod reading;
 #[cfg(test)]
 mod tests;
+mod viewing;
 mod writing;
 
 pub use message::{READ, READ_ANSWER, Soe, SoeFault, WRITE, WRITE_ANSWER};
 pub use reading::read;
-pub use writing::write;
+pub use viewing::{SoeView, view, view_of};
+pub use writing::{write, write_view};

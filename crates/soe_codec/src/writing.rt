@@ -1,34 +1,52 @@
-ghost use Rattle.std.specs.Prelude.{◌≡◌, ◌≤◌, ◌+◌, ◌++◌, length};
-ghost use Rattle.byteorder.specs.Endian.{little_bytes};
+ghost use Rattle.std.specs.Prelude.{◌≡◌, ◌≤◌};
 ghost use Rattle.soe_codec.specs.Message.{IsSoe, IsSpellable, word_of, soe_text};
+ghost use Rattle.soe_codec.specs.View.{soe_seen, IsCapped};
 
 use crate::message::Soe;
+use crate::viewing::{SoeView, view_of};
 use arrayvec::ArrayVec;
-use ec_fields::buffer_of;
+use ec_fields::refill_parts;
 
 const INCOMPLETE: u16 = 8;
 
 const ERROR: u16 = 16;
 
 // The word: opcode, the two marks, drive and element flags.
-fn word_of(soe: &Soe) -> u16
-    requires { IsSpellable soe.now }
-    ensures { result ≡ word_of soe.now }
+fn word_of(message: SoeView<'_>) -> u16
+    requires { IsSpellable (soe_seen message) }
+    ensures { result ≡ word_of (soe_seen message.entry) }
 {
-    let incomplete = if soe.incomplete { INCOMPLETE } else { 0 };
-    let error = if soe.error { ERROR } else { 0 };
-    soe.opcode as u16 + incomplete + error + 32 * soe.drive as u16 + 256 * soe.elements as u16
+    let incomplete = if message.incomplete { INCOMPLETE } else { 0 };
+    let error = if message.error { ERROR } else { 0 };
+    message.opcode as u16
+        + incomplete
+        + error
+        + 32 * message.drive as u16
+        + 256 * message.elements as u16
 }
 
-// Appends octets that fit.
-fn append(body: &mut ArrayVec<u8, 1480>, octets: &[u8])
-    requires { length body.old.items + length octets.now ≤ 1480 }
-    ensures { body.new.items ≡ body.old.items ++ octets.now }
+// The octets, and that the message's numbers are in their ranges.
+fn write_plain(message: SoeView<'_>, body: &mut ArrayVec<u8, 1480>)
+    requires spelling { IsSpellable (soe_seen message) }
+    requires capped { IsCapped message }
+    ensures octets { body.new.items ≡ soe_text (soe_seen message.entry) }
+    ensures in_range { word_of (soe_seen message.entry) ≤ 65535 }
+    ensures field { (soe_seen message.entry).field ≤ 65535 }
+    ensures flags { (soe_seen message.entry).elements ≤ 255 }
 {
-    match body.try_extend_from_slice(octets) {
-        Ok(()) => {}
-        Err(_) => unreachable!(),
-    }
+    let [a, b] = word_of(message).to_le_bytes();
+    let [c, d] = message.field.to_le_bytes();
+    refill_parts(body, &[a, b, c, d], message.bytes);
+}
+
+/// Writes a message as it stands somewhere as the body of an SoE mail, as [`write`] does.
+pub fn write_view(message: SoeView<'_>, body: &mut ArrayVec<u8, 1480>)
+    requires spelling { IsSpellable (soe_seen message) }
+    requires capped { IsCapped message }
+    ensures octets { body.new.items ≡ soe_text (soe_seen message.entry) }
+    ensures spelled { IsSoe body.new.items (soe_seen message.entry) }
+{
+    write_plain(message, body);
 }
 
 /// Writes a message as the body of an SoE mail, in place of what it held.
@@ -37,17 +55,5 @@ pub fn write(soe: &Soe, body: &mut ArrayVec<u8, 1480>)
     ensures octets { body.new.items ≡ soe_text soe.now }
     ensures spelled { IsSoe body.new.items soe.now }
 {
-    write_plain(soe, body);
-}
-
-fn write_plain(soe: &Soe, body: &mut ArrayVec<u8, 1480>)
-    requires { IsSpellable soe.now }
-    ensures octets { body.new.items ≡ soe_text soe.now }
-    ensures in_range { word_of soe.now ≤ 65535 }
-    ensures field { soe.now.field ≤ 65535 }
-    ensures flags { soe.now.elements ≤ 255 }
-{
-    *body = buffer_of(&word_of(soe).to_le_bytes());
-    append(body, &soe.field.to_le_bytes());
-    append(body, soe.bytes.as_slice());
+    write_view(view_of(soe), body);
 }

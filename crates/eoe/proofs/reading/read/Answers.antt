@@ -1,5 +1,5 @@
-use Rattle.eoe.proofs.Spelled.{found_in}
+use Rattle.std.proofs.Common.{◌∙◌, ap, Ok}
 use Rattle.eoe.proofs.reading.read.Goals as goal
 
-pub returns-clause-found : goal.returns-clause-found
-returns-clause-found c = found_in _ _ (λ i. (c.type_inv.body i).fits) c.read_plain.ensures
+pub returns-in-Ok-clause-only : goal.returns-in-Ok-clause-only
+returns-in-Ok-clause-only c = λ eoe is. ap (λ x. Ok x) c.message_of.ensures ∙ c.in-Ok.ensures.only eoe is

@@ -1,8 +1,5 @@
-use Rattle.soe_codec.proofs.Spelled.{found_in, spellable_from}
+use Rattle.std.proofs.Common.{◌∙◌, ap, Ok}
 use Rattle.soe_codec.proofs.reading.read.Goals as goal
 
-pub returns-clause-found : goal.returns-clause-found
-returns-clause-found c = found_in _ _ (λ i. (c.type_inv.body i).fits) c.read_plain.ensures
-
-pub returns-clause-sound : goal.returns-clause-sound
-returns-clause-sound c = spellable_from _ _ (found_in _ _ (λ i. (c.type_inv.body i).fits) c.read_plain.ensures)
+pub returns-in-Ok-clause-only : goal.returns-in-Ok-clause-only
+returns-in-Ok-clause-only c = λ soe is. ap (λ x. Ok x) c.message_of.ensures ∙ c.in-Ok.ensures.only soe is

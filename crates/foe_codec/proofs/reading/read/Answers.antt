@@ -1,5 +1,0 @@
-use Rattle.foe_codec.proofs.Spelled.{found_in}
-use Rattle.foe_codec.proofs.reading.read.Goals as goal
-
-pub returns-clause-found : goal.returns-clause-found
-returns-clause-found c = found_in _ _ (λ i. (c.type_inv.body i).fits) c.read_plain.ensures

@@ -1,6 +1,0 @@
-use Rattle.foe_codec.proofs.Spelled.{text_spelled}
-use Rattle.foe_codec.proofs.writing.write.Goals as goal
-
-pub returns-clause-spelled : goal.returns-clause-spelled
-returns-clause-spelled c =
-    rw (c.write_plain.ensures.octets) (text_spelled c.args.foe.now c.requires c.write_plain.ensures.ranged c.write_plain.ensures.named)
