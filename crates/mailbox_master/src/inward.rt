@@ -14,12 +14,12 @@ ghost use Rattle.mailbox_master.specs.Access.{access_head, read_access};
 ghost use Rattle.mailbox_master.specs.Next.{got_by, accepted_by, doubt_next_half, is_still_doubt, SameDoubtNext, asked_next_half, is_still_asked, SameAskedNext};
 
 use crate::access::{ACTIVATE, ENABLE, LinkState, PDI_CONTROL, REPEAT, fill_blank, head_of};
+use crate::seat::GotView;
 use crate::states::{Asked, Clear, Doubt, Refetch};
 use arrayvec::ArrayVec;
 use datagrams::register::IN_AREA;
 use datagrams::{Command, Head};
 use ec_fields::buffer_of;
-use crate::seat::GotView;
 use link_mails::{is_repeat, read_area};
 use mailbox_mail::{Mail, MailFault, view};
 use std::marker::Model;

@@ -176,7 +176,13 @@ impl InwardHalf {
         match self {
             InwardHalf::Clear(clear) => clear.read_head(index),
             InwardHalf::Doubt(doubt) => head_of(doubt.station(), index, Command::Fpwr, ACTIVATE, 1),
-            InwardHalf::Asked(asked) => head_of(asked.station(), index, Command::Fprd, PDI_CONTROL, 1),
+            InwardHalf::Asked(asked) => head_of(
+                asked.station(),
+                index,
+                Command::Fprd,
+                PDI_CONTROL,
+                1,
+            ),
             InwardHalf::Refetch(refetch) => refetch.read_head(index),
         }
     }
@@ -187,7 +193,11 @@ impl InwardHalf {
         ensures { body.new ≡ (in_access_of self.now).octets }
     {
         match self {
-            InwardHalf::Doubt(doubt) => body[0] = if doubt.bit() { ENABLE + REPEAT } else { ENABLE },
+            InwardHalf::Doubt(doubt) => body[0] = if doubt.bit() {
+                ENABLE + REPEAT
+            } else {
+                ENABLE
+            },
             _ => body.fill(0),
         }
     }
