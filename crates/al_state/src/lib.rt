@@ -6,8 +6,6 @@
 mod bringing;
 mod climbing;
 mod machine;
-#[cfg(test)]
-mod tests;
 
 pub use bringing::{BringStep, BringUp, access, bring_new, came_back, cleared, reopen_new};
 pub use climbing::{Climb, ClimbNext, climb_new, next, status, written};
