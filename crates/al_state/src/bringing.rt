@@ -1,6 +1,7 @@
-ghost use Rattle.std.specs.Prelude.{◌≡◌, ◌<◌, ◌-◌, ◌%◌};
-ghost use Rattle.al_state.specs.BringUp.{manager_text, asking, shows, step_after, octets_of, head_of, is_up};
+ghost use Rattle.std.specs.Prelude.{◌≡◌, ◌<◌, ◌-◌, ◌%◌, ◌&&◌, true, false};
+ghost use Rattle.al_state.specs.BringUp.{manager_text, asking, shows, step_after, step_behind, octets_of, head_of, is_watch, is_behind_init, is_up};
 
+use crate::machine::INIT;
 use arrayvec::ArrayVec;
 use datagrams::register::{
     AL_CONTROL, AL_STATUS, IN_AREA, IN_CONTROL, MANAGER_0, MANAGER_1, OUT_AREA, OUT_CONTROL,
@@ -9,11 +10,22 @@ use datagrams::register::{
 use datagrams::{Command, Head};
 use ec_fields::{buffer_of, put_u16, u16_at};
 
-/// The access of a bring-up that is in hand; each is repeated until it returns.
+// Init, with the acknowledge of an error.
+const RETURN: u8 = INIT + 0x10;
+
+/// The access of a bring-up or a reopening that is in hand; each is repeated until it returns.
 #[derive(Clone, Copy, Debug, PartialEq, Eq)]
 pub enum BringStep {
+    /// Of a reopening: writes Init with the acknowledge to AL control, at the slave's place in the ring.
+    Return,
+    /// Of a reopening: reads AL status, at the slave's place in the ring, until it shows Init.
+    Watch,
     /// Writes the station address, at the slave's place in the ring.
     Address,
+    /// Of a reopening: writes sync manager 0, not enabled.
+    OutOff,
+    /// Of a reopening: writes sync manager 1, not enabled.
+    InOff,
     /// Writes sync manager 0, enabled.
     OutManager,
     /// Writes sync manager 1, enabled.
@@ -25,7 +37,8 @@ pub enum BringStep {
 }
 
 /// A bring-up of one slave by the master: `adp` names its place in the ring, `start` is the state in
-/// which it begins to serve, PreOp or Bootstrap.
+/// which it begins to serve, PreOp or Bootstrap, and `again` says that it is a reopening, which leads the slave
+/// back to Init first and disables its mailboxes.
 #[derive(Clone, Copy, Debug, PartialEq, Eq)]
 pub struct BringUp {
     pub adp: u16,
@@ -33,6 +46,7 @@ pub struct BringUp {
     pub out_len: u16,
     pub in_len: u16,
     pub start: u8,
+    pub again: bool,
     pub step: BringStep,
 }
 
@@ -40,7 +54,7 @@ pub struct BringUp {
 /// mailbox areas.
 pub fn bring_new(at: u32, station: u16, out_len: u16, in_len: u16, start: u8) -> BringUp
     requires { at < 16 }
-    ensures { result ≡ record { adp = (65536 - at) % 65536; station = station; out_len = out_len; in_len = in_len; start = start; step = BringStep.Address } }
+    ensures { result ≡ record { adp = (65536 - at) % 65536; station = station; out_len = out_len; in_len = in_len; start = start; again = false; step = BringStep.Address } }
 {
     BringUp {
         adp: ((65536 - at) % 65536) as u16,
@@ -48,15 +62,36 @@ pub fn bring_new(at: u32, station: u16, out_len: u16, in_len: u16, start: u8) ->
         out_len,
         in_len,
         start,
+        again: false,
         step: BringStep::Address,
     }
 }
 
-// The eight octets of an enabled sync manager.
-fn manager_octets(start: u16, len: u16, control: u8) -> [u8; 8]
-    ensures { result ≡ manager_text start len control }
+/// A reopening at its first access, of the slave at ring position `at`: from whatever state it is in, back to Init and
+/// then to the state `start`.
+pub fn reopen_new(at: u32, station: u16, out_len: u16, in_len: u16, start: u8) -> BringUp
+    requires { at < 16 }
+    ensures { result ≡ record { adp = (65536 - at) % 65536; station = station; out_len = out_len; in_len = in_len; start = start; again = true; step = BringStep.Return } }
 {
-    let mut octets = [0, 0, 0, 0, control, 0, 1, 0];
+    BringUp {
+        again: true,
+        step: BringStep::Return,
+        ..bring_new(at, station, out_len, in_len, start)
+    }
+}
+
+/// Whether a reopening has seen its slave in Init; of a first bring-up `false`.
+pub fn cleared(up: &BringUp) -> bool
+    ensures { result ≡ up.now.again && is_behind_init up.now.step }
+{
+    up.again && !matches!(up.step, BringStep::Return | BringStep::Watch)
+}
+
+// The eight octets of a sync manager, enabled or not.
+fn manager_octets(start: u16, len: u16, control: u8, activate: u8) -> [u8; 8]
+    ensures { result ≡ manager_text start len control activate }
+{
+    let mut octets = [0, 0, 0, 0, control, 0, activate, 0];
     put_u16(&mut octets, 0, start);
     put_u16(&mut octets, 2, len);
     octets
@@ -67,11 +102,14 @@ fn octets(up: &BringUp) -> ArrayVec<u8, 8>
     ensures { result.items ≡ octets_of up.now }
 {
     match up.step {
+        BringStep::Return => buffer_of(&[RETURN, 0]),
         BringStep::Address => buffer_of(&up.station.to_le_bytes()),
-        BringStep::OutManager => buffer_of(&manager_octets(OUT_AREA, up.out_len, OUT_CONTROL)),
-        BringStep::InManager => buffer_of(&manager_octets(IN_AREA, up.in_len, IN_CONTROL)),
+        BringStep::OutOff => buffer_of(&manager_octets(OUT_AREA, up.out_len, OUT_CONTROL, 0)),
+        BringStep::InOff => buffer_of(&manager_octets(IN_AREA, up.in_len, IN_CONTROL, 0)),
+        BringStep::OutManager => buffer_of(&manager_octets(OUT_AREA, up.out_len, OUT_CONTROL, 1)),
+        BringStep::InManager => buffer_of(&manager_octets(IN_AREA, up.in_len, IN_CONTROL, 1)),
         BringStep::Start => buffer_of(&[up.start, 0]),
-        BringStep::Await => buffer_of(&[0; 6]),
+        BringStep::Watch | BringStep::Await => buffer_of(&[0; 6]),
     }
 }
 
@@ -97,9 +135,15 @@ fn access_head(up: &BringUp, index: u8) -> Head
     ensures { result ≡ head_of up.now index }
 {
     match up.step {
+        BringStep::Return => head(Command::Apwr, index, up.adp, AL_CONTROL, 2),
+        BringStep::Watch => head(Command::Aprd, index, up.adp, AL_STATUS, 6),
         BringStep::Address => head(Command::Apwr, index, up.adp, STATION_ADDRESS, 2),
-        BringStep::OutManager => head(Command::Fpwr, index, up.station, MANAGER_0, 8),
-        BringStep::InManager => head(Command::Fpwr, index, up.station, MANAGER_1, 8),
+        BringStep::OutOff | BringStep::OutManager => {
+            head(Command::Fpwr, index, up.station, MANAGER_0, 8)
+        }
+        BringStep::InOff | BringStep::InManager => {
+            head(Command::Fpwr, index, up.station, MANAGER_1, 8)
+        }
         BringStep::Start => head(Command::Fpwr, index, up.station, AL_CONTROL, 2),
         BringStep::Await => head(Command::Fprd, index, up.station, AL_STATUS, 6),
     }
@@ -122,12 +166,16 @@ fn shows(body: &[u8], state: u8) -> bool
 }
 
 impl BringStep {
-    // The step behind one that has returned.
-    fn next(self) -> BringStep
-        ensures { result ≡ step_after self }
+    // The step behind one that is over.
+    fn next(self, again: bool) -> BringStep
+        ensures { result ≡ step_after again self }
     {
         match self {
-            BringStep::Address => BringStep::OutManager,
+            BringStep::Return => BringStep::Watch,
+            BringStep::Watch => BringStep::Address,
+            BringStep::Address if again => BringStep::OutOff,
+            BringStep::OutOff => BringStep::InOff,
+            BringStep::Address | BringStep::InOff => BringStep::OutManager,
             BringStep::OutManager => BringStep::InManager,
             BringStep::InManager => BringStep::Start,
             BringStep::Start | BringStep::Await => BringStep::Await,
@@ -136,12 +184,16 @@ impl BringStep {
 }
 
 /// The access in hand has returned with this working counter and body. The next is in hand then; the
-/// last stays. `true` exactly where the last came back with counter 1 and shows the start state.
+/// last stays, and so does the one that watches for Init until it came back with counter 1 and shows it.
+/// `true` exactly where the last came back with counter 1 and shows the start state.
 pub fn came_back(up: &mut BringUp, counter: u16, body: &[u8]) -> bool
     ensures shown { result ≡ is_up up.old counter body.now }
-    ensures goes_on { up.new ≡ record up.old { step = step_after up.old.step } }
+    ensures goes_on { up.new ≡ record up.old { step = step_behind up.old counter body.now } }
 {
     let is_up = matches!(up.step, BringStep::Await) && counter == 1 && shows(body, up.start);
-    up.step = up.step.next();
+    let waits = matches!(up.step, BringStep::Watch) && !(counter == 1 && shows(body, INIT));
+    if !waits {
+        up.step = up.step.next(up.again);
+    }
     is_up
 }

@@ -1,4 +1,3 @@
 pub mod Access
-pub mod Area
 pub mod Manager
 pub mod Registers

@@ -20,7 +20,7 @@ impl Model for Area {
 }
 
 impl Area {
-    ghost use Rattle.esc_registers.specs.Area.{mail_area};
+    ghost use Rattle.mailbox_mail.specs.Area.{mail_area};
 
     /// An area of this many zeros.
     pub fn new(alloc: Global, len: u16) -> Result<Area, NoMemory>

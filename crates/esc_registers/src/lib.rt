@@ -8,8 +8,6 @@ mod manager;
 mod registers;
 mod row;
 mod slave;
-#[cfg(test)]
-mod tests;
 
 pub use area::Area;
 pub use manager::Manager;

@@ -1,7 +1,7 @@
 ghost use Rattle.std.specs.Prelude.{◌≡◌, true, false, ◌+◌, ◌≤◌, length, if◌then◌else◌, Some, None, IfOk};
 ghost use Rattle.std.specs.Option.{option_copied};
 ghost use Rattle.esc_registers.specs.Access.{is_meant, moved_on, access, KeepsLengths};
-ghost use Rattle.esc_registers.specs.Area.{mail_area};
+ghost use Rattle.mailbox_mail.specs.Area.{mail_area};
 ghost use Rattle.esc_registers.specs.Manager.{is_repeat_bit, is_repeat_asked};
 ghost use Rattle.esc_registers.specs.Registers.{first_manager, first_registers, are_areas_right};
 

@@ -1,8 +1,7 @@
 -- A mail as the link has it: its counter, and as its body the rest of it or the fault with which it does not read.
-use Rattle.std.specs.Prelude.{ℕ, ◌+◌, ◌-◌, ◌==◌, ◌&&◌, Bool, not, List, ◌++◌, length, replicate, Result, Ok, Err}
+use Rattle.std.specs.Prelude.{ℕ, ◌/◌, ◌%◌, ◌==◌, Bool, if◌then◌else◌, Option, Some, None, Result, Ok, Err}
 use Rattle.mailbox_mail.specs.declared.mail.Mail.{Mail}
 use Rattle.mailbox_mail.specs.declared.mail.MailFault.{MailFault}
-use Rattle.mailbox_mail.specs.Mail.{mail_text}
 use Rattle.link_model.specs.Mails.{LinkMail}
 
 -- what a link carries
@@ -26,10 +25,12 @@ abbrev pub link_read : Result Mail MailFault → LinkMail Body
 link_read (Ok m) = link_mail m
 link_read (Err fault) = record { counter = 0; body = Err fault }
 
--- a counter that isn't 0 and equals the last one
-abbrev pub repeats : ℕ → ℕ → Bool
-repeats last counter = not (counter == 0) && (counter == last)
+-- the mail that a read of mailbox 1 brings by its return: none where its working counter is 0, and none where the area
+-- is no mail
+abbrev pub mail_brought : ℕ → Result Mail MailFault → Option (LinkMail Body)
+mail_brought counter (Ok m) = if counter == 0 then None else Some (link_mail m)
+mail_brought counter (Err fault) = None
 
--- the octets of a mailbox area with this mail: the mail, and zeros behind it
-abbrev pub area_text : ℕ → Mail → List ℕ
-area_text len m = mail_text 0 0 m ++ replicate (len - (6 + length m.body.items)) 0
+-- bit 1 of an octet: the repeat request in activate, its acknowledge in PDI control
+abbrev pub bit_1 : ℕ → Bool
+bit_1 octet = octet / 2 % 2 == 1

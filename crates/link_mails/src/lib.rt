@@ -2,9 +2,9 @@
 //! link stand on these words.
 #![tactic(auto)]
 
-ghost use Rattle.std.specs.Prelude.{◌≡◌};
+ghost use Rattle.std.specs.Prelude.{◌≡◌, ◌≤◌};
 ghost use Rattle.mailbox_mail.specs.Mail.{mail_read};
-ghost use Rattle.link_mails.specs.Body.{repeats};
+ghost use Rattle.link_model.specs.Counters.{next_counter, repeats};
 
 use mailbox_mail::{Mail, MailFault, read};
 
@@ -13,6 +13,14 @@ pub fn read_area(area: &[u8]) -> Result<Mail, MailFault>
     ensures { result ≡ mail_read area.now }
 {
     read(area)
+}
+
+/// The counter behind this one: 0, which stands for none, and 7 are followed by 1 (ETG.1000.4, mailbox counter).
+pub fn next_counter(counter: u8) -> u8
+    requires { counter ≤ 7 }
+    ensures { result ≡ next_counter counter }
+{
+    counter % 7 + 1
 }
 
 /// Whether a mail with this counter is the last mail once more: 0 stands for none, and is no repeat (ETG.1000.4,

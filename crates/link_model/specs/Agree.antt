@@ -35,6 +35,7 @@ last_met None None again last_read = last_read
 last_met None (Some m) true last_read = last_read
 last_met None (Some m) false last_read = Some m
 
+-- the same of a side of mailbox 1
 abbrev pub last_met_of : {B : Type 0} → InSide B → Option (LinkMail B)
 last_met_of s = last_met s.box s.offered s.again s.last_read
 

@@ -21,6 +21,7 @@ Leaves app (Event.In fate) = ⊤
 Leaves app Event.Pdi = ⊤
 Leaves {S = S} app (Event.Change f) = (s : S) → app (f s) ≡ app s
 
+-- each event of a list does
 abbrev pub AllLeave : {A B S : Type 0} → (S → A) → List (Event B S) → Type 0
 AllLeave app [] = ⊤
 AllLeave app (e ∷ es) = Leaves app e × AllLeave app es

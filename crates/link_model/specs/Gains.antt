@@ -63,11 +63,12 @@ loss_of (Event.In fate) = on_loss fate
 loss_of Event.Pdi = 0
 loss_of (Event.Change f) = 0
 
--- all that a list of events gains, and all that is lost in it
+-- all that a list of events gains
 abbrev pub gains : {B S : Type 0} → Server B S → Link B S → List (Event B S) → ℕ
 gains v w [] = 0
 gains v w (e ∷ es) = gain_of w e + gains v (happens v w e) es
 
+-- the datagrams of the inward half that are lost in it
 abbrev pub losses : {B S : Type 0} → List (Event B S) → ℕ
 losses [] = 0
 losses (e ∷ es) = loss_of e + losses es

@@ -4,10 +4,12 @@ use Rattle.link_model.specs.Mails.{LinkMail, IsPrefixOf}
 use Rattle.link_model.specs.Master.{OutHalf, InHalf, InState, out_hold, out_answered, in_answered, in_lost, in_accepts}
 use Rattle.link_model.specs.Slave.{OutSide, InSide, Node, Server, node_look, node_take, node_takes, node_offer, node_offers}
 
+-- the master's two halves of a link
 pub record Halves (B : Type 0) : Type 0 where
   pub out : OutHalf B
   pub inn : InHalf
 
+-- a link: both halves, the slave, and the mails held, taken, offered and accepted so far
 pub record Link (B S : Type 0) : Type 0 where
   pub halves : Halves B
   pub node : Node B S
@@ -88,12 +90,14 @@ held_after w (Some m) body = w
 held_after w None body =
     record w { halves = record w.halves { out = out_hold w.halves.out body }; held = w.held ++ (body ∷ []) }
 
+-- the link behind the outward half's datagram
 abbrev pub out_sent : {B S : Type 0} → Link B S → Fate → Link B S
 out_sent w fate = record w {
   halves = record w.halves { out = out_half_after w.halves.out w.halves.out.holding w.node.out.box fate };
   node = record w.node { out = out_side_after w.node.out w.halves.out.holding w.node.out.box fate };
 }
 
+-- the link behind the inward half's datagram
 abbrev pub in_sent : {B S : Type 0} → Link B S → Fate → Link B S
 in_sent w fate = record w {
   halves = record w.halves { inn = in_half_after w.halves.inn w.halves.inn.state w.node.inn.box w.node.inn.acknowledge fate };
@@ -108,9 +112,11 @@ pdi v w =
     let k = node_take v n in
     record w { node = node_offer v k; taken = w.taken ++ node_takes v n; offered = w.offered ++ node_offers v k }
 
+-- the server changed by itself
 abbrev pub changed : {B S : Type 0} → Link B S → (S → S) → Link B S
 changed w f = record w { node = record w.node { server = f w.node.server } }
 
+-- the link behind an event
 abbrev pub happens : {B S : Type 0} → Server B S → Link B S → Event B S → Link B S
 happens v w (Event.Hold body) = held_after w w.halves.out.holding body
 happens v w (Event.Out fate) = out_sent w fate

@@ -1,14 +1,16 @@
 -- A mail as a link sees it: a counter, and a body that the link never looks at.
 -- A mail that does not read is one with counter 0, whose body says so.
-use Rattle.std.specs.Prelude.{◌≡◌, ℕ, ◌==◌, ◌&&◌, Bool, not, cond, if◌then◌else◌, Option, Some, None, List, [], ◌∷◌, ◌++◌}
+use Rattle.std.specs.Prelude.{◌≡◌, ℕ, Bool, not, cond, if◌then◌else◌, Option, Some, None, List, [], ◌∷◌, ◌++◌}
+use Rattle.link_model.specs.Counters.{repeats}
 
+-- a mail: its counter, and the rest of it
 pub record LinkMail (B : Type 0) : Type 0 where
   pub counter : ℕ
   pub body : B
 
--- it is the last mail once more: its counter is not 0 and equals the last one
+-- it is the last mail once more
 abbrev pub is_repeat : {B : Type 0} → ℕ → LinkMail B → Bool
-is_repeat last m = not (m.counter == 0) && (m.counter == last)
+is_repeat last m = repeats last m.counter
 
 -- what a mailbox brings to a side whose last mail had this counter: nothing, or one new body
 abbrev pub news : {B : Type 0} → ℕ → Option (LinkMail B) → List B

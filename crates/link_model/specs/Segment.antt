@@ -39,11 +39,6 @@ abbrev pub ring_after : {B S : Type 0} → List (RingNode B S) → List (Gram B)
 ring_after ns gs RingFate.Back = all_meet ns gs
 ring_after ns gs (RingFate.Lost after) = first_meet after ns gs
 
--- what returns: nothing of a lost frame
-abbrev pub ring_back : {B S : Type 0} → List (RingNode B S) → List (Gram B) → RingFate → List (Gram B)
-ring_back ns gs RingFate.Back = frame_back ns gs
-ring_back ns gs (RingFate.Lost after) = []
-
 -- a link of the world, with the one station of its halves and its slave
 pub record Member (B S : Type 0) : Type 0 where
   pub station : ℕ
@@ -53,6 +48,7 @@ pub record Member (B S : Type 0) : Type 0 where
 abbrev pub ring_of : {B S : Type 0} → List (Member B S) → List (RingNode B S)
 ring_of ms = map (λ m. record { station = m.station; node = m.link.node }) ms
 
+-- the stations of a world, in ring order
 abbrev pub stations_of : {B S : Type 0} → List (Member B S) → List ℕ
 stations_of ms = map (λ m. m.station) ms
 
@@ -88,12 +84,13 @@ abbrev pub members_after : {B S : Type 0} → List (Member B S) → List (Gram B
 members_after ms gs RingFate.Back = members_back ms gs (frame_back (ring_of ms) gs)
 members_after ms gs (RingFate.Lost after) = members_lost after ms gs gs
 
--- the fate of the datagrams to the first slave, and of the frame for those behind it
+-- the fate of the datagrams to the first slave
 abbrev pub fate_here : RingFate → Fate
 fate_here RingFate.Back = Fate.Pass
 fate_here (RingFate.Lost zero) = Fate.LostBefore
 fate_here (RingFate.Lost (suc k)) = Fate.LostBehind
 
+-- the frame's fate for the slaves behind the first
 abbrev pub fate_behind : RingFate → RingFate
 fate_behind RingFate.Back = RingFate.Back
 fate_behind (RingFate.Lost zero) = RingFate.Lost zero
@@ -123,11 +120,13 @@ pub data SegmentEvent (B S : Type 0) : Type 0 where
   Step : ℕ → SegmentEvent B S
   Alter : ℕ → (S → S) → SegmentEvent B S
 
+-- the world behind an event
 abbrev pub segment_happens : {B S : Type 0} → Server B S → List (Member B S) → SegmentEvent B S → List (Member B S)
 segment_happens v ms (SegmentEvent.Wire holds gs fate) = members_after (all_held ms holds) gs fate
 segment_happens v ms (SegmentEvent.Step k) = at_place (pdi v) k ms
 segment_happens v ms (SegmentEvent.Alter k f) = at_place (λ w. changed w f) k ms
 
+-- the world behind a list of events
 abbrev pub segment_run : {B S : Type 0} → Server B S → List (Member B S) → List (SegmentEvent B S) → List (Member B S)
 segment_run v ms [] = ms
 segment_run v ms (e ∷ es) = segment_run v (segment_happens v ms e) es

@@ -27,6 +27,7 @@ pub record Server (B S : Type 0) : Type 0 where
   pub next : S → Option B
   pub rest : S → S
 
+-- a slave: both sides of its mailboxes, and its server
 pub record Node (B S : Type 0) : Type 0 where
   pub out : OutSide B
   pub inn : InSide B

@@ -4,7 +4,7 @@ use Rattle.std.proofs.lemmas.List.{length-replicate}
 use Rattle.std.proofs.Math.Bool.{and-true}
 use Rattle.std.proofs.lemmas.Bool.{and_parts, and_from, and_right, eq-eqb, cond-true, cond-false}
 use Rattle.mailbox_mail.specs.declared.mail.Mail.{Mail}
-use Rattle.link_mails.specs.Body.{area_text}
+use Rattle.mailbox_mail.specs.Area.{mail_area}
 use Rattle.datagrams.specs.declared.head.Head.{Head}
 use Rattle.esc_registers.specs.declared.registers.Registers.{Registers}
 use Rattle.esc_registers.specs.declared.row.Row.{Row}
@@ -42,8 +42,8 @@ in_row : (r : Registers) (len : ℕ) → len ≡ length r.in_manager.area → ro
 in_row r len e = cond-true (len == length r.in_manager.area) (Some InArea) None (eq-eqb len (length r.in_manager.area) e)
 
 -- an area with a mail has its length
-pub length-area_text : (len : ℕ) (m : Mail) → 6 + length m.body.items ≤ len → length (area_text len m) ≡ len
-length-area_text len m e =
+pub length-mail_area : (len : ℕ) (m : Mail) → 6 + length m.body.items ≤ len → length (mail_area len m) ≡ len
+length-mail_area len m e =
     let k : ℕ = len - (6 + length m.body.items) in
     omega (arith, length-append m.body.items (replicate k 0), length-replicate {A = ℕ} k 0)
 
@@ -52,18 +52,18 @@ abbrev write_leaves : Registers → Head → List ℕ → Option Registers → P
 write_leaves r h octets w = passed_by h (record { registers = unwrap_or w r; body = octets; added = 0 + (if is_some w then 1 else 0) })
 
 -- mailbox 0 was empty
-pub write_empty : (r : Registers) (station len : ℕ) (m : Mail) → r.station ≡ station → are_areas_right r ≡ true → length (area_text len m) ≡ length r.out_manager.area → r.out_manager.full ≡ false → met_by r station (write_access len m) ≡ record { registers = record r { out_manager = record r.out_manager { area = area_text len m; full = true } }; head = record (access_head station 0 (write_access len m)) { counter = 1 }; body = area_text len m }
+pub write_empty : (r : Registers) (station len : ℕ) (m : Mail) → r.station ≡ station → are_areas_right r ≡ true → length (mail_area len m) ≡ length r.out_manager.area → r.out_manager.full ≡ false → met_by r station (write_access len m) ≡ record { registers = record r { out_manager = record r.out_manager { area = mail_area len m; full = true } }; head = record (access_head station 0 (write_access len m)) { counter = 1 }; body = mail_area len m }
 write_empty r station len m s right l empty =
     let h = access_head station 0 (write_access len m) in
-    let octets = area_text len m in
+    let octets = mail_area len m in
     let done : write_row r OutArea octets ≡ Some (record r { out_manager = record r.out_manager { area = octets; full = true } }) = cond-true (is_right 4096 38 r.out_manager && not r.out_manager.full) (Some (record r { out_manager = record r.out_manager { area = octets; full = true } })) None (and_from (is_right 4096 38 r.out_manager) (not r.out_manager.full) (right_out r right) (ap not empty)) in
     passes r station (write_access len m) OutArea refl refl s (out_row r (length octets) l) ∙ ap (write_leaves r h octets) done
 
 -- mailbox 0 was full
-pub write_full : (r : Registers) (station len : ℕ) (m : Mail) → r.station ≡ station → length (area_text len m) ≡ length r.out_manager.area → r.out_manager.full ≡ true → met_by r station (write_access len m) ≡ record { registers = r; head = access_head station 0 (write_access len m); body = area_text len m }
+pub write_full : (r : Registers) (station len : ℕ) (m : Mail) → r.station ≡ station → length (mail_area len m) ≡ length r.out_manager.area → r.out_manager.full ≡ true → met_by r station (write_access len m) ≡ record { registers = r; head = access_head station 0 (write_access len m); body = mail_area len m }
 write_full r station len m s l full =
     let h = access_head station 0 (write_access len m) in
-    let octets = area_text len m in
+    let octets = mail_area len m in
     let done : write_row r OutArea octets ≡ None = cond-false (is_right 4096 38 r.out_manager && not r.out_manager.full) (Some (record r { out_manager = record r.out_manager { area = octets; full = true } })) None (and_right (is_right 4096 38 r.out_manager) (not r.out_manager.full) (ap not full)) in
     passes r station (write_access len m) OutArea refl refl s (out_row r (length octets) l) ∙ ap (write_leaves r h octets) done
 

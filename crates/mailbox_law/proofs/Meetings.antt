@@ -7,13 +7,13 @@ use Rattle.link_model.specs.Mails.{LinkMail, news, seen}
 use Rattle.link_model.specs.Master.{InHalf, InState, asked_answered}
 use Rattle.link_model.specs.Link.{Fate, written, write_counter, out_side_after}
 use Rattle.link_model.specs.Slave.{OutSide}
-use Rattle.link_mails.specs.Body.{Body, link_mail, link_read, area_text}
+use Rattle.link_mails.specs.Body.{Body, link_mail, link_read, bit_1, mail_brought}
+use Rattle.mailbox_mail.specs.Area.{mail_area}
 use Rattle.esc_registers.specs.declared.registers.Registers.{Registers}
 use Rattle.esc_registers.specs.Registers.{are_areas_right}
 use Rattle.esc_registers.specs.Manager.{is_right, is_enabled}
 use Rattle.esc_registers.specs.Access.{Passed}
 use Rattle.mailbox_master.specs.Access.{write_access, read_access, request_access, acknowledge_access}
-use Rattle.mailbox_master.specs.Halves.{bit_1, mail_brought}
 use Rattle.mailbox_master.specs.Any.{in_station, in_area_len, in_half_of, in_access_of}
 use Rattle.mailbox_master.specs.declared.halves.InwardHalf.{InwardHalf}
 use Rattle.mailbox_master.specs.declared.halves.InwardHalf.TheVariants.{Clear, Doubt, Asked, Refetch}
@@ -35,7 +35,7 @@ right_with : (r : Registers) (area : List ℕ) → length area ≡ length r.out_
 right_with r area e = ap (λ n. (r.out_manager.start == 4096 && r.out_manager.length == n && r.out_manager.control == 38 && is_enabled r.out_manager.activate) && is_right 6144 34 r.in_manager) e
 
 -- the write of a mail
-pub meets_write : (address outward inward : ℕ) (m : Mail) (r : Registers) (p : Passed) → IsLinked address outward inward r → length (area_text outward m) ≡ outward → mail_read (area_text outward m) ≡ Ok m → p ≡ met_by r address (write_access outward m) → MeetsWrite address outward inward m r p
+pub meets_write : (address outward inward : ℕ) (m : Mail) (r : Registers) (p : Passed) → IsLinked address outward inward r → length (mail_area outward m) ≡ outward → mail_read (mail_area outward m) ≡ Ok m → p ≡ met_by r address (write_access outward m) → MeetsWrite address outward inward m r p
 meets_write address outward inward m r p linked len reads passed = subst (MeetsWrite address outward inward m r) (sym passed) (go r.out_manager.full refl)
   where
     go : (full : Bool) → r.out_manager.full ≡ full → MeetsWrite address outward inward m r (met_by r address (write_access outward m))
@@ -46,7 +46,7 @@ meets_write address outward inward m r p linked len reads passed = subst (MeetsW
           counter = sym (ap write_counter none);
           out = λ k. ap (λ x. record { box = Some (link_read x); last_taken = k.last_taken }) reads ∙ sym (ap (λ b. written (out_side k r) b (link_mail m)) none);
           inn = λ k. refl;
-          linked = record { station = linked.station; right = right_with r (area_text outward m) (len ∙ sym linked.out_len) ∙ linked.right; out_len = len; in_len = linked.in_len };
+          linked = record { station = linked.station; right = right_with r (mail_area outward m) (len ∙ sym linked.out_len) ∙ linked.right; out_len = len; in_len = linked.in_len };
         })
     go true e =
         let now = write_full r address outward m linked.station (len ∙ sym linked.out_len) e in

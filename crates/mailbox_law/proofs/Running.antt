@@ -1,6 +1,7 @@
 -- A run step by step.
-use Rattle.std.proofs.Common.{◌≡◌, Option, Some, None, List, [], ◌∷◌, ◌++◌, map, Result, Ok, Err, refl, ap, sym, ◌∙◌, append_assoc, append-nil, if◌then◌else◌}
+use Rattle.std.proofs.Common.{◌≡◌, Option, Some, None, List, [], ◌∷◌, ◌++◌, map, Result, Ok, Err, refl, ap, sym, ◌∙◌, append_assoc, append-nil, if◌then◌else◌, arith}
 use Rattle.std.specs.Prelude.{option_map}
+use Rattle.std.proofs.lemmas.Grind.{common_steps}
 use Rattle.mailbox_mail.specs.declared.mail.Mail.{Mail}
 use Rattle.mailbox_mail.specs.declared.mail.MailFault.{MailFault}
 use Rattle.mailbox_mail.specs.Mail.{mail_read}
@@ -16,6 +17,8 @@ use Rattle.mailbox_slave.specs.Node.{in_side}
 use Rattle.mailbox_slave.specs.Registers.{in_box}
 use Rattle.mailbox_law.specs.Waiting.{keeper}
 use Rattle.mailbox_law.specs.Wire.{IsReadable}
+use Rattle.mailbox_law.specs.World.{Shows, without, link_of}
+use Rattle.mailbox_law.specs.declared.world.World.{World}
 use Rattle.mailbox_law.specs.Steps.{event_of, first_link, link_behind, given, given_by}
 use Rattle.mailbox_law.specs.declared.steps.LinkStep.{LinkStep}
 use Rattle.mailbox_law.specs.declared.steps.LinkStep.TheVariants.{Hold, Give, Out, In, Pdi}
@@ -72,3 +75,20 @@ run_drawn w (s ∷ steps) = run_drawn (happens keeper w (event_of s)) steps ∙ 
 
 pub behind_given : (steps : List LinkStep) → (let w = link_behind steps in w.offered ++ w.node.server ≡ given steps)
 behind_given steps = run_drawn first_link steps
+
+-- the front of two lists put together
+without_behind : {A : Type 0} (xs ys : List A) → without (xs ++ ys) ys ≡ xs
+without_behind xs ys = grind (arith, common_steps)
+
+-- a run in code is the link that it shows
+pub shown_link : (x : World) (w : Link Body (List Body)) → Shows x w → link_of x ≡ w
+shown_link x w s =
+    let offered = (λ i. without (s.given i) (s.waiting i)) ∙ without_behind w.offered w.node.server in
+    λ i. record {
+      halves = record { out = s.out_half i; inn = s.in_half i };
+      node = record { out = s.out i; inn = s.inn i; server = s.waiting i };
+      held = s.held i;
+      taken = s.taken i;
+      offered = offered i;
+      accepted = s.accepted i;
+    }

@@ -9,6 +9,7 @@ use Rattle.mailbox_law.specs.declared.steps.LinkFate.TheVariants.{Pass, LostBefo
 use Rattle.mailbox_law.specs.declared.steps.LinkStep.{LinkStep}
 use Rattle.mailbox_law.specs.declared.steps.LinkStep.TheVariants.{Hold, Give, Out, In, Pdi}
 
+-- what becomes of a datagram, as an event of the link
 abbrev pub fate_of : LinkFate → Fate
 fate_of Pass = Fate.Pass
 fate_of LostBefore = Fate.LostBefore
@@ -18,6 +19,7 @@ fate_of LostBehind = Fate.LostBehind
 abbrev pub given_too : Mail → List Body → List Body
 given_too m waiting = waiting ++ (Ok (uncounted m) ∷ [])
 
+-- the event of the link that a step is
 abbrev pub event_of : LinkStep → Event Body (List Body)
 event_of (Hold m) = Event.Hold (Ok (uncounted m))
 event_of (Give m) = Event.Change (given_too m)

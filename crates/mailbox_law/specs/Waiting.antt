@@ -8,11 +8,12 @@ use Rattle.link_mails.specs.Body.{Body, uncounted}
 abbrev pub bodies_of : List Mail → List Body
 bodies_of ms = map (λ m. Ok (uncounted m)) ms
 
--- the first that waits, and the others
+-- the first that waits
 abbrev pub first_of : {A : Type 0} → List A → Option A
 first_of [] = None
 first_of (x ∷ xs) = Some x
 
+-- those that wait behind the first
 abbrev pub others_of : {A : Type 0} → List A → List A
 others_of [] = []
 others_of (x ∷ xs) = xs

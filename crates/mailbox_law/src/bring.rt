@@ -1,7 +1,7 @@
 //! The slave of a run at the end of its bring-up.
 
 ghost use Rattle.std.specs.Prelude.{◌≡◌, None, false, IfOk};
-ghost use Rattle.al_state.specs.BringUp.{head_of, octets_of, step_after};
+ghost use Rattle.al_state.specs.BringUp.{head_of, octets_of, step_after, is_watch};
 ghost use Rattle.esc_registers.specs.Access.{access};
 ghost use Rattle.mailbox_slave.specs.Registers.{out_box, in_box, request_of, acknowledge_of};
 ghost use Rattle.mailbox_law.specs.Wire.{IsLinked};
@@ -19,7 +19,7 @@ pub const STATION: u16 = 0x1001;
 // The access in hand passes the slave and returns.
 fn carry_out(esc: &mut Esc, up: &mut BringUp)
     ensures registers { esc.new ≡ (access esc.old (head_of up.old 0) (octets_of up.old)).registers }
-    ensures goes_on { up.new ≡ record up.old { step = step_after up.old.step } }
+    ensures goes_on { is_watch up.old.step ≡ false → up.new ≡ record up.old { step = step_after up.old.again up.old.step } }
 {
     let mut head = Head::default();
     let mut body = ArrayVec::new();

@@ -9,8 +9,7 @@ mod steps;
 mod wire;
 mod world;
 
-pub use run::{all_fit, run_link};
+pub use keeper::Keeper;
+pub use run::{all_fit, run_link, run_world};
 pub use steps::{LinkFate, LinkRun, LinkStep};
-
-#[cfg(test)]
-mod tests;
+pub use world::World;

@@ -1,3 +1,4 @@
+pub mod Area
 pub mod Counter
 pub mod Kind
 pub mod Mail

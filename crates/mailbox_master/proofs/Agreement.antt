@@ -9,8 +9,8 @@ use Rattle.link_model.specs.Link.{Fate, written}
 use Rattle.link_model.specs.Agree.{OutAgree, InAgree}
 use Rattle.link_model.proofs.Outward.{out_keeps}
 use Rattle.link_model.proofs.Inward.{in_keeps}
-use Rattle.link_mails.specs.Body.{link_mail, uncounted, repeats}
-use Rattle.mailbox_master.specs.Halves.{mail_brought}
+use Rattle.link_mails.specs.Body.{link_mail, uncounted, mail_brought}
+use Rattle.link_model.specs.Counters.{repeats}
 use Rattle.mailbox_master.specs.Next.{got_by, accepted_by}
 use Rattle.mailbox_master.specs.declared.inward.Got.TheVariants.{Mail as GotMail, Repeat, Empty, Bad}
 

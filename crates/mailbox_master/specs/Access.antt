@@ -1,7 +1,7 @@
 -- The register accesses of the halves (ETG.1000.4, sync manager registers).
 use Rattle.std.specs.Prelude.{ℕ, ◌+◌, ◌*◌, Bool, false, List, [], ◌∷◌, length, replicate}
 use Rattle.mailbox_mail.specs.declared.mail.Mail.{Mail}
-use Rattle.link_mails.specs.Body.{area_text}
+use Rattle.mailbox_mail.specs.Area.{mail_area}
 use Rattle.datagrams.specs.declared.command.Command.{Command}
 use Rattle.datagrams.specs.declared.command.Command.TheVariants.{Fprd, Fpwr}
 use Rattle.datagrams.specs.declared.head.Head.{Head}
@@ -15,7 +15,7 @@ pub record Access : Type 0 where
 
 -- mailbox 0 is written whole
 abbrev pub write_access : ℕ → Mail → Access
-write_access len m = record { command = Fpwr; register = 4096; octets = area_text len m }
+write_access len m = record { command = Fpwr; register = 4096; octets = mail_area len m }
 
 -- mailbox 1 is read whole
 abbrev pub read_access : ℕ → Access

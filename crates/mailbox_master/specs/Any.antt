@@ -4,8 +4,8 @@ use Rattle.mailbox_mail.specs.declared.mail.Mail.{Mail}
 use Rattle.mailbox_mail.specs.Mail.{mail_read}
 use Rattle.link_model.specs.Mails.{LinkMail}
 use Rattle.link_model.specs.Master.{OutHalf, InHalf, InState, out_hold, out_answered, read_answered, doubt_answered, asked_answered}
-use Rattle.link_mails.specs.Body.{Body}
-use Rattle.mailbox_master.specs.Halves.{idle_half, holding_half, in_half, held_mail, mail_brought, bit_1}
+use Rattle.link_mails.specs.Body.{Body, mail_brought, bit_1}
+use Rattle.mailbox_master.specs.Halves.{idle_half, holding_half, in_half, held_mail}
 use Rattle.mailbox_master.specs.Next.{got_by}
 use Rattle.mailbox_master.specs.Access.{Access, read_access, request_access, acknowledge_access}
 use Rattle.mailbox_master.specs.declared.inward.Got.{Got}
@@ -20,14 +20,17 @@ use Rattle.mailbox_master.specs.declared.halves.OutwardHalf.TheVariants.{Idle, H
 use Rattle.mailbox_master.specs.declared.halves.InwardHalf.{InwardHalf}
 use Rattle.mailbox_master.specs.declared.halves.InwardHalf.TheVariants.{Clear, Doubt, Asked, Refetch}
 
+-- the outward half of the link model that it is
 abbrev pub out_half_of : OutwardHalf → OutHalf Body
 out_half_of (Idle o) = idle_half o
 out_half_of (Holding o) = holding_half o
 
+-- its slave's station
 abbrev pub out_station : OutwardHalf → ℕ
 out_station (Idle o) = o.station
 out_station (Holding o) = o.station
 
+-- the length of mailbox 0
 abbrev pub out_len : OutwardHalf → ℕ
 out_len (Idle o) = o.len
 out_len (Holding o) = o.len
@@ -47,18 +50,21 @@ abbrev pub out_returned : OutHalf Body → Option (LinkMail Body) → ℕ → Ou
 out_returned h (Some m) counter = out_answered h counter
 out_returned h None counter = h
 
+-- the inward half of the link model that it is
 abbrev pub in_half_of : InwardHalf → InHalf
 in_half_of (Clear i) = in_half InState.Clear i
 in_half_of (Doubt i) = in_half InState.Doubt i
 in_half_of (Asked i) = in_half InState.Asked i
 in_half_of (Refetch i) = in_half InState.Refetch i
 
+-- its slave's station
 abbrev pub in_station : InwardHalf → ℕ
 in_station (Clear i) = i.station
 in_station (Doubt i) = i.station
 in_station (Asked i) = i.station
 in_station (Refetch i) = i.station
 
+-- the length of mailbox 1
 abbrev pub in_area_len : InwardHalf → ℕ
 in_area_len (Clear i) = i.len
 in_area_len (Doubt i) = i.len
@@ -79,25 +85,28 @@ in_got h InState.Doubt counter octets = None
 in_got h InState.Asked counter octets = None
 in_got h InState.Refetch counter octets = Some (got_by h.last counter (mail_read octets))
 
--- its datagram
+-- the access of an inward half, by its state
 abbrev pub in_access : ℕ → Bool → InState → Access
 in_access len bit InState.Clear = read_access len
 in_access len bit InState.Doubt = request_access bit
 in_access len bit InState.Asked = acknowledge_access
 in_access len bit InState.Refetch = read_access len
 
+-- its access
 abbrev pub in_access_of : InwardHalf → Access
 in_access_of h = in_access (in_area_len h) (in_half_of h).bit (in_half_of h).state
 
--- the half that an answer has left
+-- the half that a returned write of mailbox 0 has left
 abbrev pub out_next_of : OutNext → OutwardHalf
 out_next_of (Taken o) = Idle o
 out_next_of (Full o) = Holding o
 
+-- the half that a returned write of the repeat request has left
 abbrev pub doubt_next_of : DoubtNext → InwardHalf
 doubt_next_of (StillDoubt i) = Doubt i
 doubt_next_of (NowAsked i) = Asked i
 
+-- the half that a returned read of the acknowledge has left
 abbrev pub asked_next_of : AskedNext → InwardHalf
 asked_next_of (StillAsked i) = Asked i
 asked_next_of (NowRefetch i) = Refetch i

@@ -1,8 +1,6 @@
 -- The halves of the link model that the typed halves are.
-use Rattle.std.specs.Prelude.{◌≡◌, ℕ, ◌/◌, ◌%◌, ◌==◌, Bool, if◌then◌else◌, Option, Some, None, Result, Ok, Err}
+use Rattle.std.specs.Prelude.{◌≡◌, ℕ, ◌==◌, Bool, if◌then◌else◌, Some, None}
 use Rattle.mailbox_mail.specs.declared.mail.Mail.{Mail}
-use Rattle.mailbox_mail.specs.declared.mail.MailFault.{MailFault}
-use Rattle.link_model.specs.Mails.{LinkMail}
 use Rattle.link_model.specs.Master.{OutHalf, InHalf, InState}
 use Rattle.link_model.specs.Slave.{InSide}
 use Rattle.link_mails.specs.Body.{Body, link_mail}
@@ -25,24 +23,15 @@ holding_half o = record { last = o.last; holding = Some (link_mail (held_mail o)
 abbrev pub in_half : {S : Type 0} → InState → InLink S → InHalf
 in_half state i = record { last = i.last; state = state; bit = i.bit }
 
--- the link stays: station, length
+-- of an outward half station and length stay
 pub record SameOut {S T : Type 0} (o : OutLink S) (p : OutLink T) : Type 0 where
   pub station : p.station ≡ o.station
   pub len : p.len ≡ o.len
 
+-- of an inward half station and length stay
 pub record SameIn {S T : Type 0} (i : InLink S) (j : InLink T) : Type 0 where
   pub station : j.station ≡ i.station
   pub len : j.len ≡ i.len
-
--- the mail that a returned read of mailbox 1 brings: none where its working counter is 0, and none where the area is
--- no mail
-abbrev pub mail_brought : ℕ → Result Mail MailFault → Option (LinkMail Body)
-mail_brought counter (Ok m) = if counter == 0 then None else Some (link_mail m)
-mail_brought counter (Err fault) = None
-
--- bit 1 of an octet
-abbrev pub bit_1 : ℕ → Bool
-bit_1 octet = octet / 2 % 2 == 1
 
 -- a bit as a number
 abbrev pub bit_number : Bool → ℕ

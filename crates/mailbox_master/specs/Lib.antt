@@ -4,3 +4,4 @@ pub mod Next
 pub mod Access
 pub mod Any
 pub mod Seat
+pub mod Steps

@@ -3,7 +3,8 @@ use Rattle.std.specs.Prelude.{ℕ, ◌==◌, Bool, true, false, if◌then◌else
 use Rattle.mailbox_mail.specs.declared.mail.Mail.{Mail}
 use Rattle.mailbox_mail.specs.declared.mail.MailFault.{MailFault}
 use Rattle.link_model.specs.Master.{OutHalf, InHalf, InState}
-use Rattle.link_mails.specs.Body.{Body, uncounted, repeats}
+use Rattle.link_mails.specs.Body.{Body, uncounted}
+use Rattle.link_model.specs.Counters.{repeats}
 use Rattle.mailbox_master.specs.Halves.{idle_half, holding_half, in_half, SameOut, SameIn}
 use Rattle.mailbox_master.specs.Links.{OutLink, InLink}
 use Rattle.mailbox_master.specs.declared.outward.OutNext.{OutNext}
@@ -20,10 +21,12 @@ abbrev pub out_next_half : OutNext → OutHalf Body
 out_next_half (Taken o) = idle_half o
 out_next_half (Full o) = holding_half o
 
+-- mailbox 0 was full
 abbrev pub is_full : OutNext → Bool
 is_full (Taken o) = false
 is_full (Full o) = true
 
+-- station and length stay
 abbrev pub SameOutNext : {S : Type 0} → OutLink S → OutNext → Type 0
 SameOutNext o (Taken p) = SameOut o p
 SameOutNext o (Full p) = SameOut o p
@@ -33,10 +36,12 @@ abbrev pub doubt_next_half : DoubtNext → InHalf
 doubt_next_half (StillDoubt i) = in_half InState.Doubt i
 doubt_next_half (NowAsked i) = in_half InState.Asked i
 
+-- the write was not done
 abbrev pub is_still_doubt : DoubtNext → Bool
 is_still_doubt (StillDoubt i) = true
 is_still_doubt (NowAsked i) = false
 
+-- station and length stay
 abbrev pub SameDoubtNext : {S : Type 0} → InLink S → DoubtNext → Type 0
 SameDoubtNext i (StillDoubt j) = SameIn i j
 SameDoubtNext i (NowAsked j) = SameIn i j
@@ -46,10 +51,12 @@ abbrev pub asked_next_half : AskedNext → InHalf
 asked_next_half (StillAsked i) = in_half InState.Asked i
 asked_next_half (NowRefetch i) = in_half InState.Refetch i
 
+-- the read was not done, or the request is not acknowledged yet
 abbrev pub is_still_asked : AskedNext → Bool
 is_still_asked (StillAsked i) = true
 is_still_asked (NowRefetch i) = false
 
+-- station and length stay
 abbrev pub SameAskedNext : {S : Type 0} → InLink S → AskedNext → Type 0
 SameAskedNext i (StillAsked j) = SameIn i j
 SameAskedNext i (NowRefetch j) = SameIn i j

@@ -1,7 +1,8 @@
 -- Halves that are kept in a place of their own, and what they read without a copy.
-use Rattle.std.specs.Prelude.{ℕ, Option, Some, None, Bool, if◌then◌else◌, option_map, List}
+use Rattle.std.specs.Prelude.{ℕ, Option, Some, None, Bool, if◌then◌else◌, option_map, List, replicate}
 use Rattle.mailbox_mail.specs.declared.mail.Kind.{Kind}
 use Rattle.mailbox_mail.specs.declared.mail.Mail.{Mail}
+use Rattle.mailbox_mail.specs.Area.{mail_area}
 use Rattle.mailbox_mail.specs.View.{mail_seen}
 use Rattle.link_model.specs.Master.{OutHalf}
 use Rattle.link_mails.specs.Body.{Body, link_mail}
@@ -15,9 +16,18 @@ use Rattle.mailbox_master.specs.declared.seat.GotView.TheVariants.{Mail as SeenM
 abbrev pub seat_half : OutLink (Option Mail) → OutHalf Body
 seat_half o = record { last = o.last; holding = option_map link_mail o.state }
 
--- a mail not yet counted, of its parts
-abbrev pub mail_by : ℕ → Kind → List ℕ → Mail
-mail_by address kind octets = record { address = address; kind = kind; counter = 0; body = record { items = octets } }
+-- a mail of the segment not yet counted, of its parts: its address is 0
+abbrev pub mail_by : Kind → List ℕ → Mail
+mail_by kind octets = record { address = 0; kind = kind; counter = 0; body = record { items = octets } }
+
+-- the octets of mailbox 0 with a mail, or with none
+abbrev pub text_of : ℕ → Option Mail → List ℕ
+text_of len (Some m) = mail_area len m
+text_of len None = replicate len 0
+
+-- the body of the datagram that writes the mail held, zeros where there is none
+abbrev pub seat_octets : OutLink (Option Mail) → List ℕ
+seat_octets o = text_of o.len o.state
 
 -- what a read gave, by what stands in the area
 abbrev pub got_seen : GotView → Got

@@ -1,6 +1,8 @@
 //! A half in whichever state, for whoever keeps halves.
 
-ghost use Rattle.std.specs.Prelude.{◌≡◌, ◌+◌, ◌≤◌, ◌↔◌, IsTrue, None, Some, Ok, is_none, length, option_map};
+ghost use Rattle.std.specs.Prelude.{◌≡◌, ◌+◌, ◌≤◌, None, Some, Ok, is_none, IsSome, length, option_map};
+ghost use Rattle.mailbox_mail.specs.Mail.{mail_read};
+ghost use Rattle.mailbox_mail.specs.Area.{mail_area};
 ghost use Rattle.mailbox_master.specs.Seat.{got_seen};
 ghost use Rattle.link_model.specs.Master.{in_lost};
 ghost use Rattle.link_mails.specs.Body.{uncounted};
@@ -49,6 +51,39 @@ impl OutwardHalf {
         match self {
             OutwardHalf::Idle(idle) => OutwardHalf::Holding(idle.hold(mail)),
             OutwardHalf::Holding(holding) => OutwardHalf::Holding(holding),
+        }
+    }
+
+    /// Its slave's station.
+    pub fn station(&self) -> u16
+        ensures { result ≡ out_station self.now }
+    {
+        match self {
+            OutwardHalf::Idle(idle) => idle.station(),
+            OutwardHalf::Holding(holding) => holding.station(),
+        }
+    }
+
+    /// The length of mailbox 0.
+    pub fn area_len(&self) -> u16
+        ensures { result ≡ out_len self.now }
+    {
+        match self {
+            OutwardHalf::Idle(idle) => idle.area_len(),
+            OutwardHalf::Holding(holding) => holding.area_len(),
+        }
+    }
+
+    /// The datagram that writes the mail held, with this index: it replaces the head, and the contents of the body.
+    pub fn datagram(&self, index: u8, head: &mut Head, body: &mut ArrayVec<u8, 1486>)
+        requires held { IsSome (mail_held self.now) }
+        ensures head { Some head.new ≡ option_map (λ m. access_head (out_station self.now) index (write_access (out_len self.now) m)) (mail_held self.now) }
+        ensures body { Some body.new.items ≡ option_map (mail_area (out_len self.now)) (mail_held self.now) }
+        ensures reads { Some (mail_read body.new.items) ≡ option_map Ok (mail_held self.now) }
+    {
+        match self {
+            OutwardHalf::Idle(_) => {}
+            OutwardHalf::Holding(holding) => holding.datagram(index, head, body),
         }
     }
 
@@ -129,6 +164,30 @@ impl InwardHalf {
                 let (clear, got) = refetch.read_seen(counter, octets);
                 (InwardHalf::Clear(clear), Some(got))
             }
+        }
+    }
+
+    /// Its slave's station.
+    pub fn station(&self) -> u16
+        ensures { result ≡ in_station self.now }
+    {
+        match self {
+            InwardHalf::Clear(clear) => clear.station(),
+            InwardHalf::Doubt(doubt) => doubt.station(),
+            InwardHalf::Asked(asked) => asked.station(),
+            InwardHalf::Refetch(refetch) => refetch.station(),
+        }
+    }
+
+    /// The length of mailbox 1.
+    pub fn area_len(&self) -> u16
+        ensures { result ≡ in_area_len self.now }
+    {
+        match self {
+            InwardHalf::Clear(clear) => clear.area_len(),
+            InwardHalf::Doubt(doubt) => doubt.area_len(),
+            InwardHalf::Asked(asked) => asked.area_len(),
+            InwardHalf::Refetch(refetch) => refetch.area_len(),
         }
     }
 

@@ -6,19 +6,20 @@ ghost use Rattle.link_model.specs.Mails.{differs};
 ghost use Rattle.link_model.specs.Master.{InState, read_answered, read_lost, doubt_answered, asked_answered};
 ghost use Rattle.link_model.specs.Slave.{InSide};
 ghost use Rattle.link_model.specs.Agree.{InAgree};
-ghost use Rattle.link_mails.specs.Body.{Body};
-ghost use Rattle.mailbox_master.specs.Halves.{in_half, mail_brought, bit_1, request_met, SameIn};
+ghost use Rattle.link_mails.specs.Body.{Body, mail_brought, bit_1};
+ghost use Rattle.mailbox_master.specs.Halves.{in_half, SameIn};
+ghost use Rattle.mailbox_master.specs.Steps.{empty_side, AgreesRead, AgreesLost, AgreesRequested, AgreesUnrequested, AgreesAcknowledged, AgreesUnread};
 ghost use Rattle.mailbox_master.specs.Seat.{got_seen};
 ghost use Rattle.mailbox_master.specs.Access.{access_head, read_access};
 ghost use Rattle.mailbox_master.specs.Next.{got_by, accepted_by, doubt_next_half, is_still_doubt, SameDoubtNext, asked_next_half, is_still_asked, SameAskedNext};
 
 use crate::access::{ACTIVATE, ENABLE, LinkState, PDI_CONTROL, REPEAT, fill_blank, head_of};
+use crate::seat::GotView;
 use crate::states::{Asked, Clear, Doubt, Refetch};
 use arrayvec::ArrayVec;
 use datagrams::register::IN_AREA;
 use datagrams::{Command, Head};
 use ec_fields::buffer_of;
-use crate::seat::GotView;
 use link_mails::{is_repeat, read_area};
 use mailbox_mail::{Mail, MailFault, view};
 use std::marker::Model;
@@ -80,7 +81,7 @@ pub enum AskedNext {
 pub fn new_inward(station: u16, len: u16) -> Inward<Clear>
     requires { len ≤ 1486 }
     ensures value { result ≡ record { station = station; len = len; last = 0; bit = false; state = record {} } }
-    ensures agrees { InAgree {B = Body} (in_half InState.Clear result) (record { box = None; offered = None; again = false; last_read = None; withdrawn = None; newest = 0; request = false; acknowledge = false }) [] [] }
+    ensures agrees { InAgree (in_half InState.Clear result) empty_side [] [] }
 {
     Inward {
         station,
@@ -97,6 +98,13 @@ impl<S> Inward<S> {
         ensures { result ≡ self.now.station }
     {
         self.station
+    }
+
+    // The length of mailbox 1.
+    pub fn area_len(&self) -> u16
+        ensures { result ≡ self.now.len }
+    {
+        self.len
     }
 
     // Its repeat request.
@@ -221,7 +229,7 @@ impl Inward<Clear> {
         ensures link { SameIn self result.0 }
 
         // Where a slave that agrees met the read, and this is what stood in its mailbox 1.
-        ensures agrees { (s : InSide Body) (offered accepted : List Body) → s.box ≡ mail_brought counter (mail_read area.now) → InAgree (in_half InState.Clear self) s offered accepted → InAgree (in_half InState.Clear result.0) (record s { box = None }) offered (accepted ++ accepted_by result.1) }
+        ensures agrees { AgreesRead (in_half InState.Clear self) (in_half InState.Clear result.0) counter area.now result.1 }
     {
         self.read_back(counter, area)
     }
@@ -232,7 +240,7 @@ impl Inward<Clear> {
         ensures link { SameIn self result }
 
         // Whether the slave met the read or not.
-        ensures agrees { (s : InSide Body) (offered accepted : List Body) → InAgree (in_half InState.Clear self) s offered accepted → InAgree (in_half InState.Doubt result) s offered accepted × InAgree (in_half InState.Doubt result) (record s { box = None }) offered accepted }
+        ensures agrees { AgreesLost (in_half InState.Clear self) (in_half InState.Doubt result) }
     {
         let inverted = !self.bit;
         self.into_state(inverted, Doubt)
@@ -247,7 +255,7 @@ impl Inward<Doubt> {
         ensures link { SameDoubtNext self result }
 
         // Where a slave that agrees met the write, if the counter says so.
-        ensures agrees { (s : InSide Body) (offered accepted : List Body) → InAgree (in_half InState.Doubt self) s offered accepted → InAgree (doubt_next_half result) (request_met s counter self.bit) offered accepted }
+        ensures agrees { AgreesRequested (in_half InState.Doubt self) (doubt_next_half result) counter }
     {
         if counter == 0 {
             return DoubtNext::Still(self);
@@ -261,7 +269,7 @@ impl Inward<Doubt> {
         ensures same { result ≡ self }
 
         // Whether the slave met the write or not.
-        ensures agrees { (s : InSide Body) (offered accepted : List Body) → InAgree (in_half InState.Doubt self) s offered accepted → InAgree (in_half InState.Doubt result) s offered accepted × InAgree (in_half InState.Doubt result) (record s { request = self.bit }) offered accepted }
+        ensures agrees { AgreesUnrequested (in_half InState.Doubt self) (in_half InState.Doubt result) }
     {
         self // the same request
     }
@@ -275,7 +283,7 @@ impl Inward<Asked> {
         ensures link { SameAskedNext self result }
 
         // Where this is the acknowledge of a slave that agrees.
-        ensures agrees { (s : InSide Body) (offered accepted : List Body) → s.acknowledge ≡ bit_1 control → InAgree (in_half InState.Asked self) s offered accepted → InAgree (asked_next_half result) s offered accepted }
+        ensures agrees { AgreesAcknowledged (in_half InState.Asked self) (asked_next_half result) control }
     {
         let acknowledge = control / 2 % 2 == 1;
         if counter == 0 || acknowledge != self.bit {
@@ -288,7 +296,7 @@ impl Inward<Asked> {
     /// The read was lost: the acknowledge is to be read again.
     pub fn lost(self) -> Inward<Asked>
         ensures same { result ≡ self }
-        ensures agrees { (s : InSide Body) (offered accepted : List Body) → InAgree (in_half InState.Asked self) s offered accepted → InAgree (in_half InState.Asked result) s offered accepted }
+        ensures agrees { AgreesUnread (in_half InState.Asked self) (in_half InState.Asked result) }
     {
         self
     }
@@ -302,7 +310,7 @@ impl Inward<Refetch> {
         ensures link { SameIn self result.0 }
 
         // Where a slave that agrees met the read, and this is what stood in its mailbox 1.
-        ensures agrees { (s : InSide Body) (offered accepted : List Body) → s.box ≡ mail_brought counter (mail_read area.now) → InAgree (in_half InState.Refetch self) s offered accepted → InAgree (in_half InState.Clear result.0) (record s { box = None }) offered (accepted ++ accepted_by result.1) }
+        ensures agrees { AgreesRead (in_half InState.Refetch self) (in_half InState.Clear result.0) counter area.now result.1 }
     {
         self.read_back(counter, area)
     }
@@ -313,7 +321,7 @@ impl Inward<Refetch> {
         ensures link { SameIn self result }
 
         // Whether the slave met the read or not.
-        ensures agrees { (s : InSide Body) (offered accepted : List Body) → InAgree (in_half InState.Refetch self) s offered accepted → InAgree (in_half InState.Doubt result) s offered accepted × InAgree (in_half InState.Doubt result) (record s { box = None }) offered accepted }
+        ensures agrees { AgreesLost (in_half InState.Refetch self) (in_half InState.Doubt result) }
     {
         let bit = !self.bit;
         self.into_state(bit, Doubt)

@@ -15,6 +15,3 @@ pub use inward::{AskedNext, DoubtNext, Got, Inward, new_inward};
 pub use outward::{OutNext, OutState, Outward, new_outward};
 pub use seat::{GotView, OutwardSeat};
 pub use states::{Asked, Clear, Doubt, Holding, Idle, Refetch};
-
-#[cfg(test)]
-mod tests;

@@ -7,8 +7,10 @@ ghost use Rattle.link_model.specs.Master.{out_hold, out_answered};
 ghost use Rattle.link_model.specs.Slave.{OutSide};
 ghost use Rattle.link_model.specs.Link.{written, write_counter};
 ghost use Rattle.link_model.specs.Agree.{OutAgree};
-ghost use Rattle.link_mails.specs.Body.{Body, uncounted, counted_as, link_mail, area_text};
+ghost use Rattle.link_mails.specs.Body.{Body, uncounted, counted_as, link_mail};
+ghost use Rattle.mailbox_mail.specs.Area.{mail_area};
 ghost use Rattle.mailbox_master.specs.Halves.{idle_half, holding_half, held_mail, SameOut};
+ghost use Rattle.mailbox_master.specs.Steps.{AgreesHolding, AgreesWritten, AgreesUnmet, AgreesMet};
 ghost use Rattle.mailbox_master.specs.Access.{access_head, write_access};
 ghost use Rattle.mailbox_master.specs.Next.{out_next_half, is_full, SameOutNext};
 
@@ -17,7 +19,8 @@ use crate::states::{Holding, Idle};
 use arrayvec::ArrayVec;
 use datagrams::register::OUT_AREA;
 use datagrams::{Command, Head};
-use mailbox_mail::{Mail, next_counter, write};
+use link_mails::next_counter;
+use mailbox_mail::{Mail, write};
 use std::marker::Model;
 
 /// A state of the outward half.
@@ -82,14 +85,31 @@ pub fn new_outward(station: u16, len: u16) -> Outward<Idle>
     }
 }
 
+impl<S: OutState> Outward<S> {
+    // Its slave's station.
+    pub fn station(&self) -> u16
+        ensures { result ≡ self.now.station }
+    {
+        self.station
+    }
+
+    // The length of mailbox 0.
+    pub fn area_len(&self) -> u16
+        ensures { result ≡ self.now.len }
+    {
+        self.len
+    }
+}
+
 impl Outward<Idle> {
-    /// Takes up a mail, and gives it the next counter.
+    /// Takes up a mail, and gives it the next counter. All else of the mail is sent as it is: that its address is 0, as
+    /// on a segment, is for the caller to see to.
     pub fn hold(self, mail: Mail) -> Outward<Holding>
         requires { 6 + length mail.body.items ≤ self.len }
         ensures half { holding_half result ≡ out_hold (idle_half self) (Ok (uncounted mail)) }
         ensures mail { held_mail result ≡ counted_as (next_counter self.last) mail }
         ensures link { SameOut self result }
-        ensures agrees { (s : OutSide Body) (held taken : List Body) → OutAgree (idle_half self) s held taken → OutAgree (holding_half result) s (held ++ (Ok (uncounted mail) ∷ [])) taken }
+        ensures agrees { AgreesHolding (idle_half self) (holding_half result) (Ok (uncounted mail)) }
     {
         let counter = next_counter(self.last);
         let Outward { station, len, .. } = self;
@@ -112,7 +132,7 @@ impl Outward<Holding> {
         ensures link { SameOutNext self result }
 
         // Where a slave that agrees met the write and its answer is this counter.
-        ensures agrees { (s : OutSide Body) (held taken : List Body) → counter ≡ write_counter s.box → OutAgree (holding_half self) s held taken → OutAgree (out_next_half result) (written s s.box (link_mail (held_mail self))) held taken }
+        ensures agrees { AgreesWritten (holding_half self) (out_next_half result) (link_mail (held_mail self)) counter }
     {
         if counter == 0 {
             return OutNext::Full(self);
@@ -136,8 +156,8 @@ impl Outward<Holding> {
         ensures same { result ≡ self }
 
         // Whether the slave met the write or not.
-        ensures not_met { (s : OutSide Body) (held taken : List Body) → OutAgree (holding_half self) s held taken → OutAgree (holding_half result) s held taken }
-        ensures met { (s : OutSide Body) (held taken : List Body) → OutAgree (holding_half self) s held taken → OutAgree (holding_half result) (written s s.box (link_mail (held_mail self))) held taken }
+        ensures not_met { AgreesUnmet (holding_half self) (holding_half result) }
+        ensures met { AgreesMet (holding_half self) (holding_half result) (link_mail (held_mail self)) }
     {
         agrees_if_met(&self);
         self // the same mail, with its counter
@@ -146,7 +166,7 @@ impl Outward<Holding> {
 
 // A slave that met the write still agrees with the half that did not hear of it.
 fn agrees_if_met(half: &Outward<Holding>)
-    ensures { (s : OutSide Body) (held taken : List Body) → OutAgree (holding_half half.now) s held taken → OutAgree (holding_half half.now) (written s s.box (link_mail (held_mail half.now))) held taken }
+    ensures { AgreesMet (holding_half half.now) (holding_half half.now) (link_mail (held_mail half.now)) }
 {}
 
 impl LinkState for Outward<Holding> {
@@ -160,7 +180,7 @@ impl LinkState for Outward<Holding> {
     // What is sent reads as the mail held.
     fn datagram(&self, index: u8, head: &mut Head, body: &mut ArrayVec<u8, 1486>)
         ensures head { head.new ≡ access_head self.now.station index (write_access self.now.len (held_mail self.now)) }
-        ensures body { body.new.items ≡ area_text self.now.len (held_mail self.now) }
+        ensures body { body.new.items ≡ mail_area self.now.len (held_mail self.now) }
         ensures reads { mail_read body.new.items ≡ Ok (held_mail self.now) }
         ensures len { length body.new.items ≡ self.now.len }
     {
@@ -174,7 +194,7 @@ fn fill_area(mail: &Mail, len: u16, body: &mut ArrayVec<u8, 1486>)
     requires counted { mail.now.counter ≤ 7 }
     requires fits { 6 + length mail.now.body.items ≤ len }
     requires within { len ≤ 1486 }
-    ensures text { body.new.items ≡ area_text len mail.now }
+    ensures text { body.new.items ≡ mail_area len mail.now }
     ensures reads { mail_read body.new.items ≡ Ok mail.now }
     ensures len { length body.new.items ≡ len }
 {

@@ -3,10 +3,11 @@
 ghost use Rattle.std.specs.Prelude.{◌≡◌, ◌+◌, ◌≤◌, None, Some, Ok, is_none, length, option_map, IsSome, OnSome};
 ghost use Rattle.std.specs.Option.{ForSome};
 ghost use Rattle.mailbox_mail.specs.Mail.{mail_read};
-ghost use Rattle.link_mails.specs.Body.{uncounted, area_text};
+ghost use Rattle.link_mails.specs.Body.{uncounted, mail_brought};
+ghost use Rattle.mailbox_mail.specs.Area.{mail_area};
 ghost use Rattle.mailbox_master.specs.Access.{access_head, write_access};
 ghost use Rattle.mailbox_master.specs.Any.{out_held, out_returned, in_half_of, in_station, in_area_len, in_returned, in_got, in_access_of};
-ghost use Rattle.mailbox_master.specs.Halves.{in_half, mail_brought, SameIn};
+ghost use Rattle.mailbox_master.specs.Halves.{in_half, SameIn};
 ghost use Rattle.mailbox_master.specs.Next.{got_by};
 ghost use Rattle.mailbox_master.specs.Seat.{seat_half, mail_by, got_seen};
 ghost use Rattle.link_model.specs.Master.{InState, read_answered, in_lost};
@@ -15,9 +16,10 @@ use crate::access::{ACTIVATE, ENABLE, PDI_CONTROL, REPEAT, head_of};
 use crate::halves::InwardHalf;
 use crate::inward::new_inward;
 use datagrams::register::{IN_AREA, OUT_AREA};
-use datagrams::{Command, Head};
+use datagrams::{Body, Command, Head};
 use ec_fields::refill;
-use mailbox_mail::{Kind, Mail, MailFault, MailView, error_mail, next_counter, write};
+use link_mails::next_counter;
+use mailbox_mail::{Kind, Mail, MailFault, MailView, error_mail, write};
 use std::marker::Model;
 use std::mem;
 
@@ -71,11 +73,11 @@ impl OutwardSeat {
         }
     }
 
-    /// Takes up a mail of these parts where none is held; else nothing changes. Only the body's octets
-    /// are copied.
-    pub fn hold(&mut self, address: u16, kind: Kind, body: &[u8])
+    /// Takes up a mail of these parts where none is held; else nothing changes. Its address is 0, as on a
+    /// segment. Only the body's octets are copied.
+    pub fn hold(&mut self, kind: Kind, body: &[u8])
         requires fits { 6 + length body.now ≤ self.old.len }
-        ensures half { seat_half self.new ≡ (let h = seat_half self.old in out_held h h.holding (Ok (mail_by address kind body.now))) }
+        ensures half { seat_half self.new ≡ (let h = seat_half self.old in out_held h h.holding (Ok (mail_by kind body.now))) }
         ensures station { self.new.station ≡ self.old.station }
         ensures len { self.new.len ≡ self.old.len }
     {
@@ -83,12 +85,26 @@ impl OutwardSeat {
             return;
         }
         let counter = next_counter(self.last);
-        self.mail.address = address;
+        self.mail.address = 0;
         self.mail.kind = kind;
         self.mail.counter = counter;
         refill(&mut self.mail.body, body);
         self.last = counter;
         self.holding = true;
+    }
+
+    /// Its slave's station.
+    pub fn station(&self) -> u16
+        ensures { result ≡ self.now.station }
+    {
+        self.station
+    }
+
+    /// The length of mailbox 0.
+    pub fn area_len(&self) -> u16
+        ensures { result ≡ self.now.len }
+    {
+        self.len
     }
 
     /// Whether no mail is held.
@@ -117,11 +133,11 @@ impl OutwardSeat {
         head_of(self.station, index, Command::Fpwr, OUT_AREA, self.len)
     }
 
-    /// Writes the datagram's body.
+    /// Writes the datagram's body: the mail held, and zeros behind it.
     pub fn write(&self, area: &mut [u8])
         requires held { IsSome self.now.state }
         requires len { length area.old ≡ self.now.len }
-        ensures text { (m : Mail) → self.now.state ≡ Some m → area.new ≡ area_text self.now.len m }
+        ensures text { (m : Mail) → self.now.state ≡ Some m → area.new ≡ mail_area self.now.len m }
         ensures reads { Some (mail_read area.new) ≡ option_map Ok self.now.state }
     {
         write(&self.mail, area);
@@ -160,7 +176,13 @@ impl InwardHalf {
         match self {
             InwardHalf::Clear(clear) => clear.read_head(index),
             InwardHalf::Doubt(doubt) => head_of(doubt.station(), index, Command::Fpwr, ACTIVATE, 1),
-            InwardHalf::Asked(asked) => head_of(asked.station(), index, Command::Fprd, PDI_CONTROL, 1),
+            InwardHalf::Asked(asked) => head_of(
+                asked.station(),
+                index,
+                Command::Fprd,
+                PDI_CONTROL,
+                1,
+            ),
             InwardHalf::Refetch(refetch) => refetch.read_head(index),
         }
     }
@@ -171,8 +193,50 @@ impl InwardHalf {
         ensures { body.new ≡ (in_access_of self.now).octets }
     {
         match self {
-            InwardHalf::Doubt(doubt) => body[0] = if doubt.bit() { ENABLE + REPEAT } else { ENABLE },
+            InwardHalf::Doubt(doubt) => body[0] = if doubt.bit() {
+                ENABLE + REPEAT
+            } else {
+                ENABLE
+            },
             _ => body.fill(0),
         }
+    }
+}
+
+// The body of its datagram, for whoever writes it into a frame; zeros while no mail is held.
+impl Body for OutwardSeat {
+    ghost use Rattle.mailbox_master.specs.Seat.{seat_octets};
+
+    ghost octets = { seat_octets };
+
+    fn len(&self) -> usize {
+        self.len as usize
+    }
+
+    fn fill(&self, body: &mut [u8]) {
+        if self.holding {
+            self.write(body);
+        } else {
+            body.fill(0);
+        }
+    }
+}
+
+// The body of its datagram, for whoever writes it into a frame.
+impl Body for InwardHalf {
+    ghost use Rattle.mailbox_master.specs.Any.{in_access_of};
+
+    ghost octets = { λ h. (in_access_of h).octets };
+
+    fn len(&self) -> usize {
+        match self {
+            InwardHalf::Clear(clear) => clear.area_len() as usize,
+            InwardHalf::Refetch(refetch) => refetch.area_len() as usize,
+            _ => 1,
+        }
+    }
+
+    fn fill(&self, body: &mut [u8]) {
+        self.write(body);
     }
 }

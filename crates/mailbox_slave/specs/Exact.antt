@@ -2,10 +2,10 @@
 use Rattle.std.specs.Prelude.{ℕ, Bool, true, false, not, ◌&&◌, if◌then◌else◌, is_some, is_none, Option, Some, None}
 use Rattle.mailbox_mail.specs.declared.mail.Mail.{Mail}
 use Rattle.mailbox_mail.specs.Mail.{mail_read}
-use Rattle.mailbox_mail.specs.Counter.{counter_behind}
+use Rattle.link_model.specs.Counters.{next_counter, repeats}
 use Rattle.link_model.specs.Mails.{LinkMail, first_of}
-use Rattle.link_mails.specs.Body.{Body, counted_as, link_read, repeats}
-use Rattle.esc_registers.specs.Area.{mail_area}
+use Rattle.link_mails.specs.Body.{Body, counted_as, link_read}
+use Rattle.mailbox_mail.specs.Area.{mail_area}
 use Rattle.esc_registers.specs.Manager.{is_repeat_asked}
 use Rattle.esc_registers.specs.declared.registers.Registers.{Registers}
 use Rattle.mailbox_slave.specs.Kept.{Kept}
@@ -86,9 +86,9 @@ abbrev pub next_offered : {S : Type 0} → (S → S) → Kept → Registers → 
 next_offered rest k r s (Some m) next =
     record { kept = record k { again = false; fresh = Some m; withdrawn = None }; registers = with_mail r m; server = s }
 next_offered rest k r s None (Some m) =
-    let n = counted_as (counter_behind k.newest) m in
+    let n = counted_as (next_counter k.newest) m in
     record {
-      kept = record k { newest = counter_behind k.newest; again = false; fresh = Some n };
+      kept = record k { newest = next_counter k.newest; again = false; fresh = Some n };
       registers = with_mail r n;
       server = rest s;
     }

@@ -29,10 +29,11 @@ kept_of last_taken newest again turned has_read is_fresh is_withdrawn first seco
 abbrev pub offered : Kept → Option Mail
 offered k = if k.again then k.last_read else k.fresh
 
--- a mail has a counter of the link, and fits an area of this length
+-- a mail has a counter of the link, 0 to 7
 abbrev pub IsCounted : Mail → Type 0
 IsCounted m = m.counter ≤ 7
 
+-- a mail with its header fits an area of this length
 abbrev pub FitsArea : ℕ → Mail → Type 0
 FitsArea len m = 6 + length m.body.items ≤ len
 

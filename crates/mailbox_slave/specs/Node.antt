@@ -3,14 +3,16 @@ use Rattle.std.specs.Prelude.{◌≡◌, ℕ, true, Option, Some, option_map, Ok
 use Rattle.mailbox_mail.specs.declared.mail.Mail.{Mail}
 use Rattle.link_model.specs.Slave.{OutSide, InSide, Node, Server}
 use Rattle.link_mails.specs.Body.{Body, uncounted, link_mail}
-use Rattle.esc_registers.specs.Area.{mail_area}
+use Rattle.mailbox_mail.specs.Area.{mail_area}
 use Rattle.esc_registers.specs.declared.registers.Registers.{Registers}
 use Rattle.mailbox_slave.specs.Kept.{Kept, offered}
 use Rattle.mailbox_slave.specs.Registers.{out_box, in_box, in_len, request_of, acknowledge_of}
 
+-- the side of mailbox 0: the mail in it, and the counter of the last mail taken
 abbrev pub out_side : Kept → Registers → OutSide Body
 out_side k r = record { box = out_box r; last_taken = k.last_taken }
 
+-- the side of mailbox 1: the mail in it, what the box keeps of its mails, and the bits of the repeat handshake
 abbrev pub in_side : Kept → Registers → InSide Body
 in_side k r = record {
   box = in_box r;
@@ -23,6 +25,7 @@ in_side k r = record {
   acknowledge = acknowledge_of r;
 }
 
+-- both sides, and the server
 abbrev pub node_of : {S : Type 0} → Kept → Registers → S → Node Body S
 node_of k r s = record { out = out_side k r; inn = in_side k r; server = s }
 

@@ -18,10 +18,11 @@ in_box r = if r.in_manager.full then Some (link_read (mail_read r.in_manager.are
 abbrev pub in_len : Registers → ℕ
 in_len r = length r.in_manager.area
 
--- the repeat request and its acknowledge
+-- the repeat request
 abbrev pub request_of : Registers → Bool
 request_of r = is_repeat_bit r.in_manager.activate
 
+-- the repeat acknowledge
 abbrev pub acknowledge_of : Registers → Bool
 acknowledge_of r = r.in_manager.acknowledge
 
@@ -34,7 +35,7 @@ pub record ChangesIn (old new : Registers) : Type 0 where
 pub record ChangesOut (old new : Registers) : Type 0 where
   pub others : new ≡ record old { out_manager = record old.out_manager { full = new.out_manager.full } }
 
--- both
+-- of the registers mailbox 0 is emptied, mailbox 1 and the repeat acknowledge change, and the length of mailbox 1 stays
 pub record ChangesBoxes (old new : Registers) : Type 0 where
   pub others : new ≡ record old { out_manager = record old.out_manager { full = new.out_manager.full }; in_manager = record old.in_manager { full = new.in_manager.full; area = new.in_manager.area; acknowledge = new.in_manager.acknowledge } }
   pub len : in_len new ≡ in_len old

@@ -7,6 +7,3 @@ mod slave_box;
 
 pub use server::Server;
 pub use slave_box::SlaveBox;
-
-#[cfg(test)]
-mod tests;

@@ -2,20 +2,20 @@
 
 ghost use Rattle.std.specs.Prelude.{◌≡◌, ℕ, MatchOption, ◌+◌, ◌≤◌, None, Some, true, false, is_some, IsSome, length, option_map};
 ghost use Rattle.std.specs.Option.{ForSome};
-ghost use Rattle.mailbox_mail.specs.Counter.{counter_behind};
+ghost use Rattle.link_model.specs.Counters.{next_counter};
 ghost use Rattle.mailbox_mail.specs.Mail.{mail_read};
 ghost use Rattle.link_model.specs.Slave.{noticed, repeated, looked, node_take, node_offer, node_serve, processor_step};
 ghost use Rattle.link_mails.specs.Body.{counted_as, link_mail, link_read};
 ghost use Rattle.mailbox_slave.specs.Kept.{IsCounted, FitsArea, KeptFits, is_at_rest};
 ghost use Rattle.mailbox_slave.specs.Registers.{in_box, in_len, acknowledge_of, ChangesIn, ChangesOut, ChangesBoxes};
-ghost use Rattle.esc_registers.specs.Area.{mail_area};
+ghost use Rattle.mailbox_mail.specs.Area.{mail_area};
 ghost use Rattle.mailbox_slave.specs.Node.{in_side, node_of, server_of, IsSpelled};
 ghost use Rattle.mailbox_slave.specs.Exact.{with_mail, kept_noticed, last_repeated, boxes_looked, mail_served, mail_offered, slave_served, slave_stepped};
 
 use crate::server::Server;
 use esc_registers::Esc;
-use link_mails::is_repeat;
-use mailbox_mail::{Mail, MailFault, error_mail, next_counter, read_into, view};
+use link_mails::{is_repeat, next_counter};
+use mailbox_mail::{Mail, MailFault, error_mail, read_into, view};
 use std::marker::Model;
 
 /// What a slave keeps of its mails: which was taken last, and which it may have to offer again. The
@@ -238,9 +238,9 @@ impl SlaveBox {
         requires some { IsSome (S.next_mail server.old) }
         requires none { self.old.withdrawn ≡ None }
         requires room { S.room server.old + 6 ≤ in_len esc.old }
-        ensures own { self.new ≡ record self.old { newest = counter_behind self.old.newest; again = false; fresh = option_map (counted_as (counter_behind self.old.newest)) (S.next_mail server.old) } }
-        ensures exact { Some esc.new ≡ option_map (λ m. with_mail esc.old (counted_as (counter_behind self.old.newest) m)) (S.next_mail server.old) }
-        ensures mail { in_box esc.new ≡ option_map (λ m. link_mail (counted_as (counter_behind self.old.newest) m)) (S.next_mail server.old) }
+        ensures own { self.new ≡ record self.old { newest = next_counter self.old.newest; again = false; fresh = option_map (counted_as (next_counter self.old.newest)) (S.next_mail server.old) } }
+        ensures exact { Some esc.new ≡ option_map (λ m. with_mail esc.old (counted_as (next_counter self.old.newest) m)) (S.next_mail server.old) }
+        ensures mail { in_box esc.new ≡ option_map (λ m. link_mail (counted_as (next_counter self.old.newest) m)) (S.next_mail server.old) }
         ensures len { in_len esc.new ≡ in_len esc.old }
         ensures fits { ForSome self.new.fresh (FitsArea (in_len esc.old)) }
         ensures server { server.new ≡ S.rest server.old }

@@ -2,7 +2,8 @@
 use Rattle.std.proofs.Common.{◌∙◌, refl}
 use Rattle.mailbox_mail.specs.Mail.{mail_read}
 use Rattle.link_model.specs.Master.{InState}
-use Rattle.mailbox_master.specs.Halves.{in_half, mail_brought}
+use Rattle.mailbox_master.specs.Halves.{in_half}
+use Rattle.link_mails.specs.Body.{mail_brought}
 use Rattle.mailbox_master.specs.Next.{accepted_by}
 use Rattle.mailbox_master.proofs.Agreement.{clear_read, got_by-accepts}
 use Rattle.std.proofs.Common.{ap}

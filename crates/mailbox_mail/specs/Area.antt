@@ -1,3 +1,4 @@
+-- A mailbox area as a mail is written into it.
 use Rattle.std.specs.Prelude.{ℕ, ◌+◌, ◌-◌, List, ◌++◌, length, replicate}
 use Rattle.mailbox_mail.specs.Mail.{mail_text}
 use Rattle.mailbox_mail.specs.declared.mail.Mail.{Mail}

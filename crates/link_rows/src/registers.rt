@@ -1,7 +1,7 @@
-use crate::Esc;
 use arrayvec::ArrayVec;
 use datagrams::{Command, Head};
 use ec_fields::NoMemory;
+use esc_registers::Esc;
 
 const OUT: &[u8] = &[0x00, 0x10, 0x04, 0x00, 0x26, 0x00, 0x01, 0x00];
 

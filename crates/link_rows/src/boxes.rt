@@ -1,11 +1,11 @@
 ghost use Rattle.std.specs.Prelude.{◌<◌, ◌^◌, length};
 ghost use Rattle.esc_registers.specs.Access.{KeepsLengths};
 
-use crate::{Server, SlaveBox};
 use datagrams::{Command, Head};
 use ec_fields::NoMemory;
 use esc_registers::Esc;
 use mailbox_mail::{Mail, MailFault, error_mail};
+use mailbox_slave::{Server, SlaveBox};
 
 // A server that refuses each mail by a mailbox error.
 #[derive(Drop)]

@@ -1,9 +1,10 @@
-use crate::{
-    Al, Asked, Climb, ClimbNext, access, bring_new, came_back, climb_new, next, request, status,
-    written,
+use al_state::{
+    Al, Asked, BringUp, Climb, ClimbNext, access, bring_new, came_back, cleared, climb_new, next,
+    reopen_new, request, status, written,
 };
 use arrayvec::ArrayVec;
 use datagrams::{Command, Head};
+use std::process::Abort;
 
 fn asked(from: u8, control: u16, boot: bool, areas: bool) -> (Asked, Al) {
     let mut al = Al {
@@ -142,12 +143,28 @@ fn climbs_to_a_refusal(rt: HostRuntime) {
     assert_eq!(rt; other, Climb::Arrived);
 }
 
+// The datagram of the access in hand.
+fn accesses(rt: &impl Abort, up: &BringUp, command: Command, adp: u16, ado: u16, octets: &[u8]) {
+    let mut head = Head::default();
+    let mut body = ArrayVec::new();
+    access(up, 7, &mut head, &mut body);
+    assert!(rt; octets.len() <= 8);
+    let wanted = Head {
+        command,
+        index: 7,
+        adp,
+        ado,
+        len: octets.len() as u16,
+        ..Head::default()
+    };
+    assert_eq!(rt; head, wanted);
+    assert_eq!(rt; body.as_slice(), octets);
+}
+
 // The slave at ring position 1 with the station 1002 and areas of 128 and 64 octets.
 #[test]
 fn brings_a_slave_up(rt: HostRuntime) {
     let mut up = bring_new(1, 0x1002, 128, 64, 2);
-    let mut head = Head::default();
-    let mut body = ArrayVec::new();
     let steps: [(Command, u16, u16, &[u8]); 6] = [
         (Command::Apwr, 0xFFFF, 0x0010, &[0x02, 0x10]),
         (
@@ -167,21 +184,66 @@ fn brings_a_slave_up(rt: HostRuntime) {
         (Command::Fprd, 0x1002, 0x0130, &[0; 6]),
     ];
     for (command, adp, ado, octets) in steps {
-        access(&up, 7, &mut head, &mut body);
-        let wanted = Head {
-            command,
-            index: 7,
-            adp,
-            ado,
-            len: octets.len() as u16,
-            ..Head::default()
-        };
-        assert_eq!(rt; head, wanted);
-        assert_eq!(rt; body.as_slice(), octets);
+        accesses(&rt, &up, command, adp, ado, octets);
         assert_eq!(rt; came_back(&mut up, 1, octets), false);
     }
+    assert_eq!(rt; cleared(&up), false);
     assert_eq!(rt; came_back(&mut up, 1, &[0x12, 0, 0, 0, 0x16, 0]), false);
     assert_eq!(rt; came_back(&mut up, 0, &[2, 0, 0, 0, 0, 0]), false);
     assert_eq!(rt; came_back(&mut up, 1, &[2]), false);
     assert_eq!(rt; came_back(&mut up, 1, &[2, 0, 0, 0, 0, 0]), true);
+}
+
+// The same slave, opened again to Bootstrap: it is watched until one slave shows Init without an error.
+#[test]
+fn opens_a_slave_again(rt: HostRuntime) {
+    let mut up = reopen_new(1, 0x1002, 128, 64, 3);
+    let status: [(u16, &[u8]); 3] = [
+        (1, &[0x02, 0, 0, 0, 0, 0]),
+        (0, &[0x01, 0, 0, 0, 0, 0]),
+        (1, &[0x11, 0, 0, 0, 0x11, 0]),
+    ];
+    accesses(&rt, &up, Command::Apwr, 0xFFFF, 0x0120, &[0x11, 0x00]);
+    assert_eq!(rt; came_back(&mut up, 0, &[0x11, 0x00]), false);
+    for (counter, octets) in status {
+        accesses(&rt, &up, Command::Aprd, 0xFFFF, 0x0130, &[0; 6]);
+        assert_eq!(rt; came_back(&mut up, counter, octets), false);
+        assert_eq!(rt; cleared(&up), false);
+    }
+    assert_eq!(rt; came_back(&mut up, 1, &[0x01, 0, 0, 0, 0, 0]), false);
+    let steps: [(Command, u16, u16, &[u8]); 7] = [
+        (Command::Apwr, 0xFFFF, 0x0010, &[0x02, 0x10]),
+        (
+            Command::Fpwr,
+            0x1002,
+            0x0800,
+            &[0x00, 0x10, 0x80, 0x00, 0x26, 0x00, 0x00, 0x00],
+        ),
+        (
+            Command::Fpwr,
+            0x1002,
+            0x0808,
+            &[0x00, 0x18, 0x40, 0x00, 0x22, 0x00, 0x00, 0x00],
+        ),
+        (
+            Command::Fpwr,
+            0x1002,
+            0x0800,
+            &[0x00, 0x10, 0x80, 0x00, 0x26, 0x00, 0x01, 0x00],
+        ),
+        (
+            Command::Fpwr,
+            0x1002,
+            0x0808,
+            &[0x00, 0x18, 0x40, 0x00, 0x22, 0x00, 0x01, 0x00],
+        ),
+        (Command::Fpwr, 0x1002, 0x0120, &[0x03, 0x00]),
+        (Command::Fprd, 0x1002, 0x0130, &[0; 6]),
+    ];
+    for (command, adp, ado, octets) in steps {
+        assert_eq!(rt; cleared(&up), true);
+        accesses(&rt, &up, command, adp, ado, octets);
+        assert_eq!(rt; came_back(&mut up, 1, octets), false);
+    }
+    assert_eq!(rt; came_back(&mut up, 1, &[3, 0, 0, 0, 0, 0]), true);
 }
