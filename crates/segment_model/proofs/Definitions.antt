@@ -1,11 +1,10 @@
--- Worked rows of the definitions of visits and of a switch's events, each computed.
-use Rattle.std.proofs.Common.{◌≡◌, ℕ, false, Option, Some, None, List, [], ◌∷◌, refl, arith}
+-- Worked rows of the definitions of visits, each computed.
+use Rattle.std.proofs.Common.{ℕ, false, Option, Some, None, List, [], ◌∷◌, refl, arith}
 use Rattle.link_model.specs.Segment.{RingFate}
 use Rattle.link_model.specs.Frames.{Ask}
 use Rattle.segment_model.specs.Slaves.{Datagram, Address, Access, Found}
 use Rattle.segment_model.specs.Record.{Frame}
 use Rattle.segment_model.specs.Visits.{Stop, new_tour, Visits}
-use Rattle.segment_model.specs.Switching.{SwitchEvent, Numbered, IsPort}
 
 abbrev stop : ℕ → Stop
 stop station = record { station = station; state = 2; area = 128 }
@@ -48,12 +47,3 @@ visits = (refl, (refl, (refl, (refl, (refl, ((refl, (refl, tt)), ((refl, (refl, 
 full : Visits (λ ds. 1400) 1 (stop 4097 ∷ stop 4098 ∷ []) (record { opening = []; live = stop 4097 ∷ stop 4098 ∷ []; last = Some 4097; again = None; missed = 0 })
     (passes (look 4098 ∷ []) ∷ passes (look 4097 ∷ []) ∷ [])
 full = ((refl, omega arith), ((refl, omega arith), tt))
-
--- a packet arrives from port 1, one comes into hand there, and it goes down
-abbrev events : List (Numbered ℕ)
-events =
-    record { event = SwitchEvent.Arrive 1 7; number = 9 } ∷ record { event = SwitchEvent.Begun 2; number = 10 } ∷ record { event = SwitchEvent.Begun 1; number = 11 }
-    ∷ record { event = SwitchEvent.Down 1; number = 14 } ∷ []
-
-port : IsPort events 1 (11 ∷ []) (8 ∷ []) (Some 13)
-port = record { begun = refl; arrived = refl; down = refl; last = ((λ e. absurd (cc)), ((λ e. absurd (cc)), ((λ e. absurd (cc)), ((λ e. refl), tt)))) }

@@ -7,6 +7,5 @@ pub mod Laws
 pub mod Split
 pub mod GiveUps
 pub mod Visits
-pub mod Switching
 pub mod Books
 pub mod Trial
