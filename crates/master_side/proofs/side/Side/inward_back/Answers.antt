@@ -1,0 +1,22 @@
+use Rattle.std.proofs.Common.{subst, sym, ◌∙◌, Option}
+use Rattle.std.specs.Prelude.{option_map}
+use Rattle.exchange_model.specs.Rows.{row_heard}
+use Rattle.segment_model.specs.Seats.{side_back}
+use Rattle.mailbox_mail.specs.declared.mail.MailView.{MailView}
+use Rattle.master_side.specs.declared.carried.Carried.{Carried}
+use Rattle.task_model.specs.Accounts.{duty_access, account_back}
+use Rattle.master_side.specs.Carried.{Meant, one}
+use Rattle.master_side.specs.Heard.{heard_of}
+use Rattle.master_side.proofs.Backs.{inward_back, kept_side}
+use Rattle.master_side.proofs.side.Side.inward_back.Goals as goal
+
+pub returns-clause-shown : goal.returns-clause-shown
+returns-clause-shown g c = λ x frame b d a s w i.
+    let args = c.args.self.now in
+    let next = g.H.Hand.shows c.hear.new.self.hand x in
+    let k = c.read_done.ensures.kept in
+    let h = c.hear.ensures.kept in
+    kept_side next args.out c.hear.new.self.out c.returned-got.new.self c.hear.new.self.inn args.fresh c.hear.new.self.fresh args.duty c.hear.new.self.duty (side_back x frame args.station (one b) d) (account_back args.station frame a (one b)) (h.0 ∙ k.0, h.1 ∙ k.1, h.2 ∙ k.2, h.3 ∙ k.3)
+    (inward_back x (g.H.Hand.shows args.hand x) args.out args.inn args.fresh args.duty d a args.station b frame c.args.counter c.args.octets.now c.returned-got.new.self next c.returned-got.result c.returned-got.ensures.half c.returned-got.ensures.got
+    (λ n now t. subst (λ (o : Option MailView). next (option_map (λ r. row_heard x n (heard_of o) r) now)) c.view_in.ensures (c.hear.ensures.shown x n now (subst (λ z. g.H.Hand.shows z x now) (sym k.4) t)))
+    s (subst (λ (k : Carried). Meant args.station k d.halves (duty_access a.hand) b) c.requires w) i)

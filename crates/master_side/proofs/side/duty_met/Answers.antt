@@ -1,0 +1,13 @@
+use Rattle.std.proofs.Common.{sym, subst, ap, ◌∙◌}
+use Rattle.segment_model.specs.Slaves.{Access}
+use Rattle.master_side.specs.declared.carried.Carried.{Carried}
+use Rattle.master_side.specs.Carried.{Asks}
+use Rattle.frame_view.specs.View.{found_of}
+use Rattle.task_model.specs.Accounts.{access_done}
+use Rattle.master_duty.specs.Stages.{stage_of}
+use Rattle.master_side.proofs.side.duty_met.Goals as goal
+
+pub returns-in-Control-clause-done : goal.returns-in-Control-clause-done
+returns-in-Control-clause-done c = λ h due ask access counter w n l.
+    let (target, acknowledge, o, d, x) = subst (λ (k : Carried). Asks k h due ask access) c.in-Control.is w in
+    c.word_written.ensures.done target acknowledge ∙ ap (λ (z : Access). access_done c.args.duty.target (stage_of c.args.duty.stage) z (found_of z counter c.args.octets.now)) (sym x)

@@ -1,0 +1,12 @@
+-- What a mail that is taken to be held tells of its row.
+use Rattle.std.specs.Prelude.{◌≡◌, Bool, true, false, [], ◌∷◌, Option, None, Ok, option_map}
+use Rattle.mailbox_mail.specs.declared.mail.Mail.{Mail}
+use Rattle.exchange_model.specs.Exchange.{Speech}
+use Rattle.exchange_model.specs.Rows.{Row, row_told}
+use Rattle.link_mails.specs.Body.{Body, uncounted}
+use Rattle.segment_model.specs.Seats.{next_mail}
+
+-- the mail taken is the first that the row has left, and is told; where none was taken the row is as it was
+abbrev pub Tells : {Q R : Type 0} → Bool → Mail → Speech Body Q R → Option (Row Body Q R) → (Option (Row Body Q R) → Type 0) → Type 0
+Tells false m x now shows = shows now
+Tells true m x now shows = (next_mail x now None true ≡ Ok (uncounted m) ∷ []) × shows (option_map (λ r. row_told (Ok (uncounted m)) r) now)

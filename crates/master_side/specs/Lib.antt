@@ -1,0 +1,6 @@
+pub mod Fits
+pub mod Shown
+pub mod Carried
+pub mod Sent
+pub mod Heard
+pub mod Passes

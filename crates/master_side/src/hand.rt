@@ -1,0 +1,93 @@
+//! What the newest service by mails of a slave has to offer.
+
+ghost use Rattle.std.specs.Prelude.{◌≡◌};
+
+use mailbox_mail::{Kind, MailView};
+
+/// What a mail that was accepted is to the service in hand.
+#[derive(Clone, Copy, Debug, PartialEq, Eq)]
+pub enum Heard {
+    /// It replies to nothing: an emergency or a fragment of a packet.
+    Emission,
+    /// A reply, and the service awaits more of it.
+    More,
+    /// The last reply.
+    Last,
+    /// A mail that the service does not await: nothing more is known of it.
+    Foreign,
+}
+
+/// The newest service by mails of a slave, and the one that is laid ready to follow it. What it shows of its
+/// row has mails in it that nobody keeps, so that is a relation; the speech of the slave's client is part of it.
+pub trait Hand {
+    ghost use Rattle.std.specs.Prelude.{◌≡◌, ◌≤◌, ◌+◌, ℕ, List, [], ◌∷◌, Bool, true, false, Option, Some, None, Ok, option_map, is_some, length};
+    ghost use Rattle.mailbox_mail.specs.declared.mail.Mail.{Mail};
+    ghost use Rattle.mailbox_mail.specs.View.{mail_seen};
+    ghost use Rattle.exchange_model.specs.Exchange.{Speech};
+    ghost use Rattle.exchange_model.specs.Rows.{Row, begun, row_heard};
+    ghost use Rattle.link_mails.specs.Body.{Body, uncounted};
+    ghost use Rattle.segment_model.specs.Seats.{Side};
+    ghost use Rattle.task_model.specs.Accounts.{is_free, is_acknowledged};
+    ghost use Rattle.master_duty.specs.Reply.{Reply};
+    ghost use Rattle.master_side.specs.Fits.{Tells};
+
+    ghost Asked: { Type 0 };
+
+    ghost acknowledged: { Asked → Bool };
+
+    ghost shows: { Self → Speech Body Asked Reply → Option (Row Body Asked Reply) → Type 0 };
+
+    ghost room: { Self → ℕ };
+
+    ghost ready: { Self → Option Asked };
+
+    ghost taken: { Self → Mail };
+
+    /// The service that was laid ready comes into hand in place of the one before: whether there was one.
+    fn begin(&mut self) -> bool
+        ensures did { result ≡ is_some (ready self.old) }
+        ensures begun { (x : Speech Body Asked Reply) (now : Option (Row Body Asked Reply)) (q : Asked) (frame : ℕ) → shows self.old x now → ready self.old ≡ Some q → (x.valid q ≡ true) × shows self.new x (Some (begun q frame)) }
+        ensures none { (x : Speech Body Asked Reply) (now : Option (Row Body Asked Reply)) → shows self.old x now → ready self.old ≡ None → shows self.new x now }
+        ensures room { room self.new ≡ room self.old };
+
+    /// The mail that goes next, if there is one, is taken to be held; `address`, `kind` and `body` are its parts.
+    fn take_next(&mut self) -> bool
+        ensures fits { result ≡ true → 6 + length (taken self.new).body.items ≤ room self.old }
+        ensures held { (x : Speech Body Asked Reply) (now : Option (Row Body Asked Reply)) → shows self.old x now → Tells result (taken self.new) x now (shows self.new x) }
+        ensures room { room self.new ≡ room self.old };
+
+    /// The address of the mail that was taken last.
+    fn address(&self) -> u16
+        ensures { result ≡ (taken self.now).address };
+
+    /// Its kind.
+    fn kind(&self) -> Kind
+        ensures { result ≡ (taken self.now).kind };
+
+    /// Its body.
+    fn body(&self) -> &[u8]
+        ensures { result.now ≡ (taken self.now).body.items };
+
+    /// A mail was accepted.
+    fn hear(&mut self, mail: &MailView) -> Heard
+        ensures shown { (x : Speech Body Asked Reply) (frame : ℕ) (now : Option (Row Body Asked Reply)) → shows self.old x now → shows self.new x (option_map (λ r. row_heard x frame (Ok (uncounted (mail_seen mail.now)) ∷ []) r) now) }
+        ensures room { room self.new ≡ room self.old };
+
+    /// Whether the newest service is over: the mail held was sent (`fresh` is false), or none is held (`idle`).
+    fn is_over(&self, fresh: bool, idle: bool) -> bool
+        ensures free { (x : Speech Body Asked Reply) (d : Side Body Asked Reply) → result ≡ true → d.fresh ≡ fresh → (idle ≡ true → d.halves.out.holding ≡ None) → shows self.now x d.now → is_free x d d.now ≡ true };
+
+    /// Whether the write of its last mail is done, where that mail is an acknowledgement.
+    fn is_acknowledged(&self, idle: bool) -> bool
+        ensures { (x : Speech Body Asked Reply) (d : Side Body Asked Reply) → result ≡ true → (idle ≡ true → d.halves.out.holding ≡ None) → shows self.now x d.now → is_acknowledged acknowledged d d.now ≡ true };
+
+    /// The newest service is forgotten, and the one that was laid ready: the slave is opened anew.
+    fn renew(&mut self)
+        ensures shown { (x : Speech Body Asked Reply) (now : Option (Row Body Asked Reply)) → shows self.old x now → shows self.new x None }
+        ensures room { room self.new ≡ room self.old };
+
+    /// Whether the newest service is a mail that is passed on as it is.
+    fn is_passed(&self) -> bool;
+
+    ghost quiet: { (h : Self) (x : Speech Body Asked Reply) (frame : ℕ) (now : Option (Row Body Asked Reply)) → shows h x now → shows h x (option_map (λ r. row_heard x frame [] r) now) };
+}

@@ -1,0 +1,15 @@
+//! One slave as its master has it while it is open: both halves of the link, the service by mails in
+//! hand, the state service in hand, and the order of the datagrams of its visits.
+#![tactic(auto)]
+
+mod bodies;
+mod carried;
+mod hand;
+mod passing;
+mod sending;
+mod side;
+
+pub use carried::{Carried, Target, Wish};
+pub use hand::{Hand, Heard};
+pub use passing::Passing;
+pub use side::Side;

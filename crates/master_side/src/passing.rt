@@ -1,0 +1,74 @@
+//! How far a mail that is passed on has come.
+
+ghost use Rattle.std.specs.Prelude.{◌≡◌};
+ghost use Rattle.master_side.specs.Passes.{told_by, written_by, full_by, heard_by, empty_by};
+
+use crate::hand::Heard;
+
+/// How far a mail that is passed on has come.
+#[derive(Clone, Copy, Debug, PartialEq, Eq)]
+pub enum Passing {
+    /// It was not yet sent.
+    Waiting,
+    /// It was sent.
+    Sent,
+    /// Mailbox 0 has taken it.
+    Boxed,
+    /// Mailbox 0 was seen empty behind that.
+    Served,
+    /// A reply of it was accepted.
+    Answered,
+}
+
+/// A mail that was held is sent, for the first time where it is fresh.
+pub fn told(passing: Option<Passing>, fresh: bool) -> Option<Passing>
+    ensures { result ≡ told_by passing fresh }
+{
+    match passing {
+        Some(Passing::Waiting) if fresh => Some(Passing::Sent),
+        other => other,
+    }
+}
+
+/// A write of mailbox 0 came back with this working counter.
+pub fn written(passing: Option<Passing>, counter: u16) -> Option<Passing>
+    ensures { result ≡ written_by passing counter }
+{
+    match passing {
+        Some(Passing::Sent) if counter != 0 => Some(Passing::Boxed),
+        other => other,
+    }
+}
+
+/// The status octet of mailbox 0 was read.
+pub fn full_seen(passing: Option<Passing>, full: bool) -> Option<Passing>
+    ensures { result ≡ full_by passing full }
+{
+    match passing {
+        Some(Passing::Boxed) if !full => Some(Passing::Served),
+        other => other,
+    }
+}
+
+/// A mail was accepted.
+pub fn heard(passing: Option<Passing>, heard: Heard) -> Option<Passing>
+    ensures { result ≡ heard_by passing heard }
+{
+    match (passing, heard) {
+        (None, _) => None,
+        (Some(Passing::Served), Heard::Emission) => None,
+        (Some(other), Heard::Emission) => Some(other),
+        (Some(_), Heard::More) => Some(Passing::Answered),
+        (Some(_), Heard::Last | Heard::Foreign) => None,
+    }
+}
+
+/// Mailbox 1 was read empty, and its slave has made a step since the last done read of it.
+pub fn empty(passing: Option<Passing>) -> Option<Passing>
+    ensures { result ≡ empty_by passing }
+{
+    match passing {
+        Some(Passing::Served) => None,
+        other => other,
+    }
+}

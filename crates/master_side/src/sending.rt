@@ -1,0 +1,197 @@
+//! The datagram of a visit.
+
+ghost use Rattle.std.specs.Prelude.{◌≡◌, List, ◌++◌, ◌∷◌, []};
+ghost use Rattle.datagrams.specs.Datagram as Raw;
+ghost use Rattle.datagrams.specs.Frame.{IsBegun};
+ghost use Rattle.master_side.specs.Carried.{errand_carried};
+ghost use Rattle.master_side.specs.Sent.{errand_gram, head_to, IsSent, IsWord};
+ghost use Rattle.datagrams.specs.declared.command.Command.TheVariants.{Fprd};
+ghost use Rattle.std.specs.Prelude.{Some, ◌-◌, ◌≤◌, ◌+◌, length};
+ghost use Rattle.datagrams.specs.Frame.{datagram_of};
+
+use crate::bodies::InwardBody;
+use crate::carried::Carried;
+use crate::hand::Hand;
+use crate::passing::Passing;
+use crate::side::Side;
+use datagrams::register::{AL_CONTROL, AL_STATUS, MANAGER_0, MANAGER_STATUS};
+use datagrams::{Command, FrameBuf, Head};
+use mailbox_master::InwardHalf;
+use master_duty::Errand;
+
+impl<H: Hand> Side<H> {
+    ghost use Rattle.std.specs.Prelude.{◌≡◌, ◌≤◌, ◌-◌, ℕ, List, ◌++◌, ◌∷◌, [], Option, Some, IsSome, length};
+    ghost use Rattle.datagrams.specs.Datagram as Raw;
+    ghost use Rattle.datagrams.specs.Frame.{IsBegun};
+    ghost use Rattle.exchange_model.specs.Exchange.{Speech};
+    ghost use Rattle.link_mails.specs.Body.{Body, area_text};
+    ghost use Rattle.mailbox_mail.specs.declared.mail.Mail.{Mail};
+    ghost use Rattle.mailbox_mail.specs.Mail.{mail_read};
+    ghost use Rattle.std.specs.Prelude.{Ok};
+    ghost use Rattle.link_model.specs.Link.{Halves};
+    ghost use Rattle.segment_model.specs.Slaves.{Access};
+    ghost use Rattle.segment_model.specs.Seats as Seats;
+    ghost use Rattle.task_model.specs.Accounts.{Account, duty_access};
+    ghost use Rattle.frame_view.specs.View.{Lens, datagram_seen};
+    ghost use Rattle.mailbox_master.specs.Any.{in_half_of, in_area_len};
+    ghost use Rattle.mailbox_master.specs.Seat.{seat_half};
+    ghost use Rattle.master_duty.specs.Reply.{Reply};
+    ghost use Rattle.master_side.specs.Carried.{Meant, choice_of, link_choice, drain_choice, mails_choice};
+    ghost use Rattle.master_side.specs.Sent.{IsSent, SameSide, visit_gram, write_gram, inward_gram};
+    ghost use Rattle.master_side.specs.Shown.{SideShows};
+    ghost use Rattle.master_side.specs.declared.carried.Carried.{Carried};
+
+    // The write of the mail held stands next.
+    fn add_write(&self, index: u8, frame: &mut FrameBuf)
+        requires held { IsSome self.now.out.state }
+        requires begun { (ds : List Raw.Datagram) × IsBegun frame.old.items ds }
+        requires room { self.now.area ≤ 1514 - length frame.old.items - 12 }
+        ensures begun { (ds : List Raw.Datagram) → IsBegun frame.old.items ds → IsBegun frame.new.items (ds ++ write_gram index self.now.out self.now.out.state ∷ []) }
+        ensures sent { IsSent self.now.area (write_gram index self.now.out self.now.out.state) }
+        ensures reads { (m : Mail) → self.now.out.state ≡ Some m → (mail_read (area_text self.now.out.len m) ≡ Ok m) × (length (area_text self.now.out.len m) ≡ self.now.out.len) }
+    {
+        let head = self.out.head(index);
+        let mut area = [0; 1486];
+        let len = head.len as usize;
+        let body = &mut area[..len];
+        self.out.write(body);
+        datagrams::add(frame, &head, body);
+    }
+
+    // The datagram of the inward half does.
+    fn add_inward(&self, index: u8, frame: &mut FrameBuf)
+        requires begun { (ds : List Raw.Datagram) × IsBegun frame.old.items ds }
+        requires room { self.now.area ≤ 1514 - length frame.old.items - 12 }
+        ensures begun { (ds : List Raw.Datagram) → IsBegun frame.old.items ds → IsBegun frame.new.items (ds ++ inward_gram index self.now.inn ∷ []) }
+        ensures sent { IsSent self.now.area (inward_gram index self.now.inn) }
+    {
+        let head = self.inn.head(index);
+        datagrams::add_with(frame, &head, &InwardBody { half: &self.inn });
+    }
+
+    // The datagram of the link: the write of a mail held, or the inward half's.
+    fn add_link(&self, index: u8, frame: &mut FrameBuf) -> Carried
+        requires begun { (ds : List Raw.Datagram) × IsBegun frame.old.items ds }
+        requires room { self.now.area ≤ 1514 - length frame.old.items - 12 }
+        ensures order { result ≡ link_choice (in_half_of self.now.inn).state self.now.paused self.now.out.state }
+        ensures begun { (ds : List Raw.Datagram) → IsBegun frame.old.items ds → IsBegun frame.new.items (ds ++ visit_gram self.now.station index self.now.out self.now.inn self.now.duty result ∷ []) }
+        ensures sent { IsSent self.now.area (visit_gram self.now.station index self.now.out self.now.inn self.now.duty result) }
+        ensures meant { (lens : ℕ → Lens) (due : Option Access) (h : Halves Body) → (lens self.now.station).out ≡ self.now.out.len → (lens self.now.station).back ≡ in_area_len self.now.inn → h ≡ record { out = seat_half self.now.out; inn = in_half_of self.now.inn } →
+            Meant self.now.station result h due (datagram_seen lens (visit_gram self.now.station index self.now.out self.now.inn self.now.duty result)) }
+    {
+        if !self.paused && matches!(self.inn, InwardHalf::Clear(_)) && !self.out.is_idle() {
+            self.add_write(index, frame);
+            return Carried::Write;
+        }
+        self.add_inward(index, frame);
+        Carried::Inward
+    }
+
+    // The status of mailbox 0 and mailbox 1 in turn.
+    fn add_drain(&self, index: u8, frame: &mut FrameBuf) -> Carried
+        requires begun { (ds : List Raw.Datagram) × IsBegun frame.old.items ds }
+        requires room { self.now.area ≤ 1514 - length frame.old.items - 12 }
+        ensures order { result ≡ drain_choice (in_half_of self.now.inn).state self.now.turn }
+        ensures begun { (ds : List Raw.Datagram) → IsBegun frame.old.items ds → IsBegun frame.new.items (ds ++ visit_gram self.now.station index self.now.out self.now.inn self.now.duty result ∷ []) }
+        ensures sent { IsSent self.now.area (visit_gram self.now.station index self.now.out self.now.inn self.now.duty result) }
+        ensures meant { (lens : ℕ → Lens) (due : Option Access) (h : Halves Body) → (lens self.now.station).out ≡ self.now.out.len → (lens self.now.station).back ≡ in_area_len self.now.inn → h ≡ record { out = seat_half self.now.out; inn = in_half_of self.now.inn } →
+            Meant self.now.station result h due (datagram_seen lens (visit_gram self.now.station index self.now.out self.now.inn self.now.duty result)) }
+    {
+        if !self.turn && matches!(self.inn, InwardHalf::Clear(_)) {
+            add_full(self.station, index, frame);
+            return Carried::Full;
+        }
+        self.add_inward(index, frame);
+        Carried::Inward
+    }
+
+    // The datagram of this visit.
+    fn add(&self, index: u8, frame: &mut FrameBuf) -> Carried
+        requires begun { (ds : List Raw.Datagram) × IsBegun frame.old.items ds }
+        requires room { self.now.area ≤ 1514 - length frame.old.items - 12 }
+        ensures order { result ≡ choice_of self.now.duty self.now.passing (in_half_of self.now.inn).state self.now.turn self.now.paused self.now.out.state }
+        ensures begun { (ds : List Raw.Datagram) → IsBegun frame.old.items ds → IsBegun frame.new.items (ds ++ visit_gram self.now.station index self.now.out self.now.inn self.now.duty result ∷ []) }
+        ensures sent { IsSent self.now.area (visit_gram self.now.station index self.now.out self.now.inn self.now.duty result) }
+        ensures meant { (x : Speech Body H.Asked Reply) (lens : ℕ → Lens) (d : Seats.Side Body H.Asked Reply) (a : Account H.Asked Reply) → (lens self.now.station).out ≡ self.now.out.len → (lens self.now.station).back ≡ in_area_len self.now.inn → SideShows (H.shows self.now.hand x) self.now.out self.now.inn self.now.fresh self.now.duty d a →
+            Meant self.now.station result d.halves (duty_access a.hand) (datagram_seen lens (visit_gram self.now.station index self.now.out self.now.inn self.now.duty result)) }
+    {
+        match &self.duty {
+            None => match self.passing {
+                Some(Passing::Boxed) => self.add_drain(index, frame),
+                _ => self.add_link(index, frame),
+            },
+            Some(duty) => match duty.errand() {
+                None => self.add_drain(index, frame),
+                Some(errand) => add_errand(errand, self.station, index, frame),
+            },
+        }
+    }
+
+    /// The datagram of this visit stands next in the frame.
+    pub fn add_datagram(&mut self, index: u8, frame: &mut FrameBuf)
+        requires begun { (ds : List Raw.Datagram) × IsBegun frame.old.items ds }
+        requires room { self.old.area ≤ 1514 - length frame.old.items - 12 }
+        ensures order { self.new.carried ≡ choice_of self.old.duty self.old.passing (in_half_of self.old.inn).state self.old.turn self.old.paused self.old.out.state }
+        ensures begun { (ds : List Raw.Datagram) → IsBegun frame.old.items ds → IsBegun frame.new.items (ds ++ visit_gram self.old.station index self.old.out self.old.inn self.old.duty self.new.carried ∷ []) }
+        ensures sent { IsSent self.old.area (visit_gram self.old.station index self.old.out self.old.inn self.old.duty self.new.carried) }
+        ensures meant { (x : Speech Body H.Asked Reply) (lens : ℕ → Lens) (d : Seats.Side Body H.Asked Reply) (a : Account H.Asked Reply) → (lens self.old.station).out ≡ self.old.out.len → (lens self.old.station).back ≡ in_area_len self.old.inn → SideShows (H.shows self.old.hand x) self.old.out self.old.inn self.old.fresh self.old.duty d a →
+            Meant self.old.station self.new.carried d.halves (duty_access a.hand) (datagram_seen lens (visit_gram self.old.station index self.old.out self.old.inn self.old.duty self.new.carried)) }
+        ensures kept { SameSide self.old.out self.old.inn self.old.fresh self.old.duty self.new.out self.new.inn self.new.fresh self.new.duty }
+        ensures hand { self.new.hand ≡ self.old.hand }
+        ensures link { (self.new.station ≡ self.old.station) × (self.new.area ≡ self.old.area) }
+    {
+        let carried = self.add(index, frame);
+        self.carried = carried;
+        self.heard = None;
+        self.met = None;
+    }
+}
+
+fn head_to(command: Command, station: u16, index: u8, register: u16, len: u16) -> Head
+    ensures { result ≡ head_to command station index register len }
+{
+    Head {
+        command,
+        index,
+        adp: station,
+        ado: register,
+        len,
+        circulating: false,
+        more: false,
+        interrupt: 0,
+        counter: 0,
+    }
+}
+
+// The read of the status octet of mailbox 0 stands next.
+fn add_full(station: u16, index: u8, frame: &mut FrameBuf)
+    requires begun { (ds : List Raw.Datagram) × IsBegun frame.old.items ds }
+    requires room { 64 ≤ 1514 - length frame.old.items - 12 }
+    ensures { (ds : List Raw.Datagram) → IsBegun frame.old.items ds → IsBegun frame.new.items (ds ++ datagram_of (head_to Fprd station index 2053 1) (0 ∷ []) ∷ []) }
+{
+    let head = head_to(Command::Fprd, station, index, MANAGER_0 + MANAGER_STATUS, 1);
+    datagrams::add(frame, &head, &[0]);
+}
+
+// The access of a state service stands next.
+fn add_errand(errand: Errand, station: u16, index: u8, frame: &mut FrameBuf) -> Carried
+    requires begun { (ds : List Raw.Datagram) × IsBegun frame.old.items ds }
+    requires room { 64 ≤ 1514 - length frame.old.items - 12 }
+    ensures order { result ≡ errand_carried errand }
+    ensures begun { (ds : List Raw.Datagram) → IsBegun frame.old.items ds → IsBegun frame.new.items (ds ++ errand_gram station index (Some errand) ∷ []) }
+    ensures sent { IsSent 64 (errand_gram station index (Some errand)) }
+    ensures word { IsWord errand }
+{
+    match errand {
+        Errand::Write(word) => {
+            let head = head_to(Command::Fpwr, station, index, AL_CONTROL, 2);
+            datagrams::add(frame, &head, &word.to_le_bytes());
+            Carried::Control
+        }
+        Errand::ReadStatus => {
+            let head = head_to(Command::Fprd, station, index, AL_STATUS, 6);
+            datagrams::add(frame, &head, &[0; 6]);
+            Carried::Status
+        }
+    }
+}

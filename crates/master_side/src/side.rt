@@ -1,0 +1,431 @@
+ghost use Rattle.std.specs.Prelude.{◌≡◌, ◌∷◌, [], true, length, nat_le, Some, None, ℕ, Option};
+ghost use Rattle.std.specs.Prelude.{◌==◌, false, slice_index};
+ghost use Rattle.ec_fields.specs.Fields.{number_at, bits_of};
+ghost use Rattle.mailbox_master.specs.Any.{in_station, in_area_len, in_half_of};
+ghost use Rattle.link_mails.specs.Body.{Body};
+ghost use Rattle.link_model.specs.Link.{Halves};
+ghost use Rattle.link_model.specs.Frames.{Ask};
+ghost use Rattle.segment_model.specs.Slaves.{Access};
+ghost use Rattle.task_model.specs.Accounts.{access_done};
+ghost use Rattle.frame_view.specs.View.{found_of, state_found};
+ghost use Rattle.master_duty.specs.Stages.{stage_of};
+ghost use Rattle.master_duty.specs.Mets.{progress_of, KeepsTarget};
+ghost use Rattle.master_duty.specs.Reply.{Reply};
+ghost use Rattle.master_side.specs.Carried.{Asks, is_errand, duty_left};
+ghost use Rattle.master_side.specs.Heard.{view_in};
+ghost use Rattle.master_side.specs.Passes.{status_by};
+
+use crate::carried::{Carried, Target, Wish};
+use crate::hand::{Hand, Heard};
+use crate::passing::{Passing, empty, full_seen, heard, told, written};
+use ec_fields::{bits, u16_at};
+use mailbox_mail::MailView;
+use mailbox_master::{GotView, InwardHalf, OutwardSeat, new_inward};
+use master_duty::{Duty, Met};
+
+/// One slave as its master has it while it is open.
+#[derive(Debug, Drop)]
+pub struct Side<H: Hand> {
+    /// Its station.
+    pub station: u16,
+    /// The lengths of mailbox 0 and mailbox 1 in octets, 64 to 1,486.
+    pub out_len: u16,
+    pub in_len: u16,
+    /// The length of the larger one.
+    pub area: u16,
+    /// The outward half of its link, with the place of the mail held.
+    pub out: OutwardSeat,
+    /// The inward half.
+    pub inn: InwardHalf,
+    /// The mail held was not yet sent.
+    pub fresh: bool,
+    /// The last write came back and was not done, and no read has come back since.
+    pub paused: bool,
+    /// The service by mails in hand.
+    pub hand: H,
+    /// The state service in hand.
+    pub duty: Option<Duty>,
+    /// Where mailboxes are read in turn, mailbox 1 is next, and not the status of mailbox 0.
+    pub turn: bool,
+    /// How far the mail in hand that is passed on has come.
+    pub passing: Option<Passing>,
+    /// The frame that brought the last done read of mailbox 1.
+    pub read_at: Option<u32>,
+    /// The slave's processor steps behind each frame whose number and 1 this divides.
+    pub pace: u32,
+    /// The datagram in the frame under way.
+    pub carried: Carried,
+    /// What the mail that the last returned frame brought is to the service in hand.
+    pub heard: Option<Heard>,
+    /// How the last returned frame ended the state service in hand.
+    pub met: Option<Met>,
+    pub ghost room: { out.len ≡ H.room hand },
+    pub ghost out_len_is: { out.len ≡ out_len },
+    pub ghost in_len_is: { in_area_len inn ≡ in_len },
+    pub ghost out_is: { out.station ≡ station },
+    pub ghost in_is: { in_station inn ≡ station },
+    pub ghost out_least: { nat_le 64 out.len ≡ true },
+    pub ghost in_least: { nat_le 64 (in_area_len inn) ≡ true },
+    pub ghost out_most: { nat_le out.len area ≡ true },
+    pub ghost in_most: { nat_le (in_area_len inn) area ≡ true },
+    pub ghost most: { nat_le area 1486 ≡ true },
+    pub ghost paced: { nat_le 1 pace ≡ true },
+}
+
+impl<H: Hand> Side<H> {
+    ghost use Rattle.std.specs.Prelude.{◌≡◌, ℕ, Bool, true, false, List, [], ◌∷◌, Option, Some, None, is_none, is_some, option_map, length};
+    ghost use Rattle.exchange_model.specs.Exchange.{Speech};
+    ghost use Rattle.exchange_model.specs.Rows.{Row, row_heard};
+    ghost use Rattle.segment_model.specs.Slaves.{Datagram};
+    ghost use Rattle.segment_model.specs.Seats as Seats;
+    ghost use Rattle.link_mails.specs.Body.{Body};
+    ghost use Rattle.task_model.specs.Accounts.{Account, new_account, duty_access, account_back, is_free, is_acknowledged};
+    ghost use Rattle.std.specs.Prelude.{◌≤◌};
+    ghost use Rattle.mailbox_master.specs.Any.{in_half_of, in_area_len};
+    ghost use Rattle.mailbox_master.specs.Seat.{seat_half};
+    ghost use Rattle.master_duty.specs.Reply.{Reply};
+    ghost use Rattle.master_duty.specs.declared.duty.Duty.{Duty};
+    ghost use Rattle.master_duty.specs.declared.stage.Stage.{Stage};
+    ghost use Rattle.master_side.specs.Carried.{Meant, IsBack, is_errand, paused_after, turn_after, one};
+    ghost use Rattle.master_side.specs.Sent.{SameLink};
+    ghost use Rattle.master_side.specs.Heard.{heard_of};
+    ghost use Rattle.master_side.specs.Shown.{SideShows, Holds, Begins, Picked, new_side};
+    ghost use Rattle.master_side.specs.declared.carried.Carried.{Carried};
+
+    /// A slave at the end of its bring-up. The lengths are those of its mailboxes, 64 to 1,486 octets.
+    pub fn new(station: u16, out_len: u16, in_len: u16, pace: u32, hand: H) -> Side<H>
+        requires out_least { 64 ≤ out_len }
+        requires out_most { out_len ≤ 1486 }
+        requires in_least { 64 ≤ in_len }
+        requires in_most { in_len ≤ 1486 }
+        requires pace { 1 ≤ pace }
+        requires room { H.room hand ≡ out_len }
+        ensures shown { (x : Speech Body H.Asked Reply) → H.shows hand x None → SideShows (H.shows result.hand x) result.out result.inn result.fresh result.duty new_side new_account }
+        ensures link { (result.out.len ≡ out_len) × (in_area_len result.inn ≡ in_len) × (result.station ≡ station) }
+    {
+        Side {
+            station,
+            out_len,
+            in_len,
+            area: out_len.max(in_len),
+            out: OutwardSeat::new(station, out_len),
+            inn: InwardHalf::Clear(new_inward(station, in_len)),
+            fresh: false,
+            paused: false,
+            hand,
+            duty: None,
+            turn: false,
+            passing: None,
+            read_at: None,
+            pace,
+            carried: Carried::Nothing,
+            heard: None,
+            met: None,
+        }
+    }
+
+    /// The slave is opened anew: halves and services begin as at the end of its bring-up.
+    pub fn renew(&mut self)
+        ensures shown { (x : Speech Body H.Asked Reply) (d : Seats.Side Body H.Asked Reply) (a : Account H.Asked Reply) → SideShows (H.shows self.old.hand x) self.old.out self.old.inn self.old.fresh self.old.duty d a →
+            SideShows (H.shows self.new.hand x) self.new.out self.new.inn self.new.fresh self.new.duty new_side new_account }
+        ensures link { SameLink self.old.out self.old.inn self.old.station self.old.area self.new.out self.new.inn self.new.station self.new.area }
+    {
+        self.out = OutwardSeat::new(self.station, self.out_len);
+        self.inn = InwardHalf::Clear(new_inward(self.station, self.in_len));
+        self.fresh = false;
+        self.paused = false;
+        self.hand.renew();
+        self.duty = None;
+        self.turn = false;
+        self.passing = None;
+        self.read_at = None;
+        self.carried = Carried::Nothing;
+    }
+
+    // The mail that goes next is held, where none is.
+    fn hold_next(&mut self)
+        ensures shown { (x : Speech Body H.Asked Reply) (d : Seats.Side Body H.Asked Reply) (a : Account H.Asked Reply) → SideShows (H.shows self.old.hand x) self.old.out self.old.inn self.old.fresh self.old.duty d a →
+            Holds x d (λ e. SideShows (H.shows self.new.hand x) self.new.out self.new.inn self.new.fresh self.new.duty e a) }
+        ensures link { SameLink self.old.out self.old.inn self.old.station self.old.area self.new.out self.new.inn self.new.station self.new.area }
+    {
+        if !self.out.is_idle() {
+            return;
+        }
+        if self.hand.take_next() {
+            self.out
+                .hold(self.hand.address(), self.hand.kind(), self.hand.body());
+            self.fresh = true;
+        }
+    }
+
+    /// Whether a service may come into hand: the newest is over, and the write of a last acknowledgement is done.
+    pub fn is_free(&self) -> bool
+        ensures free { (x : Speech Body H.Asked Reply) (d : Seats.Side Body H.Asked Reply) (a : Account H.Asked Reply) → SideShows (H.shows self.now.hand x) self.now.out self.now.inn self.now.fresh self.now.duty d a → result ≡ true → (is_free x d d.now ≡ true) × (is_acknowledged H.acknowledged d d.now ≡ true) × (self.now.duty ≡ None) }
+    {
+        let idle = self.out.is_idle();
+        if self.duty.is_some() || self.passing.is_some() {
+            return false;
+        }
+        self.hand.is_over(self.fresh, idle) && self.hand.is_acknowledged(idle)
+    }
+
+    // The service by mails that was laid ready comes into hand: whether there was one.
+    fn begin_mails(&mut self) -> bool
+        ensures picked { (x : Speech Body H.Asked Reply) (made : ℕ) (d : Seats.Side Body H.Asked Reply) (a : Account H.Asked Reply) → SideShows (H.shows self.old.hand x) self.old.out self.old.inn self.old.fresh self.old.duty d a → is_free x d d.now ≡ true → self.old.duty ≡ None →
+            Begins x H.acknowledged made d a (λ e b. SideShows (H.shows self.new.hand x) self.new.out self.new.inn self.new.fresh self.new.duty e b) }
+        ensures link { SameLink self.old.out self.old.inn self.old.station self.old.area self.new.out self.new.inn self.new.station self.new.area }
+    {
+        let began = self.hand.begin();
+        let passed = began && self.hand.is_passed();
+        let passing = if passed { Some(Passing::Waiting) } else { None };
+        self.passing = passing;
+        self.turn = false;
+        began
+    }
+
+    // A state service comes into hand, and drains.
+    fn begin_state(&mut self, target: Target)
+        ensures picked { (x : Speech Body H.Asked Reply) (made : ℕ) (d : Seats.Side Body H.Asked Reply) (a : Account H.Asked Reply) → SideShows (H.shows self.old.hand x) self.old.out self.old.inn self.old.fresh self.old.duty d a → is_free x d d.now ≡ true → is_acknowledged H.acknowledged d d.now ≡ true → self.old.duty ≡ None →
+            Begins x H.acknowledged made d a (λ e b. SideShows (H.shows self.new.hand x) self.new.out self.new.inn self.new.fresh self.new.duty e b) }
+        ensures link { SameLink self.old.out self.old.inn self.old.station self.old.area self.new.out self.new.inn self.new.station self.new.area }
+    {
+        let duty = Duty::new(target.state);
+        self.duty = Some(duty);
+        self.turn = false;
+    }
+
+    // A service comes into hand where that may be: whether one did.
+    fn begin(&mut self, wish: Option<Wish>) -> bool
+        ensures picked { (x : Speech Body H.Asked Reply) (made : ℕ) (d : Seats.Side Body H.Asked Reply) (a : Account H.Asked Reply) → SideShows (H.shows self.old.hand x) self.old.out self.old.inn self.old.fresh self.old.duty d a → Begins x H.acknowledged made d a (λ e b. SideShows (H.shows self.new.hand x) self.new.out self.new.inn self.new.fresh self.new.duty e b) }
+        ensures link { SameLink self.old.out self.old.inn self.old.station self.old.area self.new.out self.new.inn self.new.station self.new.area }
+    {
+        if !self.is_free() {
+            return false;
+        }
+        match wish {
+            None => false,
+            Some(Wish::Mails) => self.begin_mails(),
+            Some(Wish::State(target)) => {
+                self.begin_state(target);
+                true
+            }
+        }
+    }
+
+    /// What comes before this slave's datagram: a service comes into hand, where one may, and the next mail is
+    /// held. Tells whether a service came into hand.
+    pub fn choose(&mut self, wish: Option<Wish>) -> bool
+        ensures picked { (x : Speech Body H.Asked Reply) (made : ℕ) (d : Seats.Side Body H.Asked Reply) (a : Account H.Asked Reply) → SideShows (H.shows self.old.hand x) self.old.out self.old.inn self.old.fresh self.old.duty d a → Picked x H.acknowledged made d a (λ e b. SideShows (H.shows self.new.hand x) self.new.out self.new.inn self.new.fresh self.new.duty e b) }
+        ensures link { SameLink self.old.out self.old.inn self.old.station self.old.area self.new.out self.new.inn self.new.station self.new.area }
+    {
+        let began = self.begin(wish);
+        self.hold_next();
+        began
+    }
+
+    /// The frame under way was lost.
+    pub fn lost(&mut self)
+        ensures shown { (x : Speech Body H.Asked Reply) (b : Datagram Body) (d : Seats.Side Body H.Asked Reply) (a : Account H.Asked Reply) → SideShows (H.shows self.old.hand x) self.old.out self.old.inn self.old.fresh self.old.duty d a → Meant self.old.station self.old.carried d.halves (duty_access a.hand) b →
+            SideShows (H.shows self.new.hand x) self.new.out self.new.inn self.new.fresh self.new.duty (Seats.side_lost self.old.station (one b) d) a }
+        ensures link { SameLink self.old.out self.old.inn self.old.station self.old.area self.new.out self.new.inn self.new.station self.new.area }
+        ensures carried { self.new.carried ≡ self.old.carried }
+    {
+        match self.carried {
+            Carried::Write => self.write_lost(),
+            Carried::Inward => self.inn.gone(),
+            Carried::Nothing | Carried::Full | Carried::Control | Carried::Status => {}
+        }
+    }
+
+    // The write of the mail held was lost.
+    fn write_lost(&mut self)
+        ensures fresh { self.new.fresh ≡ false }
+        ensures kept { (self.new.out ≡ self.old.out) × (self.new.inn ≡ self.old.inn) × (self.new.hand ≡ self.old.hand) × (self.new.duty ≡ self.old.duty) × (self.new.station ≡ self.old.station) × (self.new.area ≡ self.old.area) × (self.new.carried ≡ self.old.carried) }
+    {
+        let passing = told(self.passing, self.fresh);
+        self.passing = passing;
+        self.fresh = false;
+    }
+
+    // The write of the mail held came back.
+    fn write_back(&mut self, counter: u16)
+        requires { self.old.carried ≡ Carried.Write }
+        ensures shown { (x : Speech Body H.Asked Reply) (made : ℕ) (octets : List ℕ) (b : Datagram Body) (d : Seats.Side Body H.Asked Reply) (a : Account H.Asked Reply) → SideShows (H.shows self.old.hand x) self.old.out self.old.inn self.old.fresh self.old.duty d a →
+            Meant self.old.station self.old.carried d.halves (duty_access a.hand) b → IsBack counter octets b →
+            SideShows (H.shows self.new.hand x) self.new.out self.new.inn self.new.fresh self.new.duty (Seats.side_back x made self.old.station (one b) d) (account_back self.old.station made a (one b)) }
+        ensures link { SameLink self.old.out self.old.inn self.old.station self.old.area self.new.out self.new.inn self.new.station self.new.area }
+        ensures paused { self.new.paused ≡ paused_after self.old.carried (in_half_of self.old.inn).state counter self.old.paused }
+        ensures turn { self.new.turn ≡ turn_after self.old.carried (in_half_of self.old.inn).state counter self.old.turn }
+    {
+        let passing = written(told(self.passing, self.fresh), counter);
+        self.passing = passing;
+        self.out.answered(counter);
+        self.fresh = false;
+        self.paused = counter == 0;
+    }
+
+    // A mail was accepted, or none was.
+    fn hear(&mut self, mail: Option<MailView>)
+        ensures shown { (x : Speech Body H.Asked Reply) (made : ℕ) (now : Option (Row Body H.Asked Reply)) → H.shows self.old.hand x now → H.shows self.new.hand x (option_map (λ r. row_heard x made (heard_of mail.entry) r) now) }
+        ensures kept { (self.new.out ≡ self.old.out) × (self.new.inn ≡ self.old.inn) × (self.new.fresh ≡ self.old.fresh) × (self.new.duty ≡ self.old.duty) }
+        ensures link { SameLink self.old.out self.old.inn self.old.station self.old.area self.new.out self.new.inn self.new.station self.new.area }
+        ensures pace { (self.new.paused ≡ self.old.paused) × (self.new.turn ≡ self.old.turn) }
+    {
+        if let Some(mail) = mail {
+            let what = self.hand.hear(&mail);
+            let passing = heard(self.passing, what);
+            self.passing = passing;
+            self.heard = Some(what);
+        }
+    }
+
+    // A read of mailbox 1 came back, in the frame with this number: an empty one counts for a mail that is passed on only where the slave's
+    // processor made a step since the last done read.
+    fn read_done(&mut self, was_read: bool, counter: u16, made: u32)
+        ensures kept { (self.new.out ≡ self.old.out) × (self.new.inn ≡ self.old.inn) × (self.new.fresh ≡ self.old.fresh) × (self.new.duty ≡ self.old.duty) × (self.new.hand ≡ self.old.hand) }
+        ensures link { SameLink self.old.out self.old.inn self.old.station self.old.area self.new.out self.new.inn self.new.station self.new.area }
+        ensures pace { (self.new.paused ≡ self.old.paused) × (self.new.turn ≡ self.old.turn) }
+    {
+        if !was_read {
+            return;
+        }
+        if counter != 0 {
+            self.read_at = Some(made);
+            return;
+        }
+        let stepped = match self.read_at {
+            None => true,
+            Some(at) => made / self.pace > at / self.pace,
+        };
+        if stepped {
+            let passing = empty(self.passing);
+            self.passing = passing;
+        }
+    }
+
+    // The datagram of the inward half came back.
+    fn inward_back(&mut self, counter: u16, octets: &[u8], made: u32)
+        requires { self.old.carried ≡ Carried.Inward }
+        ensures shown { (x : Speech Body H.Asked Reply) (frame : ℕ) (b : Datagram Body) (d : Seats.Side Body H.Asked Reply) (a : Account H.Asked Reply) → SideShows (H.shows self.old.hand x) self.old.out self.old.inn self.old.fresh self.old.duty d a →
+            Meant self.old.station self.old.carried d.halves (duty_access a.hand) b → IsBack counter octets.now b →
+            SideShows (H.shows self.new.hand x) self.new.out self.new.inn self.new.fresh self.new.duty (Seats.side_back x frame self.old.station (one b) d) (account_back self.old.station frame a (one b)) }
+        ensures link { SameLink self.old.out self.old.inn self.old.station self.old.area self.new.out self.new.inn self.new.station self.new.area }
+        ensures paused { self.new.paused ≡ paused_after self.old.carried (in_half_of self.old.inn).state counter self.old.paused }
+        ensures turn { self.new.turn ≡ turn_after self.old.carried (in_half_of self.old.inn).state counter self.old.turn }
+    {
+        let got = self.inn.returned(counter, octets);
+        let was_read = got.is_some();
+        let paused = self.paused && !was_read;
+        let turn = self.turn && !was_read;
+        self.paused = paused;
+        self.turn = turn;
+        self.read_done(was_read, counter, made);
+        self.hear(view_in(got));
+    }
+
+    // The access of a state service came back, or the status of mailbox 0.
+    fn errand_back(&mut self, counter: u16, octets: &[u8])
+        requires { is_errand self.old.carried ≡ true }
+        ensures shown { (x : Speech Body H.Asked Reply) (made : ℕ) (b : Datagram Body) (d : Seats.Side Body H.Asked Reply) (a : Account H.Asked Reply) → SideShows (H.shows self.old.hand x) self.old.out self.old.inn self.old.fresh self.old.duty d a →
+            Meant self.old.station self.old.carried d.halves (duty_access a.hand) b → IsBack counter octets.now b →
+            SideShows (H.shows self.new.hand x) self.new.out self.new.inn self.new.fresh self.new.duty (Seats.side_back x made self.old.station (one b) d) (account_back self.old.station made a (one b)) }
+        ensures link { SameLink self.old.out self.old.inn self.old.station self.old.area self.new.out self.new.inn self.new.station self.new.area }
+        ensures paused { self.new.paused ≡ paused_after self.old.carried (in_half_of self.old.inn).state counter self.old.paused }
+        ensures turn { self.new.turn ≡ turn_after self.old.carried (in_half_of self.old.inn).state counter self.old.turn }
+    {
+        if counter == 0 {
+            return;
+        }
+        let passing = status_passed(self.passing, self.carried, octets);
+        self.passing = passing;
+        self.turn = true;
+        if let Some(duty) = self.duty {
+            let met = duty_met(duty, self.carried, octets);
+            self.met = Some(met);
+            self.duty = duty_left(met);
+        }
+    }
+
+    /// The frame under way came back: the datagram of this slave has this counter and these octets. `made` is the
+    /// frame's number.
+    pub fn returned(&mut self, counter: u16, octets: &[u8], made: u32)
+        ensures shown { (x : Speech Body H.Asked Reply) (frame : ℕ) (b : Datagram Body) (d : Seats.Side Body H.Asked Reply) (a : Account H.Asked Reply) → SideShows (H.shows self.old.hand x) self.old.out self.old.inn self.old.fresh self.old.duty d a →
+            Meant self.old.station self.old.carried d.halves (duty_access a.hand) b → IsBack counter octets.now b →
+            SideShows (H.shows self.new.hand x) self.new.out self.new.inn self.new.fresh self.new.duty (Seats.side_back x frame self.old.station (one b) d) (account_back self.old.station frame a (one b)) }
+        ensures link { SameLink self.old.out self.old.inn self.old.station self.old.area self.new.out self.new.inn self.new.station self.new.area }
+        ensures paused { self.new.paused ≡ paused_after self.old.carried (in_half_of self.old.inn).state counter self.old.paused }
+        ensures turn { self.new.turn ≡ turn_after self.old.carried (in_half_of self.old.inn).state counter self.old.turn }
+    {
+        match self.carried {
+            Carried::Nothing => {}
+            Carried::Write => self.write_back(counter),
+            Carried::Inward => self.inward_back(counter, octets, made),
+            Carried::Full | Carried::Control | Carried::Status => self.errand_back(counter, octets),
+        }
+    }
+}
+
+// The mail that was accepted.
+fn view_in<'a>(got: Option<GotView<'a>>) -> Option<MailView<'a>>
+    ensures { result ≡ view_in got.entry }
+{
+    match got {
+        Some(GotView::Mail(mail)) => Some(mail),
+        _ => None,
+    }
+}
+
+// What is left of a state service.
+fn duty_left(met: Met) -> Option<Duty>
+    ensures { result ≡ duty_left met }
+{
+    match met {
+        Met::On(duty) => Some(duty),
+        Met::Reached | Met::Refused(_) => None,
+    }
+}
+
+// Whether a status octet says that the mailbox is full.
+fn is_full(octets: &[u8]) -> bool
+    ensures { result ≡ (bits_of (slice_index octets.now 0) 3 1 == 1) }
+{
+    bits(octets.first().copied().unwrap_or(0) as u16, 3, 1) == 1
+}
+
+// What a status of mailbox 0 makes of a mail that is passed on; another access leaves it.
+fn status_passed(passing: Option<Passing>, carried: Carried, octets: &[u8]) -> Option<Passing>
+    ensures { result ≡ status_by passing carried (bits_of (slice_index octets.now 0) 3 1 == 1) }
+{
+    match carried {
+        Carried::Full => full_seen(passing, is_full(octets)),
+        _ => passing,
+    }
+}
+
+// What an access that was done makes of a state service.
+fn duty_met(duty: Duty, carried: Carried, octets: &[u8]) -> Met
+    requires { is_errand carried ≡ true }
+    ensures done { (h : Halves Body) (due : Option Access) (ask : Ask Body) (access : Access) (counter : ℕ) → Asks carried h due ask access → (counter == 0) ≡ false → (access ≡ Access.ReadState → length octets.now ≡ 6) → progress_of {R = Reply} result ≡ access_done duty.target (stage_of duty.stage) access (found_of access counter octets.now) }
+    ensures kept { KeepsTarget duty.target result }
+{
+    match carried {
+        Carried::Full => duty.full_shown(is_full(octets)),
+        Carried::Control => duty.word_written(),
+        _ => status_met(duty, octets),
+    }
+}
+
+// What a status that was read makes of it: none that a slave has leaves it.
+fn status_met(duty: Duty, octets: &[u8]) -> Met
+    ensures done { length octets.now ≡ 6 → progress_of {R = Reply} result ≡ access_done duty.target (stage_of duty.stage) Access.ReadState (state_found (number_at 2 octets.now 0) (number_at 2 octets.now 4)) }
+    ensures kept { KeepsTarget duty.target result }
+{
+    if octets.len() < 6 {
+        return Met::On(duty);
+    }
+    let word = u16_at(octets, 0);
+    if word >= 32 {
+        return Met::On(duty);
+    }
+    duty.status_shown(word, u16_at(octets, 4))
+}
