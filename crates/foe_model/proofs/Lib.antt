@@ -7,3 +7,4 @@ mod Closing
 pub mod FoeLaw
 pub mod Spelled
 mod WorkedRows
+pub mod Lasts

@@ -1,11 +1,17 @@
 -- What FoE services mean, on whole files.
-use Rattle.std.specs.Prelude.{ℕ, true, false, List, [], length, if◌then◌else◌, Option, None, Some}
+use Rattle.std.specs.Prelude.{ℕ, Bool, true, false, List, [], length, if◌then◌else◌, Option, None, Some}
 use Rattle.mailbox_mail.specs.declared.outcome.ReplyKind.{ReplyKind}
 use Rattle.foe_model.specs.Files.{Files}
 
+-- a file that is read, or written whole; with its password
 pub data Service : Type 0 where
   read : (name : List ℕ) (pass : ℕ) → Service
   write : (name : List ℕ) (pass : ℕ) (bytes : List ℕ) → Service
+
+-- whether a service reads a file, whose last mail brings no reply
+abbrev pub is_file_read : Service → Bool
+is_file_read (read name pass) = true
+is_file_read (write name pass bytes) = false
 
 -- a reply: its kind, and the octets of a file that was read
 abbrev pub Reply : Type 0

@@ -6,11 +6,11 @@
 ghost use Rattle.std.specs.Prelude.{◌≡◌, ◌⊎◌, ℕ, suc, true, List, ◌++◌, Some};
 ghost use Rattle.exchange_model.specs.Areas.{Areas, AreMailboxes};
 ghost use Rattle.exchange_model.specs.Prefix.{IsPrefixOf};
-ghost use Rattle.exchange_model.specs.Exchange.{IsLawful, Before, Behind, after, given};
+ghost use Rattle.exchange_model.specs.Exchange.{IsLawful, AnswersLast, Before, Behind, after, given};
 ghost use Rattle.foe_model.specs.Mails.{FoeMail};
 ghost use Rattle.foe_model.specs.Files.{Files, AreLawful, AreSpelled};
 ghost use Rattle.foe_model.specs.Server.{Server, serve};
-ghost use Rattle.foe_model.specs.Meaning.{Service, meaning_of};
+ghost use Rattle.foe_model.specs.Meaning.{Service, is_file_read, meaning_of};
 ghost use Rattle.foe_model.specs.Client.{ends};
 ghost use Rattle.foe_model.specs.Octets.{foe_mail_exchange};
 ghost use Rattle.foe_model.specs.Model.{full, foe_exchange};
@@ -25,6 +25,13 @@ pub fn foe_is_lawful<S>()
 /// bits and are busy fewer than 65,536 times.
 pub fn foe_mails_are_lawful<S>()
     ensures { (o : Files S) (areas : Areas) → AreLawful o → AreSpelled o → AreMailboxes areas → IsLawful (foe_mail_exchange o areas) }
+{}
+
+/// Each mail of a write brings a reply, so where all replies came, all mails were taken. Of a read the acknowledgement of the last packet brings
+/// none.
+pub fn foe_answers_last<S>()
+    ensures messages { (o : Files S) (areas : Areas) → AreLawful o → AreMailboxes areas → AnswersLast (foe_exchange o areas) is_file_read }
+    ensures octets { (o : Files S) (areas : Areas) → AreLawful o → AreSpelled o → AreMailboxes areas → AnswersLast (foe_mail_exchange o areas) is_file_read }
 {}
 
 /// The client's mails against the server, in plain words. All of them: the files are those that the service means, one service more was carried

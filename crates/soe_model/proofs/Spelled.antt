@@ -164,7 +164,8 @@ fragments_spelled (suc fuel) opcode t part bytes low high has near least few = e
 ]
 
 module _ {S : Type 0} (o : Elements S) (lawful : AreLawful o) (areas : Areas) (sized : AreMailboxes areas) where
-  told : (q : Service) → is_service q ≡ true → EachOf HasSpelling (mails_of areas.out q)
+  -- each mail of a service has a spelling
+  pub told : (q : Service) → is_service q ≡ true → EachOf HasSpelling (mails_of areas.out q)
   told (read t) valid =
       let near = near_of t valid in
       (record { low = omega arith; high = omega arith; fragments = λ e. absurd (cc); drive = near.drive; elements = near.elements; field = near.idn }, tt)

@@ -7,6 +7,10 @@ pub record Target : Type 0 where
   pub idn : ℕ
   pub elements : ℕ
 
+-- the target of these
+abbrev pub target : ℕ → ℕ → ℕ → Target
+target drive idn elements = record { drive = drive; idn = idn; elements = elements }
+
 -- each refusal is an SoE error code
 pub record Elements (S : Type 0) : Type 0 where
   -- the states of which the laws speak

@@ -3,9 +3,10 @@
 //! state the laws.
 #![tactic(auto)]
 
-ghost use Rattle.std.specs.Prelude.{◌≡◌, ◌⊎◌, suc, true, List, [], ◌∷◌, ◌++◌, Some};
+ghost use Rattle.std.specs.Prelude.{◌≡◌, ◌⊎◌, suc, true, false, List, [], ◌∷◌, ◌++◌, Some};
 ghost use Rattle.exchange_model.specs.Areas.{Areas, AreMailboxes};
-ghost use Rattle.exchange_model.specs.Exchange.{IsLawful, Before, Behind, after, given};
+ghost use Rattle.exchange_model.specs.Prefix.{IsPrefixOf};
+ghost use Rattle.exchange_model.specs.Exchange.{IsLawful, AnswersLast, Before, Behind, after, given};
 ghost use Rattle.soe_model.specs.Elements.{Elements, AreLawful};
 ghost use Rattle.soe_model.specs.Mails.{SoeMail};
 ghost use Rattle.soe_model.specs.Server.{Server, serve};
@@ -24,6 +25,12 @@ pub fn soe_mails_are_lawful<S>()
     ensures { (o : Elements S) (areas : Areas) → AreLawful o → AreMailboxes areas → IsLawful (soe_mail_exchange o areas) }
 {}
 
+/// An element's service is answered at its last mail, so where all replies came, all mails were taken.
+pub fn soe_answers_last<S>()
+    ensures messages { (o : Elements S) (areas : Areas) → AreLawful o → AreMailboxes areas → AnswersLast (soe_exchange o areas) (λ q. false) }
+    ensures octets { (o : Elements S) (areas : Areas) → AreLawful o → AreMailboxes areas → AnswersLast (soe_mail_exchange o areas) (λ q. false) }
+{}
+
 /// The client's mails against the server, in plain words. All of them: the table is the one that the service means, one service more was
 /// carried out, and the answers are the reply that it means. A first part of them has carried out nothing, or the whole service; before the
 /// last mail the server gives nothing.
@@ -38,4 +45,6 @@ pub fn client_against_server<S>()
         (p r : List SoeMail) → mails_of areas.out q ≡ p ++ r → Before (soe_exchange o areas) v p ⊎ Behind (soe_exchange o areas) v q p }
     ensures late { (o : Elements S) (areas : Areas) → AreLawful o → AreMailboxes areas → (v : Server S) (q : Service) → is_ready o v ≡ true → is_service q ≡ true →
         (p r : List SoeMail) (m : SoeMail) → mails_of areas.out q ≡ p ++ m ∷ r → given (serve o areas.back) v p ≡ [] }
+    ensures begins { (o : Elements S) (areas : Areas) (v : Server S) (q : Service) (p r : List SoeMail) → mails_of areas.out q ≡ p ++ r →
+        IsPrefixOf (given (serve o areas.back) v p) (given (serve o areas.back) v (mails_of areas.out q)) }
 {}

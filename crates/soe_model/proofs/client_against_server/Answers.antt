@@ -1,3 +1,7 @@
+use Rattle.std.proofs.Common.{sym}
+use Rattle.exchange_model.proofs.Words.{given_part}
+use Rattle.soe_model.specs.Server.{serve}
+use Rattle.soe_model.specs.Client.{mails_of}
 use Rattle.soe_model.proofs.SoeLaw.{soe_law, kept, whole_replied}
 use Rattle.soe_model.proofs.client_against_server.Goals as goal
 
@@ -15,3 +19,6 @@ returns-clause-part g c = λ o areas lawful sized v q ready valid p r e. (soe_la
 
 pub returns-clause-late : goal.returns-clause-late
 returns-clause-late g c = λ o areas lawful sized v q ready valid p r m e. ((kept o lawful areas sized v q ready valid).late p m r e).given
+
+pub returns-clause-begins : goal.returns-clause-begins
+returns-clause-begins g c = λ o areas v q p r e. given_part (serve o areas.back) v p (mails_of areas.out q) (r, sym e)

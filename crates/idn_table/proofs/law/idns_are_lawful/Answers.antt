@@ -1,0 +1,15 @@
+use Rattle.exchange_model.proofs.Lifting.{lifted_law}
+use Rattle.soe_model.specs.Model.{soe_exchange}
+use Rattle.soe_model.specs.Octets.{soe_mail_heard, soe_mail_written}
+use Rattle.soe_model.proofs.SoeLaw.{soe_law}
+use Rattle.soe_model.proofs.Spelled.{soe_spells}
+use Rattle.idn_table.specs.Idns.{idn_elements}
+use Rattle.idn_table.proofs.Lawful.{idns_lawful}
+use Rattle.idn_table.proofs.law.idns_are_lawful.Goals as goal
+
+pub returns-clause-table : goal.returns-clause-table
+returns-clause-table c = idns_lawful
+
+pub returns-clause-mails : goal.returns-clause-mails
+returns-clause-mails c = λ areas sized.
+    lifted_law (soe_exchange idn_elements areas) soe_mail_heard soe_mail_written (soe_law idn_elements idns_lawful areas sized) (soe_spells idn_elements idns_lawful areas sized)

@@ -1,4 +1,0 @@
-pub mod Idns
-pub mod Serving
-pub mod Talk
-pub mod Hear
