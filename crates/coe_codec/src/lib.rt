@@ -12,6 +12,3 @@ pub use message::{Coe, CoeFault};
 pub use reading::read;
 pub use viewing::{CoeView, view, view_of};
 pub use writing::{write, write_view};
-
-#[cfg(test)]
-mod tests;

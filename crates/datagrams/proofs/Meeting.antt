@@ -6,7 +6,7 @@ use Rattle.datagrams.specs.declared.frame.Part.{Part}
 use Rattle.datagrams.specs.declared.head.Head.{Head}
 use Rattle.datagrams.specs.Datagram.{Datagram, front_text}
 use Rattle.datagrams.specs.Frame.{IsFrame, IsPart, text_of, reset}
-use Rattle.datagrams.specs.Meeting.{Met, met_datagram, IsMoved, replaced}
+use Rattle.datagrams.specs.Meeting.{Met, met_datagram, part_with_head, IsMoved, replaced}
 use Rattle.datagrams.proofs.Spelled.{datagram_text-behind}
 use Rattle.datagrams.proofs.Changing.{front_of, length-front_of, frame_parted, each_at, IsFrame-body, IsPart-inside}
 
@@ -55,6 +55,7 @@ pub one_passed : {S : Type 0} (meets : S → Head → List ℕ → Met S) (old n
     → IsFrame set (front ++ reset e h.adp h.counter ∷ behind))
     → (front : List Datagram) (d : Datagram) (behind : List Datagram) → IsFrame octets (front ++ d ∷ behind) → part.at ≡ 16 + length (text_of front) → part.head ≡ d.head
     → (new ≡ (meets old d.head d.body).this) × IsFrame set (front ++ met_datagram d (meets old d.head d.body) ∷ behind)
+    × (part_with_head part h ≡ part_with_head part (meets old d.head d.body).head)
 one_passed meets old new octets within set part from h begins met long moved sets front d behind f place head =
     let m = meets old d.head d.body in
     let there : take d.head.len (drop (part.at + 10) octets) ≡ d.body = body_here octets part.at front d behind f place in
@@ -72,4 +73,21 @@ one_passed meets old new octets within set part from h begins met long moved set
     let own : h ≡ m.head = met.1 ∙ ap (λ a. a.head) is in
     let changed : record d.head { adp = h.adp; counter = h.counter } ≡ m.head =
     ap (λ (k : Head). record k { adp = h.adp; counter = h.counter }) (sym head) ∙ sym moved ∙ own in
-    (met.0 ∙ ap (λ a. a.this) is, subst (λ (k : Head). IsFrame set (front ++ record d { head = k; body = m.body } ∷ behind)) changed done)
+    (met.0 ∙ ap (λ a. a.this) is, subst (λ (k : Head). IsFrame set (front ++ record d { head = k; body = m.body } ∷ behind)) changed done, ap (part_with_head part) own)
+
+-- and is a part of the frame as it is then
+pub part_passed : {S : Type 0} (meets : S → Head → List ℕ → Met S) (old new : S) (octets set : List ℕ) (part now : Part)
+    → ((front : List Datagram) (d : Datagram) (behind : List Datagram) → IsFrame octets (front ++ d ∷ behind) → part.at ≡ 16 + length (text_of front) → part.head ≡ d.head
+    → (new ≡ (meets old d.head d.body).this) × IsFrame set (front ++ met_datagram d (meets old d.head d.body) ∷ behind)
+    × (now ≡ part_with_head part (meets old d.head d.body).head))
+    → IsPart octets part → IsPart set now
+part_passed meets old new octets set part now passes p =
+    let done = passes p.front p.datagram p.behind p.frame p.place p.head in
+    record {
+      front = p.front;
+      datagram = met_datagram p.datagram (meets old p.datagram.head p.datagram.body);
+      behind = p.behind;
+      frame = done.1;
+      place = ap (λ (q : Part). q.at) done.2 ∙ p.place;
+      head = ap (λ (q : Part). q.head) done.2;
+    }

@@ -1,5 +1,6 @@
 -- Datagrams that pass something in their place in a frame.
 use Rattle.std.specs.Prelude.{◌≡◌, ℕ, ◌+◌, List, ◌++◌, length, take, drop}
+use Rattle.datagrams.specs.declared.frame.Part.{Part}
 use Rattle.datagrams.specs.declared.head.Head.{Head}
 use Rattle.datagrams.specs.Datagram.{Datagram}
 
@@ -12,6 +13,10 @@ pub record Met (S : Type 0) : Type 0 where
 -- the datagram behind what it passed
 abbrev pub met_datagram : {S : Type 0} → Datagram → Met S → Datagram
 met_datagram d m = record d { head = m.head; body = m.body }
+
+-- a part with another head
+abbrev pub part_with_head : Part → Head → Part
+part_with_head part head = record { at = part.at; head = head }
 
 -- of a head ADP and counter alone have changed
 abbrev pub IsMoved : Head → Head → Type 0

@@ -8,8 +8,6 @@ mod head;
 mod passing;
 mod reading;
 pub mod register;
-#[cfg(test)]
-mod tests;
 mod writing;
 
 pub use command::Command;

@@ -1,7 +1,7 @@
 ghost use Rattle.std.specs.Prelude.{◌≡◌, ℕ, ◌+◌, ◌≤◌, List, ◌∷◌, ◌++◌, length, take, drop};
 ghost use Rattle.datagrams.specs.Datagram.{Datagram};
 ghost use Rattle.datagrams.specs.Frame.{IsFrame, IsPart, text_of};
-ghost use Rattle.datagrams.specs.Meeting.{met_datagram, replaced, IsMoved};
+ghost use Rattle.datagrams.specs.Meeting.{met_datagram, part_with_head, replaced, IsMoved};
 
 use crate::frame::{FrameBuf, Part};
 use crate::head::{FRONT, Head};
@@ -55,13 +55,16 @@ fn body_place(frame: &FrameBuf, part: &Part) -> usize
     part.at + FRONT
 }
 
-/// One datagram of a frame that reads passes, in its place; all other octets of the frame stay.
-pub fn pass<P: Passage>(frame: &mut FrameBuf, part: &Part, through: &mut P)
+/// One datagram of a frame that reads passes, in its place; all other octets of the frame stay. The
+/// answer is the datagram as it is then, from which a walk goes on.
+pub fn pass<P: Passage>(frame: &mut FrameBuf, part: &Part, through: &mut P) -> Part
     requires { IsPart frame.old.items part.now }
-    ensures passes { (front : List Datagram) (d : Datagram) (behind : List Datagram) → IsFrame frame.old.items (front ++ d ∷ behind) → part.now.at ≡ 16 + length (text_of front) → part.now.head ≡ d.head → (through.new ≡ (P.meets through.old d.head d.body).this) × IsFrame frame.new.items (front ++ met_datagram d (P.meets through.old d.head d.body) ∷ behind) }
+    ensures part { IsPart frame.new.items result }
+    ensures passes { (front : List Datagram) (d : Datagram) (behind : List Datagram) → IsFrame frame.old.items (front ++ d ∷ behind) → part.now.at ≡ 16 + length (text_of front) → part.now.head ≡ d.head → (through.new ≡ (P.meets through.old d.head d.body).this) × IsFrame frame.new.items (front ++ met_datagram d (P.meets through.old d.head d.body) ∷ behind) × (result ≡ part_with_head part.now (P.meets through.old d.head d.body).head) }
 {
     let mut head = part.head;
     let from = body_place(frame, part);
     meet_within(through, &mut head, frame, from);
     set(frame, part, head.adp, head.counter);
+    Part { at: part.at, head }
 }

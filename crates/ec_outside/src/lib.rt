@@ -16,6 +16,3 @@ pub use mem_files::MemFiles;
 pub use sink::{Sink, SinkErr};
 pub use sinks::{MemSink, SureSink};
 pub use standard::StdSink;
-
-#[cfg(test)]
-mod tests;

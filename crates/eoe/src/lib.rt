@@ -7,8 +7,6 @@ mod cutting;
 mod joining;
 mod message;
 mod reading;
-#[cfg(test)]
-mod tests;
 mod viewing;
 mod writing;
 

@@ -6,8 +6,6 @@ mod addresses;
 mod port;
 mod queue;
 mod switching;
-#[cfg(test)]
-mod tests;
 
 pub use addresses::Learned;
 pub use port::Port;

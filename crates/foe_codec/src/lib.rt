@@ -3,8 +3,6 @@
 
 mod message;
 mod reading;
-#[cfg(test)]
-mod tests;
 mod viewing;
 mod writing;
 

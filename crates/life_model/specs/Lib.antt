@@ -4,3 +4,4 @@ pub mod Lives
 pub mod Eras
 pub mod Tours
 pub mod Gave
+pub mod Book

@@ -11,6 +11,3 @@ pub use mail::{BODY, HEADER, Kind, Mail, MailFault, MailView, error_mail, next_c
 pub use outcome::{ReplyKind, Took};
 pub use reading::{read, read_into, view};
 pub use writing::write;
-
-#[cfg(test)]
-mod tests;

@@ -6,8 +6,6 @@ mod capture;
 mod laws;
 mod order;
 mod reading;
-#[cfg(test)]
-mod tests;
 mod writing;
 
 pub use capture::{Capture, PacketAt, PcapFault, Stamp};

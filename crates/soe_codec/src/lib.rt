@@ -4,8 +4,6 @@
 
 mod message;
 mod reading;
-#[cfg(test)]
-mod tests;
 mod viewing;
 mod writing;
 
