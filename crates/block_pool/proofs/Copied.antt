@@ -1,6 +1,6 @@
 use Rattle.std.proofs.Common.{◌≡◌, ◌∙◌, ap, sym, refl, ℕ, ◌+◌, ◌-◌, ◌<◌, ◌≤◌, List, ◌++◌, length, take, drop, min, arith, append_assoc, length-append, length-drop}
 use Rattle.std.proofs.lemmas.Grind.{common_steps, pieces}
-use Rattle.std.proofs.lemmas.List.{length-take-le, take-take, drop-drop}
+use Rattle.std.proofs.lemmas.List.{length-take-le, take-take, take_min, drop-drop}
 use Rattle.std.proofs.Math.Seq.{take-add, take-append_seam, drop-append_seam}
 
 -- octets with a part written from a place on
@@ -73,3 +73,28 @@ copy_step octets into after now piece at done some count begun count_is copied l
           ∙ drop-written into done (take some piece) fits ∙ ap (λ n. drop n into) reach
           ∙ sym (drop-drop some done into) ∙ ap (λ o. drop some o) left ∙ drop-drop some done now,
     )
+
+-- one more part appended
+pub append_step :
+    (octets into after now piece : List ℕ) (at most done some count : ℕ) → done ≤ count → count ≡ min (length octets - at) most
+    → into ≡ now ++ take done (drop at octets)
+    → piece ≡ take (length piece) (drop (at + done) octets) → some ≡ min (length piece) (count - done)
+    → after ≡ into ++ take some piece
+    → (done + some ≤ count) × (count ≡ min (length octets - at) most) × (after ≡ now ++ take (done + some) (drop at octets))
+append_step octets into after now piece at most done some count begun count_is copied is some_is wrote =
+    let few : some ≤ length piece = omega (arith, some_is) in
+    let within : done + some ≤ count = omega (arith, begun, some_is) in (
+      within,
+      count_is,
+      wrote ∙ ap (λ l. l ++ take some piece) copied ∙ append_assoc now (take done (drop at octets)) (take some piece)
+          ∙ ap (λ p. now ++ (take done (drop at octets) ++ p)) (part_of_piece octets piece at done some few is)
+          ∙ ap (λ l. now ++ l) (sym (take-add done some (drop at octets))),
+    )
+
+-- all parts appended
+pub append_ends :
+    (octets into now : List ℕ) (at most done count : ℕ) → done ≤ count → count ≡ min (length octets - at) most → into ≡ now ++ take done (drop at octets)
+    → count ≤ done → into ≡ now ++ take most (drop at octets)
+append_ends octets into now at most done count begun count_is copied over =
+    let whole : done ≡ min most (length (drop at octets)) = omega (arith, begun, over, count_is, length-drop at octets) in
+    copied ∙ ap (λ n. now ++ take n (drop at octets)) whole ∙ ap (λ l. now ++ l) (take_min most (drop at octets))

@@ -2,7 +2,7 @@ ghost use Rattle.std.specs.Prelude.{◌≡◌, ◌+◌, ◌-◌, ◌*◌, ◌/�
 ghost use Rattle.block_pool.specs.Blocks.{items_of, octets_of, IsEmpty, IsPacked};
 
 use arrayvec::ArrayVec;
-use ec_fields::NoMemory;
+use ec_fields::{NoMemory, append};
 use std::alloc::Global;
 use std::marker::Model;
 
@@ -203,6 +203,21 @@ impl Chain {
             done += some;
         }
         count
+    }
+
+    /// Appends the octets from a place on, at most so many, block by block.
+    pub fn append_to<const CAP: usize>(&self, at: usize, most: usize, into: &mut ArrayVec<u8, CAP>)
+        requires { length into.old.items + most ≤ CAP }
+        ensures { into.new.items ≡ into.old.items ++ take most (drop at self.now.octets) }
+    {
+        let count = self.len().saturating_sub(at).min(most);
+        let mut done = 0;
+        while done < count {
+            let piece = self.piece(at + done);
+            let some = piece.len().min(count - done);
+            append(into, &piece[..some]);
+            done += some;
+        }
     }
 
     /// Ends the chain: its blocks become free and empty.

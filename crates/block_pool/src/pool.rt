@@ -185,6 +185,22 @@ impl Pool {
         self.chains[id.place].read_at(at, into)
     }
 
+    /// Appends to a buffer the octets of a chain that is live in this pool, from a place on and at
+    /// most so many. It costs the octets appended.
+    pub fn append_to<const CAP: usize>(
+        &self,
+        id: &ChainId,
+        at: usize,
+        most: usize,
+        into: &mut ArrayVec<u8, CAP>,
+    )
+        requires live { IsLive self.now id.now }
+        requires fits { length into.old.items + most ≤ CAP }
+        ensures { into.new.items ≡ into.old.items ++ take most (drop at (chain_of self.now id.now)) }
+    {
+        self.chains[id.place].append_to(at, most, into);
+    }
+
     /// Ends a chain that is live in this pool; its blocks are free at once.
     pub fn close(&mut self, id: ChainId)
         requires { IsLive self.old id }

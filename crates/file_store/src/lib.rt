@@ -7,6 +7,3 @@ mod store;
 pub use block_pool::PoolFull;
 pub use file::{FileSpec, NOT_FOUND, Name};
 pub use store::Store;
-
-#[cfg(test)]
-mod tests;

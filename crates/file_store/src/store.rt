@@ -5,6 +5,7 @@ ghost use Rattle.file_store.specs.Store.{IsPlaceOf, has_name};
 ghost use Rattle.file_store.specs.Stored.{Stored, Part, HasPart, part_name, part_octets, free_now};
 
 use crate::file::{File, FileSpec, NOT_FOUND, Name, Version};
+use arrayvec::ArrayVec;
 use block_pool::{Pool, PoolFull};
 use ec_fields::{NoMemory, buffer_of};
 use std::alloc::Global;
@@ -223,6 +224,18 @@ impl Store {
                 let file = &self.files[place];
                 file.spec.busy
             }
+        }
+    }
+
+    /// Appends to a buffer the octets of the file of this name from a place on, at most so many; none where no file has the name. It costs the
+    /// octets appended.
+    pub fn append_to<const CAP: usize>(&self, name: &[u8], at: usize, most: usize, into: &mut ArrayVec<u8, CAP>)
+        requires { length into.old.items + most ≤ CAP }
+        ensures { into.new.items ≡ into.old.items ++ take most (drop at (get self.now.kept name.now)) }
+    {
+        if let Some(place) = place_of(self.files.as_slice(), name) {
+            let file = &self.files[place];
+            self.pool.append_to(&file.chain, at, most, into);
         }
     }
 

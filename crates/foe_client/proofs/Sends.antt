@@ -1,6 +1,6 @@
 -- What a client sends is the first of the mails that it has left, and at first those are the planned ones.
-use Rattle.std.proofs.Common.{◌≡◌, inl, inr, ℕ, zero, suc, ◌+◌, ◌-◌, ◌/◌, ◌<◌, ◌≤◌, Bool, true, false, ◌&&◌, nat_le, ◌==◌, List, [], ◌∷◌, length, take, drop, if◌then◌else◌, Option, None, Some, refl, sym, ap, ◌∙◌, arith, length-take, length-drop, eqb-true, leb-true, lt-ltb, le-ltb}
-use Rattle.std.proofs.lemmas.Bool.{eqb-false, cases_lt}
+use Rattle.std.proofs.Common.{◌≡◌, inl, inr, ℕ, zero, suc, ◌+◌, ◌-◌, ◌/◌, ◌<◌, ◌≤◌, Bool, true, false, ◌&&◌, nat_le, nat_lt, ◌==◌, List, [], ◌∷◌, length, take, drop, if◌then◌else◌, Option, None, Some, refl, sym, ap, ◌∙◌, arith, length-take, length-drop, eqb-true, eq-eqb, leb-true, lt-ltb, le-ltb}
+use Rattle.std.proofs.lemmas.Bool.{eqb-false, cases_lt, and_parts, and_from}
 use Rattle.std.proofs.lemmas.List.{drop-drop}
 use Rattle.exchange_model.specs.Areas.{Areas}
 use Rattle.exchange_model.specs.Dialogue.{chosen, said}
@@ -13,8 +13,8 @@ use Rattle.foe_model.specs.Model.{planned}
 use Rattle.foe_model.proofs.Counts.{none_full, one_full}
 use Rattle.foe_client.specs.declared.state.Unsent.{Unsent}
 use Rattle.foe_client.specs.declared.state.Awaits.{Awaits}
-use Rattle.foe_client.specs.Talk.{Talking, mail_of, following, sending, is_data, is_any_ack, is_value, for_packets, for_acks, lets_go, later, is_left, begun}
-use Rattle.foe_client.specs.Send.{message_of, send_next, NextIs}
+use Rattle.foe_client.specs.Talk.{Talking, mail_of, following, sending, is_data, is_any_ack, is_value, for_packets, for_acks, lets_go, later, is_left, is_next, begun}
+use Rattle.foe_client.specs.Send.{message_of, sent_first, IsNext}
 
 name_sized : (name : List ℕ) → is_name name ≡ true → (1 ≤ length name) × (length name ≤ 32)
 name_sized name e = by (nat_le 1 (length name)) (nat_le (length name) 32) refl refl e
@@ -31,7 +31,7 @@ mail_is c Unsent.WriteRequest = refl
 mail_is c (Unsent.Packet number from) = refl
 mail_is c (Unsent.Ack number) = refl
 
-message_spells : (c : Talking) (u : Unsent) → is_left u c.name c.bytes ≡ true → IsSpellable (message_of c u)
+pub message_spells : (c : Talking) (u : Unsent) → is_left u c.name c.bytes ≡ true → IsSpellable (message_of c u)
 message_spells c Unsent.ReadRequest left = (name_sized c.name left).0
 message_spells c Unsent.WriteRequest left = (name_sized c.name left).0
 message_spells c (Unsent.Packet number from) left = tt
@@ -51,6 +51,20 @@ sending_more : (out pass : ℕ) (name bytes : List ℕ) (u : Unsent) (n m : ℕ)
     sending out pass name bytes n u ≡ mail_of out pass name bytes u ∷ sending out pass name bytes m (following out bytes u)
 sending_more out pass name bytes u n m e = ap (λ k. sending out pass name bytes k u) e
 
+-- the mail that follows one of a read has the next number
+pub next_stays : (out : ℕ) (bytes : List ℕ) (u : Unsent) (quota : ℕ) (a : Awaits) → (quota ≡ 0 → ⊥) → is_next u quota a ≡ true → is_next (following out bytes u) (quota - 1) a ≡ true
+next_stays out bytes u quota Awaits.Nothing some next = refl
+next_stays out bytes u quota (Awaits.Ack left number) some next = refl
+next_stays out bytes u quota (Awaits.Over kind) some next = refl
+next_stays out bytes Unsent.ReadRequest quota (Awaits.Packet number) some next =
+    let both = and_parts (nat_lt 0 number) (0 + quota == number) next in
+    and_from (nat_lt 0 number) (1 + (quota - 1) == number) both.0 (eq-eqb (1 + (quota - 1)) number (omega (arith, some, eqb-true (0 + quota) number both.1)))
+next_stays out bytes Unsent.WriteRequest quota (Awaits.Packet number) some next = absurd (cc)
+next_stays out bytes (Unsent.Packet n from) quota (Awaits.Packet number) some next = absurd (cc)
+next_stays out bytes (Unsent.Ack n) quota (Awaits.Packet number) some next =
+    let both = and_parts (nat_lt 0 number) (n + quota == number) next in
+    and_from (nat_lt 0 number) (n + 1 + (quota - 1) == number) both.0 (eq-eqb (n + 1 + (quota - 1)) number (omega (arith, some, eqb-true (n + quota) number both.1)))
+
 none_now : (a : Awaits) → lets_go a [] ≡ 0
 none_now Awaits.Nothing = refl
 none_now (Awaits.Packet number) = refl
@@ -62,22 +76,27 @@ none_now (Awaits.Over kind) = none (is_value kind)
     none true = refl
     none false = refl
 
-pub next_is : (c : Talking) → 64 ≤ c.out → is_left c.unsent c.name c.bytes ≡ true → NextIs (send_next c).0 c (send_next c).1
-next_is c wide left = by (c.quota == 0) refl
-  where
-    by : (b : Bool) → (c.quota == 0) ≡ b →
-        (let s : Option Foe × Talking = if b then (None, c) else (Some (message_of c c.unsent), record c { unsent = following c.out c.bytes c.unsent; quota = c.quota - 1 }) in NextIs s.0 c s.1)
-    by true e = (sending_none c.out c.pass c.name c.bytes c.unsent (c.quota + lets_go c.awaits []) (omega (arith, eqb-true c.quota 0 e, none_now c.awaits)), refl)
-    by false e = record {
-      mails = λ hs. (let some : c.quota ≡ 0 → ⊥ = eqb-false c.quota 0 e in
-          let more : c.quota + lets_go c.awaits hs ≡ suc (c.quota - 1 + lets_go c.awaits hs) = omega arith in
-          sending_more c.out c.pass c.name c.bytes c.unsent (c.quota + lets_go c.awaits hs) (c.quota - 1 + lets_go c.awaits hs) more
-          ∙ ap (λ m. m ∷ sending c.out c.pass c.name c.bytes (c.quota - 1 + lets_go c.awaits hs) (following c.out c.bytes c.unsent)) (sym (mail_is c c.unsent)));
-      spellable = message_spells c c.unsent left;
-      fits = message_fits c c.unsent wide left;
-      replies = λ ms. refl;
-      areas = refl;
-    }
+-- where no mail may go, none is left
+pub none_is : (c : Talking) → c.quota ≡ 0 → later c [] ≡ []
+none_is c none = sending_none c.out c.pass c.name c.bytes c.unsent (c.quota + lets_go c.awaits []) (omega (arith, none, none_now c.awaits))
+
+-- and where one may go, one is left
+pub some_is : (c : Talking) → (c.quota ≡ 0 → ⊥) → later c [] ≡ [] → ⊥
+some_is c some e =
+    let more : c.quota + lets_go c.awaits [] ≡ suc (c.quota - 1 + lets_go c.awaits []) = omega (arith, some) in
+    let first = sending_more c.out c.pass c.name c.bytes c.unsent (c.quota + lets_go c.awaits []) (c.quota - 1 + lets_go c.awaits []) more in
+    absurd (let wrong = sym first ∙ e in cc)
+
+pub next_is : (c : Talking) → 64 ≤ c.out → is_left c.unsent c.name c.bytes ≡ true → (c.quota ≡ 0 → ⊥) → IsNext (message_of c c.unsent) c (sent_first c)
+next_is c wide left some = record {
+  mails = λ hs. (let more : c.quota + lets_go c.awaits hs ≡ suc (c.quota - 1 + lets_go c.awaits hs) = omega (arith, some) in
+      sending_more c.out c.pass c.name c.bytes c.unsent (c.quota + lets_go c.awaits hs) (c.quota - 1 + lets_go c.awaits hs) more
+      ∙ ap (λ m. m ∷ sending c.out c.pass c.name c.bytes (c.quota - 1 + lets_go c.awaits hs) (following c.out c.bytes c.unsent)) (sym (mail_is c c.unsent)));
+  spellable = message_spells c c.unsent left;
+  fits = message_fits c c.unsent wide left;
+  replies = λ ms. refl;
+  areas = refl;
+}
 
 -- a client decides on the first answer
 said_one : (out fuel : ℕ) (m h : FoeMail) (ms hs : List FoeMail) →

@@ -1,6 +1,6 @@
 -- What the client makes of a mail is what the mail is to it.
-use Rattle.std.proofs.Common.{◌≡◌, ℕ, zero, suc, ◌+◌, ◌-◌, ◌<◌, Bool, true, false, ◌&&◌, nat_le, nat_lt, ◌==◌, List, [], ◌∷◌, ◌++◌, length, if◌then◌else◌, None, Some, refl, sym, ap, ◌∙◌, arith, eqb-true}
-use Rattle.std.proofs.lemmas.Bool.{eqb-false}
+use Rattle.std.proofs.Common.{◌≡◌, ℕ, zero, suc, ◌+◌, ◌-◌, ◌<◌, Bool, true, false, ◌&&◌, nat_le, nat_lt, ◌==◌, List, [], ◌∷◌, ◌++◌, length, if◌then◌else◌, None, Some, refl, sym, ap, ◌∙◌, arith, eqb-true, ltb-true}
+use Rattle.std.proofs.lemmas.Bool.{eqb-false, and_parts}
 use Rattle.arrayvec.specs.ArrayVec.{ArrayVec}
 use Rattle.mailbox_mail.specs.declared.outcome.ReplyKind.{ReplyKind}
 use Rattle.foe_model.specs.Mails.{Foe, FoeMail, mail, unread, failed, other, Read, Write, Data, Ack, Error, Busy}
@@ -8,8 +8,8 @@ use Rattle.foe_model.specs.Server.{is_last}
 use Rattle.foe_model.specs.Client.{at_end, refused_by, is_ack, is_busy, acks_end, is_packet, most, packets_end}
 use Rattle.foe_client.specs.declared.state.Unsent.{Unsent}
 use Rattle.foe_client.specs.declared.state.Awaits.{Awaits}
-use Rattle.foe_client.specs.Talk.{Talking, sending, is_data, is_any_ack, is_value, for_packets, for_acks, lets_go, awaited, is_sound}
-use Rattle.foe_client.specs.Hear.{Heard, TookIs, most_mails, foreign, onward, hear_data, hear_ack, hear_busy, hear_refusal, hear_message, hear_mail}
+use Rattle.foe_client.specs.Talk.{Talking, sending, is_data, is_any_ack, is_value, for_packets, for_acks, lets_go, awaited, is_sound, is_next}
+use Rattle.foe_client.specs.Hear.{Heard, TookIs, left_behind, most_mails, foreign, onward, hear_data, hear_ack, hear_busy, hear_refusal, hear_message, hear_mail}
 
 no_length : (xs : List ℕ) → (length xs == 0) ≡ true → xs ≡ []
 no_length [] e = refl
@@ -30,6 +30,15 @@ record IsUnawaited (m : FoeMail) : Type 0 where
 ack_only : (left number : ℕ) (m : FoeMail) (ms : List FoeMail) → is_ack number m ≡ false → is_busy m ≡ false → refused_by m ms ≡ None → acks_end left number (m ∷ ms) ≡ None
 ack_only zero number m ms a b r = rw (a, b) r
 ack_only (suc left) number m ms a b r = rw a r
+
+-- with nothing left to go of a read, the next mail is the acknowledgement of the awaited packet
+next_ack : (unsent : Unsent) (quota number : ℕ) → quota ≡ 0 → is_next unsent quota (Awaits.Packet number) ≡ true → unsent ≡ Unsent.Ack number
+next_ack Unsent.ReadRequest quota number none next =
+    let both = and_parts (nat_lt 0 number) (0 + quota == number) next in absurd (omega (arith, none, ltb-true 0 number both.0, eqb-true (0 + quota) number both.1))
+next_ack Unsent.WriteRequest quota number none next = absurd (cc)
+next_ack (Unsent.Packet n from) quota number none next = absurd (cc)
+next_ack (Unsent.Ack n) quota number none next =
+    let both = and_parts (nat_lt 0 number) (n + quota == number) next in ap (λ k. Unsent.Ack k) (omega (arith, none, eqb-true (n + quota) number both.1))
 
 module _ (out back pass : ℕ) (name bytes : List ℕ) (unsent : Unsent) (quota : ℕ) (value : List ℕ) where
   -- the client, by what it awaits
@@ -54,11 +63,24 @@ module _ (out back pass : ℕ) (name bytes : List ℕ) (unsent : Unsent) (quota 
       by true e = absurd (omega (arith, few, eqb-true quota most_mails e))
       by false e = refl
 
+  none_left : (n : ℕ) → sending out pass name bytes n unsent ≡ [] → n ≡ 0
+  none_left zero e = refl
+  none_left (suc n) e = absurd (cc)
+
+  sends_none : (n : ℕ) → n ≡ 0 → sending out pass name bytes n unsent ≡ []
+  sends_none n e = ap (λ k. sending out pass name bytes k unsent) e
+
   goes_on : (n m : ℕ) → m ≡ suc n → quota < most_mails → sending out pass name bytes (onward quota + n) unsent ≡ sending out pass name bytes (quota + m) unsent
   goes_on n m e few = ap (λ k. sending out pass name bytes k unsent) (omega (arith, e, onward_is few))
 
-  stays : (n m : ℕ) → m ≡ n → sending out pass name bytes (quota + n) unsent ≡ sending out pass name bytes (quota + m) unsent
-  stays n m e = ap (λ k. sending out pass name bytes (quota + k) unsent) (sym e)
+  -- a packet lets one more go
+  one_more : (n : ℕ) → sending out pass name bytes (quota + 1 + n) unsent ≡ sending out pass name bytes (quota + suc n) unsent
+  one_more n = ap (λ k. sending out pass name bytes k unsent) (omega arith)
+
+  -- behind the end of a service none goes, neither of those that were left
+  ends_here : (n m now k : ℕ) → k + n ≡ 0 → m ≡ 0 → now ≡ 0 → sending out pass name bytes (quota + now) unsent ≡ [] → sending out pass name bytes (k + n) unsent ≡ sending out pass name bytes (quota + m) unsent
+  ends_here n m now k p q r e =
+      let all : quota + now ≡ 0 = none_left (quota + now) e in sends_none (k + n) p ∙ sym (sends_none (quota + m) (omega (arith, all, q)))
 
   -- a packet of a file
   packet_reads : (number : ℕ) (octets : ArrayVec ℕ) (ms : List FoeMail) → nat_lt most (length (value ++ octets.items)) ≡ false → (packet : ℕ) → (packet == number) ≡ true →
@@ -66,35 +88,47 @@ module _ (out back pass : ℕ) (name bytes : List ℕ) (unsent : Unsent) (quota 
       ≡ (if is_last back octets.items then at_end ms (ReplyKind.Value, value ++ octets.items) else packets_end back (number + 1) (value ++ octets.items) ms)
   packet_reads number octets ms fits packet same = rw (same, fits) refl
 
-  took_data : (a : Awaits) (packet : ℕ) (octets : ArrayVec ℕ) → Is a (mail (Data packet octets)) (hear_data (at a) a packet octets.items)
-  took_data Awaits.Nothing packet octets = is_foreign Awaits.Nothing (mail (Data packet octets)) (λ ms. refl)
-  took_data (Awaits.Packet number) packet octets =
+  -- the acknowledgement of the last packet is the mail that was next
+  acknowledges : (number packet n : ℕ) → is_next unsent quota (Awaits.Packet number) ≡ true → packet ≡ number → sending out pass name bytes (quota + 0) unsent ≡ [] →
+      sending out pass name bytes (1 + n) (Unsent.Ack packet) ≡ sending out pass name bytes (quota + suc n) unsent
+  acknowledges number packet n next same none =
+      let zero_is : quota ≡ 0 = omega (arith, none_left (quota + 0) none) in
+      ap (λ k. sending out pass name bytes (1 + n) (Unsent.Ack k)) same
+      ∙ ap (λ u. sending out pass name bytes (1 + n) u) (sym (next_ack unsent quota number zero_is next))
+      ∙ ap (λ k. sending out pass name bytes k unsent) (omega (arith, zero_is))
+
+  took_data : (a : Awaits) → is_next unsent quota a ≡ true → (packet : ℕ) (octets : ArrayVec ℕ) → Is a (mail (Data packet octets)) (hear_data (at a) a packet octets.items)
+  took_data Awaits.Nothing next packet octets = is_foreign Awaits.Nothing (mail (Data packet octets)) (λ ms. refl)
+  took_data (Awaits.Packet number) next packet octets =
       let m = mail (Data packet octets) in
       choose (Awaits.Packet number) m (packet == number) _ _
       (λ same. choose (Awaits.Packet number) m (nat_lt most (length (value ++ octets.items))) _ _
       (λ long. is_foreign (Awaits.Packet number) m (λ ms. rw (same, long) refl))
       (λ fits. choose (Awaits.Packet number) m (is_last back octets.items) _ _
-      (λ last. (
-        record {
-          replies = λ ms. sym (packet_reads number octets ms fits packet same ∙ rw last refl);
-          mails = λ few hs. goes_on (for_packets hs) (suc (for_packets hs)) refl few;
-          areas = refl;
-        },
-        refl,
-      ))
+      (λ last. record {
+        over = refl;
+        replies = λ ms. sym (packet_reads number octets ms fits packet same ∙ rw last refl);
+        mails = λ none hs. acknowledges number packet (for_packets hs) next (eqb-true packet number same) none;
+        left = refl;
+        areas = refl;
+      })
       (λ full. (
         record {
           replies = λ ms. sym (packet_reads number octets ms fits packet same ∙ rw full refl);
-          mails = λ few hs. goes_on (for_packets hs) (suc (for_packets hs)) refl few;
+          mails = λ few hs. one_more (for_packets hs);
           areas = refl;
         },
         record { over = refl; yet = refl; open_to = λ detail. refl },
       ))))
       (λ apart. is_foreign (Awaits.Packet number) m (λ ms. rw apart refl))
-  took_data (Awaits.Ack left number) packet octets = is_foreign (Awaits.Ack left number) (mail (Data packet octets)) (λ ms. ack_only left number (mail (Data packet octets)) ms refl refl refl)
-  took_data (Awaits.Over kind) packet octets = is_foreign (Awaits.Over kind) (mail (Data packet octets)) (λ ms. refl)
+  took_data (Awaits.Ack left number) next packet octets = is_foreign (Awaits.Ack left number) (mail (Data packet octets)) (λ ms. ack_only left number (mail (Data packet octets)) ms refl refl refl)
+  took_data (Awaits.Over kind) next packet octets = is_foreign (Awaits.Over kind) (mail (Data packet octets)) (λ ms. refl)
 
   -- acknowledgements
+  acks_now : (left : ℕ) → for_acks left [] ≡ 0
+  acks_now zero = refl
+  acks_now (suc left) = refl
+
   acks_yet : (left number : ℕ) → acks_end left number [] ≡ None
   acks_yet zero number = refl
   acks_yet (suc left) number = refl
@@ -129,14 +163,13 @@ module _ (out back pass : ℕ) (name bytes : List ℕ) (unsent : Unsent) (quota 
       let m = mail (Ack packet) in
       choose (Awaits.Ack left number) m (packet == number) _ _
       (λ same. choose (Awaits.Ack left number) m (left == 0) _ _
-      (λ none. (
-        record {
-          replies = λ ms. ap (λ v. at_end ms (ReplyKind.Done, v)) (no_length value (both_left (length value == 0) (nat_le (left + number) 131073) sound)) ∙ sym (last_acked left number packet ms none same);
-          mails = λ few hs. stays 0 (for_acks left (m ∷ hs)) (last_goes left packet hs none);
-          areas = refl;
-        },
-        refl,
-      ))
+      (λ none. record {
+        over = refl;
+        replies = λ ms. ap (λ v. at_end ms (ReplyKind.Done, v)) (no_length value (both_left (length value == 0) (nat_le (left + number) 131073) sound)) ∙ sym (last_acked left number packet ms none same);
+        mails = λ nothing hs. ends_here 0 (for_acks left (m ∷ hs)) (for_acks left []) 0 refl (last_goes left packet hs none) (acks_now left) nothing;
+        left = refl;
+        areas = refl;
+      })
       (λ some. (
         record {
           replies = λ ms. sym (more_acked left number packet ms some same);
@@ -186,6 +219,7 @@ module _ (out back pass : ℕ) (name bytes : List ℕ) (unsent : Unsent) (quota 
     busy : is_busy m ≡ false
     packet : (number : ℕ) → is_packet number m ≡ false
     is_packet_of : is_data m ≡ false
+    last : left_behind m ≡ []
     valueless : is_value kind ≡ false
 
   refused_acks : (left number : ℕ) (m : FoeMail) (kind : ReplyKind) (ms : List FoeMail) → Refuses m kind → acks_end left number (m ∷ ms) ≡ at_end ms (kind, [])
@@ -201,25 +235,23 @@ module _ (out back pass : ℕ) (name bytes : List ℕ) (unsent : Unsent) (quota 
 
   took_refusal : (a : Awaits) (m : FoeMail) (kind : ReplyKind) → Refuses m kind → Is a m (hear_refusal (at a) a kind)
   took_refusal Awaits.Nothing m kind r = is_foreign Awaits.Nothing m (λ ms. refl)
-  took_refusal (Awaits.Packet number) m kind r = (
-    record {
-      replies = λ ms. sym (rw (r.packet number) (r.reads ms));
-      mails = λ few hs. stays (lets_go (Awaits.Over kind) hs) (for_packets (m ∷ hs)) (refused_packets m kind hs r);
-      areas = refl;
-    },
-    refl,
-  )
+  took_refusal (Awaits.Packet number) m kind r = record {
+    over = refl;
+    replies = λ ms. sym (rw (r.packet number) (r.reads ms));
+    mails = λ nothing hs. ends_here (lets_go (Awaits.Over kind) hs) (for_packets (m ∷ hs)) 0 0 (omega (arith, over_goes kind hs r.valueless)) (refused_packets hs) refl nothing;
+    left = sends_none (0 + lets_go (Awaits.Over kind) []) (omega (arith, over_goes kind [] r.valueless)) ∙ sym r.last;
+    areas = refl;
+  }
     where
-      refused_packets : (m : FoeMail) (kind : ReplyKind) (hs : List FoeMail) → Refuses m kind → for_packets (m ∷ hs) ≡ lets_go (Awaits.Over kind) hs
-      refused_packets m kind hs r = ap (λ b. if b then suc (for_packets hs) else 0) (r.is_packet_of) ∙ sym (over_goes kind hs r.valueless)
-  took_refusal (Awaits.Ack left number) m kind r = (
-    record {
-      replies = λ ms. sym (refused_acks left number m kind ms r);
-      mails = λ few hs. stays (lets_go (Awaits.Over kind) hs) (for_acks left (m ∷ hs)) (refused_goes left m kind hs r ∙ sym (over_goes kind hs r.valueless));
-      areas = refl;
-    },
-    refl,
-  )
+      refused_packets : (hs : List FoeMail) → for_packets (m ∷ hs) ≡ 0
+      refused_packets hs = ap (λ b. if b then suc (for_packets hs) else 0) (r.is_packet_of)
+  took_refusal (Awaits.Ack left number) m kind r = record {
+    over = refl;
+    replies = λ ms. sym (refused_acks left number m kind ms r);
+    mails = λ nothing hs. ends_here (lets_go (Awaits.Over kind) hs) (for_acks left (m ∷ hs)) (for_acks left []) 0 (omega (arith, over_goes kind hs r.valueless)) (refused_goes left m kind hs r) (acks_now left) nothing;
+    left = sends_none (0 + lets_go (Awaits.Over kind) []) (omega (arith, over_goes kind [] r.valueless)) ∙ sym r.last;
+    areas = refl;
+  }
   took_refusal (Awaits.Over kept) m kind r = is_foreign (Awaits.Over kept) m (λ ms. refl)
 
   -- a mail that no client awaits
@@ -229,35 +261,37 @@ module _ (out back pass : ℕ) (name bytes : List ℕ) (unsent : Unsent) (quota 
   unawaited (Awaits.Ack left number) m u = is_foreign (Awaits.Ack left number) m (λ ms. ack_only left number m ms (u.ack number) u.busy (u.refused ms))
   unawaited (Awaits.Over kind) m u = is_foreign (Awaits.Over kind) m (λ ms. refl)
 
-  took_message : (a : Awaits) → is_sound a value ≡ true → (f : Foe) → Is a (mail f) (hear_message (at a) f)
-  took_message a sound (Data packet octets) = took_data a packet octets
-  took_message a sound (Ack packet) = took_ack a sound packet
-  took_message a sound (Busy done entire) = took_busy a done entire
-  took_message a sound (Error code) = took_refusal a (mail (Error code)) (ReplyKind.FoeError code) (record {
+  took_message : (a : Awaits) → is_sound a value ≡ true → is_next unsent quota a ≡ true → (f : Foe) → Is a (mail f) (hear_message (at a) f)
+  took_message a sound next (Data packet octets) = took_data a next packet octets
+  took_message a sound next (Ack packet) = took_ack a sound packet
+  took_message a sound next (Busy done entire) = took_busy a done entire
+  took_message a sound next (Error code) = took_refusal a (mail (Error code)) (ReplyKind.FoeError code) (record {
     reads = λ ms. refl;
     ack = λ number. refl;
     any_ack = refl;
     busy = refl;
     packet = λ number. refl;
     is_packet_of = refl;
+    last = refl;
     valueless = refl;
   })
-  took_message a sound (Read p x) = unawaited a (mail (Read p x)) (record { ack = λ number. refl; busy = refl; packet = λ number. refl; refused = λ ms. refl })
-  took_message a sound (Write p x) = unawaited a (mail (Write p x)) (record { ack = λ number. refl; busy = refl; packet = λ number. refl; refused = λ ms. refl })
+  took_message a sound next (Read p x) = unawaited a (mail (Read p x)) (record { ack = λ number. refl; busy = refl; packet = λ number. refl; refused = λ ms. refl })
+  took_message a sound next (Write p x) = unawaited a (mail (Write p x)) (record { ack = λ number. refl; busy = refl; packet = λ number. refl; refused = λ ms. refl })
 
-  took_mail : (a : Awaits) → is_sound a value ≡ true → (m : FoeMail) → Is a m (hear_mail (at a) m)
-  took_mail a sound (mail f) = took_message a sound f
-  took_mail a sound (failed detail) = took_refusal a (failed detail) (ReplyKind.MailboxError detail) (record {
+  took_mail : (a : Awaits) → is_sound a value ≡ true → is_next unsent quota a ≡ true → (m : FoeMail) → Is a m (hear_mail (at a) m)
+  took_mail a sound next (mail f) = took_message a sound next f
+  took_mail a sound next (failed detail) = took_refusal a (failed detail) (ReplyKind.MailboxError detail) (record {
     reads = λ ms. refl;
     ack = λ number. refl;
     any_ack = refl;
     busy = refl;
     packet = λ number. refl;
     is_packet_of = refl;
+    last = refl;
     valueless = refl;
   })
-  took_mail a sound (unread fault) = unawaited a (unread fault) (record { ack = λ number. refl; busy = refl; packet = λ number. refl; refused = λ ms. refl })
-  took_mail a sound (other body) = unawaited a (other body) (record { ack = λ number. refl; busy = refl; packet = λ number. refl; refused = λ ms. refl })
+  took_mail a sound next (unread fault) = unawaited a (unread fault) (record { ack = λ number. refl; busy = refl; packet = λ number. refl; refused = λ ms. refl })
+  took_mail a sound next (other body) = unawaited a (other body) (record { ack = λ number. refl; busy = refl; packet = λ number. refl; refused = λ ms. refl })
 
-pub took_is : (c : Talking) → is_sound c.awaits c.value ≡ true → (m : FoeMail) → TookIs (hear_mail c m).0 c m (hear_mail c m).1
-took_is c sound m = took_mail c.out c.back c.pass c.name c.bytes c.unsent c.quota c.value c.awaits sound m
+pub took_is : (c : Talking) → is_sound c.awaits c.value ≡ true → is_next c.unsent c.quota c.awaits ≡ true → (m : FoeMail) → TookIs (hear_mail c m).0 c m (hear_mail c m).1
+took_is c sound next m = took_mail c.out c.back c.pass c.name c.bytes c.unsent c.quota c.value c.awaits sound next m

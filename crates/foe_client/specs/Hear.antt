@@ -5,9 +5,11 @@ use Rattle.mailbox_mail.specs.declared.outcome.Took.{Took}
 use Rattle.foe_model.specs.Mails.{Foe, Data, Ack, Error, Busy, FoeMail, mail, failed}
 use Rattle.foe_model.specs.Server.{is_last}
 use Rattle.foe_model.specs.Client.{most}
+use Rattle.foe_client.specs.declared.state.Unsent.{Unsent}
 use Rattle.foe_client.specs.declared.state.Awaits.{Awaits}
-use Rattle.foe_client.specs.Talk.{Talking, areas_of, later, awaited, is_over}
+use Rattle.foe_client.specs.Talk.{Talking, areas_of, later, awaited, awaits_nothing}
 
+-- what a mail was to the client, and the client behind it
 abbrev pub Heard : Type 0
 Heard = Took × Talking
 
@@ -23,17 +25,17 @@ most_mails = 18446744073709551615
 abbrev pub onward : ℕ → ℕ
 onward quota = if quota == most_mails then quota else quota + 1
 
--- the service is over with this reply and no value
+-- the service is over with this reply and no value, and no mail may go any more
 abbrev pub refused : Talking → ReplyKind → Heard
-refused c kind = (Took.Done, record c { awaits = Awaits.Over kind; value = [] })
+refused c kind = (Took.Done, record c { awaits = Awaits.Over kind; value = []; quota = 0 })
 
--- a packet of a file that is read: it is acknowledged, the last one too
+-- a packet of a file that is read: it is acknowledged, and of the last one nothing but its acknowledgement is left
 abbrev pub hear_data : Talking → Awaits → ℕ → List ℕ → Heard
 hear_data c (Awaits.Packet number) packet bytes =
     if packet == number then
     (if nat_lt most (length (c.value ++ bytes)) then foreign c
-    else if is_last c.back bytes then (Took.Done, record c { awaits = Awaits.Over ReplyKind.Value; value = c.value ++ bytes; quota = onward c.quota })
-    else (Took.More, record c { awaits = Awaits.Packet (number + 1); value = c.value ++ bytes; quota = onward c.quota }))
+    else if is_last c.back bytes then (Took.Done, record c { awaits = Awaits.Over ReplyKind.Value; value = c.value ++ bytes; unsent = Unsent.Ack packet; quota = 1 })
+    else (Took.More, record c { awaits = Awaits.Packet (number + 1); value = c.value ++ bytes; quota = c.quota + 1 }))
     else foreign c
 hear_data c _ packet bytes = foreign c
 
@@ -41,7 +43,7 @@ hear_data c _ packet bytes = foreign c
 abbrev pub hear_ack : Talking → Awaits → ℕ → Heard
 hear_ack c (Awaits.Ack left number) packet =
     if packet == number then
-    (if left == 0 then (Took.Done, record c { awaits = Awaits.Over ReplyKind.Done })
+    (if left == 0 then (Took.Done, record c { awaits = Awaits.Over ReplyKind.Done; quota = 0 })
     else (Took.More, record c { awaits = Awaits.Ack (left - 1) (number + 1); quota = onward c.quota }))
     else foreign c
 hear_ack c _ packet = foreign c
@@ -57,6 +59,7 @@ hear_refusal c Awaits.Nothing kind = foreign c
 hear_refusal c (Awaits.Over other) kind = foreign c
 hear_refusal c _ kind = refused c kind
 
+-- a message, by what is awaited
 abbrev pub hear_message : Talking → Foe → Heard
 hear_message c (Data packet bytes) = hear_data c c.awaits packet bytes.items
 hear_message c (Ack packet) = hear_ack c c.awaits packet
@@ -64,6 +67,7 @@ hear_message c (Busy done entire) = hear_busy c c.awaits
 hear_message c (Error code) = hear_refusal c c.awaits (ReplyKind.FoeError code)
 hear_message c _ = foreign c
 
+-- any mail
 abbrev pub hear_mail : Talking → FoeMail → Heard
 hear_mail c (mail message) = hear_message c message
 hear_mail c (failed detail) = hear_refusal c c.awaits (ReplyKind.MailboxError detail)
@@ -75,14 +79,29 @@ pub record GoesOn (old : Talking) (m : FoeMail) (new : Talking) : Type 0 where
   pub mails : old.quota < most_mails → (hs : List FoeMail) → later new hs ≡ later old (m ∷ hs)
   pub areas : areas_of new ≡ areas_of old
 
+-- the mails that are left behind the end of a service: the acknowledgement of a file's last packet, and no other
+abbrev pub left_behind : FoeMail → List FoeMail
+left_behind (mail (Data packet bytes)) = mail (Ack packet) ∷ []
+left_behind _ = []
+
+-- the service is over. Where no mail was left, the client goes on as it would have with that mail ahead of the others; mails that were left are
+-- dropped
+pub record Ends (old : Talking) (m : FoeMail) (new : Talking) : Type 0 where
+  pub over : awaits_nothing new.awaits ≡ true
+  pub replies : (ms : List FoeMail) → awaited new ms ≡ awaited old (m ∷ ms)
+  pub mails : later old [] ≡ [] → (hs : List FoeMail) → later new hs ≡ later old (m ∷ hs)
+  pub left : later new [] ≡ left_behind m
+  pub areas : areas_of new ≡ areas_of old
+
 -- the reply isn't complete yet, and may still be completed
 pub record IsOpen (c : Talking) : Type 0 where
-  pub over : is_over c.awaits ≡ false
+  pub over : awaits_nothing c.awaits ≡ false
   pub yet : awaited c [] ≡ None
   pub open_to : (detail : ℕ) → awaited c (failed detail ∷ []) ≡ Some (ReplyKind.MailboxError detail, [])
 
--- WHAT A MAIL IS TO A CLIENT. A foreign one is the beginning of no reply side, behind the mails that were taken
+-- WHAT A MAIL IS TO A CLIENT. The reply may be completed by further mails; or it is complete, and no mail is left but the last acknowledgement of
+-- a file that was read; or the mail is the beginning of no reply side, behind the mails that were taken
 abbrev pub TookIs : Took → Talking → FoeMail → Talking → Type 0
 TookIs Took.More old m new = GoesOn old m new × IsOpen new
-TookIs Took.Done old m new = GoesOn old m new × (is_over new.awaits ≡ true)
+TookIs Took.Done old m new = Ends old m new
 TookIs Took.Foreign old m new = ((ms : List FoeMail) → awaited old (m ∷ ms) ≡ None) × (new ≡ old)

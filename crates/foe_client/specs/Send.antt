@@ -1,5 +1,5 @@
 -- What a client sends next.
-use Rattle.std.specs.Prelude.{◌≡◌, ℕ, ◌+◌, ◌-◌, ◌≤◌, ◌==◌, List, [], ◌∷◌, length, take, drop, if◌then◌else◌, Option, None, Some}
+use Rattle.std.specs.Prelude.{◌≡◌, ℕ, ◌+◌, ◌-◌, ◌≤◌, List, ◌∷◌, length, take, drop}
 use Rattle.mailbox_mail.specs.declared.mail.Kind.TheVariants.{FoE}
 use Rattle.foe_codec.specs.Message.{IsSpellable, foe_text}
 use Rattle.foe_model.specs.Mails.{Foe, Read, Write, Data, Ack, FoeMail, mail}
@@ -15,11 +15,9 @@ message_of c Unsent.WriteRequest = Write c.pass (record { items = c.name })
 message_of c (Unsent.Packet number from) = Data number (record { items = take (packet_room c.out) (drop from c.bytes) })
 message_of c (Unsent.Ack number) = Ack number
 
--- it, and the client behind it; nothing where none may go
-abbrev pub send_next : Talking → Option Foe × Talking
-send_next c =
-    if c.quota == 0 then (None, c)
-    else (Some (message_of c c.unsent), record c { unsent = following c.out c.bytes c.unsent; quota = c.quota - 1 })
+-- the client behind that mail
+abbrev pub sent_first : Talking → Talking
+sent_first c = record c { unsent = following c.out c.bytes c.unsent; quota = c.quota - 1 }
 
 -- a message is the first of the mails that are left, has a spelling that fits, and leaves the reply as it is
 pub record IsNext (message : Foe) (old new : Talking) : Type 0 where
@@ -28,10 +26,6 @@ pub record IsNext (message : Foe) (old new : Talking) : Type 0 where
   pub fits : length (foe_text message) + 6 ≤ old.out
   pub replies : (ms : List FoeMail) → awaited new ms ≡ awaited old ms
   pub areas : areas_of new ≡ areas_of old
-
-abbrev pub NextIs : Option Foe → Talking → Talking → Type 0
-NextIs None old new = (later old [] ≡ []) × (new ≡ old)
-NextIs (Some message) old new = IsNext message old new
 
 -- WHAT GOES OUT: the first of the mails that the client has left, in its one spelling, and no longer than the mailbox takes
 pub record SendsNext (old : Talking) (octets : List ℕ) (new : Talking) : Type 0 where

@@ -1,5 +1,5 @@
 -- What a client's state stands for: the mails that it has left to send, by what it will hear, and the reply that further mails complete.
-use Rattle.std.specs.Prelude.{ℕ, zero, suc, ◌+◌, ◌-◌, ◌≤◌, ◌&&◌, nat_lt, nat_le, ◌==◌, Bool, true, false, List, [], ◌∷◌, length, drop, if◌then◌else◌, Option, None}
+use Rattle.std.specs.Prelude.{◌≡◌, ℕ, zero, suc, ◌+◌, ◌-◌, ◌≤◌, ◌&&◌, nat_lt, nat_le, ◌==◌, Bool, true, false, List, [], ◌∷◌, length, drop, if◌then◌else◌, Option, None}
 use Rattle.mailbox_mail.specs.declared.outcome.ReplyKind.{ReplyKind}
 use Rattle.foe_codec.specs.Message.{is_name}
 use Rattle.foe_model.specs.Mails.{Read, Write, Data, Ack, FoeMail, mail}
@@ -89,10 +89,10 @@ answers_from back value (Awaits.Over kind) ms = at_end ms (kind, value)
 abbrev pub awaited : Talking → List FoeMail → Option Reply
 awaited c ms = answers_from c.back c.value c.awaits ms
 
--- whether a service is over
-abbrev pub is_over : Awaits → Bool
-is_over (Awaits.Over kind) = true
-is_over _ = false
+-- whether a service is over, so that no answer is awaited any more
+abbrev pub awaits_nothing : Awaits → Bool
+awaits_nothing (Awaits.Over kind) = true
+awaits_nothing _ = false
 
 -- whether the octets that came, and the numbers, fit what is awaited
 abbrev pub is_sound : Awaits → List ℕ → Bool
@@ -123,9 +123,25 @@ is_bounded Unsent.ReadRequest quota awaits value = is_read_awaited awaits && nat
 is_bounded (Unsent.Ack number) quota awaits value = is_read_awaited awaits && nat_le (number + quota + ahead awaits value) 131074
 is_bounded _ quota awaits value = true
 
+-- whether a mail is one of a read
+abbrev pub is_read : Unsent → Bool
+is_read Unsent.ReadRequest = true
+is_read (Unsent.Ack number) = true
+is_read _ = false
+
+-- the number of a read's mail; the request stands ahead of the first acknowledgement
+abbrev pub number_of : Unsent → ℕ
+number_of (Unsent.Ack number) = number
+number_of _ = 0
+
+-- whether behind the mails that may go comes the acknowledgement of the packet that is awaited
+abbrev pub is_next : Unsent → ℕ → Awaits → Bool
+is_next unsent quota (Awaits.Packet number) = is_read unsent && nat_lt 0 number && number_of unsent + quota == number
+is_next unsent quota _ = true
+
 -- what a service begins with
 abbrev pub IsFresh : Unsent → Awaits → Type 0
-IsFresh Unsent.ReadRequest (Awaits.Packet number) = number ≤ 1
+IsFresh Unsent.ReadRequest (Awaits.Packet number) = number ≡ 1
 IsFresh Unsent.WriteRequest (Awaits.Ack left number) = left + number ≤ 131073
 IsFresh _ _ = ⊥
 

@@ -5,7 +5,7 @@ ghost use Rattle.foe_model.specs.Meaning.{Service, read, write};
 ghost use Rattle.exchange_model.specs.Areas.{Areas};
 ghost use Rattle.foe_model.specs.Client.{full_packets, ends};
 ghost use Rattle.foe_model.specs.Model.{planned};
-ghost use Rattle.foe_client.specs.Talk.{areas_of, later, awaited, is_over, begun, IsFresh};
+ghost use Rattle.foe_client.specs.Talk.{areas_of, later, awaited, awaits_nothing, begun, IsFresh};
 
 use crate::state::{Awaits, Unsent};
 use ec_fields::{NoMemory, Octets, Transfer, buffer_of};
@@ -36,13 +36,13 @@ pub struct FoeClient {
 
 impl Model for FoeClient {
     ghost use Rattle.std.specs.Prelude.{◌≡◌, ◌≤◌, true};
-    ghost use Rattle.foe_client.specs.Talk.{Talking, is_sound, is_left, is_bounded};
+    ghost use Rattle.foe_client.specs.Talk.{Talking, is_sound, is_left, is_bounded, is_next};
 
     ghost Value = { Talking };
 
     ghost view = { λ c. record { out = c.out; back = c.back; pass = c.pass; name = c.name.items; bytes = c.bytes.octets; unsent = c.unsent; quota = c.quota; awaits = c.awaits; value = c.value.octets } };
 
-    ghost invariant = { λ c. (64 ≤ c.out) × (c.out ≤ 1486) × (64 ≤ c.back) × (c.back ≤ 1486) × (c.bytes.limit ≡ 131072) × (c.value.limit ≡ 131072) × (is_sound c.awaits c.value.octets ≡ true) × (is_left c.unsent c.name.items c.bytes.octets ≡ true) × (is_bounded c.unsent c.quota c.awaits c.value.octets ≡ true) };
+    ghost invariant = { λ c. (64 ≤ c.out) × (c.out ≤ 1486) × (64 ≤ c.back) × (c.back ≤ 1486) × (c.bytes.limit ≡ 131072) × (c.value.limit ≡ 131072) × (is_sound c.awaits c.value.octets ≡ true) × (is_left c.unsent c.name.items c.bytes.octets ≡ true) × (is_bounded c.unsent c.quota c.awaits c.value.octets ≡ true) × (is_next c.unsent c.quota c.awaits ≡ true) };
 }
 
 impl FoeClient {
@@ -133,7 +133,7 @@ impl FoeClient {
 
     /// The reply of the service that is done.
     pub fn reply(&self) -> ReplyKind
-        requires { is_over self.now.awaits ≡ true }
+        requires { awaits_nothing self.now.awaits ≡ true }
         ensures { awaited self.now [] ≡ Some (result, self.now.value) }
     {
         match self.awaits {
@@ -145,7 +145,7 @@ impl FoeClient {
 
     /// Appends the octets of the file that was read; there are none where the reply has no value. After `NoMemory` the list is as before.
     pub fn value(&self, into: &mut Octets) -> Result<(), NoMemory>
-        requires { is_over self.now.awaits ≡ true }
+        requires { awaits_nothing self.now.awaits ≡ true }
         ensures ok { OnOk result (into.new ≡ into.old ++ self.now.value) }
         ensures err { OnErr result (into.new ≡ into.old) }
     {

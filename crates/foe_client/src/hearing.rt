@@ -1,11 +1,12 @@
 ghost use Rattle.std.specs.Prelude.{◌≡◌, ◌≤◌, length};
+ghost use Rattle.foe_codec.specs.View.{foe_seen};
 ghost use Rattle.foe_model.specs.Octets.{body_heard, foe_mail_heard};
 ghost use Rattle.foe_client.specs.Hear.{onward, refused, hear_data, hear_ack, hear_busy, hear_refusal, hear_message, hear_mail, TookIs};
 
 use crate::client::{FoeClient, HEADER, MOST};
-use crate::state::Awaits;
+use crate::state::{Awaits, Unsent};
 use ec_fields::u16_at;
-use foe_codec::Foe;
+use foe_codec::FoeView;
 use mailbox_mail::{Kind, Mail, ReplyKind, Took};
 
 impl FoeClient {
@@ -20,12 +21,13 @@ impl FoeClient {
         }
     }
 
-    // The service is over, without a value.
+    // The service is over, without a value; no mail may go any more.
     fn refused(&mut self, kind: ReplyKind) -> Took
         ensures { (result, self.new) ≡ refused self.old kind }
     {
         self.awaits = Awaits::Over(kind);
         self.value.clear();
+        self.quota = 0;
         Took::Done
     }
 
@@ -37,14 +39,15 @@ impl FoeClient {
                 if packet != number || bytes.len() > MOST - self.value.bytes().len() {
                     return Took::Foreign;
                 }
-                let quota = self.onward();
                 let last = bytes.len() < (self.back as usize) - HEADER;
                 let _fits = self.value.add(bytes);
-                self.quota = quota;
                 if last {
                     self.awaits = Awaits::Over(ReplyKind::Value);
+                    self.unsent = Unsent::Ack { number: packet };
+                    self.quota = 1;
                     return Took::Done;
                 }
+                self.quota += 1;
                 self.awaits = Awaits::Packet { number: number + 1 };
                 Took::More
             }
@@ -62,6 +65,7 @@ impl FoeClient {
                 }
                 if left == 0 {
                     self.awaits = Awaits::Over(ReplyKind::Done);
+                    self.quota = 0;
                     return Took::Done;
                 }
                 self.quota = self.onward();
@@ -99,15 +103,17 @@ impl FoeClient {
         }
     }
 
-    fn hear_message(&mut self, message: &Foe) -> Took
-        ensures { (result, self.new) ≡ hear_message self.old message.now }
+    fn hear_message(&mut self, message: FoeView<'_>) -> Took
+        ensures { (result, self.new) ≡ hear_message self.old (foe_seen message.entry) }
     {
         match message {
-            Foe::Data { packet, bytes } => self.hear_data(*packet, bytes.as_slice()),
-            Foe::Ack { packet } => self.hear_ack(*packet),
-            Foe::Busy { done: _, entire: _ } => self.hear_busy(),
-            Foe::Error { code } => self.hear_refusal(ReplyKind::FoeError(*code)),
-            Foe::Read { pass: _, name: _ } | Foe::Write { pass: _, name: _ } => Took::Foreign,
+            FoeView::Data { packet, bytes } => self.hear_data(packet, bytes),
+            FoeView::Ack { packet } => self.hear_ack(packet),
+            FoeView::Busy { done: _, entire: _ } => self.hear_busy(),
+            FoeView::Error { code } => self.hear_refusal(ReplyKind::FoeError(code)),
+            FoeView::Read { pass: _, name: _ } | FoeView::Write { pass: _, name: _ } => {
+                Took::Foreign
+            }
         }
     }
 
@@ -116,8 +122,8 @@ impl FoeClient {
         requires { length body.now ≤ 1480 }
         ensures { (result, self.new) ≡ hear_mail self.old (body_heard body.now) }
     {
-        match foe_codec::read(body) {
-            Ok(message) => self.hear_message(&message),
+        match foe_codec::view(body) {
+            Ok(message) => self.hear_message(message),
             Err(_) => Took::Foreign,
         }
     }
@@ -138,8 +144,9 @@ impl FoeClient {
         }
     }
 
-    /// Takes a mail that came from the slave. `Done` where it completes the reply of the service, `More` where it is awaited and the reply isn't
-    /// complete yet, `Foreign` where it is none that may come next; then the client is unchanged (ETG.1000.6, "File access over EtherCAT").
+    /// Takes a mail that came from the slave. `Done` where it completes the reply of the service, and then no mail is left to send but the
+    /// acknowledgement of a file's last packet; `More` where it is awaited and the reply isn't complete yet; `Foreign` where it is none that may
+    /// come next, and then the client is unchanged (ETG.1000.6, "File access over EtherCAT").
     pub fn take(&mut self, mail: &Mail) -> Took
         ensures { TookIs result self.old (foe_mail_heard mail.now) self.new }
     {

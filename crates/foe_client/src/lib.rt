@@ -6,8 +6,6 @@ mod client;
 mod hearing;
 mod sending;
 mod state;
-#[cfg(test)]
-mod tests;
 
 pub use client::FoeClient;
 pub use state::{Awaits, Unsent};

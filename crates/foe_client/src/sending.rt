@@ -1,15 +1,16 @@
-ghost use Rattle.std.specs.Prelude.{◌≡◌, ◌≤◌, ◌<◌, ◌+◌, List, [], true, length, take, drop};
+ghost use Rattle.std.specs.Prelude.{◌≡◌, ◌≤◌, ◌<◌, ◌+◌, ◌↔◌, List, [], true, false, length, take, drop};
+ghost use Rattle.foe_codec.specs.Message.{IsSpellable, foe_text};
+ghost use Rattle.foe_codec.specs.View.{foe_seen, IsCapped};
 ghost use Rattle.foe_model.specs.Server.{packet_room};
 ghost use Rattle.std.specs.Bool.{OnTrue, OnFalse};
 ghost use Rattle.foe_model.specs.Mails.{FoeMail};
 ghost use Rattle.foe_client.specs.Talk.{following, later, awaited};
-ghost use Rattle.foe_client.specs.Send.{message_of, send_next, NextIs, SendsNext};
+ghost use Rattle.foe_client.specs.Send.{message_of, sent_first, SendsNext};
 
 use crate::client::{FoeClient, HEADER};
 use crate::state::Unsent;
 use arrayvec::ArrayVec;
-use ec_fields::buffer_of;
-use foe_codec::Foe;
+use foe_codec::{FoeView, write_view};
 
 impl FoeClient {
     // A packet's octets: as many as the mailbox takes, or all that are left.
@@ -28,23 +29,25 @@ impl FoeClient {
     }
 
     // The message of the first mail that isn't sent.
-    fn message(&self) -> Foe
-        ensures { result ≡ message_of self.now self.now.unsent }
+    fn message(&self) -> FoeView<'_>
+        ensures value { foe_seen result ≡ message_of self.now self.now.unsent }
+        ensures spelled { IsSpellable (foe_seen result) }
+        ensures capped { IsCapped result }
     {
         match self.unsent {
-            Unsent::ReadRequest => Foe::Read {
+            Unsent::ReadRequest => FoeView::Read {
                 pass: self.pass,
-                name: buffer_of(self.name.as_slice()),
+                name: self.name.as_slice(),
             },
-            Unsent::WriteRequest => Foe::Write {
+            Unsent::WriteRequest => FoeView::Write {
                 pass: self.pass,
-                name: buffer_of(self.name.as_slice()),
+                name: self.name.as_slice(),
             },
-            Unsent::Packet { number, from } => Foe::Data {
+            Unsent::Packet { number, from } => FoeView::Data {
                 packet: number,
-                bytes: buffer_of(self.part(from)),
+                bytes: self.part(from),
             },
-            Unsent::Ack { number } => Foe::Ack { packet: number },
+            Unsent::Ack { number } => FoeView::Ack { packet: number },
         }
     }
 
@@ -70,24 +73,27 @@ impl FoeClient {
         }
     }
 
-    fn send_next(&mut self) -> Option<Foe>
-        ensures { (result, self.new) ≡ send_next self.old }
+    // Writes the first mail that isn't sent, in place of what the body held.
+    fn write_first(&self, body: &mut ArrayVec<u8, 1480>)
+        ensures { body.new.items ≡ foe_text (message_of self.now self.now.unsent) }
     {
-        if self.quota == 0 {
-            return None;
-        }
-        let message = self.message();
-        self.unsent = self.following();
-        self.quota -= 1;
-        Some(message)
+        write_view(self.message(), body);
     }
 
-    // The next message, if one may go.
-    fn next_message(&mut self) -> Option<Foe>
-        ensures { NextIs result self.old self.new }
+    // The first mail is sent.
+    fn send_first(&mut self)
+        requires { 0 < self.old.quota }
+        ensures { self.new ≡ sent_first self.old }
     {
-        let _ = &self.unsent;
-        self.send_next()
+        self.unsent = self.following();
+        self.quota -= 1;
+    }
+
+    /// Whether a mail may go now.
+    pub fn has_next(&self) -> bool
+        ensures { result ≡ false ↔ (later self.now [] ≡ []) }
+    {
+        self.quota != 0
     }
 
     /// Puts the body of the next mail in place of what `body` has. `false` where the client awaits an answer, or has no mail left; then
@@ -100,12 +106,11 @@ impl FoeClient {
         ensures same { OnFalse result ((self.new ≡ self.old) × (body.new ≡ body.old)) }
         ensures replies { (ms : List FoeMail) → awaited self.new ms ≡ awaited self.old ms }
     {
-        match self.next_message() {
-            Some(message) => {
-                foe_codec::write(&message, body);
-                true
-            }
-            None => false,
+        if self.quota == 0 {
+            return false;
         }
+        self.write_first(body);
+        self.send_first();
+        true
     }
 }

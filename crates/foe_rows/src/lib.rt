@@ -2,6 +2,10 @@
 #![tactic(auto)]
 
 #[cfg(test)]
+mod client;
+#[cfg(test)]
 mod rows;
+#[cfg(test)]
+mod server;
 #[cfg(test)]
 mod stage;

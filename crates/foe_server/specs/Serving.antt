@@ -1,10 +1,11 @@
 -- What a server's state stands for, with the store that it works on: its unfinished transfer and the mail that waits.
-use Rattle.std.specs.Prelude.{◌≡◌, ℕ, ◌+◌, ◌-◌, ◌≤◌, ◌&&◌, nat_le, Bool, true, List, [], ◌∷◌, length, drop, is_some, Some, None, Result, Ok, Err}
+use Rattle.std.specs.Prelude.{◌≡◌, ℕ, ◌+◌, ◌≤◌, ◌&&◌, nat_le, Bool, true, false, List, [], ◌∷◌, map, length, drop, is_some, Some, None}
 use Rattle.file_store.specs.Files.{Kept, file_of, get}
 use Rattle.file_store.specs.Stored.{Stored, part_octets}
 use Rattle.mailbox_mail.specs.declared.mail.Mail.{Mail}
 use Rattle.foe_model.specs.Mails.{Foe, Data, Ack, Error, Busy, FoeMail, mail, failed}
-use Rattle.foe_model.specs.Server.{Transfer, idle, reading, writing, closing, Outcome, packet_of}
+use Rattle.foe_model.specs.Server.{Transfer, idle, reading, writing, closing, Outcome, Server, one_more, packet_of}
+use Rattle.foe_codec.specs.Message.{foe_text}
 use Rattle.foe_model.specs.Octets.{foe_mail_written}
 use Rattle.foe_server.specs.declared.state.State.{State}
 use Rattle.foe_server.specs.declared.state.Pending.{Pending}
@@ -47,6 +48,11 @@ waiting_mails c store = pending_mails c.back c.name store.kept c.pending
 abbrev pub outcome_of : Stored → Serving → Bool → Outcome Kept
 outcome_of store c counts = record { app = store.kept; transfer = transfer_of c store; counts = counts; answers = waiting_mails c store }
 
+-- the model's server behind a mail, and the mails that it gives, by what the call did
+abbrev pub served_of : Stored → ℕ → Serving → Bool → Server Kept × List Mail
+served_of store handled c counts =
+    (record { app = store.kept; handled = one_more counts handled; transfer = transfer_of c store }, map foe_mail_written (waiting_mails c store))
+
 -- the server is the same, with this transfer and this to be told
 abbrev pub told_of : Serving → State → Pending → Serving
 told_of c state pending = record c { state = state; pending = pending }
@@ -78,10 +84,17 @@ is_sound (State.Reading number from) = nat_le number (from + 1) && nat_le from 1
 is_sound (State.Writing number) = nat_le number 131072
 is_sound (State.Closing number told) = true
 
--- what an answer is made of: a message, or a mailbox error
-abbrev pub reply_mail : Result Foe ℕ → FoeMail
-reply_mail (Ok message) = mail message
-reply_mail (Err detail) = failed detail
+-- whether what is to be told is a message, and no mailbox error
+abbrev pub is_message : Pending → Bool
+is_message Pending.Nothing = false
+is_message (Pending.Failed detail) = false
+is_message _ = true
+
+-- a body is the one spelling of the mail that waits, and no other waits
+pub record IsOnly (mails : List FoeMail) (body : List ℕ) : Type 0 where
+  pub message : Foe
+  pub spelled : body ≡ foe_text message
+  pub only : mails ≡ mail message ∷ []
 
 -- the mail that waits, and behind it none
 pub record GivesNext (old : Serving) (store : Stored) (written : Mail) (new : Serving) : Type 0 where
@@ -89,11 +102,3 @@ pub record GivesNext (old : Serving) (store : Stored) (written : Mail) (new : Se
   pub spelled : written ≡ foe_mail_written first
   pub waited : waiting_mails old store ≡ first ∷ []
   pub rest : new ≡ record old { pending = Pending.Nothing }
-
--- a server's message is short enough for the mailbox
-abbrev pub IsShort : ℕ → Foe → Type 0
-IsShort back (Data packet bytes) = length bytes.items ≤ back - 12
-IsShort back (Ack packet) = Unit {0}
-IsShort back (Error code) = Unit {0}
-IsShort back (Busy done entire) = Unit {0}
-IsShort back _ = ⊥

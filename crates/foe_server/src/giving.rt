@@ -1,42 +1,12 @@
-ghost use Rattle.std.specs.Prelude.{◌≡◌, ◌≢◌, ◌≤◌, ◌+◌, ◌-◌, ◌↔◌, false, [], ◌∷◌, length, take, drop, IfOk};
-ghost use Rattle.file_store.specs.Files.{get};
-ghost use Rattle.foe_codec.specs.Message.{IsSpellable};
-ghost use Rattle.foe_model.specs.Mails.{mail};
-ghost use Rattle.foe_model.specs.Octets.{foe_mail_written};
-ghost use Rattle.foe_server.specs.Serving.{Serving, waiting_mails, reply_mail, GivesNext, IsShort};
+ghost use Rattle.std.specs.Prelude.{◌≡◌, ◌≢◌, ◌≤◌, ◌+◌, ◌↔◌, false, true, length};
+ghost use Rattle.foe_server.specs.Serving.{waiting_mails, is_message, IsOnly, GivesNext};
 
 use crate::server::{FoeServer, PACKET_HEAD};
 use crate::state::Pending;
 use arrayvec::ArrayVec;
-use ec_fields::buffer_of;
 use file_store::Store;
-use foe_codec::Foe;
+use foe_codec::{FoeView, write_view};
 use mailbox_mail::{Kind, Mail, error_mail};
-
-// The octets of a file from a place on, at most so many.
-fn part_of(store: &Store, name: &[u8], from: usize, most: usize) -> ArrayVec<u8, 1474>
-    requires { most ≤ 1474 }
-    ensures { result.items ≡ take most (drop from (get store.now.kept name.now)) }
-{
-    let mut octets = [0; 1474];
-    let count = store.read_at(name, from, &mut octets[..most]);
-    buffer_of(&octets[..count])
-}
-
-// The mail of a message, to nobody and not yet counted.
-fn written(message: &Foe) -> Mail
-    requires { IsSpellable message.now }
-    ensures { result ≡ foe_mail_written (mail message.now) }
-{
-    let mut body = ArrayVec::new();
-    foe_codec::write(message, &mut body);
-    Mail {
-        address: 0,
-        kind: Kind::FoE,
-        counter: 0,
-        body,
-    }
-}
 
 impl FoeServer {
     /// Whether a mail waits.
@@ -53,30 +23,65 @@ impl FoeServer {
         }
     }
 
-    // The answer: a message, or the detail of a mailbox error.
-    fn answer(&self, store: &Store) -> Result<Foe, u16>
-        requires { self.now.pending ≢ Pending.Nothing }
-        ensures first { waiting_mails self.now store.now ≡ reply_mail result ∷ [] }
-        ensures spelled { IfOk result IsSpellable }
-        ensures short { IfOk result (IsShort self.now.back) }
+    // Writes a packet of the file: its head, and behind it the octets out of the store.
+    fn write_packet(
+        &self,
+        store: &Store,
+        number: u32,
+        from: u32,
+        body: &mut ArrayVec<u8, 1480>,
+    )
+        requires { self.now.pending ≡ Pending.Packet number from }
+        ensures only { IsOnly (waiting_mails self.now store.now) body.new.items }
+        ensures short { length body.new.items + 6 ≤ self.now.back }
+    {
+        let most = self.back as usize - PACKET_HEAD;
+        let head = FoeView::Data {
+            packet: number,
+            bytes: &[],
+        };
+        write_view(head, body);
+        store.append_to(self.name.as_slice(), from as usize, most, body);
+    }
+
+    // Writes the message that waits, in place of what the body held.
+    fn write_next(&self, store: &Store, body: &mut ArrayVec<u8, 1480>)
+        requires { is_message self.now.pending ≡ true }
+        ensures only { IsOnly (waiting_mails self.now store.now) body.new.items }
+        ensures short { length body.new.items + 6 ≤ self.now.back }
     {
         match self.pending {
-            Pending::Nothing => unreachable!(),
-            Pending::Packet { number, from } => {
-                let most = self.back as usize - PACKET_HEAD;
-                Ok(Foe::Data {
-                    packet: number,
-                    bytes: part_of(store, self.name.as_slice(), from as usize, most),
-                })
+            Pending::Nothing | Pending::Failed { detail: _ } => unreachable!(),
+            Pending::Packet { number, from } => self.write_packet(store, number, from, body),
+            Pending::Ack { number } => write_view(FoeView::Ack { packet: number }, body),
+            Pending::Busy { done, entire } => {
+                let message = FoeView::Busy {
+                    done: done as u16,
+                    entire: entire as u16,
+                };
+                write_view(message, body);
             }
-            Pending::Ack { number } => Ok(Foe::Ack { packet: number }),
-            Pending::Busy { done, entire } => Ok(Foe::Busy {
-                done: done as u16,
-                entire: entire as u16,
-            }),
-            Pending::Error { code } => Ok(Foe::Error { code }),
-            Pending::Failed { detail } => Err(detail),
+            Pending::Error { code } => write_view(FoeView::Error { code }, body),
         }
+    }
+
+    /// Gives the mail that waits, to nobody and not yet counted, in place of the mail that stood there. It fits the mailbox for answers. A
+    /// packet of a file costs its octets.
+    pub fn next_into(&mut self, store: &Store, mail: &mut Mail)
+        requires { self.old.pending ≢ Pending.Nothing }
+        ensures next { GivesNext self.old store.now mail.new self.new }
+        ensures fits { length mail.new.body.items + 6 ≤ self.old.back }
+    {
+        if let Pending::Failed { detail } = self.pending {
+            self.pending = Pending::Nothing;
+            *mail = error_mail(detail);
+            return;
+        }
+        mail.address = 0;
+        mail.kind = Kind::FoE;
+        mail.counter = 0;
+        self.write_next(store, &mut mail.body);
+        self.pending = Pending::Nothing;
     }
 
     /// Gives the mail that waits, to nobody and not yet counted. It fits the mailbox for answers. A packet of a file costs its octets.
@@ -85,11 +90,13 @@ impl FoeServer {
         ensures next { GivesNext self.old store.now result self.new }
         ensures fits { length result.body.items + 6 ≤ self.old.back }
     {
-        let answer = self.answer(store);
-        self.pending = Pending::Nothing;
-        match answer {
-            Ok(message) => written(&message),
-            Err(detail) => error_mail(detail),
-        }
+        let mut mail = Mail {
+            address: 0,
+            kind: Kind::FoE,
+            counter: 0,
+            body: ArrayVec::new(),
+        };
+        self.next_into(store, &mut mail);
+        mail
     }
 }

@@ -8,8 +8,5 @@ mod server;
 mod state;
 mod taking;
 
-pub use laws::store_files_are_lawful;
+pub use laws::{calls_are_the_exchange, store_files_are_lawful};
 pub use server::FoeServer;
-
-#[cfg(test)]
-mod tests;

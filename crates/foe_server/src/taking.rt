@@ -2,15 +2,16 @@ ghost use Rattle.std.specs.Prelude.{◌≡◌, ◌≤◌, ◌+◌, ℕ, true, is
 ghost use Rattle.file_store.specs.Files.{file_of, get};
 ghost use Rattle.file_store.specs.Stored.{Stored, part_octets};
 ghost use Rattle.foe_model.specs.Server.{takes_read, takes_write, takes_data, stores, closes, takes_ack, continues, foe_takes, takes_unread, foe_outcome};
+ghost use Rattle.foe_codec.specs.View.{foe_seen, IsCapped};
 ghost use Rattle.foe_model.specs.Octets.{body_heard};
 ghost use Rattle.foe_server.specs.Stores.{store_files};
 ghost use Rattle.foe_server.specs.Serving.{Serving, Serves, IsWriting, transfer_of, outcome_of, told_of};
 
 use crate::server::{FoeServer, PACKET_HEAD};
 use crate::state::{Pending, State};
-use ec_fields::buffer_of;
-use file_store::{NOT_FOUND, Name, Store};
-use foe_codec::{Foe, FoeFault};
+use ec_fields::refill;
+use file_store::{NOT_FOUND, Store};
+use foe_codec::{FoeFault, FoeView};
 
 /// No block is free for a packet's octets (ETG.1000.6, "FoE error codes").
 const DISK_FULL: u32 = 0x8003;
@@ -22,17 +23,18 @@ const ILLEGAL: u32 = 0x8004;
 const PACKET_NUMBER: u32 = 0x8005;
 
 impl FoeServer {
-    fn take_read(&mut self, store: &mut Store, al: u8, name: &Name, pass: u32) -> bool
-        ensures does { takes_read (store_files al) self.old.back store.old.kept name.now.items pass ≡ outcome_of store.new self.new result }
+    fn take_read(&mut self, store: &mut Store, al: u8, name: &[u8], pass: u32) -> bool
+        requires { length name.now ≤ 32 }
+        ensures does { takes_read (store_files al) self.old.back store.old.kept name.now pass ≡ outcome_of store.new self.new result }
         ensures serves { Serves self.new store.new }
         ensures out { self.new.out ≡ self.old.out }
         ensures back { self.new.back ≡ self.old.back }
     {
         store.drop_part();
-        if let Some(code) = store.allowed(name.as_slice(), pass, false, al) {
+        if let Some(code) = store.allowed(name, pass, false, al) {
             return self.refuse(store, code);
         }
-        self.name = buffer_of(name.as_slice());
+        refill(&mut self.name, name);
         self.tell(
             State::Reading { number: 1, from: 0 },
             Pending::Packet { number: 1, from: 0 },
@@ -40,18 +42,19 @@ impl FoeServer {
         true
     }
 
-    fn take_write(&mut self, store: &mut Store, al: u8, name: &Name, pass: u32) -> bool
-        ensures does { takes_write (store_files al) store.old.kept name.now.items pass ≡ outcome_of store.new self.new result }
+    fn take_write(&mut self, store: &mut Store, al: u8, name: &[u8], pass: u32) -> bool
+        requires { length name.now ≤ 32 }
+        ensures does { takes_write (store_files al) store.old.kept name.now pass ≡ outcome_of store.new self.new result }
         ensures serves { Serves self.new store.new }
         ensures out { self.new.out ≡ self.old.out }
         ensures back { self.new.back ≡ self.old.back }
     {
         store.drop_part();
-        if let Some(code) = store.allowed(name.as_slice(), pass, true, al) {
+        if let Some(code) = store.allowed(name, pass, true, al) {
             return self.refuse(store, code);
         }
-        store.begin(name.as_slice());
-        self.name = buffer_of(name.as_slice());
+        store.begin(name);
+        refill(&mut self.name, name);
         self.tell(State::Writing { number: 0 }, Pending::Ack { number: 0 });
         false
     }
@@ -177,23 +180,24 @@ impl FoeServer {
         }
     }
 
-    fn take_message(&mut self, store: &mut Store, al: u8, message: &Foe) -> bool
+    fn take_message(&mut self, store: &mut Store, al: u8, message: FoeView<'_>) -> bool
+        requires capped { IsCapped message }
         requires serves { Serves self.old store.old }
-        ensures does { foe_takes (store_files al) self.old.out self.old.back store.old.kept (transfer_of self.old store.old) message.now ≡ outcome_of store.new self.new result }
+        ensures does { foe_takes (store_files al) self.old.out self.old.back store.old.kept (transfer_of self.old store.old) (foe_seen message.entry) ≡ outcome_of store.new self.new result }
         ensures serves { Serves self.new store.new }
         ensures out { self.new.out ≡ self.old.out }
         ensures back { self.new.back ≡ self.old.back }
     {
         match message {
-            Foe::Read { pass, name } => self.take_read(store, al, name, *pass),
-            Foe::Write { pass, name } => self.take_write(store, al, name, *pass),
-            Foe::Data { packet, bytes } => self.take_data(store, *packet, bytes.as_slice()),
-            Foe::Ack { packet } => self.take_ack(store, *packet),
-            Foe::Error { code: _ } => {
+            FoeView::Read { pass, name } => self.take_read(store, al, name, pass),
+            FoeView::Write { pass, name } => self.take_write(store, al, name, pass),
+            FoeView::Data { packet, bytes } => self.take_data(store, packet, bytes),
+            FoeView::Ack { packet } => self.take_ack(store, packet),
+            FoeView::Error { code: _ } => {
                 self.end(store, Pending::Nothing);
                 false
             }
-            Foe::Busy { done: _, entire: _ } => self.refuse(store, ILLEGAL),
+            FoeView::Busy { done: _, entire: _ } => self.refuse(store, ILLEGAL),
         }
     }
 
@@ -222,8 +226,8 @@ impl FoeServer {
         ensures out { self.new.out ≡ self.old.out }
         ensures back { self.new.back ≡ self.old.back }
     {
-        match foe_codec::read(body) {
-            Ok(message) => self.take_message(store, al, &message),
+        match foe_codec::view(body) {
+            Ok(message) => self.take_message(store, al, message),
             Err(fault) => self.take_unread(fault),
         }
     }

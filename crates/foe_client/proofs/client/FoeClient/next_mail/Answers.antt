@@ -1,13 +1,23 @@
-use Rattle.std.proofs.Common.{sym, ap}
+use Rattle.std.proofs.Common.{◌≡◌, ◌≤◌, true, sym, ap, ◌∙◌, subst}
 use Rattle.mailbox_mail.specs.declared.mail.Kind.TheVariants.{FoE}
-use Rattle.foe_model.specs.Mails.{mail}
+use Rattle.foe_model.specs.Mails.{FoeMail, mail}
 use Rattle.foe_model.specs.Octets.{mail_with}
+use Rattle.foe_client.specs.Talk.{Talking, is_left, later, areas_of}
+use Rattle.foe_client.specs.Send.{message_of, sent_first, IsNext}
+use Rattle.foe_client.proofs.Sends.{next_is}
 use Rattle.foe_client.proofs.client.FoeClient.next_mail.Goals as goal
 
-pub returns-in-Some-clause-sends : goal.returns-in-Some-clause-sends
-returns-in-Some-clause-sends c = record {
-  next = mail c.in-Some.message;
-  spelled = ap (mail_with FoE) (sym c.write.ensures.octets);
-  mails = c.in-Some.ensures.mails;
-  areas = c.in-Some.ensures.areas;
-}
+pub returns-clause-sends : goal.returns-clause-sends
+returns-clause-sends c =
+    let old = c.args.self.now in
+    let least : 64 ≤ old.out = subst (λ (t : Talking). 64 ≤ t.out) c.self.view_is c.self.invariant.0 in
+    let left : is_left old.unsent old.name old.bytes ≡ true = subst (λ (t : Talking). is_left t.unsent t.name t.bytes ≡ true) c.self.view_is c.self.invariant.7 in
+    let some : old.quota ≡ 0 → ⊥ = λ none. c.if-self-eq0.false (ap (λ (t : Talking). t.quota) c.self.view_is ∙ none) in
+    let next : IsNext (message_of old old.unsent) old c.send_first.new.self =
+    subst (λ (t : Talking). IsNext (message_of old old.unsent) old t) (sym c.send_first.ensures) (next_is old least left some) in
+    record {
+      next = mail (message_of old old.unsent);
+      spelled = ap (mail_with FoE) (sym c.write_first.ensures);
+      mails = next.mails;
+      areas = next.areas;
+    }

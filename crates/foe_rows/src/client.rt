@@ -1,6 +1,6 @@
-use crate::FoeClient;
 use arrayvec::ArrayVec;
 use ec_fields::{Octets, buffer_of};
+use foe_client::FoeClient;
 use mailbox_mail::{Kind, Mail, ReplyKind, Took};
 use std::process::Abort;
 use std::test::Fail;
@@ -132,5 +132,20 @@ fn a_busy_file_gets_its_last_packet_sixteen_times(rt: HostRuntime) -> Result<(),
     }
     sends(&rt, &mut client, &[3, 0, 1, 0, 0, 0, 7], 16);
     takes(&rt, &mut client, &[4, 0, 1, 0, 0, 0], Took::Done);
+    Ok(())
+}
+
+// A read that is refused while an acknowledgement waits: it doesn't go any more.
+#[test]
+fn no_mail_is_left_behind_a_refusal(rt: HostRuntime) -> Result<(), Fail> {
+    let mut client = FoeClient::new(rt.alloc(), 64, 64)?;
+    client.start_read(b"a", 0);
+    sends(&rt, &mut client, &[1, 0, 0, 0, 0, 0, 0x61], 7);
+    takes_packet(&rt, &mut client, 1, 52, Took::More);
+    assert!(rt; client.has_next());
+    takes(&rt, &mut client, &[5, 0, 0, 0x80, 0, 0], Took::Done);
+    let mut body = ArrayVec::new();
+    assert!(rt; !client.has_next());
+    assert!(rt; !client.next_mail(&mut body));
     Ok(())
 }

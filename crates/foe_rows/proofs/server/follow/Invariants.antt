@@ -1,5 +1,5 @@
 use Rattle.foe_server.specs.Serving.{Serves}
-use Rattle.foe_server.proofs.tests.follow.Given as goal
+use Rattle.foe_rows.proofs.server.follow.Given as goal
 
 abbrev pub invariant-loop-body : goal.invariant-loop-body
 invariant-loop-body g l = Serves l.server l.store

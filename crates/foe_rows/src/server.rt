@@ -2,9 +2,9 @@ ghost use Rattle.std.specs.Prelude.{◌≡◌, ◌≤◌, length, IfOk, None};
 ghost use Rattle.file_store.specs.Stored.{Stored};
 ghost use Rattle.foe_server.specs.Serving.{Serves};
 
-use crate::FoeServer;
 use ec_fields::{NoMemory, buffer_of};
 use file_store::{FileSpec, Store};
+use foe_server::FoeServer;
 use mailbox_mail::Kind;
 use std::alloc::Global;
 use std::process::Abort;
