@@ -3,3 +3,4 @@ pub mod Rings
 pub mod Eras
 pub mod Gives
 pub mod Lasts
+pub mod Books

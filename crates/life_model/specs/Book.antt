@@ -8,9 +8,10 @@ use Rattle.segment_model.specs.Books.{Answer, answer_from}
 use Rattle.state_model.specs.States.{Table}
 use Rattle.state_model.specs.Promises.{state_behind, answer_of}
 use Rattle.state_exchange.specs.Stated.{Stated, Service}
-use Rattle.task_model.specs.Promise.{IsReply, task_of}
+use Rattle.task_model.specs.Accounts.{Started}
+use Rattle.task_model.specs.Promise.{IsReply, task_of, outcome_of}
 use Rattle.life_model.specs.Lives.{Spot, returns_to_init, opens_state}
-use Rattle.life_model.specs.Eras.{era_frames}
+use Rattle.life_model.specs.Eras.{OpenEra, era_frames, frames_of}
 
 -- a row: its service, the number of the frame that was made when it came into hand, and its answer
 pub record Line (Q R : Type 0) : Type 0 where
@@ -252,3 +253,45 @@ abbrev pub Rises : {Q R : Type 0} → List (Line Q R) → Type 0
 Rises [] = ⊤
 Rises (l ∷ []) = ⊤
 Rises {R = R} (l ∷ (k ∷ ls)) = ((o : Outcome R) (frame : ℕ) → l.answer ≡ Answer.Ended o frame → frame < k.frame) × (l.frame ≤ k.frame) × Rises (k ∷ ls)
+
+-- a service that came into hand as a row, with the answer that the record of its epoch gives
+abbrev pub line_of : {M Q R : Type 0} → Speech M Q R → (M → Bool) → ℕ → List (Frame M) → Started Q → Line Q R
+line_of x more station fs r = record { service = r.service; frame = r.frame; answer = answer_from (outcome_of x more station fs r) }
+
+-- AN OPEN EPOCH AS A BOOK HAS IT, with these rows
+abbrev pub epoch_book : {V A M Q R : Type 0} → OpenEra V A M Q R → (M → Bool) → List (Started Q) → EpochBook M Q R
+epoch_book w more rs = record {
+  cleared = w.era.cleared;
+  opened = Some w.opened;
+  lines = map (λ r. line_of w.exchange.speech more w.spot.station (frames_of w) r) rs;
+  handled = w.exchange.handled w.slave.node.server.server - w.exchange.handled w.server;
+  received = emitted w.exchange.speech.emission (heard w.spot.station (frames_of w));
+}
+
+-- behind the rows of an epoch there is nothing, or the state service that ends it, which a book has in the next epoch
+abbrev pub IsTail : {Q : Type 0} → List (Started Q) → Type 0
+IsTail [] = ⊤
+IsTail (r ∷ []) = (target : ℕ) × (r.service ≡ Service.State target)
+IsTail (r ∷ (q ∷ rs)) = ⊥
+
+-- none of these services returns to Init
+abbrev pub NoInits : {Q : Type 0} → List (Service Q) → Type 0
+NoInits [] = ⊤
+NoInits (Service.Mails q ∷ qs) = NoInits qs
+NoInits (Service.State target ∷ qs) = (returns_to_init target ≡ false) × NoInits qs
+
+-- the AL state told last is the one that stands
+abbrev pub IsForgetful : {V A Q : Type 0} → Stated V A Q → Type 0
+IsForgetful {A = A} s = (k j : ℕ) (a : A) → s.told k (s.told j a) ≡ s.told k a
+
+-- WHAT IS DONE OF AN EPOCH is what its slave has done, but for the AL state, and it fits; here each service by mails counts one
+pub record EpochDone {V A M Q R : Type 0} (w : OpenEra V A M Q R) (cleared : A → A) (e : EpochBook M Q R) (ds : List (Line Q R)) : Type 0 where
+  pub app : (k : ℕ) → w.states.told k (all_acted w.exchange w.states (w.table w.spot.station) cleared (λ a q. 1) (w.exchange.app w.server) ds) ≡ w.states.told k (w.exchange.app w.slave.node.server.server)
+  pub fits : EpochFits w.exchange w.states (w.table w.spot.station) cleared (λ a q. 1) (w.exchange.app w.server) e ds
+
+-- what is done of its rows, where another epoch follows or not, and where the slave's AL state is this one at last
+abbrev pub done_rows : {V A M Q R : Type 0} → OpenEra V A M Q R → (A → A) → (M → Bool) → List (Started Q) → Bool → ℕ → List (Line Q R)
+done_rows w cleared more rs follows al =
+    let e = epoch_book w more rs in
+    let a = w.exchange.app w.server in
+    trimmed w.exchange w.states (w.table w.spot.station) cleared (λ b q. 1) follows e.opened al a (done w.exchange w.states (w.table w.spot.station) cleared (λ b q. 1) e.handled a e.lines)

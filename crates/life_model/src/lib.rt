@@ -2,5 +2,6 @@
 //! Definitions and laws, no running code: the functions here do nothing, and their contracts state the laws.
 #![tactic(auto)]
 
+mod book;
 mod lives;
 mod tours;
