@@ -1,5 +1,5 @@
 -- Halves that are kept in a place of their own, and what they read without a copy.
-use Rattle.std.specs.Prelude.{ℕ, Option, Some, None, Bool, if◌then◌else◌, option_map, List, replicate}
+use Rattle.std.specs.Prelude.{ℕ, Option, Some, None, Bool, if◌then◌else◌, option_map, List, length, replicate, ◌≤◌, ⊤}
 use Rattle.mailbox_mail.specs.declared.mail.Kind.{Kind}
 use Rattle.mailbox_mail.specs.declared.mail.Mail.{Mail}
 use Rattle.mailbox_mail.specs.Area.{mail_area}
@@ -35,3 +35,10 @@ got_seen (SeenMail v) = GotMail (mail_seen v)
 got_seen SeenRepeat = GotRepeat
 got_seen SeenEmpty = GotEmpty
 got_seen (SeenBad fault) = GotBad fault
+
+-- a mail that was got has at most 1,480 octets
+abbrev pub IsWithin : GotView → Type 0
+IsWithin (SeenMail v) = length v.body.now ≤ 1480
+IsWithin SeenRepeat = ⊤
+IsWithin SeenEmpty = ⊤
+IsWithin (SeenBad fault) = ⊤

@@ -9,17 +9,17 @@ ghost use Rattle.mailbox_master.specs.Access.{access_head, write_access};
 ghost use Rattle.mailbox_master.specs.Any.{out_held, out_returned, in_half_of, in_station, in_area_len, in_returned, in_got, in_access_of};
 ghost use Rattle.mailbox_master.specs.Halves.{in_half, SameIn};
 ghost use Rattle.mailbox_master.specs.Next.{got_by};
-ghost use Rattle.mailbox_master.specs.Seat.{seat_half, mail_by, got_seen};
+ghost use Rattle.mailbox_master.specs.Seat.{seat_half, mail_by, got_seen, IsWithin};
 ghost use Rattle.link_model.specs.Master.{InState, read_answered, in_lost};
 
 use crate::access::{ACTIVATE, ENABLE, PDI_CONTROL, REPEAT, head_of};
 use crate::halves::InwardHalf;
-use crate::inward::new_inward;
+use crate::inward::{Got, new_inward};
 use datagrams::register::{IN_AREA, OUT_AREA};
 use datagrams::{Body, Command, Head};
 use ec_fields::refill;
 use link_mails::next_counter;
-use mailbox_mail::{Kind, Mail, MailFault, MailView, error_mail, write};
+use mailbox_mail::{Kind, Mail, MailFault, MailView, error_mail, mail_of, write};
 use std::marker::Model;
 use std::mem;
 
@@ -56,6 +56,21 @@ pub enum GotView<'a> {
     Empty,
     /// The area is no mail.
     Bad(MailFault),
+}
+
+impl GotView<'_> {
+    // The same with a mail of its own.
+    pub fn owned(self) -> Got
+        requires { IsWithin self }
+        ensures { result ≡ got_seen self.entry }
+    {
+        match self {
+            GotView::Mail(mail) => Got::Mail(mail_of(mail)),
+            GotView::Repeat => Got::Repeat,
+            GotView::Empty => Got::Empty,
+            GotView::Bad(fault) => Got::Bad(fault),
+        }
+    }
 }
 
 impl OutwardSeat {
