@@ -6,20 +6,13 @@ use Rattle.std.proofs.Math.Seq.{take-append_seam}
 use Rattle.byteorder.specs.Endian.{little_bytes}
 use Rattle.arrayvec.specs.ArrayVec.{ArrayVec}
 use Rattle.ec_fields.specs.Fields.{number_at}
+use Rattle.ec_fields.proofs.Cells.{two_read, four_read}
 use Rattle.coe_codec.specs.Coe.{IsSdo, IsTarget, IsFirst, IsSegment, IsCoe}
 use Rattle.coe_codec.specs.Fields.{unused_in, bit}
 use Rattle.coe_codec.specs.Reading.{is_information}
 use Rattle.coe_codec.specs.Writing.{HasSpelling, IsRanged, IsFew, coe_text, target, command_of_segment}
 use Rattle.coe_codec.specs.declared.message.Coe.{Coe}
 use Rattle.coe_codec.specs.declared.message.Coe.TheVariants.{Emergency, Expedited, First, Upload, DownloadAnswer, ExpeditedAnswer, FirstAnswer, Segment, SegmentAnswer, UploadSegment, UploadSegmentAnswer, Abort, ListRequest, ObjectRequest, EntryRequest, Information, InformationError}
-
--- a number of two octets reads as itself
-two_read : (n : ℕ) → n < 65536 → n % 256 + 256 * (n / 256 % 256 + 0) ≡ n
-two_read n small = omega arith
-
--- and so does one of four
-four_read : (n : ℕ) → n < 4294967296 → number_at 4 (little_bytes 4 n) 0 ≡ n
-four_read n small = omega arith
 
 -- a flag as a number is 0 or 1
 bit_small : (b : Bool) → bit b ≤ 1

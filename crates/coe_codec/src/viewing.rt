@@ -1,4 +1,6 @@
-ghost use Rattle.std.specs.Prelude.{◌≡◌, ◌≤◌, length, IfOk};
+ghost use Rattle.std.specs.Prelude.{◌≡◌, ◌≤◌, length, IfOk, Ok, MatchResult};
+ghost use Rattle.coe_codec.specs.Coe.{IsCoe};
+ghost use Rattle.coe_codec.specs.Faults.{fault_of};
 ghost use Rattle.coe_codec.specs.View.{seen, coe_seen, IsWithin, IsCapped, first_seen, segment_seen};
 ghost use Rattle.coe_codec.specs.Fields.{service_in, specifier_in};
 ghost use Rattle.coe_codec.specs.Reading.{coe_read, request_read, answer_read, information_read, download_read, upload_answer_read, segment_read, first_read, expedited_part, abort_in};
@@ -122,7 +124,7 @@ fn segment(body: &[u8]) -> Result<(bool, &[u8]), CoeFault>
     requires long { 10 ≤ length body.now }
     requires fits { length body.now ≤ 1480 }
     ensures value { segment_seen result ≡ segment_read body.now }
-    ensures some { IfOk result (λ v. 1 ≤ length v.1.now) }
+    ensures some { IfOk result (λ v. (1 ≤ length v.1.now) × (length v.1.now ≤ 1477)) }
 {
     let unused = unused(body);
     if unused == 7 || (body.len() > 10 && unused != 0) {
@@ -138,6 +140,9 @@ fn download(body: &[u8]) -> Result<CoeView<'_>, CoeFault>
     requires initiate { specifier_in body.now ≡ 1 }
     ensures value { seen result ≡ download_read body.now }
     ensures within { IfOk result IsWithin }
+    ensures capped { IfOk result IsCapped }
+    ensures found { IfOk result (λ v. IsCoe body.now (coe_seen v)) }
+    ensures exact { MatchResult result (λ _. fault_of body.now ≡ None) (λ fault. fault_of body.now ≡ Some fault) }
 {
     let index = u16_at(body, 3);
     let sub = body[5];
@@ -171,6 +176,9 @@ fn upload_answer(body: &[u8]) -> Result<CoeView<'_>, CoeFault>
     requires initiate { specifier_in body.now ≡ 2 }
     ensures value { seen result ≡ upload_answer_read body.now }
     ensures within { IfOk result IsWithin }
+    ensures capped { IfOk result IsCapped }
+    ensures found { IfOk result (λ v. IsCoe body.now (coe_seen v)) }
+    ensures exact { MatchResult result (λ _. fault_of body.now ≡ None) (λ fault. fault_of body.now ≡ Some fault) }
 {
     let index = u16_at(body, 3);
     let sub = body[5];
@@ -207,6 +215,9 @@ fn request(body: &[u8]) -> Result<CoeView<'_>, CoeFault>
     requires of { service_in body.now ≡ 2 }
     ensures value { seen result ≡ request_read body.now }
     ensures within { IfOk result IsWithin }
+    ensures capped { IfOk result IsCapped }
+    ensures found { IfOk result (λ v. IsCoe body.now (coe_seen v)) }
+    ensures exact { MatchResult result (λ _. fault_of body.now ≡ None) (λ fault. fault_of body.now ≡ Some fault) }
 {
     match specifier(body) {
         0 => {
@@ -238,6 +249,9 @@ fn answer(body: &[u8]) -> Result<CoeView<'_>, CoeFault>
     requires of { service_in body.now ≡ 3 }
     ensures value { seen result ≡ answer_read body.now }
     ensures within { IfOk result IsWithin }
+    ensures capped { IfOk result IsCapped }
+    ensures found { IfOk result (λ v. IsCoe body.now (coe_seen v)) }
+    ensures exact { MatchResult result (λ _. fault_of body.now ≡ None) (λ fault. fault_of body.now ≡ Some fault) }
 {
     match specifier(body) {
         0 => {
@@ -268,6 +282,9 @@ fn information(body: &[u8]) -> Result<CoeView<'_>, CoeFault>
     requires of { service_in body.now ≡ 8 }
     ensures value { seen result ≡ information_read body.now }
     ensures within { IfOk result IsWithin }
+    ensures capped { IfOk result IsCapped }
+    ensures found { IfOk result (λ v. IsCoe body.now (coe_seen v)) }
+    ensures exact { MatchResult result (λ _. fault_of body.now ≡ None) (λ fault. fault_of body.now ≡ Some fault) }
 {
     match body[2] % 128 {
         1 if body.len() >= 8 => Ok(CoeView::ListRequest {
@@ -294,11 +311,14 @@ fn information(body: &[u8]) -> Result<CoeView<'_>, CoeFault>
     }
 }
 
-/// The CoE message in a body as it stands there, as [`read`](crate::read) reads it. Nothing is copied.
-pub fn view(body: &[u8]) -> Result<CoeView<'_>, CoeFault>
+// The parts are judged in the order of the faults.
+fn view_parts(body: &[u8]) -> Result<CoeView<'_>, CoeFault>
     requires { length body.now ≤ 1480 }
     ensures value { seen result ≡ coe_read body.now }
     ensures within { IfOk result IsWithin }
+    ensures capped { IfOk result IsCapped }
+    ensures found { IfOk result (λ v. IsCoe body.now (coe_seen v)) }
+    ensures exact { MatchResult result (λ _. fault_of body.now ≡ None) (λ fault. fault_of body.now ≡ Some fault) }
 {
     if body.len() < 2 {
         return Err(CoeFault::Short);
@@ -316,6 +336,18 @@ pub fn view(body: &[u8]) -> Result<CoeView<'_>, CoeFault>
     }
 }
 
+/// The CoE message in a body as it stands there, as [`read`](crate::read) reads it. Nothing is copied.
+pub fn view(body: &[u8]) -> Result<CoeView<'_>, CoeFault>
+    requires { length body.now ≤ 1480 }
+    ensures value { seen result ≡ coe_read body.now }
+    ensures within { IfOk result IsWithin }
+    ensures capped { IfOk result IsCapped }
+    ensures found { IfOk result (λ v. IsCoe body.now (coe_seen v)) }
+    ensures only { (message : Coe) → IsCoe body.now message → seen result ≡ Ok message }
+    ensures exact { MatchResult result (λ _. fault_of body.now ≡ None) (λ fault. fault_of body.now ≡ Some fault) }
+{
+    view_parts(body)
+}
 
 /// A message as a view of itself.
 pub fn view_of(message: &Coe) -> CoeView<'_>
@@ -323,22 +355,101 @@ pub fn view_of(message: &Coe) -> CoeView<'_>
     ensures capped { IsCapped result }
 {
     match message {
-        Coe::Emergency { octets } => CoeView::Emergency { octets: octets.as_slice() },
-        Coe::Expedited { index, sub, all, bytes } => CoeView::Expedited { index: *index, sub: *sub, all: *all, bytes: bytes.as_slice() },
-        Coe::First { index, sub, all, size, bytes } => CoeView::First { index: *index, sub: *sub, all: *all, size: *size, bytes: bytes.as_slice() },
-        Coe::Upload { index, sub, all } => CoeView::Upload { index: *index, sub: *sub, all: *all },
-        Coe::DownloadAnswer { index, sub } => CoeView::DownloadAnswer { index: *index, sub: *sub },
-        Coe::ExpeditedAnswer { index, sub, bytes } => CoeView::ExpeditedAnswer { index: *index, sub: *sub, bytes: bytes.as_slice() },
-        Coe::FirstAnswer { index, sub, size, bytes } => CoeView::FirstAnswer { index: *index, sub: *sub, size: *size, bytes: bytes.as_slice() },
-        Coe::Segment { toggle, last, bytes } => CoeView::Segment { toggle: *toggle, last: *last, bytes: bytes.as_slice() },
+        Coe::Emergency { octets } => CoeView::Emergency {
+            octets: octets.as_slice(),
+        },
+        Coe::Expedited {
+            index,
+            sub,
+            all,
+            bytes,
+        } => CoeView::Expedited {
+            index: *index,
+            sub: *sub,
+            all: *all,
+            bytes: bytes.as_slice(),
+        },
+        Coe::First {
+            index,
+            sub,
+            all,
+            size,
+            bytes,
+        } => CoeView::First {
+            index: *index,
+            sub: *sub,
+            all: *all,
+            size: *size,
+            bytes: bytes.as_slice(),
+        },
+        Coe::Upload { index, sub, all } => CoeView::Upload {
+            index: *index,
+            sub: *sub,
+            all: *all,
+        },
+        Coe::DownloadAnswer { index, sub } => CoeView::DownloadAnswer {
+            index: *index,
+            sub: *sub,
+        },
+        Coe::ExpeditedAnswer { index, sub, bytes } => CoeView::ExpeditedAnswer {
+            index: *index,
+            sub: *sub,
+            bytes: bytes.as_slice(),
+        },
+        Coe::FirstAnswer {
+            index,
+            sub,
+            size,
+            bytes,
+        } => CoeView::FirstAnswer {
+            index: *index,
+            sub: *sub,
+            size: *size,
+            bytes: bytes.as_slice(),
+        },
+        Coe::Segment {
+            toggle,
+            last,
+            bytes,
+        } => CoeView::Segment {
+            toggle: *toggle,
+            last: *last,
+            bytes: bytes.as_slice(),
+        },
         Coe::SegmentAnswer { toggle } => CoeView::SegmentAnswer { toggle: *toggle },
         Coe::UploadSegment { toggle } => CoeView::UploadSegment { toggle: *toggle },
-        Coe::UploadSegmentAnswer { toggle, last, bytes } => CoeView::UploadSegmentAnswer { toggle: *toggle, last: *last, bytes: bytes.as_slice() },
-        Coe::Abort { index, sub, code } => CoeView::Abort { index: *index, sub: *sub, code: *code },
+        Coe::UploadSegmentAnswer {
+            toggle,
+            last,
+            bytes,
+        } => CoeView::UploadSegmentAnswer {
+            toggle: *toggle,
+            last: *last,
+            bytes: bytes.as_slice(),
+        },
+        Coe::Abort { index, sub, code } => CoeView::Abort {
+            index: *index,
+            sub: *sub,
+            code: *code,
+        },
         Coe::ListRequest { kind } => CoeView::ListRequest { kind: *kind },
         Coe::ObjectRequest { index } => CoeView::ObjectRequest { index: *index },
-        Coe::EntryRequest { index, sub, info } => CoeView::EntryRequest { index: *index, sub: *sub, info: *info },
-        Coe::Information { opcode, incomplete, left, bytes } => CoeView::Information { opcode: *opcode, incomplete: *incomplete, left: *left, bytes: bytes.as_slice() },
+        Coe::EntryRequest { index, sub, info } => CoeView::EntryRequest {
+            index: *index,
+            sub: *sub,
+            info: *info,
+        },
+        Coe::Information {
+            opcode,
+            incomplete,
+            left,
+            bytes,
+        } => CoeView::Information {
+            opcode: *opcode,
+            incomplete: *incomplete,
+            left: *left,
+            bytes: bytes.as_slice(),
+        },
         Coe::InformationError { code } => CoeView::InformationError { code: *code },
     }
 }

@@ -8,7 +8,7 @@ use crate::fields::number;
 use crate::message::Coe;
 use crate::viewing::{CoeView, view_of};
 use arrayvec::ArrayVec;
-use ec_fields::buffer_of;
+use ec_fields::{append, buffer_of, refill_parts};
 
 type Head = ArrayVec<u8, 10>;
 
@@ -291,17 +291,6 @@ fn padding(message: CoeView<'_>) -> usize
     }
 }
 
-// What fits a body is appended.
-fn append(body: &mut ArrayVec<u8, 1480>, octets: &[u8])
-    requires { length body.old.items + length octets.now ≤ 1480 }
-    ensures { body.new.items ≡ body.old.items ++ octets.now }
-{
-    match body.try_extend_from_slice(octets) {
-        Ok(()) => {}
-        Err(_) => unreachable!(),
-    }
-}
-
 /// Writes the one spelling of a message as it stands somewhere in place of a body's contents, as [`write`] does.
 pub fn write_view(message: CoeView<'_>, body: &mut ArrayVec<u8, 1480>)
     requires spelling { HasSpelling (coe_seen message) }
@@ -311,9 +300,7 @@ pub fn write_view(message: CoeView<'_>, body: &mut ArrayVec<u8, 1480>)
 {
     const ZEROS: [u8; 7] = [0; 7];
     let head = head(message);
-    body.clear();
-    append(body, head.as_slice());
-    append(body, part(message));
+    refill_parts(body, head.as_slice(), part(message));
     append(body, &ZEROS[..padding(message)]);
 }
 

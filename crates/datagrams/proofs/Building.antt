@@ -9,7 +9,8 @@ use Rattle.datagrams.specs.declared.head.Head.{Head}
 use Rattle.datagrams.specs.Command.{number_of, IsNamed}
 use Rattle.datagrams.specs.Datagram.{Datagram, IsSized, IsDatagram, length_word, datagram_text, size_of}
 use Rattle.datagrams.specs.Frame.{text_of, Each, MoreButLast, header_text, master_addresses, last_place, saying, chained, marked, closed, frame_text, IsBegun, IsFrame}
-use Rattle.datagrams.proofs.Spelled.{length-datagram_text, two_number, word_fits}
+use Rattle.ec_fields.proofs.Cells.{two_read}
+use Rattle.datagrams.proofs.Spelled.{length-datagram_text, word_fits}
 
 -- two octets written between two lists
 pub put_between : (front old rest : List ℕ) (at v : ℕ) → length old ≡ 2 → at ≡ length front
@@ -70,7 +71,7 @@ marked_word len reserved false few three = omega arith
 
 number_between : (front rest : List ℕ) (at v : ℕ) → at ≡ length front → v < 2 ^ 16 → number_at 2 (front ++ (little_bytes 2 v ++ rest)) at ≡ v
 number_between front rest at v is fits =
-    rw (drop_at front (little_bytes 2 v ++ rest) at (sym is)) (two_number v fits)
+    rw (drop_at front (little_bytes 2 v ++ rest) at (sym is)) (two_read v fits)
 
 word_put : (front six tail : List ℕ) (at w0 w1 : ℕ) → length six ≡ 6 → at ≡ length front → w0 < 2 ^ 16 → bits_put w0 15 1 1 ≡ w1
     → number_put 2 (front ++ (six ++ (little_bytes 2 w0 ++ tail))) (at + 6)
@@ -137,15 +138,15 @@ marked_begun [] each fits = refl
 marked_begun (d ∷ ds) each fits =
     let inside = last_place-inside 16 d ds in
     let above = last_place-above 16 d ds in
-    let word = two_number (last_place 16 (d ∷ ds)) (omega arith) in
+    let word = two_read (last_place 16 (d ∷ ds)) (omega arith) in
     marked-at (sixteen (last_place 16 (d ∷ ds)) ++ text_of (chained (d ∷ ds))) (last_place 16 (d ∷ ds)) word (omega arith)
     ∙ more_put (sixteen (last_place 16 (d ∷ ds))) 16 d ds refl each
 
-Each-append : (P : Datagram → Type 0) (ds : List Datagram) (d : Datagram) → Each P ds → P d → Each P (ds ++ d ∷ [])
+pub Each-append : (P : Datagram → Type 0) (ds : List Datagram) (d : Datagram) → Each P ds → P d → Each P (ds ++ d ∷ [])
 Each-append P [] d each one = (one, tt)
 Each-append P (x ∷ xs) d each one = (each.0, Each-append P xs d each.1 one)
 
-added : (ds : List Datagram) (d : Datagram) → saying false d ≡ d
+pub added : (ds : List Datagram) (d : Datagram) → saying false d ≡ d
     → text_of (chained (ds ++ d ∷ [])) ≡ text_of (each_more ds) ++ datagram_text d
 added ds d own =
     ap text_of (chained-append ds d) ∙ text_of-append (each_more ds) (saying false d ∷ [])
@@ -157,7 +158,7 @@ begun_length octets ds b =
     let raw = ap length b.text in
     omega arith
 
-length-each_more : (ds : List Datagram) → length (text_of (each_more ds)) ≡ length (text_of (chained ds))
+pub length-each_more : (ds : List Datagram) → length (text_of (each_more ds)) ≡ length (text_of (chained ds))
 length-each_more [] = refl
 length-each_more (d ∷ []) =
     let a = length-append (datagram_text (saying true d)) [] in
@@ -209,7 +210,7 @@ IsBegun-inside octets (d ∷ ds) b =
     let fits = b.fits in
     let long = begun_length octets (d ∷ ds) b in
     let inside = last_place-inside 16 d ds in
-    let word = two_number (last_place 16 (d ∷ ds)) (omega arith) in
+    let word = two_read (last_place 16 (d ∷ ds)) (omega arith) in
     let is : number_at 2 octets 14 ≡ last_place 16 (d ∷ ds) = ap (λ (t : List ℕ). number_at 2 t 14) b.text ∙ word in
     omega arith
 
@@ -225,7 +226,7 @@ sized_saying m d s =
       body = s.body;
     }
 
-Each-chained : (ds : List Datagram) → Each IsSized ds → Each (λ d. IsNamed d.head.command) ds → Each IsDatagram (chained ds)
+pub Each-chained : (ds : List Datagram) → Each IsSized ds → Each (λ d. IsNamed d.head.command) ds → Each IsDatagram (chained ds)
 Each-chained [] sized named = tt
 Each-chained (d ∷ []) sized named = (record { sized = sized_saying false d sized.0; named = named.0 }, tt)
 Each-chained (d ∷ e ∷ ds) sized named =

@@ -6,9 +6,10 @@ use Rattle.datagrams.specs.declared.frame.FrameFault.{FrameFault}
 use Rattle.datagrams.specs.declared.frame.FrameFault.TheVariants.{DatagramCut, MoreButEnd}
 use Rattle.datagrams.specs.declared.frame.Part.{Part}
 use Rattle.datagrams.specs.declared.head.Head.{Head}
-use Rattle.datagrams.specs.Datagram.{Datagram, IsDatagram, datagram_text, size_of, is_cut, head_read, body_length}
+use Rattle.datagrams.specs.Datagram.{Datagram, IsDatagram, datagram_text, size_of, is_cut, head_read, body_length, datagram_here}
 use Rattle.datagrams.specs.Frame.{text_of, Each, MoreButLast, parts_of, part_at, with_parts, parts_within}
-use Rattle.datagrams.proofs.Spelled.{head_read-text, is_cut-text, drop-text, length-datagram_text, AreOctets, AreOctets-drop, datagram_here, datagram_here-is, text_here}
+use Rattle.ec_fields.proofs.Cells.{AreOctets, AreOctets-drop}
+use Rattle.datagrams.proofs.Spelled.{head_read-text, is_cut-text, drop-text, length-datagram_text, datagram_here-is, text_here}
 
 -- spelled, so read
 

@@ -11,7 +11,8 @@ use Rattle.datagrams.specs.declared.frame.FrameFault.TheVariants.{Short, NotEthe
 use Rattle.datagrams.specs.declared.frame.Part.{Part}
 use Rattle.datagrams.specs.Datagram.{Datagram}
 use Rattle.datagrams.specs.Frame.{text_of, parts_of, parts_within, frame_of, frame_read, header_text, IsFrame}
-use Rattle.datagrams.proofs.Spelled.{AreOctets, AreOctets-drop, two_number, next_cell, pair_at, number_at-fits}
+use Rattle.ec_fields.proofs.Cells.{AreOctets, AreOctets-drop, two_read, next_cell, two_fits}
+use Rattle.datagrams.proofs.Spelled.{pair_at}
 use Rattle.datagrams.proofs.Grammar.{parts_within-text, parts_within-found, FoundIn}
 
 -- what stands behind the addresses, as the reader looks at it
@@ -30,7 +31,7 @@ header_at octets word rest fits e =
       long = omega (arith, length-drop 12 octets, size);
       first = sym (get_or-drop 12 octets 0 0) ∙ ap (λ (x : List ℕ). get_or x 0 0) e;
       second = sym (get_or-drop 12 octets 1 0) ∙ ap (λ (x : List ℕ). get_or x 1 0) e;
-      is_word = ap (λ (x : List ℕ). number_at 2 x 0) (sym (drop-drop 2 12 octets) ∙ ap (drop 2) e) ∙ two_number word fits;
+      is_word = ap (λ (x : List ℕ). number_at 2 x 0) (sym (drop-drop 2 12 octets) ∙ ap (drop 2) e) ∙ two_read word fits;
       behind = sym (drop-drop 4 12 octets) ∙ ap (drop 4) e;
     }
 
@@ -117,7 +118,7 @@ frame_around : (octets : List ℕ) (size : ℕ) (parts : List Part) → AreOctet
     → bits_of (number_at 2 octets 14) 12 4 ≡ 1 → size ≤ length octets - 16
     → (f : FoundIn 16 (take size (drop 16 octets)) parts) → IsFrame octets f.ds
 frame_around octets size parts o long first second is_size typed there f =
-    let word = word_typed (number_at 2 octets 14) (number_at-fits octets 14 o) typed in
+    let word = word_typed (number_at 2 octets 14) (two_fits octets 14 o) typed in
     let word' : number_at 2 octets 14 ≡ size + 2048 * bits_of (number_at 2 octets 14) 11 1 + 4096 = rw is_size word in
     let rest : drop 16 octets ≡ text_of f.ds ++ (f.padding ++ drop size (drop 16 octets)) =
     sym (take-append-drop size (drop 16 octets)) ∙ ap (λ (x : List ℕ). x ++ drop size (drop 16 octets)) f.text

@@ -5,14 +5,15 @@ use Rattle.std.specs.Prelude.{◌==◌, if◌then◌else◌, slice_index}
 use Rattle.std.proofs.lemmas.Bool.Decides.{nat_tests, eqb_tells}
 use Rattle.std.proofs.lemmas.Bool.{eq-eqb, ne_eqb, le-ltb}
 use Rattle.std.proofs.Math.Seq.{drop-append_seam, drop-append-add}
-use Rattle.std.proofs.lemmas.List.{get_or-drop, drop_more, drop-drop, drop_at}
+use Rattle.std.proofs.lemmas.List.{get_or-drop, drop-drop, drop_at}
 use Rattle.byteorder.specs.Endian.{little_bytes}
 use Rattle.ec_fields.specs.Fields.{number_at, bits_of}
+use Rattle.ec_fields.proofs.Cells.{AreOctets, next_cell, two_here, two_fits, two_read}
 use Rattle.datagrams.specs.declared.head.Head.{Head}
 use Rattle.datagrams.specs.declared.command.Command.{Command}
 use Rattle.datagrams.specs.declared.command.Command.TheVariants.{Nop, Aprd, Apwr, Aprw, Fprd, Fpwr, Fprw, Brd, Bwr, Brw, Lrd, Lwr, Lrw, Armw, Frmw, Other}
 use Rattle.datagrams.specs.Command.{number_of, command_of, IsNamed}
-use Rattle.datagrams.specs.Datagram.{Datagram, IsSized, IsDatagram, length_word, front_text, datagram_text, size_of, body_length, is_cut, head_read}
+use Rattle.datagrams.specs.Datagram.{Datagram, IsSized, IsDatagram, length_word, front_text, datagram_text, size_of, body_length, is_cut, head_read, datagram_here}
 
 -- a command is that of its number
 pub command_of-number_of : (c : Command) → IsNamed c → command_of (number_of c) ≡ c
@@ -54,15 +55,11 @@ command_named n =
     let above : 14 < n = omega arith in above)))))))))))))))
 
 -- two octets are those of their number
-pub two_bytes : (a b : ℕ) → a < 256 → b < 256 → little_bytes 2 (a + 256 * b) ≡ a ∷ b ∷ []
+two_bytes : (a b : ℕ) → a < 256 → b < 256 → little_bytes 2 (a + 256 * b) ≡ a ∷ b ∷ []
 two_bytes a b ha hb =
     let low : (a + 256 * b) % 256 ≡ a = omega arith in
     let high : (a + 256 * b) / 256 % 256 ≡ b = omega arith in
     rw (low, high) refl
-
--- a number is that of its two octets
-pub two_number : (v : ℕ) → v < 2 ^ 16 → v % 256 + 256 * (v / 256 % 256 + 256 * 0) ≡ v
-two_number v h = omega arith
 
 -- the number at a place is that of the two octets there
 pub number_at-two : (octets : List ℕ) (at : ℕ) → number_at 2 octets at ≡ get_or octets at 0 + 256 * get_or octets (at + 1) 0
@@ -77,6 +74,13 @@ len_of len reserved true true few three = omega arith
 len_of len reserved true false few three = omega arith
 len_of len reserved false true few three = omega arith
 len_of len reserved false false few three = omega arith
+
+reserved_of : (len reserved : ℕ) (c m : Bool) → len < 2 ^ 11 → reserved < 2 ^ 3 → bits_of (word_of len reserved c m) 11 3 ≡ reserved
+unfolding word_of
+reserved_of len reserved true true few three = omega arith
+reserved_of len reserved true false few three = omega arith
+reserved_of len reserved false true few three = omega arith
+reserved_of len reserved false false few three = omega arith
 
 fits_of : (len reserved : ℕ) (c m : Bool) → len < 2 ^ 11 → reserved < 2 ^ 3 → word_of len reserved c m < 2 ^ 16
 unfolding word_of
@@ -118,7 +122,10 @@ pub word_more : (reserved : ℕ) (h : Head) → h.len < 2 ^ 11 → reserved < 2 
 unfolding word_of
 word_more reserved h few three = bit_15 h.len reserved h.circulating h.more few three
 
--- reading a spelled datagram
+-- its reserved bits
+pub word_reserved : (reserved : ℕ) (h : Head) → h.len < 2 ^ 11 → reserved < 2 ^ 3 → bits_of (length_word reserved h) 11 3 ≡ reserved
+unfolding word_of
+word_reserved reserved h few three = reserved_of h.len reserved h.circulating h.more few three
 
 -- ten cells, the body and two cells, with more behind them
 pub datagram_text-behind : (d : Datagram) (rest : List ℕ)
@@ -129,12 +136,12 @@ datagram_text-behind d rest =
 counter_behind : (front : List ℕ) (body : List ℕ) (v : ℕ) (rest : List ℕ) → v < 2 ^ 16
     → number_at 2 (front ++ (body ++ (little_bytes 2 v ++ rest))) (length front + length body) ≡ v
 counter_behind front body v rest h =
-    rw (drop-append-add, drop-append_seam) (two_number v h)
+    rw (drop-append-add, drop-append_seam) (two_read v h)
 
 -- a spelled datagram's length word says the body's length
 pub body_length-text : (d : Datagram) (rest : List ℕ) → IsSized d → body_length (datagram_text d ++ rest) ≡ d.head.len
 body_length-text d rest s =
-    rw (two_number (length_word d.reserved d.head) (word_fits d.reserved d.head s.len s.reserved))
+    rw (two_read (length_word d.reserved d.head) (word_fits d.reserved d.head s.len s.reserved))
     (word_len d.reserved d.head s.len s.reserved)
 
 -- a spelled datagram reads as its head
@@ -146,13 +153,13 @@ head_read-text d rest is =
     let counter = subst (λ (n : ℕ). number_at 2 (datagram_text d ++ rest) (10 + n) ≡ d.head.counter) s.body whole in
     rw (
       command_of-number_of d.head.command is.named,
-      two_number d.head.adp s.head.adp,
-      two_number d.head.ado s.head.ado,
-      two_number (length_word d.reserved d.head) (word_fits d.reserved d.head s.len s.reserved),
+      two_read d.head.adp s.head.adp,
+      two_read d.head.ado s.head.ado,
+      two_read (length_word d.reserved d.head) (word_fits d.reserved d.head s.len s.reserved),
       word_len d.reserved d.head s.len s.reserved,
       word_circulating d.reserved d.head s.len s.reserved,
       word_more d.reserved d.head s.len s.reserved,
-      two_number d.head.interrupt s.head.interrupt,
+      two_read d.head.interrupt s.head.interrupt,
       counter,
     ) refl
 
@@ -177,24 +184,6 @@ drop-text d rest is =
 
 -- from octets to the datagram that they spell
 
--- each is below 256
-abbrev pub AreOctets : List ℕ → Type 0
-AreOctets octets = (i : ℕ) → get_or octets i 0 < 256
-
-pub AreOctets-drop : (n : ℕ) (octets : List ℕ) → AreOctets octets → AreOctets (drop n octets)
-AreOctets-drop n octets o i = rw get_or-drop (o (n + i))
-
--- the datagram whose octets begin here
-abbrev pub datagram_here : List ℕ → Datagram
-datagram_here octets = record {
-  head = head_read octets;
-  reserved = bits_of (number_at 2 octets 6) 11 3;
-  body = take (body_length octets) (drop 10 octets);
-}
-
-pub number_at-fits : (octets : List ℕ) (at : ℕ) → AreOctets octets → number_at 2 octets at < 2 ^ 16
-number_at-fits octets at o = rw number_at-two (omega (arith, o at, o (at + 1)))
-
 pub pair_at : (octets : List ℕ) (at : ℕ) → AreOctets octets → little_bytes 2 (number_at 2 octets at) ≡ get_or octets at 0 ∷ get_or octets (at + 1) 0 ∷ []
 pair_at octets at o = ap (little_bytes 2) (number_at-two octets at) ∙ two_bytes (get_or octets at 0) (get_or octets (at + 1) 0) (o at) (o (at + 1))
 
@@ -203,10 +192,10 @@ datagram_here-is octets o whole = record {
   sized = record {
     head = record {
       index = o 1;
-      adp = number_at-fits octets 2 o;
-      ado = number_at-fits octets 4 o;
-      interrupt = number_at-fits octets 8 o;
-      counter = number_at-fits octets (10 + body_length octets) o;
+      adp = two_fits octets 2 o;
+      ado = two_fits octets 4 o;
+      interrupt = two_fits octets 8 o;
+      counter = two_fits octets (10 + body_length octets) o;
     };
     reserved = omega arith;
     len = omega arith;
@@ -227,7 +216,7 @@ word_parts w h =
 
 pub word_here : (octets : List ℕ) → AreOctets octets → length_word (bits_of (number_at 2 octets 6) 11 3) (head_read octets) ≡ number_at 2 octets 6
 unfolding word_of
-word_here octets o = word_parts (number_at 2 octets 6) (number_at-fits octets 6 o)
+word_here octets o = word_parts (number_at 2 octets 6) (two_fits octets 6 o)
 
 front_join : (a a' b : ℕ) (p p' q q' r r' s s' : List ℕ) → a ≡ a' → p ≡ p' → q ≡ q' → r ≡ r' → s ≡ s'
     → a ∷ b ∷ (p ++ (q ++ (r ++ s))) ≡ a' ∷ b ∷ (p' ++ (q' ++ (r' ++ s')))
@@ -247,9 +236,6 @@ front_here octets o =
     front_join _ _ _ _ _ _ _ _ _ _ _ (number_of-command_of (get_or octets 0 0)) (pair_at octets 2 o) (pair_at octets 4 o)
     (ap (little_bytes 2) (word_here octets o) ∙ pair_at octets 6 o) (pair_at octets 8 o)
 
-pub next_cell : (octets rest : List ℕ) (i : ℕ) → i < length octets → drop (i + 1) octets ≡ rest → drop i octets ≡ get_or octets i 0 ∷ rest
-next_cell octets rest i h e = drop_more octets i 0 h ∙ ap (λ (x : List ℕ). get_or octets i 0 ∷ x) e
-
 ten_front : (octets : List ℕ) → 10 ≤ length octets → octets ≡ ten_cells octets ++ drop 10 octets
 unfolding ten_cells
 ten_front octets h =
@@ -258,20 +244,13 @@ ten_front octets h =
     (next_cell octets _ 6 (omega arith) (next_cell octets _ 7 (omega arith) (next_cell octets _ 8 (omega arith)
     (next_cell octets _ 9 (omega arith) refl)))))))))
 
-two_behind : (octets : List ℕ) (at : ℕ) → AreOctets octets → at + 2 ≤ length octets
-    → drop at octets ≡ little_bytes 2 (number_at 2 octets at) ++ drop (at + 2) octets
-two_behind octets at o h =
-    let moved : at + 1 + 1 ≡ at + 2 = omega arith in
-    next_cell octets _ at (omega arith) (next_cell octets _ (at + 1) (omega arith) (ap (λ (n : ℕ). drop n octets) moved))
-    ∙ ap (λ (x : List ℕ). x ++ drop (at + 2) octets) (sym (pair_at octets at o))
-
 -- octets that are not cut are the datagram that stands there, and what is behind
 pub text_here : (octets : List ℕ) → AreOctets octets → is_cut octets ≡ false
     → octets ≡ datagram_text (datagram_here octets) ++ drop (12 + body_length octets) octets
 text_here octets o whole =
     let fits : 12 + body_length octets ≤ length octets = omega (arith, ltb-false) in
     let n = body_length octets in
-    let counter = two_behind octets (10 + body_length octets) o (omega arith) in
+    let counter = two_here octets (10 + body_length octets) o (omega arith) in
     let twelve : 10 + body_length octets + 2 ≡ 12 + body_length octets = omega arith in
     let body : drop 10 octets ≡ take (body_length octets) (drop 10 octets) ++ drop (10 + body_length octets) octets =
     sym (take-append-drop (body_length octets) (drop 10 octets))

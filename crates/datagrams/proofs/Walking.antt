@@ -2,9 +2,9 @@
 use Rattle.std.proofs.Common.{◌≡◌, ℕ, ◌+◌, ◌≤◌, false, true, List, [], ◌∷◌, ◌++◌, length, take, drop, replicate, ◌-◌, refl, ap, sym, ◌∙◌, subst, arith, append_assoc, length-append}
 use Rattle.std.proofs.lemmas.List.{drop_at, replicate-append-replicate, length-replicate}
 use Rattle.datagrams.specs.declared.frame.Part.{Part}
-use Rattle.datagrams.specs.Datagram.{Datagram, IsDatagram, datagram_text, size_of, body_length, head_read}
+use Rattle.datagrams.specs.Datagram.{Datagram, datagram_text, size_of, body_length, head_read}
 use Rattle.datagrams.specs.Frame.{text_of, MoreButLast, parts_of, IsFrame, IsPart, FaultIs}
-use Rattle.std.specs.Prelude.{Option, None, Some, Result, Ok, IfOk, IfNone, slice_get, ◌<◌}
+use Rattle.std.specs.Prelude.{Option, None, Some, Result, IfOk, IfNone, slice_get, ◌<◌}
 use Rattle.datagrams.specs.declared.frame.Frame.{Frame}
 use Rattle.datagrams.specs.declared.frame.FrameFault.{FrameFault}
 use Rattle.datagrams.specs.declared.head.Head.{Head}
@@ -79,11 +79,12 @@ next_found octets p front behind d f place head more =
     let next = more_here front behind d f.chain (ap (λ (h : Head). h.more) (sym head) ∙ more) in
     let g = next_frame octets front next.1 d next.0 (subst (λ (t : List Datagram). IsFrame octets (front ++ d ∷ t)) next.2 f) in
     let here : p.at + (12 + p.head.len) ≡ p.at + size_of d = ap (λ (n : ℕ). p.at + (12 + n)) len in
-    let there = here ∙ next_place front d p.at place in
-    (place_fits octets (front ++ d ∷ []) next.1 next.0 (p.at + (12 + p.head.len)) g there,
-    (λ h is.
-    let own = is ∙ place_head octets (front ++ d ∷ []) next.1 next.0 (p.at + (12 + p.head.len)) g there in
-    rw (next.2, own) (ap (λ (n : ℕ). (record { at = n; head = next.0.head }) ∷ []) here)))
+    let there = here ∙ next_place front d p.at place in (
+      place_fits octets (front ++ d ∷ []) next.1 next.0 (p.at + (12 + p.head.len)) g there,
+      (λ h is.
+          let own = is ∙ place_head octets (front ++ d ∷ []) next.1 next.0 (p.at + (12 + p.head.len)) g there in
+          rw (next.2, own) (ap (λ (n : ℕ). (record { at = n; head = next.0.head }) ∷ []) here)),
+    )
 
 -- a part that doesn't is the last
 pub none_found : (octets : List ℕ) (p : Part) (front behind : List Datagram) (d : Datagram) → IsFrame octets (front ++ d ∷ behind)
@@ -96,9 +97,10 @@ pub first_found : (octets : List ℕ) (ds : List Datagram) → IsFrame octets ds
     → (12 + body_length (drop 16 octets) ≤ length (drop 16 octets))
     × ((h : Head) → h ≡ head_read (drop 16 octets) → Some (record { at = 16; head = h }) ≡ slice_get (parts_of 16 ds) 0)
 first_found octets [] f = absurd f.chain
-first_found octets (d ∷ ds) f =
-    (place_fits octets [] ds d 16 f refl,
-    (λ h is. ap (λ (k : Head). Some (record { at = 16; head = k })) (is ∙ place_head octets [] ds d 16 f refl)))
+first_found octets (d ∷ ds) f = (
+  place_fits octets [] ds d 16 f refl,
+  (λ h is. ap (λ (k : Head). Some (record { at = 16; head = k })) (is ∙ place_head octets [] ds d 16 f refl)),
+)
 
 -- a part ends within the greatest frame
 pub part_low : (octets : List ℕ) (p : Part) → IsPart octets p → p.at + (12 + p.head.len) < 4096

@@ -1,4 +1,4 @@
-use Rattle.std.specs.Prelude.{◌≡◌, ℕ, ◌+◌, ◌*◌, ◌<◌, ◌^◌, ◌==◌, Bool, if◌then◌else◌, List, ◌∷◌, ◌++◌, length, slice_index, nat_lt}
+use Rattle.std.specs.Prelude.{◌≡◌, ℕ, ◌+◌, ◌*◌, ◌<◌, ◌^◌, ◌==◌, Bool, if◌then◌else◌, List, ◌∷◌, ◌++◌, length, take, drop, slice_index, nat_lt}
 use Rattle.byteorder.specs.Endian.{little_bytes}
 use Rattle.ec_fields.specs.Fields.{number_at, bits_of}
 use Rattle.datagrams.specs.declared.head.Head.{Head}
@@ -69,4 +69,12 @@ head_read octets = record {
   more = bits_of (number_at 2 octets 6) 15 1 == 1;
   interrupt = number_at 2 octets 8;
   counter = number_at 2 octets (10 + body_length octets);
+}
+
+-- the datagram whose octets begin here
+abbrev pub datagram_here : List ℕ → Datagram
+datagram_here octets = record {
+  head = head_read octets;
+  reserved = bits_of (number_at 2 octets 6) 11 3;
+  body = take (body_length octets) (drop 10 octets);
 }

@@ -1,3 +1,4 @@
 pub mod Command
 pub mod Datagram
+pub mod Draft
 pub mod Frame

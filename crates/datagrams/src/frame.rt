@@ -17,7 +17,8 @@ pub struct Frame {
     pub parts: ArrayVec<Part, 170>,
 }
 
-/// Why octets are no EtherCAT frame: the first cause that applies, in this order.
+/// Why octets are no EtherCAT frame: the first cause that applies, in this order. The two last ones are
+/// those of a datagram: either no octet is left for it, or too few are.
 #[derive(Clone, Copy, Debug, PartialEq, Eq)]
 pub enum FrameFault {
     /// Fewer than 16 octets.
@@ -28,8 +29,8 @@ pub enum FrameFault {
     WrongType,
     /// The length word exceeds the octets behind it.
     LengthWord,
-    /// Within the length fewer octets are left at this place of the frame than the datagram has.
-    /// It is also the fault of a frame without a datagram.
+    /// Within the length fewer octets are left at this place of the frame than the datagram has, but
+    /// at least one. It is also the fault of a frame without a datagram.
     DatagramCut { at: usize },
     /// A datagram says "more" and no octet is left within the length.
     MoreButEnd,

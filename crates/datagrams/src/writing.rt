@@ -2,12 +2,13 @@ ghost use Rattle.std.specs.Prelude.{◌≡◌, ℕ, ◌+◌, ◌-◌, ◌<◌, �
 ghost use Rattle.ec_fields.specs.Fields.{number_at, number_put};
 ghost use Rattle.datagrams.specs.Command.{IsNamed};
 ghost use Rattle.datagrams.specs.Datagram.{Datagram, IsSized, datagram_text};
+ghost use Rattle.datagrams.specs.Draft.{drafted, IsDraft, IsDrafted, IsEnded};
 ghost use Rattle.datagrams.specs.Frame.{Each, IsFrame, IsBegun, IsPart, chained, datagram_of, reset, octets_set, text_of, marked, closed, frame_text};
 
 use crate::frame::{FrameBuf, Part};
 use crate::head::{BESIDE_BODY, FRONT, Head, front_octets, last_head};
 use crate::reading::FIRST;
-use ec_fields::{put_bits, put_u16, u16_at};
+use ec_fields::{append, put_bits, put_u16, refill, u16_at};
 
 /// The greatest frame without its checksum.
 const GREATEST: usize = 1514;
@@ -26,17 +27,6 @@ const HEADER: [u8; 16] = [
     0xFF, 0xFF, 0xFF, 0xFF, 0xFF, 0xFF, 0x02, 0x00, 0x00, 0x00, 0x00, 0x01, 0x88, 0xA4, 0, 0,
 ];
 
-// Appends octets that fit.
-fn append(frame: &mut FrameBuf, octets: &[u8])
-    requires { length frame.old.items + length octets.now ≤ 1514 }
-    ensures { frame.new.items ≡ frame.old.items ++ octets.now }
-{
-    match frame.try_extend_from_slice(octets) {
-        Ok(()) => {}
-        Err(_) => unreachable!(),
-    }
-}
-
 /// How many body octets one more datagram can hold, 0 where fewer than 13 octets are left.
 pub fn room(frame: &FrameBuf) -> usize
     ensures { result ≡ 1514 - length frame.now.items - 12 }
@@ -44,12 +34,22 @@ pub fn room(frame: &FrameBuf) -> usize
     (GREATEST - frame.len()).saturating_sub(BESIDE_BODY)
 }
 
+// The same call, by the octets.
+fn begin_plain(frame: &mut FrameBuf)
+    ensures begun { IsBegun frame.new.items [] }
+    ensures len { length frame.new.items ≡ 16 }
+{
+    refill(frame, &HEADER);
+}
+
 /// Begins a frame of the master in the buffer, in place of what it held.
 pub fn begin(frame: &mut FrameBuf)
-    ensures { IsBegun frame.new.items [] }
+    ensures begun { IsBegun frame.new.items [] }
+    ensures draft { IsDraft frame.new.items }
+    ensures none { drafted frame.new.items ≡ [] }
+    ensures len { length frame.new.items ≡ 16 }
 {
-    frame.clear();
-    append(frame, &HEADER);
+    begin_plain(frame);
 }
 
 // Sets "more" in the datagram that was added last, where there is one.
@@ -85,13 +85,16 @@ fn add_plain(frame: &mut FrameBuf, head: &Head, body: &[u8])
 }
 
 /// Adds a datagram behind those that were added. The one before says "more" from then on; the new
-/// one doesn't, whatever `head.more` is.
+/// one doesn't, whatever `head.more` is. What was added stands in the octets: `drafted` reads it.
 pub fn add(frame: &mut FrameBuf, head: &Head, body: &[u8])
     requires begun { (ds : List Datagram) × IsBegun frame.old.items ds }
     requires length { head.now.len ≡ length body.now }
     requires some { 1 ≤ length body.now }
     requires room { length body.now ≤ 1514 - length frame.old.items - 12 }
-    ensures { (ds : List Datagram) → IsBegun frame.old.items ds → IsBegun frame.new.items (ds ++ datagram_of head.now body.now ∷ []) }
+    ensures adds { (ds : List Datagram) → IsBegun frame.old.items ds → IsBegun frame.new.items (ds ++ datagram_of head.now body.now ∷ []) }
+    ensures begun { (ds : List Datagram) × IsBegun frame.new.items ds }
+    ensures draft { IsDraft frame.old.items → IsNamed head.now.command → IsDrafted frame.old.items frame.new.items (datagram_of head.now body.now) }
+    ensures len { length frame.new.items ≡ length frame.old.items + (12 + length body.now) }
 {
     add_plain(frame, head, body);
 }
@@ -186,7 +189,10 @@ pub fn add_with<B: Body>(frame: &mut FrameBuf, head: &Head, body: &B)
     requires length { head.now.len ≡ length (B.octets body.now) }
     requires some { 1 ≤ length (B.octets body.now) }
     requires room { length (B.octets body.now) ≤ 1514 - length frame.old.items - 12 }
-    ensures { (ds : List Datagram) → IsBegun frame.old.items ds → IsBegun frame.new.items (ds ++ datagram_of head.now (B.octets body.now) ∷ []) }
+    ensures adds { (ds : List Datagram) → IsBegun frame.old.items ds → IsBegun frame.new.items (ds ++ datagram_of head.now (B.octets body.now) ∷ []) }
+    ensures begun { (ds : List Datagram) × IsBegun frame.new.items ds }
+    ensures draft { IsDraft frame.old.items → IsNamed head.now.command → IsDrafted frame.old.items frame.new.items (datagram_of head.now (B.octets body.now)) }
+    ensures len { length frame.new.items ≡ length frame.old.items + (12 + length (B.octets body.now)) }
 {
     add_with_plain(frame, head, body);
 }
@@ -214,6 +220,7 @@ fn finish_plain(frame: &mut FrameBuf)
 /// that were added, if there are any and each command has a name or a number above 14.
 pub fn finish(frame: &mut FrameBuf)
     requires { (ds : List Datagram) × IsBegun frame.old.items ds }
+    ensures ended { IsDraft frame.old.items → IsEnded frame.old.items frame.new.items }
     ensures text { (ds : List Datagram) → IsBegun frame.old.items ds → frame.new.items ≡ frame_text (chained ds) }
     ensures reads { (ds : List Datagram) → IsBegun frame.old.items ds → 1 ≤ length ds → Each (λ d. IsNamed d.head.command) ds → IsFrame frame.new.items (chained ds) }
 {

@@ -27,13 +27,12 @@ take_join packet at size =
     ∙ take-append-drop at (take (at + size) packet)
 
 -- octets that still fit are joined
-extend_join : (packet : List ℕ) (at size : ℕ) → length packet ≤ 1514 → at ≤ length packet
-    → extended (take at packet) (take size (drop at packet)) ≡ take (at + size) packet
-extend_join packet at size greatest inside =
-    let front = length-take-le at packet inside in
+extend_join : (packet : List ℕ) (frame k at size : ℕ) → length packet ≤ 1514 → at ≤ length packet
+    → extended (base packet frame k at) (take size (drop at packet)) ≡ take (at + size) packet
+extend_join packet frame k at size greatest inside =
     let part = length-take size (drop at packet) in
     let left = length-drop at packet in
-    let fits : nat_le (length (take at packet) + length (take size (drop at packet))) 1514 ≡ true = le-leb _ _ (omega arith) in
+    let fits : nat_le (at + length (take size (drop at packet))) 1514 ≡ true = le-leb _ _ (omega arith) in
     rw fits (take_join packet at size)
 
 -- a packet of a fitting size that has its blocks is whole
@@ -56,10 +55,10 @@ last_taken s packet size frame k at least greatest inside ends e =
     let bytes = take_all size (drop at packet) (omega arith) in
     let whole : at + length (drop at packet) ≡ length packet = omega arith in
     let size_is : at + length (take size (drop at packet)) ≡ length packet = ap (λ (x : List ℕ). at + length x) bytes ∙ whole in
-    let octets_are : extended (take at packet) (take size (drop at packet)) ≡ packet =
-    extend_join packet at size greatest (omega arith) ∙ take_all (at + size) packet ends in
+    let octets_are : extended (base packet frame k at) (take size (drop at packet)) ≡ packet =
+    extend_join packet frame k at size greatest (omega arith) ∙ take_all (at + size) packet ends in
     ap (taken_by (fragment_at packet size frame k at)) e
-    ∙ rw (last, size_is, octets_are) (ap (λ (j : Joined). record { unfinished = None; joined = j }) (is_whole packet frame k least greatest))
+    ∙ rw (last, octets_are, size_is) (ap (λ (j : Joined). record { unfinished = None; joined = j }) (is_whole packet frame k least greatest))
 
 -- another fragment leaves the packet with its octets
 more_taken : (s : Option Unfinished) (packet : List ℕ) (size frame k at : ℕ) → length packet ≤ 1514
@@ -70,7 +69,7 @@ more_taken s packet size frame k at greatest goes e =
     let more : nat_le (length packet) (at + size) ≡ false = lt-leb _ _ goes in
     let left = length-drop at packet in
     let bytes = length-take-le size (drop at packet) (omega arith) in
-    let octets_are = extend_join packet at size greatest (omega arith) in
+    let octets_are = extend_join packet frame k at size greatest (omega arith) in
     ap (taken_by (fragment_at packet size frame k at)) e ∙ rw (more, octets_are, bytes) refl
 
 -- then the next one is awaited

@@ -1,4 +1,4 @@
-use Rattle.std.specs.Prelude.{ℕ, zero, suc, ◌+◌, ◌*◌, ◌/◌, ◌<◌, ◌≤◌, ◌==◌, false, nat_lt, nat_le, if◌then◌else◌, List, [], ◌∷◌, length, take, drop, Option, None, Some}
+use Rattle.std.specs.Prelude.{ℕ, zero, suc, ◌+◌, ◌*◌, ◌/◌, ◌%◌, ◌^◌, ◌≡◌, ◌<◌, ◌≤◌, ◌==◌, false, nat_lt, nat_le, if◌then◌else◌, List, [], ◌∷◌, length, take, drop, Option, None, Some}
 use Rattle.eoe.specs.declared.message.Fragment.{Fragment}
 
 -- how many blocks of 32 octets there are, the last one begun
@@ -13,10 +13,12 @@ pub record Cutting : Type 0 where
   pub number : ℕ
   pub at : ℕ
 
--- fragments of 32 to 1,476 octets, of which each took at least a block
-pub record IsCutting (size number at : ℕ) : Type 0 where
+-- fragments of 32 to 1,476 octets in whole blocks, of which each took at least a block, with a frame number of four bits
+pub record IsCutting (size frame number at : ℕ) : Type 0 where
   pub least : 32 ≤ size
   pub greatest : size ≤ 1476
+  pub whole : size % 32 ≡ 0
+  pub framed : frame < 2 ^ 4
   pub counted : 32 * number ≤ at
   pub short : at < 2990
 

@@ -1,17 +1,26 @@
-use Rattle.std.specs.Prelude.{◌≡◌, ℕ, ◌+◌, ◌-◌, ◌*◌, ◌==◌, ◌&&◌, not, Bool, nat_le, nat_lt, if◌then◌else◌, List, [], ◌∷◌, ◌++◌, length, take, Option, None, Some}
+use Rattle.std.specs.Prelude.{◌≡◌, ◌≤◌, ℕ, ◌+◌, ◌-◌, ◌*◌, ◌==◌, ◌&&◌, not, Bool, true, false, nat_le, nat_lt, if◌then◌else◌, List, [], ◌∷◌, ◌++◌, length, take, Option, None, Some}
 use Rattle.eoe.specs.declared.joining.Joined.{Joined}
 use Rattle.eoe.specs.declared.joining.Joined.TheVariants.{More, Whole, Dropped}
 use Rattle.eoe.specs.declared.joining.Unfinished.{Unfinished}
 use Rattle.eoe.specs.declared.message.Fragment.{Fragment}
 use Rattle.eoe.specs.Cutting.{blocks_of}
 
--- octets behind those of a packet; one that outgrows 1,514 octets keeps none
-abbrev pub extended : List ℕ → List ℕ → List ℕ
-extended octets bytes = if nat_le (length octets + length bytes) 1514 then octets ++ bytes else []
+-- the octets of a packet with further ones; one that outgrows 1,514 octets keeps none from then on
+abbrev pub extended : Unfinished → List ℕ → List ℕ
+extended u bytes = if nat_le (u.size + length bytes) 1514 then u.octets.items ++ bytes else []
 
 -- a packet with the octets of a fragment
 abbrev pub added : Unfinished → List ℕ → Unfinished
-added u bytes = record u { size = u.size + length bytes; octets = record { items = extended u.octets.items bytes } }
+added u bytes = record u { size = u.size + length bytes; octets = record { items = extended u bytes } }
+
+-- no more octets are kept than came
+abbrev pub IsWithin : Unfinished → Type 0
+IsWithin u = length u.octets.items ≤ u.size
+
+-- a packet that goes on, or none
+abbrev pub going_on : Bool → Unfinished → Option Unfinished
+going_on true u = Some u
+going_on false u = None
 
 -- a fragment goes on with a packet: its frame number, the next number, and the offset where its octets end
 abbrev pub is_awaited : Unfinished → Fragment → Bool
@@ -47,6 +56,11 @@ finished u = if is_packet u then Whole u.octets else Dropped
 abbrev pub ended : Unfinished → Option (List ℕ) → Joined
 ended u None = Dropped
 ended u (Some bytes) = finished (added u bytes)
+
+-- a packet that is whole, or was dropped
+abbrev pub ended_by : Bool → Unfinished → Joined
+ended_by true u = Whole u.octets
+ended_by false u = Dropped
 
 -- what is unfinished behind a fragment, and what became of it
 pub record Taken : Type 0 where

@@ -1,8 +1,11 @@
-ghost use Rattle.std.specs.Prelude.{◌≡◌, ◌≤◌, ◌<◌, ◌*◌, ◌/◌, ◌-◌, nat_le, length, take, drop};
+ghost use Rattle.std.specs.Prelude.{◌≡◌, ◌≤◌, ◌<◌, ◌*◌, ◌/◌, ◌-◌, ◌^◌, nat_le, length, take, drop, IfSome, option_map};
 ghost use Rattle.eoe.specs.Cutting.{blocks_of, next_fragment, cutting_after};
+ghost use Rattle.eoe.specs.Message.{IsFragment};
+ghost use Rattle.eoe.specs.View.{fragment_seen};
 
 use crate::message::{Fragment, Packet};
-use crate::viewing::BLOCK;
+use crate::reading::copy_of;
+use crate::viewing::{BLOCK, FragmentView};
 use ec_fields::buffer_of;
 use std::marker::Model;
 
@@ -24,7 +27,7 @@ impl Model for Fragmenter {
 
     ghost view = { λ f. record { packet = f.packet.items; size = f.size; frame = f.frame; number = f.number; at = f.at } };
 
-    ghost invariant = { λ f. IsCutting f.size f.number f.at };
+    ghost invariant = { λ f. IsCutting f.size f.frame f.number f.at };
 }
 
 /// Begins to cut a packet for a mailbox area of 64 to 1,486 octets, with the frame number 0 to 15.
@@ -32,6 +35,7 @@ impl Model for Fragmenter {
 pub fn cut(packet: &Packet, area: u16, frame: u8) -> Fragmenter
     requires least { 64 ≤ area }
     requires greatest { area ≤ 1486 }
+    requires framed { frame < 2 ^ 4 }
     ensures { result ≡ record { packet = packet.now.items; size = 32 * ((area - 10) / 32); frame = frame; number = 0; at = 0 } }
 {
     Fragmenter {
@@ -73,10 +77,12 @@ impl Fragmenter {
         self.at >= self.packet.len()
     }
 
-    /// The next fragment, `None` exactly behind the last.
-    pub fn next(&mut self) -> Option<Fragment>
-        ensures fragment { result ≡ next_fragment self.old }
-        ensures goes_on { self.new ≡ cutting_after self.old }
+    /// The next fragment as it stands in the packet, `None` exactly behind the last. It is one that
+    /// [`write_view`](crate::write_view) takes. Nothing is copied.
+    pub fn peek(&self) -> Option<FragmentView<'_>>
+        ensures fragment { option_map fragment_seen result ≡ next_fragment self.now }
+        ensures written { IfSome result (λ f. IsFragment (fragment_seen f)) }
+        ensures fits { IfSome result (λ f. length f.bytes.now ≤ 1476) }
     {
         let len = self.packet.len();
         if self.at >= len {
@@ -87,16 +93,37 @@ impl Fragmenter {
         } else {
             self.at / BLOCK
         };
-        let fragment = Fragment {
+        Some(FragmentView {
             last: len <= self.at + self.size,
             stamped: false,
             number: self.number,
             offset: offset as u8,
             frame: self.frame,
-            bytes: buffer_of(piece(self.packet.as_slice(), self.at, self.size)),
+            bytes: piece(self.packet.as_slice(), self.at, self.size),
+        })
+    }
+
+    /// Goes on behind the next fragment; behind the last it stays.
+    pub fn skip(&mut self)
+        ensures { self.new ≡ cutting_after self.old }
+    {
+        if self.at < self.packet.len() {
+            self.number += 1;
+            self.at += self.size;
+        }
+    }
+
+    /// The next fragment, `None` exactly behind the last. It is one that [`write`](crate::write) takes.
+    pub fn next(&mut self) -> Option<Fragment>
+        ensures fragment { result ≡ next_fragment self.old }
+        ensures goes_on { self.new ≡ cutting_after self.old }
+        ensures written { IfSome result IsFragment }
+    {
+        let fragment = match self.peek() {
+            Some(fragment) => Some(copy_of(fragment)),
+            None => None,
         };
-        self.number += 1;
-        self.at += self.size;
-        Some(fragment)
+        self.skip();
+        fragment
     }
 }

@@ -1,11 +1,13 @@
-ghost use Rattle.std.specs.Prelude.{◌≡◌, ◌≤◌, ◌<◌, ◌+◌, ◌*◌, length, None, IfSome};
+ghost use Rattle.std.specs.Prelude.{◌≡◌, ◌≤◌, ◌<◌, ◌+◌, ◌*◌, length, None};
 ghost use Rattle.std.specs.Bool.{OnTrue};
 ghost use Rattle.std.specs.Option.{option_copied};
-ghost use Rattle.eoe.specs.Joining.{is_awaited, awaited, added, extended, payload_of, is_packet, ended, taken};
+ghost use Rattle.eoe.specs.Joining.{is_awaited, awaited, added, payload_of, is_packet, ended, ended_by, taken, going_on, IsWithin};
+ghost use Rattle.eoe.specs.View.{fragment_seen, joined_in, IsKept};
 
 use crate::cutting::blocks;
 use crate::message::{Fragment, Packet};
-use crate::viewing::BLOCK;
+use crate::viewing::{BLOCK, FragmentView, fragment_of};
+use ec_fields::{append, refill};
 use std::marker::Model;
 
 /// The least and the greatest packet.
@@ -18,7 +20,7 @@ const STAMP: usize = 4;
 
 /// A packet whose last fragment has not come yet: its frame number, the number of the fragment that
 /// came last, how many blocks it is to have, how many octets came, and those octets. A packet that
-/// outgrows 1,514 octets keeps none.
+/// outgrows 1,514 octets keeps none from then on.
 #[derive(Debug, Drop)]
 pub struct Unfinished {
     pub frame: u8,
@@ -39,46 +41,51 @@ pub enum Joined {
     Dropped,
 }
 
-/// Packets joined from their fragments, one at a time.
+/// The same by itself.
+#[derive(Clone, Copy, Debug, PartialEq, Eq)]
+pub enum Came {
+    More,
+    Whole,
+    Dropped,
+}
+
+/// Packets joined from their fragments, one at a time, in one place.
 #[derive(Debug, Drop)]
 pub struct Reassembler {
-    unfinished: Option<Unfinished>,
+    is_going: bool,
+    packet: Unfinished,
 }
 
 impl Model for Reassembler {
     ghost use Rattle.std.specs.Prelude.{Option};
     ghost use Rattle.eoe.specs.declared.joining.Unfinished.{Unfinished};
+    ghost use Rattle.eoe.specs.Joining.{going_on, IsWithin};
 
     ghost Value = { Option Unfinished };
 
-    ghost view = { λ r. r.unfinished };
+    ghost view = { λ r. going_on r.is_going r.packet };
+
+    ghost invariant = { λ r. IsWithin r.packet };
 }
 
-// Appends octets that fit; a buffer that they outgrow is emptied.
-fn extend(mut octets: Packet, bytes: &[u8]) -> Packet
-    ensures { result.items ≡ extended octets.items bytes.now }
+// Adds the octets of a fragment to a packet.
+fn add(packet: &mut Unfinished, bytes: &[u8])
+    requires short { packet.old.size < 65536 }
+    requires within { IsWithin packet.old }
+    ensures value { packet.new ≡ added packet.old bytes.now }
+    ensures kept { IsWithin packet.new }
 {
-    match octets.try_extend_from_slice(bytes) {
-        Ok(()) => octets,
-        Err(_) => Packet::new(),
-    }
-}
-
-// The packet with the octets of a fragment.
-fn add(packet: Unfinished, bytes: &[u8]) -> Unfinished
-    requires { packet.size < 65536 }
-    ensures { result ≡ added packet bytes.now }
-{
-    Unfinished {
-        size: packet.size + bytes.len(),
-        octets: extend(packet.octets, bytes),
-        ..packet
+    packet.size += bytes.len();
+    if packet.size <= GREATEST {
+        append(&mut packet.octets, bytes);
+    } else {
+        packet.octets.clear();
     }
 }
 
 // Whether a fragment goes on with a packet.
-fn is_awaited(packet: &Unfinished, fragment: &Fragment) -> bool
-    ensures value { result ≡ is_awaited packet.now fragment.now }
+fn is_awaited(packet: &Unfinished, fragment: FragmentView<'_>) -> bool
+    ensures value { result ≡ is_awaited packet.now (fragment_seen fragment.entry) }
     ensures short { OnTrue result (packet.now.size < 65536) }
 {
     fragment.frame == packet.frame
@@ -86,34 +93,34 @@ fn is_awaited(packet: &Unfinished, fragment: &Fragment) -> bool
         && BLOCK * fragment.offset as usize == packet.size
 }
 
-// The packet that a fragment belongs to, before its octets: fragment 0 starts one.
-fn awaited(before: Option<Unfinished>, fragment: &Fragment) -> Option<Unfinished>
-    ensures value { result ≡ awaited before fragment.now }
-    ensures short { IfSome result (λ packet. packet.size < 65536) }
+// Makes a packet the one that a fragment belongs to, before its octets; false where there is none.
+// Fragment 0 starts one.
+fn accept(packet: &mut Unfinished, is_going: bool, fragment: FragmentView<'_>) -> bool
+    requires { IsWithin packet.old }
+    ensures value { going_on result packet.new ≡ awaited (going_on is_going packet.old) (fragment_seen fragment.entry) }
+    ensures kept { IsWithin packet.new }
+    ensures short { OnTrue result (packet.new.size < 65536) }
 {
     if fragment.number == 0 {
-        return Some(Unfinished {
-            frame: fragment.frame,
-            number: 0,
-            blocks: fragment.offset,
-            size: 0,
-            octets: Packet::new(),
-        });
+        packet.frame = fragment.frame;
+        packet.number = 0;
+        packet.blocks = fragment.offset;
+        packet.size = 0;
+        packet.octets.clear();
+        return true;
     }
-    match before {
-        Some(packet) if is_awaited(&packet, fragment) => Some(Unfinished {
-            number: fragment.number,
-            ..packet
-        }),
-        _ => None,
+    if !is_going || !is_awaited(packet, fragment) {
+        return false;
     }
+    packet.number = fragment.number;
+    true
 }
 
 // The octets of a last fragment without its time stamp, `None` where it is too short for one.
-fn payload(fragment: &Fragment) -> Option<&[u8]>
-    ensures { option_copied result ≡ payload_of fragment.now }
+fn payload(fragment: FragmentView<'_>) -> Option<&[u8]>
+    ensures { option_copied result ≡ payload_of (fragment_seen fragment.entry) }
 {
-    let bytes = fragment.bytes.as_slice();
+    let bytes = fragment.bytes;
     if !fragment.stamped {
         return Some(bytes);
     }
@@ -130,20 +137,18 @@ fn is_packet(packet: &Unfinished) -> bool
     packet.size >= LEAST && packet.size <= GREATEST && blocks(packet.size) == packet.blocks as usize
 }
 
-// A packet with its last fragment.
-fn end(packet: Unfinished, fragment: &Fragment) -> Joined
-    requires { packet.size < 65536 }
-    ensures { result ≡ ended packet (payload_of fragment.now) }
+// Adds the octets of the last fragment to a packet, and says whether it is whole then.
+fn end(packet: &mut Unfinished, fragment: FragmentView<'_>) -> bool
+    requires short { packet.old.size < 65536 }
+    requires within { IsWithin packet.old }
+    ensures value { ended_by result packet.new ≡ ended packet.old (payload_of (fragment_seen fragment.entry)) }
+    ensures kept { IsWithin packet.new }
 {
     let Some(bytes) = payload(fragment) else {
-        return Joined::Dropped;
+        return false;
     };
-    let whole = add(packet, bytes);
-    if is_packet(&whole) {
-        Joined::Whole(whole.octets)
-    } else {
-        Joined::Dropped
-    }
+    add(packet, bytes);
+    is_packet(packet)
 }
 
 impl Reassembler {
@@ -151,7 +156,38 @@ impl Reassembler {
     pub fn new() -> Reassembler
         ensures { result ≡ None }
     {
-        Reassembler { unfinished: None }
+        Reassembler {
+            is_going: false,
+            packet: Unfinished {
+                frame: 0,
+                number: 0,
+                blocks: 0,
+                size: 0,
+                octets: Packet::new(),
+            },
+        }
+    }
+
+    /// Takes the next fragment that came, as [`Reassembler::take`] does. Where it makes a packet whole,
+    /// this stands in `whole` then, which stays otherwise. Nothing but octets that came is copied.
+    pub fn take_into(&mut self, fragment: FragmentView<'_>, whole: &mut Packet) -> Came
+        ensures taken { record { unfinished = self.new; joined = joined_in result whole.new } ≡ taken self.old (fragment_seen fragment.entry) }
+        ensures kept { IsKept result whole.old whole.new }
+    {
+        self.is_going = accept(&mut self.packet, self.is_going, fragment);
+        if !self.is_going {
+            return Came::Dropped;
+        }
+        if !fragment.last {
+            add(&mut self.packet, fragment.bytes);
+            return Came::More;
+        }
+        self.is_going = false;
+        if !end(&mut self.packet, fragment) {
+            return Came::Dropped;
+        }
+        refill(whole, self.packet.octets.as_slice());
+        Came::Whole
     }
 
     /// Takes the next fragment that came. `Dropped` comes exactly where it isn't the awaited one: a
@@ -161,14 +197,11 @@ impl Reassembler {
     pub fn take(&mut self, fragment: &Fragment) -> Joined
         ensures { record { unfinished = self.new; joined = result } ≡ taken self.old fragment.now }
     {
-        let before = self.unfinished.take();
-        let Some(packet) = awaited(before, fragment) else {
-            return Joined::Dropped;
-        };
-        if fragment.last {
-            return end(packet, fragment);
+        let mut whole = Packet::new();
+        match self.take_into(fragment_of(fragment), &mut whole) {
+            Came::More => Joined::More,
+            Came::Whole => Joined::Whole(whole),
+            Came::Dropped => Joined::Dropped,
         }
-        self.unfinished = Some(add(packet, fragment.bytes.as_slice()));
-        Joined::More
     }
 }

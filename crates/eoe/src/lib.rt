@@ -14,7 +14,7 @@ mod writing;
 
 pub use address::{first_block, is_block};
 pub use cutting::{Fragmenter, cut};
-pub use joining::{Joined, Reassembler, Unfinished};
+pub use joining::{Came, Joined, Reassembler, Unfinished};
 pub use message::{Block, Eoe, EoeFault, Fragment, Packet};
 pub use reading::read;
 pub use viewing::{EoeView, FragmentView, fragment_of, view, view_of};

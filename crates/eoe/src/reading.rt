@@ -7,7 +7,7 @@ use crate::viewing::{EoeView, FragmentView, view};
 use ec_fields::buffer_of;
 
 // The fragment by itself.
-fn fragment_of(fragment: FragmentView<'_>) -> Fragment
+pub(crate) fn copy_of(fragment: FragmentView<'_>) -> Fragment
     requires { length fragment.bytes.now ≤ 1476 }
     ensures { result ≡ fragment_seen fragment.entry }
 {
@@ -27,7 +27,7 @@ fn message_of(message: EoeView<'_>) -> Eoe
     ensures { result ≡ eoe_seen message.entry }
 {
     match message {
-        EoeView::Fragment(fragment) => Eoe::Fragment(fragment_of(fragment)),
+        EoeView::Fragment(fragment) => Eoe::Fragment(copy_of(fragment)),
         EoeView::SetIp(block) => Eoe::SetIp(buffer_of(block)),
         EoeView::SetIpAnswer(result_code) => Eoe::SetIpAnswer(result_code),
         EoeView::GetIp => Eoe::GetIp,

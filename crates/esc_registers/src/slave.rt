@@ -172,6 +172,13 @@ impl Esc {
         Some(self.registers.al_control)
     }
 
+    /// Whether AL control was written and the slave's processor hasn't looked at it yet.
+    pub fn is_asked(&self) -> bool
+        ensures { result ≡ self.now.unhandled }
+    {
+        self.registers.unhandled
+    }
+
     /// Sets AL status and AL status code.
     pub fn set_al(&mut self, status: u16, code: u16)
         ensures { self.new ≡ record self.old { al_status = status; al_code = code } }

@@ -7,9 +7,11 @@ abbrev pub EachOf : {M : Type 0} → (M → Type 0) → List M → Type 0
 EachOf P [] = Unit {0}
 EachOf P (m ∷ ms) = P m × EachOf P ms
 
+-- a mail is read, served, and what the server gives is written
 abbrev pub lifted_serve : {V M N : Type 0} → (V → M → V × List M) → (N → M) → (M → N) → V → N → V × List N
 lifted_serve serve read write v n = ((serve v (read n)).0, map write (serve v (read n)).1)
 
+-- the client of the same, over mails that are read and written
 abbrev pub lifted_speech : {M N Q R : Type 0} → Speech M Q R → (N → M) → (M → N) → Speech N Q R
 lifted_speech x read write = record {
   emission = λ n. x.emission (read n);
@@ -19,6 +21,7 @@ lifted_speech x read write = record {
   handed = x.handed;
 }
 
+-- AN EXCHANGE OVER OTHER MAILS: each is read where it is taken and heard, and written where it is given and told
 abbrev pub lifted : {V A M N Q R : Type 0} → Exchange V A M Q R → (N → M) → (M → N) → Exchange V A N Q R
 lifted x read write = record {
   serve = lifted_serve x.serve read write;

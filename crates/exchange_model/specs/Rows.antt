@@ -37,23 +37,26 @@ row_told m r = record r { told = r.told ++ m ∷ [] }
 abbrev pub left : {M Q R : Type 0} → Speech M Q R → Row M Q R → List M
 left x r = drop (length r.told) (x.planned r.service (plain x.emission r.heard))
 
--- all mails held for these rows, all that were heard in them, and their services, in order
+-- all mails held for these rows, in order
 abbrev pub told_all : {M Q R : Type 0} → List (Row M Q R) → List M
 told_all [] = []
 told_all (r ∷ rs) = r.told ++ told_all rs
 
+-- all that were heard in them
 abbrev pub heard_all : {M Q R : Type 0} → List (Row M Q R) → List M
 heard_all [] = []
 heard_all (r ∷ rs) = r.heard ++ heard_all rs
 
+-- their services
 abbrev pub services : {M Q R : Type 0} → List (Row M Q R) → List Q
 services rs = map (λ r. r.service) rs
 
--- the application behind these services, and all that they emit
+-- the application behind these services
 abbrev pub exec_all : {V A M Q R : Type 0} → Exchange V A M Q R → A → List Q → A
 exec_all x a [] = a
 exec_all x a (q ∷ qs) = exec_all x (x.exec a q) qs
 
+-- all that they emit
 abbrev pub emits_all : {V A M Q R : Type 0} → Exchange V A M Q R → A → List Q → List M
 emits_all x a [] = []
 emits_all x a (q ∷ qs) = x.emits a q ++ emits_all x (x.exec a q) qs

@@ -4,6 +4,7 @@ use Rattle.std.specs.Prelude.{ℕ, suc, ◌+◌, Bool, true, false, List, [], �
 use Rattle.exchange_model.specs.Exchange.{Exchange, Speech}
 use Rattle.exchange_model.specs.Dialogue.{Turn, next, stop, said, sent}
 
+-- the two mails of a sum and the one of a post; what answers them, and the emission
 pub data Mail : Type 0 where
   first : (n : ℕ) → Mail
   second : Mail
@@ -13,6 +14,7 @@ pub data Mail : Type 0 where
   refused : Mail
   noted : (n : ℕ) → Mail
 
+-- a number is added with an answer, or posted
 pub data Service : Type 0 where
   sum : (n : ℕ) → Service
   post : (n : ℕ) → Service
@@ -23,10 +25,12 @@ pub record Adder : Type 0 where
   pub handled : ℕ
   pub half : Option ℕ
 
+-- the second mail of a sum adds the number of the first, where there is one
 abbrev pub finish : Adder → Option ℕ → Adder × List Mail
 finish v None = (v, refused ∷ [])
 finish v (Some n) = (record { value = v.value + n; handled = suc v.handled; half = None }, total (v.value + n) ∷ noted n ∷ [])
 
+-- one mail
 abbrev pub serve : Adder → Mail → Adder × List Mail
 serve v (first n) = (record v { half = Some n }, held ∷ [])
 serve v second = finish v v.half
@@ -36,6 +40,7 @@ serve v (total n) = (v, refused ∷ [])
 serve v refused = (v, refused ∷ [])
 serve v (noted n) = (v, refused ∷ [])
 
+-- a note replies to nothing
 abbrev pub emission : Mail → Bool
 emission (first n) = false
 emission second = false
@@ -66,10 +71,12 @@ abbrev pub ends : Service → List Mail → Option ℕ
 ends (sum n) (held ∷ total value ∷ []) = Some value
 ends _ _ = None
 
+-- a post ends with its mail
 abbrev pub handed : Service → Bool
 handed (sum n) = false
 handed (post n) = true
 
+-- the number of a service
 abbrev pub number : Service → ℕ
 number (sum n) = n
 number (post n) = n
@@ -78,6 +85,7 @@ number (post n) = n
 abbrev pub speech : Speech Mail Service ℕ
 speech = record { emission = emission; valid = λ q. true; planned = λ q hs. said decide 2 (mails q) hs; ends = ends; handed = handed }
 
+-- the adder as an exchange
 abbrev pub adder : Exchange Adder ℕ Mail Service ℕ
 adder = record {
   serve = serve;

@@ -17,6 +17,7 @@ pub record Refusal (V M Q R : Type 0) : Type 0 where
   -- the mails that a client sends
   pub asked : Q → List M
 
+-- it counts what it is told to count, and gives the mailbox error or nothing
 abbrev pub refused_serve : {V M Q R : Type 0} → Refusal V M Q R → V → M → V × List M
 refused_serve r v m = (if r.counts m then r.counted v else v, r.gives m)
 

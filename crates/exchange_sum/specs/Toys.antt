@@ -9,9 +9,11 @@ use Rattle.exchange_sum.specs.Sides.{Slave, joined}
 abbrev pub Numbered : Type 0
 Numbered = ℕ × Mail
 
+-- the mail without its number
 abbrev pub content : Numbered → Mail
 content n = n.1
 
+-- a mail for this adder
 abbrev pub numbered : ℕ → Mail → Numbered
 numbered number m = (number, m)
 
@@ -33,6 +35,7 @@ seat number j = record { value = j.value; handled = j.handled; half = j.halves n
 abbrev pub reseated : ℕ → Joint → Adder → Joint
 reseated number j v = record { value = v.value; handled = v.handled; halves = λ other. if number == other then v.half else j.halves other }
 
+-- the adders as one slave
 abbrev pub slave : Slave Joint ℕ Numbered
 slave = record {
   serve = λ j m. (reseated m.0 j (adder.serve (seat m.0 j) m.1).0, map (numbered m.0) (adder.serve (seat m.0 j) m.1).1);
@@ -42,5 +45,6 @@ slave = record {
   ready = λ j. true;
 }
 
+-- all adders as one exchange
 abbrev pub adders : Exchange Joint ℕ Numbered ((number : ℕ) × Service) ℕ
 adders = joined slave adder_of seat

@@ -12,7 +12,8 @@ use Rattle.pcap_frames.specs.declared.order.Order.TheVariants.{LowFirst, HighFir
 use Rattle.pcap_frames.specs.Order.{number_in, octets_in}
 use Rattle.pcap_frames.specs.Capture.{Packet, packet_text, packets_text, IsPacket, Each, IsCapture, places_of, magic_of, head_text, saved}
 use Rattle.pcap_frames.specs.Reading.{magic_in, captured_in, packet_at, packet_read, joined, packets_within, capture_of, capture_by, capture_read, UnlessNoMemory}
-use Rattle.pcap_frames.proofs.Spelled.{AreOctets, AreOctets-drop, four_back, length-four, four_here, two_here, four_fits}
+use Rattle.ec_fields.proofs.Cells.{AreOctets, AreOctets-drop}
+use Rattle.pcap_frames.proofs.Spelled.{four_back, length-four, four_here, two_here, four_fits}
 use Rattle.pcap_frames.proofs.Steps.{found_packet}
 
 -- spelled, so read

@@ -24,8 +24,9 @@ pub struct Capture {
     pub packets: Rows<PacketAt>,
 }
 
-/// Why octets are no capture: the first cause that applies, in this order. `at` is the file's length,
-/// or the place of a packet's header.
+/// Why octets are no capture: the first cause that applies, in this order. The two of a packet are judged
+/// by what is left for its header, then by its length, then by what is left for its octets. `at` is the
+/// file's length, or the place of a packet's header.
 #[derive(Clone, Copy, Debug, PartialEq, Eq)]
 pub enum PcapFault {
     /// Fewer than 24 octets.
@@ -36,7 +37,7 @@ pub enum PcapFault {
     Version,
     /// A link type other than 1, Ethernet.
     LinkType,
-    /// Fewer octets are left than the packet's header has, or than the packet.
+    /// Fewer octets are left than the packet's header has, or than a packet of at most 262,144 octets.
     RecordCut { at: usize },
     /// The packet says that it has more than 262,144 octets.
     RecordTooLong { at: usize },

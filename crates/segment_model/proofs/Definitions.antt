@@ -6,7 +6,6 @@ use Rattle.segment_model.specs.Slaves.{Datagram, Address, Access, Found}
 use Rattle.segment_model.specs.Record.{Frame}
 use Rattle.segment_model.specs.Visits.{Stop, new_tour, Visits}
 use Rattle.segment_model.specs.Switching.{SwitchEvent, Numbered, IsPort}
-use Rattle.segment_model.specs.Epochs.{frames_in}
 
 abbrev stop : ℕ → Stop
 stop station = record { station = station; state = 2; area = 128 }
@@ -58,8 +57,3 @@ events =
 
 port : IsPort events 1 (11 ∷ []) (8 ∷ []) (Some 13)
 port = record { begun = refl; arrived = refl; down = refl; last = ((λ e. absurd (cc)), ((λ e. absurd (cc)), ((λ e. absurd (cc)), ((λ e. refl), tt)))) }
-
--- the frames of the first of two epochs, and of the second
-epochs : (frames_in (record { row = 0; cleared = None; opened = Some 0 }) (record { row = 1; cleared = Some 3; opened = Some 4 } ∷ []) (passes [] ∷ brought_up 1 ∷ passes [] ∷ loses [] ∷ loses [] ∷ brought_up 2 ∷ []) ≡ brought_up 1 ∷ passes [] ∷ [])
-    × (frames_in (record { row = 1; cleared = Some 3; opened = Some 4 }) [] (passes [] ∷ brought_up 1 ∷ passes [] ∷ loses [] ∷ loses [] ∷ brought_up 2 ∷ []) ≡ brought_up 2 ∷ [])
-epochs = (refl, refl)

@@ -18,7 +18,7 @@ pub mod Handed
 pub mod Hands
 pub mod Ended
 pub mod Bounds
-mod Tours
+pub mod Tours
 mod Trials
 mod Table
 mod Paces

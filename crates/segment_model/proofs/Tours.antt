@@ -8,7 +8,7 @@ use Rattle.segment_model.specs.Slaves.{Datagram}
 use Rattle.segment_model.specs.Record.{Frame, back_news}
 use Rattle.segment_model.specs.Visits.{Stop, Tour, carried, split_behind, is_live, round, Fills, IsVisit, shows, opening_after, is_among, without, visited, last_of, tour_after, Visits, Absent, NeverCarried, new_tour, tour_over, IsLost, AllLost, AllMissed, IsGivenUp}
 
-abbrev stations : List Stop → List ℕ
+abbrev pub stations : List Stop → List ℕ
 stations ss = map (λ s. s.station) ss
 
 not_live : (n : ℕ) (live : List Stop) → Absent n (stations live) → is_live n live ≡ false
@@ -37,7 +37,7 @@ fills_absent n size (s ∷ ss) [] a f = tt
 fills_absent n size [] (c ∷ cs) a f = absurd f
 fills_absent n size (s ∷ ss) (c ∷ cs) a f = (subst (λ k. (k == n) ≡ false) f.0 a.0, fills_absent n size ss cs a.1 f.1)
 
-abbrev AgainAbsent : ℕ → Option (List ℕ) → Type 0
+abbrev pub AgainAbsent : ℕ → Option (List ℕ) → Type 0
 AgainAbsent n None = ⊤
 AgainAbsent n (Some cs) = Absent n cs
 
@@ -46,7 +46,7 @@ record Gone (n : ℕ) (t : Tour) : Type 0 where
   pub live : Absent n (stations t.live)
   pub again : AgainAbsent n t.again
 
-visit_absent : (n size : ℕ) (again : Option (List ℕ)) (opening ss : List Stop) (cs : List ℕ) → AgainAbsent n again → Absent n (stations opening) → Absent n (stations ss) → IsVisit size again opening ss cs → Absent n cs
+pub visit_absent : (n size : ℕ) (again : Option (List ℕ)) (opening ss : List Stop) (cs : List ℕ) → AgainAbsent n again → Absent n (stations opening) → Absent n (stations ss) → IsVisit size again opening ss cs → Absent n cs
 visit_absent n size (Some same) opening ss cs a o l v = subst (Absent n) (sym v) a
 visit_absent n size None (s ∷ opening) ss cs a o l v = subst (Absent n) (sym v) (o.0, tt)
 visit_absent n size None [] ss [] a o l v = tt
@@ -60,7 +60,7 @@ without_absent n gone (s ∷ ss) a = go (not (is_among s.station gone)) (without
     go true h = (a.0, h)
     go false h = h
 
-opened_absent : {M : Type 0} (n : ℕ) (back : List (Datagram M)) (ss : List Stop) → Absent n (stations ss) → Absent n (stations (opening_after back ss))
+pub opened_absent : {M : Type 0} (n : ℕ) (back : List (Datagram M)) (ss : List Stop) → Absent n (stations ss) → Absent n (stations (opening_after back ss))
 opened_absent n back [] a = tt
 opened_absent n back (s ∷ ss) a = go (shows s.state (back_news s.station 0 back))
   where

@@ -8,6 +8,5 @@ pub mod Split
 pub mod GiveUps
 pub mod Visits
 pub mod Switching
-pub mod Epochs
 pub mod Books
 pub mod Trial

@@ -49,9 +49,22 @@ module _ (table : Table) (stays : (from to : ℕ) → table from to ≡ None →
   met : (s t : ℕ) (phase : Phase) (r : Registers) → InHand table s t phase r → InHand table s t phase (word_met r (word_of t phase))
   met s t Phase.Ask r (inl k) = inl (record { state = k.state; refused = k.refused; word = λ c f. inr (let g : Some (t, false) ≡ Some c = f in cc) })
   met s t Phase.Ask r (inr (inl k)) = inr (inl (record { made = k.made; state = k.state; refused = k.refused; word = λ c f. let g : Some (t, false) ≡ Some c = f in cc }))
-  met s t Phase.Ask r (inr (inr k)) = inr (inr (record { code = k.code; denied = k.denied; state = k.state; refused = k.refused; word = λ c f. let g : Some (t, false) ≡ Some c = f in cc }))
+  met s t Phase.Ask r (inr (inr k)) = inr (inr (record {
+    code = k.code;
+    denied = k.denied;
+    state = k.state;
+    refused = k.refused;
+    word = λ c f. let g : Some (t, false) ≡ Some c = f in cc;
+    asks = λ c f. let g : Some (t, false) ≡ Some c = f in cc;
+  }))
   met s t Phase.Await r k = k
-  met s t (Phase.Acknowledge state first) r (e, inl k) = (e, inl (record { denied = k.denied; state = k.state; refused = k.refused; word = λ c f. inr (let g : Some (state, true) ≡ Some c = f in cc) }))
+  met s t (Phase.Acknowledge state first) r (e, inl k) = (e, inl (record {
+    denied = k.denied;
+    state = k.state;
+    refused = k.refused;
+    word = λ c f. inr (let g : Some (state, true) ≡ Some c = f in cc);
+    asks = λ c f. inl (let g : Some (state, true) ≡ Some c = f in cc);
+  }))
   met s t (Phase.Acknowledge state first) r (e, inr k) = (e, inr (record { denied = k.denied; state = k.state; refused = k.refused; word = λ c f. let g : Some (state, true) ≡ Some c = f in cc }))
   met s t (Phase.Recover first) r k = k
 
@@ -134,7 +147,7 @@ module _ (table : Table) (stays : (from to : ℕ) → table from to ≡ None →
   flags s t r code (inr (inl k)) e = absurd (let no = k.refused in cc)
   flags s t r code (inr (inr k)) e =
       let same : Some k.code ≡ Some code = sym k.refused ∙ e in
-      (k.state, record { denied = k.denied ∙ same; state = k.state; refused = e; word = λ c g. inl (k.word c g) })
+      (k.state, record { denied = k.denied ∙ same; state = k.state; refused = e; word = λ c g. inl (k.word c g); asks = λ c g. inr (k.asks c g) })
 
   -- no flag is read behind one
   recovers : (s t first : ℕ) (r : Registers) → Flag table s t first r ⊎ Cleared table s t first r → r.refused ≡ None → (table s t ≡ Some first) × Idle table s r

@@ -30,6 +30,7 @@ module _ (table : Table) where
     pub state : r.state ≡ s
     pub refused : r.refused ≡ Some code
     pub word : (word : ℕ × Bool) → r.control ≡ Some word → word.1 ≡ false
+    pub asks : (word : ℕ × Bool) → r.control ≡ Some word → word.0 ≡ t
 
   -- the acknowledge was not carried out
   pub record Flag (s t first : ℕ) (r : Registers) : Type 0 where
@@ -37,6 +38,7 @@ module _ (table : Table) where
     pub state : r.state ≡ s
     pub refused : r.refused ≡ Some first
     pub word : (word : ℕ × Bool) → r.control ≡ Some word → (word.1 ≡ false) ⊎ (word.0 ≡ s)
+    pub asks : (word : ℕ × Bool) → r.control ≡ Some word → (word.0 ≡ s) ⊎ (word.0 ≡ t)
 
   -- the acknowledge was carried out
   pub record Cleared (s t first : ℕ) (r : Registers) : Type 0 where
@@ -84,7 +86,7 @@ module _ (table : Table) where
     where
       decide : (word : ℕ × Bool) (v : Option ℕ) → word.0 ≡ t → table s t ≡ v → (let n = decided r word.0 v in Fresh s t n ⊎ (Changed s t n ⊎ Denied s t n))
       decide word None w e = inr (inl (record { made = e; state = w; refused = refl; word = λ c g. absurd (cc) }))
-      decide word (Some code) w e = inr (inr (record { code = code; denied = e; state = k.state; refused = refl; word = λ c g. absurd (cc) }))
+      decide word (Some code) w e = inr (inr (record { code = code; denied = e; state = k.state; refused = refl; word = λ c g. absurd (cc); asks = λ c g. absurd (cc) }))
 
       word_step : (word : ℕ × Bool) → (word.0 ≡ s) ⊎ (word.0 ≡ t) → (let n = decided r word.0 (table r.state word.0) in Fresh s t n ⊎ (Changed s t n ⊎ Denied s t n))
       word_step word (inl w) = subst (λ v. let n = decided r word.0 v in Fresh s t n ⊎ (Changed s t n ⊎ Denied s t n)) (sym (same s sits r word.0 k.state w))
@@ -101,7 +103,7 @@ module _ (table : Table) where
   asked_step s t sits may r (inr (inr k)) = stepped (λ n. Fresh s t n ⊎ (Changed s t n ⊎ Denied s t n)) r (λ e. inr (inr k))
       (λ word e f. absurd (let no = k.refused in cc))
       (λ code word e f. subst (λ b. let n = if b then decided r word.0 (table r.state word.0) else record r { control = None } in Fresh s t n ⊎ (Changed s t n ⊎ Denied s t n)) (sym (k.word word f))
-      (inr (inr (record { code = k.code; denied = k.denied; state = k.state; refused = k.refused; word = λ c g. absurd (cc) }))))
+      (inr (inr (record { code = k.code; denied = k.denied; state = k.state; refused = k.refused; word = λ c g. absurd (cc); asks = λ c g. absurd (cc) }))))
 
   acknowledged_step : (s t first : ℕ) → table s s ≡ None → (r : Registers) → Flag s t first r ⊎ Cleared s t first r → Flag s t first (carry table r) ⊎ Cleared s t first (carry table r)
   acknowledged_step s t first sits r (inl k) = stepped (λ n. Flag s t first n ⊎ Cleared s t first n) r (λ e. inl k)
@@ -109,7 +111,7 @@ module _ (table : Table) where
       (λ code word e f. word_step word word.1 (k.word word f))
     where
       ignored : Flag s t first (record r { control = None })
-      ignored = record { denied = k.denied; state = k.state; refused = k.refused; word = λ c g. absurd (cc) }
+      ignored = record { denied = k.denied; state = k.state; refused = k.refused; word = λ c g. absurd (cc); asks = λ c g. absurd (cc) }
 
       cleared : (word : ℕ × Bool) → word.0 ≡ s → Cleared s t first (decided r word.0 (table r.state word.0))
       cleared word w = subst (λ v. Cleared s t first (decided r word.0 v)) (sym (same s sits r word.0 k.state w))

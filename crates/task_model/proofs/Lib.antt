@@ -17,6 +17,7 @@ pub mod Newest
 pub mod Promised
 pub mod Resting
 pub mod Booked
+pub mod Steadies
 pub mod Sessions
 mod ToyRun
 pub mod Owned

@@ -33,6 +33,8 @@ use Rattle.task_model.proofs.Newest.{Holds, side_facts, newest_over}
 use Rattle.task_model.proofs.Promised.{promised}
 use Rattle.task_model.proofs.Resting.{rests}
 use Rattle.task_model.proofs.Booked
+use Rattle.task_model.specs.Steady.{AsksNoInit, IsSteady}
+use Rattle.task_model.proofs.Steadies.{steady}
 
 -- facts of the seats beside facts of each slave
 each_seats : {V M Q R : Type 0} (P : Seat V M Q R → Type 0) (O : Planned V → Seat V M Q R → Account Q R → Type 0) (ps : List (Planned V)) (ss : List (Seat V M Q R)) (more : List (Account Q R)) → EachSeat P ss → EachOne O ps ss more →
@@ -330,6 +332,10 @@ module _ {V A M Q R : Type 0} (x : Exchange V A M Q R) (law : IsLawful x) (s : S
 
       pub tasks_ended : EachTask (λ station start d a n. TasksEndedIf x more fs station start d a n) ps ds accounts ns
       tasks_ended = of_slaves (λ t fs station start d a n. TasksEndedIf x more fs station start d a n) (λ t begun is fs seat a h. Booked.tasks_ended x law s stated t more begun is fs seat a h)
+
+      pub tasks_steady : EachTask (λ station start d a n. AsksNoInit s (x.app start) a → IsSteady n) ps ds accounts ns
+      tasks_steady = of_slaves (λ t fs station start d a n. AsksNoInit s (x.app start) a → IsSteady n)
+          (λ t begun is fs seat a h asks. steady t begun is seat.station fs seat.slave a h.stately (λ e. asks.begun (h.begun ∙ e)) asks.over asks.hand)
 
       pub tasks_done : (scripted : ℕ → List (Service Q)) → EachTask (λ station start d a n. TasksDoneIf x s (table station) more scripted fs station start d a n) ps ds accounts ns
       tasks_done scripted = of_slaves (λ t fs station start d a n. TasksDoneIf x s t more scripted fs station start d a n) (λ t begun is fs seat a h. Booked.tasks_done x law s stated t more begun is fs seat a h scripted)

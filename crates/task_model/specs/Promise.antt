@@ -1,16 +1,17 @@
 -- What a session of services by mails and state services promises of each slave.
 use Rattle.std.specs.Prelude.{◌≡◌, ℕ, suc, ◌+◌, ◌<◌, ◌≤◌, Bool, Option, Some, None, List, [], ◌∷◌, ◌++◌, map, take, length, ⊤}
 use Rattle.exchange_model.specs.Prefix.{IsPrefixOf}
-use Rattle.exchange_model.specs.Exchange.{Exchange, Speech, emitted}
+use Rattle.exchange_model.specs.Exchange.{Exchange, Speech, IsLawful, emitted}
 use Rattle.exchange_model.specs.Rows.{Row, exec_all, emits_all}
-use Rattle.segment_model.specs.Slaves.{Slave, Ring}
+use Rattle.segment_model.specs.Slaves.{Slave, Ring, Processor}
 use Rattle.segment_model.specs.Record.{Frame, first_end, news_from, heard}
 use Rattle.segment_model.specs.Ends.{Task, Outcome, ends}
 use Rattle.segment_model.specs.Seats.{Side, Planned, rows_of}
 use Rattle.segment_model.specs.Laws.{AllAnswered, IsSettled, WantsNothing}
 use Rattle.state_model.specs.States.{Table}
-use Rattle.state_exchange.specs.Stated.{Stated, Service, with_states, mails}
+use Rattle.state_exchange.specs.Stated.{Stated, IsStated, Service, with_states, mails}
 use Rattle.task_model.specs.Accounts.{Started, Duty, Change, Account}
+use Rattle.task_model.specs.Tasks.{IsTaskPlan, IsTasked}
 
 -- a service as a task of the table of completed services
 abbrev pub task_of : {M Q : Type 0} → Service Q → Task M Q
@@ -168,3 +169,24 @@ EachTask P [] [] [] [] = ⊤
 EachTask P (p ∷ ps) (d ∷ ds) (a ∷ more) (n ∷ ns) =
     ((d.0 ≡ p.station) × (n.0 ≡ p.station) × (p.registers.station ≡ p.station → P p.station p.server d.1 a n.1)) × EachTask P ps ds more ns
 EachTask P ps ds more ns = ⊥
+
+-- A SESSION OF A PLAN as it stands: an exchange that owes the laws and whose AL state is a part of its application, the slaves' processors and
+-- tables, the plan, and the sides, accounts, ring and frames that a session of it has come to
+pub record PlanSession (V A M Q R : Type 0) : Type 0 where
+  pub exchange : Exchange V A M Q R
+  pub states : Stated V A Q
+  pub processor : Processor V
+  pub table : ℕ → Table
+  pub plan : List (Planned V)
+  pub sides : List (ℕ × Side M Q R)
+  pub accounts : List (Account Q R)
+  pub ring : Ring V M
+  pub frames : List (Frame M)
+  pub lawful : IsLawful exchange
+  pub stated : IsStated exchange states
+  pub planned : IsTaskPlan exchange states processor table plan
+  pub tasked : IsTasked exchange states.acknowledged processor plan sides accounts ring frames
+
+-- a fact of each slave of it that answers to its station
+abbrev pub OfEach : {V A M Q R : Type 0} → PlanSession V A M Q R → (ℕ → V → Side M Q R → Account Q R → Slave V M → Type 0) → Type 0
+OfEach w P = EachTask P w.plan w.sides w.accounts w.ring

@@ -5,17 +5,17 @@
 #![tactic(auto)]
 
 ghost use Rattle.std.specs.Prelude.{◌≡◌, ℕ, Bool, List, [], ◌∷◌, ◌++◌, length};
-ghost use Rattle.exchange_model.specs.Exchange.{Exchange, IsLawful};
+ghost use Rattle.exchange_model.specs.Exchange.{Exchange};
 ghost use Rattle.segment_model.specs.Slaves.{Processor, Ring, Move, ring_after, ring_back, ring_steps};
 ghost use Rattle.segment_model.specs.Record.{Frame, frame_of};
 ghost use Rattle.segment_model.specs.Seats.{Side, Planned, IsOpening, ring_of, sides_of};
 ghost use Rattle.segment_model.specs.Laws.{HandedBy, KnowsCounters};
 ghost use Rattle.segment_model.specs.Split.{IsBound, IsFrameOf, sides_next, sides_after};
-ghost use Rattle.state_model.specs.States.{Table};
-ghost use Rattle.state_exchange.specs.Stated.{Stated, IsStated, Service};
+ghost use Rattle.state_exchange.specs.Stated.{Stated, Service};
 ghost use Rattle.task_model.specs.Accounts.{Account, Pick};
-ghost use Rattle.task_model.specs.Tasks.{TaskTurn, IsTaskPlan, IsTasked, AreServed, MayRun, mails_choices, accounts_next, accounts_after, new_tasks, run};
-ghost use Rattle.task_model.specs.Promise.{EachTask, TasksPromised, TasksRestIf, TasksAnswered};
+ghost use Rattle.task_model.specs.Tasks.{TaskTurn, IsTasked, AreServed, MayRun, mails_choices, accounts_next, accounts_after, new_tasks, run};
+ghost use Rattle.task_model.specs.Promise.{PlanSession, OfEach, TasksPromised, TasksRestIf, TasksAnswered};
+ghost use Rattle.task_model.specs.Steady.{AsksNoInit, IsSteady};
 ghost use Rattle.task_model.specs.Books.{TasksPast, TasksEndedIf, TasksDoneIf};
 
 /// What such a session promises of each slave of its plan that answers to its station, with the master's side and account of it, the slave and
@@ -23,41 +23,35 @@ ghost use Rattle.task_model.specs.Books.{TasksPast, TasksEndedIf, TasksDoneIf};
 pub fn tasks_law<V, A, M, Q, R>()
     // The slave has carried out just the first of the services that came into hand, by mails and AL states, each once and in order; each answer
     // is the one that the table of completed services gives for the news of the slave, and is its application's, in the AL state that stood.
-    ensures promised { (x : Exchange V A M Q R) → IsLawful x → (s : Stated V A Q) → IsStated x s → (table : ℕ → Table) (more : M → Bool) (processor : Processor V) (ps : List (Planned V)) → IsTaskPlan x s processor table ps →
-        (ds : List (ℕ × Side M Q R)) (accounts : List (Account Q R)) (ns : Ring V M) (fs : List (Frame M)) → IsTasked x s.acknowledged processor ps ds accounts ns fs →
-        EachTask (λ station start d a n. TasksPromised x s (table station) more fs station start d a n) ps ds accounts ns }
+    ensures promised { (w : PlanSession V A M Q R) (more : M → Bool) →
+        OfEach w (λ station start d a n. TasksPromised w.exchange w.states (w.table station) more w.frames station start d a n) }
 
     // What a book takes from the master's side and its account of a slave is what the record gives: its services by mails are the rows of the
     // side, with the record's answers, and its state services those that are over, with the record's outcomes, and behind them the one in hand.
-    ensures answered { (x : Exchange V A M Q R) → IsLawful x → (s : Stated V A Q) → IsStated x s → (table : ℕ → Table) (more : M → Bool) (processor : Processor V) (ps : List (Planned V)) → IsTaskPlan x s processor table ps →
-        (ds : List (ℕ × Side M Q R)) (accounts : List (Account Q R)) (ns : Ring V M) (fs : List (Frame M)) → IsTasked x s.acknowledged processor ps ds accounts ns fs →
-        EachTask (λ station start d a n. TasksAnswered x s (table station) more fs station start d a n) ps ds accounts ns }
+    ensures answered { (w : PlanSession V A M Q R) (more : M → Bool) →
+        OfEach w (λ station start d a n. TasksAnswered w.exchange w.states (w.table station) more w.frames station start d a n) }
 
     // A service that ends with its last write, as a packet, is complete by the record exactly where its row is over.
-    ensures handed { (x : Exchange V A M Q R) → IsLawful x → (s : Stated V A Q) → IsStated x s → (table : ℕ → Table) (more : M → Bool) (processor : Processor V) (ps : List (Planned V)) → IsTaskPlan x s processor table ps →
-        (ds : List (ℕ × Side M Q R)) (accounts : List (Account Q R)) (ns : Ring V M) (fs : List (Frame M)) → IsTasked x s.acknowledged processor ps ds accounts ns fs →
-        EachTask (λ station start d a n. HandedBy x more fs station start d n) ps ds accounts ns }
+    ensures handed { (w : PlanSession V A M Q R) (more : M → Bool) → OfEach w (λ station start d a n. HandedBy w.exchange more w.frames station start d n) }
 
     // The halves know the counters of the record, so a master can tell the news of a frame by its own state.
-    ensures counters { (x : Exchange V A M Q R) → IsLawful x → (s : Stated V A Q) → IsStated x s → (table : ℕ → Table) (more : M → Bool) (processor : Processor V) (ps : List (Planned V)) → IsTaskPlan x s processor table ps →
-        (ds : List (ℕ × Side M Q R)) (accounts : List (Account Q R)) (ns : Ring V M) (fs : List (Frame M)) → IsTasked x s.acknowledged processor ps ds accounts ns fs →
-        EachTask (λ station start d a n. KnowsCounters fs station start d n) ps ds accounts ns }
+    ensures counters { (w : PlanSession V A M Q R) → OfEach w (λ station start d a n. KnowsCounters w.frames station start d n) }
 
     // Only the newest service of a slave, by mails or of an AL state, can be in doubt, and none where nothing is in hand.
-    ensures in_doubt { (x : Exchange V A M Q R) → IsLawful x → (s : Stated V A Q) → IsStated x s → (table : ℕ → Table) (more : M → Bool) (processor : Processor V) (ps : List (Planned V)) → IsTaskPlan x s processor table ps →
-        (ds : List (ℕ × Side M Q R)) (accounts : List (Account Q R)) (ns : Ring V M) (fs : List (Frame M)) → IsTasked x s.acknowledged processor ps ds accounts ns fs →
-        EachTask (λ station start d a n. TasksPast x more fs station start d a n) ps ds accounts ns × EachTask (λ station start d a n. TasksEndedIf x more fs station start d a n) ps ds accounts ns }
+    ensures in_doubt { (w : PlanSession V A M Q R) (more : M → Bool) → OfEach w (λ station start d a n. TasksPast w.exchange more w.frames station start d a n) }
+    ensures none_in_doubt { (w : PlanSession V A M Q R) (more : M → Bool) → OfEach w (λ station start d a n. TasksEndedIf w.exchange more w.frames station start d a n) }
 
     // Where a slave is settled and the master wants nothing of it, all its services are carried out, each has its outcome, and all emissions
     // were heard.
-    ensures rests { (x : Exchange V A M Q R) → IsLawful x → (s : Stated V A Q) → IsStated x s → (table : ℕ → Table) (more : M → Bool) (processor : Processor V) (ps : List (Planned V)) → IsTaskPlan x s processor table ps →
-        (ds : List (ℕ × Side M Q R)) (accounts : List (Account Q R)) (ns : Ring V M) (fs : List (Frame M)) → IsTasked x s.acknowledged processor ps ds accounts ns fs →
-        EachTask (λ station start d a n. TasksRestIf x s (table station) more fs station start d a n) ps ds accounts ns }
+    ensures rests { (w : PlanSession V A M Q R) (more : M → Bool) →
+        OfEach w (λ station start d a n. TasksRestIf w.exchange w.states (w.table station) more w.frames station start d a n) }
 
     // And all is done where besides all its scripted services, here by its station, have begun.
-    ensures done { (x : Exchange V A M Q R) → IsLawful x → (s : Stated V A Q) → IsStated x s → (table : ℕ → Table) (more : M → Bool) (scripted : ℕ → List (Service Q)) (processor : Processor V) (ps : List (Planned V)) → IsTaskPlan x s processor table ps →
-        (ds : List (ℕ × Side M Q R)) (accounts : List (Account Q R)) (ns : Ring V M) (fs : List (Frame M)) → IsTasked x s.acknowledged processor ps ds accounts ns fs →
-        EachTask (λ station start d a n. TasksDoneIf x s (table station) more scripted fs station start d a n) ps ds accounts ns }
+    ensures done { (w : PlanSession V A M Q R) (more : M → Bool) (scripted : ℕ → List (Service Q)) →
+        OfEach w (λ station start d a n. TasksDoneIf w.exchange w.states (w.table station) more scripted w.frames station start d a n) }
+
+    // The AL state of a slave that is open isn't Init, and no control word that waits asks for Init, while no state service asks for it.
+    ensures steady { (w : PlanSession V A M Q R) → OfEach w (λ station start d a n. AsksNoInit w.states (w.exchange.app start) a → IsSteady n) }
 
     // The mails of such a session are a session of `segment_model`, so what that says of frames, replay and record holds of it.
     ensures mails { (x : Exchange V A M Q R) (s : Stated V A Q) (processor : Processor V) (ps : List (Planned V)) (ds : List (ℕ × Side M Q R)) (accounts : List (Account Q R)) (ns : Ring V M) (fs : List (Frame M)) →

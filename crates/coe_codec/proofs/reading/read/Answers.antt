@@ -1,6 +1,5 @@
-use Rattle.std.proofs.Common.{◌∙◌}
-use Rattle.coe_codec.proofs.Only.{read-only}
+use Rattle.std.proofs.Common.{◌∙◌, ap, Ok}
 use Rattle.coe_codec.proofs.reading.read.Goals as goal
 
-pub returns-clause-only : goal.returns-clause-only
-returns-clause-only c = λ message is. c.read_parts.ensures.value ∙ read-only c.args.body.now message is
+pub returns-in-Ok-clause-only : goal.returns-in-Ok-clause-only
+returns-in-Ok-clause-only c = λ message is. ap (λ x. Ok x) c.message_of.ensures ∙ c.in-Ok.ensures.only message is

@@ -1,4 +1,4 @@
-use Rattle.std.proofs.Common.{◌∙◌, refl}
+use Rattle.std.proofs.Common.{refl}
 use Rattle.datagrams.specs.Frame.{frame_read}
 use Rattle.datagrams.proofs.Header.{found_in}
 use Rattle.datagrams.proofs.Walking.{fault_found}

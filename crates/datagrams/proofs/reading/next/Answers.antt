@@ -1,4 +1,4 @@
-use Rattle.std.proofs.Common.{rules, arith}
+use Rattle.std.proofs.Common.{rules}
 use Rattle.datagrams.proofs.Changing.{IsPart-inside}
 use Rattle.datagrams.proofs.Walking.{next_found, none_found, part_low, next_part}
 use Rattle.datagrams.proofs.reading.next.Goals as goal

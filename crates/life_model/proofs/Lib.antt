@@ -1,0 +1,5 @@
+pub mod Owns
+pub mod Rings
+pub mod Eras
+pub mod Gives
+pub mod Lasts

@@ -1,0 +1,45 @@
+-- But for an acknowledgement of a file read no mail is left behind the last reply.
+use Rattle.std.proofs.Common.{◌≡◌, inl, inr, ℕ, zero, suc, ◌+◌, Bool, true, false, not, List, [], ◌∷◌, ◌++◌, map, filter, Option, Some, None, refl, sym, ap, ◌∙◌, subst}
+use Rattle.std.specs.Prelude.{if◌then◌else◌}
+use Rattle.exchange_model.specs.Exchange.{Exchange, IsLawful, after, given, plain}
+use Rattle.exchange_model.specs.Lifted.{EachOf, ReadsBack, Spells, lifted}
+use Rattle.exchange_model.proofs.Turns.{sent_each, each_append_right}
+use Rattle.exchange_model.proofs.Lists.{append_cancel, append_none}
+use Rattle.exchange_model.proofs.Words.{plain-append, plain_given-append}
+use Rattle.exchange_sum.specs.Sides.{Slave, joined}
+use Rattle.exchange_sum.specs.Refusing.{Refusal, IsAsked, IsRefusal, refusing, gated}
+use Rattle.exchange_sum.specs.Sides.{IsSide}
+use Rattle.exchange_sum.proofs.RefusingLaw.{snoc_cut, each_front, quiet_given, replies}
+use Rattle.exchange_sum.proofs.SumLaw.{each_left, plain_same, told_full, told_part}
+use Rattle.exchange_model.specs.Exchange.{AnswersLast}
+use Rattle.exchange_model.proofs.Lasts.{lifted_last}
+
+-- where a protocol is refused
+module _ {V A M Q R : Type 0} (x : Exchange V A M Q R) (r : Refusal V M Q R) (law : IsLawful x) (is : IsRefusal x r) (acknowledged : Q → Bool) where
+  pub refusing_last : AnswersLast (refusing x r) acknowledged
+  refusing_last v q ready valid answers quiet p rest e same =
+      let a = is.asked q valid in
+      elim (snoc_cut a.front a.last p rest (sym a.mails ∙ e)) [
+        | inl front ↦
+            let none : plain x.speech.emission (given (refusing x r).serve v p) ≡ [] = ap (plain x.speech.emission) (quiet_given x r v p (each_front _ p front.0 (subst (EachOf (λ m. (r.counts m ≡ false) × (r.gives m ≡ []))) front.1 a.quiet))) in
+            let some : plain x.speech.emission (given (refusing x r).serve v (r.asked q)) ≡ r.refusal ∷ [] = replies x r law is v (x.speech.handed q) (r.asked q) a ∙ ap (λ (b : Bool). if b then [] else r.refusal ∷ []) answers in
+            let impossible : [] ≡ r.refusal ∷ [] = sym none ∙ same ∙ some in
+            absurd (cc)
+        | inr whole ↦ whole.1
+      ]
+
+  pub gated_last : AnswersLast x acknowledged → (b : Bool) → AnswersLast (gated b x r) acknowledged
+  gated_last last true = last
+  gated_last last false = refusing_last
+
+-- protocols together
+module _ {I J A M R : Type 0} {V Q : I → Type 0} (s : Slave J A M) (x : (i : I) → Exchange (V i) A M (Q i) R) (seat : (i : I) → J → V i) (side : (i : I) → IsSide s (x i) (seat i)) (acknowledged : (i : I) → Q i → Bool)
+    (last : (i : I) → AnswersLast (x i) (acknowledged i)) where
+  pub joined_last : AnswersLast (joined s x seat) (λ q. acknowledged q.0 q.1)
+  joined_last j q ready valid answers quiet p rest e same =
+      let i = q.0 in
+      let d = side i in
+      let mails = d.sends (seat i j) q.1 (d.ready j ready) valid in
+      let mine = each_left (λ m. d.mine m ≡ true) p rest (subst (EachOf (λ m. d.mine m ≡ true)) e mails) in
+      last i (seat i j) q.1 (d.ready j ready) valid answers quiet p rest e
+      (sym (plain_same s (x i) (seat i) d j p mine (told_part s x seat side j q ready valid p rest e)) ∙ same ∙ plain_same s (x i) (seat i) d j ((x i).full (seat i j) q.1) mails (told_full s x seat side j q ready valid))

@@ -1,0 +1,10 @@
+pub mod Stations
+pub mod CoeLast
+pub mod Sides
+pub mod Joint
+pub mod Own
+pub mod Refused
+pub mod ProductLaw
+pub mod LastLaw
+pub mod ProtocolLasts
+pub mod StatedLaw

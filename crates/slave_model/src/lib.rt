@@ -1,0 +1,38 @@
+//! The protocols of one slave over one application as one exchange. No running code: the functions here do nothing, and their contracts state
+//! the laws.
+#![tactic(auto)]
+
+ghost use Rattle.std.specs.Prelude.{ℕ};
+ghost use Rattle.exchange_model.specs.Exchange.{IsLawful};
+ghost use Rattle.state_exchange.specs.Stated.{IsStated};
+ghost use Rattle.state_exchange.specs.Families.{states_of};
+ghost use Rattle.slave_model.specs.Acknowledged.{acknowledged};
+ghost use Rattle.slave_model.specs.Profile.{Protocol, Profile, IsProfile};
+ghost use Rattle.slave_model.specs.Application.{Parts, ArePartsLawful};
+ghost use Rattle.exchange_sum.specs.Refusing.{IsRefusal};
+ghost use Rattle.slave_model.specs.Product.{served, refusal, protocols, product};
+
+/// Each protocol keeps the laws over the one application, at each AL state, where it is served.
+pub fn protocols_are_served<T, F, I>()
+    ensures { (o : Parts T F I) → ArePartsLawful o → (p : Profile) → IsProfile p → (al : ℕ) (i : Protocol) → IsLawful (served o p al i) }
+{}
+
+/// The four protocols keep the laws together, at each AL state, each served or refused.
+pub fn protocols_are_lawful<T, F, I>()
+    ensures { (o : Parts T F I) → ArePartsLawful o → (p : Profile) → IsProfile p → (al : ℕ) → IsLawful (protocols o p al) }
+{}
+
+/// And so does the one exchange of a session, with one slave, in its AL state.
+pub fn product_is_lawful<T, F, I>()
+    ensures { (o : Parts T F I) → ArePartsLawful o → (p : Profile) → IsProfile p → IsLawful (product o p) }
+{}
+
+/// The AL state is a part of its application; of its services only reads of files end with an acknowledgement.
+pub fn product_is_stated<T, F, I>()
+    ensures { (o : Parts T F I) → ArePartsLawful o → (p : Profile) → IsProfile p → IsStated (product o p) (states_of acknowledged) }
+{}
+
+/// Each protocol can be refused, at each AL state: every service of it is then answered by mailbox error 2, counts, and has no effect.
+pub fn protocols_are_refused<T, F, I>()
+    ensures { (o : Parts T F I) → ArePartsLawful o → (p : Profile) → IsProfile p → (al : ℕ) (i : Protocol) → IsRefusal (served o p al i) (refusal o p al i) }
+{}
