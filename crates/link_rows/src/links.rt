@@ -127,6 +127,8 @@ fn the_mailboxes_fill_and_empty(rt: HostRuntime) -> Result<(), NoMemory> {
     assert!(rt; full.outward.is_idle() && !full.slave_box.at_rest());
     let steps = [Give(mail(1)), Pdi, Hold(mail(2)), Out(Pass), In(Pass), Pdi];
     let empty = world(&rt, rt.alloc(), &steps)?;
-    assert!(rt; !empty.esc.in_full() && empty.esc.out_area().is_none() && empty.slave_box.at_rest());
+    assert!(rt;
+        !empty.esc.in_full() && empty.esc.out_area().is_none() && empty.slave_box.at_rest()
+    );
     Ok(())
 }

@@ -16,9 +16,9 @@ use Rattle.mailbox_master.specs.declared.seat.GotView.TheVariants.{Mail as SeenM
 abbrev pub seat_half : OutLink (Option Mail) → OutHalf Body
 seat_half o = record { last = o.last; holding = option_map link_mail o.state }
 
--- a mail of the segment not yet counted, of its parts: its address is 0
-abbrev pub mail_by : Kind → List ℕ → Mail
-mail_by kind octets = record { address = 0; kind = kind; counter = 0; body = record { items = octets } }
+-- a mail not yet counted, of its parts
+abbrev pub mail_by : ℕ → Kind → List ℕ → Mail
+mail_by address kind octets = record { address = address; kind = kind; counter = 0; body = record { items = octets } }
 
 -- the octets of mailbox 0 with a mail, or with none
 abbrev pub text_of : ℕ → Option Mail → List ℕ

@@ -88,11 +88,11 @@ impl OutwardSeat {
         }
     }
 
-    /// Takes up a mail of these parts where none is held; else nothing changes. Its address is 0, as on a
-    /// segment. Only the body's octets are copied.
-    pub fn hold(&mut self, kind: Kind, body: &[u8])
+    /// Takes up a mail of these parts where none is held; else nothing changes. The address is sent as it is: that
+    /// it is 0, as on a segment, is for the caller to see to. Only the body's octets are copied.
+    pub fn hold(&mut self, address: u16, kind: Kind, body: &[u8])
         requires fits { 6 + length body.now ≤ self.old.len }
-        ensures half { seat_half self.new ≡ (let h = seat_half self.old in out_held h h.holding (Ok (mail_by kind body.now))) }
+        ensures half { seat_half self.new ≡ (let h = seat_half self.old in out_held h h.holding (Ok (mail_by address kind body.now))) }
         ensures station { self.new.station ≡ self.old.station }
         ensures len { self.new.len ≡ self.old.len }
     {
@@ -100,7 +100,7 @@ impl OutwardSeat {
             return;
         }
         let counter = next_counter(self.last);
-        self.mail.address = 0;
+        self.mail.address = address;
         self.mail.kind = kind;
         self.mail.counter = counter;
         refill(&mut self.mail.body, body);
