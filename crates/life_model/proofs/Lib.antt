@@ -4,3 +4,5 @@ pub mod Eras
 pub mod Gives
 pub mod Lasts
 pub mod Books
+pub mod Chains
+mod Worked
