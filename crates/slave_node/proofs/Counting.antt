@@ -2,7 +2,8 @@
 use Rattle.std.proofs.Common.{◌≡◌, ◌≤◌, ℕ, suc, Bool, true, false, Option, Some, None, arith}
 use Rattle.std.specs.Prelude.{if◌then◌else◌, not}
 use Rattle.mailbox_mail.specs.declared.mail.Mail.{Mail}
-use Rattle.link_mails.specs.Body.{Body, repeats}
+use Rattle.link_mails.specs.Body.{Body}
+use Rattle.link_model.specs.Counters.{repeats}
 use Rattle.esc_registers.specs.declared.registers.Registers.{Registers}
 use Rattle.mailbox_slave.specs.Kept.{Kept}
 use Rattle.mailbox_slave.specs.Exact.{Slave, out_mail, is_free, mail_served, next_offered, mail_offered}
