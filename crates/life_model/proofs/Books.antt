@@ -32,7 +32,7 @@ take-map f zero xs = refl
 take-map f (suc n) [] = refl
 take-map f (suc n) (x ∷ xs) = ap (λ l. f x ∷ l) (take-map f n xs)
 
-counts_none : (m : ℕ) → nat_le 0 m ≡ true
+pub counts_none : (m : ℕ) → nat_le 0 m ≡ true
 counts_none m = elim (leb_tells 0 m) [ inl c ↦ c.0 | inr c ↦ absurd (let less = c.1 in omega (arith, less)) ]
 
 counts_one : (m : ℕ) → nat_le 1 (suc m) ≡ true

@@ -4,3 +4,4 @@ pub mod Eras
 pub mod Gives
 pub mod Lasts
 pub mod Books
+pub mod Chains
