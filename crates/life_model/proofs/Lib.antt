@@ -5,3 +5,4 @@ pub mod Gives
 pub mod Lasts
 pub mod Books
 pub mod Chains
+mod Worked
