@@ -6,3 +6,4 @@ pub mod Lasts
 pub mod Books
 pub mod Chains
 mod Worked
+pub mod Rests
