@@ -7,7 +7,7 @@ use Rattle.mailbox_mail.specs.declared.mail.Mail.{Mail}
 use Rattle.mailbox_mail.specs.declared.mail.MailFault.{MailFault}
 use Rattle.mailbox_mail.specs.Mail.{mail_read}
 use Rattle.exchange_model.specs.Rows.{Row, row_heard}
-use Rattle.link_mails.specs.Body.{Body, link_mail}
+use Rattle.link_mails.specs.Body.{Body, link_mail, mail_brought}
 use Rattle.link_model.specs.Mails.{LinkMail, news}
 use Rattle.link_model.specs.Master.{InState, in_lost, out_answered}
 use Rattle.link_model.specs.Link.{Halves}
@@ -37,7 +37,6 @@ use Rattle.task_model.specs.Accounts as Tasks
 use Rattle.task_model.specs.Accounts.{account_back, account_met, account_by, access_done, duty_access}
 use Rattle.master_side.specs.Heard.{view_in, heard_of}
 use Rattle.mailbox_master.specs.Any.{in_returned, in_got}
-use Rattle.mailbox_master.specs.Halves.{mail_brought}
 use Rattle.mailbox_master.specs.Next.{got_by, accepted_by}
 use Rattle.mailbox_master.specs.declared.inward.Got.{Got}
 use Rattle.mailbox_master.proofs.Agreement.{got_by-accepts}

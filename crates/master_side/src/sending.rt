@@ -24,7 +24,8 @@ impl<H: Hand> Side<H> {
     ghost use Rattle.datagrams.specs.Datagram as Raw;
     ghost use Rattle.datagrams.specs.Frame.{IsBegun};
     ghost use Rattle.exchange_model.specs.Exchange.{Speech};
-    ghost use Rattle.link_mails.specs.Body.{Body, area_text};
+    ghost use Rattle.link_mails.specs.Body.{Body};
+    ghost use Rattle.mailbox_mail.specs.Area.{mail_area};
     ghost use Rattle.mailbox_mail.specs.declared.mail.Mail.{Mail};
     ghost use Rattle.mailbox_mail.specs.Mail.{mail_read};
     ghost use Rattle.std.specs.Prelude.{Ok};
@@ -48,7 +49,7 @@ impl<H: Hand> Side<H> {
         requires room { self.now.area ≤ 1514 - length frame.old.items - 12 }
         ensures begun { (ds : List Raw.Datagram) → IsBegun frame.old.items ds → IsBegun frame.new.items (ds ++ write_gram index self.now.out self.now.out.state ∷ []) }
         ensures sent { IsSent self.now.area (write_gram index self.now.out self.now.out.state) }
-        ensures reads { (m : Mail) → self.now.out.state ≡ Some m → (mail_read (area_text self.now.out.len m) ≡ Ok m) × (length (area_text self.now.out.len m) ≡ self.now.out.len) }
+        ensures reads { (m : Mail) → self.now.out.state ≡ Some m → (mail_read (mail_area self.now.out.len m) ≡ Ok m) × (length (mail_area self.now.out.len m) ≡ self.now.out.len) }
     {
         let head = self.out.head(index);
         let mut area = [0; 1486];
