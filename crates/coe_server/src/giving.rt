@@ -65,6 +65,7 @@ impl CoeServer {
     pub fn waiting(&self) -> bool
         ensures { result ≡ false ↔ (waiting_mails self.now ≡ []) }
     {
+        // What the type keeps of its fields is wanted in the proof: reading one brings it there.
         let _ = &self.room;
         let answers = match self.pending {
             Pending::Nothing => false,
