@@ -11,7 +11,8 @@ use crate::state::{Emitted, Pending};
 use arrayvec::ArrayVec;
 use coe_codec::CoeView;
 use coe_values::Slot;
-use mailbox_mail::{Kind, Mail, refill};
+use ec_fields::refill;
+use mailbox_mail::{Kind, Mail};
 
 // Writes a message that is short enough for the mailbox.
 fn written(room: u16, message: CoeView<'_>, body: &mut ArrayVec<u8, 1480>)
