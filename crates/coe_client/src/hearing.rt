@@ -306,11 +306,7 @@ impl CoeClient {
         match message {
             CoeView::DownloadAnswer { index, sub } => self.hear_acceptance(index, sub),
             CoeView::SegmentAnswer { toggle } => self.hear_segment(toggle),
-            CoeView::ExpeditedAnswer { index, sub, bytes } => self.hear_whole(
-                index,
-                sub,
-                bytes,
-            ),
+            CoeView::ExpeditedAnswer { index, sub, bytes } => self.hear_whole(index, sub, bytes),
             CoeView::FirstAnswer {
                 index,
                 sub,

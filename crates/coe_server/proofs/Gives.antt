@@ -40,9 +40,9 @@ parts_first room opcode at told least =
       | inl more ↦ let many = lt-leb (length left) part more in
           more_part (length told) opcode part left more
           ∙ rw (many, sym (ap (λ n. nat_le n part) long) ∙ many)
-              (ap (λ l. mail (Information opcode true (parts_of part (length left - part)) (record { items = take part left })) ∷ l)
-              (parts_fuel (length told) (suc (length told)) opcode part (drop part left) (omega arith) (omega (arith, length-drop part left, long)) (omega (arith, length-drop part left, long))
-              ∙ ap (information_parts (suc (length told)) opcode part) (drop-drop part at told)))
+          (ap (λ l. mail (Information opcode true (parts_of part (length left - part)) (record { items = take part left })) ∷ l)
+          (parts_fuel (length told) (suc (length told)) opcode part (drop part left) (omega arith) (omega (arith, length-drop part left, long)) (omega (arith, length-drop part left, long))
+          ∙ ap (information_parts (suc (length told)) opcode part) (drop-drop part at told)))
     ]
 
 -- what is to be told begins with its first message

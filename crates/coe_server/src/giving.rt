@@ -154,7 +154,11 @@ impl CoeServer {
         let rest = self.values.len(Slot::Told) - from as usize;
         let part = self.room as usize - 12;
         let incomplete = rest > part;
-        let left = if incomplete { ((rest - part + part - 1) / part) as u16 } else { 0 };
+        let left = if incomplete {
+            ((rest - part + part - 1) / part) as u16
+        } else {
+            0
+        };
         let bytes: ArrayVec<u8, 1474> = self.values.part(Slot::Told, from as usize, part);
         let message = CoeView::Information {
             opcode,
@@ -186,13 +190,18 @@ impl CoeServer {
     {
         match self.pending {
             Pending::Nothing | Pending::Failed { detail: _ } => unreachable!(),
-            Pending::DownloadAnswer { target: Target { index, sub, all: _ } } => {
+            Pending::DownloadAnswer {
+                target: Target { index, sub, all: _ },
+            } => {
                 written(self.room, CoeView::DownloadAnswer { index, sub }, body);
             }
             Pending::SegmentAnswer { toggle } => {
                 written(self.room, CoeView::SegmentAnswer { toggle }, body);
             }
-            Pending::Abort { target: Target { index, sub, all: _ }, code } => {
+            Pending::Abort {
+                target: Target { index, sub, all: _ },
+                code,
+            } => {
                 written(self.room, CoeView::Abort { index, sub, code }, body);
             }
             Pending::Error { code } => {
@@ -251,7 +260,9 @@ impl CoeServer {
         ensures written { IsWritten self.old.room (Emergency (record { items = self.old.octets })) body.new.items }
         ensures same { self.new ≡ record self.old { emitted = Emitted.Nothing } }
     {
-        let message = CoeView::Emergency { octets: self.octets.as_slice() };
+        let message = CoeView::Emergency {
+            octets: self.octets.as_slice(),
+        };
         written(self.room, message, body);
         self.emitted = Emitted::Nothing;
     }

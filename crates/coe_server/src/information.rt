@@ -10,7 +10,12 @@ use object_dictionary::COMMAND_NOT_VALID;
 
 impl CoeServer {
     // An information service; it leaves the SDO transfer alone.
-    pub(crate) fn take_question<D: Dictionary>(&mut self, objects: &mut D, al: u8, question: Question) -> bool
+    pub(crate) fn take_question<D: Dictionary>(
+        &mut self,
+        objects: &mut D,
+        al: u8,
+        question: Question,
+    ) -> bool
         ensures does { takes_ask (D.tables al) self.old.room objects.old (transfer_of self.old) (ask_view question) ≡ outcome_of objects.new self.new result }
         ensures room { self.new.room ≡ self.old.room }
         ensures eoe { self.new.eoe ≡ self.old.eoe }

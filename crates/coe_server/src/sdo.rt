@@ -113,13 +113,7 @@ impl CoeServer {
             return self.refuse(target, code);
         }
         self.tell(State::Idle, Pending::DownloadAnswer { target });
-        emit(
-            self.eoe,
-            target,
-            bytes,
-            &mut self.emitted,
-            &mut self.octets,
-        );
+        emit(self.eoe, target, bytes, &mut self.emitted, &mut self.octets);
         true
     }
 
@@ -209,7 +203,12 @@ impl CoeServer {
         }
     }
 
-    pub(crate) fn take_upload<D: Dictionary>(&mut self, objects: &mut D, al: u8, target: Target) -> bool
+    pub(crate) fn take_upload<D: Dictionary>(
+        &mut self,
+        objects: &mut D,
+        al: u8,
+        target: Target,
+    ) -> bool
         ensures does { opened self.old.room objects.old (target_view target) ((D.tables al).upload objects.old (target_view target)) ≡ outcome_of objects.new self.new result }
         ensures room { self.new.room ≡ self.old.room }
         ensures eoe { self.new.eoe ≡ self.old.eoe }

@@ -36,37 +36,14 @@ impl CoeServer {
                 sub,
                 all,
                 bytes,
-            } => {
-                self.take_whole(
-                    objects,
-                    al,
-                    Target {
-                        index,
-                        sub,
-                        all,
-                    },
-                    bytes,
-                )
-            }
+            } => { self.take_whole(objects, al, Target { index, sub, all }, bytes) }
             CoeView::First {
                 index,
                 sub,
                 all,
                 size,
                 bytes,
-            } => {
-                self.take_first(
-                    objects,
-                    al,
-                    Target {
-                        index,
-                        sub,
-                        all,
-                    },
-                    size,
-                    bytes,
-                )
-            }
+            } => { self.take_first(objects, al, Target { index, sub, all }, size, bytes) }
             CoeView::Segment {
                 toggle,
                 last,
@@ -75,11 +52,7 @@ impl CoeServer {
             CoeView::Upload { index, sub, all } => self.take_upload(
                 objects,
                 al,
-                Target {
-                    index,
-                    sub,
-                    all,
-                },
+                Target { index, sub, all },
             ),
             CoeView::UploadSegment { toggle } => self.take_upload_segment::<D>(toggle),
             CoeView::Abort {
@@ -101,15 +74,7 @@ impl CoeServer {
                 Question::Object { index },
             ),
             CoeView::EntryRequest { index, sub, info } => {
-                self.take_question(
-                    objects,
-                    al,
-                    Question::Entry {
-                        index,
-                        sub,
-                        info,
-                    },
-                )
+                self.take_question(objects, al, Question::Entry { index, sub, info })
             }
             CoeView::Information {
                 opcode: _,

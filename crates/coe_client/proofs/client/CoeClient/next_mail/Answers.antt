@@ -17,10 +17,16 @@ invariant_of-self c =
     let v : CoeView × Unsent = (c.in-Some.message, c.in-Some.behind) in
     let client : Talking = record { room = i.room; task = i.task; bytes = i.bytes.octets; unsent = i.unsent; quota = i.quota; going = i.going; awaits = i.awaits; value = i.value.octets } in
     let sends : sent_by client (Some v) ≡ send_next client = subst (λ (t : Talking). sent_by t (Some v) ≡ send_next t) (sym c.self.view_is) c.in-Some.ensures.sends in
-    let may : 0 < i.quota = subst (λ (t : Talking). 0 < t.quota) (sym c.self.view_is) c.in-Some.ensures.some in
-    (c.self.invariant.0, c.self.invariant.1, c.self.invariant.2, c.self.invariant.3, c.self.invariant.4, omega (arith, c.self.invariant.5),
-     subst (λ (t : Talking). is_left c.in-Some.behind t.bytes ≡ true) (sym c.self.view_is) c.in-Some.ensures.left,
-     paced_sent client c.self.invariant.0 c.self.invariant.6 may v sends i.awaits c.self.invariant.7)
+    let may : 0 < i.quota = subst (λ (t : Talking). 0 < t.quota) (sym c.self.view_is) c.in-Some.ensures.some in (
+      c.self.invariant.0,
+      c.self.invariant.1,
+      c.self.invariant.2,
+      c.self.invariant.3,
+      c.self.invariant.4,
+      omega (arith, c.self.invariant.5),
+      subst (λ (t : Talking). is_left c.in-Some.behind t.bytes ≡ true) (sym c.self.view_is) c.in-Some.ensures.left,
+      paced_sent client c.self.invariant.0 c.self.invariant.6 may v sends i.awaits c.self.invariant.7,
+    )
 
 pub returns-clause-sends : goal.returns-clause-sends
 returns-clause-sends c =
