@@ -148,6 +148,10 @@ is_paced room task bytes unsent quota going Awaits.Acceptance = going && (is_dow
 is_paced room task bytes unsent quota going (Awaits.SegmentAnswers left toggle) = going && (is_download task unsent && nat_lt (unsent_mails room bytes unsent) (quota + left))
 is_paced room task bytes unsent quota going _ = true
 
+-- the same of a client with another number of mails that may go, and another answer awaited
+abbrev pub paced_with : Talking → ℕ → Awaits → Bool
+paced_with c quota awaits = is_paced c.room c.task c.bytes c.unsent quota c.going awaits
+
 -- how many mails more what is awaited may let go, at most
 abbrev pub ahead : Awaits → List ℕ → ℕ
 ahead Awaits.Acceptance value = 16386

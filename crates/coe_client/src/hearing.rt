@@ -2,7 +2,7 @@ ghost use Rattle.std.specs.Prelude.{◌≡◌, ◌≤◌, ◌<◌, ◌+◌, ◌-
 ghost use Rattle.coe_model.specs.Server.{parts_of};
 ghost use Rattle.coe_model.specs.Client.{is_of};
 ghost use Rattle.coe_model.specs.Octets.{body_heard, coe_mail_heard};
-ghost use Rattle.coe_client.specs.Talk.{target_of, is_paced};
+ghost use Rattle.coe_client.specs.Talk.{target_of, paced_with};
 ghost use Rattle.coe_codec.specs.View.{coe_seen, IsWithin};
 ghost use Rattle.coe_client.specs.Hear.{onward, refused, valued, answered, parted, hear_acceptance, hear_segment, hear_whole, hear_first, hear_part, hear_information, hear_abort, hear_error, hear_failed, hear_message, hear_mail, TookIs};
 
@@ -52,7 +52,7 @@ impl CoeClient {
     fn answered(&mut self, left: u32, toggle: bool) -> Took
         requires few { self.old.quota + 1 + left ≤ 16387 }
         requires empty { length self.old.value ≡ 0 }
-        requires paced { 0 < left → is_paced self.old.room self.old.task self.old.bytes self.old.unsent (onward self.old) self.old.going (Awaits.SegmentAnswers left toggle) ≡ true }
+        requires paced { 0 < left → paced_with self.old (onward self.old) (Awaits.SegmentAnswers left toggle) ≡ true }
         ensures { (result, self.new) ≡ answered self.old left toggle }
     {
         self.quota = self.onward();
