@@ -1,5 +1,5 @@
-use crate::{Slot, Values};
 use arrayvec::ArrayVec;
+use coe_values::{Slot, Values};
 use ec_fields::Transfer;
 use std::test::Fail;
 

@@ -1,7 +1,7 @@
 ghost use Rattle.std.specs.Prelude.{◌≡◌, ◌==◌, ◌&&◌, not, nat_lt, true, [], ◌∷◌, length, if◌then◌else◌, Ok, Err, Some, None};
 
-use crate::{CoeServer, Dictionary, Question, Target};
 use arrayvec::ArrayVec;
+use coe_server::{CoeServer, Dictionary, Question, Target};
 use ec_fields::{Transfer, buffer_of};
 use mailbox_mail::Kind;
 use std::process::Abort;

@@ -1,8 +1,8 @@
 ghost use Rattle.std.specs.Prelude.{◌≡◌, ◌≤◌, IfOk};
 ghost use Rattle.coe_client.specs.Talk.{octets_in};
 
-use crate::{Emission, Mailboxes, carry_out};
 use coe_client::CoeClient;
+use coe_law::{Emission, Mailboxes, carry_out};
 use coe_server::CoeServer;
 use ec_fields::{NoMemory, Octets, Rows};
 use mailbox_mail::ReplyKind;

@@ -1,5 +1,5 @@
-use crate::CoeClient;
 use arrayvec::ArrayVec;
+use coe_client::CoeClient;
 use ec_fields::{Octets, buffer_of};
 use mailbox_mail::{Kind, Mail, ReplyKind, Took};
 use object_dictionary::SdoService;
@@ -8,10 +8,17 @@ use std::test::Fail;
 
 fn sends(rt: &impl Abort, client: &mut CoeClient, head: &[u8], len: usize) {
     let mut body = ArrayVec::new();
+    assert!(rt; client.has_next());
     assert!(rt; client.next_mail(&mut body));
     assert!(rt; body.len() == len);
     assert!(rt; head.len() <= len);
     assert_eq!(rt; &body.as_slice()[..head.len()], head);
+    sends_nothing(rt, client);
+}
+
+fn sends_nothing(rt: &impl Abort, client: &mut CoeClient) {
+    let mut body = ArrayVec::new();
+    assert!(rt; !client.has_next());
     assert!(rt; !client.next_mail(&mut body));
 }
 
@@ -121,4 +128,31 @@ fn a_reply_is_told_with_its_value(rt: HostRuntime) -> Result<(), Fail> {
         return Ok(());
     }
     Err("the list is done")?
+}
+
+// An upload of 100 octets whose first part has come, and whose first segment was not yet asked for, is given up by the slave.
+#[test]
+fn no_mail_is_left_behind_done(rt: HostRuntime) -> Result<(), Fail> {
+    let mut client = CoeClient::new(rt.alloc(), 64, 64)?;
+    client.start(&SdoService::Upload {
+        index: 0x2002,
+        sub: 1,
+    });
+    let request = [0x00, 0x20, 0x40, 0x02, 0x20, 0x01, 0, 0, 0, 0];
+    sends(&rt, &mut client, &request, 10);
+    let mut first = [0xAA; 58];
+    for (octet, head) in first
+        .iter_mut()
+        .zip([0x00, 0x30, 0x41, 0x02, 0x20, 0x01, 100, 0, 0, 0])
+    {
+        *octet = head;
+    }
+    takes(&rt, &mut client, &first, Took::More);
+    assert!(rt; client.has_next());
+    let abort = [0x00, 0x20, 0x80, 0x02, 0x20, 0x01, 0, 0, 4, 5];
+    takes(&rt, &mut client, &abort, Took::Done);
+    assert!(rt; client.is_done());
+    assert_eq!(rt; client.reply(), ReplyKind::Abort(0x0504_0000));
+    sends_nothing(&rt, &mut client);
+    Ok(())
 }
