@@ -10,8 +10,8 @@ mod tables;
 
 pub use keys::{
     bool_or_false, find, integer, integer_or, label_or_none, needed, needed_integer, needed_name,
-    needed_pair, needed_sizes, needed_text, no_number, no_pair, number, number_in, number_or_none, only_known,
-    pair_of, some_label, text, unless,
+    needed_pair, needed_sizes, needed_text, no_number, no_pair, number, number_in, number_or_none,
+    only_known, pair_of, some_label, text, unless,
 };
 pub use octets::{needed_octets, no_octets};
 pub use place::Place;

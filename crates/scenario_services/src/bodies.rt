@@ -31,7 +31,12 @@ fn subindex(table: &Table, key: &str, place: Place) -> Result<u8, Stop>
 }
 
 #[tactic(auto, unfolding(crate::specs::Services::sdo_of))]
-fn sdo_body(alloc: Global, action: SdoAction, table: &Table, place: Place) -> Result<SdoService, Stop>
+fn sdo_body(
+    alloc: Global,
+    action: SdoAction,
+    table: &Table,
+    place: Place,
+) -> Result<SdoService, Stop>
     ensures gives { Gives (λ s. s) result (sdo_of action place (table_view table.now)) }
     ensures sound { IfOk result IsSdo }
 {

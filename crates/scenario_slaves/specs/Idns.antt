@@ -80,8 +80,17 @@ idn_of before place ms = do
   writable ← bool_at (codes "writable") place ms
   value ← idn_value_at sizes bounds place ms
   Ok (record {
-    drive = drive; number = number; attribute = attribute; label = label; unit = unit; least = sizes.0; most = sizes.1;
-    min = bounds.0; max = bounds.1; writable = writable; value = value;
+    drive = drive;
+    number = number;
+    attribute = attribute;
+    label = label;
+    unit = unit;
+    least = sizes.0;
+    most = sizes.1;
+    min = bounds.0;
+    max = bounds.1;
+    writable = writable;
+    value = value;
   })
 
 -- the IDNs of a slave

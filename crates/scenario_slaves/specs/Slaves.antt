@@ -108,15 +108,43 @@ plain_slave_of version place ms = do
   mac ← mac_at served.eoe place ms
   fixed_ip ← bool_at (codes "fixed_ip") place ms
   Ok (record {
-    name = name; station = station; out_len = mail.0; in_len = mail.1; «coe» = served.«coe»; foe = served.foe; eoe = served.eoe; soe = served.soe;
-    boot = boot; start = start; blocks = blocks; mac = mac; fixed_ip = fixed_ip; objects = []; files = []; idns = [];
+    name = name;
+    station = station;
+    out_len = mail.0;
+    in_len = mail.1;
+    «coe» = served.«coe»;
+    foe = served.foe;
+    eoe = served.eoe;
+    soe = served.soe;
+    boot = boot;
+    start = start;
+    blocks = blocks;
+    mac = mac;
+    fixed_ip = fixed_ip;
+    objects = [];
+    files = [];
+    idns = [];
   })
 
 -- the same slave with its lists
 abbrev pub with_lists : SlaveSpec → List ObjectSpec → List (FileSpec × List ℕ) → List IdnSpec → SlaveSpec
 with_lists s objects files idns = record {
-  name = s.name; station = s.station; out_len = s.out_len; in_len = s.in_len; «coe» = s.«coe»; foe = s.foe; eoe = s.eoe; soe = s.soe;
-  boot = s.boot; start = s.start; blocks = s.blocks; mac = s.mac; fixed_ip = s.fixed_ip; objects = objects; files = files; idns = idns;
+  name = s.name;
+  station = s.station;
+  out_len = s.out_len;
+  in_len = s.in_len;
+  «coe» = s.«coe»;
+  foe = s.foe;
+  eoe = s.eoe;
+  soe = s.soe;
+  boot = s.boot;
+  start = s.start;
+  blocks = s.blocks;
+  mac = s.mac;
+  fixed_ip = s.fixed_ip;
+  objects = objects;
+  files = files;
+  idns = idns;
 }
 
 -- a slave: its plain keys, the lengths of its lists, then its objects, files and IDNs

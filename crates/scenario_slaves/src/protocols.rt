@@ -22,13 +22,25 @@ fn more_served(served: Served, word: &str) -> Option<Served>
     ensures { result ≡ more_served served word.now }
 {
     if word == "coe" {
-        (!served.coe).then_some(Served { coe: true, ..served })
+        (!served.coe).then_some(Served {
+            coe: true,
+            ..served
+        })
     } else if word == "foe" {
-        (!served.foe).then_some(Served { foe: true, ..served })
+        (!served.foe).then_some(Served {
+            foe: true,
+            ..served
+        })
     } else if word == "eoe" {
-        (!served.eoe).then_some(Served { eoe: true, ..served })
+        (!served.eoe).then_some(Served {
+            eoe: true,
+            ..served
+        })
     } else if word == "soe" {
-        (!served.soe).then_some(Served { soe: true, ..served })
+        (!served.soe).then_some(Served {
+            soe: true,
+            ..served
+        })
     } else {
         None
     }

@@ -107,12 +107,7 @@ fn pace(table: &Table, version: u32, place: Place) -> Result<u32, Stop>
 
 /// What a slave's plain keys say, without its lists.
 #[tactic(auto, unfolding(crate::specs::Slaves::plain_slave_of))]
-fn plain_slave(
-    alloc: Global,
-    table: &Table,
-    version: u32,
-    place: Place,
-) -> Result<SlaveSpec, Stop>
+fn plain_slave(alloc: Global, table: &Table, version: u32, place: Place) -> Result<SlaveSpec, Stop>
     ensures gives { Gives (λ s. s) result (plain_slave_of version place (table_view table.now)) }
     ensures sound { IfOk result IsSlave }
 {

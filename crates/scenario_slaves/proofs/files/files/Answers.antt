@@ -18,6 +18,6 @@ returns-in_err-row-clause-gives c =
 pub loop-i-preserved : goal.loop-i-preserved
 loop-i-preserved c = (
   subst (λ (state : List (FileSpec × List ℕ)). HasRead IsFile (λ before (y : FileSpec × List ℕ). before ++ y ∷ []) (λ k before ms. file_of c.args.blocks before (File c.args.slave k) ms) [] (map (λ t. table_view t.now) c.args.tables.now) (c.loop-i.i + 1) state c.put.new.rows) (sym c.in_ok-put.ensures.ok)
-    (goes_on IsFile (λ before (y : FileSpec × List ℕ). before ++ y ∷ []) (λ k before ms. file_of c.args.blocks before (File c.args.slave k) ms) [] (λ t. table_view t.now) c.args.tables.now c.loop-i.i c.loop-i.rows c.loop-i.rows c.index-tables-i.result c.in_ok-row.row c.put.new.rows c.loop-i-test.true c.index-tables-i.is (rw c.as_slice.ensures at c.in_ok-row.ensures.gives) c.in_ok-row.ensures.sound c.in_ok-put.ensures.ok c.loop-i.invariant.0),
+      (goes_on IsFile (λ before (y : FileSpec × List ℕ). before ++ y ∷ []) (λ k before ms. file_of c.args.blocks before (File c.args.slave k) ms) [] (λ t. table_view t.now) c.args.tables.now c.loop-i.i c.loop-i.rows c.loop-i.rows c.index-tables-i.result c.in_ok-row.row c.put.new.rows c.loop-i-test.true c.index-tables-i.is (rw c.as_slice.ensures at c.in_ok-row.ensures.gives) c.in_ok-row.ensures.sound c.in_ok-put.ensures.ok c.loop-i.invariant.0),
   rw (c.in_ok-put.ensures.ok, sum_by_push (λ (f : FileSpec × List ℕ). blocks_for (length f.1)) c.loop-i.rows c.in_ok-row.row) (rw c.as_slice.ensures at c.in_ok-row.ensures.fits),
 )
