@@ -1,5 +1,6 @@
 use datagrams::{
-    Body, Command, Frame, FrameBuf, FrameFault, Head, Passage, add, add_with, begin, fault, finish, first, next, pass, read, room, set,
+    Body, Command, Frame, FrameBuf, FrameFault, Head, Passage, add, add_with, begin, fault, finish,
+    first, next, pass, read, room, set,
 };
 
 // The write of a station address, as the master sends it first: 30 octets and 30 zeros.
