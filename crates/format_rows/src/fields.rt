@@ -48,9 +48,14 @@ fn buffers_are_refilled(rt: HostRuntime) -> Result<(), Fail> {
         append(&mut wanted, behind.as_bytes());
         assert_eq!(rt; buffer.as_slice(), wanted.as_slice());
     }
-    append_u8(&mut buffer, 7);
-    append_u16(&mut buffer, 0x1234);
-    assert_eq!(rt; buffer.as_slice(), [0x39, 0x38, 7, 0x34, 0x12].as_slice());
+    let mut fields: ArrayVec<u8, 8> = buffer_of(&[9]);
+    append_u8(&mut fields, 7);
+    append_u16(&mut fields, 0x1234);
+    append_u32(&mut fields, 0xA1B2_C3D4);
+    assert_eq!(rt;
+        fields.as_slice(),
+        [9, 7, 0x34, 0x12, 0xD4, 0xC3, 0xB2, 0xA1].as_slice()
+    );
     let mut rows = Rows::new(rt.alloc());
     rows.add(3)?;
     rows.add(4)?;
