@@ -1,4 +1,3 @@
-use arrayvec::ArrayVec;
 use ec_fields::*;
 use std::test::Fail;
 
@@ -34,31 +33,4 @@ fn fields_are_octets_in_place(rt: HostRuntime) {
     );
     assert_eq!(rt; (bits(0x810E, 0, 11), bits(0x810E, 15, 1)), (0x10E, 1));
     assert_eq!(rt; put_bits(0x810E, 12, 3, 5), 0xD10E);
-}
-
-// A longer and a shorter content put over what stood there, in one part and in two.
-#[test]
-fn buffers_are_refilled(rt: HostRuntime) -> Result<(), Fail> {
-    let mut buffer: ArrayVec<u8, 8> = buffer_of(b"abcd");
-    for (head, behind) in [("", "xy"), ("1", "23456"), ("12345", ""), ("9", "8")] {
-        refill(&mut buffer, head.as_bytes());
-        assert_eq!(rt; buffer.as_slice(), head.as_bytes());
-        refill_parts(&mut buffer, head.as_bytes(), behind.as_bytes());
-        let mut wanted: ArrayVec<u8, 16> = buffer_of(head.as_bytes());
-        append(&mut wanted, behind.as_bytes());
-        assert_eq!(rt; buffer.as_slice(), wanted.as_slice());
-    }
-    let mut fields: ArrayVec<u8, 8> = buffer_of(&[9]);
-    append_u8(&mut fields, 7);
-    append_u16(&mut fields, 0x1234);
-    append_u32(&mut fields, 0xA1B2_C3D4);
-    assert_eq!(rt;
-        fields.as_slice(),
-        [9, 7, 0x34, 0x12, 0xD4, 0xC3, 0xB2, 0xA1].as_slice()
-    );
-    let mut rows = Rows::new(rt.alloc());
-    rows.add(3)?;
-    rows.add(4)?;
-    assert_eq!(rt; rows.as_slice(), [3, 4].as_slice());
-    Ok(())
 }
