@@ -45,7 +45,8 @@ pub fn add_pair(draws: &mut Draws, into: &mut Octets, number: u32) -> Result<(),
 }
 
 /// What a slave has behind its mailboxes.
-const REST_OF_SLAVE: &[u8] = b"]\nserves = [\"coe\", \"foe\"]\nblocks = 8\n\n[[slave.object]]\nindex = 8192\nkind = \"variable\"\nname = \"Store\"\n\n[[slave.object.entry]]\ntype = 10\naccess = 63\nsize = [1, 200]\nvalue = \"00\"\n\n[[slave.file]]\nname = \"f\"\nrights = \"rw\"\nvalue = \"\"\n";
+const REST_OF_SLAVE: &[u8] =
+    b"]\nserves = [\"coe\", \"foe\"]\nblocks = 8\n\n[[slave.object]]\nindex = 8192\nkind = \"variable\"\nname = \"Store\"\n\n[[slave.object.entry]]\ntype = 10\naccess = 63\nsize = [1, 200]\nvalue = \"00\"\n\n[[slave.file]]\nname = \"f\"\nrights = \"rw\"\nvalue = \"\"\n";
 
 /// A slave of a name, with a station address and mailboxes of a length.
 pub fn add_slave(into: &mut Octets, name: &[u8], station: u32, area: u32) -> Result<(), NoMemory>

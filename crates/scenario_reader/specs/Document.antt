@@ -112,7 +112,14 @@ tables_of ms = do
   services ← services_of slaves service_tables
   host ← packets_of host_tables
   Ok (record {
-    retry = retry; recover = recover; budget = budget; lose = lose; slaves = slaves; services = services; host = host; paces = paces;
+    retry = retry;
+    recover = recover;
+    budget = budget;
+    lose = lose;
+    slaves = slaves;
+    services = services;
+    host = host;
+    paces = paces;
   })
 
 -- the TOML document that octets write
