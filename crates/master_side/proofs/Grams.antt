@@ -8,8 +8,9 @@ use Rattle.datagrams.specs.declared.head.Head.{Head}
 use Rattle.datagrams.specs.Datagram as Raw
 use Rattle.datagrams.proofs.Spelled.{two_number}
 use Rattle.mailbox_mail.specs.declared.mail.Mail.{Mail}
+use Rattle.mailbox_mail.specs.Area.{mail_area}
 use Rattle.mailbox_mail.specs.Mail.{mail_read}
-use Rattle.link_mails.specs.Body.{Body, link_mail, link_read, area_text}
+use Rattle.link_mails.specs.Body.{Body, link_mail, link_read}
 use Rattle.link_model.specs.Master.{InHalf}
 use Rattle.link_model.specs.Link.{Halves}
 use Rattle.link_model.specs.Frames.{Ask, in_ask}
@@ -36,7 +37,7 @@ whole : {T : Type 0} (a b : ℕ) (t e : T) → a ≡ b → (if a == b then t els
 whole a b t e p = ap (λ (z : Bool). if z then t else e) (eq-eqb a b p)
 
 pub write_meant : (lens : ℕ → Lens) (index : ℕ) (out : OutLink (Option Mail)) (m : Mail) (station : ℕ) (h : Halves Body) (due : Option Access) → out.station ≡ station → (lens station).out ≡ out.len → out.state ≡ Some m →
-    (mail_read (area_text out.len m) ≡ Ok m) × (length (area_text out.len m) ≡ out.len) → h.out.holding ≡ option_map link_mail out.state → Meant station Carried.Write h due (datagram_seen lens (write_gram index out out.state))
+    (mail_read (mail_area out.len m) ≡ Ok m) × (length (mail_area out.len m) ≡ out.len) → h.out.holding ≡ option_map link_mail out.state → Meant station Carried.Write h due (datagram_seen lens (write_gram index out out.state))
 write_meant lens index out m station h due q l e (r, n) k =
     subst (λ (z : Option Mail). Meant station Carried.Write h due (datagram_seen lens (write_gram index out z))) (sym e)
     (record {
@@ -46,7 +47,7 @@ write_meant lens index out m station h due q l e (r, n) k =
     })
   where
     ask : (datagram_seen lens (write_gram index out (Some m))).gram.ask ≡ Ask.WriteMail (link_mail m)
-    ask = whole (length (area_text out.len m)) (lens out.station).out (Ask.WriteMail (link_read (mail_read (area_text out.len m)))) Ask.Other (n ∙ sym l ∙ ap (λ s. (lens s).out) (sym q)) ∙ ap (λ z. Ask.WriteMail (link_read z)) r
+    ask = whole (length (mail_area out.len m)) (lens out.station).out (Ask.WriteMail (link_read (mail_read (mail_area out.len m)))) Ask.Other (n ∙ sym l ∙ ap (λ s. (lens s).out) (sym q)) ∙ ap (λ z. Ask.WriteMail (link_read z)) r
 
 in_meant : (lens : ℕ → Lens) (inn : InwardHalf) (index : ℕ) (h : Halves Body) (due : Option Access) → (lens (in_station inn)).back ≡ in_area_len inn → h.inn ≡ in_half_of inn → Meant (in_station inn) Carried.Inward h due (datagram_seen lens (inward_gram index inn))
 in_meant lens (Clear i) index h due l e = record { station_is = refl; address = refl; asks = (whole (length {A = ℕ} (replicate i.len 0)) (lens i.station).back Ask.ReadMail Ask.Other (length-replicate i.len 0 ∙ sym l) ∙ ap (λ (z : InHalf). in_ask z.state z.bit) (sym e), refl) }
@@ -97,7 +98,7 @@ due_is duty d hand o e is s k a = let (frame, t) = subst (λ (z : Option Duty). 
 
 -- the datagram of a mail held, by what its halves are
 pub write_begun : (index : ℕ) (out : OutLink (Option Mail)) (head : Head) (body : List ℕ) (P : Raw.Datagram → Type 0) → IsSome out.state → ((m : Mail) → out.state ≡ Some m → head ≡ access_head out.station index (write_access out.len m)) →
-    ((m : Mail) → out.state ≡ Some m → body ≡ area_text out.len m) → P (datagram_of head body) → P (write_gram index out out.state)
+    ((m : Mail) → out.state ≡ Some m → body ≡ mail_area out.len m) → P (datagram_of head body) → P (write_gram index out out.state)
 write_begun index out head body P some h b p = go out.state refl some
   where
     go : (o : Option Mail) → out.state ≡ o → IsSome o → P (write_gram index out o)
@@ -105,7 +106,7 @@ write_begun index out head body P some h b p = go out.state refl some
     go (Some m) e s = subst P (λ i. datagram_of (h m e i) (b m e i)) p
 
 pub held_meant : (lens : ℕ → Lens) (index : ℕ) (out : OutLink (Option Mail)) (station : ℕ) (h : Halves Body) (due : Option Access) → out.station ≡ station → (lens station).out ≡ out.len → is_none out.state ≡ false →
-    ((m : Mail) → out.state ≡ Some m → (mail_read (area_text out.len m) ≡ Ok m) × (length (area_text out.len m) ≡ out.len)) → h.out.holding ≡ option_map link_mail out.state → Meant station Carried.Write h due (datagram_seen lens (write_gram index out out.state))
+    ((m : Mail) → out.state ≡ Some m → (mail_read (mail_area out.len m) ≡ Ok m) × (length (mail_area out.len m) ≡ out.len)) → h.out.holding ≡ option_map link_mail out.state → Meant station Carried.Write h due (datagram_seen lens (write_gram index out out.state))
 held_meant lens index out station h due q l some r k = go out.state refl some
   where
     go : (o : Option Mail) → out.state ≡ o → is_none o ≡ false → Meant station Carried.Write h due (datagram_seen lens (write_gram index out out.state))

@@ -8,7 +8,7 @@ use Rattle.datagrams.specs.Command.{IsNamed}
 use Rattle.datagrams.specs.Datagram.{Datagram}
 use Rattle.datagrams.specs.Frame.{datagram_of}
 use Rattle.mailbox_mail.specs.declared.mail.Mail.{Mail}
-use Rattle.link_mails.specs.Body.{area_text}
+use Rattle.mailbox_mail.specs.Area.{mail_area}
 use Rattle.mailbox_master.specs.declared.halves.InwardHalf.{InwardHalf}
 use Rattle.mailbox_master.specs.Links.{OutLink}
 use Rattle.mailbox_master.specs.Any.{in_station, in_area_len, in_access_of}
@@ -52,7 +52,7 @@ no_gram = datagram_of (head_to Nop 0 0 0 0) []
 -- the write of the mail held
 abbrev pub write_gram : ℕ → OutLink (Option Mail) → Option Mail → Datagram
 write_gram index out None = no_gram
-write_gram index out (Some m) = datagram_of (access_head out.station index (write_access out.len m)) (area_text out.len m)
+write_gram index out (Some m) = datagram_of (access_head out.station index (write_access out.len m)) (mail_area out.len m)
 
 -- the datagram of the inward half
 abbrev pub inward_gram : ℕ → InwardHalf → Datagram

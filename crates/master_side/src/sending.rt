@@ -9,7 +9,6 @@ ghost use Rattle.datagrams.specs.declared.command.Command.TheVariants.{Fprd};
 ghost use Rattle.std.specs.Prelude.{Some, ◌-◌, ◌≤◌, ◌+◌, length};
 ghost use Rattle.datagrams.specs.Frame.{datagram_of};
 
-use crate::bodies::InwardBody;
 use crate::carried::Carried;
 use crate::hand::Hand;
 use crate::passing::Passing;
@@ -24,9 +23,10 @@ impl<H: Hand> Side<H> {
     ghost use Rattle.datagrams.specs.Datagram as Raw;
     ghost use Rattle.datagrams.specs.Frame.{IsBegun};
     ghost use Rattle.exchange_model.specs.Exchange.{Speech};
-    ghost use Rattle.link_mails.specs.Body.{Body, area_text};
+    ghost use Rattle.link_mails.specs.Body.{Body};
     ghost use Rattle.mailbox_mail.specs.declared.mail.Mail.{Mail};
     ghost use Rattle.mailbox_mail.specs.Mail.{mail_read};
+    ghost use Rattle.mailbox_mail.specs.Area.{mail_area};
     ghost use Rattle.std.specs.Prelude.{Ok};
     ghost use Rattle.link_model.specs.Link.{Halves};
     ghost use Rattle.segment_model.specs.Slaves.{Access};
@@ -48,7 +48,7 @@ impl<H: Hand> Side<H> {
         requires room { self.now.area ≤ 1514 - length frame.old.items - 12 }
         ensures begun { (ds : List Raw.Datagram) → IsBegun frame.old.items ds → IsBegun frame.new.items (ds ++ write_gram index self.now.out self.now.out.state ∷ []) }
         ensures sent { IsSent self.now.area (write_gram index self.now.out self.now.out.state) }
-        ensures reads { (m : Mail) → self.now.out.state ≡ Some m → (mail_read (area_text self.now.out.len m) ≡ Ok m) × (length (area_text self.now.out.len m) ≡ self.now.out.len) }
+        ensures reads { (m : Mail) → self.now.out.state ≡ Some m → (mail_read (mail_area self.now.out.len m) ≡ Ok m) × (length (mail_area self.now.out.len m) ≡ self.now.out.len) }
     {
         let head = self.out.head(index);
         let mut area = [0; 1486];
@@ -66,7 +66,7 @@ impl<H: Hand> Side<H> {
         ensures sent { IsSent self.now.area (inward_gram index self.now.inn) }
     {
         let head = self.inn.head(index);
-        datagrams::add_with(frame, &head, &InwardBody { half: &self.inn });
+        datagrams::add_with(frame, &head, &self.inn);
     }
 
     // The datagram of the link: the write of a mail held, or the inward half's.

@@ -1,7 +1,7 @@
 -- A slave's own datagrams of a frame: they alone count for it, and an answer has them at the same places.
-use Rattle.std.proofs.Common.{◌≡◌, ◌≢◌, ◌+◌, ℕ, zero, suc, ◌==◌, List, [], ◌∷◌, ◌++◌, Bool, true, false, Option, Some, None, refl, sym, ap, ◌∙◌, subst, eq-eqb, length, get_or, ◌<◌, ◌≤◌, ◌⊎◌, inl, inr, arith, length-append, ◌^◌, ◌-◌}
+use Rattle.std.proofs.Common.{◌≡◌, ◌+◌, ℕ, zero, suc, ◌==◌, List, [], ◌∷◌, ◌++◌, Bool, true, false, Option, Some, None, refl, sym, ap, ◌∙◌, subst, eq-eqb, length, get_or, ◌<◌, ◌≤◌, arith, length-append, ◌-◌}
 use Rattle.std.proofs.lemmas.Bool.{eqb-true}
-use Rattle.std.specs.Prelude.{◌&&◌, ◌||◌, not, nat_le, ⊤, if◌then◌else◌, option_map, map, take, drop, Result, Ok, Err}
+use Rattle.std.specs.Prelude.{◌&&◌, ◌||◌, not, nat_le, ⊤, if◌then◌else◌, option_map, map, take, drop}
 use Rattle.exchange_model.specs.Rows.{Row, row_heard}
 use Rattle.datagrams.specs.declared.frame.Part.{Part}
 use Rattle.link_model.specs.Link.{Halves}
@@ -16,18 +16,14 @@ use Rattle.datagrams.specs.Frame.{IsPart, text_of}
 use Rattle.datagrams.proofs.Building.{text_of-append}
 use Rattle.exchange_model.specs.Exchange.{Speech}
 use Rattle.master_duty.specs.Reply.{Reply}
-use Rattle.frame_view.specs.View.{Lens, head_seen, station_of, address_of, place_of, is_own, read_access, write_access, access_of}
+use Rattle.frame_view.specs.View.{Lens, station_of, address_of, place_of, is_own, read_access, write_access, access_of}
 use Rattle.ec_fields.specs.Fields.{number_at, bits_of}
 use Rattle.datagrams.specs.declared.command.Command.TheVariants.{Nop, Aprd, Apwr, Aprw, Fprd, Fpwr, Fprw, Brd, Bwr, Brw, Lrd, Lwr, Lrw, Armw, Frmw, Other}
-use Rattle.datagrams.specs.declared.head.Head.{Head}
 use Rattle.datagrams.specs.declared.command.Command.{Command}
 use Rattle.frame_view.specs.Seen.{part_seen}
-use Rattle.datagrams.specs.declared.frame.Frame.{Frame}
-use Rattle.datagrams.specs.declared.frame.FrameFault.{FrameFault}
-use Rattle.datagrams.specs.Frame.{frame_read}
 use Rattle.master_side.specs.Carried.{Asks, Meant, IsBack, one}
 use Rattle.master_side.specs.declared.carried.Carried.{Carried}
-use Rattle.master_side.specs.Shown.{SideShows, DutyShows}
+use Rattle.master_side.specs.Shown.{SideShows}
 use Rattle.mailbox_mail.specs.declared.mail.Mail.{Mail}
 use Rattle.mailbox_master.specs.Links.{OutLink}
 use Rattle.mailbox_master.specs.declared.halves.InwardHalf.{InwardHalf}

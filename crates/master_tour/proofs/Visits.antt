@@ -1,5 +1,5 @@
 -- A slave's visit: a choice, and its datagram.
-use Rattle.std.proofs.Common.{◌≡◌, ℕ, Bool, Option, sym, ap, subst, ◌∙◌}
+use Rattle.std.proofs.Common.{◌≡◌, ℕ, Bool, Option, sym, subst, ◌∙◌}
 use Rattle.link_mails.specs.Body.{Body}
 use Rattle.link_model.specs.Link.{Halves}
 use Rattle.mailbox_mail.specs.declared.mail.Mail.{Mail}

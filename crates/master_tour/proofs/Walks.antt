@@ -1,5 +1,5 @@
 -- A walk over all places of a list.
-use Rattle.std.proofs.Common.{◌≡◌, ℕ, zero, suc, ◌+◌, ◌<◌, ◌≤◌, List, [], ◌∷◌, refl, sym, ap, ◌∙◌, subst, arith, length, drop, get_or, set}
+use Rattle.std.proofs.Common.{◌≡◌, ℕ, zero, suc, ◌<◌, ◌≤◌, List, [], ◌∷◌, sym, ap, ◌∙◌, subst, arith, length, drop, get_or, set}
 use Rattle.master_tour.specs.Walks.{EachPair, Walked}
 
 pub walk_step : {S : Type 0} (P : S → S → Type 0) (i : ℕ) (xs ys : List S) (v w : S) → Walked P i xs ys → i < length ys → v ≡ get_or ys i v → P v w → Walked P (suc i) xs (set ys i w)

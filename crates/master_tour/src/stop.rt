@@ -1,7 +1,7 @@
 ghost use Rattle.std.specs.Prelude.{◌≡◌, ◌+◌, ℕ, All, take, drop, true, nat_lt, nat_le};
 ghost use Rattle.datagrams.specs.Frame.{IsPart};
 
-use al_state::{BringUp, access, bring_new, came_back};
+use al_state::{BringUp, access, came_back, cleared, reopen_new};
 use arrayvec::ArrayVec;
 use datagrams::{FrameBuf, Head, Part};
 use master_side::{Hand, Side, Wish};
@@ -17,9 +17,22 @@ pub enum Stand {
     Gone,
 }
 
+// What the return of an opening's access has turned a slave's stand into.
+fn turned(is_up: bool, is_cleared: bool) -> Option<Turned> {
+    if is_up {
+        Some(Turned::Opened)
+    } else if is_cleared {
+        Some(Turned::Cleared)
+    } else {
+        None
+    }
+}
+
 /// What a frame has turned a slave's stand into.
 #[derive(Clone, Copy, Debug, PartialEq, Eq)]
 pub enum Turned {
+    /// It was seen in Init: what its mailboxes and services were is gone.
+    Cleared,
     /// It is open.
     Opened,
     /// It was given up, for good or not.
@@ -123,14 +136,18 @@ impl<H: Hand> Stop<H> {
         }
         let part = parts[self.at];
         let mut up = up;
+        let was_cleared = cleared(&up);
         let is_up = came_back(&mut up, part.head.counter, body_of(octets, part));
-        let stand = if is_up {
+        let is_cleared = !was_cleared && cleared(&up);
+        self.stand = if is_up {
             Stand::Open
         } else {
             Stand::Opening(up)
         };
-        self.stand = stand;
-        self.news = if is_up { Some(Turned::Opened) } else { None };
+        self.news = turned(is_up, is_cleared);
+        if is_cleared {
+            self.side.renew();
+        }
     }
 
     // A state service that has drained and returns its slave to Init begins a reopening.
@@ -146,9 +163,9 @@ impl<H: Hand> Stop<H> {
         }
     }
 
-    // The accesses that open the slave into this state.
+    // The accesses that return the slave to Init and open it anew, into this state.
     fn opening(&self, state: u8) -> BringUp {
-        bring_new(
+        reopen_new(
             self.place,
             self.side.station,
             self.side.out_len,

@@ -1,6 +1,4 @@
-use Rattle.std.proofs.Common.{sym, subst, ap, ◌∙◌, refl, arith, ◌+◌, ◌≤◌, ℕ, List, length, get_or}
-use Rattle.datagrams.specs.declared.frame.Part.{Part}
-use Rattle.datagrams.specs.Frame.{IsPart}
+use Rattle.std.proofs.Common.{sym, subst, refl, arith}
 use Rattle.frame_view.specs.Seen.{part_seen}
 use Rattle.task_model.specs.Accounts.{duty_access}
 use Rattle.master_side.specs.Shown.{SideShows}

@@ -1,12 +1,9 @@
-use Rattle.std.proofs.Common.{◌≡◌, ℕ, ◌+◌, List, sym, subst, ap, ◌∙◌, arith, add-one}
-use Rattle.std.specs.Prelude.{map}
+use Rattle.std.proofs.Common.{◌≡◌, List}
 use Rattle.exchange_model.specs.Exchange.{Speech}
 use Rattle.link_mails.specs.Body.{Body}
 use Rattle.segment_model.specs.Slaves.{Datagram}
 use Rattle.segment_model.specs.Seats
-use Rattle.task_model.specs.Accounts.{Account, duty_access, account_back}
-use Rattle.frame_view.specs.Seen.{part_seen}
-use Rattle.frame_view.specs.View.{Lens}
+use Rattle.task_model.specs.Accounts.{Account, duty_access}
 use Rattle.master_duty.specs.Reply.{Reply}
 use Rattle.master_side.specs.Shown.{SideShows}
 use Rattle.master_tour.specs.Under.{Under}
