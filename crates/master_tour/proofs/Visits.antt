@@ -17,9 +17,8 @@ use Rattle.master_duty.specs.declared.duty.Duty.{Duty}
 use Rattle.master_duty.specs.Reply.{Reply}
 use Rattle.master_side.specs.declared.carried.Carried.{Carried}
 use Rattle.master_side.specs.Carried.{Meant}
-use Rattle.master_side.specs.Sent.{SameSide}
+use Rattle.master_side.specs.Sent.{SameSide, visit_gram}
 use Rattle.master_side.specs.Shown.{SideShows, DutyShows, Picked}
-use Rattle.master_tour.specs.Under.{side_gram}
 
 pub picked_map : {Q : Type 0} (x : Speech Body Q Reply) (acknowledged : Q → Bool) (made : ℕ) (d : Side Body Q Reply) (a : Account Q Reply) (X Y : Side Body Q Reply → Account Q Reply → Type 0) →
     Picked x acknowledged made d a X → ((e : Side Body Q Reply) (b : Account Q Reply) → X e b → Y e b) → Picked x acknowledged made d a Y
@@ -34,8 +33,8 @@ same_shown shows new out out' inn inn' fresh fresh' duty duty' d a k h s = recor
   state = subst (λ (z : Option Duty). DutyShows z a.hand) (sym k.duty_is) s.state;
 }
 
-pub same_meant : (lens : ℕ → Lens) (out out' : OutLink (Option Mail)) (inn inn' : InwardHalf) (fresh fresh' : Bool) (duty duty' : Option Duty) (station station' first : ℕ) (carried : Carried) (h : Halves Body) (due : Option Access) →
-    SameSide out inn fresh duty out' inn' fresh' duty' → station' ≡ station → station ≡ first → Meant station carried h due (datagram_seen lens (side_gram station out inn duty carried)) → Meant first carried h due (datagram_seen lens (side_gram station' out' inn' duty' carried))
-same_meant lens out out' inn inn' fresh fresh' duty duty' station station' first carried h due k s t m =
-    subst (λ n. Meant n carried h due (datagram_seen lens (side_gram station' out' inn' duty' carried))) t
-    (subst (λ r. Meant station carried h due (datagram_seen lens r)) (λ i. side_gram ((sym s) i) ((sym k.out_is) i) ((sym k.in_is) i) ((sym k.duty_is) i) carried) m)
+pub same_meant : (lens : ℕ → Lens) (index : ℕ) (out out' : OutLink (Option Mail)) (inn inn' : InwardHalf) (fresh fresh' : Bool) (duty duty' : Option Duty) (station station' first : ℕ) (carried : Carried) (h : Halves Body) (due : Option Access) →
+    SameSide out inn fresh duty out' inn' fresh' duty' → station' ≡ station → station ≡ first → Meant station carried h due (datagram_seen lens (visit_gram station index out inn duty carried)) → Meant first carried h due (datagram_seen lens (visit_gram station' index out' inn' duty' carried))
+same_meant lens index out out' inn inn' fresh fresh' duty duty' station station' first carried h due k s t m =
+    subst (λ n. Meant n carried h due (datagram_seen lens (visit_gram station' index out' inn' duty' carried))) t
+    (subst (λ r. Meant station carried h due (datagram_seen lens r)) (λ i. visit_gram ((sym s) i) index ((sym k.out_is) i) ((sym k.in_is) i) ((sym k.duty_is) i) carried) m)

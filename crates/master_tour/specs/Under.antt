@@ -1,18 +1,12 @@
 -- The frame under way: which datagrams of it are one slave's.
 use Rattle.std.specs.Prelude.{◌≡◌, ℕ, zero, suc, ◌==◌, if◌then◌else◌, Bool, true, false, List, [], ◌∷◌, Option}
-use Rattle.datagrams.specs.Datagram as Raw
 use Rattle.datagrams.specs.declared.frame.Part.{Part}
 use Rattle.datagrams.specs.declared.command.Command.TheVariants.{Nop}
 use Rattle.link_model.specs.Link.{Halves}
 use Rattle.link_mails.specs.Body.{Body}
-use Rattle.mailbox_mail.specs.declared.mail.Mail.{Mail}
-use Rattle.mailbox_master.specs.declared.halves.InwardHalf.{InwardHalf}
-use Rattle.mailbox_master.specs.Links.{OutLink}
 use Rattle.segment_model.specs.Slaves.{Datagram, Access}
-use Rattle.master_duty.specs.declared.duty.Duty.{Duty}
 use Rattle.master_side.specs.declared.carried.Carried.{Carried}
 use Rattle.master_side.specs.Carried.{Meant, one}
-use Rattle.master_side.specs.Sent.{visit_gram}
 
 -- a frame as a session sees it
 abbrev pub Grams : Type 0
@@ -33,10 +27,6 @@ IsAt (suc at) (d ∷ ds) b = IsAt at ds b
 pub data Under (station at : ℕ) (under : Bool) (carried : Carried) (h : Halves Body) (due : Option Access) (sent : Grams) : Type 0 where
   none : under ≡ false → mine station sent ≡ [] → Under station at under carried h due sent
   has : (b : Datagram Body) → under ≡ true → IsAt at sent b → mine station sent ≡ one b → Meant station carried h due b → Under station at under carried h due sent
-
--- the datagram of a visit, with index 0
-abbrev pub side_gram : ℕ → OutLink (Option Mail) → InwardHalf → Option Duty → Carried → Raw.Datagram
-side_gram station out inn duty carried = visit_gram station 0 out inn duty carried
 
 -- stands where a frame has no datagram
 abbrev pub no_part : Part

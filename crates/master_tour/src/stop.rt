@@ -18,7 +18,7 @@ pub enum Stand {
 }
 
 // What the return of an opening's access has turned a slave's stand into.
-fn turned(is_up: bool, is_cleared: bool) -> Option<Turned> {
+fn news_of(is_up: bool, is_cleared: bool) -> Option<Turned> {
     if is_up {
         Some(Turned::Opened)
     } else if is_cleared {
@@ -85,11 +85,11 @@ impl<H: Hand> Stop<H> {
     ghost use Rattle.mailbox_master.specs.Any.{in_area_len};
     ghost use Rattle.master_duty.specs.Reply.{Reply};
     ghost use Rattle.master_side.specs.Carried.{Meant};
-    ghost use Rattle.master_side.specs.Sent.{IsSent, SameLink};
+    ghost use Rattle.master_side.specs.Sent.{IsSent, SameLink, visit_gram};
     ghost use Rattle.master_side.specs.Shown.{SideShows, Picked};
     ghost use Rattle.datagrams.specs.Frame.{datagram_of};
     ghost use Rattle.al_state.specs.BringUp.{head_of, octets_of};
-    ghost use Rattle.master_tour.specs.Under.{Under, side_gram};
+    ghost use Rattle.master_tour.specs.Under.{Under};
     ghost use Rattle.master_tour.specs.declared.stop.Stand.{Stand};
 
     /// Its datagram of the frame that came back, while it is open. `made` is the frame's number.
@@ -144,7 +144,7 @@ impl<H: Hand> Stop<H> {
         } else {
             Stand::Opening(up)
         };
-        self.news = turned(is_up, is_cleared);
+        self.news = news_of(is_up, is_cleared);
         if is_cleared {
             self.side.renew();
         }
@@ -225,49 +225,55 @@ impl<H: Hand> Stop<H> {
     }
 
     /// A service comes into hand where one may, and the datagram of this visit stands next in the frame, as the
-    /// datagram number `at` of it. Tells whether a service came into hand.
-    pub fn open_visit(&mut self, wish: Option<Wish>, at: usize, frame: &mut FrameBuf) -> bool
+    /// datagram number `at` of it, with this index. Tells whether a service came into hand.
+    pub fn open_visit(
+        &mut self,
+        wish: Option<Wish>,
+        at: usize,
+        index: u8,
+        frame: &mut FrameBuf,
+    ) -> bool
         requires few { at < 16 }
         requires begun { (ds : List Raw.Datagram) × IsBegun frame.old.items ds }
         requires room { self.old.side.area ≤ 1514 - length frame.old.items - 12 }
         ensures shown { (x : Speech Body H.Asked Reply) (made : ℕ) (lens : ℕ → Lens) (d : Seats.Side Body H.Asked Reply) (a : Account H.Asked Reply) → (lens self.old.side.station).out ≡ self.old.side.out.len → (lens self.old.side.station).back ≡ in_area_len self.old.side.inn →
             SideShows (H.shows self.old.side.hand x) self.old.side.out self.old.side.inn self.old.side.fresh self.old.side.duty d a →
             Picked x H.acknowledged made d a (λ e b. SideShows (H.shows self.new.side.hand x) self.new.side.out self.new.side.inn self.new.side.fresh self.new.side.duty e b ×
-            Meant self.old.side.station self.new.side.carried e.halves (duty_access b.hand) (datagram_seen lens (side_gram self.new.side.station self.new.side.out self.new.side.inn self.new.side.duty self.new.side.carried))) }
-        ensures begun { (ds : List Raw.Datagram) → IsBegun frame.old.items ds → IsBegun frame.new.items (ds ++ side_gram self.new.side.station self.new.side.out self.new.side.inn self.new.side.duty self.new.side.carried ∷ []) }
-        ensures sent { IsSent self.old.side.area (side_gram self.new.side.station self.new.side.out self.new.side.inn self.new.side.duty self.new.side.carried) }
+            Meant self.old.side.station self.new.side.carried e.halves (duty_access b.hand) (datagram_seen lens (visit_gram self.new.side.station index self.new.side.out self.new.side.inn self.new.side.duty self.new.side.carried))) }
+        ensures begun { (ds : List Raw.Datagram) → IsBegun frame.old.items ds → IsBegun frame.new.items (ds ++ visit_gram self.new.side.station index self.new.side.out self.new.side.inn self.new.side.duty self.new.side.carried ∷ []) }
+        ensures sent { IsSent self.old.side.area (visit_gram self.new.side.station index self.new.side.out self.new.side.inn self.new.side.duty self.new.side.carried) }
         ensures link { SameLink self.old.side.out self.old.side.inn self.old.side.station self.old.side.area self.new.side.out self.new.side.inn self.new.side.station self.new.side.area }
         ensures stand { self.new.stand ≡ self.old.stand }
         ensures at { (self.new.at ≡ at) × (self.new.under ≡ true) }
     {
         let began = self.side.choose(wish);
-        self.side.add_datagram(0, frame);
+        self.side.add_datagram(index, frame);
         self.at = at;
         self.under = true;
         began
     }
 
-    /// The access of its opening stands next in the frame, as the datagram number `at` of it.
-    pub fn opening_visit(&mut self, up: &BringUp, at: usize, frame: &mut FrameBuf)
+    /// The access of its opening stands next in the frame, as the datagram number `at` of it, with this index.
+    pub fn opening_visit(&mut self, up: &BringUp, at: usize, index: u8, frame: &mut FrameBuf)
         requires few { at < 16 }
         requires begun { (ds : List Raw.Datagram) × IsBegun frame.old.items ds }
         requires room { 64 ≤ 1514 - length frame.old.items - 12 }
-        ensures begun { (ds : List Raw.Datagram) → IsBegun frame.old.items ds → IsBegun frame.new.items (ds ++ datagram_of (head_of up.now 0) (octets_of up.now) ∷ []) }
+        ensures begun { (ds : List Raw.Datagram) → IsBegun frame.old.items ds → IsBegun frame.new.items (ds ++ datagram_of (head_of up.now index) (octets_of up.now) ∷ []) }
         ensures side { self.new.side ≡ self.old.side }
         ensures stand { self.new.stand ≡ self.old.stand }
         ensures at { (self.new.at ≡ at) × (self.new.under ≡ true) }
     {
         let mut head = Head::default();
         let mut body = ArrayVec::new();
-        access(up, 0, &mut head, &mut body);
+        access(up, index, &mut head, &mut body);
         datagrams::add(frame, &head, body.as_slice());
         self.at = at;
         self.under = true;
     }
 
-    /// The datagram of this visit stands next in the frame, as the datagram number `at` of it: that of its opening, or
+    /// The datagram of this visit stands next in the frame, as the datagram number `at` of it, with this index: that of its opening, or
     /// while it is open that of a visit. Tells whether a service came into hand.
-    pub fn visit(&mut self, wish: Option<Wish>, at: usize, frame: &mut FrameBuf) -> bool
+    pub fn visit(&mut self, wish: Option<Wish>, at: usize, index: u8, frame: &mut FrameBuf) -> bool
         requires few { at < 16 }
         requires begun { (ds : List Raw.Datagram) × IsBegun frame.old.items ds }
         requires room { self.old.side.area ≤ 1514 - length frame.old.items - 12 }
@@ -277,10 +283,10 @@ impl<H: Hand> Stop<H> {
         match self.stand {
             Stand::Gone => false,
             Stand::Opening(up) => {
-                self.opening_visit(&up, at, frame);
+                self.opening_visit(&up, at, index, frame);
                 false
             }
-            Stand::Open => self.open_visit(wish, at, frame),
+            Stand::Open => self.open_visit(wish, at, index, frame),
         }
     }
 }

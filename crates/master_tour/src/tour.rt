@@ -165,8 +165,14 @@ impl<H: Hand> Tour<H> {
     }
 
     /// The slave at this place is visited: a service comes into hand where one may, and its datagram stands next in
-    /// the frame. Tells whether a service came into hand.
-    pub fn visit(&mut self, place: usize, wish: Option<Wish>, frame: &mut FrameBuf) -> bool
+    /// the frame, with this index, which is the frame's number modulo 256. Tells whether a service came into hand.
+    pub fn visit(
+        &mut self,
+        place: usize,
+        wish: Option<Wish>,
+        index: u8,
+        frame: &mut FrameBuf,
+    ) -> bool
         requires inside { place < length self.old.stops.items }
         requires few { self.old.count < 16 }
         requires begun { (ds : List Raw.Datagram) × IsBegun frame.old.items ds }
@@ -177,7 +183,7 @@ impl<H: Hand> Tour<H> {
         if stop.side.area as usize > datagrams::room(frame) {
             return false;
         }
-        let began = stop.visit(wish, at, frame);
+        let began = stop.visit(wish, at, index, frame);
         if !self.again {
             let _room = self.visit.try_push(place);
         }
