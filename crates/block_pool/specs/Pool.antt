@@ -7,6 +7,7 @@ use Rattle.block_pool.specs.Chained.{Chained}
 abbrev pub live_octets : Chained → Option (List ℕ)
 live_octets chain = if chain.live then Some chain.octets else None
 
+-- the octets at each place, where a chain is live
 abbrev pub chains_of : List Chained → List (Option (List ℕ))
 chains_of chains = map live_octets chains
 

@@ -1,3 +1,4 @@
 pub mod TookIs
 pub mod Sends
 pub mod Open
+pub mod Paced

@@ -1,5 +1,5 @@
 -- What the client makes of a mail is what the mail is to it.
-use Rattle.std.proofs.Common.{◌≡◌, ℕ, zero, suc, ◌+◌, ◌-◌, ◌<◌, Bool, true, false, not, ◌&&◌, ◌||◌, nat_lt, ◌==◌, List, [], ◌∷◌, ◌++◌, length, if◌then◌else◌, None, Some, refl, sym, ap, ◌∙◌, arith, eqb-true, ltb-true, ltb-false, lt-ltb, le-ltb}
+use Rattle.std.proofs.Common.{◌≡◌, ℕ, zero, suc, ◌+◌, ◌-◌, ◌<◌, ◌≤◌, Bool, true, false, not, ◌&&◌, ◌||◌, nat_lt, ◌==◌, List, [], ◌∷◌, ◌++◌, length, if◌then◌else◌, None, Some, refl, sym, ap, ◌∙◌, arith, eqb-true, ltb-true, ltb-false, lt-ltb, le-ltb}
 use Rattle.std.proofs.lemmas.Bool.{eqb-false}
 use Rattle.arrayvec.specs.ArrayVec.{ArrayVec}
 use Rattle.mailbox_mail.specs.declared.outcome.ReplyKind.{ReplyKind}
@@ -11,7 +11,8 @@ use Rattle.coe_model.specs.Client.{is_download_answer, is_part, is_information, 
 use Rattle.coe_client.specs.declared.state.Task.{Task}
 use Rattle.coe_client.specs.declared.state.Unsent.{Unsent}
 use Rattle.coe_client.specs.declared.state.Awaits.{Awaits}
-use Rattle.coe_client.specs.Talk.{Talking, target_of, sending, awaited, lets_go, goes_on, is_sound}
+use Rattle.coe_client.specs.Talk.{Talking, target_of, sending, later, awaited, lets_go, goes_on, is_sound, is_left, is_paced}
+use Rattle.coe_client.proofs.Paced.{accepted_whole, answered_whole}
 use Rattle.coe_client.specs.Hear.{Heard, TookIs, foreign, onward, refused, valued, answered, parted, hear_acceptance, hear_segment, hear_whole, hear_first, hear_part, hear_information, hear_abort, hear_error, hear_failed, hear_message, hear_mail}
 
 no_length : (xs : List ℕ) → (length xs == 0) ≡ true → xs ≡ []
@@ -50,6 +51,11 @@ halt_sum : (going : Bool) (quota : ℕ) (m : CoeMail) (hs : List CoeMail) → le
 halt_sum true quota m hs halt = rw halt refl
 halt_sum false quota m hs halt = refl
 
+-- a mail that lets none go leaves the number of mails
+halted : (going : Bool) (quota : ℕ) (m : CoeMail) (hs : List CoeMail) → lets_go m ≡ false → quota + goes_on going (m ∷ hs) ≡ quota + goes_on going []
+halted true quota m hs halt = rw halt refl
+halted false quota m hs halt = refl
+
 -- a mail that completes and continues nothing
 record IsUnawaited (m : CoeMail) : Type 0 where
   download : (t : Target) → is_download_answer t m ≡ false
@@ -60,7 +66,7 @@ record IsUnawaited (m : CoeMail) : Type 0 where
   information : (opcode : ℕ) → is_information opcode m ≡ false
   error : (ms : List CoeMail) → information_refused m ms ≡ None
 
-module _ (room : ℕ) (task : Task) (bytes : List ℕ) (unsent : Unsent) (quota : ℕ) (going : Bool) (value : List ℕ) where
+module _ (room : ℕ) (task : Task) (bytes : List ℕ) (unsent : Unsent) (quota : ℕ) (going : Bool) (value : List ℕ) (least : 64 ≤ room) (unsent_left : is_left unsent bytes ≡ true) where
   -- the client, by what it awaits
   abbrev at : Awaits → Talking
   at a = record { room = room; task = task; bytes = bytes; unsent = unsent; quota = quota; going = going; awaits = a; value = value }
@@ -82,6 +88,9 @@ module _ (room : ℕ) (task : Task) (bytes : List ℕ) (unsent : Unsent) (quota 
   mails_halt : (m : CoeMail) → lets_go m ≡ false → (hs : List CoeMail) → sending room task bytes unsent (quota + goes_on false hs) ≡ sending room task bytes unsent (quota + goes_on going (m ∷ hs))
   mails_halt m halt hs = ap (sending room task bytes unsent) (halt_sum going quota m hs halt)
 
+  mails_sent : (m : CoeMail) → lets_go m ≡ false → later (at Awaits.Nothing) [] ≡ [] → (hs : List CoeMail) → [] ≡ sending room task bytes unsent (quota + goes_on going (m ∷ hs))
+  mails_sent m halt sent hs = sym (ap (sending room task bytes unsent) (halted going quota m hs halt) ∙ sent)
+
   not_none : (left : ℕ) → (left == 0) ≡ false → 0 < left
   not_none left e = let apart : left ≡ 0 → ⊥ = eqb-false left 0 e in omega arith
 
@@ -93,32 +102,36 @@ module _ (room : ℕ) (task : Task) (bytes : List ℕ) (unsent : Unsent) (quota 
   some_open zero toggle some detail = absurd (omega arith)
   some_open (suc left) toggle some detail = refl
 
-  is_answered : (a : Awaits) (m : CoeMail) (left : ℕ) (toggle : Bool) → lets_go m ≡ true → value ≡ [] → ((ms : List CoeMail) → segments_end left toggle ms ≡ awaited (at a) (m ∷ ms)) → Is a m (answered (at a) left toggle)
-  is_answered a m left toggle go empty reads = choose a m (left == 0) _ _
-      (λ e. (
-        record {
-          replies = λ ms. ap (λ v. at_end ms (ReplyKind.Done, v)) empty ∙ ap (λ n. segments_end n toggle ms) (sym (eqb-true left 0 e)) ∙ reads ms;
-          mails = mails_onward m go;
-          room = refl;
-        },
-        refl,
-      ))
+  -- whether none is unsent where no mail may go
+  abbrev AllSent : Type 0
+  AllSent = later (at Awaits.Nothing) [] ≡ [] → unsent ≡ Unsent.Nothing
+
+  is_answered : (a : Awaits) (m : CoeMail) (left : ℕ) (toggle : Bool) → lets_go m ≡ true → value ≡ [] → (left ≡ 0 → AllSent) → ((ms : List CoeMail) → segments_end left toggle ms ≡ awaited (at a) (m ∷ ms)) → Is a m (answered (at a) left toggle)
+  is_answered a m left toggle go empty all reads = choose a m (left == 0) _ _
+      (λ e. record {
+        replies = λ ms. ap (λ v. at_end ms (ReplyKind.Done, v)) empty ∙ ap (λ n. segments_end n toggle ms) (sym (eqb-true left 0 e)) ∙ reads ms;
+        over = refl;
+        none = λ hs. refl;
+        mails = λ sent hs. sym (ap (λ u. sending room task bytes u (quota + goes_on going (m ∷ hs))) (all (eqb-true left 0 e) sent));
+        room = refl;
+      })
       (λ e. (record { replies = reads; mails = mails_onward m go; room = refl }, record { over = refl; yet = some_yet left toggle (not_none left e); open_to = some_open left toggle (not_none left e) }))
 
-  took_acceptance : (a : Awaits) → is_sound a value ≡ true → (index sub : ℕ) → Is a (mail (DownloadAnswer index sub)) (hear_acceptance (at a) a index sub)
-  took_acceptance Awaits.Nothing sound index sub = is_foreign Awaits.Nothing (mail (DownloadAnswer index sub)) (λ ms. refl)
-  took_acceptance Awaits.Acceptance sound index sub = choose Awaits.Acceptance (mail (DownloadAnswer index sub)) (is_of (target_of task) index sub) _ _
-      (λ e. is_answered Awaits.Acceptance (mail (DownloadAnswer index sub)) _ false refl (no_length value sound) (λ ms. rw e refl))
+  took_acceptance : (a : Awaits) → is_sound a value ≡ true → is_paced room task bytes unsent quota going a ≡ true → (index sub : ℕ) → Is a (mail (DownloadAnswer index sub)) (hear_acceptance (at a) a index sub)
+  took_acceptance Awaits.Nothing sound paced index sub = is_foreign Awaits.Nothing (mail (DownloadAnswer index sub)) (λ ms. refl)
+  took_acceptance Awaits.Acceptance sound paced index sub = choose Awaits.Acceptance (mail (DownloadAnswer index sub)) (is_of (target_of task) index sub) _ _
+      (λ e. is_answered Awaits.Acceptance (mail (DownloadAnswer index sub)) _ false refl (no_length value sound)
+      (λ none. accepted_whole room task bytes unsent quota going least unsent_left none paced) (λ ms. rw e refl))
       (λ e. is_foreign Awaits.Acceptance (mail (DownloadAnswer index sub)) (λ ms. rw e refl))
-  took_acceptance (Awaits.SegmentAnswers left toggle) sound index sub = is_foreign (Awaits.SegmentAnswers left toggle) (mail (DownloadAnswer index sub)) (none left)
+  took_acceptance (Awaits.SegmentAnswers left toggle) sound paced index sub = is_foreign (Awaits.SegmentAnswers left toggle) (mail (DownloadAnswer index sub)) (none left)
     where
       none : (left : ℕ) (ms : List CoeMail) → segments_end left toggle (mail (DownloadAnswer index sub) ∷ ms) ≡ None
       none zero ms = refl
       none (suc left) ms = refl
-  took_acceptance Awaits.FirstAnswer sound index sub = is_foreign Awaits.FirstAnswer (mail (DownloadAnswer index sub)) (λ ms. refl)
-  took_acceptance (Awaits.Parts size toggle) sound index sub = is_foreign (Awaits.Parts size toggle) (mail (DownloadAnswer index sub)) (λ ms. refl)
-  took_acceptance (Awaits.Information opcode) sound index sub = is_foreign (Awaits.Information opcode) (mail (DownloadAnswer index sub)) (λ ms. refl)
-  took_acceptance (Awaits.Over kind) sound index sub = is_foreign (Awaits.Over kind) (mail (DownloadAnswer index sub)) (λ ms. refl)
+  took_acceptance Awaits.FirstAnswer sound paced index sub = is_foreign Awaits.FirstAnswer (mail (DownloadAnswer index sub)) (λ ms. refl)
+  took_acceptance (Awaits.Parts size toggle) sound paced index sub = is_foreign (Awaits.Parts size toggle) (mail (DownloadAnswer index sub)) (λ ms. refl)
+  took_acceptance (Awaits.Information opcode) sound paced index sub = is_foreign (Awaits.Information opcode) (mail (DownloadAnswer index sub)) (λ ms. refl)
+  took_acceptance (Awaits.Over kind) sound paced index sub = is_foreign (Awaits.Over kind) (mail (DownloadAnswer index sub)) (λ ms. refl)
 
   -- a state with segments to be answered has at least one
   some_left : (left : ℕ) (toggle : Bool) → (nat_lt 0 left && length value == 0) ≡ true → 0 < left
@@ -138,24 +151,25 @@ module _ (room : ℕ) (task : Task) (bytes : List ℕ) (unsent : Unsent) (quota 
   not_answered zero toggle m ms is none = refl
   not_answered (suc left) toggle m ms is none = rw is none
 
-  took_segment : (a : Awaits) → is_sound a value ≡ true → (came : Bool) → Is a (mail (SegmentAnswer came)) (hear_segment (at a) a came)
-  took_segment Awaits.Nothing sound came = is_foreign Awaits.Nothing (mail (SegmentAnswer came)) (λ ms. refl)
-  took_segment Awaits.Acceptance sound came = is_foreign Awaits.Acceptance (mail (SegmentAnswer came)) (λ ms. refl)
-  took_segment (Awaits.SegmentAnswers left toggle) sound came = choose (Awaits.SegmentAnswers left toggle) (mail (SegmentAnswer came)) (same toggle came) _ _
+  took_segment : (a : Awaits) → is_sound a value ≡ true → is_paced room task bytes unsent quota going a ≡ true → (came : Bool) → Is a (mail (SegmentAnswer came)) (hear_segment (at a) a came)
+  took_segment Awaits.Nothing sound paced came = is_foreign Awaits.Nothing (mail (SegmentAnswer came)) (λ ms. refl)
+  took_segment Awaits.Acceptance sound paced came = is_foreign Awaits.Acceptance (mail (SegmentAnswer came)) (λ ms. refl)
+  took_segment (Awaits.SegmentAnswers left toggle) sound paced came = choose (Awaits.SegmentAnswers left toggle) (mail (SegmentAnswer came)) (same toggle came) _ _
       (λ e. is_answered (Awaits.SegmentAnswers left toggle) (mail (SegmentAnswer came)) (left - 1) (not toggle) refl (empty_value left sound)
+      (λ none. answered_whole room task bytes unsent quota going left toggle least unsent_left none paced)
       (λ ms. one_answered left toggle (mail (SegmentAnswer came)) ms (some_left left toggle sound) e))
       (λ e. is_foreign (Awaits.SegmentAnswers left toggle) (mail (SegmentAnswer came)) (λ ms. not_answered left toggle (mail (SegmentAnswer came)) ms e refl))
-  took_segment Awaits.FirstAnswer sound came = is_foreign Awaits.FirstAnswer (mail (SegmentAnswer came)) (λ ms. refl)
-  took_segment (Awaits.Parts size toggle) sound came = is_foreign (Awaits.Parts size toggle) (mail (SegmentAnswer came)) (λ ms. refl)
-  took_segment (Awaits.Information opcode) sound came = is_foreign (Awaits.Information opcode) (mail (SegmentAnswer came)) (λ ms. refl)
-  took_segment (Awaits.Over kind) sound came = is_foreign (Awaits.Over kind) (mail (SegmentAnswer came)) (λ ms. refl)
+  took_segment Awaits.FirstAnswer sound paced came = is_foreign Awaits.FirstAnswer (mail (SegmentAnswer came)) (λ ms. refl)
+  took_segment (Awaits.Parts size toggle) sound paced came = is_foreign (Awaits.Parts size toggle) (mail (SegmentAnswer came)) (λ ms. refl)
+  took_segment (Awaits.Information opcode) sound paced came = is_foreign (Awaits.Information opcode) (mail (SegmentAnswer came)) (λ ms. refl)
+  took_segment (Awaits.Over kind) sound paced came = is_foreign (Awaits.Over kind) (mail (SegmentAnswer came)) (λ ms. refl)
 
   -- a mail that ends the service with a value, and one that refuses it
   is_valued : (a : Awaits) (m : CoeMail) (octets : List ℕ) → lets_go m ≡ false → ((ms : List CoeMail) → at_end ms (ReplyKind.Value, value ++ octets) ≡ awaited (at a) (m ∷ ms)) → Is a m (valued (at a) octets)
-  is_valued a m octets halt reads = (record { replies = reads; mails = mails_halt m halt; room = refl }, refl)
+  is_valued a m octets halt reads = record { replies = reads; over = refl; none = λ hs. refl; mails = mails_sent m halt; room = refl }
 
   is_refused : (a : Awaits) (m : CoeMail) (kind : ReplyKind) → lets_go m ≡ false → ((ms : List CoeMail) → at_end ms (kind, []) ≡ awaited (at a) (m ∷ ms)) → Is a m (refused (at a) kind)
-  is_refused a m kind halt reads = (record { replies = reads; mails = mails_halt m halt; room = refl }, refl)
+  is_refused a m kind halt reads = record { replies = reads; over = refl; none = λ hs. refl; mails = mails_sent m halt; room = refl }
 
   is_parted : (a : Awaits) (m : CoeMail) (size : ℕ) (toggle : Bool) (octets : List ℕ) → lets_go m ≡ true → ((ms : List CoeMail) → parts_end size (value ++ octets) toggle ms ≡ awaited (at a) (m ∷ ms)) →
       Is a m (parted (at a) size toggle octets)
@@ -311,31 +325,32 @@ module _ (room : ℕ) (task : Task) (bytes : List ℕ) (unsent : Unsent) (quota 
   unawaited (Awaits.Information opcode) m u = is_foreign (Awaits.Information opcode) m (λ ms. rw (u.information opcode, u.error ms) refl)
   unawaited (Awaits.Over kind) m u = is_foreign (Awaits.Over kind) m (λ ms. refl)
 
-  took_message : (a : Awaits) → is_sound a value ≡ true → (c : Coe) → Is a (mail c) (hear_message (at a) c)
-  took_message a sound (DownloadAnswer index sub) = took_acceptance a sound index sub
-  took_message a sound (SegmentAnswer toggle) = took_segment a sound toggle
-  took_message a sound (ExpeditedAnswer index sub octets) = took_whole a sound index sub octets
-  took_message a sound (FirstAnswer index sub size octets) = took_first a sound index sub size octets
-  took_message a sound (UploadSegmentAnswer toggle last octets) = took_part a sound toggle last octets
-  took_message a sound (Information opcode incomplete left octets) = took_information a sound opcode incomplete left octets
-  took_message a sound (Abort index sub code) = took_abort a sound index sub code
-  took_message a sound (InformationError code) = took_error a sound code
-  took_message a sound (Emergency octets) = unawaited a (mail (Emergency octets)) (record { download = λ t. refl; segment = λ toggle. refl; sdo = λ ms. refl; value = λ t ms. refl; part = λ toggle. refl; information = λ opcode. refl; error = λ ms. refl })
-  took_message a sound (Expedited index sub all octets) = unawaited a (mail (Expedited index sub all octets)) (record { download = λ t. refl; segment = λ toggle. refl; sdo = λ ms. refl; value = λ t ms. refl; part = λ toggle. refl; information = λ opcode. refl; error = λ ms. refl })
-  took_message a sound (First index sub all size octets) = unawaited a (mail (First index sub all size octets)) (record { download = λ t. refl; segment = λ toggle. refl; sdo = λ ms. refl; value = λ t ms. refl; part = λ toggle. refl; information = λ opcode. refl; error = λ ms. refl })
-  took_message a sound (Upload index sub all) = unawaited a (mail (Upload index sub all)) (record { download = λ t. refl; segment = λ toggle. refl; sdo = λ ms. refl; value = λ t ms. refl; part = λ toggle. refl; information = λ opcode. refl; error = λ ms. refl })
-  took_message a sound (Segment toggle last octets) = unawaited a (mail (Segment toggle last octets)) (record { download = λ t. refl; segment = λ toggle. refl; sdo = λ ms. refl; value = λ t ms. refl; part = λ toggle. refl; information = λ opcode. refl; error = λ ms. refl })
-  took_message a sound (UploadSegment toggle) = unawaited a (mail (UploadSegment toggle)) (record { download = λ t. refl; segment = λ toggle. refl; sdo = λ ms. refl; value = λ t ms. refl; part = λ toggle. refl; information = λ opcode. refl; error = λ ms. refl })
-  took_message a sound (ListRequest kind) = unawaited a (mail (ListRequest kind)) (record { download = λ t. refl; segment = λ toggle. refl; sdo = λ ms. refl; value = λ t ms. refl; part = λ toggle. refl; information = λ opcode. refl; error = λ ms. refl })
-  took_message a sound (ObjectRequest index) = unawaited a (mail (ObjectRequest index)) (record { download = λ t. refl; segment = λ toggle. refl; sdo = λ ms. refl; value = λ t ms. refl; part = λ toggle. refl; information = λ opcode. refl; error = λ ms. refl })
-  took_message a sound (EntryRequest index sub info) = unawaited a (mail (EntryRequest index sub info)) (record { download = λ t. refl; segment = λ toggle. refl; sdo = λ ms. refl; value = λ t ms. refl; part = λ toggle. refl; information = λ opcode. refl; error = λ ms. refl })
+  took_message : (a : Awaits) → is_sound a value ≡ true → is_paced room task bytes unsent quota going a ≡ true → (c : Coe) → Is a (mail c) (hear_message (at a) c)
+  took_message a sound paced (DownloadAnswer index sub) = took_acceptance a sound paced index sub
+  took_message a sound paced (SegmentAnswer toggle) = took_segment a sound paced toggle
+  took_message a sound paced (ExpeditedAnswer index sub octets) = took_whole a sound index sub octets
+  took_message a sound paced (FirstAnswer index sub size octets) = took_first a sound index sub size octets
+  took_message a sound paced (UploadSegmentAnswer toggle last octets) = took_part a sound toggle last octets
+  took_message a sound paced (Information opcode incomplete left octets) = took_information a sound opcode incomplete left octets
+  took_message a sound paced (Abort index sub code) = took_abort a sound index sub code
+  took_message a sound paced (InformationError code) = took_error a sound code
+  took_message a sound paced (Emergency octets) = unawaited a (mail (Emergency octets)) (record { download = λ t. refl; segment = λ toggle. refl; sdo = λ ms. refl; value = λ t ms. refl; part = λ toggle. refl; information = λ opcode. refl; error = λ ms. refl })
+  took_message a sound paced (Expedited index sub all octets) = unawaited a (mail (Expedited index sub all octets)) (record { download = λ t. refl; segment = λ toggle. refl; sdo = λ ms. refl; value = λ t ms. refl; part = λ toggle. refl; information = λ opcode. refl; error = λ ms. refl })
+  took_message a sound paced (First index sub all size octets) = unawaited a (mail (First index sub all size octets)) (record { download = λ t. refl; segment = λ toggle. refl; sdo = λ ms. refl; value = λ t ms. refl; part = λ toggle. refl; information = λ opcode. refl; error = λ ms. refl })
+  took_message a sound paced (Upload index sub all) = unawaited a (mail (Upload index sub all)) (record { download = λ t. refl; segment = λ toggle. refl; sdo = λ ms. refl; value = λ t ms. refl; part = λ toggle. refl; information = λ opcode. refl; error = λ ms. refl })
+  took_message a sound paced (Segment toggle last octets) = unawaited a (mail (Segment toggle last octets)) (record { download = λ t. refl; segment = λ toggle. refl; sdo = λ ms. refl; value = λ t ms. refl; part = λ toggle. refl; information = λ opcode. refl; error = λ ms. refl })
+  took_message a sound paced (UploadSegment toggle) = unawaited a (mail (UploadSegment toggle)) (record { download = λ t. refl; segment = λ toggle. refl; sdo = λ ms. refl; value = λ t ms. refl; part = λ toggle. refl; information = λ opcode. refl; error = λ ms. refl })
+  took_message a sound paced (ListRequest kind) = unawaited a (mail (ListRequest kind)) (record { download = λ t. refl; segment = λ toggle. refl; sdo = λ ms. refl; value = λ t ms. refl; part = λ toggle. refl; information = λ opcode. refl; error = λ ms. refl })
+  took_message a sound paced (ObjectRequest index) = unawaited a (mail (ObjectRequest index)) (record { download = λ t. refl; segment = λ toggle. refl; sdo = λ ms. refl; value = λ t ms. refl; part = λ toggle. refl; information = λ opcode. refl; error = λ ms. refl })
+  took_message a sound paced (EntryRequest index sub info) = unawaited a (mail (EntryRequest index sub info)) (record { download = λ t. refl; segment = λ toggle. refl; sdo = λ ms. refl; value = λ t ms. refl; part = λ toggle. refl; information = λ opcode. refl; error = λ ms. refl })
 
-  took_mail : (a : Awaits) → is_sound a value ≡ true → (m : CoeMail) → Is a m (hear_mail (at a) m)
-  took_mail a sound (mail c) = took_message a sound c
-  took_mail a sound (failed detail) = took_failed a sound detail
-  took_mail a sound (unread fault service index sub) = unawaited a (unread fault service index sub) (record { download = λ t. refl; segment = λ toggle. refl; sdo = λ ms. refl; value = λ t ms. refl; part = λ toggle. refl; information = λ opcode. refl; error = λ ms. refl })
-  took_mail a sound (fragment body) = unawaited a (fragment body) (record { download = λ t. refl; segment = λ toggle. refl; sdo = λ ms. refl; value = λ t ms. refl; part = λ toggle. refl; information = λ opcode. refl; error = λ ms. refl })
-  took_mail a sound (other body) = unawaited a (other body) (record { download = λ t. refl; segment = λ toggle. refl; sdo = λ ms. refl; value = λ t ms. refl; part = λ toggle. refl; information = λ opcode. refl; error = λ ms. refl })
+  took_mail : (a : Awaits) → is_sound a value ≡ true → is_paced room task bytes unsent quota going a ≡ true → (m : CoeMail) → Is a m (hear_mail (at a) m)
+  took_mail a sound paced (mail c) = took_message a sound paced c
+  took_mail a sound paced (failed detail) = took_failed a sound detail
+  took_mail a sound paced (unread fault service index sub) = unawaited a (unread fault service index sub) (record { download = λ t. refl; segment = λ toggle. refl; sdo = λ ms. refl; value = λ t ms. refl; part = λ toggle. refl; information = λ opcode. refl; error = λ ms. refl })
+  took_mail a sound paced (fragment body) = unawaited a (fragment body) (record { download = λ t. refl; segment = λ toggle. refl; sdo = λ ms. refl; value = λ t ms. refl; part = λ toggle. refl; information = λ opcode. refl; error = λ ms. refl })
+  took_mail a sound paced (other body) = unawaited a (other body) (record { download = λ t. refl; segment = λ toggle. refl; sdo = λ ms. refl; value = λ t ms. refl; part = λ toggle. refl; information = λ opcode. refl; error = λ ms. refl })
 
-pub took_is : (c : Talking) → is_sound c.awaits c.value ≡ true → (m : CoeMail) → TookIs (hear_mail c m).0 c m (hear_mail c m).1
-took_is c sound m = took_mail c.room c.task c.bytes c.unsent c.quota c.going c.value c.awaits sound m
+pub took_is : (c : Talking) → 64 ≤ c.room → is_left c.unsent c.bytes ≡ true → is_sound c.awaits c.value ≡ true → is_paced c.room c.task c.bytes c.unsent c.quota c.going c.awaits ≡ true → (m : CoeMail) →
+    TookIs (hear_mail c m).0 c m (hear_mail c m).1
+took_is c least left sound paced m = took_mail c.room c.task c.bytes c.unsent c.quota c.going c.value least left c.awaits sound paced m

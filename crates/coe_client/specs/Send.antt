@@ -1,7 +1,9 @@
 -- What a client sends next.
 use Rattle.std.specs.Prelude.{◌≡◌, ℕ, ◌+◌, ◌-◌, ◌≤◌, ◌==◌, nat_le, Bool, true, false, not, List, [], ◌∷◌, length, take, drop, if◌then◌else◌, Option, None, Some}
 use Rattle.mailbox_mail.specs.declared.mail.Kind.TheVariants.{CoE}
+use Rattle.coe_codec.specs.View.{coe_seen}
 use Rattle.coe_codec.specs.Writing.{HasSpelling, coe_text}
+use Rattle.coe_codec.specs.declared.viewing.CoeView.{CoeView}
 use Rattle.coe_model.specs.Mails.{Coe, CoeMail, mail, Expedited, First, Upload, Segment, UploadSegment, ListRequest, ObjectRequest, EntryRequest}
 use Rattle.coe_model.specs.Server.{is_expedited}
 use Rattle.coe_model.specs.Octets.{body_heard, coe_mail_written, mail_with}
@@ -9,6 +11,7 @@ use Rattle.coe_client.specs.declared.state.Task.{Task}
 use Rattle.coe_client.specs.declared.state.Unsent.{Unsent}
 use Rattle.coe_client.specs.Talk.{Talking, later, awaited}
 
+-- a message that goes, if one does, and the client behind it
 abbrev pub Sent : Type 0
 Sent = Option Coe × Talking
 
@@ -28,6 +31,7 @@ send_download c index sub all =
     then sent c (First index sub all (length c.bytes) (record { items = c.bytes })) Unsent.Nothing
     else sent c (First index sub all (length c.bytes) (record { items = take (c.room - 16) c.bytes })) (Unsent.Segments (c.room - 16) false)
 
+-- the first mail of what is asked
 abbrev pub send_first : Talking → Task → Sent
 send_first c Task.Nothing = nothing c
 send_first c (Task.Download index sub all) = send_download c index sub all
@@ -36,20 +40,28 @@ send_first c (Task.List kind) = sent c (ListRequest kind) Unsent.Nothing
 send_first c (Task.Object index) = sent c (ObjectRequest index) Unsent.Nothing
 send_first c (Task.Entry index sub info) = sent c (EntryRequest index sub info) Unsent.Nothing
 
+-- the next segment of a download
 abbrev pub send_segment : Talking → ℕ → Bool → Sent
 send_segment c from toggle =
     if nat_le (length (drop from c.bytes)) (c.room - 9)
     then sent c (Segment toggle true (record { items = drop from c.bytes })) Unsent.Nothing
     else sent c (Segment toggle false (record { items = take (c.room - 9) (drop from c.bytes) })) (Unsent.Segments (from + (c.room - 9)) (not toggle))
 
+-- the next of the mails that are not yet sent
 abbrev pub send : Talking → Unsent → Sent
 send c Unsent.Nothing = nothing c
 send c Unsent.First = send_first c c.task
 send c (Unsent.Segments from toggle) = send_segment c from toggle
 send c (Unsent.Requests toggle) = sent c (UploadSegment toggle) (Unsent.Requests (not toggle))
 
+-- the next mail, if one may go
 abbrev pub send_next : Talking → Sent
 send_next c = if c.quota == 0 then nothing c else send c c.unsent
+
+-- what a message as it stands somewhere and the mails unsent behind it make of the client
+abbrev pub sent_by : Talking → Option (CoeView × Unsent) → Sent
+sent_by c None = nothing c
+sent_by c (Some v) = sent c (coe_seen v.0) v.1
 
 -- a message is the first of the mails that are left, has a spelling that fits, and leaves the reply as it is
 abbrev pub NextIs : Option Coe → Talking → Talking → Type 0

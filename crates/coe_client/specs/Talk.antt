@@ -5,6 +5,7 @@ use Rattle.exchange_model.specs.Dialogue.{Turn, next}
 use Rattle.coe_model.specs.Mails.{Coe, CoeMail, mail, UploadSegmentAnswer, Upload, ListRequest, ObjectRequest, EntryRequest}
 use Rattle.coe_model.specs.Tables.{Target, nowhere, list, object, entry}
 use Rattle.coe_model.specs.Meaning.{Service, download, upload, information, Reply}
+use Rattle.coe_model.specs.Server.{parts_of}
 use Rattle.coe_model.specs.Client.{segments, download_mails, requests, turn_of, at_end, segments_end, download_ends, parts_end, upload_ends, information_ends}
 use Rattle.coe_client.specs.declared.state.Task.{Task}
 use Rattle.coe_client.specs.declared.state.Unsent.{Unsent}
@@ -38,6 +39,7 @@ pub record Talking : Type 0 where
   pub awaits : Awaits
   pub value : List ℕ
 
+-- the entry that is asked for
 abbrev pub target_of : Task → Target
 target_of (Task.Download index sub all) = record { index = index; sub = sub; all = all }
 target_of (Task.Upload index sub all) = record { index = index; sub = sub; all = all }
@@ -64,6 +66,7 @@ sending room task bytes Unsent.First n = first_mails room task bytes n
 sending room task bytes (Unsent.Segments from toggle) n = take n (segments (length bytes) (room - 9) toggle (drop from bytes))
 sending room task bytes (Unsent.Requests toggle) n = requests n toggle
 
+-- whether a client that decides so goes on
 abbrev pub is_onward : Option Turn → Bool
 is_onward (Some next) = true
 is_onward _ = false
@@ -78,6 +81,7 @@ abbrev pub goes : List CoeMail → ℕ
 goes [] = 0
 goes (m ∷ ms) = if lets_go m then suc (goes ms) else 0
 
+-- the same, unless no answer lets one go any more
 abbrev pub goes_on : Bool → List CoeMail → ℕ
 goes_on true ms = goes ms
 goes_on false ms = 0
@@ -96,13 +100,14 @@ answers_from room t bytes value (Awaits.Parts size toggle) ms = parts_end size v
 answers_from room t bytes value (Awaits.Information opcode) ms = information_ends opcode value ms
 answers_from room t bytes value (Awaits.Over kind) ms = at_end ms (kind, value)
 
+-- the reply that these mails complete behind those that the client took
 abbrev pub awaited : Talking → List CoeMail → Option Reply
 awaited c ms = answers_from c.room (target_of c.task) c.bytes c.value c.awaits ms
 
--- whether a service is over
-abbrev pub is_over : Awaits → Bool
-is_over (Awaits.Over kind) = true
-is_over _ = false
+-- whether the reply of a service has come whole
+abbrev pub is_replied : Awaits → Bool
+is_replied (Awaits.Over kind) = true
+is_replied _ = false
 
 -- whether the octets that came fit what is awaited
 abbrev pub is_sound : Awaits → List ℕ → Bool
@@ -118,6 +123,34 @@ is_sound (Awaits.Over kind) value = true
 abbrev pub is_left : Unsent → List ℕ → Bool
 is_left (Unsent.Segments from toggle) bytes = nat_lt from (length bytes)
 is_left _ bytes = true
+
+-- how many segments a download has behind its first mail
+abbrev pub segments_behind : ℕ → List ℕ → ℕ
+segments_behind room bytes = parts_of (room - 9) (length bytes - (room - 16))
+
+-- how many mails of a download are not yet sent
+abbrev pub unsent_mails : ℕ → List ℕ → Unsent → ℕ
+unsent_mails room bytes Unsent.First = suc (segments_behind room bytes)
+unsent_mails room bytes (Unsent.Segments from toggle) = parts_of (room - 9) (length bytes - from)
+unsent_mails room bytes _ = 0
+
+-- whether what is not yet sent are mails of a download
+abbrev pub is_download : Task → Unsent → Bool
+is_download task Unsent.Nothing = true
+is_download (Task.Download index sub all) Unsent.First = true
+is_download task (Unsent.Segments from toggle) = true
+is_download task _ = false
+
+-- A download's pace: of its mails no more are unsent than may go now and behind the answers that are awaited, the last one left out. So all were
+-- sent where that one comes and no mail may go.
+abbrev pub is_paced : ℕ → Task → List ℕ → Unsent → ℕ → Bool → Awaits → Bool
+is_paced room task bytes unsent quota going Awaits.Acceptance = going && (is_download task unsent && nat_le (unsent_mails room bytes unsent) (quota + segments_behind room bytes))
+is_paced room task bytes unsent quota going (Awaits.SegmentAnswers left toggle) = going && (is_download task unsent && nat_lt (unsent_mails room bytes unsent) (quota + left))
+is_paced room task bytes unsent quota going _ = true
+
+-- the same of a client with another number of mails that may go, and another answer awaited
+abbrev pub paced_with : Talking → ℕ → Awaits → Bool
+paced_with c quota awaits = is_paced c.room c.task c.bytes c.unsent quota c.going awaits
 
 -- how many mails more what is awaited may let go, at most
 abbrev pub ahead : Awaits → List ℕ → ℕ
@@ -143,6 +176,7 @@ IsFresh _ = ⊥
 abbrev pub begun : ℕ → Task → List ℕ → Awaits → Talking
 begun room task bytes awaits = record { room = room; task = task; bytes = bytes; unsent = Unsent.First; quota = 1; going = true; awaits = awaits; value = [] }
 
+-- a client that has begun this service
 abbrev pub begun_service : ℕ → SdoService → Talking
 begun_service room (SdoService.Download index sub bytes) = begun room (Task.Download index sub false) bytes Awaits.Acceptance
 begun_service room (SdoService.DownloadAll index from bytes) = begun room (Task.Download index from true) bytes Awaits.Acceptance

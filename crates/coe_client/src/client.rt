@@ -2,7 +2,7 @@ ghost use Rattle.std.specs.Prelude.{◌≡◌, ◌≤◌, ◌<◌, ◌+◌, List
 ghost use Rattle.coe_model.specs.Mails.{CoeMail};
 ghost use Rattle.coe_model.specs.Client.{ends};
 ghost use Rattle.coe_model.specs.Model.{planned};
-ghost use Rattle.coe_client.specs.Talk.{service_view, octets_in, later, awaited, is_over, IsFresh, begun, begun_service};
+ghost use Rattle.coe_client.specs.Talk.{service_view, octets_in, later, awaited, is_replied, IsFresh, is_paced, begun, begun_service};
 
 use crate::state::{Awaits, Task, Unsent};
 use ec_fields::{NoMemory, Octets, Transfer};
@@ -29,13 +29,13 @@ pub struct CoeClient {
 
 impl Model for CoeClient {
     ghost use Rattle.std.specs.Prelude.{◌≡◌, ◌≤◌, ◌+◌, true};
-    ghost use Rattle.coe_client.specs.Talk.{Talking, is_sound, ahead, is_left};
+    ghost use Rattle.coe_client.specs.Talk.{Talking, is_sound, ahead, is_left, is_paced};
 
     ghost Value = { Talking };
 
     ghost view = { λ c. record { room = c.room; task = c.task; bytes = c.bytes.octets; unsent = c.unsent; quota = c.quota; going = c.going; awaits = c.awaits; value = c.value.octets } };
 
-    ghost invariant = { λ c. (64 ≤ c.room) × (c.room ≤ 1486) × (c.bytes.limit ≡ 16384) × (c.value.limit ≡ 16384) × (is_sound c.awaits c.value.octets ≡ true) × (c.quota + ahead c.awaits c.value.octets ≤ 16387) × (is_left c.unsent c.bytes.octets ≡ true) };
+    ghost invariant = { λ c. (64 ≤ c.room) × (c.room ≤ 1486) × (c.bytes.limit ≡ 16384) × (c.value.limit ≡ 16384) × (is_sound c.awaits c.value.octets ≡ true) × (c.quota + ahead c.awaits c.value.octets ≤ 16387) × (is_left c.unsent c.bytes.octets ≡ true) × (is_paced c.room c.task c.bytes.octets c.unsent c.quota c.going c.awaits ≡ true) };
 }
 
 impl CoeClient {
@@ -65,6 +65,7 @@ impl CoeClient {
     fn begin(&mut self, task: Task, bytes: &[u8], awaits: Awaits)
         requires small { length bytes.now ≤ 16384 }
         requires fresh { IsFresh awaits }
+        requires paced { is_paced self.old.room task bytes.now Unsent.First 1 true awaits ≡ true }
         ensures { self.new ≡ begun self.old.room task bytes.now awaits }
     {
         self.bytes.clear();
@@ -151,7 +152,7 @@ impl CoeClient {
 
     /// Whether the reply of the service has come whole.
     pub fn is_done(&self) -> bool
-        ensures over { result ≡ is_over self.now.awaits }
+        ensures over { result ≡ is_replied self.now.awaits }
         ensures yet { result ≡ false → awaited self.now [] ≡ None }
     {
         match self.awaits {
@@ -167,7 +168,7 @@ impl CoeClient {
 
     /// The reply of the service that is done.
     pub fn reply(&self) -> ReplyKind
-        requires { is_over self.now.awaits ≡ true }
+        requires { is_replied self.now.awaits ≡ true }
         ensures { awaited self.now [] ≡ Some (result, self.now.value) }
     {
         match self.awaits {
@@ -183,7 +184,7 @@ impl CoeClient {
 
     /// Appends the value of the service that is done; it is empty where the reply has none. After `NoMemory` the list is as before.
     pub fn value(&self, into: &mut Octets) -> Result<(), NoMemory>
-        requires { is_over self.now.awaits ≡ true }
+        requires { is_replied self.now.awaits ≡ true }
         ensures ok { OnOk result (into.new ≡ into.old ++ self.now.value) }
         ensures err { OnErr result (into.new ≡ into.old) }
     {

@@ -1,13 +1,13 @@
-ghost use Rattle.std.specs.Prelude.{◌≡◌, ◌≤◌, ◌<◌, ◌+◌, ◌-◌, length};
+ghost use Rattle.std.specs.Prelude.{◌≡◌, ◌≤◌, ◌<◌, ◌+◌, ◌-◌, true, length};
 ghost use Rattle.coe_model.specs.Server.{parts_of};
 ghost use Rattle.coe_model.specs.Client.{is_of};
 ghost use Rattle.coe_model.specs.Octets.{body_heard, coe_mail_heard};
-ghost use Rattle.coe_client.specs.Talk.{target_of};
+ghost use Rattle.coe_client.specs.Talk.{target_of, paced_with};
 ghost use Rattle.coe_codec.specs.View.{coe_seen, IsWithin};
 ghost use Rattle.coe_client.specs.Hear.{onward, refused, valued, answered, parted, hear_acceptance, hear_segment, hear_whole, hear_first, hear_part, hear_information, hear_abort, hear_error, hear_failed, hear_message, hear_mail, TookIs};
 
 use crate::client::{CoeClient, MOST};
-use crate::state::{Awaits, Task};
+use crate::state::{Awaits, Task, Unsent};
 use coe_codec::CoeView;
 use ec_fields::u16_at;
 use mailbox_mail::{Kind, Mail, ReplyKind, Took};
@@ -29,6 +29,7 @@ impl CoeClient {
     fn refused(&mut self, kind: ReplyKind) -> Took
         ensures { (result, self.new) ≡ refused self.old kind }
     {
+        self.unsent = Unsent::Nothing;
         self.awaits = Awaits::Over(kind);
         self.value.clear();
         self.going = false;
@@ -41,6 +42,7 @@ impl CoeClient {
         ensures { (result, self.new) ≡ valued self.old bytes.now }
     {
         let _fits = self.value.add(bytes);
+        self.unsent = Unsent::Nothing;
         self.awaits = Awaits::Over(ReplyKind::Value);
         self.going = false;
         Took::Done
@@ -50,10 +52,12 @@ impl CoeClient {
     fn answered(&mut self, left: u32, toggle: bool) -> Took
         requires few { self.old.quota + 1 + left ≤ 16387 }
         requires empty { length self.old.value ≡ 0 }
+        requires paced { 0 < left → paced_with self.old (onward self.old) (Awaits.SegmentAnswers left toggle) ≡ true }
         ensures { (result, self.new) ≡ answered self.old left toggle }
     {
         self.quota = self.onward();
         if left == 0 {
+            self.unsent = Unsent::Nothing;
             self.awaits = Awaits::Over(ReplyKind::Done);
             return Took::Done;
         }
@@ -302,11 +306,7 @@ impl CoeClient {
         match message {
             CoeView::DownloadAnswer { index, sub } => self.hear_acceptance(index, sub),
             CoeView::SegmentAnswer { toggle } => self.hear_segment(toggle),
-            CoeView::ExpeditedAnswer { index, sub, bytes } => self.hear_whole(
-                index,
-                sub,
-                bytes,
-            ),
+            CoeView::ExpeditedAnswer { index, sub, bytes } => self.hear_whole(index, sub, bytes),
             CoeView::FirstAnswer {
                 index,
                 sub,
@@ -392,11 +392,12 @@ impl CoeClient {
         }
     }
 
-    /// Takes a mail that came from the slave. `Done` where it completes the reply of the service, `More` where it is awaited and the reply isn't
+    /// Takes a mail that came from the slave. `Done` where it completes the reply of the service, and then nothing is left to send; `More` where it is awaited and the reply isn't
     /// complete yet, `Foreign` where it is none that may come next; then the client is unchanged (ETG.1000.6, "CANopen over EtherCAT").
     pub fn take(&mut self, mail: &Mail) -> Took
         ensures { TookIs result self.old (coe_mail_heard mail.now) self.new }
     {
+        // What the type keeps of its fields is wanted in the proof: reading one brings it there.
         let _ = &self.awaits;
         self.hear_mail(mail)
     }

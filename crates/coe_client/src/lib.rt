@@ -8,6 +8,3 @@ mod sending;
 mod state;
 
 pub use client::CoeClient;
-
-#[cfg(test)]
-mod tests;

@@ -28,20 +28,22 @@ coe_seen (VEntryRequest index sub info) = EntryRequest index sub info
 coe_seen (VInformation opcode incomplete left bytes) = Information opcode incomplete left (record { items = bytes.now })
 coe_seen (VInformationError code) = InformationError code
 
+-- what a view of a body comes to
 abbrev pub seen : Result CoeView CoeFault → Result Coe CoeFault
 seen (Ok v) = Ok (coe_seen v)
 seen (Err fault) = Err fault
 
--- a first part and a segment that are seen
+-- the complete size and a first part that is seen
 abbrev pub first_seen : Result (ℕ × Bor (List ℕ)) CoeFault → Result (ℕ × ArrayVec ℕ) CoeFault
 first_seen (Ok v) = Ok (v.0, record { items = v.1.now })
 first_seen (Err fault) = Err fault
 
+-- whether a segment is the last, and its octets that are seen
 abbrev pub segment_seen : Result (Bool × Bor (List ℕ)) CoeFault → Result (Bool × ArrayVec ℕ) CoeFault
 segment_seen (Ok v) = Ok (v.0, record { items = v.1.now })
 segment_seen (Err fault) = Err fault
 
--- a first part is within its size, and parts fit their forms
+-- what is read: a first part is within its complete size, an expedited value has at most 4 octets, a segment has some
 abbrev pub IsWithin : CoeView → Type 0
 IsWithin (VFirst index sub all size bytes) = (length bytes.now ≤ size) × (length bytes.now ≤ 1470)
 IsWithin (VExpedited index sub all bytes) = length bytes.now ≤ 4
@@ -50,7 +52,7 @@ IsWithin (VSegment toggle last bytes) = 1 ≤ length bytes.now
 IsWithin (VUploadSegmentAnswer toggle last bytes) = 1 ≤ length bytes.now
 IsWithin _ = Unit {0}
 
--- octets fit the forms
+-- what can be written: the octets fit their form
 abbrev pub IsCapped : CoeView → Type 0
 IsCapped (VEmergency octets) = length octets.now ≤ 8
 IsCapped (VExpedited index sub all bytes) = length bytes.now ≤ 4

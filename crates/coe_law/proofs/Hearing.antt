@@ -1,5 +1,5 @@
 -- A client hears the mails that wait in a server, one behind the other.
-use Rattle.std.proofs.Common.{◌≡◌, ℕ, zero, suc, ◌-◌, ◌≤◌, nat_le, take, drop, if◌then◌else◌, Bool, true, false, List, [], ◌∷◌, ◌++◌, length, None, Some, refl, sym, ap, subst, ◌∙◌, arith, append_assoc, length-append}
+use Rattle.std.proofs.Common.{◌≡◌, ◌⊎◌, inl, inr, ℕ, zero, suc, ◌-◌, ◌≤◌, nat_le, take, drop, if◌then◌else◌, Bool, true, false, List, [], ◌∷◌, ◌++◌, length, None, Some, refl, sym, ap, subst, ◌∙◌, arith, append_assoc, length-append}
 use Rattle.exchange_model.specs.Exchange.{plain, emitted}
 use Rattle.exchange_model.specs.Lifted.{EachOf}
 use Rattle.exchange_model.proofs.Lists.{filter-append}
@@ -14,31 +14,68 @@ use Rattle.coe_server.specs.declared.state.Emitted.{Emitted}
 use Rattle.mailbox_mail.specs.declared.mail.Mail.{Mail}
 use Rattle.coe_model.specs.Octets.{coe_mail_heard}
 use Rattle.coe_server.specs.Serving.{Serving, pending_mails, emergencies, waiting_mails, GivesNext}
-use Rattle.coe_client.specs.Talk.{Talking, later, awaited, is_over}
+use Rattle.coe_client.specs.Talk.{Talking, later, awaited, is_replied}
 use Rattle.coe_client.specs.Hear.{TookIs}
-use Rattle.coe_law.specs.Talks.{Hears, IsAwaited, IsGiven}
+use Rattle.coe_client.specs.declared.state.Awaits.{Awaits}
+use Rattle.coe_law.specs.Talks.{Hears, IsDone, IsAwaited, IsGiven}
 
 pub emitted-append : (xs ys : List CoeMail) → emitted is_emission (xs ++ ys) ≡ emitted is_emission xs ++ emitted is_emission ys
 emitted-append xs ys = filter-append is_emission xs ys
 
 pub hears_nothing : (c : Talking) → Hears c [] c
-hears_nothing c = record { replies = λ ms. refl; mails = λ ms. refl; room = refl }
+hears_nothing c = record { replies = λ ms. refl; mails = inl (λ ms. refl); room = refl }
+
+-- a client that has its reply
+has_reply : (c : Talking) (a : Awaits) → c.awaits ≡ a → is_replied a ≡ true → (r : Reply) × (awaited c [] ≡ Some r)
+has_reply c Awaits.Nothing same over = absurd (cc)
+has_reply c Awaits.Acceptance same over = absurd (cc)
+has_reply c (Awaits.SegmentAnswers left toggle) same over = absurd (cc)
+has_reply c Awaits.FirstAnswer same over = absurd (cc)
+has_reply c (Awaits.Parts size toggle) same over = absurd (cc)
+has_reply c (Awaits.Information opcode) same over = absurd (cc)
+has_reply c (Awaits.Over kind) same over = ((kind, c.value), ap (λ (b : Awaits). awaited (record c { awaits = b }) []) same)
 
 -- an awaited mail is taken
 pub took : (t : Took) (old new : Talking) (m : CoeMail) → TookIs t old m new → IsAwaited old (m ∷ []) → Hears old (m ∷ []) new
-took Took.More old new m (goes, waits) awaits = record { replies = goes.replies; mails = goes.mails; room = goes.room }
-took Took.Done old new m (goes, over) awaits = record { replies = goes.replies; mails = goes.mails; room = goes.room }
+took Took.More old new m (goes, waits) awaits = record { replies = goes.replies; mails = inl goes.mails; room = goes.room }
+took Took.Done old new m ends awaits =
+    let reply = has_reply new new.awaits refl ends.over in
+    record {
+      replies = ends.replies;
+      mails = inr (record { front = m ∷ []; back = []; parts = refl; reply = reply.0; whole = sym (ends.replies []) ∙ reply.1; none = ends.none });
+      room = ends.room;
+    }
 took Took.Foreign old new m (foreign, same) awaits = absurd (let none = foreign awaits.0 in let some : awaited old (m ∷ awaits.0) ≡ Some awaits.1 = awaits.2 in cc)
 
 pub hears_more : (a b c : Talking) (xs ys : List CoeMail) → Hears a (plain is_emission xs) b → Hears b (plain is_emission ys) c → Hears a (plain is_emission (xs ++ ys)) c
 hears_more a b c xs ys h k = record {
   replies = λ ms. k.replies ms ∙ h.replies (plain is_emission ys ++ ms) ∙ ap (awaited a) (joined ms);
-  mails = λ ms. k.mails ms ∙ h.mails (plain is_emission ys ++ ms) ∙ ap (later a) (joined ms);
+  mails = by h.mails k.mails;
   room = k.room ∙ h.room;
 }
   where
     joined : (ms : List CoeMail) → plain is_emission xs ++ (plain is_emission ys ++ ms) ≡ plain is_emission (xs ++ ys) ++ ms
     joined ms = sym (append_assoc (plain is_emission xs) (plain is_emission ys) ms) ∙ ap (λ l. l ++ ms) (sym (plain-append is_emission xs ys))
+
+    by : ((ms : List CoeMail) → later b ms ≡ later a (plain is_emission xs ++ ms)) ⊎ IsDone a (plain is_emission xs) b → ((ms : List CoeMail) → later c ms ≡ later b (plain is_emission ys ++ ms)) ⊎ IsDone b (plain is_emission ys) c →
+        ((ms : List CoeMail) → later c ms ≡ later a (plain is_emission (xs ++ ys) ++ ms)) ⊎ IsDone a (plain is_emission (xs ++ ys)) c
+    by (inl g) (inl f) = inl (λ ms. f ms ∙ g (plain is_emission ys ++ ms) ∙ ap (later a) (joined ms))
+    by (inr d) (inl f) = inr (record {
+      front = d.front;
+      back = d.back ++ plain is_emission ys;
+      parts = plain-append is_emission xs ys ∙ ap (λ l. l ++ plain is_emission ys) d.parts ∙ append_assoc d.front d.back (plain is_emission ys);
+      reply = d.reply;
+      whole = d.whole;
+      none = λ ms. f ms ∙ d.none (plain is_emission ys ++ ms);
+    })
+    by g (inr d) = inr (record {
+      front = plain is_emission xs ++ d.front;
+      back = d.back;
+      parts = plain-append is_emission xs ys ∙ ap (λ l. plain is_emission xs ++ l) d.parts ∙ sym (append_assoc (plain is_emission xs) d.front d.back);
+      reply = d.reply;
+      whole = sym (h.replies d.front) ∙ d.whole;
+      none = d.none;
+    })
 
 -- what is awaited behind a first part that was heard
 pub awaited_behind : (a b : Talking) (xs ys zs : List CoeMail) → Hears a (plain is_emission xs) b → IsAwaited a (plain is_emission ((xs ++ ys) ++ zs)) → IsAwaited b (plain is_emission ys)
@@ -134,6 +171,6 @@ no_emergency (Emergency octets) f = absurd (f octets refl)
 no_emergency _ f = refl
 
 -- a client whose reply is complete is over
-pub is_complete : (b : Bool) (c : Talking) (r : Reply) → b ≡ is_over c.awaits → (b ≡ false → awaited c [] ≡ None) → awaited c [] ≡ Some r → is_over c.awaits ≡ true
+pub is_complete : (b : Bool) (c : Talking) (r : Reply) → b ≡ is_replied c.awaits → (b ≡ false → awaited c [] ≡ None) → awaited c [] ≡ Some r → is_replied c.awaits ≡ true
 is_complete true c r is yet complete = sym is
 is_complete false c r is yet complete = absurd (let none = yet refl in cc)

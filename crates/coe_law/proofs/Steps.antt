@@ -1,5 +1,5 @@
 -- From one mail of the client to the next: client, server and objects go on as the model does.
-use Rattle.std.proofs.Common.{◌≡◌, ℕ, ◌+◌, ◌<◌, ◌≤◌, Bool, true, false, List, [], ◌∷◌, ◌++◌, length, Option, None, Some, Result, Ok, Err, refl, sym, ap, ◌∙◌, arith, append_assoc, append-nil, length-append}
+use Rattle.std.proofs.Common.{◌≡◌, ◌⊎◌, inl, inr, ℕ, ◌+◌, ◌<◌, ◌≤◌, Bool, true, false, List, [], ◌∷◌, ◌++◌, length, Option, None, Some, Result, Ok, Err, refl, sym, ap, ◌∙◌, arith, append_assoc, append-nil, length-append}
 use Rattle.exchange_model.specs.Areas.{Areas, AreMailboxes}
 use Rattle.exchange_model.specs.Exchange.{after, given, plain, emitted}
 use Rattle.exchange_model.proofs.Words.{after-append, given-append, plain-append, plain_given-append}
@@ -13,6 +13,8 @@ use Rattle.coe_model.specs.Meaning.{Service, download, upload, information, mean
 use Rattle.coe_model.specs.Client.{ends}
 use Rattle.coe_model.specs.Model.{planned, full, value_length}
 use Rattle.coe_model.proofs.CoeLaw.{kept, bound, client_follows}
+use Rattle.coe_model.proofs.Closing.{closed}
+use Rattle.coe_model.proofs.Lasts.{none_behind}
 use Rattle.coe_model.proofs.Progress.{goes_on}
 use Rattle.coe_server.specs.declared.state.Emitted.{Emitted}
 use Rattle.coe_model.specs.Octets.{body_heard}
@@ -22,7 +24,7 @@ use Rattle.coe_server.proofs.ObjectsLaw.{lawful}
 use Rattle.coe_client.specs.Talk.{Talking, later, awaited, service_view, octets_in}
 use Rattle.coe_client.specs.Send.{SendsNext}
 use Rattle.coe_law.specs.declared.carried.Emission.{Emission as Kept}
-use Rattle.coe_law.specs.Talks.{tables, emission_mails, packet_by, packet_mails, Hears, IsAwaited, Talks}
+use Rattle.coe_law.specs.Talks.{tables, emission_mails, packet_by, packet_mails, Hears, IsDone, IsAwaited, Talks}
 use Rattle.coe_law.proofs.Hearing.{emitted-append}
 use Rattle.coe_law.proofs.Serving.{Served, served}
 
@@ -31,6 +33,10 @@ P ms = plain is_emission ms
 
 abbrev pub E : List CoeMail → List CoeMail
 E ms = emitted is_emission ms
+
+no_length : (ms : List CoeMail) → length ms ≡ 0 → ms ≡ []
+no_length [] e = refl
+no_length (m ∷ ms) e = absurd (omega (arith, e))
 
 plain_packet : (e : Emitted) (octets : List ℕ) → P (packet_by e octets) ≡ []
 plain_packet Emitted.Nothing octets = refl
@@ -83,6 +89,15 @@ module _ (al : ℕ) (eoe : Bool) (areas : Areas) (sized : AreMailboxes areas) (v
   abbrev all : List CoeMail
   all = full (tables al) eoe areas v q
 
+  -- what a client has left to send: the plan goes on, or all mails were sent
+  abbrev Left : List CoeMail → Talking → Type 0
+  Left sent client = ((ms : List CoeMail) → planned areas.out q (P (G sent) ++ ms) ≡ sent ++ later client ms) ⊎ (sent ≡ all) × ((ms : List CoeMail) → later client ms ≡ [])
+
+  -- a client that has a mail to send is not done
+  goes_still : (sent : List CoeMail) (client client1 : Talking) (octets : List ℕ) → SendsNext client octets client1 → Left sent client → (ms : List CoeMail) → planned areas.out q (P (G sent) ++ ms) ≡ sent ++ later client ms
+  goes_still sent client client1 octets s (inl goes) = goes
+  goes_still sent client client1 octets s (inr done) = absurd (let some = s.mails [] in let none = done.1 [] in cc)
+
   -- a client that has a mail to send has the next one of the service
   pub next_sent : (sent : List CoeMail) (client client1 : Talking) (server : Serving) (objects : Table) (emission : Option Kept) (octets : List ℕ) →
       Talks al eoe areas v q sent client server objects emission → (s : SendsNext client octets client1) → (rest : List CoeMail) × (all ≡ sent ++ s.next ∷ rest)
@@ -90,7 +105,7 @@ module _ (al : ℕ) (eoe : Bool) (areas : Areas) (sized : AreMailboxes areas) (v
       let replies : P (G all) ≡ P (G sent) ++ P (given (serve o eoe areas.back) (after (serve o eoe areas.back) v sent) t.sends.0) =
       ap (λ ms. P (G ms)) (sym t.sends.1) ∙ plain_given-append (serve o eoe areas.back) is_emission v sent t.sends.0 in
       let plans : planned areas.out q (P (G sent)) ≡ sent ++ s.next ∷ later client1 [] =
-      ap (planned areas.out q) (sym (append-nil (P (G sent)))) ∙ t.mails [] ∙ ap (λ l. sent ++ l) (s.mails []) in
+      ap (planned areas.out q) (sym (append-nil (P (G sent)))) ∙ goes_still sent client client1 octets s t.mails [] ∙ ap (λ l. sent ++ l) (s.mails []) in
       let follows = client_follows o law eoe areas sized v q sound (P (G sent)) _ replies in
       (later client1 [] ++ follows.0, sym follows.1 ∙ ap (λ l. l ++ follows.0) plans ∙ append_assoc sent (s.next ∷ later client1 []) follows.0)
 
@@ -167,6 +182,40 @@ module _ (al : ℕ) (eoe : Bool) (areas : Areas) (sized : AreMailboxes areas) (v
         let e = ap length t.emits in let k = ap length is in
         omega (arith, e, k, few, length-append (emission_mails emission) K, length-append (emission_mails kept_packet) (E W))
 
+    -- a client whose reply is complete has sent all mails
+    done_sent : (client2 : Talking) → IsDone client1 (P W) client2 → sent1 ≡ all
+    done_sent client2 d = by whole.0 whole.1
+      where
+        replied : ends areas.out q (P (G sent) ++ d.front) ≡ Some d.reply
+        replied = sym (t.replies d.front) ∙ sym (same d.front) ∙ d.whole
+
+        none_more : (more : List CoeMail) → P (G all) ≡ (P (G sent) ++ d.front) ++ more → more ≡ []
+        none_more [] is = refl
+        none_more (h ∷ more) is = absurd (
+            let none = closed h more areas.out q (P (G sent) ++ d.front) d.reply replied in
+            let some : ends areas.out q ((P (G sent) ++ d.front) ++ h ∷ more) ≡ Some (meaning_of o eoe v.app q).reply = ap (ends areas.out q) (sym is) ∙ (kept o law eoe areas sized v q sound).replied in cc)
+
+        by : (rest : List CoeMail) → all ≡ sent1 ++ rest → sent1 ≡ all
+        by rest is =
+            let more = P (given (serve o eoe areas.back) (after (serve o eoe areas.back) v sent1) rest) in
+            let heard : P (G sent1) ≡ (P (G sent) ++ d.front) ++ d.back = heard_all ∙ ap (λ l. P (G sent) ++ l) d.parts ∙ sym (append_assoc (P (G sent)) d.front d.back) in
+            let split : P (G all) ≡ (P (G sent) ++ d.front) ++ (d.back ++ more) =
+            ap (λ ms. P (G ms)) is ∙ plain_given-append (serve o eoe areas.back) is_emission v sent1 rest ∙ ap (λ l. l ++ more) heard ∙ append_assoc (P (G sent) ++ d.front) d.back more in
+            let none = none_more (d.back ++ more) split in
+            let no_back : length d.back ≡ 0 = omega (arith, ap length none, length-append d.back more) in
+            let heard_everything : P (G sent1) ≡ P (G all) = heard ∙ ap (λ l. (P (G sent) ++ d.front) ++ l) (no_length d.back no_back ∙ sym none) ∙ sym split in
+            let last = none_behind o law eoe areas sized v q sound sent1 rest is heard_everything in
+            sym (is ∙ ap (λ l. sent1 ++ l) last ∙ append-nil sent1)
+
+    -- what is left behind the server's answers
+    left_behind : (client2 : Talking) → Hears client1 (P W) client2 → Left sent1 client2
+    left_behind client2 h = by h.mails
+      where
+        by : ((ms : List CoeMail) → later client2 ms ≡ later client1 (P W ++ ms)) ⊎ IsDone client1 (P W) client2 → Left sent1 client2
+        by (inr d) = inr (done_sent client2 d, d.none)
+        by (inl goes) = inl (λ ms. ap (planned areas.out q) (ap (λ l. l ++ ms) heard_all ∙ append_assoc (P (G sent)) (P W) ms) ∙ goes_still sent client client1 octets s t.mails (P W ++ ms)
+            ∙ ap (λ l. sent ++ l) (s.mails (P W ++ ms) ∙ ap (λ l. s.next ∷ l) (sym (goes ms))) ∙ sym (append_assoc sent (s.next ∷ []) (later client2 ms)))
+
     -- THE STEP
     pub stepped : (server2 : Serving) (kept_packet emission2 : Option Kept) (client2 : Talking) → emission_mails kept_packet ≡ emission_mails emission ++ K → emission_mails emission2 ≡ emission_mails kept_packet ++ E W →
         Hears client1 (P W) client2 → waiting_mails server2 ≡ [] → transfer_of server2 ≡ transfer_of server1 → server2.room ≡ areas.back → server2.eoe ≡ eoe →
@@ -179,8 +228,7 @@ module _ (al : ℕ) (eoe : Bool) (areas : Areas) (sized : AreMailboxes areas) (v
           transfer = ap (λ (x : Server Table). x.transfer) (after-append (serve o eoe areas.back) v sent (s.next ∷ [])) ∙ d.transfer ∙ sym transfer;
           silent = silent;
           replies = λ ms. h.replies ms ∙ same (P W ++ ms) ∙ t.replies (P W ++ ms) ∙ ap (ends areas.out q) (sym (append_assoc (P (G sent)) (P W) ms) ∙ ap (λ l. l ++ ms) (sym heard_all));
-          mails = λ ms. ap (planned areas.out q) (ap (λ l. l ++ ms) heard_all ∙ append_assoc (P (G sent)) (P W) ms) ∙ t.mails (P W ++ ms) ∙ ap (λ l. sent ++ l) (s.mails (P W ++ ms) ∙ ap (λ l. s.next ∷ l) (sym (h.mails ms)))
-              ∙ sym (append_assoc sent (s.next ∷ []) (later client2 ms));
+          mails = left_behind client2 h;
           emits = emerged ∙ ap (λ l. l ++ E W) (packed ∙ ap (λ l. l ++ K) t.emits) ∙ move_last (E (G sent)) K (E W) (omega (arith, few)) ∙ sym emits_all;
           out_room = h.room ∙ s.room ∙ t.out_room;
           back_room = room;
@@ -191,17 +239,21 @@ module _ (al : ℕ) (eoe : Bool) (areas : Areas) (sized : AreMailboxes areas) (v
 
   -- a client with nothing to send has sent all mails
   pub all_sent : (sent : List CoeMail) (client : Talking) (server : Serving) (objects : Table) (emission : Option Kept) → Talks al eoe areas v q sent client server objects emission → later client [] ≡ [] → sent ≡ all
-  all_sent sent client server objects emission t none = by t.sends.0 t.sends.1
+  all_sent sent client server objects emission t none = by_left t.mails
     where
-      plans : planned areas.out q (P (G sent)) ≡ sent
-      plans = ap (planned areas.out q) (sym (append-nil (P (G sent)))) ∙ t.mails [] ∙ ap (λ l. sent ++ l) none ∙ append-nil sent
+      plans : ((ms : List CoeMail) → planned areas.out q (P (G sent) ++ ms) ≡ sent ++ later client ms) → planned areas.out q (P (G sent)) ≡ sent
+      plans left = ap (planned areas.out q) (sym (append-nil (P (G sent)))) ∙ left [] ∙ ap (λ l. sent ++ l) none ∙ append-nil sent
 
-      by : (rest : List CoeMail) → sent ++ rest ≡ all → sent ≡ all
-      by [] e = sym (append-nil sent) ∙ e
-      by (m ∷ rest) e =
+      by : (rest : List CoeMail) → sent ++ rest ≡ all → planned areas.out q (P (G sent)) ≡ sent → sent ≡ all
+      by [] e plan = sym (append-nil sent) ∙ e
+      by (m ∷ rest) e plan =
           let goes = goes_on o eoe areas law sized v q sound sent m rest (sym e) in
-          let longer = ap length (goes.1 ∙ plans) in
+          let longer = ap length (goes.1 ∙ plan) in
           absurd (omega (arith, longer, length-append (sent ++ m ∷ []) goes.0, length-append sent (m ∷ [])))
+
+      by_left : Left sent client → sent ≡ all
+      by_left (inr done) = done.0
+      by_left (inl left) = by t.sends.0 t.sends.1 (plans left)
 
   pub replied : (sent : List CoeMail) (client : Talking) (server : Serving) (objects : Table) (emission : Option Kept) → Talks al eoe areas v q sent client server objects emission → sent ≡ all →
       awaited client [] ≡ Some (meaning_of (tables al) eoe v.app q).reply

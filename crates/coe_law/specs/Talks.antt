@@ -1,5 +1,5 @@
 -- A client and a server on one object dictionary, at a moment between two of the client's mails.
-use Rattle.std.specs.Prelude.{◌≡◌, ℕ, Bool, List, [], ◌∷◌, ◌++◌, length, Option, None, Some}
+use Rattle.std.specs.Prelude.{◌≡◌, ◌⊎◌, ℕ, Bool, List, [], ◌∷◌, ◌++◌, length, Option, None, Some}
 use Rattle.exchange_model.specs.Areas.{Areas}
 use Rattle.exchange_model.specs.Prefix.{IsPrefixOf}
 use Rattle.exchange_model.specs.Exchange.{after, given, plain, emitted}
@@ -42,10 +42,19 @@ server_at objects server = record { app = objects; handled = 0; transfer = trans
 abbrev pub all_mails : ℕ → Talking → Serving → Table → Service → List CoeMail
 all_mails al client server objects q = full (tables al) server.eoe (areas_of client server) (server_at objects server) q
 
--- a client goes on behind these mails as it would have with them ahead of the others
+-- the first of these mails complete the reply, and nothing is left to send
+pub record IsDone (old : Talking) (hs : List CoeMail) (new : Talking) : Type 0 where
+  pub front : List CoeMail
+  pub back : List CoeMail
+  pub parts : hs ≡ front ++ back
+  pub reply : Reply
+  pub whole : awaited old front ≡ Some reply
+  pub none : (ms : List CoeMail) → later new ms ≡ []
+
+-- a client goes on behind these mails as it would have with them ahead of the others, or is done
 pub record Hears (old : Talking) (hs : List CoeMail) (new : Talking) : Type 0 where
   pub replies : (ms : List CoeMail) → awaited new ms ≡ awaited old (hs ++ ms)
-  pub mails : (ms : List CoeMail) → later new ms ≡ later old (hs ++ ms)
+  pub mails : ((ms : List CoeMail) → later new ms ≡ later old (hs ++ ms)) ⊎ IsDone old hs new
   pub room : new.room ≡ old.room
 
 -- some mails behind these complete the reply
@@ -62,6 +71,7 @@ abbrev pub packet_by : Emitted → List ℕ → List CoeMail
 packet_by Emitted.Packet octets = fragment octets ∷ []
 packet_by _ octets = []
 
+-- the packet that a server has not yet handed out
 abbrev pub packet_mails : Serving → List CoeMail
 packet_mails c = packet_by c.emitted c.octets
 
@@ -72,7 +82,8 @@ pub record Talks (al : ℕ) (eoe : Bool) (areas : Areas) (v : Server Table) (q :
   pub transfer : (after (serve (tables al) eoe areas.back) v sent).transfer ≡ transfer_of server
   pub silent : waiting_mails server ≡ []
   pub replies : (ms : List CoeMail) → awaited client ms ≡ ends areas.out q (plain is_emission (given (serve (tables al) eoe areas.back) v sent) ++ ms)
-  pub mails : (ms : List CoeMail) → planned areas.out q (plain is_emission (given (serve (tables al) eoe areas.back) v sent) ++ ms) ≡ sent ++ later client ms
+  pub mails : ((ms : List CoeMail) → planned areas.out q (plain is_emission (given (serve (tables al) eoe areas.back) v sent) ++ ms) ≡ sent ++ later client ms)
+      ⊎ (sent ≡ full (tables al) eoe areas v q) × ((ms : List CoeMail) → later client ms ≡ [])
   pub emits : emission_mails emission ≡ emitted is_emission (given (serve (tables al) eoe areas.back) v sent)
   pub out_room : client.room ≡ areas.out
   pub back_room : server.room ≡ areas.back

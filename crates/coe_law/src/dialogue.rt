@@ -6,7 +6,7 @@ ghost use Rattle.coe_model.specs.Mails.{CoeMail, mail, fragment, Emergency, is_e
 ghost use Rattle.coe_model.specs.Meaning.{meaning_of};
 ghost use Rattle.coe_model.specs.Octets.{body_heard, coe_mail_heard};
 ghost use Rattle.coe_server.specs.Serving.{transfer_of, waiting_mails};
-ghost use Rattle.coe_client.specs.Talk.{service_view, octets_in, is_over};
+ghost use Rattle.coe_client.specs.Talk.{service_view, octets_in, is_replied};
 ghost use Rattle.coe_law.specs.Mailboxes.{lengths_of};
 ghost use Rattle.coe_law.specs.Talks.{means, emission_mails, areas_of, all_mails, Hears, IsAwaited, IsGiven, packet_mails};
 
@@ -126,7 +126,7 @@ pub fn carry_out(
     requires areas { AreMailboxes (areas_of client.old server.old) }
     requires silent { waiting_mails server.old ≡ [] }
     ensures objects { objects.new ≡ (means al server.old.eoe objects.old (service_view service.now)).app }
-    ensures over { is_over client.new.awaits ≡ true }
+    ensures over { is_replied client.new.awaits ≡ true }
     ensures reply { (result.kind, client.new.value) ≡ (means al server.old.eoe objects.old (service_view service.now)).reply }
     ensures emission { emission_mails result.emission ≡ (means al server.old.eoe objects.old (service_view service.now)).emits }
     ensures mails { result.mails ≡ length (all_mails al client.old server.old objects.old (service_view service.now)) }
@@ -135,6 +135,7 @@ pub fn carry_out(
     ensures lengths { lengths_of mailboxes.new ≡ lengths_of mailboxes.old }
     ensures eoe { server.new.eoe ≡ server.old.eoe }
 {
+    // That the objects are sound is wanted in the proof: counting them brings it there.
     let _objects = objects.len();
     client.start(service);
     let mut emission = None;

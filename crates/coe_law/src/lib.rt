@@ -9,6 +9,3 @@ mod mailbox;
 pub use carried::{Carried, Emission};
 pub use dialogue::carry_out;
 pub use mailbox::{Mailbox, Mailboxes};
-
-#[cfg(test)]
-mod tests;

@@ -10,3 +10,4 @@ pub mod WorkedRows
 pub mod Spelling
 pub mod Spelled
 pub mod Progress
+pub mod Lasts

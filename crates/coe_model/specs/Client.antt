@@ -32,6 +32,7 @@ abbrev pub requests : ℕ → Bool → List CoeMail
 requests zero toggle = []
 requests (suc n) toggle = mail (UploadSegment toggle) ∷ requests n (not toggle)
 
+-- the request of an information service
 abbrev pub information_mail : Ask → CoeMail
 information_mail (list kind) = mail (ListRequest kind)
 information_mail (object index) = mail (ObjectRequest index)
@@ -52,6 +53,7 @@ turn_of (UploadSegmentAnswer toggle last bytes) = if last then Some stop else So
 turn_of (Information opcode incomplete left bytes) = None
 turn_of _ = Some stop
 
+-- what the client does behind its mail, by the first answer alone
 abbrev pub decide : CoeMail → List CoeMail → Option Turn
 decide m [] = None
 decide m (mail c ∷ seen) = turn_of c
@@ -74,9 +76,11 @@ information_refused (mail (InformationError code)) ms = at_end ms (ReplyKind.Abo
 information_refused (failed detail) ms = at_end ms (ReplyKind.MailboxError detail, [])
 information_refused _ ms = None
 
+-- whether an answer names the entry that was asked for
 abbrev pub is_of : Target → ℕ → ℕ → Bool
 is_of t index sub = index == t.index && sub == t.sub
 
+-- whether a mail answers the segment of this toggle
 abbrev pub is_segment_answer : Bool → CoeMail → Bool
 is_segment_answer toggle (mail (SegmentAnswer other)) = same toggle other
 is_segment_answer toggle _ = false
@@ -87,6 +91,7 @@ segments_end zero toggle ms = at_end ms (ReplyKind.Done, [])
 segments_end (suc n) toggle [] = None
 segments_end (suc n) toggle (m ∷ ms) = if is_segment_answer toggle m then segments_end n (not toggle) ms else sdo_refused m ms
 
+-- whether a mail accepts the download
 abbrev pub is_download_answer : Target → CoeMail → Bool
 is_download_answer t (mail (DownloadAnswer index sub)) = is_of t index sub
 is_download_answer t _ = false
@@ -101,14 +106,17 @@ download_ends room t bytes (m ∷ ms) =
 abbrev pub most : ℕ
 most = 16384
 
+-- whether a mail brings the segment of this toggle
 abbrev pub is_part : Bool → CoeMail → Bool
 is_part toggle (mail (UploadSegmentAnswer other last bytes)) = same toggle other
 is_part toggle _ = false
 
+-- whether a segment says that it is the last
 abbrev pub is_last : CoeMail → Bool
 is_last (mail (UploadSegmentAnswer other last bytes)) = last
 is_last _ = false
 
+-- the octets of a value that a mail brings
 abbrev pub octets_of : CoeMail → List ℕ
 octets_of (mail (UploadSegmentAnswer toggle last bytes)) = bytes.items
 octets_of (mail (Information opcode incomplete left bytes)) = bytes.items
@@ -134,19 +142,23 @@ first_ends size got ms =
     else if length got == size then at_end ms (ReplyKind.Value, got)
     else parts_end size got false ms
 
+-- the answer to an initiate upload: a whole value, a first part, or a refusal
 abbrev pub value_begins : Target → CoeMail → List CoeMail → Option Reply
 value_begins t (mail (ExpeditedAnswer index sub bytes)) ms = if is_of t index sub then at_end ms (ReplyKind.Value, bytes.items) else None
 value_begins t (mail (FirstAnswer index sub size bytes)) ms = if is_of t index sub then first_ends size bytes.items ms else None
 value_begins t m ms = sdo_refused m ms
 
+-- the reply of an upload, from its first answer on
 abbrev pub upload_ends : Target → List CoeMail → Option Reply
 upload_ends t [] = None
 upload_ends t (m ∷ ms) = value_begins t m ms
 
+-- whether a mail is an information answer of this opcode
 abbrev pub is_information : ℕ → CoeMail → Bool
 is_information opcode (mail (Information other incomplete left bytes)) = other == opcode
 is_information opcode _ = false
 
+-- whether an information answer says that more parts follow
 abbrev pub is_incomplete : CoeMail → Bool
 is_incomplete (mail (Information opcode incomplete left bytes)) = incomplete
 is_incomplete _ = false

@@ -5,6 +5,7 @@ pub use Rattle.coe_codec.specs.declared.message.Coe.TheVariants.{Emergency, Expe
 pub use Rattle.coe_codec.specs.declared.message.CoeFault.{CoeFault}
 pub use Rattle.coe_codec.specs.declared.message.CoeFault.TheVariants.{Short, Service, Command, Size}
 
+-- a mail to CoE: a message, a body that does not read, a mailbox error, or one of EoE or of another protocol
 pub data CoeMail : Type 0 where
   -- a mail that reads
   mail : (c : Coe) → CoeMail
@@ -17,6 +18,7 @@ pub data CoeMail : Type 0 where
   -- a mail of another protocol, or no mail of any, by the octets of its body
   other : (body : List ℕ) → CoeMail
 
+-- whether a message is an emergency
 abbrev is_emergency : Coe → Bool
 is_emergency (Emergency octets) = true
 is_emergency _ = false

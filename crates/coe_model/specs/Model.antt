@@ -9,10 +9,12 @@ use Rattle.coe_model.specs.Server.{Server, serve}
 use Rattle.coe_model.specs.Meaning.{Service, download, upload, information, Reply, meaning_of}
 use Rattle.coe_model.specs.Client.{mails_of, decide, ends}
 
+-- whether numbers are octets
 abbrev pub are_octets : List ℕ → Bool
 are_octets [] = true
 are_octets (b ∷ bs) = nat_lt b 256 && are_octets bs
 
+-- whether index and subindex have 16 and 8 bits
 abbrev pub is_target : Target → Bool
 is_target t = nat_lt t.index 65536 && nat_lt t.sub 256
 
@@ -24,6 +26,7 @@ is_service (information (list kind)) = nat_lt kind 65536
 is_service (information (object index)) = nat_lt index 65536
 is_service (information (entry index sub info)) = nat_lt index 65536 && nat_lt sub 256 && nat_lt info 256
 
+-- how many octets were read
 abbrev pub value_length : Result (List ℕ) ℕ → ℕ
 value_length (Ok bytes) = length bytes
 value_length (Err code) = 0
@@ -46,6 +49,7 @@ full o eoe areas v q = sent (serve o eoe areas.back) is_emission decide (turns o
 abbrev pub coe_speech : Areas → Speech CoeMail Service Reply
 coe_speech areas = record { emission = is_emission; valid = is_service; planned = planned areas.out; ends = ends areas.out; handed = λ q. false }
 
+-- the exchange of CoE messages between this client and this server
 abbrev pub coe_exchange : {S : Type 0} → Tables S → Bool → Areas → Exchange (Server S) S CoeMail Service Reply
 coe_exchange o eoe areas = record {
   serve = serve o eoe areas.back;

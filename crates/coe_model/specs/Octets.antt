@@ -22,6 +22,7 @@ abbrev pub heard : List ℕ → Result Coe CoeFault → CoeMail
 heard body (Ok c) = mail c
 heard body (Err fault) = unread fault (service_in body) (number_at 2 body 3) (slice_index body 5)
 
+-- a body as a CoE mail
 abbrev pub body_heard : List ℕ → CoeMail
 body_heard body = heard body (coe_read body)
 
@@ -33,12 +34,14 @@ is_error body = nat_le 4 (length body) && number_at 2 body 0 == 1
 abbrev pub is_fragment : List ℕ → Bool
 is_fragment body = nat_le 4 (length body) && slice_index body 0 % 16 == 0
 
+-- a body as a mail of its header's protocol
 abbrev pub by_kind : Kind → List ℕ → CoeMail
 by_kind CoE body = body_heard body
 by_kind Error body = if is_error body then failed (number_at 2 body 2) else other body
 by_kind EoE body = if is_fragment body then fragment body else other body
 by_kind _ body = other body
 
+-- a mail of octets as a mail of the model
 abbrev pub coe_mail_heard : Mail → CoeMail
 coe_mail_heard m = by_kind m.kind m.body.items
 
@@ -46,6 +49,7 @@ coe_mail_heard m = by_kind m.kind m.body.items
 abbrev pub mail_with : Kind → List ℕ → Mail
 mail_with kind body = record { address = 0; kind = kind; counter = 0; body = record { items = body } }
 
+-- a mail of the model as its one mail of octets, to nobody and not yet counted
 abbrev pub coe_mail_written : CoeMail → Mail
 coe_mail_written (mail c) = mail_with CoE (coe_text c)
 coe_mail_written (unread fault service index sub) = mail_with CoE []
@@ -60,9 +64,9 @@ pub record AreSpelled {S : Type 0} (o : Tables S) : Type 0 where
   pub download_code : (s : S) (t : Target) (bytes : List ℕ) (code : ℕ) → o.valid s ≡ true → o.download s t bytes ≡ Err code → code < 4294967296
   pub upload_code : (s : S) (t : Target) (code : ℕ) → o.valid s ≡ true → o.upload s t ≡ Err code → code < 4294967296
   pub info_code : (s : S) (a : Ask) (code : ℕ) → o.valid s ≡ true → o.info s a ≡ Err code → code < 4294967296
-  -- an emergency has 8 octets
   -- what an emitted packet is cut into are fragments
   pub cut : (s : S) (octets : List ℕ) → EachOf (λ body. is_fragment body ≡ true) (o.packet s octets).1
+  -- an emergency has 8 octets
   pub eight : (s changed : S) (eoe : Bool) (t : Target) (bytes octets : List ℕ) → o.valid s ≡ true → o.download s t bytes ≡ Ok changed → emission_of eoe t bytes ≡ Some (emergency octets) → length octets ≡ 8
 
 -- CoE as an exchange of mailbox mails

@@ -34,9 +34,11 @@ goes_on app transfer answer = record { app = app; transfer = transfer; counts = 
 abbrev pub silent : {S : Type 0} → S → Transfer → Outcome S
 silent app transfer = record { app = app; transfer = transfer; counts = false; answers = []; emission = None }
 
+-- an abort of the transfer of an entry
 abbrev pub abort : Target → ℕ → CoeMail
 abort t code = mail (Abort t.index t.sub code)
 
+-- the answer that accepts a download
 abbrev pub download_answer : Target → CoeMail
 download_answer t = mail (DownloadAnswer t.index t.sub)
 
@@ -58,6 +60,7 @@ abbrev pub stored : {S : Type 0} → Bool → S → Target → List ℕ → CoeM
 stored eoe app t bytes answer (Ok changed) = record { app = changed; transfer = idle; counts = true; answers = answer ∷ []; emission = emission_of eoe t bytes }
 stored eoe app t bytes answer (Err code) = ended app idle (abort t code)
 
+-- a value that came whole: the tables store it
 abbrev pub takes_whole : {S : Type 0} → Tables S → Bool → S → Target → List ℕ → CoeMail → Outcome S
 takes_whole o eoe app t bytes answer = stored eoe app t bytes answer (o.download app t bytes)
 
@@ -66,6 +69,7 @@ abbrev pub begins : {S : Type 0} → S → Target → ℕ → List ℕ → Optio
 begins app t size part None = goes_on app (downloading t size part false) (download_answer t)
 begins app t size part (Some code) = ended app idle (abort t code)
 
+-- an initiate download: the whole value, or its first part
 abbrev pub takes_first : {S : Type 0} → Tables S → Bool → S → Target → ℕ → List ℕ → Outcome S
 takes_first o eoe app t size part =
     if size == length part then takes_whole o eoe app t part (download_answer t)
@@ -121,6 +125,7 @@ answer_opcode (list kind) = 2
 answer_opcode (object index) = 4
 answer_opcode (entry index sub info) = 6
 
+-- an information service, by what the tables tell
 abbrev pub informed : {S : Type 0} → ℕ → S → Transfer → Ask → Result (List ℕ) ℕ → Outcome S
 informed room app transfer a (Err code) = ended app transfer (mail (InformationError code))
 informed room app transfer a (Ok bytes) = record {
@@ -131,6 +136,7 @@ informed room app transfer a (Ok bytes) = record {
   emission = None;
 }
 
+-- an information request
 abbrev pub takes_ask : {S : Type 0} → Tables S → ℕ → S → Transfer → Ask → Outcome S
 takes_ask o room app transfer a = informed room app transfer a (o.info app a)
 
@@ -164,6 +170,7 @@ coe_takes o eoe room app transfer (Information opcode incomplete left bytes) = u
 coe_takes o eoe room app transfer (InformationError code) = unknown_command app transfer true 0 0
 coe_takes o eoe room app transfer _ = ended app transfer (failed 4)
 
+-- what a server does with any mail: a message is served, one that does not read is refused, others are silent
 abbrev pub coe_outcome : {S : Type 0} → Tables S → Bool → ℕ → S → Transfer → CoeMail → Outcome S
 coe_outcome o eoe room app transfer (mail c) = coe_takes o eoe room app transfer c
 coe_outcome o eoe room app transfer (unread fault service index sub) = takes_unread app transfer fault service index sub
@@ -177,6 +184,7 @@ pub record Server (S : Type 0) : Type 0 where
   pub handled : ℕ
   pub transfer : Transfer
 
+-- the number of services, with one that counts
 abbrev pub one_more : Bool → ℕ → ℕ
 one_more true n = suc n
 one_more false n = n
@@ -187,6 +195,7 @@ issued o app None = (app, [])
 issued o app (Some (emergency octets)) = (app, mail (Emergency (record { items = octets })) ∷ [])
 issued o app (Some (packet octets)) = ((o.packet app octets).0, map fragment (o.packet app octets).1)
 
+-- the server behind what it did with a mail, and the mails that it gives
 abbrev pub behind : {S : Type 0} → Tables S → ℕ → Outcome S → Server S × List CoeMail
 behind o handled x = (
   record { app = (issued o x.app x.emission).0; handled = one_more x.counts handled; transfer = x.transfer },

@@ -16,7 +16,7 @@ ghost use Rattle.coe_model.specs.Octets.{AreSpelled, coe_mail_exchange};
 ghost use Rattle.coe_model.specs.Model.{planned, full, coe_exchange};
 
 /// CoE keeps the laws of an exchange: for each service, value and size, each pair of mailbox lengths, and a server with any unfinished SDO
-/// transfer, over any lawful tables. Stated at tables of numbers; the lemma holds at every kind of tables.
+/// transfer, over any lawful tables.
 pub fn coe_is_lawful<S>()
     ensures { (o : Tables S) (eoe : Bool) (areas : Areas) → AreLawful o → AreMailboxes areas → IsLawful (coe_exchange o eoe areas) }
 {}

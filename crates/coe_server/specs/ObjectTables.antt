@@ -10,12 +10,15 @@ use Rattle.coe_model.specs.Tables.{Target, Ask, list, object, entry, Tables}
 abbrev pub checks : ℕ → Table → Target → ℕ → Option ℕ
 checks al table t size = if t.all then check_download_all al table t.index t.sub size else check_download al table t.index t.sub size
 
+-- the table behind a download
 abbrev pub stores : ℕ → Table → Target → List ℕ → Result Table ℕ
 stores al table t bytes = if t.all then download_all al table t.index t.sub bytes else download al table t.index t.sub bytes
 
+-- the value of an upload
 abbrev pub reads : ℕ → Table → Target → Result (List ℕ) ℕ
 reads al table t = if t.all then upload_all al table t.index t.sub else upload al table t.index t.sub
 
+-- what is told of objects
 abbrev pub tells : Table → Ask → Result (List ℕ) ℕ
 tells table (list kind) = list_info table kind
 tells table (object index) = object_info table index
@@ -32,5 +35,6 @@ tables_with cut al = record {
   packet = λ table octets. (table, cut octets);
 }
 
+-- the tables where no packet is cut
 abbrev pub object_tables : ℕ → Tables Table
 object_tables al = tables_with (λ octets. []) al

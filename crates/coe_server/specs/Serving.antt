@@ -1,10 +1,12 @@
 -- What a server's state stands for: its unfinished transfer, the mails that wait in it, and what it emits.
-use Rattle.std.specs.Prelude.{◌≡◌, ℕ, suc, ◌-◌, ◌≤◌, ◌==◌, ◌&&◌, nat_le, nat_lt, Bool, true, false, List, [], ◌∷◌, ◌++◌, map, length, take, drop, Option, None, Some, Result, Ok, Err}
+use Rattle.std.specs.Prelude.{◌≡◌, ℕ, suc, ◌+◌, ◌-◌, ◌≤◌, ◌==◌, ◌&&◌, nat_le, nat_lt, if◌then◌else◌, Bool, true, false, List, [], ◌∷◌, ◌++◌, map, length, take, drop, Option, None, Some, Result, Ok, Err}
+use Rattle.coe_codec.specs.Coe.{IsCoe}
 use Rattle.coe_codec.specs.Reading.{is_information}
+use Rattle.coe_codec.specs.Writing.{coe_text}
 use Rattle.coe_model.specs.Mails.{Information, Coe, CoeMail, mail, failed, First, Emergency, DownloadAnswer, SegmentAnswer, Abort, InformationError, ExpeditedAnswer, FirstAnswer, UploadSegmentAnswer}
 use Rattle.coe_model.specs.Tables.{Ask}
 use Rattle.coe_model.specs.Tables as Tables
-use Rattle.coe_model.specs.Server.{Transfer, idle, downloading, uploading, Emission, emergency, packet, Outcome, Server, issued, one_more, information_parts}
+use Rattle.coe_model.specs.Server.{Transfer, idle, downloading, uploading, Emission, emergency, packet, Outcome, Server, issued, one_more, parts_of, information_parts}
 pub use Rattle.object_dictionary.specs.Entries.{Stores}
 use Rattle.mailbox_mail.specs.declared.mail.Mail.{Mail}
 use Rattle.coe_model.specs.Octets.{coe_mail_heard, coe_mail_written}
@@ -14,9 +16,11 @@ use Rattle.coe_server.specs.declared.state.State.{State}
 use Rattle.coe_server.specs.declared.state.Pending.{Pending}
 use Rattle.coe_server.specs.declared.state.Emitted.{Emitted}
 
+-- what a transfer is about, as the model has it
 abbrev pub target_view : Target → Tables.Target
 target_view t = record { index = t.index; sub = t.sub; all = t.all }
 
+-- a question, as the model has it
 abbrev pub ask_view : Question → Ask
 ask_view (Question.List kind) = Tables.list kind
 ask_view (Question.Object index) = Tables.object index
@@ -34,6 +38,7 @@ pub record Serving : Type 0 where
   pub emitted : Emitted
   pub octets : List ℕ
 
+-- the transfer that is not finished, by the state and the value's octets
 abbrev pub transfer_view : State → List ℕ → Transfer
 transfer_view State.Idle value = idle
 transfer_view (State.Downloading t size toggle) value = downloading (target_view t) size value toggle
@@ -53,18 +58,31 @@ pending_mails room value told (Pending.Part from toggle) = mail (UploadSegmentAn
 pending_mails room value told (Pending.Last from toggle) = mail (UploadSegmentAnswer toggle true (record { items = drop from value })) ∷ []
 pending_mails room value told (Pending.Parts opcode from) = information_parts (suc (length told)) opcode (room - 12) (drop from told)
 
+-- what is emitted, as the model has it
 abbrev pub emission_view : Emitted → List ℕ → Option Emission
 emission_view Emitted.Nothing octets = None
 emission_view Emitted.Emergency octets = Some (emergency octets)
 emission_view Emitted.Packet octets = Some (packet octets)
 
+-- the mail of an emergency that is emitted
 abbrev pub emergencies : Emitted → List ℕ → List CoeMail
 emergencies Emitted.Emergency octets = mail (Emergency (record { items = octets })) ∷ []
 emergencies _ octets = []
 
+-- the transfer that a server has not finished
 abbrev pub transfer_of : Serving → Transfer
 transfer_of c = transfer_view c.state c.value
 
+-- the packet that is emitted and not yet handed out
+abbrev pub packet_in : Emitted → List ℕ → Option (List ℕ)
+packet_in Emitted.Packet octets = Some octets
+packet_in _ octets = None
+
+-- the packet that a server has not yet handed out
+abbrev pub packet_of : Serving → Option (List ℕ)
+packet_of c = packet_in c.emitted c.octets
+
+-- the answers that wait in a server
 abbrev pub answers_of : Serving → List CoeMail
 answers_of c = pending_mails c.room c.value c.told c.pending
 
@@ -91,6 +109,7 @@ IsSmall (Pending.DownloadAnswer t) = Unit {0}
 IsSmall (Pending.SegmentAnswer toggle) = Unit {0}
 IsSmall _ = ⊥
 
+-- the mail of such an answer
 abbrev pub small_mail : Pending → CoeMail
 small_mail (Pending.DownloadAnswer t) = mail (DownloadAnswer t.index t.sub)
 small_mail (Pending.SegmentAnswer toggle) = mail (SegmentAnswer toggle)
@@ -127,17 +146,45 @@ abbrev pub is_emitted : Emitted → List ℕ → Bool
 is_emitted Emitted.Emergency octets = length octets == 8
 is_emitted _ octets = true
 
--- what an answer is made of: a message, or a mailbox error
-abbrev pub reply_mail : Result Coe ℕ → CoeMail
-reply_mail (Ok message) = mail message
-reply_mail (Err detail) = failed detail
+-- the part of an information answer that goes first, of what is left of it
+abbrev pub first_part : ℕ → ℕ → List ℕ → Coe
+first_part part opcode rest =
+    if nat_le (length rest) part then Information opcode false 0 (record { items = rest })
+    else Information opcode true (parts_of part (length rest - part)) (record { items = take part rest })
 
--- the first of the mails that wait, in its one spelling, which reads as it
-pub record GivesNext (old : Serving) (written : Mail) (new : Serving) : Type 0 where
-  pub first : CoeMail
-  pub spelled : written ≡ coe_mail_written first
-  pub heard : coe_mail_heard written ≡ first
-  pub rest : waiting_mails old ≡ first ∷ waiting_mails new
+-- the message that goes first of what is to be told
+abbrev pub first_message : ℕ → List ℕ → List ℕ → Pending → Coe
+first_message room value told (Pending.DownloadAnswer t) = DownloadAnswer t.index t.sub
+first_message room value told (Pending.SegmentAnswer toggle) = SegmentAnswer toggle
+first_message room value told (Pending.Abort t code) = Abort t.index t.sub code
+first_message room value told (Pending.Error code) = InformationError code
+first_message room value told (Pending.Whole t) = ExpeditedAnswer t.index t.sub (record { items = value })
+first_message room value told (Pending.First t upto) = FirstAnswer t.index t.sub (length value) (record { items = take upto value })
+first_message room value told (Pending.Part from toggle) = UploadSegmentAnswer toggle false (record { items = take (room - 9) (drop from value) })
+first_message room value told (Pending.Last from toggle) = UploadSegmentAnswer toggle true (record { items = drop from value })
+first_message room value told (Pending.Parts opcode from) = first_part (room - 12) opcode (drop from told)
+first_message room value told _ = InformationError 0
+
+-- the message that goes first of a server
+abbrev pub message_of : Serving → Coe
+message_of c = first_message c.room c.value c.told c.pending
+
+-- whether a message is to be told; a mailbox error is none
+abbrev pub has_message : Pending → Bool
+has_message Pending.Nothing = false
+has_message (Pending.Failed detail) = false
+has_message _ = true
+
+-- the mailbox error that is to be told
+abbrev pub failure_in : Pending → Option ℕ
+failure_in (Pending.Failed detail) = Some detail
+failure_in _ = None
+
+-- what is to be told behind the first message: further parts of an information answer
+abbrev pub pending_behind : ℕ → List ℕ → Pending → Pending
+pending_behind room told (Pending.Parts opcode from) =
+    if nat_le (length told - from) (room - 12) then Pending.Nothing else Pending.Parts opcode (from + (room - 12))
+pending_behind room told _ = Pending.Nothing
 
 -- a server's message is short enough for the mailbox
 abbrev pub IsShort : ℕ → Coe → Type 0
@@ -151,6 +198,19 @@ IsShort room (SegmentAnswer toggle) = Unit {0}
 IsShort room (Abort index sub code) = Unit {0}
 IsShort room (InformationError code) = Unit {0}
 IsShort room _ = ⊥
+
+-- a body is the one spelling of this message, which is short enough for the mailbox
+pub record IsWritten (room : ℕ) (message : Coe) (octets : List ℕ) : Type 0 where
+  pub text : octets ≡ coe_text message
+  pub spelled : IsCoe octets message
+  pub short : IsShort room message
+
+-- the first of the mails that wait, in its one spelling, which reads as it
+pub record GivesNext (old : Serving) (written : Mail) (new : Serving) : Type 0 where
+  pub first : CoeMail
+  pub spelled : written ≡ coe_mail_written first
+  pub heard : coe_mail_heard written ≡ first
+  pub rest : waiting_mails old ≡ first ∷ waiting_mails new
 
 -- the model's server behind a mail, and the mails that it gives, by what the call did
 abbrev pub served_of : {S : Type 0} → Tables.Tables S → S → ℕ → Serving → Bool → Server S × List Mail

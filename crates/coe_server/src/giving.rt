@@ -1,47 +1,72 @@
-ghost use Rattle.std.specs.Prelude.{◌≡◌, ◌≢◌, ◌≤◌, ◌<◌, ◌+◌, ◌-◌, ◌↔◌, List, [], ◌∷◌, ◌++◌, true, false, length, drop, take, Some, None, IfOk};
+ghost use Rattle.std.specs.Prelude.{◌≡◌, ◌≢◌, ◌≤◌, ◌<◌, ◌+◌, ◌-◌, ◌↔◌, List, [], ◌∷◌, ◌++◌, true, false, length, drop, take, Some, None, IfOk, IfSome};
 ghost use Rattle.std.specs.Bool.{OnTrue, OnFalse};
 ghost use Rattle.coe_codec.specs.Writing.{HasSpelling};
-ghost use Rattle.coe_model.specs.Octets.{coe_mail_heard, coe_mail_written};
-ghost use Rattle.coe_model.specs.Mails.{mail, failed};
-ghost use Rattle.coe_server.specs.Serving.{Serving, transfer_of, answers_of, waiting_mails, emergencies, emission_view, pending_mails, reply_mail, IsShort, GivesNext};
+ghost use Rattle.coe_codec.specs.View.{coe_seen, IsCapped};
+ghost use Rattle.coe_model.specs.Mails.{mail, Emergency};
+ghost use Rattle.coe_server.specs.Serving.{transfer_of, answers_of, waiting_mails, packet_of, has_message, failure_in, message_of, first_part, pending_behind, IsShort, IsWritten, GivesNext};
 
+use crate::dictionary::Target;
 use crate::server::CoeServer;
 use crate::state::{Emitted, Pending};
 use arrayvec::ArrayVec;
-use coe_codec::Coe;
+use coe_codec::CoeView;
 use coe_values::Slot;
-use ec_fields::buffer_of;
-use mailbox_mail::{Kind, Mail, error_mail};
+use ec_fields::refill;
+use mailbox_mail::{Kind, Mail};
 
-// The mail of a message, to nobody and not yet counted.
-fn written(message: &Coe) -> Mail
-    requires { HasSpelling message.now }
-    ensures spelled { result ≡ coe_mail_written (mail message.now) }
-    ensures heard { coe_mail_heard result ≡ mail message.now }
+// Writes a message that is short enough for the mailbox.
+fn written(room: u16, message: CoeView<'_>, body: &mut ArrayVec<u8, 1480>)
+    requires spelling { HasSpelling (coe_seen message) }
+    requires capped { IsCapped message }
+    requires short { IsShort room (coe_seen message) }
+    ensures { IsWritten room (coe_seen message.entry) body.new.items }
 {
-    let mut body = ArrayVec::new();
-    coe_codec::write(message, &mut body);
-    Mail {
-        address: 0,
-        kind: Kind::CoE,
-        counter: 0,
-        body,
-    }
-}
-
-// The mail of a mailbox error.
-fn failed_mail(detail: u16) -> Mail
-    ensures spelled { result ≡ coe_mail_written (failed detail) }
-    ensures heard { coe_mail_heard result ≡ failed detail }
-{
-    error_mail(detail)
+    coe_codec::write_view(message, body);
 }
 
 impl CoeServer {
+    // Whether a message is to be told.
+    fn has_message(&self) -> bool
+        ensures { result ≡ has_message self.now.pending }
+    {
+        match self.pending {
+            Pending::Nothing | Pending::Failed { detail: _ } => false,
+            Pending::DownloadAnswer { target: _ }
+            | Pending::SegmentAnswer { toggle: _ }
+            | Pending::Abort { target: _, code: _ }
+            | Pending::Error { code: _ }
+            | Pending::Whole { target: _ }
+            | Pending::First { target: _, upto: _ }
+            | Pending::Part { from: _, toggle: _ }
+            | Pending::Last { from: _, toggle: _ }
+            | Pending::Parts { opcode: _, from: _ } => true,
+        }
+    }
+
+    // The detail of the mailbox error that is to be told.
+    fn failure(&self) -> Option<u16>
+        ensures { result ≡ failure_in self.now.pending }
+    {
+        match self.pending {
+            Pending::Failed { detail } => Some(detail),
+            Pending::Nothing
+            | Pending::DownloadAnswer { target: _ }
+            | Pending::SegmentAnswer { toggle: _ }
+            | Pending::Abort { target: _, code: _ }
+            | Pending::Error { code: _ }
+            | Pending::Whole { target: _ }
+            | Pending::First { target: _, upto: _ }
+            | Pending::Part { from: _, toggle: _ }
+            | Pending::Last { from: _, toggle: _ }
+            | Pending::Parts { opcode: _, from: _ } => None,
+        }
+    }
+
     /// Whether a mail waits.
     pub fn waiting(&self) -> bool
         ensures { result ≡ false ↔ (waiting_mails self.now ≡ []) }
     {
+        // What the type keeps of its fields is wanted in the proof: reading one brings it there.
         let _ = &self.room;
         let answers = match self.pending {
             Pending::Nothing => false,
@@ -69,7 +94,7 @@ impl CoeServer {
     {
         match self.emitted {
             Emitted::Packet => {
-                *into = buffer_of(self.octets.as_slice());
+                refill(into, self.octets.as_slice());
                 self.emitted = Emitted::Nothing;
                 true
             }
@@ -77,134 +102,221 @@ impl CoeServer {
         }
     }
 
-    // The next part of an information answer.
-    fn next_part(&mut self, opcode: u8, at: u32) -> Coe
-        requires pending { self.old.pending ≡ Pending.Parts opcode at }
-        ensures first { answers_of self.old ≡ mail result ∷ answers_of self.new }
-        ensures same { self.new ≡ record self.old { pending = self.new.pending } }
-        ensures spelled { HasSpelling result }
-        ensures short { IsShort self.old.room result }
+    // The first octets of a value, with its size.
+    fn write_first(&self, target: Target, upto: u32, body: &mut ArrayVec<u8, 1480>)
+        requires { self.now.pending ≡ Pending.First target upto }
+        ensures { IsWritten self.now.room (message_of self.now) body.new.items }
     {
-        let _ = &self.pending;
-        let rest = self.values.len(Slot::Told) - at as usize;
+        let bytes: ArrayVec<u8, 1470> = self.values.part(Slot::Value, 0, upto as usize);
+        let message = CoeView::FirstAnswer {
+            index: target.index,
+            sub: target.sub,
+            size: self.values.len(Slot::Value) as u32,
+            bytes: bytes.as_slice(),
+        };
+        written(self.room, message, body);
+    }
+
+    // As many octets of a value as a segment has.
+    fn write_segment(&self, from: u32, toggle: bool, body: &mut ArrayVec<u8, 1480>)
+        requires { self.now.pending ≡ Pending.Part from toggle }
+        ensures { IsWritten self.now.room (message_of self.now) body.new.items }
+    {
+        let most = self.room as usize - 9;
+        let bytes: ArrayVec<u8, 1477> = self.values.part(Slot::Value, from as usize, most);
+        let message = CoeView::UploadSegmentAnswer {
+            toggle,
+            last: false,
+            bytes: bytes.as_slice(),
+        };
+        written(self.room, message, body);
+    }
+
+    // The last octets of a value.
+    fn write_last(&self, from: u32, toggle: bool, body: &mut ArrayVec<u8, 1480>)
+        requires { self.now.pending ≡ Pending.Last from toggle }
+        ensures { IsWritten self.now.room (message_of self.now) body.new.items }
+    {
+        let bytes: ArrayVec<u8, 1477> = self.values.rest(Slot::Value, from as usize);
+        let message = CoeView::UploadSegmentAnswer {
+            toggle,
+            last: true,
+            bytes: bytes.as_slice(),
+        };
+        written(self.room, message, body);
+    }
+
+    // The next part of an information answer, with the number of those behind it.
+    fn write_part(&self, opcode: u8, from: u32, body: &mut ArrayVec<u8, 1480>)
+        requires { self.now.pending ≡ Pending.Parts opcode from }
+        ensures { IsWritten self.now.room (message_of self.now) body.new.items }
+    {
+        let rest = self.values.len(Slot::Told) - from as usize;
         let part = self.room as usize - 12;
-        if rest <= part {
-            let bytes = self.values.rest(Slot::Told, at as usize);
-            self.pending = Pending::Nothing;
-            return Coe::Information {
-                opcode,
-                incomplete: false,
-                left: 0,
-                bytes,
-            };
-        }
-        let left = ((rest - part + part - 1) / part) as u16;
-        let bytes = self.values.part(Slot::Told, at as usize, part);
-        self.pending = Pending::Parts {
-            opcode,
-            from: at + part as u32,
+        let incomplete = rest > part;
+        let left = if incomplete {
+            ((rest - part + part - 1) / part) as u16
+        } else {
+            0
         };
-        Coe::Information {
+        let bytes: ArrayVec<u8, 1474> = self.values.part(Slot::Told, from as usize, part);
+        let message = CoeView::Information {
             opcode,
-            incomplete: true,
+            incomplete,
             left,
-            bytes,
+            bytes: bytes.as_slice(),
+        };
+        written(self.room, message, body);
+    }
+
+    // A value of 1 to 4 octets.
+    fn write_whole(&self, target: Target, body: &mut ArrayVec<u8, 1480>)
+        requires { self.now.pending ≡ Pending.Whole target }
+        ensures { IsWritten self.now.room (message_of self.now) body.new.items }
+    {
+        let bytes: ArrayVec<u8, 4> = self.values.rest(Slot::Value, 0);
+        let message = CoeView::ExpeditedAnswer {
+            index: target.index,
+            sub: target.sub,
+            bytes: bytes.as_slice(),
+        };
+        written(self.room, message, body);
+    }
+
+    // The first message of what is to be told.
+    fn write_message(&self, body: &mut ArrayVec<u8, 1480>)
+        requires { has_message self.now.pending ≡ true }
+        ensures { IsWritten self.now.room (message_of self.now) body.new.items }
+    {
+        match self.pending {
+            Pending::Nothing | Pending::Failed { detail: _ } => unreachable!(),
+            Pending::DownloadAnswer {
+                target: Target { index, sub, all: _ },
+            } => {
+                written(self.room, CoeView::DownloadAnswer { index, sub }, body);
+            }
+            Pending::SegmentAnswer { toggle } => {
+                written(self.room, CoeView::SegmentAnswer { toggle }, body);
+            }
+            Pending::Abort {
+                target: Target { index, sub, all: _ },
+                code,
+            } => {
+                written(self.room, CoeView::Abort { index, sub, code }, body);
+            }
+            Pending::Error { code } => {
+                written(self.room, CoeView::InformationError { code }, body);
+            }
+            Pending::Whole { target } => self.write_whole(target, body),
+            Pending::First { target, upto } => self.write_first(target, upto, body),
+            Pending::Part { from, toggle } => self.write_segment(from, toggle, body),
+            Pending::Last { from, toggle } => self.write_last(from, toggle, body),
+            Pending::Parts { opcode, from } => self.write_part(opcode, from, body),
         }
     }
 
-    // The next answer: a message, or the detail of a mailbox error.
-    fn next_answer(&mut self) -> Result<Coe, u16>
-        requires { answers_of self.old ≢ [] }
-        ensures first { answers_of self.old ≡ reply_mail result ∷ answers_of self.new }
+    // What is to be told behind the first message.
+    fn behind(&self) -> Pending
+        ensures { result ≡ pending_behind self.now.room self.now.told self.now.pending }
+    {
+        match self.pending {
+            Pending::Parts { opcode, from } => {
+                let part = self.room as usize - 12;
+                if self.values.len(Slot::Told) - from as usize <= part {
+                    return Pending::Nothing;
+                }
+                Pending::Parts {
+                    opcode,
+                    from: from + part as u32,
+                }
+            }
+            Pending::Nothing
+            | Pending::DownloadAnswer { target: _ }
+            | Pending::SegmentAnswer { toggle: _ }
+            | Pending::Abort { target: _, code: _ }
+            | Pending::Error { code: _ }
+            | Pending::Failed { detail: _ }
+            | Pending::Whole { target: _ }
+            | Pending::First { target: _, upto: _ }
+            | Pending::Part { from: _, toggle: _ }
+            | Pending::Last { from: _, toggle: _ } => Pending::Nothing,
+        }
+    }
+
+    // The first message goes.
+    fn give_message(&mut self, body: &mut ArrayVec<u8, 1480>)
+        requires { has_message self.old.pending ≡ true }
+        ensures written { IsWritten self.old.room (message_of self.old) body.new.items }
+        ensures first { answers_of self.old ≡ mail (message_of self.old) ∷ answers_of self.new }
         ensures same { self.new ≡ record self.old { pending = self.new.pending } }
-        ensures spelled { IfOk result HasSpelling }
-        ensures short { IfOk result (IsShort self.old.room) }
     {
-        let room = self.room as usize - 9;
-        let answer = match self.pending {
-            Pending::Nothing => unreachable!(),
-            Pending::DownloadAnswer { target } => Ok(Coe::DownloadAnswer {
-                index: target.index,
-                sub: target.sub,
-            }),
-            Pending::SegmentAnswer { toggle } => Ok(Coe::SegmentAnswer { toggle }),
-            Pending::Abort { target, code } => Ok(Coe::Abort {
-                index: target.index,
-                sub: target.sub,
-                code,
-            }),
-            Pending::Error { code } => Ok(Coe::InformationError { code }),
-            Pending::Failed { detail } => Err(detail),
-            Pending::Whole { target } => {
-                let bytes = self.values.rest(Slot::Value, 0);
-                Ok(Coe::ExpeditedAnswer {
-                    index: target.index,
-                    sub: target.sub,
-                    bytes,
-                })
-            }
-            Pending::First { target, upto: len } => {
-                let size = self.values.len(Slot::Value) as u32;
-                let bytes = self.values.part(Slot::Value, 0, len as usize);
-                Ok(Coe::FirstAnswer {
-                    index: target.index,
-                    sub: target.sub,
-                    size,
-                    bytes,
-                })
-            }
-            Pending::Part { from: at, toggle } => {
-                let bytes = self.values.part(Slot::Value, at as usize, room);
-                Ok(Coe::UploadSegmentAnswer {
-                    toggle,
-                    last: false,
-                    bytes,
-                })
-            }
-            Pending::Last { from: at, toggle } => {
-                let bytes = self.values.rest(Slot::Value, at as usize);
-                Ok(Coe::UploadSegmentAnswer {
-                    toggle,
-                    last: true,
-                    bytes,
-                })
-            }
-            Pending::Parts { opcode, from: at } => return Ok(self.next_part(opcode, at)),
-        };
-        self.pending = Pending::Nothing;
-        answer
+        self.write_message(body);
+        self.pending = self.behind();
     }
 
-    // The emergency, which is the last of the mails.
-    fn emergency(&mut self) -> Coe
-        requires answered { answers_of self.old ≡ [] }
-        requires left { waiting_mails self.old ≢ [] }
-        ensures first { waiting_mails self.old ≡ mail result ∷ waiting_mails self.new }
+    // The emergency goes, which is the last of the mails.
+    fn give_emergency(&mut self, body: &mut ArrayVec<u8, 1480>)
+        requires { self.old.emitted ≡ Emitted.Emergency }
+        ensures written { IsWritten self.old.room (Emergency (record { items = self.old.octets })) body.new.items }
         ensures same { self.new ≡ record self.old { emitted = Emitted.Nothing } }
-        ensures spelled { HasSpelling result }
-        ensures short { IsShort self.old.room result }
     {
-        let octets = buffer_of(self.octets.as_slice());
+        let message = CoeView::Emergency {
+            octets: self.octets.as_slice(),
+        };
+        written(self.room, message, body);
         self.emitted = Emitted::Nothing;
-        Coe::Emergency { octets }
     }
 
-    /// Gives the next of the mails that wait, to nobody and not yet counted. An emergency is the last. Each fits the mailbox for answers.
-    pub fn next(&mut self) -> Mail
+    /// Puts the next of the mails that wait in place of what `into` has, as [`next`](CoeServer::next) gives it. Only the octets of its body are
+    /// written.
+    pub fn next_into(&mut self, into: &mut Mail)
         requires { waiting_mails self.old ≢ [] }
-        ensures next { GivesNext self.old result self.new }
-        ensures fits { length result.body.items + 6 ≤ self.old.room }
+        ensures next { GivesNext self.old into.new self.new }
+        ensures fits { length into.new.body.items + 6 ≤ self.old.room }
+        ensures packet { packet_of self.new ≡ packet_of self.old }
         ensures transfer { transfer_of self.new ≡ transfer_of self.old }
         ensures room { self.new.room ≡ self.old.room }
         ensures eoe { self.new.eoe ≡ self.old.eoe }
     {
-        if let Pending::Nothing = self.pending {
-            let message = self.emergency();
-            return written(&message);
+        into.address = 0;
+        into.counter = 0;
+        if self.has_message() {
+            into.kind = Kind::CoE;
+            self.give_message(&mut into.body);
+            return;
         }
-        match self.next_answer() {
-            Ok(message) => written(&message),
-            Err(detail) => failed_mail(detail),
+        match self.failure() {
+            Some(detail) => {
+                let [low, high] = detail.to_le_bytes();
+                into.kind = Kind::Error;
+                refill(&mut into.body, &[1, 0, low, high]);
+                self.pending = Pending::Nothing;
+            }
+            None => {
+                into.kind = Kind::CoE;
+                self.give_emergency(&mut into.body);
+            }
         }
+    }
+
+    /// Gives the next of the mails that wait, to nobody and not yet counted. An emergency is the last. Each fits the mailbox for answers.
+    /// A packet that was emitted still waits to be handed out.
+    pub fn next(&mut self) -> Mail
+        requires { waiting_mails self.old ≢ [] }
+        ensures next { GivesNext self.old result self.new }
+        ensures fits { length result.body.items + 6 ≤ self.old.room }
+        ensures packet { packet_of self.new ≡ packet_of self.old }
+        ensures transfer { transfer_of self.new ≡ transfer_of self.old }
+        ensures room { self.new.room ≡ self.old.room }
+        ensures eoe { self.new.eoe ≡ self.old.eoe }
+    {
+        let mut mail = Mail {
+            address: 0,
+            kind: Kind::CoE,
+            counter: 0,
+            body: ArrayVec::new(),
+        };
+        self.next_into(&mut mail);
+        mail
     }
 }

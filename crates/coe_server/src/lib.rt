@@ -4,7 +4,9 @@
 
 mod dictionary;
 mod giving;
+mod information;
 mod objects;
+mod sdo;
 mod server;
 mod state;
 mod taking;
@@ -12,6 +14,3 @@ mod taking;
 pub use dictionary::{Dictionary, Question, Target};
 pub use objects::{calls_are_the_exchange, objects_are_lawful, objects_are_spelled};
 pub use server::CoeServer;
-
-#[cfg(test)]
-mod tests;

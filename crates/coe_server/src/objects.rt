@@ -62,7 +62,7 @@ pub fn objects_are_spelled()
 {}
 
 /// What `take` did with a mail's body is the step of the exchange of mails: the same objects, transfer and count, and the mails that `next`
-/// then gives. Stated at tables of numbers; the lemma holds at every kind of tables.
+/// then gives.
 pub fn calls_are_the_exchange<S>()
     ensures { (o : Tables S) (areas : Areas) (v : Server S) (old new : Serving) (app : S) (counts : Bool) (body : List ℕ) → v.transfer ≡ transfer_of old → areas.back ≡ old.room →
         coe_outcome o old.eoe old.room v.app (transfer_of old) (body_heard body) ≡ outcome_of app new counts →

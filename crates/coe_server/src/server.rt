@@ -1,6 +1,6 @@
-ghost use Rattle.std.specs.Prelude.{◌≡◌, ◌≤◌, ◌<◌, ◌+◌, ◌-◌, [], true, false, length, IfOk};
+ghost use Rattle.std.specs.Prelude.{◌≡◌, ◌≤◌, ◌<◌, ◌+◌, ◌-◌, [], true, false, length, None, IfOk};
 ghost use Rattle.coe_model.specs.Server.{Transfer, idle};
-ghost use Rattle.coe_server.specs.Serving.{transfer_of, waiting_mails, told_of, is_sound, is_told};
+ghost use Rattle.coe_server.specs.Serving.{transfer_of, waiting_mails, packet_of, told_of, is_sound, is_told};
 
 use crate::state::{Emitted, Pending, State};
 use arrayvec::ArrayVec;
@@ -38,12 +38,13 @@ impl Model for CoeServer {
 }
 
 impl CoeServer {
-    /// A server without a transfer and without a mail, that answers through a mailbox of this length.
+    /// A server without a transfer, a mail or a packet, that answers through a mailbox of this length.
     pub fn new(alloc: Global, eoe: bool, in_len: u16) -> Result<CoeServer, NoMemory>
         requires least { 64 ≤ in_len }
         requires most { in_len ≤ 1486 }
         ensures transfer { IfOk result (λ c. transfer_of c ≡ idle) }
         ensures silent { IfOk result (λ c. waiting_mails c ≡ []) }
+        ensures packet { IfOk result (λ c. packet_of c ≡ None) }
         ensures room { IfOk result (λ c. c.room ≡ in_len) }
         ensures eoe { IfOk result (λ c. c.eoe ≡ eoe) }
     {
@@ -61,10 +62,11 @@ impl CoeServer {
         })
     }
 
-    /// The server as it was made: without a transfer and without a mail.
+    /// The server as it was made: without a transfer, a mail or a packet.
     pub fn clear(&mut self)
         ensures transfer { transfer_of self.new ≡ idle }
         ensures silent { waiting_mails self.new ≡ [] }
+        ensures packet { packet_of self.new ≡ None }
         ensures room { self.new.room ≡ self.old.room }
         ensures eoe { self.new.eoe ≡ self.old.eoe }
     {

@@ -16,10 +16,22 @@ use Rattle.coe_states.proofs.Lasts.{coe_last, coe_mail_last}
 
 module _ {S : Type 0} (o : ℕ → Tables S) (eoe : Bool) (areas : Areas) where
   one_client : AreOneClient (λ al. coe_exchange (o al) eoe areas)
-  one_client = λ al. refl
+  one_client = record {
+    emission = λ al m. refl;
+    valid = λ al q. refl;
+    planned = λ al q hs. refl;
+    ends = λ al q hs. refl;
+    handed = λ al q. refl;
+  }
 
   one_mail_client : AreOneClient (λ al. coe_mail_exchange (o al) eoe areas)
-  one_mail_client = λ al. refl
+  one_mail_client = record {
+    emission = λ al m. refl;
+    valid = λ al q. refl;
+    planned = λ al q hs. refl;
+    ends = λ al q hs. refl;
+    handed = λ al q. refl;
+  }
 
   module _ (law : (al : ℕ) → AreLawful (o al)) (sized : AreMailboxes areas) where
     pub coe_states_law : IsLawful (coe_states o eoe areas)

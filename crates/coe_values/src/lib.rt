@@ -6,6 +6,3 @@ mod chains;
 mod values;
 
 pub use values::{Slot, Values};
-
-#[cfg(test)]
-mod tests;

@@ -30,11 +30,7 @@ pub fn refill<const CAP: usize>(buffer: &mut ArrayVec<u8, CAP>, octets: &[u8])
 
 /// Puts two parts that fit, one behind the other, in place of what a buffer held. Only these octets
 /// are moved, and no others are touched but those that are left over of a longer content.
-pub fn refill_parts<const CAP: usize>(
-    buffer: &mut ArrayVec<u8, CAP>,
-    head: &[u8],
-    behind: &[u8],
-)
+pub fn refill_parts<const CAP: usize>(buffer: &mut ArrayVec<u8, CAP>, head: &[u8], behind: &[u8])
     requires { length head.now + length behind.now ≤ CAP }
     ensures { buffer.new.items ≡ head.now ++ behind.now }
 {

@@ -36,6 +36,13 @@ impl Octets {
         Ok(Octets { octets })
     }
 
+    /// The octets of a vector, which stay where they are.
+    pub fn from_vec(octets: Vec<u8>) -> Octets
+        ensures { result ≡ octets.items }
+    {
+        Octets { octets }
+    }
+
     /// Appends the octets. After `NoMemory` the list is as before.
     pub fn add(&mut self, bytes: &[u8]) -> Result<(), NoMemory>
         ensures ok { OnOk result (self.new ≡ self.old ++ bytes.now) }

@@ -29,5 +29,6 @@ learned_at learned address port (Some at) = slice_set learned at (record { addre
 learned_at learned address port None =
     if nat_lt (length learned) 64 then learned ++ record { address = address; port = port } ∷ [] else learned
 
+-- the known addresses where this one stands at this port
 abbrev pub learned_with : List Learned → ℕ → ℕ → List Learned
 learned_with learned address port = learned_at learned address port (place_of address learned)

@@ -10,6 +10,7 @@ abbrev pub is_known_target : Option ℕ → ℕ → Bool
 is_known_target None at = true
 is_known_target (Some port) at = port == at
 
+-- no packet goes back to the port where it came in, nor to one that is down
 abbrev pub is_target : Route → ℕ → Bool → Bool
 is_target route at up = if at == route.from || not up then false else is_known_target route.known at
 
@@ -25,5 +26,6 @@ taken_at at packet port =
     else if nat_lt (length port.queue) 8 then record { port = record port { queue = port.queue ++ packet ∷ [] }; offered = Taken }
     else record { port = port; offered = Full }
 
+-- a packet at a port, whether it goes there or not
 abbrev pub offered : Route → ℕ → ArrayVec ℕ → Port → AtPort
 offered route at packet port = if is_target route at port.up then taken_at at packet port else record { port = port; offered = Not }

@@ -19,6 +19,7 @@ pub record Switched : Type 0 where
 abbrev pub first_port : Port
 first_port = record { up = true; queue = [] }
 
+-- the ports of a new switch
 abbrev pub first_ports : ℕ → List Port
 first_ports n = replicate n first_port
 
@@ -78,6 +79,7 @@ abbrev pub queue_of : Option Port → List (ArrayVec ℕ)
 queue_of None = []
 queue_of (Some port) = port.queue
 
+-- the packets that wait at a port of a switch, none where it has no such port
 abbrev pub queue_at : Switched → ℕ → List (ArrayVec ℕ)
 queue_at s port = queue_of (slice_get s.ports port)
 

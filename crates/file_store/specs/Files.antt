@@ -15,6 +15,7 @@ pub record Kept : Type 0 where
   pub files : List Filed
   pub blocks : ℕ
 
+-- whether a file has this name
 abbrev pub is_named : List ℕ → Filed → Bool
 is_named name file = bytes_eq file.spec.name.items name
 
@@ -52,6 +53,7 @@ abbrev pub code_at : Option Filed → ℕ → Bool → ℕ → Option ℕ
 code_at None pass write al = Some 0x8001
 code_at (Some file) pass write al = refused_by file.spec pass write al
 
+-- the code that refuses a request for the file of this name, at this AL state
 abbrev pub allowed : Kept → List ℕ → ℕ → Bool → ℕ → Option ℕ
 allowed kept name pass write al = code_at (file_of kept name) pass write al
 

@@ -8,6 +8,7 @@ pub record Part : Type 0 where
   pub name : List ℕ
   pub octets : List ℕ
 
+-- the committed files, and a version that is begun
 pub record Stored : Type 0 where
   pub kept : Kept
   pub part : Option Part
@@ -16,9 +17,11 @@ pub record Stored : Type 0 where
 abbrev pub HasPart : Stored → Type 0
 HasPart store = is_some store.part ≡ true
 
+-- the name of the version that is begun
 abbrev pub part_name : Stored → List ℕ
 part_name store = unwrap_or (option_map (λ part. part.name) store.part) []
 
+-- its octets
 abbrev pub part_octets : Stored → List ℕ
 part_octets store = unwrap_or (option_map (λ part. part.octets) store.part) []
 

@@ -229,7 +229,13 @@ impl Store {
 
     /// Appends to a buffer the octets of the file of this name from a place on, at most so many; none where no file has the name. It costs the
     /// octets appended.
-    pub fn append_to<const CAP: usize>(&self, name: &[u8], at: usize, most: usize, into: &mut ArrayVec<u8, CAP>)
+    pub fn append_to<const CAP: usize>(
+        &self,
+        name: &[u8],
+        at: usize,
+        most: usize,
+        into: &mut ArrayVec<u8, CAP>,
+    )
         requires { length into.old.items + most ≤ CAP }
         ensures { into.new.items ≡ into.old.items ++ take most (drop at (get self.now.kept name.now)) }
     {

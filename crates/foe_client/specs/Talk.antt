@@ -23,6 +23,7 @@ pub record Talking : Type 0 where
   pub awaits : Awaits
   pub value : List ℕ
 
+-- the lengths of both mailboxes
 abbrev pub areas_of : Talking → Areas
 areas_of c = record { out = c.out; back = c.back }
 
@@ -33,6 +34,7 @@ mail_of out pass name bytes Unsent.WriteRequest = mail (Write pass (record { ite
 mail_of out pass name bytes (Unsent.Packet number from) = packet_of out number (drop from bytes)
 mail_of out pass name bytes (Unsent.Ack number) = mail (Ack number)
 
+-- the mail that follows
 abbrev pub following : ℕ → List ℕ → Unsent → Unsent
 following out bytes Unsent.ReadRequest = Unsent.Ack 1
 following out bytes Unsent.WriteRequest = Unsent.Packet 1 0
@@ -45,10 +47,12 @@ abbrev pub sending : ℕ → ℕ → List ℕ → List ℕ → ℕ → Unsent �
 sending out pass name bytes zero unsent = []
 sending out pass name bytes (suc n) unsent = mail_of out pass name bytes unsent ∷ sending out pass name bytes n (following out bytes unsent)
 
+-- a packet
 abbrev pub is_data : FoeMail → Bool
 is_data (mail (Data packet bytes)) = true
 is_data _ = false
 
+-- an acknowledgement
 abbrev pub is_any_ack : FoeMail → Bool
 is_any_ack (mail (Ack packet)) = true
 is_any_ack _ = false
@@ -69,6 +73,7 @@ abbrev pub is_value : ReplyKind → Bool
 is_value ReplyKind.Value = true
 is_value _ = false
 
+-- how many mails more these answers let go, by what is awaited
 abbrev pub lets_go : Awaits → List FoeMail → ℕ
 lets_go Awaits.Nothing ms = 0
 lets_go (Awaits.Packet number) ms = for_packets ms
@@ -86,6 +91,7 @@ answers_from back value (Awaits.Packet number) ms = packets_end back number valu
 answers_from back value (Awaits.Ack left number) ms = acks_end left number ms
 answers_from back value (Awaits.Over kind) ms = at_end ms (kind, value)
 
+-- the reply that these mails complete
 abbrev pub awaited : Talking → List FoeMail → Option Reply
 awaited c ms = answers_from c.back c.value c.awaits ms
 

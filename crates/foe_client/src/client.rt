@@ -123,6 +123,7 @@ impl FoeClient {
         ensures mails { (hs : List FoeMail) → later self.new hs ≡ planned self.old.out (write name.now pass bytes.now) hs }
         ensures areas { areas_of self.new ≡ areas_of self.old }
     {
+        // A field is named so that the proof has what holds of the fields.
         let _ = &self.out;
         let awaits = Awaits::Ack {
             left: self.early_acks(bytes),

@@ -150,6 +150,7 @@ impl FoeClient {
     pub fn take(&mut self, mail: &Mail) -> Took
         ensures { TookIs result self.old (foe_mail_heard mail.now) self.new }
     {
+        // A field is named so that the proof has what holds of the fields.
         let _ = &self.awaits;
         self.hear_mail(mail)
     }

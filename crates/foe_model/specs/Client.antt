@@ -35,6 +35,7 @@ write_turn last (mail (Ack packet)) = next
 write_turn last (mail (Busy done entire)) = if last then again else stop
 write_turn last _ = stop
 
+-- what a client does behind a mail of its own by the answer to it
 abbrev pub turn_behind : ℕ → FoeMail → FoeMail → Turn
 turn_behind out (mail (Read pass name)) h = read_turn h
 turn_behind out (mail (Ack packet)) h = read_turn h
@@ -58,10 +59,12 @@ refused_by (mail (Error code)) ms = at_end ms (ReplyKind.FoeError code, [])
 refused_by (failed detail) ms = at_end ms (ReplyKind.MailboxError detail, [])
 refused_by _ ms = None
 
+-- the acknowledgement of the packet of this number
 abbrev pub is_ack : ℕ → FoeMail → Bool
 is_ack number (mail (Ack packet)) = packet == number
 is_ack number _ = false
 
+-- a busy answer
 abbrev pub is_busy : FoeMail → Bool
 is_busy (mail (Busy done entire)) = true
 is_busy _ = false
@@ -84,10 +87,12 @@ acks_end (suc n) number (m ∷ ms) = if is_ack number m then acks_end n (number 
 abbrev pub most : ℕ
 most = 131072
 
+-- the packet of this number
 abbrev pub is_packet : ℕ → FoeMail → Bool
 is_packet number (mail (Data packet bytes)) = packet == number
 is_packet number _ = false
 
+-- the octets of a packet
 abbrev pub octets_in : FoeMail → List ℕ
 octets_in (mail (Data packet bytes)) = bytes.items
 octets_in _ = []

@@ -26,6 +26,7 @@ pub record Meaning (S : Type 0) : Type 0 where
 abbrev pub refused : {S : Type 0} → S → ℕ → Meaning S
 refused app code = record { app = app; reply = (ReplyKind.FoeError code, []) }
 
+-- the octets of the file where nothing refuses the read
 abbrev pub read_means : {S : Type 0} → Files S → S → List ℕ → Option ℕ → Meaning S
 read_means o app name None = record { app = app; reply = (ReplyKind.Value, o.get app name) }
 read_means o app name (Some code) = refused app code
@@ -36,6 +37,7 @@ write_means o app name bytes None =
     if o.has_room app (length bytes) then record { app = o.put app name bytes; reply = (ReplyKind.Done, []) } else refused app 0x8003
 write_means o app name bytes (Some code) = refused app code
 
+-- what a service means
 abbrev pub meaning_of : {S : Type 0} → Files S → S → Service → Meaning S
 meaning_of o app (read name pass) = read_means o app name (o.allowed app name pass false)
 meaning_of o app (write name pass bytes) = write_means o app name bytes (o.allowed app name pass true)

@@ -37,6 +37,7 @@ full o areas v q = sent (serve o areas.out areas.back) is_emission (decide areas
 abbrev pub foe_speech : Areas → Speech FoeMail Service Reply
 foe_speech areas = record { emission = is_emission; valid = is_service; planned = planned areas.out; ends = ends areas; handed = λ q. false }
 
+-- FoE as an exchange, at mailboxes of these lengths
 abbrev pub foe_exchange : {S : Type 0} → Files S → Areas → Exchange (Server S) S FoeMail Service Reply
 foe_exchange o areas = record {
   serve = serve o areas.out areas.back;

@@ -20,6 +20,7 @@ abbrev pub heard : Result Foe FoeFault → FoeMail
 heard (Ok f) = mail f
 heard (Err fault) = unread fault
 
+-- an FoE body: the message in it, or its fault
 abbrev pub body_heard : List ℕ → FoeMail
 body_heard body = heard (foe_read body)
 
@@ -33,6 +34,7 @@ by_kind FoE body = body_heard body
 by_kind Error body = if is_error body then failed (number_at 2 body 2) else other body
 by_kind _ body = other body
 
+-- what a mailbox mail reads as
 abbrev pub foe_mail_heard : Mail → FoeMail
 foe_mail_heard m = by_kind m.kind m.body.items
 
@@ -40,6 +42,7 @@ foe_mail_heard m = by_kind m.kind m.body.items
 abbrev pub mail_with : Kind → List ℕ → Mail
 mail_with kind body = record { address = 0; kind = kind; counter = 0; body = record { items = body } }
 
+-- what a mail is written as
 abbrev pub foe_mail_written : FoeMail → Mail
 foe_mail_written (mail f) = mail_with FoE (foe_text f)
 foe_mail_written (unread fault) = mail_with FoE []

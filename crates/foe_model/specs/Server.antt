@@ -32,9 +32,11 @@ goes_on app transfer answer = record { app = app; transfer = transfer; counts = 
 abbrev pub silent : {S : Type 0} → S → Transfer → Outcome S
 silent app transfer = record { app = app; transfer = transfer; counts = false; answers = [] }
 
+-- an FoE error with this code
 abbrev pub refusal : ℕ → FoeMail
 refusal code = mail (Error code)
 
+-- the acknowledgement of the packet of this number
 abbrev pub ack : ℕ → FoeMail
 ack number = mail (Ack number)
 
@@ -55,6 +57,7 @@ abbrev pub opened : {S : Type 0} → ℕ → S → List ℕ → Option ℕ → O
 opened back app bytes None = ended app (reading 1 bytes) (packet_of back 1 bytes)
 opened back app bytes (Some code) = ended app idle (refusal code)
 
+-- a request for a file drops the transfer that stood, and is refused or answered by the first packet
 abbrev pub takes_read : {S : Type 0} → Files S → ℕ → S → List ℕ → ℕ → Outcome S
 takes_read o back app name pass = opened back app (o.get app name) (o.allowed app name pass false)
 
@@ -63,6 +66,7 @@ abbrev pub begun : {S : Type 0} → S → List ℕ → Option ℕ → Outcome S
 begun app name None = goes_on app (writing name 0 []) (ack 0)
 begun app name (Some code) = ended app idle (refusal code)
 
+-- a request to write drops the transfer that stood, and is refused or acknowledged
 abbrev pub takes_write : {S : Type 0} → Files S → S → List ℕ → ℕ → Outcome S
 takes_write o app name pass = begun app name (o.allowed app name pass true)
 
@@ -117,6 +121,7 @@ foe_takes o out back app transfer (Ack packet) = takes_ack back app transfer pac
 foe_takes o out back app transfer (Error code) = silent app idle
 foe_takes o out back app transfer (Busy done entire) = ended app idle (refusal 0x8004)
 
+-- any mail: a mailbox error and a mail of another protocol are none of a server's
 abbrev pub foe_outcome : {S : Type 0} → Files S → ℕ → ℕ → S → Transfer → FoeMail → Outcome S
 foe_outcome o out back app transfer (mail f) = foe_takes o out back app transfer f
 foe_outcome o out back app transfer (unread fault) = takes_unread app transfer fault
@@ -129,10 +134,12 @@ pub record Server (S : Type 0) : Type 0 where
   pub handled : ℕ
   pub transfer : Transfer
 
+-- a mail that counts is one more
 abbrev pub one_more : Bool → ℕ → ℕ
 one_more true n = suc n
 one_more false n = n
 
+-- the server behind such an outcome, and what it gives
 abbrev pub behind : {S : Type 0} → ℕ → Outcome S → Server S × List FoeMail
 behind handled x = (record { app = x.app; handled = one_more x.counts handled; transfer = x.transfer }, x.answers)
 

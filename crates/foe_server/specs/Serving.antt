@@ -29,6 +29,7 @@ transfer_view (State.Reading number from) name store = reading number (drop from
 transfer_view (State.Writing number) name store = writing name number (part_octets store)
 transfer_view (State.Closing number told) name store = closing name number (part_octets store) told
 
+-- the transfer of a server over this store
 abbrev pub transfer_of : Serving → Stored → Transfer
 transfer_of c store = transfer_view c.state c.name store
 
@@ -41,6 +42,7 @@ pending_mails back name kept (Pending.Busy done entire) = mail (Busy done entire
 pending_mails back name kept (Pending.Error code) = mail (Error code) ∷ []
 pending_mails back name kept (Pending.Failed detail) = failed detail ∷ []
 
+-- the mail that waits in a server over this store
 abbrev pub waiting_mails : Serving → Stored → List FoeMail
 waiting_mails c store = pending_mails c.back c.name store.kept c.pending
 
@@ -74,6 +76,7 @@ IsStoreOf (State.Reading number from) name store = store.part ≡ None
 IsStoreOf (State.Writing number) name store = IsWriting name number store
 IsStoreOf (State.Closing number told) name store = IsWriting name 0 store
 
+-- the store is the one that the server worked on before
 abbrev pub Serves : Serving → Stored → Type 0
 Serves c store = IsStoreOf c.state c.name store
 

@@ -3,6 +3,7 @@ use Rattle.std.specs.Prelude.{ℕ}
 use Rattle.file_store.specs.Files.{Kept, is_valid, allowed, has_room, put, get, busy_of}
 use Rattle.foe_model.specs.Files.{Files}
 
+-- the files, asked at this AL state
 abbrev pub store_files : ℕ → Files Kept
 store_files al = record {
   valid = is_valid;

@@ -24,13 +24,7 @@ impl FoeServer {
     }
 
     // Writes a packet of the file: its head, and behind it the octets out of the store.
-    fn write_packet(
-        &self,
-        store: &Store,
-        number: u32,
-        from: u32,
-        body: &mut ArrayVec<u8, 1480>,
-    )
+    fn write_packet(&self, store: &Store, number: u32, from: u32, body: &mut ArrayVec<u8, 1480>)
         requires { self.now.pending ≡ Pending.Packet number from }
         ensures only { IsOnly (waiting_mails self.now store.now) body.new.items }
         ensures short { length body.new.items + 6 ≤ self.now.back }

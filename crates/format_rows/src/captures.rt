@@ -1,5 +1,5 @@
-use pcap_frames::{PcapFault, Stamp, read, write_head, write_packet};
 use ec_fields::{NoMemory, Octets};
+use pcap_frames::{PcapFault, Stamp, read, write_head, write_packet};
 
 const HEAD: [u8; 24] = [
     0xD4, 0xC3, 0xB2, 0xA1, 0x02, 0x00, 0x04, 0x00, 0, 0, 0, 0, 0, 0, 0, 0, 0xFF, 0xFF, 0, 0, 0x01,

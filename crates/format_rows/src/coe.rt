@@ -1,5 +1,5 @@
-use coe_codec::*;
 use arrayvec::ArrayVec;
+use coe_codec::*;
 use ec_fields::buffer_of;
 use std::process::Abort;
 

@@ -1,8 +1,9 @@
-use eoe::{
-    Eoe, EoeFault, Fragment, Joined, Packet, Reassembler, cut, first_block, is_block, read, write,
-};
 use arrayvec::ArrayVec;
 use ec_fields::buffer_of;
+use eoe::{
+    Came, Eoe, EoeFault, Fragment, FragmentView, Joined, Packet, Reassembler, cut, first_block,
+    is_block, read, write,
+};
 
 // A packet of 1,514 octets in areas of 64 octets.
 #[test]
@@ -104,6 +105,32 @@ fn awaits_the_next_fragment(rt: HostRuntime) {
         };
         assert_eq!(rt; len, wanted);
     }
+}
+
+// 48 blocks are awaited: octets behind those that a packet may have are dropped, and a last fragment
+// ends no packet then.
+#[test]
+fn drops_what_outgrows_a_packet(rt: HostRuntime) {
+    let mut joined = Reassembler::new();
+    let mut whole = Packet::new();
+    for number in 0u8..49 {
+        let fragment = FragmentView {
+            last: number == 48,
+            stamped: false,
+            number,
+            offset: if number == 0 { 48 } else { number },
+            frame: 3,
+            bytes: if number == 48 { &[6; 14] } else { &[5; 32] },
+        };
+        let came = joined.take_into(fragment, &mut whole);
+        let wanted = if number == 48 {
+            Came::Dropped
+        } else {
+            Came::More
+        };
+        assert_eq!(rt; came, wanted);
+    }
+    assert_eq!(rt; whole.len(), 0);
 }
 
 #[test]

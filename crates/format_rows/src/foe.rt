@@ -1,8 +1,8 @@
 ghost use Rattle.foe_codec.specs.Message.{IsSpellable};
 
-use foe_codec::{Foe, FoeFault, Name, read, write};
 use arrayvec::ArrayVec;
 use ec_fields::buffer_of;
+use foe_codec::{Foe, FoeFault, Name, read, write};
 use std::process::Abort;
 use std::test::Fail;
 

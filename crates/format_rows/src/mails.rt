@@ -1,5 +1,5 @@
-use mailbox_mail::*;
 use ec_fields::buffer_of;
+use mailbox_mail::*;
 use std::test::Fail;
 
 // A download of four octets, an upload's abort, a last download segment and a list's second part.
@@ -56,6 +56,9 @@ fn mails_are_written_and_read(rt: HostRuntime) -> Result<(), Fail> {
         assert!(rt; octets.len() <= 64);
         assert_eq!(rt; &area[..octets.len()], octets);
         assert!(rt; area[octets.len()..].iter().all(|octet| *octet == 0));
+        let mut kept = Ok(error_mail(1));
+        read_into(&area, &mut kept);
+        assert_eq!(rt; kept.as_ref(), Ok(&mail));
         assert_eq!(rt; read(&area), Ok(mail));
     }
     Ok(())

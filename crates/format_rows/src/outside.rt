@@ -1,5 +1,5 @@
-use ec_outside::*;
 use ec_fields::{Octets, Rows};
+use ec_outside::*;
 use std::alloc::Global;
 use std::fs;
 use std::test::Fail;

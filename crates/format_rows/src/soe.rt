@@ -1,6 +1,6 @@
-use soe_codec::*;
 use arrayvec::ArrayVec;
 use ec_fields::buffer_of;
+use soe_codec::*;
 use std::process::Abort;
 
 fn read_and_written(rt: &impl Abort, octets: &[u8], soe: Soe) {

@@ -1,8 +1,8 @@
 ghost use Rattle.std.specs.Prelude.{◌≡◌, length};
 
-use eoe_switch::{Ports, Switch};
 use ec_fields::{NoMemory, buffer_of};
 use eoe::Packet;
+use eoe_switch::{Ports, Switch};
 
 const GROUP: [u8; 6] = [0xFF, 0xFF, 0xFF, 0xFF, 0xFF, 0xFF];
 

@@ -21,6 +21,7 @@ pub record Kept : Type 0 where
   pub writable : Bool
   pub value : List ℕ
 
+-- an IDN as it is described
 abbrev pub idn_of : IdnSpec → Kept
 idn_of s = record { attribute = s.attribute; label = s.label; unit = s.unit; least = s.least; most = s.most; min = s.min; max = s.max; writable = s.writable; value = s.value }
 
@@ -28,15 +29,19 @@ idn_of s = record { attribute = s.attribute; label = s.label; unit = s.unit; lea
 abbrev pub Key : Type 0
 Key = ℕ × ℕ
 
+-- IDNs by their keys
 abbrev pub Table : Type 0
 Table = List (Key × Kept)
 
+-- the key of an IDN as it is described
 abbrev pub key_of : IdnSpec → Key
 key_of s = (s.drive, s.number)
 
+-- whether two keys are the same
 abbrev pub is_key : Key → Key → Bool
 is_key key k = nat_eq key.0 k.0 && nat_eq key.1 k.1
 
+-- the IDN that a target names
 abbrev pub idn_at : Table → Target → Option Kept
 idn_at idns t = lookup (is_key (t.drive, t.idn)) idns
 
@@ -118,6 +123,7 @@ read_by None element = Err 0x1001
 read_by (Some i) None = Err 0x1009
 read_by (Some i) (Some element) = element_read i element
 
+-- the octets of the element that a target names, or the code that refuses it
 abbrev pub read_at : Table → Target → Result (List ℕ) ℕ
 read_at idns t = read_by (idn_at idns t) (element_of t.elements)
 
@@ -126,13 +132,16 @@ abbrev pub under : Option ℕ → List ℕ → Bool
 under None bytes = false
 under (Some b) bytes = nat_lt (little_number (length bytes) bytes) b
 
+-- whether a value is above a bound
 abbrev pub over : Option ℕ → List ℕ → Bool
 over None bytes = false
 over (Some b) bytes = nat_lt b (little_number (length bytes) bytes)
 
+-- whether a value is below the minimum of an IDN
 abbrev pub is_under : Kept → List ℕ → Bool
 is_under i bytes = under i.min bytes
 
+-- whether a value is above the maximum of an IDN
 abbrev pub is_over : Kept → List ℕ → Bool
 is_over i bytes = over i.max bytes
 
@@ -156,11 +165,13 @@ write_code i Minimum bytes = Some 0x5004
 write_code i Maximum bytes = Some 0x6004
 write_code i Value bytes = value_code i bytes
 
+-- no IDN, then the flags, then the element
 abbrev pub write_code_by : Option Kept → Option Element → List ℕ → Option ℕ
 write_code_by None element bytes = Some 0x1001
 write_code_by (Some i) None bytes = Some 0x1009
 write_code_by (Some i) (Some element) bytes = write_code i element bytes
 
+-- what refuses a write of the element that a target names
 abbrev pub write_code_at : Option Kept → Target → List ℕ → Option ℕ
 write_code_at i t bytes = write_code_by i (element_of t.elements) bytes
 
@@ -169,6 +180,7 @@ abbrev pub stored : Table → Target → Option Kept → List ℕ → Table
 stored idns t None bytes = idns
 stored idns t (Some i) bytes = set_value (is_key (t.drive, t.idn)) idns (record i { value = bytes })
 
+-- the table behind a write, or the code
 abbrev pub written_by : Table → Option ℕ → Result Table ℕ
 written_by changed None = Ok changed
 written_by changed (Some code) = Err code

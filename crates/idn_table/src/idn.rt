@@ -182,6 +182,7 @@ impl Idn {
     pub(crate) fn write_code(&self, element: Element, bytes: &[u8]) -> Option<u16>
         ensures { result ≡ write_code self.now element bytes.now }
     {
+        // A field is named so that the proof has what holds of the fields.
         let _ = &self.most;
         match element {
             Element::State => Some(NO_ELEMENT),

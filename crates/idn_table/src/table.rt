@@ -1,4 +1,4 @@
-ghost use Rattle.std.specs.Prelude.{◌≡◌, ◌≤◌, [], true, length, IsTrue, ◌↔◌, IfOk, OnOk, OnErr, None};
+ghost use Rattle.std.specs.Prelude.{◌≡◌, ◌≤◌, [], true, false, length, IsTrue, ◌↔◌, IfOk, OnOk, OnErr, None};
 ghost use Rattle.std.specs.List.{position_or_len};
 ghost use Rattle.std.specs.Map.{keys_of};
 ghost use Rattle.soe_model.specs.Elements.{target};
@@ -73,6 +73,16 @@ impl IdnTable {
         let place = place_above(&self.idns, key);
         self.idns.shift_insert(place, key, idn)?;
         Ok(())
+    }
+
+    /// Whether the drive has an IDN of this number.
+    pub fn has(&self, drive: u8, number: u16) -> bool
+        ensures { result ≡ false ↔ (idn_at self.now (target drive number 0) ≡ None) }
+    {
+        match self.idns.get(&(drive, number)) {
+            Some(_) => true,
+            None => false,
+        }
     }
 
     /// How many IDNs there are.

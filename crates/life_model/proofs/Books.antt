@@ -32,7 +32,7 @@ take-map f zero xs = refl
 take-map f (suc n) [] = refl
 take-map f (suc n) (x ∷ xs) = ap (λ l. f x ∷ l) (take-map f n xs)
 
-counts_none : (m : ℕ) → nat_le 0 m ≡ true
+pub counts_none : (m : ℕ) → nat_le 0 m ≡ true
 counts_none m = elim (leb_tells 0 m) [ inl c ↦ c.0 | inr c ↦ absurd (let less = c.1 in omega (arith, less)) ]
 
 counts_one : (m : ℕ) → nat_le 1 (suc m) ≡ true
@@ -43,19 +43,19 @@ map-append f [] ys = refl
 map-append f (x ∷ xs) ys = ap (λ l. f x ∷ l) (map-append f xs ys)
 
 module _ {V A M Q R : Type 0} (x : Exchange V A M Q R) (s : Stated V A Q) (table : Table) (cleared : A → A) (more : M → Bool) (station : ℕ) (fs : List (Frame M)) where
-  abbrev line : Started Q → Line Q R
+  abbrev pub line : Started Q → Line Q R
   line r = line_of x.speech more station fs r
 
-  abbrev one : A → Q → ℕ
+  abbrev pub one : A → Q → ℕ
   one a q = 1
 
-  abbrev acts_all : A → List (Line Q R) → A
+  abbrev pub acts_all : A → List (Line Q R) → A
   acts_all a ls = all_acted x s table cleared one a ls
 
-  abbrev emits : A → List (Line Q R) → List M
+  abbrev pub emits : A → List (Line Q R) → List M
   emits a ls = all_emits x s table cleared one a ls
 
-  abbrev does : ℕ → A → List (Line Q R) → List (Line Q R)
+  abbrev pub does : ℕ → A → List (Line Q R) → List (Line Q R)
   does n a ls = done x s table cleared one n a ls
 
   acts-append : (a : A) (xs ys : List (Line Q R)) → acts_all a (xs ++ ys) ≡ acts_all (acts_all a xs) ys
@@ -68,7 +68,7 @@ module _ {V A M Q R : Type 0} (x : Exchange V A M Q R) (s : Stated V A Q) (table
       ∙ sym (append_assoc (emits_by x s table cleared one a l.service) (emits (acted x s table cleared one a l.service) xs) (emits (acts_all (acted x s table cleared one a l.service) xs) ys))
 
   -- THE FOLD is the session's, where no service returns to Init
-  exec_is : (a : A) (k : ℕ) (rs : List (Started Q)) → NoInits (services_in rs) → (exec_all (with_states x s table) (a, k) (services_in rs)).0 ≡ acts_all a (map line rs)
+  pub exec_is : (a : A) (k : ℕ) (rs : List (Started Q)) → NoInits (services_in rs) → (exec_all (with_states x s table) (a, k) (services_in rs)).0 ≡ acts_all a (map line rs)
   exec_is a k [] n = refl
   exec_is a k (r ∷ rs) n = go r.service n (λ b j m. exec_is b j rs m)
     where
@@ -78,7 +78,7 @@ module _ {V A M Q R : Type 0} (x : Exchange V A M Q R) (s : Stated V A Q) (table
       go (Service.State target) n rest =
           rest (s.told (state_behind table (s.state a) target) a) (suc k) n.1 ∙ ap (λ b. acts_all (s.told (if b then opens_state target else state_behind table (s.state a) target) a) (map line rs)) (sym n.0)
 
-  emits_is : (a : A) (k : ℕ) (rs : List (Started Q)) → NoInits (services_in rs) → mails (emits_all (with_states x s table) (a, k) (services_in rs)) ≡ emits a (map line rs)
+  pub emits_is : (a : A) (k : ℕ) (rs : List (Started Q)) → NoInits (services_in rs) → mails (emits_all (with_states x s table) (a, k) (services_in rs)) ≡ emits a (map line rs)
   emits_is a k [] n = refl
   emits_is a k (r ∷ rs) n = go r.service n (λ b j m. emits_is b j rs m)
     where
@@ -90,7 +90,7 @@ module _ {V A M Q R : Type 0} (x : Exchange V A M Q R) (s : Stated V A Q) (table
           rest (s.told (state_behind table (s.state a) target) a) (suc k) n.1 ∙ ap (λ b. emits (s.told (if b then opens_state target else state_behind table (s.state a) target) a) (map line rs)) (sym n.0)
 
   -- what is done has all rows that the slave has carried out, and behind them state services alone
-  done_front : (a : A) (front : List (Started Q)) (back : List (Line Q R)) → does (mails_in (services_in front)) a (map line front ++ back) ≡ map line front ++ does 0 (acts_all a (map line front)) back
+  pub done_front : (a : A) (front : List (Started Q)) (back : List (Line Q R)) → does (mails_in (services_in front)) a (map line front ++ back) ≡ map line front ++ does 0 (acts_all a (map line front)) back
   done_front a [] back = refl
   done_front a (r ∷ front) back = go r.service refl (λ b. done_front b front back)
     where
@@ -363,7 +363,7 @@ module _ {V A M Q R : Type 0} (x : Exchange V A M Q R) (s : Stated V A Q) (table
         whole [] = refl
         whole (y ∷ l) = ap (λ m. y ∷ m) (whole l)
 
-grown : (n m : ℕ) → n + m - n ≡ m
+pub grown : (n m : ℕ) → n + m - n ≡ m
 grown n m = omega arith
 
 services-append : {Q : Type 0} (xs ys : List (Started Q)) → services_in (xs ++ ys) ≡ services_in xs ++ services_in ys

@@ -295,3 +295,10 @@ done_rows w cleared more rs follows al =
     let e = epoch_book w more rs in
     let a = w.exchange.app w.server in
     trimmed w.exchange w.states (w.table w.spot.station) cleared (λ b q. 1) follows e.opened al a (done w.exchange w.states (w.table w.spot.station) cleared (λ b q. 1) e.handled a e.lines)
+
+-- NOTHING IS LEFT OF AN EPOCH: all its rows are done, all their emissions were heard, and each has its outcome
+pub record EpochRests {V A M Q R : Type 0} (w : OpenEra V A M Q R) (cleared : A → A) (e : EpochBook M Q R) (ds : List (Line Q R)) : Type 0 where
+  pub all : ds ≡ e.lines
+  pub app : all_acted w.exchange w.states (w.table w.spot.station) cleared (λ a q. 1) (w.exchange.app w.server) e.lines ≡ w.exchange.app w.slave.node.server.server
+  pub emissions : e.received ≡ all_emits w.exchange w.states (w.table w.spot.station) cleared (λ a q. 1) (w.exchange.app w.server) e.lines
+  pub ended : NoneInDoubt w.exchange w.states (w.table w.spot.station) cleared (λ a q. 1) e.lines

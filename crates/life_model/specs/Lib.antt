@@ -5,3 +5,4 @@ pub mod Eras
 pub mod Tours
 pub mod Gave
 pub mod Book
+pub mod Chain

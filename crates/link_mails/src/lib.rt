@@ -3,17 +3,7 @@
 #![tactic(auto)]
 
 ghost use Rattle.std.specs.Prelude.{◌≡◌, ◌≤◌};
-ghost use Rattle.mailbox_mail.specs.Mail.{mail_read};
 ghost use Rattle.link_model.specs.Counters.{next_counter, repeats};
-
-use mailbox_mail::{Mail, MailFault, read};
-
-/// What a mailbox area reads as.
-pub fn read_area(area: &[u8]) -> Result<Mail, MailFault>
-    ensures { result ≡ mail_read area.now }
-{
-    read(area)
-}
 
 /// The counter behind this one: 0, which stands for none, and 7 are followed by 1 (ETG.1000.4, mailbox counter).
 pub fn next_counter(counter: u8) -> u8

@@ -1,5 +1,5 @@
 -- The measure of a link: how many datagrams can gain, against the losses.
-use Rattle.std.specs.Prelude.{◌≡◌, ◌≢◌, ℕ, ◌+◌, Bool, false, if◌then◌else◌, Option, Some, None, List, [], ◌∷◌}
+use Rattle.std.specs.Prelude.{◌≡◌, ◌≢◌, ℕ, ◌+◌, Bool, false, if◌then◌else◌, Option, Some, None, List, [], ◌∷◌, ◌≤◌, ◌*◌, length}
 use Rattle.link_model.specs.Mails.{LinkMail, is_repeat, differs}
 use Rattle.link_model.specs.Master.{InState}
 use Rattle.link_model.specs.Slave.{Node, Server}
@@ -62,6 +62,19 @@ loss_of (Event.Out fate) = 0
 loss_of (Event.In fate) = on_loss fate
 loss_of Event.Pdi = 0
 loss_of (Event.Change f) = 0
+
+-- what an event gains on the way from a link to the one behind it is paid by the mails taken up and accepted, and by
+-- three for a lost datagram of the inward half
+abbrev pub IsPaid : {B S : Type 0} → Link B S → Event B S → Link B S → Type 0
+IsPaid w e x =
+    (gain_of w e + owed x) + (length w.accepted + length w.held) ≤ (owed w + 3 * loss_of e) + (length x.accepted + length x.held)
+
+-- all that was offered was accepted, and the slave has nothing left
+pub record NothingLeft {B S : Type 0} (v : Server B S) (w : Link B S) : Type 0 where
+  pub accepted : w.accepted ≡ w.offered
+  pub withdrawn : w.node.inn.withdrawn ≡ None
+  pub next : v.next w.node.server ≡ None
+  pub out : w.node.out.box ≡ None
 
 -- all that a list of events gains
 abbrev pub gains : {B S : Type 0} → Server B S → Link B S → List (Event B S) → ℕ

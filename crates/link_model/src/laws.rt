@@ -8,7 +8,7 @@ ghost use Rattle.link_model.specs.Agree.{Agrees, Accords};
 ghost use Rattle.link_model.specs.Numbers.{Numbered};
 ghost use Rattle.link_model.specs.Frames.{Gram};
 ghost use Rattle.link_model.specs.Segment.{Member, RingFate, SegmentEvent, SegmentAgrees, segment_happens, segment_run, members_after, members_by, ring_of, ring_after, stations_of, Distinct, IsFrame, MayHappen, MayRun, Each, AllNew};
-ghost use Rattle.link_model.specs.Gains.{owed, gain_of, loss_of, gains, losses, HasStepped};
+ghost use Rattle.link_model.specs.Gains.{gain_of, gains, losses, IsPaid, NothingLeft, HasStepped};
 ghost use Rattle.link_model.specs.Application.{Carries, AllLeave, IsCarried, carried};
 
 /// One link, for any server and any list of events: each event keeps the link agreement; so at every moment the
@@ -47,7 +47,7 @@ pub fn segment_law<B, S>()
 /// The measure: what a list of events gains is paid by the mails taken up and accepted, and by three for each lost
 /// datagram of the inward half.
 pub fn gains_law<B, S>()
-    ensures falls { (v : Server B S) (w : Link B S) (e : Event B S) → Agrees w → let x = happens v w e in (gain_of w e + owed x) + (length w.accepted + length w.held) ≤ (owed w + 3 * loss_of e) + (length x.accepted + length x.held) }
+    ensures falls { (v : Server B S) (w : Link B S) (e : Event B S) → Agrees w → IsPaid w e (happens v w e) }
     ensures within { (v : Server B S) (s : S) (es : List (Event B S)) → let w = run v (new_link s) es in gains v (new_link s) es ≤ 3 * losses es + (length w.accepted + length w.held) }
 {}
 
@@ -64,7 +64,7 @@ pub fn step_law<B, S>()
     ensures stepped { (v : Server B S) (n : Node B S) → HasStepped v (processor_step v n) }
     ensures asked { (v : Server B S) (w : Link B S) → Agrees w → HasStepped v w.node → w.halves.inn.state ≡ InState.Asked → gain_of w (Event.In Fate.Pass) ≡ 1 }
     ensures clear { (w : Link B S) → w.halves.inn.state ≡ InState.Clear → w.node.inn.box ≢ None → gain_of w (Event.In Fate.Pass) ≡ 1 }
-    ensures settled { (v : Server B S) (w : Link B S) → Agrees w → HasStepped v w.node → w.halves.inn.state ≡ InState.Clear → w.node.inn.box ≡ None → (w.accepted ≡ w.offered) × (w.node.inn.withdrawn ≡ None) × (v.next w.node.server ≡ None) × (w.node.out.box ≡ None) }
+    ensures settled { (v : Server B S) (w : Link B S) → Agrees w → HasStepped v w.node → w.halves.inn.state ≡ InState.Clear → w.node.inn.box ≡ None → NothingLeft v w }
     ensures held { (v : Server B S) (w : Link B S) → HasStepped v w.node → w.halves.out.holding ≢ None → (gain_of w (Event.Out Fate.Pass) ≡ 1) ⊎ ((w.node.out.box ≢ None) × (w.node.inn.box ≢ None)) }
 {}
 

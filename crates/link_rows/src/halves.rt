@@ -90,12 +90,15 @@ fn asks(rt: &impl Abort, head: &Head, command: Command, ado: u16, len: u16) {
 #[test]
 fn halves_change_in_their_place(rt: HostRuntime) {
     let mut seat = OutwardSeat::new(0x1001, 20);
-    seat.hold(Kind::CoE, &[0x00, 0x20, 0x40]);
-    seat.hold(Kind::FoE, &[9]);
+    seat.hold(0, Kind::CoE, &[0x00, 0x20, 0x40]);
+    seat.hold(5, Kind::FoE, &[9]);
     asks(&rt, &seat.head(7), Command::Fpwr, 0x1000, 20);
     let mut area = [0xEE; 20];
     seat.fill(&mut area);
-    assert_eq!(rt; area[..9], [3, 0, 0, 0, 0, 0x13, 0x00, 0x20, 0x40]);
+    assert_eq!(rt;
+        &area[..9],
+        [3, 0, 0, 0, 0, 0x13, 0x00, 0x20, 0x40].as_slice()
+    );
     assert!(rt; area[9..].iter().all(|octet| *octet == 0));
     seat.answered(0);
     assert!(rt; !seat.is_idle());

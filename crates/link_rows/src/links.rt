@@ -1,7 +1,7 @@
 use ec_fields::{NoMemory, Rows, buffer_of};
 use mailbox_law::LinkFate::{LostBefore, LostBehind, Pass};
 use mailbox_law::LinkStep::{Give, Hold, In, Out, Pdi};
-use mailbox_law::{LinkRun, LinkStep, all_fit, run_link, run_world};
+use mailbox_law::{LinkRun, LinkStep, World, all_fit, run_link, run_world};
 use mailbox_mail::{Kind, Mail};
 use std::alloc::Global;
 use std::process::Abort;
@@ -113,19 +113,22 @@ fn the_counter_wraps(rt: HostRuntime) -> Result<(), NoMemory> {
     Ok(())
 }
 
+fn world(rt: &impl Abort, alloc: Global, steps: &[LinkStep]) -> Result<World, NoMemory> {
+    assert!(rt; all_fit(steps, 64, 64));
+    run_world(alloc, steps, 64, 64)
+}
+
 // A mail offered stands in mailbox 1 until it is read, and a mail written in mailbox 0 until it is taken.
 #[test]
 fn the_mailboxes_fill_and_empty(rt: HostRuntime) -> Result<(), NoMemory> {
     let steps = [Give(mail(1)), Pdi, Hold(mail(2)), Out(Pass)];
-    assert!(rt; all_fit(&steps, 64, 64));
-    let world = run_world(rt.alloc(), &steps, 64, 64)?;
-    assert!(rt; world.esc.in_full() && world.esc.out_area().is_some() && world.esc.areas_right());
-    assert!(rt; world.outward.is_idle() && !world.slave_box.at_rest());
+    let full = world(&rt, rt.alloc(), &steps)?;
+    assert!(rt; full.esc.in_full() && full.esc.out_area().is_some() && full.esc.areas_right());
+    assert!(rt; full.outward.is_idle() && !full.slave_box.at_rest());
     let steps = [Give(mail(1)), Pdi, Hold(mail(2)), Out(Pass), In(Pass), Pdi];
-    assert!(rt; all_fit(&steps, 64, 64));
-    let world = run_world(rt.alloc(), &steps, 64, 64)?;
+    let empty = world(&rt, rt.alloc(), &steps)?;
     assert!(rt;
-        !world.esc.in_full() && world.esc.out_area().is_none() && world.slave_box.at_rest()
+        !empty.esc.in_full() && empty.esc.out_area().is_none() && empty.slave_box.at_rest()
     );
     Ok(())
 }

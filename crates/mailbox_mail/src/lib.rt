@@ -9,5 +9,5 @@ mod writing;
 
 pub use mail::{BODY, HEADER, Kind, Mail, MailFault, MailView, error_mail, next_counter};
 pub use outcome::{ReplyKind, Took};
-pub use reading::{read, read_into, view};
+pub use reading::{mail_of, read, read_into, view};
 pub use writing::write;

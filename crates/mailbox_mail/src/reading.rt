@@ -48,8 +48,8 @@ pub fn read_into(area: &[u8], into: &mut Result<Mail, MailFault>)
     }
 }
 
-// The mail by itself.
-fn mail_of(mail: MailView<'_>) -> Mail
+/// The mail by itself: its body is copied.
+pub fn mail_of(mail: MailView<'_>) -> Mail
     requires { length mail.body.now ≤ 1480 }
     ensures { result ≡ mail_seen mail.entry }
 {

@@ -1,5 +1,5 @@
 -- Halves that are kept in a place of their own, and what they read without a copy.
-use Rattle.std.specs.Prelude.{ℕ, Option, Some, None, Bool, if◌then◌else◌, option_map, List, replicate}
+use Rattle.std.specs.Prelude.{ℕ, Option, Some, None, Bool, if◌then◌else◌, option_map, List, length, replicate, ◌≤◌, ⊤}
 use Rattle.mailbox_mail.specs.declared.mail.Kind.{Kind}
 use Rattle.mailbox_mail.specs.declared.mail.Mail.{Mail}
 use Rattle.mailbox_mail.specs.Area.{mail_area}
@@ -16,9 +16,9 @@ use Rattle.mailbox_master.specs.declared.seat.GotView.TheVariants.{Mail as SeenM
 abbrev pub seat_half : OutLink (Option Mail) → OutHalf Body
 seat_half o = record { last = o.last; holding = option_map link_mail o.state }
 
--- a mail of the segment not yet counted, of its parts: its address is 0
-abbrev pub mail_by : Kind → List ℕ → Mail
-mail_by kind octets = record { address = 0; kind = kind; counter = 0; body = record { items = octets } }
+-- a mail not yet counted, of its parts
+abbrev pub mail_by : ℕ → Kind → List ℕ → Mail
+mail_by address kind octets = record { address = address; kind = kind; counter = 0; body = record { items = octets } }
 
 -- the octets of mailbox 0 with a mail, or with none
 abbrev pub text_of : ℕ → Option Mail → List ℕ
@@ -35,3 +35,10 @@ got_seen (SeenMail v) = GotMail (mail_seen v)
 got_seen SeenRepeat = GotRepeat
 got_seen SeenEmpty = GotEmpty
 got_seen (SeenBad fault) = GotBad fault
+
+-- a mail that was got has at most 1,480 octets
+abbrev pub IsWithin : GotView → Type 0
+IsWithin (SeenMail v) = length v.body.now ≤ 1480
+IsWithin SeenRepeat = ⊤
+IsWithin SeenEmpty = ⊤
+IsWithin (SeenBad fault) = ⊤

@@ -3,7 +3,8 @@
 ghost use Rattle.std.specs.Prelude.{◌≡◌, ◌+◌, ◌≤◌, None, Some, Ok, is_none, IsSome, length, option_map};
 ghost use Rattle.mailbox_mail.specs.Mail.{mail_read};
 ghost use Rattle.mailbox_mail.specs.Area.{mail_area};
-ghost use Rattle.mailbox_master.specs.Seat.{got_seen};
+ghost use Rattle.std.specs.Option.{ForSome};
+ghost use Rattle.mailbox_master.specs.Seat.{got_seen, IsWithin};
 ghost use Rattle.link_model.specs.Master.{in_lost};
 ghost use Rattle.link_mails.specs.Body.{uncounted};
 ghost use Rattle.mailbox_master.specs.Access.{access_head, write_access};
@@ -126,20 +127,10 @@ impl InwardHalf {
         ensures station { in_station result.0 ≡ in_station self }
         ensures len { in_area_len result.0 ≡ in_area_len self }
     {
-        match self {
-            InwardHalf::Clear(clear) => {
-                let (clear, got) = clear.answered(counter, octets);
-                (InwardHalf::Clear(clear), Some(got))
-            }
-            InwardHalf::Doubt(doubt) => (doubt_next(doubt.answered(counter)), None),
-            InwardHalf::Asked(asked) => {
-                let control = octets.first().copied().unwrap_or(0);
-                (asked_next(asked.answered(counter, control)), None)
-            }
-            InwardHalf::Refetch(refetch) => {
-                let (clear, got) = refetch.answered(counter, octets);
-                (InwardHalf::Clear(clear), Some(got))
-            }
+        let (half, got) = self.seen(counter, octets);
+        match got {
+            Some(got) => (half, Some(got.owned())),
+            None => (half, None),
         }
     }
 
@@ -147,6 +138,7 @@ impl InwardHalf {
     pub fn seen<'a>(self, counter: u16, octets: &'a [u8]) -> (InwardHalf, Option<GotView<'a>>)
         ensures half { in_half_of result.0 ≡ (let h = in_half_of self in in_returned h h.state counter octets.now) }
         ensures got { option_map got_seen result.1 ≡ (let h = in_half_of self in in_got h h.state counter octets.now) }
+        ensures within { ForSome result.1 IsWithin }
         ensures station { in_station result.0 ≡ in_station self }
         ensures len { in_area_len result.0 ≡ in_area_len self }
     {

@@ -9,7 +9,7 @@ ghost use Rattle.link_model.specs.Agree.{InAgree};
 ghost use Rattle.link_mails.specs.Body.{Body, mail_brought, bit_1};
 ghost use Rattle.mailbox_master.specs.Halves.{in_half, SameIn};
 ghost use Rattle.mailbox_master.specs.Steps.{empty_side, AgreesRead, AgreesLost, AgreesRequested, AgreesUnrequested, AgreesAcknowledged, AgreesUnread};
-ghost use Rattle.mailbox_master.specs.Seat.{got_seen};
+ghost use Rattle.mailbox_master.specs.Seat.{got_seen, IsWithin};
 ghost use Rattle.mailbox_master.specs.Access.{access_head, read_access};
 ghost use Rattle.mailbox_master.specs.Next.{got_by, accepted_by, doubt_next_half, is_still_doubt, SameDoubtNext, asked_next_half, is_still_asked, SameAskedNext};
 
@@ -20,7 +20,7 @@ use arrayvec::ArrayVec;
 use datagrams::register::IN_AREA;
 use datagrams::{Command, Head};
 use ec_fields::buffer_of;
-use link_mails::{is_repeat, read_area};
+use link_mails::is_repeat;
 use mailbox_mail::{Mail, MailFault, view};
 use std::marker::Model;
 
@@ -146,6 +146,7 @@ impl<S: Drop> Inward<S> {
     pub fn read_seen<'a>(self, counter: u16, area: &'a [u8]) -> (Inward<Clear>, GotView<'a>)
         ensures half { in_half InState.Clear result.0 ≡ read_answered (in_half InState.Clear self) (mail_brought counter (mail_read area.now)) }
         ensures got { got_seen result.1 ≡ got_by self.last counter (mail_read area.now) }
+        ensures within { IsWithin result.1 }
         ensures link { SameIn self result.0 }
     {
         let last = self.last;
@@ -161,23 +162,14 @@ impl<S: Drop> Inward<S> {
         }
     }
 
-    // The half behind a returned read of mailbox 1.
+    // The half behind a returned read of mailbox 1, and what that gave.
     fn read_back(self, counter: u16, area: &[u8]) -> (Inward<Clear>, Got)
         ensures half { in_half InState.Clear result.0 ≡ read_answered (in_half InState.Clear self) (mail_brought counter (mail_read area.now)) }
         ensures got { result.1 ≡ got_by self.last counter (mail_read area.now) }
         ensures link { SameIn self result.0 }
     {
-        let last = self.last;
-        let bit = self.bit;
-        let clear = self.into_state(bit, Clear);
-        if counter == 0 {
-            return (clear, Got::Empty);
-        }
-        match read_area(area) {
-            Err(fault) => (clear, Got::Bad(fault)),
-            Ok(mail) if is_repeat(last, mail.counter) => (clear, Got::Repeat),
-            Ok(mail) => clear.accept(mail),
-        }
+        let (clear, got) = self.read_seen(counter, area);
+        (clear, got.owned())
     }
 }
 
@@ -199,27 +191,6 @@ impl Inward<Clear> {
             bit,
             state: Clear,
         }
-    }
-
-    // The half with this mail as its last one.
-    fn accept(self, mail: Mail) -> (Inward<Clear>, Got)
-        ensures half { result.0 ≡ record { station = self.station; len = self.len; last = mail.counter; bit = self.bit; state = record {} } }
-        ensures got { result.1 ≡ Got.Mail mail }
-    {
-        let Inward {
-            station,
-            len,
-            bit,
-            ..
-        } = self;
-        let clear = Inward {
-            station,
-            len,
-            last: mail.counter,
-            bit,
-            state: Clear,
-        };
-        (clear, Got::Mail(mail))
     }
 
     /// The read returned with this working counter and this area.

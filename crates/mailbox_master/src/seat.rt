@@ -9,17 +9,17 @@ ghost use Rattle.mailbox_master.specs.Access.{access_head, write_access};
 ghost use Rattle.mailbox_master.specs.Any.{out_held, out_returned, in_half_of, in_station, in_area_len, in_returned, in_got, in_access_of};
 ghost use Rattle.mailbox_master.specs.Halves.{in_half, SameIn};
 ghost use Rattle.mailbox_master.specs.Next.{got_by};
-ghost use Rattle.mailbox_master.specs.Seat.{seat_half, mail_by, got_seen};
+ghost use Rattle.mailbox_master.specs.Seat.{seat_half, mail_by, got_seen, IsWithin};
 ghost use Rattle.link_model.specs.Master.{InState, read_answered, in_lost};
 
 use crate::access::{ACTIVATE, ENABLE, PDI_CONTROL, REPEAT, head_of};
 use crate::halves::InwardHalf;
-use crate::inward::new_inward;
+use crate::inward::{Got, new_inward};
 use datagrams::register::{IN_AREA, OUT_AREA};
 use datagrams::{Body, Command, Head};
 use ec_fields::refill;
 use link_mails::next_counter;
-use mailbox_mail::{Kind, Mail, MailFault, MailView, error_mail, write};
+use mailbox_mail::{Kind, Mail, MailFault, MailView, error_mail, mail_of, write};
 use std::marker::Model;
 use std::mem;
 
@@ -58,6 +58,21 @@ pub enum GotView<'a> {
     Bad(MailFault),
 }
 
+impl GotView<'_> {
+    // The same with a mail of its own.
+    pub fn owned(self) -> Got
+        requires { IsWithin self }
+        ensures { result ≡ got_seen self.entry }
+    {
+        match self {
+            GotView::Mail(mail) => Got::Mail(mail_of(mail)),
+            GotView::Repeat => Got::Repeat,
+            GotView::Empty => Got::Empty,
+            GotView::Bad(fault) => Got::Bad(fault),
+        }
+    }
+}
+
 impl OutwardSeat {
     /// The half at the end of its slave's bring-up.
     pub fn new(station: u16, len: u16) -> OutwardSeat
@@ -73,11 +88,11 @@ impl OutwardSeat {
         }
     }
 
-    /// Takes up a mail of these parts where none is held; else nothing changes. Its address is 0, as on a
-    /// segment. Only the body's octets are copied.
-    pub fn hold(&mut self, kind: Kind, body: &[u8])
+    /// Takes up a mail of these parts where none is held; else nothing changes. The address is sent as it is: that
+    /// it is 0, as on a segment, is for the caller to see to. Only the body's octets are copied.
+    pub fn hold(&mut self, address: u16, kind: Kind, body: &[u8])
         requires fits { 6 + length body.now ≤ self.old.len }
-        ensures half { seat_half self.new ≡ (let h = seat_half self.old in out_held h h.holding (Ok (mail_by kind body.now))) }
+        ensures half { seat_half self.new ≡ (let h = seat_half self.old in out_held h h.holding (Ok (mail_by address kind body.now))) }
         ensures station { self.new.station ≡ self.old.station }
         ensures len { self.new.len ≡ self.old.len }
     {
@@ -85,7 +100,7 @@ impl OutwardSeat {
             return;
         }
         let counter = next_counter(self.last);
-        self.mail.address = 0;
+        self.mail.address = address;
         self.mail.kind = kind;
         self.mail.counter = counter;
         refill(&mut self.mail.body, body);

@@ -26,6 +26,7 @@ is_count o sub = not (is_variable o) && sub == 0
 abbrev pub entry_place : Object → ℕ → ℕ
 entry_place o sub = if is_variable o then sub else sub - 1
 
+-- the entry of a subindex
 abbrev pub entry_at : Object → ℕ → Option EntrySpec
 entry_at o sub = slice_get o.entries (entry_place o sub)
 
@@ -33,32 +34,39 @@ entry_at o sub = slice_get o.entries (entry_place o sub)
 abbrev pub with_entries : Object → List EntrySpec → Object
 with_entries o entries = record { code = o.code; name = o.name; entries = entries }
 
+-- a result with something done to what it holds
 abbrev pub result_map : {X Y : Type 0} → (X → Y) → Result X ℕ → Result Y ℕ
 result_map f (Ok x) = Ok (f x)
 result_map f (Err code) = Err code
 
 -- ---- why a download is refused by its size alone
 
+-- an entry that is there refuses by its own rules; none is no subindex
 abbrev pub check_found : ℕ → ℕ → Option EntrySpec → Option ℕ
 check_found al size None = Some NO_SUBINDEX
 check_found al size (Some e) = check_entry al e size
 
+-- why an object refuses a download by its size: its count is read only
 abbrev pub check_object : ℕ → Object → ℕ → ℕ → Option ℕ
 check_object al o sub size = if is_count o sub then Some NOT_WRITABLE else check_found al size (entry_at o sub)
 
+-- what is asked of the object of an index, if it is there
 abbrev pub checked : (Object → Option ℕ) → Option Object → Option ℕ
 checked check None = Some NO_OBJECT
 checked check (Some o) = check o
 
+-- why a dictionary refuses a download of one entry by its size
 abbrev pub check_download : ℕ → Table → ℕ → ℕ → ℕ → Option ℕ
 check_download al table index sub size = checked (λ o. check_object al o sub size) (object_of table index)
 
 -- ---- a download: the object behind it, and the table
 
+-- an object with a value stored in the entry of a subindex
 abbrev pub download_found : ℕ → Object → ℕ → List ℕ → Option EntrySpec → Result Object ℕ
 download_found al o place bytes None = Err NO_SUBINDEX
 download_found al o place bytes (Some e) = result_map (λ changed. with_entries o (slice_set o.entries place changed)) (download_entry al e bytes)
 
+-- an object behind a download of one of its entries
 abbrev pub download_object : ℕ → Object → ℕ → List ℕ → Result Object ℕ
 download_object al o sub bytes = if is_count o sub then Err NOT_WRITABLE else download_found al o (entry_place o sub) bytes (entry_at o sub)
 
@@ -67,21 +75,26 @@ abbrev pub changed : Table → ℕ → (Object → Result Object ℕ) → Option
 changed table index change None = Err NO_OBJECT
 changed table index change (Some o) = result_map (λ done. set_value (nat_eq index) table done) (change o)
 
+-- a dictionary behind a download of one entry
 abbrev pub download : ℕ → Table → ℕ → ℕ → List ℕ → Result Table ℕ
 download al table index sub bytes = changed table index (λ o. download_object al o sub bytes) (object_of table index)
 
 -- ---- an upload
 
+-- the value of an entry that is there
 abbrev pub upload_found : ℕ → Option EntrySpec → Result (List ℕ) ℕ
 upload_found al None = Err NO_SUBINDEX
 upload_found al (Some e) = upload_entry al e
 
+-- what an object tells of a subindex: the count, or the value of an entry
 abbrev pub upload_object : ℕ → Object → ℕ → Result (List ℕ) ℕ
 upload_object al o sub = if is_count o sub then Ok (length o.entries ∷ []) else upload_found al (entry_at o sub)
 
+-- what is read of the object of an index, if it is there
 abbrev pub read_from : {X : Type 0} → (Object → Result X ℕ) → Option Object → Result X ℕ
 read_from read None = Err NO_OBJECT
 read_from read (Some o) = read o
 
+-- the value of one entry of a dictionary
 abbrev pub upload : ℕ → Table → ℕ → ℕ → Result (List ℕ) ℕ
 upload al table index sub = read_from (λ o. upload_object al o sub) (object_of table index)

@@ -25,10 +25,12 @@ size_of_kind kind =
 abbrev pub number_in : ℕ → List ℕ → ℤ
 number_in kind bytes = if is_signed kind then twos_complement (length bytes) (little_number (length bytes) bytes) else pos (little_number (length bytes) bytes)
 
+-- whether a number is above its greatest, where there is one
 abbrev pub exceeds : ℤ → Option ℤ → Bool
 exceeds number None = false
 exceeds number (Some most) = int_lt most number
 
+-- whether a number is below its least, where there is one
 abbrev pub falls_below : ℤ → Option ℤ → Bool
 falls_below number None = false
 falls_below number (Some least) = int_lt number least
@@ -44,6 +46,7 @@ number_refusal kind min max number =
 abbrev pub value_refusal : ℕ → Option ℤ → Option ℤ → List ℕ → Option ℕ
 value_refusal kind min max bytes = if is_text kind then None else number_refusal kind min max (number_in kind bytes)
 
+-- why an entry's bounds refuse a value
 abbrev pub bound_refusal : EntrySpec → List ℕ → Option ℕ
 bound_refusal e bytes = value_refusal e.kind e.min e.max bytes
 
@@ -51,12 +54,14 @@ bound_refusal e bytes = value_refusal e.kind e.min e.max bytes
 abbrev pub state_bit : ℕ → ℕ
 state_bit al = if al == 2 then 0 else if al == 4 then 1 else 2
 
+-- why an entry is not read: in no state, or not in this one
 abbrev pub read_refusal : ℕ → EntrySpec → Option ℕ
 read_refusal al e =
     if bits_of e.access 0 3 == 0 then Some NOT_READABLE
     else if bits_of e.access (state_bit al) 1 == 0 then Some NOT_IN_STATE
     else None
 
+-- why an entry is not written: in no state, or not in this one
 abbrev pub write_refusal : ℕ → EntrySpec → Option ℕ
 write_refusal al e =
     if bits_of e.access 3 3 == 0 then Some NOT_WRITABLE
@@ -85,9 +90,11 @@ check_entry al e size = or_else (write_refusal al e) (size_refusal e.least e.mos
 abbrev pub with_value : EntrySpec → List ℕ → EntrySpec
 with_value e bytes = record { kind = e.kind; access = e.access; least = e.least; most = e.most; min = e.min; max = e.max; name = e.name; value = bytes }
 
+-- an entry behind a download: the size is looked at first, then the value
 abbrev pub download_entry : ℕ → EntrySpec → List ℕ → Result EntrySpec ℕ
 download_entry al e bytes = unless (or_else (check_entry al e (length bytes)) (bound_refusal e bytes)) (with_value e bytes)
 
+-- the value of an entry
 abbrev pub upload_entry : ℕ → EntrySpec → Result (List ℕ) ℕ
 upload_entry al e = unless (read_refusal al e) e.value
 

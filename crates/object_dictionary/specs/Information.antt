@@ -33,6 +33,7 @@ counts_octets table =
     little_bytes 2 (list_count 1 table) ++ little_bytes 2 (list_count 2 table) ++ little_bytes 2 (list_count 3 table)
     ++ little_bytes 2 (list_count 4 table) ++ little_bytes 2 (list_count 5 table)
 
+-- what the list of a kind tells; above 5 there is none
 abbrev pub list_info : Table → ℕ → Result (List ℕ) ℕ
 list_info table kind =
     if nat_lt 5 kind then Err NOT_SUPPORTED
@@ -48,9 +49,11 @@ abbrev pub first_kind : List EntrySpec → ℕ
 first_kind [] = 0
 first_kind (e ∷ es) = e.kind
 
+-- an object: its index, first data type, greatest subindex, object code and name
 abbrev pub described : ℕ → Object → List ℕ
 described index o = little_bytes 2 index ++ little_bytes 2 (first_kind o.entries) ++ greatest_sub o ∷ o.code ∷ o.name
 
+-- the description of the object of an index
 abbrev pub object_info : Table → ℕ → Result (List ℕ) ℕ
 object_info table index = read_from (λ o. Ok (described index o)) (object_of table index)
 
@@ -59,6 +62,7 @@ abbrev pub entry_octets : ℕ → ℕ → ℕ → ℕ → ℕ → List ℕ → L
 entry_octets index sub kind most access name =
     little_bytes 2 index ++ sub ∷ 0 ∷ (little_bytes 2 kind ++ little_bytes 2 (8 * most) ++ little_bytes 2 access ++ name)
 
+-- the description of an entry that is there
 abbrev pub found_info : ℕ → ℕ → Option EntrySpec → Result (List ℕ) ℕ
 found_info index sub None = Err NO_SUBINDEX
 found_info index sub (Some e) = Ok (entry_octets index sub e.kind e.most e.access e.name)
@@ -67,6 +71,7 @@ found_info index sub (Some e) = Ok (entry_octets index sub e.kind e.most e.acces
 abbrev pub entry_described : ℕ → Object → ℕ → Result (List ℕ) ℕ
 entry_described index o sub = if is_count o sub then Ok (entry_octets index 0 5 1 7 (codes "count")) else found_info index sub (entry_at o sub)
 
+-- the description of the entry of an index and subindex
 abbrev pub entry_info : Table → ℕ → ℕ → Result (List ℕ) ℕ
 entry_info table index sub = read_from (λ o. entry_described index o sub) (object_of table index)
 
@@ -77,6 +82,7 @@ info table (SdoService.ObjectInfo index) = object_info table index
 info table (SdoService.EntryInfo index sub value) = entry_info table index sub
 info table _ = Err NOT_SUPPORTED
 
+-- whether a service asks for information
 abbrev pub is_question : SdoService → Bool
 is_question (SdoService.List kind) = true
 is_question (SdoService.ObjectInfo index) = true

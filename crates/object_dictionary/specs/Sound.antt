@@ -8,6 +8,7 @@ use Rattle.object_dictionary.specs.Entries.{is_entry}
 use Rattle.object_dictionary.specs.Dictionary.{Table, object_of}
 use Rattle.object_dictionary.specs.Whole.{sizes}
 
+-- entries that a dictionary may have
 abbrev pub are_entries : List EntrySpec → Bool
 are_entries entries = list_all is_entry entries
 
@@ -17,6 +18,7 @@ is_object o =
     nat_le 1 (length o.entries) && nat_le (length o.entries) (if o.code == 7 then 1 else 254)
     && nat_le (sizes o.entries) 16000 && nat_le (length o.name) 40 && are_entries o.entries
 
+-- whether each entry has these sizes at least and at most
 abbrev pub are_sized : ℕ → ℕ → List EntrySpec → Bool
 are_sized least most entries = list_all (λ (e : EntrySpec). e.least == least && e.most == most) entries
 
@@ -53,6 +55,7 @@ placed index o (row ∷ rows) = if nat_lt index row.0 then (index, o) ∷ row �
 abbrev pub emitter_entry : List ℕ → ℕ → EntrySpec
 emitter_entry zeros most = record { kind = 10; access = 0x38; least = length zeros; most = most; min = None; max = None; name = []; value = zeros }
 
+-- a record of this name with one such entry
 abbrev pub emitter_object : List ℕ → List ℕ → ℕ → Object
 emitter_object name zeros most = record { code = 8; name = name; entries = emitter_entry zeros most ∷ [] }
 

@@ -30,14 +30,17 @@ sizes (e ∷ es) = e.most + sizes es
 abbrev pub ahead : ℕ → ℕ
 ahead from = if from == 0 then 2 else 0
 
+-- the octets that complete access writes: the count, and each entry at its size
 abbrev pub whole_size : Object → ℕ → ℕ
 whole_size o from = ahead from + sizes o.entries
 
+-- why an object refuses a download by complete access by its rights and its size
 abbrev pub check_whole : ℕ → Object → ℕ → ℕ → Option ℕ
 check_whole al o from size =
     if is_whole o from then or_else (first_refusal (write_refusal al) o.entries) (size_refusal (whole_size o from) (whole_size o from) size)
     else Some NOT_SUPPORTED
 
+-- why a dictionary refuses a download by complete access by its size
 abbrev pub check_download_all : ℕ → Table → ℕ → ℕ → ℕ → Option ℕ
 check_download_all al table index from size = checked (λ o. check_whole al o from size) (object_of table index)
 
@@ -55,6 +58,7 @@ abbrev pub values_refusal : List EntrySpec → List ℕ → Option ℕ
 values_refusal [] bytes = None
 values_refusal (e ∷ es) bytes = or_else (bound_refusal e (take e.most bytes)) (values_refusal es (drop e.most bytes))
 
+-- entries that take their values from octets, one behind the other
 abbrev pub with_values : List EntrySpec → List ℕ → List EntrySpec
 with_values [] bytes = []
 with_values (e ∷ es) bytes = with_value e (take e.most bytes) ∷ with_values es (drop e.most bytes)
@@ -64,9 +68,11 @@ abbrev pub whole_refusal : ℕ → Object → ℕ → List ℕ → Option ℕ
 whole_refusal al o from bytes =
     or_else (check_whole al o from (length bytes)) (or_else (count_refusal o from bytes) (values_refusal o.entries (drop (ahead from) bytes)))
 
+-- an object behind a download by complete access
 abbrev pub download_whole : ℕ → Object → ℕ → List ℕ → Result Object ℕ
 download_whole al o from bytes = unless (whole_refusal al o from bytes) (with_entries o (with_values o.entries (drop (ahead from) bytes)))
 
+-- a dictionary behind a download by complete access
 abbrev pub download_all : ℕ → Table → ℕ → ℕ → List ℕ → Result Table ℕ
 download_all al table index from bytes = changed table index (λ o. download_whole al o from bytes) (object_of table index)
 
@@ -75,14 +81,18 @@ abbrev pub values_in : List EntrySpec → List ℕ
 values_in [] = []
 values_in (e ∷ es) = e.value ++ values_in es
 
+-- the number of entries, where complete access begins with it
 abbrev pub count_octets : Object → ℕ → List ℕ
 count_octets o from = if from == 0 then length o.entries ∷ 0 ∷ [] else []
 
+-- why an object is not read by complete access
 abbrev pub read_whole_refusal : ℕ → Object → ℕ → Option ℕ
 read_whole_refusal al o from = if is_whole o from then first_refusal (read_refusal al) o.entries else Some NOT_SUPPORTED
 
+-- an object by complete access: the number of its entries, and their values
 abbrev pub upload_whole : ℕ → Object → ℕ → Result (List ℕ) ℕ
 upload_whole al o from = unless (read_whole_refusal al o from) (count_octets o from ++ values_in o.entries)
 
+-- the object of an index by complete access
 abbrev pub upload_all : ℕ → Table → ℕ → ℕ → Result (List ℕ) ℕ
 upload_all al table index from = read_from (λ o. upload_whole al o from) (object_of table index)

@@ -17,7 +17,7 @@ pub use entry::EntrySpec;
 pub use kinds::{is_string, size_of_kind};
 pub use objects::Objects;
 pub use refusals::{
-    ABOVE_MAXIMUM, BELOW_MINIMUM, NO_OBJECT, NO_SUBINDEX, NOT_IN_STATE, NOT_READABLE,
-    NOT_SUPPORTED, NOT_WRITABLE, TOO_LONG, TOO_SHORT,
+    ABOVE_MAXIMUM, BELOW_MINIMUM, COMMAND_NOT_VALID, NO_OBJECT, NO_SUBINDEX, NOT_IN_STATE,
+    NOT_READABLE, NOT_SUPPORTED, NOT_WRITABLE, TOGGLE_NOT_ALTERNATED, TOO_LONG, TOO_SHORT,
 };
 pub use service::SdoService;

@@ -222,6 +222,7 @@ impl Objects {
         requires { kind ≤ 5 }
         ensures { result ≡ list_count kind self.now }
     {
+        // What the type keeps of its table is wanted in the proof: reading it brings it there.
         let _ = &self.table;
         self.table
             .values()
@@ -236,6 +237,7 @@ impl Objects {
         ensures octets { into.new.octets ≡ into.old.octets ++ list_octets kind self.now }
         ensures limit { into.new.limit ≡ into.old.limit }
     {
+        // What the type keeps of its table is wanted in the proof: reading it brings it there.
         let _ = &self.table;
         for at in 0..self.table.len() {
             if let Some((index, object)) = self.table.get_index(at) {

@@ -1,4 +1,8 @@
-/// The object isn't there (CiA 301, "SDO abort codes", as all codes here).
+/// The toggle bit doesn't alternate (CiA 301, "SDO abort codes", as all codes here).
+pub const TOGGLE_NOT_ALTERNATED: u32 = 0x0503_0000;
+/// The command specifier isn't valid here, or unknown.
+pub const COMMAND_NOT_VALID: u32 = 0x0504_0001;
+/// The object isn't there.
 pub const NO_OBJECT: u32 = 0x0602_0000;
 /// The subindex isn't there.
 pub const NO_SUBINDEX: u32 = 0x0609_0011;

@@ -1,14 +1,15 @@
 //! A serving: services of a client from any server, and mails that are passed on, as one exchange. Definitions and laws, no running code.
 #![tactic(auto)]
 
-ghost use Rattle.std.specs.Prelude.{◌≡◌, ℕ, true, Option, List, [], ◌∷◌, ◌++◌, map};
+ghost use Rattle.std.specs.Prelude.{◌≡◌, ℕ, Bool, true, false, Option, List, [], ◌∷◌, ◌++◌, map};
 ghost use Rattle.exchange_model.specs.Prefix.{IsPrefixOf};
-ghost use Rattle.exchange_model.specs.Exchange.{Exchange, IsLawful, after};
-ghost use Rattle.exchange_model.specs.Rows.{Row, Settled, told_all};
+ghost use Rattle.exchange_model.specs.Exchange.{Exchange, IsLawful, after, plain};
+ghost use Rattle.exchange_model.specs.Rows.{Row, IsWhole, Settled, told_all};
 ghost use Rattle.link_model.specs.Slave.{Node, node_takes, node_serve};
 ghost use Rattle.segment_model.specs.Slaves.{Slave, Serving, serving, Datagram, slave_after, frame_after};
 ghost use Rattle.state_exchange.specs.Stated.{Stated, IsStated};
-ghost use Rattle.serving_model.specs.Tagged.{IsServed, Tagged, Asked, Rowed, real, ideal, tagged, IsReal, AllForeseen};
+ghost use Rattle.serving_model.specs.Tagged.{IsServed, Tagged, Asked, Rowed, real, ideal, tagged, untag, is_own, no_reply, answer_gifts, ends_marked, IsReal, IsForeseen, AllForeseen};
+ghost use Rattle.serving_model.specs.Passing.{ends_told, LastTells, PassedWhole};
 ghost use Rattle.serving_model.specs.TaggedStates.{IsStatedServed, tagged_states};
 ghost use Rattle.serving_model.specs.Toy.{served_adder, value_of};
 ghost use Rattle.serving_model.specs.Erasing.{slave_as, node_as, all_as};
@@ -36,6 +37,15 @@ pub fn erasing_law<N, M, W, V, B, A, Q, P, R, T>()
     ensures step { (f : N → M) (h : W → V) (y : Exchange W B N Q R) (x : Exchange V A M P T) (n : Node N (Serving W N)) →
         ((m : N) → node_takes (serving y) n ≡ m ∷ [] → (h (y.serve n.server.server m).0 ≡ (x.serve (h n.server.server) (f m)).0) × (map f (y.serve n.server.server m).1 ≡ (x.serve (h n.server.server) (f m)).1)) →
         node_as f h (node_serve (serving y) n) ≡ node_serve (serving x) (node_as f h n) }
+{}
+
+/// A mail that is passed on and answered: of a row of it that is over, all replies of the server's step were heard in it, in order; and its
+/// client needs no marks, since the contents of a first part of the replies tell whether it is all of them.
+pub fn passed_law<V, M, Q, R>()
+    ensures whole { (x : Exchange V V M Q R) (more : M → Bool) → LastTells x more → (w : Rowed V M Q) (r : Row (Tagged M Q) (Asked M Q) (Option R)) (m : M) → (tagged x).ready w ≡ true → r.service ≡ Asked.Passed m true →
+        IsForeseen x (ideal x w) (Asked.Passed m true) → IsWhole (tagged x) w r → PassedWhole x more w m r }
+    ensures by_contents { (x : Exchange V V M Q R) (more : M → Bool) → LastTells x more → (v : V) (m : M) → x.ready v ≡ true → no_reply x.speech.emission (x.serve v m).1 ≡ false → (hs rest : List (Tagged M Q)) →
+        plain (λ t. is_own t.meant) (answer_gifts {Q = Q} x.speech.emission m (x.serve v m).1) ≡ hs ++ rest → ends_marked hs ≡ ends_told more (untag hs) }
 {}
 
 /// The laws can be met: an adder whose half sum a mail that is passed on may leave owes them, so it keeps those of an exchange.

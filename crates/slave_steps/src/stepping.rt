@@ -8,13 +8,16 @@ use al_state::Al;
 use esc_registers::Esc;
 use mailbox_slave::{Server, SlaveBox};
 
-/// Services that forget their mails and transfers.
-pub trait Clear {
+/// Services that can be made anew.
+pub trait Clear: Server {
+    ghost use Rattle.std.specs.Prelude.{◌≡◌};
+
     ghost cleared: { Self → Self };
 
-    /// The services as they were made. What they acted on stays.
+    /// Forgets mails and transfers. What the services acted on stays.
     fn clear(&mut self)
-        ensures { self.new ≡ cleared self.old };
+        ensures cleared { self.new ≡ cleared self.old }
+        ensures room { Self.room self.new ≡ Self.room self.old };
 }
 
 // The AL status word of a state.
@@ -54,7 +57,7 @@ fn carry_word(esc: &mut Esc, al: &mut Al, boot: bool) -> bool
 /// A step of a slave's processor: it sees what was read of mailbox 1 and answers a repeat request, carries out an AL control word (ETG.1000.6,
 /// table 11), takes a mail from mailbox 0 and offers one in mailbox 1. In Init it takes and offers none, and a word that leads there makes box
 /// and services anew.
-pub fn step<S: Server + Clear>(
+pub fn step<S: Clear>(
     esc: &mut Esc,
     slave_box: &mut SlaveBox,
     al: &mut Al,
@@ -66,6 +69,7 @@ pub fn step<S: Server + Clear>(
     requires steady { IsSteady esc.old slave_box.old al.old }
     ensures exact { record { registers = esc.new; kept = slave_box.new; al = al.new; boot = boot; server = server.new } ≡ pdi_step S.taken S.next_mail S.rest S.cleared (record { registers = esc.old; kept = slave_box.old; al = al.old; boot = boot; server = server.old }) }
     ensures steady { IsSteady esc.new slave_box.new al.new }
+    ensures room { S.room server.new ≡ S.room server.old }
     ensures len { in_len esc.new ≡ in_len esc.old }
 {
     look(esc, slave_box, al);

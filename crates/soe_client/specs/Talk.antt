@@ -49,6 +49,7 @@ answers_from t value Awaits.Parts ms = read_ends t value ms
 answers_from t value Awaits.Answer ms = write_ends t ms
 answers_from t value (Awaits.Over kind) ms = at_end ms (kind, value)
 
+-- the reply that these mails complete
 abbrev pub awaited : Talking → List SoeMail → Option Reply
 awaited c ms = answers_from (about c.task) c.value c.awaits ms
 

@@ -111,6 +111,7 @@ impl SoeClient {
         ensures about { subject_view result ≡ about self.now.task }
         ensures drive { result.drive < 2 ^ 3 }
     {
+        // A field is named so that the proof has what holds of the fields.
         let _ = &self.room;
         match self.task {
             Task::Read { subject } | Task::Write { subject } => subject,

@@ -146,6 +146,7 @@ impl SoeClient {
     pub fn take(&mut self, mail: &Mail) -> Took
         ensures { TookIs result self.old (soe_mail_heard mail.now) self.new }
     {
+        // A field is named so that the proof has what holds of the fields.
         let _ = &self.awaits;
         self.hear_mail(mail)
     }

@@ -15,6 +15,7 @@ impl SoeClient {
     pub fn has_next(&self) -> bool
         ensures { result ≡ false ↔ (left self.now ≡ []) }
     {
+        // A field is named so that the proof has what holds of the fields.
         let _ = &self.room;
         match self.unsent {
             Unsent::Nothing => false,

@@ -34,6 +34,7 @@ pub record Meaning (S : Type 0) : Type 0 where
   pub app : S
   pub reply : Reply
 
+-- a read leaves the table, and replies by the octets or the code
 abbrev pub read_means : {S : Type 0} → S → Result (List ℕ) ℕ → Meaning S
 read_means app (Ok bytes) = record { app = app; reply = (ReplyKind.Value, bytes) }
 read_means app (Err code) = record { app = app; reply = (ReplyKind.SoeError code, []) }
@@ -43,6 +44,7 @@ abbrev pub write_means : {S : Type 0} → S → Result S ℕ → Meaning S
 write_means app (Ok changed) = record { app = changed; reply = (ReplyKind.Done, []) }
 write_means app (Err code) = record { app = app; reply = (ReplyKind.SoeError code, []) }
 
+-- what a service means
 abbrev pub meaning_of : {S : Type 0} → Elements S → S → Service → Meaning S
 meaning_of o app (read t) = read_means app (o.read app t)
 meaning_of o app (write t bytes) = write_means app (o.write app t bytes)
@@ -66,14 +68,17 @@ refused opcode t (mail s) ms = if is_refusal opcode t s then at_end ms (ReplyKin
 refused opcode t (failed detail) ms = at_end ms (ReplyKind.MailboxError detail, [])
 refused opcode t _ ms = None
 
+-- a part of the element that is read
 abbrev pub is_part : Target → SoeMail → Bool
 is_part t (mail s) = not s.error && is_answer 2 t s
 is_part t _ = false
 
+-- a fragment behind which others follow
 abbrev pub is_incomplete : SoeMail → Bool
 is_incomplete (mail s) = s.incomplete
 is_incomplete _ = false
 
+-- the octets of a message
 abbrev pub octets_of : SoeMail → List ℕ
 octets_of (mail s) = s.bytes.items
 octets_of _ = []
@@ -87,6 +92,7 @@ read_ends t got (m ∷ ms) =
     else if is_incomplete m then read_ends t (got ++ octets_of m) ms
     else at_end ms (ReplyKind.Value, got ++ octets_of m)
 
+-- the answer to a write
 abbrev pub is_written : Target → SoeMail → Bool
 is_written t (mail s) = not s.error && not s.incomplete && is_answer 4 t s
 is_written t _ = false

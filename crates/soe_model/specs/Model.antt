@@ -16,6 +16,7 @@ is_ready o v = o.valid v.app && is_none v.join
 abbrev pub soe_speech : Areas → Speech SoeMail Service Reply
 soe_speech areas = record { emission = is_emission; valid = is_service; planned = λ q hs. mails_of areas.out q; ends = ends; handed = λ q. false }
 
+-- SoE as an exchange, at mailboxes of these lengths
 abbrev pub soe_exchange : {S : Type 0} → Elements S → Areas → Exchange (Server S) S SoeMail Service Reply
 soe_exchange o areas = record {
   serve = serve o areas.back;

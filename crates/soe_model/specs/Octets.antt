@@ -24,6 +24,7 @@ abbrev pub heard : List ℕ → Result Soe SoeFault → SoeMail
 heard body (Ok s) = mail s
 heard body (Err fault) = unread fault (is_marked body)
 
+-- what the body of an SoE mail reads as
 abbrev pub body_heard : List ℕ → SoeMail
 body_heard body = heard body (soe_read body)
 
@@ -45,6 +46,7 @@ soe_mail_heard m = by_kind m.kind m.body.items
 abbrev pub mail_with : Kind → List ℕ → Mail
 mail_with kind body = record { address = 0; kind = kind; counter = 0; body = record { items = body } }
 
+-- what a mail is written as
 abbrev pub soe_mail_written : SoeMail → Mail
 soe_mail_written (mail s) = mail_with SoE (soe_text s)
 soe_mail_written (unread fault incomplete) = mail_with SoE []

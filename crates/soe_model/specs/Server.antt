@@ -67,6 +67,7 @@ takes_whole o room app join s =
     else if s.opcode == 3 then written app (target_of s) (o.write app (target_of s) (gathered join s))
     else answered app None (failed 4 ∷ [])
 
+-- a message: a fragment joins, a whole one is asked, written or refused
 abbrev pub soe_takes : {S : Type 0} → Elements S → ℕ → S → Option Join → Soe → Outcome S
 soe_takes o room app join s = if s.incomplete then silent app (Some (joined join s)) else takes_whole o room app join s
 

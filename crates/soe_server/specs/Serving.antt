@@ -27,6 +27,7 @@ abbrev pub join_view : Option Common → List ℕ → Option Join
 join_view None value = None
 join_view (Some c) value = Some (record { opcode = c.opcode; drive = c.drive; elements = c.elements; octets = value })
 
+-- the join of a server
 abbrev pub join_of : Serving → Option Join
 join_of c = join_view c.join c.value
 
@@ -43,6 +44,7 @@ pending_mails room told (Pending.Refused opcode s code) = mail (refusal opcode (
 pending_mails room told (Pending.Failed detail) = failed detail ∷ []
 pending_mails room told (Pending.Parts s from) = left_from room 2 (subject_view s) told (Some from)
 
+-- the mails that wait in a server
 abbrev pub waiting_mails : Serving → List SoeMail
 waiting_mails c = pending_mails c.room c.told c.pending
 

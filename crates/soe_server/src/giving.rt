@@ -14,6 +14,7 @@ impl SoeServer {
     pub fn waiting(&self) -> bool
         ensures { result ≡ false ↔ (waiting_mails self.now ≡ []) }
     {
+        // A field is named so that the proof has what holds of the fields.
         let _ = &self.room;
         match self.pending {
             Pending::Nothing => false,

@@ -11,7 +11,7 @@ use crate::server::SoeServer;
 use crate::state::{Common, Pending};
 use ec_fields::{bits, u16_at};
 use idn_table::IdnTable;
-use soe_codec::{READ, READ_ANSWER, SoeView, SoeFault, WRITE, WRITE_ANSWER};
+use soe_codec::{READ, READ_ANSWER, SoeFault, SoeView, WRITE, WRITE_ANSWER};
 use soe_parts::{MOST, Subject};
 
 // What a message without the incomplete bit is about.
@@ -144,6 +144,7 @@ impl SoeServer {
         ensures told { self.new ≡ told_of self.old join (Pending.Failed detail) }
         ensures counts { result ≡ true }
     {
+        // A field is named so that the proof has what holds of the fields.
         let _ = &self.join;
         self.tell(join, Pending::Failed { detail });
         true
@@ -182,6 +183,7 @@ impl SoeServer {
         ensures told { self.new ≡ told_of self.old self.old.join Pending.Nothing }
         ensures counts { result ≡ false }
     {
+        // A field is named so that the proof has what holds of the fields.
         let _ = &self.join;
         self.tell(self.join, Pending::Nothing);
         false

@@ -2,7 +2,7 @@
 use Rattle.std.proofs.Common.{◌≡◌, ◌⊎◌, inl, inr, ℕ, Bool, true, not, List, [], ◌∷◌, ◌++◌, refl, sym, ap, ◌∙◌, subst}
 use Rattle.std.proofs.lemmas.List.Elements.{filter_agree}
 use Rattle.exchange_model.specs.Prefix.{IsPrefixOf}
-use Rattle.exchange_model.specs.Exchange.{Exchange, Speech, IsLawful, AnswersLast, Before, Behind, after, given, plain, emitted}
+use Rattle.exchange_model.specs.Exchange.{Exchange, IsLawful, AnswersLast, Before, Behind, after, given, plain, emitted}
 use Rattle.state_exchange.specs.Stated.{IsStated}
 use Rattle.state_exchange.specs.Families.{InState, AreOneClient, AreOne, in_states, states_of}
 
@@ -20,31 +20,15 @@ module _ {V A M Q R : Type 0} (x : ℕ → Exchange V A M Q R) where
   given_in v (m ∷ ms) = ap (λ l. ((x v.state).serve v.inner m).1 ++ l) (given_in (record v { inner = ((x v.state).serve v.inner m).0 }) ms)
 
   module _ (one : AreOneClient x) where
-    -- the parts of the one client
-    same_emission : (state : ℕ) (m : M) → (x state).speech.emission m ≡ (x 0).speech.emission m
-    same_emission state m = ap (λ (p : Speech M Q R). p.emission m) (one state)
-
-    pub same_valid : (state : ℕ) (q : Q) → (x state).speech.valid q ≡ (x 0).speech.valid q
-    same_valid state q = ap (λ (p : Speech M Q R). p.valid q) (one state)
-
-    same_planned : (state : ℕ) (q : Q) (hs : List M) → (x state).speech.planned q hs ≡ (x 0).speech.planned q hs
-    same_planned state q hs = ap (λ (p : Speech M Q R). p.planned q hs) (one state)
-
-    same_ends : (state : ℕ) (q : Q) (hs : List M) → (x state).speech.ends q hs ≡ (x 0).speech.ends q hs
-    same_ends state q hs = ap (λ (p : Speech M Q R). p.ends q hs) (one state)
-
-    pub same_handed : (state : ℕ) (q : Q) → (x state).speech.handed q ≡ (x 0).speech.handed q
-    same_handed state q = ap (λ (p : Speech M Q R). p.handed q) (one state)
-
     pub plain_given_in : (v : InState V) (ms : List M) → plain family.speech.emission (given family.serve v ms) ≡ plain (x v.state).speech.emission (given (x v.state).serve v.inner ms)
     plain_given_in v ms =
         ap (plain family.speech.emission) (given_in v ms)
-        ∙ filter_agree (λ m. not ((x 0).speech.emission m)) (λ m. not ((x v.state).speech.emission m)) (λ m. ap not (sym (same_emission v.state m))) (given (x v.state).serve v.inner ms)
+        ∙ filter_agree (λ m. not ((x 0).speech.emission m)) (λ m. not ((x v.state).speech.emission m)) (λ m. ap not (sym (one.emission v.state m))) (given (x v.state).serve v.inner ms)
 
     pub emitted_given_in : (v : InState V) (ms : List M) → emitted family.speech.emission (given family.serve v ms) ≡ emitted (x v.state).speech.emission (given (x v.state).serve v.inner ms)
     emitted_given_in v ms =
         ap (emitted family.speech.emission) (given_in v ms)
-        ∙ filter_agree (x 0).speech.emission (x v.state).speech.emission (λ m. sym (same_emission v.state m)) (given (x v.state).serve v.inner ms)
+        ∙ filter_agree (x 0).speech.emission (x v.state).speech.emission (λ m. sym (one.emission v.state m)) (given (x v.state).serve v.inner ms)
 
     before_in : (v : InState V) (ms : List M) → Before (x v.state) v.inner ms → Before family v ms
     before_in v ms b = record {
@@ -67,32 +51,32 @@ module _ {V A M Q R : Type 0} (x : ℕ → Exchange V A M Q R) where
 
     module _ (law : (state : ℕ) → IsLawful (x state)) where
       part_in : (v : InState V) (q : Q) → family.ready v ≡ true → family.speech.valid q ≡ true → (p r : List M) → family.full v q ≡ p ++ r → Before family v p ⊎ Behind family v q p
-      part_in v q ready valid p r e = elim ((law v.state).part v.inner q ready (same_valid v.state q ∙ valid) p r e) [
+      part_in v q ready valid p r e = elim ((law v.state).part v.inner q ready (one.valid v.state q ∙ valid) p r e) [
         | inl b ↦ inl (before_in v p b)
         | inr b ↦ inr (behind_in v q p b)
       ]
 
       pub family_law : IsLawful (in_states x)
       family_law = record {
-        ready = λ v q ready valid. ap family.ready (after_in v (family.full v q)) ∙ (law v.state).ready v.inner q ready (same_valid v.state q ∙ valid);
-        whole = λ v q ready valid. behind_in v q (family.full v q) ((law v.state).whole v.inner q ready (same_valid v.state q ∙ valid));
-        all_emitted = λ v q ready valid. emitted_given_in v (family.full v q) ∙ (law v.state).all_emitted v.inner q ready (same_valid v.state q ∙ valid);
+        ready = λ v q ready valid. ap family.ready (after_in v (family.full v q)) ∙ (law v.state).ready v.inner q ready (one.valid v.state q ∙ valid);
+        whole = λ v q ready valid. behind_in v q (family.full v q) ((law v.state).whole v.inner q ready (one.valid v.state q ∙ valid));
+        all_emitted = λ v q ready valid. emitted_given_in v (family.full v q) ∙ (law v.state).all_emitted v.inner q ready (one.valid v.state q ∙ valid);
         replied = λ v q ready valid answers. ap (family.speech.ends q) (plain_given_in v (family.full v q))
-            ∙ sym (same_ends v.state q (plain (x v.state).speech.emission (given (x v.state).serve v.inner (family.full v q))))
-            ∙ (law v.state).replied v.inner q ready (same_valid v.state q ∙ valid) (same_handed v.state q ∙ answers);
-        silent = λ v q ready valid posts. plain_given_in v (family.full v q) ∙ (law v.state).silent v.inner q ready (same_valid v.state q ∙ valid) (same_handed v.state q ∙ posts);
+            ∙ sym (one.ends v.state q (plain (x v.state).speech.emission (given (x v.state).serve v.inner (family.full v q))))
+            ∙ (law v.state).replied v.inner q ready (one.valid v.state q ∙ valid) (one.handed v.state q ∙ answers);
+        silent = λ v q ready valid posts. plain_given_in v (family.full v q) ∙ (law v.state).silent v.inner q ready (one.valid v.state q ∙ valid) (one.handed v.state q ∙ posts);
         part = part_in;
         counted = λ v q ready valid answers p r e same.
-            behind_in v q p ((law v.state).counted v.inner q ready (same_valid v.state q ∙ valid) (same_handed v.state q ∙ answers) p r e (same_in v q p same));
+            behind_in v q p ((law v.state).counted v.inner q ready (one.valid v.state q ∙ valid) (one.handed v.state q ∙ answers) p r e (same_in v q p same));
         none = (law 0).none;
         ended = (law 0).ended;
-        follows = λ v q ready valid hs more e. subst (λ l. IsPrefixOf l (family.full v q)) (same_planned v.state q hs)
-            ((law v.state).follows v.inner q ready (same_valid v.state q ∙ valid) hs more (sym (plain_given_in v (family.full v q)) ∙ e));
+        follows = λ v q ready valid hs more e. subst (λ l. IsPrefixOf l (family.full v q)) (one.planned v.state q hs)
+            ((law v.state).follows v.inner q ready (one.valid v.state q ∙ valid) hs more (sym (plain_given_in v (family.full v q)) ∙ e));
         all_planned = λ v q ready valid. ap (family.speech.planned q) (plain_given_in v (family.full v q))
-            ∙ sym (same_planned v.state q (plain (x v.state).speech.emission (given (x v.state).serve v.inner (family.full v q))))
-            ∙ (law v.state).all_planned v.inner q ready (same_valid v.state q ∙ valid);
+            ∙ sym (one.planned v.state q (plain (x v.state).speech.emission (given (x v.state).serve v.inner (family.full v q))))
+            ∙ (law v.state).all_planned v.inner q ready (one.valid v.state q ∙ valid);
         unanswered = (law 0).unanswered;
-        some = λ v q ready valid posts. (law v.state).some v.inner q ready (same_valid v.state q ∙ valid) (same_handed v.state q ∙ posts);
+        some = λ v q ready valid posts. (law v.state).some v.inner q ready (one.valid v.state q ∙ valid) (one.handed v.state q ∙ posts);
         grows = λ v m. (law v.state).grows v.inner m;
       }
 
@@ -107,5 +91,5 @@ module _ {V A M Q R : Type 0} (x : ℕ → Exchange V A M Q R) where
       stays = λ v m. refl;
       keeps = λ a q. refl;
       last = λ v q ready valid answers quiet p r e same.
-          last v.state v.inner q ready (same_valid one.client v.state q ∙ valid) (same_handed one.client v.state q ∙ answers) quiet p r e (same_in one.client v q p same);
+          last v.state v.inner q ready (one.client.valid v.state q ∙ valid) (one.client.handed v.state q ∙ answers) quiet p r e (same_in one.client v q p same);
     }

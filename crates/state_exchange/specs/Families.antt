@@ -1,5 +1,5 @@
 -- A family of exchanges, one for each AL state, as one exchange whose server and application have the AL state that stands.
-use Rattle.std.specs.Prelude.{◌≡◌, ℕ, Bool}
+use Rattle.std.specs.Prelude.{◌≡◌, ℕ, Bool, List}
 use Rattle.exchange_model.specs.Exchange.{Exchange}
 use Rattle.state_exchange.specs.Stated.{Stated}
 
@@ -9,8 +9,12 @@ pub record InState (X : Type 0) : Type 0 where
   pub state : ℕ
 
 -- no member's client depends on the AL state, which only the server knows
-abbrev pub AreOneClient : {V A M Q R : Type 0} → (ℕ → Exchange V A M Q R) → Type 0
-AreOneClient x = (state : ℕ) → (x state).speech ≡ (x 0).speech
+pub record AreOneClient {V A M Q R : Type 0} (x : ℕ → Exchange V A M Q R) : Type 0 where
+  pub emission : (state : ℕ) (m : M) → (x state).speech.emission m ≡ (x 0).speech.emission m
+  pub valid : (state : ℕ) (q : Q) → (x state).speech.valid q ≡ (x 0).speech.valid q
+  pub planned : (state : ℕ) (q : Q) (hs : List M) → (x state).speech.planned q hs ≡ (x 0).speech.planned q hs
+  pub ends : (state : ℕ) (q : Q) (hs : List M) → (x state).speech.ends q hs ≡ (x 0).speech.ends q hs
+  pub handed : (state : ℕ) (q : Q) → (x state).speech.handed q ≡ (x 0).speech.handed q
 
 -- and each member sees the same in a server, so that a change of the AL state alone leaves all that
 pub record AreOne {V A M Q R : Type 0} (x : ℕ → Exchange V A M Q R) : Type 0 where

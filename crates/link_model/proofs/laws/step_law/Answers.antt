@@ -12,7 +12,9 @@ pub returns-clause-clear : goal.returns-clause-clear
 returns-clause-clear g c = λ w e f. clear_gains w e f
 
 pub returns-clause-settled : goal.returns-clause-settled
-returns-clause-settled g c = λ v w a s e f. clear_settled v w a s e f
+returns-clause-settled g c = λ v w a s e f.
+    let rest = clear_settled v w a s e f in
+    record { accepted = rest.0; withdrawn = rest.1; next = rest.2; out = rest.3 }
 
 pub returns-clause-held : goal.returns-clause-held
 returns-clause-held g c = λ v w s h. hold_gains v w s h

@@ -1,0 +1,192 @@
+ghost use Rattle.std.specs.Prelude.{◌≡◌, ◌≤◌, codes, length, IfOk, true};
+ghost use Rattle.toml.specs.View.{table_view};
+ghost use Rattle.eoe.specs.Address.{is_block};
+ghost use Rattle.segment_plan.specs.Sound.{IsSlave, IsSdo, IsName, IsService, is_target};
+ghost use Rattle.scenario_keys.specs.Reading.{Gives};
+ghost use Rattle.scenario_keys.specs.Keys.{name_at};
+ghost use Rattle.scenario_services.specs.Services.{word_at, sub_at, sdo_of, password_at, element_at, block_at, state_at, body_of};
+
+use crate::actions::{Action, SdoAction};
+use ec_fields::{Octets, buffer_of};
+use eoe::is_block;
+use file_store::Name;
+use object_dictionary::SdoService;
+use scenario_keys::{
+    Place, Rule, Stop, integer_or, needed_integer, needed_name, needed_octets, unless,
+};
+use segment_plan::{Service, SlaveSpec, smaller};
+use std::alloc::Global;
+use toml::Table;
+
+fn word(table: &Table, key: &str, place: Place) -> Result<u16, Stop>
+    ensures { Gives (λ n. n) result (word_at key.now place (table_view table.now)) }
+{
+    Ok(needed_integer(table, key, 0, 0xFFFF, place)? as u16)
+}
+
+fn subindex(table: &Table, key: &str, place: Place) -> Result<u8, Stop>
+    ensures { Gives (λ n. n) result (sub_at key.now place (table_view table.now)) }
+{
+    Ok(needed_integer(table, key, 0, 0xFF, place)? as u8)
+}
+
+#[tactic(auto, unfolding(crate::specs::Services::sdo_of))]
+fn sdo_body(
+    alloc: Global,
+    action: SdoAction,
+    table: &Table,
+    place: Place,
+) -> Result<SdoService, Stop>
+    ensures gives { Gives (λ s. s) result (sdo_of action place (table_view table.now)) }
+    ensures sound { IfOk result IsSdo }
+{
+    match action {
+        SdoAction::Download => {
+            let index = word(table, "index", place)?;
+            let sub = subindex(table, "sub", place)?;
+            let bytes = needed_octets(alloc, table, "value", 1, 8000, place)?;
+            Ok(SdoService::Download { index, sub, bytes })
+        }
+        SdoAction::Upload => {
+            let index = word(table, "index", place)?;
+            let sub = subindex(table, "sub", place)?;
+            Ok(SdoService::Upload { index, sub })
+        }
+        SdoAction::DownloadAll => {
+            let index = word(table, "index", place)?;
+            let from = subindex(table, "from", place)?;
+            let bytes = needed_octets(alloc, table, "value", 1, 16_000, place)?;
+            Ok(SdoService::DownloadAll { index, from, bytes })
+        }
+        SdoAction::UploadAll => {
+            let index = word(table, "index", place)?;
+            let from = subindex(table, "from", place)?;
+            Ok(SdoService::UploadAll { index, from })
+        }
+        SdoAction::List => Ok(SdoService::List {
+            kind: word(table, "kind", place)?,
+        }),
+        SdoAction::ObjectInfo => Ok(SdoService::ObjectInfo {
+            index: word(table, "index", place)?,
+        }),
+        SdoAction::EntryInfo => {
+            let index = word(table, "index", place)?;
+            let sub = subindex(table, "sub", place)?;
+            Ok(SdoService::EntryInfo {
+                index,
+                sub,
+                info: 0,
+            })
+        }
+    }
+}
+
+/// The password of a file.
+fn password(table: &Table, place: Place) -> Result<u32, Stop>
+    ensures { Gives (λ n. n) result (password_at place (table_view table.now)) }
+{
+    Ok(integer_or(table, "password", 0, 0, 0xFFFF_FFFF, place)? as u32)
+}
+
+/// The name of a file.
+fn file_name(alloc: Global, table: &Table, place: Place) -> Result<Name, Stop>
+    ensures gives { Gives (λ n. n.items) result (name_at (codes "name") place (table_view table.now)) }
+    ensures within { IfOk result IsName }
+{
+    let name = needed_name(alloc, table, "name", place)?;
+    Ok(buffer_of(name.bytes()))
+}
+
+/// A drive, an IDN and element flags.
+fn element(table: &Table, place: Place) -> Result<(u8, u16, u8), Stop>
+    ensures gives { Gives (λ e. e) result (element_at place (table_view table.now)) }
+    ensures within { IfOk result (λ e. e.0 ≤ 7) }
+{
+    let drive = integer_or(table, "drive", 0, 0, 7, place)? as u8;
+    let idn = word(table, "number", place)?;
+    let elements = subindex(table, "elements", place)?;
+    Ok((drive, idn, elements))
+}
+
+/// An address block that fits both mailboxes.
+fn block(alloc: Global, table: &Table, slave: &SlaveSpec, place: Place) -> Result<Octets, Stop>
+    requires { IsSlave slave.now }
+    ensures gives { Gives (λ b. b) result (block_at slave.now place (table_view table.now)) }
+    ensures within { IfOk result (λ b. (is_block b ≡ true) × (length b ≤ 1476)) }
+{
+    let most = usize::from(smaller(slave)) - 10;
+    let block = needed_octets(alloc, table, "block", 4, most, place)?;
+    unless(is_block(block.bytes()), Rule::OutOfRange, place)?;
+    Ok(block)
+}
+
+fn is_target(target: u64) -> bool
+    ensures { result ≡ is_target target }
+{
+    target == 1 || target == 2 || target == 3 || target == 4 || target == 8
+}
+
+/// A target of a state service.
+fn state_target(table: &Table, slave: &SlaveSpec, place: Place) -> Result<u8, Stop>
+    ensures gives { Gives (λ n. n) result (state_at slave.now place (table_view table.now)) }
+    ensures within { IfOk result (λ n. is_target n ≡ true) }
+{
+    let target = needed_integer(table, "target", 1, 8, place)?;
+    let taken = is_target(target) && (slave.boot || target != 3);
+    unless(taken, Rule::OutOfRange, place)?;
+    Ok(target as u8)
+}
+
+/// What the keys of a service say, behind its slave.
+#[tactic(auto, unfolding(crate::specs::Services::body_of))]
+pub fn body(
+    alloc: Global,
+    action: Action,
+    table: &Table,
+    slave: &SlaveSpec,
+    place: Place,
+) -> Result<Service, Stop>
+    requires { IsSlave slave.now }
+    ensures gives { Gives (λ s. s) result (body_of action slave.now place (table_view table.now)) }
+    ensures sound { IfOk result IsService }
+{
+    match action {
+        Action::Sdo(action) => Ok(Service::Sdo(sdo_body(alloc, action, table, place)?)),
+        Action::ReadFile => {
+            let name = file_name(alloc, table, place)?;
+            let pass = password(table, place)?;
+            Ok(Service::ReadFile { name, pass })
+        }
+        Action::WriteFile => {
+            let name = file_name(alloc, table, place)?;
+            let pass = password(table, place)?;
+            let bytes = needed_octets(alloc, table, "value", 0, 131_072, place)?;
+            Ok(Service::WriteFile { name, pass, bytes })
+        }
+        Action::ReadIdn => {
+            let (drive, idn, elements) = element(table, place)?;
+            Ok(Service::ReadIdn {
+                drive,
+                idn,
+                elements,
+            })
+        }
+        Action::WriteIdn => {
+            let (drive, idn, elements) = element(table, place)?;
+            let bytes = needed_octets(alloc, table, "value", 1, 4096, place)?;
+            Ok(Service::WriteIdn {
+                drive,
+                idn,
+                elements,
+                bytes,
+            })
+        }
+        Action::SetIp => Ok(Service::SetIp {
+            block: block(alloc, table, slave, place)?,
+        }),
+        Action::GetIp => Ok(Service::GetIp),
+        Action::State => Ok(Service::State {
+            target: state_target(table, slave, place)?,
+        }),
+    }
+}

@@ -1,0 +1,8 @@
+//! The services of a scenario: read from their tables, or refused.
+#![tactic(auto)]
+
+mod actions;
+mod bodies;
+mod reading;
+
+pub use reading::services;

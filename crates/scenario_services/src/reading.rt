@@ -1,0 +1,123 @@
+ghost use Rattle.std.specs.Prelude.{◌≡◌, ◌≤◌, ◌<◌, map, length, IfOk, IfSome, All};
+ghost use Rattle.toml.specs.View.{table_view};
+ghost use Rattle.segment_plan.specs.Sound.{IsSlave, IsService, IsAddressed};
+ghost use Rattle.scenario_keys.specs.Reading.{Gives};
+ghost use Rattle.scenario_services.specs.Services.{slave_named, given_action, only_keys_of, action_at, target_at, addressed_body, service_of, services_of};
+
+use crate::actions::{Action, known_for, word_action};
+use crate::bodies::body;
+use ec_fields::Rows;
+use scenario_keys::{Place, Rule, Stop, find, needed_text, only_known, put, refused};
+use segment_plan::{Service, SlaveSpec};
+use std::alloc::Global;
+use toml::Table;
+
+fn said_action(table: &Table) -> Option<Action>
+    ensures { result ≡ given_action (table_view table.now) }
+{
+    match find(table, "do") {
+        Some(value) => match value.as_str() {
+            Some(word) => word_action(word),
+            None => None,
+        },
+        None => None,
+    }
+}
+
+/// Which keys are unknown is judged by what the service does; where that isn't known, none is.
+fn only_known_of(table: &Table, action: Option<Action>, place: Place) -> Result<(), Stop>
+    ensures { Gives (λ done. done) result (only_keys_of action place (table_view table.now)) }
+{
+    match action {
+        Some(action) => only_known(table, known_for(action), place),
+        None => Ok(()),
+    }
+}
+
+fn needed_action(table: &Table, place: Place) -> Result<Action, Stop>
+    ensures { Gives (λ a. a) result (action_at place (table_view table.now)) }
+{
+    match word_action(needed_text(table, "do", place)?) {
+        Some(action) => Ok(action),
+        None => Err(refused(Rule::OutOfRange, place)),
+    }
+}
+
+fn named_slave(name: &str, slaves: &[SlaveSpec]) -> Option<usize>
+    ensures gives { result ≡ slave_named name.now slaves.now }
+    ensures within { IfSome result (λ k. k < length slaves.now) }
+{
+    slaves
+        .iter()
+        .position(|slave| slave.name.bytes() == name.as_bytes())
+}
+
+fn target(table: &Table, slaves: &[SlaveSpec], place: Place) -> Result<u32, Stop>
+    requires { length slaves.now ≤ 16 }
+    ensures gives { Gives (λ k. k) result (target_at slaves.now place (table_view table.now)) }
+    ensures within { IfOk result (λ k. k < length slaves.now) }
+{
+    match named_slave(needed_text(table, "slave", place)?, slaves) {
+        Some(slave) => Ok(slave as u32),
+        None => Err(refused(Rule::UnknownSlave, place)),
+    }
+}
+
+fn addressed_body(
+    alloc: Global,
+    action: Action,
+    table: &Table,
+    slaves: &[SlaveSpec],
+    slave: u32,
+    place: Place,
+) -> Result<Service, Stop>
+    requires { All IsSlave slaves.now }
+    ensures gives { Gives (λ s. s) result (addressed_body action slaves.now slave place (table_view table.now)) }
+    ensures sound { IfOk result IsService }
+{
+    match slaves.get(slave as usize) {
+        Some(spec) => body(alloc, action, table, spec, place),
+        None => Err(refused(Rule::UnknownSlave, place)),
+    }
+}
+
+#[tactic(auto, unfolding(crate::specs::Services::service_of))]
+fn service(
+    alloc: Global,
+    table: &Table,
+    slaves: &[SlaveSpec],
+    number: u32,
+) -> Result<(u32, Service), Stop>
+    requires ring { length slaves.now ≤ 16 }
+    requires slaves { All IsSlave slaves.now }
+    ensures gives { Gives (λ s. s) result (service_of slaves.now number (table_view table.now)) }
+    ensures sound { IfOk result (IsAddressed (length slaves.now)) }
+{
+    let place = Place::Service(number);
+    only_known_of(table, said_action(table), place)?;
+    let slave = target(table, slaves, place)?;
+    let action = needed_action(table, place)?;
+    let body = addressed_body(alloc, action, table, slaves, slave, place)?;
+    Ok((slave, body))
+}
+
+/// The services in order, each with the number of its slave.
+pub fn services(
+    alloc: Global,
+    tables: &[&Table],
+    slaves: &[SlaveSpec],
+) -> Result<Rows<(u32, Service)>, Stop>
+    requires few { length tables.now ≤ 4096 }
+    requires ring { length slaves.now ≤ 16 }
+    requires slaves { All IsSlave slaves.now }
+    ensures gives { Gives (λ ss. ss) result (services_of slaves.now (map (λ t. table_view t.now) tables.now)) }
+    ensures many { IfOk result (λ ss. length ss ≡ length tables.now) }
+    ensures sound { IfOk result (All (IsAddressed (length slaves.now))) }
+{
+    let mut rows = Rows::new(alloc);
+    for (i, table) in tables.iter().enumerate() {
+        let row = service(alloc, table, slaves, i as u32)?;
+        put(&mut rows, row)?;
+    }
+    Ok(rows)
+}

@@ -1,0 +1,189 @@
+ghost use Rattle.std.specs.Prelude.{◌≡◌, ◌≤◌, ◌%◌, map, length, replicate, IfOk, IfSome, All, codes, slice_index, true};
+ghost use Rattle.toml.specs.View.{view, table_view};
+ghost use Rattle.segment_plan.specs.Sound.{is_start, is_mac, IsSlave, IsPace, IsObject, IsFile, IsIdn};
+ghost use Rattle.scenario_keys.specs.Reading.{Gives, each};
+ghost use Rattle.scenario_slaves.specs.Slaves.{start_of, start_in, start_at, own_mac_at, mac_at, pace_at, slave_keys, plain_slave_of, slave_of, slaves_of, paces_of};
+
+use crate::files::files;
+use crate::idns::idns;
+use crate::protocols::serves;
+use ec_fields::Rows;
+use scenario_keys::{
+    Place, Rule, Stop, bool_or_false, find, integer_or, needed_integer, needed_name, needed_octets,
+    needed_pair, no_octets, only_known, put, refused, tables_or_none, text, unless,
+};
+use scenario_objects::objects;
+use segment_plan::SlaveSpec;
+use std::alloc::Global;
+use toml::{Table, Value};
+
+/// The keys of a slave in version 1.
+const KEYS: &[&str] = &[
+    "name", "station", "mail", "serves", "boot", "start", "blocks", "mac", "fixed_ip", "object",
+    "file", "idn",
+];
+
+/// The keys of a slave in version 2.
+const KEYS_WITH_PACE: &[&str] = &[
+    "name", "station", "pace", "mail", "serves", "boot", "start", "blocks", "mac", "fixed_ip",
+    "object", "file", "idn",
+];
+
+fn known_keys(version: u32) -> &'static [&'static str]
+    ensures { map (λ k. k.now) result.now ≡ slave_keys version }
+{
+    if version == 2 { KEYS_WITH_PACE } else { KEYS }
+}
+
+fn start_of(boot: bool, word: &str) -> Option<u8>
+    ensures gives { result ≡ start_of boot word.now }
+    ensures within { IfSome result (λ n. is_start boot n ≡ true) }
+{
+    if word == "preop" {
+        Some(2)
+    } else if boot && word == "boot" {
+        Some(3)
+    } else {
+        None
+    }
+}
+
+fn start_in(boot: bool, value: &Value, place: Place) -> Result<u8, Stop>
+    ensures gives { Gives (λ n. n) result (start_in boot place (view value.now)) }
+    ensures within { IfOk result (λ n. is_start boot n ≡ true) }
+{
+    match start_of(boot, text(value, place)?) {
+        Some(start) => Ok(start),
+        None => Err(refused(Rule::OutOfRange, place)),
+    }
+}
+
+/// The AL state in which a slave is brought up.
+fn start(table: &Table, boot: bool, place: Place) -> Result<u8, Stop>
+    ensures gives { Gives (λ n. n) result (start_at boot place (table_view table.now)) }
+    ensures within { IfOk result (λ n. is_start boot n ≡ true) }
+{
+    match find(table, "start") {
+        Some(value) => start_in(boot, value, place),
+        None => Ok(2),
+    }
+}
+
+fn own_mac(alloc: Global, table: &Table, place: Place) -> Result<[u8; 6], Stop>
+    ensures gives { Gives (λ m. m) result (own_mac_at place (table_view table.now)) }
+    ensures within { IfOk result (λ m. slice_index m 0 % 2 ≡ 0) }
+{
+    let octets = needed_octets(alloc, table, "mac", 6, 6, place)?;
+    let mut mac = [0; 6];
+    mac.copy_from_slice(octets.bytes());
+    unless(mac[0] % 2 == 0, Rule::OutOfRange, place)?;
+    Ok(mac)
+}
+
+/// The MAC address, which stands just where EoE is served.
+fn mac(alloc: Global, table: &Table, eoe: bool, place: Place) -> Result<[u8; 6], Stop>
+    ensures gives { Gives (λ m. m) result (mac_at eoe place (table_view table.now)) }
+    ensures within { IfOk result (λ m. is_mac eoe m ≡ true) }
+{
+    if eoe {
+        own_mac(alloc, table, place)
+    } else {
+        no_octets(alloc, table, "mac", place)?;
+        Ok([0; 6])
+    }
+}
+
+/// The pace of a slave: 1 in version 1.
+fn pace(table: &Table, version: u32, place: Place) -> Result<u32, Stop>
+    ensures gives { Gives (λ n. n) result (pace_at version place (table_view table.now)) }
+    ensures within { IfOk result IsPace }
+{
+    if version == 2 {
+        Ok(integer_or(table, "pace", 1, 1, 16, place)? as u32)
+    } else {
+        Ok(1)
+    }
+}
+
+/// What a slave's plain keys say, without its lists.
+#[tactic(auto, unfolding(crate::specs::Slaves::plain_slave_of))]
+fn plain_slave(alloc: Global, table: &Table, version: u32, place: Place) -> Result<SlaveSpec, Stop>
+    ensures gives { Gives (λ s. s) result (plain_slave_of version place (table_view table.now)) }
+    ensures sound { IfOk result IsSlave }
+{
+    let name = needed_name(alloc, table, "name", place)?;
+    let station = needed_integer(table, "station", 1, 0xFFFF, place)?;
+    pace(table, version, place)?;
+    let (out_len, in_len) = needed_pair(table, "mail", 64, 1486, place)?;
+    let served = serves(alloc, table, place)?;
+    let boot = bool_or_false(table, "boot", place)?;
+    let start = start(table, boot, place)?;
+    let blocks = integer_or(table, "blocks", 64, 1, 1024, place)?;
+    let mac = mac(alloc, table, served.eoe, place)?;
+    let fixed_ip = bool_or_false(table, "fixed_ip", place)?;
+    Ok(SlaveSpec {
+        name,
+        station: station as u16,
+        out_len: out_len as u16,
+        in_len: in_len as u16,
+        coe: served.coe,
+        foe: served.foe,
+        eoe: served.eoe,
+        soe: served.soe,
+        boot,
+        start,
+        blocks: blocks as u32,
+        mac,
+        fixed_ip,
+        objects: Rows::new(alloc),
+        files: Rows::new(alloc),
+        idns: Rows::new(alloc),
+    })
+}
+
+#[tactic(auto, unfolding(crate::specs::Slaves::slave_of))]
+fn slave(alloc: Global, table: &Table, version: u32, number: u32) -> Result<SlaveSpec, Stop>
+    ensures gives { Gives (λ s. s) result (slave_of version number (table_view table.now)) }
+    ensures sound { IfOk result IsSlave }
+{
+    let place = Place::Slave(number);
+    only_known(table, known_keys(version), place)?;
+    let mut spec = plain_slave(alloc, table, version, place)?;
+    let object_tables = tables_or_none(alloc, table, "object", 256, place)?;
+    let file_tables = tables_or_none(alloc, table, "file", 32, place)?;
+    let idn_tables = tables_or_none(alloc, table, "idn", 256, place)?;
+    spec.objects = objects(alloc, object_tables.as_slice(), number)?;
+    spec.files = files(alloc, file_tables.as_slice(), number, spec.blocks)?;
+    spec.idns = idns(alloc, idn_tables.as_slice(), number)?;
+    Ok(spec)
+}
+
+/// The slaves in ring order.
+pub fn slaves(alloc: Global, tables: &[&Table], version: u32) -> Result<Rows<SlaveSpec>, Stop>
+    requires { length tables.now ≤ 16 }
+    ensures gives { Gives (λ ss. ss) result (slaves_of version (map (λ t. table_view t.now) tables.now)) }
+    ensures many { IfOk result (λ ss. length ss ≡ length tables.now) }
+    ensures sound { IfOk result (All IsSlave) }
+{
+    let mut rows = Rows::new(alloc);
+    for (i, table) in tables.iter().enumerate() {
+        let row = slave(alloc, table, version, i as u32)?;
+        put(&mut rows, row)?;
+    }
+    Ok(rows)
+}
+
+/// The paces of the slaves. Those of slaves that were read are never refused.
+pub fn paces(alloc: Global, tables: &[&Table], version: u32) -> Result<Rows<u32>, Stop>
+    requires { length tables.now ≤ 16 }
+    ensures gives { Gives (λ ps. ps) result (paces_of version (map (λ t. table_view t.now) tables.now)) }
+    ensures many { IfOk result (λ ps. length ps ≡ length tables.now) }
+    ensures sound { IfOk result (All IsPace) }
+{
+    let mut rows = Rows::new(alloc);
+    for (i, table) in tables.iter().enumerate() {
+        let row = pace(table, version, Place::Slave(i as u32))?;
+        put(&mut rows, row)?;
+    }
+    Ok(rows)
+}
