@@ -1,31 +1,20 @@
 -- A datagram of octets as a session sees it.
-use Rattle.std.specs.Prelude.{ℕ, ◌-◌, ◌==◌, ◌&&◌, nat_le, nat_lt, not, Bool, false, if◌then◌else◌, Option, Some, None, List, length, slice_index, Result, Ok, Err}
+use Rattle.std.specs.Prelude.{ℕ, ◌-◌, ◌==◌, ◌&&◌, nat_le, nat_lt, not, Bool, false, if◌then◌else◌, Option, Some, None, List, length, slice_index}
 use Rattle.ec_fields.specs.Fields.{number_at, bits_of}
 use Rattle.datagrams.specs.declared.command.Command.{Command}
 use Rattle.datagrams.specs.declared.command.Command.TheVariants.{Aprd, Apwr, Aprw, Fprd, Fpwr, Fprw}
 use Rattle.datagrams.specs.declared.head.Head.{Head}
 use Rattle.datagrams.specs.Datagram as Raw
-use Rattle.mailbox_mail.specs.declared.mail.Mail.{Mail}
-use Rattle.mailbox_mail.specs.declared.mail.MailFault.{MailFault}
 use Rattle.mailbox_mail.specs.Mail.{mail_read}
 use Rattle.link_model.specs.Mails.{LinkMail}
 use Rattle.link_model.specs.Frames.{Ask}
-use Rattle.link_mails.specs.Body.{Body, link_mail, link_read}
+use Rattle.link_mails.specs.Body.{Body, link_read, mail_brought, bit_1}
 use Rattle.segment_model.specs.Slaves.{Address, Access, Found, Datagram}
 
 -- the lengths of a slave's mailboxes
 pub record Lens : Type 0 where
   pub out : ℕ
   pub back : ℕ
-
--- the mail that a read of mailbox 1 brings: none where its working counter is 0, and none where the area is no mail
-abbrev pub mail_brought : ℕ → Result Mail MailFault → Option (LinkMail Body)
-mail_brought counter (Ok m) = if counter == 0 then None else Some (link_mail m)
-mail_brought counter (Err fault) = None
-
--- bit 1 of an octet
-abbrev pub bit_1 : ℕ → Bool
-bit_1 octet = bits_of octet 1 1 == 1
 
 -- what a write by station asks of the link, by register and octets
 abbrev pub write_ask : Lens → ℕ → List ℕ → Ask Body

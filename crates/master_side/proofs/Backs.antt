@@ -26,7 +26,6 @@ use Rattle.exchange_model.specs.Exchange.{Speech}
 use Rattle.master_duty.specs.Reply.{Reply}
 use Rattle.master_side.specs.Shown.{SideShows, DutyShows}
 use Rattle.master_side.specs.Carried.{Asks, Meant, IsBack, one, is_errand, duty_left}
-use Rattle.frame_view.specs.View as View
 use Rattle.frame_view.specs.View.{link_counter, register_counter, link_mail_in, acknowledge_in, found_of}
 use Rattle.master_duty.specs.declared.stage.Met.{Met}
 use Rattle.master_duty.specs.Stages.{stage_of}
@@ -86,12 +85,8 @@ zero_brings counter (Ok m) e = brought_zero (counter == 0) (Some (link_mail m)) 
 brought_back : (counter : ℕ) (r : Result Mail MailFault) → (if counter == 0 then None else mail_brought counter r) ≡ mail_brought counter r
 brought_back counter r = unless_zero (counter == 0) (mail_brought counter r) (zero_brings counter r)
 
-same_brought : (counter : ℕ) (r : Result Mail MailFault) → View.mail_brought counter r ≡ mail_brought counter r
-same_brought counter (Err fault) = refl
-same_brought counter (Ok m) = refl
-
 back_is : (counter : ℕ) (octets : List ℕ) (g : Gram Body) → GramBack counter octets Ask.ReadMail g → mail_back g ≡ mail_brought counter (mail_read octets)
-back_is counter octets g b = (λ i. if b.counted i == 0 then None else (b.mail ∙ same_brought counter (mail_read octets)) i) ∙ brought_back counter (mail_read octets)
+back_is counter octets g b = (λ i. if b.counted i == 0 then None else b.mail i) ∙ brought_back counter (mail_read octets)
 
 in_back_is : (h : Halves Body) (s : InState) (bit : Bool) (counter : ℕ) (octets : List ℕ) (g : Gram Body) → GramBack counter octets (in_ask s bit) g → halves_answered h (in_ask s bit) g ≡ record h { inn = in_returned h.inn s counter octets }
 in_back_is h InState.Clear bit counter octets g b = ap (λ o. record { out = h.out; inn = read_answered h.inn o }) (back_is counter octets g b)

@@ -1,16 +1,15 @@
 -- The datagrams that a side sends, as frames see them.
-use Rattle.std.proofs.Common.{◌≡◌, ℕ, suc, zero, ◌<◌, ◌==◌, List, [], ◌∷◌, Bool, true, false, Option, Some, None, refl, sym, ap, ◌∙◌, subst, eq-eqb, length, replicate, arith}
+use Rattle.std.proofs.Common.{◌≡◌, ℕ, suc, zero, ◌<◌, ◌==◌, List, [], ◌∷◌, Bool, true, false, Option, Some, None, refl, sym, ap, ◌∙◌, subst, eq-eqb, length, replicate, arith, leb-true, le_refl, ◌^◌, ◌%◌, ◌/◌, ◌+◌, ◌*◌, nat_le}
 use Rattle.std.proofs.lemmas.List.{length-replicate}
 use Rattle.std.specs.Prelude.{if◌then◌else◌, Ok, option_map, not, is_none, IsSome}
 use Rattle.byteorder.specs.Endian.{little_bytes}
 use Rattle.ec_fields.specs.Fields.{number_at, bits_of}
 use Rattle.datagrams.specs.declared.head.Head.{Head}
 use Rattle.datagrams.specs.Datagram as Raw
-use Rattle.datagrams.proofs.Spelled.{two_number}
 use Rattle.mailbox_mail.specs.declared.mail.Mail.{Mail}
+use Rattle.mailbox_mail.specs.Area.{mail_area}
 use Rattle.mailbox_mail.specs.Mail.{mail_read}
 use Rattle.link_mails.specs.Body.{Body, link_mail, link_read}
-use Rattle.mailbox_mail.specs.Area.{mail_area}
 use Rattle.link_model.specs.Master.{InHalf}
 use Rattle.link_model.specs.Link.{Halves}
 use Rattle.link_model.specs.Frames.{Ask, in_ask}
@@ -29,9 +28,13 @@ use Rattle.master_duty.specs.declared.stage.Errand.{Errand}
 use Rattle.master_duty.specs.Stages.{stage_of, errand_of, access_of, errand_access}
 use Rattle.master_side.specs.declared.carried.Carried.{Carried}
 use Rattle.master_side.specs.Carried.{Meant, errand_carried}
-use Rattle.master_side.specs.Sent.{IsWord, write_gram, inward_gram, errand_gram, duty_gram, visit_gram, full_head}
+use Rattle.master_side.specs.Sent.{IsSent, IsWord, write_gram, inward_gram, errand_gram, duty_gram, visit_gram, full_head}
 use Rattle.datagrams.specs.Frame.{datagram_of}
 use Rattle.master_side.specs.Shown.{DutyShows}
+
+-- a number of 16 bits is that of its two octets
+two_number : (v : ℕ) → v < 2 ^ 16 → v % 256 + 256 * (v / 256 % 256 + 256 * 0) ≡ v
+two_number v h = omega arith
 
 whole : {T : Type 0} (a b : ℕ) (t e : T) → a ≡ b → (if a == b then t else e) ≡ t
 whole a b t e p = ap (λ (z : Bool). if z then t else e) (eq-eqb a b p)
@@ -62,6 +65,24 @@ in_meant lens (Doubt i) index h due l e = record { station_is = refl; address = 
 pub inward_meant : (lens : ℕ → Lens) (inn : InwardHalf) (index station : ℕ) (h : Halves Body) (due : Option Access) → in_station inn ≡ station → (lens station).back ≡ in_area_len inn → h.inn ≡ in_half_of inn → Meant station Carried.Inward h due (datagram_seen lens (inward_gram index inn))
 inward_meant lens inn index station h due q l k =
     subst (λ n. Meant n Carried.Inward h due (datagram_seen lens (inward_gram index inn))) q (in_meant lens inn index h due (ap (λ n. (lens n).back) q ∙ l) k)
+
+pub inward_sent : (index area : ℕ) (inn : InwardHalf) → nat_le 64 (in_area_len inn) ≡ true → nat_le (in_area_len inn) area ≡ true → IsSent area (inward_gram index inn)
+inward_sent index area (Clear i) least most = record {
+  counter = refl;
+  sized = refl;
+  named = tt;
+  some = (let n = length-replicate {A = ℕ} i.len 0 in let l = leb-true 64 i.len least in omega (arith, n, l));
+  fits = (let n = length-replicate {A = ℕ} i.len 0 in let l = leb-true i.len area most in omega (arith, n, l));
+}
+inward_sent index area (Refetch i) least most = record {
+  counter = refl;
+  sized = refl;
+  named = tt;
+  some = (let n = length-replicate {A = ℕ} i.len 0 in let l = leb-true 64 i.len least in omega (arith, n, l));
+  fits = (let n = length-replicate {A = ℕ} i.len 0 in let l = leb-true i.len area most in omega (arith, n, l));
+}
+inward_sent index area (Asked i) least most = record { counter = refl; sized = refl; named = tt; some = le_refl 1; fits = (let l = leb-true 64 i.len least in let m = leb-true i.len area most in omega (arith, l, m)) }
+inward_sent index area (Doubt i) least most = record { counter = refl; sized = refl; named = tt; some = le_refl 1; fits = (let l = leb-true 64 i.len least in let m = leb-true i.len area most in omega (arith, l, m)) }
 
 pub full_meant : (lens : ℕ → Lens) (station index : ℕ) (h : Halves Body) (due : Option Access) → Meant station Carried.Full h due (datagram_seen lens (datagram_of (full_head station index) (0 ∷ [])))
 full_meant lens station index h due = record { station_is = refl; address = refl; asks = (refl, refl) }

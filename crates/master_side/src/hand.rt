@@ -50,17 +50,15 @@ pub trait Hand {
         ensures none { (x : Speech Body Asked Reply) (now : Option (Row Body Asked Reply)) → shows self.old x now → ready self.old ≡ None → shows self.new x now }
         ensures room { room self.new ≡ room self.old };
 
-    /// The mail that goes next, if there is one, is taken to be held; `address`, `kind` and `body` are its parts.
+    /// The mail that goes next, if there is one, is taken to be held; `kind` and `body` are its parts. Its address is 0, as
+    /// on a segment.
     fn take_next(&mut self) -> bool
+        ensures local { result ≡ true → (taken self.new).address ≡ 0 }
         ensures fits { result ≡ true → 6 + length (taken self.new).body.items ≤ room self.old }
         ensures held { (x : Speech Body Asked Reply) (now : Option (Row Body Asked Reply)) → shows self.old x now → Tells result (taken self.new) x now (shows self.new x) }
         ensures room { room self.new ≡ room self.old };
 
-    /// The address of the mail that was taken last.
-    fn address(&self) -> u16
-        ensures { result ≡ (taken self.now).address };
-
-    /// Its kind.
+    /// The kind of the mail that was taken last.
     fn kind(&self) -> Kind
         ensures { result ≡ (taken self.now).kind };
 

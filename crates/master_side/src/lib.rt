@@ -2,7 +2,6 @@
 //! hand, the state service in hand, and the order of the datagrams of its visits.
 #![tactic(auto)]
 
-mod bodies;
 mod carried;
 mod hand;
 mod passing;

@@ -9,7 +9,6 @@ ghost use Rattle.datagrams.specs.declared.command.Command.TheVariants.{Fprd};
 ghost use Rattle.std.specs.Prelude.{Some, ◌-◌, ◌≤◌, ◌+◌, length};
 ghost use Rattle.datagrams.specs.Frame.{datagram_of};
 
-use crate::bodies::InwardBody;
 use crate::carried::Carried;
 use crate::hand::Hand;
 use crate::passing::Passing;
@@ -25,9 +24,9 @@ impl<H: Hand> Side<H> {
     ghost use Rattle.datagrams.specs.Frame.{IsBegun};
     ghost use Rattle.exchange_model.specs.Exchange.{Speech};
     ghost use Rattle.link_mails.specs.Body.{Body};
-    ghost use Rattle.mailbox_mail.specs.Area.{mail_area};
     ghost use Rattle.mailbox_mail.specs.declared.mail.Mail.{Mail};
     ghost use Rattle.mailbox_mail.specs.Mail.{mail_read};
+    ghost use Rattle.mailbox_mail.specs.Area.{mail_area};
     ghost use Rattle.std.specs.Prelude.{Ok};
     ghost use Rattle.link_model.specs.Link.{Halves};
     ghost use Rattle.segment_model.specs.Slaves.{Access};
@@ -67,7 +66,7 @@ impl<H: Hand> Side<H> {
         ensures sent { IsSent self.now.area (inward_gram index self.now.inn) }
     {
         let head = self.inn.head(index);
-        datagrams::add_with(frame, &head, &InwardBody { half: &self.inn });
+        datagrams::add_with(frame, &head, &self.inn);
     }
 
     // The datagram of the link: the write of a mail held, or the inward half's.

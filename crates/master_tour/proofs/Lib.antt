@@ -1,0 +1,4 @@
+pub mod Unders
+pub mod Visits
+pub mod Walks
+pub mod Frames

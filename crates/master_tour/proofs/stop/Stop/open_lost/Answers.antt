@@ -1,0 +1,16 @@
+use Rattle.task_model.specs.Accounts.{duty_access}
+use Rattle.master_side.specs.Shown.{SideShows}
+use Rattle.master_tour.proofs.Unders.{nothing_under, none_lost, has_lost}
+use Rattle.master_tour.proofs.stop.Stop.open_lost.Goals as goal
+
+pub returns-then-self-clause-shown : goal.returns-then-self-clause-shown
+returns-then-self-clause-shown g c = λ x sent d a s u.
+    let w = c.args.self.now.side in
+    let y = c.lost.new.self in
+    has_lost x (λ e. SideShows (g.H.Hand.shows y.hand x) y.out y.inn y.fresh y.duty e a) w.station c.args.self.now.at c.args.self.now.under w.carried (duty_access a.hand) sent d c.if-self.true u
+    (λ b m. c.lost.ensures.shown x b d a s m)
+
+pub returns-else-self-clause-shown : goal.returns-else-self-clause-shown
+returns-else-self-clause-shown g c = λ x sent d a s u.
+    let w = c.args.self.now.side in
+    none_lost x (g.H.Hand.shows w.hand x) w.out w.inn w.fresh w.duty d a w.station sent (nothing_under w.station c.args.self.now.at c.args.self.now.under w.carried d.halves (duty_access a.hand) sent c.if-self.false u) s

@@ -1,0 +1,9 @@
+//! The slaves of a ring in the order of a tour: which of them a frame carries, their datagrams in it, and
+//! what the frame's return or loss makes of each.
+#![tactic(auto)]
+
+mod stop;
+mod tour;
+
+pub use stop::{Stand, Stop, Turned};
+pub use tour::Tour;

@@ -1,0 +1,292 @@
+ghost use Rattle.std.specs.Prelude.{◌≡◌, ◌+◌, ℕ, All, take, drop, true, nat_lt, nat_le};
+ghost use Rattle.datagrams.specs.Frame.{IsPart};
+
+use al_state::{BringUp, access, came_back, cleared, reopen_new};
+use arrayvec::ArrayVec;
+use datagrams::{FrameBuf, Head, Part};
+use master_side::{Hand, Side, Wish};
+
+/// How the master stands to a slave.
+#[derive(Clone, Copy, Debug)]
+pub enum Stand {
+    /// It is brought up, or opened anew.
+    Opening(BringUp),
+    /// It is open: its mailboxes are accessed.
+    Open,
+    /// It was given up for good, and gets no further datagram.
+    Gone,
+}
+
+// What the return of an opening's access has turned a slave's stand into.
+fn news_of(is_up: bool, is_cleared: bool) -> Option<Turned> {
+    if is_up {
+        Some(Turned::Opened)
+    } else if is_cleared {
+        Some(Turned::Cleared)
+    } else {
+        None
+    }
+}
+
+/// What a frame has turned a slave's stand into.
+#[derive(Clone, Copy, Debug, PartialEq, Eq)]
+pub enum Turned {
+    /// It was seen in Init: what its mailboxes and services were is gone.
+    Cleared,
+    /// It is open.
+    Opened,
+    /// It was given up, for good or not.
+    GivenUp,
+}
+
+/// A slave of the tour.
+#[derive(Debug, Drop)]
+pub struct Stop<H: Hand> {
+    pub side: Side<H>,
+    pub stand: Stand,
+    /// Its place in the ring, below 16.
+    pub place: u32,
+    /// The AL state that it is brought up in, 2 or 3.
+    pub start: u8,
+    /// How often it may be given up and is opened anew.
+    pub spare: u32,
+    /// What the last frame turned its stand into.
+    pub news: Option<Turned>,
+    /// The frame under way has a datagram of it.
+    pub under: bool,
+    /// The place of that among the frame's datagrams, below 16.
+    pub at: usize,
+    pub ghost near: { nat_lt place 16 ≡ true },
+    pub ghost few: { nat_lt at 16 ≡ true },
+    pub ghost named: { nat_le 1 side.station ≡ true },
+}
+
+// The body of a datagram of a frame.
+fn body_of(octets: &[u8], part: Part) -> &[u8]
+    requires { IsPart octets.now part }
+    ensures { result.now ≡ take part.head.len (drop (part.at + 10) octets.now) }
+{
+    let start = part.at + 10;
+    let rest = &octets[start..];
+    &rest[..part.head.len as usize]
+}
+
+impl<H: Hand> Stop<H> {
+    ghost use Rattle.std.specs.Prelude.{◌≡◌, ◌≤◌, ◌<◌, ◌-◌, ◌++◌, ◌∷◌, [], ℕ, List, map, All, length, true};
+    ghost use Rattle.datagrams.specs.Datagram as Raw;
+    ghost use Rattle.datagrams.specs.Frame.{IsPart, IsBegun};
+    ghost use Rattle.exchange_model.specs.Exchange.{Speech};
+    ghost use Rattle.link_mails.specs.Body.{Body};
+    ghost use Rattle.segment_model.specs.Slaves.{Datagram};
+    ghost use Rattle.segment_model.specs.Seats as Seats;
+    ghost use Rattle.task_model.specs.Accounts.{Account, duty_access, account_back};
+    ghost use Rattle.frame_view.specs.View.{Lens, datagram_seen};
+    ghost use Rattle.frame_view.specs.Seen.{part_seen};
+    ghost use Rattle.mailbox_master.specs.Any.{in_area_len};
+    ghost use Rattle.master_duty.specs.Reply.{Reply};
+    ghost use Rattle.master_side.specs.Carried.{Meant};
+    ghost use Rattle.master_side.specs.Sent.{IsSent, SameLink, visit_gram};
+    ghost use Rattle.master_side.specs.Shown.{SideShows, Picked};
+    ghost use Rattle.datagrams.specs.Frame.{datagram_of};
+    ghost use Rattle.al_state.specs.BringUp.{head_of, octets_of};
+    ghost use Rattle.master_tour.specs.Under.{Under};
+    ghost use Rattle.master_tour.specs.declared.stop.Stand.{Stand};
+
+    /// Its datagram of the frame that came back, while it is open. `made` is the frame's number.
+    pub fn open_back(&mut self, parts: &[Part], octets: &[u8], made: u32)
+        requires { All (IsPart octets.now) parts.now }
+        ensures shown { (x : Speech Body H.Asked Reply) (frame : ℕ) (lens : ℕ → Lens) (back : List (Datagram Body)) (d : Seats.Side Body H.Asked Reply) (a : Account H.Asked Reply) → back ≡ map (part_seen lens octets.now) parts.now →
+            SideShows (H.shows self.old.side.hand x) self.old.side.out self.old.side.inn self.old.side.fresh self.old.side.duty d a →
+            Under self.old.side.station self.old.at self.old.under self.old.side.carried d.halves (duty_access a.hand) back →
+            SideShows (H.shows self.new.side.hand x) self.new.side.out self.new.side.inn self.new.side.fresh self.new.side.duty (Seats.side_back x frame self.old.side.station back d) (account_back self.old.side.station frame a back) }
+        ensures link { SameLink self.old.side.out self.old.side.inn self.old.side.station self.old.side.area self.new.side.out self.new.side.inn self.new.side.station self.new.side.area }
+        ensures stand { self.new.stand ≡ self.old.stand }
+    {
+        if !self.under {
+            return;
+        }
+        if self.at < parts.len() {
+            let part = parts[self.at];
+            let body = body_of(octets, part);
+            self.side.returned(part.head.counter, body, made);
+        }
+    }
+
+    /// The frame under way was lost, while it is open.
+    pub fn open_lost(&mut self)
+        ensures shown { (x : Speech Body H.Asked Reply) (sent : List (Datagram Body)) (d : Seats.Side Body H.Asked Reply) (a : Account H.Asked Reply) →
+            SideShows (H.shows self.old.side.hand x) self.old.side.out self.old.side.inn self.old.side.fresh self.old.side.duty d a →
+            Under self.old.side.station self.old.at self.old.under self.old.side.carried d.halves (duty_access a.hand) sent →
+            SideShows (H.shows self.new.side.hand x) self.new.side.out self.new.side.inn self.new.side.fresh self.new.side.duty (Seats.side_lost self.old.side.station sent d) a }
+        ensures link { SameLink self.old.side.out self.old.side.inn self.old.side.station self.old.side.area self.new.side.out self.new.side.inn self.new.side.station self.new.side.area }
+        ensures stand { self.new.stand ≡ self.old.stand }
+    {
+        if self.under {
+            self.side.lost();
+        }
+    }
+
+    // The access of its opening came back: the next is in hand, or the slave is open.
+    fn opening_back(&mut self, up: BringUp, parts: &[Part], octets: &[u8])
+        requires { All (IsPart octets.now) parts.now }
+        ensures station { self.new.side.station ≡ self.old.side.station }
+    {
+        if !self.under || self.at >= parts.len() {
+            return;
+        }
+        let part = parts[self.at];
+        let mut up = up;
+        let was_cleared = cleared(&up);
+        let is_up = came_back(&mut up, part.head.counter, body_of(octets, part));
+        let is_cleared = !was_cleared && cleared(&up);
+        self.stand = if is_up {
+            Stand::Open
+        } else {
+            Stand::Opening(up)
+        };
+        self.news = news_of(is_up, is_cleared);
+        if is_cleared {
+            self.side.renew();
+        }
+    }
+
+    // A state service that has drained and returns its slave to Init begins a reopening.
+    fn reopen(&mut self)
+        ensures side { self.new.side ≡ self.old.side }
+    {
+        let Some(duty) = self.side.duty else {
+            return;
+        };
+        if let Some(state) = duty.reopens() {
+            let up = self.opening(state);
+            self.stand = Stand::Opening(up);
+        }
+    }
+
+    // The accesses that return the slave to Init and open it anew, into this state.
+    fn opening(&self, state: u8) -> BringUp {
+        reopen_new(
+            self.place,
+            self.side.station,
+            self.side.out_len,
+            self.side.in_len,
+            state,
+        )
+    }
+
+    /// The frame under way came back. `made` is its number.
+    pub fn back(&mut self, parts: &[Part], octets: &[u8], made: u32)
+        requires { All (IsPart octets.now) parts.now }
+        ensures shown { self.old.stand ≡ Stand.Open → (x : Speech Body H.Asked Reply) (frame : ℕ) (lens : ℕ → Lens) (back : List (Datagram Body)) (d : Seats.Side Body H.Asked Reply) (a : Account H.Asked Reply) → back ≡ map (part_seen lens octets.now) parts.now →
+            SideShows (H.shows self.old.side.hand x) self.old.side.out self.old.side.inn self.old.side.fresh self.old.side.duty d a →
+            Under self.old.side.station self.old.at self.old.under self.old.side.carried d.halves (duty_access a.hand) back →
+            SideShows (H.shows self.new.side.hand x) self.new.side.out self.new.side.inn self.new.side.fresh self.new.side.duty (Seats.side_back x frame self.old.side.station back d) (account_back self.old.side.station frame a back) }
+        ensures station { self.new.side.station ≡ self.old.side.station }
+    {
+        self.news = None;
+        match self.stand {
+            Stand::Gone => {}
+            Stand::Opening(up) => self.opening_back(up, parts, octets),
+            Stand::Open => {
+                self.open_back(parts, octets, made);
+                self.reopen();
+            }
+        }
+    }
+
+    /// The frame under way was lost.
+    pub fn lost(&mut self)
+        ensures shown { self.old.stand ≡ Stand.Open → (x : Speech Body H.Asked Reply) (sent : List (Datagram Body)) (d : Seats.Side Body H.Asked Reply) (a : Account H.Asked Reply) →
+            SideShows (H.shows self.old.side.hand x) self.old.side.out self.old.side.inn self.old.side.fresh self.old.side.duty d a →
+            Under self.old.side.station self.old.at self.old.under self.old.side.carried d.halves (duty_access a.hand) sent →
+            SideShows (H.shows self.new.side.hand x) self.new.side.out self.new.side.inn self.new.side.fresh self.new.side.duty (Seats.side_lost self.old.side.station sent d) a }
+        ensures station { self.new.side.station ≡ self.old.side.station }
+    {
+        self.news = None;
+        match self.stand {
+            Stand::Gone | Stand::Opening(_) => {}
+            Stand::Open => self.open_lost(),
+        }
+    }
+
+    /// The slave is given up: while it has a spare, it is opened anew, else it gets no further datagram.
+    pub fn give_up(&mut self)
+        ensures station { self.new.side.station ≡ self.old.side.station }
+    {
+        self.news = Some(Turned::GivenUp);
+        if self.spare == 0 {
+            self.stand = Stand::Gone;
+            return;
+        }
+        self.spare -= 1;
+        let up = self.opening(self.start);
+        self.stand = Stand::Opening(up);
+        self.side.renew();
+    }
+
+    /// A service comes into hand where one may, and the datagram of this visit stands next in the frame, as the
+    /// datagram number `at` of it, with this index. Tells whether a service came into hand.
+    pub fn open_visit(
+        &mut self,
+        wish: Option<Wish>,
+        at: usize,
+        index: u8,
+        frame: &mut FrameBuf,
+    ) -> bool
+        requires few { at < 16 }
+        requires begun { (ds : List Raw.Datagram) × IsBegun frame.old.items ds }
+        requires room { self.old.side.area ≤ 1514 - length frame.old.items - 12 }
+        ensures shown { (x : Speech Body H.Asked Reply) (made : ℕ) (lens : ℕ → Lens) (d : Seats.Side Body H.Asked Reply) (a : Account H.Asked Reply) → (lens self.old.side.station).out ≡ self.old.side.out.len → (lens self.old.side.station).back ≡ in_area_len self.old.side.inn →
+            SideShows (H.shows self.old.side.hand x) self.old.side.out self.old.side.inn self.old.side.fresh self.old.side.duty d a →
+            Picked x H.acknowledged made d a (λ e b. SideShows (H.shows self.new.side.hand x) self.new.side.out self.new.side.inn self.new.side.fresh self.new.side.duty e b ×
+            Meant self.old.side.station self.new.side.carried e.halves (duty_access b.hand) (datagram_seen lens (visit_gram self.new.side.station index self.new.side.out self.new.side.inn self.new.side.duty self.new.side.carried))) }
+        ensures begun { (ds : List Raw.Datagram) → IsBegun frame.old.items ds → IsBegun frame.new.items (ds ++ visit_gram self.new.side.station index self.new.side.out self.new.side.inn self.new.side.duty self.new.side.carried ∷ []) }
+        ensures sent { IsSent self.old.side.area (visit_gram self.new.side.station index self.new.side.out self.new.side.inn self.new.side.duty self.new.side.carried) }
+        ensures link { SameLink self.old.side.out self.old.side.inn self.old.side.station self.old.side.area self.new.side.out self.new.side.inn self.new.side.station self.new.side.area }
+        ensures stand { self.new.stand ≡ self.old.stand }
+        ensures at { (self.new.at ≡ at) × (self.new.under ≡ true) }
+    {
+        let began = self.side.choose(wish);
+        self.side.add_datagram(index, frame);
+        self.at = at;
+        self.under = true;
+        began
+    }
+
+    /// The access of its opening stands next in the frame, as the datagram number `at` of it, with this index.
+    pub fn opening_visit(&mut self, up: &BringUp, at: usize, index: u8, frame: &mut FrameBuf)
+        requires few { at < 16 }
+        requires begun { (ds : List Raw.Datagram) × IsBegun frame.old.items ds }
+        requires room { 64 ≤ 1514 - length frame.old.items - 12 }
+        ensures begun { (ds : List Raw.Datagram) → IsBegun frame.old.items ds → IsBegun frame.new.items (ds ++ datagram_of (head_of up.now index) (octets_of up.now) ∷ []) }
+        ensures side { self.new.side ≡ self.old.side }
+        ensures stand { self.new.stand ≡ self.old.stand }
+        ensures at { (self.new.at ≡ at) × (self.new.under ≡ true) }
+    {
+        let mut head = Head::default();
+        let mut body = ArrayVec::new();
+        access(up, index, &mut head, &mut body);
+        datagrams::add(frame, &head, body.as_slice());
+        self.at = at;
+        self.under = true;
+    }
+
+    /// The datagram of this visit stands next in the frame, as the datagram number `at` of it, with this index: that of its opening, or
+    /// while it is open that of a visit. Tells whether a service came into hand.
+    pub fn visit(&mut self, wish: Option<Wish>, at: usize, index: u8, frame: &mut FrameBuf) -> bool
+        requires few { at < 16 }
+        requires begun { (ds : List Raw.Datagram) × IsBegun frame.old.items ds }
+        requires room { self.old.side.area ≤ 1514 - length frame.old.items - 12 }
+        ensures begun { (ds : List Raw.Datagram) × IsBegun frame.new.items ds }
+        ensures station { self.new.side.station ≡ self.old.side.station }
+    {
+        match self.stand {
+            Stand::Gone => false,
+            Stand::Opening(up) => {
+                self.opening_visit(&up, at, index, frame);
+                false
+            }
+            Stand::Open => self.open_visit(wish, at, index, frame),
+        }
+    }
+}

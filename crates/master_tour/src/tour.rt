@@ -1,0 +1,291 @@
+ghost use Rattle.std.specs.Prelude.{◌≡◌, ℕ, List};
+
+use crate::stop::{Stand, Stop};
+use arrayvec::ArrayVec;
+use datagrams::{FrameBuf, Part};
+use master_side::{Hand, Wish};
+
+/// All slaves of a master, in ring order, and where their tour stands.
+#[derive(Debug, Drop)]
+pub struct Tour<H: Hand> {
+    /// The slaves, 1 to 16.
+    pub stops: Vec<Stop<H>>,
+    /// The places of the slaves that the last frame carried, in the order of its datagrams.
+    pub visit: ArrayVec<usize, 16>,
+    /// How many slaves from the first on have ended their first bring-up, or were given up in it.
+    pub opened: usize,
+    /// The last frame was lost, and the same slaves come again.
+    pub again: bool,
+    /// How many frames were lost in a row.
+    pub missed: u8,
+    /// How many may be, before the slaves that they carried are given up.
+    pub retry: u8,
+    /// The place of the slave that was carried last.
+    pub last: Option<usize>,
+    /// How many datagrams the frame that is made has so far.
+    pub count: usize,
+    /// How many slaves of this round were passed, carried or not.
+    pub passed: usize,
+}
+
+impl<H: Hand> Tour<H> {
+    ghost use Rattle.std.specs.Prelude.{◌≡◌, ◌≤◌, ◌<◌, ◌-◌, ℕ, List, IfSome, map, All, length, [], ◌∷◌};
+    ghost use Rattle.datagrams.specs.Datagram as Raw;
+    ghost use Rattle.datagrams.specs.Frame.{IsBegun, IsPart};
+    ghost use Rattle.exchange_model.specs.Exchange.{Speech};
+    ghost use Rattle.link_mails.specs.Body.{Body};
+    ghost use Rattle.segment_model.specs.Slaves.{Datagram};
+    ghost use Rattle.segment_model.specs.Seats as Seats;
+    ghost use Rattle.segment_model.specs.Returned.{Returns};
+    ghost use Rattle.task_model.specs.Accounts.{Account, duty_access, account_back};
+    ghost use Rattle.frame_view.specs.View.{Lens};
+    ghost use Rattle.frame_view.specs.Seen.{part_seen, seen};
+    ghost use Rattle.master_duty.specs.Reply.{Reply};
+    ghost use Rattle.master_side.specs.Shown.{SideShows};
+    ghost use Rattle.master_tour.specs.Under.{Under};
+    ghost use Rattle.master_tour.specs.Walks.{EachPair};
+    ghost use Rattle.master_tour.specs.declared.stop.Stand.{Stand};
+
+    // Each slave hears what came back.
+    fn all_back(&mut self, parts: &[Part], octets: &[u8], made: u32)
+        requires { All (IsPart octets.now) parts.now }
+        ensures each { EachPair (λ s t. (s.stand ≡ Stand.Open → (x : Speech Body H.Asked Reply) (frame : ℕ) (lens : ℕ → Lens) (back : List (Datagram Body)) (d : Seats.Side Body H.Asked Reply) (a : Account H.Asked Reply) → back ≡ map (part_seen lens octets.now) parts.now →
+            SideShows (H.shows s.side.hand x) s.side.out s.side.inn s.side.fresh s.side.duty d a →
+            Under s.side.station s.at s.under s.side.carried d.halves (duty_access a.hand) back →
+            SideShows (H.shows t.side.hand x) t.side.out t.side.inn t.side.fresh t.side.duty (Seats.side_back x frame s.side.station back d) (account_back s.side.station frame a back)) × (t.side.station ≡ s.side.station)) self.old.stops.items self.new.stops.items }
+    {
+        for i in 0..self.stops.len() {
+            self.stops[i].back(parts, octets, made);
+        }
+    }
+
+    // Each slave learns that the frame under way was lost.
+    fn all_lost(&mut self)
+        ensures each { EachPair (λ s t. (s.stand ≡ Stand.Open → (x : Speech Body H.Asked Reply) (sent : List (Datagram Body)) (d : Seats.Side Body H.Asked Reply) (a : Account H.Asked Reply) →
+            SideShows (H.shows s.side.hand x) s.side.out s.side.inn s.side.fresh s.side.duty d a →
+            Under s.side.station s.at s.under s.side.carried d.halves (duty_access a.hand) sent →
+            SideShows (H.shows t.side.hand x) t.side.out t.side.inn t.side.fresh t.side.duty (Seats.side_lost s.side.station sent d) a) × (t.side.station ≡ s.side.station)) self.old.stops.items self.new.stops.items }
+    {
+        for i in 0..self.stops.len() {
+            self.stops[i].lost();
+        }
+    }
+
+    // No slave has a datagram in the frame that is made.
+    fn rewind(&mut self)
+        ensures { length self.new.stops.items ≡ length self.old.stops.items }
+    {
+        for i in 0..self.stops.len() {
+            self.stops[i].under = false;
+        }
+    }
+
+    /// Begins the next frame.
+    pub fn begin(&mut self, frame: &mut FrameBuf)
+        ensures { IsBegun frame.new.items [] }
+    {
+        self.rewind();
+        datagrams::begin(frame);
+        if !self.again {
+            self.visit.clear();
+        }
+        self.count = 0;
+        self.passed = 0;
+    }
+
+    // The place of the slave number `k` of the round, which begins behind the last one carried.
+    fn place_of(&self, k: usize) -> usize
+        requires { k < length self.now.stops.items }
+        ensures { result < length self.now.stops.items }
+    {
+        let count = self.stops.len();
+        let start = match self.last {
+            Some(last) if last < count => last + 1,
+            _ => 0,
+        };
+        if k < count - start {
+            start + k
+        } else {
+            k - (count - start)
+        }
+    }
+
+    // The number of the next live slave of the round.
+    fn next_live(&self) -> Option<usize>
+        ensures { IfSome result (λ k. k < length self.now.stops.items) }
+    {
+        for k in self.passed..self.stops.len() {
+            if !matches!(self.stops[self.place_of(k)].stand, Stand::Gone) {
+                return Some(k);
+            }
+        }
+        None
+    }
+
+    // The slave whose datagram stands next, if the frame has room for it: behind a lost frame the slaves of that one, in the first
+    // bring-up the one that is brought up, else those of a round.
+    fn candidate(&mut self) -> Option<usize>
+        ensures count { self.new.count ≡ self.old.count }
+        ensures inside { IfSome result (λ p. p < length self.new.stops.items) }
+    {
+        if self.again {
+            let place = *self.visit.get(self.count)?;
+            return if place < self.stops.len() {
+                Some(place)
+            } else {
+                None
+            };
+        }
+        if self.opened < self.stops.len() {
+            return if self.count == 0 {
+                Some(self.opened)
+            } else {
+                None
+            };
+        }
+        let k = self.next_live()?;
+        self.passed = k + 1;
+        Some(self.place_of(k))
+    }
+
+    /// The place of the slave whose datagram stands next, `None` where the frame is complete: no slave is left for
+    /// it, or the larger mailbox of the next one does not fit.
+    pub fn due(&mut self, frame: &FrameBuf) -> Option<usize>
+        ensures inside { IfSome result (λ p. p < length self.new.stops.items) }
+        ensures few { IfSome result (λ p. self.new.count < 16) }
+    {
+        if self.count >= 16 {
+            return None;
+        }
+        let place = self.candidate()?;
+        if self.stops[place].side.area as usize > datagrams::room(frame) {
+            return None;
+        }
+        Some(place)
+    }
+
+    /// The slave at this place is visited: a service comes into hand where one may, and its datagram stands next in
+    /// the frame, with this index, which is the frame's number modulo 256. Tells whether a service came into hand.
+    pub fn visit(
+        &mut self,
+        place: usize,
+        wish: Option<Wish>,
+        index: u8,
+        frame: &mut FrameBuf,
+    ) -> bool
+        requires inside { place < length self.old.stops.items }
+        requires few { self.old.count < 16 }
+        requires begun { (ds : List Raw.Datagram) × IsBegun frame.old.items ds }
+        ensures begun { (ds : List Raw.Datagram) × IsBegun frame.new.items ds }
+    {
+        let at = self.count;
+        let stop = &mut self.stops[place];
+        if stop.side.area as usize > datagrams::room(frame) {
+            return false;
+        }
+        let began = stop.visit(wish, at, index, frame);
+        if !self.again {
+            let _room = self.visit.try_push(place);
+        }
+        self.count += 1;
+        began
+    }
+
+    /// Ends the frame: `false` where it has no datagram, since no slave is live.
+    pub fn finish(&self, frame: &mut FrameBuf) -> bool
+        requires { (ds : List Raw.Datagram) × IsBegun frame.old.items ds }
+    {
+        if self.count == 0 {
+            return false;
+        }
+        datagrams::finish(frame);
+        true
+    }
+
+    // The place carried last, as the tour goes on from it: a first bring-up leaves none.
+    fn last_behind(&self) -> Option<usize> {
+        match self.visit.last() {
+            Some(place) if self.opened >= self.stops.len() => Some(*place),
+            Some(_) => None,
+            None => self.last,
+        }
+    }
+
+    // How many slaves from the first on have ended their first bring-up, or were given up in it.
+    fn opened_behind(&self) -> usize {
+        if self.opened < self.stops.len()
+            && !matches!(self.stops[self.opened].stand, Stand::Opening(_))
+        {
+            self.opened + 1
+        } else {
+            self.opened
+        }
+    }
+
+    // The slaves hear their datagrams of the frame that came back.
+    fn hear(&mut self, frame: &FrameBuf, made: u32)
+        ensures each { (lens : ℕ → Lens) (sent : List (Datagram Body)) → Returns sent (seen lens frame.now.items) → 1 ≤ length sent →
+            EachPair (λ s t. (s.stand ≡ Stand.Open → (x : Speech Body H.Asked Reply) (number : ℕ) (d : Seats.Side Body H.Asked Reply) (a : Account H.Asked Reply) →
+            SideShows (H.shows s.side.hand x) s.side.out s.side.inn s.side.fresh s.side.duty d a →
+            Under s.side.station s.at s.under s.side.carried d.halves (duty_access a.hand) sent →
+            SideShows (H.shows t.side.hand x) t.side.out t.side.inn t.side.fresh t.side.duty (Seats.side_back x number s.side.station (seen lens frame.now.items) d) (account_back s.side.station number a (seen lens frame.now.items))) × (t.side.station ≡ s.side.station)) self.old.stops.items self.new.stops.items }
+    {
+        let octets = frame.as_slice();
+        match datagrams::read(octets) {
+            Ok(read) => self.all_back(read.parts.as_slice(), octets, made),
+            Err(_) => {}
+        }
+    }
+
+    /// The frame under way came back. `made` is its number.
+    pub fn returned(&mut self, frame: &FrameBuf, made: u32)
+        ensures each { (lens : ℕ → Lens) (sent : List (Datagram Body)) → Returns sent (seen lens frame.now.items) → 1 ≤ length sent →
+            EachPair (λ s t. (s.stand ≡ Stand.Open → (x : Speech Body H.Asked Reply) (number : ℕ) (d : Seats.Side Body H.Asked Reply) (a : Account H.Asked Reply) →
+            SideShows (H.shows s.side.hand x) s.side.out s.side.inn s.side.fresh s.side.duty d a →
+            Under s.side.station s.at s.under s.side.carried d.halves (duty_access a.hand) sent →
+            SideShows (H.shows t.side.hand x) t.side.out t.side.inn t.side.fresh t.side.duty (Seats.side_back x number s.side.station (seen lens frame.now.items) d) (account_back s.side.station number a (seen lens frame.now.items))) × (t.side.station ≡ s.side.station)) self.old.stops.items self.new.stops.items }
+    {
+        self.hear(frame, made);
+        let last = self.last_behind();
+        let opened = self.opened_behind();
+        self.again = false;
+        self.missed = 0;
+        self.last = last;
+        self.opened = opened;
+    }
+
+    // All slaves that the lost frames carried are given up.
+    fn give_up(&mut self) {
+        for k in 0..self.visit.len() {
+            match self.visit.get(k) {
+                Some(&place) if place < self.stops.len() => self.stops[place].give_up(),
+                _ => {}
+            }
+        }
+    }
+
+    /// The frame under way was lost: the same slaves come again, or, behind one lost frame more than `retry` in a row,
+    /// are given up.
+    pub fn lost(&mut self)
+        ensures each { self.old.missed < self.old.retry → EachPair (λ s t. (s.stand ≡ Stand.Open → (x : Speech Body H.Asked Reply) (sent : List (Datagram Body)) (d : Seats.Side Body H.Asked Reply) (a : Account H.Asked Reply) →
+            SideShows (H.shows s.side.hand x) s.side.out s.side.inn s.side.fresh s.side.duty d a →
+            Under s.side.station s.at s.under s.side.carried d.halves (duty_access a.hand) sent →
+            SideShows (H.shows t.side.hand x) t.side.out t.side.inn t.side.fresh t.side.duty (Seats.side_lost s.side.station sent d) a) × (t.side.station ≡ s.side.station)) self.old.stops.items self.new.stops.items }
+    {
+        let missed = self.missed;
+        let comes_again = missed < self.retry;
+        self.all_lost();
+        if comes_again {
+            self.again = true;
+            self.missed = missed + 1;
+            return;
+        }
+        self.give_up();
+        let last = self.last_behind();
+        let opened = self.opened_behind();
+        self.again = false;
+        self.missed = 0;
+        self.last = last;
+        self.opened = opened;
+    }
+}
