@@ -58,13 +58,16 @@ module _ (table : Table) (stays : (from to : ℕ) → table from to ≡ None →
     asks = λ c f. let g : Some (t, false) ≡ Some c = f in cc;
   }))
   met s t Phase.Await r k = k
-  met s t (Phase.Acknowledge state first) r (e, inl k) = (e, inl (record {
-    denied = k.denied;
-    state = k.state;
-    refused = k.refused;
-    word = λ c f. inr (let g : Some (state, true) ≡ Some c = f in cc);
-    asks = λ c f. inl (let g : Some (state, true) ≡ Some c = f in cc);
-  }))
+  met s t (Phase.Acknowledge state first) r (e, inl k) = (
+    e,
+    inl (record {
+      denied = k.denied;
+      state = k.state;
+      refused = k.refused;
+      word = λ c f. inr (let g : Some (state, true) ≡ Some c = f in cc);
+      asks = λ c f. inl (let g : Some (state, true) ≡ Some c = f in cc);
+    }),
+  )
   met s t (Phase.Acknowledge state first) r (e, inr k) = (e, inr (record { denied = k.denied; state = k.state; refused = k.refused; word = λ c f. let g : Some (state, true) ≡ Some c = f in cc }))
   met s t (Phase.Recover first) r k = k
 
