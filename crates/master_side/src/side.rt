@@ -152,7 +152,7 @@ impl<H: Hand> Side<H> {
             return;
         }
         if self.hand.take_next() {
-            self.out.hold(self.hand.kind(), self.hand.body());
+            self.out.hold(0, self.hand.kind(), self.hand.body());
             self.fresh = true;
         }
     }
