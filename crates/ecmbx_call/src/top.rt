@@ -114,8 +114,8 @@ fn carry_out<F: Files, O: Sink>(
 /// answered; where nothing ran it stays new, and where memory ran out in the run it has no slaves.
 ///
 /// `Usage` comes exactly where the words are no form, `Absent` and `TooLong` where the load said
-/// so, `Refused` where the octets are no scenario that is run, `FileFault` and `SinkFault` only where that
-/// object's count of faults rose. Each yields to `SinkFault`, and all to `NoMemory`.
+/// so, `Refused` where the octets are no scenario that is run, `FileFault` and `SinkFault` only where
+/// that object's count of faults rose. Each yields to `SinkFault`, and all to `NoMemory`.
 pub fn ecmbx<F: Files, O: Sink>(
     alloc: Global,
     words: &[String],
