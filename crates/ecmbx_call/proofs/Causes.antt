@@ -1,15 +1,16 @@
 -- What the course of a call says of each status.
-use Rattle.std.proofs.Common.{◌≡◌, ℕ, ◌<◌, ◌≤◌, ◌⊎◌, List, [], ◌∷◌, length, Option, Some, None, Ok, Err, refl, sym, subst, ap, ◌∙◌, inl, inr, arith}
+use Rattle.std.proofs.Common.{◌≡◌, ◌≢◌, ℕ, ◌<◌, ◌≤◌, ◌⊎◌, List, [], ◌∷◌, length, Option, Some, None, Ok, Err, refl, sym, subst, ap, ◌∙◌, inl, inr, arith}
 use Rattle.ec_outside.specs.Files.{Table, file_of}
-use Rattle.scenario.specs.declared.plan.Scenario.{Scenario}
-use Rattle.scenario.specs.declared.refusal.Refusal.{Refusal}
-use Rattle.scenario.specs.Scenario.{plan_of}
+use Rattle.segment_plan.specs.declared.plan.Scenario.{Scenario}
+use Rattle.scenario_keys.specs.declared.refusal.Refusal.{Refusal}
+use Rattle.ecmbx_call.specs.Plan.{built_plan_of}
 use Rattle.ecmbx_call.specs.declared.status.Status.{Status}
 use Rattle.ecmbx_call.specs.declared.status.Status.TheVariants as statuses
 use Rattle.ecmbx_call.specs.declared.book.Book.{Book}
-use Rattle.ecmbx_call.specs.Book.{Fits, AllDone}
+use Rattle.ecmbx_call.specs.declared.book.Ending.TheVariants as endings
+use Rattle.ecmbx_call.specs.Book.{IsNew, Fits, AllDone}
 use Rattle.ecmbx_call.specs.Report.{report_lines}
-use Rattle.ecmbx_call.specs.Course.{limit, name_in, Holds, IsLong, text_of, OctetsCourse, FileCourse, Course, Ended, Ran, IsAmong, UsageCause, AbsentCause, LongCause, RefusedCause, IsScenario, Headline}
+use Rattle.ecmbx_call.specs.Course.{limit, name_in, Holds, IsLong, text_of, OctetsCourse, FileCourse, Course, Ended, Ran, EndingAt, IsAmong, IsAnswer, UsageCause, AbsentCause, LongCause, RefusedCause, IsScenario, Headline}
 use Rattle.ecmbx_call.specs.Course.OctetsCourse.{refused, done}
 use Rattle.ecmbx_call.specs.Course.FileCourse.{fault, absent, long, found}
 use Rattle.ecmbx_call.specs.Course.Course.{usage, named}
@@ -56,7 +57,7 @@ module _ (words : List (List ℕ)) (table : Option Table) (faulted : Type 0) (bo
   long_words _ _ (named name _ _ said (found octets _ _ holds fits (done plan is fit all))) e = absurd cc
 
   refused_words : (planned : Status) (text : List ℕ) → Course words table faulted book planned text → planned ≡ statuses.Refused
-      → (name octets : List ℕ) × (e : Refusal) × (name_in words ≡ Some name) × Holds table name (Some octets) × (plan_of octets ≡ Err e)
+      → (name octets : List ℕ) × (e : Refusal) × (name_in words ≡ Some name) × Holds table name (Some octets) × (built_plan_of octets ≡ Err e)
   refused_words _ _ (usage none new) e = absurd cc
   refused_words _ _ (named name _ _ said (fault rose new)) e = absurd cc
   refused_words _ _ (named name _ _ said (absent holds new)) e = absurd cc
@@ -99,11 +100,11 @@ module _ (name : List ℕ) (files : Table) (faulted : Type 0) (book : Book) wher
       let same : other ≡ octets = cc in
       inr (subst (λ (bytes : List ℕ). OctetsCourse bytes book planned text) same course)
 
-when_refused : (octets : List ℕ) (book : Book) (e : Refusal) → plan_of octets ≡ Err e → (planned : Status) (text : List ℕ) → OctetsCourse octets book planned text → planned ≡ statuses.Refused
+when_refused : (octets : List ℕ) (book : Book) (e : Refusal) → built_plan_of octets ≡ Err e → (planned : Status) (text : List ℕ) → OctetsCourse octets book planned text → planned ≡ statuses.Refused
 when_refused octets book e is _ _ (refused r other new) = refl
 when_refused octets book e is _ _ (done plan other fit all) = absurd cc
 
-when_planned : (octets : List ℕ) (book : Book) (plan : Scenario) → plan_of octets ≡ Ok plan → (planned : Status) (text : List ℕ) → OctetsCourse octets book planned text → Fits book plan × AllDone book plan × (planned ≡ statuses.Done) × (text ≡ text_of (report_lines plan book))
+when_planned : (octets : List ℕ) (book : Book) (plan : Scenario) → built_plan_of octets ≡ Ok plan → (planned : Status) (text : List ℕ) → OctetsCourse octets book planned text → Fits book plan × AllDone book plan × (planned ≡ statuses.Done) × (text ≡ text_of (report_lines plan book))
 when_planned octets book plan is _ _ (refused r other new) = absurd cc
 when_planned octets book plan is _ _ (done other there fit all) =
     let same : other ≡ plan = cc in
@@ -145,7 +146,7 @@ module _ (words : List (List ℕ)) (table : Option Table) (faulted : Type 0) (bo
         (subst (λ (t : Option Table). FileCourse name t faulted book planned text) told (file_course words table faulted book name said planned text course))) ended,
   )
 
-  refused_or_fault : (octets : List ℕ) (e : Refusal) → plan_of octets ≡ Err e → (planned : Status) (text : List ℕ) → (planned ≡ statuses.FileFault) ⊎ OctetsCourse octets book planned text → IsAmong (statuses.Refused ∷ statuses.FileFault ∷ []) planned
+  refused_or_fault : (octets : List ℕ) (e : Refusal) → built_plan_of octets ≡ Err e → (planned : Status) (text : List ℕ) → (planned ≡ statuses.FileFault) ⊎ OctetsCourse octets book planned text → IsAmong (statuses.Refused ∷ statuses.FileFault ∷ []) planned
   refused_or_fault octets e is planned text (inl faulty) = inr (inl faulty)
   refused_or_fault octets e is planned text (inr course) = inl (when_refused octets book e is planned text course)
 
@@ -162,7 +163,7 @@ module _ (words : List (List ℕ)) (table : Option Table) (faulted : Type 0) (bo
   file_fault_cause (inl memory) is = absurd cc
   file_fault_cause (inr (planned, text, course, ended)) is = fault_words words table faulted book planned text course (planned_is statuses.FileFault planned text old new status (λ sink. cc) ended is)
 
-  as_planned : (octets : List ℕ) (plan : Scenario) → plan_of octets ≡ Ok plan → (planned : Status) (text : List ℕ) → OctetsCourse octets book planned text → Ended planned text old new status → Headline plan book old new status
+  as_planned : (octets : List ℕ) (plan : Scenario) → built_plan_of octets ≡ Ok plan → (planned : Status) (text : List ℕ) → OctetsCourse octets book planned text → Ended planned text old new status → Headline plan book old new status
   as_planned octets plan is planned text course ended =
       let h = when_planned octets book plan is planned text course in
       record { fits = h.0; all = h.1; written = subst (λ (t : List ℕ). Ended statuses.Done t old new status) h.3 (subst (λ (s : Status). Ended s text old new status) h.2 ended) }
@@ -180,7 +181,7 @@ module _ (words : List (List ℕ)) (table : Option Table) (faulted : Type 0) (bo
       (subst (λ (t : Option Table). FileCourse scenario.name t faulted book planned text) scenario.told (file_course words table faulted book scenario.name scenario.said planned text course))))
 
   answers_planned : (planned : Status) (text : List ℕ) → Course words table faulted book planned text
-      → IsAmong (statuses.Done ∷ statuses.Refused ∷ statuses.Usage ∷ statuses.Absent ∷ statuses.TooLong ∷ statuses.FileFault ∷ statuses.SinkFault ∷ statuses.NoMemory ∷ []) planned
+      → IsAnswer planned
   answers_planned _ _ (usage none fresh) = inr (inr (inl refl))
   answers_planned _ _ (named name _ _ said (fault rose fresh)) = inr (inr (inr (inr (inr (inl refl)))))
   answers_planned _ _ (named name _ _ said (absent holds fresh)) = inr (inr (inr (inl refl)))
@@ -190,10 +191,10 @@ module _ (words : List (List ℕ)) (table : Option Table) (faulted : Type 0) (bo
 
   -- no other status comes
   pub answers_are : Ran words table faulted book old new status
-      → IsAmong (statuses.Done ∷ statuses.Refused ∷ statuses.Usage ∷ statuses.Absent ∷ statuses.TooLong ∷ statuses.FileFault ∷ statuses.SinkFault ∷ statuses.NoMemory ∷ []) status
+      → IsAnswer status
   answers_are (inl memory) = inr (inr (inr (inr (inr (inr (inr (inl memory)))))))
   answers_are (inr (planned, text, course, inl e)) =
-      subst (λ (s : Status). IsAmong (statuses.Done ∷ statuses.Refused ∷ statuses.Usage ∷ statuses.Absent ∷ statuses.TooLong ∷ statuses.FileFault ∷ statuses.SinkFault ∷ statuses.NoMemory ∷ []) s) (sym e.0) (answers_planned planned text course)
+      subst (λ (s : Status). IsAnswer s) (sym e.0) (answers_planned planned text course)
   answers_are (inr (planned, text, course, inr e)) = inr (inr (inr (inr (inr (inr (inl e.0))))))
 
 completes_from : (plan : Scenario) (book : Book) (old new : Option (List ℕ)) (status : Status) (rose : Type 0) → (status ≡ statuses.SinkFault → rose) → (rose → ⊥) → (status ≡ statuses.NoMemory) ⊎ Headline plan book old new status
@@ -210,3 +211,31 @@ pub found_completes : (words : List (List ℕ)) (table : Option Table) (faulted 
     → (plan : Scenario) → IsScenario words table plan → (faulted → ⊥) → (rose → ⊥) → (status ≡ statuses.NoMemory) ⊎ ((status ≡ statuses.Done) × AllDone book plan)
 found_completes words table faulted rose book old new status ran cause plan scenario calm quiet =
     completes_from plan book old new status rose cause quiet (found_headline words table faulted book old new status ran plan scenario calm)
+
+-- ---- the ending
+
+-- where nothing ran, the run didn't begin
+unbegun : (book : Book) → IsNew book → (book.ending ≡ endings.Unfinished) × (book.ending ≢ endings.NoMemory)
+unbegun book new =
+    let is = new.ending in
+    (is, λ e. absurd cc)
+
+done_ending : (plan : Scenario) (book : Book) → Fits book plan → (book.ending ≡ endings.Done) × (book.ending ≢ endings.NoMemory)
+done_ending plan book fits =
+    let is = fits.ending in
+    (is, λ e. absurd cc)
+
+planned_ending : (words : List (List ℕ)) (table : Option Table) (faulted : Type 0) (book : Book) (planned : Status) (text : List ℕ) → Course words table faulted book planned text
+    → EndingAt planned book.ending × (book.ending ≢ endings.NoMemory)
+planned_ending words table faulted book _ _ (usage none new) = unbegun book new
+planned_ending words table faulted book _ _ (named name _ _ said (fault rose new)) = unbegun book new
+planned_ending words table faulted book _ _ (named name _ _ said (absent holds new)) = unbegun book new
+planned_ending words table faulted book _ _ (named name _ _ said (long is new)) = unbegun book new
+planned_ending words table faulted book _ _ (named name _ _ said (found octets _ _ holds fits (refused r is new))) = unbegun book new
+planned_ending words table faulted book _ _ (named name _ _ said (found octets _ _ holds fits (done plan is fit all))) = done_ending plan book fit
+
+-- the ending goes with the status
+pub ending_is : (words : List (List ℕ)) (table : Option Table) (faulted : Type 0) (book : Book) (old new : Option (List ℕ)) (status : Status) → Ran words table faulted book old new status → EndingAt status book.ending
+ending_is words table faulted book old new status (inl memory) = rw memory tt
+ending_is words table faulted book old new status (inr (planned, text, course, inl e)) = rw e.0 (planned_ending words table faulted book planned text course).0
+ending_is words table faulted book old new status (inr (planned, text, course, inr e)) = rw e.0 (planned_ending words table faulted book planned text course).1

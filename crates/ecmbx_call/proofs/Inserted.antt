@@ -7,8 +7,8 @@ use Rattle.std.proofs.lemmas.Grind.{common_steps}
 use Rattle.object_dictionary.specs.declared.object.Object.{Object}
 use Rattle.object_dictionary.specs.Dictionary.{Table, object_of}
 use Rattle.object_dictionary.specs.Sound.{placed, is_rising, own_table}
-use Rattle.slave_app.specs.declared.spec.ObjectSpec.{ObjectSpec}
-use Rattle.scenario.specs.Sound.{kept, IsObject, indexes}
+use Rattle.segment_plan.specs.declared.slave.ObjectSpec.{ObjectSpec}
+use Rattle.segment_plan.specs.Sound.{kept, IsObject, indexes}
 use Rattle.ecmbx_call.specs.Meaning.{with_objects}
 
 -- no object of the table has this one's index

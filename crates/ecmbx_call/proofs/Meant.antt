@@ -15,7 +15,7 @@ use Rattle.coe_law.specs.Talks.{tables, means}
 use Rattle.ecmbx_call.specs.declared.app.App.{App}
 use Rattle.ecmbx_call.specs.declared.app.Performed.{Performed}
 use Rattle.ecmbx_call.specs.Exchange.{emergency_in}
-use Rattle.ecmbx_call.specs.Meaning.{counted, performed, written, told, emergency_of, sdo_meaning}
+use Rattle.ecmbx_call.specs.Meaning.{counted, performed, written, told, emergency_of, meaning_of}
 
 -- the application behind a meaning of the model, and what the service came to
 abbrev pub meant : App → Meaning Table → App × Performed
@@ -45,7 +45,7 @@ one_is : (app : App) (index sub : ℕ) (bytes : List ℕ) (r : Result Table ℕ)
 one_is app index sub bytes (Ok changed) = stored_is app changed bytes (index == 0x2F00) (sub == 1)
 one_is app index sub bytes (Err code) = refl
 
-pub meaning_is : (app : App) (service : SdoService) → sdo_meaning app service ≡ meant app (means app.al false app.objects (service_view service))
+pub meaning_is : (app : App) (service : SdoService) → meaning_of app service ≡ meant app (means app.al false app.objects (service_view service))
 meaning_is app (Download index sub bytes) = one_is app index sub bytes (download app.al app.objects index sub bytes)
 meaning_is app (Upload index sub) = told_is app (upload app.al app.objects index sub)
 meaning_is app (DownloadAll index from bytes) = all_is app index from bytes (download_all app.al app.objects index from bytes)
@@ -58,7 +58,7 @@ meaning_is app (EntryInfo index sub info) = told_is app (entry_info app.objects 
 pub carried_is : (app : App) (service : SdoService) (eoe : Bool) (objects : Table) (kind : ReplyKind) (value taken : List ℕ) (emits : List CoeMail) (given : Option (List ℕ)) → eoe ≡ false
     → objects ≡ (means app.al eoe app.objects (service_view service)).app → (kind, value) ≡ (means app.al eoe app.objects (service_view service)).reply
     → emits ≡ (means app.al eoe app.objects (service_view service)).emits → taken ≡ value → given ≡ emergency_in emits
-    → sdo_meaning app service ≡ (counted app objects, performed kind taken given)
+    → meaning_of app service ≡ (counted app objects, performed kind taken given)
 carried_is app service eoe objects kind value taken emits given none is_app is_reply is_emits is_taken is_given =
     let m = means app.al false app.objects (service_view service) in
     let a : objects ≡ m.app = is_app ∙ ap (λ e. (means app.al e app.objects (service_view service)).app) none in

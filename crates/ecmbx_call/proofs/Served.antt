@@ -1,21 +1,21 @@
 -- Carrying out the services of a list one by one, as a loop does.
-use Rattle.std.proofs.Common.{◌≡◌, ◌+◌, ◌<◌, ◌≤◌, ◌==◌, ℕ, Bool, true, false, List, [], ◌∷◌, ◌++◌, length, map, drop, get_or, if◌then◌else◌, Option, None, Result, Ok, Err, refl, ap, sym, subst, ◌∙◌, append_assoc, arith}
+use Rattle.std.proofs.Common.{◌≡◌, ◌+◌, ◌<◌, ◌≤◌, ℕ, List, [], ◌∷◌, ◌++◌, length, map, drop, get_or, Option, None, Some, Result, Ok, Err, refl, ap, sym, subst, ◌∙◌, append_assoc, arith}
 use Rattle.std.proofs.lemmas.List.{drop_more}
 use Rattle.object_dictionary.specs.Dictionary.{Table}
 use Rattle.object_dictionary.specs.declared.service.SdoService.TheVariants.{Download, Upload, DownloadAll, UploadAll, List as ObjectList, ObjectInfo, EntryInfo}
 use Rattle.object_dictionary.specs.Dictionary.{download, upload}
 use Rattle.object_dictionary.specs.Whole.{download_all, upload_all}
 use Rattle.object_dictionary.specs.Information.{list_info, object_info, entry_info}
-use Rattle.slave_app.specs.declared.service.Service.{Service}
-use Rattle.slave_app.specs.declared.service.Service.TheVariants.{Sdo}
-use Rattle.slave_app.specs.declared.spec.SlaveSpec.{SlaveSpec}
+use Rattle.object_dictionary.specs.declared.service.SdoService.{SdoService}
+use Rattle.segment_plan.specs.declared.service.Service.{Service}
+use Rattle.segment_plan.specs.declared.slave.SlaveSpec.{SlaveSpec}
 use Rattle.ecmbx_call.specs.declared.app.App.{App}
 use Rattle.ecmbx_call.specs.declared.book.SlaveBook.{SlaveBook}
-use Rattle.ecmbx_call.specs.Meaning.{written, told, emergency_of, app_of, meaning_of, meanings_of, listed, addressed}
+use Rattle.ecmbx_call.specs.Meaning.{written, told, emergency_of, app_of, meaning_of, meanings_of, listed, for_slave, addressed}
 use Rattle.ecmbx_call.specs.Book.{begun_at, begun_from, replied, TakesUp, TakesUpIf}
 
 -- what a row and the services that are left come to is what all services come to
-pub record HasServed (spec : SlaveSpec) (all left : List Service) (row : SlaveBook) : Type 0 where
+pub record HasServed (spec : SlaveSpec) (all left : List SdoService) (row : SlaveBook) : Type 0 where
   pub begun : row.begun ++ begun_from row.app.handled left ≡ begun_from 0 all
   pub app : (meanings_of row.app left).app ≡ (meanings_of (app_of spec) all).app
   pub answers : row.answers ++ map replied (meanings_of row.app left).replies ≡ map replied (meanings_of (app_of spec) all).replies
@@ -31,17 +31,17 @@ told_counts app (Ok bytes) = refl
 told_counts app (Err code) = refl
 
 -- each service is counted once
-pub counts_once : (app : App) (service : Service) → (meaning_of app service).0.handled ≡ app.handled + 1
-counts_once app (Sdo (Download index sub bytes)) = written_counts app (emergency_of index sub bytes) (download app.al app.objects index sub bytes)
-counts_once app (Sdo (Upload index sub)) = told_counts app (upload app.al app.objects index sub)
-counts_once app (Sdo (DownloadAll index from bytes)) = written_counts app None (download_all app.al app.objects index from bytes)
-counts_once app (Sdo (UploadAll index from)) = told_counts app (upload_all app.al app.objects index from)
-counts_once app (Sdo (ObjectList kind)) = told_counts app (list_info app.objects kind)
-counts_once app (Sdo (ObjectInfo index)) = told_counts app (object_info app.objects index)
-counts_once app (Sdo (EntryInfo index sub info)) = told_counts app (entry_info app.objects index sub)
+pub counts_once : (app : App) (service : SdoService) → (meaning_of app service).0.handled ≡ app.handled + 1
+counts_once app (Download index sub bytes) = written_counts app (emergency_of index sub bytes) (download app.al app.objects index sub bytes)
+counts_once app (Upload index sub) = told_counts app (upload app.al app.objects index sub)
+counts_once app (DownloadAll index from bytes) = written_counts app None (download_all app.al app.objects index from bytes)
+counts_once app (UploadAll index from) = told_counts app (upload_all app.al app.objects index from)
+counts_once app (ObjectList kind) = told_counts app (list_info app.objects kind)
+counts_once app (ObjectInfo index) = told_counts app (object_info app.objects index)
+counts_once app (EntryInfo index sub info) = told_counts app (entry_info app.objects index sub)
 
 -- one service more
-served_one : (spec : SlaveSpec) (all left : List Service) (service : Service) (old new : SlaveBook) → TakesUp old service new → HasServed spec all (service ∷ left) old → HasServed spec all left new
+served_one : (spec : SlaveSpec) (all left : List SdoService) (service : SdoService) (old new : SlaveBook) → TakesUp old service new → HasServed spec all (service ∷ left) old → HasServed spec all left new
 served_one spec all left service old new t h =
     let count : new.app.handled ≡ old.app.handled + 1 = ap (λ (a : App). a.handled) t.app ∙ counts_once old.app service in
     record {
@@ -52,16 +52,16 @@ served_one spec all left service old new t h =
       count = omega (arith, h.count, count);
     }
 
-served_if : (spec : SlaveSpec) (all rest : List Service) (service : Service) (mine : Bool) (old new : SlaveBook) → TakesUpIf mine old service new
-    → HasServed spec all (if mine then service ∷ rest else rest) old → HasServed spec all rest new × (new.app.handled ≤ old.app.handled + 1)
-served_if spec all rest service true old new t h =
+served_if : (spec : SlaveSpec) (all rest : List SdoService) (service : Option SdoService) (old new : SlaveBook) → TakesUpIf old service new
+    → HasServed spec all (listed service ++ rest) old → HasServed spec all rest new × (new.app.handled ≤ old.app.handled + 1)
+served_if spec all rest (Some service) old new t h =
     (served_one spec all rest service old new t h, omega (arith, ap (λ (a : App). a.handled) t.app ∙ counts_once old.app service))
-served_if spec all rest service false old new t h = rw t (h, omega arith)
+served_if spec all rest None old new t h = rw t (h, omega arith)
 
 -- one row of the plan more
-pub served_more : (spec : SlaveSpec) (all : List Service) (number : ℕ) (rows : List (ℕ × Service)) (i : ℕ) (row : ℕ × Service) (old new : SlaveBook) → i < length rows → row ≡ get_or rows i row
-    → TakesUpIf (row.0 == number) old row.1 new → HasServed spec all (addressed number (drop i rows)) old
+pub served_more : (spec : SlaveSpec) (all : List SdoService) (number : ℕ) (rows : List (ℕ × Service)) (i : ℕ) (row : ℕ × Service) (old new : SlaveBook) → i < length rows → row ≡ get_or rows i row
+    → TakesUpIf old (for_slave number row) new → HasServed spec all (addressed number (drop i rows)) old
     → HasServed spec all (addressed number (drop (i + 1) rows)) new × (new.app.handled ≤ old.app.handled + 1)
 served_more spec all number rows i row old new lt is t h =
     let split : drop i rows ≡ row ∷ drop (i + 1) rows = drop_more rows i row lt ∙ ap (λ r. r ∷ drop (i + 1) rows) (sym is) in
-    served_if spec all (addressed number (drop (i + 1) rows)) row.1 (row.0 == number) old new t (subst (λ l. HasServed spec all (addressed number l) old) split h)
+    served_if spec all (addressed number (drop (i + 1) rows)) (for_slave number row) old new t (subst (λ l. HasServed spec all (addressed number l) old) split h)

@@ -1,6 +1,6 @@
 -- The worked scenario by computation: its plain meaning, its report and its first mails.
-use Rattle.std.proofs.Common.{◌≡◌, ℕ, List, [], ◌∷◌, refl}
-use Rattle.std.specs.Prelude.{codes, false}
+use Rattle.std.proofs.Common.{◌≡◌, ℕ, List, [], ◌∷◌, None, true, false, refl}
+use Rattle.std.specs.Prelude.{codes}
 use Rattle.std.specs.Fmt.{digits, padded_integral, char_count}
 use Rattle.hex.specs.Hex.{encode_with}
 use Rattle.mailbox_mail.specs.declared.mail.Kind.TheVariants.{CoE}
@@ -9,7 +9,13 @@ use Rattle.mailbox_mail.specs.Mail.{mail_text}
 use Rattle.coe_codec.specs.declared.message.Coe.{Coe}
 use Rattle.coe_codec.specs.declared.message.Coe.TheVariants as messages
 use Rattle.coe_codec.specs.Writing.{coe_text}
-use Rattle.scenario.proofs.Rows.{plc, ordinary_plan}
+use Rattle.object_dictionary.specs.declared.entry.EntrySpec.{EntrySpec}
+use Rattle.object_dictionary.specs.declared.service.SdoService.TheVariants.{Download, Upload}
+use Rattle.segment_plan.specs.declared.slave.ObjectSpec.{ObjectSpec}
+use Rattle.segment_plan.specs.declared.slave.SlaveSpec.{SlaveSpec}
+use Rattle.segment_plan.specs.declared.service.Service.TheVariants.{Sdo}
+use Rattle.segment_plan.specs.declared.plan.Scenario.{Scenario}
+use Rattle.scenario.specs.Runs.{unsupported_at}
 use Rattle.ecmbx_call.specs.declared.book.Book.{Book}
 use Rattle.ecmbx_call.specs.declared.book.SlaveBook.{SlaveBook}
 use Rattle.ecmbx_call.specs.declared.book.Ending.TheVariants as endings
@@ -17,6 +23,49 @@ use Rattle.ecmbx_call.specs.Meaning.{app_of, meanings_of, addressed}
 use Rattle.ecmbx_call.specs.Book.{begun_from, replied}
 use Rattle.ecmbx_call.specs.Report.{report_lines}
 use Rattle.ecmbx_call.specs.Course.{text_of}
+
+abbrev setpoint : EntrySpec
+setpoint = record { kind = 7; access = 63; least = 4; most = 4; min = None; max = None; name = []; value = 0 ∷ 0 ∷ 0 ∷ 0 ∷ [] }
+
+abbrev setpoints : ObjectSpec
+setpoints = record { index = 8192; code = 8; name = codes "Setpoints"; entries = setpoint ∷ [] }
+
+-- one slave with an array of one entry
+abbrev plc : SlaveSpec
+plc = record {
+  name = codes "plc";
+  station = 4097;
+  out_len = 64;
+  in_len = 64;
+  «coe» = true;
+  foe = false;
+  eoe = false;
+  soe = false;
+  boot = false;
+  start = 2;
+  blocks = 64;
+  mac = 0 ∷ 0 ∷ 0 ∷ 0 ∷ 0 ∷ 0 ∷ [];
+  fixed_ip = false;
+  objects = setpoints ∷ [];
+  files = [];
+  idns = [];
+}
+
+-- a download to it and an upload
+abbrev ordinary_plan : Scenario
+ordinary_plan = record {
+  retry = 3;
+  recover = 0;
+  budget = None;
+  lose = [];
+  slaves = plc ∷ [];
+  services = (0, Sdo (Download 8192 1 (1 ∷ 2 ∷ 3 ∷ 4 ∷ []))) ∷ (0, Sdo (Upload 8192 1)) ∷ [];
+  host = [];
+  paces = 1 ∷ [];
+}
+
+pub ordinary_plan_is_run : unsupported_at ordinary_plan ≡ None
+ordinary_plan_is_run = refl
 
 -- what a download and an upload of the same entry come to
 pub ordinary_replies_are : (meanings_of (app_of plc) (addressed 0 ordinary_plan.services)).replies ≡ record { kind = Done; value = [] } ∷ record { kind = Value; value = 1 ∷ 2 ∷ 3 ∷ 4 ∷ [] } ∷ []

@@ -1,16 +1,18 @@
 -- What a call of the program does, from its words to its status: one case for each row of the table of answers.
-use Rattle.std.specs.Prelude.{◌≡◌, ℕ, ◌<◌, ◌≤◌, ◌⊎◌, List, [], ◌∷◌, ◌++◌, length, codes, map, String, string_bytes, Option, Some, None, Ok, Err, if◌then◌else◌}
+use Rattle.std.specs.Prelude.{◌≡◌, ◌≢◌, ℕ, ◌<◌, ◌≤◌, ◌⊎◌, List, [], ◌∷◌, ◌++◌, length, codes, map, String, string_bytes, Option, Some, None, Ok, Err, if◌then◌else◌}
 use Rattle.std.specs.Str.{bytes_eq}
 use Rattle.std.specs.declared.alloc.Global.{Global}
 use Rattle.ec_outside.specs.Files.{Table, file_of}
 use Rattle.ec_outside.specs.Sink.{Wrote, WrotePrefix}
-use Rattle.scenario.specs.declared.plan.Scenario.{Scenario}
-use Rattle.scenario.specs.declared.refusal.Refusal.{Refusal}
-use Rattle.scenario.specs.Scenario.{plan_of}
+use Rattle.segment_plan.specs.declared.plan.Scenario.{Scenario}
+use Rattle.scenario_keys.specs.declared.refusal.Refusal.{Refusal}
+use Rattle.ecmbx_call.specs.Plan.{built_plan_of}
 use Rattle.ecmbx_call.specs.declared.status.Status.{Status}
 use Rattle.ecmbx_call.specs.declared.status.Status.TheVariants as statuses
 use Rattle.ecmbx_call.specs.declared.book.Book.{Book}
-use Rattle.ecmbx_call.specs.Book.{IsNew, Fits, AllDone}
+use Rattle.ecmbx_call.specs.declared.book.Ending.{Ending}
+use Rattle.ecmbx_call.specs.declared.book.Ending.TheVariants as endings
+use Rattle.ecmbx_call.specs.Book.{IsNew, Fits, AllDone, HasRun}
 use Rattle.ecmbx_call.specs.Report.{report_lines}
 use Rattle.ecmbx_call.specs.Texts.{usage_line, absent_line, long_line, fault_line, refused_line}
 
@@ -44,8 +46,8 @@ text_of (line ∷ lines) = line ++ text_of lines
 
 -- how a call with the octets of a file is to end, and the text to be put
 pub data OctetsCourse (octets : List ℕ) (book : Book) : Status → List ℕ → Type 0 where
-  refused : (e : Refusal) → plan_of octets ≡ Err e → IsNew book → OctetsCourse octets book statuses.Refused (refused_line e)
-  done : (plan : Scenario) → plan_of octets ≡ Ok plan → Fits book plan → AllDone book plan → OctetsCourse octets book statuses.Done (text_of (report_lines plan book))
+  refused : (e : Refusal) → built_plan_of octets ≡ Err e → IsNew book → OctetsCourse octets book statuses.Refused (refused_line e)
+  done : (plan : Scenario) → built_plan_of octets ≡ Ok plan → Fits book plan → AllDone book plan → OctetsCourse octets book statuses.Done (text_of (report_lines plan book))
 
 -- how a call with the name of a file is to end, and the text to be put
 pub data FileCourse (name : List ℕ) (table : Option Table) (faulted : Type 0) (book : Book) : Status → List ℕ → Type 0 where
@@ -80,10 +82,35 @@ FileRan name table faulted book = Followed (FileCourse name table faulted book)
 abbrev pub Ran : List (List ℕ) → Option Table → Type 0 → Book → Option (List ℕ) → Option (List ℕ) → Status → Type 0
 Ran words table faulted book = Followed (Course words table faulted book)
 
+-- a run of the plan that octets write, and what it came to
+abbrev pub BeganOn : List ℕ → Book → Type 0
+BeganOn octets book = (plan : Scenario) × (built_plan_of octets ≡ Ok plan) × HasRun plan book
+
+-- the same of the file under a name
+abbrev pub BeganIn : List ℕ → Option Table → Book → Type 0
+BeganIn name table book = (octets : List ℕ) × Holds table name (Some octets) × BeganOn octets book
+
+-- the same of the file that the words name
+abbrev pub Began : List (List ℕ) → Option Table → Book → Type 0
+Began words table book = (name : List ℕ) × (name_in words ≡ Some name) × BeganIn name table book
+
+-- How a book's run ended, by the status: it is done, it didn't begin, or the sink failed behind either. After want of
+-- memory each is possible.
+abbrev pub EndingAt : Status → Ending → Type 0
+EndingAt statuses.Done ending = ending ≡ endings.Done
+EndingAt statuses.SinkFault ending = ending ≢ endings.NoMemory
+EndingAt statuses.NoMemory ending = Unit {0}
+EndingAt _ ending = ending ≡ endings.Unfinished
+
 -- a status out of some
 abbrev pub IsAmong : List Status → Status → Type 0
 IsAmong [] status = ⊥
 IsAmong (one ∷ others) status = (status ≡ one) ⊎ IsAmong others status
+
+-- a status that a call ends with so far
+abbrev pub IsAnswer : Status → Type 0
+IsAnswer status =
+    IsAmong (statuses.Done ∷ statuses.Refused ∷ statuses.Usage ∷ statuses.Absent ∷ statuses.TooLong ∷ statuses.FileFault ∷ statuses.SinkFault ∷ statuses.NoMemory ∷ []) status
 
 -- Usage comes only where the words are no form, and no other answer comes there but a fault of the sink.
 abbrev pub UsageCause : List (List ℕ) → Status → Type 0
@@ -104,14 +131,14 @@ LongCause words table status =
     × ((name octets : List ℕ) (files : Table) → name_in words ≡ Some name → table ≡ Some files → file_of name files ≡ Some octets → limit < length octets
     → IsAmong (statuses.TooLong ∷ statuses.FileFault ∷ statuses.SinkFault ∷ statuses.NoMemory ∷ []) status)
 
--- Refused comes only where the file's octets are refused, and no other answer comes there but a fault.
+-- Refused comes only where the file's octets are refused or not run, and no other answer comes there but a fault.
 abbrev pub RefusedCause : List (List ℕ) → Option Table → Status → Type 0
 RefusedCause words table status =
-    (status ≡ statuses.Refused → (name octets : List ℕ) × (e : Refusal) × (name_in words ≡ Some name) × Holds table name (Some octets) × (plan_of octets ≡ Err e))
-    × ((name octets : List ℕ) (files : Table) (e : Refusal) → name_in words ≡ Some name → table ≡ Some files → file_of name files ≡ Some octets → length octets ≤ limit → plan_of octets ≡ Err e
+    (status ≡ statuses.Refused → (name octets : List ℕ) × (e : Refusal) × (name_in words ≡ Some name) × Holds table name (Some octets) × (built_plan_of octets ≡ Err e))
+    × ((name octets : List ℕ) (files : Table) (e : Refusal) → name_in words ≡ Some name → table ≡ Some files → file_of name files ≡ Some octets → length octets ≤ limit → built_plan_of octets ≡ Err e
     → IsAmong (statuses.Refused ∷ statuses.FileFault ∷ statuses.SinkFault ∷ statuses.NoMemory ∷ []) status)
 
--- a found file that is a scenario
+-- a found file that is a scenario and is run
 pub record IsScenario (words : List (List ℕ)) (table : Option Table) (plan : Scenario) : Type 0 where
   pub name : List ℕ
   pub files : Table
@@ -120,7 +147,7 @@ pub record IsScenario (words : List (List ℕ)) (table : Option Table) (plan : S
   pub told : table ≡ Some files
   pub there : file_of name files ≡ Some octets
   pub fits : length octets ≤ limit
-  pub planned : plan_of octets ≡ Ok plan
+  pub planned : built_plan_of octets ≡ Ok plan
 
 -- The answers are the plain meaning of the services on the slave's application, each carried out once and in order; and
 -- what is written is the report of that, or a prefix of it where the sink failed.

@@ -1,4 +1,5 @@
 pub mod Status
+pub mod Plan
 pub mod Meaning
 pub mod Exchange
 pub mod Book

@@ -8,13 +8,13 @@ use Rattle.object_dictionary.specs.Dictionary.{Table, download, upload}
 use Rattle.object_dictionary.specs.Whole.{download_all, upload_all}
 use Rattle.object_dictionary.specs.Information.{list_info, object_info, entry_info}
 use Rattle.object_dictionary.specs.Sound.{placed, own_table}
-use Rattle.slave_app.specs.declared.spec.ObjectSpec.{ObjectSpec}
-use Rattle.slave_app.specs.declared.spec.SlaveSpec.{SlaveSpec}
-use Rattle.slave_app.specs.declared.service.Service.{Service}
-use Rattle.slave_app.specs.declared.service.Service.TheVariants.{Sdo}
-use Rattle.slave_app.specs.declared.reply.Reply.{Reply}
-use Rattle.scenario.specs.Sound.{kept}
+use Rattle.segment_plan.specs.declared.slave.ObjectSpec.{ObjectSpec}
+use Rattle.segment_plan.specs.declared.slave.SlaveSpec.{SlaveSpec}
+use Rattle.segment_plan.specs.declared.service.Service.{Service}
+use Rattle.segment_plan.specs.declared.service.Service.TheVariants.{Sdo}
+use Rattle.segment_plan.specs.Sound.{kept}
 use Rattle.ecmbx_call.specs.declared.app.App.{App}
+use Rattle.ecmbx_call.specs.declared.app.Reply.{Reply}
 use Rattle.ecmbx_call.specs.declared.app.Performed.{Performed}
 
 -- a dictionary with more objects, each at its place among the indexes
@@ -51,18 +51,15 @@ told app (Err code) = refused app code
 abbrev pub emergency_of : ℕ → ℕ → List ℕ → Option (List ℕ)
 emergency_of index sub bytes = if index == 0x2F00 && sub == 1 then Some bytes else None
 
-abbrev pub sdo_meaning : App → SdoService → App × Performed
-sdo_meaning app (Download index sub bytes) = written app (emergency_of index sub bytes) (download app.al app.objects index sub bytes)
-sdo_meaning app (Upload index sub) = told app (upload app.al app.objects index sub)
-sdo_meaning app (DownloadAll index from bytes) = written app None (download_all app.al app.objects index from bytes)
-sdo_meaning app (UploadAll index from) = told app (upload_all app.al app.objects index from)
-sdo_meaning app (ObjectList kind) = told app (list_info app.objects kind)
-sdo_meaning app (ObjectInfo index) = told app (object_info app.objects index)
-sdo_meaning app (EntryInfo index sub info) = told app (entry_info app.objects index sub)
-
 -- what a service does to an application, its reply, and the emergency that it emits
-abbrev pub meaning_of : App → Service → App × Performed
-meaning_of app (Sdo service) = sdo_meaning app service
+abbrev pub meaning_of : App → SdoService → App × Performed
+meaning_of app (Download index sub bytes) = written app (emergency_of index sub bytes) (download app.al app.objects index sub bytes)
+meaning_of app (Upload index sub) = told app (upload app.al app.objects index sub)
+meaning_of app (DownloadAll index from bytes) = written app None (download_all app.al app.objects index from bytes)
+meaning_of app (UploadAll index from) = told app (upload_all app.al app.objects index from)
+meaning_of app (ObjectList kind) = told app (list_info app.objects kind)
+meaning_of app (ObjectInfo index) = told app (object_info app.objects index)
+meaning_of app (EntryInfo index sub info) = told app (entry_info app.objects index sub)
 
 -- what services came to: the application behind them, their replies, and the emergencies that they emitted
 pub record Meanings : Type 0 where
@@ -70,19 +67,29 @@ pub record Meanings : Type 0 where
   pub replies : List Reply
   pub emergencies : List (List ℕ)
 
-abbrev pub listed : Option (List ℕ) → List (List ℕ)
+-- what is there, as a list
+abbrev pub listed : {A : Type 0} → Option A → List A
 listed None = []
-listed (Some octets) = octets ∷ []
+listed (Some x) = x ∷ []
 
 abbrev pub preceded : Performed → Meanings → Meanings
 preceded first later = record { app = later.app; replies = first.reply ∷ later.replies; emergencies = listed first.emergency ++ later.emergencies }
 
 -- services one after the other
-abbrev pub meanings_of : App → List Service → Meanings
+abbrev pub meanings_of : App → List SdoService → Meanings
 meanings_of app [] = record { app = app; replies = []; emergencies = [] }
 meanings_of app (service ∷ services) = preceded (meaning_of app service).1 (meanings_of (meaning_of app service).0 services)
 
--- the services addressed to the slave of a number
-abbrev pub addressed : ℕ → List (ℕ × Service) → List Service
+-- the service of CoE, where it is one
+abbrev pub sdo_in : Service → Option SdoService
+sdo_in (Sdo service) = Some service
+sdo_in _ = None
+
+-- the same where it is addressed to the slave of a number
+abbrev pub for_slave : ℕ → ℕ × Service → Option SdoService
+for_slave slave row = if row.0 == slave then sdo_in row.1 else None
+
+-- the services of CoE addressed to the slave of a number; a plan that is run has no others
+abbrev pub addressed : ℕ → List (ℕ × Service) → List SdoService
 addressed slave [] = []
-addressed slave (row ∷ rows) = if row.0 == slave then row.1 ∷ addressed slave rows else addressed slave rows
+addressed slave (row ∷ rows) = listed (for_slave slave row) ++ addressed slave rows

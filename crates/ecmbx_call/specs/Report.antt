@@ -4,8 +4,8 @@ use Rattle.std.specs.Fmt.{decimal, digits, format_spec, padded_integral}
 use Rattle.hex.specs.Hex.{encode_lower}
 use Rattle.mailbox_mail.specs.declared.outcome.ReplyKind.{ReplyKind}
 use Rattle.mailbox_mail.specs.declared.outcome.ReplyKind.TheVariants as kinds
-use Rattle.slave_app.specs.declared.spec.SlaveSpec.{SlaveSpec}
-use Rattle.scenario.specs.declared.plan.Scenario.{Scenario}
+use Rattle.segment_plan.specs.declared.slave.SlaveSpec.{SlaveSpec}
+use Rattle.segment_plan.specs.declared.plan.Scenario.{Scenario}
 use Rattle.ecmbx_call.specs.declared.book.Book.{Book}
 use Rattle.ecmbx_call.specs.declared.book.SlaveBook.{SlaveBook}
 use Rattle.ecmbx_call.specs.declared.book.Answer.{Answer}

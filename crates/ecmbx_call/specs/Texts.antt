@@ -1,10 +1,10 @@
 -- The lines put where nothing runs.
 use Rattle.std.specs.Prelude.{ℕ, List, ◌++◌, codes}
 use Rattle.std.specs.Fmt.{decimal}
-use Rattle.scenario.specs.declared.place.Place.{Place}
-use Rattle.scenario.specs.declared.place.Place.TheVariants as places
-use Rattle.scenario.specs.declared.refusal.Refusal.{Refusal}
-use Rattle.scenario.specs.Rules.{number_of}
+use Rattle.scenario_keys.specs.declared.place.Place.{Place}
+use Rattle.scenario_keys.specs.declared.place.Place.TheVariants as places
+use Rattle.scenario_keys.specs.declared.refusal.Refusal.{Refusal}
+use Rattle.scenario_keys.specs.Rules.{number_of}
 
 abbrev pub usage_line : List ℕ
 usage_line = codes "usage: ecmbx run SCENARIO [CAPTURE] | decode CAPTURE | serve SCENARIO COUNT | make SEED SIZE\n"

@@ -1,11 +1,11 @@
 ghost use Rattle.std.specs.Prelude.{◌≡◌, IfOk};
-ghost use Rattle.scenario.specs.Sound.{IsSlave};
+ghost use Rattle.segment_plan.specs.Sound.{IsSlave};
 ghost use Rattle.ecmbx_call.specs.Meaning.{app_of};
 
-use crate::rows::put;
 use ec_fields::{NoMemory, Octets, Rows};
+use mailbox_mail::ReplyKind;
 use object_dictionary::{EntrySpec, Objects};
-use slave_app::{ObjectSpec, Reply, SlaveSpec};
+use segment_plan::{ObjectSpec, SlaveSpec};
 use std::alloc::Global;
 
 /// The application of a slave: what its services act on.
@@ -19,7 +19,16 @@ pub struct App {
     pub handled: u64,
 }
 
-/// What a service came to.
+/// What a service came to, and its value.
+#[derive(Debug, Drop)]
+pub struct Reply {
+    /// What the service came to.
+    pub kind: ReplyKind,
+    /// The value, where the kind is `Value`; else empty.
+    pub value: Octets,
+}
+
+/// What a service came to, and what it emitted.
 #[derive(Debug, Drop)]
 pub struct Performed {
     /// The reply.
@@ -51,7 +60,7 @@ fn copy_of_object(alloc: Global, object: &ObjectSpec) -> Result<ObjectSpec, NoMe
     let name = Octets::copy_of(alloc, object.name.bytes())?;
     let mut entries = Rows::new(alloc);
     for entry in object.entries.as_slice() {
-        put(&mut entries, copy_of_entry(alloc, entry)?)?;
+        entries.add(copy_of_entry(alloc, entry)?)?;
     }
     Ok(ObjectSpec {
         index: object.index,

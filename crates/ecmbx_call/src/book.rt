@@ -1,8 +1,7 @@
 ghost use Rattle.ecmbx_call.specs.Book.{IsNew};
 
-use crate::app::App;
+use crate::app::{App, Reply};
 use ec_fields::{Octets, Rows};
-use slave_app::Reply;
 use std::alloc::Global;
 
 /// What became of a frame.

@@ -1,16 +1,15 @@
 ghost use Rattle.std.specs.Prelude.{◌≡◌, ◌<◌, ◌≤◌, ◌^◌, ◌-◌, [], IfOk};
 ghost use Rattle.coe_law.specs.Talks.{emission_mails};
-ghost use Rattle.scenario.specs.Sound.{IsSdo};
+ghost use Rattle.segment_plan.specs.Sound.{IsSdo};
 ghost use Rattle.ecmbx_call.specs.Exchange.{emergency_in};
-ghost use Rattle.ecmbx_call.specs.Meaning.{sdo_meaning};
+ghost use Rattle.ecmbx_call.specs.Meaning.{meaning_of};
 
-use crate::app::{App, Performed};
+use crate::app::{App, Performed, Reply};
 use coe_client::CoeClient;
 use coe_law::{Emission, Mailboxes, carry_out};
 use coe_server::CoeServer;
 use ec_fields::{NoMemory, Octets};
 use object_dictionary::SdoService;
-use slave_app::Reply;
 use std::alloc::Global;
 use std::marker::Model;
 
@@ -78,7 +77,7 @@ pub fn exchange(
 ) -> Result<Performed, NoMemory>
     requires sdo { IsSdo service.now }
     requires few { app.old.handled < 2 ^ 64 - 1 }
-    ensures meaning { IfOk result (λ performed. sdo_meaning app.old service.now ≡ (app.new, performed)) }
+    ensures meaning { IfOk result (λ performed. meaning_of app.old service.now ≡ (app.new, performed)) }
     ensures lengths { link.new ≡ link.old }
 {
     let al = app.al;

@@ -6,15 +6,16 @@ mod app;
 mod book;
 mod exchange;
 mod lines;
+mod planning;
 mod reporting;
-mod rows;
 mod running;
 mod status;
 mod texts;
 mod top;
 
-pub use app::{App, Performed};
+pub use app::{App, Performed, Reply};
 pub use book::{Answer, Begun, Book, Ending, Fate, Origin, SentFrame, SlaveBook};
+pub use planning::read_plan;
 pub use reporting::report;
 pub use running::run;
 pub use status::Status;

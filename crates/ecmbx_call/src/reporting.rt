@@ -2,12 +2,11 @@ ghost use Rattle.std.specs.Prelude.{◌≡◌, ◌∷◌, [], ◌++◌, length, 
 ghost use Rattle.ecmbx_call.specs.declared.book.Ending.TheVariants.{Done};
 ghost use Rattle.ecmbx_call.specs.Report.{hex_of, is_lost, frames_line, value_text, kind_text, answer_line, answer_lines, station_text, handled_text, slave_line, emergency_line, emergency_lines, lines_of_slave, slave_lines, dropped_line, done_line, report_lines, Extends};
 
+use crate::app::Reply;
 use crate::book::{Answer, Book, Fate, SentFrame, SlaveBook};
-use crate::rows::put;
 use ec_fields::{NoMemory, Octets, Rows};
 use mailbox_mail::ReplyKind;
-use scenario::Scenario;
-use slave_app::{Reply, SlaveSpec};
+use segment_plan::{Scenario, SlaveSpec};
 use std::alloc::Global;
 
 fn is_lost_frame(fate: Fate) -> bool
@@ -125,7 +124,7 @@ fn push_answers(alloc: Global, answers: &[Answer], into: &mut Rows<Octets>) -> R
 {
     for (number, answer) in answers.iter().enumerate() {
         let line = answer_text_line(alloc, number, answer)?;
-        put(into, line)?;
+        into.add(line)?;
     }
     Ok(())
 }
@@ -150,7 +149,7 @@ fn push_emergencies(
 {
     for octets in emergencies {
         let line = emergency_text_line(alloc, octets.bytes())?;
-        put(into, line)?;
+        into.add(line)?;
     }
     Ok(())
 }
@@ -166,7 +165,7 @@ fn push_slave(
     ensures err { OnErr result (Extends into.old into.new) }
 {
     let line = slave_text_line(alloc, number, spec, row)?;
-    put(into, line)?;
+    into.add(line)?;
     push_answers(alloc, row.answers.as_slice(), into)?;
     push_emergencies(alloc, row.emergencies.as_slice(), into)
 }
@@ -191,8 +190,8 @@ fn push_end(alloc: Global, into: &mut Rows<Octets>) -> Result<(), NoMemory>
     ensures ok { OnOk result (into.new ≡ into.old ++ dropped_line ∷ done_line ∷ []) }
     ensures err { OnErr result (Extends into.old into.new) }
 {
-    put(into, Octets::copy_of(alloc, b"dropped 0\n")?)?;
-    put(into, Octets::copy_of(alloc, b"status 0 done\n")?)?;
+    into.add(Octets::copy_of(alloc, b"dropped 0\n")?)?;
+    into.add(Octets::copy_of(alloc, b"status 0 done\n")?)?;
     Ok(())
 }
 
@@ -209,7 +208,7 @@ pub fn report(
     ensures ok { OnOk result (into.new ≡ into.old ++ report_lines scenario.now book.now) }
     ensures err { OnErr result (Extends into.old into.new) }
 {
-    put(into, frames_text(alloc, book.frames.as_slice())?)?;
+    into.add(frames_text(alloc, book.frames.as_slice())?)?;
     push_slaves(
         alloc,
         scenario.slaves.as_slice(),

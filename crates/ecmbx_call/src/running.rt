@@ -1,16 +1,16 @@
-ghost use Rattle.std.specs.Prelude.{◌≡◌, [], ◌++◌, ◌⊎◌, length, IfOk, OnOk, All, ◌≤◌, ◌<◌, ◌==◌};
+ghost use Rattle.std.specs.Prelude.{◌≡◌, [], ◌++◌, ◌⊎◌, length, IfOk, OnOk, All, ◌≤◌, ◌<◌};
 ghost use Rattle.ecmbx_call.specs.declared.book.Ending.TheVariants as endings;
-ghost use Rattle.scenario.specs.Sound.{IsPlan, IsSlave, IsAddressed, IsService};
-ghost use Rattle.ecmbx_call.specs.Meaning.{listed, addressed};
-ghost use Rattle.ecmbx_call.specs.Book.{IsNew, FitsSlave, FitSlaves, AllCarriedOut, Fits, AllDone, TakesUp, TakesUpIf};
+ghost use Rattle.segment_plan.specs.Sound.{IsSlave, IsAddressed, IsSdo, IsService};
+ghost use Rattle.ecmbx_call.specs.Plan.{IsBuilt};
+ghost use Rattle.ecmbx_call.specs.Meaning.{listed, for_slave, addressed};
+ghost use Rattle.ecmbx_call.specs.Book.{IsNew, FitsSlave, FitSlaves, AllCarriedOut, Fits, AllDone, HasRunOut, TakesUp, TakesUpIf};
 
 use crate::app::App;
 use crate::book::{Answer, Begun, Book, Ending, Origin, SlaveBook};
 use crate::exchange::{Link, exchange};
-use crate::rows::put;
 use ec_fields::{NoMemory, Octets, Rows};
-use scenario::Scenario;
-use slave_app::{Service, SlaveSpec};
+use object_dictionary::SdoService;
+use segment_plan::{Scenario, Service, SlaveSpec};
 use std::alloc::Global;
 
 fn note_emergency(row: &mut SlaveBook, emergency: Option<Octets>) -> Result<(), NoMemory>
@@ -20,7 +20,7 @@ fn note_emergency(row: &mut SlaveBook, emergency: Option<Octets>) -> Result<(), 
     ensures noted { OnOk result (row.new.emergencies ≡ row.old.emergencies ++ listed emergency) }
 {
     match emergency {
-        Some(octets) => put(&mut row.emergencies, octets),
+        Some(octets) => row.emergencies.add(octets),
         None => Ok(()),
     }
 }
@@ -30,28 +30,25 @@ fn take_up(
     alloc: Global,
     row: &mut SlaveBook,
     link: &mut Link,
-    service: &Service,
+    service: &SdoService,
 ) -> Result<(), NoMemory>
-    requires sdo { IsService service.now }
+    requires sdo { IsSdo service.now }
     requires few { row.old.app.handled < 4096 }
     ensures takes { OnOk result (TakesUp row.old service.now row.new) }
 {
     let number = row.app.handled as u32;
-    let Service::Sdo(sdo) = service;
-    let performed = exchange(alloc, &mut row.app, link, sdo)?;
-    put(
-        &mut row.begun,
-        Begun {
-            origin: Origin::Script(number),
-            frame: 0,
-        },
-    )?;
+    let performed = exchange(alloc, &mut row.app, link, service)?;
+    row.begun.add(Begun {
+        origin: Origin::Script(number),
+        frame: 0,
+    })?;
     let reply = performed.reply;
-    put(&mut row.answers, Answer::Replied { reply, frame: 0 })?;
+    row.answers.add(Answer::Replied { reply, frame: 0 })?;
     note_emergency(row, performed.emergency)
 }
 
-/// Takes up a service where it is addressed to the slave of this number.
+/// Takes up a service where it is one of CoE, addressed to the slave of this number. A plan that is
+/// run has no other services.
 fn take_up_addressed(
     alloc: Global,
     row: &mut SlaveBook,
@@ -62,12 +59,19 @@ fn take_up_addressed(
 ) -> Result<(), NoMemory>
     requires sdo { IsService service.now }
     requires few { row.old.app.handled < 4096 }
-    ensures takes { OnOk result (TakesUpIf (slave == number) row.old service.now row.new) }
+    ensures takes { OnOk result (TakesUpIf row.old (for_slave number (slave, service.now)) row.new) }
 {
-    if slave as usize == number {
-        take_up(alloc, row, link, service)
-    } else {
-        Ok(())
+    match service {
+        Service::Sdo(service) if slave as usize == number => take_up(alloc, row, link, service),
+        Service::Sdo(_)
+        | Service::ReadFile { .. }
+        | Service::WriteFile { .. }
+        | Service::ReadIdn { .. }
+        | Service::WriteIdn { .. }
+        | Service::SetIp { .. }
+        | Service::GetIp
+        | Service::State { .. }
+        | Service::Forward(_) => Ok(()),
     }
 }
 
@@ -99,7 +103,7 @@ fn serve_slave(
 }
 
 fn serve_all(alloc: Global, scenario: &Scenario) -> Result<Rows<SlaveBook>, NoMemory>
-    requires { IsPlan scenario.now }
+    requires { IsBuilt scenario.now }
     ensures many { IfOk result (λ rows. length rows ≡ length scenario.now.slaves) }
     ensures fits { IfOk result (FitSlaves 0 scenario.now.services scenario.now.slaves) }
     ensures all { IfOk result (AllCarriedOut 0 scenario.now.services) }
@@ -113,20 +117,21 @@ fn serve_all(alloc: Global, scenario: &Scenario) -> Result<Rows<SlaveBook>, NoMe
             scenario.services.as_slice(),
             scenario.slaves.len(),
         )?;
-        put(&mut rows, row)?;
+        rows.add(row)?;
     }
     Ok(rows)
 }
 
 /// Runs the scenario: each service is handed over as a mail and answered by a mail. The book then
-/// has what was carried out and answered.
+/// has what was carried out and answered; after `NoMemory` it has no slaves.
 pub fn run(alloc: Global, scenario: &Scenario, book: &mut Book) -> Ending
-    requires plan { IsPlan scenario.now }
+    requires plan { IsBuilt scenario.now }
     requires new { IsNew book.old }
     ensures ending { book.new.ending ≡ result }
     ensures rows { result ≡ endings.Done → length book.new.slaves ≡ length scenario.now.slaves }
     ensures fits { result ≡ endings.Done → Fits book.new scenario.now }
     ensures all { result ≡ endings.Done → AllDone book.new scenario.now }
+    ensures run_out { result ≡ endings.NoMemory → HasRunOut book.new }
     ensures memory { (result ≡ endings.Done) ⊎ (result ≡ endings.NoMemory) }
     ensures frames { book.new.frames ≡ [] }
 {

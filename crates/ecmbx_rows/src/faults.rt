@@ -6,7 +6,7 @@ const USAGE: &str =
     "usage: ecmbx run SCENARIO [CAPTURE] | decode CAPTURE | serve SCENARIO COUNT | make SEED SIZE\n";
 
 /// Words that are no form, a file that isn't there, one that can't be loaded, one that is no
-/// document, one that isn't of the form that is built, and a sink that fails at its second line.
+/// document, one with a number out of range, and a sink that fails at its second line.
 #[test]
 fn faults_are_told(rt: HostRuntime) -> Result<(), Fail> {
     let run: &[&str] = &["run", "scenario.toml"];
@@ -35,7 +35,7 @@ fn faults_are_told(rt: HostRuntime) -> Result<(), Fail> {
             None,
             None,
             Status::Refused,
-            "refused S13 at top\n",
+            "refused S6 at top\n",
         ),
         (
             run,

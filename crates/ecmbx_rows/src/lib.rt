@@ -7,6 +7,8 @@ mod faults;
 #[cfg(test)]
 mod objects;
 #[cfg(test)]
+mod refusals;
+#[cfg(test)]
 mod services;
 #[cfg(test)]
 mod stage;

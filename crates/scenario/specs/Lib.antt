@@ -1,5 +1,2 @@
-pub mod Rules
-pub mod Reading
-pub mod Keys
-pub mod Scenario
-pub mod Sound
+pub mod Document
+pub mod Runs

@@ -1,18 +1,13 @@
-//! Scenarios: the slaves of a segment and the services addressed to them, read from TOML. What is
-//! read is the plan of the file, or the first refusal with its place.
+//! Scenarios: the plan of a segment, read from TOML. What is read is the plan of the file, or the first refusal with its place.
 #![tactic(auto)]
 
-mod keys;
-mod objects;
-mod place;
-mod plan;
+mod built;
+mod document;
+mod losses;
 mod reading;
-mod refusal;
-mod services;
-mod slaves;
-mod tables;
+mod whole;
 
-pub use place::Place;
-pub use plan::Scenario;
+pub use built::unsupported;
 pub use reading::read;
-pub use refusal::ReadErr;
+pub use scenario_keys::{Place, ReadErr};
+pub use segment_plan::{Scenario, bound};

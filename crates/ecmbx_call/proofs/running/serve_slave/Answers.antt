@@ -1,6 +1,6 @@
 use Rattle.std.proofs.Common.{arith, subst, sym}
 use Rattle.std.proofs.lemmas.List.Elements.{All-get_or}
-use Rattle.scenario.specs.Sound.{IsAddressed}
+use Rattle.segment_plan.specs.Sound.{IsAddressed}
 use Rattle.ecmbx_call.specs.Meaning.{addressed}
 use Rattle.ecmbx_call.proofs.Served.{served_more}
 use Rattle.ecmbx_call.proofs.running.serve_slave.Goals as goal

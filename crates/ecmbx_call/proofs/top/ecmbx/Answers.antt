@@ -1,6 +1,6 @@
 use Rattle.ec_outside.specs.Faults.{Rose}
 use Rattle.ecmbx_call.specs.Course.{words_of}
-use Rattle.ecmbx_call.proofs.Causes.{usage_cause, absent_cause, long_cause, refused_cause, file_fault_cause, answers_are, found_headline, found_completes}
+use Rattle.ecmbx_call.proofs.Causes.{usage_cause, absent_cause, long_cause, refused_cause, file_fault_cause, answers_are, ending_is, found_headline, found_completes}
 use Rattle.ecmbx_call.proofs.top.ecmbx.Goals as goal
 
 pub returns-clause-headline : goal.returns-clause-headline
@@ -42,4 +42,9 @@ returns-clause-file_fault g c =
 pub returns-clause-answers : goal.returns-clause-answers
 returns-clause-answers g c =
     answers_are (words_of c.args.words.now) (g.F.Files.table c.args.files.now) (Rose (g.F.Files.file_faults c.args.files.now) (g.F.Files.file_faults c.carry_out.new.files)) c.carry_out.new.book (g.O.Sink.written c.args.out.now)
+    (g.O.Sink.written c.carry_out.new.out) c.carry_out.result c.carry_out.ensures.course
+
+pub returns-clause-ending : goal.returns-clause-ending
+returns-clause-ending g c =
+    ending_is (words_of c.args.words.now) (g.F.Files.table c.args.files.now) (Rose (g.F.Files.file_faults c.args.files.now) (g.F.Files.file_faults c.carry_out.new.files)) c.carry_out.new.book (g.O.Sink.written c.args.out.now)
     (g.O.Sink.written c.carry_out.new.out) c.carry_out.result c.carry_out.ensures.course

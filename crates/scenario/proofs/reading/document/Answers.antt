@@ -2,7 +2,7 @@ use Rattle.std.proofs.Common.{◌≡◌, true, false}
 use Rattle.std.specs.Str.{is_utf8}
 use Rattle.std.proofs.lemmas.Str.{is_utf8-from_IsUtf8, IsUtf8-from_is_utf8}
 use Rattle.std.proofs.lemmas.Bool.{false_from_ne_true}
-use Rattle.scenario.specs.Scenario.{document_of}
+use Rattle.scenario.specs.Document.{document_of}
 use Rattle.scenario.proofs.reading.document.Goals as goal
 
 pub returns-in-Ok : goal.returns-in-Ok

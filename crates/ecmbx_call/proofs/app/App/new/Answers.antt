@@ -1,5 +1,5 @@
 use Rattle.std.proofs.Common.{◌≡◌, ◌<◌, List, length, get_or, refl, subst}
-use Rattle.slave_app.specs.declared.spec.ObjectSpec.{ObjectSpec}
+use Rattle.segment_plan.specs.declared.slave.ObjectSpec.{ObjectSpec}
 use Rattle.ecmbx_call.proofs.Inserted.{takes_first, next_absent, takes_more}
 use Rattle.ecmbx_call.proofs.app.App.new.Goals as goal
 
