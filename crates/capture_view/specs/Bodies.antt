@@ -76,6 +76,7 @@ coe_line body (Err fault) = fault_line (coe_fault fault)
 
 -- ---- FoE
 
+-- the places of the faults in their order
 abbrev pub foe_fault : FoeFault → ℕ
 foe_fault foe_faults.Short = 1
 foe_fault foe_faults.Opcode = 2
@@ -88,6 +89,7 @@ foe_line body (Err fault) = fault_line (foe_fault fault)
 
 -- ---- SoE
 
+-- the places of the faults in their order
 abbrev pub soe_fault : SoeFault → ℕ
 soe_fault soe_faults.Short = 1
 soe_fault soe_faults.Opcode = 2
@@ -102,6 +104,7 @@ soe_line (Err fault) = fault_line (soe_fault fault)
 
 -- ---- EoE
 
+-- the places of the faults in their order
 abbrev pub eoe_fault : EoeFault → ℕ
 eoe_fault eoe_faults.Short = 1
 eoe_fault eoe_faults.WrongType = 2

@@ -76,11 +76,11 @@ abbrev pub Tells : Option (List ℕ) → Option (List ℕ) → List ℕ → Resu
 Tells old new text (Ok done) = Wrote old new text
 Tells old new text (Err e) = WrotePrefix old new text
 
--- the same with the sink's count of faults, which never falls, and rose where the sink failed
-pub record Told (old new : Option (List ℕ)) (before now : ℕ) (text : List ℕ) (result : Result (Unit {0}) SinkErr) : Type 0 where
-  pub text_told : Tells old new text result
-  pub later : before ≤ now
-  pub cause : result ≡ Err Failed → Rose before now
+-- the same of a sink that tells what is written and counts its faults: the count never falls, and rose where the sink failed
+pub record Told {S : Type 0} (written : S → Option (List ℕ)) (faults : S → ℕ) (old new : S) (text : List ℕ) (result : Result (Unit {0}) SinkErr) : Type 0 where
+  pub text_told : Tells (written old) (written new) text result
+  pub later : faults old ≤ faults new
+  pub cause : result ≡ Err Failed → Rose (faults old) (faults new)
 
 -- a packet's octets lie within its file
 abbrev pub IsWithin : List ℕ → PacketAt → Type 0

@@ -26,7 +26,7 @@ fn no_memory(_error: AllocError) -> SinkErr
 
 // Puts a line, unless it is empty.
 fn put_line<O: Sink>(line: &str, sink: &mut O) -> Result<(), SinkErr>
-    ensures { Told (O.written sink.old) (O.written sink.new) (O.sink_faults sink.old) (O.sink_faults sink.new) line.now result }
+    ensures { Told O.written O.sink_faults sink.old sink.new line.now result }
 {
     if line.is_empty() {
         return Ok(());
@@ -36,7 +36,7 @@ fn put_line<O: Sink>(line: &str, sink: &mut O) -> Result<(), SinkErr>
 
 // Puts the lines of the mail that these octets begin with.
 fn put_mail<O: Sink>(octets: &[u8], line: &mut String, sink: &mut O) -> Result<(), SinkErr>
-    ensures { Told (O.written sink.old) (O.written sink.new) (O.sink_faults sink.old) (O.sink_faults sink.new) (mail_lines (mail_read octets.now)) result }
+    ensures { Told O.written O.sink_faults sink.old sink.new (mail_lines (mail_read octets.now)) result }
 {
     let Ok(mail) = mailbox_mail::view(octets) else {
         return Ok(());
@@ -79,7 +79,7 @@ fn put_datagram<O: Sink>(
     sink: &mut O,
 ) -> Result<(), SinkErr>
     requires { IsPart frame.now part.now }
-    ensures { Told (O.written sink.old) (O.written sink.new) (O.sink_faults sink.old) (O.sink_faults sink.new) (datagram_lines frame.now part.now) result }
+    ensures { Told O.written O.sink_faults sink.old sink.new (datagram_lines frame.now part.now) result }
 {
     datagram_line(line, &part.head).map_err(no_memory)?;
     put_line(line.as_str(), sink)?;
@@ -93,7 +93,7 @@ fn put_datagram<O: Sink>(
 // Puts the lines of a frame that reads, datagram by datagram.
 fn put_datagrams<O: Sink>(frame: &[u8], line: &mut String, sink: &mut O) -> Result<(), SinkErr>
     requires { (ds : List Datagram) × IsFrame frame.now ds }
-    ensures { Told (O.written sink.old) (O.written sink.new) (O.sink_faults sink.old) (O.sink_faults sink.new) (frame_lines frame.now (frame_read frame.now)) result }
+    ensures { Told O.written O.sink_faults sink.old sink.new (frame_lines frame.now (frame_read frame.now)) result }
 {
     let mut part = first(frame);
     'datagrams: loop {
@@ -107,7 +107,7 @@ fn put_datagrams<O: Sink>(frame: &[u8], line: &mut String, sink: &mut O) -> Resu
 
 // Puts the lines of a packet's octets.
 fn put_frame<O: Sink>(frame: &[u8], line: &mut String, sink: &mut O) -> Result<(), SinkErr>
-    ensures { Told (O.written sink.old) (O.written sink.new) (O.sink_faults sink.old) (O.sink_faults sink.new) (frame_lines frame.now (frame_read frame.now)) result }
+    ensures { Told O.written O.sink_faults sink.old sink.new (frame_lines frame.now (frame_read frame.now)) result }
 {
     let Some(fault) = fault(frame) else {
         return put_datagrams(frame, line, sink);
@@ -133,7 +133,7 @@ fn put_packet<O: Sink>(
     sink: &mut O,
 ) -> Result<(), SinkErr>
     requires { packet.now.from + packet.now.len ≤ length file.now }
-    ensures { Told (O.written sink.old) (O.written sink.new) (O.sink_faults sink.old) (O.sink_faults sink.new) (packet_lines file.now nanos number packet.now) result }
+    ensures { Told O.written O.sink_faults sink.old sink.new (packet_lines file.now nanos number packet.now) result }
 {
     packet_line(line, nanos, number, packet).map_err(no_memory)?;
     put_line(line.as_str(), sink)?;
@@ -149,7 +149,7 @@ fn put_packets<O: Sink>(
     sink: &mut O,
 ) -> Result<(), SinkErr>
     requires { All (IsWithin file.now) packets.now }
-    ensures { Told (O.written sink.old) (O.written sink.new) (O.sink_faults sink.old) (O.sink_faults sink.new) (packets_lines file.now nanos 0 packets.now) result }
+    ensures { Told O.written O.sink_faults sink.old sink.new (packets_lines file.now nanos 0 packets.now) result }
 {
     for (number, packet) in packets.iter().enumerate() {
         put_packet(file, nanos, number, packet, line, sink)?;
@@ -165,7 +165,7 @@ fn put_view<O: Sink>(
     sink: &mut O,
 ) -> Result<(), SinkErr>
     requires { All (IsWithin bytes.now) capture.now.packets }
-    ensures { Told (O.written sink.old) (O.written sink.new) (O.sink_faults sink.old) (O.sink_faults sink.new) (view_text bytes.now capture.now) result }
+    ensures { Told O.written O.sink_faults sink.old sink.new (view_text bytes.now capture.now) result }
 {
     let packets = capture.packets.as_slice();
     put_packets(bytes, capture.nanos, packets, line, sink)?;

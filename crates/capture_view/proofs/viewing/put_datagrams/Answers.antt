@@ -10,7 +10,7 @@ use Rattle.capture_view.proofs.viewing.put_datagrams.Goals as goal
 pub datagrams-init : goal.datagrams-init
 datagrams-init g c =
     let start = first_is c.args.frame.now c.first-part.result c.requires.0 c.requires.1 (c.first-part.ensures.first c.requires.0 c.requires.1) in
-    (start.0, rw start.1 (told_nothing (g.O.Sink.written c.args.sink.now) (g.O.Sink.sink_faults c.args.sink.now)))
+    (start.0, rw start.1 (told_nothing g.O.Sink.written g.O.Sink.sink_faults c.args.sink.now))
 
 pub returns-in_err-put_datagram : goal.returns-in_err-put_datagram
 returns-in_err-put_datagram g c =

@@ -6,7 +6,7 @@ use Rattle.capture_view.proofs.viewing.put_datagrams.Given as goal
 abbrev pub invariant-datagrams : goal.invariant-datagrams
 invariant-datagrams g l =
     (p : IsPart l.frame l.part)
-    × Told (g.O.Sink.written l.fn.sink) (g.O.Sink.written l.sink) (g.O.Sink.sink_faults l.fn.sink) (g.O.Sink.sink_faults l.sink) (parts_lines l.frame (parts_of 16 p.front)) (Ok tt)
+    × Told g.O.Sink.written g.O.Sink.sink_faults l.fn.sink l.sink (parts_lines l.frame (parts_of 16 p.front)) (Ok tt)
 
 abbrev pub decreases-datagrams : goal.decreases-datagrams
 decreases-datagrams g l = length l.frame - l.part.at
