@@ -1,0 +1,4 @@
+pub mod Packets
+pub mod Telling
+pub mod Walk
+pub mod Within
