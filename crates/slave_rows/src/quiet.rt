@@ -1,14 +1,17 @@
-use mailbox_mail::{Mail, MailFault};
+use mailbox_mail::{Mail, MailFault, error_mail};
 use mailbox_slave::Server;
 use slave_node::Services;
 use slave_steps::Clear;
 
-/// Services that take each mail and answer none.
+/// Services that take each mail and answer none. They may have one mail to give from the start.
 #[derive(Drop)]
-pub struct Quiet;
+pub struct Quiet {
+    pub gives: bool,
+}
 
 impl Server for Quiet {
-    ghost use Rattle.std.specs.Prelude.{None};
+    ghost use Rattle.std.specs.Prelude.{false, if◌then◌else◌, Some, None};
+    ghost use Rattle.mailbox_mail.specs.Mail.{error_of};
 
     ghost room = { λ s. 10 };
 
@@ -16,25 +19,30 @@ impl Server for Quiet {
 
     ghost taken = { λ s b al. s };
 
-    ghost next_mail = { λ s. None };
+    ghost next_mail = { λ s. if s.gives then Some (error_of 2) else None };
 
-    ghost rest = { λ s. s };
+    ghost rest = { λ s. record { gives = false } };
 
     fn take(&mut self, _mail: &Result<Mail, MailFault>, _al: u8) {}
 
     fn waiting(&self) -> bool {
-        false
+        self.gives
     }
 
     fn next(&mut self) -> Mail {
-        unreachable!()
+        self.gives = false;
+        error_mail(2)
     }
 }
 
 impl Clear for Quiet {
-    ghost cleared = { λ s. s };
+    ghost use Rattle.std.specs.Prelude.{false};
 
-    fn clear(&mut self) {}
+    ghost cleared = { λ s. record { gives = false } };
+
+    fn clear(&mut self) {
+        self.gives = false;
+    }
 }
 
 impl Services for Quiet {

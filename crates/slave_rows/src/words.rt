@@ -26,7 +26,7 @@ fn is_back(frame: &FrameBuf, back: &[u8]) -> bool {
 // The frames that bring a slave of mailboxes of 64 octets up as station 1001, to PreOp; a refused change to Op, whose error is acknowledged.
 #[test]
 fn words_are_carried_out(rt: HostRuntime) -> Result<(), Fail> {
-    let mut node = SlaveNode::new(rt.alloc(), 64, 64, false, Quiet)?;
+    let mut node = SlaveNode::new(rt.alloc(), 64, 64, false, Quiet { gives: false })?;
     assert_eq!(rt; node.al(), 1);
     let back = turn(
         &mut node,
