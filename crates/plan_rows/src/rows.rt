@@ -1,5 +1,5 @@
 use ec_fields::Octets;
-use scenario::{Place, ReadErr, read, unsupported};
+use scenario::{Place, ReadErr, read};
 use scenario_made::make;
 use std::alloc::Global;
 use std::test::Fail;
@@ -135,6 +135,5 @@ fn a_made_text_is_read(rt: HostRuntime) -> Result<(), Fail> {
         Some(row) => assert_eq!(rt; row.0, 2),
         None => return Err(Fail::new(format_args!("no service"))),
     }
-    assert_eq!(rt; unsupported(&plan), Some(Place::Top));
     Ok(())
 }

@@ -20,7 +20,6 @@ number_of rules.UnknownSlave = 9
 number_of rules.NotOctets = 10
 number_of rules.Schedule = 11
 number_of rules.TooMany = 12
-number_of rules.NotBuilt = 13
 
 -- What is answered is what reading gives, unless memory ran out.
 abbrev pub Answers : {A : Type 0} → Result A ReadErr → Result A Refusal → Type 0

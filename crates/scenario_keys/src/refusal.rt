@@ -33,12 +33,10 @@ pub enum Rule {
     Schedule,
     /// A list over its limit.
     TooMany,
-    /// A part of the format that isn't built.
-    NotBuilt,
 }
 
 impl Rule {
-    /// The rule's number, 1 to 13.
+    /// The rule's number, 1 to 12.
     pub fn number(self) -> u8
         ensures { result ≡ number_of self }
     {
@@ -55,7 +53,6 @@ impl Rule {
             Rule::NotOctets => 10,
             Rule::Schedule => 11,
             Rule::TooMany => 12,
-            Rule::NotBuilt => 13,
         }
     }
 }
@@ -121,7 +118,7 @@ pub fn put<T: Drop>(rows: &mut Rows<T>, row: T) -> Result<(), Stop>
 /// Why a file is no scenario that can be run.
 #[derive(Clone, Copy, Debug, PartialEq, Eq)]
 pub enum ReadErr {
-    /// The file is refused by the rule of this number, 1 to 13, at this place.
+    /// The file is refused by the rule of this number, 1 to 12, at this place.
     Refused { rule: u8, place: Place },
     /// Want of memory.
     NoMemory,
