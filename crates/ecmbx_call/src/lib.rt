@@ -2,21 +2,12 @@
 //! caller.
 #![tactic(auto)]
 
-mod app;
-mod book;
-mod exchange;
-mod lines;
-mod planning;
-mod reporting;
+mod loading;
+mod making;
 mod running;
-mod status;
-mod texts;
 mod top;
+mod viewing;
 
-pub use app::{App, Performed, Reply};
-pub use book::{Answer, Begun, Book, Ending, Fate, Origin, SentFrame, SlaveBook};
-pub use planning::read_plan;
-pub use reporting::report;
-pub use running::run;
-pub use status::Status;
+pub use ecmbx_words::Status;
+pub use run_book::{Answer, Begun, Book, Ending, Epoch, Reply, SentFrame, SlaveBook};
 pub use top::ecmbx;

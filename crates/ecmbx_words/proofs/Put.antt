@@ -1,10 +1,11 @@
 -- Putting lines one by one.
-use Rattle.std.proofs.Common.{◌≡◌, ℕ, ◌+◌, ◌<◌, ◌≤◌, List, [], ◌∷◌, ◌++◌, length, get_or, take, drop, Option, Some, None, refl, sym, ap, ◌∙◌, append_assoc, arith, inl, inr}
+use Rattle.std.proofs.Math.Seq.{take-add}
+use Rattle.std.proofs.Common.{◌≡◌, ℕ, ◌+◌, ◌-◌, ◌<◌, ◌≤◌, List, [], ◌∷◌, ◌++◌, length, get_or, take, drop, Option, Some, None, refl, sym, ap, ◌∙◌, append_assoc, arith, inl, inr}
 use Rattle.std.proofs.lemmas.List.{take_all, take_more, drop_more, take-append-drop, append-nil}
 use Rattle.std.proofs.lemmas.Bool.{cases_lt}
 use Rattle.ec_outside.specs.Faults.{Rose}
 use Rattle.ec_outside.specs.Sink.{Wrote, WrotePrefix}
-use Rattle.ecmbx_call.specs.Course.{text_of}
+use Rattle.ecmbx_words.specs.Ends.{text_of}
 
 -- the first i lines were taken, and the count of faults didn't fall
 pub record HasPut (lines : List (List ℕ)) (i : ℕ) (old new : Option (List ℕ)) (before now : ℕ) : Type 0 where
@@ -49,3 +50,33 @@ put_all lines i old new before now le h = rw (take_all i lines le) at h.wrote
 pub rose_from : (before now after : ℕ) → before ≤ now → now ≤ after → Rose now after → Rose before after
 rose_from before now after le le' (inl lt) = inl (omega arith)
 rose_from before now after le le' (inr end) = elim (cases_lt before now) [ inl lt ↦ inl (omega arith) | inr same ↦ inr (omega arith) ]
+
+-- ---- a text in pieces
+
+-- the text before a place was taken, and the count of faults didn't fall
+pub record HasTold (text : List ℕ) (from : ℕ) (old new : Option (List ℕ)) (before now : ℕ) : Type 0 where
+  pub wrote : Wrote old new (take from text)
+  pub within : from ≤ length text
+  pub later : before ≤ now
+
+-- a piece behind the text before it is the text before its end
+piece_behind : (text : List ℕ) (from to : ℕ) → from ≤ to → to ≤ length text → take from text ++ take (to - from) (drop from text) ≡ take to text
+piece_behind text from to le within =
+    let sum : from + (to - from) ≡ to = omega (arith, le) in
+    sym (take-add from (to - from) text) ∙ ap (λ n. take n text) sum
+
+-- one more piece
+pub next_piece : (text : List ℕ) (from to : ℕ) (old middle new : Option (List ℕ)) (before now after : ℕ) → from ≤ to → to ≤ length text → Wrote middle new (take (to - from) (drop from text)) → now ≤ after → HasTold text from old middle before now
+    → HasTold text to old new before after
+next_piece text from to old middle new before now after le within wrote later h =
+    record {
+      wrote = rw (← piece_behind text from to le within) (wrote_more old middle new (take from text) (take (to - from) (drop from text)) h.wrote wrote);
+      within = within;
+      later = omega (arith, h.later);
+    }
+
+-- a prefix of a piece is a prefix of the text
+pub piece_front : (text : List ℕ) (from to : ℕ) (old middle new : Option (List ℕ)) (before now : ℕ) → from ≤ to → to ≤ length text → WrotePrefix middle new (take (to - from) (drop from text)) → HasTold text from old middle before now → WrotePrefix old new text
+piece_front text from to old middle new before now le within (front, behind, wrote, parts) h =
+    let whole : text ≡ (take from text ++ take (to - from) (drop from text)) ++ drop to text = sym (take-append-drop to text) ∙ ap (λ t. t ++ drop to text) (sym (piece_behind text from to le within)) in
+    (take from text ++ front, behind ++ drop to text, wrote_more old middle new (take from text) front h.wrote wrote, whole ∙ rw parts (simp append_assoc))

@@ -1,7 +1,7 @@
 -- The numbers of the statuses.
 use Rattle.std.specs.Prelude.{ℕ}
-use Rattle.ecmbx_call.specs.declared.status.Status.{Status}
-use Rattle.ecmbx_call.specs.declared.status.Status.TheVariants as statuses
+use Rattle.ecmbx_words.specs.declared.status.Status.{Status}
+use Rattle.ecmbx_words.specs.declared.status.Status.TheVariants as statuses
 
 -- what the program ends with
 abbrev pub number_of : Status → ℕ

@@ -1,6 +1,8 @@
 -- The lines put where nothing runs.
-use Rattle.std.specs.Prelude.{ℕ, List, ◌++◌, codes}
+use Rattle.std.specs.Prelude.{ℕ, List, [], ◌++◌, codes}
 use Rattle.std.specs.Fmt.{decimal}
+use Rattle.pcap_frames.specs.declared.capture.PcapFault.{PcapFault}
+use Rattle.pcap_frames.specs.declared.capture.PcapFault.TheVariants as faults
 use Rattle.scenario_keys.specs.declared.place.Place.{Place}
 use Rattle.scenario_keys.specs.declared.place.Place.TheVariants as places
 use Rattle.scenario_keys.specs.declared.refusal.Refusal.{Refusal}
@@ -35,3 +37,20 @@ refusal_line rule place = (codes "refused S" ++ (decimal rule ++ codes " at ")) 
 
 abbrev pub refused_line : Refusal → List ℕ
 refused_line e = refusal_line (number_of e.rule) e.place
+
+-- a fault of a capture without a place, and one with its place
+abbrev pub numbered : ℕ → List ℕ
+numbered number = codes "refused P" ++ (decimal number ++ codes "\n")
+
+abbrev pub faulted_at : ℕ → ℕ → List ℕ
+faulted_at number at = codes "refused P" ++ (decimal number ++ (codes " at " ++ (decimal at ++ codes "\n")))
+
+-- a refusal of a capture by its fault; want of memory is none
+abbrev pub capture_line : PcapFault → List ℕ
+capture_line (faults.Short at) = faulted_at 1 at
+capture_line faults.Magic = numbered 2
+capture_line faults.Version = numbered 3
+capture_line faults.LinkType = numbered 4
+capture_line (faults.RecordCut at) = faulted_at 5 at
+capture_line (faults.RecordTooLong at) = faulted_at 6 at
+capture_line faults.NoMemory = []

@@ -1,5 +1,5 @@
 ghost use Rattle.std.specs.Prelude.{◌≡◌};
-ghost use Rattle.ecmbx_call.specs.Status.{number_of};
+ghost use Rattle.ecmbx_words.specs.Status.{number_of};
 
 /// How a call of the program ended; its number is what the program ends with.
 #[derive(Clone, Copy, Debug, PartialEq, Eq)]

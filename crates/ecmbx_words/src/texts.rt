@@ -1,8 +1,10 @@
-ghost use Rattle.std.specs.Prelude.{◌≡◌, IfOk, string_bytes};
-ghost use Rattle.ecmbx_call.specs.Texts.{usage_line, absent_line, long_line, fault_line, place_text, refusal_line};
+ghost use Rattle.std.specs.Prelude.{◌≡◌, ◌++◌, codes, IfOk, string_bytes};
+ghost use Rattle.std.specs.Fmt.{decimal};
+ghost use Rattle.ecmbx_words.specs.Texts.{usage_line, absent_line, long_line, fault_line, place_text, refusal_line, capture_line};
 
 use ec_fields::{NoMemory, Octets};
-use scenario::Place;
+use pcap_frames::PcapFault;
+use scenario_keys::Place;
 use std::alloc::Global;
 
 /// The forms of the command line.
@@ -55,4 +57,34 @@ pub fn refusal(alloc: Global, rule: u8, place: Place) -> Result<Octets, NoMemory
     line.add(words.as_bytes())?;
     line.add(b"\n")?;
     Ok(line)
+}
+
+fn numbered(alloc: Global, number: u8) -> Result<Octets, NoMemory>
+    ensures { IfOk result (λ line. line ≡ codes "refused P" ++ (decimal number ++ codes "\n")) }
+{
+    let text = format!(in alloc; "refused P{number}\n")?;
+    Octets::copy_of(alloc, text.as_bytes())
+}
+
+fn placed(alloc: Global, number: u8, at: usize) -> Result<Octets, NoMemory>
+    ensures { IfOk result (λ line. line ≡ codes "refused P" ++ (decimal number ++ (codes " at " ++ (decimal at ++ codes "\n")))) }
+{
+    let text = format!(in alloc; "refused P{number} at {at}\n")?;
+    Octets::copy_of(alloc, text.as_bytes())
+}
+
+/// A refusal of a capture: the number of its fault, and the fault's place where it has one. `NoMemory` is want of memory,
+/// here or as the fault.
+pub fn capture_refusal(alloc: Global, fault: PcapFault) -> Result<Octets, NoMemory>
+    ensures { IfOk result (λ line. line ≡ capture_line fault) }
+{
+    match fault {
+        PcapFault::Short { at } => placed(alloc, 1, at),
+        PcapFault::Magic => numbered(alloc, 2),
+        PcapFault::Version => numbered(alloc, 3),
+        PcapFault::LinkType => numbered(alloc, 4),
+        PcapFault::RecordCut { at } => placed(alloc, 5, at),
+        PcapFault::RecordTooLong { at } => placed(alloc, 6, at),
+        PcapFault::NoMemory => Err(NoMemory),
+    }
 }

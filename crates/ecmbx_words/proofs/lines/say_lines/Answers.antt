@@ -1,6 +1,6 @@
 use Rattle.std.proofs.Common.{refl, inr}
-use Rattle.ecmbx_call.proofs.Put.{next_line, front_of}
-use Rattle.ecmbx_call.proofs.lines.say_lines.Goals as goal
+use Rattle.ecmbx_words.proofs.Put.{next_line, front_of}
+use Rattle.ecmbx_words.proofs.lines.say_lines.Goals as goal
 
 pub returns-in-Err-Failed-clause-put : goal.returns-in-Err-Failed-clause-put
 returns-in-Err-Failed-clause-put g c =

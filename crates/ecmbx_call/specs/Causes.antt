@@ -1,0 +1,89 @@
+-- When each status comes.
+use Rattle.std.specs.Prelude.{◌≡◌, ◌≢◌, ℕ, ◌<◌, ◌≤◌, ◌⊎◌, List, [], ◌∷◌, length, Option, Some, None, Ok, Err}
+use Rattle.ec_outside.specs.Files.{Table, file_of}
+use Rattle.pcap_frames.specs.declared.capture.Capture.{Capture}
+use Rattle.pcap_frames.specs.declared.capture.PcapFault.{PcapFault}
+use Rattle.pcap_frames.specs.Reading.{capture_read}
+use Rattle.segment_plan.specs.declared.plan.Scenario.{Scenario}
+use Rattle.scenario_keys.specs.declared.refusal.Refusal.{Refusal}
+use Rattle.scenario.specs.Document.{plan_of}
+use Rattle.run_book.specs.declared.book.Book.{Book}
+use Rattle.run_book.specs.declared.book.Ending.{Ending}
+use Rattle.run_book.specs.declared.book.Ending.TheVariants as endings
+use Rattle.run_book.specs.Book.{IsNew}
+use Rattle.run_record.specs.Ran.{IsOver, IsSpent}
+use Rattle.run_report.specs.Report.{report_lines}
+use Rattle.run_report.specs.Saved.{capture_of}
+use Rattle.ecmbx_words.specs.declared.form.Form.{Form}
+use Rattle.ecmbx_words.specs.declared.form.Form.TheVariants as forms
+use Rattle.ecmbx_words.specs.declared.status.Status.{Status}
+use Rattle.ecmbx_words.specs.declared.status.Status.TheVariants as statuses
+use Rattle.ecmbx_words.specs.Form.{form_in, name_in, saved_in}
+use Rattle.ecmbx_words.specs.Ends.{text_of, Ended}
+use Rattle.ecmbx_call.specs.Files.{limit, Holds, IsLong}
+use Rattle.ecmbx_call.specs.Course.{HasRun, status_of}
+
+-- the file that a form loads
+abbrev pub loaded_by : Form → List ℕ → Option (List ℕ)
+loaded_by forms.Run name = Some name
+loaded_by forms.RunSaved name = Some name
+loaded_by forms.Decode name = Some name
+loaded_by (forms.Make seed size) name = None
+loaded_by forms.Other name = None
+
+-- the file that the words load
+abbrev pub loaded_in : List (List ℕ) → Option (List ℕ)
+loaded_in words = loaded_by (form_in words) (name_in words)
+
+-- octets that a form refuses
+abbrev pub IsRefused : Form → List ℕ → Type 0
+IsRefused forms.Decode octets = (fault : PcapFault) × (capture_read octets ≡ Err fault)
+IsRefused _ octets = (e : Refusal) × (plan_of octets ≡ Err e)
+
+-- a status out of some
+abbrev pub IsAmong : List Status → Status → Type 0
+IsAmong [] status = ⊥
+IsAmong (one ∷ others) status = (status ≡ one) ⊎ IsAmong others status
+
+-- a file that the words load and that is found whole
+pub record IsFound (words : List (List ℕ)) (table : Option Table) (octets : List ℕ) : Type 0 where
+  pub name : List ℕ
+  pub files : Table
+  pub said : loaded_in words ≡ Some name
+  pub told : table ≡ Some files
+  pub there : file_of name files ≡ Some octets
+  pub fits : length octets ≤ limit
+
+-- Usage comes exactly where the words are no form, but for a fault of the sink.
+abbrev pub UsageCause : List (List ℕ) → Status → Type 0
+UsageCause words status =
+    (status ≡ statuses.Usage → form_in words ≡ forms.Other) × (form_in words ≡ forms.Other → IsAmong (statuses.Usage ∷ statuses.SinkFault ∷ statuses.NoMemory ∷ []) status)
+
+-- Absent comes exactly where the file isn't there, but for a fault.
+abbrev pub AbsentCause : List (List ℕ) → Option Table → Status → Type 0
+AbsentCause words table status =
+    (status ≡ statuses.Absent → (name : List ℕ) × (loaded_in words ≡ Some name) × Holds table name None)
+    × ((name : List ℕ) (files : Table) → loaded_in words ≡ Some name → table ≡ Some files → file_of name files ≡ None
+    → IsAmong (statuses.Absent ∷ statuses.FileFault ∷ statuses.SinkFault ∷ statuses.NoMemory ∷ []) status)
+
+-- TooLong comes exactly where the file is too long, but for a fault.
+abbrev pub LongCause : List (List ℕ) → Option Table → Status → Type 0
+LongCause words table status =
+    (status ≡ statuses.TooLong → (name : List ℕ) × (loaded_in words ≡ Some name) × IsLong table name)
+    × ((name octets : List ℕ) (files : Table) → loaded_in words ≡ Some name → table ≡ Some files → file_of name files ≡ Some octets → limit < length octets
+    → IsAmong (statuses.TooLong ∷ statuses.FileFault ∷ statuses.SinkFault ∷ statuses.NoMemory ∷ []) status)
+
+-- Refused comes exactly where the octets are no scenario or, for `decode`, no capture, but for a fault.
+abbrev pub RefusedCause : List (List ℕ) → Option Table → Status → Type 0
+RefusedCause words table status =
+    (status ≡ statuses.Refused → (name octets : List ℕ) × (loaded_in words ≡ Some name) × Holds table name (Some octets) × IsRefused (form_in words) octets)
+    × ((octets : List ℕ) → IsFound words table octets → IsRefused (form_in words) octets
+    → IsAmong (statuses.Refused ∷ statuses.FileFault ∷ statuses.SinkFault ∷ statuses.NoMemory ∷ []) status)
+
+-- GivenUp comes only where nothing was left to do and a slave was given up.
+abbrev pub GivenUpCause : Book → Status → Type 0
+GivenUpCause book status = status ≡ statuses.GivenUp → (plan : Scenario) × HasRun plan book × IsOver plan book true
+
+-- BudgetSpent comes only where as many frames were sent as the budget allows.
+abbrev pub SpentCause : Book → Status → Type 0
+SpentCause book status = status ≡ statuses.BudgetSpent → (plan : Scenario) × HasRun plan book × IsSpent plan book

@@ -1,0 +1,73 @@
+-- What a call of the program does, from its words to its status: one case for each row of the table of answers.
+use Rattle.std.specs.Prelude.{◌≡◌, ℕ, ◌⊎◌, List, [], map, String, string_bytes, Option, Some, None, Ok, Err}
+use Rattle.std.specs.declared.alloc.Global.{Global}
+use Rattle.ec_outside.specs.Files.{Table}
+use Rattle.pcap_frames.specs.declared.capture.Capture.{Capture}
+use Rattle.pcap_frames.specs.declared.capture.PcapFault.{PcapFault}
+use Rattle.pcap_frames.specs.Reading.{capture_read}
+use Rattle.capture_view.specs.View.{view_text}
+use Rattle.segment_plan.specs.declared.plan.Scenario.{Scenario}
+use Rattle.scenario_keys.specs.declared.refusal.Refusal.{Refusal}
+use Rattle.scenario.specs.Document.{plan_of}
+use Rattle.scenario_made.specs.Made.{text_of as made_text}
+use Rattle.run_book.specs.declared.book.Book.{Book}
+use Rattle.run_book.specs.declared.book.Ending.{Ending}
+use Rattle.run_book.specs.declared.book.Ending.TheVariants as endings
+use Rattle.run_book.specs.Book.{IsNew}
+use Rattle.run_record.specs.Ran.{HasFrames, EndsAs}
+use Rattle.run_report.specs.Report.{report_lines}
+use Rattle.run_report.specs.Saved.{capture_of}
+use Rattle.ecmbx_words.specs.declared.form.Form.{Form}
+use Rattle.ecmbx_words.specs.declared.form.Form.TheVariants as forms
+use Rattle.ecmbx_words.specs.declared.status.Status.{Status}
+use Rattle.ecmbx_words.specs.declared.status.Status.TheVariants as statuses
+use Rattle.ecmbx_words.specs.Form.{form_in, name_in, saved_in}
+use Rattle.ecmbx_words.specs.Ends.{text_of, Ended}
+use Rattle.ecmbx_words.specs.Texts.{usage_line, refused_line, capture_line}
+use Rattle.ecmbx_call.specs.Files.{Holds, FileCourse}
+
+-- the octets of the words
+abbrev pub words_of : List (String Global) → List (List ℕ)
+words_of words = map string_bytes words
+
+-- how a call ends whose run ended so
+abbrev pub status_of : Ending → Status
+status_of endings.Unfinished = statuses.NoMemory
+status_of endings.Done = statuses.Done
+status_of endings.GivenUp = statuses.GivenUp
+status_of endings.BudgetSpent = statuses.BudgetSpent
+status_of endings.PortFault = statuses.PortFault
+status_of endings.NoMemory = statuses.NoMemory
+
+-- what the run of a plan left in its book: its frames, and an ending with its cause
+pub record HasRun (plan : Scenario) (book : Book) : Type 0 where
+  pub frames : HasFrames plan book
+  pub ending : EndsAs plan book book.ending
+
+-- a run: refused, or the report of what it came to
+pub data RunCourse (book : Book) (octets : List ℕ) : Status → List ℕ → Type 0 where
+  refused : (e : Refusal) → plan_of octets ≡ Err e → IsNew book → RunCourse book octets statuses.Refused (refused_line e)
+  ran : (plan : Scenario) → plan_of octets ≡ Ok plan → HasRun plan book → RunCourse book octets (status_of book.ending) (text_of (report_lines plan book))
+
+-- a run whose frames are saved: the same, with the capture under its name; or nothing is put behind a save that failed
+pub data SavedCourse (name : List ℕ) (table : Option Table) (faulted : Type 0) (book : Book) (octets : List ℕ) : Status → List ℕ → Type 0 where
+  refused : (e : Refusal) → plan_of octets ≡ Err e → IsNew book → SavedCourse name table faulted book octets statuses.Refused (refused_line e)
+  unsaved : (plan : Scenario) → plan_of octets ≡ Ok plan → HasRun plan book → faulted → SavedCourse name table faulted book octets statuses.FileFault []
+  ran : (plan : Scenario) → plan_of octets ≡ Ok plan → HasRun plan book → Holds table name (Some (capture_of book.frames)) → SavedCourse name table faulted book octets (status_of book.ending) (text_of (report_lines plan book))
+
+-- a capture: refused, or its decoding text
+pub data ViewCourse (octets : List ℕ) : Status → List ℕ → Type 0 where
+  refused : (fault : PcapFault) → capture_read octets ≡ Err fault → ViewCourse octets statuses.Refused (capture_line fault)
+  shown : (capture : Capture) → capture_read octets ≡ Ok capture → ViewCourse octets statuses.Done (view_text octets capture)
+
+-- how a call is to end, and the text to be put; `saved` are the files behind it
+pub data Course (words : List (List ℕ)) (table saved : Option Table) (faulted : Type 0) (book : Book) : Status → List ℕ → Type 0 where
+  usage : form_in words ≡ forms.Other → IsNew book → Course words table saved faulted book statuses.Usage usage_line
+  make : (seed size : ℕ) → form_in words ≡ forms.Make seed size → IsNew book → Course words table saved faulted book statuses.Done (made_text [] seed size)
+  decode : (planned : Status) (text : List ℕ) → form_in words ≡ forms.Decode → IsNew book → FileCourse (name_in words) table faulted (Unit {0}) ViewCourse planned text → Course words table saved faulted book planned text
+  run : (planned : Status) (text : List ℕ) → form_in words ≡ forms.Run → FileCourse (name_in words) table faulted (IsNew book) (RunCourse book) planned text → Course words table saved faulted book planned text
+  run_saved : (planned : Status) (text : List ℕ) → form_in words ≡ forms.RunSaved → FileCourse (name_in words) table faulted (IsNew book) (SavedCourse (saved_in words) saved faulted book) planned text → Course words table saved faulted book planned text
+
+-- what became of a call that is to end as a course says, unless memory ran out
+abbrev pub Followed : (Status → List ℕ → Type 0) → Option (List ℕ) → Option (List ℕ) → Status → Type 0
+Followed course old new status = (status ≡ statuses.NoMemory) ⊎ ((planned : Status) × (text : List ℕ) × course planned text × Ended planned text old new status)

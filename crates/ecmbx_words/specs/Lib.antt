@@ -1,0 +1,4 @@
+pub mod Status
+pub mod Form
+pub mod Texts
+pub mod Ends

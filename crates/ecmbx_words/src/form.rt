@@ -1,0 +1,60 @@
+ghost use Rattle.std.specs.Prelude.{◌≡◌, ◌≤◌, string_bytes, map};
+ghost use Rattle.ecmbx_words.specs.Form.{number_in, form_in, made_in};
+
+use itoa::Buffer;
+
+/// The most services that a generated scenario has.
+const MOST: u32 = 4096;
+
+/// What the words behind the program's name ask for. The files that a form names stand behind its first word.
+#[derive(Clone, Copy, Debug, PartialEq, Eq)]
+pub enum Form {
+    /// `run SCENARIO`
+    Run,
+    /// `run SCENARIO CAPTURE`
+    RunSaved,
+    /// `decode CAPTURE`
+    Decode,
+    /// `make SEED SIZE`, the size 1 to 4,096.
+    Make { seed: u32, size: u32 },
+    /// Any other words.
+    Other,
+}
+
+// A number in decimal digits without sign and without a leading zero, where it is below 2 to the power 32.
+fn number(word: &str) -> Option<u32>
+    ensures { result ≡ number_in word.now }
+{
+    let Ok(number) = word.parse::<u32>() else {
+        return None;
+    };
+    let mut digits = Buffer::new();
+    if digits.format(number) == word {
+        Some(number)
+    } else {
+        None
+    }
+}
+
+// The form of the words `make SEED SIZE`.
+fn made(seed: &str, size: &str) -> Form
+    ensures { result ≡ made_in (number_in seed.now) (number_in size.now) }
+{
+    match (number(seed), number(size)) {
+        (Some(seed), Some(size)) if size >= 1 && size <= MOST => Form::Make { seed, size },
+        _ => Form::Other,
+    }
+}
+
+/// The form of the words, `Other` where they are none that is built.
+pub fn form_of(words: &[String]) -> Form
+    ensures { result ≡ form_in (map string_bytes words.now) }
+{
+    match words {
+        [word, _] if word.as_str() == "run" => Form::Run,
+        [word, _] if word.as_str() == "decode" => Form::Decode,
+        [word, _, _] if word.as_str() == "run" => Form::RunSaved,
+        [word, seed, size] if word.as_str() == "make" => made(seed.as_str(), size.as_str()),
+        _ => Form::Other,
+    }
+}

@@ -1,0 +1,12 @@
+//! The words of the command line, the texts that are put where nothing runs, and how a call puts its lines and ends.
+#![tactic(auto)]
+
+mod form;
+mod lines;
+mod status;
+mod texts;
+
+pub use form::{Form, form_of};
+pub use lines::{say, say_lines, say_text};
+pub use status::Status;
+pub use texts::{absent, capture_refusal, file_fault, refusal, too_long, usage};
