@@ -53,6 +53,7 @@ impl<H: Hand> Tour<H> {
             SideShows (H.shows s.side.hand x) s.side.out s.side.inn s.side.fresh s.side.duty d a →
             Under s.side.station s.at s.under s.side.carried d.halves (duty_access a.hand) back →
             SideShows (H.shows t.side.hand x) t.side.out t.side.inn t.side.fresh t.side.duty (Seats.side_back x frame s.side.station back d) (account_back s.side.station frame a back)) × (t.side.station ≡ s.side.station)) self.old.stops.items self.new.stops.items }
+        ensures long { length self.new.stops.items ≡ length self.old.stops.items }
     {
         for i in 0..self.stops.len() {
             self.stops[i].back(parts, octets, made);
@@ -65,6 +66,7 @@ impl<H: Hand> Tour<H> {
             SideShows (H.shows s.side.hand x) s.side.out s.side.inn s.side.fresh s.side.duty d a →
             Under s.side.station s.at s.under s.side.carried d.halves (duty_access a.hand) sent →
             SideShows (H.shows t.side.hand x) t.side.out t.side.inn t.side.fresh t.side.duty (Seats.side_lost s.side.station sent d) a) × (t.side.station ≡ s.side.station)) self.old.stops.items self.new.stops.items }
+        ensures long { length self.new.stops.items ≡ length self.old.stops.items }
     {
         for i in 0..self.stops.len() {
             self.stops[i].lost();
@@ -82,7 +84,8 @@ impl<H: Hand> Tour<H> {
 
     /// Begins the next frame.
     pub fn begin(&mut self, frame: &mut FrameBuf)
-        ensures { IsBegun frame.new.items [] }
+        ensures begun { IsBegun frame.new.items [] }
+        ensures long { length self.new.stops.items ≡ length self.old.stops.items }
     {
         self.rewind();
         datagrams::begin(frame);
@@ -126,6 +129,7 @@ impl<H: Hand> Tour<H> {
     // bring-up the one that is brought up, else those of a round.
     fn candidate(&mut self) -> Option<usize>
         ensures count { self.new.count ≡ self.old.count }
+        ensures stops { self.new.stops ≡ self.old.stops }
         ensures inside { IfSome result (λ p. p < length self.new.stops.items) }
     {
         if self.again {
@@ -153,6 +157,7 @@ impl<H: Hand> Tour<H> {
     pub fn due(&mut self, frame: &FrameBuf) -> Option<usize>
         ensures inside { IfSome result (λ p. p < length self.new.stops.items) }
         ensures few { IfSome result (λ p. self.new.count < 16) }
+        ensures stops { self.new.stops ≡ self.old.stops }
     {
         if self.count >= 16 {
             return None;
@@ -177,6 +182,7 @@ impl<H: Hand> Tour<H> {
         requires few { self.old.count < 16 }
         requires begun { (ds : List Raw.Datagram) × IsBegun frame.old.items ds }
         ensures begun { (ds : List Raw.Datagram) × IsBegun frame.new.items ds }
+        ensures long { length self.new.stops.items ≡ length self.old.stops.items }
     {
         let at = self.count;
         let stop = &mut self.stops[place];
@@ -229,6 +235,7 @@ impl<H: Hand> Tour<H> {
             SideShows (H.shows s.side.hand x) s.side.out s.side.inn s.side.fresh s.side.duty d a →
             Under s.side.station s.at s.under s.side.carried d.halves (duty_access a.hand) sent →
             SideShows (H.shows t.side.hand x) t.side.out t.side.inn t.side.fresh t.side.duty (Seats.side_back x number s.side.station (seen lens frame.now.items) d) (account_back s.side.station number a (seen lens frame.now.items))) × (t.side.station ≡ s.side.station)) self.old.stops.items self.new.stops.items }
+        ensures long { length self.new.stops.items ≡ length self.old.stops.items }
     {
         let octets = frame.as_slice();
         match datagrams::read(octets) {
@@ -244,6 +251,7 @@ impl<H: Hand> Tour<H> {
             SideShows (H.shows s.side.hand x) s.side.out s.side.inn s.side.fresh s.side.duty d a →
             Under s.side.station s.at s.under s.side.carried d.halves (duty_access a.hand) sent →
             SideShows (H.shows t.side.hand x) t.side.out t.side.inn t.side.fresh t.side.duty (Seats.side_back x number s.side.station (seen lens frame.now.items) d) (account_back s.side.station number a (seen lens frame.now.items))) × (t.side.station ≡ s.side.station)) self.old.stops.items self.new.stops.items }
+        ensures long { length self.new.stops.items ≡ length self.old.stops.items }
     {
         self.hear(frame, made);
         let last = self.last_behind();
@@ -255,7 +263,9 @@ impl<H: Hand> Tour<H> {
     }
 
     // All slaves that the lost frames carried are given up.
-    fn give_up(&mut self) {
+    fn give_up(&mut self)
+        ensures { length self.new.stops.items ≡ length self.old.stops.items }
+    {
         for k in 0..self.visit.len() {
             match self.visit.get(k) {
                 Some(&place) if place < self.stops.len() => self.stops[place].give_up(),
@@ -271,6 +281,7 @@ impl<H: Hand> Tour<H> {
             SideShows (H.shows s.side.hand x) s.side.out s.side.inn s.side.fresh s.side.duty d a →
             Under s.side.station s.at s.under s.side.carried d.halves (duty_access a.hand) sent →
             SideShows (H.shows t.side.hand x) t.side.out t.side.inn t.side.fresh t.side.duty (Seats.side_lost s.side.station sent d) a) × (t.side.station ≡ s.side.station)) self.old.stops.items self.new.stops.items }
+        ensures long { length self.new.stops.items ≡ length self.old.stops.items }
     {
         let missed = self.missed;
         let comes_again = missed < self.retry;

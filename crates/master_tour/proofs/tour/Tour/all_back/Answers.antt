@@ -1,4 +1,4 @@
-use Rattle.std.proofs.Common.{◌≡◌, ℕ, ◌+◌, List, ◌∙◌, arith, add-one}
+use Rattle.std.proofs.Common.{◌≡◌, ℕ, ◌+◌, List, sym, ◌∙◌, arith, add-one}
 use Rattle.std.specs.Prelude.{map}
 use Rattle.exchange_model.specs.Exchange.{Speech}
 use Rattle.link_mails.specs.Body.{Body}
@@ -11,7 +11,7 @@ use Rattle.master_duty.specs.Reply.{Reply}
 use Rattle.master_side.specs.Shown.{SideShows}
 use Rattle.master_tour.specs.Under.{Under}
 use Rattle.master_tour.specs.declared.stop.Stand.{Stand}
-use Rattle.master_tour.proofs.Walks.{walk_on, walk_over}
+use Rattle.master_tour.proofs.Walks.{walk_on, walk_over, walked_length}
 use Rattle.master_tour.proofs.tour.Tour.all_back.Goals as goal
 
 pub loop-i-preserved : goal.loop-i-preserved
@@ -31,4 +31,5 @@ returns g c =
       each = walk_over (λ s t. (s.stand ≡ Stand.Open → (x : Speech Body g.H.Hand.Asked Reply) (frame : ℕ) (lens : ℕ → Lens) (back : List (Datagram Body)) (d : Seats.Side Body g.H.Hand.Asked Reply) (a : Account g.H.Hand.Asked Reply) → back ≡ map (part_seen lens c.args.octets.now) c.args.parts.now →
           SideShows (g.H.Hand.shows s.side.hand x) s.side.out s.side.inn s.side.fresh s.side.duty d a → Under s.side.station s.at s.under s.side.carried d.halves (duty_access a.hand) back →
           SideShows (g.H.Hand.shows t.side.hand x) t.side.out t.side.inn t.side.fresh t.side.duty (Seats.side_back x frame s.side.station back d) (account_back s.side.station frame a back)) × (t.side.station ≡ s.side.station)) c.loop-i.i c.args.self.now.stops.items c.loop-i.self.stops.items (let e = len ∙ c.args.self.now.stops.ok.0 in omega (arith, test, e)) c.loop-i.invariant;
+      long = sym (walked_length _ c.loop-i.i c.args.self.now.stops.items c.loop-i.self.stops.items c.loop-i.invariant);
     }

@@ -1,4 +1,4 @@
-use Rattle.std.proofs.Common.{◌≡◌, ◌+◌, List, ◌∙◌, arith, add-one}
+use Rattle.std.proofs.Common.{◌≡◌, ◌+◌, List, sym, ◌∙◌, arith, add-one}
 use Rattle.exchange_model.specs.Exchange.{Speech}
 use Rattle.link_mails.specs.Body.{Body}
 use Rattle.segment_model.specs.Slaves.{Datagram}
@@ -8,7 +8,7 @@ use Rattle.master_duty.specs.Reply.{Reply}
 use Rattle.master_side.specs.Shown.{SideShows}
 use Rattle.master_tour.specs.Under.{Under}
 use Rattle.master_tour.specs.declared.stop.Stand.{Stand}
-use Rattle.master_tour.proofs.Walks.{walk_on, walk_over}
+use Rattle.master_tour.proofs.Walks.{walk_on, walk_over, walked_length}
 use Rattle.master_tour.proofs.tour.Tour.all_lost.Goals as goal
 
 pub loop-i-preserved : goal.loop-i-preserved
@@ -28,4 +28,5 @@ returns g c =
       each = walk_over (λ s t. (s.stand ≡ Stand.Open → (x : Speech Body g.H.Hand.Asked Reply) (sent : List (Datagram Body)) (d : Seats.Side Body g.H.Hand.Asked Reply) (a : Account g.H.Hand.Asked Reply) →
           SideShows (g.H.Hand.shows s.side.hand x) s.side.out s.side.inn s.side.fresh s.side.duty d a → Under s.side.station s.at s.under s.side.carried d.halves (duty_access a.hand) sent →
           SideShows (g.H.Hand.shows t.side.hand x) t.side.out t.side.inn t.side.fresh t.side.duty (Seats.side_lost s.side.station sent d) a) × (t.side.station ≡ s.side.station)) c.loop-i.i c.args.self.now.stops.items c.loop-i.self.stops.items (let e = len ∙ c.args.self.now.stops.ok.0 in omega (arith, test, e)) c.loop-i.invariant;
+      long = sym (walked_length _ c.loop-i.i c.args.self.now.stops.items c.loop-i.self.stops.items c.loop-i.invariant);
     }

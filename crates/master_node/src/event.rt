@@ -1,0 +1,109 @@
+use arrayvec::ArrayVec;
+use ec_fields::NoMemory;
+use eoe::Packet;
+use eoe_switch::SwitchEvent;
+use mailbox_mail::{Mail, ReplyKind};
+use std::alloc::Global;
+
+/// Where a service comes from, and its number among those of its slave from there, counted from 0.
+#[derive(Clone, Copy, Debug, PartialEq, Eq)]
+pub enum Origin {
+    /// The script.
+    Script(u32),
+    /// The switch: a packet that it forwarded to the slave's port.
+    Forward(u32),
+    /// The gateway: a mail that is passed on.
+    Gateway(u32),
+}
+
+/// What happened in a step of the master.
+#[derive(Debug, Drop)]
+pub enum Event {
+    /// A service came into hand.
+    Began { slave: u32, origin: Origin },
+    /// The service in hand has its answer.
+    Answered { slave: u32, kind: ReplyKind },
+    /// The slave sent an emergency.
+    Emergency { slave: u32, octets: ArrayVec<u8, 8> },
+    /// The switch handed a packet to the host.
+    Host(Packet),
+    /// Something happened at the switch.
+    Switch(SwitchEvent),
+    /// A mail that was passed on has a reply.
+    GatewayReply { key: usize, mail: Mail },
+    /// A mail that was passed on gets no further reply.
+    GatewayDone { key: usize },
+    /// The slave was given up, for good or not.
+    GivenUp { slave: u32 },
+    /// The slave was seen in Init: what its mailboxes and services were is gone. `own` says that a state service caused it.
+    Cleared { slave: u32, own: bool },
+    /// The slave is open.
+    Opened { slave: u32 },
+}
+
+/// How many events a frame can bring, with every slave in it: one at the switch and two a slave before it, four a slave behind it.
+const MOST: usize = 97;
+
+/// The events of a frame: those of `next`, and behind them those of the return or the loss. Its memory is taken at `new`.
+#[derive(Debug, Drop)]
+pub struct EventList {
+    rows: Vec<Event>,
+    /// How many events there are.
+    count: usize,
+    /// How many of them are those of `next`.
+    before: usize,
+    /// From where on the events of the last step stand.
+    first: usize,
+}
+
+impl EventList {
+    /// No event. The memory for the events of a frame is taken here.
+    pub fn new(alloc: Global) -> Result<EventList, NoMemory> {
+        let mut rows = Vec::with_capacity(alloc, MOST)?;
+        for _ in 0..MOST {
+            rows.push(Event::GivenUp { slave: 0 })?;
+        }
+        Ok(EventList {
+            rows,
+            count: 0,
+            before: 0,
+            first: 0,
+        })
+    }
+
+    /// The next frame begins: nothing has happened.
+    pub fn clear(&mut self) {
+        self.count = 0;
+        self.before = 0;
+        self.first = 0;
+    }
+
+    /// The frame is made: what comes behind it are the events of its return or loss.
+    pub fn made(&mut self) {
+        self.before = self.count;
+    }
+
+    /// The frame came back or was lost: only what happened before it stands.
+    pub fn ends(&mut self) {
+        self.count = self.before;
+        self.first = self.before;
+    }
+
+    /// One more event.
+    pub fn put(&mut self, event: Event) {
+        if self.count < self.rows.len() {
+            self.rows[self.count] = event;
+            self.count += 1;
+        }
+    }
+
+    /// The events of the last step.
+    pub fn last(&self) -> &[Event] {
+        &self.all()[self.first..]
+    }
+
+    /// The events of the frame.
+    pub fn all(&self) -> &[Event] {
+        &self.rows.as_slice()[..self.count]
+    }
+}

@@ -1,0 +1,103 @@
+//! A master before its first frame.
+
+use crate::copies::script_of;
+use crate::event::EventList;
+use crate::lan::Lan;
+use crate::node::MasterNode;
+use crate::post::Post;
+use al_state::bring_new;
+use arrayvec::ArrayVec;
+use ec_fields::NoMemory;
+use master_hand::InHand;
+use master_side::Side;
+use master_tour::{Stand, Stop, Tour};
+use segment_plan::{Scenario, SlaveSpec};
+use std::alloc::Global;
+
+// The side of a slave: nothing is in hand, and its script is its own.
+fn side_of(
+    alloc: Global,
+    plan: &Scenario,
+    place: u32,
+    spec: &SlaveSpec,
+    pace: u32,
+) -> Result<Side<InHand>, NoMemory> {
+    let script = script_of(alloc, place, plan.services.as_slice())?;
+    let hand = InHand::new(alloc, spec.out_len, spec.in_len, script)?;
+    Ok(Side::new(spec.station, spec.out_len, spec.in_len, pace, hand))
+}
+
+// A slave before its bring-up.
+fn stop_of(
+    alloc: Global,
+    plan: &Scenario,
+    place: u32,
+    spec: &SlaveSpec,
+    pace: u32,
+) -> Result<Stop<InHand>, NoMemory> {
+    let side = side_of(alloc, plan, place, spec, pace)?;
+    let up = bring_new(place, spec.station, spec.out_len, spec.in_len, spec.start);
+    Ok(Stop {
+        side,
+        stand: Stand::Opening(up),
+        place,
+        start: spec.start,
+        spare: plan.recover,
+        news: None,
+        under: false,
+        at: 0,
+    })
+}
+
+// All slaves before their bring-up.
+fn stops_of(alloc: Global, plan: &Scenario) -> Result<Vec<Stop<InHand>>, NoMemory> {
+    let slaves = plan.slaves.as_slice();
+    let paces = plan.paces.as_slice();
+    let mut stops = Vec::new(alloc);
+    for place in 0..slaves.len() {
+        stops.push(stop_of(alloc, plan, place as u32, &slaves[place], paces[place])?)?;
+    }
+    Ok(stops)
+}
+
+// Nothing is in hand of any slave.
+fn posts_of(alloc: Global, count: usize) -> Result<Vec<Post>, NoMemory> {
+    let mut posts = Vec::new(alloc);
+    for _ in 0..count {
+        posts.push(Post::new(alloc)?)?;
+    }
+    Ok(posts)
+}
+
+/// The tour before its first frame.
+fn tour_of(alloc: Global, plan: &Scenario) -> Result<Tour<InHand>, NoMemory> {
+    let stops = stops_of(alloc, plan)?;
+    Ok(Tour {
+        stops,
+        visit: ArrayVec::new(),
+        opened: 0,
+        again: false,
+        missed: 0,
+        retry: plan.retry as u8,
+        last: None,
+        count: 0,
+        passed: 0,
+    })
+}
+
+impl MasterNode {
+    /// The master of a segment before its first frame: no slave is brought up, and no packet of the host has come in.
+    pub fn new(alloc: Global, plan: &Scenario) -> Result<MasterNode, NoMemory> {
+        let tour = tour_of(alloc, plan)?;
+        let posts = posts_of(alloc, plan.slaves.len())?;
+        let lan = Lan::new(alloc, plan)?;
+        let list = EventList::new(alloc)?;
+        Ok(MasterNode {
+            tour,
+            posts,
+            lan,
+            list,
+            made: 0,
+        })
+    }
+}

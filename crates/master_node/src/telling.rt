@@ -1,0 +1,150 @@
+//! What the return or the loss of a frame brings.
+
+use crate::event::Event;
+use crate::node::MasterNode;
+use crate::post::{Work, bare};
+use datagrams::FrameBuf;
+use ec_fields::buffer_of;
+use mailbox_mail::ReplyKind;
+use master_duty::Met;
+use master_side::Heard;
+use master_tour::{Stand, Turned};
+
+impl MasterNode {
+    // The service in hand has its answer.
+    fn answered(&mut self, place: usize, kind: ReplyKind) {
+        let post = &mut self.posts[place];
+        post.work = Work::Nothing;
+        post.answer = Some(kind);
+        self.list.put(Event::Answered {
+            slave: place as u32,
+            kind,
+        });
+    }
+
+    // The slave emitted an emergency, or the last fragment of a packet.
+    fn emitted(&mut self, place: usize) {
+        let hand = &self.tour.stops[place].side.hand;
+        if let Some(octets) = hand.emergency() {
+            let octets = buffer_of(octets.as_slice());
+            self.list.put(Event::Emergency {
+                slave: place as u32,
+                octets,
+            });
+        }
+        if let Some(packet) = hand.packet() {
+            let packet = buffer_of(packet.as_slice());
+            self.lan.came(place, packet, &mut self.list);
+        }
+    }
+
+    // A reply of the mail that is passed on.
+    fn replied(&mut self, place: usize, key: usize) {
+        if let Some(mail) = self.tour.stops[place].side.hand.replied() {
+            let mail = bare(mail);
+            self.list.put(Event::GatewayReply { key, mail });
+        }
+    }
+
+    // A mail was accepted.
+    fn heard(&mut self, place: usize, what: Heard) {
+        match (self.posts[place].work, what) {
+            (_, Heard::Emission) => self.emitted(place),
+            (Work::Passed { key }, _) => self.replied(place, key),
+            (Work::Mails, Heard::Last) => {
+                if let Some(kind) = self.tour.stops[place].side.hand.answer() {
+                    self.answered(place, kind);
+                }
+            }
+            _ => {}
+        }
+    }
+
+    // What the slave has in hand is over, where it has no reply by mails of its own.
+    fn over(&mut self, place: usize) {
+        let side = &mut self.tour.stops[place].side;
+        let met = side.met.take();
+        match self.posts[place].work {
+            Work::Nothing | Work::Mails => {}
+            Work::Packet => {
+                if side.is_free() {
+                    self.answered(place, ReplyKind::Handed);
+                }
+            }
+            Work::Passed { key } => {
+                if side.passing.is_none() {
+                    self.answered(place, ReplyKind::Handed);
+                    self.list.put(Event::GatewayDone { key });
+                }
+            }
+            Work::State => match met {
+                Some(Met::Reached) => self.answered(place, ReplyKind::Done),
+                Some(Met::Refused(code)) => self.answered(place, ReplyKind::StateRefused(code)),
+                Some(Met::On(_)) | None => {}
+            },
+        }
+    }
+
+    // The slave was seen in Init, or is open.
+    fn turned(&mut self, place: usize) {
+        let slave = place as u32;
+        let own = matches!(self.posts[place].work, Work::State);
+        match self.tour.stops[place].news {
+            Some(Turned::Cleared) => self.list.put(Event::Cleared { slave, own }),
+            Some(Turned::Opened) => {
+                self.list.put(Event::Opened { slave });
+                if own {
+                    self.answered(place, ReplyKind::Done);
+                }
+            }
+            Some(Turned::GivenUp) | None => {}
+        }
+    }
+
+    // What the frame brought of a slave that it carried.
+    fn back(&mut self, place: usize) {
+        if let Some(what) = self.tour.stops[place].side.heard.take() {
+            self.heard(place, what);
+        }
+        self.over(place);
+        self.turned(place);
+    }
+
+    /// The frame that `next` made came back.
+    pub fn returned(&mut self, frame: &FrameBuf) {
+        self.list.ends();
+        self.tour.returned(frame, self.made.wrapping_sub(1));
+        for k in 0..self.tour.visit.len() {
+            match self.tour.visit.get(k) {
+                Some(&place) if place < self.posts.len() => self.back(place),
+                _ => {}
+            }
+        }
+    }
+
+    // A slave was given up, where it was.
+    fn given_up(&mut self, place: usize) {
+        if !matches!(self.tour.stops[place].news, Some(Turned::GivenUp)) {
+            return;
+        }
+        self.posts[place].drop_all();
+        self.list.put(Event::GivenUp {
+            slave: place as u32,
+        });
+        if matches!(self.tour.stops[place].stand, Stand::Gone) {
+            self.lan.down(place, &mut self.list);
+        }
+    }
+
+    /// The frame that `next` made was lost.
+    pub fn lost(&mut self) {
+        self.list.ends();
+        self.tour.lost();
+        for k in 0..self.tour.visit.len() {
+            match self.tour.visit.get(k) {
+                Some(&place) if place < self.posts.len() => self.given_up(place),
+                _ => {}
+            }
+        }
+    }
+}
