@@ -1,4 +1,4 @@
-use crate::book::{Answer, Begun, Epoch, Reply};
+use run_book::{Answer, Begun, Epoch, Reply};
 use ec_fields::{NoMemory, Octets, Rows};
 use master_node::Origin;
 use std::alloc::Global;

@@ -1,4 +1,4 @@
-use crate::book::{Book, Reply};
+use run_book::{Book, Reply};
 use crate::notes::Notes;
 use ec_fields::{NoMemory, Octets, Rows, buffer_of};
 use eoe_switch::SwitchEvent;

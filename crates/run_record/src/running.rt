@@ -1,4 +1,4 @@
-use crate::book::{Book, Ending};
+use run_book::{Book, Ending};
 use crate::session::Session;
 use ec_fields::NoMemory;
 use segment_plan::Scenario;

@@ -1,4 +1,4 @@
-use crate::book::{Book, Ending, SentFrame, SlaveBook};
+use run_book::{Book, Ending, SentFrame, SlaveBook};
 use crate::notes::Notes;
 use crate::record::{Moment, Record};
 use datagrams::FrameBuf;

@@ -11,15 +11,15 @@ use Rattle.segment_ring.specs.declared.wire.Fate.TheVariants.{Pass, Lost}
 use Rattle.eoe_switch.specs.Switch.{switched}
 use Rattle.master_node.specs.declared.event.Origin.{Origin}
 use Rattle.master_node.specs.declared.event.Origin.TheVariants.{Script, Forward, Gateway}
-use Rattle.run_record.specs.declared.book.Book.{Book}
-use Rattle.run_record.specs.declared.book.SlaveBook.{SlaveBook}
-use Rattle.run_record.specs.declared.book.Begun.{Begun}
-use Rattle.run_record.specs.declared.book.Epoch.{Epoch}
-use Rattle.run_record.specs.declared.book.Answer.{Answer}
-use Rattle.run_record.specs.declared.book.Answer.TheVariants.{Replied, InDoubt, NotSent}
-use Rattle.run_record.specs.declared.book.Ending.{Ending}
-use Rattle.run_record.specs.declared.book.Ending.TheVariants as endings
-use Rattle.run_record.specs.declared.book.SentFrame.{SentFrame}
+use Rattle.run_book.specs.declared.book.Book.{Book}
+use Rattle.run_book.specs.declared.book.SlaveBook.{SlaveBook}
+use Rattle.run_book.specs.declared.book.Begun.{Begun}
+use Rattle.run_book.specs.declared.book.Epoch.{Epoch}
+use Rattle.run_book.specs.declared.book.Answer.{Answer}
+use Rattle.run_book.specs.declared.book.Answer.TheVariants.{Replied, InDoubt, NotSent}
+use Rattle.run_book.specs.declared.book.Ending.{Ending}
+use Rattle.run_book.specs.declared.book.Ending.TheVariants as endings
+use Rattle.run_book.specs.declared.book.SentFrame.{SentFrame}
 
 -- a number in hexadecimal digits, with zeros in front up to this width
 abbrev pub hex_of : ℕ → ℕ → List ℕ

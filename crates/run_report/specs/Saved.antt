@@ -4,7 +4,7 @@ use Rattle.pcap_frames.specs.declared.capture.Stamp.{Stamp}
 use Rattle.pcap_frames.specs.Capture.{Packet, whole_packet, saved}
 use Rattle.segment_ring.specs.declared.wire.Fate.{Fate}
 use Rattle.segment_ring.specs.declared.wire.Fate.TheVariants.{Pass, Lost}
-use Rattle.run_record.specs.declared.book.SentFrame.{SentFrame}
+use Rattle.run_book.specs.declared.book.SentFrame.{SentFrame}
 
 -- the time of a frame: its number in microseconds
 abbrev pub stamp_of : ℕ → Stamp

@@ -4,7 +4,7 @@ ghost use Rattle.run_report.specs.Report.{hex_of, value_text, kind_text, answer_
 use ec_fields::{NoMemory, Octets, Rows};
 use mailbox_mail::ReplyKind;
 use master_node::Origin;
-use run_record::{Answer, Begun, Reply};
+use run_book::{Answer, Begun, Reply};
 use std::alloc::Global;
 
 fn text_of_value(alloc: Global, value: &[u8]) -> Result<Octets, NoMemory>

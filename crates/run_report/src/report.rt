@@ -4,7 +4,7 @@ ghost use Rattle.run_report.specs.Report.{is_lost, frames_line, dropped_line, en
 use crate::drops::drops;
 use crate::slaves::{push_octets, push_slaves};
 use ec_fields::{NoMemory, Octets, Rows};
-use run_record::{Book, Ending, SentFrame};
+use run_book::{Book, Ending, SentFrame};
 use segment_plan::Scenario;
 use segment_ring::Fate;
 use std::alloc::Global;

@@ -3,7 +3,7 @@ ghost use Rattle.run_report.specs.Saved.{stamp_of};
 
 use ec_fields::{NoMemory, Octets};
 use pcap_frames::{Stamp, write_head, write_packet};
-use run_record::SentFrame;
+use run_book::SentFrame;
 use segment_ring::Fate;
 
 /// So many microseconds are a second.

@@ -3,7 +3,7 @@ ghost use Rattle.run_report.specs.Report.{station_text, handled_text, slave_line
 
 use crate::answers::{packets_handed, push_answers};
 use ec_fields::{NoMemory, Octets, Rows};
-use run_record::{Epoch, SlaveBook};
+use run_book::{Epoch, SlaveBook};
 use segment_plan::SlaveSpec;
 use std::alloc::Global;
 

@@ -1,7 +1,7 @@
 -- The record of a run.
 use Rattle.std.specs.Prelude.{◌≡◌, [], false}
-use Rattle.run_record.specs.declared.book.Book.{Book}
-use Rattle.run_record.specs.declared.book.Ending.TheVariants.{Unfinished}
+use Rattle.run_book.specs.declared.book.Book.{Book}
+use Rattle.run_book.specs.declared.book.Ending.TheVariants.{Unfinished}
 
 -- a book in which nothing stands yet
 pub record IsNew (book : Book) : Type 0 where

@@ -1,4 +1,4 @@
-ghost use Rattle.run_record.specs.Book.{IsNew};
+ghost use Rattle.run_book.specs.Book.{IsNew};
 
 use ec_fields::{Octets, Rows};
 use eoe_switch::SwitchEvent;
