@@ -1,0 +1,130 @@
+ghost use Rattle.run_book.specs.Book.{IsNew};
+
+use ec_fields::{Octets, Rows};
+use eoe_switch::SwitchEvent;
+use mailbox_mail::ReplyKind;
+use master_node::Origin;
+use segment_ring::Fate;
+use slave_node::SlaveNode;
+use slave_server::SlaveServer;
+use std::alloc::Global;
+
+/// What a service came to, and the value that it brought.
+#[derive(Debug, Drop)]
+pub struct Reply {
+    pub kind: ReplyKind,
+    pub value: Octets,
+}
+
+/// What became of a service.
+#[derive(Debug, Drop)]
+pub enum Answer {
+    /// It was answered; `frame` is the returned frame that completed the reply.
+    Replied { reply: Reply, frame: u32 },
+    /// It was in hand where its slave was given up or the run ended, and isn't answered.
+    InDoubt,
+    /// It never came into hand.
+    NotSent,
+}
+
+/// A frame that was sent, its fate, and what returned; nothing of a lost one.
+#[derive(Debug, Drop)]
+pub struct SentFrame {
+    pub sent: Octets,
+    pub fate: Fate,
+    pub back: Octets,
+}
+
+/// A service that came into hand, and how many frames had been sent then.
+#[derive(Clone, Copy, Debug, PartialEq, Eq)]
+pub struct Begun {
+    pub origin: Origin,
+    pub frame: u32,
+}
+
+/// The time of a slave between two returns to Init that were seen.
+#[derive(Clone, Copy, Debug, PartialEq, Eq)]
+pub struct Epoch {
+    /// How many services had come into hand before.
+    pub row: u32,
+    /// The frame whose return showed Init; none for the first epoch.
+    pub cleared: Option<u32>,
+    /// The frame whose return showed the state that was opened.
+    pub opened: Option<u32>,
+    /// How many emergencies had been received from the slave before.
+    pub emergencies: u32,
+    /// How many packets had been received from the slave before.
+    pub packets: u32,
+}
+
+/// What became of one slave and its services.
+#[derive(Drop)]
+pub struct SlaveBook {
+    /// The slave at the end.
+    pub node: SlaveNode<SlaveServer>,
+    /// The services that came into hand, in order.
+    pub begun: Rows<Begun>,
+    /// Their answers in the same order, and those of the scripted services that never came into hand.
+    pub answers: Rows<Answer>,
+    /// The emergencies received from the slave, in order; 8 octets each.
+    pub emergencies: Rows<Octets>,
+    /// Its epochs, in order.
+    pub epochs: Rows<Epoch>,
+    /// The frames at which it was given up, in order.
+    pub gave: Rows<u32>,
+    /// The frame at which it was given up for good.
+    pub given_up: Option<u32>,
+}
+
+/// How a run ended.
+#[derive(Clone, Copy, Debug, PartialEq, Eq)]
+pub enum Ending {
+    /// It didn't end yet.
+    Unfinished,
+    /// Nothing was left to do, and no slave was given up.
+    Done,
+    /// Nothing was left to do, and a slave was given up.
+    GivenUp,
+    /// As many frames were sent as the budget allows.
+    BudgetSpent,
+    /// The port failed.
+    PortFault,
+    /// Want of memory.
+    NoMemory,
+}
+
+/// The record of a run.
+#[derive(Drop)]
+pub struct Book {
+    /// The frames, in the order of sending.
+    pub frames: Rows<SentFrame>,
+    /// The slaves in ring order.
+    pub slaves: Rows<SlaveBook>,
+    /// What happened at the switch, in order.
+    pub switch: Rows<SwitchEvent>,
+    /// How many frames had been sent when each of these events came.
+    pub switched: Rows<u32>,
+    /// The packets that the host received, in order.
+    pub host: Rows<Octets>,
+    /// Whether requests were served.
+    pub serving: bool,
+    /// How the run ended.
+    pub ending: Ending,
+}
+
+impl Book {
+    /// A new book, in which nothing stands yet.
+    pub fn new(alloc: Global) -> Book
+        ensures { IsNew result }
+    {
+        Book {
+            frames: Rows::new(alloc),
+            slaves: Rows::new(alloc),
+            switch: Rows::new(alloc),
+            switched: Rows::new(alloc),
+            host: Rows::new(alloc),
+            serving: false,
+            ending: Ending::Unfinished,
+        }
+    }
+}

@@ -1,0 +1,6 @@
+//! The book of a run: each frame that was sent, what became of each slave and its services, and how the run ended.
+#![tactic(auto)]
+
+mod book;
+
+pub use book::{Answer, Begun, Book, Ending, Epoch, Reply, SentFrame, SlaveBook};

@@ -1,0 +1,130 @@
+ghost use Rattle.std.specs.Prelude.{◌≡◌, ◌++◌, length, codes, IfOk, OnOk, OnErr};
+ghost use Rattle.run_report.specs.Report.{hex_of, value_text, kind_text, answer_text, answer_line, answer_lines, is_scripted, is_packet, is_handed, packets_handed, Extends};
+
+use ec_fields::{NoMemory, Octets, Rows};
+use mailbox_mail::ReplyKind;
+use master_node::Origin;
+use run_book::{Answer, Begun, Reply};
+use std::alloc::Global;
+
+fn text_of_value(alloc: Global, value: &[u8]) -> Result<Octets, NoMemory>
+    ensures { IfOk result (λ text. text ≡ value_text value.now) }
+{
+    if value.is_empty() {
+        return Octets::copy_of(alloc, b"value");
+    }
+    let digits = hex::encode(alloc, value)?;
+    let mut text = Octets::copy_of(alloc, b"value ")?;
+    text.add(digits.as_bytes())?;
+    Ok(text)
+}
+
+fn coded(alloc: Global, word: &str, code: u32) -> Result<Octets, NoMemory>
+    ensures { IfOk result (λ text. text ≡ word.now ++ hex_of 4 code) }
+{
+    let digits = format!(in alloc; "{code:04x}")?;
+    let mut text = Octets::copy_of(alloc, word.as_bytes())?;
+    text.add(digits.as_bytes())?;
+    Ok(text)
+}
+
+fn text_of_abort(alloc: Global, code: u32) -> Result<Octets, NoMemory>
+    ensures { IfOk result (λ text. text ≡ codes "abort " ++ hex_of 8 code) }
+{
+    let text = format!(in alloc; "abort {code:08x}")?;
+    Octets::copy_of(alloc, text.as_bytes())
+}
+
+fn text_of_reply(alloc: Global, reply: &Reply) -> Result<Octets, NoMemory>
+    ensures { IfOk result (λ text. text ≡ kind_text reply.now.kind reply.now.value) }
+{
+    match reply.kind {
+        ReplyKind::Done => Octets::copy_of(alloc, b"done"),
+        ReplyKind::Value => text_of_value(alloc, reply.value.bytes()),
+        ReplyKind::Abort(code) => text_of_abort(alloc, code),
+        ReplyKind::FoeError(code) => coded(alloc, "foe ", code),
+        ReplyKind::SoeError(code) => coded(alloc, "soe ", u32::from(code)),
+        ReplyKind::EoeResult(code) => coded(alloc, "eoe ", u32::from(code)),
+        ReplyKind::MailboxError(detail) => coded(alloc, "mailbox ", u32::from(detail)),
+        ReplyKind::StateRefused(code) => coded(alloc, "refused ", u32::from(code)),
+        ReplyKind::Handed => Octets::copy_of(alloc, b"handed"),
+    }
+}
+
+fn text_of_answer(alloc: Global, answer: &Answer) -> Result<Octets, NoMemory>
+    ensures { IfOk result (λ text. text ≡ answer_text answer.now) }
+{
+    match answer {
+        Answer::Replied { reply, .. } => text_of_reply(alloc, reply),
+        Answer::InDoubt => Octets::copy_of(alloc, b"in doubt"),
+        Answer::NotSent => Octets::copy_of(alloc, b"not sent"),
+    }
+}
+
+fn line_of_answer(alloc: Global, number: u32, answer: &Answer) -> Result<Octets, NoMemory>
+    ensures { IfOk result (λ line. line ≡ answer_line number answer.now) }
+{
+    let head = format!(in alloc; "answer {number} ")?;
+    let text = text_of_answer(alloc, answer)?;
+    let mut line = Octets::copy_of(alloc, head.as_bytes())?;
+    line.add(text.bytes())?;
+    line.add(b"\n")?;
+    Ok(line)
+}
+
+/// Appends a line for the answer of each scripted service. What began otherwise has none, and what never came into hand was scripted.
+pub fn push_answers(
+    alloc: Global,
+    begun: &[Begun],
+    answers: &[Answer],
+    into: &mut Rows<Octets>,
+) -> Result<(), NoMemory>
+    ensures ok { OnOk result (into.new ≡ into.old ++ answer_lines begun.now 0 0 answers.now) }
+    ensures err { OnErr result (Extends into.old into.new) }
+{
+    let mut number = 0;
+    for (at, answer) in answers.iter().enumerate() {
+        if is_scripted(begun, at) {
+            into.add(line_of_answer(alloc, number, answer)?)?;
+            number += 1;
+        }
+    }
+    Ok(())
+}
+
+fn is_scripted(begun: &[Begun], at: usize) -> bool
+    ensures { result ≡ is_scripted begun.now at }
+{
+    match begun.get(at) {
+        Some(row) => matches!(row.origin, Origin::Script(_)),
+        None => true,
+    }
+}
+
+/// How many packets were handed over to a slave.
+pub fn packets_handed(begun: &[Begun], answers: &[Answer]) -> usize
+    ensures { result ≡ packets_handed begun.now answers.now }
+{
+    let mut many = 0;
+    for (row, answer) in begun.iter().zip(answers.iter()) {
+        if is_packet(row.origin) && is_handed(answer) {
+            many += 1;
+        }
+    }
+    many
+}
+
+fn is_packet(origin: Origin) -> bool
+    ensures { result ≡ is_packet origin }
+{
+    matches!(origin, Origin::Forward(_))
+}
+
+fn is_handed(answer: &Answer) -> bool
+    ensures { result ≡ is_handed answer.now }
+{
+    match answer {
+        Answer::Replied { reply, .. } => reply.kind == ReplyKind::Handed,
+        Answer::InDoubt | Answer::NotSent => false,
+    }
+}

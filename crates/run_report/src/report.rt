@@ -1,0 +1,62 @@
+ghost use Rattle.std.specs.Prelude.{◌≡◌, ◌≤◌, ◌++◌, length, IfOk, OnOk, OnErr};
+ghost use Rattle.run_report.specs.Report.{is_lost, frames_line, dropped_line, ending_line, report_lines, Extends};
+
+use crate::drops::drops;
+use crate::slaves::{push_octets, push_slaves};
+use ec_fields::{NoMemory, Octets, Rows};
+use run_book::{Book, Ending, SentFrame};
+use segment_plan::Scenario;
+use segment_ring::Fate;
+use std::alloc::Global;
+
+fn is_lost(fate: Fate) -> bool
+    ensures { result ≡ is_lost fate }
+{
+    match fate {
+        Fate::Pass => false,
+        Fate::Lost { .. } => true,
+    }
+}
+
+fn line_of_frames(alloc: Global, frames: &[SentFrame]) -> Result<Octets, NoMemory>
+    ensures { IfOk result (λ line. line ≡ frames_line frames.now) }
+{
+    let sent = frames.len();
+    let lost = frames.iter().filter(|frame| is_lost(frame.fate)).count();
+    let text = format!(in alloc; "frames {sent} lost {lost}\n")?;
+    Octets::copy_of(alloc, text.as_bytes())
+}
+
+fn line_of_drops(alloc: Global, drops: u64) -> Result<Octets, NoMemory>
+    ensures { IfOk result (λ line. line ≡ dropped_line drops) }
+{
+    let text = format!(in alloc; "dropped {drops}\n")?;
+    Octets::copy_of(alloc, text.as_bytes())
+}
+
+fn line_of_ending(alloc: Global, ending: Ending) -> Result<Octets, NoMemory>
+    ensures { IfOk result (λ line. line ≡ ending_line ending) }
+{
+    match ending {
+        Ending::Done => Octets::copy_of(alloc, b"status 0 done\n"),
+        Ending::GivenUp => Octets::copy_of(alloc, b"status 7 given up\n"),
+        Ending::BudgetSpent => Octets::copy_of(alloc, b"status 8 budget spent\n"),
+        Ending::PortFault => Octets::copy_of(alloc, b"status 9 port fault\n"),
+        Ending::Unfinished | Ending::NoMemory => Ok(Octets::new(alloc)),
+    }
+}
+
+/// Appends the report of a run that ended, a row a line. After `NoMemory` the rows before the call stand, and some lines behind them.
+pub fn report(
+    alloc: Global,
+    plan: &Scenario,
+    book: &Book,
+    into: &mut Rows<Octets>,
+) -> Result<(), NoMemory> {
+    into.add(line_of_frames(alloc, book.frames.as_slice())?)?;
+    push_slaves(alloc, plan.slaves.as_slice(), book.slaves.as_slice(), into)?;
+    push_octets(alloc, "host ", book.host.as_slice(), into)?;
+    let drops = drops(alloc, plan.slaves.as_slice(), book.switch.as_slice())?;
+    into.add(line_of_drops(alloc, drops)?)?;
+    into.add(line_of_ending(alloc, book.ending)?)
+}
