@@ -1,0 +1,4 @@
+pub mod Takes
+pub mod Next
+pub mod SeenLaw
+pub mod Counting

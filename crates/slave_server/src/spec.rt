@@ -1,0 +1,190 @@
+ghost use Rattle.std.specs.Prelude.{◌≡◌, IfOk, None, is_some};
+ghost use Rattle.file_store.specs.Files.{file_of};
+ghost use Rattle.segment_plan.specs.Sound.{IsSlave, IsIdn};
+ghost use Rattle.slave_server.specs.Spec.{idn_of, objects_of, files_of, idns_of, addresses_of, server_of, node_of};
+
+use crate::server::{Lengths, Protocols, SlaveServer};
+use ec_fields::{NoMemory, Octets, Rows, buffer_of};
+use eoe_server::Addresses;
+use file_store::{FileSpec, NOT_FOUND, Store};
+use idn_table::IdnTable;
+use object_dictionary::{EntrySpec, Objects};
+use segment_plan::{IdnSpec, ObjectSpec, SlaveSpec};
+use slave_node::SlaveNode;
+use std::alloc::Global;
+
+/// The address block of a slave that was told none.
+const NO_ADDRESSES: [u8; 4] = [0; 4];
+
+/// A state in which a store is asked whether it has a file.
+const PREOP: u8 = 2;
+
+fn copy_of_entry(alloc: Global, entry: &EntrySpec) -> Result<EntrySpec, NoMemory>
+    ensures { IfOk result (λ copy. copy ≡ entry.now) }
+{
+    let name = Octets::copy_of(alloc, entry.name.bytes())?;
+    let value = Octets::copy_of(alloc, entry.value.bytes())?;
+    Ok(EntrySpec {
+        kind: entry.kind,
+        access: entry.access,
+        least: entry.least,
+        most: entry.most,
+        min: entry.min,
+        max: entry.max,
+        name,
+        value,
+    })
+}
+
+fn copy_of_object(alloc: Global, object: &ObjectSpec) -> Result<ObjectSpec, NoMemory>
+    ensures { IfOk result (λ copy. copy ≡ object.now) }
+{
+    let name = Octets::copy_of(alloc, object.name.bytes())?;
+    let mut entries = Rows::new(alloc);
+    for entry in object.entries.as_slice() {
+        entries.add(copy_of_entry(alloc, entry)?)?;
+    }
+    Ok(ObjectSpec {
+        index: object.index,
+        code: object.code,
+        name,
+        entries,
+    })
+}
+
+// The profile's own objects and the slave's.
+fn objects_of(alloc: Global, spec: &SlaveSpec) -> Result<Objects, NoMemory>
+    requires { IsSlave spec.now }
+    ensures { IfOk result (λ objects. objects ≡ objects_of spec.now) }
+{
+    let mut objects = Objects::new(alloc, spec.eoe)?;
+    for object in spec.objects.as_slice() {
+        let copy = copy_of_object(alloc, object)?;
+        objects.insert(copy.index, copy.code, copy.name, copy.entries)?;
+    }
+    Ok(objects)
+}
+
+fn copy_of_file(file: &FileSpec) -> FileSpec
+    ensures { result ≡ file.now }
+{
+    FileSpec {
+        name: buffer_of(file.name.as_slice()),
+        pass: file.pass,
+        read: file.read,
+        write: file.write,
+        boot: file.boot,
+        busy: file.busy,
+    }
+}
+
+// Whether a store has a file of this name.
+fn has_file(store: &Store, name: &[u8]) -> bool
+    ensures { result ≡ is_some (file_of store.now.kept name.now) }
+{
+    match store.allowed(name, 0, false, PREOP) {
+        Some(code) => code != NOT_FOUND,
+        None => true,
+    }
+}
+
+// The slave's files; of files of one name the first.
+fn store_of(alloc: Global, spec: &SlaveSpec) -> Result<Store, NoMemory>
+    requires { IsSlave spec.now }
+    ensures { IfOk result (λ store. store ≡ record { kept = files_of spec.now; part = None }) }
+{
+    let mut store = Store::new(alloc, spec.blocks)?;
+    for (file, octets) in spec.files.as_slice() {
+        if !has_file(&store, file.name.as_slice()) {
+            store.insert(copy_of_file(file), octets.bytes())?;
+        }
+    }
+    Ok(store)
+}
+
+fn copy_of_text(alloc: Global, text: &Option<Octets>) -> Result<Option<Octets>, NoMemory>
+    ensures { IfOk result (λ copy. copy ≡ text.now) }
+{
+    match text {
+        Some(octets) => Ok(Some(Octets::copy_of(alloc, octets.bytes())?)),
+        None => Ok(None),
+    }
+}
+
+// An IDN as a table takes it.
+fn idn_of(alloc: Global, idn: &IdnSpec) -> Result<idn_table::IdnSpec, NoMemory>
+    ensures { IfOk result (λ copy. copy ≡ idn_of idn.now) }
+{
+    let label = copy_of_text(alloc, &idn.label)?;
+    let unit = copy_of_text(alloc, &idn.unit)?;
+    let value = Octets::copy_of(alloc, idn.value.bytes())?;
+    Ok(idn_table::IdnSpec {
+        drive: idn.drive,
+        number: idn.number,
+        attribute: idn.attribute,
+        label,
+        unit,
+        least: idn.least,
+        most: idn.most,
+        min: idn.min,
+        max: idn.max,
+        writable: idn.writable,
+        value,
+    })
+}
+
+// The slave's IDNs; of IDNs of one drive and number the first.
+fn idns_of(alloc: Global, spec: &SlaveSpec) -> Result<IdnTable, NoMemory>
+    requires { IsSlave spec.now }
+    ensures { IfOk result (λ idns. idns ≡ idns_of spec.now) }
+{
+    let mut idns = IdnTable::new(alloc)?;
+    for idn in spec.idns.as_slice() {
+        if !idns.has(idn.drive, idn.number) {
+            idns.insert(&idn_of(alloc, idn)?)?;
+        }
+    }
+    Ok(idns)
+}
+
+fn addresses_of(spec: &SlaveSpec) -> Addresses
+    ensures { result ≡ addresses_of spec.now }
+{
+    Addresses {
+        block: buffer_of(&NO_ADDRESSES),
+        mac: buffer_of(&spec.mac),
+        fixed: spec.fixed_ip,
+    }
+}
+
+/// The services of a slave of a plan before any mail: over the profile's own objects and the plan's, its files and its IDNs, with an address
+/// block of four zero octets. It takes all the memory that its steps fill.
+pub fn server_of(alloc: Global, spec: &SlaveSpec) -> Result<SlaveServer, NoMemory>
+    requires { IsSlave spec.now }
+    ensures { IfOk result (λ server. server ≡ server_of spec.now) }
+{
+    let objects = objects_of(alloc, spec)?;
+    let store = store_of(alloc, spec)?;
+    let idns = idns_of(alloc, spec)?;
+    let lengths = Lengths {
+        out_len: spec.out_len,
+        in_len: spec.in_len,
+    };
+    let protocols = Protocols {
+        has_coe: spec.coe,
+        has_foe: spec.foe,
+        has_soe: spec.soe,
+        has_eoe: spec.eoe,
+    };
+    let addresses = addresses_of(spec);
+    SlaveServer::new(alloc, lengths, protocols, objects, store, idns, addresses)
+}
+
+/// A slave of a plan as it is switched on: in Init, with empty mailboxes and nothing carried out. It takes all the memory that its steps fill.
+pub fn node_of(alloc: Global, spec: &SlaveSpec) -> Result<SlaveNode<SlaveServer>, NoMemory>
+    requires { IsSlave spec.now }
+    ensures { IfOk result (λ node. node ≡ node_of spec.now) }
+{
+    let server = server_of(alloc, spec)?;
+    SlaveNode::new(alloc, spec.out_len, spec.in_len, spec.boot, server)
+}
