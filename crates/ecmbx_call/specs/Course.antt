@@ -24,6 +24,7 @@ use Rattle.ecmbx_words.specs.declared.status.Status.TheVariants as statuses
 use Rattle.ecmbx_words.specs.Form.{form_in, name_in, saved_in}
 use Rattle.ecmbx_words.specs.Ends.{text_of, Ended}
 use Rattle.ecmbx_words.specs.Texts.{usage_line, refused_line, capture_line}
+pub use Rattle.ecmbx_call.specs.Files.{Followed}
 use Rattle.ecmbx_call.specs.Files.{Holds, FileCourse}
 
 -- the octets of the words
@@ -68,6 +69,18 @@ pub data Course (words : List (List ℕ)) (table saved : Option Table) (faulted 
   run : (planned : Status) (text : List ℕ) → form_in words ≡ forms.Run → FileCourse (name_in words) table faulted (IsNew book) (RunCourse book) planned text → Course words table saved faulted book planned text
   run_saved : (planned : Status) (text : List ℕ) → form_in words ≡ forms.RunSaved → FileCourse (name_in words) table faulted (IsNew book) (SavedCourse (saved_in words) saved faulted book) planned text → Course words table saved faulted book planned text
 
--- what became of a call that is to end as a course says, unless memory ran out
-abbrev pub Followed : (Status → List ℕ → Type 0) → Option (List ℕ) → Option (List ℕ) → Status → Type 0
-Followed course old new status = (status ≡ statuses.NoMemory) ⊎ ((planned : Status) × (text : List ℕ) × course planned text × Ended planned text old new status)
+-- octets that are no scenario: the refusal's line is put, unless memory ran out
+abbrev pub IsUnread : List ℕ → Option (List ℕ) → Option (List ℕ) → Status → Type 0
+IsUnread octets old new status = (status ≡ statuses.NoMemory) ⊎ ((e : Refusal) × (plan_of octets ≡ Err e) × Ended statuses.Refused (refused_line e) old new status)
+
+-- a save that failed
+abbrev pub IsUnsaved : Type 0 → Status → Type 0
+IsUnsaved faulted status = (status ≡ statuses.NoMemory) ⊎ ((status ≡ statuses.FileFault) × faulted)
+
+-- a run of the plan that octets write, and what it left
+abbrev pub BeganOn : List ℕ → Book → Type 0
+BeganOn octets book = (plan : Scenario) × (plan_of octets ≡ Ok plan) × HasRun plan book
+
+-- the same of the file that the words name
+abbrev pub Began : List (List ℕ) → Option Table → Book → Type 0
+Began words table book = (octets : List ℕ) × Holds table (name_in words) (Some octets) × BeganOn octets book

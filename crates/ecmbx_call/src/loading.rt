@@ -1,3 +1,8 @@
+ghost use Rattle.std.specs.Prelude.{◌≡◌, ◌≤◌, IfOk, IfErr};
+ghost use Rattle.ec_outside.specs.Faults.{Rose};
+ghost use Rattle.ecmbx_words.specs.declared.status.Status.TheVariants as statuses;
+ghost use Rattle.ecmbx_call.specs.Files.{IsLoaded, IsUnloaded};
+
 use ec_fields::Octets;
 use ec_outside::{Files, FilesErr, Loaded, Sink};
 use ecmbx_words::{Status, absent, file_fault, say, too_long};
@@ -12,7 +17,14 @@ pub fn load<F: Files, O: Sink>(
     name: &str,
     files: &mut F,
     out: &mut O,
-) -> Result<Octets, Status> {
+) -> Result<Octets, Status>
+    ensures found { IfOk result (IsLoaded name.now (F.table files.old)) }
+    ensures quiet { IfOk result (λ octets. out.new ≡ out.old) }
+    ensures failed { IfErr result (IsUnloaded name.now (F.table files.old) (Rose (F.file_faults files.old) (F.file_faults files.new)) (O.written out.old) (O.written out.new)) }
+    ensures sink { IfErr result (λ status. status ≡ statuses.SinkFault → Rose (O.sink_faults out.old) (O.sink_faults out.new)) }
+    ensures same { F.table files.new ≡ F.table files.old }
+    ensures later { F.file_faults files.old ≤ F.file_faults files.new }
+{
     let mut octets = Octets::new(alloc);
     match files.load(name, LIMIT, &mut octets) {
         Ok(Loaded::Found) => Ok(octets),

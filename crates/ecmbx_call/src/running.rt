@@ -1,3 +1,16 @@
+ghost use Rattle.std.specs.Prelude.{◌≡◌, ◌⊎◌, Ok, Some, IfOk, IfErr};
+ghost use Rattle.ec_outside.specs.Faults.{Rose};
+ghost use Rattle.segment_plan.specs.Sound.{IsPlan};
+ghost use Rattle.scenario.specs.Document.{plan_of};
+ghost use Rattle.run_book.specs.Book.{IsNew};
+ghost use Rattle.run_report.specs.Report.{report_lines};
+ghost use Rattle.run_report.specs.Saved.{capture_of};
+ghost use Rattle.ecmbx_words.specs.Ends.{text_of, PutAll};
+ghost use Rattle.ecmbx_words.specs.Texts.{refusal_line};
+ghost use Rattle.ecmbx_words.specs.declared.status.Status.TheVariants as statuses;
+ghost use Rattle.ecmbx_call.specs.Files.{Holds};
+ghost use Rattle.ecmbx_call.specs.Course.{HasRun, status_of, Followed, RunCourse, SavedCourse, IsUnread, IsUnsaved, BeganOn};
+
 use ec_fields::{NoMemory, Octets, Rows};
 use ec_outside::{Files, FilesErr, Sink};
 use ecmbx_words::{Status, refusal, say, say_lines};
@@ -9,7 +22,9 @@ use segment_plan::Scenario;
 use std::alloc::Global;
 
 // How a call ends whose run ended so.
-fn status_of(ending: Ending) -> Status {
+fn status_of(ending: Ending) -> Status
+    ensures { result ≡ status_of ending }
+{
     match ending {
         Ending::Done => Status::Done,
         Ending::GivenUp => Status::GivenUp,
@@ -20,7 +35,13 @@ fn status_of(ending: Ending) -> Status {
 }
 
 // The plan that octets write; or the answer where they write none, whose line is put.
-fn plan_of<O: Sink>(alloc: Global, octets: &[u8], out: &mut O) -> Result<Scenario, Status> {
+fn plan_in<O: Sink>(alloc: Global, octets: &[u8], out: &mut O) -> Result<Scenario, Status>
+    ensures found { IfOk result (λ plan. plan_of octets.now ≡ Ok plan) }
+    ensures sound { IfOk result IsPlan }
+    ensures quiet { IfOk result (λ plan. out.new ≡ out.old) }
+    ensures failed { IfErr result (IsUnread octets.now (O.written out.old) (O.written out.new)) }
+    ensures sink { IfErr result (λ status. status ≡ statuses.SinkFault → Rose (O.sink_faults out.old) (O.sink_faults out.new)) }
+{
     match read(alloc, octets) {
         Ok(plan) => Ok(plan),
         Err(ReadErr::NoMemory) => Err(Status::NoMemory),
@@ -28,7 +49,10 @@ fn plan_of<O: Sink>(alloc: Global, octets: &[u8], out: &mut O) -> Result<Scenari
     }
 }
 
-fn refuse<O: Sink>(alloc: Global, rule: u8, place: Place, out: &mut O) -> Status {
+fn refuse<O: Sink>(alloc: Global, rule: u8, place: Place, out: &mut O) -> Status
+    ensures put { PutAll statuses.Refused (refusal_line rule place) (O.written out.old) (O.written out.new) result }
+    ensures sink { result ≡ statuses.SinkFault → Rose (O.sink_faults out.old) (O.sink_faults out.new) }
+{
     match refusal(alloc, rule, place) {
         Ok(line) => say(out, Status::Refused, line.bytes()),
         Err(NoMemory) => Status::NoMemory,
@@ -36,7 +60,11 @@ fn refuse<O: Sink>(alloc: Global, rule: u8, place: Place, out: &mut O) -> Status
 }
 
 // Puts the report of a run, and answers how the run ended.
-fn tell<O: Sink>(alloc: Global, plan: &Scenario, book: &Book, out: &mut O) -> Status {
+fn tell<O: Sink>(alloc: Global, plan: &Scenario, book: &Book, out: &mut O) -> Status
+    requires { HasRun plan.now book.now }
+    ensures put { PutAll (status_of book.now.ending) (text_of (report_lines plan.now book.now)) (O.written out.old) (O.written out.new) result }
+    ensures sink { result ≡ statuses.SinkFault → Rose (O.sink_faults out.old) (O.sink_faults out.new) }
+{
     let mut lines = Rows::new(alloc);
     match report(alloc, plan, book, &mut lines) {
         Ok(()) => say_lines(out, status_of(book.ending), lines.as_slice()),
@@ -45,7 +73,12 @@ fn tell<O: Sink>(alloc: Global, plan: &Scenario, book: &Book, out: &mut O) -> St
 }
 
 // Saves the frames of a run as a capture.
-fn save<F: Files>(alloc: Global, book: &Book, name: &str, files: &mut F) -> Result<(), Status> {
+fn save<F: Files>(alloc: Global, plan: &Scenario, book: &Book, name: &str, files: &mut F) -> Result<(), Status>
+    requires { HasRun plan.now book.now }
+    ensures saved { IfOk result (λ done. Holds (F.table files.new) name.now (Some (capture_of book.now.frames))) }
+    ensures failed { IfErr result (IsUnsaved (Rose (F.file_faults files.old) (F.file_faults files.new))) }
+{
+    let _plan = plan.retry;
     let mut octets = Octets::new(alloc);
     if saved(book.frames.as_slice(), &mut octets).is_err() {
         return Err(Status::NoMemory);
@@ -58,8 +91,13 @@ fn save<F: Files>(alloc: Global, book: &Book, name: &str, files: &mut F) -> Resu
 }
 
 /// Runs the plan that octets write, and puts the report; or why they write none.
-pub fn run_octets<O: Sink>(alloc: Global, octets: &[u8], out: &mut O, book: &mut Book) -> Status {
-    let plan = match plan_of(alloc, octets, out) {
+pub fn run_octets<O: Sink>(alloc: Global, octets: &[u8], out: &mut O, book: &mut Book) -> Status
+    requires { IsNew book.old }
+    ensures course { Followed (RunCourse book.new octets.now) (O.written out.old) (O.written out.new) result }
+    ensures sink { result ≡ statuses.SinkFault → Rose (O.sink_faults out.old) (O.sink_faults out.new) }
+    ensures book { IsNew book.new ⊎ BeganOn octets.now book.new }
+{
+    let plan = match plan_in(alloc, octets, out) {
         Ok(plan) => plan,
         Err(status) => return status,
     };
@@ -77,15 +115,20 @@ pub fn run_saved<F: Files, O: Sink>(
     files: &mut F,
     out: &mut O,
     book: &mut Book,
-) -> Status {
-    let plan = match plan_of(alloc, octets, out) {
+) -> Status
+    requires { IsNew book.old }
+    ensures course { Followed (SavedCourse name.now (F.table files.new) (Rose (F.file_faults files.old) (F.file_faults files.new)) book.new octets.now) (O.written out.old) (O.written out.new) result }
+    ensures sink { result ≡ statuses.SinkFault → Rose (O.sink_faults out.old) (O.sink_faults out.new) }
+    ensures book { IsNew book.new ⊎ BeganOn octets.now book.new }
+{
+    let plan = match plan_in(alloc, octets, out) {
         Ok(plan) => plan,
         Err(status) => return status,
     };
     if run(alloc, &plan, book) == Ending::NoMemory {
         return Status::NoMemory;
     }
-    match save(alloc, book, name, files) {
+    match save(alloc, &plan, book, name, files) {
         Ok(()) => tell(alloc, &plan, book, out),
         Err(status) => status,
     }
