@@ -37,12 +37,38 @@ pub struct MasterNode {
     pub(crate) made: u32,
 }
 
-/// A service that may come into hand at a visit, laid ready.
+/// What may come into hand at a visit.
 #[derive(Clone, Copy, Debug)]
-struct Coming {
-    wish: Wish,
-    origin: Origin,
-    work: Work,
+enum Coming {
+    /// A packet from the switch.
+    Packet,
+    /// A mail that is passed on.
+    Mail,
+    /// The next scripted service, by mails.
+    Script,
+    /// The next scripted service, a change of the AL state.
+    State(Target),
+}
+
+impl Coming {
+    // What the slave's side is to wish.
+    fn wish(self) -> Wish {
+        match self {
+            Coming::Packet | Coming::Mail | Coming::Script => Wish::Mails,
+            Coming::State(target) => Wish::State(target),
+        }
+    }
+}
+
+// What the script has next; a script hands over no packet. A control word has room for a state below 16.
+fn scripted(hand: &InHand) -> Option<Coming> {
+    match hand.scripted()? {
+        Service::Forward(_) => None,
+        Service::State { target } => Some(Coming::State(Target {
+            state: *target % 16,
+        })),
+        _ => Some(Coming::Script),
+    }
 }
 
 /// Whether a slave gets datagrams: it was not given up for good.
@@ -91,108 +117,106 @@ impl MasterNode {
         }
     }
 
-    // The packet that waits at the slave's port is laid ready.
-    fn lay_packet(&mut self, place: usize) -> Option<Coming> {
-        let packet = self.lan.begin(place, &mut self.list)?;
-        self.tour.stops[place].side.hand.lay_packet(&packet);
-        let post = &mut self.posts[place];
-        let number = post.forwards;
-        post.forwards = number.wrapping_add(1);
-        Some(Coming {
-            wish: Wish::Mails,
-            origin: Origin::Forward(number),
-            work: Work::Packet,
-        })
-    }
-
-    // The oldest mail that waits to be passed on is laid ready.
-    fn lay_mail(&mut self, place: usize) -> Option<Coming> {
-        let post = &mut self.posts[place];
-        let number = post.oldest();
-        let asked = post.take()?;
-        self.tour.stops[place].side.hand.lay_mail(&asked.mail);
-        Some(Coming {
-            wish: Wish::Mails,
-            origin: Origin::Gateway(number),
-            work: Work::Passed { key: asked.key },
-        })
-    }
-
-    // The next scripted service is laid ready.
-    fn lay_script(&mut self, place: usize) -> Option<Coming> {
-        let hand = &mut self.tour.stops[place].side.hand;
-        let origin = Origin::Script(hand.number());
-        match hand.scripted()? {
-            Service::Forward(_) => None,
-            Service::State { target } => Some(Coming {
-                wish: Wish::State(Target {
-                    state: *target % 16,
-                }),
-                origin,
-                work: Work::State,
-            }),
-            _ => {
-                hand.lay_script();
-                Some(Coming {
-                    wish: Wish::Mails,
-                    origin,
-                    work: Work::Mails,
-                })
-            }
-        }
-    }
-
-    // The service that may come into hand of a slave that is open and has none is laid ready: a packet first, then a mail that is passed on,
-    // then the script.
-    fn lay_ready(&mut self, place: usize) -> Option<Coming> {
+    // What may come into hand of a slave: a packet first, then a mail that is passed on, then the script. A slave that isn't open or has
+    // something in hand takes nothing.
+    fn coming(&self, place: usize) -> Option<Coming> {
         let stop = &self.tour.stops[place];
         if !matches!(stop.stand, Stand::Open) || !stop.side.is_free() {
             return None;
         }
         if self.lan.waits(place) {
-            self.lay_packet(place)
-        } else if self.posts[place].has_mail() {
-            self.lay_mail(place)
-        } else {
-            self.lay_script(place)
+            return Some(Coming::Packet);
+        }
+        if self.posts[place].has_mail() {
+            return Some(Coming::Mail);
+        }
+        scripted(&stop.side.hand)
+    }
+
+    // A packet that waits at the slave's port is laid ready.
+    fn lay_packet(&mut self, place: usize) -> Origin {
+        if let Some(packet) = self.lan.begin(place, &mut self.list) {
+            self.tour.stops[place].side.hand.lay_packet(&packet);
+        }
+        let post = &mut self.posts[place];
+        let number = post.forwards;
+        post.forwards = number.wrapping_add(1);
+        post.next = Work::Packet;
+        Origin::Forward(number)
+    }
+
+    // The oldest mail that waits to be passed on is laid ready.
+    fn lay_mail(&mut self, place: usize) -> Origin {
+        let post = &mut self.posts[place];
+        let number = post.oldest();
+        if let Some(asked) = post.take() {
+            post.next = Work::Passed { key: asked.key };
+            self.tour.stops[place].side.hand.lay_mail(&asked.mail);
+        }
+        Origin::Gateway(number)
+    }
+
+    // A service is laid ready.
+    fn lay(&mut self, place: usize, coming: Coming) -> Origin {
+        let number = self.tour.stops[place].side.hand.number();
+        match coming {
+            Coming::Packet => self.lay_packet(place),
+            Coming::Mail => self.lay_mail(place),
+            Coming::Script => {
+                self.tour.stops[place].side.hand.lay_script();
+                self.posts[place].next = Work::Mails;
+                Origin::Script(number)
+            }
+            Coming::State(_) => {
+                self.posts[place].next = Work::State;
+                Origin::Script(number)
+            }
         }
     }
 
-    // A service came into hand.
-    fn begun(&mut self, place: usize, coming: Coming) {
-        if matches!(coming.work, Work::State) {
+    // The service that was laid ready came into hand.
+    fn begun(&mut self, place: usize, origin: Origin) {
+        let post = &mut self.posts[place];
+        post.work = post.next;
+        post.answer = None;
+        if matches!(post.work, Work::State) {
             self.tour.stops[place].side.hand.pass_by();
         }
-        let post = &mut self.posts[place];
-        post.work = coming.work;
-        post.answer = None;
         self.list.put(Event::Began {
             slave: place as u32,
-            origin: coming.origin,
+            origin,
         });
     }
 
-    // A slave is visited: its datagram stands next in the frame.
-    fn visit(&mut self, place: usize, into: &mut FrameBuf) {
+    // A slave is visited: its datagram stands next in the frame, and `false` where that has no room for it.
+    fn visit(&mut self, place: usize, into: &mut FrameBuf) -> bool {
         let index = (self.made % 256) as u8;
-        let coming = self.lay_ready(place);
-        let wish = match coming {
-            Some(coming) => Some(coming.wish),
-            None => None,
+        let Some(coming) = self.coming(place) else {
+            let fits = self.tour.fits(place, None, into);
+            if fits {
+                self.tour.visit(place, None, index, into);
+            }
+            return fits;
         };
-        let began = self.tour.visit(place, wish, index, into);
-        match coming {
-            Some(coming) if began => self.begun(place, coming),
-            _ => {}
+        let wish = Some(coming.wish());
+        if !self.tour.fits(place, wish, into) {
+            return false;
         }
+        let origin = self.lay(place, coming);
+        if self.tour.visit(place, wish, index, into) {
+            self.begun(place, origin);
+        }
+        true
     }
 
     // The slaves that the frame carries are visited.
     fn fill(&mut self, into: &mut FrameBuf) {
         for _ in 0..SLAVES {
-            match self.tour.due(into) {
-                Some(place) => self.visit(place, into),
-                None => return,
+            let Some(place) = self.tour.due() else {
+                return;
+            };
+            if !self.visit(place, into) {
+                return;
             }
         }
     }

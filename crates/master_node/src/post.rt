@@ -33,6 +33,8 @@ pub struct Asked {
 pub struct Post {
     /// What it has in hand.
     pub work: Work,
+    /// What was laid ready to come into hand.
+    pub next: Work,
     /// The last answer, until the next service comes into hand or the slave is given up.
     pub answer: Option<ReplyKind>,
     /// How many packets of its port came into hand.
@@ -59,6 +61,7 @@ impl Post {
         let mails = HeapCircularBuffer::with_capacity(alloc, WAITING)?;
         Ok(Post {
             work: Work::Nothing,
+            next: Work::Nothing,
             answer: None,
             forwards: 0,
             mails,

@@ -77,6 +77,15 @@ visit_gram station index out inn duty Carried.Full = datagram_of (full_head stat
 visit_gram station index out inn duty Carried.Control = duty_gram station index duty
 visit_gram station index out inn duty Carried.Status = duty_gram station index duty
 
+-- how many octets it has
+abbrev pub gram_len : OutLink (Option Mail) → InwardHalf → Carried → ℕ
+gram_len out inn Carried.Nothing = 0
+gram_len out inn Carried.Write = out.len
+gram_len out inn Carried.Inward = length (in_access_of inn).octets
+gram_len out inn Carried.Full = 1
+gram_len out inn Carried.Control = 2
+gram_len out inn Carried.Status = 6
+
 -- the same link
 pub record SameLink (out : OutLink (Option Mail)) (inn : InwardHalf) (station area : ℕ) (out' : OutLink (Option Mail)) (inn' : InwardHalf) (station' area' : ℕ) : Type 0 where
   pub out_is : out'.len ≡ out.len

@@ -4,12 +4,12 @@ ghost use Rattle.std.specs.Prelude.{◌≡◌, List, ◌++◌, ◌∷◌, []};
 ghost use Rattle.datagrams.specs.Datagram as Raw;
 ghost use Rattle.datagrams.specs.Frame.{IsBegun};
 ghost use Rattle.master_side.specs.Carried.{errand_carried};
-ghost use Rattle.master_side.specs.Sent.{errand_gram, head_to, IsSent, IsWord};
+ghost use Rattle.master_side.specs.Sent.{errand_gram, errand_octets, head_to, IsSent, IsWord};
 ghost use Rattle.datagrams.specs.declared.command.Command.TheVariants.{Fprd};
 ghost use Rattle.std.specs.Prelude.{Some, ◌-◌, ◌≤◌, ◌+◌, length};
 ghost use Rattle.datagrams.specs.Frame.{datagram_of};
 
-use crate::carried::Carried;
+use crate::carried::{Carried, Wish};
 use crate::hand::Hand;
 use crate::passing::Passing;
 use crate::side::Side;
@@ -19,7 +19,7 @@ use mailbox_master::InwardHalf;
 use master_duty::Errand;
 
 impl<H: Hand> Side<H> {
-    ghost use Rattle.std.specs.Prelude.{◌≡◌, ◌≤◌, ◌-◌, ℕ, List, ◌++◌, ◌∷◌, [], Option, Some, IsSome, length};
+    ghost use Rattle.std.specs.Prelude.{◌≡◌, ◌≤◌, ◌-◌, ℕ, List, ◌++◌, ◌∷◌, [], Option, Some, IsSome, length, true, false};
     ghost use Rattle.datagrams.specs.Datagram as Raw;
     ghost use Rattle.datagrams.specs.Frame.{IsBegun};
     ghost use Rattle.exchange_model.specs.Exchange.{Speech};
@@ -33,19 +33,19 @@ impl<H: Hand> Side<H> {
     ghost use Rattle.segment_model.specs.Seats as Seats;
     ghost use Rattle.task_model.specs.Accounts.{Account, duty_access};
     ghost use Rattle.frame_view.specs.View.{Lens, datagram_seen};
-    ghost use Rattle.mailbox_master.specs.Any.{in_half_of, in_area_len};
+    ghost use Rattle.mailbox_master.specs.Any.{in_half_of, in_area_len, in_access_of};
     ghost use Rattle.mailbox_master.specs.Seat.{seat_half};
     ghost use Rattle.master_duty.specs.Reply.{Reply};
     ghost use Rattle.master_side.specs.Carried.{Meant, choice_of, link_choice, drain_choice, mails_choice};
-    ghost use Rattle.master_side.specs.Sent.{IsSent, SameSide, visit_gram, write_gram, inward_gram};
-    ghost use Rattle.master_side.specs.Shown.{SideShows};
+    ghost use Rattle.master_side.specs.Sent.{IsSent, SameSide, SameLink, visit_gram, write_gram, inward_gram, gram_len};
+    ghost use Rattle.master_side.specs.Shown.{SideShows, Holds};
     ghost use Rattle.master_side.specs.declared.carried.Carried.{Carried};
 
     // The write of the mail held stands next.
     fn add_write(&self, index: u8, frame: &mut FrameBuf)
         requires held { IsSome self.now.out.state }
         requires begun { (ds : List Raw.Datagram) × IsBegun frame.old.items ds }
-        requires room { self.now.area ≤ 1514 - length frame.old.items - 12 }
+        requires room { self.now.out.len ≤ 1514 - length frame.old.items - 12 }
         ensures begun { (ds : List Raw.Datagram) → IsBegun frame.old.items ds → IsBegun frame.new.items (ds ++ write_gram index self.now.out self.now.out.state ∷ []) }
         ensures sent { IsSent self.now.area (write_gram index self.now.out self.now.out.state) }
         ensures reads { (m : Mail) → self.now.out.state ≡ Some m → (mail_read (mail_area self.now.out.len m) ≡ Ok m) × (length (mail_area self.now.out.len m) ≡ self.now.out.len) }
@@ -61,7 +61,7 @@ impl<H: Hand> Side<H> {
     // The datagram of the inward half does.
     fn add_inward(&self, index: u8, frame: &mut FrameBuf)
         requires begun { (ds : List Raw.Datagram) × IsBegun frame.old.items ds }
-        requires room { self.now.area ≤ 1514 - length frame.old.items - 12 }
+        requires room { length (in_access_of self.now.inn).octets ≤ 1514 - length frame.old.items - 12 }
         ensures begun { (ds : List Raw.Datagram) → IsBegun frame.old.items ds → IsBegun frame.new.items (ds ++ inward_gram index self.now.inn ∷ []) }
         ensures sent { IsSent self.now.area (inward_gram index self.now.inn) }
     {
@@ -72,7 +72,7 @@ impl<H: Hand> Side<H> {
     // The datagram of the link: the write of a mail held, or the inward half's.
     fn add_link(&self, index: u8, frame: &mut FrameBuf) -> Carried
         requires begun { (ds : List Raw.Datagram) × IsBegun frame.old.items ds }
-        requires room { self.now.area ≤ 1514 - length frame.old.items - 12 }
+        requires room { gram_len self.now.out self.now.inn (link_choice (in_half_of self.now.inn).state self.now.paused self.now.out.state) ≤ 1514 - length frame.old.items - 12 }
         ensures order { result ≡ link_choice (in_half_of self.now.inn).state self.now.paused self.now.out.state }
         ensures begun { (ds : List Raw.Datagram) → IsBegun frame.old.items ds → IsBegun frame.new.items (ds ++ visit_gram self.now.station index self.now.out self.now.inn self.now.duty result ∷ []) }
         ensures sent { IsSent self.now.area (visit_gram self.now.station index self.now.out self.now.inn self.now.duty result) }
@@ -90,7 +90,7 @@ impl<H: Hand> Side<H> {
     // The status of mailbox 0 and mailbox 1 in turn.
     fn add_drain(&self, index: u8, frame: &mut FrameBuf) -> Carried
         requires begun { (ds : List Raw.Datagram) × IsBegun frame.old.items ds }
-        requires room { self.now.area ≤ 1514 - length frame.old.items - 12 }
+        requires room { gram_len self.now.out self.now.inn (drain_choice (in_half_of self.now.inn).state self.now.turn) ≤ 1514 - length frame.old.items - 12 }
         ensures order { result ≡ drain_choice (in_half_of self.now.inn).state self.now.turn }
         ensures begun { (ds : List Raw.Datagram) → IsBegun frame.old.items ds → IsBegun frame.new.items (ds ++ visit_gram self.now.station index self.now.out self.now.inn self.now.duty result ∷ []) }
         ensures sent { IsSent self.now.area (visit_gram self.now.station index self.now.out self.now.inn self.now.duty result) }
@@ -108,7 +108,7 @@ impl<H: Hand> Side<H> {
     // The datagram of this visit.
     fn add(&self, index: u8, frame: &mut FrameBuf) -> Carried
         requires begun { (ds : List Raw.Datagram) × IsBegun frame.old.items ds }
-        requires room { self.now.area ≤ 1514 - length frame.old.items - 12 }
+        requires room { gram_len self.now.out self.now.inn (choice_of self.now.duty self.now.passing (in_half_of self.now.inn).state self.now.turn self.now.paused self.now.out.state) ≤ 1514 - length frame.old.items - 12 }
         ensures order { result ≡ choice_of self.now.duty self.now.passing (in_half_of self.now.inn).state self.now.turn self.now.paused self.now.out.state }
         ensures begun { (ds : List Raw.Datagram) → IsBegun frame.old.items ds → IsBegun frame.new.items (ds ++ visit_gram self.now.station index self.now.out self.now.inn self.now.duty result ∷ []) }
         ensures sent { IsSent self.now.area (visit_gram self.now.station index self.now.out self.now.inn self.now.duty result) }
@@ -127,23 +127,116 @@ impl<H: Hand> Side<H> {
         }
     }
 
-    /// The datagram of this visit stands next in the frame.
-    pub fn add_datagram(&mut self, index: u8, frame: &mut FrameBuf)
+    // The status of mailbox 0 or mailbox 1, in turn.
+    fn drain_turn(&self) -> Carried
+        ensures { result ≡ drain_choice (in_half_of self.now.inn).state self.now.turn }
+    {
+        if !self.turn && matches!(self.inn, InwardHalf::Clear(_)) {
+            Carried::Full
+        } else {
+            Carried::Inward
+        }
+    }
+
+    // The write of a mail held, or the inward half's.
+    fn link_turn(&self) -> Carried
+        ensures { result ≡ link_choice (in_half_of self.now.inn).state self.now.paused self.now.out.state }
+    {
+        if !self.paused && matches!(self.inn, InwardHalf::Clear(_)) && !self.out.is_idle() {
+            Carried::Write
+        } else {
+            Carried::Inward
+        }
+    }
+
+    // Which datagram a visit sends.
+    fn choice(&self) -> Carried
+        ensures { result ≡ choice_of self.now.duty self.now.passing (in_half_of self.now.inn).state self.now.turn self.now.paused self.now.out.state }
+    {
+        match &self.duty {
+            None => match self.passing {
+                Some(Passing::Boxed) => self.drain_turn(),
+                _ => self.link_turn(),
+            },
+            Some(duty) => match duty.errand() {
+                None => self.drain_turn(),
+                Some(errand) => carried_by(errand),
+            },
+        }
+    }
+
+    // How many octets this datagram has.
+    fn len_of(&self, carried: Carried) -> usize
+        ensures { result ≡ gram_len self.now.out self.now.inn carried }
+    {
+        match carried {
+            Carried::Nothing => 0,
+            Carried::Write => self.out_len as usize,
+            Carried::Inward => self.inn.head(0).len as usize,
+            Carried::Full => 1,
+            Carried::Control => 2,
+            Carried::Status => 6,
+        }
+    }
+
+    // How many octets the first datagram of a service has that comes into hand: a drain begins with the status, mails with their write.
+    fn first_len(&self, wish: Wish) -> usize {
+        if !matches!(self.inn, InwardHalf::Clear(_)) {
+            return self.len_of(Carried::Inward);
+        }
+        match wish {
+            Wish::State(_) => self.len_of(Carried::Full),
+            Wish::Mails if self.paused && !self.out.is_idle() => self.len_of(Carried::Inward),
+            Wish::Mails => self.len_of(Carried::Write),
+        }
+    }
+
+    /// How many octets the datagram of a visit with this wish has. Where no service comes into hand by it, the next mail is held.
+    pub fn ahead(&mut self, wish: Option<Wish>) -> usize
+        ensures shown { (x : Speech Body H.Asked Reply) (d : Seats.Side Body H.Asked Reply) (a : Account H.Asked Reply) → SideShows (H.shows self.old.hand x) self.old.out self.old.inn self.old.fresh self.old.duty d a →
+            Holds x d (λ e. SideShows (H.shows self.new.hand x) self.new.out self.new.inn self.new.fresh self.new.duty e a) }
+        ensures link { SameLink self.old.out self.old.inn self.old.station self.old.area self.new.out self.new.inn self.new.station self.new.area }
+    {
+        match wish {
+            Some(wish) if self.is_free() => self.first_len(wish),
+            _ => {
+                self.hold_next();
+                self.len_of(self.choice())
+            }
+        }
+    }
+
+    /// The datagram of this visit stands next in the frame; `false` where the frame has no room for it, and then it is as it was.
+    pub fn add_datagram(&mut self, index: u8, frame: &mut FrameBuf) -> bool
         requires begun { (ds : List Raw.Datagram) × IsBegun frame.old.items ds }
-        requires room { self.old.area ≤ 1514 - length frame.old.items - 12 }
-        ensures order { self.new.carried ≡ choice_of self.old.duty self.old.passing (in_half_of self.old.inn).state self.old.turn self.old.paused self.old.out.state }
-        ensures begun { (ds : List Raw.Datagram) → IsBegun frame.old.items ds → IsBegun frame.new.items (ds ++ visit_gram self.old.station index self.old.out self.old.inn self.old.duty self.new.carried ∷ []) }
-        ensures sent { IsSent self.old.area (visit_gram self.old.station index self.old.out self.old.inn self.old.duty self.new.carried) }
-        ensures meant { (x : Speech Body H.Asked Reply) (lens : ℕ → Lens) (d : Seats.Side Body H.Asked Reply) (a : Account H.Asked Reply) → (lens self.old.station).out ≡ self.old.out.len → (lens self.old.station).back ≡ in_area_len self.old.inn → SideShows (H.shows self.old.hand x) self.old.out self.old.inn self.old.fresh self.old.duty d a →
+        ensures order { result ≡ true → self.new.carried ≡ choice_of self.old.duty self.old.passing (in_half_of self.old.inn).state self.old.turn self.old.paused self.old.out.state }
+        ensures begun { (ds : List Raw.Datagram) → IsBegun frame.old.items ds → result ≡ true → IsBegun frame.new.items (ds ++ visit_gram self.old.station index self.old.out self.old.inn self.old.duty self.new.carried ∷ []) }
+        ensures sent { result ≡ true → IsSent self.old.area (visit_gram self.old.station index self.old.out self.old.inn self.old.duty self.new.carried) }
+        ensures meant { result ≡ true → (x : Speech Body H.Asked Reply) (lens : ℕ → Lens) (d : Seats.Side Body H.Asked Reply) (a : Account H.Asked Reply) → (lens self.old.station).out ≡ self.old.out.len → (lens self.old.station).back ≡ in_area_len self.old.inn → SideShows (H.shows self.old.hand x) self.old.out self.old.inn self.old.fresh self.old.duty d a →
             Meant self.old.station self.new.carried d.halves (duty_access a.hand) (datagram_seen lens (visit_gram self.old.station index self.old.out self.old.inn self.old.duty self.new.carried)) }
+        ensures full { result ≡ false → frame.new.items ≡ frame.old.items }
         ensures kept { SameSide self.old.out self.old.inn self.old.fresh self.old.duty self.new.out self.new.inn self.new.fresh self.new.duty }
         ensures hand { self.new.hand ≡ self.old.hand }
         ensures link { (self.new.station ≡ self.old.station) × (self.new.area ≡ self.old.area) }
     {
-        let carried = self.add(index, frame);
-        self.carried = carried;
         self.heard = None;
         self.met = None;
+        if self.len_of(self.choice()) > datagrams::room(frame) {
+            return false;
+        }
+        let carried = self.add(index, frame);
+        self.carried = carried;
+        true
+    }
+}
+
+// Which datagram an access of a state service is.
+fn carried_by(errand: Errand) -> Carried
+    ensures { result ≡ errand_carried errand }
+{
+    match errand {
+        Errand::Write(_) => Carried::Control,
+        Errand::ReadStatus => Carried::Status,
     }
 }
 
@@ -166,7 +259,7 @@ fn head_to(command: Command, station: u16, index: u8, register: u16, len: u16) -
 // The read of the status octet of mailbox 0 stands next.
 fn add_full(station: u16, index: u8, frame: &mut FrameBuf)
     requires begun { (ds : List Raw.Datagram) × IsBegun frame.old.items ds }
-    requires room { 64 ≤ 1514 - length frame.old.items - 12 }
+    requires room { 1 ≤ 1514 - length frame.old.items - 12 }
     ensures { (ds : List Raw.Datagram) → IsBegun frame.old.items ds → IsBegun frame.new.items (ds ++ datagram_of (head_to Fprd station index 2053 1) (0 ∷ []) ∷ []) }
 {
     let head = head_to(Command::Fprd, station, index, MANAGER_0 + MANAGER_STATUS, 1);
@@ -176,7 +269,7 @@ fn add_full(station: u16, index: u8, frame: &mut FrameBuf)
 // The access of a state service stands next.
 fn add_errand(errand: Errand, station: u16, index: u8, frame: &mut FrameBuf) -> Carried
     requires begun { (ds : List Raw.Datagram) × IsBegun frame.old.items ds }
-    requires room { 64 ≤ 1514 - length frame.old.items - 12 }
+    requires room { length (errand_octets errand) ≤ 1514 - length frame.old.items - 12 }
     ensures order { result ≡ errand_carried errand }
     ensures begun { (ds : List Raw.Datagram) → IsBegun frame.old.items ds → IsBegun frame.new.items (ds ++ errand_gram station index (Some errand) ∷ []) }
     ensures sent { IsSent 64 (errand_gram station index (Some errand)) }

@@ -143,7 +143,7 @@ impl<H: Hand> Side<H> {
     }
 
     // The mail that goes next is held, where none is.
-    fn hold_next(&mut self)
+    pub(crate) fn hold_next(&mut self)
         ensures shown { (x : Speech Body H.Asked Reply) (d : Seats.Side Body H.Asked Reply) (a : Account H.Asked Reply) → SideShows (H.shows self.old.hand x) self.old.out self.old.inn self.old.fresh self.old.duty d a →
             Holds x d (λ e. SideShows (H.shows self.new.hand x) self.new.out self.new.inn self.new.fresh self.new.duty e a) }
         ensures link { SameLink self.old.out self.old.inn self.old.station self.old.area self.new.out self.new.inn self.new.station self.new.area }

@@ -1,7 +1,9 @@
 ghost use Rattle.std.specs.Prelude.{◌≡◌, ◌+◌, ℕ, All, take, drop, true, nat_lt, nat_le};
 ghost use Rattle.datagrams.specs.Frame.{IsPart};
+ghost use Rattle.std.specs.Prelude.{length};
+ghost use Rattle.al_state.specs.BringUp.{octets_of};
 
-use al_state::{BringUp, access, came_back, cleared, reopen_new};
+use al_state::{BringStep, BringUp, access, came_back, cleared, reopen_new};
 use arrayvec::ArrayVec;
 use datagrams::{FrameBuf, Head, Part};
 use master_side::{Hand, Side, Wish};
@@ -71,6 +73,17 @@ fn body_of(octets: &[u8], part: Part) -> &[u8]
     &rest[..part.head.len as usize]
 }
 
+// How many octets the access of an opening has.
+fn access_len(up: &BringUp) -> usize
+    ensures { result ≡ length (octets_of up.now) }
+{
+    match up.step {
+        BringStep::Return | BringStep::Address | BringStep::Start => 2,
+        BringStep::Watch | BringStep::Await => 6,
+        BringStep::OutOff | BringStep::InOff | BringStep::OutManager | BringStep::InManager => 8,
+    }
+}
+
 impl<H: Hand> Stop<H> {
     ghost use Rattle.std.specs.Prelude.{◌≡◌, ◌≤◌, ◌<◌, ◌-◌, ◌++◌, ◌∷◌, [], ℕ, List, map, All, length, true};
     ghost use Rattle.datagrams.specs.Datagram as Raw;
@@ -86,7 +99,7 @@ impl<H: Hand> Stop<H> {
     ghost use Rattle.master_duty.specs.Reply.{Reply};
     ghost use Rattle.master_side.specs.Carried.{Meant};
     ghost use Rattle.master_side.specs.Sent.{IsSent, SameLink, visit_gram};
-    ghost use Rattle.master_side.specs.Shown.{SideShows, Picked};
+    ghost use Rattle.master_side.specs.Shown.{SideShows, Holds, Picked};
     ghost use Rattle.datagrams.specs.Frame.{datagram_of};
     ghost use Rattle.al_state.specs.BringUp.{head_of, octets_of};
     ghost use Rattle.master_tour.specs.Under.{Under};
@@ -224,8 +237,22 @@ impl<H: Hand> Stop<H> {
         self.side.renew();
     }
 
+    /// How many octets the datagram of a visit with this wish has.
+    pub fn ahead(&mut self, wish: Option<Wish>) -> usize
+        ensures shown { self.old.stand ≡ Stand.Open → (x : Speech Body H.Asked Reply) (d : Seats.Side Body H.Asked Reply) (a : Account H.Asked Reply) → SideShows (H.shows self.old.side.hand x) self.old.side.out self.old.side.inn self.old.side.fresh self.old.side.duty d a →
+            Holds x d (λ e. SideShows (H.shows self.new.side.hand x) self.new.side.out self.new.side.inn self.new.side.fresh self.new.side.duty e a) }
+        ensures link { SameLink self.old.side.out self.old.side.inn self.old.side.station self.old.side.area self.new.side.out self.new.side.inn self.new.side.station self.new.side.area }
+        ensures stand { self.new.stand ≡ self.old.stand }
+    {
+        match self.stand {
+            Stand::Gone => 0,
+            Stand::Opening(up) => access_len(&up),
+            Stand::Open => self.side.ahead(wish),
+        }
+    }
+
     /// A service comes into hand where one may, and the datagram of this visit stands next in the frame, as the
-    /// datagram number `at` of it, with this index. Tells whether a service came into hand.
+    /// datagram number `at` of it, with this index, if the frame has room for it: `under` says so. Tells whether a service came into hand.
     pub fn open_visit(
         &mut self,
         wish: Option<Wish>,
@@ -235,21 +262,21 @@ impl<H: Hand> Stop<H> {
     ) -> bool
         requires few { at < 16 }
         requires begun { (ds : List Raw.Datagram) × IsBegun frame.old.items ds }
-        requires room { self.old.side.area ≤ 1514 - length frame.old.items - 12 }
         ensures shown { (x : Speech Body H.Asked Reply) (made : ℕ) (lens : ℕ → Lens) (d : Seats.Side Body H.Asked Reply) (a : Account H.Asked Reply) → (lens self.old.side.station).out ≡ self.old.side.out.len → (lens self.old.side.station).back ≡ in_area_len self.old.side.inn →
             SideShows (H.shows self.old.side.hand x) self.old.side.out self.old.side.inn self.old.side.fresh self.old.side.duty d a →
             Picked x H.acknowledged made d a (λ e b. SideShows (H.shows self.new.side.hand x) self.new.side.out self.new.side.inn self.new.side.fresh self.new.side.duty e b ×
-            Meant self.old.side.station self.new.side.carried e.halves (duty_access b.hand) (datagram_seen lens (visit_gram self.new.side.station index self.new.side.out self.new.side.inn self.new.side.duty self.new.side.carried))) }
-        ensures begun { (ds : List Raw.Datagram) → IsBegun frame.old.items ds → IsBegun frame.new.items (ds ++ visit_gram self.new.side.station index self.new.side.out self.new.side.inn self.new.side.duty self.new.side.carried ∷ []) }
-        ensures sent { IsSent self.old.side.area (visit_gram self.new.side.station index self.new.side.out self.new.side.inn self.new.side.duty self.new.side.carried) }
+            (self.new.under ≡ true → Meant self.old.side.station self.new.side.carried e.halves (duty_access b.hand) (datagram_seen lens (visit_gram self.new.side.station index self.new.side.out self.new.side.inn self.new.side.duty self.new.side.carried)))) }
+        ensures begun { (ds : List Raw.Datagram) → IsBegun frame.old.items ds → self.new.under ≡ true → IsBegun frame.new.items (ds ++ visit_gram self.new.side.station index self.new.side.out self.new.side.inn self.new.side.duty self.new.side.carried ∷ []) }
+        ensures sent { self.new.under ≡ true → IsSent self.old.side.area (visit_gram self.new.side.station index self.new.side.out self.new.side.inn self.new.side.duty self.new.side.carried) }
+        ensures full { self.new.under ≡ false → frame.new.items ≡ frame.old.items }
         ensures link { SameLink self.old.side.out self.old.side.inn self.old.side.station self.old.side.area self.new.side.out self.new.side.inn self.new.side.station self.new.side.area }
         ensures stand { self.new.stand ≡ self.old.stand }
-        ensures at { (self.new.at ≡ at) × (self.new.under ≡ true) }
+        ensures at { self.new.at ≡ at }
     {
         let began = self.side.choose(wish);
-        self.side.add_datagram(index, frame);
+        let placed = self.side.add_datagram(index, frame);
         self.at = at;
-        self.under = true;
+        self.under = placed;
         began
     }
 
@@ -257,7 +284,7 @@ impl<H: Hand> Stop<H> {
     pub fn opening_visit(&mut self, up: &BringUp, at: usize, index: u8, frame: &mut FrameBuf)
         requires few { at < 16 }
         requires begun { (ds : List Raw.Datagram) × IsBegun frame.old.items ds }
-        requires room { 64 ≤ 1514 - length frame.old.items - 12 }
+        requires room { length (octets_of up.now) ≤ 1514 - length frame.old.items - 12 }
         ensures begun { (ds : List Raw.Datagram) → IsBegun frame.old.items ds → IsBegun frame.new.items (ds ++ datagram_of (head_of up.now index) (octets_of up.now) ∷ []) }
         ensures side { self.new.side ≡ self.old.side }
         ensures stand { self.new.stand ≡ self.old.stand }
@@ -271,19 +298,21 @@ impl<H: Hand> Stop<H> {
         self.under = true;
     }
 
-    /// The datagram of this visit stands next in the frame, as the datagram number `at` of it, with this index: that of its opening, or
-    /// while it is open that of a visit. Tells whether a service came into hand.
+    /// The datagram of this visit stands next in the frame, as the datagram number `at` of it, with this index, if the frame has room for
+    /// it: `under` says so. It is that of its opening, or while it is open that of a visit. Tells whether a service came into hand.
     pub fn visit(&mut self, wish: Option<Wish>, at: usize, index: u8, frame: &mut FrameBuf) -> bool
         requires few { at < 16 }
         requires begun { (ds : List Raw.Datagram) × IsBegun frame.old.items ds }
-        requires room { self.old.side.area ≤ 1514 - length frame.old.items - 12 }
         ensures begun { (ds : List Raw.Datagram) × IsBegun frame.new.items ds }
         ensures station { self.new.side.station ≡ self.old.side.station }
     {
+        self.under = false;
         match self.stand {
             Stand::Gone => false,
             Stand::Opening(up) => {
-                self.opening_visit(&up, at, index, frame);
+                if access_len(&up) <= datagrams::room(frame) {
+                    self.opening_visit(&up, at, index, frame);
+                }
                 false
             }
             Stand::Open => self.open_visit(wish, at, index, frame),

@@ -152,9 +152,8 @@ impl<H: Hand> Tour<H> {
         Some(self.place_of(k))
     }
 
-    /// The place of the slave whose datagram stands next, `None` where the frame is complete: no slave is left for
-    /// it, or the larger mailbox of the next one does not fit.
-    pub fn due(&mut self, frame: &FrameBuf) -> Option<usize>
+    /// The place of the slave whose datagram stands next, if it fits: `None` where no slave is left for the frame.
+    pub fn due(&mut self) -> Option<usize>
         ensures inside { IfSome result (λ p. p < length self.new.stops.items) }
         ensures few { IfSome result (λ p. self.new.count < 16) }
         ensures stops { self.new.stops ≡ self.old.stops }
@@ -162,15 +161,20 @@ impl<H: Hand> Tour<H> {
         if self.count >= 16 {
             return None;
         }
-        let place = self.candidate()?;
-        if self.stops[place].side.area as usize > datagrams::room(frame) {
-            return None;
-        }
-        Some(place)
+        self.candidate()
+    }
+
+    /// Whether the frame has room for the datagram of a visit with this wish of the slave at this place.
+    pub fn fits(&mut self, place: usize, wish: Option<Wish>, frame: &FrameBuf) -> bool
+        requires inside { place < length self.old.stops.items }
+        ensures count { self.new.count ≡ self.old.count }
+        ensures long { length self.new.stops.items ≡ length self.old.stops.items }
+    {
+        self.stops[place].ahead(wish) <= datagrams::room(frame)
     }
 
     /// The slave at this place is visited: a service comes into hand where one may, and its datagram stands next in
-    /// the frame, with this index, which is the frame's number modulo 256. Tells whether a service came into hand.
+    /// the frame, with this index, which is the frame's number modulo 256, if there is room for it. Tells whether a service came into hand.
     pub fn visit(
         &mut self,
         place: usize,
@@ -186,15 +190,22 @@ impl<H: Hand> Tour<H> {
     {
         let at = self.count;
         let stop = &mut self.stops[place];
-        if stop.side.area as usize > datagrams::room(frame) {
-            return false;
-        }
         let began = stop.visit(wish, at, index, frame);
+        if stop.under {
+            self.carry(place);
+        }
+        began
+    }
+
+    // The slave at this place has the next datagram of the frame.
+    fn carry(&mut self, place: usize)
+        requires few { self.old.count < 16 }
+        ensures stops { self.new.stops ≡ self.old.stops }
+    {
         if !self.again {
             let _room = self.visit.try_push(place);
         }
         self.count += 1;
-        began
     }
 
     /// Ends the frame: `false` where it has no datagram, since no slave is live.
