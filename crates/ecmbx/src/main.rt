@@ -1,5 +1,5 @@
-//! The mailbox half of EtherCAT as a program: `ecmbx run SCENARIO` runs the services of a scenario
-//! and prints the report.
+//! The mailbox half of EtherCAT as a program: `ecmbx run SCENARIO` runs the segment of a scenario
+//! frame by frame and prints the report.
 #![tactic(auto)]
 
 use ec_outside::{DiskFiles, StdSink};

@@ -1,6 +1,9 @@
 -- When each status comes.
 use Rattle.std.specs.Prelude.{◌≡◌, ◌≢◌, ℕ, ◌<◌, ◌≤◌, ◌⊎◌, List, [], ◌∷◌, length, Option, Some, None, Ok, Err}
 use Rattle.ec_outside.specs.Files.{Table, file_of}
+use Rattle.ec_outside.specs.Sink.{Wrote}
+use Rattle.capture_view.specs.View.{view_text}
+use Rattle.scenario_made.specs.Made.{text_of as made_text}
 use Rattle.pcap_frames.specs.declared.capture.Capture.{Capture}
 use Rattle.pcap_frames.specs.declared.capture.PcapFault.{PcapFault}
 use Rattle.pcap_frames.specs.Reading.{capture_read}
@@ -87,3 +90,42 @@ GivenUpCause book status = status ≡ statuses.GivenUp → (plan : Scenario) × 
 -- BudgetSpent comes only where as many frames were sent as the budget allows.
 abbrev pub SpentCause : Book → Status → Type 0
 SpentCause book status = status ≡ statuses.BudgetSpent → (plan : Scenario) × HasRun plan book × IsSpent plan book
+
+-- How a book's run ended, by the status: as the status says, or, where no run began, not at all. After a fault of file or sink, and want of
+-- memory, each is possible but for what the fault's own clause says.
+abbrev pub EndingAt : Status → Ending → Type 0
+EndingAt statuses.GivenUp ending = ending ≡ endings.GivenUp
+EndingAt statuses.BudgetSpent ending = ending ≡ endings.BudgetSpent
+EndingAt statuses.Done ending = (ending ≡ endings.Done) ⊎ (ending ≡ endings.Unfinished)
+EndingAt statuses.Usage ending = ending ≡ endings.Unfinished
+EndingAt statuses.Absent ending = ending ≡ endings.Unfinished
+EndingAt statuses.TooLong ending = ending ≡ endings.Unfinished
+EndingAt statuses.Refused ending = ending ≡ endings.Unfinished
+EndingAt _ ending = Unit {0}
+
+-- a status that a call ends with
+abbrev pub IsAnswer : Status → Type 0
+IsAnswer status = status ≢ statuses.PortFault
+
+-- a scenario that is found is run: the book has the run of its plan, and its report is written, or a prefix of that where the sink failed
+abbrev pub RunsTo : List (List ℕ) → Option Table → Scenario → Book → Option (List ℕ) → Option (List ℕ) → Status → Type 0
+RunsTo words table plan book old new status =
+    (octets : List ℕ) → form_in words ≡ forms.Run → IsFound words table octets → plan_of octets ≡ Ok plan
+    → (status ≡ statuses.NoMemory) ⊎ (HasRun plan book × Ended (status_of book.ending) (text_of (report_lines plan book)) old new status)
+
+-- the same, and the frames are saved
+abbrev pub SavesTo : List (List ℕ) → Option Table → Option Table → Scenario → Book → Option (List ℕ) → Option (List ℕ) → Status → Type 0
+SavesTo words table saved plan book old new status =
+    (octets : List ℕ) → form_in words ≡ forms.RunSaved → IsFound words table octets → plan_of octets ≡ Ok plan
+    → (status ≡ statuses.NoMemory) ⊎ (HasRun plan book × Holds saved (saved_in words) (Some (capture_of book.frames)) × Ended (status_of book.ending) (text_of (report_lines plan book)) old new status)
+
+-- a capture that is found is shown whole
+abbrev pub ShowsTo : List (List ℕ) → Option Table → Option (List ℕ) → Option (List ℕ) → Status → Type 0
+ShowsTo words table old new status =
+    (octets : List ℕ) (capture : Capture) → form_in words ≡ forms.Decode → IsFound words table octets → capture_read octets ≡ Ok capture
+    → (status ≡ statuses.NoMemory) ⊎ ((status ≡ statuses.Done) × Wrote old new (view_text octets capture))
+
+-- a scenario is made whole
+abbrev pub MakesTo : List (List ℕ) → Option (List ℕ) → Option (List ℕ) → Status → Type 0
+MakesTo words old new status =
+    (seed size : ℕ) → form_in words ≡ forms.Make seed size → (status ≡ statuses.NoMemory) ⊎ ((status ≡ statuses.Done) × Wrote old new (made_text [] seed size))

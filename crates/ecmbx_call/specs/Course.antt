@@ -81,6 +81,10 @@ IsUnsaved faulted status = (status ≡ statuses.NoMemory) ⊎ ((status ≡ statu
 abbrev pub BeganOn : List ℕ → Book → Type 0
 BeganOn octets book = (plan : Scenario) × (plan_of octets ≡ Ok plan) × HasRun plan book
 
+-- the same of the file under a name
+abbrev pub BeganIn : List ℕ → Option Table → Book → Type 0
+BeganIn name table book = (octets : List ℕ) × Holds table name (Some octets) × BeganOn octets book
+
 -- the same of the file that the words name
 abbrev pub Began : List (List ℕ) → Option Table → Book → Type 0
-Began words table book = (octets : List ℕ) × Holds table (name_in words) (Some octets) × BeganOn octets book
+Began words table book = BeganIn (name_in words) table book

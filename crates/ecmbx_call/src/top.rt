@@ -1,3 +1,14 @@
+ghost use Rattle.std.specs.Prelude.{◌≡◌, ◌≢◌, ◌⊎◌};
+ghost use Rattle.ec_outside.specs.Faults.{Rose};
+ghost use Rattle.segment_plan.specs.declared.plan.Scenario.{Scenario as Plan};
+ghost use Rattle.run_book.specs.Book.{IsNew};
+ghost use Rattle.ecmbx_words.specs.declared.form.Form.TheVariants as forms;
+ghost use Rattle.ecmbx_words.specs.declared.status.Status.TheVariants as statuses;
+ghost use Rattle.ecmbx_words.specs.Form.{form_in, name_in, saved_in};
+ghost use Rattle.ecmbx_call.specs.Files.{FileCourse, Followed};
+ghost use Rattle.ecmbx_call.specs.Course.{words_of, Course, RunCourse, SavedCourse, ViewCourse, Began, BeganOn, BeganIn};
+ghost use Rattle.ecmbx_call.specs.Causes.{UsageCause, AbsentCause, LongCause, RefusedCause, GivenUpCause, SpentCause, EndingAt, IsAnswer, RunsTo, SavesTo, ShowsTo, MakesTo};
+
 use crate::loading::load;
 use crate::making::make;
 use crate::running::{run_octets, run_saved};
@@ -13,7 +24,13 @@ fn run_file<F: Files, O: Sink>(
     files: &mut F,
     out: &mut O,
     book: &mut Book,
-) -> Status {
+) -> Status
+    requires { IsNew book.old }
+    ensures course { Followed (FileCourse name.now (F.table files.old) (Rose (F.file_faults files.old) (F.file_faults files.new)) (IsNew book.new) (RunCourse book.new)) (O.written out.old) (O.written out.new) result }
+    ensures sink { result ≡ statuses.SinkFault → Rose (O.sink_faults out.old) (O.sink_faults out.new) }
+    ensures book { IsNew book.new ⊎ BeganIn name.now (F.table files.old) book.new }
+    ensures same { F.table files.new ≡ F.table files.old }
+{
     match load(alloc, name, files, out) {
         Ok(octets) => run_octets(alloc, octets.bytes(), out, book),
         Err(status) => status,
@@ -27,23 +44,62 @@ fn run_file_saved<F: Files, O: Sink>(
     files: &mut F,
     out: &mut O,
     book: &mut Book,
-) -> Status {
+) -> Status
+    requires { IsNew book.old }
+    ensures course { Followed (FileCourse name.now (F.table files.old) (Rose (F.file_faults files.old) (F.file_faults files.new)) (IsNew book.new)
+        (SavedCourse capture.now (F.table files.new) (Rose (F.file_faults files.old) (F.file_faults files.new)) book.new)) (O.written out.old) (O.written out.new) result }
+    ensures sink { result ≡ statuses.SinkFault → Rose (O.sink_faults out.old) (O.sink_faults out.new) }
+    ensures book { IsNew book.new ⊎ BeganIn name.now (F.table files.old) book.new }
+{
     match load(alloc, name, files, out) {
         Ok(octets) => run_saved(alloc, octets.bytes(), capture, files, out, book),
         Err(status) => status,
     }
 }
 
-fn decode_file<F: Files, O: Sink>(alloc: Global, name: &str, files: &mut F, out: &mut O) -> Status {
+fn decode_file<F: Files, O: Sink>(alloc: Global, name: &str, files: &mut F, out: &mut O) -> Status
+    ensures course { Followed (FileCourse name.now (F.table files.old) (Rose (F.file_faults files.old) (F.file_faults files.new)) (Unit {0}) ViewCourse) (O.written out.old) (O.written out.new) result }
+    ensures sink { result ≡ statuses.SinkFault → Rose (O.sink_faults out.old) (O.sink_faults out.new) }
+    ensures same { F.table files.new ≡ F.table files.old }
+{
     match load(alloc, name, files, out) {
         Ok(octets) => decode(alloc, octets.bytes(), out),
         Err(status) => status,
     }
 }
 
+fn carry_out<F: Files, O: Sink>(
+    alloc: Global,
+    words: &[String],
+    files: &mut F,
+    out: &mut O,
+    book: &mut Book,
+) -> Status
+    requires { IsNew book.old }
+    ensures course { Followed (Course (words_of words.now) (F.table files.old) (F.table files.new) (Rose (F.file_faults files.old) (F.file_faults files.new)) book.new) (O.written out.old) (O.written out.new) result }
+    ensures sink { result ≡ statuses.SinkFault → Rose (O.sink_faults out.old) (O.sink_faults out.new) }
+    ensures book { IsNew book.new ⊎ Began (words_of words.now) (F.table files.old) book.new }
+    ensures same { form_in (words_of words.now) ≢ forms.RunSaved → F.table files.new ≡ F.table files.old }
+{
+    match form_of(words) {
+        Form::Run => run_file(alloc, words[1].as_str(), files, out, book),
+        Form::RunSaved => run_file_saved(
+            alloc,
+            words[1].as_str(),
+            words[2].as_str(),
+            files,
+            out,
+            book,
+        ),
+        Form::Decode => decode_file(alloc, words[1].as_str(), files, out),
+        Form::Make { seed, size } => make(alloc, seed, size, out),
+        Form::Other => say(out, Status::Usage, usage()),
+    }
+}
+
 /// Does what the words say. `run SCENARIO` loads the scenario, runs it, and puts the report, a `put` a line; with CAPTURE behind, the
 /// frames are saved under that name before. `decode CAPTURE` puts the decoding text of a capture, `make SEED SIZE` the text of a scenario.
-/// Every other list of words is `Usage`.
+/// Every other list of words is `Usage`. The book has what the run left; where no run began it stays new.
 ///
 /// `Usage` comes exactly where the words are no form, `Absent` and `TooLong` where the load said so, `Refused` where the octets are no
 /// scenario or no capture, `GivenUp` and `BudgetSpent` where the run ended so; `FileFault` and `SinkFault` only where that object's count
@@ -54,12 +110,39 @@ pub fn ecmbx<F: Files, O: Sink>(
     files: &mut F,
     out: &mut O,
     book: &mut Book,
-) -> Status {
-    match form_of(words) {
-        Form::Run => run_file(alloc, words[1].as_str(), files, out, book),
-        Form::RunSaved => run_file_saved(alloc, words[1].as_str(), words[2].as_str(), files, out, book),
-        Form::Decode => decode_file(alloc, words[1].as_str(), files, out),
-        Form::Make { seed, size } => make(alloc, seed, size, out),
-        Form::Other => say(out, Status::Usage, usage()),
-    }
+) -> Status
+    requires { IsNew book.old }
+
+    // Each case of the table of answers, with the text that is put there.
+    ensures course { Followed (Course (words_of words.now) (F.table files.old) (F.table files.new) (Rose (F.file_faults files.old) (F.file_faults files.new)) book.new) (O.written out.old) (O.written out.new) result }
+
+    // A found scenario: the book has the run, and what is written is its report.
+    ensures runs { (plan : Plan) → ¬ Rose (F.file_faults files.old) (F.file_faults files.new) → RunsTo (words_of words.now) (F.table files.old) plan book.new (O.written out.old) (O.written out.new) result }
+
+    // The same with CAPTURE: what stands under that name is the capture of the very frames of the book.
+    ensures saves { (plan : Plan) → ¬ Rose (F.file_faults files.old) (F.file_faults files.new) → SavesTo (words_of words.now) (F.table files.old) (F.table files.new) plan book.new (O.written out.old) (O.written out.new) result }
+
+    // A found capture, and a scenario that is made: the text whole, where the sink doesn't fail.
+    ensures shows { ¬ Rose (F.file_faults files.old) (F.file_faults files.new) → ¬ Rose (O.sink_faults out.old) (O.sink_faults out.new) → ShowsTo (words_of words.now) (F.table files.old) (O.written out.old) (O.written out.new) result }
+    ensures makes { ¬ Rose (O.sink_faults out.old) (O.sink_faults out.new) → MakesTo (words_of words.now) (O.written out.old) (O.written out.new) result }
+
+    // When each status comes.
+    ensures usage { UsageCause (words_of words.now) result }
+    ensures absent { AbsentCause (words_of words.now) (F.table files.old) result }
+    ensures too_long { LongCause (words_of words.now) (F.table files.old) result }
+    ensures refused { RefusedCause (words_of words.now) (F.table files.old) result }
+    ensures given_up { GivenUpCause book.new result }
+    ensures budget_spent { SpentCause book.new result }
+    ensures file_fault { result ≡ statuses.FileFault → Rose (F.file_faults files.old) (F.file_faults files.new) }
+    ensures sink_fault { result ≡ statuses.SinkFault → Rose (O.sink_faults out.old) (O.sink_faults out.new) }
+    ensures answers { IsAnswer result }
+
+    // What the book has: nothing where no run began, else what the run left.
+    ensures book { IsNew book.new ⊎ Began (words_of words.now) (F.table files.old) book.new }
+    ensures ending { EndingAt result book.new.ending }
+
+    // No call but a run with CAPTURE changes a file.
+    ensures same { form_in (words_of words.now) ≢ forms.RunSaved → F.table files.new ≡ F.table files.old }
+{
+    carry_out(alloc, words, files, out, book)
 }

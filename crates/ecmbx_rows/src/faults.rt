@@ -10,7 +10,7 @@ const USAGE: &str =
 #[test]
 fn faults_are_told(rt: HostRuntime) -> Result<(), Fail> {
     let run: &[&str] = &["run", "scenario.toml"];
-    for (words, file, failing_load, failing_put, status, text) in [
+    for (words, file, failing_file, failing_put, status, text) in [
         (&["run"] as &[&str], SLAVE, None, None, Status::Usage, USAGE),
         (
             &["run", "other.toml"],
@@ -43,7 +43,7 @@ fn faults_are_told(rt: HostRuntime) -> Result<(), Fail> {
             None,
             Some(1),
             Status::SinkFault,
-            "frames 0 lost 0\n",
+            "frames 5 lost 0\n",
         ),
     ] {
         check(
@@ -51,7 +51,7 @@ fn faults_are_told(rt: HostRuntime) -> Result<(), Fail> {
             &Case {
                 words,
                 file: file.as_bytes(),
-                failing_load,
+                failing_file,
                 failing_put,
                 status,
                 text,
@@ -70,7 +70,7 @@ fn a_long_file_is_told(rt: HostRuntime) -> Result<(), Fail> {
         &Case {
             words: &["run", "scenario.toml"],
             file: file.as_slice(),
-            failing_load: None,
+            failing_file: None,
             failing_put: None,
             status: Status::TooLong,
             text: "too long\n",

@@ -3,12 +3,14 @@
 #![tactic(auto)]
 
 #[cfg(test)]
+mod captures;
+#[cfg(test)]
 mod faults;
 #[cfg(test)]
-mod objects;
+mod made;
 #[cfg(test)]
 mod refusals;
 #[cfg(test)]
-mod services;
+mod rows;
 #[cfg(test)]
 mod stage;

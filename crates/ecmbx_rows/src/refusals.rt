@@ -6,11 +6,10 @@ use std::test::Fail;
 const SLAVES: &str =
     "version = 1\nretry = 2\n\n[[slave]]\nname = \"n0\"\nstation = 6\nmail = [64, 64]\nserves = []\n\n[[slave]]\nname = \"n1\"\nstation = 7\nmail = [80, 90]\nserves = [\"coe\", \"foe\", \"soe\"]\n";
 
-/// A refusal at each kind of table; and a plan whose parts aren't all built.
+/// A refusal at each kind of table.
 #[test]
 fn refusals_are_told(rt: HostRuntime) -> Result<(), Fail> {
     for (behind, text) in [
-        ("", "refused S13 at top\n"),
         ("other = 1\n", "refused S4 at slave 1\n"),
         (
             "[[slave.object]]\nindex = 9\nkind = \"record\"\n",
@@ -41,7 +40,7 @@ fn refusals_are_told(rt: HostRuntime) -> Result<(), Fail> {
             &Case {
                 words: &["run", "scenario.toml"],
                 file: file.as_bytes(),
-                failing_load: None,
+                failing_file: None,
                 failing_put: None,
                 status: Status::Refused,
                 text,

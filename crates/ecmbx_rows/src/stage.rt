@@ -8,19 +8,19 @@ use std::test::Fail;
 pub const SLAVE: &str =
     "version = 1\nretry = 3\n\n[[slave]]\nname = \"plc\"\nstation = 4097\nmail = [64, 64]\nserves = [\"coe\"]\n\n[[slave.object]]\nindex = 8192\nkind = \"array\"\nname = \"Setpoints\"\n\n[[slave.object.entry]]\ntype = 7\naccess = 63\nvalue = \"00000000\"\n";
 
-/// A call with these words over one file, `scenario.toml`, where the load and the put of these
+/// A call with these words over one file, `scenario.toml`, where the call of files and the put of these
 /// numbers fail; and how it is to end, with this text.
 #[derive(Clone, Copy)]
 pub struct Case<'a> {
     pub words: &'a [&'a str],
     pub file: &'a [u8],
-    pub failing_load: Option<u64>,
+    pub failing_file: Option<u64>,
     pub failing_put: Option<u64>,
     pub status: Status,
     pub text: &'a str,
 }
 
-fn numbers(alloc: Global, number: Option<u64>) -> Result<Rows<u64>, Fail> {
+pub fn numbers(alloc: Global, number: Option<u64>) -> Result<Rows<u64>, Fail> {
     let mut rows = Rows::new(alloc);
     if let Some(number) = number {
         rows.push(number)?;
@@ -36,14 +36,24 @@ fn strings(alloc: Global, words: &[&str]) -> Result<Vec<String>, AllocError> {
     Ok(strings)
 }
 
+/// Makes a call with these words over files and a sink.
+pub fn call(
+    alloc: Global,
+    words: &[&str],
+    files: &mut MemFiles,
+    out: &mut MemSink,
+) -> Result<Status, Fail> {
+    let words = strings(alloc, words)?;
+    let mut book = Book::new(alloc);
+    Ok(ecmbx(alloc, words.as_slice(), files, out, &mut book))
+}
+
 /// Makes the call and compares its status and what the sink took.
 pub fn check(alloc: Global, case: &Case<'_>) -> Result<(), Fail> {
-    let words = strings(alloc, case.words)?;
-    let mut files = MemFiles::new(alloc, numbers(alloc, case.failing_load)?);
+    let mut files = MemFiles::new(alloc, numbers(alloc, case.failing_file)?);
     files.add("scenario.toml", case.file)?;
     let mut out = MemSink::new(alloc, numbers(alloc, case.failing_put)?);
-    let mut book = Book::new(alloc);
-    let status = ecmbx(alloc, words.as_slice(), &mut files, &mut out, &mut book);
+    let status = call(alloc, case.words, &mut files, &mut out)?;
     if status != case.status {
         return Err(Fail::new(format_args!("{:?}: {status:?}", case.words)));
     }
@@ -53,18 +63,16 @@ pub fn check(alloc: Global, case: &Case<'_>) -> Result<(), Fail> {
     Ok(())
 }
 
-/// The same for a scenario that is run: the slave and these services.
-pub fn check_run(alloc: Global, services: &str, text: &str) -> Result<(), Fail> {
-    let mut file = String::from_str(alloc, SLAVE)?;
-    file.push_str(services)?;
+/// The same for a scenario that is run whole, without faults.
+pub fn check_run(alloc: Global, file: &[u8], status: Status, text: &str) -> Result<(), Fail> {
     check(
         alloc,
         &Case {
             words: &["run", "scenario.toml"],
-            file: file.as_bytes(),
-            failing_load: None,
+            file,
+            failing_file: None,
             failing_put: None,
-            status: Status::Done,
+            status,
             text,
         },
     )
