@@ -1,4 +1,4 @@
-ghost use Rattle.std.specs.Prelude.{◌≡◌, ◌⊎◌, Ok, Some, IfOk, IfErr};
+ghost use Rattle.std.specs.Prelude.{◌≡◌, ◌⊎◌, ◌≤◌, Ok, Some, IfOk, IfErr};
 ghost use Rattle.ec_outside.specs.Faults.{Rose};
 ghost use Rattle.segment_plan.specs.Sound.{IsPlan};
 ghost use Rattle.scenario.specs.Document.{plan_of};
@@ -61,7 +61,8 @@ fn refuse<O: Sink>(alloc: Global, rule: u8, place: Place, out: &mut O) -> Status
 
 // Puts the report of a run, and answers how the run ended.
 fn tell<O: Sink>(alloc: Global, plan: &Scenario, book: &Book, out: &mut O) -> Status
-    requires { HasRun plan.now book.now }
+    requires plan { IsPlan plan.now }
+    requires ran { HasRun plan.now book.now }
     ensures put { PutAll (status_of book.now.ending) (text_of (report_lines plan.now book.now)) (O.written out.old) (O.written out.new) result }
     ensures sink { result ≡ statuses.SinkFault → Rose (O.sink_faults out.old) (O.sink_faults out.new) }
 {
@@ -74,9 +75,11 @@ fn tell<O: Sink>(alloc: Global, plan: &Scenario, book: &Book, out: &mut O) -> St
 
 // Saves the frames of a run as a capture.
 fn save<F: Files>(alloc: Global, plan: &Scenario, book: &Book, name: &str, files: &mut F) -> Result<(), Status>
-    requires { HasRun plan.now book.now }
+    requires plan { IsPlan plan.now }
+    requires ran { HasRun plan.now book.now }
     ensures saved { IfOk result (λ done. Holds (F.table files.new) name.now (Some (capture_of book.now.frames))) }
     ensures failed { IfErr result (IsUnsaved (Rose (F.file_faults files.old) (F.file_faults files.new))) }
+    ensures later { F.file_faults files.old ≤ F.file_faults files.new }
 {
     let _plan = plan.retry;
     let mut octets = Octets::new(alloc);
@@ -120,6 +123,7 @@ pub fn run_saved<F: Files, O: Sink>(
     ensures course { Followed (SavedCourse name.now (F.table files.new) (Rose (F.file_faults files.old) (F.file_faults files.new)) book.new octets.now) (O.written out.old) (O.written out.new) result }
     ensures sink { result ≡ statuses.SinkFault → Rose (O.sink_faults out.old) (O.sink_faults out.new) }
     ensures book { IsNew book.new ⊎ BeganOn octets.now book.new }
+    ensures later { F.file_faults files.old ≤ F.file_faults files.new }
 {
     let plan = match plan_in(alloc, octets, out) {
         Ok(plan) => plan,

@@ -1,0 +1,134 @@
+-- What each step of a call adds to its course.
+use Rattle.std.proofs.Common.{◌≡◌, ◌≢◌, ℕ, ◌≤◌, List, [], length, Option, Some, None, Result, Ok, Err, ◌⊎◌, refl, sym, ap, ◌∙◌, inl, inr, arith}
+use Rattle.std.proofs.lemmas.List.{append-nil}
+use Rattle.ec_outside.specs.Faults.{Rose}
+use Rattle.ec_outside.specs.Files.{Table, file_of, Loads, LoadsFile, Saves, SavesFile}
+use Rattle.ec_outside.specs.Sink.{Wrote}
+use Rattle.ec_outside.specs.declared.files.Loaded.TheVariants.{Found, Absent, TooLong}
+use Rattle.segment_plan.specs.declared.plan.Scenario.{Scenario}
+use Rattle.scenario_keys.specs.declared.place.Place.{Place}
+use Rattle.scenario_keys.specs.declared.refusal.Refusal.{Refusal}
+use Rattle.scenario_keys.specs.declared.refusal.ReadErr.TheVariants as errors
+use Rattle.scenario_keys.specs.Rules.{Answers}
+use Rattle.scenario.specs.Document.{plan_of}
+use Rattle.run_book.specs.declared.book.Book.{Book}
+use Rattle.run_book.specs.declared.book.Ending.{Ending}
+use Rattle.run_book.specs.Book.{IsNew}
+use Rattle.run_record.specs.Ran.{HasFrames, EndsAs}
+use Rattle.run_report.specs.Report.{report_lines}
+use Rattle.run_report.specs.Saved.{capture_of}
+use Rattle.ecmbx_words.specs.declared.status.Status.{Status}
+use Rattle.ecmbx_words.specs.declared.status.Status.TheVariants as statuses
+use Rattle.ecmbx_words.specs.Ends.{text_of, Ended, PutAll}
+use Rattle.ecmbx_words.specs.Texts.{refusal_line, refused_line}
+use Rattle.ecmbx_call.specs.Files.{limit, Holds, IsLong, FileCourse, Followed, IsLoaded, IsUnloaded}
+use Rattle.ecmbx_call.specs.Files.FileCourse.{fault, absent, long, found}
+use Rattle.ecmbx_call.specs.Course.{HasRun, status_of, RunCourse, SavedCourse, IsUnread, IsUnsaved, BeganOn, BeganIn}
+use Rattle.ecmbx_call.specs.Course.RunCourse as RunCourse
+use Rattle.ecmbx_call.specs.Course.SavedCourse as SavedCourse
+
+-- a text that was put, as the course says
+pub said : (course : Status → List ℕ → Type 0) (planned : Status) (text : List ℕ) (old new : Option (List ℕ)) (status : Status) → course planned text → PutAll planned text old new status → Followed course old new status
+said course planned text old new status c (inl memory) = inl memory
+said course planned text old new status c (inr ended) = inr (planned, text, c, ended)
+
+-- the same text by another course
+pub turned : (one other : Status → List ℕ → Type 0) → ((planned : Status) (text : List ℕ) → one planned text → other planned text) → (old new : Option (List ℕ)) (status : Status) → Followed one old new status → Followed other old new status
+turned one other turn old new status (inl memory) = inl memory
+turned one other turn old new status (inr (planned, text, c, ended)) = inr (planned, text, turn planned text c, ended)
+
+-- nothing put is the empty text put
+pub nothing_put : (old : Option (List ℕ)) → Wrote old old []
+nothing_put None = tt
+nothing_put (Some old) = ap Some (sym (append-nil old))
+
+-- ---- files
+
+-- what a load that found the file says
+found_in : (octets : List ℕ) (file : Option (List ℕ)) → LoadsFile file limit octets Found → (file ≡ Some octets) × (length octets ≤ limit)
+found_in octets None h = absurd h
+found_in octets (Some held) h = (rw h.0 refl, rw h.0 h.1)
+
+pub is_loaded : (name octets : List ℕ) (table : Option Table) → Loads table name limit octets (Ok Found) → IsLoaded name table octets
+is_loaded name octets None h = record { holds = tt; fits = h }
+is_loaded name octets (Some files) h = let both = found_in octets (file_of name files) h in record { holds = both.0; fits = both.1 }
+
+absent_in : (into : List ℕ) (file : Option (List ℕ)) → LoadsFile file limit into Absent → file ≡ None
+absent_in into None h = refl
+absent_in into (Some held) h = absurd h
+
+pub holds_absent : (name into : List ℕ) (table : Option Table) → Loads table name limit into (Ok Absent) → Holds table name None
+holds_absent name into None h = tt
+holds_absent name into (Some files) h = absent_in into (file_of name files) h
+
+long_in : (name into : List ℕ) (files : Table) (file : Option (List ℕ)) → file_of name files ≡ file → LoadsFile file limit into TooLong → IsLong (Some files) name
+long_in name into files None is h = absurd h
+long_in name into files (Some held) is h = (held, is, h.1)
+
+pub holds_long : (name into : List ℕ) (table : Option Table) → Loads table name limit into (Ok TooLong) → IsLong table name
+holds_long name into None h = tt
+holds_long name into (Some files) h = long_in name into files (file_of name files) refl h
+
+pub holds_saved : (name octets : List ℕ) (old new : Option Table) → Saves old new name octets (Ok tt) → Holds new name (Some octets)
+holds_saved name octets None None h = tt
+holds_saved name octets None (Some new) h = ?
+holds_saved name octets (Some old) None h = absurd h
+holds_saved name octets (Some old) (Some new) h = h.stored
+
+module _ (name : List ℕ) (table : Option Table) (faulted nw : Type 0) (course : List ℕ → Status → List ℕ → Type 0) where
+  unloaded_course : nw → (planned : Status) (text : List ℕ) → FileCourse name table faulted (Unit {0}) (λ octets planned text. ⊥) planned text → FileCourse name table faulted nw course planned text
+  unloaded_course fresh _ _ (fault rose u) = fault rose fresh
+  unloaded_course fresh _ _ (absent holds u) = absent holds fresh
+  unloaded_course fresh _ _ (long is u) = long is fresh
+  unloaded_course fresh _ _ (found octets planned text holds fits never) = absurd never
+
+  -- a file that couldn't be had
+  pub unloaded : (old new : Option (List ℕ)) (status : Status) → nw → IsUnloaded name table faulted old new status → Followed (FileCourse name table faulted nw course) old new status
+  unloaded old new status fresh h = turned (FileCourse name table faulted (Unit {0}) (λ octets planned text. ⊥)) (FileCourse name table faulted nw course) (unloaded_course fresh) old new status h
+
+  -- a file that was loaded
+  pub loaded : (octets : List ℕ) (old new : Option (List ℕ)) (status : Status) → IsLoaded name table octets → Followed (course octets) old new status → Followed (FileCourse name table faulted nw course) old new status
+  loaded octets old new status is h = turned (course octets) (FileCourse name table faulted nw course) (λ planned text c. found octets planned text is.holds is.fits c) old new status h
+
+-- the book of a file that was loaded
+pub began_in : (name octets : List ℕ) (table : Option Table) (book : Book) → IsLoaded name table octets → IsNew book ⊎ BeganOn octets book → IsNew book ⊎ BeganIn name table book
+began_in name octets table book is (inl new) = inl new
+began_in name octets table book is (inr began) = inr (octets, is.holds, began)
+
+-- a fault of a save stands behind the load
+saved_course : (name : List ℕ) (table : Option Table) (one other : Type 0) → (one → other) → (book : Book) (octets : List ℕ) (planned : Status) (text : List ℕ) → SavedCourse name table one book octets planned text → SavedCourse name table other book octets planned text
+saved_course name table one other turn book octets _ _ (SavedCourse.refused e is new) = SavedCourse.refused e is new
+saved_course name table one other turn book octets _ _ (SavedCourse.unsaved plan is ran rose) = SavedCourse.unsaved plan is ran (turn rose)
+saved_course name table one other turn book octets _ _ (SavedCourse.ran plan is ran held) = SavedCourse.ran plan is ran held
+
+pub saved_later : (name : List ℕ) (table : Option Table) (one other : Type 0) → (one → other) → (book : Book) (octets : List ℕ) (old new : Option (List ℕ)) (status : Status) → Followed (SavedCourse name table one book octets) old new status → Followed (SavedCourse name table other book octets) old new status
+saved_later name table one other turn book octets old new status h =
+    turned (SavedCourse name table one book octets) (SavedCourse name table other book octets) (saved_course name table one other turn book octets) old new status h
+
+-- ---- runs
+
+refused_with : (octets : List ℕ) (read : Result Scenario Refusal) (rule : ℕ) (place : Place) (old new : Option (List ℕ)) (status : Status) → plan_of octets ≡ read → Answers (Err (errors.Refused rule place)) read → PutAll statuses.Refused (refusal_line rule place) old new status → IsUnread octets old new status
+refused_with octets (Ok plan) rule place old new status is answers put = absurd answers
+refused_with octets (Err e) rule place old new status is answers (inl memory) = inl memory
+refused_with octets (Err e) rule place old new status is answers (inr ended) = inr (e, is, rw (← answers.0, ← answers.1) ended)
+
+-- octets that are refused
+pub unread : (octets : List ℕ) (rule : ℕ) (place : Place) (old new : Option (List ℕ)) (status : Status) → Answers (Err (errors.Refused rule place)) (plan_of octets) → PutAll statuses.Refused (refusal_line rule place) old new status → IsUnread octets old new status
+unread octets rule place old new status answers put = refused_with octets (plan_of octets) rule place old new status refl answers put
+
+pub run_unread : (book : Book) (octets : List ℕ) (old new : Option (List ℕ)) (status : Status) → IsNew book → IsUnread octets old new status → Followed (RunCourse book octets) old new status
+run_unread book octets old new status fresh (inl memory) = inl memory
+run_unread book octets old new status fresh (inr (e, is, ended)) = inr (statuses.Refused, refused_line e, RunCourse.refused e is fresh, ended)
+
+pub save_unread : (name : List ℕ) (table : Option Table) (faulted : Type 0) (book : Book) (octets : List ℕ) (old new : Option (List ℕ)) (status : Status) → IsNew book → IsUnread octets old new status → Followed (SavedCourse name table faulted book octets) old new status
+save_unread name table faulted book octets old new status fresh (inl memory) = inl memory
+save_unread name table faulted book octets old new status fresh (inr (e, is, ended)) = inr (statuses.Refused, refused_line e, SavedCourse.refused e is fresh, ended)
+
+-- what a run left
+pub has_run : (plan : Scenario) (book : Book) (ending : Ending) → HasFrames plan book → EndsAs plan book ending → book.ending ≡ ending → HasRun plan book
+has_run plan book ending frames ends is = record { frames = frames; ending = rw is ends }
+
+-- a save that failed ends a run without a text
+pub save_failed : (name : List ℕ) (table : Option Table) (faulted : Type 0) (plan : Scenario) (book : Book) (octets : List ℕ) (old : Option (List ℕ)) (status : Status) → plan_of octets ≡ Ok plan → HasRun plan book → IsUnsaved faulted status → Followed (SavedCourse name table faulted book octets) old old status
+save_failed name table faulted plan book octets old status is ran (inl memory) = inl memory
+save_failed name table faulted plan book octets old status is ran (inr failed) = inr (statuses.FileFault, [], SavedCourse.unsaved plan is ran failed.1, inl (failed.0, nothing_put old))
