@@ -1,6 +1,6 @@
 use Rattle.slave_server.specs.Serving.{Inside}
 use Rattle.slave_server.proofs.Next.{ether_waits}
-use Rattle.slave_server.proofs.server.SlaveServer.has_mail.Goals as goal
+use Rattle.slave_server.proofs.giving.SlaveServer.has_mail.Goals as goal
 
 pub returns-then-waiting-4 : goal.returns-then-waiting-4
 returns-then-waiting-4 c =
