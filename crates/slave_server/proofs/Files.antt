@@ -11,14 +11,6 @@ use Rattle.file_store.specs.Stored.{Stored, free_now}
 use Rattle.segment_plan.specs.Sound as Plan
 use Rattle.slave_server.specs.Spec.{with_file, with_files}
 
--- a refusal of a file that is there isn't that of one that isn't
-refused_here : (boot : Bool) (a b c : Bool) → (if boot then Some 0x8008 else if a then Some 0x8009 else if b then Some 0x8002 else if c then Some 0x8002 else None) ≡ Some 0x8001 → ⊥
-refused_here true a b c e = absurd (cc)
-refused_here false true b c e = absurd (cc)
-refused_here false false true c e = absurd (cc)
-refused_here false false false true e = absurd (cc)
-refused_here false false false false e = absurd (cc)
-
 -- a file, as a store keeps it
 abbrev filed : FileSpec × List ℕ → Store.Filed
 filed f = record { spec = f.0; octets = f.1 }
@@ -34,7 +26,7 @@ pub takes_first : (files : List (FileSpec × List ℕ)) (blocks : ℕ) → Plan.
 takes_first files blocks fits = record { rest = refl; part = refl; count = omega arith; fits = omega (arith, fits) }
 
 free_without : (k : Store.Kept) → free_now (record { kept = k; part = None }) ≡ k.blocks - Store.taken k.files
-free_without k = refl
+free_without k = omega arith
 
 length-push : {X : Type 0} (xs : List X) (x : X) → length (xs ++ x ∷ []) ≡ length xs + 1
 length-push [] x = refl
@@ -53,28 +45,26 @@ module _ (files : List (FileSpec × List ℕ)) (blocks i : ℕ) (f : FileSpec ×
       let free : free_now store ≡ store.kept.blocks - Store.taken store.kept.files = ap (λ p. free_now (record store { part = p })) taken.part ∙ free_without store.kept in
       omega (arith, free, left, taken.fits)
 
-  -- the files behind this one, where it is kept and where it isn't
-  with_rest : (there : Bool) → is_some (Store.file_of store.kept f.0.name.items) ≡ there →
-      with_files (drop (i + 1) files) (if there then store.kept else record store.kept { files = store.kept.files ++ filed f ∷ [] }) ≡ with_files files (record { files = []; blocks = blocks })
-  with_rest there known =
-      ap (λ (b : Bool). with_files (drop (i + 1) files) (if b then store.kept else record store.kept { files = store.kept.files ++ filed f ∷ [] })) (sym known)
-      ∙ subst (λ fs. with_files fs store.kept ≡ with_files files (record { files = []; blocks = blocks })) split taken.rest
+  -- whether it is kept or passed over
+  more : (there : Bool) → is_some (Store.file_of store.kept f.0.name.items) ≡ there → with_file f store.kept ≡ (if there then store.kept else record store.kept { files = store.kept.files ++ filed f ∷ [] })
+  more there known = ap (λ (b : Bool). if b then store.kept else record store.kept { files = store.kept.files ++ filed f ∷ [] }) known
 
-  -- one of a new name is kept
-  pub takes_new : (new : Stored) → is_some (Store.file_of store.kept f.0.name.items) ≡ false →
-      new ≡ record store { kept = record store.kept { files = store.kept.files ++ filed f ∷ [] } } → HasTaken files blocks (i + 1) new
-  takes_new new fresh is_new = rw is_new (record {
-    rest = with_rest false fresh;
-    part = taken.part;
-    count = omega (arith, length-push store.kept.files (filed f), taken.count);
-    fits = omega (arith, sum_by_push (λ (g : Store.Filed). blocks_for (length g.octets)) store.kept.files (filed f), left, taken.fits);
-  })
+  -- the files with it, and how many blocks are left
+  counts_by : (there : Bool) → let k = if there then store.kept else record store.kept { files = store.kept.files ++ filed f ∷ [] } in
+      (length k.files ≤ i + 1) × (Store.taken k.files + Plan.taken (drop (i + 1) files) ≤ k.blocks)
+  counts_by true = (omega (arith, taken.count), omega (arith, left, taken.fits))
+  counts_by false = (
+    omega (arith, length-push store.kept.files (filed f), taken.count),
+    omega (arith, sum_by_push (λ (g : Store.Filed). blocks_for (length g.octets)) store.kept.files (filed f), left, taken.fits),
+  )
 
-  -- one of a name that is there is passed over
-  pub takes_known : is_some (Store.file_of store.kept f.0.name.items) ≡ true → HasTaken files blocks (i + 1) store
-  takes_known known = record {
-    rest = with_rest true known;
-    part = taken.part;
-    count = omega (arith, taken.count);
-    fits = omega (arith, left, taken.fits);
-  }
+  pub takes_more : (new : Stored) → new ≡ record store { kept = with_file f store.kept } → HasTaken files blocks (i + 1) new
+  takes_more new is_new =
+      let there = is_some (Store.file_of store.kept f.0.name.items) in
+      let counts = counts_by there in
+      rw is_new (record {
+        rest = subst (λ fs. with_files fs store.kept ≡ with_files files (record { files = []; blocks = blocks })) split taken.rest;
+        part = taken.part;
+        count = counts.0;
+        fits = counts.1;
+      })
