@@ -1,4 +1,6 @@
 pub mod Takes
 pub mod Next
 pub mod SeenLaw
-pub mod Counting
+pub mod Objects
+pub mod Files
+pub mod Idns

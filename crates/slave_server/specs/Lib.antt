@@ -1,3 +1,4 @@
 pub mod Serving
 pub mod Seen
 pub mod Spec
+pub mod Counting

@@ -47,7 +47,7 @@ impl Clear for SlaveServer {
 
 impl Services for SlaveServer {
     ghost use Rattle.std.specs.Prelude.{refl};
-    ghost use Rattle.slave_server.proofs.Counting.{takes_one};
+    ghost use Rattle.slave_server.specs.Counting.{takes_one};
 
     ghost handled = { λ s. s.server.handled };
 

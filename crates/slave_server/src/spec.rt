@@ -1,7 +1,9 @@
-ghost use Rattle.std.specs.Prelude.{◌≡◌, IfOk, None, is_some};
+ghost use Rattle.std.specs.Prelude.{◌≡◌, ◌<◌, ◌≤◌, IfOk, OnOk, None, is_some, length};
+ghost use Rattle.block_pool.specs.Region.{blocks_for};
 ghost use Rattle.file_store.specs.Files.{file_of};
+ghost use Rattle.file_store.specs.Stored.{free_now};
 ghost use Rattle.segment_plan.specs.Sound.{IsSlave, IsIdn};
-ghost use Rattle.slave_server.specs.Spec.{idn_of, objects_of, files_of, idns_of, addresses_of, server_of, node_of};
+ghost use Rattle.slave_server.specs.Spec.{with_file, with_idn, idn_of, objects_of, files_of, idns_of, addresses_of, server_of, node_of};
 
 use crate::server::{Lengths, Protocols, SlaveServer};
 use ec_fields::{NoMemory, Octets, Rows, buffer_of};
@@ -88,6 +90,19 @@ fn has_file(store: &Store, name: &[u8]) -> bool
     }
 }
 
+// One file more, where none has its name.
+fn add_file(store: &mut Store, file: &FileSpec, octets: &[u8]) -> Result<(), NoMemory>
+    requires few { length store.old.kept.files < 32 }
+    requires busy { file.now.busy ≤ 15 }
+    requires fits { blocks_for (length octets.now) ≤ free_now store.old }
+    ensures { OnOk result (store.new ≡ record store.old { kept = with_file (file.now, octets.now) store.old.kept }) }
+{
+    if has_file(store, file.name.as_slice()) {
+        return Ok(());
+    }
+    store.insert(copy_of_file(file), octets)
+}
+
 // The slave's files; of files of one name the first.
 fn store_of(alloc: Global, spec: &SlaveSpec) -> Result<Store, NoMemory>
     requires { IsSlave spec.now }
@@ -95,9 +110,7 @@ fn store_of(alloc: Global, spec: &SlaveSpec) -> Result<Store, NoMemory>
 {
     let mut store = Store::new(alloc, spec.blocks)?;
     for (file, octets) in spec.files.as_slice() {
-        if !has_file(&store, file.name.as_slice()) {
-            store.insert(copy_of_file(file), octets.bytes())?;
-        }
+        add_file(&mut store, file, octets.bytes())?;
     }
     Ok(store)
 }
@@ -133,6 +146,18 @@ fn idn_of(alloc: Global, idn: &IdnSpec) -> Result<idn_table::IdnSpec, NoMemory>
     })
 }
 
+// One IDN more, where none has its drive and number.
+fn add_idn(alloc: Global, idns: &mut IdnTable, idn: &IdnSpec) -> Result<(), NoMemory>
+    requires { IsIdn idn.now }
+    ensures { OnOk result (idns.new ≡ with_idn idn.now idns.old) }
+{
+    if idns.has(idn.drive, idn.number) {
+        return Ok(());
+    }
+    let copy = idn_of(alloc, idn)?;
+    idns.insert(&copy)
+}
+
 // The slave's IDNs; of IDNs of one drive and number the first.
 fn idns_of(alloc: Global, spec: &SlaveSpec) -> Result<IdnTable, NoMemory>
     requires { IsSlave spec.now }
@@ -140,9 +165,7 @@ fn idns_of(alloc: Global, spec: &SlaveSpec) -> Result<IdnTable, NoMemory>
 {
     let mut idns = IdnTable::new(alloc)?;
     for idn in spec.idns.as_slice() {
-        if !idns.has(idn.drive, idn.number) {
-            idns.insert(&idn_of(alloc, idn)?)?;
-        }
+        add_idn(alloc, &mut idns, idn)?;
     }
     Ok(idns)
 }
