@@ -1,4 +1,12 @@
-use crate::passed::PassedMail;
+ghost use Rattle.std.specs.Prelude.{◌≡◌, ◌≤◌, ◌++◌, ◌+◌, ◌<◌, ◌^◌, ◌↔◌, List, [], true, false, is_some, length, IfOk, IfSome, OnOk, OnErr, Some, None, Ok};
+ghost use Rattle.std.specs.Bool.{OnTrue, OnFalse};
+ghost use Rattle.eoe_model.specs.Client.{packet as packet_asked};
+ghost use Rattle.master_hand.specs.Spoken.{net, passed};
+ghost use Rattle.master_hand.specs.Passed.{body_of, mail_of};
+ghost use Rattle.master_hand.specs.Talk.{client_later, client_awaits, value_of, asked_of, asked_set, is_askable, ClientTook, Begins, Starts, IsSent};
+ghost use Rattle.master_hand.specs.declared.clients.Which.{Which};
+
+use crate::passed::{Content, PassedMail};
 use coe_client::CoeClient;
 use ec_fields::{NoMemory, Octets};
 use eoe::Packet;
@@ -8,6 +16,7 @@ use mailbox_mail::{Kind, Mail, ReplyKind, Took};
 use segment_plan::Service;
 use soe_client::SoeClient;
 use std::alloc::Global;
+use std::marker::Model;
 
 /// Which client has the newest service.
 #[derive(Clone, Copy, Debug, PartialEq, Eq)]
@@ -24,19 +33,37 @@ pub enum Which {
 /// All clients of one slave. They take all their memory when they are made.
 #[derive(Debug, Drop)]
 pub struct Clients {
-    pub out_len: u16,
-    pub in_len: u16,
-    pub coe: CoeClient,
-    pub foe: FoeClient,
-    pub soe: SoeClient,
-    pub address: AddressClient,
-    pub packets: PacketSender,
-    pub passed: PassedMail,
+    pub(crate) out_len: u16,
+    pub(crate) in_len: u16,
+    pub(crate) coe: CoeClient,
+    pub(crate) foe: FoeClient,
+    pub(crate) soe: SoeClient,
+    pub(crate) address: AddressClient,
+    pub(crate) packets: PacketSender,
+    pub(crate) passed: PassedMail,
+}
+
+impl Model for Clients {
+    ghost use Rattle.std.specs.Prelude.{◌≡◌, ◌≤◌, ◌+◌, length};
+    ghost use Rattle.foe_client.specs.Talk.{areas_of};
+    ghost use Rattle.master_hand.specs.Talk.{Talking};
+
+    ghost Value = { Talking };
+
+    ghost view = { λ c. record { areas = record { out = c.out_len; back = c.in_len }; sdo = c.coe; file = c.foe; drive = c.soe; address = c.address; packets = c.packets; passed = c.passed } };
+
+    ghost invariant = { λ c. (64 ≤ c.out_len) × (c.out_len ≤ 1486) × (c.coe.room ≡ c.out_len) × (areas_of c.foe ≡ record { out = c.out_len; back = c.in_len }) × (c.soe.room ≡ c.out_len) × (c.address.room ≡ c.out_len) × (c.packets.room ≡ c.out_len) × (6 + length c.passed.content.body.items ≤ c.out_len) };
 }
 
 impl Clients {
     /// The clients of a slave whose mailboxes have these lengths: the one that requests go through, and the one for answers.
-    pub fn new(alloc: Global, out_len: u16, in_len: u16) -> Result<Clients, NoMemory> {
+    pub fn new(alloc: Global, out_len: u16, in_len: u16) -> Result<Clients, NoMemory>
+        requires out_least { 64 ≤ out_len }
+        requires out_most { out_len ≤ 1486 }
+        requires in_least { 64 ≤ in_len }
+        requires in_most { in_len ≤ 1486 }
+        ensures areas { IfOk result (λ c. c.areas ≡ record { out = out_len; back = in_len }) }
+    {
         Ok(Clients {
             out_len,
             in_len,
@@ -50,7 +77,10 @@ impl Clients {
     }
 
     // An address block goes through the mailbox with 10 octets in front of it.
-    fn start_set(&mut self, block: &[u8]) -> Option<Which> {
+    fn start_set(&mut self, block: &[u8]) -> Option<Which>
+        ensures begins { Begins result (asked_set self.old.areas.out block.now) self.old self.new }
+        ensures areas { self.new.areas ≡ self.old.areas }
+    {
         if block.len() + 10 > self.out_len as usize {
             return None;
         }
@@ -59,7 +89,11 @@ impl Clients {
     }
 
     /// Begins a service of a script. `None` for a change of state, a packet, and an address block that the mailbox has no room for.
-    pub fn start(&mut self, service: &Service) -> Option<Which> {
+    pub fn start(&mut self, service: &Service) -> Option<Which>
+        requires { is_askable self.old.areas (asked_of self.old.areas.out service.now) ≡ true }
+        ensures begins { Begins result (asked_of self.old.areas.out service.now) self.old self.new }
+        ensures areas { self.new.areas ≡ self.old.areas }
+    {
         match service {
             Service::Sdo(sdo) => {
                 self.coe.start(sdo);
@@ -100,17 +134,27 @@ impl Clients {
     }
 
     /// Begins to send a packet with this frame number.
-    pub fn start_packet(&mut self, packet: &Packet, frame: u8) {
+    pub fn start_packet(&mut self, packet: &Packet, frame: u8)
+        requires { frame < 2 ^ 4 }
+        ensures starts { Starts self.old.areas (net (packet_asked packet.now.items frame)) Which.Packet self.new }
+        ensures areas { self.new.areas ≡ self.old.areas }
+    {
         self.packets.start(packet, frame);
     }
 
     /// Begins to pass on a mail.
-    pub fn start_mail(&mut self, mail: &Mail) {
+    pub fn start_mail(&mut self, mail: &Content)
+        requires { 6 + length mail.now.body.items ≤ self.old.areas.out }
+        ensures starts { Starts self.old.areas (passed (mail_of mail.now)) Which.Passed self.new }
+        ensures areas { self.new.areas ≡ self.old.areas }
+    {
         self.passed.start(mail.kind, mail.body.as_slice());
     }
 
     /// Whether a mail is left to send.
-    pub fn has_next(&self, which: Which) -> bool {
+    pub fn has_next(&self, which: Which) -> bool
+        ensures { result ≡ false ↔ (client_later which self.now [] ≡ []) }
+    {
         match which {
             Which::Coe => self.coe.has_next(),
             Which::ReadFile | Which::WriteFile => self.foe.has_next(),
@@ -121,58 +165,144 @@ impl Clients {
         }
     }
 
+    // The next mail of a service of CoE.
+    fn next_sdo(&mut self, held: &mut Content) -> bool
+        ensures { IsSent result Which.Coe self.old held.new self.new }
+    {
+        held.kind = Kind::CoE;
+        self.coe.next_mail(&mut held.body)
+    }
+
+    // The same of FoE.
+    fn next_file(&mut self, held: &mut Content) -> bool
+        ensures { IsSent result Which.ReadFile self.old held.new self.new }
+    {
+        held.kind = Kind::FoE;
+        self.foe.next_mail(&mut held.body)
+    }
+
+    // The same of SoE.
+    fn next_drive(&mut self, held: &mut Content) -> bool
+        ensures { IsSent result Which.Soe self.old held.new self.new }
+    {
+        held.kind = Kind::SoE;
+        self.soe.next_mail(&mut held.body)
+    }
+
+    // The same of an address service.
+    fn next_address(&mut self, held: &mut Content) -> bool
+        ensures { IsSent result Which.Address self.old held.new self.new }
+    {
+        held.kind = Kind::EoE;
+        self.address.next_mail(&mut held.body)
+    }
+
+    // The next fragment of a packet.
+    fn next_fragment(&mut self, held: &mut Content) -> bool
+        ensures { IsSent result Which.Packet self.old held.new self.new }
+    {
+        held.kind = Kind::EoE;
+        self.packets.next_mail(&mut held.body)
+    }
+
+    // The mail that is passed on.
+    fn next_passed(&mut self, held: &mut Content) -> bool
+        ensures { IsSent result Which.Passed self.old held.new self.new }
+    {
+        self.passed.next_mail(held)
+    }
+
     /// Puts the next mail in place of what `held` has; `false` where none is left.
-    pub fn next_mail(&mut self, which: Which, held: &mut Mail) -> bool {
-        held.address = 0;
-        held.counter = 0;
+    pub fn next_mail(&mut self, which: Which, held: &mut Content) -> bool
+        ensures { IsSent result which self.old held.new self.new }
+    {
         match which {
-            Which::Coe => {
-                held.kind = Kind::CoE;
-                self.coe.next_mail(&mut held.body)
-            }
-            Which::ReadFile | Which::WriteFile => {
-                held.kind = Kind::FoE;
-                self.foe.next_mail(&mut held.body)
-            }
-            Which::Soe => {
-                held.kind = Kind::SoE;
-                self.soe.next_mail(&mut held.body)
-            }
-            Which::Address => {
-                held.kind = Kind::EoE;
-                self.address.next_mail(&mut held.body)
-            }
-            Which::Packet => {
-                held.kind = Kind::EoE;
-                self.packets.next_mail(&mut held.body)
-            }
-            Which::Passed => self.passed.next_mail(held),
+            Which::Coe => self.next_sdo(held),
+            Which::ReadFile => self.next_file(held),
+            Which::WriteFile => self.next_file(held),
+            Which::Soe => self.next_drive(held),
+            Which::Address => self.next_address(held),
+            Which::Packet => self.next_fragment(held),
+            Which::Passed => self.next_passed(held),
         }
     }
 
-    // What a mail is to the client in hand.
-    fn take_any(&mut self, which: Which, mail: &Mail) -> Took {
+    // A mail comes to a client of CoE that has none left to send.
+    fn take_sdo(&mut self, mail: &Mail) -> Took
+        requires { client_later Which.Coe self.old [] ≡ [] }
+        ensures took { ClientTook result Which.Coe self.old (body_of mail.now) self.new }
+        ensures areas { self.new.areas ≡ self.old.areas }
+    {
+        self.coe.take(mail)
+    }
+
+    // The same of FoE.
+    fn take_file(&mut self, mail: &Mail) -> Took
+        requires { client_later Which.ReadFile self.old [] ≡ [] }
+        ensures took { ClientTook result Which.ReadFile self.old (body_of mail.now) self.new }
+        ensures areas { self.new.areas ≡ self.old.areas }
+    {
+        self.foe.take(mail)
+    }
+
+    // The same of SoE.
+    fn take_drive(&mut self, mail: &Mail) -> Took
+        requires { client_later Which.Soe self.old [] ≡ [] }
+        ensures took { ClientTook result Which.Soe self.old (body_of mail.now) self.new }
+        ensures areas { self.new.areas ≡ self.old.areas }
+    {
+        self.soe.take(mail)
+    }
+
+    // The same of an address service.
+    fn take_address(&mut self, mail: &Mail) -> Took
+        ensures took { ClientTook result Which.Address self.old (body_of mail.now) self.new }
+        ensures areas { self.new.areas ≡ self.old.areas }
+    {
+        self.address.take(mail)
+    }
+
+    // A reply of a mail that is passed on.
+    fn take_passed(&mut self, mail: &Mail) -> Took
+        ensures took { ClientTook result Which.Passed self.old (body_of mail.now) self.new }
+        ensures areas { self.new.areas ≡ self.old.areas }
+    {
+        self.passed.take(mail)
+    }
+
+    // A mail comes to the client in hand, which has none left to send; a packet has no reply.
+    fn take_any(&mut self, which: Which, mail: &Mail) -> Took
+        requires { client_later which self.old [] ≡ [] }
+        ensures took { ClientTook result which self.old (body_of mail.now) self.new }
+        ensures areas { self.new.areas ≡ self.old.areas }
+    {
         match which {
-            Which::Coe => self.coe.take(mail),
-            Which::ReadFile | Which::WriteFile => self.foe.take(mail),
-            Which::Soe => self.soe.take(mail),
-            Which::Address => self.address.take(mail),
+            Which::Coe => self.take_sdo(mail),
+            Which::ReadFile => self.take_file(mail),
+            Which::WriteFile => self.take_file(mail),
+            Which::Soe => self.take_drive(mail),
+            Which::Address => self.take_address(mail),
             Which::Packet => Took::Foreign,
-            Which::Passed => self.passed.take(mail),
+            Which::Passed => self.take_passed(mail),
         }
     }
 
-    /// Takes a mail that replies. One that would complete the reply while mails are left to send is foreign.
-    pub fn take(&mut self, which: Which, mail: &Mail) -> Took {
-        let left = self.has_next(which);
-        match self.take_any(which, mail) {
-            Took::Done if left => Took::Foreign,
-            took => took,
+    /// Takes a mail that replies. One that comes while mails are left to send is foreign: each reply follows the mail that it answers.
+    pub fn take(&mut self, which: Which, mail: &Mail) -> Took
+        ensures took { ClientTook result which self.old (body_of mail.now) self.new }
+        ensures areas { self.new.areas ≡ self.old.areas }
+    {
+        if self.has_next(which) {
+            return Took::Foreign;
         }
+        self.take_any(which, mail)
     }
 
     /// The kind of the reply that is complete; packets and mails that are passed on have none.
-    pub fn reply(&self, which: Which) -> Option<ReplyKind> {
+    pub fn reply(&self, which: Which) -> Option<ReplyKind>
+        requires { is_some (client_awaits which self.now []) ≡ true }
+        ensures { IfSome result (λ kind. client_awaits which self.now [] ≡ Some (Some (kind, value_of which self.now))) }
+    {
         match which {
             Which::Coe => Some(self.coe.reply()),
             Which::ReadFile | Which::WriteFile => Some(self.foe.reply()),
@@ -183,7 +313,11 @@ impl Clients {
     }
 
     /// Appends the value of the reply that is complete. After `NoMemory` the list is as before.
-    pub fn value(&self, which: Which, into: &mut Octets) -> Result<(), NoMemory> {
+    pub fn value(&self, which: Which, into: &mut Octets) -> Result<(), NoMemory>
+        requires { is_some (client_awaits which self.now []) ≡ true }
+        ensures ok { OnOk result (into.new ≡ into.old ++ value_of which self.now) }
+        ensures err { OnErr result (into.new ≡ into.old) }
+    {
         match which {
             Which::Coe => self.coe.value(into),
             Which::ReadFile | Which::WriteFile => self.foe.value(into),

@@ -1,0 +1,216 @@
+-- Protocol by protocol: what a client does is what the hand wants of it.
+use Rattle.std.proofs.Common.{◌≡◌, ℕ, ◌+◌, ◌<◌, List, [], ◌∷◌, ◌++◌, Bool, true, false, Option, Some, None, refl, sym, ap, ◌∙◌, subst, map, length}
+use Rattle.std.specs.Prelude.{is_some, is_none, option_map, Ok, ⊤, not, ◌≤◌, ◌↔◌, if◌then◌else◌, zero, suc}
+use Rattle.std.specs.Bool.{OnTrue, OnFalse}
+use Rattle.mailbox_mail.specs.declared.mail.Mail.{Mail}
+use Rattle.mailbox_mail.specs.declared.mail.Kind.{Kind}
+use Rattle.mailbox_mail.specs.declared.outcome.Took.{Took}
+use Rattle.mailbox_mail.specs.declared.outcome.ReplyKind.{ReplyKind}
+use Rattle.exchange_model.specs.Areas.{Areas}
+use Rattle.link_mails.specs.Body.{Body, uncounted}
+use Rattle.coe_model.specs.Mails as CoeMails
+use Rattle.coe_model.specs.Octets as CoeOctets
+use Rattle.coe_client.specs.Talk as CoeTalk
+use Rattle.coe_client.specs.Hear as CoeHear
+use Rattle.coe_client.specs.Send as CoeSend
+use Rattle.coe_client.specs.declared.state.Awaits as CoeAwaits
+use Rattle.foe_model.specs.Mails as FoeMails
+use Rattle.foe_model.specs.Octets as FoeOctets
+use Rattle.foe_client.specs.Talk as FoeTalk
+use Rattle.foe_client.specs.Hear as FoeHear
+use Rattle.foe_client.specs.Send as FoeSend
+use Rattle.foe_client.specs.declared.state.Awaits as FoeAwaits
+use Rattle.foe_client.specs.declared.state.Unsent as FoeUnsent
+use Rattle.soe_model.specs.Mails as SoeMails
+use Rattle.soe_model.specs.Octets as SoeOctets
+use Rattle.soe_client.specs.Talk as SoeTalk
+use Rattle.soe_client.specs.Hear as SoeHear
+use Rattle.soe_client.specs.declared.state.Awaits as SoeAwaits
+use Rattle.eoe_model.specs.Mails as EoeMails
+use Rattle.eoe_model.specs.Octets as EoeOctets
+use Rattle.eoe_client.specs.Talk as EoeTalk
+use Rattle.eoe_client.specs.Hear as EoeHear
+use Rattle.eoe_client.specs.declared.address.Awaits as EoeAwaits
+use Rattle.master_duty.specs.Reply.{Reply}
+use Rattle.master_hand.specs.Spoken.{told_sdo, heard_sdo, told_file, heard_file, told_drive, heard_drive, told_net, heard_net, replied}
+use Rattle.master_hand.specs.Passed.{body_of, mail_of}
+use Rattle.master_hand.specs.Talk.{Talking, client_later, client_awaits, value_of, SendsNext, IsSent, Follows, ClientTook}
+use Rattle.master_hand.specs.declared.clients.Which.{Which}
+use Rattle.master_hand.specs.declared.passed.Content.{Content}
+
+-- lists of mails
+
+none_mapped : {A B : Type 0} (f : A → B) (xs : List A) → map f xs ≡ [] → xs ≡ []
+none_mapped f [] e = refl
+none_mapped f (x ∷ xs) e = absurd (cc)
+
+pub left_mapped : {A B : Type 0} (f : A → B) (b : Bool) (xs : List A) → (b ≡ false) ↔ (xs ≡ []) → (b ≡ false) ↔ (map f xs ≡ [])
+left_mapped f b xs e = ((λ z. ap (map f) (e.0 z)), (λ z. e.1 (none_mapped f xs z)))
+
+some_replied : {R : Type 0} (o : Option R) → is_some o ≡ true → is_some (replied o) ≡ true
+some_replied (Some r) e = refl
+some_replied None e = absurd (cc)
+
+pub replied_some : {R : Type 0} (o : Option R) → is_some (replied o) ≡ true → is_some o ≡ true
+replied_some (Some r) e = refl
+replied_some None e = absurd (cc)
+
+-- a mail with this body is the one held
+held_is : (held : Content) (kind : Kind) → held.kind ≡ kind → Ok (record { address = 0; kind = kind; counter = 0; body = record { items = held.body.items } }) ≡ Ok (mail_of held)
+held_is held kind e = ap (λ (k : Kind). Ok (record { address = 0; kind = k; counter = 0; body = held.body })) (sym e)
+
+-- CoE
+
+pub sdo_sent : (b : Bool) (old : Talking) (c : CoeTalk.Talking) (held : Content) → OnTrue b (CoeSend.SendsNext old.sdo held.body.items c) → OnTrue b (length held.body.items + 6 ≤ old.sdo.room) → OnFalse b (c ≡ old.sdo) →
+    ((ms : List CoeMails.CoeMail) → CoeTalk.awaited c ms ≡ CoeTalk.awaited old.sdo ms) → old.sdo.room ≡ old.areas.out → held.kind ≡ Kind.CoE → IsSent b Which.Coe old held (record old { sdo = c })
+sdo_sent true old c held s f n a r k = record {
+  mails = λ hs. ap (map told_sdo) (s.mails (map heard_sdo hs)) ∙ ap (λ b. b ∷ map told_sdo (CoeTalk.later c (map heard_sdo hs))) (ap Ok s.spelled ∙ held_is held Kind.CoE k);
+  replies = λ hs. ap replied (a (map heard_sdo hs));
+  fits = omega (arith, f, r);
+  areas = refl;
+}
+sdo_sent false old c held s f n a r k = ap (λ (z : CoeTalk.Talking). record old { sdo = z }) n
+
+sdo_over : (c : CoeTalk.Talking) (a : CoeAwaits.Awaits) → c.awaits ≡ a → CoeTalk.is_replied a ≡ true → is_some (CoeTalk.awaited c []) ≡ true
+sdo_over c (CoeAwaits.Awaits.Over kind) e o = ap (λ (b : CoeAwaits.Awaits). is_some (CoeTalk.awaited (record c { awaits = b }) [])) e
+sdo_over c CoeAwaits.Awaits.Nothing e o = absurd (cc)
+sdo_over c CoeAwaits.Awaits.Acceptance e o = absurd (cc)
+sdo_over c (CoeAwaits.Awaits.SegmentAnswers left toggle) e o = absurd (cc)
+sdo_over c CoeAwaits.Awaits.FirstAnswer e o = absurd (cc)
+sdo_over c (CoeAwaits.Awaits.Parts size toggle) e o = absurd (cc)
+sdo_over c (CoeAwaits.Awaits.Information opcode) e o = absurd (cc)
+
+pub sdo_took : (took : Took) (old : Talking) (c : CoeTalk.Talking) (m : Mail) → CoeHear.TookIs took old.sdo (CoeOctets.coe_mail_heard m) c → client_later Which.Coe old [] ≡ [] → ClientTook took Which.Coe old (body_of m) (record old { sdo = c })
+sdo_took Took.More old c m t e =
+    (record { mails = λ hs. ap (map told_sdo) (t.0.mails (map heard_sdo hs)); replies = λ hs. ap replied (t.0.replies (map heard_sdo hs)) }, ap replied t.1.yet)
+sdo_took Took.Done old c m t e =
+    (record { mails = λ hs. ap (map told_sdo) (t.mails (none_mapped told_sdo (CoeTalk.later old.sdo []) e) (map heard_sdo hs)); replies = λ hs. ap replied (t.replies (map heard_sdo hs)) },
+     some_replied (CoeTalk.awaited c []) (sdo_over c c.awaits refl t.over))
+sdo_took Took.Foreign old c m t e = tt
+
+-- FoE
+
+pub file_sent : (b : Bool) (old : Talking) (c : FoeTalk.Talking) (held : Content) → OnTrue b (FoeSend.SendsNext old.file held.body.items c) → OnTrue b (length held.body.items + 6 ≤ old.file.out) → OnFalse b (c ≡ old.file) →
+    ((ms : List FoeMails.FoeMail) → FoeTalk.awaited c ms ≡ FoeTalk.awaited old.file ms) → FoeTalk.areas_of old.file ≡ old.areas → held.kind ≡ Kind.FoE → IsSent b Which.ReadFile old held (record old { file = c })
+file_sent true old c held s f n a r k = record {
+  mails = λ hs. ap (map told_file) (s.mails (map heard_file hs)) ∙ ap (λ b. b ∷ map told_file (FoeTalk.later c (map heard_file hs))) (ap Ok s.spelled ∙ held_is held Kind.FoE k);
+  replies = λ hs. ap replied (a (map heard_file hs));
+  fits = let e : old.file.out ≡ old.areas.out = ap (λ (z : Areas). z.out) r in omega (arith, f, e);
+  areas = refl;
+}
+file_sent false old c held s f n a r k = ap (λ (z : FoeTalk.Talking). record old { file = z }) n
+
+none_let : (a : FoeAwaits.Awaits) → FoeTalk.lets_go a [] ≡ 0
+none_let FoeAwaits.Awaits.Nothing = refl
+none_let (FoeAwaits.Awaits.Packet number) = refl
+none_let (FoeAwaits.Awaits.Ack left number) = refl
+none_let (FoeAwaits.Awaits.Over kind) = by (FoeTalk.is_value kind)
+  where
+    by : (b : Bool) → (if b then FoeTalk.for_packets [] else 0) ≡ 0
+    by true = refl
+    by false = refl
+
+none_sending : (out pass : ℕ) (name bytes : List ℕ) (n : ℕ) (unsent : FoeUnsent.Unsent) → FoeTalk.sending out pass name bytes n unsent ≡ [] → n ≡ 0
+none_sending out pass name bytes zero unsent e = refl
+none_sending out pass name bytes (suc n) unsent e = absurd (cc)
+
+none_may_go : (c : FoeTalk.Talking) → FoeTalk.later c [] ≡ [] → c.quota < FoeHear.most_mails
+none_may_go c e =
+    let n : c.quota + FoeTalk.lets_go c.awaits [] ≡ 0 = none_sending c.out c.pass c.name c.bytes (c.quota + FoeTalk.lets_go c.awaits []) c.unsent e in
+    let l = none_let c.awaits in
+    omega (arith, n, l)
+
+file_over : (c : FoeTalk.Talking) (a : FoeAwaits.Awaits) → c.awaits ≡ a → FoeTalk.awaits_nothing a ≡ true → is_some (FoeTalk.awaited c []) ≡ true
+file_over c (FoeAwaits.Awaits.Over kind) e o = ap (λ (b : FoeAwaits.Awaits). is_some (FoeTalk.awaited (record c { awaits = b }) [])) e
+file_over c FoeAwaits.Awaits.Nothing e o = absurd (cc)
+file_over c (FoeAwaits.Awaits.Packet number) e o = absurd (cc)
+file_over c (FoeAwaits.Awaits.Ack left number) e o = absurd (cc)
+
+pub file_took : (took : Took) (old : Talking) (c : FoeTalk.Talking) (m : Mail) → FoeHear.TookIs took old.file (FoeOctets.foe_mail_heard m) c → client_later Which.ReadFile old [] ≡ [] → ClientTook took Which.ReadFile old (body_of m) (record old { file = c })
+file_took Took.More old c m t e =
+    let q = none_may_go old.file (none_mapped told_file (FoeTalk.later old.file []) e) in
+    (record { mails = λ hs. ap (map told_file) (t.0.mails q (map heard_file hs)); replies = λ hs. ap replied (t.0.replies (map heard_file hs)) }, ap replied t.1.yet)
+file_took Took.Done old c m t e =
+    (record { mails = λ hs. ap (map told_file) (t.mails (none_mapped told_file (FoeTalk.later old.file []) e) (map heard_file hs)); replies = λ hs. ap replied (t.replies (map heard_file hs)) },
+     some_replied (FoeTalk.awaited c []) (file_over c c.awaits refl t.over))
+file_took Took.Foreign old c m t e = tt
+
+pub file_done : (c : FoeTalk.Talking) (a : FoeAwaits.Awaits) → c.awaits ≡ a → is_some (replied (FoeTalk.awaited (record c { awaits = a }) [])) ≡ true → FoeTalk.awaits_nothing a ≡ true
+file_done c (FoeAwaits.Awaits.Over kind) e o = refl
+file_done c FoeAwaits.Awaits.Nothing e o = absurd (cc)
+file_done c (FoeAwaits.Awaits.Packet number) e o = absurd (cc)
+file_done c (FoeAwaits.Awaits.Ack zero number) e o = absurd (cc)
+file_done c (FoeAwaits.Awaits.Ack (suc left) number) e o = absurd (cc)
+
+-- SoE
+
+pub drive_sent : (b : Bool) (old : Talking) (c : SoeTalk.Talking) (held : Content) → OnTrue b (SoeTalk.SendsNext old.drive held.body.items c) → OnTrue b (length held.body.items + 6 ≤ old.drive.room) → OnFalse b (c ≡ old.drive) →
+    ((ms : List SoeMails.SoeMail) → SoeTalk.awaited c ms ≡ SoeTalk.awaited old.drive ms) → old.drive.room ≡ old.areas.out → held.kind ≡ Kind.SoE → IsSent b Which.Soe old held (record old { drive = c })
+drive_sent true old c held s f n a r k = record {
+  mails = λ hs. ap (map told_drive) s.mails ∙ ap (λ b. b ∷ map told_drive (SoeTalk.left c)) (ap Ok s.spelled ∙ held_is held Kind.SoE k);
+  replies = λ hs. ap replied (a (map heard_drive hs));
+  fits = omega (arith, f, r);
+  areas = refl;
+}
+drive_sent false old c held s f n a r k = ap (λ (z : SoeTalk.Talking). record old { drive = z }) n
+
+drive_over : (c : SoeTalk.Talking) (a : SoeAwaits.Awaits) → c.awaits ≡ a → SoeTalk.awaits_nothing a ≡ true → is_some (SoeTalk.awaited c []) ≡ true
+drive_over c (SoeAwaits.Awaits.Over kind) e o = ap (λ (b : SoeAwaits.Awaits). is_some (SoeTalk.awaited (record c { awaits = b }) [])) e
+drive_over c SoeAwaits.Awaits.Nothing e o = absurd (cc)
+drive_over c SoeAwaits.Awaits.Parts e o = absurd (cc)
+drive_over c SoeAwaits.Awaits.Answer e o = absurd (cc)
+
+pub drive_took : (took : Took) (old : Talking) (c : SoeTalk.Talking) (m : Mail) → SoeHear.TookIs took old.drive (SoeOctets.soe_mail_heard m) c → client_later Which.Soe old [] ≡ [] → ClientTook took Which.Soe old (body_of m) (record old { drive = c })
+drive_took Took.More old c m t e = (record { mails = λ hs. ap (map told_drive) t.2; replies = λ hs. ap replied (t.0.replies (map heard_drive hs)) }, ap replied t.1.yet)
+drive_took Took.Done old c m t e =
+    (record { mails = λ hs. ap (map told_drive) (t.2 ∙ sym (none_mapped told_drive (SoeTalk.left old.drive) e)); replies = λ hs. ap replied (t.0.replies (map heard_drive hs)) },
+     some_replied (SoeTalk.awaited c []) (drive_over c c.awaits refl t.1))
+drive_took Took.Foreign old c m t e = tt
+
+pub drive_done : (c : SoeTalk.Talking) (a : SoeAwaits.Awaits) → c.awaits ≡ a → is_some (replied (SoeTalk.awaited (record c { awaits = a }) [])) ≡ true → SoeTalk.awaits_nothing a ≡ true
+drive_done c (SoeAwaits.Awaits.Over kind) e o = refl
+drive_done c SoeAwaits.Awaits.Nothing e o = absurd (cc)
+drive_done c SoeAwaits.Awaits.Parts e o = absurd (cc)
+drive_done c SoeAwaits.Awaits.Answer e o = absurd (cc)
+
+-- the address services
+
+pub address_sent : (b : Bool) (old : Talking) (c : EoeTalk.Talking) (held : Content) → OnTrue b (EoeTalk.SendsNext old.address held.body.items c) → OnTrue b (length held.body.items + 6 ≤ old.address.room) → OnFalse b (c ≡ old.address) →
+    ((ms : List EoeMails.EoeMail) → EoeTalk.awaited c ms ≡ EoeTalk.awaited old.address ms) → old.address.room ≡ old.areas.out → held.kind ≡ Kind.EoE → IsSent b Which.Address old held (record old { address = c })
+address_sent true old c held s f n a r k = record {
+  mails = λ hs. ap (map told_net) s.mails ∙ ap (λ b. b ∷ map told_net (EoeTalk.left c)) (ap Ok s.spelled ∙ held_is held Kind.EoE k);
+  replies = λ hs. ap replied (a (map heard_net hs));
+  fits = omega (arith, f, r);
+  areas = refl;
+}
+address_sent false old c held s f n a r k = ap (λ (z : EoeTalk.Talking). record old { address = z }) n
+
+address_over : (c : EoeTalk.Talking) (a : EoeAwaits.Awaits) → c.awaits ≡ a → EoeTalk.awaits_nothing a ≡ true → is_some (EoeTalk.awaited c []) ≡ true
+address_over c (EoeAwaits.Awaits.Over kind) e o = ap (λ (b : EoeAwaits.Awaits). is_some (EoeTalk.awaited (record c { awaits = b }) [])) e
+address_over c EoeAwaits.Awaits.Nothing e o = absurd (cc)
+address_over c EoeAwaits.Awaits.SetAnswer e o = absurd (cc)
+address_over c EoeAwaits.Awaits.GetAnswer e o = absurd (cc)
+
+pub address_took : (took : Took) (old : Talking) (c : EoeTalk.Talking) (m : Mail) → EoeHear.TookIs took old.address (EoeOctets.eoe_mail_heard m) c → ClientTook took Which.Address old (body_of m) (record old { address = c })
+address_took Took.More old c m t = absurd t
+address_took Took.Done old c m t =
+    (record { mails = λ hs. ap (map told_net) t.0.mails; replies = λ hs. ap replied (t.0.replies (map heard_net hs)) }, some_replied (EoeTalk.awaited c []) (address_over c c.awaits refl t.1))
+address_took Took.Foreign old c m t = tt
+
+pub address_done : (c : EoeTalk.Talking) (a : EoeAwaits.Awaits) → c.awaits ≡ a → is_some (replied (EoeTalk.awaited (record c { awaits = a }) [])) ≡ true → EoeTalk.awaits_nothing a ≡ true
+address_done c (EoeAwaits.Awaits.Over kind) e o = refl
+address_done c EoeAwaits.Awaits.Nothing e o = absurd (cc)
+address_done c EoeAwaits.Awaits.SetAnswer e o = absurd (cc)
+address_done c EoeAwaits.Awaits.GetAnswer e o = absurd (cc)
+
+-- packets
+
+pub fragment_sent : (b : Bool) (old : Talking) (c : EoeTalk.Sending) (held : Content) → OnTrue b (EoeTalk.SendsPart old.packets held.body.items c) → OnTrue b (length held.body.items + 6 ≤ old.packets.room) → OnFalse b (c ≡ old.packets) →
+    old.packets.room ≡ old.areas.out → held.kind ≡ Kind.EoE → IsSent b Which.Packet old held (record old { packets = c })
+fragment_sent true old c held s f n r k = record {
+  mails = λ hs. ap (map told_net) s.mails ∙ ap (λ b. b ∷ map told_net (EoeTalk.fragments_left c.cutting)) (ap Ok s.spelled ∙ held_is held Kind.EoE k);
+  replies = λ hs. refl;
+  fits = omega (arith, f, r);
+  areas = refl;
+}
+fragment_sent false old c held s f n r k = ap (λ (z : EoeTalk.Sending). record old { packets = z }) n
