@@ -42,10 +42,6 @@ unmoved Course.Goes which c ms frame now e h = going_emission (hand_speech c.are
 unmoved Course.Answered which c ms frame now e h = going_emission (hand_speech c.areas) (IsOf which) (client_later which c) (client_awaits which c) true now frame ms e h
 unmoved Course.Astray which c ms frame now e h = tt
 
-pub quiet : (course : Course) (which : Which) (c : Talking) (x : Speech Body Asked Reply) (frame : ℕ) (now : Rows) → Shows course which c x now → Shows course which c x (option_map (λ r. row_heard x frame [] r) now)
-quiet course which c x frame now s =
-    (s.0, subst (λ (y : Speech Body Asked Reply). HandShows course which c (option_map (λ r. row_heard y frame [] r) now)) (sym s.0) (unmoved course which c [] frame now refl s.1))
-
 -- no reply without a mail
 none_ends : (areas : Areas) (q : Asked) → ends areas q [] ≡ None
 none_ends areas (sdo q) = ap replied (ends_none areas.out q)

@@ -1,6 +1,6 @@
 -- Protocol by protocol: what a client does is what the hand wants of it.
-use Rattle.std.proofs.Common.{◌≡◌, ℕ, ◌+◌, ◌<◌, List, [], ◌∷◌, ◌++◌, Bool, true, false, Option, Some, None, refl, sym, ap, ◌∙◌, subst, map, length}
-use Rattle.std.specs.Prelude.{is_some, is_none, option_map, Ok, ⊤, not, ◌≤◌, ◌↔◌, if◌then◌else◌, zero, suc}
+use Rattle.std.proofs.Common.{◌≡◌, ℕ, ◌+◌, ◌<◌, List, [], ◌∷◌, ◌++◌, Bool, true, false, Option, Some, None, refl, sym, ap, ◌∙◌, subst, map, length, arith}
+use Rattle.std.specs.Prelude.{is_some, is_none, option_map, Ok, ⊤, not, ◌≤◌, ◌↔◌, if◌then◌else◌, zero, suc, ◌&&◌, nat_le, nat_lt}
 use Rattle.std.specs.Bool.{OnTrue, OnFalse}
 use Rattle.mailbox_mail.specs.declared.mail.Mail.{Mail}
 use Rattle.mailbox_mail.specs.declared.mail.Kind.{Kind}
@@ -32,9 +32,19 @@ use Rattle.eoe_client.specs.Talk as EoeTalk
 use Rattle.eoe_client.specs.Hear as EoeHear
 use Rattle.eoe_client.specs.declared.address.Awaits as EoeAwaits
 use Rattle.master_duty.specs.Reply.{Reply}
-use Rattle.master_hand.specs.Spoken.{told_sdo, heard_sdo, told_file, heard_file, told_drive, heard_drive, told_net, heard_net, replied}
+use Rattle.object_dictionary.specs.declared.service.SdoService.{SdoService}
+use Rattle.coe_model.specs.Client as CoeClient
+use Rattle.coe_model.specs.Model as CoeModel
+use Rattle.foe_model.specs.Meaning as FoeMeaning
+use Rattle.foe_model.specs.Client as FoeClient
+use Rattle.foe_model.specs.Model as FoeModel
+use Rattle.soe_model.specs.Client as SoeClient
+use Rattle.eoe_model.specs.Client as EoeClient
+use Rattle.eoe_model.specs.Mails.{packet_mails}
+use Rattle.foe_codec.specs.Message.{is_name}
+use Rattle.master_hand.specs.Spoken.{Asked, sdo, file, drive, net, passed, told_sdo, heard_sdo, told_file, heard_file, told_drive, heard_drive, told_net, heard_net, replied}
 use Rattle.master_hand.specs.Passed.{body_of, mail_of}
-use Rattle.master_hand.specs.Talk.{Talking, client_later, client_awaits, value_of, SendsNext, IsSent, Follows, ClientTook}
+use Rattle.master_hand.specs.Talk.{Talking, client_later, client_awaits, value_of, SendsNext, IsSent, Follows, ClientTook, Starts, Begins}
 use Rattle.master_hand.specs.declared.clients.Which.{Which}
 use Rattle.master_hand.specs.declared.passed.Content.{Content}
 
@@ -61,7 +71,7 @@ held_is held kind e = ap (λ (k : Kind). Ok (record { address = 0; kind = k; cou
 
 -- CoE
 
-pub sdo_sent : (b : Bool) (old : Talking) (c : CoeTalk.Talking) (held : Content) → OnTrue b (CoeSend.SendsNext old.sdo held.body.items c) → OnTrue b (length held.body.items + 6 ≤ old.sdo.room) → OnFalse b (c ≡ old.sdo) →
+pub sdo_sent : {P : Type 0} (b : Bool) (old : Talking) (c : CoeTalk.Talking) (held : Content) → OnTrue b (CoeSend.SendsNext old.sdo held.body.items c) → OnTrue b (length held.body.items + 6 ≤ old.sdo.room) → OnFalse b ((c ≡ old.sdo) × P) →
     ((ms : List CoeMails.CoeMail) → CoeTalk.awaited c ms ≡ CoeTalk.awaited old.sdo ms) → old.sdo.room ≡ old.areas.out → held.kind ≡ Kind.CoE → IsSent b Which.Coe old held (record old { sdo = c })
 sdo_sent true old c held s f n a r k = record {
   mails = λ hs. ap (map told_sdo) (s.mails (map heard_sdo hs)) ∙ ap (λ b. b ∷ map told_sdo (CoeTalk.later c (map heard_sdo hs))) (ap Ok s.spelled ∙ held_is held Kind.CoE k);
@@ -69,7 +79,7 @@ sdo_sent true old c held s f n a r k = record {
   fits = omega (arith, f, r);
   areas = refl;
 }
-sdo_sent false old c held s f n a r k = ap (λ (z : CoeTalk.Talking). record old { sdo = z }) n
+sdo_sent false old c held s f n a r k = ap (λ (z : CoeTalk.Talking). record old { sdo = z }) n.0
 
 sdo_over : (c : CoeTalk.Talking) (a : CoeAwaits.Awaits) → c.awaits ≡ a → CoeTalk.is_replied a ≡ true → is_some (CoeTalk.awaited c []) ≡ true
 sdo_over c (CoeAwaits.Awaits.Over kind) e o = ap (λ (b : CoeAwaits.Awaits). is_some (CoeTalk.awaited (record c { awaits = b }) [])) e
@@ -83,14 +93,15 @@ sdo_over c (CoeAwaits.Awaits.Information opcode) e o = absurd (cc)
 pub sdo_took : (took : Took) (old : Talking) (c : CoeTalk.Talking) (m : Mail) → CoeHear.TookIs took old.sdo (CoeOctets.coe_mail_heard m) c → client_later Which.Coe old [] ≡ [] → ClientTook took Which.Coe old (body_of m) (record old { sdo = c })
 sdo_took Took.More old c m t e =
     (record { mails = λ hs. ap (map told_sdo) (t.0.mails (map heard_sdo hs)); replies = λ hs. ap replied (t.0.replies (map heard_sdo hs)) }, ap replied t.1.yet)
-sdo_took Took.Done old c m t e =
-    (record { mails = λ hs. ap (map told_sdo) (t.mails (none_mapped told_sdo (CoeTalk.later old.sdo []) e) (map heard_sdo hs)); replies = λ hs. ap replied (t.replies (map heard_sdo hs)) },
-     some_replied (CoeTalk.awaited c []) (sdo_over c c.awaits refl t.over))
+sdo_took Took.Done old c m t e = (
+  record { mails = λ hs. ap (map told_sdo) (t.mails (none_mapped told_sdo (CoeTalk.later old.sdo []) e) (map heard_sdo hs)); replies = λ hs. ap replied (t.replies (map heard_sdo hs)) },
+  some_replied (CoeTalk.awaited c []) (sdo_over c c.awaits refl t.over),
+)
 sdo_took Took.Foreign old c m t e = tt
 
 -- FoE
 
-pub file_sent : (b : Bool) (old : Talking) (c : FoeTalk.Talking) (held : Content) → OnTrue b (FoeSend.SendsNext old.file held.body.items c) → OnTrue b (length held.body.items + 6 ≤ old.file.out) → OnFalse b (c ≡ old.file) →
+pub file_sent : {P : Type 0} (b : Bool) (old : Talking) (c : FoeTalk.Talking) (held : Content) → OnTrue b (FoeSend.SendsNext old.file held.body.items c) → OnTrue b (length held.body.items + 6 ≤ old.file.out) → OnFalse b ((c ≡ old.file) × P) →
     ((ms : List FoeMails.FoeMail) → FoeTalk.awaited c ms ≡ FoeTalk.awaited old.file ms) → FoeTalk.areas_of old.file ≡ old.areas → held.kind ≡ Kind.FoE → IsSent b Which.ReadFile old held (record old { file = c })
 file_sent true old c held s f n a r k = record {
   mails = λ hs. ap (map told_file) (s.mails (map heard_file hs)) ∙ ap (λ b. b ∷ map told_file (FoeTalk.later c (map heard_file hs))) (ap Ok s.spelled ∙ held_is held Kind.FoE k);
@@ -98,7 +109,7 @@ file_sent true old c held s f n a r k = record {
   fits = let e : old.file.out ≡ old.areas.out = ap (λ (z : Areas). z.out) r in omega (arith, f, e);
   areas = refl;
 }
-file_sent false old c held s f n a r k = ap (λ (z : FoeTalk.Talking). record old { file = z }) n
+file_sent false old c held s f n a r k = ap (λ (z : FoeTalk.Talking). record old { file = z }) n.0
 
 none_let : (a : FoeAwaits.Awaits) → FoeTalk.lets_go a [] ≡ 0
 none_let FoeAwaits.Awaits.Nothing = refl
@@ -130,9 +141,10 @@ pub file_took : (took : Took) (old : Talking) (c : FoeTalk.Talking) (m : Mail) �
 file_took Took.More old c m t e =
     let q = none_may_go old.file (none_mapped told_file (FoeTalk.later old.file []) e) in
     (record { mails = λ hs. ap (map told_file) (t.0.mails q (map heard_file hs)); replies = λ hs. ap replied (t.0.replies (map heard_file hs)) }, ap replied t.1.yet)
-file_took Took.Done old c m t e =
-    (record { mails = λ hs. ap (map told_file) (t.mails (none_mapped told_file (FoeTalk.later old.file []) e) (map heard_file hs)); replies = λ hs. ap replied (t.replies (map heard_file hs)) },
-     some_replied (FoeTalk.awaited c []) (file_over c c.awaits refl t.over))
+file_took Took.Done old c m t e = (
+  record { mails = λ hs. ap (map told_file) (t.mails (none_mapped told_file (FoeTalk.later old.file []) e) (map heard_file hs)); replies = λ hs. ap replied (t.replies (map heard_file hs)) },
+  some_replied (FoeTalk.awaited c []) (file_over c c.awaits refl t.over),
+)
 file_took Took.Foreign old c m t e = tt
 
 pub file_done : (c : FoeTalk.Talking) (a : FoeAwaits.Awaits) → c.awaits ≡ a → is_some (replied (FoeTalk.awaited (record c { awaits = a }) [])) ≡ true → FoeTalk.awaits_nothing a ≡ true
@@ -144,7 +156,7 @@ file_done c (FoeAwaits.Awaits.Ack (suc left) number) e o = absurd (cc)
 
 -- SoE
 
-pub drive_sent : (b : Bool) (old : Talking) (c : SoeTalk.Talking) (held : Content) → OnTrue b (SoeTalk.SendsNext old.drive held.body.items c) → OnTrue b (length held.body.items + 6 ≤ old.drive.room) → OnFalse b (c ≡ old.drive) →
+pub drive_sent : {P : Type 0} (b : Bool) (old : Talking) (c : SoeTalk.Talking) (held : Content) → OnTrue b (SoeTalk.SendsNext old.drive held.body.items c) → OnTrue b (length held.body.items + 6 ≤ old.drive.room) → OnFalse b ((c ≡ old.drive) × P) →
     ((ms : List SoeMails.SoeMail) → SoeTalk.awaited c ms ≡ SoeTalk.awaited old.drive ms) → old.drive.room ≡ old.areas.out → held.kind ≡ Kind.SoE → IsSent b Which.Soe old held (record old { drive = c })
 drive_sent true old c held s f n a r k = record {
   mails = λ hs. ap (map told_drive) s.mails ∙ ap (λ b. b ∷ map told_drive (SoeTalk.left c)) (ap Ok s.spelled ∙ held_is held Kind.SoE k);
@@ -152,7 +164,7 @@ drive_sent true old c held s f n a r k = record {
   fits = omega (arith, f, r);
   areas = refl;
 }
-drive_sent false old c held s f n a r k = ap (λ (z : SoeTalk.Talking). record old { drive = z }) n
+drive_sent false old c held s f n a r k = ap (λ (z : SoeTalk.Talking). record old { drive = z }) n.0
 
 drive_over : (c : SoeTalk.Talking) (a : SoeAwaits.Awaits) → c.awaits ≡ a → SoeTalk.awaits_nothing a ≡ true → is_some (SoeTalk.awaited c []) ≡ true
 drive_over c (SoeAwaits.Awaits.Over kind) e o = ap (λ (b : SoeAwaits.Awaits). is_some (SoeTalk.awaited (record c { awaits = b }) [])) e
@@ -162,9 +174,10 @@ drive_over c SoeAwaits.Awaits.Answer e o = absurd (cc)
 
 pub drive_took : (took : Took) (old : Talking) (c : SoeTalk.Talking) (m : Mail) → SoeHear.TookIs took old.drive (SoeOctets.soe_mail_heard m) c → client_later Which.Soe old [] ≡ [] → ClientTook took Which.Soe old (body_of m) (record old { drive = c })
 drive_took Took.More old c m t e = (record { mails = λ hs. ap (map told_drive) t.2; replies = λ hs. ap replied (t.0.replies (map heard_drive hs)) }, ap replied t.1.yet)
-drive_took Took.Done old c m t e =
-    (record { mails = λ hs. ap (map told_drive) (t.2 ∙ sym (none_mapped told_drive (SoeTalk.left old.drive) e)); replies = λ hs. ap replied (t.0.replies (map heard_drive hs)) },
-     some_replied (SoeTalk.awaited c []) (drive_over c c.awaits refl t.1))
+drive_took Took.Done old c m t e = (
+  record { mails = λ hs. ap (map told_drive) (t.2 ∙ sym (none_mapped told_drive (SoeTalk.left old.drive) e)); replies = λ hs. ap replied (t.0.replies (map heard_drive hs)) },
+  some_replied (SoeTalk.awaited c []) (drive_over c c.awaits refl t.1),
+)
 drive_took Took.Foreign old c m t e = tt
 
 pub drive_done : (c : SoeTalk.Talking) (a : SoeAwaits.Awaits) → c.awaits ≡ a → is_some (replied (SoeTalk.awaited (record c { awaits = a }) [])) ≡ true → SoeTalk.awaits_nothing a ≡ true
@@ -175,7 +188,7 @@ drive_done c SoeAwaits.Awaits.Answer e o = absurd (cc)
 
 -- the address services
 
-pub address_sent : (b : Bool) (old : Talking) (c : EoeTalk.Talking) (held : Content) → OnTrue b (EoeTalk.SendsNext old.address held.body.items c) → OnTrue b (length held.body.items + 6 ≤ old.address.room) → OnFalse b (c ≡ old.address) →
+pub address_sent : {P : Type 0} (b : Bool) (old : Talking) (c : EoeTalk.Talking) (held : Content) → OnTrue b (EoeTalk.SendsNext old.address held.body.items c) → OnTrue b (length held.body.items + 6 ≤ old.address.room) → OnFalse b ((c ≡ old.address) × P) →
     ((ms : List EoeMails.EoeMail) → EoeTalk.awaited c ms ≡ EoeTalk.awaited old.address ms) → old.address.room ≡ old.areas.out → held.kind ≡ Kind.EoE → IsSent b Which.Address old held (record old { address = c })
 address_sent true old c held s f n a r k = record {
   mails = λ hs. ap (map told_net) s.mails ∙ ap (λ b. b ∷ map told_net (EoeTalk.left c)) (ap Ok s.spelled ∙ held_is held Kind.EoE k);
@@ -183,7 +196,7 @@ address_sent true old c held s f n a r k = record {
   fits = omega (arith, f, r);
   areas = refl;
 }
-address_sent false old c held s f n a r k = ap (λ (z : EoeTalk.Talking). record old { address = z }) n
+address_sent false old c held s f n a r k = ap (λ (z : EoeTalk.Talking). record old { address = z }) n.0
 
 address_over : (c : EoeTalk.Talking) (a : EoeAwaits.Awaits) → c.awaits ≡ a → EoeTalk.awaits_nothing a ≡ true → is_some (EoeTalk.awaited c []) ≡ true
 address_over c (EoeAwaits.Awaits.Over kind) e o = ap (λ (b : EoeAwaits.Awaits). is_some (EoeTalk.awaited (record c { awaits = b }) [])) e
@@ -205,7 +218,7 @@ address_done c EoeAwaits.Awaits.GetAnswer e o = absurd (cc)
 
 -- packets
 
-pub fragment_sent : (b : Bool) (old : Talking) (c : EoeTalk.Sending) (held : Content) → OnTrue b (EoeTalk.SendsPart old.packets held.body.items c) → OnTrue b (length held.body.items + 6 ≤ old.packets.room) → OnFalse b (c ≡ old.packets) →
+pub fragment_sent : {P : Type 0} (b : Bool) (old : Talking) (c : EoeTalk.Sending) (held : Content) → OnTrue b (EoeTalk.SendsPart old.packets held.body.items c) → OnTrue b (length held.body.items + 6 ≤ old.packets.room) → OnFalse b ((c ≡ old.packets) × P) →
     old.packets.room ≡ old.areas.out → held.kind ≡ Kind.EoE → IsSent b Which.Packet old held (record old { packets = c })
 fragment_sent true old c held s f n r k = record {
   mails = λ hs. ap (map told_net) s.mails ∙ ap (λ b. b ∷ map told_net (EoeTalk.fragments_left c.cutting)) (ap Ok s.spelled ∙ held_is held Kind.EoE k);
@@ -213,4 +226,86 @@ fragment_sent true old c held s f n r k = record {
   fits = omega (arith, f, r);
   areas = refl;
 }
-fragment_sent false old c held s f n r k = ap (λ (z : EoeTalk.Sending). record old { packets = z }) n
+fragment_sent false old c held s f n r k = ap (λ (z : EoeTalk.Sending). record old { packets = z }) n.0
+
+-- a file is written by the client that reads them
+pub write_sent : (b : Bool) (old : Talking) (held : Content) (new : Talking) → IsSent b Which.ReadFile old held new → IsSent b Which.WriteFile old held new
+write_sent true old held new s = record { mails = s.mails; replies = s.replies; fits = s.fits; areas = s.areas }
+write_sent false old held new s = s
+
+pub write_took : (took : Took) (old : Talking) (b : Body) (new : Talking) → ClientTook took Which.ReadFile old b new → ClientTook took Which.WriteFile old b new
+write_took Took.More old b new t = (record { mails = t.0.mails; replies = t.0.replies }, t.1)
+write_took Took.Done old b new t = (record { mails = t.0.mails; replies = t.0.replies }, t.1)
+write_took Took.Foreign old b new t = tt
+
+-- services begin
+
+pub sdo_begins : (old : Talking) (c : CoeTalk.Talking) (s : SdoService) → ((ms : List CoeMails.CoeMail) → CoeTalk.awaited c ms ≡ CoeClient.ends old.sdo.room (CoeTalk.service_view s) ms) →
+    ((hs : List CoeMails.CoeMail) → CoeTalk.later c hs ≡ CoeModel.planned old.sdo.room (CoeTalk.service_view s) hs) → old.sdo.room ≡ old.areas.out → Begins (Some Which.Coe) (Some (sdo (CoeTalk.service_view s))) old (record old { sdo = c })
+sdo_begins old c s a l r = (sdo (CoeTalk.service_view s), refl, record {
+  kind = refl;
+  mails = λ hs. ap (map told_sdo) (l (map heard_sdo hs) ∙ ap (λ (n : ℕ). CoeModel.planned n (CoeTalk.service_view s) (map heard_sdo hs)) r);
+  replies = λ hs. ap replied (a (map heard_sdo hs) ∙ ap (λ (n : ℕ). CoeClient.ends n (CoeTalk.service_view s) (map heard_sdo hs)) r);
+})
+
+pub read_begins : (old : Talking) (c : FoeTalk.Talking) (name : List ℕ) (pass : ℕ) → ((ms : List FoeMails.FoeMail) → FoeTalk.awaited c ms ≡ FoeClient.ends (FoeTalk.areas_of old.file) (FoeMeaning.read name pass) ms) →
+    ((hs : List FoeMails.FoeMail) → FoeTalk.later c hs ≡ FoeModel.planned old.file.out (FoeMeaning.read name pass) hs) → FoeTalk.areas_of old.file ≡ old.areas → Begins (Some Which.ReadFile) (Some (file (FoeMeaning.read name pass))) old (record old { file = c })
+read_begins old c name pass a l r = (file (FoeMeaning.read name pass), refl, record {
+  kind = refl;
+  mails = λ hs. ap (map told_file) (l (map heard_file hs) ∙ ap (λ (z : Areas). FoeModel.planned z.out (FoeMeaning.read name pass) (map heard_file hs)) r);
+  replies = λ hs. ap replied (a (map heard_file hs) ∙ ap (λ (z : Areas). FoeClient.ends z (FoeMeaning.read name pass) (map heard_file hs)) r);
+})
+
+pub write_begins : (old : Talking) (c : FoeTalk.Talking) (name : List ℕ) (pass : ℕ) (bytes : List ℕ) → ((ms : List FoeMails.FoeMail) → FoeTalk.awaited c ms ≡ FoeClient.ends (FoeTalk.areas_of old.file) (FoeMeaning.write name pass bytes) ms) →
+    ((hs : List FoeMails.FoeMail) → FoeTalk.later c hs ≡ FoeModel.planned old.file.out (FoeMeaning.write name pass bytes) hs) → FoeTalk.areas_of old.file ≡ old.areas → Begins (Some Which.WriteFile) (Some (file (FoeMeaning.write name pass bytes))) old (record old { file = c })
+write_begins old c name pass bytes a l r = (file (FoeMeaning.write name pass bytes), refl, record {
+  kind = refl;
+  mails = λ hs. ap (map told_file) (l (map heard_file hs) ∙ ap (λ (z : Areas). FoeModel.planned z.out (FoeMeaning.write name pass bytes) (map heard_file hs)) r);
+  replies = λ hs. ap replied (a (map heard_file hs) ∙ ap (λ (z : Areas). FoeClient.ends z (FoeMeaning.write name pass bytes) (map heard_file hs)) r);
+})
+
+pub drive_begins : (old : Talking) (c : SoeTalk.Talking) (q : SoeClient.Service) → ((ms : List SoeMails.SoeMail) → SoeTalk.awaited c ms ≡ SoeClient.ends q ms) → SoeTalk.left c ≡ SoeClient.mails_of old.drive.room q → old.drive.room ≡ old.areas.out →
+    Begins (Some Which.Soe) (Some (drive q)) old (record old { drive = c })
+drive_begins old c q a l r = (drive q, refl, record {
+  kind = refl;
+  mails = λ hs. ap (map told_drive) (l ∙ ap (λ (n : ℕ). SoeClient.mails_of n q) r);
+  replies = λ hs. ap replied (a (map heard_drive hs));
+})
+
+pub set_begins : (old : Talking) (c : EoeTalk.Talking) (block : List ℕ) → ((ms : List EoeMails.EoeMail) → EoeTalk.awaited c ms ≡ EoeClient.ends (EoeClient.set_ip block) ms) → EoeTalk.left c ≡ EoeClient.mails_of old.address.room (EoeClient.set_ip block) →
+    Begins (Some Which.Address) (Some (net (EoeClient.set_ip block))) old (record old { address = c })
+set_begins old c block a l = (net (EoeClient.set_ip block), refl, record {
+  kind = refl;
+  mails = λ hs. ap (map told_net) l;
+  replies = λ hs. ap replied (a (map heard_net hs));
+})
+
+pub get_begins : (old : Talking) (c : EoeTalk.Talking) → ((ms : List EoeMails.EoeMail) → EoeTalk.awaited c ms ≡ EoeClient.ends EoeClient.get_ip ms) → EoeTalk.left c ≡ EoeClient.mails_of old.address.room EoeClient.get_ip →
+    Begins (Some Which.Address) (Some (net EoeClient.get_ip)) old (record old { address = c })
+get_begins old c a l = (net EoeClient.get_ip, refl, record {
+  kind = refl;
+  mails = λ hs. ap (map told_net) l;
+  replies = λ hs. ap replied (a (map heard_net hs));
+})
+
+pub packet_starts : (old : Talking) (c : EoeTalk.Sending) (octets : List ℕ) (frame : ℕ) → EoeTalk.fragments_left c.cutting ≡ packet_mails old.packets.room octets frame → old.packets.room ≡ old.areas.out →
+    Starts old.areas (net (EoeClient.packet octets frame)) Which.Packet (record old { packets = c })
+packet_starts old c octets frame l r = record {
+  kind = refl;
+  mails = λ hs. ap (map told_net) (l ∙ ap (λ (n : ℕ). packet_mails n octets frame) r);
+  replies = λ hs. sym (none_replied hs);
+}
+  where
+    none_replied : (hs : List Body) → replied (EoeClient.ends (EoeClient.packet octets frame) (map heard_net hs)) ≡ None
+    none_replied hs = refl
+
+-- what the services need of their clients
+
+pub sdo_fits : (s : SdoService) → CoeModel.is_service (CoeTalk.service_view s) ≡ true → CoeTalk.octets_in s ≤ 16384
+sdo_fits (SdoService.Download index sub bytes) e = grind (arith, e)
+sdo_fits (SdoService.DownloadAll index sub bytes) e = grind (arith, e)
+sdo_fits (SdoService.Upload index sub) e = omega (arith)
+sdo_fits (SdoService.UploadAll index sub) e = omega (arith)
+sdo_fits (SdoService.List kind) e = omega (arith)
+sdo_fits (SdoService.ObjectInfo index) e = omega (arith)
+sdo_fits (SdoService.EntryInfo index sub info) e = omega (arith)

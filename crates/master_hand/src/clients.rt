@@ -35,9 +35,9 @@ pub enum Which {
 pub struct Clients {
     pub(crate) out_len: u16,
     pub(crate) in_len: u16,
-    pub(crate) coe: CoeClient,
-    pub(crate) foe: FoeClient,
-    pub(crate) soe: SoeClient,
+    pub(crate) sdo: CoeClient,
+    pub(crate) file: FoeClient,
+    pub(crate) drive: SoeClient,
     pub(crate) address: AddressClient,
     pub(crate) packets: PacketSender,
     pub(crate) passed: PassedMail,
@@ -50,9 +50,9 @@ impl Model for Clients {
 
     ghost Value = { Talking };
 
-    ghost view = { λ c. record { areas = record { out = c.out_len; back = c.in_len }; sdo = c.coe; file = c.foe; drive = c.soe; address = c.address; packets = c.packets; passed = c.passed } };
+    ghost view = { λ c. record { areas = record { out = c.out_len; back = c.in_len }; sdo = c.sdo; file = c.file; drive = c.drive; address = c.address; packets = c.packets; passed = c.passed } };
 
-    ghost invariant = { λ c. (64 ≤ c.out_len) × (c.out_len ≤ 1486) × (c.coe.room ≡ c.out_len) × (areas_of c.foe ≡ record { out = c.out_len; back = c.in_len }) × (c.soe.room ≡ c.out_len) × (c.address.room ≡ c.out_len) × (c.packets.room ≡ c.out_len) × (6 + length c.passed.content.body.items ≤ c.out_len) };
+    ghost invariant = { λ c. (64 ≤ c.out_len) × (c.out_len ≤ 1486) × (c.sdo.room ≡ c.out_len) × (areas_of c.file ≡ record { out = c.out_len; back = c.in_len }) × (c.drive.room ≡ c.out_len) × (c.address.room ≡ c.out_len) × (c.packets.room ≡ c.out_len) × (6 + length c.passed.content.body.items ≤ c.out_len) };
 }
 
 impl Clients {
@@ -67,9 +67,9 @@ impl Clients {
         Ok(Clients {
             out_len,
             in_len,
-            coe: CoeClient::new(alloc, out_len, in_len)?,
-            foe: FoeClient::new(alloc, out_len, in_len)?,
-            soe: SoeClient::new(alloc, out_len, in_len)?,
+            sdo: CoeClient::new(alloc, out_len, in_len)?,
+            file: FoeClient::new(alloc, out_len, in_len)?,
+            drive: SoeClient::new(alloc, out_len, in_len)?,
             address: AddressClient::new(out_len),
             packets: PacketSender::new(out_len),
             passed: PassedMail::new(),
@@ -96,15 +96,15 @@ impl Clients {
     {
         match service {
             Service::Sdo(sdo) => {
-                self.coe.start(sdo);
+                self.sdo.start(sdo);
                 Some(Which::Coe)
             }
             Service::ReadFile { name, pass } => {
-                self.foe.start_read(name.as_slice(), *pass);
+                self.file.start_read(name.as_slice(), *pass);
                 Some(Which::ReadFile)
             }
             Service::WriteFile { name, pass, bytes } => {
-                self.foe.start_write(name.as_slice(), *pass, bytes.bytes());
+                self.file.start_write(name.as_slice(), *pass, bytes.bytes());
                 Some(Which::WriteFile)
             }
             Service::ReadIdn {
@@ -112,7 +112,7 @@ impl Clients {
                 idn,
                 elements,
             } => {
-                self.soe.start_read(*drive, *idn, *elements);
+                self.drive.start_read(*drive, *idn, *elements);
                 Some(Which::Soe)
             }
             Service::WriteIdn {
@@ -121,7 +121,7 @@ impl Clients {
                 elements,
                 bytes,
             } => {
-                self.soe.start_write(*drive, *idn, *elements, bytes.bytes());
+                self.drive.start_write(*drive, *idn, *elements, bytes.bytes());
                 Some(Which::Soe)
             }
             Service::SetIp { block } => self.start_set(block.bytes()),
@@ -156,9 +156,9 @@ impl Clients {
         ensures { result ≡ false ↔ (client_later which self.now [] ≡ []) }
     {
         match which {
-            Which::Coe => self.coe.has_next(),
-            Which::ReadFile | Which::WriteFile => self.foe.has_next(),
-            Which::Soe => self.soe.has_next(),
+            Which::Coe => self.sdo.has_next(),
+            Which::ReadFile | Which::WriteFile => self.file.has_next(),
+            Which::Soe => self.drive.has_next(),
             Which::Address => self.address.has_next(),
             Which::Packet => self.packets.has_next(),
             Which::Passed => self.passed.unsent,
@@ -170,7 +170,7 @@ impl Clients {
         ensures { IsSent result Which.Coe self.old held.new self.new }
     {
         held.kind = Kind::CoE;
-        self.coe.next_mail(&mut held.body)
+        self.sdo.next_mail(&mut held.body)
     }
 
     // The same of FoE.
@@ -178,7 +178,7 @@ impl Clients {
         ensures { IsSent result Which.ReadFile self.old held.new self.new }
     {
         held.kind = Kind::FoE;
-        self.foe.next_mail(&mut held.body)
+        self.file.next_mail(&mut held.body)
     }
 
     // The same of SoE.
@@ -186,7 +186,7 @@ impl Clients {
         ensures { IsSent result Which.Soe self.old held.new self.new }
     {
         held.kind = Kind::SoE;
-        self.soe.next_mail(&mut held.body)
+        self.drive.next_mail(&mut held.body)
     }
 
     // The same of an address service.
@@ -233,7 +233,7 @@ impl Clients {
         ensures took { ClientTook result Which.Coe self.old (body_of mail.now) self.new }
         ensures areas { self.new.areas ≡ self.old.areas }
     {
-        self.coe.take(mail)
+        self.sdo.take(mail)
     }
 
     // The same of FoE.
@@ -242,7 +242,7 @@ impl Clients {
         ensures took { ClientTook result Which.ReadFile self.old (body_of mail.now) self.new }
         ensures areas { self.new.areas ≡ self.old.areas }
     {
-        self.foe.take(mail)
+        self.file.take(mail)
     }
 
     // The same of SoE.
@@ -251,7 +251,7 @@ impl Clients {
         ensures took { ClientTook result Which.Soe self.old (body_of mail.now) self.new }
         ensures areas { self.new.areas ≡ self.old.areas }
     {
-        self.soe.take(mail)
+        self.drive.take(mail)
     }
 
     // The same of an address service.
@@ -298,15 +298,37 @@ impl Clients {
         self.take_any(which, mail)
     }
 
+    // The reply of CoE that is complete.
+    fn sdo_reply(&self) -> Option<ReplyKind>
+        ensures { IfSome result (λ kind. client_awaits Which.Coe self.now [] ≡ Some (Some (kind, value_of Which.Coe self.now))) }
+    {
+        if !self.sdo.is_done() {
+            return None;
+        }
+        Some(self.sdo.reply())
+    }
+
+    // And its value.
+    fn sdo_value(&self, into: &mut Octets) -> Result<(), NoMemory>
+        requires { is_some (client_awaits Which.Coe self.now []) ≡ true }
+        ensures ok { OnOk result (into.new ≡ into.old ++ value_of Which.Coe self.now) }
+        ensures err { OnErr result (into.new ≡ into.old) }
+    {
+        if !self.sdo.is_done() {
+            return Ok(());
+        }
+        self.sdo.value(into)
+    }
+
     /// The kind of the reply that is complete; packets and mails that are passed on have none.
     pub fn reply(&self, which: Which) -> Option<ReplyKind>
         requires { is_some (client_awaits which self.now []) ≡ true }
         ensures { IfSome result (λ kind. client_awaits which self.now [] ≡ Some (Some (kind, value_of which self.now))) }
     {
         match which {
-            Which::Coe => Some(self.coe.reply()),
-            Which::ReadFile | Which::WriteFile => Some(self.foe.reply()),
-            Which::Soe => Some(self.soe.reply()),
+            Which::Coe => self.sdo_reply(),
+            Which::ReadFile | Which::WriteFile => Some(self.file.reply()),
+            Which::Soe => Some(self.drive.reply()),
             Which::Address => Some(self.address.reply()),
             Which::Packet | Which::Passed => None,
         }
@@ -319,9 +341,9 @@ impl Clients {
         ensures err { OnErr result (into.new ≡ into.old) }
     {
         match which {
-            Which::Coe => self.coe.value(into),
-            Which::ReadFile | Which::WriteFile => self.foe.value(into),
-            Which::Soe => self.soe.value(into),
+            Which::Coe => self.sdo_value(into),
+            Which::ReadFile | Which::WriteFile => self.file.value(into),
+            Which::Soe => self.drive.value(into),
             Which::Address => self.address.value(into),
             Which::Packet | Which::Passed => Ok(()),
         }

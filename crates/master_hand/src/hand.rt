@@ -121,7 +121,7 @@ impl Hand for InHand {
     ghost use Rattle.master_hand.specs.Passed.{mail_of};
     ghost use Rattle.master_hand.specs.Laying.{ready_of};
     ghost use Rattle.master_hand.specs.Shown.{Shows};
-    ghost use Rattle.master_hand.proofs.Hands.{quiet as quiet_shown};
+    ghost use Rattle.master_hand.specs.Quiet.{quiet_shown};
 
     ghost Asked = { Asked };
 
