@@ -61,7 +61,7 @@ begun_shown areas c which q frame e s =
     (going_begun (hand_speech areas) (IsOf which) (client_later which c) (client_awaits which c) q frame s.mails s.replies (none_ends areas q) s.kind)
 
 some_is : (q p : Asked) → Some q ≡ Some p → q ≡ p
-some_is q p refl = refl
+some_is q p e = cc
 
 pub begins_shown : (x : Speech Body Asked Reply) (old c : Talking) (which now_which : Which) (course : Course) (asked : Option Asked) (q : Asked) (frame : ℕ) → Begins (Some which) asked old c → c.areas ≡ old.areas →
     is_askable old.areas asked ≡ true → now_which ≡ which → course ≡ Course.Goes → asked ≡ Some q → x ≡ hand_speech old.areas → (x.valid q ≡ true) × Shows course now_which c x (Some (begun q frame))
@@ -221,3 +221,9 @@ pub other_acknowledged : (course : Course) (which : Which) (c : Talking) (x : Sp
     Accounts.is_acknowledged acknowledged d d.now ≡ true
 other_acknowledged course which c x d (inl w) n h = going_acknowledged false which c d n (subst (λ (z : Course). HandShows z which c d.now) w h.1)
 other_acknowledged course which c x d (inr w) n h = going_acknowledged true which c d n (subst (λ (z : Course). HandShows z which c d.now) w h.1)
+
+-- the row behind a mail, over any speech that the hand shows
+pub heard_shown : (course : Course) (which : Which) (old new : Talking) (b : Body) (x : Speech Body Asked Reply) (frame : ℕ) (now : Rows) → x ≡ hand_speech old.areas → new.areas ≡ old.areas →
+    HandShows course which new (option_map (λ r. row_heard (hand_speech old.areas) frame (b ∷ []) r) now) → Shows course which new x (option_map (λ r. row_heard x frame (b ∷ []) r) now)
+heard_shown course which old new b x frame now e a h =
+    (e ∙ ap hand_speech (sym a), subst (λ (y : Speech Body Asked Reply). HandShows course which new (option_map (λ r. row_heard y frame (b ∷ []) r) now)) (sym e) h)

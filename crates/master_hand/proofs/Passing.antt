@@ -22,7 +22,7 @@ done_ends b [] e = ap (λ (z : Bool). if not z then Some None else None) (sym e)
 done_ends b (h ∷ hs) e = ap (λ (z : Bool). if (if z then ends_told is_followed (h ∷ hs) else false) then Some None else None) (sym e)
 
 -- by whether the last reply came
-by_over : Bool → List Body → Option Reply
+abbrev by_over : Bool → List Body → Option Reply
 by_over over hs = if over then at_end hs else passed_ends hs
 
 pub more_took : (p : PassedMail) (b : Body) → p.over ≡ false → is_followed b ≡ true → PassedTook Took.More p b p
@@ -31,7 +31,7 @@ more_took p b o e = ((λ hs. ap (λ z. by_over z hs) o ∙ more_ends b hs e ∙ 
 pub done_took : (p q : PassedMail) (b : Body) → p.over ≡ false → q.over ≡ true → is_followed b ≡ false → PassedTook Took.Done p b q
 done_took p q b o d e = ((λ hs. ap (λ z. by_over z hs) d ∙ done_ends b hs e ∙ ap (λ z. by_over z (b ∷ hs)) (sym o)), ap (λ z. is_some (by_over z [])) d)
 
-left_by : Bool → Content → List Body
+abbrev left_by : Bool → Content → List Body
 left_by unsent c = if unsent then Ok (mail_of c) ∷ [] else []
 
 pub passed_took : (took : Took) (old : Talking) (p : PassedMail) (b : Body) → PassedTook took old.passed b p → (p.content ≡ old.passed.content) × (p.unsent ≡ old.passed.unsent) → ClientTook took Which.Passed old b (record old { passed = p })

@@ -1,11 +1,11 @@
 -- What waits to come into hand: the script of a slave, and what is laid ready.
-use Rattle.std.specs.Prelude.{◌≡◌, ℕ, ◌&&◌, Bool, true, List, [], ◌∷◌, Option, Some, None, slice_get}
+use Rattle.std.specs.Prelude.{◌≡◌, ℕ, List, Option, Some, None, slice_get}
 use Rattle.exchange_model.specs.Areas.{Areas}
 use Rattle.eoe_model.specs.Client as EoeClient
 use Rattle.segment_plan.specs.declared.service.Service.{Service}
 use Rattle.master_hand.specs.Spoken.{Asked, net, passed}
 use Rattle.master_hand.specs.Passed.{mail_of}
-use Rattle.master_hand.specs.Talk.{asked_of, is_askable}
+use Rattle.master_hand.specs.Talk.{asked_of}
 use Rattle.master_hand.specs.declared.laying.Laid.{Laid}
 use Rattle.master_hand.specs.declared.passed.Content.{Content}
 
@@ -18,11 +18,6 @@ pub record Waiting : Type 0 where
   pub packet : List ℕ
   pub frame : ℕ
   pub mail : Content
-
--- services of which the laws speak
-abbrev pub are_askable : Areas → List Service → Bool
-are_askable areas [] = true
-are_askable areas (s ∷ ss) = is_askable areas (asked_of areas.out s) && are_askable areas ss
 
 -- the next service of a script
 abbrev pub asked_next : ℕ → Option Service → Option Asked

@@ -12,6 +12,7 @@ use Rattle.coe_client.specs.Talk as CoeTalk
 use Rattle.foe_client.specs.Talk as FoeTalk
 use Rattle.soe_client.specs.Talk as SoeTalk
 use Rattle.eoe_client.specs.Talk as EoeTalk
+use Rattle.object_dictionary.specs.declared.service.SdoService.{SdoService}
 use Rattle.segment_plan.specs.declared.service.Service.{Service}
 use Rattle.master_duty.specs.Reply.{Reply}
 use Rattle.master_hand.specs.Spoken.{Asked, sdo, file, drive, net, passed, heard_sdo, told_sdo, heard_file, told_file, heard_drive, told_drive, heard_net, told_net, replied, valid, planned, ends, handed}
@@ -122,6 +123,12 @@ asked_of room (Service.SetIp block) = asked_set room block
 asked_of room Service.GetIp = Some (net EoeClient.get_ip)
 asked_of room (Service.State state) = None
 asked_of room (Service.Forward packet) = None
+
+-- the octets that a service of CoE carries
+abbrev pub octets_of : SdoService → List ℕ
+octets_of (SdoService.Download index sub bytes) = bytes
+octets_of (SdoService.DownloadAll index from bytes) = bytes
+octets_of _ = []
 
 -- a service of which the laws speak, or none
 abbrev pub is_askable : Areas → Option Asked → Bool

@@ -1,9 +1,15 @@
 ghost use Rattle.std.specs.Prelude.{◌≡◌, ◌≤◌, ◌++◌, ◌+◌, ◌<◌, ◌^◌, ◌↔◌, List, [], true, false, is_some, length, IfOk, IfSome, OnOk, OnErr, Some, None, Ok};
 ghost use Rattle.std.specs.Bool.{OnTrue, OnFalse};
-ghost use Rattle.eoe_model.specs.Client.{packet as packet_asked};
-ghost use Rattle.master_hand.specs.Spoken.{net, passed};
+ghost use Rattle.coe_model.specs.Model.{are_octets};
+ghost use Rattle.coe_client.specs.Talk.{service_view};
+ghost use Rattle.foe_model.specs.Meaning as FoeMeaning;
+ghost use Rattle.soe_model.specs.Client as SoeMeaning;
+ghost use Rattle.soe_model.specs.Elements.{target};
+ghost use Rattle.eoe_model.specs.Client as EoeClient;
+ghost use Rattle.segment_plan.specs.Sound.{IsService, IsSdo, IsName};
+ghost use Rattle.master_hand.specs.Spoken.{sdo, file, drive, net, passed, valid};
 ghost use Rattle.master_hand.specs.Passed.{body_of, mail_of};
-ghost use Rattle.master_hand.specs.Talk.{client_later, client_awaits, value_of, asked_of, asked_set, is_askable, ClientTook, Begins, Starts, IsSent};
+ghost use Rattle.master_hand.specs.Talk.{client_later, client_awaits, value_of, asked_of, asked_set, octets_of, is_askable, ClientTook, Begins, Starts, IsSent};
 ghost use Rattle.master_hand.specs.declared.clients.Which.{Which};
 
 use crate::passed::{Content, PassedMail};
@@ -11,8 +17,10 @@ use coe_client::CoeClient;
 use ec_fields::{NoMemory, Octets};
 use eoe::Packet;
 use eoe_client::{AddressClient, PacketSender};
+use file_store::Name;
 use foe_client::FoeClient;
 use mailbox_mail::{Kind, Mail, ReplyKind, Took};
+use object_dictionary::SdoService;
 use segment_plan::Service;
 use soe_client::SoeClient;
 use std::alloc::Global;
@@ -55,6 +63,27 @@ impl Model for Clients {
     ghost invariant = { λ c. (64 ≤ c.out_len) × (c.out_len ≤ 1486) × (c.sdo.room ≡ c.out_len) × (areas_of c.file ≡ record { out = c.out_len; back = c.in_len }) × (c.drive.room ≡ c.out_len) × (c.address.room ≡ c.out_len) × (c.packets.room ≡ c.out_len) × (6 + length c.passed.content.body.items ≤ c.out_len) };
 }
 
+// Octets are below 256: the services of which the laws speak have such.
+fn are_octets_of(bytes: &[u8])
+    ensures { are_octets bytes.now ≡ true }
+{}
+
+// So are those that a service carries.
+fn carried_octets(service: &SdoService)
+    ensures { are_octets (octets_of service.now) ≡ true }
+{
+    match service {
+        SdoService::Download { bytes, .. } | SdoService::DownloadAll { bytes, .. } => {
+            are_octets_of(bytes.bytes());
+        }
+        SdoService::Upload { .. }
+        | SdoService::UploadAll { .. }
+        | SdoService::List { .. }
+        | SdoService::ObjectInfo { .. }
+        | SdoService::EntryInfo { .. } => {}
+    }
+}
+
 impl Clients {
     /// The clients of a slave whose mailboxes have these lengths: the one that requests go through, and the one for answers.
     pub fn new(alloc: Global, out_len: u16, in_len: u16) -> Result<Clients, NoMemory>
@@ -76,6 +105,59 @@ impl Clients {
         })
     }
 
+    // A service of CoE begins.
+    fn start_sdo(&mut self, service: &SdoService)
+        requires { IsSdo service.now }
+        ensures starts { Starts self.old.areas (sdo (service_view service.now)) Which.Coe self.new }
+        ensures valid { valid self.old.areas (sdo (service_view service.now)) ≡ true }
+        ensures areas { self.new.areas ≡ self.old.areas }
+    {
+        carried_octets(service);
+        self.sdo.start(service);
+    }
+
+    // A file is read.
+    fn start_read(&mut self, name: &Name, pass: u32)
+        requires { IsName name.now }
+        ensures starts { Starts self.old.areas (file (FoeMeaning.read name.now.items pass)) Which.ReadFile self.new }
+        ensures valid { valid self.old.areas (file (FoeMeaning.read name.now.items pass)) ≡ true }
+        ensures areas { self.new.areas ≡ self.old.areas }
+    {
+        self.file.start_read(name.as_slice(), pass);
+    }
+
+    // A file is written.
+    fn start_write(&mut self, name: &Name, pass: u32, bytes: &[u8])
+        requires name { IsName name.now }
+        requires small { length bytes.now ≤ 131072 }
+        ensures starts { Starts self.old.areas (file (FoeMeaning.write name.now.items pass bytes.now)) Which.WriteFile self.new }
+        ensures valid { valid self.old.areas (file (FoeMeaning.write name.now.items pass bytes.now)) ≡ true }
+        ensures areas { self.new.areas ≡ self.old.areas }
+    {
+        self.file.start_write(name.as_slice(), pass, bytes);
+    }
+
+    // An element is read.
+    fn start_get(&mut self, number: u8, idn: u16, elements: u8)
+        requires { number ≤ 7 }
+        ensures starts { Starts self.old.areas (drive (SoeMeaning.read (target number idn elements))) Which.Soe self.new }
+        ensures valid { valid self.old.areas (drive (SoeMeaning.read (target number idn elements))) ≡ true }
+        ensures areas { self.new.areas ≡ self.old.areas }
+    {
+        self.drive.start_read(number, idn, elements);
+    }
+
+    // An element is written.
+    fn start_put(&mut self, number: u8, idn: u16, elements: u8, bytes: &[u8])
+        requires near { number ≤ 7 }
+        requires small { length bytes.now ≤ 4096 }
+        ensures starts { Starts self.old.areas (drive (SoeMeaning.write (target number idn elements) bytes.now)) Which.Soe self.new }
+        ensures valid { valid self.old.areas (drive (SoeMeaning.write (target number idn elements) bytes.now)) ≡ true }
+        ensures areas { self.new.areas ≡ self.old.areas }
+    {
+        self.drive.start_write(number, idn, elements, bytes);
+    }
+
     // An address block goes through the mailbox with 10 octets in front of it.
     fn start_set(&mut self, block: &[u8]) -> Option<Which>
         ensures begins { Begins result (asked_set self.old.areas.out block.now) self.old self.new }
@@ -88,23 +170,32 @@ impl Clients {
         Some(Which::Address)
     }
 
+    // The address block is asked for.
+    fn start_addresses(&mut self)
+        ensures starts { Starts self.old.areas (net EoeClient.get_ip) Which.Address self.new }
+        ensures areas { self.new.areas ≡ self.old.areas }
+    {
+        self.address.start_get();
+    }
+
     /// Begins a service of a script. `None` for a change of state, a packet, and an address block that the mailbox has no room for.
     pub fn start(&mut self, service: &Service) -> Option<Which>
-        requires { is_askable self.old.areas (asked_of self.old.areas.out service.now) ≡ true }
+        requires { IsService service.now }
         ensures begins { Begins result (asked_of self.old.areas.out service.now) self.old self.new }
+        ensures valid { is_askable self.old.areas (asked_of self.old.areas.out service.now) ≡ true }
         ensures areas { self.new.areas ≡ self.old.areas }
     {
         match service {
             Service::Sdo(sdo) => {
-                self.sdo.start(sdo);
+                self.start_sdo(sdo);
                 Some(Which::Coe)
             }
             Service::ReadFile { name, pass } => {
-                self.file.start_read(name.as_slice(), *pass);
+                self.start_read(name, *pass);
                 Some(Which::ReadFile)
             }
             Service::WriteFile { name, pass, bytes } => {
-                self.file.start_write(name.as_slice(), *pass, bytes.bytes());
+                self.start_write(name, *pass, bytes.bytes());
                 Some(Which::WriteFile)
             }
             Service::ReadIdn {
@@ -112,7 +203,7 @@ impl Clients {
                 idn,
                 elements,
             } => {
-                self.drive.start_read(*drive, *idn, *elements);
+                self.start_get(*drive, *idn, *elements);
                 Some(Which::Soe)
             }
             Service::WriteIdn {
@@ -121,12 +212,12 @@ impl Clients {
                 elements,
                 bytes,
             } => {
-                self.drive.start_write(*drive, *idn, *elements, bytes.bytes());
+                self.start_put(*drive, *idn, *elements, bytes.bytes());
                 Some(Which::Soe)
             }
             Service::SetIp { block } => self.start_set(block.bytes()),
             Service::GetIp => {
-                self.address.start_get();
+                self.start_addresses();
                 Some(Which::Address)
             }
             Service::State { .. } | Service::Forward(_) => None,
@@ -136,7 +227,7 @@ impl Clients {
     /// Begins to send a packet with this frame number.
     pub fn start_packet(&mut self, packet: &Packet, frame: u8)
         requires { frame < 2 ^ 4 }
-        ensures starts { Starts self.old.areas (net (packet_asked packet.now.items frame)) Which.Packet self.new }
+        ensures starts { Starts self.old.areas (net (EoeClient.packet packet.now.items frame)) Which.Packet self.new }
         ensures areas { self.new.areas ≡ self.old.areas }
     {
         self.packets.start(packet, frame);

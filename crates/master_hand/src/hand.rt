@@ -31,7 +31,7 @@ pub struct InHand {
 }
 
 impl InHand {
-    ghost use Rattle.std.specs.Prelude.{◌≡◌, ◌≤◌, List, [], ◌∷◌, true, false, length, IfOk, Option, Some, None, Ok, option_map, All, if◌then◌else◌, ◌&&◌, not};
+    ghost use Rattle.std.specs.Prelude.{◌≡◌, ◌≤◌, ℕ, List, [], ◌∷◌, true, false, length, IfOk, Option, Some, None, Ok, option_map, All, if◌then◌else◌, ◌&&◌, not};
     ghost use Rattle.mailbox_mail.specs.View.{mail_seen};
     ghost use Rattle.exchange_model.specs.Rows.{Row, row_heard};
     ghost use Rattle.link_mails.specs.Body.{Body};

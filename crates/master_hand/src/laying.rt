@@ -1,4 +1,4 @@
-ghost use Rattle.std.specs.Prelude.{◌≡◌, ◌≤◌, ◌+◌, All, length, slice_get};
+ghost use Rattle.std.specs.Prelude.{◌≡◌, ◌≤◌, ◌+◌, All, true, length, slice_get};
 ghost use Rattle.std.specs.Option.{option_copied};
 ghost use Rattle.segment_plan.specs.Sound.{IsService};
 ghost use Rattle.master_hand.specs.Talk.{Begins, is_askable};
@@ -39,14 +39,15 @@ pub struct Laying {
 }
 
 impl Model for Laying {
-    ghost use Rattle.std.specs.Prelude.{◌≡◌, ◌≤◌, ◌<◌, ◌+◌, length, true};
-    ghost use Rattle.master_hand.specs.Laying.{Waiting, are_askable};
+    ghost use Rattle.std.specs.Prelude.{◌≤◌, ◌<◌, ◌+◌, All, length};
+    ghost use Rattle.master_hand.specs.Laying.{Waiting};
+    ghost use Rattle.segment_plan.specs.Sound.{IsService};
 
     ghost Value = { Waiting };
 
     ghost view = { λ l. record { areas = record { out = l.out_len; back = l.in_len }; script = l.script; number = l.number; laid = l.laid; packet = l.packet.items; frame = l.frame; mail = l.mail } };
 
-    ghost invariant = { λ l. (are_askable (record { out = l.out_len; back = l.in_len }) l.script ≡ true) × (14 ≤ length l.packet.items) × (l.frame < 16) × (6 + length l.mail.body.items ≤ l.out_len) };
+    ghost invariant = { λ l. All IsService l.script × (14 ≤ length l.packet.items) × (length l.packet.items ≤ 1514) × (l.frame < 16) × (6 + length l.mail.body.items ≤ l.out_len) };
 }
 
 impl Laying {

@@ -10,4 +10,4 @@ use Rattle.master_hand.proofs.clients.Clients.next_drive.Goals as goal
 pub returns : goal.returns
 returns c =
     subst (λ (t : Talking). IsSent c.next_mail.result Which.Soe t (record { kind = Kind.SoE; body = c.next_mail.new.body }) (record (the_view c.self.inside) { drive = c.next_mail.new.self })) c.self.view_is
-    (drive_sent c.next_mail.result (the_view c.self.inside) c.next_mail.new.self (record { kind = Kind.SoE; body = c.next_mail.new.body }) c.next_mail.ensures.sends c.next_mail.ensures.fits c.next_mail.ensures.same c.next_mail.ensures.replies c.self.invariant.4 refl)
+    (drive_sent _ c.next_mail.result (the_view c.self.inside) c.next_mail.new.self (record { kind = Kind.SoE; body = c.next_mail.new.body }) c.next_mail.ensures.sends c.next_mail.ensures.fits c.next_mail.ensures.same c.next_mail.ensures.replies c.self.invariant.4 refl)
