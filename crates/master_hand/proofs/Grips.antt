@@ -12,9 +12,9 @@ pub talks_begun : {M Q R : Type 0} (x : Speech M Q R) (later : List M → List M
     ((hs : List M) → later hs ≡ x.planned q hs) → ((hs : List M) → awaits hs ≡ x.ends q hs) → Talks x later awaits (begun q frame)
 talks_begun x later awaits q frame l a = record { rest = λ hs. sym (l hs); goes = λ hs. sym (a hs) }
 
-pub going_begun : {M Q R : Type 0} (x : Speech M Q R) (is_kind : Q → Bool) (later : List M → List M) (awaits : List M → Option R) (q : Q) (frame : ℕ) →
-    ((hs : List M) → later hs ≡ x.planned q hs) → ((hs : List M) → awaits hs ≡ x.ends q hs) → x.ends q [] ≡ None → is_kind q ≡ true → Going x is_kind later awaits false (Some (begun q frame))
-going_begun x is_kind later awaits q frame l a none k = record {
+pub going_begun : {M Q R : Type 0} (x : Speech M Q R) (Kind : Q → Type 0) (later : List M → List M) (awaits : List M → Option R) (q : Q) (frame : ℕ) →
+    ((hs : List M) → later hs ≡ x.planned q hs) → ((hs : List M) → awaits hs ≡ x.ends q hs) → x.ends q [] ≡ None → Kind q → Going x Kind later awaits false (Some (begun q frame))
+going_begun x Kind later awaits q frame l a none k = record {
   kind = k;
   row = begun q frame;
   is = refl;
@@ -31,9 +31,9 @@ talks_told x later new awaits answers r m l a t = record {
   goes = λ hs. t.goes hs ∙ sym (a hs);
 }
 
-pub going_told : {M Q R : Type 0} (x : Speech M Q R) (is_kind : Q → Bool) (later new : List M → List M) (awaits answers : List M → Option R) (b : Bool) (now : Option (Row M Q R)) (m : M) →
-    ((hs : List M) → later hs ≡ m ∷ new hs) → ((hs : List M) → answers hs ≡ awaits hs) → Going x is_kind later awaits b now → Going x is_kind new answers b (option_map (λ r. row_told m r) now)
-going_told x is_kind later new awaits answers b now m l a g = record {
+pub going_told : {M Q R : Type 0} (x : Speech M Q R) (Kind : Q → Type 0) (later new : List M → List M) (awaits answers : List M → Option R) (b : Bool) (now : Option (Row M Q R)) (m : M) →
+    ((hs : List M) → later hs ≡ m ∷ new hs) → ((hs : List M) → answers hs ≡ awaits hs) → Going x Kind later awaits b now → Going x Kind new answers b (option_map (λ r. row_told m r) now)
+going_told x Kind later new awaits answers b now m l a g = record {
   row = row_told m g.row;
   is = ap (option_map (λ r. row_told m r)) g.is;
   kind = g.kind;
@@ -51,15 +51,15 @@ pub talks_left : {M Q R : Type 0} (x : Speech M Q R) (later : List M → List M)
 talks_left x later awaits r t =
     ap (λ ms. drop (length r.told) ms) (ap (x.planned r.service) (sym (append-nil (plain x.emission r.heard))) ∙ t.rest []) ∙ drop_told r.told (later [])
 
-pub going_next : {M Q R : Type 0} (x : Speech M Q R) (is_kind : Q → Bool) (later new : List M → List M) (awaits : List M → Option R) (b : Bool) (now : Option (Row M Q R)) (m : M) →
-    ((hs : List M) → later hs ≡ m ∷ new hs) → Going x is_kind later awaits b now → next_mail x now None true ≡ m ∷ []
-going_next x is_kind later new awaits b now m l g =
+pub going_next : {M Q R : Type 0} (x : Speech M Q R) (Kind : Q → Type 0) (later new : List M → List M) (awaits : List M → Option R) (b : Bool) (now : Option (Row M Q R)) (m : M) →
+    ((hs : List M) → later hs ≡ m ∷ new hs) → Going x Kind later awaits b now → next_mail x now None true ≡ m ∷ []
+going_next x Kind later new awaits b now m l g =
     ap (λ o. next_mail x o None true) g.is ∙ ap first_left (talks_left x later awaits g.row g.talks ∙ l [])
 
 -- the same client, written another way
-pub going_same : {M Q R : Type 0} (x : Speech M Q R) (is_kind : Q → Bool) (later new : List M → List M) (awaits answers : List M → Option R) (b : Bool) (now : Option (Row M Q R)) →
-    ((hs : List M) → new hs ≡ later hs) → ((hs : List M) → answers hs ≡ awaits hs) → Going x is_kind later awaits b now → Going x is_kind new answers b now
-going_same x is_kind later new awaits answers b now l a g = record {
+pub going_same : {M Q R : Type 0} (x : Speech M Q R) (Kind : Q → Type 0) (later new : List M → List M) (awaits answers : List M → Option R) (b : Bool) (now : Option (Row M Q R)) →
+    ((hs : List M) → new hs ≡ later hs) → ((hs : List M) → answers hs ≡ awaits hs) → Going x Kind later awaits b now → Going x Kind new answers b now
+going_same x Kind later new awaits answers b now l a g = record {
   row = g.row;
   is = g.is;
   kind = g.kind;
@@ -89,9 +89,9 @@ stays frame None (Some r) h = absurd (clash (h refl)) where
   clash e = absurd (cc)
 
 -- mails that reply to nothing
-pub going_emission : {M Q R : Type 0} (x : Speech M Q R) (is_kind : Q → Bool) (later : List M → List M) (awaits : List M → Option R) (b : Bool) (now : Option (Row M Q R)) (frame : ℕ) (ms : List M) →
-    plain x.emission ms ≡ [] → Going x is_kind later awaits b now → Going x is_kind later awaits b (option_map (λ r. row_heard x frame ms r) now)
-going_emission x is_kind later awaits b now frame ms p g =
+pub going_emission : {M Q R : Type 0} (x : Speech M Q R) (Kind : Q → Type 0) (later : List M → List M) (awaits : List M → Option R) (b : Bool) (now : Option (Row M Q R)) (frame : ℕ) (ms : List M) →
+    plain x.emission ms ≡ [] → Going x Kind later awaits b now → Going x Kind later awaits b (option_map (λ r. row_heard x frame ms r) now)
+going_emission x Kind later awaits b now frame ms p g =
     let t = talks_heard x later later awaits awaits g.row frame ms [] p (λ hs. refl) (λ hs. refl) g.talks in
     let s = stays frame g.row.answer (x.ends g.row.service (plain x.emission (g.row.heard ++ ms))) (λ n. heard_ends x later awaits (row_heard x frame ms g.row) t ∙ g.quiet n) in
     record {
@@ -116,10 +116,10 @@ not_some : {T : Type 0} (o : Option T) → o ≡ None → is_some o ≡ false
 not_some o e = ap is_some e
 
 -- mails that reply, while no reply is complete
-pub going_heard : {M Q R : Type 0} (x : Speech M Q R) (is_kind : Q → Bool) (later new : List M → List M) (awaits answers : List M → Option R) (b : Bool) (now : Option (Row M Q R)) (frame : ℕ) (ms ps : List M) →
+pub going_heard : {M Q R : Type 0} (x : Speech M Q R) (Kind : Q → Type 0) (later new : List M → List M) (awaits answers : List M → Option R) (b : Bool) (now : Option (Row M Q R)) (frame : ℕ) (ms ps : List M) →
     plain x.emission ms ≡ ps → ((hs : List M) → new hs ≡ later (ps ++ hs)) → ((hs : List M) → answers hs ≡ awaits (ps ++ hs)) → is_some (answers []) ≡ b →
-    Going x is_kind later awaits false now → Going x is_kind new answers b (option_map (λ r. row_heard x frame ms r) now)
-going_heard x is_kind later new awaits answers b now frame ms ps p l a some g =
+    Going x Kind later awaits false now → Going x Kind new answers b (option_map (λ r. row_heard x frame ms r) now)
+going_heard x Kind later new awaits answers b now frame ms ps p l a some g =
     let t = talks_heard x later new awaits answers g.row frame ms ps p l a g.talks in
     let ended = heard_ends x new answers (row_heard x frame ms g.row) t in
     let opened = open_answer frame g.row.answer (x.ends g.row.service (plain x.emission (g.row.heard ++ ms))) g.answer ∙ ap is_some ended in

@@ -1,0 +1,14 @@
+use Rattle.std.proofs.Common.{◌≡◌, List, [], ◌∷◌, Bool, true, false, Option, Some, None, refl, sym, ap, ◌∙◌, subst}
+use Rattle.master_hand.specs.Passed.{body_of, mail_of}
+use Rattle.master_hand.specs.Spoken.{net, passed}
+use Rattle.eoe_model.specs.Client as EoeClient
+use Rattle.master_hand.specs.Talk.{Talking, client_later, IsSent, ClientTook, Begins, Starts}
+use Rattle.master_hand.specs.declared.clients.Which.{Which}
+use Rattle.master_hand.specs.contracts.clients.Clients.{the_view}
+use Rattle.master_hand.proofs.Passing.{passed_sent}
+use Rattle.master_hand.proofs.clients.Clients.next_passed.Goals as goal
+
+pub returns : goal.returns
+returns c =
+    subst (λ (t : Talking). IsSent c.next_mail.result Which.Passed t c.next_mail.new.into (record (the_view c.self.inside) { passed = c.next_mail.new.self })) c.self.view_is
+    (passed_sent c.next_mail.result (the_view c.self.inside) c.next_mail.new.self c.next_mail.new.into c.next_mail.ensures.sends c.next_mail.ensures.body c.next_mail.ensures.same c.next_mail.ensures.kept.1 c.self.invariant.7)

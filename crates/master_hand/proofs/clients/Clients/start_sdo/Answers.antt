@@ -1,0 +1,17 @@
+use Rattle.std.proofs.Common.{◌≡◌, List, [], ◌∷◌, Bool, true, false, Option, Some, None, refl, sym, ap, ◌∙◌, subst}
+use Rattle.coe_client.specs.Talk.{service_view}
+use Rattle.foe_model.specs.Meaning as FoeMeaning
+use Rattle.soe_model.specs.Client as SoeClient
+use Rattle.soe_model.specs.Elements.{target}
+use Rattle.eoe_model.specs.Client as EoeClient
+use Rattle.master_hand.specs.Spoken.{sdo, file, drive, net, passed}
+use Rattle.master_hand.specs.Talk.{Talking, Begins, Starts}
+use Rattle.master_hand.specs.declared.clients.Which.{Which}
+use Rattle.master_hand.specs.contracts.clients.Clients.{the_view}
+use Rattle.master_hand.proofs.Protocols.{sdo_starts}
+use Rattle.master_hand.proofs.clients.Clients.start_sdo.Goals as goal
+
+pub returns-clause-starts : goal.returns-clause-starts
+returns-clause-starts c =
+    subst (λ (t : Talking). Starts t.areas (sdo (service_view c.args.service.now)) Which.Coe (record (the_view c.self.inside) { sdo = c.start.new.self })) c.self.view_is
+    (sdo_starts (the_view c.self.inside) c.start.new.self c.args.service.now c.start.ensures.replies c.start.ensures.mails c.self.invariant.2)
