@@ -1,3 +1,5 @@
+ghost use Rattle.std.specs.Prelude.{◌≡◌, ◌≤◌, ◌<◌, ◌++◌, ◌∷◌, [], IfOk, vec_len};
+
 use arrayvec::ArrayVec;
 use ec_fields::NoMemory;
 use eoe::Packet;
@@ -54,11 +56,20 @@ pub struct EventList {
     before: usize,
     /// From where on the events of the last step stand.
     first: usize,
+    ghost rows_are: { vec_len rows ≡ 97 },
+    ghost counted: { count ≤ 97 },
+    ghost made_before: { before ≤ count },
+    ghost made_first: { first ≤ count },
 }
 
 impl EventList {
+    ghost use Rattle.std.specs.Prelude.{◌≡◌, ◌<◌, ◌++◌, ◌∷◌, [], IfOk, take};
+    ghost use Rattle.master_node.specs.Listed.{listed, listed_last};
+
     /// No event. The memory for the events of a frame is taken here.
-    pub fn new(alloc: Global) -> Result<EventList, NoMemory> {
+    pub fn new(alloc: Global) -> Result<EventList, NoMemory>
+        ensures { IfOk result (λ l. listed l.rows.items l.count ≡ []) }
+    {
         let mut rows = Vec::with_capacity(alloc, MOST)?;
         for _ in 0..MOST {
             rows.push(Event::GivenUp { slave: 0 })?;
@@ -72,25 +83,39 @@ impl EventList {
     }
 
     /// The next frame begins: nothing has happened.
-    pub fn clear(&mut self) {
+    pub fn clear(&mut self)
+        ensures all { listed self.new.rows.items self.new.count ≡ [] }
+        ensures last { listed_last self.new.rows.items self.new.first self.new.count ≡ [] }
+    {
         self.count = 0;
         self.before = 0;
         self.first = 0;
     }
 
     /// The frame is made: what comes behind it are the events of its return or loss.
-    pub fn made(&mut self) {
+    pub fn made(&mut self)
+        ensures before { self.new.before ≡ self.old.count }
+        ensures all { listed self.new.rows.items self.new.count ≡ listed self.old.rows.items self.old.count }
+        ensures last { listed_last self.new.rows.items self.new.first self.new.count ≡ listed_last self.old.rows.items self.old.first self.old.count }
+    {
         self.before = self.count;
     }
 
     /// The frame came back or was lost: only what happened before it stands.
-    pub fn ends(&mut self) {
+    pub fn ends(&mut self)
+        ensures all { listed self.new.rows.items self.new.count ≡ take self.old.before self.old.rows.items }
+        ensures last { listed_last self.new.rows.items self.new.first self.new.count ≡ [] }
+    {
         self.count = self.before;
         self.first = self.before;
     }
 
     /// One more event.
-    pub fn put(&mut self, event: Event) {
+    pub fn put(&mut self, event: Event)
+        ensures all { self.old.count < 97 → listed self.new.rows.items self.new.count ≡ listed self.old.rows.items self.old.count ++ event ∷ [] }
+        ensures last { self.old.count < 97 → listed_last self.new.rows.items self.new.first self.new.count ≡ listed_last self.old.rows.items self.old.first self.old.count ++ event ∷ [] }
+        ensures before { self.new.before ≡ self.old.before }
+    {
         if self.count < self.rows.len() {
             self.rows[self.count] = event;
             self.count += 1;
@@ -98,12 +123,16 @@ impl EventList {
     }
 
     /// The events of the last step.
-    pub fn last(&self) -> &[Event] {
+    pub fn last(&self) -> &[Event]
+        ensures { result.now ≡ listed_last self.now.rows.items self.now.first self.now.count }
+    {
         &self.all()[self.first..]
     }
 
     /// The events of the frame.
-    pub fn all(&self) -> &[Event] {
+    pub fn all(&self) -> &[Event]
+        ensures { result.now ≡ listed self.now.rows.items self.now.count }
+    {
         &self.rows.as_slice()[..self.count]
     }
 }

@@ -1,3 +1,7 @@
+ghost use Rattle.std.specs.Prelude.{◌≡◌, ◌≤◌, ◌<◌, ◌+◌, length, true, IfOk, All};
+ghost use Rattle.segment_plan.specs.Sound.{IsPacket, IsPlan};
+ghost use Rattle.master_node.specs.Ported.{are_ports, ports_from, served_of};
+
 use crate::event::{Event, EventList};
 use arrayvec::ArrayVec;
 use ec_fields::{NoMemory, Rows, buffer_of};
@@ -21,10 +25,15 @@ pub struct Lan {
     host: Rows<Packet>,
     /// How many packets of the host have come in.
     entered: usize,
+    ghost ported: { are_ports (length switch.ports) ports.items ≡ true },
+    ghost host_port: { 1 ≤ length switch.ports },
 }
 
 // The ports of the slaves that serve EoE, numbered from 1 in ring order.
-fn ports_of(slaves: &[SlaveSpec]) -> ArrayVec<Option<u32>, 16> {
+fn ports_of(slaves: &[SlaveSpec]) -> ArrayVec<Option<u32>, 16>
+    requires { length slaves.now ≤ 16 }
+    ensures { result.items ≡ ports_from 0 slaves.now }
+{
     let mut ports = ArrayVec::new();
     let mut last = HOST;
     for slave in slaves {
@@ -36,7 +45,11 @@ fn ports_of(slaves: &[SlaveSpec]) -> ArrayVec<Option<u32>, 16> {
 }
 
 // How many slaves serve EoE.
-fn served(slaves: &[SlaveSpec]) -> u32 {
+fn served(slaves: &[SlaveSpec]) -> u32
+    requires { length slaves.now ≤ 16 }
+    ensures value { result ≡ served_of slaves.now }
+    ensures few { result ≤ 16 }
+{
     let mut count = 0;
     for slave in slaves {
         if slave.eoe {
@@ -47,12 +60,16 @@ fn served(slaves: &[SlaveSpec]) -> u32 {
 }
 
 // A packet of its own.
-fn copy(packet: &Packet) -> Packet {
+fn copy(packet: &Packet) -> Packet
+    ensures { result.items ≡ packet.now.items }
+{
     buffer_of(packet.as_slice())
 }
 
 // Copies of the packets.
-fn copies(alloc: Global, packets: &[Packet]) -> Result<Rows<Packet>, NoMemory> {
+fn copies(alloc: Global, packets: &[Packet]) -> Result<Rows<Packet>, NoMemory>
+    ensures { IfOk result (λ rows. rows ≡ packets.now) }
+{
     let mut rows = Rows::new(alloc);
     for packet in packets {
         rows.add(copy(packet))?;
@@ -67,7 +84,12 @@ fn has_host(ports: Ports) -> bool {
 
 impl Lan {
     /// A switch with a port for the host and one for each slave that serves EoE, and the packets of the host.
-    pub fn new(alloc: Global, plan: &Scenario) -> Result<Lan, NoMemory> {
+    pub fn new(alloc: Global, plan: &Scenario) -> Result<Lan, NoMemory>
+        requires { IsPlan plan.now }
+        ensures host { IfOk result (λ lan. lan.host ≡ plan.now.host) }
+        ensures entered { IfOk result (λ lan. lan.entered ≡ 0) }
+        ensures ports { IfOk result (λ lan. lan.ports.items ≡ ports_from 0 plan.now.slaves) }
+    {
         let slaves = plan.slaves.as_slice();
         let switch = Switch::new(alloc, 1 + served(slaves))?;
         let host = copies(alloc, plan.host.as_slice())?;

@@ -85,7 +85,7 @@ fn access_len(up: &BringUp) -> usize
 }
 
 impl<H: Hand> Stop<H> {
-    ghost use Rattle.std.specs.Prelude.{◌≡◌, ◌≤◌, ◌<◌, ◌-◌, ◌++◌, ◌∷◌, [], ℕ, List, map, All, length, true};
+    ghost use Rattle.std.specs.Prelude.{◌≡◌, ◌≤◌, ◌<◌, ◌-◌, ◌++◌, ◌∷◌, [], ℕ, List, map, All, length, true, false};
     ghost use Rattle.datagrams.specs.Datagram as Raw;
     ghost use Rattle.datagrams.specs.Frame.{IsPart, IsBegun};
     ghost use Rattle.exchange_model.specs.Exchange.{Speech};
