@@ -1,6 +1,7 @@
 -- The record of a run.
-use Rattle.std.specs.Prelude.{◌≡◌, [], false}
+use Rattle.std.specs.Prelude.{◌≡◌, ◌≤◌, [], false, length}
 use Rattle.run_book.specs.declared.book.Book.{Book}
+use Rattle.run_book.specs.declared.book.SentFrame.{SentFrame}
 use Rattle.run_book.specs.declared.book.Ending.TheVariants.{Unfinished}
 
 -- a book in which nothing stands yet
@@ -12,3 +13,8 @@ pub record IsNew (book : Book) : Type 0 where
   pub host : book.host ≡ []
   pub serving : book.serving ≡ false
   pub ending : book.ending ≡ Unfinished
+
+-- a frame fits Ethernet's largest, and so does what returned of it
+pub record IsShort (f : SentFrame) : Type 0 where
+  pub sent : length f.sent ≤ 1514
+  pub back : length f.back ≤ 1514

@@ -2,7 +2,7 @@
 #![tactic(auto)]
 
 mod notes;
-mod record;
+mod log;
 mod running;
 mod session;
 

@@ -1,6 +1,9 @@
-use run_book::{Answer, Begun, Epoch, Reply};
+ghost use Rattle.std.specs.Prelude.{◌≡◌, ◌++◌, ◌∷◌, [], IfOk, OnOk, false, slice_get};
+ghost use Rattle.run_record.specs.Notes as the;
+
 use ec_fields::{NoMemory, Octets, Rows};
 use master_node::Origin;
+use run_book::{Answer, Begun, Epoch, Reply};
 use std::alloc::Global;
 
 /// What became of a slave so far, but for the slave itself.
@@ -20,13 +23,37 @@ pub struct Notes {
 }
 
 // A number of rows; it stands still at its type's end.
-fn count(rows: usize) -> u32 {
-    rows.min(u32::MAX as usize) as u32
+fn count(rows: usize) -> u32
+    ensures { result ≡ the.count rows }
+{
+    if rows < u32::MAX as usize {
+        rows as u32
+    } else {
+        u32::MAX
+    }
+}
+
+// The first row of an epoch: the service that caused the return to Init, or the next that begins.
+fn first_row(own: bool, begun: usize) -> usize
+    ensures { result ≡ the.first_row own begun }
+{
+    if own { begun.saturating_sub(1) } else { begun }
+}
+
+fn left_behind(origin: Origin, left: u32) -> u32
+    ensures { result ≡ the.left_behind origin left }
+{
+    match origin {
+        Origin::Script(_) => left.saturating_sub(1),
+        Origin::Forward(_) | Origin::Gateway(_) => left,
+    }
 }
 
 impl Notes {
     /// Nothing happened yet at a slave with so many scripted services.
-    pub fn new(alloc: Global, left: u32) -> Result<Notes, NoMemory> {
+    pub fn new(alloc: Global, left: u32) -> Result<Notes, NoMemory>
+        ensures { IfOk result (λ notes. notes ≡ the.new_notes left) }
+    {
         let mut epochs = Rows::new(alloc);
         epochs.add(Epoch {
             row: 0,
@@ -48,29 +75,27 @@ impl Notes {
     }
 
     /// A service came into hand as a frame was about to be made.
-    pub fn began(&mut self, origin: Origin, frame: u32) -> Result<(), NoMemory> {
+    pub fn began(&mut self, origin: Origin, frame: u32) -> Result<(), NoMemory>
+        ensures { OnOk result (self.new ≡ the.began self.old origin frame) }
+    {
         self.begun.add(Begun { origin, frame })?;
         self.in_hand = true;
-        if let Origin::Script(_) = origin {
-            self.left = self.left.saturating_sub(1);
-        }
+        self.left = left_behind(origin, self.left);
         Ok(())
     }
 
     /// The return of a frame completed the reply of the service in hand.
-    pub fn answered(&mut self, reply: Reply, frame: u32) -> Result<(), NoMemory> {
+    pub fn answered(&mut self, reply: Reply, frame: u32) -> Result<(), NoMemory>
+        ensures { OnOk result (self.new ≡ the.answered self.old reply frame) }
+    {
         self.in_hand = false;
         self.answers.add(Answer::Replied { reply, frame })
     }
 
-    /// The slave was given up at a frame that was lost.
-    pub fn given_up(&mut self, frame: u32) -> Result<(), NoMemory> {
-        self.doubt()?;
-        self.gave.add(frame)
-    }
-
     /// A service that is in hand isn't answered any more.
-    pub fn doubt(&mut self) -> Result<(), NoMemory> {
+    pub fn doubt(&mut self) -> Result<(), NoMemory>
+        ensures { OnOk result (self.new ≡ the.doubted self.old) }
+    {
         if !self.in_hand {
             return Ok(());
         }
@@ -78,21 +103,33 @@ impl Notes {
         self.answers.add(Answer::InDoubt)
     }
 
-    /// The return of a frame showed the slave in Init. Where a service caused it, an epoch begins with that service.
-    pub fn cleared(&mut self, own: bool, frame: u32) -> Result<(), NoMemory> {
-        let begun = self.begun.len();
-        let row = if own { begun.saturating_sub(1) } else { begun };
+    /// The slave was given up at a frame that was lost.
+    pub fn given_up(&mut self, frame: u32) -> Result<(), NoMemory>
+        ensures { OnOk result (self.new ≡ the.given_up self.old frame) }
+    {
+        self.doubt()?;
+        self.gave.add(frame)
+    }
+
+    /// The return of a frame showed the slave in Init: an epoch begins. Where a service caused it, that is its first.
+    pub fn cleared(&mut self, own: bool, frame: u32) -> Result<(), NoMemory>
+        ensures { OnOk result (self.new ≡ the.cleared self.old own frame) }
+    {
+        let row = count(first_row(own, self.begun.len()));
+        let emergencies = count(self.emergencies.len());
         self.epochs.add(Epoch {
-            row: count(row),
+            row,
             cleared: Some(frame),
             opened: None,
-            emergencies: count(self.emergencies.len()),
+            emergencies,
             packets: self.packets,
         })
     }
 
     /// The return of a frame showed the slave in the state that was opened.
-    pub fn opened(&mut self, frame: u32) {
+    pub fn opened(&mut self, frame: u32)
+        ensures { self.new ≡ the.opened self.old frame }
+    {
         let many = self.epochs.len();
         if many > 0 {
             self.epochs.at_mut(many - 1).opened = Some(frame);
@@ -104,8 +141,10 @@ impl Notes {
         self.packets = self.packets.saturating_add(1);
     }
 
-    /// The run ended: a service in hand is in doubt, and those that are left were not sent.
-    pub fn end(&mut self) -> Result<(), NoMemory> {
+    /// The run ended: a service in hand is in doubt, and what is left of the script was not sent.
+    pub fn end(&mut self) -> Result<(), NoMemory>
+        ensures { OnOk result (self.new ≡ record self.old { answers = the.ended self.old; in_hand = false }) }
+    {
         self.doubt()?;
         for _ in 0..self.left {
             self.answers.add(Answer::NotSent)?;
@@ -113,8 +152,17 @@ impl Notes {
         Ok(())
     }
 
-    /// The frame at which the slave was given up for good, where it outlives so many give-ups.
-    pub fn given_up_for_good(&self, recover: u32) -> Option<u32> {
+    /// Whether the slave was given up, for good or not.
+    pub fn has_given_up(&self) -> bool
+        ensures { result ≡ the.has_given_up self.now }
+    {
+        !self.gave.is_empty()
+    }
+
+    /// The frame at which the slave was given up for good, where it is taken up again so often.
+    pub fn given_up_for_good(&self, recover: u32) -> Option<u32>
+        ensures { result ≡ slice_get self.now.gave recover }
+    {
         self.gave.get(recover as usize).copied()
     }
 }

@@ -1,12 +1,23 @@
-use run_book::{Book, Ending};
+ghost use Rattle.std.specs.Prelude.{◌≡◌, IfOk, true, false};
+ghost use Rattle.segment_plan.specs.Sound.{IsPlan};
+ghost use Rattle.run_book.specs.Book.{IsNew};
+ghost use Rattle.std.specs.Bool.{OnTrue, OnFalse};
+ghost use Rattle.run_record.specs.Session.{session_rows, are_at_rest};
+ghost use Rattle.run_record.specs.Ran.{HasFrames, EndsSo, EndsAs};
+
 use crate::session::Session;
 use ec_fields::NoMemory;
+use run_book::{Book, Ending};
 use segment_plan::Scenario;
 use std::alloc::Global;
 
-// How a session ended that is settled or has spent its budget.
-fn ending_of(session: &Session) -> Ending {
-    if !session.settled() {
+// How a session ends that is settled, or has spent its budget.
+fn ending_of(session: &Session, settled: bool) -> Ending
+    requires settled { OnTrue settled (are_at_rest (session_rows session.now) ≡ true) }
+    requires spent { OnFalse settled (session.now.ring.number ≡ session.now.budget) }
+    ensures { EndsSo session.now result }
+{
+    if !settled {
         Ending::BudgetSpent
     } else if session.gave_up() {
         Ending::GivenUp
@@ -15,18 +26,34 @@ fn ending_of(session: &Session) -> Ending {
     }
 }
 
-fn run_through(alloc: Global, plan: &Scenario, book: &mut Book) -> Result<Ending, NoMemory> {
+fn run_through(alloc: Global, plan: &Scenario, book: &mut Book) -> Result<Ending, NoMemory>
+    requires plan { IsPlan plan.now }
+    requires new { IsNew book.old }
+    ensures frames { HasFrames plan.now book.new }
+    ensures ends { IfOk result (EndsAs plan.now book.new) }
+    ensures ending { IfOk result (λ ending. book.new.ending ≡ ending) }
+    ensures serving { book.new.serving ≡ false }
+{
     let mut session = Session::begin(alloc, plan, 0)?;
-    while !session.settled() && !session.spent() {
+    let mut settled = session.settled();
+    while !settled && !session.spent() {
         session.step(alloc, book)?;
+        settled = session.settled();
     }
-    let ending = ending_of(&session);
+    let ending = ending_of(&session, settled);
     Ok(session.finish(ending, book))
 }
 
-/// Runs a plan: frames are sent until nothing is left to do or the budget is spent. The book then has the frames and what became of
-/// each slave; after `NoMemory` it has the frames until then.
-pub fn run(alloc: Global, plan: &Scenario, book: &mut Book) -> Ending {
+/// Runs a plan: frames are sent until nothing is left to do or the budget is spent. The book then has the frames, each as the plan's slaves
+/// give it, and what became of each slave; after `NoMemory` it has the frames until then.
+pub fn run(alloc: Global, plan: &Scenario, book: &mut Book) -> Ending
+    requires plan { IsPlan plan.now }
+    requires new { IsNew book.old }
+    ensures frames { HasFrames plan.now book.new }
+    ensures ends { EndsAs plan.now book.new result }
+    ensures ending { book.new.ending ≡ result }
+    ensures serving { book.new.serving ≡ false }
+{
     match run_through(alloc, plan, book) {
         Ok(ending) => ending,
         Err(NoMemory) => {

@@ -1,26 +1,36 @@
-use run_book::{Book, Ending, SentFrame, SlaveBook};
+ghost use Rattle.std.specs.Prelude.{◌≡◌, ◌≢◌, ◌<◌, ◌≤◌, ◌==◌, ◌++◌, ◌∷◌, ◌⊎◌, [], ℕ, length, map, IfOk, OnOk, OnErr, All, true, slice_get};
+ghost use Rattle.std.specs.Bool.{OnTrue};
+ghost use Rattle.std.specs.List.{list_any};
+ghost use Rattle.run_record.specs.Notes.{has_given_up};
+ghost use Rattle.segment_plan.specs.Sound.{IsPlan, IsLaid, IsSlave};
+ghost use Rattle.slave_server.specs.Spec.{node_of};
+ghost use Rattle.run_book.specs.declared.book.SentFrame.{SentFrame as Recorded};
+ghost use Rattle.run_book.specs.declared.book.Ending.TheVariants as endings;
+ghost use Rattle.run_record.specs.Replay.{first_ring};
+ghost use Rattle.run_record.specs.Session.{budget_of, smaller_bound, slave_row, rests_at, slave_rows, session_rows, first_session, are_at_rest, some_given_up, KeepsRest, Steps, Stops};
+
 use crate::notes::Notes;
-use crate::record::{Moment, Record};
+use crate::log::{Log, Moment};
 use datagrams::FrameBuf;
 use ec_fields::{NoMemory, Octets, Rows};
-use mailbox_mail::Mail;
 use master_node::{Event, MasterNode};
-use segment_plan::{Scenario, bound};
+use run_book::{Book, Ending, SentFrame, SlaveBook};
+use segment_plan::{Scenario, SlaveSpec, bound};
 use segment_ring::{Fate, Ring, Wire};
 use slave_node::SlaveNode;
 use slave_server::{SlaveServer, node_of};
 use std::alloc::Global;
+use std::marker::Model;
 
 /// The most frames that a run may send.
 const MOST_FRAMES: u64 = 100_000_000;
 
-/// A run that is made frame by frame: a master and the ring of its slaves.
+/// A run that is made frame by frame: a master, and the ring of its slaves.
 #[derive(Drop)]
 pub struct Session {
     master: MasterNode,
     ring: Ring<SlaveNode<SlaveServer>>,
-    record: Record,
-    recover: u32,
+    log: Log,
     budget: u32,
     /// How many frames were sent.
     number: u32,
@@ -29,37 +39,93 @@ pub struct Session {
     back: FrameBuf,
 }
 
+impl Model for Session {
+    ghost use Rattle.std.specs.Prelude.{◌≡◌, ◌≤◌, ◌+◌, length};
+    ghost use Rattle.run_record.specs.Session.{SessionState};
+
+    ghost Value = { SessionState };
+
+    ghost view = { λ s. record { ring = s.ring; notes = s.log.notes; ports = 1 + length s.log.ports; recover = s.log.recover; budget = s.budget; serving = s.serving } };
+
+    ghost invariant = { λ s. (s.number ≡ s.ring.number) × (s.number ≤ s.budget) × (s.budget ≤ 100000000) × (length s.log.notes ≡ length s.ring.nodes) × (length s.ring.nodes ≤ 16) };
+}
+
 // The most frames that a run of the plan sends, or a serving of it that hears so many datagrams.
-fn budget_of(plan: &Scenario, grams: u32) -> u32 {
+fn budget_of(plan: &Scenario, grams: u32) -> u32
+    requires { IsLaid plan.now }
+    ensures value { result ≡ budget_of plan.now grams }
+    ensures most { result ≤ 100000000 }
+{
     match plan.budget {
         Some(frames) => frames,
-        None => bound(plan, grams).min(MOST_FRAMES) as u32,
+        None => smaller(bound(plan, grams)),
     }
 }
 
-// The slaves of a plan as they are switched on.
-fn new_nodes(alloc: Global, plan: &Scenario) -> Result<Rows<SlaveNode<SlaveServer>>, NoMemory> {
+// So many frames, or the most that a run may send.
+fn smaller(frames: u64) -> u32
+    ensures value { result ≡ smaller_bound frames }
+    ensures most { result ≤ 100000000 }
+{
+    if frames < MOST_FRAMES {
+        frames as u32
+    } else {
+        MOST_FRAMES as u32
+    }
+}
+
+fn copy_of<T: Copy + Drop>(alloc: Global, rows: &[T]) -> Result<Rows<T>, NoMemory>
+    ensures { IfOk result (λ copy. copy ≡ rows.now) }
+{
+    let mut copy = Rows::new(alloc);
+    for row in rows {
+        copy.add(*row)?;
+    }
+    Ok(copy)
+}
+
+// Slaves as they are switched on.
+fn new_nodes(
+    alloc: Global,
+    slaves: &[SlaveSpec],
+) -> Result<Rows<SlaveNode<SlaveServer>>, NoMemory>
+    requires { All IsSlave slaves.now }
+    ensures { IfOk result (λ nodes. nodes ≡ map node_of slaves.now) }
+{
     let mut nodes = Rows::new(alloc);
-    for spec in plan.slaves.as_slice() {
+    for spec in slaves {
         nodes.add(node_of(alloc, spec)?)?;
     }
     Ok(nodes)
 }
 
-fn new_ring(alloc: Global, plan: &Scenario) -> Result<Ring<SlaveNode<SlaveServer>>, NoMemory> {
-    let nodes = new_nodes(alloc, plan)?;
-    let mut paces = Rows::new(alloc);
-    for pace in plan.paces.as_slice() {
-        paces.add(*pace)?;
-    }
-    let mut lose = Rows::new(alloc);
-    for row in plan.lose.as_slice() {
-        lose.add(*row)?;
-    }
+fn new_ring(alloc: Global, plan: &Scenario) -> Result<Ring<SlaveNode<SlaveServer>>, NoMemory>
+    requires { IsPlan plan.now }
+    ensures { IfOk result (λ ring. ring ≡ first_ring plan.now) }
+{
+    let nodes = new_nodes(alloc, plan.slaves.as_slice())?;
+    let paces = copy_of(alloc, plan.paces.as_slice())?;
+    let lose = copy_of(alloc, plan.lose.as_slice())?;
     Ok(Ring::new(nodes, paces, lose))
 }
 
-fn slave_book(node: SlaveNode<SlaveServer>, notes: Notes, recover: u32) -> SlaveBook {
+// Whether one of the slaves was given up, for good or not.
+fn some_given_up(notes: &[Notes]) -> bool
+    ensures { result ≡ list_any has_given_up notes.now }
+{
+    notes.iter().any(|notes| notes.has_given_up())
+}
+
+// The row of a slave at the end of a run.
+fn slave_book(
+    node: SlaveNode<SlaveServer>,
+    notes: Notes,
+    recover: u32,
+) -> Result<SlaveBook, NoMemory>
+    ensures { IfOk result (λ row. row ≡ slave_row recover node notes) }
+{
+    let mut notes = notes;
+    notes.end()?;
     let given_up = notes.given_up_for_good(recover);
     let Notes {
         begun,
@@ -69,7 +135,7 @@ fn slave_book(node: SlaveNode<SlaveServer>, notes: Notes, recover: u32) -> Slave
         gave,
         ..
     } = notes;
-    SlaveBook {
+    Ok(SlaveBook {
         node,
         begun,
         answers,
@@ -77,35 +143,60 @@ fn slave_book(node: SlaveNode<SlaveServer>, notes: Notes, recover: u32) -> Slave
         epochs,
         gave,
         given_up,
-    }
+    })
 }
 
 // Appends a row for each slave, in ring order.
 fn put_slaves(
-    mut nodes: Rows<SlaveNode<SlaveServer>>,
-    mut all_notes: Rows<Notes>,
+    nodes: Rows<SlaveNode<SlaveServer>>,
+    notes: Rows<Notes>,
     recover: u32,
     into: &mut Rows<SlaveBook>,
-) -> Result<(), NoMemory> {
+) -> Result<(), NoMemory>
+    requires { length notes ≡ length nodes }
+    ensures { OnOk result (into.new ≡ into.old ++ slave_rows recover nodes notes) }
+{
+    let mut nodes = nodes;
+    let mut notes = notes;
     let Some(node) = nodes.pop() else {
         return Ok(());
     };
-    let Some(mut notes) = all_notes.pop() else {
+    let Some(last) = notes.pop() else {
         return Ok(());
     };
-    put_slaves(nodes, all_notes, recover, into)?;
-    notes.end()?;
-    into.add(slave_book(node, notes, recover))
+    put_slaves(nodes, notes, recover, into)?;
+    into.add(slave_book(node, last, recover)?)
+}
+
+// A frame as it was sent, its fate and what came back stand in the book.
+fn put_frame(
+    alloc: Global,
+    sent: &FrameBuf,
+    fate: Fate,
+    back: &FrameBuf,
+    book: &mut Book,
+) -> Result<(), NoMemory>
+    ensures ok { OnOk result (book.new.frames ≡ book.old.frames ++ record { sent = sent.now.items; fate = fate; back = back.now.items } ∷ []) }
+    ensures err { OnErr result (book.new.frames ≡ book.old.frames) }
+    ensures sent_fits { length sent.now.items ≤ 1514 }
+    ensures back_fits { length back.now.items ≤ 1514 }
+    ensures rest { (ports : ℕ) → KeepsRest ports book.old book.new }
+{
+    let sent = Octets::copy_of(alloc, sent.as_slice())?;
+    let back = Octets::copy_of(alloc, back.as_slice())?;
+    book.frames.add(SentFrame { sent, fate, back })
 }
 
 impl Session {
     /// A run of the plan before its first frame, or a serving of it that hears so many datagrams.
-    pub fn begin(alloc: Global, plan: &Scenario, grams: u32) -> Result<Session, NoMemory> {
+    pub fn begin(alloc: Global, plan: &Scenario, grams: u32) -> Result<Session, NoMemory>
+        requires { IsPlan plan.now }
+        ensures { IfOk result (λ session. session ≡ first_session plan.now grams) }
+    {
         Ok(Session {
             master: MasterNode::new(alloc, plan)?,
             ring: new_ring(alloc, plan)?,
-            record: Record::new(alloc, plan)?,
-            recover: plan.recover,
+            log: Log::new(alloc, plan)?,
             budget: budget_of(plan, grams),
             number: 0,
             serving: grams > 0,
@@ -115,72 +206,85 @@ impl Session {
     }
 
     /// Whether nothing is left to do, for the master and at each live slave.
-    pub fn settled(&self) -> bool {
-        !self.master.wants() && self.are_settled()
+    pub fn settled(&self) -> bool
+        ensures { OnTrue result (are_at_rest (session_rows self.now) ≡ true) }
+    {
+        !self.master.wants() && self.are_at_rest()
     }
 
     // Whether each live slave has nothing left to do.
-    fn are_settled(&self) -> bool {
-        for at in 0..self.record.notes.len() {
-            if self.master.is_live(at as u32) && !self.is_settled(at as u32) {
+    fn are_at_rest(&self) -> bool
+        ensures { result ≡ are_at_rest (session_rows self.now) }
+    {
+        for (at, notes) in self.log.notes.as_slice().iter().enumerate() {
+            if !self.is_at_rest(at as u32, notes) {
                 return false;
             }
         }
         true
     }
 
-    fn is_settled(&self, at: u32) -> bool {
+    // Whether the slave at a place is given up for good or has nothing left to do.
+    fn is_at_rest(&self, at: u32, notes: &Notes) -> bool
+        ensures { result ≡ rests_at self.now.recover (slice_get self.now.ring.nodes at) notes.now }
+    {
         match self.ring.node(at) {
-            Some(node) => node.settled(),
+            Some(node) => {
+                notes.given_up_for_good(self.log.recover).is_some() || node.settled()
+            }
             None => true,
         }
     }
 
     /// Whether as many frames were sent as the budget allows.
-    pub fn spent(&self) -> bool {
+    pub fn spent(&self) -> bool
+        ensures { result ≡ (self.now.ring.number == self.now.budget) }
+    {
         self.number == self.budget
     }
 
     /// Whether a slave was given up, for good or not.
-    pub fn gave_up(&self) -> bool {
-        self.record
-            .notes
-            .as_slice()
-            .iter()
-            .any(|notes| !notes.gave.is_empty())
+    pub fn gave_up(&self) -> bool
+        ensures { result ≡ some_given_up (session_rows self.now) }
+    {
+        let _ = &self.number;
+        some_given_up(self.log.notes.as_slice())
     }
 
     /// The station of each slave and the length of its mailbox, while it is live.
     pub fn stations(&self) -> &[Option<(u16, u16)>] {
-        self.record.stations.as_slice()
+        self.log.stations.as_slice()
     }
 
-    /// Queues a mail that is passed on to a slave as it is; `false` exactly where 64 wait for that slave.
-    pub fn ask(&mut self, slave: u32, key: usize, mail: &Mail) -> bool {
-        self.master.ask(slave, key, mail)
-    }
-
-    /// Sends one frame, and the processors of the slaves make their steps behind it. The frame and what happened stand in the book.
-    pub fn step(&mut self, alloc: Global, book: &mut Book) -> Result<(), NoMemory> {
+    /// Sends one frame, behind which the processors of the slaves make their steps. The frame and what happened stand in the book.
+    pub fn step(&mut self, alloc: Global, book: &mut Book) -> Result<(), NoMemory>
+        requires { self.old.ring.number < self.old.budget }
+        ensures ok { OnOk result ((f : Recorded) × Steps self.old book.old self.new book.new f) }
+        ensures err { OnErr result (Stops self.old book.old book.new) }
+    {
         let frame = self.number;
         self.master.next(&mut self.sent);
-        self.record
-            .note(alloc, &self.master, Moment::Before(frame), book)?;
+        let before = Moment { frame, sent: frame };
+        self.log.note(alloc, &self.master, before, book)?;
         let fate = self.ring.exchange(&self.sent, &mut self.back);
         self.number += 1;
-        self.put_frame(alloc, fate, book)?;
+        put_frame(alloc, &self.sent, fate, &self.back, book)?;
+        self.tell(fate);
+        let behind = Moment {
+            frame,
+            sent: frame + 1,
+        };
+        self.log.note(alloc, &self.master, behind, book)
+    }
+
+    // The master gets its frame back, or learns that it is lost.
+    fn tell(&mut self, fate: Fate)
+        ensures { self.new ≡ self.old }
+    {
         match fate {
             Fate::Pass => self.master.returned(&self.back),
             Fate::Lost { .. } => self.master.lost(),
         }
-        self.record
-            .note(alloc, &self.master, Moment::Behind(frame), book)
-    }
-
-    fn put_frame(&self, alloc: Global, fate: Fate, book: &mut Book) -> Result<(), NoMemory> {
-        let sent = Octets::copy_of(alloc, self.sent.as_slice())?;
-        let back = Octets::copy_of(alloc, self.back.as_slice())?;
-        book.frames.add(SentFrame { sent, fate, back })
     }
 
     /// What happened in the last step.
@@ -189,16 +293,25 @@ impl Session {
     }
 
     /// Ends the run: a row of each slave and the ending stand in the book. It answers that ending, or `NoMemory`.
-    pub fn finish(self, ending: Ending, book: &mut Book) -> Ending {
+    pub fn finish(self, ending: Ending, book: &mut Book) -> Ending
+        requires { book.old.slaves ≡ [] }
+        ensures ending { book.new.ending ≡ result }
+        ensures frames { book.new.frames ≡ book.old.frames }
+        ensures switch { book.new.switch ≡ book.old.switch }
+        ensures serving { book.new.serving ≡ self.serving }
+        ensures answers { (result ≡ ending) ⊎ (result ≡ endings.NoMemory) }
+        ensures rows { result ≢ endings.NoMemory → book.new.slaves ≡ session_rows self }
+        ensures many { length self.notes ≡ length self.ring.nodes }
+    {
         let Session {
             ring,
-            record,
-            recover,
+            log,
             serving,
             ..
         } = self;
+        let put = put_slaves(ring.into_nodes(), log.notes, log.recover, &mut book.slaves);
         book.serving = serving;
-        book.ending = match put_slaves(ring.into_nodes(), record.notes, recover, &mut book.slaves) {
+        book.ending = match put {
             Ok(()) => ending,
             Err(NoMemory) => Ending::NoMemory,
         };

@@ -11,6 +11,7 @@ use Rattle.segment_ring.specs.declared.wire.Fate.TheVariants.{Pass, Lost}
 use Rattle.eoe_switch.specs.Switch.{switched}
 use Rattle.master_node.specs.declared.event.Origin.{Origin}
 use Rattle.master_node.specs.declared.event.Origin.TheVariants.{Script, Forward, Gateway}
+use Rattle.run_book.specs.Ports.{ports_of}
 use Rattle.run_book.specs.declared.book.Book.{Book}
 use Rattle.run_book.specs.declared.book.SlaveBook.{SlaveBook}
 use Rattle.run_book.specs.declared.book.Begun.{Begun}
@@ -146,10 +147,6 @@ lines_of_slave number spec row =
 abbrev pub slave_lines : ℕ → List SlaveSpec → List SlaveBook → List (List ℕ)
 slave_lines number (spec ∷ specs) (row ∷ rows) = lines_of_slave number spec row ++ slave_lines (number + 1) specs rows
 slave_lines number _ _ = []
-
--- the ports of the switch: the host's, and one for each slave that serves EoE
-abbrev pub ports_of : List SlaveSpec → ℕ
-ports_of specs = 1 + count_by (λ (s : SlaveSpec). s.eoe) specs
 
 -- how many packets were dropped at full queues
 abbrev pub dropped_line : ℕ → List ℕ

@@ -1,4 +1,5 @@
-ghost use Rattle.std.specs.Prelude.{◌≡◌, ◌≤◌, ◌++◌, length, IfOk, OnOk, OnErr};
+ghost use Rattle.std.specs.Prelude.{◌≡◌, ◌≤◌, ◌++◌, length, All, false, IfOk, OnOk, OnErr};
+ghost use Rattle.run_book.specs.Ports.{ports_of, IsAtPort};
 ghost use Rattle.run_report.specs.Report.{is_lost, frames_line, dropped_line, ending_line, report_lines, Extends};
 
 use crate::drops::drops;

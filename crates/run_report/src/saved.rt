@@ -1,5 +1,8 @@
-ghost use Rattle.std.specs.Prelude.{◌≡◌, ◌<◌};
-ghost use Rattle.run_report.specs.Saved.{stamp_of};
+ghost use Rattle.std.specs.Prelude.{◌≡◌, ◌≤◌, ◌<◌, ◌++◌, length, All, OnOk, OnErr};
+ghost use Rattle.pcap_frames.specs.Capture.{packets_text, StartsWith};
+ghost use Rattle.pcap_frames.specs.declared.order.Order.TheVariants.{LowFirst};
+ghost use Rattle.run_book.specs.Book.{IsShort};
+ghost use Rattle.run_report.specs.Saved.{stamp_of, packets_of, capture_of};
 
 use ec_fields::{NoMemory, Octets};
 use pcap_frames::{Stamp, write_head, write_packet};
@@ -21,7 +24,12 @@ fn stamp_of(number: usize) -> Stamp
 }
 
 // A frame as it was sent, and as it returned where it did.
-fn save_frame(number: usize, frame: &SentFrame, into: &mut Octets) -> Result<(), NoMemory> {
+fn save_frame(number: usize, frame: &SentFrame, into: &mut Octets) -> Result<(), NoMemory>
+    requires number { number < 100000000 }
+    requires short { IsShort frame.now }
+    ensures ok { OnOk result (into.new ≡ into.old ++ packets_text LowFirst (packets_of number frame.now)) }
+    ensures err { OnErr result (StartsWith into.old into.new) }
+{
     let stamp = stamp_of(number);
     write_packet(into, stamp, frame.sent.bytes())?;
     match frame.fate {
@@ -32,7 +40,12 @@ fn save_frame(number: usize, frame: &SentFrame, into: &mut Octets) -> Result<(),
 
 /// Appends the capture of the frames of a run: each as it was sent and, where it returned, as it returned, both at the time of its number
 /// in microseconds. After `NoMemory` what `into` held before is a prefix of what it holds.
-pub fn saved(frames: &[SentFrame], into: &mut Octets) -> Result<(), NoMemory> {
+pub fn saved(frames: &[SentFrame], into: &mut Octets) -> Result<(), NoMemory>
+    requires few { length frames.now ≤ 100000000 }
+    requires short { All IsShort frames.now }
+    ensures ok { OnOk result (into.new ≡ into.old ++ capture_of frames.now) }
+    ensures err { OnErr result (StartsWith into.old into.new) }
+{
     write_head(into)?;
     for (number, frame) in frames.iter().enumerate() {
         save_frame(number, frame, into)?;

@@ -1,0 +1,51 @@
+-- One step of a session.
+use Rattle.std.proofs.Common.{◌≡◌, ℕ, suc, ◌+◌, ◌<◌, ◌≤◌, ◌⊎◌, inl, inr, List, [], ◌∷◌, ◌++◌, length, ap, sym, ◌∙◌, subst, arith}
+use Rattle.std.specs.Prelude.{Result, Ok, Err, OnOk, OnErr}
+use Rattle.segment_ring.specs.Ring.{RingState}
+use Rattle.slave_steps.specs.Node.{Node}
+use Rattle.slave_server.specs.declared.server.SlaveServer.{SlaveServer}
+use Rattle.run_book.specs.Book.{IsShort}
+use Rattle.run_book.specs.declared.book.Book.{Book}
+use Rattle.run_book.specs.declared.book.SentFrame.{SentFrame}
+use Rattle.run_record.specs.declared.notes.Notes.{Notes}
+use Rattle.run_record.specs.Replay.{behind, IsRecorded}
+use Rattle.run_record.specs.Session.{SessionState, KeepsRest, SameFrames, Stops}
+use Rattle.run_record.proofs.Kept.{rest_more}
+use Rattle.run_record.proofs.Replays.{length_behind}
+
+-- what holds whichever way a call ended
+pub any_ok : {T E P : Type 0} (r : Result T E) → P → OnOk r P
+any_ok (Ok v) p = p
+any_ok (Err e) p = tt
+
+pub any_err : {T E P : Type 0} (r : Result T E) → P → OnErr r P
+any_err (Ok v) p = tt
+any_err (Err e) p = p
+
+-- what a session keeps true
+abbrev pub Holds : ℕ → ℕ → List Notes → RingState (Node SlaveServer) → Type 0
+Holds number budget notes ring = (number ≡ ring.number) × (number ≤ budget) × (budget ≤ 100000000) × (length notes ≡ length ring.nodes) × (length ring.nodes ≤ 16)
+
+pub holds_on : (number budget : ℕ) (notes notes' : List Notes) (ring ring' : RingState (Node SlaveServer)) (sent : List ℕ) → Holds number budget notes ring →
+    ring.number < budget → length notes' ≡ length notes → ring' ≡ behind ring sent → Holds (number + 1) budget notes' ring'
+holds_on number budget notes notes' ring ring' sent h left same is =
+    let n : ring'.number ≡ suc ring.number = ap (λ (r : RingState (Node SlaveServer)). r.number) is in
+    let many : length ring'.nodes ≡ length ring.nodes = ap (λ (r : RingState (Node SlaveServer)). length r.nodes) is ∙ length_behind ring sent in
+    let first = h.0 in
+    let few = h.4 in
+    (omega (arith, n, first), omega (arith, first, left), h.2, same ∙ h.3 ∙ sym many, omega (arith, many, few))
+
+-- memory ran out before the frame stood in the book
+pub no_frame : (s : SessionState) (ports : ℕ) (b b1 b2 : Book) → ports ≡ s.ports → SameFrames ports b b1 → b2.frames ≡ b1.frames → KeepsRest ports b1 b2 → Stops s b b2
+no_frame s ports b b1 b2 e h same k = record {
+  frames = inl (same ∙ h.frames);
+  rest = subst (λ (n : ℕ). KeepsRest n b b2) e (rest_more ports h.rest k);
+}
+
+-- memory ran out behind that
+pub one_frame : (s : SessionState) (ports : ℕ) (b b1 b2 b3 : Book) (f : SentFrame) → ports ≡ s.ports → SameFrames ports b b1 → b2.frames ≡ b1.frames ++ f ∷ [] → KeepsRest ports b1 b2 → SameFrames ports b2 b3 →
+    IsRecorded s.ring f → IsShort f → Stops s b b3
+one_frame s ports b b1 b2 b3 f e h put k l recorded short = record {
+  frames = inr (f, l.frames ∙ put ∙ ap (λ fs. fs ++ f ∷ []) h.frames, recorded, short);
+  rest = subst (λ (n : ℕ). KeepsRest n b b3) e (rest_more ports h.rest (rest_more ports k l.rest));
+}

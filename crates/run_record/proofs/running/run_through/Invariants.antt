@@ -1,0 +1,14 @@
+use Rattle.std.proofs.Common.{◌≡◌, ◌-◌, true}
+use Rattle.std.specs.Bool.{OnTrue}
+use Rattle.run_record.specs.Session.{session_rows, are_at_rest}
+use Rattle.run_record.proofs.Underway.{IsUnderway}
+use Rattle.run_record.proofs.running.run_through.Given as goal
+
+abbrev pub invariant-loop-settled : goal.invariant-loop-settled
+invariant-loop-settled l = record {
+  underway : IsUnderway l.plan l.session l.book;
+  settled : OnTrue l.settled (are_at_rest (session_rows l.session) ≡ true);
+}
+
+abbrev pub decreases-loop-settled : goal.decreases-loop-settled
+decreases-loop-settled l = l.session.budget - l.session.ring.number

@@ -1,0 +1,20 @@
+use Rattle.std.proofs.Common.{◌≡◌, ◌≤◌, length, map, refl, sym, ap, ◌∙◌, arith}
+use Rattle.std.proofs.lemmas.List.{length-map}
+use Rattle.segment_ring.specs.Ring.{RingState}
+use Rattle.slave_steps.specs.Node.{Node}
+use Rattle.slave_server.specs.Spec.{node_of}
+use Rattle.slave_server.specs.declared.server.SlaveServer.{SlaveServer}
+use Rattle.run_record.proofs.Firsts.{length_first}
+use Rattle.run_record.proofs.session.Session.begin.Goals as goal
+
+pub invariant_of-result : goal.invariant_of-result
+invariant_of-result c =
+    let nodes = ap (λ (r : RingState (Node SlaveServer)). length r.nodes) c.in_ok-new_ring.ensures ∙ length-map c.args.plan.now.slaves node_of in
+    let notes = ap length c.in_ok-new-2.ensures.notes ∙ length_first c.args.plan.now.services 0 c.args.plan.now.slaves in
+    let few = c.requires.laid.few_slaves in (
+      sym (ap (λ (r : RingState (Node SlaveServer)). r.number) c.in_ok-new_ring.ensures),
+      omega arith,
+      c.budget_of.ensures.most,
+      notes ∙ sym nodes,
+      omega (arith, nodes, few),
+    )

@@ -1,0 +1,76 @@
+-- What became of a slave so far, one event after the other.
+use Rattle.std.specs.Prelude.{ℕ, ◌-◌, Bool, true, false, if◌then◌else◌, nat_lt, List, [], ◌∷◌, ◌++◌, length, replicate, slice_get, slice_set, Option, Some, None}
+use Rattle.master_node.specs.declared.event.Origin.{Origin}
+use Rattle.master_node.specs.declared.event.Origin.TheVariants.{Script, Forward, Gateway}
+use Rattle.run_book.specs.declared.book.Answer.{Answer}
+use Rattle.run_book.specs.declared.book.Answer.TheVariants.{Replied, InDoubt, NotSent}
+use Rattle.run_book.specs.declared.book.Epoch.{Epoch}
+use Rattle.run_book.specs.declared.book.Reply.{Reply}
+use Rattle.run_record.specs.declared.notes.Notes.{Notes}
+
+-- a number of rows; it stands still at its type's end
+abbrev pub count : ℕ → ℕ
+count rows = if nat_lt rows 4294967295 then rows else 4294967295
+
+-- the epoch with which a slave begins
+abbrev pub first_epoch : Epoch
+first_epoch = record { row = 0; cleared = None; opened = None; emergencies = 0; packets = 0 }
+
+-- nothing happened yet at a slave with so many scripted services
+abbrev pub new_notes : ℕ → Notes
+new_notes left =
+    record { begun = []; answers = []; emergencies = []; epochs = first_epoch ∷ []; gave = []; in_hand = false; packets = 0; left = left }
+
+-- the scripted services that are left behind one that came into hand
+abbrev pub left_behind : Origin → ℕ → ℕ
+left_behind (Script number) left = left - 1
+left_behind (Forward number) left = left
+left_behind (Gateway number) left = left
+
+-- a service came into hand as a frame was about to be made
+abbrev pub began : Notes → Origin → ℕ → Notes
+began n origin frame =
+    record n { begun = n.begun ++ record { origin = origin; frame = frame } ∷ []; in_hand = true; left = left_behind origin n.left }
+
+-- the return of a frame completed the reply of the service in hand
+abbrev pub answered : Notes → Reply → ℕ → Notes
+answered n reply frame = record n { answers = n.answers ++ Replied reply frame ∷ []; in_hand = false }
+
+-- the answers once a service in hand isn't awaited any more
+abbrev pub answers_doubted : Notes → List Answer
+answers_doubted n = if n.in_hand then n.answers ++ InDoubt ∷ [] else n.answers
+
+abbrev pub doubted : Notes → Notes
+doubted n = record n { answers = answers_doubted n; in_hand = false }
+
+-- the slave was given up at a frame that was lost
+abbrev pub given_up : Notes → ℕ → Notes
+given_up n frame = record n { answers = answers_doubted n; in_hand = false; gave = n.gave ++ frame ∷ [] }
+
+-- the first row of an epoch: the service that caused the return to Init, or the next that begins
+abbrev pub first_row : Bool → ℕ → ℕ
+first_row own begun = if own then begun - 1 else begun
+
+-- the return of a frame showed the slave in Init: an epoch begins
+abbrev pub cleared : Notes → Bool → ℕ → Notes
+cleared n own frame =
+    let row = count (first_row own (length n.begun)) in
+    let emergencies = count (length n.emergencies) in
+    record n { epochs = n.epochs ++ record { row = row; cleared = Some frame; opened = None; emergencies = emergencies; packets = n.packets } ∷ [] }
+
+-- the last epoch is opened
+abbrev pub last_opened : List Epoch → ℕ → Option Epoch → List Epoch
+last_opened epochs frame None = epochs
+last_opened epochs frame (Some epoch) = slice_set epochs (length epochs - 1) (record epoch { opened = Some frame })
+
+-- the return of a frame showed the slave in the state that was opened
+abbrev pub opened : Notes → ℕ → Notes
+opened n frame = record n { epochs = last_opened n.epochs frame (slice_get n.epochs (length n.epochs - 1)) }
+
+-- the run ended: a service in hand is in doubt, and what is left of the script was not sent
+abbrev pub ended : Notes → List Answer
+ended n = answers_doubted n ++ replicate n.left NotSent
+
+-- the slave was given up, for good or not
+abbrev pub has_given_up : Notes → Bool
+has_given_up n = nat_lt 0 (length n.gave)

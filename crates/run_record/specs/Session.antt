@@ -1,0 +1,137 @@
+-- A run that is made frame by frame.
+use Rattle.std.specs.Prelude.{◌≡◌, ◌<◌, ◌≤◌, ℕ, ◌+◌, ◌==◌, Bool, true, nat_lt, nat_le, if◌then◌else◌, not, ◌||◌, List, [], ◌∷◌, ◌++◌, ◌⊎◌, length, All, count_by, slice_get, Option, Some, None, is_some}
+use Rattle.std.specs.List.{list_all, list_any}
+use Rattle.segment_plan.specs.Bound.{bound_of}
+use Rattle.segment_plan.specs.declared.plan.Scenario.{Scenario}
+use Rattle.segment_plan.specs.declared.service.Service.{Service}
+use Rattle.segment_plan.specs.declared.slave.SlaveSpec.{SlaveSpec}
+use Rattle.segment_ring.specs.Ring.{RingState}
+use Rattle.slave_steps.specs.Node.{Node, is_settled}
+use Rattle.slave_server.specs.Serving.{next_mail}
+use Rattle.slave_server.specs.declared.server.SlaveServer.{SlaveServer}
+use Rattle.run_book.specs.Book.{IsShort}
+use Rattle.run_book.specs.Ports.{ports_of, IsAtPort}
+use Rattle.run_book.specs.declared.book.Book.{Book}
+use Rattle.run_book.specs.declared.book.SentFrame.{SentFrame}
+use Rattle.run_book.specs.declared.book.SlaveBook.{SlaveBook}
+use Rattle.run_record.specs.declared.notes.Notes.{Notes}
+use Rattle.run_record.specs.declared.log.Log.{Log}
+use Rattle.run_record.specs.Notes.{new_notes, ended}
+use Rattle.run_record.specs.Replay.{first_ring, behind, IsRecorded}
+
+-- a session: the ring with its slaves, what became of each slave, the ports of its switch, how often a slave is taken up again, the most
+-- frames, and whether requests are served
+pub record SessionState : Type 0 where
+  pub ring : RingState (Node SlaveServer)
+  pub notes : List Notes
+  pub ports : ℕ
+  pub recover : ℕ
+  pub budget : ℕ
+  pub serving : Bool
+
+-- the frames that a plan without a budget gets
+abbrev pub smaller_bound : ℕ → ℕ
+smaller_bound frames = if nat_lt frames 100000000 then frames else 100000000
+
+abbrev pub budget_or : Option ℕ → ℕ → ℕ
+budget_or (Some frames) bound = frames
+budget_or None bound = smaller_bound bound
+
+-- the most frames that a run of the plan sends, or a serving of it that hears so many datagrams
+abbrev pub budget_of : Scenario → ℕ → ℕ
+budget_of plan grams = budget_or plan.budget (bound_of plan grams)
+
+-- how many services the script has for a slave
+abbrev pub scripted : List (ℕ × Service) → ℕ → ℕ
+scripted services slave = count_by (λ (row : ℕ × Service). row.0 == slave) services
+
+-- nothing happened yet at the slaves from a number on
+abbrev pub first_notes : List (ℕ × Service) → ℕ → List SlaveSpec → List Notes
+first_notes services number [] = []
+first_notes services number (spec ∷ specs) = new_notes (scripted services number) ∷ first_notes services (number + 1) specs
+
+-- a session of a plan before its first frame
+abbrev pub first_session : Scenario → ℕ → SessionState
+first_session plan grams = record {
+  ring = first_ring plan;
+  notes = first_notes plan.services 0 plan.slaves;
+  ports = ports_of plan.slaves;
+  recover = plan.recover;
+  budget = budget_of plan grams;
+  serving = nat_lt 0 grams;
+}
+
+-- the row of a slave, should the run end here
+abbrev pub slave_row : ℕ → Node SlaveServer → Notes → SlaveBook
+slave_row recover node n = record {
+  node = node;
+  begun = n.begun;
+  answers = ended n;
+  emergencies = n.emergencies;
+  epochs = n.epochs;
+  gave = n.gave;
+  given_up = slice_get n.gave recover;
+}
+
+-- the rows of slaves, in ring order
+abbrev pub slave_rows : ℕ → List (Node SlaveServer) → List Notes → List SlaveBook
+slave_rows recover (node ∷ nodes) (n ∷ notes) = slave_row recover node n ∷ slave_rows recover nodes notes
+slave_rows recover _ _ = []
+
+-- the rows of a session's slaves
+abbrev pub session_rows : SessionState → List SlaveBook
+session_rows s = slave_rows s.recover s.ring.nodes s.notes
+
+-- a slave that is live has nothing left to do
+abbrev pub is_at_rest : SlaveBook → Bool
+is_at_rest row = is_some row.given_up || is_settled next_mail row.node
+
+-- the slave of a place, where there is one, has nothing left to do
+abbrev pub rests_at : ℕ → Option (Node SlaveServer) → Notes → Bool
+rests_at recover (Some node) n = is_at_rest (slave_row recover node n)
+rests_at recover None n = true
+
+abbrev pub are_at_rest : List SlaveBook → Bool
+are_at_rest rows = list_all is_at_rest rows
+
+-- a slave was given up, for good or not
+abbrev pub has_given_up : SlaveBook → Bool
+has_given_up row = nat_lt 0 (length row.gave)
+
+abbrev pub some_given_up : List SlaveBook → Bool
+some_given_up rows = list_any has_given_up rows
+
+-- what a step leaves of a book: its events at the switch stay at one of so many ports
+pub record KeepsRest (ports : ℕ) (b b' : Book) : Type 0 where
+  pub slaves : b'.slaves ≡ b.slaves
+  pub serving : b'.serving ≡ b.serving
+  pub at_port : All (IsAtPort ports) b.switch → All (IsAtPort ports) b'.switch
+
+-- what the events of a step leave of a book
+pub record SameFrames (ports : ℕ) (b b' : Book) : Type 0 where
+  pub frames : b'.frames ≡ b.frames
+  pub rest : KeepsRest ports b b'
+
+-- the slaves and ports of a log stay as many
+pub record SameSlaves (r r' : Log) : Type 0 where
+  pub notes : length r'.notes ≡ length r.notes
+  pub stations : length r'.stations ≡ length r.stations
+  pub ports : r'.ports ≡ r.ports
+  pub recover : r'.recover ≡ r.recover
+
+-- ONE STEP: one frame more stands in the book, as the ring before gives it, and the ring is the one behind that frame
+pub record Steps (s : SessionState) (b : Book) (s' : SessionState) (b' : Book) (f : SentFrame) : Type 0 where
+  pub put : b'.frames ≡ b.frames ++ f ∷ []
+  pub recorded : IsRecorded s.ring f
+  pub short : IsShort f
+  pub ring : s'.ring ≡ behind s.ring f.sent
+  pub ports : s'.ports ≡ s.ports
+  pub recover : s'.recover ≡ s.recover
+  pub budget : s'.budget ≡ s.budget
+  pub serving : s'.serving ≡ s.serving
+  pub rest : KeepsRest s.ports b b'
+
+-- memory ran out in a step: the book has the frame of the step, or not
+pub record Stops (s : SessionState) (b b' : Book) : Type 0 where
+  pub frames : (b'.frames ≡ b.frames) ⊎ ((f : SentFrame) × (b'.frames ≡ b.frames ++ f ∷ []) × IsRecorded s.ring f × IsShort f)
+  pub rest : KeepsRest s.ports b b'

@@ -1,0 +1,275 @@
+ghost use Rattle.std.specs.Prelude.{◌≡◌, ◌≤◌, ◌+◌, length, IfOk};
+ghost use Rattle.std.specs.Bool.{OnTrue};
+ghost use Rattle.segment_plan.specs.Sound.{IsLaid};
+ghost use Rattle.run_book.specs.Ports.{ports_of, IsAtPort};
+ghost use Rattle.run_record.specs.Session.{scripted, first_notes, SameFrames, SameSlaves};
+
+use crate::notes::Notes;
+use ec_fields::{NoMemory, Octets, Rows, buffer_of};
+use eoe_switch::SwitchEvent;
+use mailbox_mail::ReplyKind;
+use master_node::{Event, MasterNode};
+use run_book::{Book, Reply};
+use segment_plan::{Scenario, Service, SlaveSpec};
+use std::alloc::Global;
+
+/// The octets of a packet's addresses and its EtherType.
+const LEAST_PACKET: usize = 14;
+
+/// When something happened: with which frame, and how many frames had been sent then.
+#[derive(Clone, Copy, Debug)]
+pub struct Moment {
+    pub frame: u32,
+    pub sent: u32,
+}
+
+/// What became of the slaves of a segment so far.
+#[derive(Drop)]
+pub struct Log {
+    pub notes: Rows<Notes>,
+    /// The station of each slave and the length of its mailbox while it is live.
+    pub stations: Rows<Option<(u16, u16)>>,
+    /// The slaves at the ports of the switch, from port 1 on.
+    pub ports: Rows<u32>,
+    /// How often a slave that was given up is taken up again.
+    pub recover: u32,
+}
+
+fn copy_of_event(event: &SwitchEvent) -> SwitchEvent
+    ensures { result ≡ event.now }
+{
+    match event {
+        SwitchEvent::Arrive { port, packet } => SwitchEvent::Arrive {
+            port: *port,
+            packet: buffer_of(packet.as_slice()),
+        },
+        SwitchEvent::Begun { port } => SwitchEvent::Begun { port: *port },
+        SwitchEvent::Down { port } => SwitchEvent::Down { port: *port },
+    }
+}
+
+// How many services the script has for a slave.
+fn scripted(services: &[(u32, Service)], slave: u32) -> u32
+    requires { length services.now ≤ 4096 }
+    ensures { result ≡ scripted services.now slave }
+{
+    services.iter().filter(|row| row.0 == slave).count() as u32
+}
+
+// The answer of a slave whose service ended so.
+fn reply_of(
+    alloc: Global,
+    master: &MasterNode,
+    slave: u32,
+    kind: ReplyKind,
+) -> Result<Reply, NoMemory>
+    ensures { IfOk result (λ reply. reply.kind ≡ kind) }
+{
+    let mut value = Octets::new(alloc);
+    if kind == ReplyKind::Value {
+        master.value(slave, &mut value)?;
+    }
+    Ok(Reply { kind, value })
+}
+
+// Notes what happened at a slave.
+fn note_at(
+    alloc: Global,
+    master: &MasterNode,
+    moment: Moment,
+    event: &Event,
+    notes: &mut Notes,
+) -> Result<(), NoMemory> {
+    match event {
+        Event::Began { origin, .. } => notes.began(*origin, moment.frame),
+        Event::Answered { slave, kind } => {
+            let reply = reply_of(alloc, master, *slave, *kind)?;
+            notes.answered(reply, moment.frame)
+        }
+        Event::Emergency { octets, .. } => {
+            let octets = Octets::copy_of(alloc, octets.as_slice())?;
+            notes.emergencies.add(octets)
+        }
+        Event::GivenUp { .. } => notes.given_up(moment.frame),
+        Event::Cleared { own, .. } => notes.cleared(*own, moment.frame),
+        Event::Opened { .. } => {
+            notes.opened(moment.frame);
+            Ok(())
+        }
+        Event::Host(_)
+        | Event::Switch(_)
+        | Event::GatewayReply { .. }
+        | Event::GatewayDone { .. } => Ok(()),
+    }
+}
+
+// Nothing happened yet at the slaves of a plan.
+fn first_notes(alloc: Global, plan: &Scenario) -> Result<Rows<Notes>, NoMemory>
+    requires { IsLaid plan.now }
+    ensures { IfOk result (λ notes. notes ≡ first_notes plan.now.services 0 plan.now.slaves) }
+{
+    let mut notes = Rows::new(alloc);
+    for at in 0..plan.slaves.len() {
+        let left = scripted(plan.services.as_slice(), at as u32);
+        notes.add(Notes::new(alloc, left)?)?;
+    }
+    Ok(notes)
+}
+
+// All slaves are live.
+fn first_stations(
+    alloc: Global,
+    slaves: &[SlaveSpec],
+) -> Result<Rows<Option<(u16, u16)>>, NoMemory>
+    ensures { IfOk result (λ stations. length stations ≡ length slaves.now) }
+{
+    let mut stations = Rows::new(alloc);
+    for spec in slaves {
+        stations.add(Some((spec.station, spec.out_len)))?;
+    }
+    Ok(stations)
+}
+
+// The slaves that serve EoE, each at a port of its own.
+fn slaves_at_ports(alloc: Global, slaves: &[SlaveSpec]) -> Result<Rows<u32>, NoMemory>
+    requires { length slaves.now ≤ 16 }
+    ensures { IfOk result (λ ports. 1 + length ports ≡ ports_of slaves.now) }
+{
+    let mut ports = Rows::new(alloc);
+    for (at, spec) in slaves.iter().enumerate() {
+        if spec.eoe {
+            ports.add(at as u32)?;
+        }
+    }
+    Ok(ports)
+}
+
+impl Log {
+    /// The slaves of a plan, at which nothing happened yet.
+    pub fn new(alloc: Global, plan: &Scenario) -> Result<Log, NoMemory>
+        requires { IsLaid plan.now }
+        ensures notes { IfOk result (λ log. log.notes ≡ first_notes plan.now.services 0 plan.now.slaves) }
+        ensures stations { IfOk result (λ log. length log.stations ≡ length plan.now.slaves) }
+        ensures ports { IfOk result (λ log. 1 + length log.ports ≡ ports_of plan.now.slaves) }
+        ensures recover { IfOk result (λ log. log.recover ≡ plan.now.recover) }
+    {
+        Ok(Log {
+            notes: first_notes(alloc, plan)?,
+            stations: first_stations(alloc, plan.slaves.as_slice())?,
+            ports: slaves_at_ports(alloc, plan.slaves.as_slice())?,
+            recover: plan.recover,
+        })
+    }
+
+    /// Notes what happened at a moment. What belongs to the whole segment goes into the book.
+    pub fn note(
+        &mut self,
+        alloc: Global,
+        master: &MasterNode,
+        moment: Moment,
+        book: &mut Book,
+    ) -> Result<(), NoMemory>
+        ensures slaves { SameSlaves self.old self.new }
+        ensures frames { SameFrames (1 + length self.old.ports) book.old book.new }
+    {
+        for event in master.events() {
+            self.note_event(alloc, master, moment, event, book)?;
+        }
+        Ok(())
+    }
+
+    fn note_event(
+        &mut self,
+        alloc: Global,
+        master: &MasterNode,
+        moment: Moment,
+        event: &Event,
+        book: &mut Book,
+    ) -> Result<(), NoMemory>
+        ensures slaves { SameSlaves self.old self.new }
+        ensures frames { SameFrames (1 + length self.old.ports) book.old book.new }
+    {
+        match event {
+            Event::Began { slave, .. }
+            | Event::Answered { slave, .. }
+            | Event::Emergency { slave, .. }
+            | Event::GivenUp { slave }
+            | Event::Cleared { slave, .. }
+            | Event::Opened { slave } => {
+                self.note_slave(alloc, master, moment, event, *slave as usize)
+            }
+            Event::Host(packet) => book.host.add(Octets::copy_of(alloc, packet.as_slice())?),
+            Event::Switch(event) => self.note_switch(moment, event, book),
+            Event::GatewayReply { .. } | Event::GatewayDone { .. } => Ok(()),
+        }
+    }
+
+    fn note_slave(
+        &mut self,
+        alloc: Global,
+        master: &MasterNode,
+        moment: Moment,
+        event: &Event,
+        at: usize,
+    ) -> Result<(), NoMemory>
+        ensures { SameSlaves self.old self.new }
+    {
+        if at >= self.notes.len() || at >= self.stations.len() {
+            return Ok(());
+        }
+        let notes = self.notes.at_mut(at);
+        note_at(alloc, master, moment, event, notes)?;
+        if notes.given_up_for_good(self.recover).is_some() {
+            *self.stations.at_mut(at) = None;
+        }
+        Ok(())
+    }
+
+    fn note_switch(
+        &mut self,
+        moment: Moment,
+        event: &SwitchEvent,
+        book: &mut Book,
+    ) -> Result<(), NoMemory>
+        ensures slaves { SameSlaves self.old self.new }
+        ensures frames { SameFrames (1 + length self.old.ports) book.old book.new }
+    {
+        if !self.is_at_port(event) {
+            return Ok(());
+        }
+        if let SwitchEvent::Arrive { port, .. } = event {
+            self.receive(*port as usize);
+        }
+        book.switch.add(copy_of_event(event))?;
+        book.switched.add(moment.sent)
+    }
+
+    // Whether an event is at a port of the switch, as each is.
+    fn is_at_port(&self, event: &SwitchEvent) -> bool
+        ensures { OnTrue result (IsAtPort (1 + length self.now.ports) event.now) }
+    {
+        match event {
+            SwitchEvent::Arrive { port, packet } => {
+                *port as usize <= self.ports.len() && packet.len() >= LEAST_PACKET
+            }
+            SwitchEvent::Begun { port } | SwitchEvent::Down { port } => {
+                *port as usize <= self.ports.len()
+            }
+        }
+    }
+
+    // A packet came in at a port. That of the host, port 0, is no slave's.
+    fn receive(&mut self, port: usize)
+        ensures { SameSlaves self.old self.new }
+    {
+        if port == 0 {
+            return;
+        }
+        let Some(&slave) = self.ports.get(port - 1) else {
+            return;
+        };
+        if (slave as usize) < self.notes.len() {
+            self.notes.at_mut(slave as usize).received();
+        }
+    }
+}

@@ -1,0 +1,73 @@
+-- The ports at which a switch drops a packet, as bits and as a number.
+use Rattle.std.proofs.Common.{◌≡◌, ℕ, zero, suc, ◌+◌, ◌*◌, ◌^◌, ◌<◌, ◌==◌, Bool, true, false, cond, List, [], ◌∷◌, length, ◌≤◌, refl, sym, ap, ap₂, ◌∙◌, arith, add-one, mul-zero, mul-one, one-mul, mul_assoc, mul-add, pow-suc}
+use Rattle.std.specs.Prelude.{if◌then◌else◌, count_ones}
+use Rattle.std.proofs.lemmas.Simd.{ones-mask_l_cons}
+use Rattle.std.proofs.lemmas.Nat.{pow_pos}
+use Rattle.std.proofs.lemmas.Bool.{ne_eqb}
+use lib.Lanes.{mask_l}
+use Rattle.arrayvec.specs.ArrayVec.{ArrayVec}
+use Rattle.eoe_switch.specs.declared.port.Offered.{Offered}
+use Rattle.eoe_switch.specs.declared.port.Offered.TheVariants.{Not, Taken, Full}
+use Rattle.eoe_switch.specs.declared.port.Port.{Port}
+use Rattle.eoe_switch.specs.declared.port.Route.{Route}
+use Rattle.eoe_switch.specs.declared.switching.SwitchEvent.{SwitchEvent}
+use Rattle.eoe_switch.specs.declared.switching.SwitchEvent.TheVariants.{Arrive, Begun, Down}
+use Rattle.eoe_switch.specs.Ports.{offered}
+use Rattle.eoe_switch.specs.Switch.{Flow, flow_of, flow_behind, bit_where, bits_of_full, drops_of}
+use Rattle.run_report.specs.Drops.{behind, drops_at, drops_in}
+
+-- whether a packet was dropped there
+abbrev is_full : Offered → Bool
+is_full Not = false
+is_full Taken = false
+is_full Full = true
+
+-- at which ports a packet is dropped, from the lowest on
+abbrev fulls : Route → ArrayVec ℕ → ℕ → List Port → List Bool
+fulls route packet at [] = []
+fulls route packet at (p ∷ ps) = is_full (offered route at packet p).offered ∷ fulls route packet (at + 1) ps
+
+bit_is : (o : Offered) (at : ℕ) → bit_where Full o at ≡ 2 ^ at * cond (is_full o) 1 0
+bit_is Not at = sym (mul-zero (2 ^ at))
+bit_is Taken at = sym (mul-zero (2 ^ at))
+bit_is Full at = sym (mul-one (2 ^ at))
+
+-- the bits of the ports from `at` on
+bits_are : (route : Route) (packet : ArrayVec ℕ) (at : ℕ) (ps : List Port) → bits_of_full route packet at ps ≡ 2 ^ at * mask_l (fulls route packet at ps)
+bits_are route packet at [] = sym (mul-zero (2 ^ at))
+bits_are route packet at (p ∷ ps) =
+    let o = (offered route at packet p).offered in
+    let rest = mask_l (fulls route packet (at + 1) ps) in
+    let more : 2 ^ (at + 1) * rest ≡ 2 ^ at * (2 * rest) = ap (λ w. w * rest) (ap (λ k. 2 ^ k) (add-one at) ∙ pow-suc 2 at) ∙ mul_assoc (2 ^ at) 2 rest in
+    ap₂ (λ (a b : ℕ). a + b) (bit_is o at) (bits_are route packet (at + 1) ps ∙ more) ∙ sym (mul-add (2 ^ at) (cond (is_full o) 1 0) (2 * rest))
+
+one_is : (o : Offered) (at : ℕ) → (if bit_where Full o at == 0 then 0 else 1) ≡ cond (is_full o) 1 0
+one_is Not at = refl
+one_is Taken at = refl
+one_is Full at = ap (λ b. if b then 0 else 1) (ne_eqb (2 ^ at) 0 (λ (e : 2 ^ at ≡ 0). let some = pow_pos at in omega (arith, e, some)))
+
+ones_are : (route : Route) (packet : ArrayVec ℕ) (at : ℕ) (ps : List Port) → count_ones (mask_l (fulls route packet at ps)) ≡ drops_of route packet at ps
+ones_are route packet at [] = refl
+ones_are route packet at (p ∷ ps) =
+    let o = (offered route at packet p).offered in
+    ones-mask_l_cons (is_full o) (fulls route packet (at + 1) ps) ∙ ap₂ (λ (a b : ℕ). a + b) (sym (one_is o at)) (ones_are route packet (at + 1) ps)
+
+-- the bits of all ports: as many are set as ports drop the packet
+pub ones_of_full : (route : Route) (packet : ArrayVec ℕ) (ps : List Port) → count_ones (bits_of_full route packet 0 ps) ≡ drops_of route packet 0 ps
+ones_of_full route packet ps = ap count_ones (bits_are route packet 0 ps ∙ one-mul (mask_l (fulls route packet 0 ps))) ∙ ones_are route packet 0 ps
+
+pub few_drops : (route : Route) (packet : ArrayVec ℕ) (at : ℕ) (ps : List Port) → drops_of route packet at ps ≤ length ps
+few_drops route packet at [] = omega arith
+few_drops route packet at (p ∷ ps) =
+    let one = one_is (offered route at packet p).offered at in
+    let rest = few_drops route packet (at + 1) ps in
+    elim (is_full (offered route at packet p).offered) as (λ b. (if bit_where Full (offered route at packet p).offered at == 0 then 0 else 1) ≡ cond b 1 0 → drops_of route packet at (p ∷ ps) ≤ length (p ∷ ps)) [
+      true ↦ λ e. omega (arith, e, rest) | false ↦ λ e. omega (arith, e, rest)
+    ] one
+
+-- the drops of a flow are those of its events
+pub flow_drops : (flow : Flow) (es : List SwitchEvent) → (flow_of flow es).drops ≡ flow.drops + drops_in flow.switch es
+flow_drops flow [] = omega arith
+flow_drops flow (Arrive port packet ∷ es) = let rest = flow_drops (flow_behind flow (Arrive port packet)) es in omega (arith, rest)
+flow_drops flow (Begun port ∷ es) = let rest = flow_drops (flow_behind flow (Begun port)) es in omega (arith, rest)
+flow_drops flow (Down port ∷ es) = let rest = flow_drops (flow_behind flow (Down port)) es in omega (arith, rest)
