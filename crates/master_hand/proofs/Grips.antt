@@ -1,5 +1,5 @@
 -- How a client in hand goes on showing its row.
-use Rattle.std.proofs.Common.{◌≡◌, ℕ, List, [], ◌∷◌, ◌++◌, Bool, true, false, Option, Some, None, refl, sym, ap, ◌∙◌, subst, append_assoc, append-nil, drop, length}
+use Rattle.std.proofs.Common.{◌≡◌, ℕ, List, [], ◌∷◌, ◌++◌, Bool, true, false, Option, Some, None, refl, sym, ap, ◌∙◌, append_assoc, append-nil, drop, length}
 use Rattle.std.specs.Prelude.{is_some, option_map}
 use Rattle.exchange_model.specs.Exchange.{Speech, plain}
 use Rattle.exchange_model.specs.Rows.{Row, begun, answer_after, row_heard, row_told, left}
@@ -12,15 +12,16 @@ pub talks_begun : {M Q R : Type 0} (x : Speech M Q R) (later : List M → List M
     ((hs : List M) → later hs ≡ x.planned q hs) → ((hs : List M) → awaits hs ≡ x.ends q hs) → Talks x later awaits (begun q frame)
 talks_begun x later awaits q frame l a = record { rest = λ hs. sym (l hs); goes = λ hs. sym (a hs) }
 
-pub going_begun : {M Q R : Type 0} (x : Speech M Q R) (is_kind : Q → Bool) (later : List M → List M) (awaits : List M → Option R) (q : Q) (frame : ℕ) →
-    ((hs : List M) → later hs ≡ x.planned q hs) → ((hs : List M) → awaits hs ≡ x.ends q hs) → x.ends q [] ≡ None → is_kind q ≡ true → Going x is_kind later awaits false (Some (begun q frame))
-going_begun x is_kind later awaits q frame l a none k = record {
+pub going_begun : {M Q R : Type 0} (x : Speech M Q R) (Kind : Q → Type 0) (later : List M → List M) (awaits : List M → Option R) (q : Q) (frame : ℕ) →
+    ((hs : List M) → later hs ≡ x.planned q hs) → ((hs : List M) → awaits hs ≡ x.ends q hs) → x.ends q [] ≡ None → Kind q → Going x Kind later awaits false (Some (begun q frame))
+going_begun x Kind later awaits q frame l a none k = record {
   kind = k;
   row = begun q frame;
   is = refl;
   talks = talks_begun x later awaits q frame l a;
   answer = refl;
   quiet = λ e. a [] ∙ none;
+  kept = λ b e. absurd (cc);
 }
 
 -- its next mail is held
@@ -31,15 +32,16 @@ talks_told x later new awaits answers r m l a t = record {
   goes = λ hs. t.goes hs ∙ sym (a hs);
 }
 
-pub going_told : {M Q R : Type 0} (x : Speech M Q R) (is_kind : Q → Bool) (later new : List M → List M) (awaits answers : List M → Option R) (b : Bool) (now : Option (Row M Q R)) (m : M) →
-    ((hs : List M) → later hs ≡ m ∷ new hs) → ((hs : List M) → answers hs ≡ awaits hs) → Going x is_kind later awaits b now → Going x is_kind new answers b (option_map (λ r. row_told m r) now)
-going_told x is_kind later new awaits answers b now m l a g = record {
+pub going_told : {M Q R : Type 0} (x : Speech M Q R) (Kind : Q → Type 0) (later new : List M → List M) (awaits answers : List M → Option R) (b : Bool) (now : Option (Row M Q R)) (m : M) →
+    ((hs : List M) → later hs ≡ m ∷ new hs) → ((hs : List M) → answers hs ≡ awaits hs) → Going x Kind later awaits b now → Going x Kind new answers b (option_map (λ r. row_told m r) now)
+going_told x Kind later new awaits answers b now m l a g = record {
   row = row_told m g.row;
   is = ap (option_map (λ r. row_told m r)) g.is;
   kind = g.kind;
   talks = talks_told x later new awaits answers g.row m l a g.talks;
   answer = g.answer;
   quiet = λ e. a [] ∙ g.quiet e;
+  kept = λ b e. a [] ∙ g.kept b e;
 }
 
 drop_told : {M : Type 0} (xs ys : List M) → drop (length xs) (xs ++ ys) ≡ ys
@@ -51,22 +53,10 @@ pub talks_left : {M Q R : Type 0} (x : Speech M Q R) (later : List M → List M)
 talks_left x later awaits r t =
     ap (λ ms. drop (length r.told) ms) (ap (x.planned r.service) (sym (append-nil (plain x.emission r.heard))) ∙ t.rest []) ∙ drop_told r.told (later [])
 
-pub going_next : {M Q R : Type 0} (x : Speech M Q R) (is_kind : Q → Bool) (later new : List M → List M) (awaits : List M → Option R) (b : Bool) (now : Option (Row M Q R)) (m : M) →
-    ((hs : List M) → later hs ≡ m ∷ new hs) → Going x is_kind later awaits b now → next_mail x now None true ≡ m ∷ []
-going_next x is_kind later new awaits b now m l g =
+pub going_next : {M Q R : Type 0} (x : Speech M Q R) (Kind : Q → Type 0) (later new : List M → List M) (awaits : List M → Option R) (b : Bool) (now : Option (Row M Q R)) (m : M) →
+    ((hs : List M) → later hs ≡ m ∷ new hs) → Going x Kind later awaits b now → next_mail x now None true ≡ m ∷ []
+going_next x Kind later new awaits b now m l g =
     ap (λ o. next_mail x o None true) g.is ∙ ap first_left (talks_left x later awaits g.row g.talks ∙ l [])
-
--- the same client, written another way
-pub going_same : {M Q R : Type 0} (x : Speech M Q R) (is_kind : Q → Bool) (later new : List M → List M) (awaits answers : List M → Option R) (b : Bool) (now : Option (Row M Q R)) →
-    ((hs : List M) → new hs ≡ later hs) → ((hs : List M) → answers hs ≡ awaits hs) → Going x is_kind later awaits b now → Going x is_kind new answers b now
-going_same x is_kind later new awaits answers b now l a g = record {
-  row = g.row;
-  is = g.is;
-  kind = g.kind;
-  talks = record { rest = λ hs. g.talks.rest hs ∙ ap (λ ms. g.row.told ++ ms) (sym (l hs)); goes = λ hs. g.talks.goes hs ∙ sym (a hs) };
-  answer = g.answer;
-  quiet = λ e. a [] ∙ g.quiet e;
-}
 
 -- mails are heard, and `ps` are those that reply
 talks_heard : {M Q R : Type 0} (x : Speech M Q R) (later new : List M → List M) (awaits answers : List M → Option R) (r : Row M Q R) (frame : ℕ) (ms ps : List M) →
@@ -89,9 +79,9 @@ stays frame None (Some r) h = absurd (clash (h refl)) where
   clash e = absurd (cc)
 
 -- mails that reply to nothing
-pub going_emission : {M Q R : Type 0} (x : Speech M Q R) (is_kind : Q → Bool) (later : List M → List M) (awaits : List M → Option R) (b : Bool) (now : Option (Row M Q R)) (frame : ℕ) (ms : List M) →
-    plain x.emission ms ≡ [] → Going x is_kind later awaits b now → Going x is_kind later awaits b (option_map (λ r. row_heard x frame ms r) now)
-going_emission x is_kind later awaits b now frame ms p g =
+pub going_emission : {M Q R : Type 0} (x : Speech M Q R) (Kind : Q → Type 0) (later : List M → List M) (awaits : List M → Option R) (b : Bool) (now : Option (Row M Q R)) (frame : ℕ) (ms : List M) →
+    plain x.emission ms ≡ [] → Going x Kind later awaits b now → Going x Kind later awaits b (option_map (λ r. row_heard x frame ms r) now)
+going_emission x Kind later awaits b now frame ms p g =
     let t = talks_heard x later later awaits awaits g.row frame ms [] p (λ hs. refl) (λ hs. refl) g.talks in
     let s = stays frame g.row.answer (x.ends g.row.service (plain x.emission (g.row.heard ++ ms))) (λ n. heard_ends x later awaits (row_heard x frame ms g.row) t ∙ g.quiet n) in
     record {
@@ -101,12 +91,18 @@ going_emission x is_kind later awaits b now frame ms p g =
       talks = t;
       answer = ap is_some s ∙ g.answer;
       quiet = λ n. g.quiet (sym s ∙ n);
+      kept = λ a e. g.kept a (sym s ∙ e);
     }
 
 open_answer : {R : Type 0} (frame : ℕ) (answer : Option (R × ℕ)) (o : Option R) → is_some answer ≡ false → is_some (answer_after frame answer o) ≡ is_some o
 open_answer frame None None e = refl
 open_answer frame None (Some r) e = refl
 open_answer frame (Some a) o e = absurd (cc)
+
+opened_is : {R : Type 0} (frame : ℕ) (answer : Option (R × ℕ)) (o : Option R) (a : R × ℕ) → is_some answer ≡ false → answer_after frame answer o ≡ Some a → o ≡ Some a.0
+opened_is frame None None a e h = absurd (cc)
+opened_is frame None (Some r) a e h = ap (option_map (λ p. p.0)) h
+opened_is frame (Some b) o a e h = absurd (cc)
 
 none_is : {T : Type 0} (o : Option T) → is_some o ≡ false → o ≡ None
 none_is None e = refl
@@ -116,10 +112,10 @@ not_some : {T : Type 0} (o : Option T) → o ≡ None → is_some o ≡ false
 not_some o e = ap is_some e
 
 -- mails that reply, while no reply is complete
-pub going_heard : {M Q R : Type 0} (x : Speech M Q R) (is_kind : Q → Bool) (later new : List M → List M) (awaits answers : List M → Option R) (b : Bool) (now : Option (Row M Q R)) (frame : ℕ) (ms ps : List M) →
+pub going_heard : {M Q R : Type 0} (x : Speech M Q R) (Kind : Q → Type 0) (later new : List M → List M) (awaits answers : List M → Option R) (b : Bool) (now : Option (Row M Q R)) (frame : ℕ) (ms ps : List M) →
     plain x.emission ms ≡ ps → ((hs : List M) → new hs ≡ later (ps ++ hs)) → ((hs : List M) → answers hs ≡ awaits (ps ++ hs)) → is_some (answers []) ≡ b →
-    Going x is_kind later awaits false now → Going x is_kind new answers b (option_map (λ r. row_heard x frame ms r) now)
-going_heard x is_kind later new awaits answers b now frame ms ps p l a some g =
+    Going x Kind later awaits false now → Going x Kind new answers b (option_map (λ r. row_heard x frame ms r) now)
+going_heard x Kind later new awaits answers b now frame ms ps p l a some g =
     let t = talks_heard x later new awaits answers g.row frame ms ps p l a g.talks in
     let ended = heard_ends x new answers (row_heard x frame ms g.row) t in
     let opened = open_answer frame g.row.answer (x.ends g.row.service (plain x.emission (g.row.heard ++ ms))) g.answer ∙ ap is_some ended in
@@ -130,4 +126,5 @@ going_heard x is_kind later new awaits answers b now frame ms ps p l a some g =
       talks = t;
       answer = opened ∙ some;
       quiet = λ n. none_is (answers []) (sym opened ∙ not_some _ n);
+      kept = λ b e. sym ended ∙ opened_is frame g.row.answer (x.ends g.row.service (plain x.emission (g.row.heard ++ ms))) b g.answer e;
     }

@@ -1,17 +1,30 @@
 -- The hand's steps, over its clients.
-use Rattle.std.proofs.Common.{◌≡◌, ℕ, List, [], ◌∷◌, ◌++◌, Bool, true, false, Option, Some, None, refl, sym, ap, ◌∙◌, subst, map}
-use Rattle.std.specs.Prelude.{is_some, is_none, option_map, Ok, ⊤, not, ◌&&◌, if◌then◌else◌, ◌⊎◌}
+use Rattle.std.proofs.Common.{◌≡◌, ℕ, List, [], ◌∷◌, Bool, true, false, Option, Some, None, refl, sym, ap, ◌∙◌, subst}
+use Rattle.std.specs.Prelude.{is_some, is_none, option_map, Ok, not, ◌&&◌, if◌then◌else◌, ◌⊎◌}
+use Rattle.std.proofs.Common.{inl, inr}
+use Rattle.mailbox_mail.specs.declared.outcome.Took.{Took}
+use Rattle.exchange_model.specs.Areas.{Areas}
 use Rattle.exchange_model.specs.Exchange.{Speech, plain}
 use Rattle.exchange_model.specs.Rows.{Row, begun, row_heard, row_told}
-use Rattle.link_mails.specs.Body.{Body, uncounted}
+use Rattle.link_mails.specs.Body.{Body}
+use Rattle.segment_model.specs.Seats.{Side, is_none_left, next_mail}
+use Rattle.task_model.specs.Accounts as Accounts
+use Rattle.task_model.specs.Accounts.{is_free}
 use Rattle.master_duty.specs.Reply.{Reply}
-use Rattle.master_hand.specs.Spoken.{Asked, hand_speech}
+use Rattle.master_side.specs.Fits.{Tells}
+use Rattle.foe_model.specs.Meaning as FoeMeaning
+use Rattle.eoe_model.specs.Client as EoeClient
+use Rattle.coe_model.proofs.Closing.{ends_none}
+use Rattle.soe_model.specs.Client as SoeClient
+use Rattle.master_hand.specs.Spoken.{Asked, sdo, file, drive, net, passed, emission, ends, handed, replied, acknowledged, hand_speech}
+use Rattle.master_hand.specs.Passed.{mail_of}
 use Rattle.master_hand.specs.Grips.{Going}
-use Rattle.master_hand.specs.Shown.{HandShows, Shows, areas_of, is_of, client_later, client_awaits}
+use Rattle.master_hand.specs.Talk.{Talking, which_of, IsOf, is_handed, is_read, client_later, client_awaits, Starts, Begins, SendsNext, IsSent, Follows, ClientTook, is_askable}
+use Rattle.master_hand.specs.Shown.{HandShows, Shows}
 use Rattle.master_hand.specs.declared.course.Course.{Course}
 use Rattle.master_hand.specs.declared.clients.Which.{Which}
-use Rattle.master_hand.specs.declared.clients.Clients.{Clients}
-use Rattle.master_hand.proofs.Grips.{going_begun, going_told, going_next, going_same, going_emission, going_heard, talks_left}
+use Rattle.master_hand.specs.declared.passed.Content.{Content}
+use Rattle.master_hand.proofs.Grips.{going_begun, going_told, going_next, going_emission, going_heard, talks_left}
 
 abbrev pub Rows : Type 0
 Rows = Option (Row Body Asked Reply)
@@ -20,18 +33,195 @@ none_row : (f : Row Body Asked Reply → Row Body Asked Reply) (now : Rows) → 
 none_row f now e = ap (option_map f) e
 
 -- mails that reply to nothing leave what the hand shows
-pub unmoved : (course : Course) (which : Which) (c : Clients) (ms : List Body) (frame : ℕ) (now : Rows) → plain (hand_speech (areas_of c)).emission ms ≡ [] → HandShows course which c now →
-    HandShows course which c (option_map (λ r. row_heard (hand_speech (areas_of c)) frame ms r) now)
-unmoved Course.Nothing which c ms frame now e h = none_row (λ r. row_heard (hand_speech (areas_of c)) frame ms r) now h
-unmoved Course.Goes which c ms frame now e h = going_emission (hand_speech (areas_of c)) (is_of which) (client_later which c) (client_awaits which c) false now frame ms e h
-unmoved Course.Answered which c ms frame now e h = going_emission (hand_speech (areas_of c)) (is_of which) (client_later which c) (client_awaits which c) true now frame ms e h
+pub unmoved : (course : Course) (which : Which) (c : Talking) (ms : List Body) (frame : ℕ) (now : Rows) → plain emission ms ≡ [] → HandShows course which c now →
+    HandShows course which c (option_map (λ r. row_heard (hand_speech c.areas) frame ms r) now)
+unmoved Course.Nothing which c ms frame now e h = none_row (λ r. row_heard (hand_speech c.areas) frame ms r) now h
+unmoved Course.Goes which c ms frame now e h = going_emission (hand_speech c.areas) (IsOf which) (client_later which c) (client_awaits which c) false now frame ms e h
+unmoved Course.Answered which c ms frame now e h = going_emission (hand_speech c.areas) (IsOf which) (client_later which c) (client_awaits which c) true now frame ms e h
 unmoved Course.Astray which c ms frame now e h = tt
 
--- over any speech that the hand shows
-spoken_row : (x : Speech Body Asked Reply) (course : Course) (which : Which) (c : Clients) (f : Speech Body Asked Reply → Rows → Rows) (now : Rows) → x ≡ hand_speech (areas_of c) →
-    HandShows course which c (f (hand_speech (areas_of c)) now) → HandShows course which c (f x now)
-spoken_row x course which c f now e h = subst (λ (y : Speech Body Asked Reply). HandShows course which c (f y now)) (sym e) h
+-- no reply without a mail
+none_ends : (areas : Areas) (q : Asked) → ends areas q [] ≡ None
+none_ends areas (sdo q) = ap replied (ends_none areas.out q)
+none_ends areas (file (FoeMeaning.read name pass)) = refl
+none_ends areas (file (FoeMeaning.write name pass bytes)) = refl
+none_ends areas (drive (SoeClient.read t)) = refl
+none_ends areas (drive (SoeClient.write t bytes)) = refl
+none_ends areas (net (EoeClient.packet octets frame)) = refl
+none_ends areas (net (EoeClient.set_ip block)) = refl
+none_ends areas (net EoeClient.get_ip) = refl
+none_ends areas (passed m) = refl
 
-pub quiet : (course : Course) (which : Which) (c : Clients) (x : Speech Body Asked Reply) (frame : ℕ) (now : Rows) → Shows course which c x now → Shows course which c x (option_map (λ r. row_heard x frame [] r) now)
-quiet course which c x frame now s =
-    (s.0, spoken_row x course which c (λ y o. option_map (λ r. row_heard y frame [] r) o) now s.0 (unmoved course which c [] frame now refl s.1))
+-- a service comes into hand
+pub begun_shown : (areas : Areas) (c : Talking) (which : Which) (q : Asked) (frame : ℕ) → c.areas ≡ areas → Starts areas q which c → HandShows Course.Goes which c (Some (begun q frame))
+begun_shown areas c which q frame e s =
+    subst (λ (a : Areas). Going (hand_speech a) (IsOf which) (client_later which c) (client_awaits which c) false (Some (begun q frame))) (sym e)
+    (going_begun (hand_speech areas) (IsOf which) (client_later which c) (client_awaits which c) q frame s.mails s.replies (none_ends areas q) s.kind)
+
+some_is : (q p : Asked) → Some q ≡ Some p → q ≡ p
+some_is q p e = cc
+
+pub begins_shown : (x : Speech Body Asked Reply) (old c : Talking) (which now_which : Which) (course : Course) (asked : Option Asked) (q : Asked) (frame : ℕ) → Begins (Some which) asked old c → c.areas ≡ old.areas →
+    is_askable old.areas asked ≡ true → now_which ≡ which → course ≡ Course.Goes → asked ≡ Some q → x ≡ hand_speech old.areas → (x.valid q ≡ true) × Shows course now_which c x (Some (begun q frame))
+begins_shown x old c which now_which course asked q frame b a v w k e s = (
+  ap (λ (y : Speech Body Asked Reply). y.valid q) s ∙ ap (is_askable old.areas) (sym e) ∙ v,
+  (
+    s ∙ ap hand_speech (sym a),
+    subst (λ (z : Course). HandShows z now_which c (Some (begun q frame))) (sym k)
+        (subst (λ (z : Which). HandShows Course.Goes z c (Some (begun q frame))) (sym w)
+        (begun_shown old.areas c which q frame a (subst (λ (p : Asked). Starts old.areas p which c) (some_is b.0 q (sym b.1 ∙ e)) b.2))),
+  ),
+)
+
+-- what a service in hand shows, with its reply or without
+abbrev pub Goes : Bool → Which → Talking → Rows → Type 0
+Goes b which c now = Going (hand_speech c.areas) (IsOf which) (client_later which c) (client_awaits which c) b now
+
+-- the next mail is taken to be held
+told_going : (which : Which) (old new : Talking) (held : Content) (b : Bool) (now : Rows) → SendsNext which old held new → Goes b which old now →
+    (next_mail (hand_speech old.areas) now None true ≡ Ok (mail_of held) ∷ []) × Goes b which new (option_map (λ r. row_told (Ok (mail_of held)) r) now)
+told_going which old new held b now s g = (
+  going_next (hand_speech old.areas) (IsOf which) (client_later which old) (client_later which new) (client_awaits which old) b now (Ok (mail_of held)) s.mails g,
+  subst (λ (a : Areas). Going (hand_speech a) (IsOf which) (client_later which new) (client_awaits which new) b (option_map (λ r. row_told (Ok (mail_of held)) r) now)) (sym s.areas)
+      (going_told (hand_speech old.areas) (IsOf which) (client_later which old) (client_later which new) (client_awaits which old) (client_awaits which new) b now (Ok (mail_of held)) s.mails s.replies g),
+)
+
+told_in : (which : Which) (old new : Talking) (held : Content) (b : Bool) (x : Speech Body Asked Reply) (now : Rows) → SendsNext which old held new → x ≡ hand_speech old.areas → Goes b which old now →
+    (next_mail x now None true ≡ Ok (mail_of held) ∷ []) × (x ≡ hand_speech new.areas) × Goes b which new (option_map (λ r. row_told (Ok (mail_of held)) r) now)
+told_in which old new held b x now s e g =
+    let t = told_going which old new held b now s g in
+    (ap (λ (y : Speech Body Asked Reply). next_mail y now None true) e ∙ t.0, e ∙ ap hand_speech (sym s.areas), t.1)
+
+pub told_shown : (b : Bool) (course : Course) (which : Which) (old new : Talking) (held : Content) (x : Speech Body Asked Reply) (now : Rows) → IsSent b which old held new → (course ≡ Course.Goes) ⊎ (course ≡ Course.Answered) → Shows course which old x now →
+    Tells b (mail_of held) x now (Shows course which new x)
+told_shown false course which old new held x now s w h = subst (λ (c : Talking). Shows course which c x now) (sym s) h
+told_shown true course which old new held x now s (inl w) h =
+    let t = told_in which old new held false x now s h.0 (subst (λ (z : Course). HandShows z which old now) w h.1) in
+    (t.0, (t.1, subst (λ (z : Course). HandShows z which new (option_map (λ r. row_told (Ok (mail_of held)) r) now)) (sym w) t.2))
+told_shown true course which old new held x now s (inr w) h =
+    let t = told_in which old new held true x now s h.0 (subst (λ (z : Course). HandShows z which old now) w h.1) in
+    (t.0, (t.1, subst (λ (z : Course). HandShows z which new (option_map (λ r. row_told (Ok (mail_of held)) r) now)) (sym w) t.2))
+
+-- a mail that was accepted
+plain_emission : (b : Body) → emission b ≡ true → plain emission (b ∷ []) ≡ []
+plain_emission b e = ap (λ (z : Bool). if not z then b ∷ [] else []) e
+
+plain_reply : (b : Body) → emission b ≡ false → plain emission (b ∷ []) ≡ b ∷ []
+plain_reply b e = ap (λ (z : Bool). if not z then b ∷ [] else []) e
+
+pub emission_shown : (course : Course) (which : Which) (c : Talking) (b : Body) (x : Speech Body Asked Reply) (frame : ℕ) (now : Rows) → emission b ≡ true → Shows course which c x now →
+    Shows course which c x (option_map (λ r. row_heard x frame (b ∷ []) r) now)
+emission_shown course which c b x frame now e s =
+    (s.0, subst (λ (y : Speech Body Asked Reply). HandShows course which c (option_map (λ r. row_heard y frame (b ∷ []) r) now)) (sym s.0) (unmoved course which c (b ∷ []) frame now (plain_emission b e) s.1))
+
+-- with no service in hand, and behind a foreign mail, a mail changes nothing
+pub idle_shown : (course : Course) (which : Which) (c : Talking) (b : Body) (x : Speech Body Asked Reply) (frame : ℕ) (now : Rows) → (course ≡ Course.Nothing) ⊎ (course ≡ Course.Astray) → Shows course which c x now →
+    Shows course which c x (option_map (λ r. row_heard x frame (b ∷ []) r) now)
+idle_shown course which c b x frame now (inl w) s = (
+  s.0,
+  subst (λ (z : Course). HandShows z which c (option_map (λ r. row_heard x frame (b ∷ []) r) now)) (sym w)
+      (none_row (λ r. row_heard x frame (b ∷ []) r) now (subst (λ (z : Course). HandShows z which c now) w s.1)),
+)
+idle_shown course which c b x frame now (inr w) s = (s.0, subst (λ (z : Course). HandShows z which c (option_map (λ r. row_heard x frame (b ∷ []) r) now)) (sym w) tt)
+
+-- a foreign mail
+pub stray_shown : (course : Course) (which : Which) (old c : Talking) (x : Speech Body Asked Reply) (now : Rows) → course ≡ Course.Astray → c.areas ≡ old.areas → x ≡ hand_speech old.areas → Shows course which c x now
+stray_shown course which old c x now w a e = (e ∙ ap hand_speech (sym a), subst (λ (z : Course). HandShows z which c now) (sym w) tt)
+
+-- a mail that the client awaits
+went : (which : Which) (old new : Talking) (b : Body) (answered : Bool) (frame : ℕ) (now : Rows) → Follows which old b new → new.areas ≡ old.areas → is_some (client_awaits which new []) ≡ answered → emission b ≡ false → Goes false which old now →
+    Goes answered which new (option_map (λ r. row_heard (hand_speech old.areas) frame (b ∷ []) r) now)
+went which old new b answered frame now f a s e g =
+    subst (λ (z : Areas). Going (hand_speech z) (IsOf which) (client_later which new) (client_awaits which new) answered (option_map (λ r. row_heard (hand_speech old.areas) frame (b ∷ []) r) now)) (sym a)
+    (going_heard (hand_speech old.areas) (IsOf which) (client_later which old) (client_later which new) (client_awaits which old) (client_awaits which new) answered now frame (b ∷ []) (b ∷ []) (plain_reply b e) f.mails f.replies s g)
+
+pub more_shown : (was course : Course) (which : Which) (old new : Talking) (b : Body) (frame : ℕ) (now : Rows) → ClientTook Took.More which old b new → new.areas ≡ old.areas → was ≡ Course.Goes → course ≡ Course.Goes → emission b ≡ false → HandShows was which old now →
+    HandShows course which new (option_map (λ r. row_heard (hand_speech old.areas) frame (b ∷ []) r) now)
+more_shown was course which old new b frame now t a w k e h =
+    subst (λ (z : Course). HandShows z which new (option_map (λ r. row_heard (hand_speech old.areas) frame (b ∷ []) r) now)) (sym k)
+    (went which old new b false frame now t.0 a (ap is_some t.1) e (subst (λ (z : Course). HandShows z which old now) w h))
+
+pub done_shown : (was course : Course) (which : Which) (old new : Talking) (b : Body) (frame : ℕ) (now : Rows) → ClientTook Took.Done which old b new → new.areas ≡ old.areas → was ≡ Course.Goes → course ≡ Course.Answered → emission b ≡ false → HandShows was which old now →
+    HandShows course which new (option_map (λ r. row_heard (hand_speech old.areas) frame (b ∷ []) r) now)
+done_shown was course which old new b frame now t a w k e h =
+    subst (λ (z : Course). HandShows z which new (option_map (λ r. row_heard (hand_speech old.areas) frame (b ∷ []) r) now)) (sym k)
+    (went which old new b true frame now t.0 a t.1 e (subst (λ (z : Course). HandShows z which old now) w h))
+
+-- packets and mails that are passed on end with their last write, and no other service does
+handed_of : (areas : Areas) (q : Asked) → handed areas q ≡ is_handed (which_of q)
+handed_of areas (sdo q) = refl
+handed_of areas (file (FoeMeaning.read name pass)) = refl
+handed_of areas (file (FoeMeaning.write name pass bytes)) = refl
+handed_of areas (drive q) = refl
+handed_of areas (net (EoeClient.packet octets frame)) = refl
+handed_of areas (net (EoeClient.set_ip block)) = refl
+handed_of areas (net EoeClient.get_ip) = refl
+handed_of areas (passed m) = refl
+
+-- and reads of files alone with an acknowledgement
+read_of : (q : Asked) → acknowledged q ≡ is_read (which_of q)
+read_of (sdo q) = refl
+read_of (file (FoeMeaning.read name pass)) = refl
+read_of (file (FoeMeaning.write name pass bytes)) = refl
+read_of (drive q) = refl
+read_of (net (EoeClient.packet octets frame)) = refl
+read_of (net (EoeClient.set_ip block)) = refl
+read_of (net EoeClient.get_ip) = refl
+read_of (passed m) = refl
+
+over_by : {T : Type 0} (h idle answered fresh : Bool) (holding : Option T) → (if h then idle else answered && not fresh) ≡ true → (idle ≡ true → holding ≡ None) → (if h then is_none holding else answered && not fresh) ≡ true
+over_by true idle answered fresh holding e f = ap is_none (f e)
+over_by false idle answered fresh holding e f = e
+
+-- a service of which no mail is left or unsent is over
+over_free : (b : Bool) (which : Which) (c : Talking) (fresh idle : Bool) (d : Side Body Asked Reply) → client_later which c [] ≡ [] → (if is_handed which then idle else b && not fresh) ≡ true → d.fresh ≡ fresh →
+    (idle ≡ true → d.halves.out.holding ≡ None) → Goes b which c d.now → is_free (hand_speech c.areas) d d.now ≡ true
+over_free b which c fresh idle d l o s i g =
+    let left = talks_left (hand_speech c.areas) (client_later which c) (client_awaits which c) g.row g.talks ∙ l in
+    let kind = handed_of c.areas g.row.service ∙ ap is_handed g.kind in
+    ap (λ r. is_free (hand_speech c.areas) d r) g.is
+    ∙ (λ k. is_none_left (left k) && (if kind k then is_none d.halves.out.holding else (g.answer k && not (s k))))
+    ∙ over_by (is_handed which) idle b fresh d.halves.out.holding o i
+
+pub sent_free : (b : Bool) (course : Course) (which : Which) (c : Talking) (fresh idle : Bool) (x : Speech Body Asked Reply) (d : Side Body Asked Reply) → HandShows course which c d.now ≡ Goes b which c d.now → client_later which c [] ≡ [] →
+    (if is_handed which then idle else b && not fresh) ≡ true → d.fresh ≡ fresh → (idle ≡ true → d.halves.out.holding ≡ None) → Shows course which c x d.now → is_free x d d.now ≡ true
+sent_free b course which c fresh idle x d k l o s i h =
+    ap (λ (y : Speech Body Asked Reply). is_free y d d.now) h.0 ∙ over_free b which c fresh idle d l o s i (subst (λ (T : Type 0). T) k h.1)
+
+pub goes_is : (course : Course) (which : Which) (c : Talking) (now : Rows) → course ≡ Course.Goes → HandShows course which c now ≡ Goes false which c now
+goes_is course which c now e = ap (λ (z : Course). HandShows z which c now) e
+
+pub answered_is : (course : Course) (which : Which) (c : Talking) (now : Rows) → course ≡ Course.Answered → HandShows course which c now ≡ Goes true which c now
+answered_is course which c now e = ap (λ (z : Course). HandShows z which c now) e
+
+pub nothing_free : (course : Course) (which : Which) (c : Talking) (x : Speech Body Asked Reply) (d : Side Body Asked Reply) → course ≡ Course.Nothing → Shows course which c x d.now → is_free x d d.now ≡ true
+nothing_free course which c x d w h = ap (λ r. is_free x d r) (subst (λ (z : Course). HandShows z which c d.now) w h.1)
+
+-- nothing is in hand of which the last write could be open
+pub nothing_acknowledged : (course : Course) (which : Which) (c : Talking) (x : Speech Body Asked Reply) (d : Side Body Asked Reply) → course ≡ Course.Nothing → Shows course which c x d.now → Accounts.is_acknowledged acknowledged d d.now ≡ true
+nothing_acknowledged course which c x d w h = ap (λ r. Accounts.is_acknowledged acknowledged d r) (subst (λ (z : Course). HandShows z which c d.now) w h.1)
+
+-- the outward half is idle
+pub idle_acknowledged : (d : Side Body Asked Reply) (now : Rows) → d.halves.out.holding ≡ None → Accounts.is_acknowledged acknowledged d now ≡ true
+idle_acknowledged d None e = refl
+idle_acknowledged d (Some r) e = by (acknowledged r.service) e
+  where
+    by : (b : Bool) → d.halves.out.holding ≡ None → (if b then is_none d.halves.out.holding else true) ≡ true
+    by true e = ap is_none e
+    by false e = refl
+
+-- the service is no read of a file
+going_acknowledged : (b : Bool) (which : Which) (c : Talking) (d : Side Body Asked Reply) → is_read which ≡ false → Goes b which c d.now → Accounts.is_acknowledged acknowledged d d.now ≡ true
+going_acknowledged b which c d n g =
+    ap (λ r. Accounts.is_acknowledged acknowledged d r) g.is ∙ ap (λ (z : Bool). if z then is_none d.halves.out.holding else true) (read_of g.row.service ∙ ap is_read g.kind ∙ n)
+
+pub other_acknowledged : (course : Course) (which : Which) (c : Talking) (x : Speech Body Asked Reply) (d : Side Body Asked Reply) → (course ≡ Course.Goes) ⊎ (course ≡ Course.Answered) → is_read which ≡ false → Shows course which c x d.now →
+    Accounts.is_acknowledged acknowledged d d.now ≡ true
+other_acknowledged course which c x d (inl w) n h = going_acknowledged false which c d n (subst (λ (z : Course). HandShows z which c d.now) w h.1)
+other_acknowledged course which c x d (inr w) n h = going_acknowledged true which c d n (subst (λ (z : Course). HandShows z which c d.now) w h.1)
+
+-- the row behind a mail, over any speech that the hand shows
+pub heard_shown : (course : Course) (which : Which) (old new : Talking) (b : Body) (x : Speech Body Asked Reply) (frame : ℕ) (now : Rows) → x ≡ hand_speech old.areas → new.areas ≡ old.areas →
+    HandShows course which new (option_map (λ r. row_heard (hand_speech old.areas) frame (b ∷ []) r) now) → Shows course which new x (option_map (λ r. row_heard x frame (b ∷ []) r) now)
+heard_shown course which old new b x frame now e a h =
+    (e ∙ ap hand_speech (sym a), subst (λ (y : Speech Body Asked Reply). HandShows course which new (option_map (λ r. row_heard y frame (b ∷ []) r) now)) (sym e) h)

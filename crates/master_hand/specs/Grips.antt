@@ -1,5 +1,5 @@
 -- What a client in hand shows of the row of its service. Told and heard are stored nowhere.
-use Rattle.std.specs.Prelude.{◌≡◌, Bool, true, is_some, List, [], ◌++◌, Option, Some, None}
+use Rattle.std.specs.Prelude.{◌≡◌, ℕ, Bool, is_some, List, [], ◌++◌, Option, Some, None}
 use Rattle.exchange_model.specs.Exchange.{Speech, plain}
 use Rattle.exchange_model.specs.Rows.{Row}
 
@@ -9,10 +9,11 @@ pub record Talks {M Q R : Type 0} (x : Speech M Q R) (later : List M → List M)
   pub goes : (hs : List M) → x.ends r.service (plain x.emission r.heard ++ hs) ≡ awaits hs
 
 -- a service of this kind is in hand, or the newest that was, with or without its reply
-pub record Going {M Q R : Type 0} (x : Speech M Q R) (is_kind : Q → Bool) (later : List M → List M) (awaits : List M → Option R) (answered : Bool) (now : Option (Row M Q R)) : Type 0 where
+pub record Going {M Q R : Type 0} (x : Speech M Q R) (Kind : Q → Type 0) (later : List M → List M) (awaits : List M → Option R) (answered : Bool) (now : Option (Row M Q R)) : Type 0 where
   pub row : Row M Q R
   pub is : now ≡ Some row
-  pub kind : is_kind row.service ≡ true
+  pub kind : Kind row.service
   pub talks : Talks x later awaits row
   pub answer : is_some row.answer ≡ answered
   pub quiet : row.answer ≡ None → awaits [] ≡ None
+  pub kept : (a : R × ℕ) → row.answer ≡ Some a → awaits [] ≡ Some a.0

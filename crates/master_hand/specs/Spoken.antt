@@ -1,6 +1,8 @@
 -- What a master speaks with one slave, whose mailboxes have these lengths: the services of all protocols, packets, and mails that are passed on.
-use Rattle.std.specs.Prelude.{◌≡◌, ℕ, Bool, true, false, List, [], ◌∷◌, map, Option, Some, None, option_map, if◌then◌else◌, ◌||◌, Result, Ok, Err}
+use Rattle.std.specs.Prelude.{ℕ, Bool, true, false, List, [], ◌∷◌, Option, Some, None, option_map, if◌then◌else◌, Ok, Err}
 use Rattle.mailbox_mail.specs.declared.mail.Mail.{Mail}
+use Rattle.mailbox_mail.specs.declared.mail.Kind.{Kind}
+use Rattle.mailbox_mail.specs.declared.mail.Kind.TheVariants.{CoE, SoE}
 use Rattle.link_mails.specs.Body.{Body}
 use Rattle.exchange_model.specs.Areas.{Areas}
 use Rattle.exchange_model.specs.Exchange.{Speech}
@@ -85,8 +87,14 @@ abbrev pub emission : Body → Bool
 emission b = CoeMails.is_emission (heard_sdo b)
 
 -- a reply is followed by others where it is SDO information or SoE with the incomplete bit
+abbrev pub followed_by : Kind → List ℕ → Bool
+followed_by CoE body = CoeClient.is_incomplete (CoeOctets.body_heard body)
+followed_by SoE body = SoeClient.is_incomplete (SoeOctets.body_heard body)
+followed_by _ body = false
+
 abbrev pub is_followed : Body → Bool
-is_followed b = CoeClient.is_incomplete (heard_sdo b) || SoeClient.is_incomplete (heard_drive b)
+is_followed (Ok m) = followed_by m.kind m.body.items
+is_followed (Err fault) = false
 
 -- the services of which the laws speak
 abbrev pub valid : Areas → Asked → Bool

@@ -10,15 +10,3 @@ pub enum Course {
     /// A mail came that its client does not await: nothing more is sent for it, and nothing is known of it.
     Astray,
 }
-
-/// What is laid ready to come into hand next.
-#[derive(Clone, Copy, Debug, PartialEq, Eq)]
-pub enum Laid {
-    Nothing,
-    /// The next service of the script.
-    Script,
-    /// A packet.
-    Packet,
-    /// A mail that is passed on.
-    Mail,
-}

@@ -1,9 +1,17 @@
-use crate::passed::empty_mail;
+ghost use Rattle.std.specs.Prelude.{◌≡◌, ◌≤◌, true, false, length};
+ghost use Rattle.mailbox_mail.specs.View.{mail_seen};
+ghost use Rattle.coe_codec.specs.View.{coe_seen, IsCapped};
+ghost use Rattle.coe_model.specs.Mails.{is_emission, mail as sdo_mail};
+ghost use Rattle.coe_model.specs.Octets.{body_heard, is_fragment};
+ghost use Rattle.master_hand.specs.Spoken.{emission};
+ghost use Rattle.master_hand.specs.Passed.{body_of};
+
+use crate::clients::Which;
 use arrayvec::ArrayVec;
 use coe_codec::CoeView;
 use ec_fields::refill;
 use eoe::{Came, EoeView, Packet, Reassembler};
-use mailbox_mail::{BODY, Kind, Mail, MailView};
+use mailbox_mail::{BODY, Kind, Mail, MailView, Took};
 
 /// What the mail heard last brought besides a reply to a service of the master's own.
 #[derive(Clone, Copy, Debug, PartialEq, Eq)]
@@ -27,8 +35,20 @@ pub struct Found {
 }
 
 // Whether a body is a fragment of a packet.
-fn is_fragment(body: &[u8]) -> bool {
+fn is_fragment(body: &[u8]) -> bool
+    ensures { result ≡ is_fragment body.now }
+{
     body.len() >= 4 && body[0] % 16 == 0
+}
+
+// A mail without octets.
+fn empty_mail() -> Mail {
+    Mail {
+        address: 0,
+        kind: Kind::Error,
+        counter: 0,
+        body: ArrayVec::new(),
+    }
 }
 
 impl Found {
@@ -49,10 +69,13 @@ impl Found {
         self.join = Reassembler::new();
     }
 
-    // A CoE body: an emergency is kept.
-    fn hear_coe(&mut self, body: &[u8]) -> bool {
-        match coe_codec::view(body) {
-            Ok(CoeView::Emergency { octets }) => {
+    // An emergency is kept.
+    fn hear_message(&mut self, message: CoeView<'_>) -> bool
+        requires { IsCapped message }
+        ensures { result ≡ is_emission (sdo_mail (coe_seen message.entry)) }
+    {
+        match message {
+            CoeView::Emergency { octets } => {
                 refill(&mut self.emergency, octets);
                 self.brought = Brought::Emergency;
                 true
@@ -61,8 +84,21 @@ impl Found {
         }
     }
 
+    // A CoE body: the message in it, if it is one.
+    fn hear_coe(&mut self, body: &[u8]) -> bool
+        requires { length body.now ≤ 1480 }
+        ensures { result ≡ is_emission (body_heard body.now) }
+    {
+        match coe_codec::view(body) {
+            Ok(message) => self.hear_message(message),
+            Err(_) => false,
+        }
+    }
+
     // A fragment is joined to those that came before it; one that doesn't read is none of a packet.
-    fn join(&mut self, body: &[u8]) {
+    fn join(&mut self, body: &[u8])
+        requires { length body.now ≤ 1480 }
+    {
         if let Ok(EoeView::Fragment(fragment)) = eoe::view(body) {
             if self.join.take_into(fragment, &mut self.packet) == Came::Whole {
                 self.brought = Brought::Packet;
@@ -71,7 +107,10 @@ impl Found {
     }
 
     // An EoE body: a fragment is joined.
-    fn hear_eoe(&mut self, body: &[u8]) -> bool {
+    fn hear_eoe(&mut self, body: &[u8]) -> bool
+        requires { length body.now ≤ 1480 }
+        ensures { result ≡ is_fragment body.now }
+    {
         if !is_fragment(body) {
             return false;
         }
@@ -80,7 +119,10 @@ impl Found {
     }
 
     /// Whether a mail replies to nothing. What it brings is kept in place of what the one before brought.
-    pub fn hear(&mut self, mail: &MailView) -> bool {
+    pub fn hear(&mut self, mail: &MailView) -> bool
+        ensures emits { result ≡ true → emission (body_of (mail_seen mail.now)) ≡ true }
+        ensures replies { result ≡ false → length mail.now.body.now ≤ 1480 → emission (body_of (mail_seen mail.now)) ≡ false }
+    {
         self.brought = Brought::Nothing;
         if mail.body.len() > BODY {
             return false;
@@ -92,8 +134,20 @@ impl Found {
         }
     }
 
+    /// The mail that is kept was this to its client: a reply of a mail that is passed on is handed on.
+    pub fn reply(&mut self, which: Which, took: Took)
+        ensures { self.new.mail ≡ self.old.mail }
+    {
+        if which == Which::Passed && took != Took::Foreign {
+            self.brought = Brought::Reply;
+        }
+    }
+
     /// Keeps a mail that replies.
-    pub fn keep(&mut self, mail: &MailView) {
+    pub fn keep(&mut self, mail: &MailView)
+        requires { length mail.now.body.now ≤ 1480 }
+        ensures { self.new.mail ≡ mail_seen mail.now }
+    {
         self.mail.address = mail.address;
         self.mail.kind = mail.kind;
         self.mail.counter = mail.counter;

@@ -1,10 +1,13 @@
+ghost use Rattle.std.specs.Prelude.{◌≡◌, true};
+ghost use Rattle.master_hand.specs.Shown.{is_answered};
+
 use crate::clients::{Clients, Which};
-use crate::course::{Course, Laid};
+use crate::course::Course;
 use crate::found::{Brought, Found};
-use crate::passed::empty_mail;
+use crate::laying::Laying;
+use crate::passed::Content;
 use ec_fields::{NoMemory, Rows};
-use eoe::Packet;
-use mailbox_mail::{BODY, Kind, Mail, MailView, Took};
+use mailbox_mail::{BODY, Kind, MailView, Took};
 use master_side::{Hand, Heard};
 use segment_plan::Service;
 use std::alloc::Global;
@@ -17,92 +20,75 @@ pub struct InHand {
     /// Whose service is the newest, and how far it has come.
     pub which: Which,
     pub course: Course,
-    /// The scripted services of the slave, and the number of the next.
-    pub script: Rows<Service>,
-    pub number: u32,
-    /// What is laid ready: the next of the script, this packet or this mail.
-    pub laid: Laid,
-    pub packet: Packet,
-    pub mail: Mail,
-    /// The frame number of the next packet.
-    pub frame: u8,
+    /// The script, and what is laid ready.
+    pub laying: Laying,
     /// The mail that was taken last to be sent.
-    pub held: Mail,
+    pub held: Content,
     /// What the mail heard last brought.
     pub found: Found,
+    pub ghost one_slave: { laying.areas ≡ clients.areas },
+    pub ghost answered: { is_answered course which clients ≡ true },
 }
 
 impl InHand {
+    ghost use Rattle.std.specs.Prelude.{◌≡◌, ◌≤◌, ℕ, List, [], ◌∷◌, true, false, length, IfOk, Option, Some, None, Ok, option_map, All, if◌then◌else◌, ◌&&◌, not};
+    ghost use Rattle.mailbox_mail.specs.View.{mail_seen};
+    ghost use Rattle.exchange_model.specs.Rows.{Row, row_heard};
+    ghost use Rattle.link_mails.specs.Body.{Body};
+    ghost use Rattle.segment_plan.specs.Sound.{IsService};
+    ghost use Rattle.master_duty.specs.Reply.{Reply};
+    ghost use Rattle.master_hand.specs.Spoken.{Asked, emission, hand_speech};
+    ghost use Rattle.master_hand.specs.Passed.{body_of};
+    ghost use Rattle.master_hand.specs.Talk.{client_later, is_handed};
+    ghost use Rattle.master_hand.specs.Shown.{Shows, HandShows};
+    ghost use Rattle.master_hand.specs.declared.course.Course.{Course};
+
     /// No service came into hand yet. The hand owns the scripted services of its slave, in order, and takes all its memory here.
     pub fn new(
         alloc: Global,
         out_len: u16,
         in_len: u16,
         script: Rows<Service>,
-    ) -> Result<InHand, NoMemory> {
+    ) -> Result<InHand, NoMemory>
+        requires out_least { 64 ≤ out_len }
+        requires out_most { out_len ≤ 1486 }
+        requires in_least { 64 ≤ in_len }
+        requires in_most { in_len ≤ 1486 }
+        requires sound { All IsService script }
+        ensures areas { IfOk result (λ h. h.clients.areas ≡ record { out = out_len; back = in_len }) }
+        ensures shown { IfOk result (λ h. Shows h.course h.which h.clients (hand_speech (record { out = out_len; back = in_len })) None) }
+        ensures script { IfOk result (λ h. (h.laying.script ≡ script) × (h.laying.number ≡ 0)) }
+    {
         Ok(InHand {
             clients: Clients::new(alloc, out_len, in_len)?,
             which: Which::Coe,
             course: Course::Nothing,
-            script,
-            number: 0,
-            laid: Laid::Nothing,
-            packet: Packet::new(),
-            mail: empty_mail(),
-            frame: 0,
-            held: empty_mail(),
+            laying: Laying::new(out_len, in_len, script),
+            held: Content::new(),
             found: Found::new(),
         })
     }
 
-    // The next service of the script begins and is counted, where it is one by mails.
-    fn begin_script(&mut self) -> Option<Which> {
-        let began = match self.script.get(self.number as usize) {
-            None => None,
-            Some(service) => self.clients.start(service),
-        };
-        if began.is_some() {
-            self.number = self.number.saturating_add(1);
-        }
-        began
-    }
-
-    // The packet that was laid ready begins. Frame numbers grow modulo 16.
-    fn begin_packet(&mut self) -> Option<Which> {
-        self.clients.start_packet(&self.packet, self.frame);
-        self.frame = (self.frame + 1) % 16;
-        Some(Which::Packet)
-    }
-
-    // So does the mail that is passed on.
-    fn begin_mail(&mut self) -> Option<Which> {
-        self.clients.start_mail(&self.mail);
-        Some(Which::Passed)
-    }
-
-    // What was laid ready begins.
-    fn begin_laid(&mut self) -> Option<Which> {
-        match self.laid {
-            Laid::Nothing => None,
-            Laid::Script => self.begin_script(),
-            Laid::Packet => self.begin_packet(),
-            Laid::Mail => self.begin_mail(),
-        }
-    }
-
     // A mail that its client does not await, or one behind the last reply.
-    fn stray(&mut self) -> Heard {
+    fn stray(&mut self) -> Heard
+        ensures course { self.new.course ≡ Course.Astray }
+        ensures areas { self.new.clients.areas ≡ self.old.clients.areas }
+    {
         self.course = Course::Astray;
         Heard::Foreign
     }
 
     // A mail that replies comes while the reply isn't complete.
-    fn hear_reply(&mut self, mail: &MailView) -> Heard {
+    fn hear_reply(&mut self, mail: &MailView) -> Heard
+        requires goes { self.old.course ≡ Course.Goes }
+        requires short { length mail.now.body.now ≤ 1480 }
+        ensures shown { (frame : ℕ) (now : Option (Row Body Asked Reply)) → emission (body_of (mail_seen mail.now)) ≡ false → HandShows self.old.course self.old.which self.old.clients now →
+            HandShows self.new.course self.new.which self.new.clients (option_map (λ r. row_heard (hand_speech self.old.clients.areas) frame (body_of (mail_seen mail.now) ∷ []) r) now) }
+        ensures areas { self.new.clients.areas ≡ self.old.clients.areas }
+    {
         self.found.keep(mail);
         let took = self.clients.take(self.which, &self.found.mail);
-        if self.which == Which::Passed && took != Took::Foreign {
-            self.found.brought = Brought::Reply;
-        }
+        self.found.reply(self.which, took);
         match took {
             Took::More => Heard::More,
             Took::Done => {
@@ -113,23 +99,29 @@ impl InHand {
         }
     }
 
-    // Whether the newest service is over where its reply is `answered`.
-    fn is_sent(&self, answered: bool, fresh: bool, idle: bool) -> bool {
-        let done = match self.which {
+    // Whether the newest service is over, where its reply is there or not.
+    fn is_sent(&self, answered: bool, fresh: bool, idle: bool) -> bool
+        ensures left { result ≡ true → client_later self.now.which self.now.clients [] ≡ [] }
+        ensures done { result ≡ true → (if is_handed self.now.which then idle else answered && not fresh) ≡ true }
+    {
+        if self.clients.has_next(self.which) {
+            return false;
+        }
+        match self.which {
             Which::Packet | Which::Passed => idle,
             Which::Coe | Which::ReadFile | Which::WriteFile | Which::Soe | Which::Address => {
                 answered && !fresh
             }
-        };
-        done && !self.clients.has_next(self.which)
+        }
     }
 }
 
 impl Hand for InHand {
-    ghost use Rattle.std.specs.Prelude.{None};
     ghost use Rattle.master_hand.specs.Spoken.{Asked, acknowledged};
-    ghost use Rattle.master_hand.specs.Shown.{Shows, ready_of};
-    ghost use Rattle.master_hand.proofs.Hands.{quiet as quiet_shown};
+    ghost use Rattle.master_hand.specs.Passed.{mail_of};
+    ghost use Rattle.master_hand.specs.Laying.{ready_of};
+    ghost use Rattle.master_hand.specs.Shown.{Shows};
+    ghost use Rattle.master_hand.specs.Quiet.{quiet_shown};
 
     ghost Asked = { Asked };
 
@@ -137,18 +129,16 @@ impl Hand for InHand {
 
     ghost shows = { λ h x now. Shows h.course h.which h.clients x now };
 
-    ghost room = { λ h. h.clients.out_len };
+    ghost room = { λ h. h.clients.areas.out };
 
-    ghost ready = { λ h. ready_of h.laid h.clients.out_len h.script h.number h.packet h.frame h.mail };
+    ghost ready = { λ h. ready_of h.laying };
 
-    ghost taken = { λ h. h.held };
+    ghost taken = { λ h. mail_of h.held };
 
     ghost quiet = { λ h x frame now s. quiet_shown h.course h.which h.clients x frame now s };
 
     fn begin(&mut self) -> bool {
-        let began = self.begin_laid();
-        self.laid = Laid::Nothing;
-        match began {
+        match self.laying.begin(&mut self.clients) {
             None => false,
             Some(which) => {
                 self.which = which;
@@ -161,9 +151,7 @@ impl Hand for InHand {
     fn take_next(&mut self) -> bool {
         match self.course {
             Course::Nothing | Course::Astray => false,
-            Course::Goes | Course::Answered => {
-                self.clients.next_mail(self.which, &mut self.held)
-            }
+            Course::Goes | Course::Answered => self.clients.next_mail(self.which, &mut self.held),
         }
     }
 
@@ -205,7 +193,7 @@ impl Hand for InHand {
 
     fn renew(&mut self) {
         self.course = Course::Nothing;
-        self.laid = Laid::Nothing;
+        self.laying.forget();
         self.found.renew();
     }
 

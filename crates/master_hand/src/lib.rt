@@ -8,9 +8,11 @@ mod found;
 mod hand;
 mod laying;
 mod passed;
+mod telling;
 
 pub use clients::{Clients, Which};
-pub use course::{Course, Laid};
+pub use course::Course;
 pub use found::{Brought, Found};
 pub use hand::InHand;
-pub use passed::PassedMail;
+pub use laying::{Laid, Laying};
+pub use passed::{Content, PassedMail};

@@ -1,0 +1,12 @@
+use Rattle.std.proofs.Common.{refl, subst}
+use Rattle.mailbox_mail.specs.declared.mail.Kind.{Kind}
+use Rattle.master_hand.specs.Talk.{Talking, IsSent}
+use Rattle.master_hand.specs.declared.clients.Which.{Which}
+use Rattle.master_hand.specs.contracts.clients.Clients.{the_view}
+use Rattle.master_hand.proofs.Protocols.{fragment_sent}
+use Rattle.master_hand.proofs.clients.Clients.next_fragment.Goals as goal
+
+pub returns : goal.returns
+returns c =
+    subst (λ (t : Talking). IsSent c.next_mail.result Which.Packet t (record { kind = Kind.EoE; body = c.next_mail.new.body }) (record (the_view c.self.inside) { packets = c.next_mail.new.self })) c.self.view_is
+    (fragment_sent _ c.next_mail.result (the_view c.self.inside) c.next_mail.new.self (record { kind = Kind.EoE; body = c.next_mail.new.body }) c.next_mail.ensures.sends c.next_mail.ensures.fits c.next_mail.ensures.same c.self.invariant.6 refl)

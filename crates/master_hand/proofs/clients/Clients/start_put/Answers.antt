@@ -1,0 +1,14 @@
+use Rattle.std.proofs.Common.{subst}
+use Rattle.soe_model.specs.Client as SoeClient
+use Rattle.soe_model.specs.Elements.{target}
+use Rattle.master_hand.specs.Spoken.{drive}
+use Rattle.master_hand.specs.Talk.{Talking, Starts}
+use Rattle.master_hand.specs.declared.clients.Which.{Which}
+use Rattle.master_hand.specs.contracts.clients.Clients.{the_view}
+use Rattle.master_hand.proofs.Protocols.{drive_starts}
+use Rattle.master_hand.proofs.clients.Clients.start_put.Goals as goal
+
+pub returns-clause-starts : goal.returns-clause-starts
+returns-clause-starts c =
+    subst (λ (t : Talking). Starts t.areas (drive (SoeClient.write (target c.args.number c.args.idn c.args.elements) c.args.bytes.now)) Which.Soe (record (the_view c.self.inside) { drive = c.start_write.new.self })) c.self.view_is
+    (drive_starts (the_view c.self.inside) c.start_write.new.self (SoeClient.write (target c.args.number c.args.idn c.args.elements) c.args.bytes.now) c.start_write.ensures.replies c.start_write.ensures.mails c.self.invariant.4)

@@ -1,0 +1,45 @@
+-- A frame that brings no mail leaves what a hand shows.
+use Rattle.std.specs.Prelude.{◌≡◌, ℕ, Bool, true, false, List, [], ◌++◌, Option, Some, None, option_map, refl}
+use Rattle.std.proofs.Common.{ap, sym, ◌∙◌, subst, append-nil}
+use Rattle.exchange_model.specs.Exchange.{Speech, plain}
+use Rattle.exchange_model.specs.Rows.{Row, row_heard, answer_after}
+use Rattle.link_mails.specs.Body.{Body}
+use Rattle.master_duty.specs.Reply.{Reply}
+use Rattle.master_hand.specs.Spoken.{Asked, hand_speech}
+use Rattle.master_hand.specs.Grips.{Going}
+use Rattle.master_hand.specs.Talk.{Talking, IsOf, client_later, client_awaits}
+use Rattle.master_hand.specs.Shown.{HandShows, Shows}
+use Rattle.master_hand.specs.declared.course.Course.{Course}
+use Rattle.master_hand.specs.declared.clients.Which.{Which}
+
+-- where no reply is complete, none is by nothing
+stays : {R : Type 0} (frame : ℕ) (answer : Option (R × ℕ)) (o : Option R) → (answer ≡ None → o ≡ None) → answer_after frame answer o ≡ answer
+stays frame (Some a) o h = refl
+stays frame None o h = ap (answer_after frame None) (h refl)
+
+-- a row stays
+row_stays : {M Q R : Type 0} (x : Speech M Q R) (Kind : Q → Type 0) (later : List M → List M) (awaits : List M → Option R) (b : Bool) (now : Option (Row M Q R)) (frame : ℕ) (g : Going x Kind later awaits b now) →
+    row_heard x frame [] g.row ≡ g.row
+row_stays x Kind later awaits b now frame g =
+    let same = ap (λ hs. x.ends g.row.service (plain x.emission hs)) (append-nil g.row.heard) in
+    let ended = ap (x.ends g.row.service) (sym (append-nil (plain x.emission g.row.heard))) ∙ g.talks.goes [] in
+    let s = stays frame g.row.answer (x.ends g.row.service (plain x.emission (g.row.heard ++ []))) (λ n. same ∙ ended ∙ g.quiet n) in
+    λ i. record g.row { heard = append-nil g.row.heard i; answer = s i }
+
+going_stays : {M Q R : Type 0} (x : Speech M Q R) (Kind : Q → Type 0) (later : List M → List M) (awaits : List M → Option R) (b : Bool) (now : Option (Row M Q R)) (frame : ℕ) → Going x Kind later awaits b now →
+    option_map (λ r. row_heard x frame [] r) now ≡ now
+going_stays x Kind later awaits b now frame g =
+    ap (option_map (λ r. row_heard x frame [] r)) g.is ∙ ap Some (row_stays x Kind later awaits b now frame g) ∙ sym g.is
+
+quiet_by : (course : Course) (which : Which) (c : Talking) (frame : ℕ) (now : Option (Row Body Asked Reply)) → HandShows course which c now → HandShows course which c (option_map (λ r. row_heard (hand_speech c.areas) frame [] r) now)
+quiet_by Course.Nothing which c frame now h = ap (option_map (λ r. row_heard (hand_speech c.areas) frame [] r)) h
+quiet_by Course.Goes which c frame now h =
+    subst (λ n. HandShows Course.Goes which c n) (sym (going_stays (hand_speech c.areas) (IsOf which) (client_later which c) (client_awaits which c) false now frame h)) h
+quiet_by Course.Answered which c frame now h =
+    subst (λ n. HandShows Course.Answered which c n) (sym (going_stays (hand_speech c.areas) (IsOf which) (client_later which c) (client_awaits which c) true now frame h)) h
+quiet_by Course.Astray which c frame now h = tt
+
+-- what a hand shows stays
+pub quiet_shown : (course : Course) (which : Which) (c : Talking) (x : Speech Body Asked Reply) (frame : ℕ) (now : Option (Row Body Asked Reply)) → Shows course which c x now → Shows course which c x (option_map (λ r. row_heard x frame [] r) now)
+quiet_shown course which c x frame now s =
+    (s.0, subst (λ (y : Speech Body Asked Reply). HandShows course which c (option_map (λ r. row_heard y frame [] r) now)) (sym s.0) (quiet_by course which c frame now s.1))

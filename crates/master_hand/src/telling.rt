@@ -1,0 +1,122 @@
+ghost use Rattle.std.specs.Prelude.{◌≡◌, ◌≤◌, ◌+◌, ◌++◌, ℕ, [], length, slice_get, IfSome, Option, Some, OnOk, OnErr};
+ghost use Rattle.std.specs.Option.{option_copied};
+ghost use Rattle.master_hand.specs.Talk.{client_awaits, value_of};
+ghost use Rattle.exchange_model.specs.Exchange.{Speech};
+ghost use Rattle.exchange_model.specs.Rows.{Row};
+ghost use Rattle.link_mails.specs.Body.{Body};
+ghost use Rattle.master_duty.specs.Reply.{Reply};
+ghost use Rattle.master_hand.specs.Spoken.{Asked};
+ghost use Rattle.master_hand.specs.Shown.{Shows, SameHand};
+ghost use Rattle.master_hand.specs.declared.laying.Laid.{Laid};
+ghost use Rattle.master_hand.specs.declared.course.Course.{Course};
+
+use crate::clients::Which;
+use crate::course::Course;
+use crate::found::Brought;
+use crate::hand::InHand;
+use arrayvec::ArrayVec;
+use ec_fields::{NoMemory, Octets};
+use eoe::Packet;
+use mailbox_mail::{Mail, ReplyKind};
+use segment_plan::Service;
+
+impl InHand {
+    /// The scripted service that comes next, a change of state too; `None` where none is left.
+    pub fn scripted(&self) -> Option<&Service>
+        ensures { option_copied result ≡ slice_get self.now.laying.script self.now.laying.number }
+    {
+        self.laying.next()
+    }
+
+    /// How many scripted services came into hand or were passed by: the number of the next.
+    pub fn number(&self) -> u32
+        ensures { result ≡ self.now.laying.number }
+    {
+        self.laying.number()
+    }
+
+    /// The next scripted service is a change of state, which another has in hand: the one behind it comes next.
+    pub fn pass_by(&mut self)
+        ensures { SameHand self.old.course self.old.which self.old.clients self.new.course self.new.which self.new.clients }
+    {
+        self.laying.pass_by();
+    }
+
+    /// The next scripted service, one by mails, is laid ready: `begin` then starts its client and counts it.
+    pub fn lay_script(&mut self)
+        ensures kept { SameHand self.old.course self.old.which self.old.clients self.new.course self.new.which self.new.clients }
+        ensures laid { self.new.laying ≡ record self.old.laying { laid = Laid.Script } }
+    {
+        self.laying.lay_script();
+    }
+
+    /// A packet from the switch is laid ready. Its frame number is the next one, 0 to 15 in turn, which a reopening leaves.
+    pub fn lay_packet(&mut self, packet: &Packet)
+        requires { 14 ≤ length packet.now.items }
+        ensures kept { SameHand self.old.course self.old.which self.old.clients self.new.course self.new.which self.new.clients }
+        ensures laid { self.new.laying ≡ record self.old.laying { laid = Laid.Packet; packet = packet.now.items } }
+    {
+        self.laying.lay_packet(packet);
+    }
+
+    /// A mail that is passed on as it is is laid ready; its address and its counter don't go with it. It has to fit the slave's mailbox.
+    pub fn lay_mail(&mut self, mail: &Mail)
+        requires { 6 + length mail.now.body.items ≤ self.old.clients.areas.out }
+        ensures kept { SameHand self.old.course self.old.which self.old.clients self.new.course self.new.which self.new.clients }
+        ensures laid { self.new.laying ≡ record self.old.laying { laid = Laid.Mail; mail = record { kind = mail.now.kind; body = mail.now.body } } }
+    {
+        self.laying.lay_mail(mail.kind, mail.body.as_slice());
+    }
+
+    /// Whether the newest service is a packet.
+    pub fn is_packet(&self) -> bool {
+        self.course != Course::Nothing && self.which == Which::Packet
+    }
+
+    /// The kind of the reply of the newest service, once its last mail was accepted; packets and mails that are passed on have none.
+    pub fn answer(&self) -> Option<ReplyKind>
+        ensures reply { IfSome result (λ kind. client_awaits self.now.which self.now.clients [] ≡ Some (Some (kind, value_of self.now.which self.now.clients))) }
+        ensures told { IfSome result (λ kind. (x : Speech Body Asked Reply) (now : Option (Row Body Asked Reply)) (row : Row Body Asked Reply) (a : Reply × ℕ) → Shows self.now.course self.now.which self.now.clients x now → now ≡ Some row → row.answer ≡ Some a →
+            a.0 ≡ Some (kind, value_of self.now.which self.now.clients)) }
+    {
+        if self.course != Course::Answered {
+            return None;
+        }
+        self.clients.reply(self.which)
+    }
+
+    /// Appends the value of that reply; it is empty where the reply has none. After `NoMemory` the list is as before.
+    pub fn value(&self, into: &mut Octets) -> Result<(), NoMemory>
+        ensures ok { OnOk result (self.now.course ≡ Course.Answered → into.new ≡ into.old ++ value_of self.now.which self.now.clients) }
+        ensures err { OnErr result (into.new ≡ into.old) }
+    {
+        if self.course != Course::Answered {
+            return Ok(());
+        }
+        self.clients.value(self.which, into)
+    }
+
+    /// The mail heard last, where it was an emergency: its octets.
+    pub fn emergency(&self) -> Option<&ArrayVec<u8, 8>> {
+        match self.found.brought {
+            Brought::Emergency => Some(&self.found.emergency),
+            Brought::Nothing | Brought::Packet | Brought::Reply => None,
+        }
+    }
+
+    /// The packet that the fragment heard last has completed.
+    pub fn packet(&self) -> Option<&Packet> {
+        match self.found.brought {
+            Brought::Packet => Some(&self.found.packet),
+            Brought::Nothing | Brought::Emergency | Brought::Reply => None,
+        }
+    }
+
+    /// The mail heard last, where it is a reply of a mail that is passed on.
+    pub fn replied(&self) -> Option<&Mail> {
+        match self.found.brought {
+            Brought::Reply => Some(&self.found.mail),
+            Brought::Nothing | Brought::Emergency | Brought::Packet => None,
+        }
+    }
+}
