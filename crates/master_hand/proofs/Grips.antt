@@ -1,5 +1,5 @@
 -- How a client in hand goes on showing its row.
-use Rattle.std.proofs.Common.{◌≡◌, ℕ, List, [], ◌∷◌, ◌++◌, Bool, true, false, Option, Some, None, refl, sym, ap, ◌∙◌, subst, append_assoc, append-nil, drop, length}
+use Rattle.std.proofs.Common.{◌≡◌, ℕ, List, [], ◌∷◌, ◌++◌, Bool, true, false, Option, Some, None, refl, sym, ap, ◌∙◌, append_assoc, append-nil, drop, length}
 use Rattle.std.specs.Prelude.{is_some, option_map}
 use Rattle.exchange_model.specs.Exchange.{Speech, plain}
 use Rattle.exchange_model.specs.Rows.{Row, begun, answer_after, row_heard, row_told, left}
@@ -21,6 +21,7 @@ going_begun x Kind later awaits q frame l a none k = record {
   talks = talks_begun x later awaits q frame l a;
   answer = refl;
   quiet = λ e. a [] ∙ none;
+  kept = λ b e. absurd (cc);
 }
 
 -- its next mail is held
@@ -40,6 +41,7 @@ going_told x Kind later new awaits answers b now m l a g = record {
   talks = talks_told x later new awaits answers g.row m l a g.talks;
   answer = g.answer;
   quiet = λ e. a [] ∙ g.quiet e;
+  kept = λ b e. a [] ∙ g.kept b e;
 }
 
 drop_told : {M : Type 0} (xs ys : List M) → drop (length xs) (xs ++ ys) ≡ ys
@@ -55,18 +57,6 @@ pub going_next : {M Q R : Type 0} (x : Speech M Q R) (Kind : Q → Type 0) (late
     ((hs : List M) → later hs ≡ m ∷ new hs) → Going x Kind later awaits b now → next_mail x now None true ≡ m ∷ []
 going_next x Kind later new awaits b now m l g =
     ap (λ o. next_mail x o None true) g.is ∙ ap first_left (talks_left x later awaits g.row g.talks ∙ l [])
-
--- the same client, written another way
-pub going_same : {M Q R : Type 0} (x : Speech M Q R) (Kind : Q → Type 0) (later new : List M → List M) (awaits answers : List M → Option R) (b : Bool) (now : Option (Row M Q R)) →
-    ((hs : List M) → new hs ≡ later hs) → ((hs : List M) → answers hs ≡ awaits hs) → Going x Kind later awaits b now → Going x Kind new answers b now
-going_same x Kind later new awaits answers b now l a g = record {
-  row = g.row;
-  is = g.is;
-  kind = g.kind;
-  talks = record { rest = λ hs. g.talks.rest hs ∙ ap (λ ms. g.row.told ++ ms) (sym (l hs)); goes = λ hs. g.talks.goes hs ∙ sym (a hs) };
-  answer = g.answer;
-  quiet = λ e. a [] ∙ g.quiet e;
-}
 
 -- mails are heard, and `ps` are those that reply
 talks_heard : {M Q R : Type 0} (x : Speech M Q R) (later new : List M → List M) (awaits answers : List M → Option R) (r : Row M Q R) (frame : ℕ) (ms ps : List M) →
@@ -101,12 +91,18 @@ going_emission x Kind later awaits b now frame ms p g =
       talks = t;
       answer = ap is_some s ∙ g.answer;
       quiet = λ n. g.quiet (sym s ∙ n);
+      kept = λ a e. g.kept a (sym s ∙ e);
     }
 
 open_answer : {R : Type 0} (frame : ℕ) (answer : Option (R × ℕ)) (o : Option R) → is_some answer ≡ false → is_some (answer_after frame answer o) ≡ is_some o
 open_answer frame None None e = refl
 open_answer frame None (Some r) e = refl
 open_answer frame (Some a) o e = absurd (cc)
+
+opened_is : {R : Type 0} (frame : ℕ) (answer : Option (R × ℕ)) (o : Option R) (a : R × ℕ) → is_some answer ≡ false → answer_after frame answer o ≡ Some a → o ≡ Some a.0
+opened_is frame None None a e h = absurd (cc)
+opened_is frame None (Some r) a e h = ap (option_map (λ p. p.0)) h
+opened_is frame (Some b) o a e h = absurd (cc)
 
 none_is : {T : Type 0} (o : Option T) → is_some o ≡ false → o ≡ None
 none_is None e = refl
@@ -130,4 +126,5 @@ going_heard x Kind later new awaits answers b now frame ms ps p l a some g =
       talks = t;
       answer = opened ∙ some;
       quiet = λ n. none_is (answers []) (sym opened ∙ not_some _ n);
+      kept = λ b e. sym ended ∙ opened_is frame g.row.answer (x.ends g.row.service (plain x.emission (g.row.heard ++ ms))) b g.answer e;
     }

@@ -1,13 +1,12 @@
 -- The hand's steps, over its clients.
-use Rattle.std.proofs.Common.{◌≡◌, ℕ, List, [], ◌∷◌, ◌++◌, Bool, true, false, Option, Some, None, refl, sym, ap, ◌∙◌, subst, map}
-use Rattle.std.specs.Prelude.{is_some, is_none, option_map, Ok, ⊤, not, ◌&&◌, if◌then◌else◌, ◌⊎◌}
+use Rattle.std.proofs.Common.{◌≡◌, ℕ, List, [], ◌∷◌, Bool, true, false, Option, Some, None, refl, sym, ap, ◌∙◌, subst}
+use Rattle.std.specs.Prelude.{is_some, is_none, option_map, Ok, not, ◌&&◌, if◌then◌else◌, ◌⊎◌}
 use Rattle.std.proofs.Common.{inl, inr}
-use Rattle.mailbox_mail.specs.declared.mail.Mail.{Mail}
 use Rattle.mailbox_mail.specs.declared.outcome.Took.{Took}
 use Rattle.exchange_model.specs.Areas.{Areas}
 use Rattle.exchange_model.specs.Exchange.{Speech, plain}
 use Rattle.exchange_model.specs.Rows.{Row, begun, row_heard, row_told}
-use Rattle.link_mails.specs.Body.{Body, uncounted}
+use Rattle.link_mails.specs.Body.{Body}
 use Rattle.segment_model.specs.Seats.{Side, is_none_left, next_mail}
 use Rattle.task_model.specs.Accounts as Accounts
 use Rattle.task_model.specs.Accounts.{is_free}
@@ -15,18 +14,17 @@ use Rattle.master_duty.specs.Reply.{Reply}
 use Rattle.master_side.specs.Fits.{Tells}
 use Rattle.foe_model.specs.Meaning as FoeMeaning
 use Rattle.eoe_model.specs.Client as EoeClient
-use Rattle.coe_model.specs.Meaning as CoeMeaning
 use Rattle.coe_model.proofs.Closing.{ends_none}
 use Rattle.soe_model.specs.Client as SoeClient
-use Rattle.master_hand.specs.Spoken.{Asked, sdo, file, drive, net, passed, emission, ends, valid, handed, replied, acknowledged, hand_speech}
-use Rattle.master_hand.specs.Passed.{body_of, mail_of}
+use Rattle.master_hand.specs.Spoken.{Asked, sdo, file, drive, net, passed, emission, ends, handed, replied, acknowledged, hand_speech}
+use Rattle.master_hand.specs.Passed.{mail_of}
 use Rattle.master_hand.specs.Grips.{Going}
 use Rattle.master_hand.specs.Talk.{Talking, which_of, IsOf, is_handed, is_read, client_later, client_awaits, Starts, Begins, SendsNext, IsSent, Follows, ClientTook, is_askable}
-use Rattle.master_hand.specs.Shown.{HandShows, Shows, is_answered}
+use Rattle.master_hand.specs.Shown.{HandShows, Shows}
 use Rattle.master_hand.specs.declared.course.Course.{Course}
 use Rattle.master_hand.specs.declared.clients.Which.{Which}
 use Rattle.master_hand.specs.declared.passed.Content.{Content}
-use Rattle.master_hand.proofs.Grips.{going_begun, going_told, going_next, going_same, going_emission, going_heard, talks_left}
+use Rattle.master_hand.proofs.Grips.{going_begun, going_told, going_next, going_emission, going_heard, talks_left}
 
 abbrev pub Rows : Type 0
 Rows = Option (Row Body Asked Reply)

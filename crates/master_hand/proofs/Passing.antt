@@ -1,13 +1,13 @@
 -- A mail that is passed on, and its replies.
-use Rattle.std.proofs.Common.{◌≡◌, ℕ, ◌+◌, List, [], ◌∷◌, Bool, true, false, Option, Some, None, refl, sym, ap, ◌∙◌, subst, length, arith}
-use Rattle.std.specs.Prelude.{is_some, Ok, ⊤, not, ◌≤◌, ◌↔◌, if◌then◌else◌}
+use Rattle.std.proofs.Common.{◌≡◌, ℕ, ◌+◌, List, [], ◌∷◌, Bool, true, false, Option, Some, None, refl, sym, ap, ◌∙◌, subst, length}
+use Rattle.std.specs.Prelude.{is_some, Ok, not, ◌≤◌, ◌↔◌, if◌then◌else◌}
 use Rattle.std.specs.Bool.{OnTrue, OnFalse}
 use Rattle.mailbox_mail.specs.declared.outcome.Took.{Took}
 use Rattle.link_mails.specs.Body.{Body}
 use Rattle.serving_model.specs.Passing.{ends_told}
 use Rattle.master_duty.specs.Reply.{Reply}
 use Rattle.master_hand.specs.Spoken.{passed, passed_ends, is_followed}
-use Rattle.master_hand.specs.Passed.{mail_of, passed_left, passed_awaits, at_end, PassedTook}
+use Rattle.master_hand.specs.Passed.{mail_of, passed_left, at_end, PassedTook}
 use Rattle.master_hand.specs.Talk.{Talking, IsSent, ClientTook, Starts}
 use Rattle.master_hand.specs.declared.clients.Which.{Which}
 use Rattle.master_hand.specs.declared.passed.Content.{Content}

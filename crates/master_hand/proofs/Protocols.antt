@@ -1,14 +1,13 @@
 -- Protocol by protocol: what a client does is what the hand wants of it.
-use Rattle.std.proofs.Common.{◌≡◌, ℕ, ◌+◌, ◌<◌, List, [], ◌∷◌, ◌++◌, Bool, true, false, Option, Some, None, refl, sym, ap, ◌∙◌, subst, map, length, arith}
-use Rattle.std.specs.Prelude.{is_some, is_none, option_map, Ok, ⊤, not, ◌≤◌, ◌↔◌, if◌then◌else◌, zero, suc, ◌&&◌, ◌⊎◌, nat_le, nat_lt}
+use Rattle.std.proofs.Common.{◌≡◌, ℕ, ◌+◌, ◌<◌, List, [], ◌∷◌, Bool, true, false, Option, Some, None, refl, sym, ap, ◌∙◌, subst, map, length, arith}
+use Rattle.std.specs.Prelude.{is_some, Ok, ◌≤◌, ◌↔◌, if◌then◌else◌, zero, suc, ◌&&◌, ◌⊎◌, nat_le, nat_lt}
 use Rattle.std.proofs.Common.{inl, inr}
 use Rattle.std.specs.Bool.{OnTrue, OnFalse}
 use Rattle.mailbox_mail.specs.declared.mail.Mail.{Mail}
 use Rattle.mailbox_mail.specs.declared.mail.Kind.{Kind}
 use Rattle.mailbox_mail.specs.declared.outcome.Took.{Took}
-use Rattle.mailbox_mail.specs.declared.outcome.ReplyKind.{ReplyKind}
 use Rattle.exchange_model.specs.Areas.{Areas}
-use Rattle.link_mails.specs.Body.{Body, uncounted}
+use Rattle.link_mails.specs.Body.{Body}
 use Rattle.coe_model.specs.Mails as CoeMails
 use Rattle.coe_model.specs.Octets as CoeOctets
 use Rattle.coe_client.specs.Talk as CoeTalk
@@ -32,7 +31,6 @@ use Rattle.eoe_model.specs.Octets as EoeOctets
 use Rattle.eoe_client.specs.Talk as EoeTalk
 use Rattle.eoe_client.specs.Hear as EoeHear
 use Rattle.eoe_client.specs.declared.address.Awaits as EoeAwaits
-use Rattle.master_duty.specs.Reply.{Reply}
 use Rattle.object_dictionary.specs.declared.service.SdoService.{SdoService}
 use Rattle.coe_model.specs.Client as CoeClient
 use Rattle.coe_model.specs.Model as CoeModel
@@ -45,9 +43,9 @@ use Rattle.eoe_model.specs.Mails.{packet_mails}
 use Rattle.ec_fields.proofs.Cells.{AreOctets}
 use Rattle.soe_model.specs.Elements.{target}
 use Rattle.segment_plan.specs.Sound.{IsSdo}
-use Rattle.master_hand.specs.Spoken.{Asked, sdo, file, drive, net, passed, told_sdo, heard_sdo, told_file, heard_file, told_drive, heard_drive, told_net, heard_net, replied}
+use Rattle.master_hand.specs.Spoken.{sdo, file, drive, net, told_sdo, heard_sdo, told_file, heard_file, told_drive, heard_drive, told_net, heard_net, replied}
 use Rattle.master_hand.specs.Passed.{body_of, mail_of}
-use Rattle.master_hand.specs.Talk.{Talking, client_later, client_awaits, value_of, SendsNext, IsSent, Follows, ClientTook, Starts, Begins, octets_of}
+use Rattle.master_hand.specs.Talk.{Talking, client_later, client_awaits, IsSent, ClientTook, Starts, Begins, octets_of}
 use Rattle.master_hand.specs.declared.clients.Which.{Which}
 use Rattle.master_hand.specs.declared.passed.Content.{Content}
 

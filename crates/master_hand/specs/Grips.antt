@@ -1,5 +1,5 @@
 -- What a client in hand shows of the row of its service. Told and heard are stored nowhere.
-use Rattle.std.specs.Prelude.{◌≡◌, Bool, is_some, List, [], ◌++◌, Option, Some, None}
+use Rattle.std.specs.Prelude.{◌≡◌, ℕ, Bool, is_some, List, [], ◌++◌, Option, Some, None}
 use Rattle.exchange_model.specs.Exchange.{Speech, plain}
 use Rattle.exchange_model.specs.Rows.{Row}
 
@@ -16,3 +16,4 @@ pub record Going {M Q R : Type 0} (x : Speech M Q R) (Kind : Q → Type 0) (late
   pub talks : Talks x later awaits row
   pub answer : is_some row.answer ≡ answered
   pub quiet : row.answer ≡ None → awaits [] ≡ None
+  pub kept : (a : R × ℕ) → row.answer ≡ Some a → awaits [] ≡ Some a.0

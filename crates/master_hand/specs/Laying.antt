@@ -1,5 +1,5 @@
 -- What waits to come into hand: the script of a slave, and what is laid ready.
-use Rattle.std.specs.Prelude.{◌≡◌, ℕ, List, Option, Some, None, slice_get}
+use Rattle.std.specs.Prelude.{ℕ, List, Option, Some, None, slice_get}
 use Rattle.exchange_model.specs.Areas.{Areas}
 use Rattle.eoe_model.specs.Client as EoeClient
 use Rattle.segment_plan.specs.declared.service.Service.{Service}

@@ -1,5 +1,5 @@
 -- A mail that is passed on as it is.
-use Rattle.std.specs.Prelude.{◌≡◌, ℕ, Bool, true, is_some, List, [], ◌∷◌, Option, Some, None, Ok, ⊤, if◌then◌else◌}
+use Rattle.std.specs.Prelude.{◌≡◌, true, is_some, List, [], ◌∷◌, Option, Some, None, Ok, ⊤, if◌then◌else◌}
 use Rattle.mailbox_mail.specs.declared.mail.Mail.{Mail}
 use Rattle.mailbox_mail.specs.declared.outcome.Took.{Took}
 use Rattle.link_mails.specs.Body.{Body, uncounted}

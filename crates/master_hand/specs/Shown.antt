@@ -1,5 +1,5 @@
 -- What the master's hand shows of the newest row of a slave.
-use Rattle.std.specs.Prelude.{◌≡◌, ℕ, Bool, true, false, is_some, List, [], Option, Some, None, ⊤}
+use Rattle.std.specs.Prelude.{◌≡◌, Bool, true, false, is_some, [], Option, None, ⊤}
 use Rattle.exchange_model.specs.Exchange.{Speech}
 use Rattle.exchange_model.specs.Rows.{Row}
 use Rattle.link_mails.specs.Body.{Body}

@@ -15,7 +15,7 @@ use Rattle.eoe_client.specs.Talk as EoeTalk
 use Rattle.object_dictionary.specs.declared.service.SdoService.{SdoService}
 use Rattle.segment_plan.specs.declared.service.Service.{Service}
 use Rattle.master_duty.specs.Reply.{Reply}
-use Rattle.master_hand.specs.Spoken.{Asked, sdo, file, drive, net, passed, heard_sdo, told_sdo, heard_file, told_file, heard_drive, told_drive, heard_net, told_net, replied, valid, planned, ends, handed}
+use Rattle.master_hand.specs.Spoken.{Asked, sdo, file, drive, net, passed, heard_sdo, told_sdo, heard_file, told_file, heard_drive, told_drive, heard_net, told_net, replied, valid, planned, ends}
 use Rattle.master_hand.specs.Passed.{mail_of, passed_left, passed_awaits}
 use Rattle.master_hand.specs.declared.clients.Which.{Which}
 use Rattle.master_hand.specs.declared.passed.PassedMail.{PassedMail}

@@ -1,7 +1,12 @@
-ghost use Rattle.std.specs.Prelude.{◌≡◌, ◌≤◌, ◌+◌, ◌++◌, [], length, slice_get, IfSome, Some, OnOk, OnErr};
+ghost use Rattle.std.specs.Prelude.{◌≡◌, ◌≤◌, ◌+◌, ◌++◌, ℕ, [], length, slice_get, IfSome, Option, Some, OnOk, OnErr};
 ghost use Rattle.std.specs.Option.{option_copied};
 ghost use Rattle.master_hand.specs.Talk.{client_awaits, value_of};
-ghost use Rattle.master_hand.specs.Shown.{SameHand};
+ghost use Rattle.exchange_model.specs.Exchange.{Speech};
+ghost use Rattle.exchange_model.specs.Rows.{Row};
+ghost use Rattle.link_mails.specs.Body.{Body};
+ghost use Rattle.master_duty.specs.Reply.{Reply};
+ghost use Rattle.master_hand.specs.Spoken.{Asked};
+ghost use Rattle.master_hand.specs.Shown.{Shows, SameHand};
 ghost use Rattle.master_hand.specs.declared.laying.Laid.{Laid};
 ghost use Rattle.master_hand.specs.declared.course.Course.{Course};
 
@@ -70,7 +75,9 @@ impl InHand {
 
     /// The kind of the reply of the newest service, once its last mail was accepted; packets and mails that are passed on have none.
     pub fn answer(&self) -> Option<ReplyKind>
-        ensures { IfSome result (λ kind. client_awaits self.now.which self.now.clients [] ≡ Some (Some (kind, value_of self.now.which self.now.clients))) }
+        ensures reply { IfSome result (λ kind. client_awaits self.now.which self.now.clients [] ≡ Some (Some (kind, value_of self.now.which self.now.clients))) }
+        ensures told { IfSome result (λ kind. (x : Speech Body Asked Reply) (now : Option (Row Body Asked Reply)) (row : Row Body Asked Reply) (a : Reply × ℕ) → Shows self.now.course self.now.which self.now.clients x now → now ≡ Some row → row.answer ≡ Some a →
+            a.0 ≡ Some (kind, value_of self.now.which self.now.clients)) }
     {
         if self.course != Course::Answered {
             return None;

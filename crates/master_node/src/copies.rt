@@ -1,10 +1,15 @@
+ghost use Rattle.std.specs.Prelude.{◌≡◌, ◌==◌, ◌++◌, ◌∷◌, [], if◌then◌else◌, IfOk, OnOk};
+ghost use Rattle.master_node.specs.Scripts.{script_for};
+
 use ec_fields::{NoMemory, Octets, Rows, buffer_of};
 use object_dictionary::SdoService;
 use segment_plan::Service;
 use std::alloc::Global;
 
 // A service of CoE of its own.
-fn copy_sdo(alloc: Global, service: &SdoService) -> Result<SdoService, NoMemory> {
+fn copy_sdo(alloc: Global, service: &SdoService) -> Result<SdoService, NoMemory>
+    ensures { IfOk result (λ s. s ≡ service.now) }
+{
     Ok(match service {
         SdoService::Download { index, sub, bytes } => SdoService::Download {
             index: *index,
@@ -35,7 +40,9 @@ fn copy_sdo(alloc: Global, service: &SdoService) -> Result<SdoService, NoMemory>
 }
 
 // A service of its own.
-fn copy_service(alloc: Global, service: &Service) -> Result<Service, NoMemory> {
+fn copy_service(alloc: Global, service: &Service) -> Result<Service, NoMemory>
+    ensures { IfOk result (λ s. s ≡ service.now) }
+{
     Ok(match service {
         Service::Sdo(sdo) => Service::Sdo(copy_sdo(alloc, sdo)?),
         Service::ReadFile { name, pass } => Service::ReadFile {
@@ -76,17 +83,33 @@ fn copy_service(alloc: Global, service: &Service) -> Result<Service, NoMemory> {
     })
 }
 
+// A copy of a service stands next in the script, where it is addressed to this slave.
+fn put(
+    alloc: Global,
+    slave: u32,
+    row: &(u32, Service),
+    script: &mut Rows<Service>,
+) -> Result<(), NoMemory>
+    ensures { OnOk result (script.new ≡ (if row.now.0 == slave then script.old ++ row.now.1 ∷ [] else script.old)) }
+{
+    if row.0 != slave {
+        return Ok(());
+    }
+    let service = copy_service(alloc, &row.1)?;
+    script.add(service)
+}
+
 /// Copies of the services that are addressed to a slave, in order.
 pub fn script_of(
     alloc: Global,
     slave: u32,
     services: &[(u32, Service)],
-) -> Result<Rows<Service>, NoMemory> {
+) -> Result<Rows<Service>, NoMemory>
+    ensures { IfOk result (λ s. s ≡ script_for slave services.now) }
+{
     let mut script = Rows::new(alloc);
-    for (of, service) in services {
-        if *of == slave {
-            script.add(copy_service(alloc, service)?)?;
-        }
+    for row in services {
+        put(alloc, slave, row, &mut script)?;
     }
     Ok(script)
 }

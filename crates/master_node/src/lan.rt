@@ -1,6 +1,6 @@
-ghost use Rattle.std.specs.Prelude.{◌≡◌, ◌≤◌, ◌<◌, ◌+◌, length, true, IfOk, All};
-ghost use Rattle.segment_plan.specs.Sound.{IsPacket, IsPlan};
-ghost use Rattle.master_node.specs.Ported.{are_ports, ports_from, served_of};
+ghost use Rattle.std.specs.Prelude.{◌≡◌, ◌≤◌, ◌<◌, ◌+◌, length, true, IfOk, IfSome};
+ghost use Rattle.segment_plan.specs.Sound.{IsPlan};
+ghost use Rattle.master_node.specs.Ported.{are_ports};
 
 use crate::event::{Event, EventList};
 use arrayvec::ArrayVec;
@@ -29,34 +29,36 @@ pub struct Lan {
     ghost host_port: { 1 ≤ length switch.ports },
 }
 
-// The ports of the slaves that serve EoE, numbered from 1 in ring order.
-fn ports_of(slaves: &[SlaveSpec]) -> ArrayVec<Option<u32>, 16>
+// One more slave: where it serves EoE it has the port behind the last one.
+fn with_port(ports: &mut ArrayVec<Option<u32>, 16>, last: u32, serves: bool) -> u32
+    requires few { last < 16 }
+    requires ports { are_ports (last + 1) ports.old.items ≡ true }
+    ensures ports { are_ports (result + 1) ports.new.items ≡ true }
+    ensures few { result ≤ last + 1 }
+{
+    if ports.len() >= 16 {
+        return last;
+    }
+    if !serves {
+        ports.push(None);
+        return last;
+    }
+    ports.push(Some(last + 1));
+    last + 1
+}
+
+// The ports of the slaves that serve EoE, numbered from 1 in ring order, and the last of them.
+fn ports_of(slaves: &[SlaveSpec]) -> (ArrayVec<Option<u32>, 16>, u32)
     requires { length slaves.now ≤ 16 }
-    ensures { result.items ≡ ports_from 0 slaves.now }
+    ensures ports { are_ports (result.1 + 1) result.0.items ≡ true }
+    ensures few { result.1 ≤ 16 }
 {
     let mut ports = ArrayVec::new();
     let mut last = HOST;
     for slave in slaves {
-        let port = if slave.eoe { Some(last + 1) } else { None };
-        last = port.unwrap_or(last);
-        let _room = ports.try_push(port);
+        last = with_port(&mut ports, last, slave.eoe);
     }
-    ports
-}
-
-// How many slaves serve EoE.
-fn served(slaves: &[SlaveSpec]) -> u32
-    requires { length slaves.now ≤ 16 }
-    ensures value { result ≡ served_of slaves.now }
-    ensures few { result ≤ 16 }
-{
-    let mut count = 0;
-    for slave in slaves {
-        if slave.eoe {
-            count += 1;
-        }
-    }
-    count
+    (ports, last)
 }
 
 // A packet of its own.
@@ -88,22 +90,26 @@ impl Lan {
         requires { IsPlan plan.now }
         ensures host { IfOk result (λ lan. lan.host ≡ plan.now.host) }
         ensures entered { IfOk result (λ lan. lan.entered ≡ 0) }
-        ensures ports { IfOk result (λ lan. lan.ports.items ≡ ports_from 0 plan.now.slaves) }
     {
-        let slaves = plan.slaves.as_slice();
-        let switch = Switch::new(alloc, 1 + served(slaves))?;
+        let (ports, last) = ports_of(plan.slaves.as_slice());
+        let switch = Switch::new(alloc, last + 1)?;
         let host = copies(alloc, plan.host.as_slice())?;
         Ok(Lan {
             switch,
-            ports: ports_of(slaves),
+            ports,
             host,
             entered: 0,
         })
     }
 
     /// The port of a slave.
-    pub fn port(&self, slave: usize) -> Option<u32> {
-        self.ports.as_slice().get(slave).copied()?
+    pub fn port(&self, slave: usize) -> Option<u32>
+        ensures inside { IfSome result (λ p. p < length self.now.switch.ports) }
+    {
+        if slave >= self.ports.len() {
+            return None;
+        }
+        self.ports.as_slice()[slave]
     }
 
     /// Whether a packet waits at a slave's port.
@@ -133,7 +139,7 @@ impl Lan {
     pub fn enter(&mut self, list: &mut EventList) {
         if let Some(packet) = self.host.get(self.entered) {
             let packet = copy(packet);
-            self.entered += 1;
+            self.entered = self.entered.saturating_add(1);
             self.arrive(HOST, packet, list);
         }
     }
@@ -146,7 +152,9 @@ impl Lan {
     }
 
     // A packet comes in at a port.
-    fn arrive(&mut self, port: u32, packet: Packet, list: &mut EventList) {
+    fn arrive(&mut self, port: u32, packet: Packet, list: &mut EventList)
+        requires { port < length self.old.switch.ports }
+    {
         if packet.len() < LEAST {
             return;
         }
@@ -161,10 +169,15 @@ impl Lan {
     }
 
     /// The oldest packet that waits at a slave's port.
-    pub fn begin(&mut self, slave: usize, list: &mut EventList) -> Option<Packet> {
+    pub fn begin(&mut self, slave: usize, list: &mut EventList) -> Option<Packet>
+        ensures { IfSome result (λ p. 14 ≤ length p.items) }
+    {
         let port = self.port(slave)?;
         let packet = self.switch.begun(port)?;
         list.put(Event::Switch(SwitchEvent::Begun { port }));
+        if packet.len() < LEAST {
+            return None;
+        }
         Some(packet)
     }
 

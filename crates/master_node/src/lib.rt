@@ -6,6 +6,7 @@
 mod copies;
 mod event;
 mod lan;
+mod laying;
 mod node;
 mod post;
 mod starting;

@@ -1,5 +1,9 @@
+ghost use Rattle.std.specs.Prelude.{◌≡◌, ◌≤◌, vec_len};
+ghost use Rattle.master_node.specs.Stands.{is_live};
+
 use crate::event::{Event, EventList, Origin};
 use crate::lan::Lan;
+use crate::laying::{lay_mail, lay_packet, lay_script, pass_by};
 use crate::post::{Post, Work};
 use datagrams::FrameBuf;
 use ec_fields::{NoMemory, Octets};
@@ -35,6 +39,8 @@ pub struct MasterNode {
     pub(crate) list: EventList,
     /// How many frames were made.
     pub(crate) made: u32,
+    pub ghost paired: { vec_len tour.stops ≡ vec_len posts },
+    pub ghost few: { vec_len posts ≤ 16 },
 }
 
 /// What may come into hand at a visit.
@@ -50,13 +56,11 @@ enum Coming {
     State(Target),
 }
 
-impl Coming {
-    // What the slave's side is to wish.
-    fn wish(self) -> Wish {
-        match self {
-            Coming::Packet | Coming::Mail | Coming::Script => Wish::Mails,
-            Coming::State(target) => Wish::State(target),
-        }
+// What the slave's side is to wish.
+fn wish_of(coming: Option<Coming>) -> Option<Wish> {
+    match coming? {
+        Coming::Packet | Coming::Mail | Coming::Script => Some(Wish::Mails),
+        Coming::State(target) => Some(Wish::State(target)),
     }
 }
 
@@ -72,7 +76,9 @@ fn scripted(hand: &InHand) -> Option<Coming> {
 }
 
 /// Whether a slave gets datagrams: it was not given up for good.
-pub(crate) fn is_live(stop: &Stop<InHand>) -> bool {
+fn is_live(stop: &Stop<InHand>) -> bool
+    ensures { result ≡ is_live stop.now.stand }
+{
     !matches!(stop.stand, Stand::Gone)
 }
 
@@ -87,14 +93,21 @@ fn is_wanting(side: &Side<InHand>) -> bool {
 }
 
 impl MasterNode {
+    ghost use Rattle.std.specs.Prelude.{◌≡◌, ◌<◌, ◌≤◌, ℕ, List, true, false, vec_len, length};
+    ghost use Rattle.datagrams.specs.Datagram as Raw;
+    ghost use Rattle.datagrams.specs.Frame.{IsBegun};
+    ghost use Rattle.std.specs.Prelude.{◌↔◌};
+    ghost use Rattle.master_node.specs.Listed.{listed, listed_last};
+    ghost use Rattle.master_node.specs.Lives.{holds_at, waiting_at};
+    ghost use Rattle.master_node.specs.Stands.{is_live};
+    ghost use Rattle.std.specs.List.{list_any};
+    ghost use Rattle.master_node.specs.declared.node.Next.{Next};
+
     // Whether a slave is live.
-    fn has_live(&self) -> bool {
-        for place in 0..self.tour.stops.len() {
-            if is_live(&self.tour.stops[place]) {
-                return true;
-            }
-        }
-        false
+    fn has_live(&self) -> bool
+        ensures { result ≡ list_any (λ s. is_live s.stand) self.now.tour.stops.items }
+    {
+        self.tour.stops.iter().any(|stop| is_live(stop))
     }
 
     // Whether a live slave has a packet in hand.
@@ -108,7 +121,9 @@ impl MasterNode {
     }
 
     // A packet of the host comes into the switch, where one may.
-    fn admit(&mut self) {
+    fn admit(&mut self)
+        ensures { vec_len self.new.posts ≡ vec_len self.old.posts }
+    {
         if self.tour.opened < self.tour.stops.len() || !self.lan.has_host() {
             return;
         }
@@ -119,7 +134,9 @@ impl MasterNode {
 
     // What may come into hand of a slave: a packet first, then a mail that is passed on, then the script. A slave that isn't open or has
     // something in hand takes nothing.
-    fn coming(&self, place: usize) -> Option<Coming> {
+    fn coming(&self, place: usize) -> Option<Coming>
+        requires { place < vec_len self.now.posts }
+    {
         let stop = &self.tour.stops[place];
         if !matches!(stop.stand, Stand::Open) || !stop.side.is_free() {
             return None;
@@ -133,54 +150,77 @@ impl MasterNode {
         scripted(&stop.side.hand)
     }
 
-    // A packet that waits at the slave's port is laid ready.
-    fn lay_packet(&mut self, place: usize) -> Origin {
+    // The oldest packet that waits at the slave's port is laid ready.
+    fn lay_packet(&mut self, place: usize)
+        requires { place < vec_len self.old.posts }
+        ensures count { self.new.tour.count ≡ self.old.tour.count }
+        ensures posts { vec_len self.new.posts ≡ vec_len self.old.posts }
+    {
         if let Some(packet) = self.lan.begin(place, &mut self.list) {
-            self.tour.stops[place].side.hand.lay_packet(&packet);
+            lay_packet(&mut self.tour.stops[place].side, &packet);
         }
         let post = &mut self.posts[place];
-        let number = post.forwards;
-        post.forwards = number.wrapping_add(1);
         post.next = Work::Packet;
-        Origin::Forward(number)
+        post.origin = Origin::Forward(post.forwards);
+        post.forwards = post.forwards.wrapping_add(1);
     }
 
     // The oldest mail that waits to be passed on is laid ready.
-    fn lay_mail(&mut self, place: usize) -> Origin {
+    fn lay_mail(&mut self, place: usize)
+        requires { place < vec_len self.old.posts }
+        ensures count { self.new.tour.count ≡ self.old.tour.count }
+        ensures posts { vec_len self.new.posts ≡ vec_len self.old.posts }
+    {
         let post = &mut self.posts[place];
-        let number = post.oldest();
+        post.origin = Origin::Gateway(post.oldest());
         if let Some(asked) = post.take() {
             post.next = Work::Passed { key: asked.key };
-            self.tour.stops[place].side.hand.lay_mail(&asked.mail);
+            lay_mail(&mut self.tour.stops[place].side, &asked.mail);
         }
-        Origin::Gateway(number)
     }
 
-    // A service is laid ready.
-    fn lay(&mut self, place: usize, coming: Coming) -> Origin {
-        let number = self.tour.stops[place].side.hand.number();
+    // The next scripted service is laid ready; a change of state is its side's own.
+    fn lay_script(&mut self, place: usize, work: Work)
+        requires { place < vec_len self.old.posts }
+        ensures count { self.new.tour.count ≡ self.old.tour.count }
+        ensures posts { vec_len self.new.posts ≡ vec_len self.old.posts }
+    {
+        let side = &mut self.tour.stops[place].side;
+        let number = side.hand.number();
+        if matches!(work, Work::Mails) {
+            lay_script(side);
+        }
+        let post = &mut self.posts[place];
+        post.next = work;
+        post.origin = Origin::Script(number);
+    }
+
+    // What may come into hand is laid ready.
+    fn lay(&mut self, place: usize, coming: Option<Coming>)
+        requires { place < vec_len self.old.posts }
+        ensures count { self.new.tour.count ≡ self.old.tour.count }
+        ensures posts { vec_len self.new.posts ≡ vec_len self.old.posts }
+    {
         match coming {
-            Coming::Packet => self.lay_packet(place),
-            Coming::Mail => self.lay_mail(place),
-            Coming::Script => {
-                self.tour.stops[place].side.hand.lay_script();
-                self.posts[place].next = Work::Mails;
-                Origin::Script(number)
-            }
-            Coming::State(_) => {
-                self.posts[place].next = Work::State;
-                Origin::Script(number)
-            }
+            None => {}
+            Some(Coming::Packet) => self.lay_packet(place),
+            Some(Coming::Mail) => self.lay_mail(place),
+            Some(Coming::Script) => self.lay_script(place, Work::Mails),
+            Some(Coming::State(_)) => self.lay_script(place, Work::State),
         }
     }
 
     // The service that was laid ready came into hand.
-    fn begun(&mut self, place: usize, origin: Origin) {
+    fn begun(&mut self, place: usize)
+        requires { place < vec_len self.old.posts }
+        ensures { vec_len self.new.posts ≡ vec_len self.old.posts }
+    {
         let post = &mut self.posts[place];
         post.work = post.next;
         post.answer = None;
+        let origin = post.origin;
         if matches!(post.work, Work::State) {
-            self.tour.stops[place].side.hand.pass_by();
+            pass_by(&mut self.tour.stops[place].side);
         }
         self.list.put(Event::Began {
             slave: place as u32,
@@ -189,28 +229,32 @@ impl MasterNode {
     }
 
     // A slave is visited: its datagram stands next in the frame, and `false` where that has no room for it.
-    fn visit(&mut self, place: usize, into: &mut FrameBuf) -> bool {
+    fn visit(&mut self, place: usize, into: &mut FrameBuf) -> bool
+        requires inside { place < vec_len self.old.posts }
+        requires few { self.old.tour.count < 16 }
+        requires begun { (ds : List Raw.Datagram) × IsBegun into.old.items ds }
+        ensures begun { (ds : List Raw.Datagram) × IsBegun into.new.items ds }
+        ensures posts { vec_len self.new.posts ≡ vec_len self.old.posts }
+    {
         let index = (self.made % 256) as u8;
-        let Some(coming) = self.coming(place) else {
-            let fits = self.tour.fits(place, None, into);
-            if fits {
-                self.tour.visit(place, None, index, into);
-            }
-            return fits;
-        };
-        let wish = Some(coming.wish());
+        let coming = self.coming(place);
+        let wish = wish_of(coming);
         if !self.tour.fits(place, wish, into) {
             return false;
         }
-        let origin = self.lay(place, coming);
+        self.lay(place, coming);
         if self.tour.visit(place, wish, index, into) {
-            self.begun(place, origin);
+            self.begun(place);
         }
         true
     }
 
     // The slaves that the frame carries are visited.
-    fn fill(&mut self, into: &mut FrameBuf) {
+    fn fill(&mut self, into: &mut FrameBuf)
+        requires { (ds : List Raw.Datagram) × IsBegun into.old.items ds }
+        ensures begun { (ds : List Raw.Datagram) × IsBegun into.new.items ds }
+        ensures posts { vec_len self.new.posts ≡ vec_len self.old.posts }
+    {
         for _ in 0..SLAVES {
             let Some(place) = self.tour.due() else {
                 return;
@@ -222,7 +266,10 @@ impl MasterNode {
     }
 
     /// Makes the next frame; `Idle` exactly where no slave is live.
-    pub fn next(&mut self, into: &mut FrameBuf) -> Next {
+    pub fn next(&mut self, into: &mut FrameBuf) -> Next
+        ensures idle { (result ≡ Next.Idle) ↔ (list_any (λ s. is_live s.stand) self.old.tour.stops.items ≡ false) }
+        ensures posts { vec_len self.new.posts ≡ vec_len self.old.posts }
+    {
         self.list.clear();
         if !self.has_live() {
             return Next::Idle;
@@ -237,12 +284,16 @@ impl MasterNode {
     }
 
     /// What happened in the last `next`, `returned` or `lost`.
-    pub fn events(&self) -> &[Event] {
+    pub fn events(&self) -> &[Event]
+        ensures { result.now ≡ listed_last self.now.list.rows.items self.now.list.first self.now.list.count }
+    {
         self.list.last()
     }
 
     /// What happened in the last `next` and in the `returned` or `lost` behind it.
-    pub fn step_events(&self) -> &[Event] {
+    pub fn step_events(&self) -> &[Event]
+        ensures { result.now ≡ listed self.now.list.rows.items self.now.list.count }
+    {
         self.list.all()
     }
 
@@ -260,7 +311,9 @@ impl MasterNode {
     }
 
     // Whether a slave wants frames.
-    fn wants_at(&self, place: usize) -> bool {
+    fn wants_at(&self, place: usize) -> bool
+        requires { place < vec_len self.now.posts }
+    {
         let stop = &self.tour.stops[place];
         match stop.stand {
             Stand::Gone => false,
@@ -288,15 +341,19 @@ impl MasterNode {
     }
 
     /// Whether a slave was not given up for good.
-    pub fn is_live(&self, slave: u32) -> bool {
-        match self.tour.stops.get(slave as usize) {
-            Some(stop) => is_live(stop),
-            None => false,
-        }
+    pub fn is_live(&self, slave: u32) -> bool
+        requires { slave < vec_len self.now.posts }
+        ensures { result ≡ holds_at (λ s. is_live s.stand) self.now.tour.stops.items slave }
+    {
+        is_live(&self.tour.stops[slave as usize])
     }
 
     /// A mail waits to be passed on to a slave; `false` exactly where 64 do already. `key` names its asker.
-    pub fn ask(&mut self, slave: u32, key: usize, mail: &Mail) -> bool {
+    pub fn ask(&mut self, slave: u32, key: usize, mail: &Mail) -> bool
+        requires { slave < vec_len self.old.posts }
+        ensures full { (result ≡ false) ↔ (waiting_at self.old.posts.items slave ≡ 64) }
+        ensures posts { vec_len self.new.posts ≡ vec_len self.old.posts }
+    {
         self.posts[slave as usize].ask(key, mail)
     }
 }

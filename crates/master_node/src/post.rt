@@ -1,3 +1,6 @@
+ghost use Rattle.std.specs.Prelude.{◌≡◌, ◌↔◌, [], false, length, IfOk, slice_get, drop, None};
+
+use crate::event::Origin;
 use circular_buffer::HeapCircularBuffer;
 use ec_fields::{NoMemory, buffer_of};
 use mailbox_mail::{Mail, ReplyKind};
@@ -33,8 +36,9 @@ pub struct Asked {
 pub struct Post {
     /// What it has in hand.
     pub work: Work,
-    /// What was laid ready to come into hand.
+    /// What was laid ready to come into hand, and where it comes from.
     pub next: Work,
+    pub origin: Origin,
     /// The last answer, until the next service comes into hand or the slave is given up.
     pub answer: Option<ReplyKind>,
     /// How many packets of its port came into hand.
@@ -43,10 +47,14 @@ pub struct Post {
     mails: HeapCircularBuffer<Asked>,
     /// The number of the oldest of them among all that were asked.
     oldest: u32,
+    ghost room: { mails.capacity ≡ 64 },
 }
 
 /// A mail of its own, without address and counter, as on the segment.
-pub fn bare(mail: &Mail) -> Mail {
+pub fn bare(mail: &Mail) -> Mail
+    ensures local { (result.address ≡ 0) × (result.counter ≡ 0) }
+    ensures same { (result.kind ≡ mail.now.kind) × (result.body.items ≡ mail.now.body.items) }
+{
     Mail {
         address: 0,
         kind: mail.kind,
@@ -57,11 +65,14 @@ pub fn bare(mail: &Mail) -> Mail {
 
 impl Post {
     /// Nothing is in hand and no mail waits. The memory for 64 mails is taken here.
-    pub fn new(alloc: Global) -> Result<Post, NoMemory> {
+    pub fn new(alloc: Global) -> Result<Post, NoMemory>
+        ensures { IfOk result (λ p. (p.mails.items ≡ []) × (p.work ≡ Work.Nothing) × (p.forwards ≡ 0) × (p.oldest ≡ 0)) }
+    {
         let mails = HeapCircularBuffer::with_capacity(alloc, WAITING)?;
         Ok(Post {
             work: Work::Nothing,
             next: Work::Nothing,
+            origin: Origin::Script(0),
             answer: None,
             forwards: 0,
             mails,
@@ -70,17 +81,26 @@ impl Post {
     }
 
     /// Whether a mail waits.
-    pub fn has_mail(&self) -> bool {
+    pub fn has_mail(&self) -> bool
+        ensures { (result ≡ false) ↔ (self.now.mails.items ≡ []) }
+    {
         !self.mails.is_empty()
     }
 
     /// One more mail waits; `false` exactly where 64 do, and then nothing changed.
-    pub fn ask(&mut self, key: usize, mail: &Mail) -> bool {
+    pub fn ask(&mut self, key: usize, mail: &Mail) -> bool
+        ensures full { (result ≡ false) ↔ (length self.old.mails.items ≡ 64) }
+        ensures same { result ≡ false → self.new ≡ self.old }
+    {
+        if self.mails.is_full() {
+            return false;
+        }
         let asked = Asked {
             key,
             mail: bare(mail),
         };
-        self.mails.try_push_back(asked).is_ok()
+        let _room = self.mails.try_push_back(asked);
+        true
     }
 
     /// The number of the oldest mail that waits.
@@ -89,14 +109,22 @@ impl Post {
     }
 
     /// The oldest mail that waits comes into hand.
-    pub fn take(&mut self) -> Option<Asked> {
+    pub fn take(&mut self) -> Option<Asked>
+        ensures oldest { result ≡ slice_get self.old.mails.items 0 }
+        ensures mails { self.new.mails.items ≡ drop 1 self.old.mails.items }
+        ensures work { self.new.work ≡ self.old.work }
+    {
         let asked = self.mails.pop_front()?;
         self.oldest = self.oldest.wrapping_add(1);
         Some(asked)
     }
 
     /// The slave is given up: what it has in hand and the mails that wait are dropped.
-    pub fn drop_all(&mut self) {
+    pub fn drop_all(&mut self)
+        ensures mails { self.new.mails.items ≡ [] }
+        ensures work { self.new.work ≡ Work.Nothing }
+        ensures answer { self.new.answer ≡ None }
+    {
         self.oldest = self.oldest.wrapping_add(self.mails.len() as u32);
         self.mails.clear();
         self.work = Work::Nothing;

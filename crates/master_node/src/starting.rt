@@ -1,5 +1,8 @@
 //! A master before its first frame.
 
+ghost use Rattle.std.specs.Prelude.{◌≡◌, ◌≤◌, ◌<◌, length, vec_len, IfOk};
+ghost use Rattle.segment_plan.specs.Sound.{IsPlan, IsSlave, IsPace};
+
 use crate::copies::script_of;
 use crate::event::EventList;
 use crate::lan::Lan;
@@ -21,7 +24,12 @@ fn side_of(
     place: u32,
     spec: &SlaveSpec,
     pace: u32,
-) -> Result<Side<InHand>, NoMemory> {
+) -> Result<Side<InHand>, NoMemory>
+    requires plan { IsPlan plan.now }
+    requires slave { IsSlave spec.now }
+    requires pace { IsPace pace }
+    ensures { IfOk result (λ s. s.station ≡ spec.now.station) }
+{
     let script = script_of(alloc, place, plan.services.as_slice())?;
     let hand = InHand::new(alloc, spec.out_len, spec.in_len, script)?;
     Ok(Side::new(spec.station, spec.out_len, spec.in_len, pace, hand))
@@ -34,7 +42,12 @@ fn stop_of(
     place: u32,
     spec: &SlaveSpec,
     pace: u32,
-) -> Result<Stop<InHand>, NoMemory> {
+) -> Result<Stop<InHand>, NoMemory>
+    requires plan { IsPlan plan.now }
+    requires slave { IsSlave spec.now }
+    requires pace { IsPace pace }
+    requires place { place < 16 }
+{
     let side = side_of(alloc, plan, place, spec, pace)?;
     let up = bring_new(place, spec.station, spec.out_len, spec.in_len, spec.start);
     Ok(Stop {
@@ -50,7 +63,10 @@ fn stop_of(
 }
 
 // All slaves before their bring-up.
-fn stops_of(alloc: Global, plan: &Scenario) -> Result<Vec<Stop<InHand>>, NoMemory> {
+fn stops_of(alloc: Global, plan: &Scenario) -> Result<Vec<Stop<InHand>>, NoMemory>
+    requires { IsPlan plan.now }
+    ensures { IfOk result (λ stops. vec_len stops ≡ length plan.now.slaves) }
+{
     let slaves = plan.slaves.as_slice();
     let paces = plan.paces.as_slice();
     let mut stops = Vec::new(alloc);
@@ -61,7 +77,9 @@ fn stops_of(alloc: Global, plan: &Scenario) -> Result<Vec<Stop<InHand>>, NoMemor
 }
 
 // Nothing is in hand of any slave.
-fn posts_of(alloc: Global, count: usize) -> Result<Vec<Post>, NoMemory> {
+fn posts_of(alloc: Global, count: usize) -> Result<Vec<Post>, NoMemory>
+    ensures { IfOk result (λ posts. vec_len posts ≡ count) }
+{
     let mut posts = Vec::new(alloc);
     for _ in 0..count {
         posts.push(Post::new(alloc)?)?;
@@ -69,8 +87,11 @@ fn posts_of(alloc: Global, count: usize) -> Result<Vec<Post>, NoMemory> {
     Ok(posts)
 }
 
-/// The tour before its first frame.
-fn tour_of(alloc: Global, plan: &Scenario) -> Result<Tour<InHand>, NoMemory> {
+// The tour before its first frame.
+fn tour_of(alloc: Global, plan: &Scenario) -> Result<Tour<InHand>, NoMemory>
+    requires { IsPlan plan.now }
+    ensures { IfOk result (λ tour. vec_len tour.stops ≡ length plan.now.slaves) }
+{
     let stops = stops_of(alloc, plan)?;
     Ok(Tour {
         stops,
@@ -86,8 +107,14 @@ fn tour_of(alloc: Global, plan: &Scenario) -> Result<Tour<InHand>, NoMemory> {
 }
 
 impl MasterNode {
+    ghost use Rattle.std.specs.Prelude.{◌≡◌, length, vec_len, IfOk};
+    ghost use Rattle.segment_plan.specs.Sound.{IsPlan};
+
     /// The master of a segment before its first frame: no slave is brought up, and no packet of the host has come in.
-    pub fn new(alloc: Global, plan: &Scenario) -> Result<MasterNode, NoMemory> {
+    pub fn new(alloc: Global, plan: &Scenario) -> Result<MasterNode, NoMemory>
+        requires { IsPlan plan.now }
+        ensures { IfOk result (λ master. vec_len master.posts ≡ length plan.now.slaves) }
+    {
         let tour = tour_of(alloc, plan)?;
         let posts = posts_of(alloc, plan.slaves.len())?;
         let lan = Lan::new(alloc, plan)?;

@@ -1,6 +1,9 @@
 //! What the return or the loss of a frame brings.
 
+ghost use Rattle.std.specs.Prelude.{◌≡◌, ◌<◌, vec_len};
+
 use crate::event::Event;
+use crate::laying::{heard_once, met_once};
 use crate::node::MasterNode;
 use crate::post::{Work, bare};
 use datagrams::FrameBuf;
@@ -12,7 +15,10 @@ use master_tour::{Stand, Turned};
 
 impl MasterNode {
     // The service in hand has its answer.
-    fn answered(&mut self, place: usize, kind: ReplyKind) {
+    fn answered(&mut self, place: usize, kind: ReplyKind)
+        requires { place < vec_len self.old.posts }
+        ensures { vec_len self.new.posts ≡ vec_len self.old.posts }
+    {
         let post = &mut self.posts[place];
         post.work = Work::Nothing;
         post.answer = Some(kind);
@@ -23,7 +29,10 @@ impl MasterNode {
     }
 
     // The slave emitted an emergency, or the last fragment of a packet.
-    fn emitted(&mut self, place: usize) {
+    fn emitted(&mut self, place: usize)
+        requires { place < vec_len self.old.posts }
+        ensures { vec_len self.new.posts ≡ vec_len self.old.posts }
+    {
         let hand = &self.tour.stops[place].side.hand;
         if let Some(octets) = hand.emergency() {
             let octets = buffer_of(octets.as_slice());
@@ -39,54 +48,93 @@ impl MasterNode {
     }
 
     // A reply of the mail that is passed on.
-    fn replied(&mut self, place: usize, key: usize) {
+    fn replied(&mut self, place: usize, key: usize)
+        requires { place < vec_len self.old.posts }
+        ensures { vec_len self.new.posts ≡ vec_len self.old.posts }
+    {
         if let Some(mail) = self.tour.stops[place].side.hand.replied() {
             let mail = bare(mail);
             self.list.put(Event::GatewayReply { key, mail });
         }
     }
 
+    // The last reply of a scripted service was accepted.
+    fn complete(&mut self, place: usize)
+        requires { place < vec_len self.old.posts }
+        ensures { vec_len self.new.posts ≡ vec_len self.old.posts }
+    {
+        if let Some(kind) = self.tour.stops[place].side.hand.answer() {
+            self.answered(place, kind);
+        }
+    }
+
     // A mail was accepted.
-    fn heard(&mut self, place: usize, what: Heard) {
-        match (self.posts[place].work, what) {
-            (_, Heard::Emission) => self.emitted(place),
-            (Work::Passed { key }, _) => self.replied(place, key),
-            (Work::Mails, Heard::Last) => {
-                if let Some(kind) = self.tour.stops[place].side.hand.answer() {
-                    self.answered(place, kind);
-                }
-            }
-            _ => {}
+    fn heard(&mut self, place: usize, what: Heard)
+        requires { place < vec_len self.old.posts }
+        ensures { vec_len self.new.posts ≡ vec_len self.old.posts }
+    {
+        if matches!(what, Heard::Emission) {
+            self.emitted(place);
+            return;
+        }
+        match self.posts[place].work {
+            Work::Passed { key } => self.replied(place, key),
+            Work::Mails if matches!(what, Heard::Last) => self.complete(place),
+            Work::Mails | Work::Nothing | Work::State | Work::Packet => {}
+        }
+    }
+
+    // A packet is over once the write of its last fragment is done.
+    fn handed(&mut self, place: usize)
+        requires { place < vec_len self.old.posts }
+        ensures { vec_len self.new.posts ≡ vec_len self.old.posts }
+    {
+        if self.tour.stops[place].side.is_free() {
+            self.answered(place, ReplyKind::Handed);
+        }
+    }
+
+    // A mail that is passed on is over once its side forgets it.
+    fn passed(&mut self, place: usize, key: usize)
+        requires { place < vec_len self.old.posts }
+        ensures { vec_len self.new.posts ≡ vec_len self.old.posts }
+    {
+        if self.tour.stops[place].side.passing.is_none() {
+            self.answered(place, ReplyKind::Handed);
+            self.list.put(Event::GatewayDone { key });
+        }
+    }
+
+    // A state service is over once it has met its target or a refusal.
+    fn met(&mut self, place: usize)
+        requires { place < vec_len self.old.posts }
+        ensures { vec_len self.new.posts ≡ vec_len self.old.posts }
+    {
+        match met_once(&mut self.tour.stops[place].side) {
+            Some(Met::Reached) => self.answered(place, ReplyKind::Done),
+            Some(Met::Refused(code)) => self.answered(place, ReplyKind::StateRefused(code)),
+            Some(Met::On(_)) | None => {}
         }
     }
 
     // What the slave has in hand is over, where it has no reply by mails of its own.
-    fn over(&mut self, place: usize) {
-        let side = &mut self.tour.stops[place].side;
-        let met = side.met.take();
+    fn over(&mut self, place: usize)
+        requires { place < vec_len self.old.posts }
+        ensures { vec_len self.new.posts ≡ vec_len self.old.posts }
+    {
         match self.posts[place].work {
             Work::Nothing | Work::Mails => {}
-            Work::Packet => {
-                if side.is_free() {
-                    self.answered(place, ReplyKind::Handed);
-                }
-            }
-            Work::Passed { key } => {
-                if side.passing.is_none() {
-                    self.answered(place, ReplyKind::Handed);
-                    self.list.put(Event::GatewayDone { key });
-                }
-            }
-            Work::State => match met {
-                Some(Met::Reached) => self.answered(place, ReplyKind::Done),
-                Some(Met::Refused(code)) => self.answered(place, ReplyKind::StateRefused(code)),
-                Some(Met::On(_)) | None => {}
-            },
+            Work::Packet => self.handed(place),
+            Work::Passed { key } => self.passed(place, key),
+            Work::State => self.met(place),
         }
     }
 
     // The slave was seen in Init, or is open.
-    fn turned(&mut self, place: usize) {
+    fn turned(&mut self, place: usize)
+        requires { place < vec_len self.old.posts }
+        ensures { vec_len self.new.posts ≡ vec_len self.old.posts }
+    {
         let slave = place as u32;
         let own = matches!(self.posts[place].work, Work::State);
         match self.tour.stops[place].news {
@@ -102,8 +150,11 @@ impl MasterNode {
     }
 
     // What the frame brought of a slave that it carried.
-    fn back(&mut self, place: usize) {
-        if let Some(what) = self.tour.stops[place].side.heard.take() {
+    fn back(&mut self, place: usize)
+        requires { place < vec_len self.old.posts }
+        ensures { vec_len self.new.posts ≡ vec_len self.old.posts }
+    {
+        if let Some(what) = heard_once(&mut self.tour.stops[place].side) {
             self.heard(place, what);
         }
         self.over(place);
@@ -111,7 +162,9 @@ impl MasterNode {
     }
 
     /// The frame that `next` made came back.
-    pub fn returned(&mut self, frame: &FrameBuf) {
+    pub fn returned(&mut self, frame: &FrameBuf)
+        ensures { vec_len self.new.posts ≡ vec_len self.old.posts }
+    {
         self.list.ends();
         self.tour.returned(frame, self.made.wrapping_sub(1));
         for k in 0..self.tour.visit.len() {
@@ -123,7 +176,10 @@ impl MasterNode {
     }
 
     // A slave was given up, where it was.
-    fn given_up(&mut self, place: usize) {
+    fn given_up(&mut self, place: usize)
+        requires { place < vec_len self.old.posts }
+        ensures { vec_len self.new.posts ≡ vec_len self.old.posts }
+    {
         if !matches!(self.tour.stops[place].news, Some(Turned::GivenUp)) {
             return;
         }
@@ -137,7 +193,9 @@ impl MasterNode {
     }
 
     /// The frame that `next` made was lost.
-    pub fn lost(&mut self) {
+    pub fn lost(&mut self)
+        ensures { vec_len self.new.posts ≡ vec_len self.old.posts }
+    {
         self.list.ends();
         self.tour.lost();
         for k in 0..self.tour.visit.len() {

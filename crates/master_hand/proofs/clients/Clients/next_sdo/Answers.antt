@@ -1,7 +1,6 @@
-use Rattle.std.proofs.Common.{◌≡◌, List, [], ◌∷◌, Bool, true, false, Option, Some, None, refl, sym, ap, ◌∙◌, subst}
+use Rattle.std.proofs.Common.{refl, subst}
 use Rattle.mailbox_mail.specs.declared.mail.Kind.{Kind}
-use Rattle.master_hand.specs.Passed.{body_of}
-use Rattle.master_hand.specs.Talk.{Talking, client_later, IsSent, ClientTook, Begins, Starts}
+use Rattle.master_hand.specs.Talk.{Talking, IsSent}
 use Rattle.master_hand.specs.declared.clients.Which.{Which}
 use Rattle.master_hand.specs.contracts.clients.Clients.{the_view}
 use Rattle.master_hand.proofs.Protocols.{sdo_sent}

@@ -1,9 +1,8 @@
-use Rattle.std.proofs.Common.{◌≡◌, ℕ, List, [], ◌∷◌, Bool, true, false, Option, Some, None, refl, sym, ap, ◌∙◌, subst}
+use Rattle.std.proofs.Common.{ℕ, List, [], ◌∷◌, ap, ◌∙◌, subst}
 use Rattle.std.specs.Prelude.{Ok}
-use Rattle.master_hand.specs.Passed.{body_of, mail_of}
-use Rattle.master_hand.specs.Spoken.{net, passed}
-use Rattle.eoe_model.specs.Client as EoeClient
-use Rattle.master_hand.specs.Talk.{Talking, client_later, IsSent, ClientTook, Begins, Starts}
+use Rattle.master_hand.specs.Passed.{mail_of}
+use Rattle.master_hand.specs.Spoken.{passed}
+use Rattle.master_hand.specs.Talk.{Talking, Starts}
 use Rattle.master_hand.specs.declared.clients.Which.{Which}
 use Rattle.master_hand.specs.contracts.clients.Clients.{the_view}
 use Rattle.master_hand.proofs.Passing.{passed_starts}

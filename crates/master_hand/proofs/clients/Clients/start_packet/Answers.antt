@@ -1,8 +1,7 @@
-use Rattle.std.proofs.Common.{◌≡◌, List, [], ◌∷◌, Bool, true, false, Option, Some, None, refl, sym, ap, ◌∙◌, subst}
-use Rattle.master_hand.specs.Passed.{body_of, mail_of}
-use Rattle.master_hand.specs.Spoken.{net, passed}
+use Rattle.std.proofs.Common.{subst}
+use Rattle.master_hand.specs.Spoken.{net}
 use Rattle.eoe_model.specs.Client as EoeClient
-use Rattle.master_hand.specs.Talk.{Talking, client_later, IsSent, ClientTook, Begins, Starts}
+use Rattle.master_hand.specs.Talk.{Talking, Starts}
 use Rattle.master_hand.specs.declared.clients.Which.{Which}
 use Rattle.master_hand.specs.contracts.clients.Clients.{the_view}
 use Rattle.master_hand.proofs.Protocols.{packet_starts}

@@ -1,4 +1,4 @@
-use Rattle.std.proofs.Common.{◌≡◌, ℕ, Bool, true, false, List, Option, Some, None, refl, sym, ap, ◌∙◌, subst, nat_lt, length, ◌+◌, arith}
+use Rattle.std.proofs.Common.{◌≡◌, Bool, false, Option, Some, None, sym, ap, subst, nat_lt, length, ◌+◌, arith}
 use Rattle.std.specs.Prelude.{if◌then◌else◌}
 use Rattle.eoe_model.specs.Client as EoeClient
 use Rattle.master_hand.specs.Spoken.{Asked, net}

@@ -1,11 +1,7 @@
-use Rattle.std.proofs.Common.{◌≡◌, ℕ, List, [], ◌∷◌, Bool, true, false, Option, Some, None, refl, sym, ap, ◌∙◌, subst}
-use Rattle.coe_client.specs.Talk.{service_view}
+use Rattle.std.proofs.Common.{ℕ, List, subst}
 use Rattle.foe_model.specs.Meaning as FoeMeaning
-use Rattle.soe_model.specs.Client as SoeClient
-use Rattle.soe_model.specs.Elements.{target}
-use Rattle.eoe_model.specs.Client as EoeClient
-use Rattle.master_hand.specs.Spoken.{sdo, file, drive, net, passed}
-use Rattle.master_hand.specs.Talk.{Talking, Begins, Starts}
+use Rattle.master_hand.specs.Spoken.{file}
+use Rattle.master_hand.specs.Talk.{Talking, Starts}
 use Rattle.master_hand.specs.declared.clients.Which.{Which}
 use Rattle.master_hand.specs.contracts.clients.Clients.{the_view}
 use Rattle.master_hand.proofs.Protocols.{write_starts}

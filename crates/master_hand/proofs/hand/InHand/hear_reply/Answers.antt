@@ -1,9 +1,9 @@
-use Rattle.std.proofs.Common.{◌≡◌, ℕ, List, [], ◌∷◌, true, false, refl, sym, ap, ◌∙◌, subst, length, ◌≤◌, arith}
+use Rattle.std.proofs.Common.{refl, subst}
 use Rattle.mailbox_mail.specs.declared.mail.Mail.{Mail}
 use Rattle.mailbox_mail.specs.declared.outcome.Took.{Took}
 use Rattle.mailbox_mail.specs.View.{mail_seen}
 use Rattle.master_hand.specs.Passed.{body_of}
-use Rattle.master_hand.specs.Talk.{Talking, ClientTook}
+use Rattle.master_hand.specs.Talk.{ClientTook}
 use Rattle.master_hand.proofs.Hands.{more_shown, done_shown}
 use Rattle.master_hand.proofs.hand.InHand.hear_reply.Goals as goal
 

@@ -1,9 +1,4 @@
-use Rattle.std.proofs.Common.{◌≡◌, ℕ, List, [], ◌∷◌, true, false, refl, sym, ap, ◌∙◌, subst, length, ◌≤◌, arith}
-use Rattle.mailbox_mail.specs.declared.mail.Mail.{Mail}
-use Rattle.mailbox_mail.specs.declared.outcome.Took.{Took}
-use Rattle.mailbox_mail.specs.View.{mail_seen}
-use Rattle.master_hand.specs.Passed.{body_of}
-use Rattle.master_hand.specs.Talk.{Talking, ClientTook}
+use Rattle.std.proofs.Common.{◌≡◌, true, refl, subst}
 use Rattle.exchange_model.specs.Areas.{Areas}
 use Rattle.master_hand.specs.Talk.{is_askable}
 use Rattle.master_hand.specs.Laying.{ready_of}

@@ -1,9 +1,6 @@
-use Rattle.std.proofs.Common.{◌≡◌, ℕ, List, [], ◌∷◌, true, false, refl, sym, ap, ◌∙◌, subst, length, ◌≤◌, arith}
-use Rattle.mailbox_mail.specs.declared.mail.Mail.{Mail}
-use Rattle.mailbox_mail.specs.declared.outcome.Took.{Took}
+use Rattle.std.proofs.Common.{length, ◌≤◌, arith}
 use Rattle.mailbox_mail.specs.View.{mail_seen}
 use Rattle.master_hand.specs.Passed.{body_of}
-use Rattle.master_hand.specs.Talk.{Talking, ClientTook}
 use Rattle.master_hand.proofs.Hands.{emission_shown, heard_shown}
 use Rattle.master_hand.proofs.hand.InHandHand.hear.Goals as goal
 

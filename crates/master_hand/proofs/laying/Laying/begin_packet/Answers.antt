@@ -1,8 +1,7 @@
-use Rattle.std.proofs.Common.{◌≡◌, true, sym, ap, ◌∙◌, subst, length, ◌≤◌, ◌<◌}
+use Rattle.std.proofs.Common.{◌≡◌, true, ap, ◌∙◌, subst}
 use Rattle.master_hand.specs.Talk.{is_askable}
-use Rattle.master_hand.specs.Laying.{Waiting, ready_by, ready_of}
+use Rattle.master_hand.specs.Laying.{Waiting, ready_by}
 use Rattle.master_hand.specs.declared.laying.Laid.{Laid}
-use Rattle.master_hand.specs.contracts.laying.Laying.{the_view}
 use Rattle.master_hand.proofs.Protocols.{packet_valid}
 use Rattle.master_hand.proofs.laying.Laying.begin_packet.Goals as goal
 

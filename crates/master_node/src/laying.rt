@@ -1,0 +1,58 @@
+//! Services that are laid ready in the hand of a slave's side, and what its side has to tell.
+
+ghost use Rattle.std.specs.Prelude.{◌≡◌, ◌≤◌, length};
+
+use eoe::Packet;
+use mailbox_mail::Mail;
+use master_duty::Met;
+use master_hand::InHand;
+use master_side::{Heard, Side};
+
+/// A packet is laid ready.
+pub fn lay_packet(side: &mut Side<InHand>, packet: &Packet)
+    requires { 14 ≤ length packet.now.items }
+    ensures { side.new.station ≡ side.old.station }
+{
+    side.hand.lay_packet(packet);
+}
+
+/// A mail that is passed on is laid ready, if it fits the slave's mailbox.
+pub fn lay_mail(side: &mut Side<InHand>, mail: &Mail)
+    ensures { side.new.station ≡ side.old.station }
+{
+    if 6 + mail.body.len() <= side.out_len as usize {
+        side.hand.lay_mail(mail);
+    }
+}
+
+/// The next scripted service is laid ready.
+pub fn lay_script(side: &mut Side<InHand>)
+    ensures { side.new.station ≡ side.old.station }
+{
+    side.hand.lay_script();
+}
+
+/// The scripted service behind the next comes next.
+pub fn pass_by(side: &mut Side<InHand>)
+    ensures { side.new.station ≡ side.old.station }
+{
+    side.hand.pass_by();
+}
+
+/// What the mail was that the last returned frame brought, told once.
+pub fn heard_once(side: &mut Side<InHand>) -> Option<Heard>
+    ensures { side.new.station ≡ side.old.station }
+{
+    let heard = side.heard;
+    side.heard = None;
+    heard
+}
+
+/// How the last returned frame ended a state service, told once.
+pub fn met_once(side: &mut Side<InHand>) -> Option<Met>
+    ensures { side.new.station ≡ side.old.station }
+{
+    let met = side.met;
+    side.met = None;
+    met
+}
