@@ -24,13 +24,9 @@ use Rattle.ecmbx_words.specs.declared.status.Status.TheVariants as statuses
 use Rattle.ecmbx_words.specs.Form.{form_in, name_in, saved_in}
 use Rattle.ecmbx_words.specs.Ends.{text_of, Ended}
 use Rattle.ecmbx_words.specs.Texts.{usage_line, refused_line}
-use Rattle.ecmbx_call.specs.Files.{limit, Holds, IsLong, FileCourse, Followed}
+use Rattle.ecmbx_call.specs.Files.{limit, Holds, IsLong, IsSaved, FileCourse, Followed}
 use Rattle.ecmbx_call.specs.Files.FileCourse.{fault, absent, long, found}
 use Rattle.ecmbx_call.specs.Course.{HasRun, status_of, RunCourse, SavedCourse, ViewCourse, Course, Began}
-use Rattle.ecmbx_call.specs.Course.RunCourse as RunCourse
-use Rattle.ecmbx_call.specs.Course.SavedCourse as SavedCourse
-use Rattle.ecmbx_call.specs.Course.ViewCourse as ViewCourse
-use Rattle.ecmbx_call.specs.Course.Course as Course
 use Rattle.ecmbx_call.specs.Causes.{loaded_by, loaded_in, IsRefused, IsAmong, IsFound, UsageCause, AbsentCause, LongCause, RefusedCause, GivenUpCause, SpentCause, EndingAt, IsAnswer, RunsTo, SavesTo, ShowsTo, MakesTo}
 
 -- ---- what a planned status says
@@ -46,7 +42,7 @@ data Told (words : List (List ℕ)) (table saved : Option Table) (faulted : Type
   shown : (name octets : List ℕ) (capture : Capture) → form_in words ≡ forms.Decode → loaded_in words ≡ Some name → Holds table name (Some octets) → length octets ≤ limit → capture_read octets ≡ Ok capture → IsNew book → planned ≡ statuses.Done → text ≡ view_text octets capture → Told words table saved faulted book planned text
   ran : (name octets : List ℕ) (plan : Scenario) → form_in words ≡ forms.Run → loaded_in words ≡ Some name → Holds table name (Some octets) → length octets ≤ limit → plan_of octets ≡ Ok plan → HasRun plan book
       → planned ≡ status_of book.ending → text ≡ text_of (report_lines plan book) → Told words table saved faulted book planned text
-  kept : (name octets : List ℕ) (plan : Scenario) → form_in words ≡ forms.RunSaved → loaded_in words ≡ Some name → Holds table name (Some octets) → length octets ≤ limit → plan_of octets ≡ Ok plan → HasRun plan book → Holds saved (saved_in words) (Some (capture_of book.frames))
+  kept : (name octets : List ℕ) (plan : Scenario) → form_in words ≡ forms.RunSaved → loaded_in words ≡ Some name → Holds table name (Some octets) → length octets ≤ limit → plan_of octets ≡ Ok plan → HasRun plan book → IsSaved table saved (saved_in words) (capture_of book.frames)
       → planned ≡ status_of book.ending → text ≡ text_of (report_lines plan book) → Told words table saved faulted book planned text
 
 module _ (words : List (List ℕ)) (table saved : Option Table) (faulted : Type 0) (book : Book) where
@@ -64,7 +60,7 @@ module _ (words : List (List ℕ)) (table saved : Option Table) (faulted : Type 
   told_run _ _ f (found octets _ _ holds fits (RunCourse.refused e is fresh)) = Told.refused (name_in words) octets (rw f refl) holds fits (rw f (e, is)) fresh refl
   told_run _ _ f (found octets _ _ holds fits (RunCourse.ran plan is run)) = Told.ran (name_in words) octets plan f (rw f refl) holds fits is run refl refl
 
-  told_saved : (planned : Status) (text : List ℕ) → form_in words ≡ forms.RunSaved → FileCourse (name_in words) table faulted (IsNew book) (SavedCourse (saved_in words) saved faulted book) planned text → Told words table saved faulted book planned text
+  told_saved : (planned : Status) (text : List ℕ) → form_in words ≡ forms.RunSaved → FileCourse (name_in words) table faulted (IsNew book) (SavedCourse (saved_in words) table saved faulted book) planned text → Told words table saved faulted book planned text
   told_saved _ _ f (fault rose fresh) = Told.fault (name_in words) (rw f refl) rose refl
   told_saved _ _ f (absent holds fresh) = Told.absent (name_in words) (rw f refl) holds fresh refl
   told_saved _ _ f (long is fresh) = Told.long (name_in words) (rw f refl) is fresh refl
@@ -222,12 +218,12 @@ module _ (words : List (List ℕ)) (table saved : Option Table) (faulted : Type 
   told_ran (Told.kept name octets run f said holds fits read ran file is text) e end own = (run, ran, is)
 
 -- what a file that is found comes to
-data Found (words : List (List ℕ)) (saved : Option Table) (book : Book) (octets : List ℕ) (planned : Status) (text : List ℕ) : Type 0 where
-  fault : planned ≡ statuses.FileFault → Found words saved book octets planned text
-  refused : IsRefused (form_in words) octets → planned ≡ statuses.Refused → Found words saved book octets planned text
-  shown : (capture : Capture) → form_in words ≡ forms.Decode → capture_read octets ≡ Ok capture → planned ≡ statuses.Done → text ≡ view_text octets capture → Found words saved book octets planned text
-  ran : (plan : Scenario) → form_in words ≡ forms.Run → plan_of octets ≡ Ok plan → HasRun plan book → planned ≡ status_of book.ending → text ≡ text_of (report_lines plan book) → Found words saved book octets planned text
-  kept : (plan : Scenario) → form_in words ≡ forms.RunSaved → plan_of octets ≡ Ok plan → HasRun plan book → Holds saved (saved_in words) (Some (capture_of book.frames)) → planned ≡ status_of book.ending → text ≡ text_of (report_lines plan book) → Found words saved book octets planned text
+data Found (words : List (List ℕ)) (table saved : Option Table) (book : Book) (octets : List ℕ) (planned : Status) (text : List ℕ) : Type 0 where
+  fault : planned ≡ statuses.FileFault → Found words table saved book octets planned text
+  refused : IsRefused (form_in words) octets → planned ≡ statuses.Refused → Found words table saved book octets planned text
+  shown : (capture : Capture) → form_in words ≡ forms.Decode → capture_read octets ≡ Ok capture → planned ≡ statuses.Done → text ≡ view_text octets capture → Found words table saved book octets planned text
+  ran : (plan : Scenario) → form_in words ≡ forms.Run → plan_of octets ≡ Ok plan → HasRun plan book → planned ≡ status_of book.ending → text ≡ text_of (report_lines plan book) → Found words table saved book octets planned text
+  kept : (plan : Scenario) → form_in words ≡ forms.RunSaved → plan_of octets ≡ Ok plan → HasRun plan book → IsSaved table saved (saved_in words) (capture_of book.frames) → planned ≡ status_of book.ending → text ≡ text_of (report_lines plan book) → Found words table saved book octets planned text
 
 module _ (words : List (List ℕ)) (table saved : Option Table) (faulted : Type 0) (book : Book) (planned : Status) (text : List ℕ) (octets : List ℕ) where
   -- the octets under the words' file are those that were found
@@ -251,7 +247,7 @@ module _ (words : List (List ℕ)) (table saved : Option Table) (faulted : Type 
       let equal : long.0 ≡ octets = cc in
       absurd (omega (arith, ap length equal, long.2, found.fits))
 
-  found_told : IsFound words table octets → Told words table saved faulted book planned text → Found words saved book octets planned text
+  found_told : IsFound words table octets → Told words table saved faulted book planned text → Found words table saved book octets planned text
   found_told found (Told.usage f fresh is) = absurd (no_file (form_in words) (name_in words) found.name f found.said)
   found_told found (Told.fault name said rose is) = Found.fault is
   found_told found (Told.absent name said holds fresh is) = absurd (not_absent found name said holds)
@@ -264,14 +260,14 @@ module _ (words : List (List ℕ)) (table saved : Option Table) (faulted : Type 
   found_told found (Told.ran name others plan f said holds fits read run is text) = Found.ran plan f (rw (← same_octets found name others said holds) read) run is text
   found_told found (Told.kept name others plan f said holds fits read run file is text) = Found.kept plan f (rw (← same_octets found name others said holds) read) run file is text
 
-  found_refused : IsRefused (form_in words) octets → Found words saved book octets planned text → (planned ≡ statuses.Refused) ⊎ (planned ≡ statuses.FileFault)
+  found_refused : IsRefused (form_in words) octets → Found words table saved book octets planned text → (planned ≡ statuses.Refused) ⊎ (planned ≡ statuses.FileFault)
   found_refused refusal (Found.fault is) = inr is
   found_refused refusal (Found.refused other is) = inl is
   found_refused refusal (Found.shown capture f read is text) = let r : (fault : PcapFault) × (capture_read octets ≡ Err fault) = rw f at refusal in absurd cc
   found_refused refusal (Found.ran plan f read run is text) = let r : (e : Refusal) × (plan_of octets ≡ Err e) = rw f at refusal in absurd cc
   found_refused refusal (Found.kept plan f read run file is text) = let r : (e : Refusal) × (plan_of octets ≡ Err e) = rw f at refusal in absurd cc
 
-  found_ran : (plan : Scenario) → form_in words ≡ forms.Run → plan_of octets ≡ Ok plan → Found words saved book octets planned text → (planned ≡ statuses.FileFault) ⊎ (HasRun plan book × (planned ≡ status_of book.ending) × (text ≡ text_of (report_lines plan book)))
+  found_ran : (plan : Scenario) → form_in words ≡ forms.Run → plan_of octets ≡ Ok plan → Found words table saved book octets planned text → (planned ≡ statuses.FileFault) ⊎ (HasRun plan book × (planned ≡ status_of book.ending) × (text ≡ text_of (report_lines plan book)))
   found_ran plan f is (Found.fault e) = inl e
   found_ran plan f is (Found.refused refusal e) = let r : (e : Refusal) × (plan_of octets ≡ Err e) = rw f at refusal in absurd cc
   found_ran plan f is (Found.shown capture g read e text) = absurd cc
@@ -280,8 +276,8 @@ module _ (words : List (List ℕ)) (table saved : Option Table) (faulted : Type 
       inr (subst (λ p. HasRun p book) same run, e, text ∙ ap (λ p. text_of (report_lines p book)) same)
   found_ran plan f is (Found.kept other g read run file e text) = absurd cc
 
-  found_kept : (plan : Scenario) → form_in words ≡ forms.RunSaved → plan_of octets ≡ Ok plan → Found words saved book octets planned text
-      → (planned ≡ statuses.FileFault) ⊎ (HasRun plan book × Holds saved (saved_in words) (Some (capture_of book.frames)) × (planned ≡ status_of book.ending) × (text ≡ text_of (report_lines plan book)))
+  found_kept : (plan : Scenario) → form_in words ≡ forms.RunSaved → plan_of octets ≡ Ok plan → Found words table saved book octets planned text
+      → (planned ≡ statuses.FileFault) ⊎ (HasRun plan book × IsSaved table saved (saved_in words) (capture_of book.frames) × (planned ≡ status_of book.ending) × (text ≡ text_of (report_lines plan book)))
   found_kept plan f is (Found.fault e) = inl e
   found_kept plan f is (Found.refused refusal e) = let r : (e : Refusal) × (plan_of octets ≡ Err e) = rw f at refusal in absurd cc
   found_kept plan f is (Found.shown capture g read e text) = absurd cc
@@ -290,7 +286,7 @@ module _ (words : List (List ℕ)) (table saved : Option Table) (faulted : Type 
       let same : other ≡ plan = cc in
       inr (subst (λ p. HasRun p book) same run, file, e, text ∙ ap (λ p. text_of (report_lines p book)) same)
 
-  found_shown : (capture : Capture) → form_in words ≡ forms.Decode → capture_read octets ≡ Ok capture → Found words saved book octets planned text → (planned ≡ statuses.FileFault) ⊎ ((planned ≡ statuses.Done) × (text ≡ view_text octets capture))
+  found_shown : (capture : Capture) → form_in words ≡ forms.Decode → capture_read octets ≡ Ok capture → Found words table saved book octets planned text → (planned ≡ statuses.FileFault) ⊎ ((planned ≡ statuses.Done) × (text ≡ view_text octets capture))
   found_shown capture f is (Found.fault e) = inl e
   found_shown capture f is (Found.refused refusal e) = let r : (fault : PcapFault) × (capture_read octets ≡ Err fault) = rw f at refusal in absurd cc
   found_shown capture f is (Found.shown other g read e text) = let same : other ≡ capture = cc in inr (e, text ∙ ap (λ c. view_text octets c) same)

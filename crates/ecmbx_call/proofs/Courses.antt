@@ -1,8 +1,8 @@
 -- What each step of a call adds to its course.
-use Rattle.std.proofs.Common.{◌≡◌, ◌≢◌, ℕ, ◌≤◌, List, [], length, Option, Some, None, Result, Ok, Err, ◌⊎◌, refl, sym, ap, ◌∙◌, inl, inr, arith}
+use Rattle.std.proofs.Common.{◌≡◌, ◌≢◌, ℕ, ◌≤◌, List, [], length, false, Option, Some, None, Result, Ok, Err, OnOk, is_err, ◌⊎◌, refl, sym, ap, ◌∙◌, inl, inr, arith}
 use Rattle.std.proofs.lemmas.List.{append-nil}
 use Rattle.ec_outside.specs.Faults.{Rose}
-use Rattle.ec_outside.specs.Files.{Table, file_of, Loads, LoadsFile, Saves, SavesFile}
+use Rattle.ec_outside.specs.Files.{Table, file_of, Loads, LoadsFile}
 use Rattle.ec_outside.specs.Sink.{Wrote}
 use Rattle.ec_outside.specs.declared.files.Loaded.TheVariants.{Found, Absent, TooLong}
 use Rattle.segment_plan.specs.declared.plan.Scenario.{Scenario}
@@ -13,6 +13,8 @@ use Rattle.scenario_keys.specs.Rules.{Answers}
 use Rattle.scenario.specs.Document.{plan_of}
 use Rattle.run_book.specs.declared.book.Book.{Book}
 use Rattle.run_book.specs.declared.book.Ending.{Ending}
+use Rattle.run_book.specs.declared.book.Ending.TheVariants as endings
+use Rattle.segment_plan.specs.Sound.{IsPlan}
 use Rattle.run_book.specs.Book.{IsNew}
 use Rattle.run_record.specs.Ran.{HasFrames, EndsAs}
 use Rattle.run_report.specs.Report.{report_lines}
@@ -20,12 +22,14 @@ use Rattle.run_report.specs.Saved.{capture_of}
 use Rattle.ecmbx_words.specs.declared.status.Status.{Status}
 use Rattle.ecmbx_words.specs.declared.status.Status.TheVariants as statuses
 use Rattle.ecmbx_words.specs.Ends.{text_of, Ended, PutAll}
-use Rattle.ecmbx_words.specs.Texts.{refusal_line, refused_line}
+use Rattle.ecmbx_words.specs.Texts.{refusal_line, refused_line, capture_line}
+use Rattle.pcap_frames.specs.declared.capture.Capture.{Capture}
+use Rattle.pcap_frames.specs.declared.capture.PcapFault.{PcapFault}
+use Rattle.pcap_frames.specs.declared.capture.PcapFault.TheVariants as faults
+use Rattle.pcap_frames.specs.Reading.{capture_read, UnlessNoMemory}
 use Rattle.ecmbx_call.specs.Files.{limit, Holds, IsLong, FileCourse, Followed, IsLoaded, IsUnloaded}
 use Rattle.ecmbx_call.specs.Files.FileCourse.{fault, absent, long, found}
-use Rattle.ecmbx_call.specs.Course.{HasRun, status_of, RunCourse, SavedCourse, IsUnread, IsUnsaved, BeganOn, BeganIn}
-use Rattle.ecmbx_call.specs.Course.RunCourse as RunCourse
-use Rattle.ecmbx_call.specs.Course.SavedCourse as SavedCourse
+use Rattle.ecmbx_call.specs.Course.{HasRun, IsReportable, status_of, RunCourse, SavedCourse, ViewCourse, IsUnread, IsUnsaved, BeganOn, BeganIn}
 
 -- a text that was put, as the course says
 pub said : (course : Status → List ℕ → Type 0) (planned : Status) (text : List ℕ) (old new : Option (List ℕ)) (status : Status) → course planned text → PutAll planned text old new status → Followed course old new status
@@ -69,12 +73,6 @@ pub holds_long : (name into : List ℕ) (table : Option Table) → Loads table n
 holds_long name into None h = tt
 holds_long name into (Some files) h = long_in name into files (file_of name files) refl h
 
-pub holds_saved : (name octets : List ℕ) (old new : Option Table) → Saves old new name octets (Ok tt) → Holds new name (Some octets)
-holds_saved name octets None None h = tt
-holds_saved name octets None (Some new) h = ?
-holds_saved name octets (Some old) None h = absurd h
-holds_saved name octets (Some old) (Some new) h = h.stored
-
 module _ (name : List ℕ) (table : Option Table) (faulted nw : Type 0) (course : List ℕ → Status → List ℕ → Type 0) where
   unloaded_course : nw → (planned : Status) (text : List ℕ) → FileCourse name table faulted (Unit {0}) (λ octets planned text. ⊥) planned text → FileCourse name table faulted nw course planned text
   unloaded_course fresh _ _ (fault rose u) = fault rose fresh
@@ -96,14 +94,14 @@ began_in name octets table book is (inl new) = inl new
 began_in name octets table book is (inr began) = inr (octets, is.holds, began)
 
 -- a fault of a save stands behind the load
-saved_course : (name : List ℕ) (table : Option Table) (one other : Type 0) → (one → other) → (book : Book) (octets : List ℕ) (planned : Status) (text : List ℕ) → SavedCourse name table one book octets planned text → SavedCourse name table other book octets planned text
-saved_course name table one other turn book octets _ _ (SavedCourse.refused e is new) = SavedCourse.refused e is new
-saved_course name table one other turn book octets _ _ (SavedCourse.unsaved plan is ran rose) = SavedCourse.unsaved plan is ran (turn rose)
-saved_course name table one other turn book octets _ _ (SavedCourse.ran plan is ran held) = SavedCourse.ran plan is ran held
+saved_course : (name : List ℕ) (before table : Option Table) (one other : Type 0) → (one → other) → (book : Book) (octets : List ℕ) (planned : Status) (text : List ℕ) → SavedCourse name before table one book octets planned text → SavedCourse name before table other book octets planned text
+saved_course name before table one other turn book octets _ _ (SavedCourse.refused e is new) = SavedCourse.refused e is new
+saved_course name before table one other turn book octets _ _ (SavedCourse.unsaved plan is ran rose) = SavedCourse.unsaved plan is ran (turn rose)
+saved_course name before table one other turn book octets _ _ (SavedCourse.ran plan is ran held) = SavedCourse.ran plan is ran held
 
-pub saved_later : (name : List ℕ) (table : Option Table) (one other : Type 0) → (one → other) → (book : Book) (octets : List ℕ) (old new : Option (List ℕ)) (status : Status) → Followed (SavedCourse name table one book octets) old new status → Followed (SavedCourse name table other book octets) old new status
-saved_later name table one other turn book octets old new status h =
-    turned (SavedCourse name table one book octets) (SavedCourse name table other book octets) (saved_course name table one other turn book octets) old new status h
+pub saved_later : (name : List ℕ) (before table : Option Table) (one other : Type 0) → (one → other) → (book : Book) (octets : List ℕ) (old new : Option (List ℕ)) (status : Status) → Followed (SavedCourse name before table one book octets) old new status → Followed (SavedCourse name before table other book octets) old new status
+saved_later name before table one other turn book octets old new status h =
+    turned (SavedCourse name before table one book octets) (SavedCourse name before table other book octets) (saved_course name before table one other turn book octets) old new status h
 
 -- ---- runs
 
@@ -120,15 +118,49 @@ pub run_unread : (book : Book) (octets : List ℕ) (old new : Option (List ℕ))
 run_unread book octets old new status fresh (inl memory) = inl memory
 run_unread book octets old new status fresh (inr (e, is, ended)) = inr (statuses.Refused, refused_line e, RunCourse.refused e is fresh, ended)
 
-pub save_unread : (name : List ℕ) (table : Option Table) (faulted : Type 0) (book : Book) (octets : List ℕ) (old new : Option (List ℕ)) (status : Status) → IsNew book → IsUnread octets old new status → Followed (SavedCourse name table faulted book octets) old new status
-save_unread name table faulted book octets old new status fresh (inl memory) = inl memory
-save_unread name table faulted book octets old new status fresh (inr (e, is, ended)) = inr (statuses.Refused, refused_line e, SavedCourse.refused e is fresh, ended)
+pub save_unread : (name : List ℕ) (before table : Option Table) (faulted : Type 0) (book : Book) (octets : List ℕ) (old new : Option (List ℕ)) (status : Status) → IsNew book → IsUnread octets old new status → Followed (SavedCourse name before table faulted book octets) old new status
+save_unread name before table faulted book octets old new status fresh (inl memory) = inl memory
+save_unread name before table faulted book octets old new status fresh (inr (e, is, ended)) = inr (statuses.Refused, refused_line e, SavedCourse.refused e is fresh, ended)
 
 -- what a run left
 pub has_run : (plan : Scenario) (book : Book) (ending : Ending) → HasFrames plan book → EndsAs plan book ending → book.ending ≡ ending → HasRun plan book
 has_run plan book ending frames ends is = record { frames = frames; ending = rw is ends }
 
 -- a save that failed ends a run without a text
-pub save_failed : (name : List ℕ) (table : Option Table) (faulted : Type 0) (plan : Scenario) (book : Book) (octets : List ℕ) (old : Option (List ℕ)) (status : Status) → plan_of octets ≡ Ok plan → HasRun plan book → IsUnsaved faulted status → Followed (SavedCourse name table faulted book octets) old old status
-save_failed name table faulted plan book octets old status is ran (inl memory) = inl memory
-save_failed name table faulted plan book octets old status is ran (inr failed) = inr (statuses.FileFault, [], SavedCourse.unsaved plan is ran failed.1, inl (failed.0, nothing_put old))
+pub save_failed : (name : List ℕ) (before table : Option Table) (faulted : Type 0) (plan : Scenario) (book : Book) (octets : List ℕ) (old : Option (List ℕ)) (status : Status) → plan_of octets ≡ Ok plan → HasRun plan book → IsUnsaved faulted status → Followed (SavedCourse name before table faulted book octets) old old status
+save_failed name before table faulted plan book octets old status is ran (inl memory) = inl memory
+save_failed name before table faulted plan book octets old status is ran (inr failed) = inr (statuses.FileFault, [], SavedCourse.unsaved plan is ran failed.1, inl (failed.0, nothing_put old))
+
+-- a run that ended has a row for each slave
+rows_of : (plan : Scenario) (book : Book) (ending : Ending) → EndsAs plan book ending → ending ≢ endings.NoMemory → length book.slaves ≡ length plan.slaves
+rows_of plan book endings.Unfinished ends other = absurd ends
+rows_of plan book endings.Done ends other = ends.rows.many
+rows_of plan book endings.GivenUp ends other = ends.rows.many
+rows_of plan book endings.BudgetSpent ends other = ends.rows.many
+rows_of plan book endings.PortFault ends other = absurd ends
+rows_of plan book endings.NoMemory ends other = absurd (other refl)
+
+-- what can be reported of a run that ended
+pub is_reportable : (plan : Scenario) (book : Book) (ending : Ending) → IsPlan plan → HasFrames plan book → EndsAs plan book ending → book.ending ≡ ending → ending ≢ endings.NoMemory → book.serving ≡ false → IsReportable plan book
+is_reportable plan book ending sound frames ends is other alone = record {
+  ran = has_run plan book ending frames ends is;
+  few = sound.laid.few_slaves;
+  many = rows_of plan book ending ends other;
+  alone = alone;
+}
+
+-- what an answer without an error says
+pub ok_of : {E : Type 0} (r : Result (Unit {0}) E) (P : Type 0) → is_err r ≡ false → OnOk r P → P
+ok_of (Ok done) P is h = h
+ok_of (Err e) P is h = absurd cc
+
+-- octets that are no capture
+pub view_refused : (octets : List ℕ) (fault : PcapFault) (old new : Option (List ℕ)) (status : Status) → UnlessNoMemory (Err {T = Capture} fault) (Err fault ≡ capture_read octets) → PutAll statuses.Refused (capture_line fault) old new status → (fault ≡ faults.NoMemory → status ≡ statuses.NoMemory)
+    → Followed (ViewCourse octets) old new status
+view_refused octets (faults.Short at) old new status is put memory = said (ViewCourse octets) statuses.Refused (capture_line (faults.Short at)) old new status (ViewCourse.refused (faults.Short at) (sym is)) put
+view_refused octets faults.Magic old new status is put memory = said (ViewCourse octets) statuses.Refused (capture_line faults.Magic) old new status (ViewCourse.refused faults.Magic (sym is)) put
+view_refused octets faults.Version old new status is put memory = said (ViewCourse octets) statuses.Refused (capture_line faults.Version) old new status (ViewCourse.refused faults.Version (sym is)) put
+view_refused octets faults.LinkType old new status is put memory = said (ViewCourse octets) statuses.Refused (capture_line faults.LinkType) old new status (ViewCourse.refused faults.LinkType (sym is)) put
+view_refused octets (faults.RecordCut at) old new status is put memory = said (ViewCourse octets) statuses.Refused (capture_line (faults.RecordCut at)) old new status (ViewCourse.refused (faults.RecordCut at) (sym is)) put
+view_refused octets (faults.RecordTooLong at) old new status is put memory = said (ViewCourse octets) statuses.Refused (capture_line (faults.RecordTooLong at)) old new status (ViewCourse.refused (faults.RecordTooLong at) (sym is)) put
+view_refused octets faults.NoMemory old new status is put memory = inl (memory refl)

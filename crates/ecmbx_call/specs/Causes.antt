@@ -1,5 +1,5 @@
 -- When each status comes.
-use Rattle.std.specs.Prelude.{◌≡◌, ◌≢◌, ℕ, ◌<◌, ◌≤◌, ◌⊎◌, List, [], ◌∷◌, length, Option, Some, None, Ok, Err}
+use Rattle.std.specs.Prelude.{◌≡◌, ◌≢◌, ℕ, ◌<◌, ◌≤◌, ◌⊎◌, List, [], ◌∷◌, length, true, Option, Some, None, Ok, Err}
 use Rattle.ec_outside.specs.Files.{Table, file_of}
 use Rattle.ec_outside.specs.Sink.{Wrote}
 use Rattle.capture_view.specs.View.{view_text}
@@ -23,7 +23,7 @@ use Rattle.ecmbx_words.specs.declared.status.Status.{Status}
 use Rattle.ecmbx_words.specs.declared.status.Status.TheVariants as statuses
 use Rattle.ecmbx_words.specs.Form.{form_in, name_in, saved_in}
 use Rattle.ecmbx_words.specs.Ends.{text_of, Ended}
-use Rattle.ecmbx_call.specs.Files.{limit, Holds, IsLong}
+use Rattle.ecmbx_call.specs.Files.{limit, Holds, IsLong, IsSaved}
 use Rattle.ecmbx_call.specs.Course.{HasRun, status_of}
 
 -- the file that a form loads
@@ -117,7 +117,7 @@ RunsTo words table plan book old new status =
 abbrev pub SavesTo : List (List ℕ) → Option Table → Option Table → Scenario → Book → Option (List ℕ) → Option (List ℕ) → Status → Type 0
 SavesTo words table saved plan book old new status =
     (octets : List ℕ) → form_in words ≡ forms.RunSaved → IsFound words table octets → plan_of octets ≡ Ok plan
-    → (status ≡ statuses.NoMemory) ⊎ (HasRun plan book × Holds saved (saved_in words) (Some (capture_of book.frames)) × Ended (status_of book.ending) (text_of (report_lines plan book)) old new status)
+    → (status ≡ statuses.NoMemory) ⊎ (HasRun plan book × IsSaved table saved (saved_in words) (capture_of book.frames) × Ended (status_of book.ending) (text_of (report_lines plan book)) old new status)
 
 -- a capture that is found is shown whole
 abbrev pub ShowsTo : List (List ℕ) → Option Table → Option (List ℕ) → Option (List ℕ) → Status → Type 0

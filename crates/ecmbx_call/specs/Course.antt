@@ -1,5 +1,5 @@
 -- What a call of the program does, from its words to its status: one case for each row of the table of answers.
-use Rattle.std.specs.Prelude.{◌≡◌, ℕ, ◌⊎◌, List, [], map, String, string_bytes, Option, Some, None, Ok, Err}
+use Rattle.std.specs.Prelude.{◌≡◌, ℕ, ◌≤◌, ◌⊎◌, List, [], map, length, false, String, string_bytes, Option, Some, None, Ok, Err}
 use Rattle.std.specs.declared.alloc.Global.{Global}
 use Rattle.ec_outside.specs.Files.{Table}
 use Rattle.pcap_frames.specs.declared.capture.Capture.{Capture}
@@ -25,7 +25,7 @@ use Rattle.ecmbx_words.specs.Form.{form_in, name_in, saved_in}
 use Rattle.ecmbx_words.specs.Ends.{text_of, Ended}
 use Rattle.ecmbx_words.specs.Texts.{usage_line, refused_line, capture_line}
 pub use Rattle.ecmbx_call.specs.Files.{Followed}
-use Rattle.ecmbx_call.specs.Files.{Holds, FileCourse}
+use Rattle.ecmbx_call.specs.Files.{Holds, IsSaved, FileCourse}
 
 -- the octets of the words
 abbrev pub words_of : List (String Global) → List (List ℕ)
@@ -45,16 +45,23 @@ pub record HasRun (plan : Scenario) (book : Book) : Type 0 where
   pub frames : HasFrames plan book
   pub ending : EndsAs plan book book.ending
 
+-- a run that can be reported: it ended, each slave has its row, and nobody was served
+pub record IsReportable (plan : Scenario) (book : Book) : Type 0 where
+  pub ran : HasRun plan book
+  pub few : length plan.slaves ≤ 16
+  pub many : length book.slaves ≡ length plan.slaves
+  pub alone : book.serving ≡ false
+
 -- a run: refused, or the report of what it came to
 pub data RunCourse (book : Book) (octets : List ℕ) : Status → List ℕ → Type 0 where
   refused : (e : Refusal) → plan_of octets ≡ Err e → IsNew book → RunCourse book octets statuses.Refused (refused_line e)
   ran : (plan : Scenario) → plan_of octets ≡ Ok plan → HasRun plan book → RunCourse book octets (status_of book.ending) (text_of (report_lines plan book))
 
 -- a run whose frames are saved: the same, with the capture under its name; or nothing is put behind a save that failed
-pub data SavedCourse (name : List ℕ) (table : Option Table) (faulted : Type 0) (book : Book) (octets : List ℕ) : Status → List ℕ → Type 0 where
-  refused : (e : Refusal) → plan_of octets ≡ Err e → IsNew book → SavedCourse name table faulted book octets statuses.Refused (refused_line e)
-  unsaved : (plan : Scenario) → plan_of octets ≡ Ok plan → HasRun plan book → faulted → SavedCourse name table faulted book octets statuses.FileFault []
-  ran : (plan : Scenario) → plan_of octets ≡ Ok plan → HasRun plan book → Holds table name (Some (capture_of book.frames)) → SavedCourse name table faulted book octets (status_of book.ending) (text_of (report_lines plan book))
+pub data SavedCourse (name : List ℕ) (before table : Option Table) (faulted : Type 0) (book : Book) (octets : List ℕ) : Status → List ℕ → Type 0 where
+  refused : (e : Refusal) → plan_of octets ≡ Err e → IsNew book → SavedCourse name before table faulted book octets statuses.Refused (refused_line e)
+  unsaved : (plan : Scenario) → plan_of octets ≡ Ok plan → HasRun plan book → faulted → SavedCourse name before table faulted book octets statuses.FileFault []
+  ran : (plan : Scenario) → plan_of octets ≡ Ok plan → HasRun plan book → IsSaved before table name (capture_of book.frames) → SavedCourse name before table faulted book octets (status_of book.ending) (text_of (report_lines plan book))
 
 -- a capture: refused, or its decoding text
 pub data ViewCourse (octets : List ℕ) : Status → List ℕ → Type 0 where
@@ -67,7 +74,7 @@ pub data Course (words : List (List ℕ)) (table saved : Option Table) (faulted 
   make : (seed size : ℕ) → form_in words ≡ forms.Make seed size → IsNew book → Course words table saved faulted book statuses.Done (made_text [] seed size)
   decode : (planned : Status) (text : List ℕ) → form_in words ≡ forms.Decode → IsNew book → FileCourse (name_in words) table faulted (Unit {0}) ViewCourse planned text → Course words table saved faulted book planned text
   run : (planned : Status) (text : List ℕ) → form_in words ≡ forms.Run → FileCourse (name_in words) table faulted (IsNew book) (RunCourse book) planned text → Course words table saved faulted book planned text
-  run_saved : (planned : Status) (text : List ℕ) → form_in words ≡ forms.RunSaved → FileCourse (name_in words) table faulted (IsNew book) (SavedCourse (saved_in words) saved faulted book) planned text → Course words table saved faulted book planned text
+  run_saved : (planned : Status) (text : List ℕ) → form_in words ≡ forms.RunSaved → FileCourse (name_in words) table faulted (IsNew book) (SavedCourse (saved_in words) table saved faulted book) planned text → Course words table saved faulted book planned text
 
 -- octets that are no scenario: the refusal's line is put, unless memory ran out
 abbrev pub IsUnread : List ℕ → Option (List ℕ) → Option (List ℕ) → Status → Type 0

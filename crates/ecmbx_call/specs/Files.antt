@@ -1,6 +1,6 @@
 -- What a call finds under a name.
-use Rattle.std.specs.Prelude.{◌≡◌, ◌⊎◌, ℕ, ◌<◌, ◌≤◌, List, length, Option, Some, None}
-use Rattle.ec_outside.specs.Files.{Table, file_of}
+use Rattle.std.specs.Prelude.{◌≡◌, ◌⊎◌, ℕ, ◌<◌, ◌≤◌, List, length, Option, Some, None, Ok}
+use Rattle.ec_outside.specs.Files.{Table, file_of, Saves}
 use Rattle.ecmbx_words.specs.declared.status.Status.{Status}
 use Rattle.ecmbx_words.specs.declared.status.Status.TheVariants as statuses
 use Rattle.ecmbx_words.specs.Ends.{Ended}
@@ -31,6 +31,10 @@ pub data FileCourse (name : List ℕ) (table : Option Table) (faulted new : Type
   absent : Holds table name None → new → FileCourse name table faulted new course statuses.Absent absent_line
   long : IsLong table name → new → FileCourse name table faulted new course statuses.TooLong long_line
   found : (octets : List ℕ) (planned : Status) (text : List ℕ) → Holds table name (Some octets) → length octets ≤ limit → course octets planned text → FileCourse name table faulted new course planned text
+
+-- a save that was done: the name has these octets and all other files stay, where the files are told
+abbrev pub IsSaved : Option Table → Option Table → List ℕ → List ℕ → Type 0
+IsSaved before table name octets = Saves before table name octets (Ok tt)
 
 -- a file that was loaded
 pub record IsLoaded (name : List ℕ) (table : Option Table) (octets : List ℕ) : Type 0 where

@@ -8,8 +8,8 @@ ghost use Rattle.run_report.specs.Saved.{capture_of};
 ghost use Rattle.ecmbx_words.specs.Ends.{text_of, PutAll};
 ghost use Rattle.ecmbx_words.specs.Texts.{refusal_line};
 ghost use Rattle.ecmbx_words.specs.declared.status.Status.TheVariants as statuses;
-ghost use Rattle.ecmbx_call.specs.Files.{Holds};
-ghost use Rattle.ecmbx_call.specs.Course.{HasRun, status_of, Followed, RunCourse, SavedCourse, IsUnread, IsUnsaved, BeganOn};
+ghost use Rattle.ecmbx_call.specs.Files.{IsSaved};
+ghost use Rattle.ecmbx_call.specs.Course.{HasRun, IsReportable, status_of, Followed, RunCourse, SavedCourse, IsUnread, IsUnsaved, BeganOn};
 
 use ec_fields::{NoMemory, Octets, Rows};
 use ec_outside::{Files, FilesErr, Sink};
@@ -61,8 +61,7 @@ fn refuse<O: Sink>(alloc: Global, rule: u8, place: Place, out: &mut O) -> Status
 
 // Puts the report of a run, and answers how the run ended.
 fn tell<O: Sink>(alloc: Global, plan: &Scenario, book: &Book, out: &mut O) -> Status
-    requires plan { IsPlan plan.now }
-    requires ran { HasRun plan.now book.now }
+    requires { IsReportable plan.now book.now }
     ensures put { PutAll (status_of book.now.ending) (text_of (report_lines plan.now book.now)) (O.written out.old) (O.written out.new) result }
     ensures sink { result ≡ statuses.SinkFault → Rose (O.sink_faults out.old) (O.sink_faults out.new) }
 {
@@ -77,7 +76,7 @@ fn tell<O: Sink>(alloc: Global, plan: &Scenario, book: &Book, out: &mut O) -> St
 fn save<F: Files>(alloc: Global, plan: &Scenario, book: &Book, name: &str, files: &mut F) -> Result<(), Status>
     requires plan { IsPlan plan.now }
     requires ran { HasRun plan.now book.now }
-    ensures saved { IfOk result (λ done. Holds (F.table files.new) name.now (Some (capture_of book.now.frames))) }
+    ensures saved { IfOk result (λ done. IsSaved (F.table files.old) (F.table files.new) name.now (capture_of book.now.frames)) }
     ensures failed { IfErr result (IsUnsaved (Rose (F.file_faults files.old) (F.file_faults files.new))) }
     ensures later { F.file_faults files.old ≤ F.file_faults files.new }
 {
@@ -120,7 +119,7 @@ pub fn run_saved<F: Files, O: Sink>(
     book: &mut Book,
 ) -> Status
     requires { IsNew book.old }
-    ensures course { Followed (SavedCourse name.now (F.table files.new) (Rose (F.file_faults files.old) (F.file_faults files.new)) book.new octets.now) (O.written out.old) (O.written out.new) result }
+    ensures course { Followed (SavedCourse name.now (F.table files.old) (F.table files.new) (Rose (F.file_faults files.old) (F.file_faults files.new)) book.new octets.now) (O.written out.old) (O.written out.new) result }
     ensures sink { result ≡ statuses.SinkFault → Rose (O.sink_faults out.old) (O.sink_faults out.new) }
     ensures book { IsNew book.new ⊎ BeganOn octets.now book.new }
     ensures later { F.file_faults files.old ≤ F.file_faults files.new }

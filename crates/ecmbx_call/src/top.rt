@@ -47,7 +47,7 @@ fn run_file_saved<F: Files, O: Sink>(
 ) -> Status
     requires { IsNew book.old }
     ensures course { Followed (FileCourse name.now (F.table files.old) (Rose (F.file_faults files.old) (F.file_faults files.new)) (IsNew book.new)
-        (SavedCourse capture.now (F.table files.new) (Rose (F.file_faults files.old) (F.file_faults files.new)) book.new)) (O.written out.old) (O.written out.new) result }
+        (SavedCourse capture.now (F.table files.old) (F.table files.new) (Rose (F.file_faults files.old) (F.file_faults files.new)) book.new)) (O.written out.old) (O.written out.new) result }
     ensures sink { result ≡ statuses.SinkFault → Rose (O.sink_faults out.old) (O.sink_faults out.new) }
     ensures book { IsNew book.new ⊎ BeganIn name.now (F.table files.old) book.new }
 {

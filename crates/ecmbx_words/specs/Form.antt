@@ -39,5 +39,5 @@ name_in _ = []
 
 -- the file that a capture is saved in
 abbrev pub saved_in : List (List ℕ) → List ℕ
-saved_in (_ ∷ _ ∷ name ∷ []) = name
+saved_in (_ ∷ _ ∷ name ∷ _) = name
 saved_in _ = []

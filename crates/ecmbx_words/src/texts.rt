@@ -1,4 +1,5 @@
-ghost use Rattle.std.specs.Prelude.{◌≡◌, ◌++◌, codes, IfOk, string_bytes};
+ghost use Rattle.std.specs.Prelude.{◌≡◌, ◌≢◌, ◌++◌, codes, IfOk, string_bytes};
+ghost use Rattle.pcap_frames.specs.declared.capture.PcapFault.TheVariants as faults;
 ghost use Rattle.std.specs.Fmt.{decimal};
 ghost use Rattle.ecmbx_words.specs.Texts.{usage_line, absent_line, long_line, fault_line, place_text, refusal_line, capture_line};
 
@@ -76,7 +77,8 @@ fn placed(alloc: Global, number: u8, at: usize) -> Result<Octets, NoMemory>
 /// A refusal of a capture: the number of its fault, and the fault's place where it has one. `NoMemory` is want of memory,
 /// here or as the fault.
 pub fn capture_refusal(alloc: Global, fault: PcapFault) -> Result<Octets, NoMemory>
-    ensures { IfOk result (λ line. line ≡ capture_line fault) }
+    ensures line { IfOk result (λ line. line ≡ capture_line fault) }
+    ensures told { IfOk result (λ line. fault ≢ faults.NoMemory) }
 {
     match fault {
         PcapFault::Short { at } => placed(alloc, 1, at),

@@ -1,0 +1,15 @@
+use Rattle.std.proofs.Common.{sym}
+use Rattle.capture_view.specs.View.{view_text}
+use Rattle.ecmbx_words.specs.declared.status.Status.TheVariants as statuses
+use Rattle.ecmbx_call.specs.Course.{ViewCourse}
+use Rattle.ecmbx_call.specs.Course.ViewCourse.{shown}
+use Rattle.ecmbx_call.proofs.Courses.{said, view_refused}
+use Rattle.ecmbx_call.proofs.viewing.decode.Goals as goal
+
+pub returns-in-Ok-clause-course : goal.returns-in-Ok-clause-course
+returns-in-Ok-clause-course g c =
+    said (ViewCourse c.args.octets.now) statuses.Done (view_text c.args.octets.now c.in-Ok.capture) (g.O.Sink.written c.args.out.now) (g.O.Sink.written c.show.new.out) c.show.result (shown c.in-Ok.capture (sym c.in-Ok.ensures.exact)) c.show.ensures.put
+
+pub returns-in-Err-clause-course : goal.returns-in-Err-clause-course
+returns-in-Err-clause-course g c =
+    view_refused c.args.octets.now c.in-Err.fault (g.O.Sink.written c.args.out.now) (g.O.Sink.written c.refuse.new.out) c.refuse.result c.in-Err.ensures.exact c.refuse.ensures.put c.refuse.ensures.memory
