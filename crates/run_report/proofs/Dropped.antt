@@ -62,7 +62,8 @@ few_drops route packet at (p ∷ ps) =
     let one = one_is (offered route at packet p).offered at in
     let rest = few_drops route packet (at + 1) ps in
     elim (is_full (offered route at packet p).offered) as (λ b. (if bit_where Full (offered route at packet p).offered at == 0 then 0 else 1) ≡ cond b 1 0 → drops_of route packet at (p ∷ ps) ≤ length (p ∷ ps)) [
-      true ↦ λ e. omega (arith, e, rest) | false ↦ λ e. omega (arith, e, rest)
+      | true ↦ λ e. omega (arith, e, rest)
+      | false ↦ λ e. omega (arith, e, rest)
     ] one
 
 -- the drops of a flow are those of its events

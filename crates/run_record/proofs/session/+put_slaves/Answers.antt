@@ -15,7 +15,7 @@ returns t c =
     let all = ap₂ (slave_rows c.args.recover) nodes notes ∙ rows_more c.args.recover c.pop.new.self c.pop-2.new.self c.in-Some.node c.in-Some-pop.last same in
     on_ok_weaker c.add.result
     (λ put. put ∙ ap (λ rows. rows ++ c.in_ok-slave_book.field-0 ∷ []) c.in_ok-put_slaves.ensures
-        ∙ append_assoc c.args.into.now (slave_rows c.args.recover c.pop.new.self c.pop-2.new.self) (c.in_ok-slave_book.field-0 ∷ [])
-        ∙ ap (λ row. c.args.into.now ++ (slave_rows c.args.recover c.pop.new.self c.pop-2.new.self ++ row ∷ [])) c.in_ok-slave_book.ensures
-        ∙ ap (λ rows. c.args.into.now ++ rows) (sym all))
+    ∙ append_assoc c.args.into.now (slave_rows c.args.recover c.pop.new.self c.pop-2.new.self) (c.in_ok-slave_book.field-0 ∷ [])
+    ∙ ap (λ row. c.args.into.now ++ (slave_rows c.args.recover c.pop.new.self c.pop-2.new.self ++ row ∷ [])) c.in_ok-slave_book.ensures
+    ∙ ap (λ rows. c.args.into.now ++ rows) (sym all))
     c.add.ensures.ok

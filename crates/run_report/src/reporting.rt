@@ -28,7 +28,7 @@ fn line_of_frames(alloc: Global, frames: &[SentFrame]) -> Result<Octets, NoMemor
     Octets::copy_of(alloc, text.as_bytes())
 }
 
-fn line_of_drops(alloc: Global, drops: u64) -> Result<Octets, NoMemory>
+fn line_of_drops(alloc: Global, drops: u128) -> Result<Octets, NoMemory>
     ensures { IfOk result (λ line. line ≡ dropped_line drops) }
 {
     let text = format!(in alloc; "dropped {drops}\n")?;
