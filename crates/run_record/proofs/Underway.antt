@@ -1,5 +1,5 @@
 -- A run that is under way: what its session and its book have in common.
-use Rattle.std.proofs.Common.{◌≡◌, ℕ, zero, suc, ◌+◌, ◌<◌, ◌≤◌, ◌⊎◌, inl, inr, List, [], ◌∷◌, ◌++◌, length, map, Bool, true, false, refl, ap, sym, ◌∙◌, subst, length-append, false-eqb, arith}
+use Rattle.std.proofs.Common.{◌≡◌, ℕ, ◌+◌, ◌<◌, ◌≤◌, inl, inr, [], ◌∷◌, ◌++◌, length, map, Bool, false, ap, sym, ◌∙◌, subst, length-append, false-eqb, arith}
 use Rattle.std.specs.Prelude.{All, ◌==◌}
 use Rattle.std.proofs.lemmas.List.Elements.{All-nil, All-cons, All-append}
 use Rattle.segment_plan.specs.declared.plan.Scenario.{Scenario}
@@ -16,8 +16,8 @@ use Rattle.run_book.specs.declared.book.Ending.TheVariants as endings
 use Rattle.run_book.specs.declared.book.SentFrame.{SentFrame}
 use Rattle.run_book.specs.declared.book.SlaveBook.{SlaveBook}
 use Rattle.run_record.specs.Replay.{first_ring, behind, ring_after, IsRecorded, AreRecorded}
-use Rattle.run_record.specs.Session.{SessionState, first_session, session_rows, slave_rows, budget_of, are_at_rest, some_given_up, KeepsRest, Steps, Stops}
-use Rattle.run_record.specs.Ran.{HasFrames, IsGivenUp, HasRows, EndsSo, IsOver, IsSpent, EndsAs}
+use Rattle.run_record.specs.Session.{SessionState, first_session, session_rows, budget_of, are_at_rest, some_given_up, Steps, Stops}
+use Rattle.run_record.specs.Ran.{HasFrames, IsGivenUp, HasRows, EndsSo, EndsAs}
 use Rattle.run_record.proofs.Replays.{after_more, recorded_more, number_after, length_after}
 use Rattle.run_record.proofs.Rows.{nodes_of_rows, rows_given_up}
 

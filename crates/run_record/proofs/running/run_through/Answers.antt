@@ -1,4 +1,4 @@
-use Rattle.std.proofs.Common.{◌≡◌, ◌⊎◌, inl, inr, false, sym, ◌∙◌, subst, rules}
+use Rattle.std.proofs.Common.{◌≡◌, inl, inr, false, sym, ◌∙◌, subst, rules}
 use Rattle.run_record.specs.Ran.{EndsSo, EndsAs}
 use Rattle.run_record.proofs.Underway.{still_left, stepped_on, stopped, has_frames, ended}
 use Rattle.run_record.proofs.running.run_through.Goals as goal

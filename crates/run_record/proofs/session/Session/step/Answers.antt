@@ -1,13 +1,11 @@
-use Rattle.std.proofs.Common.{◌≡◌, ℕ, List, ◌+◌, ◌<◌, ◌++◌, ◌∷◌, [], length, ap, sym, ◌∙◌, subst, arith}
+use Rattle.std.proofs.Common.{◌≡◌, ℕ, List, ◌+◌, ◌++◌, ◌∷◌, [], length, ap, ◌∙◌, subst, arith}
 use Rattle.segment_ring.specs.Ring.{RingState}
 use Rattle.slave_steps.specs.Node.{Node}
 use Rattle.slave_server.specs.declared.server.SlaveServer.{SlaveServer}
-use Rattle.run_book.specs.Book.{IsShort}
 use Rattle.run_book.specs.declared.book.SentFrame.{SentFrame}
-use Rattle.run_record.specs.declared.log.Log.{Log}
 use Rattle.run_record.specs.Replay.{behind, IsRecorded}
-use Rattle.run_record.specs.Session.{SessionState, SameFrames, KeepsRest, Steps}
-use Rattle.run_record.proofs.Kept.{rest_more, at_log}
+use Rattle.run_record.specs.Session.{SessionState, SameFrames, KeepsRest}
+use Rattle.run_record.proofs.Kept.{rest_more}
 use Rattle.run_record.proofs.Steps.{any_ok, any_err, holds_on, no_frame, one_frame}
 use Rattle.run_record.proofs.session.Session.step.Goals as goal
 
