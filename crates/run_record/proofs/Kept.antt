@@ -1,7 +1,5 @@
 -- What events leave, one after the other.
-use Rattle.std.proofs.Common.{◌≡◌, ℕ, ◌+◌, length, ap, sym, ◌∙◌, subst}
-use Rattle.std.specs.Prelude.{All}
-use Rattle.run_book.specs.Ports.{IsAtPort}
+use Rattle.std.proofs.Common.{ℕ, ◌+◌, length, ap, ◌∙◌, subst}
 use Rattle.run_book.specs.declared.book.Book.{Book}
 use Rattle.run_record.specs.declared.log.Log.{Log}
 use Rattle.run_record.specs.Session.{KeepsRest, SameFrames, SameSlaves}

@@ -1,5 +1,5 @@
 -- What a ring asks of the plan that it is made of.
-use Rattle.std.proofs.Common.{◌≡◌, ℕ, zero, suc, ◌+◌, ◌<◌, ◌≤◌, ◌&&◌, Bool, true, false, List, [], ◌∷◌, length, map, refl, leb-true, arith}
+use Rattle.std.proofs.Common.{◌≡◌, ℕ, suc, ◌+◌, ◌≤◌, ◌&&◌, Bool, true, false, List, [], ◌∷◌, map, refl, leb-true, arith}
 use Rattle.std.specs.Prelude.{All, nat_le}
 use Rattle.std.proofs.lemmas.List.Elements.{All-head, All-tail}
 use Rattle.segment_plan.specs.declared.slave.SlaveSpec.{SlaveSpec}
@@ -16,7 +16,7 @@ weaker (row ∷ lose) a b le from = (let high = from.0 in omega (arith, le, high
 
 both : (x y : Bool) → (x && y) ≡ true → (x ≡ true) × (y ≡ true)
 both true y e = (refl, e)
-both false y e = absurd (false-is-true e)
+both false y e = absurd (cc)
 
 -- lost frames whose numbers rise from one on
 pub lost_rise : (slaves least : ℕ) (lose : List (ℕ × ℕ)) → are_lost_from slaves least lose ≡ true → AllFrom least lose × Rises lose

@@ -1,5 +1,5 @@
 -- The replay with one more frame.
-use Rattle.std.proofs.Common.{◌≡◌, ℕ, zero, suc, ◌+◌, List, [], ◌∷◌, ◌++◌, length, refl, ap, sym, ◌∙◌, arith}
+use Rattle.std.proofs.Common.{◌≡◌, ℕ, zero, suc, ◌+◌, List, [], ◌∷◌, ◌++◌, length, refl, ap, ◌∙◌, arith}
 use Rattle.segment_ring.specs.Ring.{RingState, nodes_passed, nodes_stepped, frame_met}
 use Rattle.segment_ring.specs.Schedule.{fate_at}
 use Rattle.segment_ring.specs.declared.wire.Fate.{Fate}

@@ -1,6 +1,6 @@
 -- A run that is under way: what its session and its book have in common.
-use Rattle.std.proofs.Common.{◌≡◌, ℕ, zero, suc, ◌+◌, ◌<◌, ◌≤◌, ◌⊎◌, inl, inr, List, [], ◌∷◌, ◌++◌, length, map, Bool, true, false, refl, ap, sym, ◌∙◌, subst, length-append, arith}
-use Rattle.std.specs.Prelude.{All}
+use Rattle.std.proofs.Common.{◌≡◌, ℕ, ◌+◌, ◌<◌, ◌≤◌, inl, inr, [], ◌∷◌, ◌++◌, length, map, Bool, false, ap, sym, ◌∙◌, subst, length-append, false-eqb, arith}
+use Rattle.std.specs.Prelude.{All, ◌==◌}
 use Rattle.std.proofs.lemmas.List.Elements.{All-nil, All-cons, All-append}
 use Rattle.segment_plan.specs.declared.plan.Scenario.{Scenario}
 use Rattle.segment_ring.specs.Ring.{RingState}
@@ -16,8 +16,8 @@ use Rattle.run_book.specs.declared.book.Ending.TheVariants as endings
 use Rattle.run_book.specs.declared.book.SentFrame.{SentFrame}
 use Rattle.run_book.specs.declared.book.SlaveBook.{SlaveBook}
 use Rattle.run_record.specs.Replay.{first_ring, behind, ring_after, IsRecorded, AreRecorded}
-use Rattle.run_record.specs.Session.{SessionState, first_session, session_rows, slave_rows, budget_of, are_at_rest, some_given_up, KeepsRest, Steps, Stops}
-use Rattle.run_record.specs.Ran.{HasFrames, IsGivenUp, HasRows, EndsSo, IsOver, IsSpent, EndsAs}
+use Rattle.run_record.specs.Session.{SessionState, first_session, session_rows, budget_of, are_at_rest, some_given_up, Steps, Stops}
+use Rattle.run_record.specs.Ran.{HasFrames, IsGivenUp, HasRows, EndsSo, EndsAs}
 use Rattle.run_record.proofs.Replays.{after_more, recorded_more, number_after, length_after}
 use Rattle.run_record.proofs.Rows.{nodes_of_rows, rows_given_up}
 
@@ -58,6 +58,10 @@ module _ (plan : Scenario) (s : SessionState) (b : Book) (f : SentFrame) (h : Is
   more_short : All IsShort (b.frames ++ f ∷ [])
   more_short = All-append IsShort b.frames (f ∷ []) h.short (All-cons IsShort f [] short (All-nil IsShort))
 
+-- a frame more may be sent
+pub still_left : (number budget : ℕ) (spent : Bool) → spent ≡ (number == budget) → spent ≡ false → number ≤ budget → number < budget
+still_left number budget spent is unspent le = let apart = false-eqb number budget (sym unspent ∙ is) in omega (arith, apart, le)
+
 -- one frame more
 pub stepped_on : (plan : Scenario) (s : SessionState) (b : Book) (s' : SessionState) (b' : Book) (f : SentFrame) → IsUnderway plan s b → s.ring.number < s.budget → Steps s b s' b' f → IsUnderway plan s' b'
 stepped_on plan s b s' b' f h left step = record {
@@ -94,17 +98,17 @@ has_frames plan s b b' h frames switch = record {
 pub stopped : (plan : Scenario) (s : SessionState) (b b' : Book) → IsUnderway plan s b → s.ring.number < s.budget → Stops s b b' → HasFrames plan b'
 stopped plan s b b' h left stop = record {
   recorded = elim stop.frames [
-    inl same ↦ subst (AreRecorded (first_ring plan)) (sym same) h.recorded |
-    inr f ↦ subst (AreRecorded (first_ring plan)) (sym f.1) (more_recorded plan s b f.0 h f.2 f.3)
+    | inl same ↦ subst (AreRecorded (first_ring plan)) (sym same) h.recorded
+    | inr f ↦ subst (AreRecorded (first_ring plan)) (sym f.1) (more_recorded plan s b f.0 h f.2 f.3)
   ];
   few = let number = many plan s b h in let few = h.few in let budget = h.budget in
-    elim stop.frames [
-      inl same ↦ (let n = ap length same in omega (arith, number, few, budget, n)) |
-      inr f ↦ (let n = ap length f.1 ∙ length-append b.frames (f.0 ∷ []) in omega (arith, number, left, budget, n))
-    ];
+      elim stop.frames [
+        | inl same ↦ (let n = ap length same in omega (arith, number, few, budget, n))
+        | inr f ↦ (let n = ap length f.1 ∙ length-append b.frames (f.0 ∷ []) in omega (arith, number, left, budget, n))
+      ];
   short = elim stop.frames [
-    inl same ↦ subst (All IsShort) (sym same) h.short |
-    inr f ↦ subst (All IsShort) (sym f.1) (more_short plan s b f.0 h f.2 f.3)
+    | inl same ↦ subst (All IsShort) (sym same) h.short
+    | inr f ↦ subst (All IsShort) (sym f.1) (more_short plan s b f.0 h f.2 f.3)
   ];
   at_port = subst (λ (n : ℕ). All (IsAtPort n) b'.switch) h.ports (stop.rest.at_port (subst (λ (n : ℕ). All (IsAtPort n) b.switch) (sym h.ports) h.at_port));
 }

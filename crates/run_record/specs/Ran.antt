@@ -1,5 +1,5 @@
 -- What a run leaves in its book.
-use Rattle.std.specs.Prelude.{◌≡◌, ◌≤◌, ℕ, Bool, true, false, List, length, map, All, slice_get}
+use Rattle.std.specs.Prelude.{◌≡◌, ◌≤◌, ℕ, Bool, true, false, length, map, All, slice_get}
 use Rattle.segment_plan.specs.declared.plan.Scenario.{Scenario}
 use Rattle.run_book.specs.Book.{IsShort}
 use Rattle.run_book.specs.Ports.{ports_of, IsAtPort}

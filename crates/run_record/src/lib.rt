@@ -1,8 +1,8 @@
 //! A run of a plan, frame by frame: the master's frames go round the ring of its slaves, and what became of each stands in a book.
 #![tactic(auto)]
 
-mod notes;
 mod log;
+mod notes;
 mod running;
 mod session;
 

@@ -117,10 +117,7 @@ fn first_notes(alloc: Global, plan: &Scenario) -> Result<Rows<Notes>, NoMemory>
 }
 
 // All slaves are live.
-fn first_stations(
-    alloc: Global,
-    slaves: &[SlaveSpec],
-) -> Result<Rows<Option<(u16, u16)>>, NoMemory>
+fn first_stations(alloc: Global, slaves: &[SlaveSpec]) -> Result<Rows<Option<(u16, u16)>>, NoMemory>
     ensures { IfOk result (λ stations. length stations ≡ length slaves.now) }
 {
     let mut stations = Rows::new(alloc);

@@ -9,8 +9,8 @@ ghost use Rattle.run_book.specs.declared.book.Ending.TheVariants as endings;
 ghost use Rattle.run_record.specs.Replay.{first_ring};
 ghost use Rattle.run_record.specs.Session.{budget_of, smaller_bound, slave_row, rests_at, slave_rows, session_rows, first_session, are_at_rest, some_given_up, KeepsRest, Steps, Stops};
 
-use crate::notes::Notes;
 use crate::log::{Log, Moment};
+use crate::notes::Notes;
 use datagrams::FrameBuf;
 use ec_fields::{NoMemory, Octets, Rows};
 use master_node::{Event, MasterNode};
@@ -85,10 +85,7 @@ fn copy_of<T: Copy + Drop>(alloc: Global, rows: &[T]) -> Result<Rows<T>, NoMemor
 }
 
 // Slaves as they are switched on.
-fn new_nodes(
-    alloc: Global,
-    slaves: &[SlaveSpec],
-) -> Result<Rows<SlaveNode<SlaveServer>>, NoMemory>
+fn new_nodes(alloc: Global, slaves: &[SlaveSpec]) -> Result<Rows<SlaveNode<SlaveServer>>, NoMemory>
     requires { All IsSlave slaves.now }
     ensures { IfOk result (λ nodes. nodes ≡ map node_of slaves.now) }
 {
@@ -182,8 +179,9 @@ fn put_frame(
     ensures back_fits { length back.now.items ≤ 1514 }
     ensures rest { (ports : ℕ) → KeepsRest ports book.old book.new }
 {
-    let sent = Octets::copy_of(alloc, sent.as_slice())?;
-    let back = Octets::copy_of(alloc, back.as_slice())?;
+    let (sent, back) = (sent.as_slice(), back.as_slice());
+    let sent = Octets::copy_of(alloc, sent)?;
+    let back = Octets::copy_of(alloc, back)?;
     book.frames.add(SentFrame { sent, fate, back })
 }
 
@@ -229,9 +227,7 @@ impl Session {
         ensures { result ≡ rests_at self.now.recover (slice_get self.now.ring.nodes at) notes.now }
     {
         match self.ring.node(at) {
-            Some(node) => {
-                notes.given_up_for_good(self.log.recover).is_some() || node.settled()
-            }
+            Some(node) => { notes.given_up_for_good(self.log.recover).is_some() || node.settled() }
             None => true,
         }
     }

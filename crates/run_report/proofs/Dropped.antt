@@ -1,8 +1,8 @@
 -- The ports at which a switch drops a packet, as bits and as a number.
-use Rattle.std.proofs.Common.{◌≡◌, ℕ, zero, suc, ◌+◌, ◌*◌, ◌^◌, ◌<◌, ◌==◌, Bool, true, false, cond, List, [], ◌∷◌, length, ◌≤◌, refl, sym, ap, ap₂, ◌∙◌, arith, add-one, mul-zero, mul-one, one-mul, mul_assoc, mul-add, pow-suc}
+use Rattle.std.proofs.Common.{◌≡◌, ℕ, zero, suc, ◌+◌, ◌*◌, ◌^◌, ◌<◌, ◌==◌, Bool, true, false, cond, List, [], ◌∷◌, length, drop, replicate, ◌≤◌, refl, sym, ap, ap₂, ◌∙◌, arith, add-one, mul-zero, mul-one, one-mul, mul_assoc, mul-add, pow-suc}
 use Rattle.std.specs.Prelude.{if◌then◌else◌, count_ones}
 use Rattle.std.proofs.lemmas.Simd.{ones-mask_l_cons}
-use Rattle.std.proofs.lemmas.Nat.{pow_pos}
+use Rattle.std.proofs.lemmas.Nat.{pow_pos, ones_le_self}
 use Rattle.std.proofs.lemmas.Bool.{ne_eqb}
 use lib.Lanes.{mask_l}
 use Rattle.arrayvec.specs.ArrayVec.{ArrayVec}
@@ -13,7 +13,7 @@ use Rattle.eoe_switch.specs.declared.port.Route.{Route}
 use Rattle.eoe_switch.specs.declared.switching.SwitchEvent.{SwitchEvent}
 use Rattle.eoe_switch.specs.declared.switching.SwitchEvent.TheVariants.{Arrive, Begun, Down}
 use Rattle.eoe_switch.specs.Ports.{offered}
-use Rattle.eoe_switch.specs.Switch.{Flow, flow_of, flow_behind, bit_where, bits_of_full, drops_of}
+use Rattle.eoe_switch.specs.Switch.{Switched, first_switch, switched, Flow, flow_of, flow_behind, bit_where, bits_of_full, drops_of}
 use Rattle.run_report.specs.Drops.{behind, drops_at, drops_in}
 
 -- whether a packet was dropped there
@@ -41,13 +41,26 @@ bits_are route packet at (p ∷ ps) =
     let more : 2 ^ (at + 1) * rest ≡ 2 ^ at * (2 * rest) = ap (λ w. w * rest) (ap (λ k. 2 ^ k) (add-one at) ∙ pow-suc 2 at) ∙ mul_assoc (2 ^ at) 2 rest in
     ap₂ (λ (a b : ℕ). a + b) (bit_is o at) (bits_are route packet (at + 1) ps ∙ more) ∙ sym (mul-add (2 ^ at) (cond (is_full o) 1 0) (2 * rest))
 
-one_is : (o : Offered) (at : ℕ) → (if bit_where Full o at == 0 then 0 else 1) ≡ cond (is_full o) 1 0
+-- one where a packet was dropped
+abbrev one_drop : Offered → ℕ → ℕ
+one_drop o at = if bit_where Full o at == 0 then 0 else 1
+
+abbrev unless : Bool → ℕ
+unless b = if b then 0 else 1
+
+one_is : (o : Offered) (at : ℕ) → one_drop o at ≡ cond (is_full o) 1 0
 one_is Not at = refl
 one_is Taken at = refl
-one_is Full at = ap (λ b. if b then 0 else 1) (ne_eqb (2 ^ at) 0 (λ (e : 2 ^ at ≡ 0). let some = pow_pos at in omega (arith, e, some)))
+one_is Full at = one_where (2 ^ at == 0) (apart (2 ^ at) (pow_pos at))
+  where
+    apart : (w : ℕ) → 0 < w → (w == 0) ≡ false
+    apart w some = ne_eqb w 0 (λ (e : w ≡ 0). omega (arith, e, some))
+
+    one_where : (b : Bool) → b ≡ false → unless b ≡ 1
+    one_where b e = ap unless e
 
 ones_are : (route : Route) (packet : ArrayVec ℕ) (at : ℕ) (ps : List Port) → count_ones (mask_l (fulls route packet at ps)) ≡ drops_of route packet at ps
-ones_are route packet at [] = refl
+ones_are route packet at [] = omega (arith, ones_le_self 0)
 ones_are route packet at (p ∷ ps) =
     let o = (offered route at packet p).offered in
     ones-mask_l_cons (is_full o) (fulls route packet (at + 1) ps) ∙ ap₂ (λ (a b : ℕ). a + b) (sym (one_is o at)) (ones_are route packet (at + 1) ps)
@@ -56,14 +69,18 @@ ones_are route packet at (p ∷ ps) =
 pub ones_of_full : (route : Route) (packet : ArrayVec ℕ) (ps : List Port) → count_ones (bits_of_full route packet 0 ps) ≡ drops_of route packet 0 ps
 ones_of_full route packet ps = ap count_ones (bits_are route packet 0 ps ∙ one-mul (mask_l (fulls route packet 0 ps))) ∙ ones_are route packet 0 ps
 
+one_most : (b : Bool) → cond b 1 0 ≤ 1
+one_most true = omega arith
+one_most false = omega arith
+
 pub few_drops : (route : Route) (packet : ArrayVec ℕ) (at : ℕ) (ps : List Port) → drops_of route packet at ps ≤ length ps
 few_drops route packet at [] = omega arith
 few_drops route packet at (p ∷ ps) =
-    let one = one_is (offered route at packet p).offered at in
+    let o = (offered route at packet p).offered in
+    let one : one_drop o at ≡ cond (is_full o) 1 0 = one_is o at in
+    let most = one_most (is_full o) in
     let rest = few_drops route packet (at + 1) ps in
-    elim (is_full (offered route at packet p).offered) as (λ b. (if bit_where Full (offered route at packet p).offered at == 0 then 0 else 1) ≡ cond b 1 0 → drops_of route packet at (p ∷ ps) ≤ length (p ∷ ps)) [
-      true ↦ λ e. omega (arith, e, rest) | false ↦ λ e. omega (arith, e, rest)
-    ] one
+    omega (arith, one, most, rest)
 
 -- the drops of a flow are those of its events
 pub flow_drops : (flow : Flow) (es : List SwitchEvent) → (flow_of flow es).drops ≡ flow.drops + drops_in flow.switch es
@@ -71,3 +88,13 @@ flow_drops flow [] = omega arith
 flow_drops flow (Arrive port packet ∷ es) = let rest = flow_drops (flow_behind flow (Arrive port packet)) es in omega (arith, rest)
 flow_drops flow (Begun port ∷ es) = let rest = flow_drops (flow_behind flow (Begun port)) es in omega (arith, rest)
 flow_drops flow (Down port ∷ es) = let rest = flow_drops (flow_behind flow (Down port)) es in omega (arith, rest)
+
+pub drops_of_switched : (ports : ℕ) (es : List SwitchEvent) → (switched ports es).drops ≡ drops_in (first_switch ports) es
+drops_of_switched ports es = let all = flow_drops (record { switch = first_switch ports; forwards = replicate ports []; drops = 0 }) es in omega (arith, all)
+
+-- no event is left behind the last
+pub none_left : (s : Switched) (es : List SwitchEvent) (at : ℕ) → length es ≤ at → drops_in s (drop at es) ≡ 0
+none_left s [] zero le = refl
+none_left s [] (suc at) le = refl
+none_left s (e ∷ es) zero le = absurd (omega (arith, le))
+none_left s (e ∷ es) (suc at) le = none_left s es at (omega (arith, le))

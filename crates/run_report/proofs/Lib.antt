@@ -1,2 +1,3 @@
-pub mod Pushed
 pub mod Dropped
+pub mod Pushed
+pub mod Saves

@@ -67,12 +67,6 @@ is_script (Script number) = true
 is_script (Forward number) = false
 is_script (Gateway number) = false
 
--- what came into hand as a packet of the switch
-abbrev pub is_packet : Origin → Bool
-is_packet (Script number) = false
-is_packet (Forward number) = true
-is_packet (Gateway number) = false
-
 -- a service is scripted where it came into hand so, and where it never came into hand
 abbrev pub is_scripted_row : Option Begun → Bool
 is_scripted_row (Some row) = is_script row.origin
@@ -90,7 +84,14 @@ answer_lines begun at number (answer ∷ answers) =
 
 abbrev pub is_handed_kind : ReplyKind → Bool
 is_handed_kind kinds.Handed = true
-is_handed_kind _ = false
+is_handed_kind kinds.Done = false
+is_handed_kind kinds.Value = false
+is_handed_kind (kinds.Abort code) = false
+is_handed_kind (kinds.FoeError code) = false
+is_handed_kind (kinds.SoeError code) = false
+is_handed_kind (kinds.EoeResult code) = false
+is_handed_kind (kinds.MailboxError detail) = false
+is_handed_kind (kinds.StateRefused code) = false
 
 -- a service that was handed over whole
 abbrev pub is_handed : Answer → Bool
@@ -98,12 +99,27 @@ is_handed (Replied reply frame) = is_handed_kind reply.kind
 is_handed InDoubt = false
 is_handed NotSent = false
 
+-- what came into hand as a packet of the switch
+abbrev pub is_forward : Origin → Bool
+is_forward (Script number) = false
+is_forward (Forward number) = true
+is_forward (Gateway number) = false
+
+abbrev pub is_packet_row : Option Begun → Bool
+is_packet_row (Some row) = is_forward row.origin
+is_packet_row None = false
+
+abbrev pub is_packet : List Begun → ℕ → Bool
+is_packet begun at = is_packet_row (slice_get begun at)
+
+-- the packets that were handed over, from place `at` on
+abbrev pub packets_from : List Begun → ℕ → List Answer → ℕ
+packets_from begun at [] = 0
+packets_from begun at (answer ∷ answers) = (if is_packet begun at && is_handed answer then 1 else 0) + packets_from begun (at + 1) answers
+
 -- how many packets were handed over
 abbrev pub packets_handed : List Begun → List Answer → ℕ
-packets_handed [] answers = 0
-packets_handed (row ∷ begun) [] = 0
-packets_handed (row ∷ begun) (answer ∷ answers) =
-    (if is_packet row.origin && is_handed answer then 1 else 0) + packets_handed begun answers
+packets_handed begun answers = packets_from begun 0 answers
 
 -- a word and octets
 abbrev pub octets_line : List ℕ → List ℕ → List ℕ

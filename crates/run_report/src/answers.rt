@@ -1,5 +1,5 @@
 ghost use Rattle.std.specs.Prelude.{◌≡◌, ◌++◌, length, codes, IfOk, OnOk, OnErr};
-ghost use Rattle.run_report.specs.Report.{hex_of, value_text, kind_text, answer_text, answer_line, answer_lines, is_scripted, is_packet, is_handed, packets_handed, Extends};
+ghost use Rattle.run_report.specs.Report.{hex_of, value_text, kind_text, answer_text, answer_line, answer_lines, is_scripted, is_packet, is_handed, is_handed_kind, packets_handed, Extends};
 
 use ec_fields::{NoMemory, Octets, Rows};
 use mailbox_mail::ReplyKind;
@@ -61,7 +61,7 @@ fn text_of_answer(alloc: Global, answer: &Answer) -> Result<Octets, NoMemory>
     }
 }
 
-fn line_of_answer(alloc: Global, number: u32, answer: &Answer) -> Result<Octets, NoMemory>
+fn line_of_answer(alloc: Global, number: usize, answer: &Answer) -> Result<Octets, NoMemory>
     ensures { IfOk result (λ line. line ≡ answer_line number answer.now) }
 {
     let head = format!(in alloc; "answer {number} ")?;
@@ -82,7 +82,7 @@ pub fn push_answers(
     ensures ok { OnOk result (into.new ≡ into.old ++ answer_lines begun.now 0 0 answers.now) }
     ensures err { OnErr result (Extends into.old into.new) }
 {
-    let mut number = 0;
+    let mut number: usize = 0;
     for (at, answer) in answers.iter().enumerate() {
         if is_scripted(begun, at) {
             into.add(line_of_answer(alloc, number, answer)?)?;
@@ -105,26 +105,45 @@ fn is_scripted(begun: &[Begun], at: usize) -> bool
 pub fn packets_handed(begun: &[Begun], answers: &[Answer]) -> usize
     ensures { result ≡ packets_handed begun.now answers.now }
 {
-    let mut many = 0;
-    for (row, answer) in begun.iter().zip(answers.iter()) {
-        if is_packet(row.origin) && is_handed(answer) {
+    let mut many: usize = 0;
+    for (at, answer) in answers.iter().enumerate() {
+        if is_packet(begun, at) && is_handed(answer) {
             many += 1;
         }
     }
     many
 }
 
-fn is_packet(origin: Origin) -> bool
-    ensures { result ≡ is_packet origin }
+fn is_packet(begun: &[Begun], at: usize) -> bool
+    ensures { result ≡ is_packet begun.now at }
 {
-    matches!(origin, Origin::Forward(_))
+    match begun.get(at) {
+        Some(row) => matches!(row.origin, Origin::Forward(_)),
+        None => false,
+    }
 }
 
 fn is_handed(answer: &Answer) -> bool
     ensures { result ≡ is_handed answer.now }
 {
     match answer {
-        Answer::Replied { reply, .. } => reply.kind == ReplyKind::Handed,
+        Answer::Replied { reply, .. } => is_handed_kind(reply.kind),
         Answer::InDoubt | Answer::NotSent => false,
+    }
+}
+
+fn is_handed_kind(kind: ReplyKind) -> bool
+    ensures { result ≡ is_handed_kind kind }
+{
+    match kind {
+        ReplyKind::Handed => true,
+        ReplyKind::Done
+        | ReplyKind::Value
+        | ReplyKind::Abort(_)
+        | ReplyKind::FoeError(_)
+        | ReplyKind::SoeError(_)
+        | ReplyKind::EoeResult(_)
+        | ReplyKind::MailboxError(_)
+        | ReplyKind::StateRefused(_) => false,
     }
 }

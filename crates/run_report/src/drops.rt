@@ -23,7 +23,7 @@ fn drops_at(switch: &mut Switch, event: &SwitchEvent) -> u32
     ensures drops { result ≡ drops_at switch.old event.now }
     ensures switch { switch.new ≡ behind switch.old event.now }
     ensures ports { length switch.new.ports ≡ length switch.old.ports }
-    ensures few { result ≤ 32 }
+    ensures few { result ≤ length switch.old.ports }
 {
     match event {
         SwitchEvent::Arrive { port, packet } => switch.arrive(*port, packet).1.bits.count_ones(),
@@ -39,19 +39,16 @@ fn drops_at(switch: &mut Switch, event: &SwitchEvent) -> u32
 }
 
 /// How many packets were dropped at full queues, of a switch at which all this happened.
-pub fn drops(
-    alloc: Global,
-    slaves: &[SlaveSpec],
-    events: &[SwitchEvent],
-) -> Result<u64, NoMemory>
+pub fn drops(alloc: Global, slaves: &[SlaveSpec], events: &[SwitchEvent]) -> Result<u128, NoMemory>
     requires few { length slaves.now ≤ 16 }
     requires events { All (IsAtPort (ports_of slaves.now)) events.now }
     ensures { IfOk result (λ drops. drops ≡ (switched (ports_of slaves.now) events.now).drops) }
 {
     let mut switch = Switch::new(alloc, ports_of(slaves))?;
-    let mut drops = 0;
+    // A list of events has fewer than 2 ^ 64 of them.
+    let mut drops: u128 = 0;
     for event in events {
-        drops += u64::from(drops_at(&mut switch, event));
+        drops += u128::from(drops_at(&mut switch, event));
     }
     Ok(drops)
 }

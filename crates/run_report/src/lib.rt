@@ -3,9 +3,9 @@
 
 mod answers;
 mod drops;
-mod report;
-mod saved;
+mod reporting;
+mod saving;
 mod slaves;
 
-pub use report::report;
-pub use saved::saved;
+pub use reporting::report;
+pub use saving::saved;

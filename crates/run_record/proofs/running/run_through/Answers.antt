@@ -1,14 +1,37 @@
-use Rattle.run_record.proofs.Underway.{begun, stepped_on, stopped, has_frames, ended}
+use Rattle.std.proofs.Common.{◌≡◌, inl, inr, false, sym, ◌∙◌, subst, rules}
+use Rattle.run_record.specs.Ran.{EndsSo, EndsAs}
+use Rattle.run_record.proofs.Underway.{still_left, stepped_on, stopped, has_frames, ended}
 use Rattle.run_record.proofs.running.run_through.Goals as goal
 
 pub returns-in_err-step-clause-frames : goal.returns-in_err-step-clause-frames
-returns-in_err-step-clause-frames c = ?
+returns-in_err-step-clause-frames c =
+    let s = c.loop-settled.session in
+    let under = c.loop-settled.invariant.underway in
+    let no : c.spent.result ≡ false = search rules in
+    stopped c.args.plan.now s c.loop-settled.book c.step.new.book under (still_left s.ring.number s.budget c.spent.result c.spent.ensures no under.few) c.in_err-step.ensures.err
 
 pub loop-settled-preserved : goal.loop-settled-preserved
-loop-settled-preserved c = ?
+loop-settled-preserved c =
+    let s = c.loop-settled.session in
+    let under = c.loop-settled.invariant.underway in
+    let no : c.spent.result ≡ false = search rules in
+    let step = c.in_ok-step.ensures.ok in
+    record {
+      underway = stepped_on c.args.plan.now s c.loop-settled.book c.step.new.self c.step.new.book step.0 under (still_left s.ring.number s.budget c.spent.result c.spent.ensures no under.few) step.1;
+      settled = c.settled-settled-in-loop-settled.ensures;
+    }
 
 pub returns-clause-frames : goal.returns-clause-frames
-returns-clause-frames c = ?
+returns-clause-frames c =
+    has_frames c.args.plan.now c.loop-settled.session c.loop-settled.book c.finish.new.book c.loop-settled.invariant.underway c.finish.ensures.frames c.finish.ensures.switch
 
 pub returns-clause-ends : goal.returns-clause-ends
-returns-clause-ends c = ?
+returns-clause-ends c =
+    let s = c.loop-settled.session in
+    let so = c.ending_of-ending.ensures in
+    elim c.finish.ensures.answers [
+      | inl same ↦ subst (EndsAs c.args.plan.now c.finish.new.book) (sym same)
+          (ended c.args.plan.now s c.loop-settled.book c.finish.new.book c.loop-settled.invariant.underway c.finish.ensures.frames
+          (c.finish.ensures.rows (λ none. subst (EndsSo s) (sym same ∙ none) so)) c.finish.ensures.many c.ending_of-ending.result so)
+      | inr none ↦ subst (EndsAs c.args.plan.now c.finish.new.book) (sym none) tt
+    ]

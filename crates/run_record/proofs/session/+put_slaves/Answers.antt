@@ -1,6 +1,6 @@
 use Rattle.std.proofs.Common.{◌≡◌, ◌++◌, ◌∷◌, [], length, length-append, ap, ap₂, sym, ◌∙◌, append_assoc, arith}
 use Rattle.std.proofs.lemmas.Result.{on_ok_weaker}
-use Rattle.run_record.specs.Session.{slave_row, slave_rows}
+use Rattle.run_record.specs.Session.{slave_rows}
 use Rattle.run_record.proofs.Rows.{rows_more}
 use Rattle.run_record.proofs.session.+put_slaves.Goals as goal
 
@@ -15,7 +15,7 @@ returns t c =
     let all = ap₂ (slave_rows c.args.recover) nodes notes ∙ rows_more c.args.recover c.pop.new.self c.pop-2.new.self c.in-Some.node c.in-Some-pop.last same in
     on_ok_weaker c.add.result
     (λ put. put ∙ ap (λ rows. rows ++ c.in_ok-slave_book.field-0 ∷ []) c.in_ok-put_slaves.ensures
-        ∙ append_assoc c.args.into.now (slave_rows c.args.recover c.pop.new.self c.pop-2.new.self) (c.in_ok-slave_book.field-0 ∷ [])
-        ∙ ap (λ row. c.args.into.now ++ (slave_rows c.args.recover c.pop.new.self c.pop-2.new.self ++ row ∷ [])) c.in_ok-slave_book.ensures
-        ∙ ap (λ rows. c.args.into.now ++ rows) (sym all))
+    ∙ append_assoc c.args.into.now (slave_rows c.args.recover c.pop.new.self c.pop-2.new.self) (c.in_ok-slave_book.field-0 ∷ [])
+    ∙ ap (λ row. c.args.into.now ++ (slave_rows c.args.recover c.pop.new.self c.pop-2.new.self ++ row ∷ [])) c.in_ok-slave_book.ensures
+    ∙ ap (λ rows. c.args.into.now ++ rows) (sym all))
     c.add.ensures.ok

@@ -1,4 +1,4 @@
-use Rattle.std.proofs.Common.{◌≡◌, sym, ap, ◌∙◌, subst, length, map}
+use Rattle.std.proofs.Common.{sym, ap, ◌∙◌, subst, length, map}
 use Rattle.segment_ring.specs.Ring.{ArePaces, AllFew}
 use Rattle.segment_ring.specs.Schedule.{Rises}
 use Rattle.slave_steps.specs.Node.{Node}

@@ -1,4 +1,4 @@
-use Rattle.std.proofs.Common.{◌≡◌, ◌∙◌, ap, length}
+use Rattle.std.proofs.Common.{◌∙◌, ap}
 use Rattle.std.specs.List.{list_any}
 use Rattle.run_record.specs.Notes.{has_given_up}
 use Rattle.run_record.specs.Session.{SessionState, session_rows, some_given_up}

@@ -1,13 +1,11 @@
-use Rattle.std.proofs.Common.{◌≡◌, ℕ, List, ◌+◌, ◌<◌, ◌++◌, ◌∷◌, [], length, ap, sym, ◌∙◌, subst, arith}
+use Rattle.std.proofs.Common.{◌≡◌, ℕ, List, ◌+◌, ◌++◌, ◌∷◌, [], length, ap, ◌∙◌, subst, arith}
 use Rattle.segment_ring.specs.Ring.{RingState}
 use Rattle.slave_steps.specs.Node.{Node}
 use Rattle.slave_server.specs.declared.server.SlaveServer.{SlaveServer}
-use Rattle.run_book.specs.Book.{IsShort}
 use Rattle.run_book.specs.declared.book.SentFrame.{SentFrame}
-use Rattle.run_record.specs.declared.log.Log.{Log}
 use Rattle.run_record.specs.Replay.{behind, IsRecorded}
-use Rattle.run_record.specs.Session.{SessionState, SameFrames, KeepsRest, Steps}
-use Rattle.run_record.proofs.Kept.{rest_more, at_log}
+use Rattle.run_record.specs.Session.{SessionState, SameFrames, KeepsRest}
+use Rattle.run_record.proofs.Kept.{rest_more}
 use Rattle.run_record.proofs.Steps.{any_ok, any_err, holds_on, no_frame, one_frame}
 use Rattle.run_record.proofs.session.Session.step.Goals as goal
 
@@ -24,7 +22,7 @@ returns-in_err-put_frame-clause-err c =
     let ports : 1 + length c.self.inside.log.ports ≡ c.args.self.now.ports = ap (λ (s : SessionState). s.ports) c.self.view_is in
     any_err c.from_residual-in_err-put_frame.result
     (no_frame c.args.self.now (1 + length c.self.inside.log.ports) c.args.book.now c.note.new.book c.put_frame.new.book ports c.note.ensures.frames
-        c.in_err-put_frame.ensures.err (c.put_frame.ensures.rest (1 + length c.self.inside.log.ports)))
+    c.in_err-put_frame.ensures.err (c.put_frame.ensures.rest (1 + length c.self.inside.log.ports)))
 
 pub invariant_of-self-2 : goal.invariant_of-self-2
 invariant_of-self-2 c =
@@ -44,18 +42,21 @@ returns-clause-ok c =
     let many : 1 + length c.self-2.inside.log.ports ≡ 1 + length c.note.new.self.ports = ap (λ (s : SessionState). s.ports) told in
     let kept : length c.note.new.self.ports ≡ length c.self.inside.log.ports = ap length c.note.ensures.slaves.ports in
     let same : 1 + length c.self-2.inside.log.ports ≡ ports = many ∙ ap (λ n. 1 + n) kept in
-    any_ok c.note-2.result (f, record {
-      put = c.note-2.ensures.frames.frames ∙ c.in_ok-put_frame.ensures.ok ∙ ap (λ fs. fs ++ f ∷ []) c.note.ensures.frames.frames;
-      recorded = subst (λ r. IsRecorded r f) ring (record { fate = c.exchange-fate.ensures.fate; back = c.exchange-fate.ensures.back });
-      short = record { sent = c.put_frame.ensures.sent_fits; back = c.put_frame.ensures.back_fits };
-      ring = ap (λ (s : SessionState). s.ring) told ∙ c.exchange-fate.ensures.wire ∙ ap (λ (r : RingState (Node SlaveServer)). behind r c.next.new.into.items) ring;
-      ports = ap (λ (l : List ℕ). 1 + length l) c.note-2.ensures.slaves.ports ∙ same ∙ before;
-      recover = c.note-2.ensures.slaves.recover ∙ ap (λ (s : SessionState). s.recover) told ∙ c.note.ensures.slaves.recover ∙ ap (λ (s : SessionState). s.recover) c.self.view_is;
-      budget = ap (λ (s : SessionState). s.budget) told ∙ ap (λ (s : SessionState). s.budget) c.self.view_is;
-      serving = ap (λ (s : SessionState). s.serving) told ∙ ap (λ (s : SessionState). s.serving) c.self.view_is;
-      rest = subst (λ (n : ℕ). KeepsRest n c.args.book.now c.note-2.new.book) before
-          (rest_more ports c.note.ensures.frames.rest (rest_more ports (c.put_frame.ensures.rest ports) (subst (λ (n : ℕ). KeepsRest n c.put_frame.new.book c.note-2.new.book) same c.note-2.ensures.frames.rest)));
-    })
+    any_ok c.note-2.result (
+      f,
+      record {
+        put = c.note-2.ensures.frames.frames ∙ c.in_ok-put_frame.ensures.ok ∙ ap (λ fs. fs ++ f ∷ []) c.note.ensures.frames.frames;
+        recorded = subst (λ r. IsRecorded r f) ring (record { fate = c.exchange-fate.ensures.fate; back = c.exchange-fate.ensures.back });
+        short = record { sent = c.put_frame.ensures.sent_fits; back = c.put_frame.ensures.back_fits };
+        ring = ap (λ (s : SessionState). s.ring) told ∙ c.exchange-fate.ensures.wire ∙ ap (λ (r : RingState (Node SlaveServer)). behind r c.next.new.into.items) ring;
+        ports = ap (λ (l : List ℕ). 1 + length l) c.note-2.ensures.slaves.ports ∙ same ∙ before;
+        recover = c.note-2.ensures.slaves.recover ∙ ap (λ (s : SessionState). s.recover) told ∙ c.note.ensures.slaves.recover ∙ ap (λ (s : SessionState). s.recover) c.self.view_is;
+        budget = ap (λ (s : SessionState). s.budget) told ∙ ap (λ (s : SessionState). s.budget) c.self.view_is;
+        serving = ap (λ (s : SessionState). s.serving) told ∙ ap (λ (s : SessionState). s.serving) c.self.view_is;
+        rest = subst (λ (n : ℕ). KeepsRest n c.args.book.now c.note-2.new.book) before
+            (rest_more ports c.note.ensures.frames.rest (rest_more ports (c.put_frame.ensures.rest ports) (subst (λ (n : ℕ). KeepsRest n c.put_frame.new.book c.note-2.new.book) same c.note-2.ensures.frames.rest)));
+      },
+    )
 
 pub returns-clause-err : goal.returns-clause-err
 returns-clause-err c =
@@ -69,6 +70,6 @@ returns-clause-err c =
     let same : 1 + length c.self-2.inside.log.ports ≡ ports = many ∙ ap (λ n. 1 + n) kept in
     any_err c.note-2.result
     (one_frame c.args.self.now ports c.args.book.now c.note.new.book c.put_frame.new.book c.note-2.new.book f before c.note.ensures.frames c.in_ok-put_frame.ensures.ok
-        (c.put_frame.ensures.rest ports) (subst (λ (n : ℕ). SameFrames n c.put_frame.new.book c.note-2.new.book) same c.note-2.ensures.frames)
-        (subst (λ r. IsRecorded r f) ring (record { fate = c.exchange-fate.ensures.fate; back = c.exchange-fate.ensures.back }))
-        (record { sent = c.put_frame.ensures.sent_fits; back = c.put_frame.ensures.back_fits }))
+    (c.put_frame.ensures.rest ports) (subst (λ (n : ℕ). SameFrames n c.put_frame.new.book c.note-2.new.book) same c.note-2.ensures.frames)
+    (subst (λ r. IsRecorded r f) ring (record { fate = c.exchange-fate.ensures.fate; back = c.exchange-fate.ensures.back }))
+    (record { sent = c.put_frame.ensures.sent_fits; back = c.put_frame.ensures.back_fits }))

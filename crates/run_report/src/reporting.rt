@@ -1,4 +1,4 @@
-ghost use Rattle.std.specs.Prelude.{◌≡◌, ◌≤◌, ◌++◌, length, All, false, IfOk, OnOk, OnErr};
+ghost use Rattle.std.specs.Prelude.{◌≡◌, ◌≤◌, ◌++◌, ◌∷◌, [], length, All, false, IfOk, OnOk, OnErr};
 ghost use Rattle.run_book.specs.Ports.{ports_of, IsAtPort};
 ghost use Rattle.run_report.specs.Report.{is_lost, frames_line, dropped_line, ending_line, report_lines, Extends};
 
@@ -28,7 +28,7 @@ fn line_of_frames(alloc: Global, frames: &[SentFrame]) -> Result<Octets, NoMemor
     Octets::copy_of(alloc, text.as_bytes())
 }
 
-fn line_of_drops(alloc: Global, drops: u64) -> Result<Octets, NoMemory>
+fn line_of_drops(alloc: Global, drops: u128) -> Result<Octets, NoMemory>
     ensures { IfOk result (λ line. line ≡ dropped_line drops) }
 {
     let text = format!(in alloc; "dropped {drops}\n")?;
@@ -47,17 +47,38 @@ fn line_of_ending(alloc: Global, ending: Ending) -> Result<Octets, NoMemory>
     }
 }
 
+// The last lines: the packets that were dropped, and how the run ended.
+fn push_end(
+    alloc: Global,
+    drops: u128,
+    ending: Ending,
+    into: &mut Rows<Octets>,
+) -> Result<(), NoMemory>
+    ensures ok { OnOk result (into.new ≡ into.old ++ dropped_line drops ∷ ending_line ending ∷ []) }
+    ensures err { OnErr result (Extends into.old into.new) }
+{
+    into.add(line_of_drops(alloc, drops)?)?;
+    into.add(line_of_ending(alloc, ending)?)?;
+    Ok(())
+}
+
 /// Appends the report of a run that ended, a row a line. After `NoMemory` the rows before the call stand, and some lines behind them.
 pub fn report(
     alloc: Global,
     plan: &Scenario,
     book: &Book,
     into: &mut Rows<Octets>,
-) -> Result<(), NoMemory> {
+) -> Result<(), NoMemory>
+    requires few { length plan.now.slaves ≤ 16 }
+    requires rows { length book.now.slaves ≡ length plan.now.slaves }
+    requires events { All (IsAtPort (ports_of plan.now.slaves)) book.now.switch }
+    requires run { book.now.serving ≡ false }
+    ensures ok { OnOk result (into.new ≡ into.old ++ report_lines plan.now book.now) }
+    ensures err { OnErr result (Extends into.old into.new) }
+{
+    let drops = drops(alloc, plan.slaves.as_slice(), book.switch.as_slice())?;
     into.add(line_of_frames(alloc, book.frames.as_slice())?)?;
     push_slaves(alloc, plan.slaves.as_slice(), book.slaves.as_slice(), into)?;
     push_octets(alloc, "host ", book.host.as_slice(), into)?;
-    let drops = drops(alloc, plan.slaves.as_slice(), book.switch.as_slice())?;
-    into.add(line_of_drops(alloc, drops)?)?;
-    into.add(line_of_ending(alloc, book.ending)?)
+    push_end(alloc, drops, book.ending, into)
 }
