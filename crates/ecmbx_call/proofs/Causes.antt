@@ -25,7 +25,6 @@ use Rattle.ecmbx_words.specs.Form.{form_in, name_in, saved_in}
 use Rattle.ecmbx_words.specs.Ends.{text_of, Ended}
 use Rattle.ecmbx_words.specs.Texts.{usage_line, refused_line}
 use Rattle.ecmbx_call.specs.Files.{limit, Holds, IsLong, IsSaved, FileCourse, Followed}
-use Rattle.ecmbx_call.specs.Files.FileCourse.{fault, absent, long, found}
 use Rattle.ecmbx_call.specs.Course.{HasRun, status_of, RunCourse, SavedCourse, ViewCourse, Course, Began}
 use Rattle.ecmbx_call.specs.Causes.{loaded_by, loaded_in, IsRefused, IsAmong, IsFound, UsageCause, AbsentCause, LongCause, RefusedCause, GivenUpCause, SpentCause, EndingAt, IsAnswer, RunsTo, SavesTo, ShowsTo, MakesTo}
 
@@ -46,27 +45,30 @@ data Told (words : List (List ℕ)) (table saved : Option Table) (faulted : Type
       → planned ≡ status_of book.ending → text ≡ text_of (report_lines plan book) → Told words table saved faulted book planned text
 
 module _ (words : List (List ℕ)) (table saved : Option Table) (faulted : Type 0) (book : Book) where
+  told_octets : (octets : List ℕ) (planned : Status) (text : List ℕ) → form_in words ≡ forms.Decode → IsNew book → Holds table (name_in words) (Some octets) → length octets ≤ limit → ViewCourse octets planned text → Told words table saved faulted book planned text
+  told_octets octets _ _ f fresh holds fits (ViewCourse.refused flaw is) = Told.refused (name_in words) octets (rw f refl) holds fits (rw f (flaw, is)) fresh refl
+  told_octets octets _ _ f fresh holds fits (ViewCourse.shown capture is) = Told.shown (name_in words) octets capture f (rw f refl) holds fits is fresh refl refl
+
   told_view : (planned : Status) (text : List ℕ) → form_in words ≡ forms.Decode → IsNew book → FileCourse (name_in words) table faulted (Unit {0}) ViewCourse planned text → Told words table saved faulted book planned text
-  told_view _ _ f fresh (fault rose u) = Told.fault (name_in words) (rw f refl) rose refl
-  told_view _ _ f fresh (absent holds u) = Told.absent (name_in words) (rw f refl) holds fresh refl
-  told_view _ _ f fresh (long is u) = Told.long (name_in words) (rw f refl) is fresh refl
-  told_view _ _ f fresh (found octets _ _ holds fits (ViewCourse.refused fault is)) = Told.refused (name_in words) octets (rw f refl) holds fits (rw f (fault, is)) fresh refl
-  told_view _ _ f fresh (found octets _ _ holds fits (ViewCourse.shown capture is)) = Told.shown (name_in words) octets capture f (rw f refl) holds fits is fresh refl refl
+  told_view _ _ f fresh (FileCourse.fault rose u) = Told.fault (name_in words) (rw f refl) rose refl
+  told_view _ _ f fresh (FileCourse.absent holds u) = Told.absent (name_in words) (rw f refl) holds fresh refl
+  told_view _ _ f fresh (FileCourse.long is u) = Told.long (name_in words) (rw f refl) is fresh refl
+  told_view _ _ f fresh (FileCourse.found octets planned text holds fits course) = told_octets octets planned text f fresh holds fits course
 
   told_run : (planned : Status) (text : List ℕ) → form_in words ≡ forms.Run → FileCourse (name_in words) table faulted (IsNew book) (RunCourse book) planned text → Told words table saved faulted book planned text
-  told_run _ _ f (fault rose fresh) = Told.fault (name_in words) (rw f refl) rose refl
-  told_run _ _ f (absent holds fresh) = Told.absent (name_in words) (rw f refl) holds fresh refl
-  told_run _ _ f (long is fresh) = Told.long (name_in words) (rw f refl) is fresh refl
-  told_run _ _ f (found octets _ _ holds fits (RunCourse.refused e is fresh)) = Told.refused (name_in words) octets (rw f refl) holds fits (rw f (e, is)) fresh refl
-  told_run _ _ f (found octets _ _ holds fits (RunCourse.ran plan is run)) = Told.ran (name_in words) octets plan f (rw f refl) holds fits is run refl refl
+  told_run _ _ f (FileCourse.fault rose fresh) = Told.fault (name_in words) (rw f refl) rose refl
+  told_run _ _ f (FileCourse.absent holds fresh) = Told.absent (name_in words) (rw f refl) holds fresh refl
+  told_run _ _ f (FileCourse.long is fresh) = Told.long (name_in words) (rw f refl) is fresh refl
+  told_run _ _ f (FileCourse.found octets _ _ holds fits (RunCourse.refused e is fresh)) = Told.refused (name_in words) octets (rw f refl) holds fits (rw f (e, is)) fresh refl
+  told_run _ _ f (FileCourse.found octets _ _ holds fits (RunCourse.ran plan is run)) = Told.ran (name_in words) octets plan f (rw f refl) holds fits is run refl refl
 
   told_saved : (planned : Status) (text : List ℕ) → form_in words ≡ forms.RunSaved → FileCourse (name_in words) table faulted (IsNew book) (SavedCourse (saved_in words) table saved faulted book) planned text → Told words table saved faulted book planned text
-  told_saved _ _ f (fault rose fresh) = Told.fault (name_in words) (rw f refl) rose refl
-  told_saved _ _ f (absent holds fresh) = Told.absent (name_in words) (rw f refl) holds fresh refl
-  told_saved _ _ f (long is fresh) = Told.long (name_in words) (rw f refl) is fresh refl
-  told_saved _ _ f (found octets _ _ holds fits (SavedCourse.refused e is fresh)) = Told.refused (name_in words) octets (rw f refl) holds fits (rw f (e, is)) fresh refl
-  told_saved _ _ f (found octets _ _ holds fits (SavedCourse.unsaved plan is run rose)) = Told.fault (name_in words) (rw f refl) rose refl
-  told_saved _ _ f (found octets _ _ holds fits (SavedCourse.ran plan is run kept)) = Told.kept (name_in words) octets plan f (rw f refl) holds fits is run kept refl refl
+  told_saved _ _ f (FileCourse.fault rose fresh) = Told.fault (name_in words) (rw f refl) rose refl
+  told_saved _ _ f (FileCourse.absent holds fresh) = Told.absent (name_in words) (rw f refl) holds fresh refl
+  told_saved _ _ f (FileCourse.long is fresh) = Told.long (name_in words) (rw f refl) is fresh refl
+  told_saved _ _ f (FileCourse.found octets _ _ holds fits (SavedCourse.refused e is fresh)) = Told.refused (name_in words) octets (rw f refl) holds fits (rw f (e, is)) fresh refl
+  told_saved _ _ f (FileCourse.found octets _ _ holds fits (SavedCourse.unsaved plan is run rose)) = Told.fault (name_in words) (rw f refl) rose refl
+  told_saved _ _ f (FileCourse.found octets _ _ holds fits (SavedCourse.ran plan is run stored)) = Told.kept (name_in words) octets plan f (rw f refl) holds fits is run stored refl refl
 
   told : (planned : Status) (text : List ℕ) → Course words table saved faulted book planned text → Told words table saved faulted book planned text
   told _ _ (Course.usage f fresh) = Told.usage f fresh refl
@@ -76,7 +78,7 @@ module _ (words : List (List ℕ)) (table saved : Option Table) (faulted : Type 
   told planned text (Course.run_saved _ _ f c) = told_saved planned text f c
 
 -- a run's status is none of those of words and files
-is_own : Status → Bool
+abbrev is_own : Status → Bool
 is_own statuses.Usage = true
 is_own statuses.Absent = true
 is_own statuses.TooLong = true
@@ -98,7 +100,7 @@ ends_not answer planned ending own is e =
     absurd cc
 
 -- a run that ended with a slave given up or its budget spent
-is_run : Status → Bool
+abbrev is_run : Status → Bool
 is_run statuses.GivenUp = true
 is_run statuses.BudgetSpent = true
 is_run _ = false
@@ -143,7 +145,7 @@ module _ (words : List (List ℕ)) (table saved : Option Table) (faulted : Type 
   told_usage (Told.usage f fresh is) e = f
   told_usage (Told.fault name said rose is) e = absurd cc
   told_usage (Told.absent name said holds fresh is) e = absurd cc
-  told_usage (Told.long name said long fresh is) e = absurd cc
+  told_usage (Told.long name said big fresh is) e = absurd cc
   told_usage (Told.refused name octets said holds fits refusal fresh is) e = absurd cc
   told_usage (Told.made seed size f fresh is text) e = absurd cc
   told_usage (Told.shown name octets capture f said holds fits read fresh is text) e = absurd cc
@@ -154,7 +156,7 @@ module _ (words : List (List ℕ)) (table saved : Option Table) (faulted : Type 
   told_other (Told.usage f fresh is) o = is
   told_other (Told.fault name said rose is) o = absurd (no_file (form_in words) (name_in words) name o said)
   told_other (Told.absent name said holds fresh is) o = absurd (no_file (form_in words) (name_in words) name o said)
-  told_other (Told.long name said long fresh is) o = absurd (no_file (form_in words) (name_in words) name o said)
+  told_other (Told.long name said big fresh is) o = absurd (no_file (form_in words) (name_in words) name o said)
   told_other (Told.refused name octets said holds fits refusal fresh is) o = absurd (no_file (form_in words) (name_in words) name o said)
   told_other (Told.made seed size f fresh is text) o = absurd cc
   told_other (Told.shown name octets capture f said holds fits read fresh is text) o = absurd cc
@@ -165,7 +167,7 @@ module _ (words : List (List ℕ)) (table saved : Option Table) (faulted : Type 
   told_absent (Told.usage f fresh is) e = absurd cc
   told_absent (Told.fault name said rose is) e = absurd cc
   told_absent (Told.absent name said holds fresh is) e = (name, said, holds)
-  told_absent (Told.long name said long fresh is) e = absurd cc
+  told_absent (Told.long name said big fresh is) e = absurd cc
   told_absent (Told.refused name octets said holds fits refusal fresh is) e = absurd cc
   told_absent (Told.made seed size f fresh is text) e = absurd cc
   told_absent (Told.shown name octets capture f said holds fits read fresh is text) e = absurd cc
@@ -176,7 +178,7 @@ module _ (words : List (List ℕ)) (table saved : Option Table) (faulted : Type 
   told_long (Told.usage f fresh is) e = absurd cc
   told_long (Told.fault name said rose is) e = absurd cc
   told_long (Told.absent name said holds fresh is) e = absurd cc
-  told_long (Told.long name said long fresh is) e = (name, said, long)
+  told_long (Told.long name said big fresh is) e = (name, said, big)
   told_long (Told.refused name octets said holds fits refusal fresh is) e = absurd cc
   told_long (Told.made seed size f fresh is text) e = absurd cc
   told_long (Told.shown name octets capture f said holds fits read fresh is text) e = absurd cc
@@ -187,7 +189,7 @@ module _ (words : List (List ℕ)) (table saved : Option Table) (faulted : Type 
   told_refused (Told.usage f fresh is) e = absurd cc
   told_refused (Told.fault name said rose is) e = absurd cc
   told_refused (Told.absent name said holds fresh is) e = absurd cc
-  told_refused (Told.long name said long fresh is) e = absurd cc
+  told_refused (Told.long name said big fresh is) e = absurd cc
   told_refused (Told.refused name octets said holds fits refusal fresh is) e = (name, octets, said, holds, refusal)
   told_refused (Told.made seed size f fresh is text) e = absurd cc
   told_refused (Told.shown name octets capture f said holds fits read fresh is text) e = absurd cc
@@ -198,7 +200,7 @@ module _ (words : List (List ℕ)) (table saved : Option Table) (faulted : Type 
   told_fault (Told.usage f fresh is) e = absurd cc
   told_fault (Told.fault name said rose is) e = rose
   told_fault (Told.absent name said holds fresh is) e = absurd cc
-  told_fault (Told.long name said long fresh is) e = absurd cc
+  told_fault (Told.long name said big fresh is) e = absurd cc
   told_fault (Told.refused name octets said holds fits refusal fresh is) e = absurd cc
   told_fault (Told.made seed size f fresh is text) e = absurd cc
   told_fault (Told.shown name octets capture f said holds fits read fresh is text) e = absurd cc
@@ -210,12 +212,12 @@ module _ (words : List (List ℕ)) (table saved : Option Table) (faulted : Type 
   told_ran (Told.usage f fresh is) e end own = absurd (run_not statuses.Usage planned e refl is end own)
   told_ran (Told.fault name said rose is) e end own = absurd (run_not statuses.FileFault planned e refl is end own)
   told_ran (Told.absent name said holds fresh is) e end own = absurd (run_not statuses.Absent planned e refl is end own)
-  told_ran (Told.long name said long fresh is) e end own = absurd (run_not statuses.TooLong planned e refl is end own)
+  told_ran (Told.long name said big fresh is) e end own = absurd (run_not statuses.TooLong planned e refl is end own)
   told_ran (Told.refused name octets said holds fits refusal fresh is) e end own = absurd (run_not statuses.Refused planned e refl is end own)
   told_ran (Told.made seed size f fresh is text) e end own = absurd (run_not statuses.Done planned e refl is end own)
   told_ran (Told.shown name octets capture f said holds fits read fresh is text) e end own = absurd (run_not statuses.Done planned e refl is end own)
-  told_ran (Told.ran name octets run f said holds fits read ran is text) e end own = (run, ran, is)
-  told_ran (Told.kept name octets run f said holds fits read ran file is text) e end own = (run, ran, is)
+  told_ran (Told.ran name octets run f said holds fits read did is text) e end own = (run, did, is)
+  told_ran (Told.kept name octets run f said holds fits read did file is text) e end own = (run, did, is)
 
 -- what a file that is found comes to
 data Found (words : List (List ℕ)) (table saved : Option Table) (book : Book) (octets : List ℕ) (planned : Status) (text : List ℕ) : Type 0 where
@@ -242,16 +244,16 @@ module _ (words : List (List ℕ)) (table saved : Option Table) (faulted : Type 
   not_long : IsFound words table octets → (name : List ℕ) → loaded_in words ≡ Some name → IsLong table name → ⊥
   not_long found name said is =
       let same : name ≡ found.name = cc in
-      let long = held_long name found.files table found.told is in
-      let there : file_of found.name found.files ≡ Some long.0 = rw (← same) long.1 in
-      let equal : long.0 ≡ octets = cc in
-      absurd (omega (arith, ap length equal, long.2, found.fits))
+      let big = held_long name found.files table found.told is in
+      let there : file_of found.name found.files ≡ Some big.0 = rw (← same) big.1 in
+      let equal : big.0 ≡ octets = cc in
+      absurd (omega (arith, ap length equal, big.2, found.fits))
 
   found_told : IsFound words table octets → Told words table saved faulted book planned text → Found words table saved book octets planned text
   found_told found (Told.usage f fresh is) = absurd (no_file (form_in words) (name_in words) found.name f found.said)
   found_told found (Told.fault name said rose is) = Found.fault is
   found_told found (Told.absent name said holds fresh is) = absurd (not_absent found name said holds)
-  found_told found (Told.long name said long fresh is) = absurd (not_long found name said long)
+  found_told found (Told.long name said big fresh is) = absurd (not_long found name said big)
   found_told found (Told.refused name others said holds fits refusal fresh is) = Found.refused (subst (λ o. IsRefused (form_in words) o) (same_octets found name others said holds) refusal) is
   found_told found (Told.made seed size f fresh is text) = absurd (no_made (form_in words) (name_in words) found.name seed size f found.said)
   found_told found (Told.shown name others capture f said holds fits read fresh is text) =
@@ -335,37 +337,37 @@ module _ (words : List (List ℕ)) (table saved : Option Table) (faulted : Type 
   told_ending (Told.usage f fresh is) = at statuses.Usage is fresh.ending
   told_ending (Told.fault name said rose is) = at statuses.FileFault is tt
   told_ending (Told.absent name said holds fresh is) = at statuses.Absent is fresh.ending
-  told_ending (Told.long name said long fresh is) = at statuses.TooLong is fresh.ending
+  told_ending (Told.long name said big fresh is) = at statuses.TooLong is fresh.ending
   told_ending (Told.refused name octets said holds fits refusal fresh is) = at statuses.Refused is fresh.ending
   told_ending (Told.made seed size f fresh is text) = at statuses.Done is (inr fresh.ending)
   told_ending (Told.shown name octets capture f said holds fits read fresh is text) = at statuses.Done is (inr fresh.ending)
-  told_ending (Told.ran name octets run f said holds fits read ran is text) = at (status_of book.ending) is (ending_of book.ending)
-  told_ending (Told.kept name octets run f said holds fits read ran file is text) = at (status_of book.ending) is (ending_of book.ending)
+  told_ending (Told.ran name octets run f said holds fits read did is text) = at (status_of book.ending) is (ending_of book.ending)
+  told_ending (Told.kept name octets run f said holds fits read did file is text) = at (status_of book.ending) is (ending_of book.ending)
 
   told_answer : Told words table saved faulted book planned text → planned ≡ statuses.PortFault → ⊥
   told_answer (Told.usage f fresh is) e = absurd cc
   told_answer (Told.fault name said rose is) e = absurd cc
   told_answer (Told.absent name said holds fresh is) e = absurd cc
-  told_answer (Told.long name said long fresh is) e = absurd cc
+  told_answer (Told.long name said big fresh is) e = absurd cc
   told_answer (Told.refused name octets said holds fits refusal fresh is) e = absurd cc
   told_answer (Told.made seed size f fresh is text) e = absurd cc
   told_answer (Told.shown name octets capture f said holds fits read fresh is text) e = absurd cc
-  told_answer (Told.ran name octets run f said holds fits read ran is text) e = port_never run book book.ending ran.ending (sym is ∙ e)
-  told_answer (Told.kept name octets run f said holds fits read ran file is text) e = port_never run book book.ending ran.ending (sym is ∙ e)
+  told_answer (Told.ran name octets run f said holds fits read did is text) e = port_never run book book.ending did.ending (sym is ∙ e)
+  told_answer (Told.kept name octets run f said holds fits read did file is text) e = port_never run book book.ending did.ending (sym is ∙ e)
 
   told_made : (seed size : ℕ) → form_in words ≡ forms.Make seed size → Told words table saved faulted book planned text → (planned ≡ statuses.Done) × (text ≡ made_text [] seed size)
   told_made seed size m (Told.usage f fresh is) = absurd cc
   told_made seed size m (Told.fault name said rose is) = absurd (no_made (form_in words) (name_in words) name seed size m said)
   told_made seed size m (Told.absent name said holds fresh is) = absurd (no_made (form_in words) (name_in words) name seed size m said)
-  told_made seed size m (Told.long name said long fresh is) = absurd (no_made (form_in words) (name_in words) name seed size m said)
+  told_made seed size m (Told.long name said big fresh is) = absurd (no_made (form_in words) (name_in words) name seed size m said)
   told_made seed size m (Told.refused name octets said holds fits refusal fresh is) = absurd (no_made (form_in words) (name_in words) name seed size m said)
   told_made seed size m (Told.made s z f fresh is t) =
       let one : s ≡ seed = cc in
       let two : z ≡ size = cc in
       (is, t ∙ ap (λ n. made_text [] n z) one ∙ ap (λ n. made_text [] seed n) two)
   told_made seed size m (Told.shown name octets capture f said holds fits read fresh is text) = absurd cc
-  told_made seed size m (Told.ran name octets run f said holds fits read ran is text) = absurd cc
-  told_made seed size m (Told.kept name octets run f said holds fits read ran file is text) = absurd cc
+  told_made seed size m (Told.ran name octets run f said holds fits read did is text) = absurd cc
+  told_made seed size m (Told.kept name octets run f said holds fits read did file is text) = absurd cc
 
 -- ---- the clauses
 
@@ -400,12 +402,12 @@ module _ (words : List (List ℕ)) (table saved : Option Table) (faulted : Type 
   absent_told name files said there none planned text (Told.usage f fresh is) = absurd (no_file (form_in words) (name_in words) name f said)
   absent_told name files said there none planned text (Told.fault other also rose is) = inr is
   absent_told name files said there none planned text (Told.absent other also holds fresh is) = inl is
-  absent_told name files said there none planned text (Told.long other also long fresh is) = let much = (told_much name other files said also there long).1 in absurd cc
+  absent_told name files said there none planned text (Told.long other also big fresh is) = let much = (told_much name other files said also there big).1 in absurd cc
   absent_told name files said there none planned text (Told.refused other octets also holds fits refusal fresh is) = let file = told_file name other octets files said also there holds in absurd cc
   absent_told name files said there none planned text (Told.made seed size m fresh is t) = absurd (no_made (form_in words) (name_in words) name seed size m said)
   absent_told name files said there none planned text (Told.shown other octets capture f also holds fits read fresh is t) = let file = told_file name other octets files said also there holds in absurd cc
-  absent_told name files said there none planned text (Told.ran other octets run f also holds fits read ran is t) = let file = told_file name other octets files said also there holds in absurd cc
-  absent_told name files said there none planned text (Told.kept other octets run f also holds fits read ran kept is t) = let file = told_file name other octets files said also there holds in absurd cc
+  absent_told name files said there none planned text (Told.ran other octets run f also holds fits read did is t) = let file = told_file name other octets files said also there holds in absurd cc
+  absent_told name files said there none planned text (Told.kept other octets run f also holds fits read did stored is t) = let file = told_file name other octets files said also there holds in absurd cc
 
   pub absent_cause : Followed (Course words table saved faulted book) old new status → AbsentCause words table status
   absent_cause (inl memory) = (λ is. absurd cc, λ name files said there none. inr (inr (inr (inl memory))))
@@ -424,12 +426,12 @@ module _ (words : List (List ℕ)) (table saved : Option Table) (faulted : Type 
   long_told name octets files said there is past planned text (Told.usage f fresh e) = absurd (no_file (form_in words) (name_in words) name f said)
   long_told name octets files said there is past planned text (Told.fault other also rose e) = inr e
   long_told name octets files said there is past planned text (Told.absent other also holds fresh e) = let none = told_none name other files said also there holds in absurd cc
-  long_told name octets files said there is past planned text (Told.long other also long fresh e) = inl e
+  long_told name octets files said there is past planned text (Told.long other also big fresh e) = inl e
   long_told name octets files said there is past planned text (Told.refused other short also holds fits refusal fresh e) = absurd (too_long name other octets short files said also there is past holds fits)
   long_told name octets files said there is past planned text (Told.made seed size m fresh e t) = absurd (no_made (form_in words) (name_in words) name seed size m said)
   long_told name octets files said there is past planned text (Told.shown other short capture f also holds fits read fresh e t) = absurd (too_long name other octets short files said also there is past holds fits)
-  long_told name octets files said there is past planned text (Told.ran other short run f also holds fits read ran e t) = absurd (too_long name other octets short files said also there is past holds fits)
-  long_told name octets files said there is past planned text (Told.kept other short run f also holds fits read ran kept e t) = absurd (too_long name other octets short files said also there is past holds fits)
+  long_told name octets files said there is past planned text (Told.ran other short run f also holds fits read did e t) = absurd (too_long name other octets short files said also there is past holds fits)
+  long_told name octets files said there is past planned text (Told.kept other short run f also holds fits read did stored e t) = absurd (too_long name other octets short files said also there is past holds fits)
 
   pub long_cause : Followed (Course words table saved faulted book) old new status → LongCause words table status
   long_cause (inl memory) = (λ is. absurd cc, λ name octets files said there holds past. inr (inr (inr (inl memory))))
@@ -454,15 +456,15 @@ module _ (words : List (List ℕ)) (table saved : Option Table) (faulted : Type 
   given_up_cause (inl memory) is = absurd cc
   given_up_cause (inr (planned, text, c, ended)) is =
       let mine = planned_is statuses.GivenUp planned text old new status (λ sink. cc) ended is in
-      let ran = told_ran words table saved faulted book planned text (seen planned text c) endings.GivenUp mine refl in
-      (ran.0, ran.1, subst (λ e. EndsAs ran.0 book e) (given_ending book.ending (sym ran.2 ∙ mine)) ran.1.ending)
+      let did = told_ran words table saved faulted book planned text (seen planned text c) endings.GivenUp mine refl in
+      (did.0, did.1, subst (λ e. EndsAs did.0 book e) (given_ending book.ending (sym did.2 ∙ mine)) did.1.ending)
 
   pub spent_cause : Followed (Course words table saved faulted book) old new status → SpentCause book status
   spent_cause (inl memory) is = absurd cc
   spent_cause (inr (planned, text, c, ended)) is =
       let mine = planned_is statuses.BudgetSpent planned text old new status (λ sink. cc) ended is in
-      let ran = told_ran words table saved faulted book planned text (seen planned text c) endings.BudgetSpent mine refl in
-      (ran.0, ran.1, subst (λ e. EndsAs ran.0 book e) (spent_ending book.ending (sym ran.2 ∙ mine)) ran.1.ending)
+      let did = told_ran words table saved faulted book planned text (seen planned text c) endings.BudgetSpent mine refl in
+      (did.0, did.1, subst (λ e. EndsAs did.0 book e) (spent_ending book.ending (sym did.2 ∙ mine)) did.1.ending)
 
   pub ending_is : Followed (Course words table saved faulted book) old new status → EndingAt status book.ending
   ending_is (inl memory) = subst (λ s. EndingAt s book.ending) (sym memory) tt
@@ -477,16 +479,16 @@ module _ (words : List (List ℕ)) (table saved : Option Table) (faulted : Type 
   runs_to (inl memory) calm plan octets f found is = inl memory
   runs_to (inr (planned, text, c, ended)) calm plan octets f found is =
       elim (found_ran words table saved faulted book planned text octets plan f is (found_told words table saved faulted book planned text octets found (seen planned text c))) [
-        inl fault ↦ absurd (calm (told_fault words table saved faulted book planned text (seen planned text c) fault)) |
-        inr ran ↦ inr (ran.0, rw (← ran.1, ← ran.2) ended)
+        inl cause ↦ absurd (calm (told_fault words table saved faulted book planned text (seen planned text c) cause)) |
+        inr did ↦ inr (did.0, rw (← did.1, ← did.2) ended)
       ]
 
   pub saves_to : Followed (Course words table saved faulted book) old new status → (faulted → ⊥) → (plan : Scenario) → SavesTo words table saved plan book old new status
   saves_to (inl memory) calm plan octets f found is = inl memory
   saves_to (inr (planned, text, c, ended)) calm plan octets f found is =
       elim (found_kept words table saved faulted book planned text octets plan f is (found_told words table saved faulted book planned text octets found (seen planned text c))) [
-        inl fault ↦ absurd (calm (told_fault words table saved faulted book planned text (seen planned text c) fault)) |
-        inr ran ↦ inr (ran.0, ran.1, rw (← ran.2, ← ran.3) ended)
+        inl cause ↦ absurd (calm (told_fault words table saved faulted book planned text (seen planned text c) cause)) |
+        inr did ↦ inr (did.0, did.1, rw (← did.2, ← did.3) ended)
       ]
 
   whole : (rose : Type 0) → (status ≡ statuses.SinkFault → rose) → (rose → ⊥) → (planned : Status) (text : List ℕ) → Ended planned text old new status → (status ≡ planned) × Wrote old new text
@@ -494,17 +496,17 @@ module _ (words : List (List ℕ)) (table saved : Option Table) (faulted : Type 
   whole rose cause quiet planned text (inr e) = absurd (quiet (cause e.0))
 
   pub shows_to : (rose : Type 0) → (status ≡ statuses.SinkFault → rose) → (rose → ⊥) → (faulted → ⊥) → Followed (Course words table saved faulted book) old new status → ShowsTo words table old new status
-  shows_to rose cause quiet calm (inl memory) octets capture f found is = inl memory
-  shows_to rose cause quiet calm (inr (planned, text, c, ended)) octets capture f found is =
-      let all = whole rose cause quiet planned text ended in
+  shows_to rose rises quiet calm (inl memory) octets capture f found is = inl memory
+  shows_to rose rises quiet calm (inr (planned, text, c, ended)) octets capture f found is =
+      let all = whole rose rises quiet planned text ended in
       elim (found_shown words table saved faulted book planned text octets capture f is (found_told words table saved faulted book planned text octets found (seen planned text c))) [
-        inl fault ↦ absurd (calm (told_fault words table saved faulted book planned text (seen planned text c) fault)) |
-        inr shown ↦ inr (all.0 ∙ shown.0, rw (← shown.1) all.1)
+        inl cause ↦ absurd (calm (told_fault words table saved faulted book planned text (seen planned text c) cause)) |
+        inr view ↦ inr (all.0 ∙ view.0, rw (← view.1) all.1)
       ]
 
   pub makes_to : (rose : Type 0) → (status ≡ statuses.SinkFault → rose) → (rose → ⊥) → Followed (Course words table saved faulted book) old new status → MakesTo words old new status
-  makes_to rose cause quiet (inl memory) seed size m = inl memory
-  makes_to rose cause quiet (inr (planned, text, c, ended)) seed size m =
-      let all = whole rose cause quiet planned text ended in
+  makes_to rose rises quiet (inl memory) seed size m = inl memory
+  makes_to rose rises quiet (inr (planned, text, c, ended)) seed size m =
+      let all = whole rose rises quiet planned text ended in
       let made = told_made words table saved faulted book planned text seed size m (seen planned text c) in
       inr (all.0 ∙ made.0, rw (← made.1) all.1)

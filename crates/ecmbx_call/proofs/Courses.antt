@@ -1,5 +1,7 @@
 -- What each step of a call adds to its course.
-use Rattle.std.proofs.Common.{◌≡◌, ◌≢◌, ℕ, ◌≤◌, List, [], length, false, Option, Some, None, Result, Ok, Err, OnOk, is_err, ◌⊎◌, refl, sym, ap, ◌∙◌, inl, inr, arith}
+use Rattle.std.proofs.Common.{◌≡◌, ◌≢◌, ℕ, ◌≤◌, List, [], ◌∷◌, length, map, get_or, codes, String, string_bytes, Bool, if◌then◌else◌, true, false, Option, Some, None, Result, Ok, Err, OnOk, is_err, ◌⊎◌, refl, sym, subst, ap, ◌∙◌, inl, inr, arith}
+use Rattle.std.specs.declared.alloc.Global.{Global}
+use Rattle.std.specs.Str.{bytes_eq}
 use Rattle.std.proofs.lemmas.List.{append-nil}
 use Rattle.ec_outside.specs.Faults.{Rose}
 use Rattle.ec_outside.specs.Files.{Table, file_of, Loads, LoadsFile}
@@ -21,6 +23,8 @@ use Rattle.run_report.specs.Report.{report_lines}
 use Rattle.run_report.specs.Saved.{capture_of}
 use Rattle.ecmbx_words.specs.declared.status.Status.{Status}
 use Rattle.ecmbx_words.specs.declared.status.Status.TheVariants as statuses
+use Rattle.ecmbx_words.specs.declared.form.Form.TheVariants as forms
+use Rattle.ecmbx_words.specs.Form.{form_in, name_in, saved_in}
 use Rattle.ecmbx_words.specs.Ends.{text_of, Ended, PutAll}
 use Rattle.ecmbx_words.specs.Texts.{refusal_line, refused_line, capture_line}
 use Rattle.pcap_frames.specs.declared.capture.Capture.{Capture}
@@ -29,7 +33,7 @@ use Rattle.pcap_frames.specs.declared.capture.PcapFault.TheVariants as faults
 use Rattle.pcap_frames.specs.Reading.{capture_read, UnlessNoMemory}
 use Rattle.ecmbx_call.specs.Files.{limit, Holds, IsLong, FileCourse, Followed, IsLoaded, IsUnloaded}
 use Rattle.ecmbx_call.specs.Files.FileCourse.{fault, absent, long, found}
-use Rattle.ecmbx_call.specs.Course.{HasRun, IsReportable, status_of, RunCourse, SavedCourse, ViewCourse, IsUnread, IsUnsaved, BeganOn, BeganIn}
+use Rattle.ecmbx_call.specs.Course.{HasRun, IsReportable, status_of, RunCourse, SavedCourse, ViewCourse, Course, IsUnread, IsUnsaved, BeganOn, BeganIn}
 
 -- a text that was put, as the course says
 pub said : (course : Status → List ℕ → Type 0) (planned : Status) (text : List ℕ) (old new : Option (List ℕ)) (status : Status) → course planned text → PutAll planned text old new status → Followed course old new status
@@ -124,7 +128,7 @@ save_unread name before table faulted book octets old new status fresh (inr (e, 
 
 -- what a run left
 pub has_run : (plan : Scenario) (book : Book) (ending : Ending) → HasFrames plan book → EndsAs plan book ending → book.ending ≡ ending → HasRun plan book
-has_run plan book ending frames ends is = record { frames = frames; ending = rw is ends }
+has_run plan book ending frames ends is = record { frames = frames; ending = subst (λ e. EndsAs plan book e) (sym is) ends }
 
 -- a save that failed ends a run without a text
 pub save_failed : (name : List ℕ) (before table : Option Table) (faulted : Type 0) (plan : Scenario) (book : Book) (octets : List ℕ) (old : Option (List ℕ)) (status : Status) → plan_of octets ≡ Ok plan → HasRun plan book → IsUnsaved faulted status → Followed (SavedCourse name before table faulted book octets) old old status
@@ -155,12 +159,61 @@ ok_of (Ok done) P is h = h
 ok_of (Err e) P is h = absurd cc
 
 -- octets that are no capture
-pub view_refused : (octets : List ℕ) (fault : PcapFault) (old new : Option (List ℕ)) (status : Status) → UnlessNoMemory (Err {T = Capture} fault) (Err fault ≡ capture_read octets) → PutAll statuses.Refused (capture_line fault) old new status → (fault ≡ faults.NoMemory → status ≡ statuses.NoMemory)
+pub view_refused : (octets : List ℕ) (read : Result Capture PcapFault) (fault : PcapFault) (old new : Option (List ℕ)) (status : Status) → read ≡ Err fault → UnlessNoMemory read (read ≡ capture_read octets) → PutAll statuses.Refused (capture_line fault) old new status → (fault ≡ faults.NoMemory → status ≡ statuses.NoMemory)
     → Followed (ViewCourse octets) old new status
-view_refused octets (faults.Short at) old new status is put memory = said (ViewCourse octets) statuses.Refused (capture_line (faults.Short at)) old new status (ViewCourse.refused (faults.Short at) (sym is)) put
-view_refused octets faults.Magic old new status is put memory = said (ViewCourse octets) statuses.Refused (capture_line faults.Magic) old new status (ViewCourse.refused faults.Magic (sym is)) put
-view_refused octets faults.Version old new status is put memory = said (ViewCourse octets) statuses.Refused (capture_line faults.Version) old new status (ViewCourse.refused faults.Version (sym is)) put
-view_refused octets faults.LinkType old new status is put memory = said (ViewCourse octets) statuses.Refused (capture_line faults.LinkType) old new status (ViewCourse.refused faults.LinkType (sym is)) put
-view_refused octets (faults.RecordCut at) old new status is put memory = said (ViewCourse octets) statuses.Refused (capture_line (faults.RecordCut at)) old new status (ViewCourse.refused (faults.RecordCut at) (sym is)) put
-view_refused octets (faults.RecordTooLong at) old new status is put memory = said (ViewCourse octets) statuses.Refused (capture_line (faults.RecordTooLong at)) old new status (ViewCourse.refused (faults.RecordTooLong at) (sym is)) put
-view_refused octets faults.NoMemory old new status is put memory = inl (memory refl)
+view_refused octets read (faults.Short at) old new status is h put memory = let exact = rw is at h in said (ViewCourse octets) statuses.Refused (capture_line (faults.Short at)) old new status (ViewCourse.refused (faults.Short at) (sym exact)) put
+view_refused octets read faults.Magic old new status is h put memory = let exact = rw is at h in said (ViewCourse octets) statuses.Refused (capture_line faults.Magic) old new status (ViewCourse.refused faults.Magic (sym exact)) put
+view_refused octets read faults.Version old new status is h put memory = let exact = rw is at h in said (ViewCourse octets) statuses.Refused (capture_line faults.Version) old new status (ViewCourse.refused faults.Version (sym exact)) put
+view_refused octets read faults.LinkType old new status is h put memory = let exact = rw is at h in said (ViewCourse octets) statuses.Refused (capture_line faults.LinkType) old new status (ViewCourse.refused faults.LinkType (sym exact)) put
+view_refused octets read (faults.RecordCut at) old new status is h put memory = let exact = rw is at h in said (ViewCourse octets) statuses.Refused (capture_line (faults.RecordCut at)) old new status (ViewCourse.refused (faults.RecordCut at) (sym exact)) put
+view_refused octets read (faults.RecordTooLong at) old new status is h put memory = let exact = rw is at h in said (ViewCourse octets) statuses.Refused (capture_line (faults.RecordTooLong at)) old new status (ViewCourse.refused (faults.RecordTooLong at) (sym exact)) put
+view_refused octets read faults.NoMemory old new status is h put memory = inl (memory refl)
+
+-- ---- the words
+
+module _ (words : List (List ℕ)) (table saved : Option Table) (faulted : Type 0) (book : Book) (name : List ℕ) (old new : Option (List ℕ)) (status : Status) where
+  pub run_course : form_in words ≡ forms.Run → name ≡ name_in words → Followed (FileCourse name table faulted (IsNew book) (RunCourse book)) old new status → Followed (Course words table saved faulted book) old new status
+  run_course f is h =
+      turned (FileCourse name table faulted (IsNew book) (RunCourse book)) (Course words table saved faulted book)
+      (λ planned text c. Course.run planned text f (subst (λ n. FileCourse n table faulted (IsNew book) (RunCourse book) planned text) is c)) old new status h
+
+  pub decode_course : form_in words ≡ forms.Decode → name ≡ name_in words → IsNew book → Followed (FileCourse name table faulted (Unit {0}) ViewCourse) old new status → Followed (Course words table saved faulted book) old new status
+  decode_course f is fresh h =
+      turned (FileCourse name table faulted (Unit {0}) ViewCourse) (Course words table saved faulted book)
+      (λ planned text c. Course.decode planned text f fresh (subst (λ n. FileCourse n table faulted (Unit {0}) ViewCourse planned text) is c)) old new status h
+
+  pub saved_words : (capture : List ℕ) → form_in words ≡ forms.RunSaved → name ≡ name_in words → capture ≡ saved_in words → Followed (FileCourse name table faulted (IsNew book) (SavedCourse capture table saved faulted book)) old new status
+      → Followed (Course words table saved faulted book) old new status
+  saved_words capture f is also h =
+      turned (FileCourse name table faulted (IsNew book) (SavedCourse capture table saved faulted book)) (Course words table saved faulted book)
+      (λ planned text c. Course.run_saved planned text f (subst (λ n. FileCourse n table faulted (IsNew book) (SavedCourse (saved_in words) table saved faulted book) planned text) is
+      (subst (λ n. FileCourse name table faulted (IsNew book) (SavedCourse n table saved faulted book) planned text) also c))) old new status h
+
+-- the word behind the first, where there is one
+pub name_at : (words : List (String Global)) (word : String Global) → word ≡ get_or words 1 word → (form_in (map string_bytes words) ≡ forms.Other → ⊥) → string_bytes word ≡ name_in (map string_bytes words)
+name_at [] word is other = absurd (other refl)
+name_at (a ∷ []) word is other = absurd (other refl)
+name_at (a ∷ b ∷ words) word is other = ap string_bytes is
+
+-- two words don't save a capture
+pair_by : (run decode : Bool) → (if run then forms.Run else (if decode then forms.Decode else forms.Other)) ≡ forms.RunSaved → ⊥
+pair_by true decode is = absurd cc
+pair_by false true is = absurd cc
+pair_by false false is = absurd cc
+
+-- the word behind the second, of a form that saves a capture
+pub saved_at : (words : List (String Global)) (word : String Global) → word ≡ get_or words 2 word → form_in (map string_bytes words) ≡ forms.RunSaved → string_bytes word ≡ saved_in (map string_bytes words)
+saved_at [] word is f = absurd cc
+saved_at (a ∷ []) word is f = absurd cc
+saved_at (a ∷ b ∷ []) word is f = absurd (pair_by (bytes_eq (string_bytes a) (codes "run")) (bytes_eq (string_bytes a) (codes "decode")) f)
+saved_at (a ∷ b ∷ d ∷ words) word is f = ap string_bytes is
+
+-- no form is none
+pub run_other : forms.Other ≡ forms.Run → ⊥
+run_other is = absurd cc
+
+pub saved_other : forms.Other ≡ forms.RunSaved → ⊥
+saved_other is = absurd cc
+
+pub decode_other : forms.Other ≡ forms.Decode → ⊥
+decode_other is = absurd cc

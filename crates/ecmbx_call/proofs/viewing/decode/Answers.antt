@@ -12,4 +12,4 @@ returns-in-Ok-clause-course g c =
 
 pub returns-in-Err-clause-course : goal.returns-in-Err-clause-course
 returns-in-Err-clause-course g c =
-    view_refused c.args.octets.now c.in-Err.fault (g.O.Sink.written c.args.out.now) (g.O.Sink.written c.refuse.new.out) c.refuse.result c.in-Err.ensures.exact c.refuse.ensures.put c.refuse.ensures.memory
+    view_refused c.args.octets.now c.read.result c.in-Err.fault (g.O.Sink.written c.args.out.now) (g.O.Sink.written c.refuse.new.out) c.refuse.result c.in-Err.is c.read.ensures.exact c.refuse.ensures.put c.refuse.ensures.memory

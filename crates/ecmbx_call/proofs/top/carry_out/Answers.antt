@@ -1,0 +1,35 @@
+use Rattle.std.proofs.Common.{◌≡◌, sym, refl, ◌∙◌, []}
+use Rattle.ec_outside.specs.Faults.{Rose}
+use Rattle.scenario_made.specs.Made.{text_of}
+use Rattle.ecmbx_words.specs.declared.status.Status.TheVariants as statuses
+use Rattle.ecmbx_words.specs.Texts.{usage_line}
+use Rattle.ecmbx_call.specs.Course.{words_of, Course}
+use Rattle.ecmbx_call.proofs.Courses.{said, run_course, decode_course, saved_words, name_at, saved_at, run_other, saved_other, decode_other}
+use Rattle.ecmbx_call.proofs.top.carry_out.Goals as goal
+
+pub returns-in-Run-clause-course : goal.returns-in-Run-clause-course
+returns-in-Run-clause-course g c =
+    run_course (words_of c.args.words.now) (g.F.Files.table c.args.files.now) (g.F.Files.table c.run_file.new.files) (Rose (g.F.Files.file_faults c.args.files.now) (g.F.Files.file_faults c.run_file.new.files)) c.run_file.new.book c.as_str.result.now
+    (g.O.Sink.written c.args.out.now) (g.O.Sink.written c.run_file.new.out) c.run_file.result (sym c.in-Run.ensures) (c.as_str.ensures.value ∙ name_at c.args.words.now c.index-words-1.result c.index-words-1.is (λ other. absurd (run_other (sym other ∙ sym c.in-Run.ensures)))) c.run_file.ensures.course
+
+pub returns-in-RunSaved-clause-course : goal.returns-in-RunSaved-clause-course
+returns-in-RunSaved-clause-course g c =
+    saved_words (words_of c.args.words.now) (g.F.Files.table c.args.files.now) (g.F.Files.table c.run_file_saved.new.files) (Rose (g.F.Files.file_faults c.args.files.now) (g.F.Files.file_faults c.run_file_saved.new.files)) c.run_file_saved.new.book c.as_str-in-RunSaved.result.now
+    (g.O.Sink.written c.args.out.now) (g.O.Sink.written c.run_file_saved.new.out) c.run_file_saved.result c.as_str-in-RunSaved-2.result.now (sym c.in-RunSaved.ensures) (c.as_str-in-RunSaved.ensures.value ∙ name_at c.args.words.now c.index-words-1-in-RunSaved.result c.index-words-1-in-RunSaved.is (λ other. absurd (saved_other (sym other ∙ sym c.in-RunSaved.ensures))))
+    (c.as_str-in-RunSaved-2.ensures.value ∙ saved_at c.args.words.now c.index-words-2.result c.index-words-2.is (sym c.in-RunSaved.ensures)) c.run_file_saved.ensures.course
+
+pub returns-in-Decode-clause-course : goal.returns-in-Decode-clause-course
+returns-in-Decode-clause-course g c =
+    decode_course (words_of c.args.words.now) (g.F.Files.table c.args.files.now) (g.F.Files.table c.decode_file.new.files) (Rose (g.F.Files.file_faults c.args.files.now) (g.F.Files.file_faults c.decode_file.new.files)) c.args.book.now c.as_str-in-Decode.result.now
+    (g.O.Sink.written c.args.out.now) (g.O.Sink.written c.decode_file.new.out) c.decode_file.result (sym c.in-Decode.ensures) (c.as_str-in-Decode.ensures.value ∙ name_at c.args.words.now c.index-words-1-in-Decode.result c.index-words-1-in-Decode.is (λ other. absurd (decode_other (sym other ∙ sym c.in-Decode.ensures)))) c.requires c.decode_file.ensures.course
+
+pub returns-in-Make-clause-course : goal.returns-in-Make-clause-course
+returns-in-Make-clause-course g c =
+    said (Course (words_of c.args.words.now) (g.F.Files.table c.args.files.now) (g.F.Files.table c.args.files.now) (Rose (g.F.Files.file_faults c.args.files.now) (g.F.Files.file_faults c.args.files.now)) c.args.book.now) statuses.Done (text_of [] c.in-Make.seed c.in-Make.size)
+    (g.O.Sink.written c.args.out.now) (g.O.Sink.written c.make.new.out) c.make.result (Course.make c.in-Make.seed c.in-Make.size (sym c.in-Make.ensures) c.requires) c.make.ensures.put
+
+pub returns-in-Other-clause-course : goal.returns-in-Other-clause-course
+returns-in-Other-clause-course g c =
+    let put = rw c.usage.ensures at c.say.ensures.put in
+    said (Course (words_of c.args.words.now) (g.F.Files.table c.args.files.now) (g.F.Files.table c.args.files.now) (Rose (g.F.Files.file_faults c.args.files.now) (g.F.Files.file_faults c.args.files.now)) c.args.book.now) statuses.Usage usage_line
+    (g.O.Sink.written c.args.out.now) (g.O.Sink.written c.say.new.out) c.say.result (Course.usage (sym c.in-Other.ensures) c.requires) put
