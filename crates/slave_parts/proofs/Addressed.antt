@@ -1,5 +1,5 @@
 -- What an EoE server does over a slave's addresses is what it does over the station.
-use Rattle.std.proofs.Common.{◌≡◌, ℕ, ◌-◌, ◌%◌, ◌==◌, ◌&&◌, nat_le, Bool, true, false, List, [], ◌∷◌, length, Option, Some, None, refl, ap, ◌∙◌}
+use Rattle.std.proofs.Common.{◌≡◌, ℕ, ◌-◌, ◌&&◌, nat_le, Bool, true, false, List, length, Option, Some, None, refl}
 use Rattle.std.specs.Prelude.{if◌then◌else◌}
 use Rattle.eoe.specs.declared.joining.Joined.{Joined}
 use Rattle.eoe.specs.declared.joining.Joined.TheVariants.{More, Whole, Dropped}

@@ -1,17 +1,10 @@
 -- What a protocol's server does over its part of a station is what it does over the station.
-use Rattle.std.proofs.Common.{◌≡◌, ℕ, zero, suc, ◌+◌, ◌-◌, ◌%◌, ◌<◌, ◌≤◌, ◌==◌, ◌&&◌, ◌||◌, not, nat_le, nat_lt, Bool, true, false, List, [], ◌∷◌, ◌++◌, map, length, take, drop, Option, Some, None, Result, Ok, Err, refl, sym, ap, ◌∙◌}
+use Rattle.std.proofs.Common.{◌≡◌, ℕ, ◌+◌, ◌-◌, ◌==◌, ◌||◌, not, nat_le, nat_lt, Bool, true, false, List, ◌++◌, length, Option, Some, None, Result, Ok, Err, refl}
 use Rattle.std.specs.Prelude.{if◌then◌else◌}
-use Rattle.eoe.specs.declared.joining.Joined.{Joined}
-use Rattle.eoe.specs.declared.joining.Joined.TheVariants.{More, Whole, Dropped}
-use Rattle.eoe.specs.declared.joining.Unfinished.{Unfinished}
-use Rattle.eoe.specs.Joining.{taken}
-use Rattle.eoe.specs.Address.{is_block}
-use Rattle.eoe_model.specs.Echo.{echo_of}
 use Rattle.eoe_model.specs.Network.{Station}
 use Rattle.coe_model.specs.Tables as CoeTables
 use Rattle.coe_model.specs.Mails as CoeMails
 use Rattle.coe_model.specs.Server as Coe
-use Rattle.foe_model.specs.Files as FoeFiles
 use Rattle.foe_model.specs.Mails as FoeMails
 use Rattle.foe_model.specs.Server as Foe
 use Rattle.soe_model.specs.Elements as SoeElements

@@ -1,13 +1,11 @@
 -- Each step of a slave's server is the exchange's.
-use Rattle.std.proofs.Common.{◌≡◌, ℕ, suc, Bool, true, false, not, List, [], ◌∷◌, ◌++◌, map, drop, Option, Some, None, Result, Ok, Err, refl, sym, ap, ◌∙◌}
+use Rattle.std.proofs.Common.{◌≡◌, ℕ, Bool, true, false, List, [], ◌∷◌, ◌++◌, map, drop, Option, Some, None, Ok, Err, refl, ap, ◌∙◌}
 use Rattle.std.specs.Prelude.{if◌then◌else◌, option_map}
-use Rattle.mailbox_mail.specs.Mail.{error_of}
 use Rattle.mailbox_mail.specs.declared.mail.Mail.{Mail}
 use Rattle.mailbox_mail.specs.declared.mail.Kind.{Kind}
-use Rattle.mailbox_mail.specs.declared.mail.MailFault.{MailFault}
 use Rattle.mailbox_mail.specs.declared.mail.MailFault.TheVariants.{Short, LengthPastArea, UnknownKind}
 use Rattle.link_mails.specs.Body.{Body, uncounted}
-use Rattle.exchange_sum.specs.Refusing.{Refusal, gated}
+use Rattle.exchange_sum.specs.Refusing.{gated}
 use Rattle.object_dictionary.specs.Dictionary as Objects
 use Rattle.file_store.specs.Files as Store
 use Rattle.idn_table.specs.Idns as Idns
@@ -22,9 +20,9 @@ use Rattle.eoe_model.specs.Octets as EoeOctets
 use Rattle.segment_model.specs.Slaves.{first_waiting}
 use Rattle.slave_model.specs.Profile.{Protocol, Profile, serves}
 use Rattle.slave_model.specs.Server.{Seat, seat, failure, heard_by, told_by, refused_gives, soe_quiet, eoe_quiet}
-use Rattle.slave_model.specs.Product.{protocol_of, served, refusal, side, serve_by, serve_other, serve}
+use Rattle.slave_model.specs.Product.{protocol_of, served, refusal, serve_by, serve_other, serve}
 use Rattle.slave_parts.specs.Parts.{Server, parts}
-use Rattle.slave_server.specs.Serving.{Serving, written, takes, next_mail, rest, first_of, behind_first}
+use Rattle.slave_server.specs.Serving.{written, first_of, behind_first}
 use Rattle.slave_server.specs.Seen.{seen_in, IsExchange}
 
 abbrev as_body : Mail → Body

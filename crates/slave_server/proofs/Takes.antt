@@ -1,11 +1,11 @@
 -- A call of a protocol's server is the exchange's own step, seen from the mailboxes.
-use Rattle.std.proofs.Common.{◌≡◌, ℕ, zero, suc, ◌+◌, ◌-◌, ◌*◌, ◌/◌, ◌%◌, ◌≢◌, ◌==◌, ◌&&◌, not, Bool, true, false, List, [], ◌∷◌, ◌++◌, map, Option, Some, None, Result, Ok, Err, refl, sym, ap, ◌∙◌, append-nil, arith}
+use Rattle.std.proofs.Common.{◌≡◌, ℕ, ◌+◌, ◌-◌, ◌*◌, ◌/◌, ◌%◌, ◌≢◌, not, Bool, true, false, List, [], ◌∷◌, ◌++◌, map, Option, Some, Ok, refl, sym, ap, ◌∙◌, append-nil, arith}
 use mir.Val.{bool_byte}
 use Rattle.mailbox_mail.specs.declared.mail.Mail.{Mail}
 use Rattle.mailbox_mail.specs.declared.mail.Kind.{Kind}
 use Rattle.link_mails.specs.Body.{Body, uncounted}
 use Rattle.exchange_model.specs.Exchange.{Exchange}
-use Rattle.exchange_sum.specs.Refusing.{Refusal, gated}
+use Rattle.exchange_sum.specs.Refusing.{gated}
 use Rattle.object_dictionary.specs.Dictionary as Objects
 use Rattle.file_store.specs.Files as Store
 use Rattle.file_store.specs.Stored.{Stored}
@@ -34,11 +34,11 @@ use Rattle.foe_server.specs.Stores.{store_files}
 use Rattle.soe_server.specs.Serving as Soe
 use Rattle.eoe_server.specs.Serving as Eoe
 use Rattle.eoe_server.specs.declared.Addresses.{Addresses}
-use Rattle.slave_model.specs.Profile.{Protocol, Profile, serves}
+use Rattle.slave_model.specs.Profile.{Protocol, serves}
 use Rattle.slave_model.specs.Application.{Core, station_files, station_elements, station_tables, network, fragment_bodies}
-use Rattle.slave_model.specs.Server.{Seat, ServiceOf, Reply, seat, reseated, heard_by, told_by}
+use Rattle.slave_model.specs.Server.{Seat, ServiceOf, Reply, seat, reseated, told_by}
 use Rattle.slave_model.specs.Product.{protocol_of, served, refusal, serve_by}
-use Rattle.slave_parts.specs.Parts.{Server, parts}
+use Rattle.slave_parts.specs.Parts.{parts}
 use Rattle.slave_parts.proofs.Parted.{soe_seen, soe_parted, foe_seen, foe_parted, coe_seen, coe_parted}
 use Rattle.slave_parts.proofs.Addressed.{eoe_seen, eoe_parted}
 use Rattle.slave_server.specs.Serving.{Serving, Inside, IsInside, profile_of, server_in, failures, coe_mails, foe_mails, soe_mails, eoe_mails, waiting_of, view_of, written, takes}

@@ -1,11 +1,10 @@
 -- A mail carries out one service at most.
-use Rattle.std.proofs.Common.{◌≡◌, ◌≤◌, ℕ, suc, Bool, true, false, List, [], ◌∷◌, Option, Some, None, Result, Ok, Err, arith}
+use Rattle.std.proofs.Common.{◌≤◌, ℕ, suc, Bool, true, false, Option, Some, None, Ok, Err, arith}
 use Rattle.std.specs.Prelude.{if◌then◌else◌}
 use Rattle.mailbox_mail.specs.declared.mail.Kind.{Kind}
-use Rattle.mailbox_mail.specs.declared.mail.MailFault.{MailFault}
 use Rattle.mailbox_mail.specs.declared.mail.MailFault.TheVariants.{Short, LengthPastArea, UnknownKind}
 use Rattle.link_mails.specs.Body.{Body}
-use Rattle.exchange_sum.specs.Refusing.{Refusal, gated, refused_serve}
+use Rattle.exchange_sum.specs.Refusing.{gated}
 use Rattle.object_dictionary.specs.Dictionary as Objects
 use Rattle.file_store.specs.Files as Store
 use Rattle.idn_table.specs.Idns as Idns
@@ -14,7 +13,7 @@ use Rattle.foe_model.specs.Server as FoeServer
 use Rattle.soe_model.specs.Server as SoeServer
 use Rattle.eoe_model.specs.Server as EoeServer
 use Rattle.slave_model.specs.Profile.{Protocol, Profile, serves}
-use Rattle.slave_model.specs.Server.{Seat, seat, reseated, one_more, refused_counts}
+use Rattle.slave_model.specs.Server.{seat, reseated, one_more, refused_counts}
 use Rattle.slave_model.specs.Product.{protocol_of, served, refusal, serve_by, serve_other, serve}
 use Rattle.slave_parts.specs.Parts.{Server, parts}
 use Rattle.slave_server.specs.Serving.{Serving, takes}

@@ -1,5 +1,5 @@
 -- The slave's server as the exchange's own server behind its mailboxes.
-use Rattle.std.specs.Prelude.{◌≡◌, ℕ, List, map, option_map, Ok}
+use Rattle.std.specs.Prelude.{◌≡◌, ℕ, map, option_map, Ok}
 use Rattle.mailbox_mail.specs.declared.mail.Mail.{Mail}
 use Rattle.link_mails.specs.Body.{Body, uncounted}
 use Rattle.segment_model.specs.Slaves as Slaves

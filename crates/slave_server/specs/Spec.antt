@@ -1,9 +1,8 @@
 -- A slave of a plan as it is switched on.
-use Rattle.std.specs.Prelude.{ℕ, Bool, false, List, [], ◌∷◌, ◌++◌, replicate, Option, Some, None, is_some, if◌then◌else◌}
+use Rattle.std.specs.Prelude.{ℕ, List, [], ◌∷◌, ◌++◌, replicate, is_some, if◌then◌else◌}
 use Rattle.object_dictionary.specs.Dictionary as Objects
 use Rattle.object_dictionary.specs.Sound.{placed, own_table}
 use Rattle.file_store.specs.Files.{Kept, file_of}
-use Rattle.file_store.specs.Stored.{Stored}
 use Rattle.file_store.specs.declared.file.FileSpec.{FileSpec}
 use Rattle.idn_table.specs.Idns as Idns
 use Rattle.idn_table.specs.declared.spec.IdnSpec as Table

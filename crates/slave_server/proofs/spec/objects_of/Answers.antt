@@ -1,4 +1,4 @@
-use Rattle.std.proofs.Common.{◌≡◌, ◌<◌, List, length, get_or, refl, subst}
+use Rattle.std.proofs.Common.{◌≡◌, ◌<◌, List, length, get_or, subst}
 use Rattle.segment_plan.specs.declared.slave.ObjectSpec.{ObjectSpec}
 use Rattle.slave_server.proofs.Objects.{takes_first, next_absent, takes_more}
 use Rattle.slave_server.proofs.spec.objects_of.Goals as goal
