@@ -14,7 +14,7 @@ use Rattle.eoe_switch.specs.declared.switching.SwitchEvent.{SwitchEvent}
 use Rattle.eoe_switch.specs.declared.switching.SwitchEvent.TheVariants.{Arrive, Begun, Down}
 use Rattle.eoe_switch.specs.Ports.{offered}
 use Rattle.eoe_switch.specs.Switch.{Switched, first_switch, switched, Flow, flow_of, flow_behind, bit_where, bits_of_full, drops_of}
-use Rattle.run_report.specs.Drops.{behind, drops_at, drops_in}
+use Rattle.run_report.specs.Drops.{drops_in}
 
 -- whether a packet was dropped there
 abbrev is_full : Offered → Bool

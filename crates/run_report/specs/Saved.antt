@@ -1,5 +1,5 @@
 -- The frames of a run as a capture.
-use Rattle.std.specs.Prelude.{◌≡◌, ℕ, ◌+◌, ◌/◌, ◌%◌, ◌≤◌, List, [], ◌∷◌, ◌++◌, length}
+use Rattle.std.specs.Prelude.{ℕ, ◌+◌, ◌/◌, ◌%◌, List, [], ◌∷◌, ◌++◌}
 use Rattle.pcap_frames.specs.declared.capture.Stamp.{Stamp}
 use Rattle.pcap_frames.specs.Capture.{Packet, whole_packet, saved}
 use Rattle.segment_ring.specs.declared.wire.Fate.{Fate}

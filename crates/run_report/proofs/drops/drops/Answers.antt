@@ -1,7 +1,5 @@
-use Rattle.std.proofs.Common.{◌≡◌, ◌+◌, [], drop, ap, sym, ◌∙◌, arith}
-use Rattle.eoe_switch.specs.Switch.{switched, first_switch}
+use Rattle.std.proofs.Common.{arith}
 use Rattle.run_book.specs.Ports.{ports_of}
-use Rattle.run_report.specs.Drops.{drops_in}
 use Rattle.run_report.proofs.Dropped.{drops_of_switched, none_left}
 use Rattle.run_report.proofs.drops.drops.Goals as goal
 
