@@ -479,16 +479,16 @@ module _ (words : List (List ℕ)) (table saved : Option Table) (faulted : Type 
   runs_to (inl memory) calm plan octets f found is = inl memory
   runs_to (inr (planned, text, c, ended)) calm plan octets f found is =
       elim (found_ran words table saved faulted book planned text octets plan f is (found_told words table saved faulted book planned text octets found (seen planned text c))) [
-        inl cause ↦ absurd (calm (told_fault words table saved faulted book planned text (seen planned text c) cause)) |
-        inr did ↦ inr (did.0, rw (← did.1, ← did.2) ended)
+        | inl cause ↦ absurd (calm (told_fault words table saved faulted book planned text (seen planned text c) cause))
+        | inr did ↦ inr (did.0, rw (← did.1, ← did.2) ended)
       ]
 
   pub saves_to : Followed (Course words table saved faulted book) old new status → (faulted → ⊥) → (plan : Scenario) → SavesTo words table saved plan book old new status
   saves_to (inl memory) calm plan octets f found is = inl memory
   saves_to (inr (planned, text, c, ended)) calm plan octets f found is =
       elim (found_kept words table saved faulted book planned text octets plan f is (found_told words table saved faulted book planned text octets found (seen planned text c))) [
-        inl cause ↦ absurd (calm (told_fault words table saved faulted book planned text (seen planned text c) cause)) |
-        inr did ↦ inr (did.0, did.1, rw (← did.2, ← did.3) ended)
+        | inl cause ↦ absurd (calm (told_fault words table saved faulted book planned text (seen planned text c) cause))
+        | inr did ↦ inr (did.0, did.1, rw (← did.2, ← did.3) ended)
       ]
 
   whole : (rose : Type 0) → (status ≡ statuses.SinkFault → rose) → (rose → ⊥) → (planned : Status) (text : List ℕ) → Ended planned text old new status → (status ≡ planned) × Wrote old new text
@@ -500,8 +500,8 @@ module _ (words : List (List ℕ)) (table saved : Option Table) (faulted : Type 
   shows_to rose rises quiet calm (inr (planned, text, c, ended)) octets capture f found is =
       let all = whole rose rises quiet planned text ended in
       elim (found_shown words table saved faulted book planned text octets capture f is (found_told words table saved faulted book planned text octets found (seen planned text c))) [
-        inl cause ↦ absurd (calm (told_fault words table saved faulted book planned text (seen planned text c) cause)) |
-        inr view ↦ inr (all.0 ∙ view.0, rw (← view.1) all.1)
+        | inl cause ↦ absurd (calm (told_fault words table saved faulted book planned text (seen planned text c) cause))
+        | inr view ↦ inr (all.0 ∙ view.0, rw (← view.1) all.1)
       ]
 
   pub makes_to : (rose : Type 0) → (status ≡ statuses.SinkFault → rose) → (rose → ⊥) → Followed (Course words table saved faulted book) old new status → MakesTo words old new status

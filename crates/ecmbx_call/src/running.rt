@@ -73,7 +73,13 @@ fn tell<O: Sink>(alloc: Global, plan: &Scenario, book: &Book, out: &mut O) -> St
 }
 
 // Saves the frames of a run as a capture.
-fn save<F: Files>(alloc: Global, plan: &Scenario, book: &Book, name: &str, files: &mut F) -> Result<(), Status>
+fn save<F: Files>(
+    alloc: Global,
+    plan: &Scenario,
+    book: &Book,
+    name: &str,
+    files: &mut F,
+) -> Result<(), Status>
     requires plan { IsPlan plan.now }
     requires ran { HasRun plan.now book.now }
     ensures saved { IfOk result (λ done. IsSaved (F.table files.old) (F.table files.new) name.now (capture_of book.now.frames)) }
