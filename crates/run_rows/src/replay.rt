@@ -1,3 +1,4 @@
+ghost use Rattle.segment_plan.specs.Sound.{IsPlan};
 use arrayvec::ArrayVec;
 use datagrams::FrameBuf;
 use ec_fields::Octets;
@@ -31,7 +32,9 @@ fn replay_frame(master: &mut MasterNode, number: usize, row: &SentFrame) -> Resu
 }
 
 /// A new master, given the recorded fates and backs, makes the recorded frames, octet for octet.
-fn replay(alloc: Global, plan: &Scenario, frames: &[SentFrame]) -> Result<(), Fail> {
+fn replay(alloc: Global, plan: &Scenario, frames: &[SentFrame]) -> Result<(), Fail>
+    requires plan { IsPlan plan.now }
+{
     let mut master = MasterNode::new(alloc, plan)?;
     for (number, row) in frames.iter().enumerate() {
         replay_frame(&mut master, number, row)?;
