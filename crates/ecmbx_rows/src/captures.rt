@@ -62,7 +62,7 @@ fn expected(alloc: Global, len: usize) -> Result<(Status, String), Fail> {
     if (len - HEAD) % PACKET == 0 {
         return Ok((Status::Done, format!(in alloc; "packets {whole}\n")?));
     }
-    let at = HEAD.saturating_add(PACKET.saturating_mul(whole));
+    let at = HEAD + PACKET * whole;
     Ok((Status::Refused, format!(in alloc; "refused P5 at {at}\n")?))
 }
 
