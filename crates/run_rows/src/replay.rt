@@ -1,4 +1,5 @@
 ghost use Rattle.segment_plan.specs.Sound.{IsPlan};
+
 use arrayvec::ArrayVec;
 use datagrams::FrameBuf;
 use ec_fields::Octets;
