@@ -32,7 +32,8 @@ impl Octets {
     pub fn copy_of(alloc: Global, bytes: &[u8]) -> Result<Octets, NoMemory>
         ensures { IfOk result (λ o. o ≡ bytes.now) }
     {
-        let octets = bytes.to_vec(alloc)?;
+        let mut octets = Vec::with_capacity(alloc, bytes.len())?;
+        octets.extend_from_slice(bytes)?;
         Ok(Octets { octets })
     }
 

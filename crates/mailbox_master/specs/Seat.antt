@@ -1,8 +1,9 @@
 -- Halves that are kept in a place of their own, and what they read without a copy.
-use Rattle.std.specs.Prelude.{ℕ, Option, Some, None, Bool, if◌then◌else◌, option_map, List, length, replicate, ◌≤◌, ⊤}
+use Rattle.std.specs.Prelude.{◌≡◌, Ok, ℕ, Option, Some, None, Bool, if◌then◌else◌, option_map, List, length, replicate, ◌≤◌, ⊤}
 use Rattle.mailbox_mail.specs.declared.mail.Kind.{Kind}
 use Rattle.mailbox_mail.specs.declared.mail.Mail.{Mail}
 use Rattle.mailbox_mail.specs.Area.{mail_area}
+use Rattle.mailbox_mail.specs.Mail.{mail_read}
 use Rattle.mailbox_mail.specs.View.{mail_seen}
 use Rattle.link_model.specs.Master.{OutHalf}
 use Rattle.link_mails.specs.Body.{Body, link_mail}
@@ -42,3 +43,7 @@ IsWithin (SeenMail v) = length v.body.now ≤ 1480
 IsWithin SeenRepeat = ⊤
 IsWithin SeenEmpty = ⊤
 IsWithin (SeenBad fault) = ⊤
+
+-- an area of this many octets that is written with a mail reads as it
+abbrev pub ReadsAs : ℕ → Mail → Type 0
+ReadsAs len m = (mail_read (mail_area len m) ≡ Ok m) × (length (mail_area len m) ≡ len)

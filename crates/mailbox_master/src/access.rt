@@ -35,7 +35,7 @@ pub trait LinkState {
         ensures body { body.new.items ≡ (access self.now).octets };
 }
 
-// The head of an access to a station.
+/// The head of an access of one slave by its station, which no slave has met (ETG.1000.4, 5.4.1).
 pub fn head_of(station: u16, index: u8, command: Command, register: u16, len: u16) -> Head
     ensures { result ≡ record { command = command; index = index; adp = station; ado = register; len = len; circulating = false; more = false; interrupt = 0; counter = 0 } }
 {

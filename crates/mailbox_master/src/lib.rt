@@ -9,7 +9,7 @@ mod outward;
 mod seat;
 mod states;
 
-pub use access::LinkState;
+pub use access::{LinkState, head_of};
 pub use halves::{InwardHalf, OutwardHalf};
 pub use inward::{AskedNext, DoubtNext, Got, Inward, new_inward};
 pub use outward::{OutNext, OutState, Outward, new_outward};

@@ -9,7 +9,7 @@ ghost use Rattle.mailbox_master.specs.Access.{access_head, write_access};
 ghost use Rattle.mailbox_master.specs.Any.{out_held, out_returned, in_half_of, in_station, in_area_len, in_returned, in_got, in_access_of};
 ghost use Rattle.mailbox_master.specs.Halves.{in_half, SameIn};
 ghost use Rattle.mailbox_master.specs.Next.{got_by};
-ghost use Rattle.mailbox_master.specs.Seat.{seat_half, mail_by, got_seen, IsWithin};
+ghost use Rattle.mailbox_master.specs.Seat.{seat_half, mail_by, got_seen, IsWithin, ReadsAs};
 ghost use Rattle.link_model.specs.Master.{InState, read_answered, in_lost};
 
 use crate::access::{ACTIVATE, ENABLE, PDI_CONTROL, REPEAT, head_of};
@@ -140,11 +140,15 @@ impl OutwardSeat {
         }
     }
 
-    /// The head of the datagram that writes the mail held.
+    /// The head of the datagram that writes the mail held, whose octets then read as that mail.
     pub fn head(&self, index: u8) -> Head
         ensures head { (m : Mail) → self.now.state ≡ Some m → result ≡ access_head self.now.station index (write_access self.now.len m) }
         ensures len { result.len ≡ self.now.len }
+        ensures reads { (m : Mail) → self.now.state ≡ Some m → ReadsAs self.now.len m }
     {
+        // The mail is looked at so that the proof has the ranges of its parts.
+        let _addressed = self.mail.address;
+        let _length = self.mail.body.len();
         head_of(self.station, index, Command::Fpwr, OUT_AREA, self.len)
     }
 

@@ -23,6 +23,7 @@ use Rattle.mailbox_master.specs.declared.halves.InwardHalf.TheVariants.{Clear, D
 use Rattle.mailbox_master.specs.Links.{OutLink}
 use Rattle.mailbox_master.specs.Any.{in_half_of, in_station, in_area_len}
 use Rattle.mailbox_master.specs.Access.{access_head, write_access}
+use Rattle.mailbox_master.specs.Seat.{ReadsAs}
 use Rattle.master_duty.specs.declared.duty.Duty.{Duty}
 use Rattle.master_duty.specs.declared.stage.Errand.{Errand}
 use Rattle.master_duty.specs.Stages.{stage_of, errand_of, access_of, errand_access}
@@ -125,6 +126,21 @@ write_begun index out head body P some h b p = go out.state refl some
     go : (o : Option Mail) → out.state ≡ o → IsSome o → P (write_gram index out o)
     go None e s = absurd (cc)
     go (Some m) e s = subst P (λ i. datagram_of (h m e i) (b m e i)) p
+
+-- what the write of a mail held is as it is sent
+pub write_sent : (index area : ℕ) (out : OutLink (Option Mail)) → IsSome out.state → ((m : Mail) → out.state ≡ Some m → ReadsAs out.len m) → nat_le 64 out.len ≡ true → nat_le out.len area ≡ true →
+    IsSent area (write_gram index out out.state)
+write_sent index area out some reads least most = go out.state refl some
+  where
+    go : (o : Option Mail) → out.state ≡ o → IsSome o → IsSent area (write_gram index out o)
+    go None e s = absurd (cc)
+    go (Some m) e s = record {
+      counter = refl;
+      sized = refl;
+      named = tt;
+      some = (let n = (reads m e).1 in let l = leb-true 64 out.len least in omega (arith, n, l));
+      fits = (let n = (reads m e).1 in let l = leb-true out.len area most in omega (arith, n, l));
+    }
 
 pub held_meant : (lens : ℕ → Lens) (index : ℕ) (out : OutLink (Option Mail)) (station : ℕ) (h : Halves Body) (due : Option Access) → out.station ≡ station → (lens station).out ≡ out.len → is_none out.state ≡ false →
     ((m : Mail) → out.state ≡ Some m → (mail_read (mail_area out.len m) ≡ Ok m) × (length (mail_area out.len m) ≡ out.len)) → h.out.holding ≡ option_map link_mail out.state → Meant station Carried.Write h due (datagram_seen lens (write_gram index out out.state))

@@ -14,8 +14,8 @@ use crate::hand::Hand;
 use crate::passing::Passing;
 use crate::side::Side;
 use datagrams::register::{AL_CONTROL, AL_STATUS, MANAGER_0, MANAGER_STATUS};
-use datagrams::{Command, FrameBuf, Head};
-use mailbox_master::InwardHalf;
+use datagrams::{Command, FrameBuf};
+use mailbox_master::{InwardHalf, head_of};
 use master_duty::Errand;
 
 impl<H: Hand> Side<H> {
@@ -25,16 +25,13 @@ impl<H: Hand> Side<H> {
     ghost use Rattle.exchange_model.specs.Exchange.{Speech};
     ghost use Rattle.link_mails.specs.Body.{Body};
     ghost use Rattle.mailbox_mail.specs.declared.mail.Mail.{Mail};
-    ghost use Rattle.mailbox_mail.specs.Mail.{mail_read};
-    ghost use Rattle.mailbox_mail.specs.Area.{mail_area};
-    ghost use Rattle.std.specs.Prelude.{Ok};
     ghost use Rattle.link_model.specs.Link.{Halves};
     ghost use Rattle.segment_model.specs.Slaves.{Access};
     ghost use Rattle.segment_model.specs.Seats as Seats;
     ghost use Rattle.task_model.specs.Accounts.{Account, duty_access};
     ghost use Rattle.frame_view.specs.View.{Lens, datagram_seen};
     ghost use Rattle.mailbox_master.specs.Any.{in_half_of, in_area_len, in_access_of};
-    ghost use Rattle.mailbox_master.specs.Seat.{seat_half};
+    ghost use Rattle.mailbox_master.specs.Seat.{seat_half, ReadsAs};
     ghost use Rattle.master_duty.specs.Reply.{Reply};
     ghost use Rattle.master_side.specs.Carried.{Meant, choice_of, link_choice, drain_choice, mails_choice};
     ghost use Rattle.master_side.specs.Sent.{IsSent, SameSide, SameLink, visit_gram, write_gram, inward_gram, gram_len};
@@ -48,14 +45,10 @@ impl<H: Hand> Side<H> {
         requires room { self.now.out.len ≤ 1514 - length frame.old.items - 12 }
         ensures begun { (ds : List Raw.Datagram) → IsBegun frame.old.items ds → IsBegun frame.new.items (ds ++ write_gram index self.now.out self.now.out.state ∷ []) }
         ensures sent { IsSent self.now.area (write_gram index self.now.out self.now.out.state) }
-        ensures reads { (m : Mail) → self.now.out.state ≡ Some m → (mail_read (mail_area self.now.out.len m) ≡ Ok m) × (length (mail_area self.now.out.len m) ≡ self.now.out.len) }
+        ensures reads { (m : Mail) → self.now.out.state ≡ Some m → ReadsAs self.now.out.len m }
     {
         let head = self.out.head(index);
-        let mut area = [0; 1486];
-        let len = head.len as usize;
-        let body = &mut area[..len];
-        self.out.write(body);
-        datagrams::add(frame, &head, body);
+        datagrams::add_with(frame, &head, &self.out);
     }
 
     // The datagram of the inward half does.
@@ -240,29 +233,13 @@ fn carried_by(errand: Errand) -> Carried
     }
 }
 
-fn head_to(command: Command, station: u16, index: u8, register: u16, len: u16) -> Head
-    ensures { result ≡ head_to command station index register len }
-{
-    Head {
-        command,
-        index,
-        adp: station,
-        ado: register,
-        len,
-        circulating: false,
-        more: false,
-        interrupt: 0,
-        counter: 0,
-    }
-}
-
 // The read of the status octet of mailbox 0 stands next.
 fn add_full(station: u16, index: u8, frame: &mut FrameBuf)
     requires begun { (ds : List Raw.Datagram) × IsBegun frame.old.items ds }
     requires room { 1 ≤ 1514 - length frame.old.items - 12 }
     ensures { (ds : List Raw.Datagram) → IsBegun frame.old.items ds → IsBegun frame.new.items (ds ++ datagram_of (head_to Fprd station index 2053 1) (0 ∷ []) ∷ []) }
 {
-    let head = head_to(Command::Fprd, station, index, MANAGER_0 + MANAGER_STATUS, 1);
+    let head = head_of(station, index, Command::Fprd, MANAGER_0 + MANAGER_STATUS, 1);
     datagrams::add(frame, &head, &[0]);
 }
 
@@ -277,12 +254,12 @@ fn add_errand(errand: Errand, station: u16, index: u8, frame: &mut FrameBuf) -> 
 {
     match errand {
         Errand::Write(word) => {
-            let head = head_to(Command::Fpwr, station, index, AL_CONTROL, 2);
+            let head = head_of(station, index, Command::Fpwr, AL_CONTROL, 2);
             datagrams::add(frame, &head, &word.to_le_bytes());
             Carried::Control
         }
         Errand::ReadStatus => {
-            let head = head_to(Command::Fprd, station, index, AL_STATUS, 6);
+            let head = head_of(station, index, Command::Fprd, AL_STATUS, 6);
             datagrams::add(frame, &head, &[0; 6]);
             Carried::Status
         }

@@ -1,7 +1,13 @@
-use Rattle.std.proofs.Common.{◌++◌, ◌∷◌, []}
+use Rattle.std.proofs.Common.{◌++◌, ◌∷◌, [], ap}
 use Rattle.datagrams.specs.Frame.{IsBegun}
-use Rattle.master_side.proofs.Grams.{write_begun}
+use Rattle.mailbox_master.specs.Seat.{seat_octets, text_of}
+use Rattle.master_side.proofs.Grams.{write_begun, write_sent}
 use Rattle.master_side.proofs.side.Side.add_write.Goals as goal
 
 pub returns-clause-begun : goal.returns-clause-begun
-returns-clause-begun g c = λ ds b. write_begun c.args.index c.args.self.now.out _ _ (λ d. IsBegun c.add.new.frame.items (ds ++ d ∷ [])) c.requires.held c.head-head.ensures.head c.write.ensures.text (c.add.ensures.adds ds b)
+returns-clause-begun g c = λ ds b.
+    let out = c.args.self.now.out in
+    write_begun c.args.index out _ (seat_octets out) (λ d. IsBegun c.add_with.new.frame.items (ds ++ d ∷ [])) c.requires.held c.head-head.ensures.head (λ m e. ap (text_of out.len) e) (c.add_with.ensures.adds ds b)
+
+pub returns-clause-sent : goal.returns-clause-sent
+returns-clause-sent g c = let side = c.args.self.now in write_sent c.args.index side.area side.out c.requires.held c.head-head.ensures.reads side.out_least side.out_most
