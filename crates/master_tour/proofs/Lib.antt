@@ -2,3 +2,4 @@ pub mod Unders
 pub mod Visits
 pub mod Walks
 pub mod Frames
+pub mod Cursors

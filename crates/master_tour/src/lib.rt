@@ -2,8 +2,10 @@
 //! what the frame's return or loss makes of each.
 #![tactic(auto)]
 
+mod cursor;
 mod stop;
 mod tour;
 
+pub use cursor::Cursor;
 pub use stop::{Stand, Stop, Turned};
 pub use tour::Tour;

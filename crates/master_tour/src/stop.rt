@@ -3,6 +3,7 @@ ghost use Rattle.datagrams.specs.Frame.{IsPart};
 ghost use Rattle.std.specs.Prelude.{length};
 ghost use Rattle.al_state.specs.BringUp.{octets_of};
 
+use crate::cursor::Cursor;
 use al_state::{BringStep, BringUp, access, came_back, cleared, reopen_new};
 use arrayvec::ArrayVec;
 use datagrams::{FrameBuf, Head, Part};
@@ -87,14 +88,14 @@ fn access_len(up: &BringUp) -> usize
 impl<H: Hand> Stop<H> {
     ghost use Rattle.std.specs.Prelude.{◌≡◌, ◌≤◌, ◌<◌, ◌-◌, ◌++◌, ◌∷◌, [], ℕ, List, map, All, length, true, false};
     ghost use Rattle.datagrams.specs.Datagram as Raw;
-    ghost use Rattle.datagrams.specs.Frame.{IsPart, IsBegun};
+    ghost use Rattle.datagrams.specs.Frame.{IsPart, IsBegun, IsFrame};
     ghost use Rattle.exchange_model.specs.Exchange.{Speech};
     ghost use Rattle.link_mails.specs.Body.{Body};
     ghost use Rattle.segment_model.specs.Slaves.{Datagram};
     ghost use Rattle.segment_model.specs.Seats as Seats;
     ghost use Rattle.task_model.specs.Accounts.{Account, duty_access, account_back};
     ghost use Rattle.frame_view.specs.View.{Lens, datagram_seen};
-    ghost use Rattle.frame_view.specs.Seen.{part_seen};
+    ghost use Rattle.frame_view.specs.Seen.{seen};
     ghost use Rattle.mailbox_master.specs.Any.{in_area_len};
     ghost use Rattle.master_duty.specs.Reply.{Reply};
     ghost use Rattle.master_side.specs.Carried.{Meant};
@@ -103,12 +104,15 @@ impl<H: Hand> Stop<H> {
     ghost use Rattle.datagrams.specs.Frame.{datagram_of};
     ghost use Rattle.al_state.specs.BringUp.{head_of, octets_of};
     ghost use Rattle.master_tour.specs.Under.{Under};
+    ghost use Rattle.master_tour.specs.Cursor.{IsAtOne};
     ghost use Rattle.master_tour.specs.declared.stop.Stand.{Stand};
 
     /// Its datagram of the frame that came back, while it is open. `made` is the frame's number.
-    pub fn open_back(&mut self, parts: &[Part], octets: &[u8], made: u32)
-        requires { All (IsPart octets.now) parts.now }
-        ensures shown { (x : Speech Body H.Asked Reply) (frame : ℕ) (lens : ℕ → Lens) (back : List (Datagram Body)) (d : Seats.Side Body H.Asked Reply) (a : Account H.Asked Reply) → back ≡ map (part_seen lens octets.now) parts.now →
+    pub fn open_back(&mut self, cursor: &mut Cursor, octets: &[u8], made: u32)
+        requires frame { (ds : List Raw.Datagram) × IsFrame octets.now ds }
+        requires stands { IsAtOne octets.now cursor.old.number cursor.old.part }
+        ensures stands { IsAtOne octets.now cursor.new.number cursor.new.part }
+        ensures shown { (x : Speech Body H.Asked Reply) (frame : ℕ) (lens : ℕ → Lens) (back : List (Datagram Body)) (d : Seats.Side Body H.Asked Reply) (a : Account H.Asked Reply) → back ≡ seen lens octets.now →
             SideShows (H.shows self.old.side.hand x) self.old.side.out self.old.side.inn self.old.side.fresh self.old.side.duty d a →
             Under self.old.side.station self.old.at self.old.under self.old.side.carried d.halves (duty_access a.hand) back →
             SideShows (H.shows self.new.side.hand x) self.new.side.out self.new.side.inn self.new.side.fresh self.new.side.duty (Seats.side_back x frame self.old.side.station back d) (account_back self.old.side.station frame a back) }
@@ -118,8 +122,8 @@ impl<H: Hand> Stop<H> {
         if !self.under {
             return;
         }
-        if self.at < parts.len() {
-            let part = parts[self.at];
+        if cursor.seek(octets, self.at) {
+            let part = cursor.part;
             let body = body_of(octets, part);
             self.side.returned(part.head.counter, body, made);
         }
@@ -140,14 +144,16 @@ impl<H: Hand> Stop<H> {
     }
 
     // The access of its opening came back: the next is in hand, or the slave is open.
-    fn opening_back(&mut self, up: BringUp, parts: &[Part], octets: &[u8])
-        requires { All (IsPart octets.now) parts.now }
+    fn opening_back(&mut self, up: BringUp, cursor: &mut Cursor, octets: &[u8])
+        requires frame { (ds : List Raw.Datagram) × IsFrame octets.now ds }
+        requires stands { IsAtOne octets.now cursor.old.number cursor.old.part }
+        ensures stands { IsAtOne octets.now cursor.new.number cursor.new.part }
         ensures station { self.new.side.station ≡ self.old.side.station }
     {
-        if !self.under || self.at >= parts.len() {
+        if !self.under || !cursor.seek(octets, self.at) {
             return;
         }
-        let part = parts[self.at];
+        let part = cursor.part;
         let mut up = up;
         let was_cleared = cleared(&up);
         let is_up = came_back(&mut up, part.head.counter, body_of(octets, part));
@@ -188,9 +194,11 @@ impl<H: Hand> Stop<H> {
     }
 
     /// The frame under way came back. `made` is its number.
-    pub fn back(&mut self, parts: &[Part], octets: &[u8], made: u32)
-        requires { All (IsPart octets.now) parts.now }
-        ensures shown { self.old.stand ≡ Stand.Open → (x : Speech Body H.Asked Reply) (frame : ℕ) (lens : ℕ → Lens) (back : List (Datagram Body)) (d : Seats.Side Body H.Asked Reply) (a : Account H.Asked Reply) → back ≡ map (part_seen lens octets.now) parts.now →
+    pub fn back(&mut self, cursor: &mut Cursor, octets: &[u8], made: u32)
+        requires frame { (ds : List Raw.Datagram) × IsFrame octets.now ds }
+        requires stands { IsAtOne octets.now cursor.old.number cursor.old.part }
+        ensures stands { IsAtOne octets.now cursor.new.number cursor.new.part }
+        ensures shown { self.old.stand ≡ Stand.Open → (x : Speech Body H.Asked Reply) (frame : ℕ) (lens : ℕ → Lens) (back : List (Datagram Body)) (d : Seats.Side Body H.Asked Reply) (a : Account H.Asked Reply) → back ≡ seen lens octets.now →
             SideShows (H.shows self.old.side.hand x) self.old.side.out self.old.side.inn self.old.side.fresh self.old.side.duty d a →
             Under self.old.side.station self.old.at self.old.under self.old.side.carried d.halves (duty_access a.hand) back →
             SideShows (H.shows self.new.side.hand x) self.new.side.out self.new.side.inn self.new.side.fresh self.new.side.duty (Seats.side_back x frame self.old.side.station back d) (account_back self.old.side.station frame a back) }
@@ -199,9 +207,9 @@ impl<H: Hand> Stop<H> {
         self.news = None;
         match self.stand {
             Stand::Gone => {}
-            Stand::Opening(up) => self.opening_back(up, parts, octets),
+            Stand::Opening(up) => self.opening_back(up, cursor, octets),
             Stand::Open => {
-                self.open_back(parts, octets, made);
+                self.open_back(cursor, octets, made);
                 self.reopen();
             }
         }

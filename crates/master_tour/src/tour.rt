@@ -1,8 +1,9 @@
 ghost use Rattle.std.specs.Prelude.{◌≡◌, ℕ, List};
 
+use crate::cursor::Cursor;
 use crate::stop::{Stand, Stop};
 use arrayvec::ArrayVec;
-use datagrams::{FrameBuf, Part};
+use datagrams::FrameBuf;
 use master_side::{Hand, Wish};
 
 /// All slaves of a master, in ring order, and where their tour stands.
@@ -31,7 +32,7 @@ pub struct Tour<H: Hand> {
 impl<H: Hand> Tour<H> {
     ghost use Rattle.std.specs.Prelude.{◌≡◌, ◌≤◌, ◌<◌, ◌-◌, ℕ, List, IfSome, map, All, length, [], ◌∷◌};
     ghost use Rattle.datagrams.specs.Datagram as Raw;
-    ghost use Rattle.datagrams.specs.Frame.{IsBegun, IsPart};
+    ghost use Rattle.datagrams.specs.Frame.{IsBegun, IsFrame};
     ghost use Rattle.exchange_model.specs.Exchange.{Speech};
     ghost use Rattle.link_mails.specs.Body.{Body};
     ghost use Rattle.segment_model.specs.Slaves.{Datagram};
@@ -39,7 +40,7 @@ impl<H: Hand> Tour<H> {
     ghost use Rattle.segment_model.specs.Returned.{Returns};
     ghost use Rattle.task_model.specs.Accounts.{Account, duty_access, account_back};
     ghost use Rattle.frame_view.specs.View.{Lens};
-    ghost use Rattle.frame_view.specs.Seen.{part_seen, seen};
+    ghost use Rattle.frame_view.specs.Seen.{seen};
     ghost use Rattle.master_duty.specs.Reply.{Reply};
     ghost use Rattle.master_side.specs.Shown.{SideShows};
     ghost use Rattle.master_tour.specs.Under.{Under};
@@ -47,16 +48,17 @@ impl<H: Hand> Tour<H> {
     ghost use Rattle.master_tour.specs.declared.stop.Stand.{Stand};
 
     // Each slave hears what came back.
-    fn all_back(&mut self, parts: &[Part], octets: &[u8], made: u32)
-        requires { All (IsPart octets.now) parts.now }
-        ensures each { EachPair (λ s t. (s.stand ≡ Stand.Open → (x : Speech Body H.Asked Reply) (frame : ℕ) (lens : ℕ → Lens) (back : List (Datagram Body)) (d : Seats.Side Body H.Asked Reply) (a : Account H.Asked Reply) → back ≡ map (part_seen lens octets.now) parts.now →
+    fn all_back(&mut self, octets: &[u8], made: u32)
+        requires { (ds : List Raw.Datagram) × IsFrame octets.now ds }
+        ensures each { EachPair (λ s t. (s.stand ≡ Stand.Open → (x : Speech Body H.Asked Reply) (frame : ℕ) (lens : ℕ → Lens) (back : List (Datagram Body)) (d : Seats.Side Body H.Asked Reply) (a : Account H.Asked Reply) → back ≡ seen lens octets.now →
             SideShows (H.shows s.side.hand x) s.side.out s.side.inn s.side.fresh s.side.duty d a →
             Under s.side.station s.at s.under s.side.carried d.halves (duty_access a.hand) back →
             SideShows (H.shows t.side.hand x) t.side.out t.side.inn t.side.fresh t.side.duty (Seats.side_back x frame s.side.station back d) (account_back s.side.station frame a back)) × (t.side.station ≡ s.side.station)) self.old.stops.items self.new.stops.items }
         ensures long { length self.new.stops.items ≡ length self.old.stops.items }
     {
+        let mut cursor = Cursor::new(octets);
         for i in 0..self.stops.len() {
-            self.stops[i].back(parts, octets, made);
+            self.stops[i].back(&mut cursor, octets, made);
         }
     }
 
@@ -249,9 +251,8 @@ impl<H: Hand> Tour<H> {
         ensures long { length self.new.stops.items ≡ length self.old.stops.items }
     {
         let octets = frame.as_slice();
-        match datagrams::read(octets) {
-            Ok(read) => self.all_back(read.parts.as_slice(), octets, made),
-            Err(_) => {}
+        if datagrams::fault(octets).is_none() {
+            self.all_back(octets, made);
         }
     }
 

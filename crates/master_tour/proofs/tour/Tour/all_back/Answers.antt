@@ -1,11 +1,10 @@
 use Rattle.std.proofs.Common.{◌≡◌, ℕ, ◌+◌, List, sym, ◌∙◌, arith, add-one}
-use Rattle.std.specs.Prelude.{map}
 use Rattle.exchange_model.specs.Exchange.{Speech}
 use Rattle.link_mails.specs.Body.{Body}
 use Rattle.segment_model.specs.Slaves.{Datagram}
 use Rattle.segment_model.specs.Seats
 use Rattle.task_model.specs.Accounts.{Account, duty_access, account_back}
-use Rattle.frame_view.specs.Seen.{part_seen}
+use Rattle.frame_view.specs.Seen.{seen}
 use Rattle.frame_view.specs.View.{Lens}
 use Rattle.master_duty.specs.Reply.{Reply}
 use Rattle.master_side.specs.Shown.{SideShows}
@@ -17,19 +16,21 @@ use Rattle.master_tour.proofs.tour.Tour.all_back.Goals as goal
 pub loop-i-preserved : goal.loop-i-preserved
 loop-i-preserved g c =
     let len = c.len-i-end.ensures in
-    let test = c.loop-i-test.true in
-    walk_on (λ s t. (s.stand ≡ Stand.Open → (x : Speech Body g.H.Hand.Asked Reply) (frame : ℕ) (lens : ℕ → Lens) (back : List (Datagram Body)) (d : Seats.Side Body g.H.Hand.Asked Reply) (a : Account g.H.Hand.Asked Reply) → back ≡ map (part_seen lens c.args.octets.now) c.args.parts.now →
-    SideShows (g.H.Hand.shows s.side.hand x) s.side.out s.side.inn s.side.fresh s.side.duty d a → Under s.side.station s.at s.under s.side.carried d.halves (duty_access a.hand) back →
-    SideShows (g.H.Hand.shows t.side.hand x) t.side.out t.side.inn t.side.fresh t.side.duty (Seats.side_back x frame s.side.station back d) (account_back s.side.station frame a back)) × (t.side.station ≡ s.side.station))
-    c.loop-i.i (c.loop-i.i + 1) c.args.self.now.stops.items c.loop-i.self.stops.items c.index_mut.result.now c.back.new.self (add-one c.loop-i.i) c.loop-i.invariant (let e = len ∙ c.args.self.now.stops.ok.0 in omega (arith, test, e)) c.index_mut.ensures.value (c.back.ensures.shown, c.back.ensures.station)
+    let test = c.loop-i-test.true in (
+      c.back.ensures.stands,
+      walk_on (λ s t. (s.stand ≡ Stand.Open → (x : Speech Body g.H.Hand.Asked Reply) (frame : ℕ) (lens : ℕ → Lens) (back : List (Datagram Body)) (d : Seats.Side Body g.H.Hand.Asked Reply) (a : Account g.H.Hand.Asked Reply) → back ≡ seen lens c.args.octets.now →
+          SideShows (g.H.Hand.shows s.side.hand x) s.side.out s.side.inn s.side.fresh s.side.duty d a → Under s.side.station s.at s.under s.side.carried d.halves (duty_access a.hand) back →
+          SideShows (g.H.Hand.shows t.side.hand x) t.side.out t.side.inn t.side.fresh t.side.duty (Seats.side_back x frame s.side.station back d) (account_back s.side.station frame a back)) × (t.side.station ≡ s.side.station))
+          c.loop-i.i (c.loop-i.i + 1) c.args.self.now.stops.items c.loop-i.self.stops.items c.index_mut.result.now c.back.new.self (add-one c.loop-i.i) c.loop-i.invariant.1 (let e = len ∙ c.args.self.now.stops.ok.0 in omega (arith, test, e)) c.index_mut.ensures.value (c.back.ensures.shown, c.back.ensures.station),
+    )
 
 pub returns : goal.returns
 returns g c =
     let len = c.len-i-end.ensures in
     let test = c.loop-i-test.false in
     record {
-      each = walk_over (λ s t. (s.stand ≡ Stand.Open → (x : Speech Body g.H.Hand.Asked Reply) (frame : ℕ) (lens : ℕ → Lens) (back : List (Datagram Body)) (d : Seats.Side Body g.H.Hand.Asked Reply) (a : Account g.H.Hand.Asked Reply) → back ≡ map (part_seen lens c.args.octets.now) c.args.parts.now →
+      each = walk_over (λ s t. (s.stand ≡ Stand.Open → (x : Speech Body g.H.Hand.Asked Reply) (frame : ℕ) (lens : ℕ → Lens) (back : List (Datagram Body)) (d : Seats.Side Body g.H.Hand.Asked Reply) (a : Account g.H.Hand.Asked Reply) → back ≡ seen lens c.args.octets.now →
           SideShows (g.H.Hand.shows s.side.hand x) s.side.out s.side.inn s.side.fresh s.side.duty d a → Under s.side.station s.at s.under s.side.carried d.halves (duty_access a.hand) back →
-          SideShows (g.H.Hand.shows t.side.hand x) t.side.out t.side.inn t.side.fresh t.side.duty (Seats.side_back x frame s.side.station back d) (account_back s.side.station frame a back)) × (t.side.station ≡ s.side.station)) c.loop-i.i c.args.self.now.stops.items c.loop-i.self.stops.items (let e = len ∙ c.args.self.now.stops.ok.0 in omega (arith, test, e)) c.loop-i.invariant;
-      long = sym (walked_length _ c.loop-i.i c.args.self.now.stops.items c.loop-i.self.stops.items c.loop-i.invariant);
+          SideShows (g.H.Hand.shows t.side.hand x) t.side.out t.side.inn t.side.fresh t.side.duty (Seats.side_back x frame s.side.station back d) (account_back s.side.station frame a back)) × (t.side.station ≡ s.side.station)) c.loop-i.i c.args.self.now.stops.items c.loop-i.self.stops.items (let e = len ∙ c.args.self.now.stops.ok.0 in omega (arith, test, e)) c.loop-i.invariant.1;
+      long = sym (walked_length _ c.loop-i.i c.args.self.now.stops.items c.loop-i.self.stops.items c.loop-i.invariant.1);
     }
