@@ -3,3 +3,4 @@ pub mod Visits
 pub mod Walks
 pub mod Frames
 pub mod Cursors
+pub mod Openings

@@ -2,6 +2,9 @@ ghost use Rattle.std.specs.Prelude.{◌≡◌, ◌+◌, ℕ, All, take, drop, tr
 ghost use Rattle.datagrams.specs.Frame.{IsPart};
 ghost use Rattle.std.specs.Prelude.{length};
 ghost use Rattle.al_state.specs.BringUp.{octets_of};
+ghost use Rattle.std.specs.Prelude.{false, if◌then◌else◌, not, ◌&&◌};
+ghost use Rattle.al_state.specs.BringUp.{is_behind_init};
+ghost use Rattle.master_tour.specs.Stands.{turned_by};
 
 use crate::cursor::Cursor;
 use al_state::{BringStep, BringUp, access, came_back, cleared, reopen_new};
@@ -20,12 +23,32 @@ pub enum Stand {
     Gone,
 }
 
-// What the return of an opening's access has turned a slave's stand into.
-fn news_of(is_up: bool, is_cleared: bool) -> Option<Turned> {
+// How the master stands to a slave behind an access of its opening.
+fn stand_behind(is_up: bool, up: BringUp) -> Stand
+    ensures { result ≡ (if is_up then Stand.Open else Stand.Opening up) }
+{
     if is_up {
-        Some(Turned::Opened)
-    } else if is_cleared {
+        Stand::Open
+    } else {
+        Stand::Opening(up)
+    }
+}
+
+// Whether an access of an opening has shown its slave in Init: that is behind it, and was not before.
+fn clears(up: &BringUp, next: &BringUp) -> bool
+    ensures { result ≡ not (up.now.again && is_behind_init up.now.step) && (next.now.again && is_behind_init next.now.step) }
+{
+    !cleared(up) && cleared(next)
+}
+
+// What the return of an opening's access has turned a slave's stand into.
+fn news_of(is_up: bool, is_cleared: bool) -> Option<Turned>
+    ensures { result ≡ turned_by false is_cleared is_up }
+{
+    if is_cleared {
         Some(Turned::Cleared)
+    } else if is_up {
+        Some(Turned::Opened)
     } else {
         None
     }
@@ -105,6 +128,13 @@ impl<H: Hand> Stop<H> {
     ghost use Rattle.al_state.specs.BringUp.{head_of, octets_of};
     ghost use Rattle.master_tour.specs.Under.{Under};
     ghost use Rattle.master_tour.specs.Cursor.{IsAtOne};
+    ghost use Rattle.master_tour.specs.Stands.{StopShows, FollowShows, IsMet};
+    ghost use Rattle.life_model.specs.Lives.{Life, Spot, life_back};
+    ghost use Rattle.segment_model.specs.Record.{News};
+    ghost use Rattle.segment_model.specs.Slaves.{Found};
+    ghost use Rattle.task_model.specs.Accounts.{new_account};
+    ghost use Rattle.master_side.specs.Shown.{new_side};
+    ghost use Rattle.std.specs.Prelude.{Bool, Option, Some};
     ghost use Rattle.master_tour.specs.declared.stop.Stand.{Stand};
 
     /// Its datagram of the frame that came back, while it is open. `made` is the frame's number.
@@ -143,29 +173,47 @@ impl<H: Hand> Stop<H> {
         }
     }
 
-    // The access of its opening came back: the next is in hand, or the slave is open.
+    // Where the slave was seen in Init, its mailboxes and services are forgotten.
+    fn renew_where(&mut self, is_cleared: bool)
+        ensures cleared { is_cleared ≡ true → (x : Speech Body H.Asked Reply) (d : Seats.Side Body H.Asked Reply) (a : Account H.Asked Reply) → SideShows (H.shows self.old.side.hand x) self.old.side.out self.old.side.inn self.old.side.fresh self.old.side.duty d a →
+            SideShows (H.shows self.new.side.hand x) self.new.side.out self.new.side.inn self.new.side.fresh self.new.side.duty new_side new_account }
+        ensures still { is_cleared ≡ false → self.new.side ≡ self.old.side }
+        ensures station { self.new.side.station ≡ self.old.side.station }
+        ensures kept { (self.new.stand ≡ self.old.stand) × (self.new.spare ≡ self.old.spare) × (self.new.news ≡ self.old.news) }
+    {
+        if is_cleared {
+            self.side.renew();
+        }
+    }
+
+    // The access of its opening came back with this working counter and body: the next is in hand, or the slave is open.
+    fn opening_met(&mut self, up: BringUp, counter: u16, body: &[u8])
+        ensures lives { self.old.stand ≡ Stand.Opening up → (x : Speech Body H.Asked Reply) (more : Body → Bool) (passed : H.Asked → Bool) (frame recover : ℕ) (spot : Spot) (news : List (News Body)) (back : List (Datagram Body)) (came : Bool × Option Found) (l : Life Body H.Asked Reply) →
+            IsMet up counter body.now came → StopShows (λ d a. SideShows (H.shows self.old.side.hand x) self.old.side.out self.old.side.inn self.old.side.fresh self.old.side.duty d a) recover spot self.old.stand self.old.spare l →
+            FollowShows (λ d a. SideShows (H.shows self.new.side.hand x) self.new.side.out self.new.side.inn self.new.side.fresh self.new.side.duty d a) recover spot self.new.stand self.new.spare self.new.news l (life_back x H.acknowledged more passed frame spot news back (Some came) l l.stand) }
+        ensures station { self.new.side.station ≡ self.old.side.station }
+    {
+        let mut next = up;
+        let is_up = came_back(&mut next, counter, body);
+        let is_cleared = clears(&up, &next);
+        self.stand = stand_behind(is_up, next);
+        self.news = news_of(is_up, is_cleared);
+        self.renew_where(is_cleared);
+    }
+
+    // Its datagram of the frame that came back, while it is opened.
     fn opening_back(&mut self, up: BringUp, cursor: &mut Cursor, octets: &[u8])
         requires frame { (ds : List Raw.Datagram) × IsFrame octets.now ds }
         requires stands { IsAtOne octets.now cursor.old.number cursor.old.part }
         ensures stands { IsAtOne octets.now cursor.new.number cursor.new.part }
         ensures station { self.new.side.station ≡ self.old.side.station }
     {
-        if !self.under || !cursor.seek(octets, self.at) {
+        if !self.under {
             return;
         }
-        let part = cursor.part;
-        let mut up = up;
-        let was_cleared = cleared(&up);
-        let is_up = came_back(&mut up, part.head.counter, body_of(octets, part));
-        let is_cleared = !was_cleared && cleared(&up);
-        self.stand = if is_up {
-            Stand::Open
-        } else {
-            Stand::Opening(up)
-        };
-        self.news = news_of(is_up, is_cleared);
-        if is_cleared {
-            self.side.renew();
+        if cursor.seek(octets, self.at) {
+            let part = cursor.part;
+            self.opening_met(up, part.head.counter, body_of(octets, part));
         }
     }
 
