@@ -4,3 +4,4 @@ pub mod Walks
 pub mod Frames
 pub mod Cursors
 pub mod Openings
+pub mod Backs

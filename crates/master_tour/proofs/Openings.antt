@@ -1,12 +1,12 @@
 -- An opening goes on by its accesses, as the life of its slave does.
-use Rattle.std.proofs.Common.{◌≡◌, ℕ, zero, suc, ◌+◌, ◌-◌, ◌<◌, ◌≤◌, ◌/◌, ◌%◌, ◌^◌, ◌==◌, Bool, true, false, List, [], ◌∷◌, ◌++◌, length, Option, Some, None, refl, sym, ap, ◌∙◌, subst, arith, length-append, eq-eqb}
+use Rattle.std.proofs.Common.{◌≡◌, ℕ, ◌-◌, ◌<◌, ◌==◌, Bool, true, false, List, [], ◌∷◌, ◌++◌, length, Option, Some, None, refl, sym, ap, ◌∙◌, subst, arith, length-append, eq-eqb}
 use Rattle.std.specs.Prelude.{nat_lt, nat_le, if◌then◌else◌, ◌&&◌, not}
 use Rattle.std.proofs.lemmas.Bool.{eqb-true, le-ltb, lt-ltb, ltb-true, ltb-false}
 use Rattle.ec_fields.specs.Fields.{bits_of, number_at}
 use Rattle.al_state.specs.declared.bringing.BringStep.{BringStep}
 use Rattle.al_state.specs.declared.bringing.BringStep.TheVariants.{Return, Watch, Address, OutOff, InOff, OutManager, InManager, Start, Await}
 use Rattle.al_state.specs.declared.bringing.BringUp.{BringUp}
-use Rattle.al_state.specs.BringUp.{is_behind_init, step_behind, step_after, is_up, shows}
+use Rattle.al_state.specs.BringUp.{is_behind_init, step_behind, is_up, shows}
 use Rattle.link_mails.specs.Body.{Body}
 use Rattle.exchange_model.specs.Exchange.{Speech}
 use Rattle.segment_model.specs.Slaves.{Datagram, Access, Found}
@@ -20,7 +20,7 @@ use Rattle.master_duty.specs.Reply.{Reply}
 use Rattle.master_side.specs.Shown.{new_side}
 use Rattle.master_tour.specs.declared.stop.Stand.{Stand}
 use Rattle.master_tour.specs.declared.stop.Turned.{Turned}
-use Rattle.master_tour.specs.Stands.{has_step, opening_of, is_still, IsMet, IsOpeningOf, ShowsSome, EraShows, StopShows, FollowShows, is_reading, is_opening, is_open, turned, turned_by}
+use Rattle.master_tour.specs.Stands.{has_step, opening_of, is_still, IsMet, IsOpeningOf, EraShows, StopShows, FollowShows, is_reading, is_opening, is_open, turned, turned_by}
 
 differ : (a b : ℕ) → (a ≡ b → ⊥) → false ≡ (a == b)
 differ a b n = go (a == b) refl
@@ -110,10 +110,10 @@ module _ {Q : Type 0} (frame adp station out_len in_len start : ℕ) (own : Bool
   turns false InOff st h one at = absurd (cc)
 
 -- a number against itself, and against one more
-lt_self : (n : ℕ) → nat_lt n n ≡ false
+pub lt_self : (n : ℕ) → nat_lt n n ≡ false
 lt_self n = le-ltb n n (omega arith)
 
-lt_more : {X : Type 0} (xs : List X) (x : X) → nat_lt (length xs) (length (xs ++ x ∷ [])) ≡ true
+pub lt_more : {X : Type 0} (xs : List X) (x : X) → nat_lt (length xs) (length (xs ++ x ∷ [])) ≡ true
 lt_more xs x = let l = length-append xs (x ∷ []) in lt-ltb (length xs) (length (xs ++ x ∷ [])) (omega (arith, l))
 
 pub turned_is : {Q : Type 0} (l m : Life Body Q Reply) (g c o : Bool) → nat_lt (length l.gave) (length m.gave) ≡ g → nat_lt (length l.past) (length m.past) ≡ c → (is_opening l.stand && is_open m.stand) ≡ o → turned_by g c o ≡ turned l m
@@ -127,7 +127,7 @@ module _ {Q : Type 0} (shows new : Side Body Q Reply → Account Q Reply → Typ
       let was = subst (λ z. EraShows shows z l.era) s era in
       subst (λ z. FollowShows new recover spot (if ends then Stand.Open else Stand.Opening (record up { step = step })) spare (turned_by false clears ends) l z) (sym e)
       (subst (λ z. FollowShows new recover spot (if z then Stand.Open else Stand.Opening (record up { step = step })) spare (turned_by false clears z) l (opens frame l)) (sym u)
-      (record { shown = record { stood = (refl, keeps c l.era.side l.era.account was); spared = sp }; told = ap (λ z. turned_by false z true) c ∙ turned_is l (opens frame l) false false true (lt_self (length l.gave)) (lt_self (length l.past)) (ap (λ z. is_opening z && true) st) }))
+      (record { shown = record { stood = (refl, keeps c l.era.side l.era.account was); spared = sp; over = λ e. absurd (cc) }; told = ap (λ z. turned_by false z true) c ∙ turned_is l (opens frame l) false false true (lt_self (length l.gave)) (lt_self (length l.past)) (ap (λ z. is_opening z && true) st) }))
   follow m ends clears (Turns.cleared u c s n h e) st o era sp keeps renews =
       let was = subst (λ z. EraShows shows z l.era) s era in
       let next : Life Body Q Reply = record { past = l.past ++ l.era ∷ []; era = new_era (Some frame); stand = Lives.Stand.Opens (opening_of (record up { step = step }) own); gave = l.gave } in
@@ -137,6 +137,7 @@ module _ {Q : Type 0} (shows new : Side Body Q Reply → Account Q Reply → Typ
         shown = record {
           stood = record { own = own; stand = refl; opening = record { step = h; state = o.state; station = o.station; place = o.place }; era = subst (λ z. EraShows new z next.era) (sym n) (renews c was.side was.account was.shown) };
           spared = sp;
+          over = λ e. absurd (cc);
         };
         told = ap (λ z. turned_by false z false) c ∙ turned_is l next false true false (lt_self (length l.gave)) (lt_more l.past l.era) (ap (λ z. is_opening z && false) st);
       }))
@@ -148,6 +149,7 @@ module _ {Q : Type 0} (shows new : Side Body Q Reply → Account Q Reply → Typ
         shown = record {
           stood = record { own = own; stand = refl; opening = record { step = h; state = o.state; station = o.station; place = o.place }; era = subst (λ z. EraShows new z l.era) (sym n) (kept (is_still up) era) };
           spared = sp;
+          over = λ e. absurd (cc);
         };
         told = ap (λ z. turned_by false z false) c ∙ turned_is l next false false false (lt_self (length l.gave)) (lt_self (length l.past)) (ap (λ z. is_opening z && false) st);
       }))

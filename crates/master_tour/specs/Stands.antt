@@ -95,6 +95,7 @@ module _ {Q : Type 0} (shows : Side Body Q Reply → Account Q Reply → Type 0)
   pub record StopShows (recover : ℕ) (spot : Spot) (stand : Stand) (spare : ℕ) (l : Life Body Q Reply) : Type 0 where
     pub stood : StandShows spot stand l
     pub spared : spare ≡ recover - length l.gave
+    pub over : stand ≡ Stand.Gone → spare ≡ 0
 
 -- WHAT THE FRAME HAS OF AN OPENING: nothing, or the access in hand, at this place
 pub data OpensUnder (lens : ℕ → Lens) (at : ℕ) (under : Bool) (up : BringUp) (sent : Grams) : Type 0 where

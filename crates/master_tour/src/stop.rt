@@ -128,8 +128,11 @@ impl<H: Hand> Stop<H> {
     ghost use Rattle.al_state.specs.BringUp.{head_of, octets_of};
     ghost use Rattle.master_tour.specs.Under.{Under};
     ghost use Rattle.master_tour.specs.Cursor.{IsAtOne};
-    ghost use Rattle.master_tour.specs.Stands.{StopShows, FollowShows, IsMet};
-    ghost use Rattle.life_model.specs.Lives.{Life, Spot, life_back};
+    ghost use Rattle.master_tour.specs.Stands.{StopShows, FollowShows, IsMet, IsSpot, StandUnder, came_at};
+    ghost use Rattle.segment_model.specs.Returned.{Returns};
+    ghost use Rattle.al_state.specs.declared.bringing.BringStep.{BringStep};
+    ghost use Rattle.std.specs.Prelude.{None, ◌%◌};
+    ghost use Rattle.life_model.specs.Lives.{Life, Spot, life_back, life_lost, reopens, gives_up};
     ghost use Rattle.segment_model.specs.Record.{News};
     ghost use Rattle.segment_model.specs.Slaves.{Found};
     ghost use Rattle.task_model.specs.Accounts.{new_account};
@@ -147,6 +150,7 @@ impl<H: Hand> Stop<H> {
             Under self.old.side.station self.old.at self.old.under self.old.side.carried d.halves (duty_access a.hand) back →
             SideShows (H.shows self.new.side.hand x) self.new.side.out self.new.side.inn self.new.side.fresh self.new.side.duty (Seats.side_back x frame self.old.side.station back d) (account_back self.old.side.station frame a back) }
         ensures link { SameLink self.old.side.out self.old.side.inn self.old.side.station self.old.side.area self.new.side.out self.new.side.inn self.new.side.station self.new.side.area }
+        ensures kept { (self.new.place ≡ self.old.place) × (self.new.start ≡ self.old.start) × (self.new.spare ≡ self.old.spare) × (self.new.news ≡ self.old.news) }
         ensures stand { self.new.stand ≡ self.old.stand }
     {
         if !self.under {
@@ -166,6 +170,7 @@ impl<H: Hand> Stop<H> {
             Under self.old.side.station self.old.at self.old.under self.old.side.carried d.halves (duty_access a.hand) sent →
             SideShows (H.shows self.new.side.hand x) self.new.side.out self.new.side.inn self.new.side.fresh self.new.side.duty (Seats.side_lost self.old.side.station sent d) a }
         ensures link { SameLink self.old.side.out self.old.side.inn self.old.side.station self.old.side.area self.new.side.out self.new.side.inn self.new.side.station self.new.side.area }
+        ensures kept { (self.new.place ≡ self.old.place) × (self.new.start ≡ self.old.start) × (self.new.spare ≡ self.old.spare) × (self.new.news ≡ self.old.news) }
         ensures stand { self.new.stand ≡ self.old.stand }
     {
         if self.under {
@@ -180,6 +185,7 @@ impl<H: Hand> Stop<H> {
         ensures still { is_cleared ≡ false → self.new.side ≡ self.old.side }
         ensures station { self.new.side.station ≡ self.old.side.station }
         ensures kept { (self.new.stand ≡ self.old.stand) × (self.new.spare ≡ self.old.spare) × (self.new.news ≡ self.old.news) }
+        ensures plan { (self.new.place ≡ self.old.place) × (self.new.start ≡ self.old.start) }
     {
         if is_cleared {
             self.side.renew();
@@ -191,6 +197,7 @@ impl<H: Hand> Stop<H> {
         ensures lives { self.old.stand ≡ Stand.Opening up → (x : Speech Body H.Asked Reply) (more : Body → Bool) (passed : H.Asked → Bool) (frame recover : ℕ) (spot : Spot) (news : List (News Body)) (back : List (Datagram Body)) (came : Bool × Option Found) (l : Life Body H.Asked Reply) →
             IsMet up counter body.now came → StopShows (λ d a. SideShows (H.shows self.old.side.hand x) self.old.side.out self.old.side.inn self.old.side.fresh self.old.side.duty d a) recover spot self.old.stand self.old.spare l →
             FollowShows (λ d a. SideShows (H.shows self.new.side.hand x) self.new.side.out self.new.side.inn self.new.side.fresh self.new.side.duty d a) recover spot self.new.stand self.new.spare self.new.news l (life_back x H.acknowledged more passed frame spot news back (Some came) l l.stand) }
+        ensures kept { (self.new.place ≡ self.old.place) × (self.new.start ≡ self.old.start) }
         ensures station { self.new.side.station ≡ self.old.side.station }
     {
         let mut next = up;
@@ -206,6 +213,10 @@ impl<H: Hand> Stop<H> {
         requires frame { (ds : List Raw.Datagram) × IsFrame octets.now ds }
         requires stands { IsAtOne octets.now cursor.old.number cursor.old.part }
         ensures stands { IsAtOne octets.now cursor.new.number cursor.new.part }
+        ensures lives { self.old.stand ≡ Stand.Opening up → self.old.news ≡ None → (x : Speech Body H.Asked Reply) (more : Body → Bool) (passed : H.Asked → Bool) (number recover : ℕ) (spot : Spot) (lens : ℕ → Lens) (ns : List (News Body)) (sent : List (Datagram Body)) (l : Life Body H.Asked Reply) →
+            Returns sent (seen lens octets.now) → StandUnder lens self.old.side.station self.old.at self.old.under self.old.side.carried self.old.stand l sent → StopShows (λ d a. SideShows (H.shows self.old.side.hand x) self.old.side.out self.old.side.inn self.old.side.fresh self.old.side.duty d a) recover spot self.old.stand self.old.spare l →
+            FollowShows (λ d a. SideShows (H.shows self.new.side.hand x) self.new.side.out self.new.side.inn self.new.side.fresh self.new.side.duty d a) recover spot self.new.stand self.new.spare self.new.news l (life_back x H.acknowledged more passed number spot ns (seen lens octets.now) (came_at self.old.under self.old.at (seen lens octets.now)) l l.stand) }
+        ensures kept { (self.new.place ≡ self.old.place) × (self.new.start ≡ self.old.start) }
         ensures station { self.new.side.station ≡ self.old.side.station }
     {
         if !self.under {
@@ -220,6 +231,9 @@ impl<H: Hand> Stop<H> {
     // A state service that has drained and returns its slave to Init begins a reopening.
     fn reopen(&mut self)
         ensures side { self.new.side ≡ self.old.side }
+        ensures lives { self.old.stand ≡ Stand.Open → (x : Speech Body H.Asked Reply) (recover : ℕ) (spot : Spot) (l : Life Body H.Asked Reply) → IsSpot spot self.old.side.station self.old.place self.old.start → StopShows (λ d a. SideShows (H.shows self.old.side.hand x) self.old.side.out self.old.side.inn self.old.side.fresh self.old.side.duty d a) recover spot self.old.stand self.old.spare l →
+            StopShows (λ d a. SideShows (H.shows self.new.side.hand x) self.new.side.out self.new.side.inn self.new.side.fresh self.new.side.duty d a) recover spot self.new.stand self.new.spare (reopens l l.era.account.hand) }
+        ensures kept { (self.new.place ≡ self.old.place) × (self.new.start ≡ self.old.start) × (self.new.spare ≡ self.old.spare) × (self.new.news ≡ self.old.news) }
     {
         let Some(duty) = self.side.duty else {
             return;
@@ -231,7 +245,9 @@ impl<H: Hand> Stop<H> {
     }
 
     // The accesses that return the slave to Init and open it anew, into this state.
-    fn opening(&self, state: u8) -> BringUp {
+    fn opening(&self, state: u8) -> BringUp
+        ensures { result ≡ record { adp = (65536 - self.now.place) % 65536; station = self.now.side.station; out_len = self.now.side.out_len; in_len = self.now.side.in_len; start = state; again = true; step = BringStep.Return } }
+    {
         reopen_new(
             self.place,
             self.side.station,
@@ -239,6 +255,25 @@ impl<H: Hand> Stop<H> {
             self.side.in_len,
             state,
         )
+    }
+
+    // Its datagram of the frame that came back, while it is open, and the reopening that this may begin.
+    fn open_met(&mut self, cursor: &mut Cursor, octets: &[u8], made: u32)
+        requires frame { (ds : List Raw.Datagram) × IsFrame octets.now ds }
+        requires stands { IsAtOne octets.now cursor.old.number cursor.old.part }
+        ensures stands { IsAtOne octets.now cursor.new.number cursor.new.part }
+        ensures shown { (x : Speech Body H.Asked Reply) (frame : ℕ) (lens : ℕ → Lens) (back : List (Datagram Body)) (d : Seats.Side Body H.Asked Reply) (a : Account H.Asked Reply) → back ≡ seen lens octets.now →
+            SideShows (H.shows self.old.side.hand x) self.old.side.out self.old.side.inn self.old.side.fresh self.old.side.duty d a →
+            Under self.old.side.station self.old.at self.old.under self.old.side.carried d.halves (duty_access a.hand) back →
+            SideShows (H.shows self.new.side.hand x) self.new.side.out self.new.side.inn self.new.side.fresh self.new.side.duty (Seats.side_back x frame self.old.side.station back d) (account_back self.old.side.station frame a back) }
+        ensures lives { self.old.stand ≡ Stand.Open → self.old.news ≡ None → (x : Speech Body H.Asked Reply) (more : Body → Bool) (passed : H.Asked → Bool) (number recover : ℕ) (spot : Spot) (lens : ℕ → Lens) (ns : List (News Body)) (sent : List (Datagram Body)) (l : Life Body H.Asked Reply) →
+            IsSpot spot self.old.side.station self.old.place self.old.start → Returns sent (seen lens octets.now) → StandUnder lens self.old.side.station self.old.at self.old.under self.old.side.carried self.old.stand l sent → StopShows (λ d a. SideShows (H.shows self.old.side.hand x) self.old.side.out self.old.side.inn self.old.side.fresh self.old.side.duty d a) recover spot self.old.stand self.old.spare l →
+            FollowShows (λ d a. SideShows (H.shows self.new.side.hand x) self.new.side.out self.new.side.inn self.new.side.fresh self.new.side.duty d a) recover spot self.new.stand self.new.spare self.new.news l (life_back x H.acknowledged more passed number spot ns (seen lens octets.now) (came_at self.old.under self.old.at (seen lens octets.now)) l l.stand) }
+        ensures kept { (self.new.place ≡ self.old.place) × (self.new.start ≡ self.old.start) }
+        ensures station { self.new.side.station ≡ self.old.side.station }
+    {
+        self.open_back(cursor, octets, made);
+        self.reopen();
     }
 
     /// The frame under way came back. `made` is its number.
@@ -250,16 +285,17 @@ impl<H: Hand> Stop<H> {
             SideShows (H.shows self.old.side.hand x) self.old.side.out self.old.side.inn self.old.side.fresh self.old.side.duty d a →
             Under self.old.side.station self.old.at self.old.under self.old.side.carried d.halves (duty_access a.hand) back →
             SideShows (H.shows self.new.side.hand x) self.new.side.out self.new.side.inn self.new.side.fresh self.new.side.duty (Seats.side_back x frame self.old.side.station back d) (account_back self.old.side.station frame a back) }
+        ensures lives { (x : Speech Body H.Asked Reply) (more : Body → Bool) (passed : H.Asked → Bool) (number recover : ℕ) (spot : Spot) (lens : ℕ → Lens) (ns : List (News Body)) (sent : List (Datagram Body)) (l : Life Body H.Asked Reply) →
+            IsSpot spot self.old.side.station self.old.place self.old.start → Returns sent (seen lens octets.now) → StandUnder lens self.old.side.station self.old.at self.old.under self.old.side.carried self.old.stand l sent → StopShows (λ d a. SideShows (H.shows self.old.side.hand x) self.old.side.out self.old.side.inn self.old.side.fresh self.old.side.duty d a) recover spot self.old.stand self.old.spare l →
+            FollowShows (λ d a. SideShows (H.shows self.new.side.hand x) self.new.side.out self.new.side.inn self.new.side.fresh self.new.side.duty d a) recover spot self.new.stand self.new.spare self.new.news l (life_back x H.acknowledged more passed number spot ns (seen lens octets.now) (came_at self.old.under self.old.at (seen lens octets.now)) l l.stand) }
+        ensures kept { (self.new.place ≡ self.old.place) × (self.new.start ≡ self.old.start) }
         ensures station { self.new.side.station ≡ self.old.side.station }
     {
         self.news = None;
         match self.stand {
             Stand::Gone => {}
             Stand::Opening(up) => self.opening_back(up, cursor, octets),
-            Stand::Open => {
-                self.open_back(cursor, octets, made);
-                self.reopen();
-            }
+            Stand::Open => self.open_met(cursor, octets, made),
         }
     }
 
@@ -269,17 +305,25 @@ impl<H: Hand> Stop<H> {
             SideShows (H.shows self.old.side.hand x) self.old.side.out self.old.side.inn self.old.side.fresh self.old.side.duty d a →
             Under self.old.side.station self.old.at self.old.under self.old.side.carried d.halves (duty_access a.hand) sent →
             SideShows (H.shows self.new.side.hand x) self.new.side.out self.new.side.inn self.new.side.fresh self.new.side.duty (Seats.side_lost self.old.side.station sent d) a }
+        ensures lives { (x : Speech Body H.Asked Reply) (more : Body → Bool) (passed : H.Asked → Bool) (recover : ℕ) (spot : Spot) (lens : ℕ → Lens) (ns : List (News Body)) (octets : List ℕ) (l : Life Body H.Asked Reply) →
+            IsSpot spot self.old.side.station self.old.place self.old.start → StandUnder lens self.old.side.station self.old.at self.old.under self.old.side.carried self.old.stand l (seen lens octets) → StopShows (λ d a. SideShows (H.shows self.old.side.hand x) self.old.side.out self.old.side.inn self.old.side.fresh self.old.side.duty d a) recover spot self.old.stand self.old.spare l →
+            FollowShows (λ d a. SideShows (H.shows self.new.side.hand x) self.new.side.out self.new.side.inn self.new.side.fresh self.new.side.duty d a) recover spot self.new.stand self.new.spare self.new.news l (life_lost x H.acknowledged more passed spot ns (seen lens octets) l l.stand) }
+        ensures kept { (self.new.place ≡ self.old.place) × (self.new.start ≡ self.old.start) }
         ensures station { self.new.side.station ≡ self.old.side.station }
     {
         self.news = None;
         match self.stand {
-            Stand::Gone | Stand::Opening(_) => {}
+            Stand::Gone => {}
+            Stand::Opening(_) => {}
             Stand::Open => self.open_lost(),
         }
     }
 
     /// The slave is given up: while it has a spare, it is opened anew, else it gets no further datagram.
     pub fn give_up(&mut self)
+        ensures lives { (x : Speech Body H.Asked Reply) (number recover : ℕ) (spot : Spot) (l : Life Body H.Asked Reply) → IsSpot spot self.old.side.station self.old.place self.old.start → StopShows (λ d a. SideShows (H.shows self.old.side.hand x) self.old.side.out self.old.side.inn self.old.side.fresh self.old.side.duty d a) recover spot self.old.stand self.old.spare l →
+            FollowShows (λ d a. SideShows (H.shows self.new.side.hand x) self.new.side.out self.new.side.inn self.new.side.fresh self.new.side.duty d a) recover spot self.new.stand self.new.spare self.new.news l (gives_up recover spot number l) }
+        ensures kept { (self.new.place ≡ self.old.place) × (self.new.start ≡ self.old.start) }
         ensures station { self.new.side.station ≡ self.old.side.station }
     {
         self.news = Some(Turned::GivenUp);
