@@ -3,3 +3,5 @@ pub mod Visits
 pub mod Walks
 pub mod Frames
 pub mod Cursors
+pub mod Openings
+pub mod Backs

@@ -104,7 +104,7 @@ one_mine : (station : ℕ) (b : Datagram Body) → b.gram.station ≡ station �
 one_mine station b e = ap (λ (z : Bool). if z then b ∷ [] else []) (eq-eqb b.gram.station station e)
 
 -- AN ANSWER HAS OF A SLAVE what the frame had
-at_answer : (at : ℕ) (sent back : Grams) (s : Datagram Body) → Returns sent back → IsAt at sent s → (b : Datagram Body) × IsAt at back b × IsReturn s b
+pub at_answer : (at : ℕ) (sent back : Grams) (s : Datagram Body) → Returns sent back → IsAt at sent s → (b : Datagram Body) × IsAt at back b × IsReturn s b
 at_answer at [] [] s a i = absurd i
 at_answer at [] (b ∷ bs) s a i = absurd a
 at_answer at (x ∷ xs) [] s a i = absurd a
@@ -153,12 +153,12 @@ part_fits octets part i =
     let all = ap length (text_of-append i.front (i.datagram ∷ i.behind)) ∙ length-append (text_of i.front) (text_of (i.datagram ∷ i.behind)) in
     omega (arith, place, bits, takes, all)
 
-at_map : (f : Part → Datagram Body) (at : ℕ) (ps : List Part) (p : Part) (b : Datagram Body) → IsAt at (map f ps) b → b ≡ f (get_or ps at p)
+pub at_map : (f : Part → Datagram Body) (at : ℕ) (ps : List Part) (p : Part) (b : Datagram Body) → IsAt at (map f ps) b → b ≡ f (get_or ps at p)
 at_map f at [] p b i = absurd i
 at_map f zero (x ∷ xs) p b i = i
 at_map f (suc at) (x ∷ xs) p b i = at_map f at xs p b i
 
-at_short : (at : ℕ) (f : Part → Datagram Body) (ps : List Part) (b : Datagram Body) → IsAt at (map f ps) b → length ps ≤ at → ⊥
+pub at_short : (at : ℕ) (f : Part → Datagram Body) (ps : List Part) (b : Datagram Body) → IsAt at (map f ps) b → length ps ≤ at → ⊥
 at_short at f [] b i l = i
 at_short zero f (x ∷ xs) b i l = absurd (omega (arith, l))
 at_short (suc at) f (x ∷ xs) b i l = at_short at f xs b i (omega (arith, l))
@@ -289,7 +289,7 @@ module _ {Q : Type 0} (sp : Speech Body Q Reply) where
   abbrev pub Rows : Type 0
   Rows = Option (Row Body Q Reply)
 
-  back_as : (made station : ℕ) (ds es : Grams) (d : Side Body Q Reply) → mine station ds ≡ mine station es → side_back sp made station ds d ≡ side_back sp made station es d
+  pub back_as : (made station : ℕ) (ds es : Grams) (d : Side Body Q Reply) → mine station ds ≡ mine station es → side_back sp made station ds d ≡ side_back sp made station es d
   back_as made station ds es d e =
       let o = own_as station ds es e in
       let h = after_own station d.halves (grams ds) ∙ ap (answered_all d.halves) o ∙ sym (after_own station d.halves (grams es)) in
@@ -297,7 +297,7 @@ module _ {Q : Type 0} (sp : Speech Body Q Reply) where
       let k = accepted_own station d.halves (grams ds) ∙ ap (accept_all d.halves) o ∙ sym (accepted_own station d.halves (grams es)) in
       λ i. record { halves = h i; fresh = d.fresh && not (w i); past = d.past; now = option_map (λ r. row_heard sp made (k i) r) d.now }
 
-  lost_as : (station : ℕ) (ds es : Grams) (d : Side Body Q Reply) → mine station ds ≡ mine station es → side_lost station ds d ≡ side_lost station es d
+  pub lost_as : (station : ℕ) (ds es : Grams) (d : Side Body Q Reply) → mine station ds ≡ mine station es → side_lost station ds d ≡ side_lost station es d
   lost_as station ds es d e =
       let o = own_as station ds es e in
       let h = without_own station d.halves (grams ds) ∙ ap (lost_all d.halves) o ∙ sym (without_own station d.halves (grams es)) in
@@ -317,7 +317,7 @@ module _ {Q : Type 0} (sp : Speech Body Q Reply) where
       go false e ih = ap (λ (z : Account Q Reply). account_back station made z ds) (met_else station made a a.hand d (b.0 ∙ e)) ∙ ih a
           ∙ ap (λ (z : Bool). account_back station made a (if z then d ∷ mine station ds else mine station ds)) (sym e)
 
-  account_as : (station made : ℕ) (a : Account Q Reply) (ds es : Grams) → SameAim station ds → SameAim station es → mine station ds ≡ mine station es → account_back station made a ds ≡ account_back station made a es
+  pub account_as : (station made : ℕ) (a : Account Q Reply) (ds es : Grams) → SameAim station ds → SameAim station es → mine station ds ≡ mine station es → account_back station made a ds ≡ account_back station made a es
   account_as station made a ds es b c e = account_mine station made a ds b ∙ ap (account_back station made a) e ∙ sym (account_mine station made a es c)
 
   -- nothing of a slave came back

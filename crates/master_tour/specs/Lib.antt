@@ -1,3 +1,4 @@
 pub mod Under
 pub mod Walks
 pub mod Cursor
+pub mod Stands

@@ -2,6 +2,9 @@ ghost use Rattle.std.specs.Prelude.{◌≡◌, ◌+◌, ℕ, All, take, drop, tr
 ghost use Rattle.datagrams.specs.Frame.{IsPart};
 ghost use Rattle.std.specs.Prelude.{length};
 ghost use Rattle.al_state.specs.BringUp.{octets_of};
+ghost use Rattle.std.specs.Prelude.{false, if◌then◌else◌, not, ◌&&◌};
+ghost use Rattle.al_state.specs.BringUp.{is_behind_init};
+ghost use Rattle.master_tour.specs.Stands.{turned_by};
 
 use crate::cursor::Cursor;
 use al_state::{BringStep, BringUp, access, came_back, cleared, reopen_new};
@@ -20,12 +23,32 @@ pub enum Stand {
     Gone,
 }
 
-// What the return of an opening's access has turned a slave's stand into.
-fn news_of(is_up: bool, is_cleared: bool) -> Option<Turned> {
+// How the master stands to a slave behind an access of its opening.
+fn stand_behind(is_up: bool, up: BringUp) -> Stand
+    ensures { result ≡ (if is_up then Stand.Open else Stand.Opening up) }
+{
     if is_up {
-        Some(Turned::Opened)
-    } else if is_cleared {
+        Stand::Open
+    } else {
+        Stand::Opening(up)
+    }
+}
+
+// Whether an access of an opening has shown its slave in Init: that is behind it, and was not before.
+fn clears(up: &BringUp, next: &BringUp) -> bool
+    ensures { result ≡ not (up.now.again && is_behind_init up.now.step) && (next.now.again && is_behind_init next.now.step) }
+{
+    !cleared(up) && cleared(next)
+}
+
+// What the return of an opening's access has turned a slave's stand into.
+fn news_of(is_up: bool, is_cleared: bool) -> Option<Turned>
+    ensures { result ≡ turned_by false is_cleared is_up }
+{
+    if is_cleared {
         Some(Turned::Cleared)
+    } else if is_up {
+        Some(Turned::Opened)
     } else {
         None
     }
@@ -105,6 +128,16 @@ impl<H: Hand> Stop<H> {
     ghost use Rattle.al_state.specs.BringUp.{head_of, octets_of};
     ghost use Rattle.master_tour.specs.Under.{Under};
     ghost use Rattle.master_tour.specs.Cursor.{IsAtOne};
+    ghost use Rattle.master_tour.specs.Stands.{StopShows, FollowShows, IsMet, IsSpot, StandUnder, came_at};
+    ghost use Rattle.segment_model.specs.Returned.{Returns};
+    ghost use Rattle.al_state.specs.declared.bringing.BringStep.{BringStep};
+    ghost use Rattle.std.specs.Prelude.{None, ◌%◌};
+    ghost use Rattle.life_model.specs.Lives.{Life, Spot, life_back, life_lost, reopens, gives_up};
+    ghost use Rattle.segment_model.specs.Record.{News};
+    ghost use Rattle.segment_model.specs.Slaves.{Found};
+    ghost use Rattle.task_model.specs.Accounts.{new_account};
+    ghost use Rattle.master_side.specs.Shown.{new_side};
+    ghost use Rattle.std.specs.Prelude.{Bool, Option, Some};
     ghost use Rattle.master_tour.specs.declared.stop.Stand.{Stand};
 
     /// Its datagram of the frame that came back, while it is open. `made` is the frame's number.
@@ -117,6 +150,7 @@ impl<H: Hand> Stop<H> {
             Under self.old.side.station self.old.at self.old.under self.old.side.carried d.halves (duty_access a.hand) back →
             SideShows (H.shows self.new.side.hand x) self.new.side.out self.new.side.inn self.new.side.fresh self.new.side.duty (Seats.side_back x frame self.old.side.station back d) (account_back self.old.side.station frame a back) }
         ensures link { SameLink self.old.side.out self.old.side.inn self.old.side.station self.old.side.area self.new.side.out self.new.side.inn self.new.side.station self.new.side.area }
+        ensures kept { (self.new.place ≡ self.old.place) × (self.new.start ≡ self.old.start) × (self.new.spare ≡ self.old.spare) × (self.new.news ≡ self.old.news) }
         ensures stand { self.new.stand ≡ self.old.stand }
     {
         if !self.under {
@@ -136,6 +170,7 @@ impl<H: Hand> Stop<H> {
             Under self.old.side.station self.old.at self.old.under self.old.side.carried d.halves (duty_access a.hand) sent →
             SideShows (H.shows self.new.side.hand x) self.new.side.out self.new.side.inn self.new.side.fresh self.new.side.duty (Seats.side_lost self.old.side.station sent d) a }
         ensures link { SameLink self.old.side.out self.old.side.inn self.old.side.station self.old.side.area self.new.side.out self.new.side.inn self.new.side.station self.new.side.area }
+        ensures kept { (self.new.place ≡ self.old.place) × (self.new.start ≡ self.old.start) × (self.new.spare ≡ self.old.spare) × (self.new.news ≡ self.old.news) }
         ensures stand { self.new.stand ≡ self.old.stand }
     {
         if self.under {
@@ -143,35 +178,62 @@ impl<H: Hand> Stop<H> {
         }
     }
 
-    // The access of its opening came back: the next is in hand, or the slave is open.
+    // Where the slave was seen in Init, its mailboxes and services are forgotten.
+    fn renew_where(&mut self, is_cleared: bool)
+        ensures cleared { is_cleared ≡ true → (x : Speech Body H.Asked Reply) (d : Seats.Side Body H.Asked Reply) (a : Account H.Asked Reply) → SideShows (H.shows self.old.side.hand x) self.old.side.out self.old.side.inn self.old.side.fresh self.old.side.duty d a →
+            SideShows (H.shows self.new.side.hand x) self.new.side.out self.new.side.inn self.new.side.fresh self.new.side.duty new_side new_account }
+        ensures still { is_cleared ≡ false → self.new.side ≡ self.old.side }
+        ensures station { self.new.side.station ≡ self.old.side.station }
+        ensures kept { (self.new.stand ≡ self.old.stand) × (self.new.spare ≡ self.old.spare) × (self.new.news ≡ self.old.news) }
+        ensures plan { (self.new.place ≡ self.old.place) × (self.new.start ≡ self.old.start) }
+    {
+        if is_cleared {
+            self.side.renew();
+        }
+    }
+
+    // The access of its opening came back with this working counter and body: the next is in hand, or the slave is open.
+    fn opening_met(&mut self, up: BringUp, counter: u16, body: &[u8])
+        ensures lives { self.old.stand ≡ Stand.Opening up → (x : Speech Body H.Asked Reply) (more : Body → Bool) (passed : H.Asked → Bool) (frame recover : ℕ) (spot : Spot) (news : List (News Body)) (back : List (Datagram Body)) (came : Bool × Option Found) (l : Life Body H.Asked Reply) →
+            IsMet up counter body.now came → StopShows (λ d a. SideShows (H.shows self.old.side.hand x) self.old.side.out self.old.side.inn self.old.side.fresh self.old.side.duty d a) recover spot self.old.stand self.old.spare l →
+            FollowShows (λ d a. SideShows (H.shows self.new.side.hand x) self.new.side.out self.new.side.inn self.new.side.fresh self.new.side.duty d a) recover spot self.new.stand self.new.spare self.new.news l (life_back x H.acknowledged more passed frame spot news back (Some came) l l.stand) }
+        ensures kept { (self.new.place ≡ self.old.place) × (self.new.start ≡ self.old.start) }
+        ensures station { self.new.side.station ≡ self.old.side.station }
+    {
+        let mut next = up;
+        let is_up = came_back(&mut next, counter, body);
+        let is_cleared = clears(&up, &next);
+        self.stand = stand_behind(is_up, next);
+        self.news = news_of(is_up, is_cleared);
+        self.renew_where(is_cleared);
+    }
+
+    // Its datagram of the frame that came back, while it is opened.
     fn opening_back(&mut self, up: BringUp, cursor: &mut Cursor, octets: &[u8])
         requires frame { (ds : List Raw.Datagram) × IsFrame octets.now ds }
         requires stands { IsAtOne octets.now cursor.old.number cursor.old.part }
         ensures stands { IsAtOne octets.now cursor.new.number cursor.new.part }
+        ensures lives { self.old.stand ≡ Stand.Opening up → self.old.news ≡ None → (x : Speech Body H.Asked Reply) (more : Body → Bool) (passed : H.Asked → Bool) (number recover : ℕ) (spot : Spot) (lens : ℕ → Lens) (ns : List (News Body)) (sent : List (Datagram Body)) (l : Life Body H.Asked Reply) →
+            Returns sent (seen lens octets.now) → StandUnder lens self.old.side.station self.old.at self.old.under self.old.side.carried self.old.stand l sent → StopShows (λ d a. SideShows (H.shows self.old.side.hand x) self.old.side.out self.old.side.inn self.old.side.fresh self.old.side.duty d a) recover spot self.old.stand self.old.spare l →
+            FollowShows (λ d a. SideShows (H.shows self.new.side.hand x) self.new.side.out self.new.side.inn self.new.side.fresh self.new.side.duty d a) recover spot self.new.stand self.new.spare self.new.news l (life_back x H.acknowledged more passed number spot ns (seen lens octets.now) (came_at self.old.under self.old.at (seen lens octets.now)) l l.stand) }
+        ensures kept { (self.new.place ≡ self.old.place) × (self.new.start ≡ self.old.start) }
         ensures station { self.new.side.station ≡ self.old.side.station }
     {
-        if !self.under || !cursor.seek(octets, self.at) {
+        if !self.under {
             return;
         }
-        let part = cursor.part;
-        let mut up = up;
-        let was_cleared = cleared(&up);
-        let is_up = came_back(&mut up, part.head.counter, body_of(octets, part));
-        let is_cleared = !was_cleared && cleared(&up);
-        self.stand = if is_up {
-            Stand::Open
-        } else {
-            Stand::Opening(up)
-        };
-        self.news = news_of(is_up, is_cleared);
-        if is_cleared {
-            self.side.renew();
+        if cursor.seek(octets, self.at) {
+            let part = cursor.part;
+            self.opening_met(up, part.head.counter, body_of(octets, part));
         }
     }
 
     // A state service that has drained and returns its slave to Init begins a reopening.
     fn reopen(&mut self)
         ensures side { self.new.side ≡ self.old.side }
+        ensures lives { self.old.stand ≡ Stand.Open → (x : Speech Body H.Asked Reply) (recover : ℕ) (spot : Spot) (l : Life Body H.Asked Reply) → IsSpot spot self.old.side.station self.old.place self.old.start → StopShows (λ d a. SideShows (H.shows self.old.side.hand x) self.old.side.out self.old.side.inn self.old.side.fresh self.old.side.duty d a) recover spot self.old.stand self.old.spare l →
+            StopShows (λ d a. SideShows (H.shows self.new.side.hand x) self.new.side.out self.new.side.inn self.new.side.fresh self.new.side.duty d a) recover spot self.new.stand self.new.spare (reopens l l.era.account.hand) }
+        ensures kept { (self.new.place ≡ self.old.place) × (self.new.start ≡ self.old.start) × (self.new.spare ≡ self.old.spare) × (self.new.news ≡ self.old.news) }
     {
         let Some(duty) = self.side.duty else {
             return;
@@ -183,7 +245,9 @@ impl<H: Hand> Stop<H> {
     }
 
     // The accesses that return the slave to Init and open it anew, into this state.
-    fn opening(&self, state: u8) -> BringUp {
+    fn opening(&self, state: u8) -> BringUp
+        ensures { result ≡ record { adp = (65536 - self.now.place) % 65536; station = self.now.side.station; out_len = self.now.side.out_len; in_len = self.now.side.in_len; start = state; again = true; step = BringStep.Return } }
+    {
         reopen_new(
             self.place,
             self.side.station,
@@ -191,6 +255,25 @@ impl<H: Hand> Stop<H> {
             self.side.in_len,
             state,
         )
+    }
+
+    // Its datagram of the frame that came back, while it is open, and the reopening that this may begin.
+    fn open_met(&mut self, cursor: &mut Cursor, octets: &[u8], made: u32)
+        requires frame { (ds : List Raw.Datagram) × IsFrame octets.now ds }
+        requires stands { IsAtOne octets.now cursor.old.number cursor.old.part }
+        ensures stands { IsAtOne octets.now cursor.new.number cursor.new.part }
+        ensures shown { (x : Speech Body H.Asked Reply) (frame : ℕ) (lens : ℕ → Lens) (back : List (Datagram Body)) (d : Seats.Side Body H.Asked Reply) (a : Account H.Asked Reply) → back ≡ seen lens octets.now →
+            SideShows (H.shows self.old.side.hand x) self.old.side.out self.old.side.inn self.old.side.fresh self.old.side.duty d a →
+            Under self.old.side.station self.old.at self.old.under self.old.side.carried d.halves (duty_access a.hand) back →
+            SideShows (H.shows self.new.side.hand x) self.new.side.out self.new.side.inn self.new.side.fresh self.new.side.duty (Seats.side_back x frame self.old.side.station back d) (account_back self.old.side.station frame a back) }
+        ensures lives { self.old.stand ≡ Stand.Open → self.old.news ≡ None → (x : Speech Body H.Asked Reply) (more : Body → Bool) (passed : H.Asked → Bool) (number recover : ℕ) (spot : Spot) (lens : ℕ → Lens) (ns : List (News Body)) (sent : List (Datagram Body)) (l : Life Body H.Asked Reply) →
+            IsSpot spot self.old.side.station self.old.place self.old.start → Returns sent (seen lens octets.now) → StandUnder lens self.old.side.station self.old.at self.old.under self.old.side.carried self.old.stand l sent → StopShows (λ d a. SideShows (H.shows self.old.side.hand x) self.old.side.out self.old.side.inn self.old.side.fresh self.old.side.duty d a) recover spot self.old.stand self.old.spare l →
+            FollowShows (λ d a. SideShows (H.shows self.new.side.hand x) self.new.side.out self.new.side.inn self.new.side.fresh self.new.side.duty d a) recover spot self.new.stand self.new.spare self.new.news l (life_back x H.acknowledged more passed number spot ns (seen lens octets.now) (came_at self.old.under self.old.at (seen lens octets.now)) l l.stand) }
+        ensures kept { (self.new.place ≡ self.old.place) × (self.new.start ≡ self.old.start) }
+        ensures station { self.new.side.station ≡ self.old.side.station }
+    {
+        self.open_back(cursor, octets, made);
+        self.reopen();
     }
 
     /// The frame under way came back. `made` is its number.
@@ -202,16 +285,17 @@ impl<H: Hand> Stop<H> {
             SideShows (H.shows self.old.side.hand x) self.old.side.out self.old.side.inn self.old.side.fresh self.old.side.duty d a →
             Under self.old.side.station self.old.at self.old.under self.old.side.carried d.halves (duty_access a.hand) back →
             SideShows (H.shows self.new.side.hand x) self.new.side.out self.new.side.inn self.new.side.fresh self.new.side.duty (Seats.side_back x frame self.old.side.station back d) (account_back self.old.side.station frame a back) }
+        ensures lives { (x : Speech Body H.Asked Reply) (more : Body → Bool) (passed : H.Asked → Bool) (number recover : ℕ) (spot : Spot) (lens : ℕ → Lens) (ns : List (News Body)) (sent : List (Datagram Body)) (l : Life Body H.Asked Reply) →
+            IsSpot spot self.old.side.station self.old.place self.old.start → Returns sent (seen lens octets.now) → StandUnder lens self.old.side.station self.old.at self.old.under self.old.side.carried self.old.stand l sent → StopShows (λ d a. SideShows (H.shows self.old.side.hand x) self.old.side.out self.old.side.inn self.old.side.fresh self.old.side.duty d a) recover spot self.old.stand self.old.spare l →
+            FollowShows (λ d a. SideShows (H.shows self.new.side.hand x) self.new.side.out self.new.side.inn self.new.side.fresh self.new.side.duty d a) recover spot self.new.stand self.new.spare self.new.news l (life_back x H.acknowledged more passed number spot ns (seen lens octets.now) (came_at self.old.under self.old.at (seen lens octets.now)) l l.stand) }
+        ensures kept { (self.new.place ≡ self.old.place) × (self.new.start ≡ self.old.start) }
         ensures station { self.new.side.station ≡ self.old.side.station }
     {
         self.news = None;
         match self.stand {
             Stand::Gone => {}
             Stand::Opening(up) => self.opening_back(up, cursor, octets),
-            Stand::Open => {
-                self.open_back(cursor, octets, made);
-                self.reopen();
-            }
+            Stand::Open => self.open_met(cursor, octets, made),
         }
     }
 
@@ -221,17 +305,25 @@ impl<H: Hand> Stop<H> {
             SideShows (H.shows self.old.side.hand x) self.old.side.out self.old.side.inn self.old.side.fresh self.old.side.duty d a →
             Under self.old.side.station self.old.at self.old.under self.old.side.carried d.halves (duty_access a.hand) sent →
             SideShows (H.shows self.new.side.hand x) self.new.side.out self.new.side.inn self.new.side.fresh self.new.side.duty (Seats.side_lost self.old.side.station sent d) a }
+        ensures lives { (x : Speech Body H.Asked Reply) (more : Body → Bool) (passed : H.Asked → Bool) (recover : ℕ) (spot : Spot) (lens : ℕ → Lens) (ns : List (News Body)) (octets : List ℕ) (l : Life Body H.Asked Reply) →
+            IsSpot spot self.old.side.station self.old.place self.old.start → StandUnder lens self.old.side.station self.old.at self.old.under self.old.side.carried self.old.stand l (seen lens octets) → StopShows (λ d a. SideShows (H.shows self.old.side.hand x) self.old.side.out self.old.side.inn self.old.side.fresh self.old.side.duty d a) recover spot self.old.stand self.old.spare l →
+            FollowShows (λ d a. SideShows (H.shows self.new.side.hand x) self.new.side.out self.new.side.inn self.new.side.fresh self.new.side.duty d a) recover spot self.new.stand self.new.spare self.new.news l (life_lost x H.acknowledged more passed spot ns (seen lens octets) l l.stand) }
+        ensures kept { (self.new.place ≡ self.old.place) × (self.new.start ≡ self.old.start) }
         ensures station { self.new.side.station ≡ self.old.side.station }
     {
         self.news = None;
         match self.stand {
-            Stand::Gone | Stand::Opening(_) => {}
+            Stand::Gone => {}
+            Stand::Opening(_) => {}
             Stand::Open => self.open_lost(),
         }
     }
 
     /// The slave is given up: while it has a spare, it is opened anew, else it gets no further datagram.
     pub fn give_up(&mut self)
+        ensures lives { (x : Speech Body H.Asked Reply) (number recover : ℕ) (spot : Spot) (l : Life Body H.Asked Reply) → IsSpot spot self.old.side.station self.old.place self.old.start → StopShows (λ d a. SideShows (H.shows self.old.side.hand x) self.old.side.out self.old.side.inn self.old.side.fresh self.old.side.duty d a) recover spot self.old.stand self.old.spare l →
+            FollowShows (λ d a. SideShows (H.shows self.new.side.hand x) self.new.side.out self.new.side.inn self.new.side.fresh self.new.side.duty d a) recover spot self.new.stand self.new.spare self.new.news l (gives_up recover spot number l) }
+        ensures kept { (self.new.place ≡ self.old.place) × (self.new.start ≡ self.old.start) }
         ensures station { self.new.side.station ≡ self.old.side.station }
     {
         self.news = Some(Turned::GivenUp);

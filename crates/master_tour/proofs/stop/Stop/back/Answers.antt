@@ -1,10 +1,20 @@
-use Rattle.std.proofs.Common.{sym, subst}
-use Rattle.segment_model.specs.Seats
-use Rattle.task_model.specs.Accounts.{account_back}
+use Rattle.std.proofs.Common.{subst, refl}
+use Rattle.frame_view.specs.Seen.{seen}
 use Rattle.master_side.specs.Shown.{SideShows}
+use Rattle.master_tour.specs.Stands.{StopShows, came_at}
+use Rattle.master_tour.proofs.Backs.{gone_follows}
 use Rattle.master_tour.proofs.stop.Stop.back.Goals as goal
 
-pub returns-in-Open-clause-shown : goal.returns-in-Open-clause-shown
-returns-in-Open-clause-shown g c = λ o x frame lens back d a e s u.
+pub returns-in-Gone-clause-lives : goal.returns-in-Gone-clause-lives
+returns-in-Gone-clause-lives g c = λ x more passed number recover spot lens ns sent l sp r u sh.
+    let t = c.args.self.now in
     let w = c.args.self.now.side in
-    subst (λ z. SideShows (g.H.Hand.shows z.hand x) z.out z.inn z.fresh z.duty (Seats.side_back x frame w.station back d) (account_back w.station frame a back)) (sym c.reopen.ensures.side) (c.open_back.ensures.shown x frame lens back d a e s u)
+    let back = seen lens c.args.octets.now in
+    let stood = (subst (λ z. StopShows (λ d a. SideShows (g.H.Hand.shows w.hand x) w.out w.inn w.fresh w.duty d a) recover spot z t.spare l) c.in-Gone.is sh).stood in
+    gone_follows (λ d a. SideShows (g.H.Hand.shows w.hand x) w.out w.inn w.fresh w.duty d a) x g.H.Hand.acknowledged more passed number recover spot ns back l t.stand t.spare _ (came_at t.under t.at back) stood refl sh
+
+pub returns-in-Opening-clause-lives : goal.returns-in-Opening-clause-lives
+returns-in-Opening-clause-lives g c = λ x more passed number recover spot lens ns sent l sp r u sh. c.opening_back.ensures.lives c.in-Opening.is refl x more passed number recover spot lens ns sent l r u sh
+
+pub returns-in-Open-clause-lives : goal.returns-in-Open-clause-lives
+returns-in-Open-clause-lives g c = λ x more passed number recover spot lens ns sent l sp r u sh. c.open_met.ensures.lives c.in-Open.is refl x more passed number recover spot lens ns sent l sp r u sh

@@ -1,0 +1,38 @@
+use Rattle.std.proofs.Common.{ℕ, sym, subst, ap, ◌∙◌, refl}
+use Rattle.frame_view.specs.Seen.{seen}
+use Rattle.segment_model.specs.Seats
+use Rattle.life_model.specs.Lives.{life_lost}
+use Rattle.life_model.specs.Own
+use Rattle.master_side.specs.Shown.{SideShows}
+use Rattle.master_tour.specs.Stands.{StopShows, FollowShows, StandUnder, is_open}
+use Rattle.master_tour.proofs.Backs.{still_follows, lost_follows, own_lost, seen_aims}
+use Rattle.master_tour.proofs.stop.Stop.lost.Goals as goal
+
+pub returns-in-Gone-clause-lives : goal.returns-in-Gone-clause-lives
+returns-in-Gone-clause-lives g c = λ x more passed recover spot lens ns octets l sp u sh.
+    let t = c.args.self.now in
+    let w = c.args.self.now.side in
+    let stood = (subst (λ z. StopShows (λ d a. SideShows (g.H.Hand.shows w.hand x) w.out w.inn w.fresh w.duty d a) recover spot z t.spare l) c.in-Gone.is sh).stood in
+    still_follows (λ d a. SideShows (g.H.Hand.shows w.hand x) w.out w.inn w.fresh w.duty d a) x g.H.Hand.acknowledged more passed recover spot ns (seen lens octets) l t.stand t.spare _ (ap is_open stood) refl sh
+
+pub returns-in-Opening-clause-lives : goal.returns-in-Opening-clause-lives
+returns-in-Opening-clause-lives g c = λ x more passed recover spot lens ns octets l sp u sh.
+    let t = c.args.self.now in
+    let w = c.args.self.now.side in
+    let stood = (subst (λ z. StopShows (λ d a. SideShows (g.H.Hand.shows w.hand x) w.out w.inn w.fresh w.duty d a) recover spot z t.spare l) c.in-Opening.is sh).stood in
+    still_follows (λ d a. SideShows (g.H.Hand.shows w.hand x) w.out w.inn w.fresh w.duty d a) x g.H.Hand.acknowledged more passed recover spot ns (seen lens octets) l t.stand t.spare _ (ap is_open stood.stand) refl sh
+
+pub returns-in-Open-clause-lives : goal.returns-in-Open-clause-lives
+returns-in-Open-clause-lives g c = λ x more passed recover spot lens ns octets l sp u sh.
+    let t = c.args.self.now in
+    let w = c.args.self.now.side in
+    let v = c.open_lost.new.self in
+    let y = c.open_lost.new.self.side in
+    let sent = seen lens octets in
+    let kept = c.open_lost.ensures.kept in
+    let stood = (subst (λ z. StopShows (λ d a. SideShows (g.H.Hand.shows w.hand x) w.out w.inn w.fresh w.duty d a) recover spot z t.spare l) c.in-Open.is sh).stood in
+    let s = own_lost x (λ e. SideShows (g.H.Hand.shows y.hand x) y.out y.inn y.fresh y.duty e l.era.account) w.station sent l.era.side (seen_aims lens octets w.station t.named)
+    (c.open_lost.ensures.shown x sent l.era.side l.era.account stood.1 (subst (λ z. StandUnder lens w.station t.at t.under w.carried z l sent) c.in-Open.is u)) in
+    let there = subst (λ (z : ℕ). SideShows (g.H.Hand.shows y.hand x) y.out y.inn y.fresh y.duty (Seats.side_lost z (Own.own z sent) l.era.side) l.era.account) sp.station_is s in
+    subst (λ z. FollowShows (λ d a. SideShows (g.H.Hand.shows y.hand x) y.out y.inn y.fresh y.duty d a) recover spot z v.spare v.news l (life_lost x g.H.Hand.acknowledged more passed spot ns sent l l.stand)) (sym (c.open_lost.ensures.stand ∙ c.in-Open.is))
+    (lost_follows (λ d a. SideShows (g.H.Hand.shows y.hand x) y.out y.inn y.fresh y.duty d a) x g.H.Hand.acknowledged more passed recover spot ns sent l v.spare v.news stood.0 kept.3 there (kept.2 ∙ sh.spared))

@@ -1,0 +1,51 @@
+use Rattle.std.proofs.Common.{ℕ, sym, subst, ap, ◌∙◌, refl}
+use Rattle.std.specs.Prelude.{nat_lt}
+use Rattle.datagrams.specs.Frame.{parts_of}
+use Rattle.frame_view.specs.Seen.{seen}
+use Rattle.segment_model.specs.Seats
+use Rattle.task_model.specs.Accounts.{account_back, duty_access}
+use Rattle.life_model.specs.Lives.{era_back}
+use Rattle.life_model.specs.Own
+use Rattle.master_side.specs.Shown.{SideShows}
+use Rattle.master_tour.specs.Stands.{StopShows, StandUnder, StandShows, IsSpot, came_at}
+use Rattle.master_tour.proofs.Cursors.{seen_parts}
+use Rattle.master_tour.proofs.Unders.{SameAim, aims, under_back}
+use Rattle.master_tour.proofs.Backs.{own_back, open_follows}
+use Rattle.master_tour.proofs.stop.Stop.open_met.Goals as goal
+
+pub returns-clause-shown : goal.returns-clause-shown
+returns-clause-shown g c = λ x frame lens back d a e s u.
+    let w = c.args.self.now.side in
+    subst (λ z. SideShows (g.H.Hand.shows z.hand x) z.out z.inn z.fresh z.duty (Seats.side_back x frame w.station back d) (account_back w.station frame a back)) (sym c.reopen.ensures.side) (c.open_back.ensures.shown x frame lens back d a e s u)
+
+pub returns-clause-lives : goal.returns-clause-lives
+returns-clause-lives g c = λ o n x more passed number recover spot lens ns sent l sp r u sh.
+    let t = c.args.self.now in
+    let w = c.args.self.now.side in
+    let v = c.open_back.new.self in
+    let m = c.open_back.new.self.side in
+    let f = c.reopen.new.self in
+    let y = c.reopen.new.self.side in
+    let back = seen lens c.args.octets.now in
+    let ds = c.requires.frame.0 in
+    let aim = subst (SameAim w.station) (sym (seen_parts lens c.args.octets.now ds c.requires.frame.1)) (aims lens c.args.octets.now w.station (parts_of 16 ds) t.named) in
+    let stood = (subst (λ z. StopShows (λ d a. SideShows (g.H.Hand.shows w.hand x) w.out w.inn w.fresh w.duty d a) recover spot z t.spare l) o sh).stood in
+    let under = under_back w.station t.at t.under w.carried l.era.side.halves (duty_access l.era.account.hand) sent back r (subst (λ z. StandUnder lens w.station t.at t.under w.carried z l sent) o u) in
+    let s = own_back x (λ e b. SideShows (g.H.Hand.shows m.hand x) m.out m.inn m.fresh m.duty e b) number w.station back l.era.side l.era.account aim
+    (c.open_back.ensures.shown x number lens back l.era.side l.era.account refl stood.1 under) in
+    let now = era_back x g.H.Hand.acknowledged more passed spot.station number ns back l.era in
+    let there = subst (λ (z : ℕ). SideShows (g.H.Hand.shows m.hand x) m.out m.inn m.fresh m.duty (Seats.side_back x number z (Own.own z back) l.era.side) (account_back z number l.era.account (Own.own z back))) sp.station_is s in
+    let kept = c.open_back.ensures.kept in
+    let spot_is : IsSpot spot m.station v.place v.start = record {
+      station_is = c.open_back.ensures.link.station_is ∙ sp.station_is;
+      place_is = kept.0 ∙ sp.place_is;
+      start_is = kept.1 ∙ sp.start_is;
+      small = ap (λ k. nat_lt k 16) kept.1 ∙ sp.small;
+    } in
+    open_follows (λ d a. SideShows (g.H.Hand.shows y.hand x) y.out y.inn y.fresh y.duty d a) x g.H.Hand.acknowledged more passed number recover spot ns back l f.stand f.spare f.news (came_at t.under t.at back) stood.0 (c.reopen.ensures.kept.3 ∙ kept.3 ∙ n)
+    (c.reopen.ensures.lives (c.open_back.ensures.stand ∙ o) x recover spot (record l { era = now }) spot_is
+    (record {
+      stood = subst (λ z. StandShows (λ d a. SideShows (g.H.Hand.shows m.hand x) m.out m.inn m.fresh m.duty d a) spot z (record l { era = now })) (sym (c.open_back.ensures.stand ∙ o)) (stood.0, there);
+      spared = kept.2 ∙ sh.spared;
+      over = λ e. absurd (let k = sym (c.open_back.ensures.stand ∙ o) ∙ e in cc);
+    }))

@@ -1,0 +1,20 @@
+use Rattle.std.proofs.Common.{sym, subst, ◌∙◌}
+use Rattle.master_side.specs.Shown.{SideShows}
+use Rattle.master_tour.specs.Stands.{StopShows, FollowShows}
+use Rattle.life_model.specs.Lives.{life_back}
+use Rattle.std.specs.Prelude.{Some}
+use Rattle.master_tour.proofs.Openings.{opening_follows}
+use Rattle.master_tour.proofs.stop.Stop.opening_met.Goals as goal
+
+pub returns-clause-lives : goal.returns-clause-lives
+returns-clause-lives g c = λ o x more passed frame recover spot news back came l met sh.
+    let k = c.renew_where.ensures.kept in
+    let w = c.args.self.now.side in
+    let y = c.renew_where.new.self.side in
+    subst (λ n. FollowShows (λ d a. SideShows (g.H.Hand.shows y.hand x) y.out y.inn y.fresh y.duty d a) recover spot c.renew_where.new.self.stand n c.renew_where.new.self.news l (life_back x g.H.Hand.acknowledged more passed frame spot news back (Some came) l l.stand)) (sym k.1)
+    (opening_follows (λ d a. SideShows (g.H.Hand.shows w.hand x) w.out w.inn w.fresh w.duty d a) (λ d a. SideShows (g.H.Hand.shows y.hand x) y.out y.inn y.fresh y.duty d a) frame recover spot c.args.self.now.spare c.args.up c.came_back-is_up.new.up l x g.H.Hand.acknowledged more passed news back
+    came c.args.counter c.args.body.now c.came_back-is_up.result c.clears-is_cleared.result c.renew_where.new.self.stand c.renew_where.new.self.news c.came_back-is_up.ensures.goes_on c.came_back-is_up.ensures.shown c.clears-is_cleared.ensures
+    (k.0 ∙ c.stand_behind-self.ensures) (k.2 ∙ c.news_of-self.ensures) met
+    (subst (λ z. StopShows (λ d a. SideShows (g.H.Hand.shows w.hand x) w.out w.inn w.fresh w.duty d a) recover spot z c.args.self.now.spare l) o sh)
+    (λ e d a s. subst (λ z. SideShows (g.H.Hand.shows z.hand x) z.out z.inn z.fresh z.duty d a) (sym (c.renew_where.ensures.still e)) s)
+    (λ e d a s. c.renew_where.ensures.cleared e x d a s))

@@ -1,0 +1,159 @@
+-- What a slave of the tour shows of its life.
+use Rattle.std.specs.Prelude.{◌≡◌, ℕ, ◌-◌, ◌%◌, ◌==◌, ◌&&◌, not, nat_lt, Bool, true, false, Option, Some, None, List, length}
+use Rattle.al_state.specs.declared.bringing.BringStep.{BringStep}
+use Rattle.al_state.specs.declared.bringing.BringStep.TheVariants.{Return, Watch, Address, OutOff, InOff, OutManager, InManager, Start, Await}
+use Rattle.al_state.specs.declared.bringing.BringUp.{BringUp}
+use Rattle.al_state.specs.BringUp.{is_behind_init, head_of, octets_of}
+use Rattle.datagrams.specs.Frame.{datagram_of}
+use Rattle.link_mails.specs.Body.{Body}
+use Rattle.segment_model.specs.Slaves.{Datagram, Access, Found}
+use Rattle.segment_model.specs.Seats.{Side}
+use Rattle.task_model.specs.Accounts.{Account, duty_access}
+use Rattle.life_model.specs.Lives
+use Rattle.life_model.specs.Lives.{Opening, Era, Life, Spot}
+use Rattle.life_model.specs.Tours.{item_at}
+use Rattle.frame_view.specs.View.{Lens, datagram_seen, found_of}
+use Rattle.master_duty.specs.Reply.{Reply}
+use Rattle.master_side.specs.declared.carried.Carried.{Carried}
+use Rattle.master_tour.specs.declared.stop.Stand.{Stand}
+use Rattle.master_tour.specs.declared.stop.Turned.{Turned}
+use Rattle.master_tour.specs.Under.{Grams, IsAt, Under}
+
+-- the number of an access, of a reopening or of a first bring-up, which has no access that leads to Init or turns a mailbox off
+abbrev pub step_number : Bool → BringStep → ℕ
+step_number true Return = 1
+step_number true Watch = 2
+step_number true Address = 3
+step_number true OutOff = 4
+step_number true InOff = 5
+step_number true OutManager = 6
+step_number true InManager = 7
+step_number true Start = 8
+step_number true Await = 9
+step_number false Return = 0
+step_number false Watch = 0
+step_number false Address = 1
+step_number false OutOff = 0
+step_number false InOff = 0
+step_number false OutManager = 2
+step_number false InManager = 3
+step_number false Start = 4
+step_number false Await = 5
+
+-- it has this access
+abbrev pub has_step : BringUp → Bool
+has_step up = not (step_number up.again up.step == 0)
+
+-- the opening whose access is in hand; `own` says whether a state service wanted it
+abbrev pub opening_of : BringUp → Bool → Opening
+opening_of up own = record { again = up.again; step = step_number up.again up.step; state = up.start; own = own }
+
+-- until a reopening has shown Init, its slave's mailboxes are those of the epoch before
+abbrev pub is_still : BringUp → Bool
+is_still up = up.again && not (is_behind_init up.step)
+
+-- its accesses are to this slave
+pub record IsOpeningOf (spot : Spot) (up : BringUp) : Type 0 where
+  pub step : has_step up ≡ true
+  pub state : nat_lt up.start 16 ≡ true
+  pub station : up.station ≡ spot.station
+  pub place : up.adp ≡ (65536 - spot.place) % 65536
+
+-- what the plan says of a slave
+pub record IsSpot (spot : Spot) (station place start : ℕ) : Type 0 where
+  pub station_is : station ≡ spot.station
+  pub place_is : place ≡ spot.place
+  pub start_is : start ≡ spot.start
+  pub small : nat_lt start 16 ≡ true
+
+module _ {Q : Type 0} (shows : Side Body Q Reply → Account Q Reply → Type 0) where
+  -- the mailboxes of some epoch, of which nothing more counts
+  pub record ShowsSome : Type 0 where
+    pub side : Side Body Q Reply
+    pub account : Account Q Reply
+    pub shown : shows side account
+
+  -- the newest epoch, once its slave was seen in Init
+  abbrev pub EraShows : Bool → Era Body Q Reply → Type 0
+  EraShows true e = ShowsSome
+  EraShows false e = shows e.side e.account
+
+  -- an opening: it is at the access in hand
+  pub record OpeningShows (spot : Spot) (up : BringUp) (l : Life Body Q Reply) : Type 0 where
+    pub own : Bool
+    pub stand : l.stand ≡ Lives.Stand.Opens (opening_of up own)
+    pub opening : IsOpeningOf spot up
+    pub era : EraShows (is_still up) l.era
+
+  -- by how the master stands to it
+  abbrev pub StandShows : Spot → Stand → Life Body Q Reply → Type 0
+  StandShows spot (Stand.Opening up) l = OpeningShows spot up l
+  StandShows spot Stand.Open l = (l.stand ≡ Lives.Stand.Open) × shows l.era.side l.era.account
+  StandShows spot Stand.Gone l = l.stand ≡ Lives.Stand.Gone
+
+  -- THE SLAVE: how the master stands to it, with the newest epoch's mailboxes and services, and how often it is still opened anew
+  pub record StopShows (recover : ℕ) (spot : Spot) (stand : Stand) (spare : ℕ) (l : Life Body Q Reply) : Type 0 where
+    pub stood : StandShows spot stand l
+    pub spared : spare ≡ recover - length l.gave
+    pub over : stand ≡ Stand.Gone → spare ≡ 0
+
+-- WHAT THE FRAME HAS OF AN OPENING: nothing, or the access in hand, at this place
+pub data OpensUnder (lens : ℕ → Lens) (at : ℕ) (under : Bool) (up : BringUp) (sent : Grams) : Type 0 where
+  none : under ≡ false → OpensUnder lens at under up sent
+  has : (index : ℕ) (b : Datagram Body) → under ≡ true → IsAt at sent b → b ≡ datagram_seen lens (datagram_of (head_of up index) (octets_of up)) → OpensUnder lens at under up sent
+
+-- what it has of a slave, by its stand
+abbrev pub StandUnder : {Q : Type 0} → (ℕ → Lens) → ℕ → ℕ → Bool → Carried → Stand → Life Body Q Reply → Grams → Type 0
+StandUnder lens station at under carried (Stand.Opening up) l sent = OpensUnder lens at under up sent
+StandUnder lens station at under carried Stand.Open l sent = Under station at under carried l.era.side.halves (duty_access l.era.account.hand) sent
+StandUnder lens station at under carried Stand.Gone l sent = under ≡ false
+
+-- what an access brought back: whether just one slave met it, and what it found
+abbrev pub came_of : Option (Datagram Body) → Option (Bool × Option Found)
+came_of None = None
+came_of (Some d) = Some (d.counter == 1, d.found)
+
+-- that of the frame's datagram at this place, where it has one of the slave
+abbrev pub came_at : Bool → ℕ → Grams → Option (Bool × Option Found)
+came_at false at back = None
+came_at true at back = came_of (item_at at back)
+
+-- an opening is under way
+abbrev pub is_opening : Lives.Stand → Bool
+is_opening (Lives.Stand.Opens o) = true
+is_opening Lives.Stand.Open = false
+is_opening Lives.Stand.Gone = false
+
+-- the slave is open
+abbrev pub is_open : Lives.Stand → Bool
+is_open (Lives.Stand.Opens o) = false
+is_open Lives.Stand.Open = true
+is_open Lives.Stand.Gone = false
+
+-- what changed: one give-up more, one epoch more, or an opening that ended
+abbrev pub turned_by : Bool → Bool → Bool → Option Turned
+turned_by true clears opens = Some Turned.GivenUp
+turned_by false true opens = Some Turned.Cleared
+turned_by false false true = Some Turned.Opened
+turned_by false false false = None
+
+-- WHAT A FRAME HAS TURNED A LIFE INTO
+abbrev pub turned : {Q : Type 0} → Life Body Q Reply → Life Body Q Reply → Option Turned
+turned l m = turned_by (nat_lt (length l.gave) (length m.gave)) (nat_lt (length l.past) (length m.past)) (is_opening l.stand && is_open m.stand)
+
+-- the life that follows, with what it was turned into
+pub record FollowShows {Q : Type 0} (shows : Side Body Q Reply → Account Q Reply → Type 0) (recover : ℕ) (spot : Spot) (stand : Stand) (spare : ℕ) (news : Option Turned) (l m : Life Body Q Reply) : Type 0 where
+  pub shown : StopShows shows recover spot stand spare m
+  pub told : news ≡ turned l m
+
+-- the access reads the AL status
+abbrev pub is_reading : BringStep → Bool
+is_reading Watch = true
+is_reading Await = true
+is_reading _ = false
+
+-- what came back of an access, by the working counter and the octets of its datagram; a status has six octets
+pub record IsMet (up : BringUp) (counter : ℕ) (body : List ℕ) (came : Bool × Option Found) : Type 0 where
+  pub done : is_reading up.step ≡ true → came.0 ≡ (counter == 1)
+  pub found : is_reading up.step ≡ true → came.1 ≡ found_of Access.ReadState counter body
+  pub whole : is_reading up.step ≡ true → length body ≡ 6
