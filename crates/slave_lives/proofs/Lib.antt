@@ -1,0 +1,9 @@
+pub mod Stepping
+pub mod Opens
+pub mod Brings
+pub mod Openings
+pub mod Returns
+pub mod Turning
+pub mod Brought
+pub mod Ways
+pub mod Closed

@@ -1,0 +1,9 @@
+//! The lives of slaves over their registers: a step of the real processor as the session's, and the accesses by which a slave is opened and
+//! returned. No running code: each function here does nothing, and its contract states a law.
+#![tactic(auto)]
+
+mod opening_laws;
+mod step_laws;
+
+pub use opening_laws::{bring_law, closed_law, return_law, way_law};
+pub use step_laws::{open_step, pdi_law, step_view};
