@@ -9,4 +9,6 @@ pub mod Owns
 pub mod Rings
 pub mod Aparts
 pub mod Places
+pub mod Rows
+pub mod Passes
 mod Worked

@@ -5,3 +5,4 @@ pub mod FrameMet
 pub mod Own
 pub mod Ring
 pub mod Places
+pub mod Kept

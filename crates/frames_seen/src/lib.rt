@@ -12,6 +12,7 @@ ghost use Rattle.mailbox_slave.specs.Kept.{Kept};
 ghost use Rattle.segment_model.specs.Slaves.{Serving, Slave, Datagram, frame_after};
 ghost use Rattle.frame_view.specs.View.{Lens};
 ghost use Rattle.frames_seen.specs.FrameMet.{IsFrameMet, AreOctetsMet};
+ghost use Rattle.frames_seen.specs.Kept.{FrameKeeps};
 ghost use Rattle.frames_seen.specs.Met.{IsMet};
 ghost use Rattle.frames_seen.specs.Own.{own_of, IsApart, IsAlone, IsOwnMet, NoneMeant};
 ghost use Rattle.frames_seen.specs.Places.{AllElse};
@@ -30,6 +31,13 @@ pub fn open_view<V>()
     ensures datagrams { (lens : ℕ → Lens) (r : Registers) (k : Kept) (v : Serving V Body) (ds : List Raw.Datagram) → IsOpen lens r → AllSpoken r.station ds → IsFrameMet lens r k v ds }
     ensures octets { (lens : ℕ → Lens) (r after : Registers) (k : Kept) (v : Serving V Body) (octets behind : List ℕ) (ds : List Raw.Datagram) → IsOpen lens r → AllSpoken r.station ds →
         IsFrame octets ds → IsPassed r after behind ds → AreOctetsMet lens r after k v octets behind }
+{}
+
+/// What a slave makes of octets is what it makes of the frame's datagrams, where they are a frame; and whatever they are, what only the slave
+/// writes stays.
+pub fn octet_law()
+    ensures passes { (r : Registers) (octets : List ℕ) (ds : List Raw.Datagram) → IsFrame octets ds → IsPassed r (frame_passed r octets).0 (frame_passed r octets).1 ds }
+    ensures keeps { (r : Registers) (octets : List ℕ) → FrameKeeps r (frame_passed r octets).0 }
 {}
 
 /// A slave that isn't meant leaves the datagrams that are addressed to another station, whatever its registers.
