@@ -7,3 +7,7 @@ pub mod Turning
 pub mod Brought
 pub mod Ways
 pub mod Closed
+pub mod Exacts
+pub mod Words
+pub mod NodeSteps
+pub mod NodeFrames

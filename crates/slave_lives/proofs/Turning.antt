@@ -38,14 +38,14 @@ no_in : (r : Esc.Registers) → r.in_manager.full ≡ false → in_box r ≡ Non
 no_in r e = ap (λ b. if b then Some (link_read (mail_read r.in_manager.area)) else None) e
 
 -- a node with a new box
-abbrev renewed : {S : Type 0} → Option (LinkMail Body) → Option (LinkMail Body) → Bool → Bool → S → Node Body S
+abbrev pub renewed : {S : Type 0} → Option (LinkMail Body) → Option (LinkMail Body) → Bool → Bool → S → Node Body S
 renewed out inn request acknowledge s = record {
   out = record { box = out; last_taken = 0 };
   inn = record { box = inn; offered = None; again = false; last_read = None; withdrawn = None; newest = 0; request = request; acknowledge = acknowledge };
   server = s;
 }
 
-new_node : {S : Type 0} (k : Kept) (r : Esc.Registers) (s : S) → IsNewBox k → node_of k r s ≡ renewed (out_box r) (in_box r) (request_of r) (acknowledge_of r) s
+pub new_node : {S : Type 0} (k : Kept) (r : Esc.Registers) (s : S) → IsNewBox k → node_of k r s ≡ renewed (out_box r) (in_box r) (request_of r) (acknowledge_of r) s
 new_node k r s b = λ i. record {
   out = record { box = out_box r; last_taken = b.last_taken i };
   inn = record { box = in_box r; offered = b.offers i; again = b.again i; last_read = b.last_read i; withdrawn = b.withdrawn i; newest = b.newest i; request = request_of r; acknowledge = acknowledge_of r };
@@ -64,7 +64,7 @@ the_box {S = S} k r s t out inn request acknowledge e = record {
 }
 
 -- a new box answers the repeat request and does nothing else
-answers : {S : Type 0} (out inn : Option (LinkMail Body)) (request acknowledge : Bool) (s : S) → node_answered (renewed out inn request acknowledge s) ≡ renewed out inn request request s
+pub answers : {S : Type 0} (out inn : Option (LinkMail Body)) (request acknowledge : Bool) (s : S) → node_answered (renewed out inn request acknowledge s) ≡ renewed out inn request request s
 answers out inn true true s = refl
 answers out inn true false s = refl
 answers out inn false true s = refl
@@ -75,7 +75,7 @@ looks out (Some m) request acknowledge s = answers out (Some m) request acknowle
 looks out None request acknowledge s = answers out None request acknowledge s
 
 module _ {S : Type 0} (v : Server Body S) (clear : S → S) where
-  into_init : (from : Bool) (out inn : Option (LinkMail Body)) (request acknowledge : Bool) (s : S) → clear s ≡ s → node_steps from true v clear (renewed out inn request acknowledge s) ≡ renewed out inn request request s
+  pub into_init : (from : Bool) (out inn : Option (LinkMail Body)) (request acknowledge : Bool) (s : S) → clear s ≡ s → node_steps from true v clear (renewed out inn request acknowledge s) ≡ renewed out inn request request s
   into_init true out inn request acknowledge s same = ap (node_cleared clear) (answers out inn request acknowledge s) ∙ ap (renewed out inn request request) same
   into_init false out inn request acknowledge s same = ap (node_cleared clear) (looks out inn request acknowledge s) ∙ ap (renewed out inn request request) same
 

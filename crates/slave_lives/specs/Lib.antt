@@ -2,3 +2,4 @@ pub mod Steps
 pub mod Opening
 pub mod Returning
 pub mod Ways
+pub mod Nodes

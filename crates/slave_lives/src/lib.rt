@@ -2,8 +2,10 @@
 //! returned. No running code: each function here does nothing, and its contract states a law.
 #![tactic(auto)]
 
+mod node_laws;
 mod opening_laws;
 mod step_laws;
 
+pub use node_laws::node_law;
 pub use opening_laws::{bring_law, closed_law, return_law, way_law};
 pub use step_laws::{open_step, pdi_law, step_view};
