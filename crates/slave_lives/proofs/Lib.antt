@@ -11,3 +11,6 @@ pub mod Exacts
 pub mod Words
 pub mod NodeSteps
 pub mod NodeFrames
+pub mod RingFrames
+pub mod Owned
+pub mod EraFrames

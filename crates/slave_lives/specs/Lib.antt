@@ -3,3 +3,5 @@ pub mod Opening
 pub mod Returning
 pub mod Ways
 pub mod Nodes
+pub mod Rings
+pub mod Lived

@@ -1,0 +1,154 @@
+-- AN OPEN SLAVE'S NODE lives its epoch on by each frame of its ring.
+use Rattle.std.proofs.Common.{◌≡◌, ◌⊎◌, inl, inr, ℕ, zero, suc, ◌-◌, ◌<◌, ◌==◌, Bool, true, false, List, [], ◌∷◌, ◌++◌, length, refl, ap, ap₂, sym, ◌∙◌, subst, arith, length-append}
+use Rattle.std.specs.Prelude.{if◌then◌else◌, Some, None}
+use Rattle.datagrams.specs.Datagram as Raw
+use Rattle.ec_fields.specs.Fields.{bits_of}
+use Rattle.esc_registers.specs.declared.registers.Registers as Esc
+use Rattle.esc_registers.specs.Registers.{are_areas_right}
+use Rattle.exchange_model.specs.Exchange.{Exchange}
+use Rattle.frame_pass.specs.Passing.{registers_after, datagrams_after}
+use Rattle.frame_view.specs.View.{Lens}
+use Rattle.frame_view.specs.Seen.{datagrams_seen}
+use Rattle.frames_seen.specs.Kept.{FrameKeeps}
+use Rattle.frames_seen.specs.Own.{own_of, own_seen, IsAlone}
+use Rattle.frames_seen.specs.Ring.{all_after, AllApart, IsRingMet}
+use Rattle.frames_seen.specs.Slaves.{registers_seen, slave_of, IsOpen}
+use Rattle.frames_seen.proofs.Rings as FrameRings
+use Rattle.link_model.specs.Frames.{Ask, node_meets}
+use Rattle.link_model.specs.Mails.{LinkMail}
+use Rattle.link_model.specs.Segment.{RingFate}
+use Rattle.link_model.specs.Slave.{Node}
+use Rattle.link_mails.specs.Body.{Body}
+use Rattle.mailbox_slave.specs.Kept.{Kept}
+use Rattle.mailbox_slave.specs.Node.{in_side}
+use Rattle.mailbox_slave.specs.Registers.{in_len}
+use Rattle.segment_model.specs.Slaves.{Registers, Slave, Serving, Datagram, Ring, slave_meets, slave_after, frame_after, ring_after, ring_back, ring_steps, slave_steps, first_meet, all_meet}
+use Rattle.segment_model.specs.Record.{Frame, News}
+use Rattle.segment_ring.specs.declared.wire.Fate.{Fate}
+use Rattle.segment_ring.specs.declared.wire.Fate.TheVariants.{Pass, Lost}
+use Rattle.segment_ring.specs.Ring.{is_in_pace}
+use Rattle.slave_steps.specs.Node as Running
+use Rattle.task_model.specs.Accounts.{Pick}
+use Rattle.life_model.specs.Own.{own, own_fate}
+use Rattle.life_model.specs.Lives.{Spot, Era, AsksOpen, era_next, era_after}
+use Rattle.life_model.specs.Eras.{EraIs}
+use Rattle.life_model.proofs.Eras as Eras
+use Rattle.slave_lives.specs.Steps as The
+use Rattle.slave_lives.specs.Steps.{StaysUp, Stands, word_carried}
+use Rattle.slave_lives.specs.Nodes.{IsRunning, IsRoomy, stepped, StepsOn}
+use Rattle.slave_lives.specs.Rings.{registers_of, come_to, come_back, met, turned, is_met_at, is_among, fate_seen}
+use Rattle.slave_lives.specs.Lived.{Behind, IsBehind, table_of, node_seen, LivesEra, frame_seen, returned, IsForOpen}
+use Rattle.slave_lives.proofs.NodeSteps.{steps_on}
+use Rattle.slave_lives.proofs.Opens.{open_step}
+use Rattle.slave_lives.proofs.Owned.{own_is}
+use Rattle.slave_lives.proofs.RingFrames.{after_keeps, met_runs}
+use Rattle.slave_lives.proofs.Stepping.{step_view}
+use Rattle.state_model.specs.States as States
+use Rattle.state_law.specs.Shows.{slave_table}
+
+-- what stands in mailbox 1 was offered, behind frames too
+asked_stands : {V : Type 0} (n : Node Body V) (ask : Ask Body) → Stands n.inn → Stands (node_meets n ask).inn
+asked_stands n (Ask.WriteMail m) stands = stands
+asked_stands n Ask.ReadMail stands = λ m e. absurd (cc)
+asked_stands n (Ask.WriteRequest bit) stands = stands
+asked_stands n Ask.ReadAcknowledge stands = stands
+asked_stands n Ask.Other stands = stands
+
+frame_stands : {V : Type 0} (station : ℕ) (s : Slave V Body) (ds : List (Datagram Body)) → Stands s.node.inn → Stands (slave_after station s ds).node.inn
+frame_stands station s [] stands = stands
+frame_stands {V} station s (d ∷ ds) stands = frame_stands station (slave_meets station s d) ds (go (d.gram.station == station))
+  where
+    go : (b : Bool) → Stands (if b then node_meets s.node d.gram.ask else s.node).inn
+    go true = asked_stands s.node d.gram.ask stands
+    go false = stands
+
+-- a frame lost behind so many slaves, for one alone
+among_met : (place count : ℕ) → is_among place count ≡ true → (k : ℕ) × (count - place ≡ suc k)
+among_met place zero e = absurd (cc)
+among_met zero (suc count) e = (count, omega arith)
+among_met (suc place) (suc count) e = let m = among_met place count e in let same : count - place ≡ suc m.0 = m.1 in (m.0, omega (arith, same))
+
+among_not : (place count : ℕ) → is_among place count ≡ false → count - place ≡ 0
+among_not place zero e = omega arith
+among_not zero (suc count) e = absurd (cc)
+among_not (suc place) (suc count) e = let m = among_not place count e in omega (arith, m)
+
+module _ {V : Type 0} (station place : ℕ) (s : Slave V Body) (ds : List (Datagram Body)) where
+  abbrev alone_ring : Ring V Body
+  alone_ring = (station, s) ∷ []
+
+  first_none : (k : ℕ) (es : List (Datagram Body)) → first_meet k (let none : Ring V Body = [] in none) es ≡ []
+  first_none zero es = refl
+  first_none (suc k) es = refl
+
+  meets_alone : (fate : Fate) → is_met_at place fate ≡ true → ring_after alone_ring ds (own_fate place (fate_seen fate)) ≡ (station, slave_after station s ds) ∷ []
+  meets_alone Pass e = refl
+  meets_alone (Lost after) e =
+      let m = among_met place after e in
+      ap (λ k. first_meet k alone_ring ds) m.1 ∙ ap (λ l. (station, slave_after station s ds) ∷ l) (first_none m.0 (frame_after station s ds))
+
+  leaves_alone : (fate : Fate) → is_met_at place fate ≡ false → ring_after alone_ring ds (own_fate place (fate_seen fate)) ≡ alone_ring
+  leaves_alone Pass e = absurd (cc)
+  leaves_alone (Lost after) e = ap (λ k. first_meet k alone_ring ds) (among_not place after e)
+
+-- A NODE AND A FRAME that comes to it
+module _ {S V A Q R : Type 0} (w : Behind S V A Q R) (is_behind : IsBehind w) where
+  abbrev views : Running.Node S → Slave V Body
+  views n = node_seen w n
+
+  same_state : (r q : Esc.Registers) → FrameKeeps r q → (registers_seen q).state ≡ (registers_seen r).state
+  same_state r q k = ap (λ (x : ℕ). bits_of x 0 4) k.status
+
+  -- what a node is behind a frame that met it
+  record MeetsOpen (n m : Running.Node S) (before : List (Running.Node S)) (behind : List (Running.Node S)) (ds : List Raw.Datagram) : Type 0 where
+    slave : views m ≡ slave_after n.registers.station (views n) (own_seen w.lens n.registers.station ds)
+    back : own_seen w.lens n.registers.station (come_back before n behind ds) ≡ frame_after n.registers.station (views n) (own_seen w.lens n.registers.station ds)
+    opens : IsOpen w.lens m.registers
+    station : m.registers.station ≡ n.registers.station
+    stands : Stands (in_side m.kept m.registers)
+
+  meets_open : (fate : Fate) (before : List (Running.Node S)) (n : Running.Node S) (behind : List (Running.Node S)) (ds : List Raw.Datagram) → IsOpen w.lens n.registers → Stands (in_side n.kept n.registers) →
+      IsForOpen fate before n behind ds → MeetsOpen n (met true n (come_to before ds)) before behind ds
+  meets_open fate before n behind ds opens stands f =
+      let v = w.sees (registers_seen n.registers).state n.server in
+      let ring : IsRingMet w.lens (registers_of before) n.registers (registers_of behind) n.kept v ds = FrameRings.ring_view w.lens (registers_of before) n.registers (registers_of behind) n.kept v ds opens f.apart f.alone f.last f.spoken in
+      let q = registers_after n.registers (come_to before ds) in
+      let state = same_state n.registers q (after_keeps n.registers (come_to before ds)) in
+      record {
+        slave = ap (λ (al : ℕ). slave_of n.kept q (w.sees al n.server)) state ∙ ring.slave;
+        back = ring.back;
+        opens = ring.stays;
+        station = ring.station;
+        stands = subst Stands (sym (ap (λ (s : Slave V Body). s.node.inn) ring.slave)) (frame_stands n.registers.station (views n) (own_seen w.lens n.registers.station ds) stands);
+      }
+
+  -- and behind the step that follows
+  record StepsOpen (n m : Running.Node S) (steps : List ℕ) : Type 0 where
+    ring : (station : ℕ) → ring_steps w.exchange w.processor ((station, views n) ∷ []) steps ≡ (station, views m) ∷ []
+    opens : IsOpen w.lens m.registers
+    station : m.registers.station ≡ n.registers.station
+    stands : Stands (in_side m.kept m.registers)
+    runs : IsRunning w.running m
+    boot : m.boot ≡ n.boot
+
+  -- a step while the slave stays up
+  steps_open : (n : Running.Node S) → n.boot ≡ w.boot → IsOpen w.lens n.registers → Stands (in_side n.kept n.registers) → IsRunning w.running n → IsRoomy w.running (in_len n.registers) n.server → StaysUp n.boot n.registers →
+      StepsOpen n (stepped w.running n) (0 ∷ [])
+  steps_open n boot opens stands runs roomy up =
+      let on = steps_on w.running is_behind.clears n runs roomy in
+      let m = stepped w.running n in
+      let carries : w.processor.carry (registers_seen n.registers) ≡ word_carried n.boot n.registers =
+      is_behind.carries (registers_seen n.registers) ∙ ap₂ (λ (a b : Bool). States.carry (slave_table a b) (registers_seen n.registers)) (sym boot) (sym opens.right) in
+      let view = step_view w.exchange w.processor w.running w.sees n.boot n.registers m.registers n.kept m.kept n.server m.server is_behind.served carries on.steps up in
+      let stays = open_step w.lens w.running n.boot n.registers m.registers n.kept m.kept n.server m.server opens stands on.keeps on.steps up on.status on.code in
+      record {
+        ring = λ station. ap (λ (s : Slave V Body). (station, s) ∷ []) (sym view);
+        opens = stays.0;
+        station = ap (λ x. x.station) on.keeps.others;
+        stands = stays.1;
+        runs = on.runs;
+        boot = on.boot;
+      }
+
+  steps_none : (n : Running.Node S) → IsOpen w.lens n.registers → Stands (in_side n.kept n.registers) → IsRunning w.running n → StepsOpen n n []
+  steps_none n opens stands runs = record { ring = λ station. refl; opens = opens; station = refl; stands = stands; runs = runs; boot = refl }
