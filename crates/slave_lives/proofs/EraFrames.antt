@@ -1,5 +1,5 @@
 -- AN OPEN SLAVE'S NODE lives its epoch on by each frame of its ring.
-use Rattle.std.proofs.Common.{◌≡◌, ◌⊎◌, inl, inr, ℕ, zero, suc, ◌-◌, ◌<◌, ◌==◌, Bool, true, false, List, [], ◌∷◌, ◌++◌, length, refl, ap, ap₂, sym, ◌∙◌, subst, arith, length-append}
+use Rattle.std.proofs.Common.{◌≡◌, ◌⊎◌, inl, inr, ℕ, zero, suc, ◌+◌, ◌-◌, ◌<◌, ◌==◌, Bool, true, false, List, [], ◌∷◌, ◌++◌, length, refl, ap, ap₂, sym, ◌∙◌, subst, arith, length-append}
 use Rattle.std.specs.Prelude.{if◌then◌else◌, Some, None}
 use Rattle.datagrams.specs.Datagram as Raw
 use Rattle.ec_fields.specs.Fields.{bits_of}
@@ -37,7 +37,7 @@ use Rattle.slave_lives.specs.Steps as The
 use Rattle.slave_lives.specs.Steps.{StaysUp, Stands, word_carried}
 use Rattle.slave_lives.specs.Nodes.{IsRunning, IsRoomy, stepped, StepsOn}
 use Rattle.slave_lives.specs.Rings.{registers_of, come_to, come_back, met, turned, is_met_at, is_among, fate_seen}
-use Rattle.slave_lives.specs.Lived.{Behind, IsBehind, table_of, node_seen, LivesEra, frame_seen, returned, IsForOpen}
+use Rattle.slave_lives.specs.Lived.{Behind, IsBehind, table_of, node_seen, LivesEra, frame_seen, returned, IsForOpen, StepsUp}
 use Rattle.slave_lives.proofs.NodeSteps.{steps_on}
 use Rattle.slave_lives.proofs.Opens.{open_step}
 use Rattle.slave_lives.proofs.Owned.{own_is}
@@ -107,9 +107,9 @@ module _ {S V A Q R : Type 0} (w : Behind S V A Q R) (is_behind : IsBehind w) wh
     station : m.registers.station ≡ n.registers.station
     stands : Stands (in_side m.kept m.registers)
 
-  meets_open : (fate : Fate) (before : List (Running.Node S)) (n : Running.Node S) (behind : List (Running.Node S)) (ds : List Raw.Datagram) → IsOpen w.lens n.registers → Stands (in_side n.kept n.registers) →
-      IsForOpen fate before n behind ds → MeetsOpen n (met true n (come_to before ds)) before behind ds
-  meets_open fate before n behind ds opens stands f =
+  meets_open : (before : List (Running.Node S)) (n : Running.Node S) (behind : List (Running.Node S)) (ds : List Raw.Datagram) → IsOpen w.lens n.registers → Stands (in_side n.kept n.registers) →
+      IsForOpen before n behind ds → MeetsOpen n (met true n (come_to before ds)) before behind ds
+  meets_open before n behind ds opens stands f =
       let v = w.sees (registers_seen n.registers).state n.server in
       let ring : IsRingMet w.lens (registers_of before) n.registers (registers_of behind) n.kept v ds = FrameRings.ring_view w.lens (registers_of before) n.registers (registers_of behind) n.kept v ds opens f.apart f.alone f.last f.spoken in
       let q = registers_after n.registers (come_to before ds) in
@@ -152,3 +152,121 @@ module _ {S V A Q R : Type 0} (w : Behind S V A Q R) (is_behind : IsBehind w) wh
 
   steps_none : (n : Running.Node S) → IsOpen w.lens n.registers → Stands (in_side n.kept n.registers) → IsRunning w.running n → StepsOpen n n []
   steps_none n opens stands runs = record { ring = λ station. refl; opens = opens; station = refl; stands = stands; runs = runs; boot = refl }
+
+  -- behind the frame and the step, in one ring of its own
+  record TurnsOpen (spot : Spot) (n m : Running.Node S) (before : List (Running.Node S)) (behind : List (Running.Node S)) (ds : List Raw.Datagram) (fate : Fate) (steps : List ℕ) : Type 0 where
+    ring : ring_steps w.exchange w.processor (ring_after ((spot.station, views n) ∷ []) (own spot.station (datagrams_seen w.lens ds)) (own_fate spot.place (fate_seen fate))) steps ≡ (spot.station, views m) ∷ []
+    back : ring_back ((spot.station, views n) ∷ []) (own spot.station (datagrams_seen w.lens ds)) (own_fate spot.place (fate_seen fate)) ≡ own spot.station (datagrams_seen w.lens (returned fate before n behind ds))
+    opens : IsOpen w.lens m.registers
+    station : m.registers.station ≡ spot.station
+    stands : Stands (in_side m.kept m.registers)
+    runs : IsRunning w.running m
+    boot : m.boot ≡ w.boot
+
+  abbrev steps_of : Bool → List ℕ
+  steps_of pace = if pace then 0 ∷ [] else []
+
+  module _ (spot : Spot) (n : Running.Node S) (before : List (Running.Node S)) (behind : List (Running.Node S)) (ds : List Raw.Datagram) (place : length before ≡ spot.place) (here : n.registers.station ≡ spot.station) where
+    abbrev mine : List (Datagram Body)
+    mine = own spot.station (datagrams_seen w.lens ds)
+
+    mine_is : mine ≡ own_seen w.lens n.registers.station ds
+    mine_is = own_is w.lens spot.station ds ∙ ap (λ (a : ℕ). own_seen w.lens a ds) (sym here)
+
+    -- its own datagrams come back as it makes them
+    comes_back : (fate : Fate) → (is_met_at (length before) fate ≡ true → MeetsOpen n (met true n (come_to before ds)) before behind ds) →
+        ring_back ((spot.station, views n) ∷ []) mine (own_fate spot.place (fate_seen fate)) ≡ own spot.station (datagrams_seen w.lens (returned fate before n behind ds))
+    comes_back Pass meets =
+        let m = meets refl in
+        ap₂ (λ (a : ℕ) (l : List (Datagram Body)). frame_after a (views n) l) (sym here) mine_is
+        ∙ sym m.back ∙ ap (λ (a : ℕ). own_seen w.lens a (come_back before n behind ds)) here ∙ sym (own_is w.lens spot.station (come_back before n behind ds))
+    comes_back (Lost after) meets = refl
+
+    met_ring : (fate : Fate) (b : Bool) → is_met_at (length before) fate ≡ b → (b ≡ true → MeetsOpen n (met true n (come_to before ds)) before behind ds) →
+        ring_after ((spot.station, views n) ∷ []) mine (own_fate spot.place (fate_seen fate)) ≡ (spot.station, views (met b n (come_to before ds))) ∷ []
+    met_ring fate true e meets =
+        let m = meets refl in
+        meets_alone spot.station spot.place (views n) mine fate (ap (λ (a : ℕ). is_met_at a fate) (sym place) ∙ e)
+        ∙ ap (λ (s : Slave V Body). (spot.station, s) ∷ []) (ap₂ (λ (a : ℕ) (l : List (Datagram Body)). slave_after a (views n) l) (sym here) mine_is ∙ sym m.slave)
+    met_ring fate false e meets = leaves_alone spot.station spot.place (views n) mine fate (ap (λ (a : ℕ). is_met_at a fate) (sym place) ∙ e)
+
+    -- the node that the frame left
+    record Left (fate : Fate) (c : Bool) : Type 0 where
+      ring : ring_after ((spot.station, views n) ∷ []) mine (own_fate spot.place (fate_seen fate)) ≡ (spot.station, views (met c n (come_to before ds))) ∷ []
+      opens : IsOpen w.lens (met c n (come_to before ds)).registers
+      station : (met c n (come_to before ds)).registers.station ≡ n.registers.station
+      stands : Stands (in_side (met c n (come_to before ds)).kept (met c n (come_to before ds)).registers)
+      boot : (met c n (come_to before ds)).boot ≡ n.boot
+
+    turns_open : (fate : Fate) (b pace : Bool) → is_met_at (length before) fate ≡ b → n.boot ≡ w.boot → IsOpen w.lens n.registers → Stands (in_side n.kept n.registers) → IsRunning w.running n → (b ≡ true → IsForOpen before n behind ds) →
+        (let m = met b n (come_to before ds) in (pace ≡ true → StepsUp w m) →
+        TurnsOpen spot n (if pace then stepped w.running m else m) before behind ds fate (steps_of pace))
+    turns_open fate b pace e boot opens stands runs f up = go b pace e f up
+      where
+        meets : (c : Bool) → (c ≡ true → IsForOpen before n behind ds) → c ≡ true → MeetsOpen n (met true n (come_to before ds)) before behind ds
+        meets c f is = meets_open before n behind ds opens stands (f is)
+
+        left : (c : Bool) → is_met_at (length before) fate ≡ c → (c ≡ true → IsForOpen before n behind ds) → Left fate c
+        left true e f = let m = meets true f refl in record { ring = met_ring fate true e (meets true f); opens = m.opens; station = m.station; stands = m.stands; boot = refl }
+        left false e f = record { ring = met_ring fate false e (meets false f); opens = opens; station = refl; stands = stands; boot = refl }
+
+        go : (c p : Bool) → is_met_at (length before) fate ≡ c → (c ≡ true → IsForOpen before n behind ds) → (let m = met c n (come_to before ds) in (p ≡ true → StepsUp w m) →
+            TurnsOpen spot n (if p then stepped w.running m else m) before behind ds fate (steps_of p))
+        go c true e f up =
+            let m = met c n (come_to before ds) in
+            let l = left c e f in
+            let s = steps_open m (l.boot ∙ boot) l.opens l.stands (met_runs w.running c n (come_to before ds) runs) (up refl).roomy (up refl).up in
+            record {
+              ring = ap (λ (r : Ring V Body). ring_steps w.exchange w.processor r (0 ∷ [])) l.ring ∙ s.ring spot.station;
+              back = comes_back fate (λ is. meets c f (sym e ∙ is));
+              opens = s.opens;
+              station = s.station ∙ l.station ∙ here;
+              stands = s.stands;
+              runs = s.runs;
+              boot = s.boot ∙ l.boot ∙ boot;
+            }
+        go c false e f up =
+            let l = left c e f in
+            record {
+              ring = l.ring;
+              back = comes_back fate (λ is. meets c f (sym e ∙ is));
+              opens = l.opens;
+              station = l.station ∙ here;
+              stands = l.stands;
+              runs = met_runs w.running c n (come_to before ds) runs;
+              boot = l.boot ∙ boot;
+            }
+
+  -- THE EPOCH GOES ON
+  pub lives_on : (more : Body → Bool) (passed : Q → Bool) (spot : Spot) (e : Era Body Q R) (fs : List (Frame Body)) (n : Running.Node S) → LivesEra w spot e fs n →
+      (before : List (Running.Node S)) (behind : List (Running.Node S)) (ds : List Raw.Datagram) (fate : Fate) (pick : Pick Q) (news : List (News Body)) (pace number : ℕ) → length before ≡ spot.place →
+      (is_met_at (length before) fate ≡ true → IsForOpen before n behind ds) →
+      (let next = era_next w.exchange.speech w.states.acknowledged more passed (length fs) e pick in
+      let m = met (is_met_at (length before) fate) n (come_to before ds) in
+      let sent = datagrams_seen w.lens ds in
+      let back = datagrams_seen w.lens (returned fate before n behind ds) in
+      AsksOpen spot.station next sent → (is_in_pace pace number ≡ true → StepsUp w m) →
+      LivesEra w spot (era_after w.exchange.speech w.states.acknowledged more passed spot.station (length fs) news sent (fate_seen fate) back next) (fs ++ frame_seen w.lens ds fate (returned fate before n behind ds) ∷ []) (turned w.running pace number m))
+  lives_on more passed spot e fs n lives before behind ds fate pick news pace number place f asks up =
+      let t = turns_open spot n before behind ds place lives.station fate (is_met_at (length before) fate) (is_in_pace pace number) refl lives.boot lives.opens lives.stands lives.runs f up in
+      let sent = datagrams_seen w.lens ds in
+      let back = datagrams_seen w.lens (returned fate before n behind ds) in
+      let m = turned w.running pace number (met (is_met_at (length before) fate) n (come_to before ds)) in
+      let grown = Eras.own_turns w.exchange w.states w.processor (table_of w) more passed spot e lives.opened fs lives.server lives.registers (views n) lives.before lives.is pick news sent (fate_seen fate) back (steps_of (is_in_pace pace number)) (views m) asks t.back t.ring in
+      let one = frame_seen w.lens ds fate (returned fate before n behind ds) in
+      let len : suc (length fs) ≡ length (fs ++ one ∷ []) = sym (length-append fs (one ∷ []) ∙ (let plus : length fs + 1 ≡ suc (length fs) = omega arith in plus)) in
+      let was = lives.before in
+      let next = era_next w.exchange.speech w.states.acknowledged more passed (length fs) e pick in
+      let now = era_after w.exchange.speech w.states.acknowledged more passed spot.station (length fs) news sent (fate_seen fate) back next in
+      record {
+        opened = lives.opened;
+        server = lives.server;
+        registers = lives.registers;
+        before = omega (arith, len, was);
+        is = subst (λ (k : ℕ). EraIs w.exchange w.states w.processor (table_of w) spot now lives.opened k (fs ++ one ∷ []) lives.server lives.registers (views m)) len grown;
+        opens = t.opens;
+        station = t.station;
+        stands = t.stands;
+        runs = t.runs;
+        boot = t.boot;
+      }

@@ -14,3 +14,4 @@ pub mod NodeFrames
 pub mod RingFrames
 pub mod Owned
 pub mod EraFrames
+pub mod RingLives

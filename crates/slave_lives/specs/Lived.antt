@@ -1,10 +1,11 @@
 -- A SLAVE'S LIFE AS ITS NODE LIVES IT: the node's registers, box and server, as the exchange's, are the slave of the epoch that is open.
 use Rattle.std.specs.Prelude.{◌≡◌, ◌<◌, ◌∷◌, ◌++◌, ℕ, suc, Bool, true, false, List, [], length}
 use Rattle.datagrams.specs.Datagram as Raw
+use Rattle.datagrams.specs.Frame.{IsFrame}
 use Rattle.esc_registers.specs.declared.registers.Registers as Esc
 use Rattle.exchange_model.specs.Exchange.{Exchange}
 use Rattle.frame_view.specs.View.{Lens}
-use Rattle.frame_view.specs.Seen.{datagrams_seen}
+use Rattle.frame_view.specs.Seen.{seen, datagrams_seen}
 use Rattle.frames_seen.specs.Own.{own_of, IsAlone}
 use Rattle.frames_seen.specs.Ring.{AllApart}
 use Rattle.frames_seen.specs.Slaves.{registers_seen, slave_of, IsOpen}
@@ -14,18 +15,21 @@ use Rattle.link_mails.specs.Body.{Body}
 use Rattle.mailbox_slave.specs.Node.{in_side}
 use Rattle.mailbox_slave.specs.Registers.{in_len}
 use Rattle.segment_model.specs.Slaves.{Registers, Slave, Serving, Processor}
-use Rattle.segment_model.specs.Record.{Frame}
+use Rattle.segment_model.specs.Record.{Frame, News}
 use Rattle.segment_ring.specs.declared.wire.Fate.{Fate}
 use Rattle.segment_ring.specs.declared.wire.Fate.TheVariants.{Pass, Lost}
 use Rattle.state_exchange.specs.Stated.{Stated}
 use Rattle.state_law.specs.Shows.{slave_table}
 use Rattle.state_model.specs.States as States
-use Rattle.slave_steps.specs.Node.{Node}
-use Rattle.life_model.specs.Lives.{Spot, Era}
+use Rattle.segment_ring.specs.Schedule.{fate_at}
+use Rattle.segment_ring.specs.Ring.{RingState, is_in_pace, ring_behind, ring_returned}
+use Rattle.task_model.specs.Accounts.{Pick}
+use Rattle.slave_steps.specs.Node.{Node, node_passed}
+use Rattle.life_model.specs.Lives.{Spot, Era, AsksOpen, era_next, era_after}
 use Rattle.life_model.specs.Eras.{EraIs}
-use Rattle.slave_lives.specs.Nodes.{IsRunning, IsRoomy}
+use Rattle.slave_lives.specs.Nodes.{IsRunning, IsRoomy, stepped}
 use Rattle.slave_lives.specs.Returning.{Clears}
-use Rattle.slave_lives.specs.Rings.{registers_of, come_to, come_back, fate_seen, is_met_at}
+use Rattle.slave_lives.specs.Rings.{registers_of, come_to, come_back, fate_seen, is_met_at, met, turned}
 use Rattle.slave_lives.specs.Steps.{Running, IsServedAs, StaysUp, Stands}
 
 -- what a running slave's services are in a session: the exchange behind its mailboxes, its AL state among its application, what its processor
@@ -75,10 +79,75 @@ abbrev pub returned : {S : Type 0} → Fate → List (Node S) → Node S → Lis
 returned Pass before n behind ds = come_back before n behind ds
 returned (Lost after) before n behind ds = []
 
--- A FRAME IS FOR THE OPEN SLAVE ALONE at its station: where it comes so far, no datagram to it means a slave before it, no other means the
--- slave, a session speaks of those to it, and where it comes back none means a slave behind it
-pub record IsForOpen {S : Type 0} (fate : Fate) (before : List (Node S)) (n : Node S) (behind : List (Node S)) (ds : List Raw.Datagram) : Type 0 where
+-- A FRAME IS FOR THE OPEN SLAVE ALONE at its station: no datagram to it means a slave before or behind it, no other means the slave, and a
+-- session speaks of those to it
+pub record IsForOpen {S : Type 0} (before : List (Node S)) (n : Node S) (behind : List (Node S)) (ds : List Raw.Datagram) : Type 0 where
   pub apart : AllApart n.registers.station (registers_of before) ds
   pub alone : IsAlone n.registers.station n.registers (come_to before ds)
   pub last : AllApart n.registers.station (registers_of behind) (datagrams_after n.registers (come_to before ds))
   pub spoken : AllSpoken n.registers.station (own_of n.registers.station ds)
+
+-- the slave makes its step in a state that is not Init and asks for none, with room for the mail that it offers
+pub record StepsUp {S V A Q R : Type 0} (w : Behind S V A Q R) (n : Node S) : Type 0 where
+  pub up : StaysUp n.boot n.registers
+  pub roomy : IsRoomy w.running (in_len n.registers) n.server
+
+-- ONE FRAME OF A RING of octets, for the slave at one place: the ring before it, the frame and its datagrams, the slaves before that one, it
+-- with its pace, and those behind
+pub record RingFrame (S : Type 0) : Type 0 where
+  pub ring : RingState (Node S)
+  pub octets : List ℕ
+  pub datagrams : List Raw.Datagram
+  pub before : List (Node S)
+  pub node : Node S
+  pub behind : List (Node S)
+  pub front : List ℕ
+  pub pace : ℕ
+  pub rest : List ℕ
+  pub is_frame : IsFrame octets datagrams
+  pub nodes : ring.nodes ≡ before ++ node ∷ behind
+  pub paces : ring.paces ≡ front ++ pace ∷ rest
+  pub place : length front ≡ length before
+
+-- its fate, whether it meets the slave, what it makes of it, and the slave behind the step that follows
+abbrev pub fate_of : {S : Type 0} → RingFrame S → Fate
+fate_of t = fate_at t.ring.lose t.ring.number
+
+abbrev pub is_reached : {S : Type 0} → RingFrame S → Bool
+is_reached t = is_met_at (length t.before) (fate_of t)
+
+abbrev pub node_met : {S : Type 0} → RingFrame S → Node S
+node_met t = met (is_reached t) t.node (come_to t.before t.datagrams)
+
+abbrev pub node_behind : {S : Type 0} → Running S → RingFrame S → Node S
+node_behind u t = turned u t.pace t.ring.number (node_met t)
+
+-- what came back of it, and the frame as a session sees it
+abbrev pub octets_back : {S : Type 0} → RingFrame S → List ℕ
+octets_back t = ring_returned node_passed t.ring t.octets
+
+abbrev pub frame_of : {S : Type 0} → (ℕ → Lens) → RingFrame S → Frame Body
+frame_of lens t = record { sent = seen lens t.octets; fate = fate_seen (fate_of t); back = seen lens (octets_back t) }
+
+-- the ring behind it has the slave, as it then is, at its place
+pub record StandsBehind {S : Type 0} (u : Running S) (t : RingFrame S) (m : Node S) : Type 0 where
+  pub left : List (Node S)
+  pub right : List (Node S)
+  pub place : length left ≡ length t.before
+  pub nodes : (ring_behind node_passed (stepped u) t.ring t.octets).nodes ≡ left ++ m ∷ right
+
+-- A FRAME OF AN OPEN SLAVE: its epoch is lived by its node, the master's choice asks for what the frame has for it, the frame is for it alone
+-- where it comes so far, and a step behind it is one of a slave that stays up
+pub record OpenFrame {S V A Q R : Type 0} (w : Behind S V A Q R) (more : Body → Bool) (passed : Q → Bool) (spot : Spot) (e : Era Body Q R) (fs : List (Frame Body)) (t : RingFrame S) (pick : Pick Q) : Type 0 where
+  pub at : length t.before ≡ spot.place
+  pub lives : LivesEra w spot e fs t.node
+  pub alone : is_reached t ≡ true → IsForOpen t.before t.node t.behind t.datagrams
+  pub asks : AsksOpen spot.station (era_next w.exchange.speech w.states.acknowledged more passed (length fs) e pick) (seen w.lens t.octets)
+  pub steps : is_in_pace t.pace t.ring.number ≡ true → StepsUp w (node_met t)
+
+-- THE EPOCH IS LIVED ON: behind the frame the slave's node stands at its place of the ring and lives the epoch as the master has it then
+pub record LivedOn {S V A Q R : Type 0} (w : Behind S V A Q R) (more : Body → Bool) (passed : Q → Bool) (spot : Spot) (e : Era Body Q R) (fs : List (Frame Body)) (t : RingFrame S) (pick : Pick Q) (news : List (News Body)) : Type 0 where
+  pub stands : StandsBehind w.running t (node_behind w.running t)
+  pub lives : (let f = frame_of w.lens t in
+      let next = era_next w.exchange.speech w.states.acknowledged more passed (length fs) e pick in
+      LivesEra w spot (era_after w.exchange.speech w.states.acknowledged more passed spot.station (length fs) news f.sent f.fate f.back next) (fs ++ f ∷ []) (node_behind w.running t))

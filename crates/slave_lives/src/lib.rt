@@ -2,10 +2,12 @@
 //! returned. No running code: each function here does nothing, and its contract states a law.
 #![tactic(auto)]
 
+mod life_laws;
 mod node_laws;
 mod opening_laws;
 mod step_laws;
 
+pub use life_laws::{open_life_law, own_law};
 pub use node_laws::{node_law, ring_law};
 pub use opening_laws::{bring_law, closed_law, return_law, way_law};
 pub use step_laws::{open_step, pdi_law, step_view};
