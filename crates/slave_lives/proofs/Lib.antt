@@ -15,3 +15,4 @@ pub mod RingFrames
 pub mod Owned
 pub mod EraFrames
 pub mod RingLives
+pub mod EraBegins

@@ -1,5 +1,5 @@
 -- A SLAVE'S LIFE AS ITS NODE LIVES IT: the node's registers, box and server, as the exchange's, are the slave of the epoch that is open.
-use Rattle.std.specs.Prelude.{◌≡◌, ◌<◌, ◌∷◌, ◌++◌, ℕ, suc, Bool, true, false, List, [], length}
+use Rattle.std.specs.Prelude.{◌≡◌, ◌<◌, ◌∷◌, ◌++◌, ℕ, Bool, true, List, [], length, Option, Some, None}
 use Rattle.datagrams.specs.Datagram as Raw
 use Rattle.datagrams.specs.Frame.{IsFrame}
 use Rattle.esc_registers.specs.declared.registers.Registers as Esc
@@ -25,9 +25,10 @@ use Rattle.segment_ring.specs.Schedule.{fate_at}
 use Rattle.segment_ring.specs.Ring.{RingState, is_in_pace, ring_behind, ring_returned}
 use Rattle.task_model.specs.Accounts.{Pick}
 use Rattle.slave_steps.specs.Node.{Node, node_passed}
-use Rattle.life_model.specs.Lives.{Spot, Era, AsksOpen, era_next, era_after}
+use Rattle.life_model.specs.Lives.{Spot, Era, AsksOpen, era_next, era_after, new_era}
 use Rattle.life_model.specs.Eras.{EraIs}
 use Rattle.slave_lives.specs.Nodes.{IsRunning, IsRoomy, stepped}
+use Rattle.slave_lives.specs.Opening.{Plan, IsPlan, IsOpened}
 use Rattle.slave_lives.specs.Returning.{Clears}
 use Rattle.slave_lives.specs.Rings.{registers_of, come_to, come_back, fate_seen, is_met_at, met, turned}
 use Rattle.slave_lives.specs.Steps.{Running, IsServedAs, StaysUp, Stands}
@@ -151,3 +152,23 @@ pub record LivedOn {S V A Q R : Type 0} (w : Behind S V A Q R) (more : Body → 
   pub lives : (let f = frame_of w.lens t in
       let next = era_next w.exchange.speech w.states.acknowledged more passed (length fs) e pick in
       LivesEra w spot (era_after w.exchange.speech w.states.acknowledged more passed spot.station (length fs) news f.sent f.fate f.back next) (fs ++ f ∷ []) (node_behind w.running t))
+
+-- A SLAVE THAT WAS JUST OPENED by this plan, whose server has nothing waiting and may be served
+pub record OpensEra {S V A Q R : Type 0} (w : Behind S V A Q R) (p : Plan) (spot : Spot) (n : Node S) : Type 0 where
+  pub plan : IsPlan w.boot w.lens p
+  pub station : p.station ≡ spot.station
+  pub opened : IsOpened w.lens p n.registers n.kept n.server
+  pub waits : w.running.next n.server ≡ None
+  pub ready : w.exchange.ready (w.sees p.start n.server).server ≡ true
+  pub runs : IsRunning w.running n
+  pub boot : n.boot ≡ w.boot
+
+-- its epoch before any service: it begins with this server, told the state that was opened
+abbrev pub opened_era : {Q R : Type 0} → Option ℕ → ℕ → Era Body Q R
+opened_era {Q} {R} cleared opened = record (new_era {M = Body} {Q = Q} {R = R} cleared) { opened = Some opened }
+
+-- THE EPOCH BEGINS: the node lives it, from the server and the registers as its opening left them
+pub record BegunEra {S V A Q R : Type 0} (w : Behind S V A Q R) (p : Plan) (spot : Spot) (cleared : Option ℕ) (opened : ℕ) (fs : List (Frame Body)) (n : Node S) : Type 0 where
+  pub lives : LivesEra w spot (opened_era {Q = Q} {R = R} cleared opened) fs n
+  pub server : lives.server ≡ (w.sees p.start n.server).server
+  pub state : w.states.state (w.exchange.app lives.server) ≡ p.start

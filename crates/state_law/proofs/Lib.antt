@@ -1,2 +1,2 @@
-mod Tables
+pub mod Tables
 pub mod Carries
