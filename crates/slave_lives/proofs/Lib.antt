@@ -16,3 +16,4 @@ pub mod Owned
 pub mod EraFrames
 pub mod RingLives
 pub mod EraBegins
+pub mod Closing

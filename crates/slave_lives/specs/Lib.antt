@@ -5,3 +5,4 @@ pub mod Ways
 pub mod Nodes
 pub mod Rings
 pub mod Lived
+pub mod Stands
