@@ -20,7 +20,7 @@ use Rattle.slave_lives.specs.Nodes.{IsRunning, IsRoomy, stepped, StepsOn}
 use Rattle.slave_lives.specs.Opening.{Plan, IsPlan, IsAccess, IsBring, IsBringing, IsOpened, AtMostOne, JustOne, access_behind}
 use Rattle.slave_lives.specs.Returning.{Clears, IsReturned, IsFrozen, IsTurn, turn_behind}
 use Rattle.slave_lives.specs.Rings.{met}
-use Rattle.slave_lives.specs.Stands.{bring_turn, turn_of, IsBringStep, IsClosed, IsUp, opening_plan, ClosedAs, CameBack}
+use Rattle.slave_lives.specs.Stands.{bring_turn, turn_of, IsBringStep, IsClosed, IsUp, ClosedAs, CameBack}
 use Rattle.slave_lives.specs.Steps.{Running, HasStepped, KeepsOthers}
 use Rattle.slave_lives.specs.Ways.{OneOnWay, AllNotFor}
 use Rattle.slave_lives.proofs.Brought as Brought
@@ -185,3 +185,128 @@ module _ {S : Type 0} (u : Running S) (boot : Bool) (lens : ℕ → Lens) (p : P
             IsClosed.returned again (subst IsTurn (sym step) IsTurn.watch) (subst (λ t. IsReturned u p t (stepped u n).registers (stepped u n).kept (stepped u n).server) (sym step) (init 2 (omega arith) f))
         go (IsClosed.left again step start turn former b) = IsClosed.left again step start turn former (back turn start former b)
         go (IsClosed.returned again step b) = IsClosed.returned again step (back o.step p.start plan b)
+
+    -- WHERE IT MEETS THE ACCESS AND THE FRAME COMES BACK the next is in hand
+    bring_next : (step : ℕ) → IsBringStep step → (step == 5) ≡ false → (access_behind (bring_turn step) ≡ bring_turn (suc step)) × IsBringStep (suc step)
+    bring_next step IsBringStep.address e = (refl, IsBringStep.out_on)
+    bring_next step IsBringStep.out_on e = (refl, IsBringStep.in_on)
+    bring_next step IsBringStep.in_on e = (refl, IsBringStep.word)
+    bring_next step IsBringStep.word e = (refl, IsBringStep.status)
+    bring_next step IsBringStep.status e = absurd (cc)
+
+    turn_next : (turn : ℕ) → IsTurn turn → (turn == 9) ≡ false → (turn_behind turn ≡ suc turn) × IsTurn (suc turn)
+    turn_next turn IsTurn.return e = (refl, IsTurn.watch)
+    turn_next turn IsTurn.watch e = (refl, IsTurn.address)
+    turn_next turn IsTurn.address e = (refl, IsTurn.out_off)
+    turn_next turn IsTurn.out_off e = (refl, IsTurn.in_off)
+    turn_next turn IsTurn.in_off e = (refl, IsTurn.out_on)
+    turn_next turn IsTurn.out_on e = (refl, IsTurn.in_on)
+    turn_next turn IsTurn.in_on e = (refl, IsTurn.word)
+    turn_next turn IsTurn.word e = (refl, IsTurn.status)
+    turn_next turn IsTurn.status e = absurd (cc)
+
+    last_bring : o.again ≡ false → last_step o ≡ 5
+    last_bring e = ap (λ (b : Bool). if b then 9 else 5) e
+
+    last_again : o.again ≡ true → last_step o ≡ 9
+    last_again e = ap (λ (b : Bool). if b then 9 else 5) e
+
+    clear_at : o.again ≡ true → o.step ≡ 2 → shows_clear o ≡ true
+    clear_at again two = ap₂ (λ (a : Bool) (s : ℕ). a && s == 2) again two
+
+    abbrev onward : Opening
+    onward = record o { step = suc o.step }
+
+    turned_left : (n : Node S) (q : Esc.Registers) → o.again ≡ true → o.step ≡ 1 → IsFrozen lens p q ⊎ IsReturned u p 2 q n.kept n.server → IsClosed u boot lens p onward (record n { registers = q })
+    turned_left n q again step (inl f) = IsClosed.frozen again (inr (ap suc step)) f
+    turned_left n q again step (inr b) = IsClosed.returned again (subst IsTurn (sym (ap suc step)) IsTurn.watch) (subst (λ m. IsReturned u p m q n.kept n.server) (sym (ap suc step)) b)
+
+    pub frame_goes : (n : Node S) (ds : List Raw.Datagram) → JustOne p (turn_of o) n.registers ds → shows_clear o ≡ false → (o.step == last_step o) ≡ false → IsClosed u boot lens p o n → IsClosed u boot lens p onward (met true n ds)
+    frame_goes n ds one clear_ last (IsClosed.brings first step b clear none) =
+        let next = bring_next o.step step (ap (λ (m : ℕ). o.step == m) (sym (last_bring first)) ∙ last) in
+        let now = Openings.frame_goes boot lens p plan (bring_turn o.step) n.registers n.kept n.server ds (is_bring o.step step) b (subst (λ m. JustOne p m n.registers ds) (bring_is o first) one) in
+        IsClosed.brings first next.1 (subst (λ m. IsBringing p m (registers_after n.registers ds) n.kept n.server) next.0 now) clear none
+    frame_goes n ds one clear_ last (IsClosed.frozen again (inl step) f) =
+        IsClosed.frozen again (inr (ap suc step)) (Turning.frame_freezes lens p n.registers ds f.opens f.station f.state f.up (subst (λ m. JustOne p m n.registers ds) (again_is o again ∙ step) one))
+    frame_goes n ds one clear_ last (IsClosed.frozen again (inr step) f) = absurd (let no : false ≡ true = sym clear_ ∙ clear_at again step in cc)
+    frame_goes n ds one clear_ last (IsClosed.left again step start turn former b) =
+        turned_left n (registers_after n.registers ds) again step (one_left start turn former n.kept n.server n.registers ds b (subst (λ m. JustOne p m n.registers ds) (again_is o again ∙ step) one))
+    frame_goes n ds one clear_ last (IsClosed.returned again step b) =
+        let next = turn_next o.step step (ap (λ (m : ℕ). o.step == m) (sym (last_again again)) ∙ last) in
+        let now = Returns.frame_turns u boot lens p plan o.step n.registers n.kept n.server ds step b (subst (λ m. JustOne p m n.registers ds) (again_is o again) one) in
+        IsClosed.returned again next.1 (subst (λ m. IsReturned u p m (registers_after n.registers ds) n.kept n.server) next.0 now)
+
+    -- where access 2 shows Init, the slave is there
+    frame_clears : (n : Node S) (ds : List Raw.Datagram) (d : Raw.Datagram) → shows_clear o ≡ true → JustOne p (turn_of o) n.registers ds → IsAccess p (turn_of o) d → number_at 2 (passed n.registers d).body 0 ≡ 1 → IsClosed u boot lens p o n →
+        IsClosed u boot lens p (record o { step = 3 }) (met true n ds)
+    frame_clears n ds d clear_ one access shows c = go c
+      where
+        parts : (o.again ≡ true) × ((o.step == 2) ≡ true)
+        parts = and_parts o.again (o.step == 2) clear_
+
+        two : o.step ≡ 2
+        two = eqb-true o.step 2 parts.1
+
+        turn : turn_of o ≡ 2
+        turn = again_is o parts.0 ∙ two
+
+        go : IsClosed u boot lens p o n → IsClosed u boot lens p (record o { step = 3 }) (met true n ds)
+        go (IsClosed.brings first step b clear none) = absurd (let no : true ≡ false = sym parts.0 ∙ first in cc)
+        go (IsClosed.frozen again step f) = absurd (Turning.frozen_shows lens p n.registers d f (subst (λ m. IsAccess p m d) turn access) shows)
+        go (IsClosed.left again step start turn_ former b) = absurd (let no : 1 ≡ 2 = sym step ∙ two in cc)
+        go (IsClosed.returned again step b) =
+            IsClosed.returned again IsTurn.address (Returns.frame_turns u boot lens p plan 2 n.registers n.kept n.server ds IsTurn.watch (subst (λ m. IsReturned u p m n.registers n.kept n.server) two b) (subst (λ m. JustOne p m n.registers ds) turn one))
+
+    -- where the last access shows the state, it stands
+    seen_up : (n : Node S) (ds : List Raw.Datagram) (d : Raw.Datagram) → JustOne p 9 n.registers ds → IsAccess p 9 d → number_at 2 (passed n.registers d).body 0 ≡ p.start → IsReturned u p 9 n.registers n.kept n.server → IsUp u p (met true n ds)
+    seen_up n ds d one access shows b =
+        let state = Turning.state_shown u boot lens p plan n.registers n.kept n.server d b access shows in
+        record {
+          returned = Returns.frame_returns u boot lens p plan 9 n.registers n.kept n.server ds IsTurn.status b (just_at_most p 9 n.registers ds one);
+          state = ap (λ (x : ℕ). bits_of x 0 4) (after_keeps n.registers ds).status ∙ state;
+        }
+
+    frame_up : (n : Node S) (ds : List Raw.Datagram) (d : Raw.Datagram) → o.step ≡ last_step o → JustOne p (turn_of o) n.registers ds → IsAccess p (turn_of o) d → number_at 2 (passed n.registers d).body 0 ≡ p.start → IsClosed u boot lens p o n →
+        IsUp u p (met true n ds)
+    frame_up n ds d last one access shows (IsClosed.brings first step b clear none) =
+        let five : o.step ≡ 5 = last ∙ last_bring first in
+        let nine : turn_of o ≡ 9 = bring_is o first ∙ ap bring_turn five in
+        seen_up n ds d (subst (λ m. JustOne p m n.registers ds) nine one) (subst (λ m. IsAccess p m d) nine access) shows
+        (Brought.returned u boot lens p plan 9 n.registers n.kept n.server (subst (λ m. IsBringing p m n.registers n.kept n.server) (ap bring_turn five) b) clear none)
+    frame_up n ds d last one access shows (IsClosed.frozen again (inl step) f) = absurd (let no : 1 ≡ 9 = sym step ∙ last ∙ last_again again in cc)
+    frame_up n ds d last one access shows (IsClosed.frozen again (inr step) f) = absurd (let no : 2 ≡ 9 = sym step ∙ last ∙ last_again again in cc)
+    frame_up n ds d last one access shows (IsClosed.left again step start turn former b) = absurd (let no : 1 ≡ 9 = sym step ∙ last ∙ last_again again in cc)
+    frame_up n ds d last one access shows (IsClosed.returned again step b) =
+        let nine : o.step ≡ 9 = last ∙ last_again again in
+        let turn : turn_of o ≡ 9 = again_is o again ∙ nine in
+        seen_up n ds d (subst (λ m. JustOne p m n.registers ds) turn one) (subst (λ m. IsAccess p m d) turn access) shows (subst (λ m. IsReturned u p m n.registers n.kept n.server) nine b)
+
+    -- A LIFE'S OPENING BEHIND ITS ACCESS, as the model has it
+    pub came_back : {M Q R : Type 0} (frame : ℕ) (l : Life M Q R) (done : Bool) (found : Option Found) (n : Node S) (ds : List Raw.Datagram) (d : Raw.Datagram) → l.stand ≡ Stand.Opens o → o.state ≡ p.start → JustOne p (turn_of o) n.registers ds →
+        CameBack p (turn_of o) n.registers d done found → IsClosed u boot lens p o n → ClosedAs u boot lens p (opening_back frame l o done found).stand (met true n ds)
+    came_back frame l done found n ds d stand state one came c = go (shows_clear o) refl (o.step == last_step o) refl (done && is_shown 1 found) refl (done && is_shown o.state found) refl
+      where
+        stays : ClosedAs u boot lens p l.stand (met true n ds)
+        stays = subst (λ st. ClosedAs u boot lens p st (met true n ds)) (sym stand) (frame_stays n true ds (just_at_most p (turn_of o) n.registers ds one) c)
+
+        go : (a : Bool) → shows_clear o ≡ a → (b : Bool) → (o.step == last_step o) ≡ b → (x : Bool) → (done && is_shown 1 found) ≡ x → (y : Bool) → (done && is_shown o.state found) ≡ y →
+            ClosedAs u boot lens p (if a then (if x then clears frame l o else l) else if b then (if y then opens frame l else l) else steps_on l o).stand (met true n ds)
+        go true a b e true x y f = frame_clears n ds d a one came.access (came_shows p (turn_of o) 1 n.registers d done found came x) c
+        go true a b e false x y f = stays
+        go false a true e x f true y = frame_up n ds d (eqb-true o.step (last_step o) e) one came.access (came_shows p (turn_of o) o.state n.registers d done found came y ∙ state) c
+        go false a true e x f false y = stays
+        go false a false e x f y g = frame_goes n ds one a e c
+
+  -- UP, it stays so by a step, and is open
+  pub up_steps : Clears u → (n : Node S) → n.boot ≡ boot → IsRunning u n → IsRoomy u (in_len n.registers) n.server → IsUp u p n → IsUp u p (stepped u n)
+  up_steps clears_ n is runs roomy up =
+      let m = stepped u n in
+      let on = Stepped.steps_on u clears_ n runs roomy in
+      let steps = subst (λ b. HasStepped u b n.registers m.registers n.kept m.kept n.server m.server) is on.steps in
+      record {
+        returned = Turning.step_returns u boot lens p plan 9 n.registers m.registers n.kept m.kept n.server m.server up.returned on.keeps steps on.status on.code;
+        state = Turning.start_kept u boot lens p plan 9 n.registers m.registers n.kept m.kept n.server m.server up.returned steps up.state;
+      }
+
+  pub up_opens : (n : Node S) → IsUp u p n → IsOpened lens p n.registers n.kept n.server × (u.next n.server ≡ None)
+  up_opens n up = (Turning.reopened u boot lens p plan 9 (omega arith) n.registers n.kept n.server up.returned up.state, up.returned.waits)

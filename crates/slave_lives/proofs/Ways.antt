@@ -12,17 +12,17 @@ use Rattle.frames_seen.specs.Spoken.{means}
 use Rattle.frames_seen.specs.Own.{is_to, IsApart}
 use Rattle.frames_seen.specs.Ring.{all_after, AllApart}
 use Rattle.slave_lives.specs.Steps.{Running}
-use Rattle.slave_lives.specs.Opening.{Plan, IsPlan, aim, IsAccess, AtMostOne}
+use Rattle.slave_lives.specs.Opening.{Plan, IsPlan, aim, IsAccess, AtMostOne, JustOne}
 use Rattle.frames_seen.specs.Own.{NoneMeant}
 use Rattle.slave_lives.specs.Returning.{IsReturned, IsTurn}
-use Rattle.slave_lives.specs.Ways.{IsNotFor, AllNotFor, IsOnWay, OneOnWay}
+use Rattle.slave_lives.specs.Ways.{IsNotFor, AllNotFor, IsOnWay, OneOnWay, JustOnWay}
 use Rattle.frames_seen.proofs.Boxes.{aimed}
 use Rattle.frames_seen.proofs.Owns.{unmoved, to_stays}
 use Rattle.frames_seen.proofs.Places.{alone_by, else_behind, on_by_one, not_here}
 use Rattle.slave_lives.proofs.Returns.{met}
 
 -- at its own place it comes as the access
-arrives : (p : Plan) (n place : ℕ) (d : Raw.Datagram) → IsTurn n → place < 16 → IsOnWay p n place place d → IsAccess p n d
+pub arrives : (p : Plan) (n place : ℕ) (d : Raw.Datagram) → IsTurn n → place < 16 → IsOnWay p n place place d → IsAccess p n d
 arrives p n place d at near w = record { command = w.command; adp = w.adp ∙ go at; ado = w.ado; octets = w.octets }
   where
     zero_ : (65536 - place + place) % 65536 ≡ 0
@@ -40,7 +40,7 @@ arrives p n place d at near w = record { command = w.command; adp = w.adp ∙ go
     go IsTurn.status = refl
 
 -- and means the slave
-meant : (p : Plan) (n : ℕ) (r : Esc.Registers) (d : Raw.Datagram) → IsTurn n → (3 < n → r.station ≡ p.station) → IsAccess p n d → means r.station d.head ≡ true
+pub meant : (p : Plan) (n : ℕ) (r : Esc.Registers) (d : Raw.Datagram) → IsTurn n → (3 < n → r.station ≡ p.station) → IsAccess p n d → means r.station d.head ≡ true
 meant p n r d at station a = (λ i. means r.station (record d.head { command = a.command i; adp = a.adp i })) ∙ go at station
   where
     go : {m : ℕ} → IsTurn m → (3 < m → r.station ≡ p.station) → means r.station (record d.head { command = (aim p m).command; adp = (aim p m).adp }) ≡ true
@@ -55,14 +55,14 @@ meant p n r d at station a = (λ i. means r.station (record d.head { command = a
     go IsTurn.status s = eq-eqb p.station r.station (sym (s (omega arith)))
 
 -- what isn't for it doesn't mean it
-not_meant : (p : Plan) (place : ℕ) (r : Esc.Registers) (d : Raw.Datagram) → place < 16 → (r.station ≡ 0) ⊎ (r.station ≡ p.station) → IsNotFor p place place d → means r.station d.head ≡ false
+pub not_meant : (p : Plan) (place : ℕ) (r : Esc.Registers) (d : Raw.Datagram) → place < 16 → (r.station ≡ 0) ⊎ (r.station ≡ p.station) → IsNotFor p place place d → means r.station d.head ≡ false
 not_meant p place r d near called other = alone_by place r d d.head.command near other.0 (go called)
   where
     go : (r.station ≡ 0) ⊎ (r.station ≡ p.station) → is_to r.station d ≡ false
     go (inl e) = ap (λ x. is_to x d) e ∙ other.2
     go (inr e) = ap (λ x. is_to x d) e ∙ other.1
 
-none_meant : (p : Plan) (place : ℕ) (r : Esc.Registers) (ds : List Raw.Datagram) → place < 16 → (r.station ≡ 0) ⊎ (r.station ≡ p.station) → AllNotFor p place place ds → NoneMeant r ds
+pub none_meant : (p : Plan) (place : ℕ) (r : Esc.Registers) (ds : List Raw.Datagram) → place < 16 → (r.station ≡ 0) ⊎ (r.station ≡ p.station) → AllNotFor p place place ds → NoneMeant r ds
 none_meant p place r [] near called others = tt
 none_meant p place r (d ∷ ds) near called others =
     let not_ = not_meant p place r d near called others.0 in
@@ -119,7 +119,7 @@ not_its p n place behind q d at few near other apart w = go at (λ i. means q.st
     go IsTurn.word e f adp = apart (f ∙ eq-eqb d.head.adp p.station adp)
     go IsTurn.status e f adp = apart (f ∙ eq-eqb d.head.adp p.station adp)
 
-others_behind : (p : Plan) (place behind : ℕ) (q : Esc.Registers) (ds : List Raw.Datagram) → behind < 16 → AllNotFor p place behind ds → AllNotFor p place (suc behind) (datagrams_after q ds)
+pub others_behind : (p : Plan) (place behind : ℕ) (q : Esc.Registers) (ds : List Raw.Datagram) → behind < 16 → AllNotFor p place behind ds → AllNotFor p place (suc behind) (datagrams_after q ds)
 others_behind p place behind q [] near others = tt
 others_behind p place behind q (d ∷ ds) near others =
     ((else_behind place behind q d near others.0.0, to_stays p.station q d ∙ others.0.1, to_stays 0 q d ∙ others.0.2), others_behind p place behind (passed q d).registers ds near others.1)
@@ -140,3 +140,42 @@ one_on_way p n place behind (q ∷ rs) ds at few near apart one =
     let other : (place == behind) ≡ false = ne_eqb place behind (λ (e : place ≡ behind). omega arith) in
     let next = one_on_way p n place (suc behind) rs (datagrams_after q ds) at few (omega arith) apart.1 (one_behind p n place behind q ds at few (omega arith) other apart.0 one) in
     subst (λ m. OneOnWay p n place m (all_after rs (datagrams_after q ds))) (let e : suc behind + length rs ≡ behind + suc (length rs) = omega arith in e) next
+
+-- the same of a frame that has the access
+just_behind : (p : Plan) (n place behind : ℕ) (q : Esc.Registers) (ds : List Raw.Datagram) → IsTurn n → place < 16 → behind < 16 → (place == behind) ≡ false → IsApart p.station q ds → JustOnWay p n place behind ds →
+    JustOnWay p n place (suc behind) (datagrams_after q ds)
+just_behind p n place behind q [] at few near other apart one = absurd one
+just_behind p n place behind q (d ∷ ds) at few near other apart (inl x) =
+    inl ((else_behind place behind q d near x.0.0, to_stays p.station q d ∙ x.0.1, to_stays 0 q d ∙ x.0.2), just_behind p n place behind (passed q d).registers ds at few near other apart.1 x.1)
+just_behind p n place behind q (d ∷ ds) at few near other apart (inr x) =
+    inr (way_behind p n place behind q d at few near x.0 (not_its p n place behind q d at few near other apart.0 x.0), others_behind p place behind (passed q d).registers ds near x.1)
+
+pub just_on_way : (p : Plan) (n place behind : ℕ) (rs : List Esc.Registers) (ds : List Raw.Datagram) → IsTurn n → place < 16 → behind + length rs ≤ place → AllApart p.station rs ds → JustOnWay p n place behind ds →
+    JustOnWay p n place (behind + length rs) (all_after rs ds)
+just_on_way p n place behind [] ds at few near apart one = subst (λ m. JustOnWay p n place m ds) (let e : behind ≡ behind + 0 = omega arith in e) one
+just_on_way p n place behind (q ∷ rs) ds at few near apart one =
+    let other : (place == behind) ≡ false = ne_eqb place behind (λ (e : place ≡ behind). omega arith) in
+    let next = just_on_way p n place (suc behind) rs (datagrams_after q ds) at few (omega arith) apart.1 (just_behind p n place behind q ds at few (omega arith) other apart.0 one) in
+    subst (λ m. JustOnWay p n place m (all_after rs (datagrams_after q ds))) (let e : suc behind + length rs ≡ behind + suc (length rs) = omega arith in e) next
+
+-- at the slave that has its station or none, where the access leaves it one of these
+module _ (p : Plan) (n place : ℕ) (at : IsTurn n) (near : place < 16) (calls : (r : Esc.Registers) (d : Raw.Datagram) → (r.station ≡ 0) ⊎ (r.station ≡ p.station) → IsAccess p n d → ((passed r d).registers.station ≡ 0) ⊎ ((passed r d).registers.station ≡ p.station)) where
+  pub called_comes : (r : Esc.Registers) (ds : List Raw.Datagram) → (r.station ≡ 0) ⊎ (r.station ≡ p.station) → (3 < n → r.station ≡ p.station) → OneOnWay p n place place ds → AtMostOne p n r ds
+  called_comes r [] called station one = tt
+  called_comes r (d ∷ ds) called station (inl other) =
+      let not_ = not_meant p place r d near called other.0 in
+      let same = sym (unmoved r d not_) in
+      inl (not_, called_comes (passed r d).registers ds (subst (λ x. (x.station ≡ 0) ⊎ (x.station ≡ p.station)) same called) (λ late. subst (λ x. x.station ≡ p.station) same (station late)) other.1)
+  called_comes r (d ∷ ds) called station (inr mine) =
+      let a = arrives p n place d at near mine.0 in
+      inr (a, meant p n r d at station a, none_meant p place (passed r d).registers ds near (calls r d called a) mine.1)
+
+  pub called_just : (r : Esc.Registers) (ds : List Raw.Datagram) → (r.station ≡ 0) ⊎ (r.station ≡ p.station) → (3 < n → r.station ≡ p.station) → JustOnWay p n place place ds → JustOne p n r ds
+  called_just r [] called station one = absurd one
+  called_just r (d ∷ ds) called station (inl other) =
+      let not_ = not_meant p place r d near called other.0 in
+      let same = sym (unmoved r d not_) in
+      inl (not_, called_just (passed r d).registers ds (subst (λ x. (x.station ≡ 0) ⊎ (x.station ≡ p.station)) same called) (λ late. subst (λ x. x.station ≡ p.station) same (station late)) other.1)
+  called_just r (d ∷ ds) called station (inr mine) =
+      let a = arrives p n place d at near mine.0 in
+      inr (a, meant p n r d at station a, none_meant p place (passed r d).registers ds near (calls r d called a) mine.1)

@@ -43,13 +43,9 @@ pub record IsUp {S : Type 0} (u : Running S) (p : Plan) (n : Node S) : Type 0 wh
   pub returned : IsReturned u p 9 n.registers n.kept n.server
   pub state : (registers_seen n.registers).state ≡ p.start
 
--- the plan of a slave with the state that an opening opens
-abbrev pub opening_plan : Plan → Opening → Plan
-opening_plan p o = record p { start = o.state }
-
--- what is known of its node by how the master stands to a slave that was closed
+-- what is known of a node by how the master stands to its slave, while the plan's state is opened
 abbrev pub ClosedAs : {S : Type 0} → Running S → Bool → (ℕ → Lens) → Plan → Stand → Node S → Type 0
-ClosedAs u boot lens p (Stand.Opens o) n = IsClosed u boot lens (opening_plan p o) o n
+ClosedAs u boot lens p (Stand.Opens o) n = IsClosed u boot lens p o n
 ClosedAs u boot lens p Stand.Open n = IsUp u p n
 ClosedAs u boot lens p Stand.Gone n = ⊤
 

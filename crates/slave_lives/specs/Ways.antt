@@ -25,3 +25,8 @@ pub record IsOnWay (p : Plan) (n place passed : ℕ) (d : Raw.Datagram) : Type 0
 abbrev pub OneOnWay : Plan → ℕ → ℕ → ℕ → List Raw.Datagram → Type 0
 OneOnWay p n place passed [] = ⊤
 OneOnWay p n place passed (d ∷ ds) = (IsNotFor p place passed d × OneOnWay p n place passed ds) ⊎ (IsOnWay p n place passed d × AllNotFor p place passed ds)
+
+-- a frame that has the access
+abbrev pub JustOnWay : Plan → ℕ → ℕ → ℕ → List Raw.Datagram → Type 0
+JustOnWay p n place passed [] = ⊥
+JustOnWay p n place passed (d ∷ ds) = (IsNotFor p place passed d × JustOnWay p n place passed ds) ⊎ (IsOnWay p n place passed d × AllNotFor p place passed ds)
