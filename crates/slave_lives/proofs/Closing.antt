@@ -38,17 +38,17 @@ is_bring step IsBringStep.in_on = IsBring.in_on
 is_bring step IsBringStep.word = IsBring.word
 is_bring step IsBringStep.status = IsBring.status
 
-is_turn : (step : ℕ) → IsBringStep step → IsTurn (bring_turn step)
+pub is_turn : (step : ℕ) → IsBringStep step → IsTurn (bring_turn step)
 is_turn step IsBringStep.address = IsTurn.address
 is_turn step IsBringStep.out_on = IsTurn.out_on
 is_turn step IsBringStep.in_on = IsTurn.in_on
 is_turn step IsBringStep.word = IsTurn.word
 is_turn step IsBringStep.status = IsTurn.status
 
-bring_is : (o : Opening) → o.again ≡ false → turn_of o ≡ bring_turn o.step
+pub bring_is : (o : Opening) → o.again ≡ false → turn_of o ≡ bring_turn o.step
 bring_is o e = ap (λ (b : Bool). if b then o.step else bring_turn o.step) e
 
-again_is : (o : Opening) → o.again ≡ true → turn_of o ≡ o.step
+pub again_is : (o : Opening) → o.again ≡ true → turn_of o ≡ o.step
 again_is o e = ap (λ (b : Bool). if b then o.step else bring_turn o.step) e
 
 -- a frame that meets the access is one that may

@@ -17,3 +17,4 @@ pub mod EraFrames
 pub mod RingLives
 pub mod EraBegins
 pub mod Closing
+pub mod Arrives

@@ -1,16 +1,18 @@
 -- A SLAVE THAT ISN'T OPEN, as its master stands to it: what is known of its node while an access of an opening is in hand.
-use Rattle.std.specs.Prelude.{◌≡◌, ◌⊎◌, ◌==◌, ℕ, not, Bool, true, false, if◌then◌else◌, Option, Some, None, List, ⊤}
+use Rattle.std.specs.Prelude.{◌≡◌, ◌⊎◌, ◌==◌, ℕ, not, Bool, true, false, if◌then◌else◌, Option, None, ⊤}
 use Rattle.datagrams.specs.Datagram as Raw
 use Rattle.esc_registers.specs.declared.registers.Registers as Esc
 use Rattle.frame_pass.specs.Passing.{passed}
 use Rattle.frame_view.specs.View.{Lens, found_of}
-use Rattle.frames_seen.specs.Slaves.{registers_seen}
-use Rattle.frames_seen.specs.Spoken.{means}
+use Rattle.al_state.specs.Request.{is_state}
+use Rattle.frames_seen.specs.Slaves.{registers_seen, IsOpen}
+use Rattle.mailbox_slave.specs.Registers.{in_len}
 use Rattle.segment_model.specs.Slaves.{Access, Found}
 use Rattle.slave_steps.specs.Node.{Node}
 use Rattle.life_model.specs.Lives.{Opening, Stand}
-use Rattle.slave_lives.specs.Opening.{Plan, IsPlan, IsAccess, IsBring, IsBringing, IsOpened}
-use Rattle.slave_lives.specs.Returning.{IsReturned, IsFrozen, IsTurn}
+use Rattle.slave_lives.specs.Opening.{Plan, IsPlan, IsAccess, IsBringing}
+use Rattle.slave_lives.specs.Nodes.{IsRunning, IsRoomy}
+use Rattle.slave_lives.specs.Returning.{Clears, IsReturned, IsFrozen, IsTurn}
 use Rattle.slave_lives.specs.Steps.{Running}
 
 -- the accesses of a bring-up by their numbers in a reopening
@@ -54,3 +56,30 @@ pub record CameBack (p : Plan) (turn : ℕ) (r : Esc.Registers) (d : Raw.Datagra
   pub access : IsAccess p turn d
   pub done_is : done ≡ not ((passed r d).head.counter == 0)
   pub found_is : found ≡ found_of Access.ReadState (passed r d).head.counter (passed r d).body
+
+-- an opening from its first access: a bring-up, and a reopening
+abbrev pub first_opening : ℕ → Opening
+first_opening state = record { again = false; step = 1; state = state; own = false }
+
+abbrev pub opening_again : ℕ → Bool → Opening
+opening_again state own = record { again = true; step = 1; state = state; own = own }
+
+-- A CLOSED SLAVE OF A PLAN and the opening that is in hand for it, which opens the plan's state
+pub record Closing {S : Type 0} (u : Running S) (boot : Bool) (lens : ℕ → Lens) (p : Plan) (o : Opening) (n : Node S) : Type 0 where
+  pub plan : IsPlan boot lens p
+  pub state : o.state ≡ p.start
+  pub closed : IsClosed u boot lens p o n
+
+-- its processor may make a step
+pub record MayStep {S : Type 0} (u : Running S) (boot : Bool) (n : Node S) : Type 0 where
+  pub clears : Clears u
+  pub boot_is : n.boot ≡ boot
+  pub runs : IsRunning u n
+  pub roomy : IsRoomy u (in_len n.registers) n.server
+
+-- an open slave that is up: its AL state is one of the five and not Init
+pub record OpenUp (lens : ℕ → Lens) (p : Plan) (r : Esc.Registers) : Type 0 where
+  pub opens : IsOpen lens r
+  pub station : r.station ≡ p.station
+  pub state : is_state (registers_seen r).state ≡ true
+  pub up : ((registers_seen r).state == 1) ≡ false

@@ -1,21 +1,66 @@
 //! What a ring's frames make of its slaves' lives.
 
-ghost use Rattle.std.specs.Prelude.{◌≡◌, ℕ, Bool, List};
+ghost use Rattle.std.specs.Prelude.{◌≡◌, ◌<◌, ◌≤◌, ◌⊎◌, ◌+◌, ℕ, suc, Bool, true, List, Option, None, length};
 ghost use Rattle.datagrams.specs.Datagram as Raw;
 ghost use Rattle.frame_view.specs.View.{Lens};
 ghost use Rattle.frame_view.specs.Seen.{datagrams_seen};
-ghost use Rattle.frames_seen.specs.Own.{own_seen};
-ghost use Rattle.life_model.specs.Lives.{Spot, Era};
+ghost use Rattle.esc_registers.specs.declared.registers.Registers.{Registers};
+ghost use Rattle.frames_seen.specs.Own.{own_seen, NoneMeant};
+ghost use Rattle.frames_seen.specs.Ring.{all_after, AllApart};
+ghost use Rattle.life_model.specs.Lives.{Spot, Era, Opening, Stand, Life, opening_back};
 ghost use Rattle.life_model.specs.Own.{own};
 ghost use Rattle.link_mails.specs.Body.{Body};
 ghost use Rattle.segment_model.specs.Record.{Frame, News};
-ghost use Rattle.slave_lives.specs.Lived.{Behind, IsBehind, RingFrame, OpenFrame, LivedOn, StandsBehind, node_behind};
+ghost use Rattle.segment_model.specs.Slaves.{Found};
+ghost use Rattle.slave_lives.specs.Lived.{Behind, IsBehind, RingFrame, OpenFrame, LivedOn, StandsBehind, node_behind, OpensEra, BegunEra};
+ghost use Rattle.slave_lives.specs.Nodes.{stepped};
+ghost use Rattle.slave_lives.specs.Opening.{Plan, IsPlan, IsOpened, AtMostOne, JustOne};
+ghost use Rattle.slave_lives.specs.Returning.{IsTurn};
+ghost use Rattle.slave_lives.specs.Rings.{met};
+ghost use Rattle.slave_lives.specs.Stands.{turn_of, IsClosed, IsUp, ClosedAs, CameBack, Closing, MayStep, OpenUp, first_opening, opening_again};
+ghost use Rattle.slave_lives.specs.Ways.{OneOnWay, JustOnWay, AllNotFor};
+ghost use Rattle.slave_steps.specs.Node.{Node, new_node};
+ghost use Rattle.state_exchange.specs.Stated.{IsStated};
 ghost use Rattle.slave_lives.specs.Steps.{Running};
 ghost use Rattle.task_model.specs.Accounts.{Pick};
 
 /// A slave's own datagrams among those of a frame are the same of octets and as data.
 pub fn own_law()
     ensures { (lens : ℕ → Lens) (station : ℕ) (ds : List Raw.Datagram) → own station (datagrams_seen lens ds) ≡ own_seen lens station ds }
+{}
+
+/// A CLOSED SLAVE'S LIFE IS LIVED BY ITS NODE, as the table of openings has it: it begins with a slave as it is switched on, with an open slave
+/// that met the first access of a reopening, and with one that an opening left which was given up. A frame leaves what is known, whether it meets
+/// the slave or not; behind one that met it and came back the life is where its opening goes by what the access found; and a step leaves it.
+/// Where the last access showed the state, the slave is open.
+pub fn closed_life_law<S, M, Q, R>()
+    ensures begins { (u : Running S) (boot : Bool) (lens : ℕ → Lens) (p : Plan) (s : S) → u.clear s ≡ s → u.next s ≡ None → IsClosed u boot lens p (first_opening p.start) (new_node p.out p.back boot s) }
+    ensures freezes { (u : Running S) (boot : Bool) (lens : ℕ → Lens) (p : Plan) (o : Opening) (n : Node S) (ds : List Raw.Datagram) → OpenUp lens p n.registers → o.again ≡ true → (o.step ≡ 1) ⊎ (o.step ≡ 2) →
+        JustOne p 1 n.registers ds → IsClosed u boot lens p o (met true n ds) }
+    ensures left { (u : Running S) (boot : Bool) (lens : ℕ → Lens) (p : Plan) (o : Opening) (n : Node S) (start : ℕ) (own : Bool) → Closing u boot lens p o n → IsClosed u boot lens (record p { start = start }) (opening_again start own) n }
+    ensures stays { (u : Running S) (boot : Bool) (lens : ℕ → Lens) (p : Plan) (o : Opening) (n : Node S) (is : Bool) (ds : List Raw.Datagram) → Closing u boot lens p o n → AtMostOne p (turn_of o) n.registers ds → IsClosed u boot lens p o (met is n ds) }
+    ensures goes { (u : Running S) (boot : Bool) (lens : ℕ → Lens) (p : Plan) (o : Opening) (n : Node S) (ds : List Raw.Datagram) (d : Raw.Datagram) (frame : ℕ) (l : Life M Q R) (done : Bool) (found : Option Found) →
+        Closing u boot lens p o n → l.stand ≡ Stand.Opens o → JustOne p (turn_of o) n.registers ds → CameBack p (turn_of o) n.registers d done found → ClosedAs u boot lens p (opening_back frame l o done found).stand (met true n ds) }
+    ensures steps { (u : Running S) (boot : Bool) (lens : ℕ → Lens) (p : Plan) (o : Opening) (n : Node S) → Closing u boot lens p o n → MayStep u boot n → IsClosed u boot lens p o (stepped u n) }
+    ensures up { (u : Running S) (boot : Bool) (lens : ℕ → Lens) (p : Plan) (n : Node S) → IsPlan boot lens p → MayStep u boot n → IsUp u p n → IsUp u p (stepped u n) }
+    ensures opens { (u : Running S) (boot : Bool) (lens : ℕ → Lens) (p : Plan) (n : Node S) → IsPlan boot lens p → IsUp u p n → IsOpened lens p n.registers n.kept n.server × (u.next n.server ≡ None) }
+{}
+
+/// A frame of the master comes to a closed slave past others that are apart, as one in which at most the access in hand means it: that access
+/// where the frame has it, and nothing where it hasn't.
+pub fn closed_way_law<S>()
+    ensures just { (p : Plan) (n place behind : ℕ) (rs : List Registers) (ds : List Raw.Datagram) → IsTurn n → place < 16 → behind + length rs ≤ place → AllApart p.station rs ds → JustOnWay p n place behind ds →
+        JustOnWay p n place (behind + length rs) (all_after rs ds) }
+    ensures comes { (u : Running S) (boot : Bool) (lens : ℕ → Lens) (p : Plan) (o : Opening) (n : Node S) (place : ℕ) (ds : List Raw.Datagram) → place < 16 → Closing u boot lens p o n → OneOnWay p (turn_of o) place place ds → AtMostOne p (turn_of o) n.registers ds }
+    ensures meets { (u : Running S) (boot : Bool) (lens : ℕ → Lens) (p : Plan) (o : Opening) (n : Node S) (place : ℕ) (ds : List Raw.Datagram) → place < 16 → Closing u boot lens p o n → JustOnWay p (turn_of o) place place ds → JustOne p (turn_of o) n.registers ds }
+    ensures none { (u : Running S) (boot : Bool) (lens : ℕ → Lens) (p : Plan) (o : Opening) (n : Node S) (place : ℕ) (ds : List Raw.Datagram) → place < 16 → Closing u boot lens p o n → AllNotFor p place place ds → NoneMeant n.registers ds }
+{}
+
+/// An epoch begins with the slave as its opening leaves it, behind the frame that showed the state and the step that follows: both mailboxes
+/// empty, its server told the state.
+pub fn begin_law<S, V, A, Q, R>()
+    ensures { (w : Behind S V A Q R) → IsBehind w → IsStated w.exchange w.states → ((state : ℕ) (v : V) → w.processor.tell state v ≡ w.states.tell state v) → (p : Plan) (spot : Spot) (cleared : Option ℕ) (opened : ℕ) (fs : List (Frame Body)) (n : Node S) →
+        length fs ≡ suc opened → OpensEra w p spot n → BegunEra w p spot cleared opened fs n }
 {}
 
 /// AN OPEN SLAVE'S LIFE IS LIVED BY ITS NODE: by each frame of octets that the ring exchanges, met by all slaves or by the first of them, and by
