@@ -26,14 +26,14 @@ use Rattle.slave_lives.proofs.Openings.{the_access}
 use Rattle.slave_lives.proofs.Ways as Way
 
 -- an access leaves the station, or sets it to the slave's own
-abbrev Called : Plan → Esc.Registers → Type 0
+abbrev pub Called : Plan → Esc.Registers → Type 0
 Called p r = (r.station ≡ 0) ⊎ (r.station ≡ p.station)
 
 module _ (boot : Bool) (lens : ℕ → Lens) (p : Plan) (plan : IsPlan boot lens p) (r : Esc.Registers) (d : Raw.Datagram) where
   same_station : (n : ℕ) → IsAccess p n d → (passed r (with_body d (aim p n).command (aim p n).adp (aim p n).ado (aim p n).octets)).registers.station ≡ r.station → Called p r → Called p (passed r d).registers
   same_station n a e called = subst (λ x. (x ≡ 0) ⊎ (x ≡ p.station)) (sym (ap (λ x. (passed r x).registers.station) (the_access p n d a) ∙ e)) called
 
-  calls : (n : ℕ) → IsTurn n → Called p r → IsAccess p n d → Called p (passed r d).registers
+  pub calls : (n : ℕ) → IsTurn n → Called p r → IsAccess p n d → Called p (passed r d).registers
   calls n IsTurn.return called a = same_station 1 a refl called
   calls n IsTurn.watch called a = same_station 2 a refl called
   calls n IsTurn.address called a = inr (ap (λ x. (passed r x).registers.station) (the_access p 3 d a) ∙ name_back p.station plan.station)
@@ -96,6 +96,9 @@ module _ {S : Type 0} (u : Running S) (boot : Bool) (lens : ℕ → Lens) (p : P
 
   pub comes_none : (place : ℕ) (ds : List Raw.Datagram) → place < 16 → AllNotFor p place place ds → IsClosed u boot lens p o n → NoneMeant n.registers ds
   comes_none place ds near others c = let k = known c in Way.none_meant p place n.registers ds near k.called others
+
+  pub called_is : IsClosed u boot lens p o n → (n.registers.station ≡ 0) ⊎ (n.registers.station ≡ p.station)
+  called_is c = (known c).called
 
   pub turn_is : IsClosed u boot lens p o n → IsTurn (turn_of o)
   turn_is c = (known c).turn

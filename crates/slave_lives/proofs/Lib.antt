@@ -18,3 +18,5 @@ pub mod RingLives
 pub mod EraBegins
 pub mod Closing
 pub mod Arrives
+pub mod AllSeats
+pub mod ClosedFrames

@@ -124,7 +124,7 @@ others_behind p place behind q [] near others = tt
 others_behind p place behind q (d ∷ ds) near others =
     ((else_behind place behind q d near others.0.0, to_stays p.station q d ∙ others.0.1, to_stays 0 q d ∙ others.0.2), others_behind p place behind (passed q d).registers ds near others.1)
 
-one_behind : (p : Plan) (n place behind : ℕ) (q : Esc.Registers) (ds : List Raw.Datagram) → IsTurn n → place < 16 → behind < 16 → (place == behind) ≡ false → IsApart p.station q ds → OneOnWay p n place behind ds →
+pub one_behind : (p : Plan) (n place behind : ℕ) (q : Esc.Registers) (ds : List Raw.Datagram) → IsTurn n → place < 16 → behind < 16 → (place == behind) ≡ false → IsApart p.station q ds → OneOnWay p n place behind ds →
     OneOnWay p n place (suc behind) (datagrams_after q ds)
 one_behind p n place behind q [] at few near other apart one = tt
 one_behind p n place behind q (d ∷ ds) at few near other apart (inl x) =

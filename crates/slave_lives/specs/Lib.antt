@@ -6,3 +6,4 @@ pub mod Nodes
 pub mod Rings
 pub mod Lived
 pub mod Stands
+pub mod Seats

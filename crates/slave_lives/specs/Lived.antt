@@ -14,7 +14,7 @@ use Rattle.frame_pass.specs.Passing.{datagrams_after}
 use Rattle.link_mails.specs.Body.{Body}
 use Rattle.mailbox_slave.specs.Node.{in_side}
 use Rattle.mailbox_slave.specs.Registers.{in_len}
-use Rattle.segment_model.specs.Slaves.{Registers, Slave, Serving, Processor}
+use Rattle.segment_model.specs.Slaves.{Registers, Slave, Serving, Processor, Found}
 use Rattle.segment_model.specs.Record.{Frame, News}
 use Rattle.segment_ring.specs.declared.wire.Fate.{Fate}
 use Rattle.segment_ring.specs.declared.wire.Fate.TheVariants.{Pass, Lost}
@@ -25,12 +25,13 @@ use Rattle.segment_ring.specs.Schedule.{fate_at}
 use Rattle.segment_ring.specs.Ring.{RingState, is_in_pace, ring_behind, ring_returned}
 use Rattle.task_model.specs.Accounts.{Pick}
 use Rattle.slave_steps.specs.Node.{Node, node_passed}
-use Rattle.life_model.specs.Lives.{Spot, Era, AsksOpen, era_next, era_after, new_era}
+use Rattle.life_model.specs.Lives.{Spot, Era, Opening, AsksOpen, era_next, era_after, new_era}
 use Rattle.life_model.specs.Eras.{EraIs}
 use Rattle.slave_lives.specs.Nodes.{IsRunning, IsRoomy, stepped}
-use Rattle.slave_lives.specs.Opening.{Plan, IsPlan, IsOpened}
+use Rattle.slave_lives.specs.Opening.{Plan, IsPlan, IsOpened, AtMostOne, JustOne}
 use Rattle.slave_lives.specs.Returning.{Clears}
 use Rattle.slave_lives.specs.Rings.{registers_of, come_to, come_back, fate_seen, is_met_at, met, turned}
+use Rattle.slave_lives.specs.Stands.{turn_of, CameBack, Closing, MayStep}
 use Rattle.slave_lives.specs.Steps.{Running, IsServedAs, StaysUp, Stands}
 
 -- what a running slave's services are in a session: the exchange behind its mailboxes, its AL state among its application, what its processor
@@ -172,3 +173,16 @@ pub record BegunEra {S V A Q R : Type 0} (w : Behind S V A Q R) (p : Plan) (spot
   pub lives : LivesEra w spot (opened_era {Q = Q} {R = R} cleared opened) fs n
   pub server : lives.server ≡ (w.sees p.start n.server).server
   pub state : w.states.state (w.exchange.app lives.server) ≡ p.start
+
+-- A FRAME OF A CLOSED SLAVE: an access of an opening is in hand, where the frame comes so far at most that access means it, and a step behind it
+-- may be made
+pub record ClosedFrame {S : Type 0} (u : Running S) (boot : Bool) (lens : ℕ → Lens) (p : Plan) (o : Opening) (t : RingFrame S) : Type 0 where
+  pub closing : Closing u boot lens p o t.node
+  pub one : is_reached t ≡ true → AtMostOne p (turn_of o) t.node.registers (come_to t.before t.datagrams)
+  pub steps : is_in_pace t.pace t.ring.number ≡ true → MayStep u boot (node_met t)
+
+-- it came back, and the slave met the access, which came back from it so
+pub record AccessBack {S : Type 0} (p : Plan) (o : Opening) (t : RingFrame S) (d : Raw.Datagram) (done : Bool) (found : Option Found) : Type 0 where
+  pub came : fate_of t ≡ Pass
+  pub just : JustOne p (turn_of o) t.node.registers (come_to t.before t.datagrams)
+  pub back : CameBack p (turn_of o) t.node.registers d done found

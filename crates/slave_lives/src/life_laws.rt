@@ -1,6 +1,6 @@
 //! What a ring's frames make of its slaves' lives.
 
-ghost use Rattle.std.specs.Prelude.{◌≡◌, ◌<◌, ◌≤◌, ◌⊎◌, ◌+◌, ℕ, suc, Bool, true, List, Option, None, length};
+ghost use Rattle.std.specs.Prelude.{◌≡◌, ◌<◌, ◌≤◌, ◌==◌, ◌⊎◌, ◌+◌, ◌∷◌, ◌++◌, ℕ, suc, Bool, true, false, List, Option, None, length};
 ghost use Rattle.datagrams.specs.Datagram as Raw;
 ghost use Rattle.frame_view.specs.View.{Lens};
 ghost use Rattle.frame_view.specs.Seen.{datagrams_seen};
@@ -12,11 +12,12 @@ ghost use Rattle.life_model.specs.Own.{own};
 ghost use Rattle.link_mails.specs.Body.{Body};
 ghost use Rattle.segment_model.specs.Record.{Frame, News};
 ghost use Rattle.segment_model.specs.Slaves.{Found};
-ghost use Rattle.slave_lives.specs.Lived.{Behind, IsBehind, RingFrame, OpenFrame, LivedOn, StandsBehind, node_behind, OpensEra, BegunEra};
+ghost use Rattle.slave_lives.specs.Lived.{Behind, IsBehind, RingFrame, OpenFrame, LivedOn, StandsBehind, node_behind, OpensEra, BegunEra, ClosedFrame, AccessBack, IsForOpen};
 ghost use Rattle.slave_lives.specs.Nodes.{stepped};
 ghost use Rattle.slave_lives.specs.Opening.{Plan, IsPlan, IsOpened, AtMostOne, JustOne};
 ghost use Rattle.slave_lives.specs.Returning.{IsTurn};
-ghost use Rattle.slave_lives.specs.Rings.{met};
+ghost use Rattle.slave_lives.specs.Rings.{met, come_to};
+ghost use Rattle.slave_lives.specs.Seats.{Seat, AllSeats, AreDistinct, AllCome, AllMeet, MeetsOne, nodes_of};
 ghost use Rattle.slave_lives.specs.Stands.{turn_of, IsClosed, IsUp, ClosedAs, CameBack, Closing, MayStep, OpenUp, first_opening, opening_again};
 ghost use Rattle.slave_lives.specs.Ways.{OneOnWay, JustOnWay, AllNotFor};
 ghost use Rattle.slave_steps.specs.Node.{Node, new_node};
@@ -69,4 +70,21 @@ pub fn open_life_law<S, V, A, Q, R>()
     ensures stands { (u : Running S) (t : RingFrame S) → StandsBehind u t (node_behind u t) }
     ensures lives { (w : Behind S V A Q R) → IsBehind w → (more : Body → Bool) (passed : Q → Bool) (spot : Spot) (e : Era Body Q R) (fs : List (Frame Body)) (t : RingFrame S) (pick : Pick Q) (news : List (News Body)) →
         OpenFrame w more passed spot e fs t pick → LivedOn w more passed spot e fs t pick news }
+{}
+
+/// A CLOSED SLAVE'S LIFE by each frame of octets that the ring exchanges, met or not, and by the step behind it: what is known of its node
+/// stays, and where the access came back the life is where its opening goes by what that found.
+pub fn closed_frame_law<S, M, Q, R>()
+    ensures stays { (u : Running S) (boot : Bool) (lens : ℕ → Lens) (p : Plan) (o : Opening) (t : RingFrame S) → ClosedFrame u boot lens p o t → IsClosed u boot lens p o (node_behind u t) }
+    ensures goes { (u : Running S) (boot : Bool) (lens : ℕ → Lens) (p : Plan) (o : Opening) (t : RingFrame S) (d : Raw.Datagram) (frame : ℕ) (l : Life M Q R) (done : Bool) (found : Option Found) →
+        ClosedFrame u boot lens p o t → l.stand ≡ Stand.Opens o → AccessBack p o t d done found → ClosedAs u boot lens p (opening_back frame l o done found).stand (node_behind u t) }
+{}
+
+/// ONE FRAME OF THE MASTER AND ALL SLAVES OF A RING: sent so that it has for each what its stand allows, it comes to each so, past the others,
+/// which it leaves alone: to an open slave as a frame that is for it alone, and to a closed one with at most its access.
+pub fn seats_law<S>()
+    ensures meets { (u : Running S) (boot : Bool) (lens : ℕ → Lens) (ss : List (Seat S)) (ds : List Raw.Datagram) → length ss < 17 → AreDistinct ss → AllSeats u boot lens ss → AllCome 0 0 ss ds → AllMeet ss ds }
+    ensures each { (before : List (Seat S)) (s : Seat S) (behind : List (Seat S)) (ds : List Raw.Datagram) → AllMeet (before ++ s ∷ behind) ds → MeetsOne s (come_to (nodes_of before) ds) }
+    ensures opens { (before : List (Seat S)) (s : Seat S) (behind : List (Seat S)) (ds : List Raw.Datagram) → s.stand ≡ Stand.Open → s.node.registers.station ≡ s.plan.station → (0 == s.plan.station) ≡ false →
+        AreDistinct (before ++ s ∷ behind) → AllMeet (before ++ s ∷ behind) ds → IsForOpen (nodes_of before) s.node (nodes_of behind) ds }
 {}
