@@ -35,7 +35,7 @@ module _ {S : Type 0} (u : Running S) (boot : Bool) (lens : ℕ → Lens) (p : P
   reached : (t : RingFrame S) → fate_of t ≡ Pass → is_reached t ≡ true
   reached t e = ap (λ (fate : Fate). is_met_at (length t.before) fate) e
 
-  pub closed_back : {M Q R : Type 0} (o : Opening) (t : RingFrame S) (d : Raw.Datagram) (frame : ℕ) (l : Life M Q R) (done : Bool) (found : Option Found) → ClosedFrame u boot lens p o t → l.stand ≡ Stand.Opens o → AccessBack p o t d done found →
+  pub closed_back : {M Q R : Type 0} (o : Opening) (t : RingFrame S) (d : Raw.Datagram) (frame : ℕ) (l : Life M Q R) (done : Bool) (found : Option Found) → ClosedFrame u boot lens p o t → l.stand ≡ Stand.Opens o → AccessBack lens p o t d done found →
       ClosedAs u boot lens p (opening_back frame l o done found).stand (node_behind u t)
   closed_back o t d frame l done found f stand back =
       as_steps f.closing.plan (opening_back frame l o done found).stand (node_met t) (is_in_pace t.pace t.ring.number) f.steps

@@ -5,8 +5,11 @@ use Rattle.std.proofs.lemmas.Bool.{eq-eqb, eqb-true, eqb-false, ltb-true, and_pa
 use Rattle.datagrams.specs.Datagram as Raw
 use Rattle.ec_fields.specs.Fields.{number_at, bits_of}
 use Rattle.esc_registers.specs.declared.registers.Registers as Esc
-use Rattle.frame_pass.specs.Passing.{passed, registers_after}
-use Rattle.frame_view.specs.View.{Lens, found_of, state_found}
+use Rattle.datagrams.specs.declared.head.Head.{Head}
+use Rattle.frame_pass.specs.Passing.{passed, datagram_after, registers_after}
+use Rattle.frame_pass.proofs.Parts.{head_kept}
+use Rattle.frames_seen.proofs.Rows.{access_len}
+use Rattle.frame_view.specs.View.{Lens, datagram_seen, station_of, access_of, read_access, found_of, state_found}
 use Rattle.frames_seen.specs.Own.{NoneMeant}
 use Rattle.frames_seen.specs.Slaves.{registers_seen, IsOpen}
 use Rattle.frames_seen.specs.Spoken.{means}
@@ -17,7 +20,7 @@ use Rattle.segment_model.specs.Slaves.{Access, Found}
 use Rattle.slave_steps.specs.Node.{Node}
 use Rattle.life_model.specs.Lives.{Opening, Stand, Life, last_step, shows_clear, is_shown, steps_on, clears, opens, opening_back}
 use Rattle.slave_lives.specs.Nodes.{IsRunning, IsRoomy, stepped, StepsOn}
-use Rattle.slave_lives.specs.Opening.{Plan, IsPlan, IsAccess, IsBring, IsBringing, IsOpened, AtMostOne, JustOne, access_behind}
+use Rattle.slave_lives.specs.Opening.{Plan, IsPlan, aim, IsAccess, IsBring, IsBringing, IsOpened, AtMostOne, JustOne, access_behind}
 use Rattle.slave_lives.specs.Returning.{Clears, IsReturned, IsFrozen, IsTurn, turn_behind}
 use Rattle.slave_lives.specs.Rings.{met}
 use Rattle.slave_lives.specs.Stands.{bring_turn, turn_of, IsBringStep, IsClosed, IsUp, ClosedAs, CameBack}
@@ -104,10 +107,45 @@ shown_by status s code false true false l f is =
 shown_status : (s counter : ℕ) (body : List ℕ) → is_shown s (found_of Access.ReadState counter body) ≡ true → number_at 2 body 0 ≡ s
 shown_status s counter body is = shown_by (number_at 2 body 0) s (number_at 2 body 4) (counter == 0) (nat_lt (number_at 2 body 0) 32) (bits_of (number_at 2 body 0) 4 1 == 1) refl refl is
 
-came_shows : (p : Plan) (turn s : ℕ) (r : Esc.Registers) (d : Raw.Datagram) (done : Bool) (found : Option Found) → CameBack p turn r d done found → (done && is_shown s found) ≡ true → number_at 2 (passed r d).body 0 ≡ s
-came_shows p turn s r d done found c is =
+-- access 2 and the last one read AL status and code
+data IsRead : ℕ → Type 0 where
+  watch : IsRead 2
+  status : IsRead 9
+
+read_found : (lens : ℕ → Lens) (p : Plan) (turn : ℕ) (r : Esc.Registers) (d : Raw.Datagram) → IsRead turn → IsAccess p turn d → (datagram_seen lens (datagram_after r d)).found ≡ found_of Access.ReadState (passed r d).head.counter (passed r d).body
+read_found lens p turn r d at a = go at a
+  where
+    body : List ℕ
+    body = (passed r d).body
+
+    counter : ℕ
+    counter = (passed r d).head.counter
+
+    same_command : (passed r d).head.command ≡ d.head.command
+    same_command = ap (λ (h : Head). h.command) (head_kept r d)
+
+    same_ado : (passed r d).head.ado ≡ d.head.ado
+    same_ado = ap (λ (h : Head). h.ado) (head_kept r d)
+
+    six : (octets : List ℕ) → d.body ≡ octets → length octets ≡ 6 → length (passed r d).body ≡ 6
+    six octets e l = access_len r d.head d.body ∙ ap length e ∙ l
+
+    whole : (n : ℕ) → n ≡ 6 → found_of (read_access 304 n) (passed r d).head.counter (passed r d).body ≡ found_of Access.ReadState (passed r d).head.counter (passed r d).body
+    whole n e = ap (λ m. found_of (read_access 304 m) (passed r d).head.counter (passed r d).body) e
+
+    go : {t : ℕ} → IsRead t → IsAccess p t d → (datagram_seen lens (datagram_after r d)).found ≡ found_of Access.ReadState (passed r d).head.counter (passed r d).body
+    go IsRead.watch a =
+        (λ i. found_of (access_of (lens (station_of ((same_command ∙ a.command) i) (passed r d).head.adp)) ((same_command ∙ a.command) i) ((same_ado ∙ a.ado) i) (passed r d).body) (passed r d).head.counter (passed r d).body)
+        ∙ whole (length (passed r d).body) (six (aim p 2).octets a.octets refl)
+    go IsRead.status a =
+        (λ i. found_of (access_of (lens (station_of ((same_command ∙ a.command) i) (passed r d).head.adp)) ((same_command ∙ a.command) i) ((same_ado ∙ a.ado) i) (passed r d).body) (passed r d).head.counter (passed r d).body)
+        ∙ whole (length (passed r d).body) (six (aim p 9).octets a.octets refl)
+
+came_shows : (lens : ℕ → Lens) (p : Plan) (turn s : ℕ) (r : Esc.Registers) (d : Raw.Datagram) (done : Bool) (found : Option Found) → IsRead turn → CameBack lens p turn r d done found → (done && is_shown s found) ≡ true →
+    number_at 2 (passed r d).body 0 ≡ s
+came_shows lens p turn s r d done found at c is =
     let both = and_parts done (is_shown s found) is in
-    shown_status s (passed r d).head.counter (passed r d).body (ap (is_shown s) (sym c.found_is) ∙ both.1)
+    shown_status s (passed r d).head.counter (passed r d).body (ap (is_shown s) (sym (c.found_is ∙ read_found lens p turn r d at c.access)) ∙ both.1)
 
 module _ {S : Type 0} (u : Running S) (boot : Bool) (lens : ℕ → Lens) (p : Plan) (plan : IsPlan boot lens p) where
   module _ (start turn : ℕ) (former : IsPlan boot lens (record p { start = start })) (k : Kept) (s : S) where
@@ -283,17 +321,27 @@ module _ {S : Type 0} (u : Running S) (boot : Bool) (lens : ℕ → Lens) (p : P
 
     -- A LIFE'S OPENING BEHIND ITS ACCESS, as the model has it
     pub came_back : {M Q R : Type 0} (frame : ℕ) (l : Life M Q R) (done : Bool) (found : Option Found) (n : Node S) (ds : List Raw.Datagram) (d : Raw.Datagram) → l.stand ≡ Stand.Opens o → o.state ≡ p.start → JustOne p (turn_of o) n.registers ds →
-        CameBack p (turn_of o) n.registers d done found → IsClosed u boot lens p o n → ClosedAs u boot lens p (opening_back frame l o done found).stand (met true n ds)
+        CameBack lens p (turn_of o) n.registers d done found → IsClosed u boot lens p o n → ClosedAs u boot lens p (opening_back frame l o done found).stand (met true n ds)
     came_back frame l done found n ds d stand state one came c = go (shows_clear o) refl (o.step == last_step o) refl (done && is_shown 1 found) refl (done && is_shown o.state found) refl
       where
+        read_watch : shows_clear o ≡ true → IsRead (turn_of o)
+        read_watch a = let both = and_parts o.again (o.step == 2) a in subst IsRead (sym (again_is o both.0 ∙ eqb-true o.step 2 both.1)) IsRead.watch
+
+        read_last : o.step ≡ last_step o → IsRead (turn_of o)
+        read_last e = by o.again refl
+          where
+            by : (b : Bool) → o.again ≡ b → IsRead (turn_of o)
+            by true again = subst IsRead (sym (again_is o again ∙ e ∙ last_again again)) IsRead.status
+            by false again = subst IsRead (sym (bring_is o again ∙ ap bring_turn (e ∙ last_bring again))) IsRead.status
+
         stays : ClosedAs u boot lens p l.stand (met true n ds)
         stays = subst (λ st. ClosedAs u boot lens p st (met true n ds)) (sym stand) (frame_stays n true ds (just_at_most p (turn_of o) n.registers ds one) c)
 
         go : (a : Bool) → shows_clear o ≡ a → (b : Bool) → (o.step == last_step o) ≡ b → (x : Bool) → (done && is_shown 1 found) ≡ x → (y : Bool) → (done && is_shown o.state found) ≡ y →
             ClosedAs u boot lens p (if a then (if x then clears frame l o else l) else if b then (if y then opens frame l else l) else steps_on l o).stand (met true n ds)
-        go true a b e true x y f = frame_clears n ds d a one came.access (came_shows p (turn_of o) 1 n.registers d done found came x) c
+        go true a b e true x y f = frame_clears n ds d a one came.access (came_shows lens p (turn_of o) 1 n.registers d done found (read_watch a) came x) c
         go true a b e false x y f = stays
-        go false a true e x f true y = frame_up n ds d (eqb-true o.step (last_step o) e) one came.access (came_shows p (turn_of o) o.state n.registers d done found came y ∙ state) c
+        go false a true e x f true y = frame_up n ds d (eqb-true o.step (last_step o) e) one came.access (came_shows lens p (turn_of o) o.state n.registers d done found (read_last (eqb-true o.step (last_step o) e)) came y ∙ state) c
         go false a true e x f false y = stays
         go false a false e x f y g = frame_goes n ds one a e c
 

@@ -20,3 +20,4 @@ pub mod Closing
 pub mod Arrives
 pub mod AllSeats
 pub mod ClosedFrames
+pub mod Backs

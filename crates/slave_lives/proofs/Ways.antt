@@ -81,7 +81,7 @@ one_comes u boot lens p plan n place r k s (d ∷ ds) at near b (inr mine) =
     inr (a, meant p n r d at b.station a, none_meant p place (passed r d).registers ds near called mine.1)
 
 -- a slave that isn't meant moves a datagram on
-moved : (q : Esc.Registers) (d : Raw.Datagram) → means q.station d.head ≡ false → datagram_after q d ≡ record d { head = moved_on d.head }
+pub moved : (q : Esc.Registers) (d : Raw.Datagram) → means q.station d.head ≡ false → datagram_after q d ≡ record d { head = moved_on d.head }
 moved q d not_ = ap (λ b. record d { head = (passed_at q d.head d.body (if b then row_of q d.head.ado (length d.body) else None)).head; body = (passed_at q d.head d.body (if b then row_of q d.head.ado (length d.body) else None)).body }) not_
 
 moves_on : (p : Plan) (n place behind : ℕ) (d : Raw.Datagram) → IsTurn n → place < 16 → behind < 16 → IsOnWay p n place behind (aimed d (aim p n).command d.head.adp d.head.ado) →

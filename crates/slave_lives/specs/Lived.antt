@@ -182,7 +182,7 @@ pub record ClosedFrame {S : Type 0} (u : Running S) (boot : Bool) (lens : ℕ �
   pub steps : is_in_pace t.pace t.ring.number ≡ true → MayStep u boot (node_met t)
 
 -- it came back, and the slave met the access, which came back from it so
-pub record AccessBack {S : Type 0} (p : Plan) (o : Opening) (t : RingFrame S) (d : Raw.Datagram) (done : Bool) (found : Option Found) : Type 0 where
+pub record AccessBack {S : Type 0} (lens : ℕ → Lens) (p : Plan) (o : Opening) (t : RingFrame S) (d : Raw.Datagram) (done : Bool) (found : Option Found) : Type 0 where
   pub came : fate_of t ≡ Pass
   pub just : JustOne p (turn_of o) t.node.registers (come_to t.before t.datagrams)
-  pub back : CameBack p (turn_of o) t.node.registers d done found
+  pub back : CameBack lens p (turn_of o) t.node.registers d done found

@@ -2,12 +2,12 @@
 use Rattle.std.specs.Prelude.{◌≡◌, ◌⊎◌, ◌==◌, ℕ, not, Bool, true, false, if◌then◌else◌, Option, None, ⊤}
 use Rattle.datagrams.specs.Datagram as Raw
 use Rattle.esc_registers.specs.declared.registers.Registers as Esc
-use Rattle.frame_pass.specs.Passing.{passed}
-use Rattle.frame_view.specs.View.{Lens, found_of}
+use Rattle.frame_pass.specs.Passing.{datagram_after}
+use Rattle.frame_view.specs.View.{Lens, datagram_seen}
 use Rattle.al_state.specs.Request.{is_state}
 use Rattle.frames_seen.specs.Slaves.{registers_seen, IsOpen}
 use Rattle.mailbox_slave.specs.Registers.{in_len}
-use Rattle.segment_model.specs.Slaves.{Access, Found}
+use Rattle.segment_model.specs.Slaves.{Found}
 use Rattle.slave_steps.specs.Node.{Node}
 use Rattle.life_model.specs.Lives.{Opening, Stand}
 use Rattle.slave_lives.specs.Opening.{Plan, IsPlan, IsAccess, IsBringing}
@@ -51,11 +51,11 @@ ClosedAs u boot lens p (Stand.Opens o) n = IsClosed u boot lens p o n
 ClosedAs u boot lens p Stand.Open n = IsUp u p n
 ClosedAs u boot lens p Stand.Gone n = ⊤
 
--- an access as it comes back from the slave: whether it was done, and what it found
-pub record CameBack (p : Plan) (turn : ℕ) (r : Esc.Registers) (d : Raw.Datagram) (done : Bool) (found : Option Found) : Type 0 where
+-- an access as it comes back from the slave, as a session sees it: whether it was done, and what it found
+pub record CameBack (lens : ℕ → Lens) (p : Plan) (turn : ℕ) (r : Esc.Registers) (d : Raw.Datagram) (done : Bool) (found : Option Found) : Type 0 where
   pub access : IsAccess p turn d
-  pub done_is : done ≡ not ((passed r d).head.counter == 0)
-  pub found_is : found ≡ found_of Access.ReadState (passed r d).head.counter (passed r d).body
+  pub done_is : done ≡ not ((datagram_seen lens (datagram_after r d)).counter == 0)
+  pub found_is : found ≡ (datagram_seen lens (datagram_after r d)).found
 
 -- an opening from its first access: a bring-up, and a reopening
 abbrev pub first_opening : ℕ → Opening

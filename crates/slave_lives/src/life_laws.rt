@@ -2,6 +2,7 @@
 
 ghost use Rattle.std.specs.Prelude.{◌≡◌, ◌<◌, ◌≤◌, ◌==◌, ◌⊎◌, ◌+◌, ◌∷◌, ◌++◌, ℕ, suc, Bool, true, false, List, Option, None, length};
 ghost use Rattle.datagrams.specs.Datagram as Raw;
+ghost use Rattle.frame_pass.specs.Passing.{datagrams_after};
 ghost use Rattle.frame_view.specs.View.{Lens};
 ghost use Rattle.frame_view.specs.Seen.{datagrams_seen};
 ghost use Rattle.esc_registers.specs.declared.registers.Registers.{Registers};
@@ -19,7 +20,7 @@ ghost use Rattle.slave_lives.specs.Returning.{IsTurn};
 ghost use Rattle.slave_lives.specs.Rings.{met, come_to};
 ghost use Rattle.slave_lives.specs.Seats.{Seat, AllSeats, AreDistinct, AllCome, AllMeet, MeetsOne, nodes_of};
 ghost use Rattle.slave_lives.specs.Stands.{turn_of, IsClosed, IsUp, ClosedAs, CameBack, Closing, MayStep, OpenUp, first_opening, opening_again};
-ghost use Rattle.slave_lives.specs.Ways.{OneOnWay, JustOnWay, AllNotFor};
+ghost use Rattle.slave_lives.specs.Ways.{OneOnWay, JustOnWay, AllNotFor, ComesBack};
 ghost use Rattle.slave_steps.specs.Node.{Node, new_node};
 ghost use Rattle.state_exchange.specs.Stated.{IsStated};
 ghost use Rattle.slave_lives.specs.Steps.{Running};
@@ -41,7 +42,7 @@ pub fn closed_life_law<S, M, Q, R>()
     ensures left { (u : Running S) (boot : Bool) (lens : ℕ → Lens) (p : Plan) (o : Opening) (n : Node S) (start : ℕ) (own : Bool) → Closing u boot lens p o n → IsClosed u boot lens (record p { start = start }) (opening_again start own) n }
     ensures stays { (u : Running S) (boot : Bool) (lens : ℕ → Lens) (p : Plan) (o : Opening) (n : Node S) (is : Bool) (ds : List Raw.Datagram) → Closing u boot lens p o n → AtMostOne p (turn_of o) n.registers ds → IsClosed u boot lens p o (met is n ds) }
     ensures goes { (u : Running S) (boot : Bool) (lens : ℕ → Lens) (p : Plan) (o : Opening) (n : Node S) (ds : List Raw.Datagram) (d : Raw.Datagram) (frame : ℕ) (l : Life M Q R) (done : Bool) (found : Option Found) →
-        Closing u boot lens p o n → l.stand ≡ Stand.Opens o → JustOne p (turn_of o) n.registers ds → CameBack p (turn_of o) n.registers d done found → ClosedAs u boot lens p (opening_back frame l o done found).stand (met true n ds) }
+        Closing u boot lens p o n → l.stand ≡ Stand.Opens o → JustOne p (turn_of o) n.registers ds → CameBack lens p (turn_of o) n.registers d done found → ClosedAs u boot lens p (opening_back frame l o done found).stand (met true n ds) }
     ensures steps { (u : Running S) (boot : Bool) (lens : ℕ → Lens) (p : Plan) (o : Opening) (n : Node S) → Closing u boot lens p o n → MayStep u boot n → IsClosed u boot lens p o (stepped u n) }
     ensures up { (u : Running S) (boot : Bool) (lens : ℕ → Lens) (p : Plan) (n : Node S) → IsPlan boot lens p → MayStep u boot n → IsUp u p n → IsUp u p (stepped u n) }
     ensures opens { (u : Running S) (boot : Bool) (lens : ℕ → Lens) (p : Plan) (n : Node S) → IsPlan boot lens p → IsUp u p n → IsOpened lens p n.registers n.kept n.server × (u.next n.server ≡ None) }
@@ -55,6 +56,11 @@ pub fn closed_way_law<S>()
     ensures comes { (u : Running S) (boot : Bool) (lens : ℕ → Lens) (p : Plan) (o : Opening) (n : Node S) (place : ℕ) (ds : List Raw.Datagram) → place < 16 → Closing u boot lens p o n → OneOnWay p (turn_of o) place place ds → AtMostOne p (turn_of o) n.registers ds }
     ensures meets { (u : Running S) (boot : Bool) (lens : ℕ → Lens) (p : Plan) (o : Opening) (n : Node S) (place : ℕ) (ds : List Raw.Datagram) → place < 16 → Closing u boot lens p o n → JustOnWay p (turn_of o) place place ds → JustOne p (turn_of o) n.registers ds }
     ensures none { (u : Running S) (boot : Bool) (lens : ℕ → Lens) (p : Plan) (o : Opening) (n : Node S) (place : ℕ) (ds : List Raw.Datagram) → place < 16 → Closing u boot lens p o n → AllNotFor p place place ds → NoneMeant n.registers ds }
+{}
+
+/// The access of an opening comes back from its slave as the slave made it: the slaves behind it, apart from its station, leave it.
+pub fn access_law()
+    ensures { (lens : ℕ → Lens) (p : Plan) (n : ℕ) (r : Registers) (rs : List Registers) (ds : List Raw.Datagram) → IsTurn n → length rs < 16 → AllApart p.station rs (datagrams_after r ds) → JustOne p n r ds → ComesBack lens p n r ds (all_after rs (datagrams_after r ds)) }
 {}
 
 /// An epoch begins with the slave as its opening leaves it, behind the frame that showed the state and the step that follows: both mailboxes
@@ -77,7 +83,7 @@ pub fn open_life_law<S, V, A, Q, R>()
 pub fn closed_frame_law<S, M, Q, R>()
     ensures stays { (u : Running S) (boot : Bool) (lens : ℕ → Lens) (p : Plan) (o : Opening) (t : RingFrame S) → ClosedFrame u boot lens p o t → IsClosed u boot lens p o (node_behind u t) }
     ensures goes { (u : Running S) (boot : Bool) (lens : ℕ → Lens) (p : Plan) (o : Opening) (t : RingFrame S) (d : Raw.Datagram) (frame : ℕ) (l : Life M Q R) (done : Bool) (found : Option Found) →
-        ClosedFrame u boot lens p o t → l.stand ≡ Stand.Opens o → AccessBack p o t d done found → ClosedAs u boot lens p (opening_back frame l o done found).stand (node_behind u t) }
+        ClosedFrame u boot lens p o t → l.stand ≡ Stand.Opens o → AccessBack lens p o t d done found → ClosedAs u boot lens p (opening_back frame l o done found).stand (node_behind u t) }
 {}
 
 /// ONE FRAME OF THE MASTER AND ALL SLAVES OF A RING: sent so that it has for each what its stand allows, it comes to each so, past the others,
