@@ -149,6 +149,37 @@ module _ {V A M Q R : Type 0} (x : Exchange V A M Q R) (s : Stated V A Q) (proce
           };
         }
 
+    -- the same by what a slave has of a frame that is its own, whatever the others of its ring are
+    pub own_turns : (e : Era M Q R) (opened : ℕ) (fs : List (Frame M)) (v : V) (r : Registers) (n : Slave V M) → opened < length fs → EraIs x s processor table spot e opened (length fs) fs v r n →
+        (pick : Pick Q) (news : List (News M)) (sent : List (Datagram M)) (fate : RingFate) (back : List (Datagram M)) (steps : List ℕ) (slave : Slave V M) →
+        (let next = era_next x.speech s.acknowledged more passed (length fs) e pick in
+        let one : Ring V M = (spot.station, n) ∷ [] in
+        AsksOpen spot.station next sent →
+        ring_back one (own spot.station sent) (own_fate spot.place fate) ≡ own spot.station back →
+        ring_steps x processor (ring_after one (own spot.station sent) (own_fate spot.place fate)) steps ≡ (spot.station, slave) ∷ [] →
+        EraIs x s processor table spot (then (length fs) news sent fate back next) opened (suc (length fs)) (fs ++ record { sent = sent; fate = fate; back = back } ∷ []) v r slave)
+    own_turns e opened fs v r n le b pick news sent fate back steps slave asks backs rings =
+        let p = granted e.passing pick in
+        let next = era_next x.speech s.acknowledged more passed (length fs) e pick in
+        let mine : Move M = record { sent = own spot.station sent; fate = own_fate spot.place fate; steps = steps } in
+        let one : Ring V M = (spot.station, n) ∷ [] in
+        let old = era_frames spot opened (length fs) fs in
+        let ds = (spot.station, e.side) ∷ [] in
+        let ring = ring_steps x processor (ring_after one mine.sent mine.fate) mine.steps in
+        let turned = subst (λ k. IsFrameOf (sides_next x.speech k ds (mails_choices (e.account ∷ []) (p ∷ []))) mine.sent → AreServed (sides_next x.speech k ds (mails_choices (e.account ∷ []) (p ∷ []))) (accounts_next x.speech s.acknowledged k ds (e.account ∷ []) (p ∷ [])) mine.sent →
+        IsTasked x s.acknowledged processor (planned spot v r ∷ []) (sides_after x.speech k mine.sent mine.fate (ring_back one mine.sent mine.fate) (sides_next x.speech k ds (mails_choices (e.account ∷ []) (p ∷ []))))
+        (accounts_after k (sides_next x.speech k ds (mails_choices (e.account ∷ []) (p ∷ []))) (accounts_next x.speech s.acknowledged k ds (e.account ∷ []) (p ∷ [])) mine.fate (ring_back one mine.sent mine.fate)) ring (old ++ frame_of one mine ∷ []))
+        (frames_length spot opened fs le) (λ f served. tasked_step x s.acknowledged processor (planned spot v r ∷ []) ds (e.account ∷ []) one old b.tasked (p ∷ []) mine f served) (asks.halves, tt) (asks.served, tt) in
+        let known = subst (λ bs. IsTasked x s.acknowledged processor (planned spot v r ∷ []) (sides_after x.speech (length fs) mine.sent mine.fate bs ((spot.station, next.side) ∷ []))
+        (accounts_after (length fs) ((spot.station, next.side) ∷ []) (next.account ∷ []) mine.fate bs) ring (old ++ record { sent = mine.sent; fate = mine.fate; back = bs } ∷ []))
+        backs turned in
+        record {
+          plan = b.plan;
+          answers = b.answers;
+          opened_at = opened_is (length fs) news sent fate back next ∙ b.opened_at;
+          tasked = moved (planned spot v r ∷ []) (sides_is (length fs) news sent fate back next) (accounts_is (length fs) news sent fate back next) rings (sym (frames_push spot opened fs (record { sent = sent; fate = fate; back = back }) le)) known;
+        }
+
 -- WHAT AN OPEN EPOCH PROMISES
 abbrev pub session_of : {V A M Q R : Type 0} → OpenEra V A M Q R → PlanSession V A M Q R
 session_of w = record {

@@ -11,7 +11,7 @@ use Rattle.state_model.specs.States.{carry, word_carried, decided}
 use Rattle.state_law.specs.Shows.{Shows, slave_table, error_of, word_seen}
 use Rattle.state_law.proofs.Tables.{coded}
 
-not_zero : (n : ℕ) → n ≢ 0 → (n == 0) ≡ false
+pub not_zero : (n : ℕ) → n ≢ 0 → (n == 0) ≡ false
 not_zero n d = grind (arith, nat_tests, d)
 
 module _ (boot areas : Bool) (al : Al) (r : Registers) (control : ℕ) (shows : Shows al r) where

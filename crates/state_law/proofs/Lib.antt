@@ -1,2 +1,2 @@
-mod Tables
-mod Carries
+pub mod Tables
+pub mod Carries

@@ -1,0 +1,85 @@
+-- AN EPOCH BEGINS with the slave as its opening leaves it.
+use Rattle.std.proofs.Common.{◌≡◌, ◌⊎◌, inl, inr, ℕ, suc, ◌<◌, ◌==◌, Bool, true, false, List, [], ◌∷◌, length, Ok, refl, ap, ap₂, sym, ◌∙◌, subst, arith}
+use Rattle.std.specs.Prelude.{Option, Some, None, option_map}
+use Rattle.esc_registers.specs.declared.registers.Registers as Esc
+use Rattle.exchange_model.specs.Exchange.{Exchange}
+use Rattle.frames_seen.specs.Slaves.{registers_seen, slave_of}
+use Rattle.link_model.specs.Link.{new_link}
+use Rattle.link_model.specs.Slave.{Node}
+use Rattle.link_mails.specs.Body.{Body, uncounted}
+use Rattle.mailbox_slave.specs.Node.{node_of}
+use Rattle.segment_model.specs.Slaves.{Registers, Slave, Serving, first_waiting}
+use Rattle.segment_model.specs.Record.{Frame}
+use Rattle.state_exchange.specs.Stated.{Stated, IsStated}
+use Rattle.state_law.specs.Shows.{slave_table}
+use Rattle.state_law.proofs.Tables.{is_table}
+use Rattle.slave_steps.specs.Node as Running
+use Rattle.life_model.specs.Lives.{Spot, Era, new_era}
+use Rattle.life_model.specs.Eras.{EraIs, planned, opened_slave}
+use Rattle.life_model.proofs.Eras as Eras
+use Rattle.slave_lives.specs.Opening.{Plan}
+use Rattle.slave_lives.specs.Lived.{Behind, IsBehind, table_of, node_seen, LivesEra, OpensEra, opened_era, BegunEra}
+use Rattle.slave_lives.proofs.Openings.{allowed}
+
+none_waits : {X : Type 0} (xs : List X) → first_waiting xs ≡ None → xs ≡ []
+none_waits [] e = refl
+none_waits (x ∷ xs) e = absurd (cc)
+
+module _ {S V A Q R : Type 0} (w : Behind S V A Q R) (is : IsBehind w) (stated : IsStated w.exchange w.states) (tells : (state : ℕ) (v : V) → w.processor.tell state v ≡ w.states.tell state v) where
+  -- nothing waits in what is seen of a server where nothing waits in it
+  seen_waits : (al : ℕ) (s : S) → w.running.next s ≡ None → (w.sees al s).waiting ≡ []
+  seen_waits al s none = none_waits (w.sees al s).waiting (sym ((is.served.seen al).next s) ∙ ap (option_map (λ m. let b : Body = Ok (uncounted m) in b)) none)
+
+  -- what is seen in a state was told it
+  seen_state : (al : ℕ) (s : S) → w.states.state (w.exchange.app (w.sees al s).server) ≡ al
+  seen_state al s =
+      let v = (w.sees al s).server in
+      let told : w.states.tell al v ≡ v = sym (tells al v) ∙ ap (λ (x : Serving V Body). x.server) (is.served.told al al s) in
+      ap (λ x. w.states.state (w.exchange.app x)) (sym told) ∙ ap w.states.state (stated.app al v) ∙ stated.is al (w.exchange.app v)
+
+  pub begun : (p : Plan) (spot : Spot) (cleared : Option ℕ) (opened : ℕ) (fs : List (Frame Body)) (n : Running.Node S) → length fs ≡ suc opened → OpensEra w p spot n → BegunEra w p spot cleared opened fs n
+  begun p spot cleared opened fs n frames o =
+      let al = (registers_seen n.registers).state in
+      let v = (w.sees al n.server).server in
+      let r = registers_seen n.registers in
+      let state : al ≡ p.start = o.opened.state in
+      let none = seen_waits al n.server o.waits in
+      let knows : w.states.state (w.exchange.app v) ≡ al = seen_state al n.server in
+      let sits : slave_table w.boot true al al ≡ None = allowed w.boot al al (subst (λ (x : ℕ). (x ≡ 2) ⊎ ((x ≡ 3) × (w.boot ≡ true))) (sym state) o.plan.start) (inr refl) in
+      let here : r.station ≡ spot.station = o.opened.station ∙ o.station in
+      let ready : w.exchange.ready v ≡ true = ap (λ (a : ℕ). w.exchange.ready (w.sees a n.server).server) state ∙ o.ready in
+      let begins = Eras.era_begins {M = Body} {Q = Q} {R = R} w.exchange w.states w.processor (table_of w) spot cleared opened fs v r frames
+          (record {
+            plan = record { stations = (tt, tt); ready = (ready, tt) };
+            apart = ((tt, tt), tt);
+            tells = tells;
+            brought = (
+              (λ q a b c. is.carries q,
+              λ answers. record {
+                control = λ word e. ap (λ (x : ℕ × Bool). x.0) (o.opened.word word e) ∙ sym state;
+                refused = o.opened.refused;
+                sits = is_table w.boot true al sits;
+                state = knows;
+              }),
+              tt,
+            );
+          }) here in
+      let slave : node_seen w n ≡ opened_slave Body Q R spot v r =
+          ap (λ (x : Node Body S). let t : Slave V Body = record { node = record { out = x.out; inn = x.inn; server = w.sees al n.server }; registers = r } in t) o.opened.node
+          ∙ ap (λ (ms : List Body). let t : Slave V Body = record { node = (new_link {B = Body} (let sv : Serving V Body = record { server = v; waiting = ms } in sv)).node; registers = r } in t) none in
+      record {
+        lives = record {
+          opened = opened;
+          server = v;
+          registers = r;
+          before = omega (arith, frames);
+          is = subst (λ t. EraIs w.exchange w.states w.processor (table_of w) spot (opened_era {Q = Q} {R = R} cleared opened) opened (length fs) fs v r t) (sym slave) begins;
+          opens = o.opened.opens;
+          station = here;
+          stands = o.opened.stands;
+          runs = o.runs;
+          boot = o.boot;
+        };
+        server = ap (λ (a : ℕ). (w.sees a n.server).server) state;
+        state = knows ∙ state;
+      }
