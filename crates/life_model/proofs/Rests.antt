@@ -22,12 +22,12 @@ module _ {V A M Q R : Type 0} (x : Exchange V A M Q R) (s : Stated V A Q) (table
   sure : (r : Started Q) (o : Outcome R × ℕ) → outcome_of x.speech more station fs r ≡ Some o → is_in_doubt (line_of x.speech more station fs r).answer ≡ false
   sure r o e = ap (λ f. is_in_doubt (answer_from f)) e
 
-  none_doubted : (rs : List (Started Q)) → AllEnded x.speech more station fs rs → NoneInDoubt x s table cleared one (map (λ r. line_of x.speech more station fs r) rs)
+  pub none_doubted : (rs : List (Started Q)) → AllEnded x.speech more station fs rs → NoneInDoubt x s table cleared one (map (λ r. line_of x.speech more station fs r) rs)
   none_doubted [] all = tt
   none_doubted (r ∷ rs) all = (sure r all.0.0 all.0.1, none_doubted rs all.1)
 
   -- so none is left out
-  all_kept : (follows : Bool) (opened : Option ℕ) (al : ℕ) (a : A) (ls : List (Line Q R)) → NoneInDoubt x s table cleared one ls → trimmed x s table cleared one follows opened al a ls ≡ ls
+  pub all_kept : (follows : Bool) (opened : Option ℕ) (al : ℕ) (a : A) (ls : List (Line Q R)) → NoneInDoubt x s table cleared one ls → trimmed x s table cleared one follows opened al a ls ≡ ls
   all_kept follows opened al a [] none = refl
   all_kept follows opened al a (l ∷ []) none = go l.service
     where
