@@ -1,2 +1,4 @@
 pub mod Lists
 pub mod Told
+pub mod Shown
+pub mod Answered

@@ -69,14 +69,15 @@ Rises [] = ⊤
 Rises (l ∷ []) = ⊤
 Rises {R = R} (l ∷ (k ∷ ls)) = ((o : Outcome R) (frame : ℕ) → l.answer ≡ Answer.Ended o frame → frame < k.frame) × (l.frame < k.frame) × Rises (k ∷ ls)
 
--- an epoch ends where the return to Init was seen that begins the next, or where the run does
-abbrev pub end_by : ℕ → Option ℕ → ℕ
-end_by stop None = stop
-end_by stop (Some cleared) = cleared
+-- where an epoch's return to Init was seen; each but the first has one
+abbrev pub return_of : Option ℕ → ℕ
+return_of None = 0
+return_of (Some cleared) = cleared
 
+-- an epoch ends where the return to Init was seen that begins the next, or where the run does
 abbrev pub end_of : {M Q R : Type 0} → ℕ → List (EpochBook M Q R) → ℕ
 end_of stop [] = stop
-end_of stop (e ∷ es) = end_by stop e.cleared
+end_of stop (e ∷ es) = return_of e.cleared
 
 -- THE ANSWERS OF ALL EPOCHS are those that the frames give
 abbrev pub AllAnswers : {M Q R : Type 0} → Speech M Q R → (M → Bool) → Spot → ℕ → List ℕ → List (Frame M) → ℕ → List (EpochBook M Q R) → Type 0
