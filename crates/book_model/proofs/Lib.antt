@@ -2,3 +2,5 @@ pub mod Lists
 pub mod Told
 pub mod Shown
 pub mod Answered
+pub mod Doubts
+pub mod Stood
