@@ -191,7 +191,7 @@ module _ {V A M Q R : Type 0} (x : Exchange V A M Q R) (lawful : IsLawful x) (s 
   begins_first opened [] tail b = tt
   begins_first opened (r ∷ rs) tail b = (b.0, begins_first opened rs tail b.1)
 
-  begins_last : (opened : ℕ) (rs : List (Started Q)) (r : Started Q) → AllBegin opened (rs ++ r ∷ []) → opened < r.frame
+  pub begins_last : (opened : ℕ) (rs : List (Started Q)) (r : Started Q) → AllBegin opened (rs ++ r ∷ []) → opened < r.frame
   begins_last opened [] r b = b.0
   begins_last opened (q ∷ rs) r b = begins_last opened rs r b.1
 

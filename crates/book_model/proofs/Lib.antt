@@ -4,3 +4,4 @@ pub mod Shown
 pub mod Answered
 pub mod Doubts
 pub mod Stood
+pub mod Walks
