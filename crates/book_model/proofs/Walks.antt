@@ -1,5 +1,5 @@
 -- Along the epochs of a life: a book fits them, each from what the one before has done, cleared.
-use Rattle.std.proofs.Common.{◌≡◌, ℕ, suc, ◌+◌, ◌-◌, ◌<◌, ◌≤◌, ◌==◌, ◌&&◌, ◌||◌, Bool, true, false, not, is_some, Option, Some, None, List, [], ◌∷◌, ◌++◌, map, length, refl, ap, ap₂, sym, ◌∙◌, subst, arith, length-append, if◌then◌else◌}
+use Rattle.std.proofs.Common.{◌≡◌, ℕ, suc, ◌+◌, ◌-◌, ◌<◌, ◌≤◌, ◌==◌, ◌&&◌, ◌||◌, Bool, true, false, not, is_some, Option, Some, None, List, [], ◌∷◌, ◌++◌, map, length, refl, ap, ap₂, sym, ◌∙◌, subst, arith, append-nil, length-append, if◌then◌else◌}
 use Rattle.std.specs.Prelude.{⊤, nat_lt}
 use Rattle.std.proofs.lemmas.Bool.{le-ltb, lt-ltb}
 use Rattle.std.proofs.lemmas.List.{length-map}
@@ -12,16 +12,23 @@ use Rattle.state_model.specs.States.{Table}
 use Rattle.state_model.specs.Promises.{state_behind, answer_of}
 use Rattle.state_exchange.specs.Stated.{Stated, IsStated, Service}
 use Rattle.task_model.specs.Accounts.{Started}
-use Rattle.task_model.specs.Promise.{AllEnded, but_last, services_in}
+use Rattle.task_model.specs.Promise.{AllEnded, but_last, services_in, mails_in}
 use Rattle.life_model.specs.Lives.{Spot, returns_to_init, opens_state}
 use Rattle.life_model.specs.Eras.{frames_of}
-use Rattle.life_model.specs.Book.{Line, EpochBook, SlaveBook, line_of, done_rows, NoInits, NoneInDoubt, IsForgetful, EpochDone, EpochFits, FitsFrom, RestFrom, RepliesFit, is_in_doubt, opened_behind, follow, acted, all_acted, state_next, done, done_of, done_all, is_left, trimmed, opens_own, begins_with}
-use Rattle.life_model.proofs.Books.{epoch_done, counts_none}
-use Rattle.life_model.proofs.Rests.{none_doubted}
+use Rattle.life_model.specs.Book.{Line, EpochBook, SlaveBook, line_of, done_rows, NoInits, NoneInDoubt, IsForgetful, EpochDone, EpochFits, FitsFrom, RestFrom, EachDone, RepliesFit, is_in_doubt, opened_behind, follow, acted, all_acted, state_next, done, done_of, done_all, is_left, trimmed, opens_own, begins_with}
+use Rattle.life_model.proofs.Books.{epoch_done, counts_none, grown, done_front}
+use Rattle.life_model.proofs.Rests.{none_doubted, all_kept}
 use Rattle.book_model.specs.Answers.{end_of}
 use Rattle.book_model.specs.Chain.{Same, KeepsSame, behind_clear, own_answer, own_line, with_own, doubt_line, with_doubt, unopened, AllBegin, Epoch, open_era, booked, leaves, Timed, Written, Chained}
+use Rattle.book_model.specs.Open.{HasDrained, AllDrained}
 use Rattle.book_model.proofs.Answered.{promised, begins_last}
 use Rattle.book_model.proofs.Doubts.{kept, done_kept, doubt_done, doubt_fits, doubt_behind}
+
+-- rows before another have each its outcome
+ended_before : {V A M Q R : Type 0} (x : Exchange V A M Q R) (more : M → Bool) (station : ℕ) (fs : List (Frame M)) (rs : List (Started Q)) (r : Started Q) → AllEnded x.speech more station fs (but_last (rs ++ r ∷ [])) → AllEnded x.speech more station fs rs
+ended_before x more station fs [] r h = tt
+ended_before x more station fs (q ∷ []) r h = (h.0, tt)
+ended_before x more station fs (q ∷ (k ∷ rs)) r h = (h.0, ended_before x more station fs (k ∷ rs) r h.1)
 
 module _ {V A M Q R : Type 0} (x : Exchange V A M Q R) (lawful : IsLawful x) (s : Stated V A Q) (stated : IsStated x s) (processor : Processor V) (table : ℕ → Table) (cleared : A → A) (more : M → Bool) (spot : Spot) (fs : List (Frame M))
     (gave : List ℕ) (forgets : IsForgetful s) (keeps : KeepsSame s cleared) (b : SlaveBook A M Q R) where
@@ -86,7 +93,7 @@ module _ {V A M Q R : Type 0} (x : Exchange V A M Q R) (lawful : IsLawful x) (s 
       let last : Started Q = record { service = Service.State target; frame = frame } in
       let all : e.era.account.started ≡ e.rows ++ last ∷ [] = e.all ∙ ap (λ l. e.rows ++ l) is in
       let late = begins_last x lawful s stated processor table cleared more spot fs e.opened e.rows last (subst (AllBegin e.opened) all t.begins) in
-      let sure = none_doubted x s law cleared more spot.station (frames_of w) e.rows (rows_ended e.rows last (subst (λ l. AllEnded x.speech more spot.station (frames_of w) (but_last l)) all p.in_doubt)) in
+      let sure = none_doubted x s law cleared more spot.station (frames_of w) e.rows (ended_before x more spot.station (frames_of w) e.rows last (subst (λ l. AllEnded x.speech more spot.station (frames_of w) (but_last l)) all p.in_doubt)) in
       let base = rows_done e in
       let a = x.app e.server in
       let body = with_doubt target frame (book e) in
@@ -108,12 +115,6 @@ module _ {V A M Q R : Type 0} (x : Exchange V A M Q R) (lawful : IsLawful x) (s 
         );
       }
     where
-      rows_ended : (rs : List (Started Q)) (r : Started Q) → AllEnded x.speech more spot.station (frames_of (open_era x lawful s stated processor table cleared more spot fs e)) (but_last (rs ++ r ∷ [])) →
-          AllEnded x.speech more spot.station (frames_of (open_era x lawful s stated processor table cleared more spot fs e)) rs
-      rows_ended [] r h = tt
-      rows_ended (q ∷ []) r h = (h.0, tt)
-      rows_ended (q ∷ (k ∷ rs)) r h = (h.0, rows_ended (k ∷ rs) r h.1)
-
       first : (rs : List (Started Q)) → NoInits (services_in rs) → e.opened < frame → (c : Option ℕ) → e.era.cleared ≡ c →
           opens_own x s law cleared one c (map (λ r. line_of x.speech more spot.station (frames_of (open_era x lawful s stated processor table cleared more spot fs e)) r) rs ++ doubt_line target frame ∷ []) ≡ false
       first rs n late None is = refl
@@ -130,12 +131,13 @@ module _ {V A M Q R : Type 0} (x : Exchange V A M Q R) (lawful : IsLawful x) (s 
   does e end carry body t (Written.doubted target frame is returns quiet) = doubted_done e end target frame t is returns
 
   -- WHAT A LIST OF EPOCHS COMES TO: an application that is the same but for its AL state, from which a book of all fits where a book of the rest does
-  pub record Walk (c : A) (es rest : List (EpochBook M Q R)) (end : A) : Type 0 where
+  pub record Walk (D : Type 0) (c : A) (es rest : List (EpochBook M Q R)) (end : A) : Type 0 where
     pub to : A
     pub same : Same s to end
     pub fits : FitsFrom x s law cleared one b to rest → FitsFrom x s law cleared one b c (es ++ rest)
     pub done : done_all x s law cleared one b c (es ++ rest) ≡ done_all x s law cleared one b to rest
     pub rests : follow rest ≡ true → RestFrom x s law cleared one b to rest → RestFrom x s law cleared one b c (es ++ rest)
+    pub each : D → EachDone x s law cleared one b to rest → EachDone x s law cleared one b c (es ++ rest)
 
   followed : (es rest : List (EpochBook M Q R)) → follow rest ≡ true → follow (es ++ rest) ≡ true
   followed [] rest f = f
@@ -147,15 +149,19 @@ module _ {V A M Q R : Type 0} (x : Exchange V A M Q R) (lawful : IsLawful x) (s 
   rest_step c e (z ∷ zs) f = λ r. r
 
   -- one epoch, and then the others
-  step : (c from : A) (e : EpochBook M Q R) (es rest : List (EpochBook M Q R)) (end : A) → begins_with x s law cleared one b.start e c ≡ from → EpochFits x s law cleared one from e (dones e (follow (es ++ rest)) from) →
-      Walk (acts_all from (dones e (follow (es ++ rest)) from)) es rest end → Walk c (e ∷ es) rest end
-  step c from e es rest end is fits w =
+  step : (D E : Type 0) (c from : A) (e : EpochBook M Q R) (es rest : List (EpochBook M Q R)) (end : A) → begins_with x s law cleared one b.start e c ≡ from → EpochFits x s law cleared one from e (dones e (follow (es ++ rest)) from) →
+      (D → ((dones e (follow (es ++ rest)) from ≡ e.lines) × NoneInDoubt x s law cleared one e.lines) × E) → Walk E (acts_all from (dones e (follow (es ++ rest)) from)) es rest end → Walk D c (e ∷ es) rest end
+  step D E c from e es rest end is fits drained w =
       let zs = es ++ rest in
       record {
         to = w.to;
         same = w.same;
         fits = λ later. subst (λ v. EpochFits x s law cleared one v e (dones e (follow zs) v) × FitsFrom x s law cleared one b (acts_all v (dones e (follow zs) v)) zs) (sym is) (fits, w.fits later);
         done = ap (λ v. done_all x s law cleared one b (acts_all v (dones e (follow zs) v)) zs) is ∙ w.done;
+        each = λ d later. (
+          let here = drained d in
+          subst (λ v. ((dones e (follow zs) v ≡ e.lines) × NoneInDoubt x s law cleared one e.lines) × EachDone x s law cleared one b (acts_all v (dones e (follow zs) v)) zs) (sym is) (here.0, w.each here.1 later)
+        );
         rests = λ f r. rest_step c e zs (followed es rest f) (subst (λ v. RestFrom x s law cleared one b (acts_all v (dones e (follow zs) v)) zs) (sym is) (w.rests f r));
       }
 
@@ -238,31 +244,58 @@ module _ {V A M Q R : Type 0} (x : Exchange V A M Q R) (lawful : IsLawful x) (s 
       acts_all v (dones (with_own target frame body) follows v) ≡ acts_all (x.app e.server) (dones body follows (x.app e.server))
   own_app e body d target frame follows v is = ap (acts_all v) (own_done e body d target frame follows v) ∙ ap (λ y. acts_all y (dones body follows y)) is
 
+  pub own_whole : (e : Opened) (body : EpochBook M Q R) → Does e body → (target frame : ℕ) (follows : Bool) (v : A) → acted x s law cleared one v (Service.State target) ≡ x.app e.server →
+      (dones body follows (x.app e.server) ≡ body.lines) × NoneInDoubt x s law cleared one body.lines →
+      (dones (with_own target frame body) follows v ≡ (with_own target frame body).lines) × NoneInDoubt x s law cleared one (with_own target frame body).lines
+  own_whole e body d target frame follows v is k = (
+    own_done e body d target frame follows v ∙ ap (λ l. own_line target frame body.opened ∷ l) (ap (dones body follows) is ∙ k.0),
+    (ap (λ o. is_in_doubt (own_answer {R = R} o)) d.opened, k.1),
+  )
+
+  -- AN EPOCH THAT DRAINED is done whole
+  drained : (e : Opened) (end : ℕ) (carry : List (Started Q)) (body : EpochBook M Q R) → Written x lawful s stated processor table cleared more spot fs gave e end carry body → (r : Started Q) → carry ≡ r ∷ [] →
+      HasDrained x lawful s stated processor table cleared more spot fs gave e → (follows : Bool) → (dones body follows (x.app e.server) ≡ body.lines) × NoneInDoubt x s law cleared one body.lines
+  drained e end carry body (Written.whole none) r is h follows = absurd (let clash : [] ≡ r ∷ [] = is in cc)
+  drained e end carry body (Written.doubted target frame tail returns quiet) r is h follows = absurd (let clash : [] ≡ r ∷ [] = is in cc)
+  drained e end carry body (Written.moved q tail) r is h follows =
+      let w = open_era x lawful s stated processor table cleared more spot fs e in
+      let p = promised x lawful s stated processor table cleared more spot fs e in
+      let all : e.era.account.started ≡ e.rows ++ q ∷ [] = e.all ∙ ap (λ l. e.rows ++ l) tail in
+      let sure = none_doubted x s law cleared more spot.station (frames_of w) e.rows (ended_before x more spot.station (frames_of w) e.rows q (subst (λ l. AllEnded x.speech more spot.station (frames_of w) (but_last l)) all p.in_doubt)) in
+      let a = x.app e.server in
+      let handled : (book e).handled ≡ mails_in (services_in e.rows) = ap (λ n. n - x.handled e.server) h ∙ grown (x.handled e.server) (mails_in (services_in e.rows)) in
+      let whole : done x s law cleared one (book e).handled a (book e).lines ≡ (book e).lines =
+      ap₂ (λ (n : ℕ) (l : List (Line Q R)). done x s law cleared one n a l) handled (sym (append-nil (book e).lines)) ∙ done_front x s law cleared more spot.station (frames_of w) a e.rows [] ∙ append-nil (book e).lines in
+      (ap (trimmed x s law cleared one follows (Some e.opened) b.state a) whole ∙ all_kept x s law cleared more spot.station (frames_of w) follows (Some e.opened) b.state a (book e).lines sure, sure)
+
   -- ALONG ALL EPOCHS
   module _ (start : b.start ≡ spot.start) (stop : ℕ) (carried : List (Started Q)) (end : A) (rest : List (EpochBook M Q R)) where
-    pub walk : (carry : List (Started Q)) (a : A) (es : List (EpochBook M Q R)) (c : A) → Same s c a → Chained x lawful s stated processor table cleared more spot fs gave stop carried end carry a es → Walk c es rest end
-    walk carry a es c same Chained.none = record { to = c; same = same; fits = λ f. f; done = refl; rests = λ f r. r }
+    abbrev Drains : (carry : List (Started Q)) (a : A) (es : List (EpochBook M Q R)) → Chained x lawful s stated processor table cleared more spot fs gave stop carried end carry a es → Type 0
+    Drains carry a es l = AllDrained x lawful s stated processor table cleared more spot fs gave stop carried end carry a es l
+
+    pub walk : (carry : List (Started Q)) (a : A) (es : List (EpochBook M Q R)) (c : A) → Same s c a → (l : Chained x lawful s stated processor table cleared more spot fs gave stop carried end carry a es) →
+        Walk (AllDrained x lawful s stated processor table cleared more spot fs gave stop carried end carry a es l) c es rest end
+    walk carry a es c same Chained.none = record { to = c; same = same; fits = λ f. f; done = refl; rests = λ f r. r; each = λ d e. e }
     walk carry a es c same (Chained.closed a2 cleared_at more_es l) =
         let from = behind_clear cleared cleared_at c in
-        step c from (unopened cleared_at []) more_es rest end refl (record { behind = omega arith; replies = tt; emissions = ([], refl) }) (walk [] _ more_es from (same_clear cleared_at c a2 same) l)
+        step _ _ c from (unopened cleared_at []) more_es rest end refl (record { behind = omega arith; replies = tt; emissions = ([], refl) }) (λ d. ((refl, tt), d)) (walk [] _ more_es from (same_clear cleared_at c a2 same) l)
     walk carry a es c same (Chained.own_closed a2 target frame cleared_at more_es returns early quiet l) =
         let e : EpochBook M Q R = unopened (Some cleared_at) (own_line target frame None ∷ []) in
         let none : (follows : Bool) → dones e follows (cleared c) ≡ [] = λ follows. left_out target frame cleared_at c follows returns in
         let f = follow (more_es ++ rest) in
-        step c (cleared c) e more_es rest end (own_closed_start target frame cleared_at c)
+        step ⊥ (Drains [] (cleared a2) more_es l) c (cleared c) e more_es rest end refl
         (subst (λ ds. EpochFits x s law cleared one (cleared c) e ds) (sym (none f)) (record { behind = omega arith; replies = ((λ o g doubt is. absurd (let clash : Answer.InDoubt ≡ Answer.Ended o g = doubt in cc)), tt); emissions = ([], refl) }))
-        (subst (λ ds. Walk (acts_all (cleared c) ds) more_es rest end) (sym (none f)) (walk [] _ more_es (cleared c) (keeps c a2 same) l))
-      where
-        own_closed_start : (target frame cleared_at : ℕ) (c : A) → begins_with x s law cleared one b.start (unopened {M = M} (Some cleared_at) (own_line target frame None ∷ [])) c ≡ cleared c
-        own_closed_start target frame cleared_at c = refl
+        (λ d. absurd d) (subst (λ ds. Walk (Drains [] (cleared a2) more_es l) (acts_all (cleared c) ds) more_es rest end) (sym (none f)) (walk [] _ more_es (cleared c) (keeps c a2 same) l))
     walk carry a es c same (Chained.taken_up a2 e next body more_es begins t w l) =
         let d = does e (end_of stop more_es) next body t w in
-        step c (x.app e.server) body more_es rest end (start_is e body d start a2 c same begins) (d.fits (follow (more_es ++ rest)))
-        (walk next _ more_es (acts_all (x.app e.server) (dones body (follow (more_es ++ rest)) (x.app e.server))) (d.app (follow (more_es ++ rest))) l)
+        let f = follow (more_es ++ rest) in
+        step _ _ c (x.app e.server) body more_es rest end (start_is e body d start a2 c same begins) (d.fits f)
+        (λ k. (drained e (end_of stop more_es) next body w k.0.0 k.0.1 k.1 f, k.2)) (walk next _ more_es (acts_all (x.app e.server) (dones body f (x.app e.server))) (d.app f) l)
     walk carry a es c same (Chained.own_opened a2 e target frame cleared_at next body more_es returns is early shown before begins t w l) =
         let d = does e (end_of stop more_es) next body t w in
         let f = follow (more_es ++ rest) in
         let from = own_from e target returns a2 c same begins in
-        step c (cleared c) (with_own target frame body) more_es rest end (own_start e body d target frame cleared_at returns is early c) (own_fits e body d target frame returns f (cleared c) from)
-        (subst (λ y. Walk y more_es rest end) (sym (own_app e body d target frame f (cleared c) from))
+        step (((r : Started Q) × (next ≡ r ∷ [])) × HasDrained x lawful s stated processor table cleared more spot fs gave e × Drains next (left e) more_es l) (Drains next (left e) more_es l) c (cleared c) (with_own target frame body) more_es rest end (own_start e body d target frame cleared_at returns is early c) (own_fits e body d target frame returns f (cleared c) from)
+        (λ k. (own_whole e body d target frame f (cleared c) from (drained e (end_of stop more_es) next body w k.0.0 k.0.1 k.1 f), k.2))
+        (subst (λ y. Walk (Drains next (left e) more_es l) y more_es rest end) (sym (own_app e body d target frame f (cleared c) from))
         (walk next _ more_es (acts_all (x.app e.server) (dones body f (x.app e.server))) (d.app f) l))

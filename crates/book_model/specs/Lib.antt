@@ -1,3 +1,3 @@
 pub mod Answers
 pub mod Chain
-
+pub mod Open
