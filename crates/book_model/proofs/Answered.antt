@@ -1,5 +1,5 @@
 -- The answers in a book of all epochs of a life are those that the frames give.
-use Rattle.std.proofs.Common.{◌≡◌, inl, inr, ℕ, suc, ◌-◌, ◌<◌, ◌≤◌, Bool, true, false, Option, Some, None, List, [], ◌∷◌, ◌++◌, map, take, drop, length, refl, ap, ap₂, sym, ◌∙◌, subst, arith, if◌then◌else◌}
+use Rattle.std.proofs.Common.{◌≡◌, ℕ, suc, ◌-◌, ◌<◌, ◌≤◌, Bool, true, false, Option, Some, None, List, [], ◌∷◌, ◌++◌, map, take, drop, length, refl, ap, ap₂, sym, ◌∙◌, subst, arith, if◌then◌else◌}
 use Rattle.std.specs.Prelude.{⊤, nat_le, nat_lt}
 use Rattle.std.proofs.lemmas.Bool.{ltb-true, le-ltb, lt-ltb, leb-true}
 use Rattle.exchange_model.specs.Exchange.{Exchange, IsLawful}
@@ -17,7 +17,7 @@ use Rattle.life_model.specs.Eras.{frames_of}
 use Rattle.life_model.specs.Book.{Line, EpochBook, line_of, NoInits}
 use Rattle.life_model.proofs.Eras.{session_of, of_one}
 use Rattle.book_model.specs.Answers.{epoch_news, all_news, first_gave, between, shown_ends, shown_from, answer_in, answer_at, AnswersBy, Rises, end_of, AllAnswers}
-use Rattle.book_model.specs.Chain.{own_line, with_own, doubt_line, with_doubt, unopened, AreLeft, LeftBehind, AllBegin, NoneShow, IsShownFirst, Epoch, open_era, booked, Timed, Written, Chained}
+use Rattle.book_model.specs.Chain.{own_line, with_own, doubt_line, with_doubt, AreLeft, LeftBehind, AllBegin, NoneShow, IsShownFirst, Epoch, open_era, booked, Timed, Written, Chained}
 use Rattle.book_model.proofs.Lists.{between-join, first_least}
 use Rattle.book_model.proofs.Told.{service_calm, service_none, answer_same}
 use Rattle.book_model.proofs.Shown.{none_between, shown_between}
@@ -234,7 +234,7 @@ module _ {V A M Q R : Type 0} (x : Exchange V A M Q R) (lawful : IsLawful x) (s 
           cleared_is = refl;
           answers = answers-append gave pace (Some e.opened) e.era.cleared end (map (line e) e.rows) (doubt_line target frame ∷ []) rows.answers (
             none_shown gave pace (Some e.opened) e.era.cleared end target frame frame returns (start e.era.cleared refl behind)
-            (none_between M R spot.station (opens_state target) spot refl fs frame c (none_less spot.station (opens_state target) frame c end fs (cut_within gave frame end) quiet)),
+                (none_between M R spot.station (opens_state target) spot refl fs frame c (none_less spot.station (opens_state target) frame c end fs (cut_within gave frame end) quiet)),
             tt,
           );
           rises = rises_doubt e (length (frames e)) target frame e.rows (subst (λ l. AllRise x.speech more spot.station (frames e) l (length (frames e))) all p.rises) (subst (λ l. AllEnded x.speech more spot.station (frames e) (but_last l)) all p.in_doubt);

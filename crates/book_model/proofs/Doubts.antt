@@ -1,23 +1,19 @@
 -- A state service that was to return its slave to Init, left in doubt behind the rows of its epoch, changes nothing of what is done.
-use Rattle.std.proofs.Common.{◌≡◌, ◌⊎◌, inl, inr, ℕ, zero, suc, ◌+◌, ◌-◌, ◌<◌, ◌≤◌, leb, ◌==◌, ◌&&◌, ◌||◌, Bool, true, false, not, Option, Some, None, List, [], ◌∷◌, ◌++◌, map, take, drop, length, refl, ap, ap₂, sym, ◌∙◌, subst, arith, append-nil, length-append, if◌then◌else◌}
-use Rattle.std.specs.Prelude.{⊤, nat_le, nat_lt}
+use Rattle.std.proofs.Common.{◌≡◌, ◌⊎◌, inl, inr, ℕ, suc, ◌+◌, ◌-◌, ◌<◌, ◌≤◌, leb, ◌==◌, ◌&&◌, ◌||◌, Bool, true, false, not, Option, Some, List, [], ◌∷◌, ◌++◌, map, take, drop, length, refl, ap, ap₂, sym, ◌∙◌, subst, arith, append-nil, length-append, if◌then◌else◌}
+use Rattle.std.specs.Prelude.{nat_le}
 use Rattle.std.proofs.lemmas.Bool.{le-ltb}
 use Rattle.std.proofs.lemmas.Bool.Decides.{leb_tells}
 use Rattle.std.proofs.lemmas.List.{length-map, take-append-drop, take-append-le}
-use Rattle.exchange_model.specs.Exchange.{Exchange, IsLawful}
-use Rattle.segment_model.specs.Slaves.{Processor}
-use Rattle.segment_model.specs.Record.{Frame}
-use Rattle.segment_model.specs.Ends.{Outcome}
+use Rattle.exchange_model.specs.Exchange.{Exchange}
 use Rattle.segment_model.specs.Books.{Answer}
 use Rattle.state_model.specs.States.{Table}
-use Rattle.state_exchange.specs.Stated.{Stated, IsStated, Service}
+use Rattle.state_exchange.specs.Stated.{Stated, Service}
 use Rattle.task_model.specs.Accounts.{Started}
-use Rattle.task_model.specs.Promise.{TasksPromised, AllEnded, but_last, services_in, mails_in}
-use Rattle.life_model.specs.Lives.{Spot, returns_to_init}
+use Rattle.task_model.specs.Promise.{TasksPromised, services_in, mails_in}
+use Rattle.life_model.specs.Lives.{returns_to_init}
 use Rattle.life_model.specs.Eras.{OpenEra, frames_of}
-use Rattle.life_model.specs.Book.{Line, line_of, epoch_book, NoInits, NoneInDoubt, IsForgetful, RepliesFit, is_in_doubt, opened_behind, acted, all_acted, state_next, weight, done, is_left, trimmed}
+use Rattle.life_model.specs.Book.{Line, line_of, epoch_book, NoneInDoubt, RepliesFit, is_in_doubt, opened_behind, acted, all_acted, state_next, weight, done, is_left, trimmed}
 use Rattle.life_model.proofs.Books.{take-length, take-map, map-append, take_all, grown, counts_none, done_front}
-use Rattle.life_model.proofs.Rests.{none_doubted}
 use Rattle.book_model.specs.Chain.{doubt_line}
 
 module _ {V A M Q R : Type 0} (x : Exchange V A M Q R) (s : Stated V A Q) (table : Table) (cleared : A → A) where

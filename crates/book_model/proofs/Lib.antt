@@ -5,3 +5,4 @@ pub mod Answered
 pub mod Doubts
 pub mod Stood
 pub mod Walks
+pub mod Opens

@@ -11,7 +11,7 @@ use Rattle.state_model.specs.States.{Table}
 use Rattle.state_exchange.specs.Stated.{Stated, IsStated, Service, with_states}
 use Rattle.task_model.specs.Accounts.{Started}
 use Rattle.task_model.specs.Promise.{TasksPromised, AllDone, AllEnded, IsReply, but_last, services_in, mails_in, outcome_of}
-use Rattle.life_model.specs.Lives.{returns_to_init, opens_state}
+use Rattle.life_model.specs.Lives.{returns_to_init}
 use Rattle.life_model.specs.Eras.{OpenEra, frames_of}
 use Rattle.life_model.specs.Book.{Line, line_of, epoch_book, done_rows, NoInits, is_in_doubt, opened_behind, acted, all_acted, state_next, weight, done, is_left, trimmed}
 use Rattle.life_model.proofs.Books.{take-length, take-map, map-append, grown, exec_is, done_front, followed}

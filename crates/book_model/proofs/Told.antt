@@ -1,15 +1,14 @@
 -- What the news of an epoch give for its rows, whatever the frames are in which its slave is left alone.
-use Rattle.std.proofs.Common.{◌≡◌, ◌⊎◌, inl, inr, ℕ, zero, suc, ◌+◌, ◌-◌, ◌<◌, ◌≤◌, ◌==◌, ◌%◌, ◌&&◌, Bool, true, false, not, Option, Some, None, option_map, List, [], ◌∷◌, ◌++◌, map, take, drop, length, refl, ap, ap₂, sym, ◌∙◌, subst, arith, append_assoc, append-nil, if◌then◌else◌}
-use Rattle.std.specs.Prelude.{⊤, replicate, nat_le, nat_lt}
+use Rattle.std.proofs.Common.{◌≡◌, ℕ, zero, suc, ◌-◌, ◌<◌, ◌≤◌, ◌==◌, ◌%◌, ◌&&◌, Bool, true, false, not, Option, Some, None, option_map, List, [], ◌∷◌, ◌++◌, map, take, drop, length, refl, ap, ap₂, sym, ◌∙◌, arith, append_assoc, if◌then◌else◌}
+use Rattle.std.specs.Prelude.{replicate}
 use Rattle.std.proofs.lemmas.List.{drop-map, take-map}
-use Rattle.std.proofs.lemmas.Bool.Decides.{leb_tells}
 use Rattle.exchange_model.specs.Exchange.{Exchange, Speech, IsLawful, plain}
 use Rattle.segment_model.specs.Slaves.{Datagram, grams}
-use Rattle.segment_model.specs.Record.{Frame, News, Kept, first_end, or_later, frame_news, news_each, kept_after, kept_all, nothing_kept, counted_each, without_empty, mails_heard, all_told, back_news, did_read, news_from}
-use Rattle.segment_model.specs.Ends.{Task, Outcome, all_written, state_ends, mails_end, ends}
+use Rattle.segment_model.specs.Record.{Frame, News, Kept, first_end, or_later, news_each, kept_after, kept_all, nothing_kept, counted_each, without_empty, mails_heard, all_told, back_news, did_read, news_from}
+use Rattle.segment_model.specs.Ends.{Outcome, all_written, state_ends, mails_end, ends}
 use Rattle.state_exchange.specs.Stated.{Service}
 use Rattle.task_model.specs.Promise.{task_of}
-use Rattle.life_model.specs.Own.{own, own_frame, blank}
+use Rattle.life_model.specs.Own.{own_frame, blank}
 use Rattle.life_model.specs.Lives.{Spot}
 use Rattle.life_model.specs.Eras.{era_frames}
 use Rattle.life_model.proofs.Books.{map-append}

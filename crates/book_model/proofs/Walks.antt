@@ -1,6 +1,6 @@
 -- Along the epochs of a life: a book fits them, each from what the one before has done, cleared.
-use Rattle.std.proofs.Common.{◌≡◌, ℕ, suc, ◌+◌, ◌-◌, ◌<◌, ◌≤◌, ◌==◌, ◌&&◌, ◌||◌, Bool, true, false, not, is_some, Option, Some, None, List, [], ◌∷◌, ◌++◌, map, length, refl, ap, ap₂, sym, ◌∙◌, subst, arith, append-nil, length-append, if◌then◌else◌}
-use Rattle.std.specs.Prelude.{⊤, nat_lt}
+use Rattle.std.proofs.Common.{◌≡◌, ℕ, suc, ◌-◌, ◌<◌, ◌==◌, ◌&&◌, ◌||◌, Bool, true, false, not, is_some, Option, Some, None, List, [], ◌∷◌, ◌++◌, map, length, refl, ap, ap₂, sym, ◌∙◌, subst, arith, append-nil, length-append, if◌then◌else◌}
+use Rattle.std.specs.Prelude.{nat_lt}
 use Rattle.std.proofs.lemmas.Bool.{le-ltb, lt-ltb}
 use Rattle.std.proofs.lemmas.List.{length-map}
 use Rattle.exchange_model.specs.Exchange.{Exchange, IsLawful}
@@ -15,7 +15,7 @@ use Rattle.task_model.specs.Accounts.{Started}
 use Rattle.task_model.specs.Promise.{AllEnded, but_last, services_in, mails_in}
 use Rattle.life_model.specs.Lives.{Spot, returns_to_init, opens_state}
 use Rattle.life_model.specs.Eras.{frames_of}
-use Rattle.life_model.specs.Book.{Line, EpochBook, SlaveBook, line_of, done_rows, NoInits, NoneInDoubt, IsForgetful, EpochDone, EpochFits, FitsFrom, RestFrom, EachDone, RepliesFit, is_in_doubt, opened_behind, follow, acted, all_acted, state_next, done, done_of, done_all, is_left, trimmed, opens_own, begins_with}
+use Rattle.life_model.specs.Book.{Line, EpochBook, SlaveBook, line_of, NoInits, NoneInDoubt, IsForgetful, EpochFits, FitsFrom, RestFrom, EachDone, RepliesFit, is_in_doubt, follow, acted, all_acted, state_next, done, done_of, done_all, trimmed, opens_own, begins_with}
 use Rattle.life_model.proofs.Books.{epoch_done, counts_none, grown, done_front}
 use Rattle.life_model.proofs.Rests.{none_doubted, all_kept}
 use Rattle.book_model.specs.Answers.{end_of}
@@ -107,12 +107,12 @@ module _ {V A M Q R : Type 0} (x : Exchange V A M Q R) (lawful : IsLawful x) (s 
         plain = first e.rows e.quiet late e.era.cleared refl;
         app = λ follows k. ap (λ l. s.told k (acts_all a l)) (same follows ∙ sym (plain follows)) ∙ base.app follows k;
         fits = λ follows. subst (λ l. EpochFits x s law cleared one a body l) (sym (same follows)) (
-          let f = subst (λ l. EpochFits x s law cleared one a (book e) l) (plain follows) (base.fits follows) in record {
-            behind = (let size = length-append (book e).lines (doubt_line target frame ∷ []) in let rows = length-map e.rows (λ r. line_of x.speech more spot.station (frames_of w) r) in omega (arith, few, size, rows));
-            replies = doubt_fits x s law cleared (length ds) 0 a (book e).lines target frame f.replies;
-            emissions = f.emissions;
-          }
-        );
+            let f = subst (λ l. EpochFits x s law cleared one a (book e) l) (plain follows) (base.fits follows) in record {
+              behind = (let size = length-append (book e).lines (doubt_line target frame ∷ []) in let rows = length-map e.rows (λ r. line_of x.speech more spot.station (frames_of w) r) in omega (arith, few, size, rows));
+              replies = doubt_fits x s law cleared (length ds) 0 a (book e).lines target frame f.replies;
+              emissions = f.emissions;
+            }
+            );
       }
     where
       first : (rs : List (Started Q)) → NoInits (services_in rs) → e.opened < frame → (c : Option ℕ) → e.era.cleared ≡ c →
@@ -159,9 +159,9 @@ module _ {V A M Q R : Type 0} (x : Exchange V A M Q R) (lawful : IsLawful x) (s 
         fits = λ later. subst (λ v. EpochFits x s law cleared one v e (dones e (follow zs) v) × FitsFrom x s law cleared one b (acts_all v (dones e (follow zs) v)) zs) (sym is) (fits, w.fits later);
         done = ap (λ v. done_all x s law cleared one b (acts_all v (dones e (follow zs) v)) zs) is ∙ w.done;
         each = λ d later. (
-          let here = drained d in
-          subst (λ v. ((dones e (follow zs) v ≡ e.lines) × NoneInDoubt x s law cleared one e.lines) × EachDone x s law cleared one b (acts_all v (dones e (follow zs) v)) zs) (sym is) (here.0, w.each here.1 later)
-        );
+            let here = drained d in
+            subst (λ v. ((dones e (follow zs) v ≡ e.lines) × NoneInDoubt x s law cleared one e.lines) × EachDone x s law cleared one b (acts_all v (dones e (follow zs) v)) zs) (sym is) (here.0, w.each here.1 later)
+            );
         rests = λ f r. rest_step c e zs (followed es rest f) (subst (λ v. RestFrom x s law cleared one b (acts_all v (dones e (follow zs) v)) zs) (sym is) (w.rests f r));
       }
 
@@ -179,7 +179,7 @@ module _ {V A M Q R : Type 0} (x : Exchange V A M Q R) (lawful : IsLawful x) (s 
       ∙ ap₂ (λ (n : ℕ) (o : Option ℕ). s.told n (behind_clear cleared o c)) start d.cleared_is ∙ same_clear e.era.cleared c a same spot.start ∙ sym begins
 
   -- or cleared alone, where a state service is its first row
-  own_start : (e : Opened) (body : EpochBook M Q R) → Does e body → (target frame cleared_at : ℕ) → returns_to_init target ≡ true → e.era.cleared ≡ Some cleared_at → frame < cleared_at → (c : A) →
+  pub own_start : (e : Opened) (body : EpochBook M Q R) → Does e body → (target frame cleared_at : ℕ) → returns_to_init target ≡ true → e.era.cleared ≡ Some cleared_at → frame < cleared_at → (c : A) →
       begins_with x s law cleared one b.start (with_own target frame body) c ≡ cleared c
   own_start e body d target frame cleared_at returns is early c =
       ap (λ o. let k = if is_some o then cleared c else c in if is_some body.opened && not (opens_own x s law cleared one o (own_line target frame body.opened ∷ body.lines)) then s.told b.start k else k) (d.cleared_is ∙ is)
@@ -191,7 +191,7 @@ module _ {V A M Q R : Type 0} (x : Exchange V A M Q R) (lawful : IsLawful x) (s 
       and_false false = refl
 
   -- which is done
-  own_done : (e : Opened) (body : EpochBook M Q R) → Does e body → (target frame : ℕ) (follows : Bool) (v : A) →
+  pub own_done : (e : Opened) (body : EpochBook M Q R) → Does e body → (target frame : ℕ) (follows : Bool) (v : A) →
       (let u = acted x s law cleared one v (Service.State target) in dones (with_own target frame body) follows v ≡ own_line target frame body.opened ∷ dones body follows u)
   own_done e body d target frame follows v =
       let u = acted x s law cleared one v (Service.State target) in
@@ -253,7 +253,7 @@ module _ {V A M Q R : Type 0} (x : Exchange V A M Q R) (lawful : IsLawful x) (s 
   )
 
   -- AN EPOCH THAT DRAINED is done whole
-  drained : (e : Opened) (end : ℕ) (carry : List (Started Q)) (body : EpochBook M Q R) → Written x lawful s stated processor table cleared more spot fs gave e end carry body → (r : Started Q) → carry ≡ r ∷ [] →
+  pub drained : (e : Opened) (end : ℕ) (carry : List (Started Q)) (body : EpochBook M Q R) → Written x lawful s stated processor table cleared more spot fs gave e end carry body → (r : Started Q) → carry ≡ r ∷ [] →
       HasDrained x lawful s stated processor table cleared more spot fs gave e → (follows : Bool) → (dones body follows (x.app e.server) ≡ body.lines) × NoneInDoubt x s law cleared one body.lines
   drained e end carry body (Written.whole none) r is h follows = absurd (let clash : [] ≡ r ∷ [] = is in cc)
   drained e end carry body (Written.doubted target frame tail returns quiet) r is h follows = absurd (let clash : [] ≡ r ∷ [] = is in cc)

@@ -1,5 +1,5 @@
 -- THE ANSWERS OF A BOOK: what the frames of an epoch give for its rows, before the epoch's end and before its slave is given up.
-use Rattle.std.specs.Prelude.{◌≡◌, ℕ, suc, ◌-◌, ◌<◌, ◌≤◌, ◌==◌, Bool, true, nat_le, nat_lt, if◌then◌else◌, Option, Some, None, List, [], ◌∷◌, take, drop, ⊤}
+use Rattle.std.specs.Prelude.{◌≡◌, ℕ, suc, ◌-◌, ◌<◌, ◌==◌, Bool, true, nat_le, nat_lt, if◌then◌else◌, Option, Some, None, List, [], ◌∷◌, take, drop, ⊤}
 use Rattle.exchange_model.specs.Exchange.{Speech}
 use Rattle.segment_model.specs.Record.{Frame, News, first_end, news_each, nothing_kept, counted_each}
 use Rattle.segment_model.specs.Ends.{Outcome, ends}

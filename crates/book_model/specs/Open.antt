@@ -11,7 +11,7 @@ use Rattle.task_model.specs.Promise.{services_in, mails_in}
 use Rattle.life_model.specs.Lives.{Spot, returns_to_init, opens_state}
 use Rattle.life_model.specs.Book.{Line, EpochBook, SlaveBook, FitsFrom, Fits, Rest, AllDone, IsForgetful}
 use Rattle.book_model.specs.Answers.{first_gave, return_of, AllAnswers}
-use Rattle.book_model.specs.Chain.{KeepsSame, behind_clear, with_own, doubt_line, IsShownFirst, Epoch, leaves, Timed, Written, Chained}
+use Rattle.book_model.specs.Chain.{KeepsSame, behind_clear, with_own, doubt_line, IsShownFirst, Epoch, Timed, Written, Chained}
 
 module _ {V A M Q R : Type 0} (x : Exchange V A M Q R) (lawful : IsLawful x) (s : Stated V A Q) (stated : IsStated x s) (processor : Processor V) (table : ℕ → Table) (cleared : A → A) (more : M → Bool) (spot : Spot) (fs : List (Frame M)) (gave : List ℕ) where
   -- HOW THE NEWEST EPOCH BEGAN behind what the ones before left and carried over: in the start state, or in that of a state service

@@ -1,17 +1,17 @@
 -- THE BOOK of one slave over lists, numbers and records: what its rows have done, answer by answer and epoch by epoch; nothing left; all done.
-use Rattle.std.specs.Prelude.{◌≡◌, ◌≢◌, ℕ, suc, ◌+◌, ◌-◌, ◌<◌, ◌≤◌, ◌==◌, ◌&&◌, ◌||◌, Bool, true, false, not, nat_le, nat_lt, is_some, if◌then◌else◌, Option, Some, None, List, [], ◌∷◌, ◌++◌, map, take, drop, length, ⊤}
+use Rattle.std.specs.Prelude.{◌≡◌, ◌≢◌, ℕ, suc, ◌+◌, ◌-◌, ◌<◌, ◌≤◌, ◌==◌, ◌&&◌, ◌||◌, Bool, true, false, not, nat_le, nat_lt, is_some, if◌then◌else◌, Option, Some, None, List, [], ◌∷◌, ◌++◌, map, length, ⊤}
 use Rattle.exchange_model.specs.Prefix.{IsPrefixOf}
 use Rattle.exchange_model.specs.Exchange.{Exchange, Speech, emitted}
-use Rattle.segment_model.specs.Record.{Frame, News, first_end, news_each, nothing_kept, counted_each, heard}
-use Rattle.segment_model.specs.Ends.{Outcome, ends, state_ends}
+use Rattle.segment_model.specs.Record.{Frame, heard}
+use Rattle.segment_model.specs.Ends.{Outcome}
 use Rattle.segment_model.specs.Books.{Answer, answer_from}
 use Rattle.state_model.specs.States.{Table}
 use Rattle.state_model.specs.Promises.{state_behind, answer_of}
 use Rattle.state_exchange.specs.Stated.{Stated, Service}
 use Rattle.task_model.specs.Accounts.{Started}
-use Rattle.task_model.specs.Promise.{IsReply, task_of, outcome_of}
-use Rattle.life_model.specs.Lives.{Spot, returns_to_init, opens_state}
-use Rattle.life_model.specs.Eras.{OpenEra, era_frames, frames_of}
+use Rattle.task_model.specs.Promise.{IsReply, outcome_of}
+use Rattle.life_model.specs.Lives.{returns_to_init, opens_state}
+use Rattle.life_model.specs.Eras.{OpenEra, frames_of}
 
 -- a row: its service, the number of the frame that was made when it came into hand, and its answer
 pub record Line (Q R : Type 0) : Type 0 where
@@ -168,14 +168,15 @@ module _ {V A M Q R : Type 0} (x : Exchange V A M Q R) (s : Stated V A Q) (table
   any_from opened [] = false
   any_from opened (g ∷ gs) = nat_le opened g || any_from opened gs
 
+  -- an epoch was opened, and no such number is behind that
+  abbrev pub quiet_since : List ℕ → Option ℕ → Bool
+  quiet_since gave None = false
+  quiet_since gave (Some opened) = not (any_from opened gave)
+
   -- so its AL state is told
   abbrev pub says_state : List ℕ → List (EpochBook M Q R) → Bool
   says_state gave [] = false
-  says_state gave (e ∷ []) = not (last_row e.lines) && quiet_from e.opened
-    where
-      quiet_from : Option ℕ → Bool
-      quiet_from None = false
-      quiet_from (Some opened) = not (any_from opened gave)
+  says_state gave (e ∷ []) = not (last_row e.lines) && quiet_since gave e.opened
   says_state gave (e ∷ (f ∷ es)) = says_state gave (f ∷ es)
 
   -- THE BOOK OF A SLAVE FITS
