@@ -6,3 +6,4 @@ pub mod Doubts
 pub mod Stood
 pub mod Walks
 pub mod Opens
+pub mod Endings

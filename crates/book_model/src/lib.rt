@@ -2,6 +2,8 @@
 //! code: the functions here do nothing, and their contracts state the laws.
 #![tactic(auto)]
 
+mod ending;
+
 ghost use Rattle.std.specs.Prelude.{◌≡◌, ℕ, None, List, [], ◌∷◌, ◌++◌, length};
 ghost use Rattle.life_model.specs.Book.{EpochBook, SlaveBook};
 ghost use Rattle.book_model.specs.Open.{Setting, IsLife, IsOpenLife, IsIdle, IsShut, HadDrained, HasApp, HasOpen, EpochsFit, BookFits, BookRests, BookDone, BookAnswers};
