@@ -1,16 +1,14 @@
 -- A slave that meets the word which returns it to Init stays as it stood until the step that carries the word out.
-use Rattle.std.proofs.Common.{◌≡◌, ◌⊎◌, inl, inr, ℕ, zero, suc, ◌≤◌, ◌==◌, Bool, true, false, cond, Some, None, Option, List, [], ◌∷◌, ◌++◌, length, filter, refl, ap, ap₂, sym, ◌∙◌, subst, arith, if◌then◌else◌}
-use Rattle.std.specs.Prelude.{⊤}
+use Rattle.std.proofs.Common.{◌≡◌, inl, inr, ℕ, zero, suc, ◌≤◌, ◌==◌, Bool, true, false, cond, Some, None, Option, List, [], ◌∷◌, ◌++◌, length, refl, ap, ap₂, sym, ◌∙◌, subst, arith, if◌then◌else◌}
 use Rattle.exchange_model.specs.Exchange.{Exchange}
-use Rattle.link_model.specs.Slave.{Node}
-use Rattle.link_model.specs.Frames.{Ask, node_meets}
+use Rattle.link_model.specs.Frames.{node_meets}
 use Rattle.link_model.specs.Segment.{RingFate}
-use Rattle.segment_model.specs.Slaves.{Serving, Registers, Processor, Slave, Datagram, Address, Access, Ring, is_meant, registers_met, slave_meets, slave_after, frame_after, slave_steps, first_meet, ring_after}
+use Rattle.segment_model.specs.Slaves.{Registers, Processor, Slave, Datagram, Address, Access, Ring, is_meant, registers_met, slave_meets, slave_after, frame_after, slave_steps, first_meet, ring_after}
 use Rattle.segment_model.specs.Record.{is_for}
 use Rattle.state_model.specs.States.{Table, decided, word_carried, carry}
 use Rattle.life_model.specs.Own.{own, IsSeen, AreSeen}
 use Rattle.life_model.specs.Eras.{Clearing, IsClearing}
-use Rattle.book_model.specs.Ending.{NoneMean, ReturnsIt, worded, IsClosing, AreClosing, FrameCloses, AllClose, behind_all, node_returned, steps_or_returns, HasEnded}
+use Rattle.book_model.specs.Ending.{NoneMean, ReturnsIt, worded, IsClosing, AreClosing, AllClose, behind_all, node_returned, steps_or_returns, HasEnded}
 
 -- nothing is addressed to it
 nothing_own : {M : Type 0} (station : ℕ) (d : Datagram M) (ds : List (Datagram M)) → own station (d ∷ ds) ≡ [] → (is_for station d.address ≡ false) × (own station ds ≡ [])
