@@ -40,7 +40,7 @@ cut_at station opened end fs (g ∷ gs) frame less le left = go (nat_le frame g)
         record { since = omega (arith, at, less); within = omega (arith, below); left = left.0 (omega (arith, at, less)) }
     go true e false f rest = record { since = le; within = omega arith; left = subst (λ n. AreLeft station (take n (drop end fs))) (let same : 0 ≡ end - end = omega arith in same) tt }
 
-cut_within : (gave : List ℕ) (frame end : ℕ) → first_gave gave frame end ≤ end
+pub cut_within : (gave : List ℕ) (frame end : ℕ) → first_gave gave frame end ≤ end
 cut_within [] frame end = omega arith
 cut_within (g ∷ gs) frame end = go (nat_le frame g) (nat_lt g end) refl (cut_within gs frame end)
   where

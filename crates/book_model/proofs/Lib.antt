@@ -7,3 +7,4 @@ pub mod Stood
 pub mod Walks
 pub mod Opens
 pub mod Endings
+pub mod Grows

@@ -167,3 +167,13 @@ module _ {V A M Q R : Type 0} (x : Exchange V A M Q R) (lawful : IsLawful x) (s 
       own_closed : (a : A) (target frame cleared_at : ℕ) (es : List (EpochBook M Q R)) → returns_to_init target ≡ true → frame < cleared_at →
           NoneShow spot.station (opens_state target) (between (suc cleared_at) (first_gave gave frame (end_of stop es)) fs) → Chained stop carried end [] (cleared a) es →
           Chained stop carried end (record { service = Service.State target; frame = frame } ∷ []) a (unopened (Some cleared_at) (own_line target frame None ∷ []) ∷ es)
+
+-- each epoch of these ends within so many frames
+abbrev pub AllEnd : {M Q R : Type 0} → ℕ → ℕ → List (EpochBook M Q R) → Type 0
+AllEnd frames stop [] = ⊤
+AllEnd frames stop (e ∷ es) = (end_of stop es ≤ frames) × AllEnd frames stop es
+
+-- none of these numbers is below this one
+abbrev pub NoneBelow : ℕ → List ℕ → Type 0
+NoneBelow frame [] = ⊤
+NoneBelow frame (g ∷ gs) = (frame ≤ g) × NoneBelow frame gs
