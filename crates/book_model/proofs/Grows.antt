@@ -20,12 +20,12 @@ use Rattle.book_model.proofs.Lists.{drop-append}
 use Rattle.book_model.proofs.Answered.{cut_within}
 
 -- a part of the first frames is a part of all
-same_part : {X : Type 0} (a b : ℕ) (xs ys : List X) → b ≤ length xs → between a b (xs ++ ys) ≡ between a b xs
+pub same_part : {X : Type 0} (a b : ℕ) (xs ys : List X) → b ≤ length xs → between a b (xs ++ ys) ≡ between a b xs
 same_part a b xs ys le =
     ap (take (b - a)) (drop-append a xs ys) ∙ take-append-le (b - a) (drop a xs) (drop (a - length xs) ys) (let size = length-drop a xs in omega (arith, size, le))
 
 -- a give-up behind them cuts none of them
-late_gave : (gave hs : List ℕ) (n frame end : ℕ) → NoneBelow n hs → end ≤ n → first_gave (gave ++ hs) frame end ≡ first_gave gave frame end
+pub late_gave : (gave hs : List ℕ) (n frame end : ℕ) → NoneBelow n hs → end ≤ n → first_gave (gave ++ hs) frame end ≡ first_gave gave frame end
 late_gave [] hs n frame end late le = go hs late
   where
     go : (ks : List ℕ) → NoneBelow n ks → first_gave ks frame end ≡ end
@@ -45,11 +45,11 @@ module _ {V A M Q R : Type 0} (x : Exchange V A M Q R) (lawful : IsLawful x) (s 
   abbrev New : Type 0
   New = Epoch x lawful s stated processor table cleared more spot (fs ++ gs)
 
-  same_frames : (opened until : ℕ) → until ≤ length fs → era_frames spot opened until (fs ++ gs) ≡ era_frames spot opened until fs
+  pub same_frames : (opened until : ℕ) → until ≤ length fs → era_frames spot opened until (fs ++ gs) ≡ era_frames spot opened until fs
   same_frames opened until le = ap (λ l. replicate (suc opened) blank ++ map (λ f. own_frame spot.station spot.place f) l) (same_part (suc opened) until fs gs le)
 
   -- AN EPOCH as more frames have come
-  abbrev longer : (e : Old) → e.until ≤ length fs → New
+  abbrev pub longer : (e : Old) → e.until ≤ length fs → New
   longer e le = record {
     era = e.era;
     opened = e.opened;
@@ -85,7 +85,7 @@ module _ {V A M Q R : Type 0} (x : Exchange V A M Q R) (lawful : IsLawful x) (s 
     received = emitted x.speech.emission (heard spot.station l);
   }) (same_frames e.opened e.until le)
 
-  left_more : (opened end : ℕ) → end ≤ length fs → (gs2 : List ℕ) → LeftBehind spot.station opened end fs gs2 → LeftBehind spot.station opened end (fs ++ gs) (gs2 ++ hs)
+  pub left_more : (opened end : ℕ) → end ≤ length fs → (gs2 : List ℕ) → LeftBehind spot.station opened end fs gs2 → LeftBehind spot.station opened end (fs ++ gs) (gs2 ++ hs)
   left_more opened end le [] l = go hs late
     where
       go : (ks : List ℕ) → NoneBelow (length fs) ks → LeftBehind spot.station opened end (fs ++ gs) ks
@@ -94,7 +94,7 @@ module _ {V A M Q R : Type 0} (x : Exchange V A M Q R) (lawful : IsLawful x) (s 
           ((λ less. subst (λ n. AreLeft spot.station (take n (drop (suc k) (fs ++ gs)))) (let h = far.0 in let same : 0 ≡ end - suc k = omega (arith, h, le) in same) tt), go ks far.1)
   left_more opened end le (g ∷ gs2) l = ((λ less. subst (AreLeft spot.station) (sym (same_part (suc g) end fs gs le)) (l.0 less)), left_more opened end le gs2 l.1)
 
-  timed_more : (e : Old) (le : e.until ≤ length fs) (end : ℕ) → end ≤ length fs → Timed x lawful s stated processor table cleared more spot fs gave e end →
+  pub timed_more : (e : Old) (le : e.until ≤ length fs) (end : ℕ) → end ≤ length fs → Timed x lawful s stated processor table cleared more spot fs gave e end →
       Timed x lawful s stated processor table cleared more spot (fs ++ gs) (gave ++ hs) (longer e le) end
   timed_more e le end within t = record {
     returned = t.returned;
@@ -105,10 +105,10 @@ module _ {V A M Q R : Type 0} (x : Exchange V A M Q R) (lawful : IsLawful x) (s 
     gives = left_more e.opened end within gave t.gives;
   }
 
-  none_more : (state a b : ℕ) → b ≤ length fs → NoneShow spot.station state (between a b fs) → NoneShow spot.station state (between a b (fs ++ gs))
+  pub none_more : (state a b : ℕ) → b ≤ length fs → NoneShow spot.station state (between a b fs) → NoneShow spot.station state (between a b (fs ++ gs))
   none_more state a b le n = subst (NoneShow spot.station state) (sym (same_part a b fs gs le)) n
 
-  written_more : (e : Old) (le : e.until ≤ length fs) (end : ℕ) (carry : List (Started Q)) (body : EpochBook M Q R) → end ≤ length fs → Written x lawful s stated processor table cleared more spot fs gave e end carry body →
+  pub written_more : (e : Old) (le : e.until ≤ length fs) (end : ℕ) (carry : List (Started Q)) (body : EpochBook M Q R) → end ≤ length fs → Written x lawful s stated processor table cleared more spot fs gave e end carry body →
       Written x lawful s stated processor table cleared more spot (fs ++ gs) (gave ++ hs) (longer e le) end carry body
   written_more e le end carry body within (Written.whole none) = subst (Written x lawful s stated processor table cleared more spot (fs ++ gs) (gave ++ hs) (longer e le) end []) (same_book e le) (Written.whole none)
   written_more e le end carry body within (Written.moved r is) = subst (Written x lawful s stated processor table cleared more spot (fs ++ gs) (gave ++ hs) (longer e le) end (r ∷ [])) (same_book e le) (Written.moved r is)
@@ -116,7 +116,7 @@ module _ {V A M Q R : Type 0} (x : Exchange V A M Q R) (lawful : IsLawful x) (s 
       subst (λ k. Written x lawful s stated processor table cleared more spot (fs ++ gs) (gave ++ hs) (longer e le) end [] (with_doubt target frame k)) (same_book e le)
       (Written.doubted target frame is returns (none_more (opens_state target) frame end within quiet))
 
-  shown_more : (state returned opened : ℕ) → IsShownFirst spot.station state returned opened fs → IsShownFirst spot.station state returned opened (fs ++ gs)
+  pub shown_more : (state returned opened : ℕ) → IsShownFirst spot.station state returned opened fs → IsShownFirst spot.station state returned opened (fs ++ gs)
   shown_more state returned opened f = record {
     before = f.before;
     frame = f.frame;

@@ -10,8 +10,8 @@ use Rattle.task_model.specs.Accounts.{Started}
 use Rattle.task_model.specs.Promise.{services_in, mails_in}
 use Rattle.life_model.specs.Lives.{Spot, returns_to_init, opens_state}
 use Rattle.life_model.specs.Book.{Line, EpochBook, SlaveBook, FitsFrom, Fits, Rest, AllDone, IsForgetful}
-use Rattle.book_model.specs.Answers.{first_gave, return_of, AllAnswers}
-use Rattle.book_model.specs.Chain.{KeepsSame, behind_clear, with_own, doubt_line, IsShownFirst, Epoch, Timed, Written, Chained}
+use Rattle.book_model.specs.Answers.{first_gave, between, return_of, AllAnswers}
+use Rattle.book_model.specs.Chain.{KeepsSame, behind_clear, with_own, doubt_line, IsShownFirst, Epoch, Timed, Written, Chained, AreLeft, AllBegin, AllEnd, NoneBelow}
 
 module _ {V A M Q R : Type 0} (x : Exchange V A M Q R) (lawful : IsLawful x) (s : Stated V A Q) (stated : IsStated x s) (processor : Processor V) (table : ℕ → Table) (cleared : A → A) (more : M → Bool) (spot : Spot) (fs : List (Frame M)) (gave : List ℕ) where
   -- HOW THE NEWEST EPOCH BEGAN behind what the ones before left and carried over: in the start state, or in that of a state service
@@ -29,10 +29,16 @@ module _ {V A M Q R : Type 0} (x : Exchange V A M Q R) (lawful : IsLawful x) (s 
     pub body : EpochBook M Q R
     pub last : EpochBook M Q R
     pub before : Chained x lawful s stated processor table cleared more spot fs gave (return_of last.cleared) carry left [] b.first past
+    pub inside : AllEnd (length fs) (return_of last.cleared) past
     pub begun : Begun epoch (length fs) body carry left last
     pub timed : Timed x lawful s stated processor table cleared more spot fs gave epoch (length fs)
     pub written : Written x lawful s stated processor table cleared more spot fs gave epoch (length fs) [] body
     pub epochs : b.epochs ≡ past ++ last ∷ []
+
+  -- the newest epoch with other rows
+  abbrev pub as_begun : (e : Epoch x lawful s stated processor table cleared more spot fs) (end : ℕ) (body : EpochBook M Q R) (carry : List (Started Q)) (a : A) (last : EpochBook M Q R) → Begun e end body carry a last → EpochBook M Q R → EpochBook M Q R
+  as_begun e end body carry a last (Begun.taken_up b begins) other = other
+  as_begun e end body carry a last (Begun.by_own b target frame cleared_at returns is early shown before begins) other = with_own target frame other
 
   -- NOTHING IS WANTED of it: no state service ended its epoch, the slave is settled, and the master wants nothing of it
   pub record WantsNoMore (b : SlaveBook A M Q R) (l : OpenLife b) : Type 0 where
@@ -52,6 +58,30 @@ module _ {V A M Q R : Type 0} (x : Exchange V A M Q R) (lawful : IsLawful x) (s 
   AllDrained stop carried end carry a es (Chained.own_opened b e target frame cleared_at next body more_es returns is early shown before begins t w l) = ((r : Started Q) × (next ≡ r ∷ [])) × HasDrained e × AllDrained stop carried end next _ more_es l
   AllDrained stop carried end carry a es (Chained.closed b cleared_at more_es l) = AllDrained stop carried end [] _ more_es l
   AllDrained stop carried end carry a es (Chained.own_closed b target frame cleared_at more_es returns early quiet l) = ⊥
+
+-- no give-up came behind this frame
+abbrev pub NoneBehind : ℕ → List ℕ → Type 0
+NoneBehind opened [] = ⊤
+NoneBehind opened (g ∷ gs) = (g ≤ opened) × NoneBehind opened gs
+
+module _ {V A M Q R : Type 0} (x : Exchange V A M Q R) (lawful : IsLawful x) (s : Stated V A Q) (stated : IsStated x s) (processor : Processor V) (table : ℕ → Table) (cleared : A → A) (more : M → Bool) (spot : Spot) (gave : List ℕ) where
+  -- AN OPEN EPOCH GOES ON by a frame: the same epoch, with the rows that then have begun, is a session over the frames with this one
+  pub record GoesOn (fs : List (Frame M)) (e : Epoch x lawful s stated processor table cleared more spot fs) (f : Frame M) (now : Epoch x lawful s stated processor table cleared more spot (fs ++ f ∷ [])) (body : EpochBook M Q R) : Type 0 where
+    pub opened : now.opened ≡ e.opened
+    pub server : now.server ≡ e.server
+    pub cleared_is : now.era.cleared ≡ e.era.cleared
+    pub until : now.until ≡ length (fs ++ f ∷ [])
+    pub begins : AllBegin now.opened now.era.account.started
+    pub quiet : NoneBehind e.opened gave
+    pub written : Written x lawful s stated processor table cleared more spot (fs ++ f ∷ []) gave now (length (fs ++ f ∷ [])) [] body
+
+  -- AN OPEN EPOCH IS OVER behind further frames in which its slave is left alone up to its end, with further give-ups
+  pub record IsOver (fs gs : List (Frame M)) (hs : List ℕ) (opened stop : ℕ) : Type 0 where
+    pub quiet : NoneBehind opened gave
+    pub late : NoneBelow (length fs) hs
+    pub behind : length fs ≤ stop
+    pub within : stop ≤ length (fs ++ gs)
+    pub left : AreLeft spot.station (between (length fs) stop (fs ++ gs))
 
 -- A LIFE WHOSE NEWEST EPOCH ISN'T OPEN: that was not opened; its slave was given up behind that; or its last row is a state service that was to
 -- return it to Init
