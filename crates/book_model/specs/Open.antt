@@ -75,13 +75,21 @@ module _ {V A M Q R : Type 0} (x : Exchange V A M Q R) (lawful : IsLawful x) (s 
     pub quiet : NoneBehind e.opened gave
     pub written : Written x lawful s stated processor table cleared more spot (fs ++ f ∷ []) gave now (length (fs ++ f ∷ [])) [] body
 
-  -- AN OPEN EPOCH IS OVER behind further frames in which its slave is left alone up to its end, with further give-ups
-  pub record IsOver (fs gs : List (Frame M)) (hs : List ℕ) (opened stop : ℕ) : Type 0 where
-    pub quiet : NoneBehind opened gave
+  -- AN OPEN EPOCH IS OVER behind further frames, in which its slave is left alone up to its end, and further give-ups: the same epoch over all
+  -- frames, with the rows that are its own
+  pub record IsOver (fs : List (Frame M)) (e : Epoch x lawful s stated processor table cleared more spot fs) (gs : List (Frame M)) (hs : List ℕ) (now : Epoch x lawful s stated processor table cleared more spot (fs ++ gs)) (stop : ℕ)
+      (carry : List (Started Q)) (body : EpochBook M Q R) : Type 0 where
+    pub opened : now.opened ≡ e.opened
+    pub server : now.server ≡ e.server
+    pub cleared_is : now.era.cleared ≡ e.era.cleared
+    pub until : now.until ≡ e.until
+    pub begins : AllBegin now.opened now.era.account.started
+    pub quiet : NoneBehind e.opened gave
     pub late : NoneBelow (length fs) hs
     pub behind : length fs ≤ stop
     pub within : stop ≤ length (fs ++ gs)
     pub left : AreLeft spot.station (between (length fs) stop (fs ++ gs))
+    pub written : Written x lawful s stated processor table cleared more spot (fs ++ gs) (gave ++ hs) now stop carry body
 
 -- A LIFE WHOSE NEWEST EPOCH ISN'T OPEN: that was not opened; its slave was given up behind that; or its last row is a state service that was to
 -- return it to Init
