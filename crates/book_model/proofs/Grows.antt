@@ -1,21 +1,21 @@
 -- Epochs that are over stay as they are while the run goes on.
-use Rattle.std.proofs.Common.{◌≡◌, ℕ, suc, ◌+◌, ◌-◌, ◌<◌, ◌≤◌, Bool, true, false, Option, Some, None, List, [], ◌∷◌, ◌++◌, map, take, drop, replicate, length, refl, ap, ap₂, sym, ◌∙◌, subst, arith, append_assoc, length-append, if◌then◌else◌}
-use Rattle.std.specs.Prelude.{⊤, nat_le, nat_lt}
+use Rattle.std.proofs.Common.{◌≡◌, ℕ, suc, ◌-◌, ◌<◌, ◌≤◌, Bool, true, false, Some, List, [], ◌∷◌, ◌++◌, map, take, drop, replicate, length, refl, ap, ap₂, sym, ◌∙◌, subst, arith, append_assoc, length-append, if◌then◌else◌}
+use Rattle.std.specs.Prelude.{nat_le, nat_lt}
 use Rattle.std.proofs.lemmas.Bool.{le-ltb}
 use Rattle.std.proofs.lemmas.List.{length-drop, take-append-le}
 use Rattle.exchange_model.specs.Exchange.{Exchange, IsLawful, emitted}
 use Rattle.segment_model.specs.Slaves.{Processor}
 use Rattle.segment_model.specs.Record.{Frame, heard}
 use Rattle.state_model.specs.States.{Table}
-use Rattle.state_exchange.specs.Stated.{Stated, IsStated, Service}
+use Rattle.state_exchange.specs.Stated.{Stated, IsStated}
 use Rattle.task_model.specs.Accounts.{Started}
 use Rattle.task_model.specs.Tasks.{IsTasked}
 use Rattle.life_model.specs.Own.{blank, own_frame}
-use Rattle.life_model.specs.Lives.{Spot, returns_to_init, opens_state}
-use Rattle.life_model.specs.Eras.{EraIs, era_frames, planned}
+use Rattle.life_model.specs.Lives.{Spot, opens_state}
+use Rattle.life_model.specs.Eras.{era_frames, planned}
 use Rattle.life_model.specs.Book.{EpochBook, line_of}
 use Rattle.book_model.specs.Answers.{first_gave, between, end_of}
-use Rattle.book_model.specs.Chain.{with_own, with_doubt, AreLeft, LeftBehind, NoneShow, IsShownFirst, Epoch, booked, Timed, Written, Chained, AllEnd, NoneBelow}
+use Rattle.book_model.specs.Chain.{with_doubt, AreLeft, LeftBehind, NoneShow, IsShownFirst, Epoch, booked, Timed, Written, Chained, AllEnd, NoneBelow}
 use Rattle.book_model.proofs.Lists.{drop-append}
 use Rattle.book_model.proofs.Answered.{cut_within}
 

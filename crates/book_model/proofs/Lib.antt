@@ -8,4 +8,4 @@ pub mod Walks
 pub mod Opens
 pub mod Endings
 pub mod Grows
-pub mod Steps
+pub mod Moving

@@ -2,3 +2,4 @@ pub mod Answers
 pub mod Chain
 pub mod Open
 pub mod Ending
+pub mod Steps

@@ -3,6 +3,7 @@
 #![tactic(auto)]
 
 mod ending;
+mod steps;
 
 ghost use Rattle.std.specs.Prelude.{◌≡◌, ℕ, None, List, [], ◌∷◌, ◌++◌, length};
 ghost use Rattle.life_model.specs.Book.{EpochBook, SlaveBook};

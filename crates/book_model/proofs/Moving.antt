@@ -1,20 +1,18 @@
 -- A life goes on: its newest epoch opens, goes on by frames, and is over.
-use Rattle.std.proofs.Common.{◌≡◌, ℕ, suc, ◌+◌, ◌-◌, ◌<◌, ◌≤◌, Bool, true, false, Option, Some, None, List, [], ◌∷◌, ◌++◌, take, drop, length, refl, ap, ap₂, sym, ◌∙◌, subst, arith, append_assoc, append-nil, length-append, if◌then◌else◌}
-use Rattle.std.specs.Prelude.{⊤, nat_le, nat_lt}
+use Rattle.std.proofs.Common.{◌≡◌, ℕ, suc, ◌+◌, ◌-◌, ◌<◌, ◌≤◌, Bool, true, false, List, [], ◌∷◌, ◌++◌, take, drop, length, refl, ap, sym, ◌∙◌, subst, arith, append-nil, length-append, if◌then◌else◌}
+use Rattle.std.specs.Prelude.{nat_le, nat_lt}
 use Rattle.std.proofs.lemmas.Bool.{ltb-true, ltb-false, leb-true, leb-false}
 use Rattle.exchange_model.specs.Exchange.{Exchange, IsLawful}
-use Rattle.segment_model.specs.Slaves.{Registers, Processor}
+use Rattle.segment_model.specs.Slaves.{Processor}
 use Rattle.segment_model.specs.Record.{Frame}
 use Rattle.state_model.specs.States.{Table}
-use Rattle.state_exchange.specs.Stated.{Stated, IsStated, Service}
+use Rattle.state_exchange.specs.Stated.{Stated, IsStated}
 use Rattle.task_model.specs.Accounts.{Started}
-use Rattle.task_model.specs.Tasks.{IsTaskPlan}
-use Rattle.life_model.specs.Lives.{Spot, returns_to_init, opens_state, new_era}
-use Rattle.life_model.specs.Eras.{EraIs, planned, opened_slave}
-use Rattle.life_model.proofs.Eras.{era_begins}
+use Rattle.life_model.specs.Lives.{Spot, opens_state}
+use Rattle.life_model.specs.Eras.{EraIs}
 use Rattle.life_model.specs.Book.{EpochBook, SlaveBook}
 use Rattle.book_model.specs.Answers.{first_gave, between, return_of, end_of}
-use Rattle.book_model.specs.Chain.{behind_clear, with_own, AreLeft, NoneShow, LeftBehind, IsShownFirst, Epoch, booked, leaves, Timed, Written, Chained, AllEnd, NoneBelow}
+use Rattle.book_model.specs.Chain.{behind_clear, AreLeft, NoneShow, LeftBehind, IsShownFirst, Epoch, leaves, Timed, Written, Chained, AllEnd, NoneBelow}
 use Rattle.book_model.specs.Open.{Begun, OpenLife, as_begun, NoneBehind, GoesOn, IsOver}
 use Rattle.book_model.proofs.Lists.{between-join}
 use Rattle.book_model.proofs.Grows.{same_part, longer, shown_more, chain_more}
@@ -80,7 +78,7 @@ module _ {V A M Q R : Type 0} (x : Exchange V A M Q R) (lawful : IsLawful x) (s 
   written_cleared fs gave e end carry body (Written.moved r is) = refl
   written_cleared fs gave e end carry body (Written.doubted target frame is returns quiet) = refl
 
-  nothing_between : (n m : ℕ) (fs : List (Frame M)) → m ≤ n → AreLeft spot.station (between n m fs)
+  pub nothing_between : (n m : ℕ) (fs : List (Frame M)) → m ≤ n → AreLeft spot.station (between n m fs)
   nothing_between n m fs le = subst (λ k. AreLeft spot.station (take k (drop n fs))) (let same : 0 ≡ m - n = omega (arith, le) in same) tt
 
   -- IT GOES ON
@@ -151,57 +149,9 @@ module _ {V A M Q R : Type 0} (x : Exchange V A M Q R) (lawful : IsLawful x) (s 
         all_end stop [] a = tt
         all_end stop (e ∷ es) a = ((let le = a.0 in omega (arith, le, longer_size)), all_end stop es a.1)
 
-  -- IT OPENS behind the frame that showed the state
-  abbrev pub new_epoch : (fs : List (Frame M)) (cleared_at : Option ℕ) (opened : ℕ) (v : V) (r : Registers) → length fs ≡ suc opened → IsTaskPlan x s processor table (planned spot v r ∷ []) → r.station ≡ spot.station →
-      Epoch x lawful s stated processor table cleared more spot fs
-  new_epoch fs cleared_at opened v r size plan answers = record {
-    era = record (new_era {M = M} {Q = Q} {R = R} cleared_at) { opened = Some opened };
-    opened = opened;
-    until = length fs;
-    server = v;
-    registers = r;
-    slave = opened_slave M Q R spot v r;
-    is = era_begins x s processor table spot cleared_at opened fs v r size plan answers;
-    rows = [];
-    tail = [];
-    all = refl;
-    quiet = tt;
-    last = tt;
-  }
-
-  opens_left : (fs : List (Frame M)) (opened : ℕ) → length fs ≡ suc opened → (gave : List ℕ) → LeftBehind spot.station opened (length fs) fs gave
+  pub opens_left : (fs : List (Frame M)) (opened : ℕ) → length fs ≡ suc opened → (gave : List ℕ) → LeftBehind spot.station opened (length fs) fs gave
   opens_left fs opened size [] = tt
   opens_left fs opened size (g ∷ gave) = ((λ less. nothing_between (suc g) (length fs) fs (omega (arith, size, less))), opens_left fs opened size gave)
-
-  pub opens : (fs : List (Frame M)) (gave : List ℕ) (cleared_at : Option ℕ) (opened : ℕ) (v : V) (r : Registers) (size : length fs ≡ suc opened) (plan : IsTaskPlan x s processor table (planned spot v r ∷ [])) (answers : r.station ≡ spot.station) →
-      ((frame : ℕ) → cleared_at ≡ Some frame → frame < opened) → (b : SlaveBook A M Q R) (past : List (EpochBook M Q R)) (carry : List (Started Q)) (left : A) (last : EpochBook M Q R) →
-      Chained x lawful s stated processor table cleared more spot fs gave (return_of last.cleared) carry left [] b.first past → AllEnd (length fs) (return_of last.cleared) past →
-      (let e = new_epoch fs cleared_at opened v r size plan answers in
-      Begun x lawful s stated processor table cleared more spot fs gave e (length fs) (booked x lawful s stated processor table cleared more spot fs e) carry left last →
-      b.epochs ≡ past ++ last ∷ [] → OpenLife x lawful s stated processor table cleared more spot fs gave b)
-  opens fs gave cleared_at opened v r size plan answers early b past carry left last before inside begun epochs =
-      let e = new_epoch fs cleared_at opened v r size plan answers in
-      record {
-        past = past;
-        carry = carry;
-        left = left;
-        epoch = e;
-        body = booked x lawful s stated processor table cleared more spot fs e;
-        last = last;
-        before = before;
-        inside = inside;
-        begun = begun;
-        timed = record {
-          returned = early;
-          since = omega (arith, size);
-          within = omega arith;
-          begins = tt;
-          behind = nothing_between (length fs) (length fs) fs (omega arith);
-          gives = opens_left fs opened size gave;
-        };
-        written = Written.whole refl;
-        epochs = epochs;
-      }
 
   -- IT IS OVER
   module _ (fs gs : List (Frame M)) (gave hs : List ℕ) where
