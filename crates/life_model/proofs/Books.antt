@@ -22,12 +22,12 @@ mails-acts : {M : Type 0} (ms : List M) (rest : List (Act M)) → mails (acts ms
 mails-acts [] rest = refl
 mails-acts (m ∷ ms) rest = ap (λ l. m ∷ l) (mails-acts ms rest)
 
-take-length : {X : Type 0} (n : ℕ) (xs : List X) → n ≤ length xs → length (take n xs) ≡ n
+pub take-length : {X : Type 0} (n : ℕ) (xs : List X) → n ≤ length xs → length (take n xs) ≡ n
 take-length zero xs le = refl
 take-length (suc n) [] le = absurd (omega (arith, le))
 take-length (suc n) (x ∷ xs) le = ap suc (take-length n xs (omega (arith, le)))
 
-take-map : {X Y : Type 0} (f : X → Y) (n : ℕ) (xs : List X) → take n (map f xs) ≡ map f (take n xs)
+pub take-map : {X Y : Type 0} (f : X → Y) (n : ℕ) (xs : List X) → take n (map f xs) ≡ map f (take n xs)
 take-map f zero xs = refl
 take-map f (suc n) [] = refl
 take-map f (suc n) (x ∷ xs) = ap (λ l. f x ∷ l) (take-map f n xs)
@@ -38,7 +38,7 @@ counts_none m = elim (leb_tells 0 m) [ inl c ↦ c.0 | inr c ↦ absurd (let les
 counts_one : (m : ℕ) → nat_le 1 (suc m) ≡ true
 counts_one m = elim (leb_tells 1 (suc m)) [ inl c ↦ c.0 | inr c ↦ absurd (let less = c.1 in omega (arith, less)) ]
 
-map-append : {X Y : Type 0} (f : X → Y) (xs ys : List X) → map f (xs ++ ys) ≡ map f xs ++ map f ys
+pub map-append : {X Y : Type 0} (f : X → Y) (xs ys : List X) → map f (xs ++ ys) ≡ map f xs ++ map f ys
 map-append f [] ys = refl
 map-append f (x ∷ xs) ys = ap (λ l. f x ∷ l) (map-append f xs ys)
 
@@ -58,11 +58,11 @@ module _ {V A M Q R : Type 0} (x : Exchange V A M Q R) (s : Stated V A Q) (table
   abbrev pub does : ℕ → A → List (Line Q R) → List (Line Q R)
   does n a ls = done x s table cleared one n a ls
 
-  acts-append : (a : A) (xs ys : List (Line Q R)) → acts_all a (xs ++ ys) ≡ acts_all (acts_all a xs) ys
+  pub acts-append : (a : A) (xs ys : List (Line Q R)) → acts_all a (xs ++ ys) ≡ acts_all (acts_all a xs) ys
   acts-append a [] ys = refl
   acts-append a (l ∷ xs) ys = acts-append (acted x s table cleared one a l.service) xs ys
 
-  emits-append : (a : A) (xs ys : List (Line Q R)) → emits a (xs ++ ys) ≡ emits a xs ++ emits (acts_all a xs) ys
+  pub emits-append : (a : A) (xs ys : List (Line Q R)) → emits a (xs ++ ys) ≡ emits a xs ++ emits (acts_all a xs) ys
   emits-append a [] ys = refl
   emits-append a (l ∷ xs) ys = ap (λ k. emits_by x s table cleared one a l.service ++ k) (emits-append (acted x s table cleared one a l.service) xs ys)
       ∙ sym (append_assoc (emits_by x s table cleared one a l.service) (emits (acted x s table cleared one a l.service) xs) (emits (acts_all (acted x s table cleared one a l.service) xs) ys))
@@ -131,11 +131,11 @@ module _ {V A M Q R : Type 0} (x : Exchange V A M Q R) (s : Stated V A Q) (table
             ap (λ service. emits_by x s table cleared one a service ++ emits (acted x s table cleared one a service) (does 0 b ls)) e ∙ rest b
 
   -- WITHOUT A STATE IN DOUBT that is last: all of them, or all but that one
-  data Trim (ls ds : List (Line Q R)) : Type 0 where
+  pub data Trim (ls ds : List (Line Q R)) : Type 0 where
     whole : ds ≡ ls → Trim ls ds
     cut : (init : List (Line Q R)) (l : Line Q R) (target : ℕ) → ls ≡ init ++ l ∷ [] → ds ≡ init → l.service ≡ Service.State target → is_in_doubt l.answer ≡ true → Trim ls ds
 
-  trim : (follows : Bool) (opened : Option ℕ) (al : ℕ) (a : A) (ls : List (Line Q R)) → Trim ls (trimmed x s table cleared one follows opened al a ls)
+  pub trim : (follows : Bool) (opened : Option ℕ) (al : ℕ) (a : A) (ls : List (Line Q R)) → Trim ls (trimmed x s table cleared one follows opened al a ls)
   trim follows opened al a [] = Trim.whole refl
   trim follows opened al a (l ∷ []) = go l.service refl
     where
@@ -154,7 +154,7 @@ module _ {V A M Q R : Type 0} (x : Exchange V A M Q R) (s : Stated V A Q) (table
       go (Trim.cut init m target e f is doubt) = Trim.cut (l ∷ init) m target (ap (λ n. l ∷ n) e) (ap (λ n. l ∷ n) f) is doubt
 
   -- its row has no outcome
-  doubted : (r : Started Q) → is_in_doubt (line r).answer ≡ true → outcome_of x.speech more station fs r ≡ None
+  pub doubted : (r : Started Q) → is_in_doubt (line r).answer ≡ true → outcome_of x.speech more station fs r ≡ None
   doubted r d = go (outcome_of x.speech more station fs r) d
     where
       go : (o : Option (Outcome R × ℕ)) → is_in_doubt (answer_from o) ≡ true → o ≡ None
@@ -176,7 +176,7 @@ module _ {V A M Q R : Type 0} (x : Exchange V A M Q R) (s : Stated V A Q) (table
       past k (q ∷ rs) less d = (λ o e is. let low = d.0 o e is in omega (arith, less, low), past (suc k) rs (omega (arith, less)) d.1)
   one_less m number (q ∷ front) r rest at none d = (λ o e is. omega (arith, at), one_less m (suc number) front r rest (omega (arith, at)) none d.1)
 
-  replies_fit : (count number : ℕ) (a : A) (k : ℕ) (rs : List (Started Q)) → NoInits (services_in rs) → AllReplied x s table more station fs (a, k) rs → AllDone x.speech more station fs count number rs →
+  pub replies_fit : (count number : ℕ) (a : A) (k : ℕ) (rs : List (Started Q)) → NoInits (services_in rs) → AllReplied x s table more station fs (a, k) rs → AllDone x.speech more station fs count number rs →
       RepliesFit x s table cleared one count number a (map line rs)
   replies_fit count number a k [] n replied d = tt
   replies_fit count number a k (r ∷ rs) n replied d = (
@@ -210,7 +210,7 @@ module _ {V A M Q R : Type 0} (x : Exchange V A M Q R) (s : Stated V A Q) (table
       go (Service.State target) h rest = (h.0, rest h.1)
 
   -- a row that is followed has its outcome
-  followed : (front : List (Started Q)) (r next : Started Q) (rest : List (Started Q)) → AllEnded x.speech more station fs (but_last (front ++ r ∷ (next ∷ rest))) → outcome_of x.speech more station fs r ≡ None → ⊥
+  pub followed : (front : List (Started Q)) (r next : Started Q) (rest : List (Started Q)) → AllEnded x.speech more station fs (but_last (front ++ r ∷ (next ∷ rest))) → outcome_of x.speech more station fs r ≡ None → ⊥
   followed [] r next rest all none = let some = all.0.1 in cc
   followed (q ∷ []) r next rest all none = let some = all.1.0.1 in cc
   followed (q ∷ (p ∷ front)) r next rest all none = followed (p ∷ front) r next rest all.1 none
@@ -235,25 +235,25 @@ module _ {V A M Q R : Type 0} (x : Exchange V A M Q R) (s : Stated V A Q) (table
 
   -- WHAT IS LEFT OUT leaves the rest as it is
   module _ (forgets : IsForgetful s) where
-    trimmed_told : (k : ℕ) (a : A) (ls ds : List (Line Q R)) → Trim ls ds → s.told k (acts_all a ds) ≡ s.told k (acts_all a ls)
+    pub trimmed_told : (k : ℕ) (a : A) (ls ds : List (Line Q R)) → Trim ls ds → s.told k (acts_all a ds) ≡ s.told k (acts_all a ls)
     trimmed_told k a ls ds (Trim.whole e) = ap (λ l. s.told k (acts_all a l)) e
     trimmed_told k a ls ds (Trim.cut init l target e f is doubt) =
         let b = acts_all a init in
         ap (λ m. s.told k (acts_all a m)) f
         ∙ sym (ap (λ m. s.told k (acts_all a m)) e ∙ ap (s.told k) (acts-append a init (l ∷ [])) ∙ ap (λ service. s.told k (acted x s table cleared one b service)) is ∙ forgets k (state_next x s table cleared one b target) b)
 
-    trimmed_emits : (a : A) (ls ds : List (Line Q R)) → Trim ls ds → emits a ds ≡ emits a ls
+    pub trimmed_emits : (a : A) (ls ds : List (Line Q R)) → Trim ls ds → emits a ds ≡ emits a ls
     trimmed_emits a ls ds (Trim.whole e) = ap (emits a) e
     trimmed_emits a ls ds (Trim.cut init l target e f is doubt) =
         let b = acts_all a init in
         ap (emits a) f ∙ sym (ap (emits a) e ∙ emits-append a init (l ∷ []) ∙ ap (λ service. emits a init ++ (emits_by x s table cleared one b service ++ [])) is ∙ append-nil (emits a init))
 
     -- how many rows are behind, and each reply is of one that is done
-    record Enough (count : ℕ) (rs : List (Started Q)) (n : ℕ) : Type 0 where
-      behind : length rs ≤ n + 2
-      in_done : AllDone x.speech more station fs n 0 rs
+    pub record Enough (count : ℕ) (rs : List (Started Q)) (n : ℕ) : Type 0 where
+      pub behind : length rs ≤ n + 2
+      pub in_done : AllDone x.speech more station fs n 0 rs
 
-    enough : (count : ℕ) (front back : List (Started Q)) (sts ds : List (Line Q R)) → length front ≡ count → length (front ++ back) ≤ count + 2 → AllDone x.speech more station fs count 0 (front ++ back) →
+    pub enough : (count : ℕ) (front back : List (Started Q)) (sts ds : List (Line Q R)) → length front ≡ count → length (front ++ back) ≤ count + 2 → AllDone x.speech more station fs count 0 (front ++ back) →
         AllEnded x.speech more station fs (but_last (front ++ back)) → Trim (map line front ++ sts) ds → Enough count (front ++ back) (length ds)
     enough count front back sts ds many le d ended (Trim.whole e) =
         let all : length ds ≡ length front + length sts = ap length e ∙ length-append (map line front) sts ∙ ap (λ n. n + length sts) (length-map front line) in
@@ -282,7 +282,7 @@ module _ {V A M Q R : Type 0} (x : Exchange V A M Q R) (s : Stated V A Q) (table
   replied_first a [] tail all = tt
   replied_first a (r ∷ rs) tail all = (all.0, replied_first ((with_states x s table).exec a r.service) rs tail all.1)
 
-  done_first : (count number : ℕ) (rs tail : List (Started Q)) → AllDone x.speech more station fs count number (rs ++ tail) → AllDone x.speech more station fs count number rs
+  pub done_first : (count number : ℕ) (rs tail : List (Started Q)) → AllDone x.speech more station fs count number (rs ++ tail) → AllDone x.speech more station fs count number rs
   done_first count number [] tail all = tt
   done_first count number (r ∷ rs) tail all = (all.0, done_first count (suc number) rs tail all.1)
 
@@ -369,14 +369,14 @@ grown n m = omega arith
 services-append : {Q : Type 0} (xs ys : List (Started Q)) → services_in (xs ++ ys) ≡ services_in xs ++ services_in ys
 services-append xs ys = map-append (λ (r : Started _). r.service) xs ys
 
-take_all : {X : Type 0} (n : ℕ) (xs : List X) → length xs ≤ n → take n xs ≡ xs
+pub take_all : {X : Type 0} (n : ℕ) (xs : List X) → length xs ≤ n → take n xs ≡ xs
 take_all zero [] le = refl
 take_all (suc n) [] le = refl
 take_all zero (x ∷ xs) le = absurd (omega (arith, le))
 take_all (suc n) (x ∷ xs) le = ap (λ l. x ∷ l) (take_all n xs (omega (arith, le)))
 
 -- THE FACTS of an epoch's rows
-facts_of : {V A M Q R : Type 0} (w : OpenEra V A M Q R) (cleared : A → A) (more : M → Bool) → IsForgetful w.states → (rs tail : List (Started Q)) → w.era.account.started ≡ rs ++ tail → NoInits (services_in rs) → IsTail tail →
+pub facts_of : {V A M Q R : Type 0} (w : OpenEra V A M Q R) (cleared : A → A) (more : M → Bool) → IsForgetful w.states → (rs tail : List (Started Q)) → w.era.account.started ≡ rs ++ tail → NoInits (services_in rs) → IsTail tail →
     TasksPromised w.exchange w.states (w.table w.spot.station) more (frames_of w) w.spot.station w.server w.era.side w.era.account w.slave →
     Facts w.exchange w.states (w.table w.spot.station) cleared more w.spot.station (frames_of w) (w.exchange.app w.server) rs (w.exchange.app w.slave.node.server.server)
     (w.exchange.handled w.slave.node.server.server - w.exchange.handled w.server) (emitted w.exchange.speech.emission (heard w.spot.station (frames_of w)))

@@ -4,6 +4,5 @@ pub mod Eras
 pub mod Gives
 pub mod Lasts
 pub mod Books
-pub mod Chains
 mod Worked
 pub mod Rests

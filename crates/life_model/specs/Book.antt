@@ -1,17 +1,17 @@
 -- THE BOOK of one slave over lists, numbers and records: what its rows have done, answer by answer and epoch by epoch; nothing left; all done.
-use Rattle.std.specs.Prelude.{◌≡◌, ◌≢◌, ℕ, suc, ◌+◌, ◌-◌, ◌<◌, ◌≤◌, ◌==◌, ◌&&◌, ◌||◌, Bool, true, false, not, nat_le, nat_lt, is_some, if◌then◌else◌, Option, Some, None, List, [], ◌∷◌, ◌++◌, map, take, drop, length, ⊤}
+use Rattle.std.specs.Prelude.{◌≡◌, ◌≢◌, ℕ, suc, ◌+◌, ◌-◌, ◌<◌, ◌≤◌, ◌==◌, ◌&&◌, ◌||◌, Bool, true, false, not, nat_le, nat_lt, is_some, if◌then◌else◌, Option, Some, None, List, [], ◌∷◌, ◌++◌, map, length, ⊤}
 use Rattle.exchange_model.specs.Prefix.{IsPrefixOf}
 use Rattle.exchange_model.specs.Exchange.{Exchange, Speech, emitted}
-use Rattle.segment_model.specs.Record.{Frame, News, first_end, news_each, nothing_kept, counted_each, heard}
-use Rattle.segment_model.specs.Ends.{Outcome, ends, state_ends}
+use Rattle.segment_model.specs.Record.{Frame, heard}
+use Rattle.segment_model.specs.Ends.{Outcome}
 use Rattle.segment_model.specs.Books.{Answer, answer_from}
 use Rattle.state_model.specs.States.{Table}
 use Rattle.state_model.specs.Promises.{state_behind, answer_of}
 use Rattle.state_exchange.specs.Stated.{Stated, Service}
 use Rattle.task_model.specs.Accounts.{Started}
-use Rattle.task_model.specs.Promise.{IsReply, task_of, outcome_of}
-use Rattle.life_model.specs.Lives.{Spot, returns_to_init, opens_state}
-use Rattle.life_model.specs.Eras.{OpenEra, era_frames, frames_of}
+use Rattle.task_model.specs.Promise.{IsReply, outcome_of}
+use Rattle.life_model.specs.Lives.{returns_to_init, opens_state}
+use Rattle.life_model.specs.Eras.{OpenEra, frames_of}
 
 -- a row: its service, the number of the frame that was made when it came into hand, and its answer
 pub record Line (Q R : Type 0) : Type 0 where
@@ -124,20 +124,22 @@ module _ {V A M Q R : Type 0} (x : Exchange V A M Q R) (s : Stated V A Q) (table
     pub replies : RepliesFit (length ds) 0 a e.lines
     pub emissions : IsPrefixOf e.received (all_emits a ds)
 
-  -- its first row is a state service that returned the slave to Init
-  abbrev pub opens_own : List (Line Q R) → Bool
-  opens_own [] = false
-  opens_own (l ∷ ls) = by_service l.service
-    where
-      by_service : Service Q → Bool
-      by_service (Service.Mails q) = false
-      by_service (Service.State target) = returns_to_init target
+  -- a state service that returns its slave to Init
+  abbrev pub returns : Service Q → Bool
+  returns (Service.Mails q) = false
+  returns (Service.State target) = returns_to_init target
+
+  -- its first row is a state service that returned the slave to Init: it came into hand before that was seen
+  abbrev pub opens_own : Option ℕ → List (Line Q R) → Bool
+  opens_own None ls = false
+  opens_own (Some cleared_at) [] = false
+  opens_own (Some cleared_at) (l ∷ ls) = returns l.service && nat_lt l.frame cleared_at
 
   -- the application with which an epoch begins: cleared, but for the first; told the start state, but where a state service opened it
   abbrev pub begins_with : ℕ → EpochBook M Q R → A → A
   begins_with start e a =
       let c = if is_some e.cleared then cleared a else a in
-      if is_some e.opened && not (is_some e.cleared && opens_own e.lines) then s.told start c else c
+      if is_some e.opened && not (opens_own e.cleared e.lines) then s.told start c else c
 
   -- what is done of an epoch
   abbrev pub done_of : SlaveBook A M Q R → EpochBook M Q R → Bool → A → List (Line Q R)
@@ -158,7 +160,7 @@ module _ {V A M Q R : Type 0} (x : Exchange V A M Q R) (s : Stated V A Q) (table
   -- the last epoch was opened, and no reopening began behind that: none by a give-up, and none by its last row
   abbrev pub last_row : List (Line Q R) → Bool
   last_row [] = false
-  last_row (l ∷ []) = is_in_doubt l.answer && opens_own (l ∷ [])
+  last_row (l ∷ []) = is_in_doubt l.answer && returns l.service
   last_row (l ∷ (k ∷ ls)) = last_row (k ∷ ls)
 
   -- a number that isn't below this frame
@@ -166,14 +168,15 @@ module _ {V A M Q R : Type 0} (x : Exchange V A M Q R) (s : Stated V A Q) (table
   any_from opened [] = false
   any_from opened (g ∷ gs) = nat_le opened g || any_from opened gs
 
+  -- an epoch was opened, and no such number is behind that
+  abbrev pub quiet_since : List ℕ → Option ℕ → Bool
+  quiet_since gave None = false
+  quiet_since gave (Some opened) = not (any_from opened gave)
+
   -- so its AL state is told
   abbrev pub says_state : List ℕ → List (EpochBook M Q R) → Bool
   says_state gave [] = false
-  says_state gave (e ∷ []) = not (last_row e.lines) && quiet_from e.opened
-    where
-      quiet_from : Option ℕ → Bool
-      quiet_from None = false
-      quiet_from (Some opened) = not (any_from opened gave)
+  says_state gave (e ∷ []) = not (last_row e.lines) && quiet_since gave e.opened
   says_state gave (e ∷ (f ∷ es)) = says_state gave (f ∷ es)
 
   -- THE BOOK OF A SLAVE FITS
@@ -216,43 +219,6 @@ module _ {V A M Q R : Type 0} (x : Exchange V A M Q R) (s : Stated V A Q) (table
     pub rest : Rest b
     pub never : b.gave ≡ []
     pub each : EachDone b b.first b.epochs
-
--- the news of an epoch up to frame `end`, frame by frame; of a slow slave an empty read counts by its pace
-abbrev pub epoch_news : {M : Type 0} → Spot → ℕ → Option ℕ → ℕ → List (Frame M) → List (List (News M))
-epoch_news spot pace None end fs = []
-epoch_news spot pace (Some opened) end fs =
-    let es = era_frames spot opened end fs in counted_each spot.station pace 0 true es (news_each spot.station nothing_kept es)
-
--- the frame behind the first number that isn't below this one, or this end
-abbrev pub first_gave : List ℕ → ℕ → ℕ → ℕ
-first_gave [] frame end = end
-first_gave (g ∷ gs) frame end = if nat_le frame g then suc g else first_gave gs frame end
-
--- these items, from one number on and up to another
-abbrev pub between : {X : Type 0} → ℕ → ℕ → List X → List X
-between first end xs = take (end - first) (drop first xs)
-
--- THE ANSWER OF A ROW is the one that the news of its epoch give from its frame on, before the epoch's end and before its slave is given up; of a
--- row that returns to Init, the one that the statuses behind the return give
-abbrev pub answer_at : {M Q R : Type 0} → Speech M Q R → (M → Bool) → List ℕ → List (List (News M)) → ℕ → ℕ → ℕ → Service Q → Answer R
-answer_at x more gave news cleared end frame (Service.Mails q) =
-    answer_from (first_end (ends x more (task_of (Service.Mails q))) frame [] (between frame (first_gave gave frame end) news))
-answer_at x more gave news cleared end frame (Service.State target) =
-    if returns_to_init target
-    then answer_from (first_end (state_ends (opens_state target) None) (suc cleared) [] (between (suc cleared) (first_gave gave frame end) news))
-    else answer_from (first_end (ends x more (task_of (Service.State target))) frame [] (between frame (first_gave gave frame end) news))
-
--- each row has it
-abbrev pub AnswersBy : {M Q R : Type 0} → Speech M Q R → (M → Bool) → List ℕ → List (List (News M)) → ℕ → ℕ → List (Line Q R) → Type 0
-AnswersBy x more gave news cleared end [] = ⊤
-AnswersBy x more gave news cleared end (l ∷ ls) =
-    (l.answer ≡ answer_at x more gave news cleared end l.frame l.service) × AnswersBy x more gave news cleared end ls
-
--- and came before the next row began; the frames of rows don't fall
-abbrev pub Rises : {Q R : Type 0} → List (Line Q R) → Type 0
-Rises [] = ⊤
-Rises (l ∷ []) = ⊤
-Rises {R = R} (l ∷ (k ∷ ls)) = ((o : Outcome R) (frame : ℕ) → l.answer ≡ Answer.Ended o frame → frame < k.frame) × (l.frame ≤ k.frame) × Rises (k ∷ ls)
 
 -- a service that came into hand as a row, with the answer that the record of its epoch gives
 abbrev pub line_of : {M Q R : Type 0} → Speech M Q R → (M → Bool) → ℕ → List (Frame M) → Started Q → Line Q R

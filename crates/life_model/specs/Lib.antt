@@ -5,4 +5,3 @@ pub mod Eras
 pub mod Tours
 pub mod Gave
 pub mod Book
-pub mod Chain

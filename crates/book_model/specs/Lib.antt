@@ -1,0 +1,5 @@
+pub mod Answers
+pub mod Chain
+pub mod Open
+pub mod Ending
+pub mod Steps
