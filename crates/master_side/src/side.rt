@@ -160,6 +160,7 @@ impl<H: Hand> Side<H> {
     /// Whether a service may come into hand: the newest is over, and the write of a last acknowledgement is done.
     pub fn is_free(&self) -> bool
         ensures free { (x : Speech Body H.Asked Reply) (d : Seats.Side Body H.Asked Reply) (a : Account H.Asked Reply) → SideShows (H.shows self.now.hand x) self.now.out self.now.inn self.now.fresh self.now.duty d a → result ≡ true → (is_free x d d.now ≡ true) × (is_acknowledged H.acknowledged d d.now ≡ true) × (self.now.duty ≡ None) }
+        ensures waits { is_some self.now.passing ≡ true → result ≡ false }
     {
         let idle = self.out.is_idle();
         if self.duty.is_some() || self.passing.is_some() {
@@ -197,6 +198,7 @@ impl<H: Hand> Side<H> {
     fn begin(&mut self, wish: Option<Wish>) -> bool
         ensures picked { (x : Speech Body H.Asked Reply) (made : ℕ) (d : Seats.Side Body H.Asked Reply) (a : Account H.Asked Reply) → SideShows (H.shows self.old.hand x) self.old.out self.old.inn self.old.fresh self.old.duty d a → Begins x H.acknowledged made d a (λ e b. SideShows (H.shows self.new.hand x) self.new.out self.new.inn self.new.fresh self.new.duty e b) }
         ensures link { SameLink self.old.out self.old.inn self.old.station self.old.area self.new.out self.new.inn self.new.station self.new.area }
+        ensures waits { is_some self.old.passing ≡ true → self.new ≡ self.old }
     {
         if !self.is_free() {
             return false;
@@ -216,6 +218,8 @@ impl<H: Hand> Side<H> {
     pub fn choose(&mut self, wish: Option<Wish>) -> bool
         ensures picked { (x : Speech Body H.Asked Reply) (made : ℕ) (d : Seats.Side Body H.Asked Reply) (a : Account H.Asked Reply) → SideShows (H.shows self.old.hand x) self.old.out self.old.inn self.old.fresh self.old.duty d a → Picked x H.acknowledged made d a (λ e b. SideShows (H.shows self.new.hand x) self.new.out self.new.inn self.new.fresh self.new.duty e b) }
         ensures link { SameLink self.old.out self.old.inn self.old.station self.old.area self.new.out self.new.inn self.new.station self.new.area }
+        ensures waits { is_some self.old.passing ≡ true → (x : Speech Body H.Asked Reply) (d : Seats.Side Body H.Asked Reply) (a : Account H.Asked Reply) → SideShows (H.shows self.old.hand x) self.old.out self.old.inn self.old.fresh self.old.duty d a →
+            Holds x d (λ e. SideShows (H.shows self.new.hand x) self.new.out self.new.inn self.new.fresh self.new.duty e a) }
     {
         let began = self.begin(wish);
         self.hold_next();

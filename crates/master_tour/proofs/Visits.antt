@@ -18,7 +18,15 @@ use Rattle.master_duty.specs.Reply.{Reply}
 use Rattle.master_side.specs.declared.carried.Carried.{Carried}
 use Rattle.master_side.specs.Carried.{Meant}
 use Rattle.master_side.specs.Sent.{SameSide, visit_gram}
-use Rattle.master_side.specs.Shown.{SideShows, DutyShows, Picked}
+use Rattle.master_side.specs.Shown.{SideShows, DutyShows, Picked, Holds}
+use Rattle.std.specs.Prelude.{Some, None, true, false, is_some}
+use Rattle.std.proofs.Common.{ap, refl}
+use Rattle.segment_model.specs.Seats.{side_next}
+use Rattle.segment_model.specs.Ends.{Passing}
+use Rattle.task_model.specs.Accounts.{Pick, mails_choice, account_next}
+use Rattle.life_model.specs.Lives
+use Rattle.life_model.specs.Lives.{Life, Era, era_next, granted, life_next}
+use Rattle.master_tour.specs.Stands.{NextShows, is_open}
 
 pub picked_map : {Q : Type 0} (x : Speech Body Q Reply) (acknowledged : Q → Bool) (made : ℕ) (d : Side Body Q Reply) (a : Account Q Reply) (X Y : Side Body Q Reply → Account Q Reply → Type 0) →
     Picked x acknowledged made d a X → ((e : Side Body Q Reply) (b : Account Q Reply) → X e b → Y e b) → Picked x acknowledged made d a Y
@@ -38,3 +46,38 @@ pub same_meant : (lens : ℕ → Lens) (index : ℕ) (out out' : OutLink (Option
 same_meant lens index out out' inn inn' fresh fresh' duty duty' station station' first carried h due k s t m =
     subst (λ n. Meant n carried h due (datagram_seen lens (visit_gram station' index out' inn' duty' carried))) t
     (subst (λ r. Meant station carried h due (datagram_seen lens r)) (λ i. visit_gram ((sym s) i) index ((sym k.out_is) i) ((sym k.in_is) i) ((sym k.duty_is) i) carried) m)
+
+pub holds_map : {Q : Type 0} (x : Speech Body Q Reply) (d : Side Body Q Reply) (X Y : Side Body Q Reply → Type 0) → Holds x d X → ((e : Side Body Q Reply) → X e → Y e) → Holds x d Y
+holds_map x d X Y p h = record { hold = p.hold; shown = h _ p.shown }
+
+-- an opening, or a slave that is gone, has no choice
+pub still_next : {Q : Type 0} (x : Speech Body Q Reply) (acknowledged : Q → Bool) (more : Body → Bool) (passed : Q → Bool) (made : ℕ) (l : Life Body Q Reply) (P : Life Body Q Reply → Type 0) → is_open l.stand ≡ false → P l → NextShows x acknowledged more passed made l P
+still_next {Q} x acknowledged more passed made l P s p = record { pick = none; shown = go l.stand s }
+  where
+    none : Pick Q
+    none = record { begin = None; hold = false }
+
+    go : (z : Lives.Stand) → is_open z ≡ false → P (life_next x acknowledged more passed made l z none)
+    go (Lives.Stand.Opens o) e = p
+    go Lives.Stand.Open e = absurd (cc)
+    go Lives.Stand.Gone e = p
+
+-- an open slave goes on by a choice; while a mail that is passed on isn't over, none begins
+pub open_next : {Q : Type 0} (x : Speech Body Q Reply) (acknowledged : Q → Bool) (more : Body → Bool) (passed : Q → Bool) (made : ℕ) (l : Life Body Q Reply) (waits : Bool) (R : Side Body Q Reply → Account Q Reply → Type 0) (P : Life Body Q Reply → Type 0) → l.stand ≡ Lives.Stand.Open →
+    is_some l.era.passing ≡ waits → Picked x acknowledged made l.era.side l.era.account R → (waits ≡ true → Holds x l.era.side (λ e. R e l.era.account)) → ((era : Era Body Q Reply) → R era.side era.account → P (record l { era = era })) → NextShows x acknowledged more passed made l P
+open_next {Q} x acknowledged more passed made l waits R P o w k h f = go l.era.passing refl
+  where
+    go : (p : Option Passing) → l.era.passing ≡ p → NextShows x acknowledged more passed made l P
+    go None e = record {
+      pick = k.pick;
+      shown = subst (λ z. P (life_next x acknowledged more passed made l z k.pick)) (sym o) (f (era_next x acknowledged more passed made l.era k.pick)
+          (subst (λ (z : Option Passing). R (side_next x made l.era.side (mails_choice l.era.account (granted z k.pick))) (account_next x acknowledged made l.era.side l.era.account (granted z k.pick))) (sym e) k.shown));
+    }
+    go (Some p) e =
+        let t : waits ≡ true = sym w ∙ ap is_some e in
+        let pick : Pick Q = record { begin = None; hold = (h t).hold } in
+        record {
+          pick = pick;
+          shown = subst (λ z. P (life_next x acknowledged more passed made l z pick)) (sym o) (f (era_next x acknowledged more passed made l.era pick)
+              (subst (λ (z : Option Passing). R (side_next x made l.era.side (mails_choice l.era.account (granted z pick))) (account_next x acknowledged made l.era.side l.era.account (granted z pick))) (sym e) (h t).shown));
+        }

@@ -8,9 +8,17 @@ use Rattle.datagrams.specs.Frame.{datagram_of}
 use Rattle.link_mails.specs.Body.{Body}
 use Rattle.segment_model.specs.Slaves.{Datagram, Access, Found}
 use Rattle.segment_model.specs.Seats.{Side}
-use Rattle.task_model.specs.Accounts.{Account, duty_access}
+use Rattle.task_model.specs.Accounts.{Account, Pick, duty_access}
+use Rattle.exchange_model.specs.Exchange.{Speech}
+use Rattle.datagrams.specs.Datagram as Raw
+use Rattle.mailbox_mail.specs.declared.mail.Mail.{Mail}
+use Rattle.mailbox_master.specs.declared.halves.InwardHalf.{InwardHalf}
+use Rattle.mailbox_master.specs.Links.{OutLink}
+use Rattle.master_duty.specs.declared.duty.Duty.{Duty}
+use Rattle.master_side.specs.Carried.{Meant}
+use Rattle.master_side.specs.Sent.{visit_gram, no_gram}
 use Rattle.life_model.specs.Lives
-use Rattle.life_model.specs.Lives.{Opening, Era, Life, Spot}
+use Rattle.life_model.specs.Lives.{Opening, Era, Life, Spot, life_next}
 use Rattle.life_model.specs.Tours.{item_at}
 use Rattle.frame_view.specs.View.{Lens, datagram_seen, found_of}
 use Rattle.master_duty.specs.Reply.{Reply}
@@ -157,3 +165,20 @@ pub record IsMet (up : BringUp) (counter : ℕ) (body : List ℕ) (came : Bool �
   pub done : is_reading up.step ≡ true → came.0 ≡ (counter == 1)
   pub found : is_reading up.step ≡ true → came.1 ≡ found_of Access.ReadState counter body
   pub whole : is_reading up.step ≡ true → length body ≡ 6
+
+-- the datagram of a slave's visit, by its stand
+abbrev pub stand_gram : ℕ → ℕ → Stand → OutLink (Option Mail) → InwardHalf → Option Duty → Carried → Raw.Datagram
+stand_gram station index (Stand.Opening up) out inn duty carried = datagram_of (head_of up index) (octets_of up)
+stand_gram station index Stand.Open out inn duty carried = visit_gram station index out inn duty carried
+stand_gram station index Stand.Gone out inn duty carried = no_gram
+
+-- what it means: an opening's access in hand, or what its mailboxes and services ask
+abbrev pub StandMeant : {Q : Type 0} → (ℕ → Lens) → ℕ → ℕ → Carried → Stand → Life Body Q Reply → Datagram Body → Type 0
+StandMeant lens station index carried (Stand.Opening up) l d = d ≡ datagram_seen lens (datagram_of (head_of up index) (octets_of up))
+StandMeant lens station index carried Stand.Open l d = Meant station carried l.era.side.halves (duty_access l.era.account.hand) d
+StandMeant lens station index carried Stand.Gone l d = ⊥
+
+-- THE LIFE BEFORE A FRAME, by some choice
+pub record NextShows {Q : Type 0} (x : Speech Body Q Reply) (acknowledged : Q → Bool) (more : Body → Bool) (passed : Q → Bool) (made : ℕ) (l : Life Body Q Reply) (P : Life Body Q Reply → Type 0) : Type 0 where
+  pub pick : Pick Q
+  pub shown : P (life_next x acknowledged more passed made l l.stand pick)

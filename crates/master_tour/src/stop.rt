@@ -128,7 +128,8 @@ impl<H: Hand> Stop<H> {
     ghost use Rattle.al_state.specs.BringUp.{head_of, octets_of};
     ghost use Rattle.master_tour.specs.Under.{Under};
     ghost use Rattle.master_tour.specs.Cursor.{IsAtOne};
-    ghost use Rattle.master_tour.specs.Stands.{StopShows, FollowShows, IsMet, IsSpot, StandUnder, came_at};
+    ghost use Rattle.master_tour.specs.Stands.{StopShows, FollowShows, IsMet, IsSpot, StandUnder, came_at, stand_gram, StandMeant, NextShows};
+    ghost use Rattle.std.specs.Prelude.{is_some};
     ghost use Rattle.segment_model.specs.Returned.{Returns};
     ghost use Rattle.al_state.specs.declared.bringing.BringStep.{BringStep};
     ghost use Rattle.std.specs.Prelude.{None, ◌%◌};
@@ -366,11 +367,16 @@ impl<H: Hand> Stop<H> {
             SideShows (H.shows self.old.side.hand x) self.old.side.out self.old.side.inn self.old.side.fresh self.old.side.duty d a →
             Picked x H.acknowledged made d a (λ e b. SideShows (H.shows self.new.side.hand x) self.new.side.out self.new.side.inn self.new.side.fresh self.new.side.duty e b ×
             (self.new.under ≡ true → Meant self.old.side.station self.new.side.carried e.halves (duty_access b.hand) (datagram_seen lens (visit_gram self.new.side.station index self.new.side.out self.new.side.inn self.new.side.duty self.new.side.carried)))) }
+        ensures waits { is_some self.old.side.passing ≡ true → (x : Speech Body H.Asked Reply) (lens : ℕ → Lens) (d : Seats.Side Body H.Asked Reply) (a : Account H.Asked Reply) → (lens self.old.side.station).out ≡ self.old.side.out.len → (lens self.old.side.station).back ≡ in_area_len self.old.side.inn →
+            SideShows (H.shows self.old.side.hand x) self.old.side.out self.old.side.inn self.old.side.fresh self.old.side.duty d a →
+            Holds x d (λ e. SideShows (H.shows self.new.side.hand x) self.new.side.out self.new.side.inn self.new.side.fresh self.new.side.duty e a ×
+            (self.new.under ≡ true → Meant self.old.side.station self.new.side.carried e.halves (duty_access a.hand) (datagram_seen lens (visit_gram self.new.side.station index self.new.side.out self.new.side.inn self.new.side.duty self.new.side.carried)))) }
         ensures begun { (ds : List Raw.Datagram) → IsBegun frame.old.items ds → self.new.under ≡ true → IsBegun frame.new.items (ds ++ visit_gram self.new.side.station index self.new.side.out self.new.side.inn self.new.side.duty self.new.side.carried ∷ []) }
         ensures sent { self.new.under ≡ true → IsSent self.old.side.area (visit_gram self.new.side.station index self.new.side.out self.new.side.inn self.new.side.duty self.new.side.carried) }
         ensures full { self.new.under ≡ false → frame.new.items ≡ frame.old.items }
         ensures link { SameLink self.old.side.out self.old.side.inn self.old.side.station self.old.side.area self.new.side.out self.new.side.inn self.new.side.station self.new.side.area }
         ensures stand { self.new.stand ≡ self.old.stand }
+        ensures kept { (self.new.place ≡ self.old.place) × (self.new.start ≡ self.old.start) × (self.new.spare ≡ self.old.spare) × (self.new.news ≡ self.old.news) }
         ensures at { self.new.at ≡ at }
     {
         let began = self.side.choose(wish);
@@ -388,6 +394,7 @@ impl<H: Hand> Stop<H> {
         ensures begun { (ds : List Raw.Datagram) → IsBegun frame.old.items ds → IsBegun frame.new.items (ds ++ datagram_of (head_of up.now index) (octets_of up.now) ∷ []) }
         ensures side { self.new.side ≡ self.old.side }
         ensures stand { self.new.stand ≡ self.old.stand }
+        ensures kept { (self.new.place ≡ self.old.place) × (self.new.start ≡ self.old.start) × (self.new.spare ≡ self.old.spare) × (self.new.news ≡ self.old.news) }
         ensures at { (self.new.at ≡ at) × (self.new.under ≡ true) }
     {
         let mut head = Head::default();
@@ -403,16 +410,25 @@ impl<H: Hand> Stop<H> {
     pub fn visit(&mut self, wish: Option<Wish>, at: usize, index: u8, frame: &mut FrameBuf) -> bool
         requires few { at < 16 }
         requires begun { (ds : List Raw.Datagram) × IsBegun frame.old.items ds }
-        ensures begun { (ds : List Raw.Datagram) × IsBegun frame.new.items ds }
+        ensures lives { (x : Speech Body H.Asked Reply) (more : Body → Bool) (passed : H.Asked → Bool) (made recover : ℕ) (spot : Spot) (lens : ℕ → Lens) (l : Life Body H.Asked Reply) →
+            (lens self.old.side.station).out ≡ self.old.side.out.len → (lens self.old.side.station).back ≡ in_area_len self.old.side.inn → IsSpot spot self.old.side.station self.old.place self.old.start → is_some l.era.passing ≡ is_some self.old.side.passing → StopShows (λ d a. SideShows (H.shows self.old.side.hand x) self.old.side.out self.old.side.inn self.old.side.fresh self.old.side.duty d a) recover spot self.old.stand self.old.spare l →
+            NextShows x H.acknowledged more passed made l (λ n. StopShows (λ d a. SideShows (H.shows self.new.side.hand x) self.new.side.out self.new.side.inn self.new.side.fresh self.new.side.duty d a) recover spot self.new.stand self.new.spare n ×
+            (self.new.under ≡ true → StandMeant lens self.new.side.station index self.new.side.carried self.new.stand n (datagram_seen lens (stand_gram self.new.side.station index self.new.stand self.new.side.out self.new.side.inn self.new.side.duty self.new.side.carried)))) }
+        ensures begun { (ds : List Raw.Datagram) → IsBegun frame.old.items ds → self.new.under ≡ true → IsBegun frame.new.items (ds ++ (stand_gram self.new.side.station index self.new.stand self.new.side.out self.new.side.inn self.new.side.duty self.new.side.carried) ∷ []) }
+        ensures full { self.new.under ≡ false → frame.new.items ≡ frame.old.items }
+        ensures at { self.new.under ≡ true → self.new.at ≡ at }
+        ensures stand { self.new.stand ≡ self.old.stand }
+        ensures kept { (self.new.place ≡ self.old.place) × (self.new.start ≡ self.old.start) × (self.new.spare ≡ self.old.spare) × (self.new.news ≡ self.old.news) }
         ensures station { self.new.side.station ≡ self.old.side.station }
     {
         self.under = false;
         match self.stand {
             Stand::Gone => false,
             Stand::Opening(up) => {
-                if access_len(&up) <= datagrams::room(frame) {
-                    self.opening_visit(&up, at, index, frame);
+                if access_len(&up) > datagrams::room(frame) {
+                    return false;
                 }
+                self.opening_visit(&up, at, index, frame);
                 false
             }
             Stand::Open => self.open_visit(wish, at, index, frame),
