@@ -1,18 +1,17 @@
 -- Nothing is left of an epoch whose slave is settled and of which the master wants nothing.
-use Rattle.std.proofs.Common.{◌≡◌, ℕ, ◌+◌, ◌-◌, ◌&&◌, ◌||◌, ◌==◌, Bool, true, false, not, Option, None, Some, List, [], ◌∷◌, ◌++◌, map, refl, ap, ap₂, sym, ◌∙◌, subst, arith, append-nil, if◌then◌else◌}
+use Rattle.std.proofs.Common.{◌≡◌, ℕ, ◌-◌, ◌&&◌, ◌||◌, ◌==◌, Bool, false, not, Option, Some, List, [], ◌∷◌, map, refl, ap, ap₂, sym, ◌∙◌, append-nil, if◌then◌else◌}
 use Rattle.exchange_model.specs.Exchange.{Exchange}
-use Rattle.exchange_model.specs.Rows.{exec_all, emits_all}
 use Rattle.segment_model.specs.Record.{Frame}
 use Rattle.segment_model.specs.Ends.{Outcome}
 use Rattle.segment_model.specs.Books.{answer_from}
 use Rattle.state_model.specs.States.{Table}
-use Rattle.state_exchange.specs.Stated.{Stated, Service, mails, with_states}
+use Rattle.state_exchange.specs.Stated.{Stated, Service}
 use Rattle.task_model.specs.Accounts.{Started}
 use Rattle.task_model.specs.Promise.{TasksRest, AllEnded, services_in, mails_in, outcome_of}
 use Rattle.life_model.specs.Lives.{returns_to_init}
 use Rattle.life_model.specs.Eras.{OpenEra, frames_of}
 use Rattle.life_model.specs.Book.{Line, line_of, epoch_book, done_rows, NoInits, NoneInDoubt, EpochRests, is_in_doubt, opened_behind, acted, state_next, done, is_left, trimmed}
-use Rattle.life_model.proofs.Books.{grown, acts_all, emits, does, line, exec_is, emits_is, done_front}
+use Rattle.life_model.proofs.Books.{grown, exec_is, emits_is, done_front}
 
 module _ {V A M Q R : Type 0} (x : Exchange V A M Q R) (s : Stated V A Q) (table : Table) (cleared : A → A) (more : M → Bool) (station : ℕ) (fs : List (Frame M)) where
   abbrev one : A → Q → ℕ
