@@ -1,6 +1,5 @@
 -- A FRAME OF OCTETS passes: its datagrams do, one behind the other.
-use Rattle.std.proofs.Common.{◌≡◌, ℕ, ◌+◌, ◌<◌, List, [], ◌∷◌, ◌++◌, length, take, drop, Result, Ok, Err, refl, ap, sym, ◌∙◌, subst, arith, append_assoc, length-append}
-use Rattle.datagrams.specs.declared.head.Head.{Head}
+use Rattle.std.proofs.Common.{◌≡◌, ℕ, ◌+◌, List, [], ◌∷◌, ◌++◌, length, take, drop, Result, Ok, Err, refl, ap, sym, ◌∙◌, subst, arith, append_assoc, length-append}
 use Rattle.datagrams.specs.declared.frame.Frame.{Frame}
 use Rattle.datagrams.specs.declared.frame.FrameFault.{FrameFault}
 use Rattle.datagrams.specs.declared.frame.Part.{Part}
@@ -32,7 +31,7 @@ one_part r octets at front d behind f place =
     let long : length p.body ≡ d.head.len = access_len r d.head body ∙ ap length there ∙ was.sized.body in
     one_passed r p.registers octets within (octets_set within part p.head.adp p.head.counter) part (at + 10) p.head front d behind f place refl refl (refl, refl, refl) long
     (λ e g there_ head. IsFrame-set within (octets_set within part p.head.adp p.head.counter) part p.head.adp p.head.counter front e behind
-        (access_adp r d.head body range.adp) (access_counter r d.head body range.counter) refl g there_ head)
+    (access_adp r d.head body range.adp) (access_counter r d.head body range.counter) refl g there_ head)
 
 -- and all, behind those that passed
 record Ends (r : Esc.Registers) (front ds : List Raw.Datagram) (p : Esc.Registers × List ℕ) : Type 0 where

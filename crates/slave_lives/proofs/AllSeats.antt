@@ -1,21 +1,18 @@
 -- THE MASTER'S FRAME ALONG A RING: it comes to each slave as it is for it.
-use Rattle.std.proofs.Common.{◌≡◌, ◌⊎◌, inl, inr, ℕ, suc, ◌+◌, ◌<◌, ◌≤◌, ◌==◌, Bool, true, false, List, [], ◌∷◌, ◌++◌, length, map, refl, ap, sym, ◌∙◌, subst, arith}
-use Rattle.std.specs.Prelude.{⊤, None}
-use Rattle.std.proofs.lemmas.Bool.{ne_eqb, eq-eqb, eqb-true, eqb-false}
+use Rattle.std.proofs.Common.{◌≡◌, ◌⊎◌, inl, inr, ℕ, suc, ◌+◌, ◌<◌, ◌==◌, Bool, false, List, [], ◌∷◌, ◌++◌, length, refl, ap, sym, ◌∙◌, subst, arith}
+use Rattle.std.specs.Prelude.{⊤}
+use Rattle.std.proofs.lemmas.Bool.{ne_eqb, eqb-false}
 use Rattle.datagrams.specs.Datagram as Raw
 use Rattle.esc_registers.specs.declared.registers.Registers as Esc
-use Rattle.frame_pass.specs.Passing.{passed, datagrams_after}
+use Rattle.frame_pass.specs.Passing.{datagrams_after}
 use Rattle.frame_view.specs.View.{Lens}
-use Rattle.frames_seen.specs.Own.{own_of, IsApart, IsAlone, NoneMeant}
-use Rattle.frames_seen.specs.Places.{AllElse}
+use Rattle.frames_seen.specs.Own.{own_of, IsApart, IsAlone}
 use Rattle.frames_seen.specs.Ring.{all_after, AllApart}
-use Rattle.frames_seen.specs.Slaves.{IsOpen}
 use Rattle.frames_seen.specs.Spoken.{AllSpoken}
 use Rattle.frames_seen.proofs.Aparts.{open_apart, none_apart}
 use Rattle.frames_seen.proofs.Owns.{other_view}
 use Rattle.frames_seen.proofs.Places.{all_else_behind, open_alone}
 use Rattle.link_mails.specs.Body.{Body}
-use Rattle.mailbox_slave.specs.Kept.{Kept}
 use Rattle.segment_model.specs.Slaves.{Serving}
 use Rattle.slave_steps.specs.Node.{Node, new_box}
 use Rattle.life_model.specs.Lives.{Opening, Stand}
@@ -23,10 +20,10 @@ use Rattle.slave_lives.specs.Opening.{Plan, IsPlan, AtMostOne}
 use Rattle.slave_lives.specs.Lived.{IsForOpen}
 use Rattle.slave_lives.specs.Returning.{IsTurn}
 use Rattle.slave_lives.specs.Rings.{registers_of, come_to}
-use Rattle.slave_lives.specs.Seats.{Seat, StandsYet, KnownAs, ComesAs, MeetsAs, SeatIs, AllSeats, IsElsewhere, AreDistinct, AllCome, MeetsOne, AllMeet, nodes_of}
+use Rattle.slave_lives.specs.Seats.{Seat, StandsYet, KnownAs, ComesAs, MeetsAs, AllSeats, IsElsewhere, AreDistinct, AllCome, MeetsOne, AllMeet, nodes_of}
 use Rattle.slave_lives.specs.Stands.{turn_of, IsClosed}
 use Rattle.slave_lives.specs.Steps.{Running}
-use Rattle.slave_lives.specs.Ways.{OneOnWay, AllNotFor}
+use Rattle.slave_lives.specs.Ways.{OneOnWay}
 use Rattle.slave_lives.proofs.Arrives as Arrives
 use Rattle.slave_lives.proofs.Closed.{closed_apart}
 use Rattle.slave_lives.proofs.Closing.{again_is}
@@ -83,17 +80,19 @@ module _ {S : Type 0} (u : Running S) (boot : Bool) (lens : ℕ → Lens) where
   all_on : (place behind : ℕ) (ss : List (Seat S)) (q : Plan) (r : Esc.Registers) (ds : List Raw.Datagram) → behind < place → place + length ss < 17 → IsElsewhere q ss → AllSeats u boot lens ss →
       ((station : ℕ) → (0 == station) ≡ false → (q.station == station) ≡ false → IsApart station r ds) → AllCome place behind ss ds → AllCome place (suc behind) ss (datagrams_after r ds)
   all_on place behind [] q r ds before near other seats apart come = tt
-  all_on place behind (s ∷ ss) q r ds before near other seats apart come =
-      (comes_on s.plan s.stand s.node place behind r ds seats.0.plan seats.0.known (omega arith) before (apart s.plan.station seats.0.named other.0) come.0,
-      all_on (suc place) behind ss q r ds (omega arith) (omega arith) other.1 seats.1 apart come.1)
+  all_on place behind (s ∷ ss) q r ds before near other seats apart come = (
+    comes_on s.plan s.stand s.node place behind r ds seats.0.plan seats.0.known (omega arith) before (apart s.plan.station seats.0.named other.0) come.0,
+    all_on (suc place) behind ss q r ds (omega arith) (omega arith) other.1 seats.1 apart come.1,
+  )
 
   -- TO EACH
   pub all_meet : (place : ℕ) (ss : List (Seat S)) (ds : List Raw.Datagram) → place + length ss < 17 → AreDistinct ss → AllSeats u boot lens ss → AllCome place place ss ds → AllMeet ss ds
   all_meet place [] ds near distinct seats come = tt
   all_meet place (s ∷ ss) ds near distinct seats come =
-      let one = meets_one s s.stand place ds (omega arith) seats.0.plan seats.0.known come.0 in
-      (record { meets = one.0; apart = one.1 },
-      all_meet (suc place) ss (datagrams_after s.node.registers ds) (omega arith) distinct.1 seats.1 (all_on (suc place) place ss s.plan s.node.registers ds (omega arith) (omega arith) distinct.0 seats.1 one.1 come.1))
+      let one = meets_one s s.stand place ds (omega arith) seats.0.plan seats.0.known come.0 in (
+        record { meets = one.0; apart = one.1 },
+        all_meet (suc place) ss (datagrams_after s.node.registers ds) (omega arith) distinct.1 seats.1 (all_on (suc place) place ss s.plan s.node.registers ds (omega arith) (omega arith) distinct.0 seats.1 one.1 come.1),
+      )
 
 module _ {S : Type 0} where
   pub all_meet_first : (u : Running S) (boot : Bool) (lens : ℕ → Lens) (ss : List (Seat S)) (ds : List Raw.Datagram) → length ss < 17 → AreDistinct ss → AllSeats u boot lens ss → AllCome 0 0 ss ds → AllMeet ss ds

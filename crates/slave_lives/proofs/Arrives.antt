@@ -1,11 +1,9 @@
 -- A FRAME COMES to a closed slave: at most the access in hand means it.
-use Rattle.std.proofs.Common.{◌≡◌, ◌⊎◌, inl, inr, ℕ, suc, ◌+◌, ◌<◌, ◌≤◌, ◌==◌, Bool, true, false, List, [], ◌∷◌, length, refl, ap, sym, ◌∙◌, subst, arith}
-use Rattle.std.specs.Prelude.{if◌then◌else◌, None, Option}
+use Rattle.std.proofs.Common.{◌≡◌, ◌⊎◌, inl, inr, ℕ, ◌<◌, ◌==◌, Bool, true, false, List, refl, ap, sym, ◌∙◌, subst, arith}
+use Rattle.std.specs.Prelude.{if◌then◌else◌, None}
 use Rattle.datagrams.specs.Datagram as Raw
-use Rattle.datagrams.specs.declared.command.Command.TheVariants.{Apwr, Aprd, Fpwr, Fprd}
-use Rattle.datagrams.specs.declared.head.Head.{Head}
 use Rattle.esc_registers.specs.declared.registers.Registers as Esc
-use Rattle.esc_registers.specs.Access.{is_meant, row_of, passed_at}
+use Rattle.esc_registers.specs.Access.{row_of, passed_at}
 use Rattle.frame_pass.specs.Passing.{passed}
 use Rattle.frame_view.specs.View.{Lens}
 use Rattle.frames_seen.specs.Own.{NoneMeant}

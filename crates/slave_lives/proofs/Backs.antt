@@ -1,9 +1,8 @@
 -- AN ACCESS COMES BACK from its slave as it made it: the slaves behind leave it.
-use Rattle.std.proofs.Common.{◌≡◌, ◌⊎◌, inl, inr, ℕ, suc, ◌+◌, ◌%◌, ◌<◌, ◌≤◌, ◌==◌, ◌&&◌, Bool, true, false, List, [], ◌∷◌, length, refl, ap, ap₂, sym, ◌∙◌, subst, arith}
+use Rattle.std.proofs.Common.{◌≡◌, inl, inr, ℕ, suc, ◌+◌, ◌%◌, ◌<◌, ◌≤◌, ◌==◌, ◌&&◌, Bool, true, false, List, [], ◌∷◌, length, refl, ap, ap₂, sym, ◌∙◌, subst, arith}
 use Rattle.std.specs.Prelude.{if◌then◌else◌, Option, Some, None}
 use Rattle.std.proofs.lemmas.Bool.{ne_eqb, eq-eqb}
 use Rattle.datagrams.specs.Datagram as Raw
-use Rattle.datagrams.specs.declared.command.Command.{Command}
 use Rattle.datagrams.specs.declared.head.Head.{Head}
 use Rattle.esc_registers.specs.declared.registers.Registers as Esc
 use Rattle.esc_registers.specs.declared.row.Row.{Row}

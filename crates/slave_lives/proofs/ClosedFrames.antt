@@ -1,11 +1,11 @@
 -- A RING'S EXCHANGE is a frame of its closed slave's life.
-use Rattle.std.proofs.Common.{◌≡◌, ℕ, Bool, true, false, List, length, refl, ap, sym, ◌∙◌, subst}
+use Rattle.std.proofs.Common.{◌≡◌, ℕ, Bool, true, false, length, refl, ap, sym, subst}
 use Rattle.std.specs.Prelude.{Option, if◌then◌else◌}
 use Rattle.datagrams.specs.Datagram as Raw
 use Rattle.frame_view.specs.View.{Lens}
 use Rattle.segment_model.specs.Slaves.{Found}
 use Rattle.segment_ring.specs.declared.wire.Fate.{Fate}
-use Rattle.segment_ring.specs.declared.wire.Fate.TheVariants.{Pass, Lost}
+use Rattle.segment_ring.specs.declared.wire.Fate.TheVariants.{Pass}
 use Rattle.segment_ring.specs.Ring.{is_in_pace}
 use Rattle.slave_steps.specs.Node.{Node}
 use Rattle.life_model.specs.Lives.{Opening, Stand, Life, opening_back}

@@ -1,7 +1,7 @@
 -- OPENINGS, by how the master stands to the slave: frames, what came back, and steps.
-use Rattle.std.proofs.Common.{◌≡◌, ◌≢◌, ◌⊎◌, inl, inr, ℕ, suc, ◌+◌, ◌<◌, ◌==◌, ◌&&◌, not, Bool, true, false, List, [], ◌∷◌, length, refl, ap, ap₂, sym, ◌∙◌, subst, arith}
+use Rattle.std.proofs.Common.{◌≡◌, ◌≢◌, ◌⊎◌, inl, inr, ℕ, suc, ◌<◌, ◌==◌, ◌&&◌, Bool, true, false, List, [], ◌∷◌, length, refl, ap, ap₂, sym, ◌∙◌, subst, arith}
 use Rattle.std.specs.Prelude.{Option, Some, None, if◌then◌else◌, nat_lt}
-use Rattle.std.proofs.lemmas.Bool.{eq-eqb, eqb-true, eqb-false, ltb-true, and_parts}
+use Rattle.std.proofs.lemmas.Bool.{eqb-true, eqb-false, ltb-true, and_parts}
 use Rattle.datagrams.specs.Datagram as Raw
 use Rattle.ec_fields.specs.Fields.{number_at, bits_of}
 use Rattle.esc_registers.specs.declared.registers.Registers as Esc
@@ -9,10 +9,7 @@ use Rattle.datagrams.specs.declared.head.Head.{Head}
 use Rattle.frame_pass.specs.Passing.{passed, datagram_after, registers_after}
 use Rattle.frame_pass.proofs.Parts.{head_kept}
 use Rattle.frames_seen.proofs.Rows.{access_len}
-use Rattle.frame_view.specs.View.{Lens, datagram_seen, station_of, access_of, read_access, found_of, state_found}
-use Rattle.frames_seen.specs.Own.{NoneMeant}
-use Rattle.frames_seen.specs.Slaves.{registers_seen, IsOpen}
-use Rattle.frames_seen.specs.Spoken.{means}
+use Rattle.frame_view.specs.View.{Lens, datagram_seen, station_of, access_of, read_access, found_of}
 use Rattle.frames_seen.proofs.Owns.{unmoved}
 use Rattle.mailbox_slave.specs.Kept.{Kept}
 use Rattle.mailbox_slave.specs.Registers.{in_len}
@@ -24,15 +21,13 @@ use Rattle.slave_lives.specs.Opening.{Plan, IsPlan, aim, IsAccess, IsBring, IsBr
 use Rattle.slave_lives.specs.Returning.{Clears, IsReturned, IsFrozen, IsTurn, turn_behind}
 use Rattle.slave_lives.specs.Rings.{met}
 use Rattle.slave_lives.specs.Stands.{bring_turn, turn_of, IsBringStep, IsClosed, IsUp, ClosedAs, CameBack}
-use Rattle.slave_lives.specs.Steps.{Running, HasStepped, KeepsOthers}
-use Rattle.slave_lives.specs.Ways.{OneOnWay, AllNotFor}
+use Rattle.slave_lives.specs.Steps.{Running, HasStepped}
 use Rattle.slave_lives.proofs.Brought as Brought
 use Rattle.slave_lives.proofs.NodeSteps as Stepped
 use Rattle.slave_lives.proofs.Openings as Openings
 use Rattle.slave_lives.proofs.Returns as Returns
 use Rattle.slave_lives.proofs.RingFrames.{after_keeps}
 use Rattle.slave_lives.proofs.Turning as Turning
-use Rattle.slave_lives.proofs.Ways as Way
 
 is_bring : (step : ℕ) → IsBringStep step → IsBring (bring_turn step)
 is_bring step IsBringStep.address = IsBring.address

@@ -1,24 +1,21 @@
 -- AN EPOCH BEGINS with the slave as its opening leaves it.
-use Rattle.std.proofs.Common.{◌≡◌, ◌⊎◌, inl, inr, ℕ, suc, ◌<◌, ◌==◌, Bool, true, false, List, [], ◌∷◌, length, Ok, refl, ap, ap₂, sym, ◌∙◌, subst, arith}
-use Rattle.std.specs.Prelude.{Option, Some, None, option_map}
-use Rattle.esc_registers.specs.declared.registers.Registers as Esc
-use Rattle.exchange_model.specs.Exchange.{Exchange}
-use Rattle.frames_seen.specs.Slaves.{registers_seen, slave_of}
+use Rattle.std.proofs.Common.{◌≡◌, ◌⊎◌, inr, ℕ, suc, Bool, true, List, [], ◌∷◌, length, Ok, refl, ap, sym, ◌∙◌, subst, arith}
+use Rattle.std.specs.Prelude.{Option, None, option_map}
+use Rattle.frames_seen.specs.Slaves.{registers_seen}
 use Rattle.link_model.specs.Link.{new_link}
 use Rattle.link_model.specs.Slave.{Node}
 use Rattle.link_mails.specs.Body.{Body, uncounted}
-use Rattle.mailbox_slave.specs.Node.{node_of}
-use Rattle.segment_model.specs.Slaves.{Registers, Slave, Serving, first_waiting}
+use Rattle.segment_model.specs.Slaves.{Slave, Serving, first_waiting}
 use Rattle.segment_model.specs.Record.{Frame}
-use Rattle.state_exchange.specs.Stated.{Stated, IsStated}
+use Rattle.state_exchange.specs.Stated.{IsStated}
 use Rattle.state_law.specs.Shows.{slave_table}
 use Rattle.state_law.proofs.Tables.{is_table}
 use Rattle.slave_steps.specs.Node as Running
-use Rattle.life_model.specs.Lives.{Spot, Era, new_era}
-use Rattle.life_model.specs.Eras.{EraIs, planned, opened_slave}
+use Rattle.life_model.specs.Lives.{Spot}
+use Rattle.life_model.specs.Eras.{EraIs, opened_slave}
 use Rattle.life_model.proofs.Eras as Eras
 use Rattle.slave_lives.specs.Opening.{Plan}
-use Rattle.slave_lives.specs.Lived.{Behind, IsBehind, table_of, node_seen, LivesEra, OpensEra, opened_era, BegunEra}
+use Rattle.slave_lives.specs.Lived.{Behind, IsBehind, table_of, node_seen, OpensEra, opened_era, BegunEra}
 use Rattle.slave_lives.proofs.Openings.{allowed}
 
 none_waits : {X : Type 0} (xs : List X) → first_waiting xs ≡ None → xs ≡ []
@@ -49,24 +46,26 @@ module _ {S V A Q R : Type 0} (w : Behind S V A Q R) (is : IsBehind w) (stated :
       let here : r.station ≡ spot.station = o.opened.station ∙ o.station in
       let ready : w.exchange.ready v ≡ true = ap (λ (a : ℕ). w.exchange.ready (w.sees a n.server).server) state ∙ o.ready in
       let begins = Eras.era_begins {M = Body} {Q = Q} {R = R} w.exchange w.states w.processor (table_of w) spot cleared opened fs v r frames
-          (record {
-            plan = record { stations = (tt, tt); ready = (ready, tt) };
-            apart = ((tt, tt), tt);
-            tells = tells;
-            brought = (
-              (λ q a b c. is.carries q,
-              λ answers. record {
-                control = λ word e. ap (λ (x : ℕ × Bool). x.0) (o.opened.word word e) ∙ sym state;
-                refused = o.opened.refused;
-                sits = is_table w.boot true al sits;
-                state = knows;
-              }),
-              tt,
-            );
-          }) here in
+      (record {
+        plan = record { stations = (tt, tt); ready = (ready, tt) };
+        apart = ((tt, tt), tt);
+        tells = tells;
+        brought = (
+          (
+            λ q a b c. is.carries q,
+            λ answers. record {
+              control = λ word e. ap (λ (x : ℕ × Bool). x.0) (o.opened.word word e) ∙ sym state;
+              refused = o.opened.refused;
+              sits = is_table w.boot true al sits;
+              state = knows;
+            },
+          ),
+          tt,
+        );
+      }) here in
       let slave : node_seen w n ≡ opened_slave Body Q R spot v r =
-          ap (λ (x : Node Body S). let t : Slave V Body = record { node = record { out = x.out; inn = x.inn; server = w.sees al n.server }; registers = r } in t) o.opened.node
-          ∙ ap (λ (ms : List Body). let t : Slave V Body = record { node = (new_link {B = Body} (let sv : Serving V Body = record { server = v; waiting = ms } in sv)).node; registers = r } in t) none in
+      ap (λ (x : Node Body S). let t : Slave V Body = record { node = record { out = x.out; inn = x.inn; server = w.sees al n.server }; registers = r } in t) o.opened.node
+      ∙ ap (λ (ms : List Body). let t : Slave V Body = record { node = (new_link {B = Body} (let sv : Serving V Body = record { server = v; waiting = ms } in sv)).node; registers = r } in t) none in
       record {
         lives = record {
           opened = opened;

@@ -1,28 +1,22 @@
 -- AN OPEN SLAVE'S NODE lives its epoch on by each frame of its ring.
-use Rattle.std.proofs.Common.{◌≡◌, ◌⊎◌, inl, inr, ℕ, zero, suc, ◌+◌, ◌-◌, ◌<◌, ◌==◌, Bool, true, false, List, [], ◌∷◌, ◌++◌, length, refl, ap, ap₂, sym, ◌∙◌, subst, arith, length-append}
-use Rattle.std.specs.Prelude.{if◌then◌else◌, Some, None}
+use Rattle.std.proofs.Common.{◌≡◌, ℕ, zero, suc, ◌+◌, ◌-◌, ◌==◌, Bool, true, false, List, [], ◌∷◌, ◌++◌, length, refl, ap, ap₂, sym, ◌∙◌, subst, arith, length-append}
+use Rattle.std.specs.Prelude.{if◌then◌else◌}
 use Rattle.datagrams.specs.Datagram as Raw
 use Rattle.ec_fields.specs.Fields.{bits_of}
 use Rattle.esc_registers.specs.declared.registers.Registers as Esc
-use Rattle.esc_registers.specs.Registers.{are_areas_right}
-use Rattle.exchange_model.specs.Exchange.{Exchange}
-use Rattle.frame_pass.specs.Passing.{registers_after, datagrams_after}
-use Rattle.frame_view.specs.View.{Lens}
+use Rattle.frame_pass.specs.Passing.{registers_after}
 use Rattle.frame_view.specs.Seen.{datagrams_seen}
 use Rattle.frames_seen.specs.Kept.{FrameKeeps}
-use Rattle.frames_seen.specs.Own.{own_of, own_seen, IsAlone}
-use Rattle.frames_seen.specs.Ring.{all_after, AllApart, IsRingMet}
+use Rattle.frames_seen.specs.Own.{own_seen}
+use Rattle.frames_seen.specs.Ring.{IsRingMet}
 use Rattle.frames_seen.specs.Slaves.{registers_seen, slave_of, IsOpen}
 use Rattle.frames_seen.proofs.Rings as FrameRings
 use Rattle.link_model.specs.Frames.{Ask, node_meets}
-use Rattle.link_model.specs.Mails.{LinkMail}
-use Rattle.link_model.specs.Segment.{RingFate}
 use Rattle.link_model.specs.Slave.{Node}
 use Rattle.link_mails.specs.Body.{Body}
-use Rattle.mailbox_slave.specs.Kept.{Kept}
 use Rattle.mailbox_slave.specs.Node.{in_side}
 use Rattle.mailbox_slave.specs.Registers.{in_len}
-use Rattle.segment_model.specs.Slaves.{Registers, Slave, Serving, Datagram, Ring, slave_meets, slave_after, frame_after, ring_after, ring_back, ring_steps, slave_steps, first_meet, all_meet}
+use Rattle.segment_model.specs.Slaves.{Slave, Datagram, Ring, slave_meets, slave_after, frame_after, ring_after, ring_back, ring_steps, first_meet}
 use Rattle.segment_model.specs.Record.{Frame, News}
 use Rattle.segment_ring.specs.declared.wire.Fate.{Fate}
 use Rattle.segment_ring.specs.declared.wire.Fate.TheVariants.{Pass, Lost}
@@ -33,9 +27,8 @@ use Rattle.life_model.specs.Own.{own, own_fate}
 use Rattle.life_model.specs.Lives.{Spot, Era, AsksOpen, era_next, era_after}
 use Rattle.life_model.specs.Eras.{EraIs}
 use Rattle.life_model.proofs.Eras as Eras
-use Rattle.slave_lives.specs.Steps as The
 use Rattle.slave_lives.specs.Steps.{StaysUp, Stands, word_carried}
-use Rattle.slave_lives.specs.Nodes.{IsRunning, IsRoomy, stepped, StepsOn}
+use Rattle.slave_lives.specs.Nodes.{IsRunning, IsRoomy, stepped}
 use Rattle.slave_lives.specs.Rings.{registers_of, come_to, come_back, met, turned, is_met_at, is_among, fate_seen}
 use Rattle.slave_lives.specs.Lived.{Behind, IsBehind, table_of, node_seen, LivesEra, frame_seen, returned, IsForOpen, StepsUp}
 use Rattle.slave_lives.proofs.NodeSteps.{steps_on}

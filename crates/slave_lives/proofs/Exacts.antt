@@ -1,5 +1,5 @@
 -- THE BOX, octet by octet, is the model's: steps 1 and 2, and 4 and 5.
-use Rattle.std.proofs.Common.{◌≡◌, ◌⊎◌, inl, inr, ℕ, ◌+◌, ◌≤◌, ◌<◌, ◌==◌, ◌&&◌, Bool, true, false, not, List, [], ◌∷◌, length, Result, Ok, Err, is_none, refl, ap, ap₂, sym, ◌∙◌, subst, arith}
+use Rattle.std.proofs.Common.{◌≡◌, ℕ, ◌+◌, ◌&&◌, Bool, true, false, not, length, Ok, is_none, refl, ap, sym, ◌∙◌, subst, arith}
 use Rattle.std.specs.Prelude.{Option, Some, None, option_map, IsSome, if◌then◌else◌, replicate, ◌-◌}
 use Rattle.std.specs.Option.{ForSome}
 use Rattle.mailbox_mail.specs.declared.mail.Mail.{Mail}

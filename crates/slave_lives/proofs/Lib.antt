@@ -21,3 +21,4 @@ pub mod Arrives
 pub mod AllSeats
 pub mod ClosedFrames
 pub mod Backs
+mod Worked

@@ -1,7 +1,5 @@
 -- A running slave as it is switched on, and behind octets that pass it.
-use Rattle.std.proofs.Common.{◌≡◌, ℕ, ◌<◌, Bool, true, List, length, refl, ap, sym, ◌∙◌, subst, arith}
-use Rattle.std.specs.Prelude.{Some, None}
-use Rattle.frame_pass.specs.Passing.{frame_passed}
+use Rattle.std.proofs.Common.{◌≡◌, ℕ, Bool, List, refl, sym, ◌∙◌, subst, arith}
 use Rattle.frames_seen.proofs.Passes as Octets
 use Rattle.mailbox_slave.specs.Registers.{in_len}
 use Rattle.slave_steps.specs.Node as Node

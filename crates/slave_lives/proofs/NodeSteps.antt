@@ -1,5 +1,5 @@
 -- A STEP of a running slave's processor, in whatever state it is, is what the session's step says.
-use Rattle.std.proofs.Common.{◌≡◌, ℕ, ◌+◌, ◌-◌, ◌≤◌, ◌<◌, ◌==◌, ◌&&◌, Bool, true, false, not, length, refl, ap, ap₂, sym, ◌∙◌, subst, arith, length-append}
+use Rattle.std.proofs.Common.{◌≡◌, ℕ, ◌+◌, ◌-◌, ◌<◌, ◌==◌, ◌&&◌, Bool, true, false, not, length, refl, ap, ap₂, sym, ◌∙◌, subst, arith, length-append}
 use Rattle.std.specs.Prelude.{Option, Some, None, if◌then◌else◌, replicate}
 use Rattle.std.specs.Option.{ForSome}
 use Rattle.std.proofs.lemmas.List.{length-replicate}
@@ -8,7 +8,6 @@ use Rattle.mailbox_mail.specs.Area.{mail_area}
 use Rattle.al_state.specs.declared.machine.Al.{Al}
 use Rattle.esc_registers.specs.declared.registers.Registers as Esc
 use Rattle.esc_registers.specs.Manager.{is_right, is_enabled, is_repeat_asked}
-use Rattle.esc_registers.specs.Registers.{are_areas_right}
 use Rattle.link_model.specs.Counters.{next_counter, repeats}
 use Rattle.link_model.specs.Slave as Model
 use Rattle.link_model.specs.Slave.{Node, Server, node_look, node_serve}
@@ -22,7 +21,7 @@ use Rattle.mailbox_slave.specs.Exact.{Boxes, with_acknowledge, kept_noticed, las
 use Rattle.segment_model.specs.Slaves.{Registers}
 use Rattle.slave_steps.specs.Node as Running
 use Rattle.slave_steps.specs.Node.{is_init, new_box}
-use Rattle.slave_steps.specs.Step.{looked, shown, al_asked, al_behind, word_behind, served, returned, acted}
+use Rattle.slave_steps.specs.Step.{looked, shown, al_asked, al_behind, word_behind, served, returned}
 use Rattle.slave_steps.proofs.Init.{stays_new}
 use Rattle.frames_seen.specs.Slaves.{registers_seen}
 use Rattle.slave_lives.specs.Steps as The
@@ -31,7 +30,7 @@ use Rattle.slave_lives.specs.Returning.{Clears, IsNewBox}
 use Rattle.slave_lives.specs.Nodes.{IsPlaced, IsKept, GivesPlaced, IsRoomy, IsShown, IsRunning, stepped, StepsOn}
 use Rattle.slave_lives.proofs.Exacts.{looked_node, answered_node, taken_node, taken_by, offered_is, noticed_kept, answered_kept, offered_kept}
 use Rattle.slave_lives.proofs.Opens.{kept_right}
-use Rattle.slave_lives.proofs.Turning.{renewed, new_node, answers, into_init}
+use Rattle.slave_lives.proofs.Turning.{renewed, new_node, answers}
 use Rattle.slave_lives.proofs.Words.{Carried, carried_out, shows_state, status_small}
 use Rattle.state_model.specs.States as States
 use Rattle.state_law.specs.Shows.{slave_table}
@@ -308,8 +307,7 @@ module _ {S : Type 0} (u : The.Running S) (clears : Clears u) (n : Running.Node 
       let asks = request_of r in
       let ack = acknowledge_of r in
       let by_init : looked_as ≡ node_answered (node_of k r s) = ap (λ (c : Bool). if c then node_answered (node_of k r s) else node_look (node_of k r s)) was in
-      let here : looked_as ≡ renewed out inn asks asks s = by_init ∙ ap (λ (x : Node Body S). node_answered x) start ∙ answers out inn asks ack s in
-      (
+      let here : looked_as ≡ renewed out inn asks asks s = by_init ∙ ap (λ (x : Node Body S). node_answered x) start ∙ answers out inn asks ack s in (
         stays_new n.al k b.kept r b.registers runs.init refl was,
         clear,
         node_here ∙ here ∙ sym (ap (λ (x : Node Body S). node_cleared u.clear x) here ∙ ap (renewed out inn asks asks) clear),

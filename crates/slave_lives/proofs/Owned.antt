@@ -1,12 +1,11 @@
 -- A SLAVE'S OWN DATAGRAMS, of octets and as data, are the same.
-use Rattle.std.proofs.Common.{◌≡◌, ℕ, ◌==◌, ◌&&◌, Bool, true, false, List, [], ◌∷◌, refl, ap, sym, ◌∙◌, subst}
-use Rattle.std.specs.Prelude.{if◌then◌else◌, filter, map, nat_le, ◌-◌}
+use Rattle.std.proofs.Common.{◌≡◌, ℕ, ◌==◌, ◌&&◌, Bool, true, false, List, [], ◌∷◌, refl, ap, ◌∙◌}
+use Rattle.std.specs.Prelude.{if◌then◌else◌, nat_le, ◌-◌}
 use Rattle.datagrams.specs.declared.command.Command.{Command}
 use Rattle.datagrams.specs.declared.command.Command.TheVariants.{Aprd, Apwr, Aprw, Fprd, Fpwr, Fprw}
 use Rattle.datagrams.specs.Datagram as Raw
 use Rattle.esc_registers.specs.Access.{is_by_station}
-use Rattle.link_mails.specs.Body.{Body}
-use Rattle.segment_model.specs.Slaves.{Address, Datagram}
+use Rattle.segment_model.specs.Slaves.{Address}
 use Rattle.segment_model.specs.Record.{is_for}
 use Rattle.frame_view.specs.View.{Lens, datagram_seen, address_of, place_of}
 use Rattle.frame_view.specs.Seen.{datagrams_seen}

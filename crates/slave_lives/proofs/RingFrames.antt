@@ -1,23 +1,22 @@
 -- A RING, octet by octet: each slave meets the datagrams as those before it leave them.
-use Rattle.std.proofs.Common.{◌≡◌, ℕ, zero, suc, Bool, true, false, List, [], ◌∷◌, ◌++◌, length, map, refl, ap, ap₂, sym, ◌∙◌, subst}
+use Rattle.std.proofs.Common.{◌≡◌, ℕ, zero, suc, Bool, true, false, List, [], ◌∷◌, ◌++◌, length, refl, ap, ap₂, sym, ◌∙◌, subst}
 use Rattle.std.specs.Prelude.{if◌then◌else◌}
 use Rattle.datagrams.specs.Datagram as Raw
 use Rattle.datagrams.specs.Frame.{IsFrame}
 use Rattle.esc_registers.specs.declared.registers.Registers as Esc
-use Rattle.frame_pass.specs.Passing.{passed, frame_passed, registers_after, datagrams_after, IsPassed}
+use Rattle.frame_pass.specs.Passing.{passed, registers_after, datagrams_after}
 use Rattle.frames_seen.specs.Kept.{FrameKeeps}
 use Rattle.frames_seen.specs.Ring.{all_after}
 use Rattle.frames_seen.proofs.Passes as Octets
 use Rattle.frames_seen.proofs.Rows.{access_keeps, keeps_both}
-use Rattle.mailbox_slave.specs.Registers.{in_len}
 use Rattle.segment_ring.specs.declared.wire.Fate.{Fate}
 use Rattle.segment_ring.specs.declared.wire.Fate.TheVariants.{Pass, Lost}
 use Rattle.segment_ring.specs.Schedule.{fate_at}
-use Rattle.segment_ring.specs.Ring.{RingState, is_in_pace, nodes_passed, frame_met, nodes_stepped, ring_behind, ring_returned}
+use Rattle.segment_ring.specs.Ring.{RingState, is_in_pace, nodes_passed, frame_met, nodes_stepped}
 use Rattle.slave_steps.specs.Node.{Node, node_passed}
 use Rattle.slave_lives.specs.Steps.{Running}
 use Rattle.slave_lives.specs.Nodes.{IsKept, IsRunning, stepped}
-use Rattle.slave_lives.specs.Rings.{registers_of, is_among, is_met_at, come_to, come_back, met, turned, IsExchanged}
+use Rattle.slave_lives.specs.Rings.{registers_of, is_among, is_met_at, come_to, come_back, met, IsExchanged}
 
 -- what only the slave writes stays
 pub after_keeps : (r : Esc.Registers) (ds : List Raw.Datagram) → FrameKeeps r (registers_after r ds)

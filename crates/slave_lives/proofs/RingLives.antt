@@ -1,6 +1,5 @@
 -- A RING'S EXCHANGE of octets is a frame of its open slave's life.
-use Rattle.std.proofs.Common.{◌≡◌, ℕ, Bool, true, List, [], ◌∷◌, ◌++◌, length, refl, ap, ap₂, sym, ◌∙◌, subst}
-use Rattle.datagrams.specs.Datagram as Raw
+use Rattle.std.proofs.Common.{◌≡◌, ℕ, Bool, List, [], ◌∷◌, ◌++◌, length, refl, ap, ap₂, sym, subst}
 use Rattle.datagrams.specs.Frame.{IsFrame}
 use Rattle.frame_view.specs.View.{Lens}
 use Rattle.frame_view.specs.Seen.{seen, datagrams_seen}
@@ -10,13 +9,11 @@ use Rattle.segment_model.specs.Slaves.{Datagram}
 use Rattle.segment_model.specs.Record.{Frame, News}
 use Rattle.segment_ring.specs.declared.wire.Fate.{Fate}
 use Rattle.segment_ring.specs.declared.wire.Fate.TheVariants.{Pass, Lost}
-use Rattle.segment_ring.specs.Ring.{ring_returned}
 use Rattle.task_model.specs.Accounts.{Pick}
 use Rattle.life_model.specs.Lives.{Spot, Era, AsksOpen, era_next, era_after}
-use Rattle.slave_steps.specs.Node.{Node, node_passed}
 use Rattle.slave_lives.specs.Steps.{Running}
 use Rattle.slave_lives.specs.Rings.{come_back, IsExchanged}
-use Rattle.slave_lives.specs.Lived.{Behind, IsBehind, LivesEra, RingFrame, fate_of, node_behind, octets_back, frame_of, frame_seen, returned, StandsBehind, OpenFrame, LivedOn}
+use Rattle.slave_lives.specs.Lived.{Behind, IsBehind, LivesEra, RingFrame, fate_of, node_behind, octets_back, frame_of, returned, StandsBehind, OpenFrame, LivedOn}
 use Rattle.slave_lives.proofs.EraFrames.{lives_on}
 use Rattle.slave_lives.proofs.RingFrames.{exchanged}
 
@@ -54,6 +51,6 @@ lived_on w is more passed spot e fs t pick news o =
     record {
       stands = stands_behind w.running t;
       lives = subst (λ (x : List (Datagram Body) × List (Datagram Body)).
-      LivesEra w spot (era_after w.exchange.speech w.states.acknowledged more passed spot.station (length fs) news x.0 f.fate x.1 next) (fs ++ record { sent = x.0; fate = f.fate; back = x.1 } ∷ []) (node_behind w.running t))
-      (ap₂ (λ (a b : List (Datagram Body)). (a, b)) (sym sent) (sym back)) lives;
+          LivesEra w spot (era_after w.exchange.speech w.states.acknowledged more passed spot.station (length fs) news x.0 f.fate x.1 next) (fs ++ record { sent = x.0; fate = f.fate; back = x.1 } ∷ []) (node_behind w.running t))
+          (ap₂ (λ (a b : List (Datagram Body)). (a, b)) (sym sent) (sym back)) lives;
     }

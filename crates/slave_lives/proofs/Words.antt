@@ -1,10 +1,9 @@
 -- THE AL CONTROL WORD, as the processor carries it out over registers, is what the model carries out over what they show.
-use Rattle.std.proofs.Common.{◌≡◌, ◌≢◌, ◌⊎◌, inl, inr, ℕ, ◌+◌, ◌<◌, ◌≤◌, ◌==◌, ◌&&◌, ◌||◌, Bool, true, false, not, refl, ap, ap₂, sym, ◌∙◌, subst, arith}
+use Rattle.std.proofs.Common.{◌≡◌, ◌≢◌, ◌⊎◌, inl, inr, ℕ, ◌+◌, ◌<◌, ◌==◌, ◌&&◌, ◌||◌, Bool, true, false, not, refl, ap, ap₂, sym, ◌∙◌, arith}
 use Rattle.std.specs.Prelude.{Option, Some, None, if◌then◌else◌}
 use Rattle.std.proofs.lemmas.Bool.{eqb-true, or_cases}
 use Rattle.ec_fields.specs.Fields.{bits_of}
 use Rattle.al_state.specs.declared.machine.Al.{Al}
-use Rattle.al_state.specs.declared.machine.Asked.{Asked}
 use Rattle.al_state.specs.declared.machine.Asked.TheVariants.{Ignored}
 use Rattle.al_state.specs.Request.{is_state, is_change, refusal_of, carried, request_of}
 use Rattle.esc_registers.specs.declared.registers.Registers as Esc

@@ -2,7 +2,6 @@
 use Rattle.std.specs.Prelude.{◌≡◌, ◌<◌, ◌∷◌, ◌++◌, ℕ, Bool, true, List, [], length, Option, Some, None}
 use Rattle.datagrams.specs.Datagram as Raw
 use Rattle.datagrams.specs.Frame.{IsFrame}
-use Rattle.esc_registers.specs.declared.registers.Registers as Esc
 use Rattle.exchange_model.specs.Exchange.{Exchange}
 use Rattle.frame_view.specs.View.{Lens}
 use Rattle.frame_view.specs.Seen.{seen, datagrams_seen}

@@ -1,5 +1,5 @@
 -- A RUNNING SLAVE, octet by octet: what always holds of it, and what its frames and steps leave.
-use Rattle.std.specs.Prelude.{◌≡◌, ℕ, ◌+◌, ◌<◌, ◌≤◌, Bool, true, Option, Some, None, IsSome, length}
+use Rattle.std.specs.Prelude.{◌≡◌, ℕ, ◌+◌, ◌<◌, ◌≤◌, true, Some, None, IsSome, length}
 use Rattle.std.specs.Option.{ForSome}
 use Rattle.mailbox_mail.specs.declared.mail.Mail.{Mail}
 use Rattle.al_state.specs.declared.machine.Al.{Al}

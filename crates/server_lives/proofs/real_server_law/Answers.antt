@@ -1,0 +1,9 @@
+use Rattle.slave_server.proofs.SeenLaw.{is_exchange}
+use Rattle.server_lives.proofs.Reals as Its
+use Rattle.server_lives.proofs.real_server_law.Goals as goal
+
+pub returns : goal.returns
+returns c = record {
+  behind = λ p boot lens. Its.is_behind is_exchange p boot lens;
+  steps = λ p n e. Its.steps_as p n e;
+}

@@ -1,0 +1,40 @@
+-- The services of a slave of a plan, as its life has them: the exchange of its four protocols behind its mailboxes.
+use Rattle.std.specs.Prelude.{◌≡◌, ℕ, Bool, true}
+use Rattle.frame_view.specs.View.{Lens}
+use Rattle.eoe_model.specs.Network.{Station}
+use Rattle.state_exchange.specs.Families.{InState, states_of}
+use Rattle.state_law.specs.Shows.{slave_table}
+use Rattle.state_model.specs.States.{carry}
+use Rattle.slave_model.specs.Acknowledged.{acknowledged}
+use Rattle.slave_model.specs.Product.{product}
+use Rattle.slave_model.specs.Profile.{Protocol, Profile}
+use Rattle.slave_model.specs.Server.{ServiceOf, Reply}
+use Rattle.slave_parts.specs.Parts.{Core, Server, parts}
+use Rattle.slave_server.specs.Seen.{seen_in}
+use Rattle.slave_server.specs.Serving.{Serving, takes, next_mail, rest, cleared}
+use Rattle.slave_steps.specs.Node.{Node}
+use Rattle.slave_steps.specs.Step.{pdi_step}
+use Rattle.slave_lives.specs.Lived.{Behind}
+use Rattle.slave_lives.specs.Nodes.{stepped}
+use Rattle.slave_lives.specs.Steps.{Running}
+
+-- the services as they run under a profile, which never changes
+abbrev pub running_as : Profile → Running Serving
+running_as p = record { take = λ s b al. takes (record s { profile = p }) b al; next = next_mail; rest = rest; clear = cleared }
+
+-- THE SLAVE'S SERVICES IN A SESSION: the exchange of its protocols, its AL state among its application, and control words by its own table
+abbrev pub real : Profile → Bool → (ℕ → Lens) → Behind Serving (InState Server) (InState (Station Core)) ((i : Protocol) × ServiceOf i) Reply
+real p boot lens = record {
+  exchange = product parts p;
+  states = states_of acknowledged;
+  processor = record { carry = carry (slave_table boot true); tell = λ state v. record v { state = state } };
+  running = running_as p;
+  sees = seen_in;
+  boot = boot;
+  lens = lens;
+}
+
+-- a step of the running slave is that of its services under their profile, which stays
+pub record StepsAs (p : Profile) (n : Node Serving) : Type 0 where
+  pub step : pdi_step takes next_mail rest cleared n ≡ stepped (running_as p) n
+  pub profile : (pdi_step takes next_mail rest cleared n).server.profile ≡ p

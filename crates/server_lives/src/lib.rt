@@ -1,0 +1,17 @@
+//! The services of a slave of a plan are such as the laws of lives speak of. No running code: the function here does nothing, and its contract
+//! states the law.
+#![tactic(auto)]
+
+ghost use Rattle.std.specs.Prelude.{◌≡◌, ℕ, Bool};
+ghost use Rattle.frame_view.specs.View.{Lens};
+ghost use Rattle.slave_lives.specs.Lived.{IsBehind};
+ghost use Rattle.slave_model.specs.Profile.{Profile};
+ghost use Rattle.slave_server.specs.Serving.{Serving};
+ghost use Rattle.slave_steps.specs.Node.{Node};
+ghost use Rattle.server_lives.specs.Real.{real, StepsAs};
+
+/// The services of a slave of a plan are those of its exchange, in each AL state, and its steps are theirs.
+pub fn real_server_law()
+    ensures behind { (p : Profile) (boot : Bool) (lens : ℕ → Lens) → IsBehind (real p boot lens) }
+    ensures steps { (p : Profile) (n : Node Serving) → n.server.profile ≡ p → StepsAs p n }
+{}
