@@ -1,7 +1,9 @@
 //! Runs made again: a new master is given the fates and the backs that a run recorded, and has to make the frames that the run
-//! recorded, octet for octet. So all that a master knows it knows from frames. The words are names of scenarios.
+//! recorded, octet for octet. So all that a master knows it knows from frames. The words are names of scenarios; a line of each
+//! run tells how many frames it has, and the CRC-32 of these and what came back, in order.
 #![tactic(auto)]
 
+mod checksum;
 mod replay;
 
 use anyhow::{Result, bail};
@@ -14,15 +16,22 @@ use std::env;
 /// The most octets that a scenario may have.
 const LIMIT: usize = 16_777_216;
 
-/// How many frames a run of a scenario has, which are all made again.
-fn frames_of<F: Files>(alloc: Global, name: &str, files: &mut F) -> Result<usize> {
+// The octets of a scenario.
+fn scenario<F: Files>(alloc: Global, name: &str, files: &mut F) -> Result<Octets> {
     let mut octets = Octets::new(alloc);
     match files.load(name, LIMIT, &mut octets) {
-        Ok(Loaded::Found) => {}
+        Ok(Loaded::Found) => Ok(octets),
         _ => bail!("{name} isn't loaded"),
     }
-    match replay(alloc, octets.bytes()) {
-        Replayed::Same { frames } => Ok(frames),
+}
+
+// Makes a run again, and prints its line.
+fn tell<P: Print>(rt: &P, name: &str, replayed: Replayed) -> Result<()> {
+    match replayed {
+        Replayed::Same { frames, checksum } => {
+            println!(rt; "{name} frames {frames} crc {checksum:08x}")?;
+            Ok(())
+        }
         Replayed::Other { frame } => bail!("{name}: frame {frame} is another"),
         Replayed::Unread => bail!("{name} is no scenario"),
         Replayed::NoMemory => bail!("{name}: no memory"),
@@ -31,12 +40,9 @@ fn frames_of<F: Files>(alloc: Global, name: &str, files: &mut F) -> Result<usize
 
 fn main(rt: HostRuntime) -> Result<()> {
     let mut files = DiskFiles::new(&rt);
-    let mut runs = 0_usize;
-    let mut frames = 0_usize;
     for name in env::args(&rt)?.skip(1) {
-        frames = frames.saturating_add(frames_of(rt.alloc(), name.as_str(), &mut files)?);
-        runs = runs.saturating_add(1);
+        let octets = scenario(rt.alloc(), name.as_str(), &mut files)?;
+        tell(&rt, name.as_str(), replay(rt.alloc(), octets.bytes()))?;
     }
-    println!(rt; "{runs} runs with {frames} frames are made again")?;
     Ok(())
 }

@@ -1,5 +1,6 @@
 ghost use Rattle.segment_plan.specs.Sound.{IsPlan};
 
+use crate::checksum::Checksum;
 use datagrams::FrameBuf;
 use ec_fields::NoMemory;
 use master_node::{MasterNode, Next};
@@ -11,10 +12,10 @@ use segment_ring::Fate;
 use std::alloc::Global;
 
 /// What became of a run that was to be made again.
-#[derive(Clone, Copy, Debug, PartialEq, Eq)]
+#[derive(Clone, Copy, Debug)]
 pub enum Replayed {
-    /// Each of its frames was made again.
-    Same { frames: usize },
+    /// Each of its frames was made again. The checksum is that of all frames and what came back of them, in order.
+    Same { frames: usize, checksum: u32 },
     /// The first frame that is another.
     Other { frame: usize },
     /// The octets are no scenario.
@@ -47,12 +48,18 @@ fn made_again(alloc: Global, plan: &Scenario, rows: &[SentFrame]) -> Result<Repl
     requires { IsPlan plan.now }
 {
     let mut master = MasterNode::new(alloc, plan)?;
+    let mut checksum = Checksum::new();
     for (frame, row) in rows.iter().enumerate() {
         if !is_made_again(&mut master, row) {
             return Ok(Replayed::Other { frame });
         }
+        checksum.add(row.sent.bytes());
+        checksum.add(row.back.bytes());
     }
-    Ok(Replayed::Same { frames: rows.len() })
+    Ok(Replayed::Same {
+        frames: rows.len(),
+        checksum: checksum.value(),
+    })
 }
 
 /// Runs a scenario, and makes its run again.
