@@ -1,5 +1,6 @@
 -- When each status comes.
 use Rattle.std.specs.Prelude.{◌≡◌, ◌≢◌, ℕ, ◌<◌, ◌≤◌, ◌⊎◌, List, [], ◌∷◌, length, true, Option, Some, None, Ok, Err}
+use Rattle.ec_outside.specs.Faults.{Rose}
 use Rattle.ec_outside.specs.Files.{Table, file_of}
 use Rattle.ec_outside.specs.Sink.{Wrote}
 use Rattle.capture_view.specs.View.{view_text}
@@ -102,6 +103,10 @@ EndingAt statuses.Absent ending = ending ≡ endings.Unfinished
 EndingAt statuses.TooLong ending = ending ≡ endings.Unfinished
 EndingAt statuses.Refused ending = ending ≡ endings.Unfinished
 EndingAt _ ending = Unit {0}
+
+-- no fault came in a call, by the count of faults before it and behind it
+abbrev pub IsCalm : {F : Type 0} → (F → ℕ) → F → F → Type 0
+IsCalm faults one other = ¬ Rose (faults one) (faults other)
 
 -- a status that a call ends with
 abbrev pub IsAnswer : Status → Type 0

@@ -1,6 +1,7 @@
 -- What a call of the program does, from its words to its status: one case for each row of the table of answers.
 use Rattle.std.specs.Prelude.{◌≡◌, ℕ, ◌≤◌, ◌⊎◌, List, [], map, length, false, String, string_bytes, Option, Some, None, Ok, Err}
 use Rattle.std.specs.declared.alloc.Global.{Global}
+use Rattle.ec_outside.specs.Faults.{Rose}
 use Rattle.ec_outside.specs.Files.{Table}
 use Rattle.pcap_frames.specs.declared.capture.Capture.{Capture}
 use Rattle.pcap_frames.specs.declared.capture.PcapFault.{PcapFault}
@@ -95,3 +96,31 @@ BeganIn name table book = (octets : List ℕ) × Holds table name (Some octets) 
 -- the same of the file that the words name
 abbrev pub Began : List (List ℕ) → Option Table → Book → Type 0
 Began words table book = BeganIn (name_in words) table book
+
+-- What a call does to files and a sink: from what they are before it to what they are behind it. What is told of them comes first: the table
+-- of the files, their count of faults, and what was written.
+
+-- octets are run, and the frames saved under a name
+abbrev pub SavesRun : {F O : Type 0} → (F → Option Table) → (F → ℕ) → (O → Option (List ℕ)) → List ℕ → List ℕ → Book → F → F → O → O → Status → Type 0
+SavesRun table faults written octets name book files files' out out' status =
+    Followed (SavedCourse name (table files) (table files') (Rose (faults files) (faults files')) book octets) (written out) (written out') status
+
+-- the file under a name is run
+abbrev pub RunsFile : {F O : Type 0} → (F → Option Table) → (F → ℕ) → (O → Option (List ℕ)) → List ℕ → Book → F → F → O → O → Status → Type 0
+RunsFile table faults written name book files files' out out' status =
+    Followed (FileCourse name (table files) (Rose (faults files) (faults files')) (IsNew book) (RunCourse book)) (written out) (written out') status
+
+-- the same, and the frames are saved under another name
+abbrev pub SavesFile : {F O : Type 0} → (F → Option Table) → (F → ℕ) → (O → Option (List ℕ)) → List ℕ → List ℕ → Book → F → F → O → O → Status → Type 0
+SavesFile table faults written name capture book files files' out out' status =
+    Followed (FileCourse name (table files) (Rose (faults files) (faults files')) (IsNew book) (SavedCourse capture (table files) (table files') (Rose (faults files) (faults files')) book)) (written out) (written out') status
+
+-- the capture under a name is shown
+abbrev pub ShowsFile : {F O : Type 0} → (F → Option Table) → (F → ℕ) → (O → Option (List ℕ)) → List ℕ → F → F → O → O → Status → Type 0
+ShowsFile table faults written name files files' out out' status =
+    Followed (FileCourse name (table files) (Rose (faults files) (faults files')) (Unit {0}) ViewCourse) (written out) (written out') status
+
+-- the words are carried out
+abbrev pub CarriesOut : {F O : Type 0} → (F → Option Table) → (F → ℕ) → (O → Option (List ℕ)) → List (List ℕ) → Book → F → F → O → O → Status → Type 0
+CarriesOut table faults written words book files files' out out' status =
+    Followed (Course words (table files) (table files') (Rose (faults files) (faults files')) book) (written out) (written out') status

@@ -9,7 +9,7 @@ ghost use Rattle.ecmbx_words.specs.Ends.{text_of, PutAll};
 ghost use Rattle.ecmbx_words.specs.Texts.{refusal_line};
 ghost use Rattle.ecmbx_words.specs.declared.status.Status.TheVariants as statuses;
 ghost use Rattle.ecmbx_call.specs.Files.{IsSaved};
-ghost use Rattle.ecmbx_call.specs.Course.{HasRun, IsReportable, status_of, Followed, RunCourse, SavedCourse, IsUnread, IsUnsaved, BeganOn};
+ghost use Rattle.ecmbx_call.specs.Course.{HasRun, IsReportable, status_of, Followed, RunCourse, SavesRun, IsUnread, IsUnsaved, BeganOn};
 
 use ec_fields::{NoMemory, Octets, Rows};
 use ec_outside::{Files, FilesErr, Sink};
@@ -125,7 +125,7 @@ pub fn run_saved<F: Files, O: Sink>(
     book: &mut Book,
 ) -> Status
     requires { IsNew book.old }
-    ensures course { Followed (SavedCourse name.now (F.table files.old) (F.table files.new) (Rose (F.file_faults files.old) (F.file_faults files.new)) book.new octets.now) (O.written out.old) (O.written out.new) result }
+    ensures course { SavesRun F.table F.file_faults O.written octets.now name.now book.new files.old files.new out.old out.new result }
     ensures sink { result ≡ statuses.SinkFault → Rose (O.sink_faults out.old) (O.sink_faults out.new) }
     ensures book { IsNew book.new ⊎ BeganOn octets.now book.new }
     ensures later { F.file_faults files.old ≤ F.file_faults files.new }

@@ -5,9 +5,8 @@ ghost use Rattle.run_book.specs.Book.{IsNew};
 ghost use Rattle.ecmbx_words.specs.declared.form.Form.TheVariants as forms;
 ghost use Rattle.ecmbx_words.specs.declared.status.Status.TheVariants as statuses;
 ghost use Rattle.ecmbx_words.specs.Form.{form_in, name_in, saved_in};
-ghost use Rattle.ecmbx_call.specs.Files.{FileCourse, Followed};
-ghost use Rattle.ecmbx_call.specs.Course.{words_of, Course, RunCourse, SavedCourse, ViewCourse, Began, BeganOn, BeganIn};
-ghost use Rattle.ecmbx_call.specs.Causes.{UsageCause, AbsentCause, LongCause, RefusedCause, GivenUpCause, SpentCause, EndingAt, IsAnswer, RunsTo, SavesTo, ShowsTo, MakesTo};
+ghost use Rattle.ecmbx_call.specs.Course.{words_of, RunsFile, SavesFile, ShowsFile, CarriesOut, Began, BeganIn};
+ghost use Rattle.ecmbx_call.specs.Causes.{UsageCause, AbsentCause, LongCause, RefusedCause, GivenUpCause, SpentCause, EndingAt, IsCalm, IsAnswer, RunsTo, SavesTo, ShowsTo, MakesTo};
 
 use crate::loading::load;
 use crate::making::make;
@@ -26,7 +25,7 @@ fn run_file<F: Files, O: Sink>(
     book: &mut Book,
 ) -> Status
     requires { IsNew book.old }
-    ensures course { Followed (FileCourse name.now (F.table files.old) (Rose (F.file_faults files.old) (F.file_faults files.new)) (IsNew book.new) (RunCourse book.new)) (O.written out.old) (O.written out.new) result }
+    ensures course { RunsFile F.table F.file_faults O.written name.now book.new files.old files.new out.old out.new result }
     ensures sink { result ≡ statuses.SinkFault → Rose (O.sink_faults out.old) (O.sink_faults out.new) }
     ensures book { IsNew book.new ⊎ BeganIn name.now (F.table files.old) book.new }
     ensures same { F.table files.new ≡ F.table files.old }
@@ -46,8 +45,7 @@ fn run_file_saved<F: Files, O: Sink>(
     book: &mut Book,
 ) -> Status
     requires { IsNew book.old }
-    ensures course { Followed (FileCourse name.now (F.table files.old) (Rose (F.file_faults files.old) (F.file_faults files.new)) (IsNew book.new)
-        (SavedCourse capture.now (F.table files.old) (F.table files.new) (Rose (F.file_faults files.old) (F.file_faults files.new)) book.new)) (O.written out.old) (O.written out.new) result }
+    ensures course { SavesFile F.table F.file_faults O.written name.now capture.now book.new files.old files.new out.old out.new result }
     ensures sink { result ≡ statuses.SinkFault → Rose (O.sink_faults out.old) (O.sink_faults out.new) }
     ensures book { IsNew book.new ⊎ BeganIn name.now (F.table files.old) book.new }
 {
@@ -58,7 +56,7 @@ fn run_file_saved<F: Files, O: Sink>(
 }
 
 fn decode_file<F: Files, O: Sink>(alloc: Global, name: &str, files: &mut F, out: &mut O) -> Status
-    ensures course { Followed (FileCourse name.now (F.table files.old) (Rose (F.file_faults files.old) (F.file_faults files.new)) (Unit {0}) ViewCourse) (O.written out.old) (O.written out.new) result }
+    ensures course { ShowsFile F.table F.file_faults O.written name.now files.old files.new out.old out.new result }
     ensures sink { result ≡ statuses.SinkFault → Rose (O.sink_faults out.old) (O.sink_faults out.new) }
     ensures same { F.table files.new ≡ F.table files.old }
 {
@@ -76,7 +74,7 @@ fn carry_out<F: Files, O: Sink>(
     book: &mut Book,
 ) -> Status
     requires { IsNew book.old }
-    ensures course { Followed (Course (words_of words.now) (F.table files.old) (F.table files.new) (Rose (F.file_faults files.old) (F.file_faults files.new)) book.new) (O.written out.old) (O.written out.new) result }
+    ensures course { CarriesOut F.table F.file_faults O.written (words_of words.now) book.new files.old files.new out.old out.new result }
     ensures sink { result ≡ statuses.SinkFault → Rose (O.sink_faults out.old) (O.sink_faults out.new) }
     ensures book { IsNew book.new ⊎ Began (words_of words.now) (F.table files.old) book.new }
     ensures same { form_in (words_of words.now) ≢ forms.RunSaved → F.table files.new ≡ F.table files.old }
@@ -114,17 +112,17 @@ pub fn ecmbx<F: Files, O: Sink>(
     requires { IsNew book.old }
 
     // Each case of the table of answers, with the text that is put there.
-    ensures course { Followed (Course (words_of words.now) (F.table files.old) (F.table files.new) (Rose (F.file_faults files.old) (F.file_faults files.new)) book.new) (O.written out.old) (O.written out.new) result }
+    ensures course { CarriesOut F.table F.file_faults O.written (words_of words.now) book.new files.old files.new out.old out.new result }
 
     // A found scenario: the book has the run, and what is written is its report.
-    ensures runs { (plan : Plan) → ¬ Rose (F.file_faults files.old) (F.file_faults files.new) → RunsTo (words_of words.now) (F.table files.old) plan book.new (O.written out.old) (O.written out.new) result }
+    ensures runs { (plan : Plan) → IsCalm F.file_faults files.old files.new → RunsTo (words_of words.now) (F.table files.old) plan book.new (O.written out.old) (O.written out.new) result }
 
     // The same with CAPTURE: what stands under that name is the capture of the very frames of the book.
-    ensures saves { (plan : Plan) → ¬ Rose (F.file_faults files.old) (F.file_faults files.new) → SavesTo (words_of words.now) (F.table files.old) (F.table files.new) plan book.new (O.written out.old) (O.written out.new) result }
+    ensures saves { (plan : Plan) → IsCalm F.file_faults files.old files.new → SavesTo (words_of words.now) (F.table files.old) (F.table files.new) plan book.new (O.written out.old) (O.written out.new) result }
 
     // A found capture, and a scenario that is made: the text whole, where the sink doesn't fail.
-    ensures shows { ¬ Rose (F.file_faults files.old) (F.file_faults files.new) → ¬ Rose (O.sink_faults out.old) (O.sink_faults out.new) → ShowsTo (words_of words.now) (F.table files.old) (O.written out.old) (O.written out.new) result }
-    ensures makes { ¬ Rose (O.sink_faults out.old) (O.sink_faults out.new) → MakesTo (words_of words.now) (O.written out.old) (O.written out.new) result }
+    ensures shows { IsCalm F.file_faults files.old files.new → IsCalm O.sink_faults out.old out.new → ShowsTo (words_of words.now) (F.table files.old) (O.written out.old) (O.written out.new) result }
+    ensures makes { IsCalm O.sink_faults out.old out.new → MakesTo (words_of words.now) (O.written out.old) (O.written out.new) result }
 
     // When each status comes.
     ensures usage { UsageCause (words_of words.now) result }

@@ -24,6 +24,18 @@ fn services_are_answered(rt: HostRuntime) -> Result<(), Fail> {
             Status::Done,
             "frames 8 lost 0\nslave 0 plc station 1001 state 2 handled 1 packets 0\nanswer 0 done\ndropped 0\nstatus 0 done\n",
         ),
+        // The address block, four zeros at first.
+        (
+            "version = 1\nretry = 3\n\n[[slave]]\nname = \"drive\"\nstation = 4353\nmail = [128, 128]\nserves = [\"coe\", \"eoe\"]\nmac = \"0200000000a1\"\n\n[[service]]\nslave = \"drive\"\ndo = \"get_ip\"\n",
+            Status::Done,
+            "frames 7 lost 0\nslave 0 drive station 1101 state 2 handled 1 packets 0\nanswer 0 value 00000000\ndropped 0\nstatus 0 done\n",
+        ),
+        // The value of an IDN.
+        (
+            "version = 1\nretry = 3\n\n[[slave]]\nname = \"drive\"\nstation = 4353\nmail = [64, 64]\nserves = [\"soe\"]\n\n[[slave.idn]]\nnumber = 100\ndrive = 0\nsize = [2, 2]\nmin = 1\nmax = 100\nwritable = true\nvalue = \"0500\"\n\n[[service]]\nslave = \"drive\"\ndo = \"read_idn\"\ndrive = 0\nnumber = 100\nelements = 64\n",
+            Status::Done,
+            "frames 7 lost 0\nslave 0 drive station 1101 state 2 handled 1 packets 0\nanswer 0 value 0500\ndropped 0\nstatus 0 done\n",
+        ),
         // A change of the AL state that is refused, its acknowledge lost once.
         (
             "version = 1\nretry = 3\nlose = [[8, 0]]\n\n[[slave]]\nname = \"plc\"\nstation = 4097\nmail = [64, 64]\nserves = [\"coe\"]\n\n[[slave.object]]\nindex = 8192\nkind = \"array\"\nname = \"Setpoints\"\n\n[[slave.object.entry]]\ntype = 7\naccess = 63\nvalue = \"00000000\"\n\n[[service]]\nslave = \"plc\"\ndo = \"state\"\ntarget = 8\n",

@@ -6,7 +6,7 @@ use Rattle.run_book.specs.declared.book.SentFrame.{SentFrame}
 use Rattle.run_record.specs.Replay.{behind, IsRecorded}
 use Rattle.run_record.specs.Session.{SessionState, SameFrames, KeepsRest}
 use Rattle.run_record.proofs.Kept.{rest_more}
-use Rattle.run_record.proofs.Steps.{any_ok, any_err, holds_on, no_frame, one_frame}
+use Rattle.run_record.proofs.Steps.{any_ok, any_err, holds_on, same_ports, no_frame, one_frame}
 use Rattle.run_record.proofs.session.Session.step.Goals as goal
 
 pub invariant_of-self-in_err-put_frame : goal.invariant_of-self-in_err-put_frame
@@ -39,9 +39,7 @@ returns-clause-ok c =
     let before : ports ≡ c.args.self.now.ports = ap (λ (s : SessionState). s.ports) c.self.view_is in
     let ring : c.self.inside.ring ≡ c.args.self.now.ring = ap (λ (s : SessionState). s.ring) c.self.view_is in
     let told = c.self-2.view_is ∙ c.tell.ensures in
-    let many : 1 + length c.self-2.inside.log.ports ≡ 1 + length c.note.new.self.ports = ap (λ (s : SessionState). s.ports) told in
-    let kept : length c.note.new.self.ports ≡ length c.self.inside.log.ports = ap length c.note.ensures.slaves.ports in
-    let same : 1 + length c.self-2.inside.log.ports ≡ ports = many ∙ ap (λ n. 1 + n) kept in
+    let same = same_ports c.self.inside.log.ports c.note.new.self.ports c.self-2.inside.log.ports (ap (λ (s : SessionState). s.ports) told) c.note.ensures.slaves.ports in
     any_ok c.note-2.result (
       f,
       record {
@@ -65,9 +63,7 @@ returns-clause-err c =
     let before : ports ≡ c.args.self.now.ports = ap (λ (s : SessionState). s.ports) c.self.view_is in
     let ring : c.self.inside.ring ≡ c.args.self.now.ring = ap (λ (s : SessionState). s.ring) c.self.view_is in
     let told = c.self-2.view_is ∙ c.tell.ensures in
-    let many : 1 + length c.self-2.inside.log.ports ≡ 1 + length c.note.new.self.ports = ap (λ (s : SessionState). s.ports) told in
-    let kept : length c.note.new.self.ports ≡ length c.self.inside.log.ports = ap length c.note.ensures.slaves.ports in
-    let same : 1 + length c.self-2.inside.log.ports ≡ ports = many ∙ ap (λ n. 1 + n) kept in
+    let same = same_ports c.self.inside.log.ports c.note.new.self.ports c.self-2.inside.log.ports (ap (λ (s : SessionState). s.ports) told) c.note.ensures.slaves.ports in
     any_err c.note-2.result
     (one_frame c.args.self.now ports c.args.book.now c.note.new.book c.put_frame.new.book c.note-2.new.book f before c.note.ensures.frames c.in_ok-put_frame.ensures.ok
     (c.put_frame.ensures.rest ports) (subst (λ (n : ℕ). SameFrames n c.put_frame.new.book c.note-2.new.book) same c.note-2.ensures.frames)

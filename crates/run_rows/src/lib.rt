@@ -1,5 +1,0 @@
-//! Tests of whole runs: that a master makes its frames of frames alone. Nothing stands on this crate.
-#![tactic(auto)]
-
-#[cfg(test)]
-mod replay;
