@@ -1,5 +1,5 @@
 -- What came back of a slave's datagram, for its opening and for its mailboxes.
-use Rattle.std.proofs.Common.{◌≡◌, ℕ, zero, suc, ◌+◌, ◌-◌, ◌≤◌, ◌==◌, Bool, true, false, List, [], ◌∷◌, length, get_or, take, drop, Option, Some, None, refl, sym, ap, ◌∙◌, subst, arith}
+use Rattle.std.proofs.Common.{◌≡◌, ℕ, zero, suc, ◌+◌, ◌-◌, ◌≤◌, ◌==◌, Bool, true, false, List, [], ◌∷◌, length, get_or, take, drop, Option, Some, None, refl, sym, ap, ◌∙◌, subst, arith, ◌++◌}
 use Rattle.std.specs.Prelude.{nat_lt, nat_le, if◌then◌else◌, ◌&&◌, map, cond}
 use Rattle.datagrams.specs.declared.frame.Part.{Part}
 use Rattle.datagrams.specs.Frame.{datagram_of}
@@ -252,3 +252,16 @@ given_up_follows shows new number recover spot stand spare left up l m e sh rene
       };
       told = λ i. turned_by ((sym (lt_more l.gave number)) i) (nat_lt (length l.past) (length l.past)) (is_opening l.stand && is_open (gives_up recover spot number l).stand);
     }
+
+-- one more give-up is what a life has turned to, whatever else the frame did
+pub gave_turned : {Q : Type 0} (l m : Life Body Q Reply) (recover : ℕ) (spot : Spot) (number : ℕ) → m.gave ≡ l.gave → turned m (gives_up recover spot number m) ≡ turned l (gives_up recover spot number m)
+gave_turned {Q} l m recover spot number e = more m refl ∙ sym (more l e)
+  where
+    more : (k : Life Body Q Reply) → m.gave ≡ k.gave → turned k (gives_up recover spot number m) ≡ Some Turned.GivenUp
+    more k f = ap (λ z. turned_by (nat_lt (length z) (length (m.gave ++ number ∷ []))) (nat_lt (length k.past) (length m.past)) (is_opening k.stand && is_open (gives_up recover spot number m).stand)) (sym f)
+        ∙ ap (λ z. turned_by z (nat_lt (length k.past) (length m.past)) (is_opening k.stand && is_open (gives_up recover spot number m).stand)) (lt_more m.gave number)
+
+pub lost_gave : {Q : Type 0} (x : Speech Body Q Reply) (acknowledged : Q → Bool) (more : Body → Bool) (passed : Q → Bool) (spot : Spot) (ns : List (News Body)) (sent : Grams) (l : Life Body Q Reply) (s : Lives.Stand) → (life_lost x acknowledged more passed spot ns sent l s).gave ≡ l.gave
+lost_gave x acknowledged more passed spot ns sent l (Lives.Stand.Opens o) = refl
+lost_gave x acknowledged more passed spot ns sent l Lives.Stand.Open = refl
+lost_gave x acknowledged more passed spot ns sent l Lives.Stand.Gone = refl

@@ -18,7 +18,7 @@ use Rattle.master_duty.specs.declared.duty.Duty.{Duty}
 use Rattle.master_side.specs.Carried.{Meant}
 use Rattle.master_side.specs.Sent.{visit_gram, no_gram}
 use Rattle.life_model.specs.Lives
-use Rattle.life_model.specs.Lives.{Opening, Era, Life, Spot, life_next}
+use Rattle.life_model.specs.Lives.{Opening, Era, Life, Spot, life_next, gives_up}
 use Rattle.life_model.specs.Tours.{item_at}
 use Rattle.frame_view.specs.View.{Lens, datagram_seen, found_of}
 use Rattle.master_duty.specs.Reply.{Reply}
@@ -182,3 +182,8 @@ StandMeant lens station index carried Stand.Gone l d = ⊥
 pub record NextShows {Q : Type 0} (x : Speech Body Q Reply) (acknowledged : Q → Bool) (more : Body → Bool) (passed : Q → Bool) (made : ℕ) (l : Life Body Q Reply) (P : Life Body Q Reply → Type 0) : Type 0 where
   pub pick : Pick Q
   pub shown : P (life_next x acknowledged more passed made l l.stand pick)
+
+-- the life behind a lost frame by which the slave is given up, or isn't
+abbrev pub given_where : {Q : Type 0} → Bool → ℕ → Spot → ℕ → Life Body Q Reply → Life Body Q Reply
+given_where false recover spot number l = l
+given_where true recover spot number l = gives_up recover spot number l

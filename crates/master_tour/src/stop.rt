@@ -128,8 +128,8 @@ impl<H: Hand> Stop<H> {
     ghost use Rattle.al_state.specs.BringUp.{head_of, octets_of};
     ghost use Rattle.master_tour.specs.Under.{Under};
     ghost use Rattle.master_tour.specs.Cursor.{IsAtOne};
-    ghost use Rattle.master_tour.specs.Stands.{StopShows, FollowShows, IsMet, IsSpot, StandUnder, came_at, stand_gram, StandMeant, NextShows};
-    ghost use Rattle.std.specs.Prelude.{is_some};
+    ghost use Rattle.master_tour.specs.Stands.{StopShows, FollowShows, IsMet, IsSpot, StandUnder, came_at, given_where, stand_gram, StandMeant, NextShows};
+    ghost use Rattle.std.specs.Prelude.{is_some, ◌&&◌};
     ghost use Rattle.segment_model.specs.Returned.{Returns};
     ghost use Rattle.al_state.specs.declared.bringing.BringStep.{BringStep};
     ghost use Rattle.std.specs.Prelude.{None, ◌%◌};
@@ -172,6 +172,7 @@ impl<H: Hand> Stop<H> {
             SideShows (H.shows self.new.side.hand x) self.new.side.out self.new.side.inn self.new.side.fresh self.new.side.duty (Seats.side_lost self.old.side.station sent d) a }
         ensures link { SameLink self.old.side.out self.old.side.inn self.old.side.station self.old.side.area self.new.side.out self.new.side.inn self.new.side.station self.new.side.area }
         ensures kept { (self.new.place ≡ self.old.place) × (self.new.start ≡ self.old.start) × (self.new.spare ≡ self.old.spare) × (self.new.news ≡ self.old.news) }
+        ensures under { self.new.under ≡ self.old.under }
         ensures stand { self.new.stand ≡ self.old.stand }
     {
         if self.under {
@@ -310,6 +311,7 @@ impl<H: Hand> Stop<H> {
             IsSpot spot self.old.side.station self.old.place self.old.start → StandUnder lens self.old.side.station self.old.at self.old.under self.old.side.carried self.old.stand l (seen lens octets) → StopShows (λ d a. SideShows (H.shows self.old.side.hand x) self.old.side.out self.old.side.inn self.old.side.fresh self.old.side.duty d a) recover spot self.old.stand self.old.spare l →
             FollowShows (λ d a. SideShows (H.shows self.new.side.hand x) self.new.side.out self.new.side.inn self.new.side.fresh self.new.side.duty d a) recover spot self.new.stand self.new.spare self.new.news l (life_lost x H.acknowledged more passed spot ns (seen lens octets) l l.stand) }
         ensures kept { (self.new.place ≡ self.old.place) × (self.new.start ≡ self.old.start) }
+        ensures under { self.new.under ≡ self.old.under }
         ensures station { self.new.side.station ≡ self.old.side.station }
     {
         self.news = None;
@@ -336,6 +338,27 @@ impl<H: Hand> Stop<H> {
         let up = self.opening(self.start);
         self.stand = Stand::Opening(up);
         self.side.renew();
+    }
+
+    /// The frame under way was lost; where `gives` says so, a slave that it carries is given up.
+    pub fn lost_for(&mut self, gives: bool)
+        ensures shown { gives ≡ false → self.old.stand ≡ Stand.Open → (x : Speech Body H.Asked Reply) (sent : List (Datagram Body)) (d : Seats.Side Body H.Asked Reply) (a : Account H.Asked Reply) →
+            SideShows (H.shows self.old.side.hand x) self.old.side.out self.old.side.inn self.old.side.fresh self.old.side.duty d a →
+            Under self.old.side.station self.old.at self.old.under self.old.side.carried d.halves (duty_access a.hand) sent →
+            SideShows (H.shows self.new.side.hand x) self.new.side.out self.new.side.inn self.new.side.fresh self.new.side.duty (Seats.side_lost self.old.side.station sent d) a }
+        ensures lives { (x : Speech Body H.Asked Reply) (more : Body → Bool) (passed : H.Asked → Bool) (number recover : ℕ) (spot : Spot) (lens : ℕ → Lens) (ns : List (News Body)) (octets : List ℕ) (l : Life Body H.Asked Reply) →
+            IsSpot spot self.old.side.station self.old.place self.old.start → StandUnder lens self.old.side.station self.old.at self.old.under self.old.side.carried self.old.stand l (seen lens octets) → StopShows (λ d a. SideShows (H.shows self.old.side.hand x) self.old.side.out self.old.side.inn self.old.side.fresh self.old.side.duty d a) recover spot self.old.stand self.old.spare l →
+            FollowShows (λ d a. SideShows (H.shows self.new.side.hand x) self.new.side.out self.new.side.inn self.new.side.fresh self.new.side.duty d a) recover spot self.new.stand self.new.spare self.new.news l (given_where (gives && self.old.under) recover spot number (life_lost x H.acknowledged more passed spot ns (seen lens octets) l l.stand)) }
+        ensures kept { (self.new.place ≡ self.old.place) × (self.new.start ≡ self.old.start) }
+        ensures station { self.new.side.station ≡ self.old.side.station }
+    {
+        self.lost();
+        if !gives {
+            return;
+        }
+        if self.under {
+            self.give_up();
+        }
     }
 
     /// How many octets the datagram of a visit with this wish has.

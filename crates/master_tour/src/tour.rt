@@ -45,6 +45,10 @@ impl<H: Hand> Tour<H> {
     ghost use Rattle.master_side.specs.Shown.{SideShows};
     ghost use Rattle.master_tour.specs.Under.{Under};
     ghost use Rattle.master_tour.specs.Walks.{EachPair};
+    ghost use Rattle.master_tour.specs.Stands.{StopShows, FollowShows, IsSpot, StandUnder, came_at, given_where};
+    ghost use Rattle.life_model.specs.Lives.{Life, Spot, life_back, life_lost};
+    ghost use Rattle.segment_model.specs.Record.{News};
+    ghost use Rattle.std.specs.Prelude.{Bool, false, not, nat_lt, ◌&&◌};
     ghost use Rattle.master_tour.specs.declared.stop.Stand.{Stand};
 
     // Each slave hears what came back.
@@ -54,6 +58,9 @@ impl<H: Hand> Tour<H> {
             SideShows (H.shows s.side.hand x) s.side.out s.side.inn s.side.fresh s.side.duty d a →
             Under s.side.station s.at s.under s.side.carried d.halves (duty_access a.hand) back →
             SideShows (H.shows t.side.hand x) t.side.out t.side.inn t.side.fresh t.side.duty (Seats.side_back x frame s.side.station back d) (account_back s.side.station frame a back)) × (t.side.station ≡ s.side.station)) self.old.stops.items self.new.stops.items }
+        ensures lives { EachPair (λ s t. ((lens : ℕ → Lens) (sent : List (Datagram Body)) → Returns sent (seen lens octets.now) → (x : Speech Body H.Asked Reply) (more : Body → Bool) (passed : H.Asked → Bool) (number recover : ℕ) (spot : Spot) (ns : List (News Body)) (l : Life Body H.Asked Reply) →
+            IsSpot spot s.side.station s.place s.start → StandUnder lens s.side.station s.at s.under s.side.carried s.stand l sent → StopShows (λ d a. SideShows (H.shows s.side.hand x) s.side.out s.side.inn s.side.fresh s.side.duty d a) recover spot s.stand s.spare l →
+            FollowShows (λ d a. SideShows (H.shows t.side.hand x) t.side.out t.side.inn t.side.fresh t.side.duty d a) recover spot t.stand t.spare t.news l (life_back x H.acknowledged more passed number spot ns (seen lens octets.now) (came_at s.under s.at (seen lens octets.now)) l l.stand)) × (t.place ≡ s.place) × (t.start ≡ s.start)) self.old.stops.items self.new.stops.items }
         ensures long { length self.new.stops.items ≡ length self.old.stops.items }
     {
         let mut cursor = Cursor::new(octets);
@@ -62,16 +69,19 @@ impl<H: Hand> Tour<H> {
         }
     }
 
-    // Each slave learns that the frame under way was lost.
-    fn all_lost(&mut self)
-        ensures each { EachPair (λ s t. (s.stand ≡ Stand.Open → (x : Speech Body H.Asked Reply) (sent : List (Datagram Body)) (d : Seats.Side Body H.Asked Reply) (a : Account H.Asked Reply) →
+    // Each slave learns that the frame under way was lost; where `gives` says so, those that it carries are given up.
+    fn all_lost(&mut self, gives: bool)
+        ensures each { EachPair (λ s t. (gives ≡ false → s.stand ≡ Stand.Open → (x : Speech Body H.Asked Reply) (sent : List (Datagram Body)) (d : Seats.Side Body H.Asked Reply) (a : Account H.Asked Reply) →
             SideShows (H.shows s.side.hand x) s.side.out s.side.inn s.side.fresh s.side.duty d a →
             Under s.side.station s.at s.under s.side.carried d.halves (duty_access a.hand) sent →
             SideShows (H.shows t.side.hand x) t.side.out t.side.inn t.side.fresh t.side.duty (Seats.side_lost s.side.station sent d) a) × (t.side.station ≡ s.side.station)) self.old.stops.items self.new.stops.items }
+        ensures lives { EachPair (λ s t. ((lens : ℕ → Lens) (octets : List ℕ) → (x : Speech Body H.Asked Reply) (more : Body → Bool) (passed : H.Asked → Bool) (number recover : ℕ) (spot : Spot) (ns : List (News Body)) (l : Life Body H.Asked Reply) →
+            IsSpot spot s.side.station s.place s.start → StandUnder lens s.side.station s.at s.under s.side.carried s.stand l (seen lens octets) → StopShows (λ d a. SideShows (H.shows s.side.hand x) s.side.out s.side.inn s.side.fresh s.side.duty d a) recover spot s.stand s.spare l →
+            FollowShows (λ d a. SideShows (H.shows t.side.hand x) t.side.out t.side.inn t.side.fresh t.side.duty d a) recover spot t.stand t.spare t.news l (given_where (gives && s.under) recover spot number (life_lost x H.acknowledged more passed spot ns (seen lens octets) l l.stand))) × (t.place ≡ s.place) × (t.start ≡ s.start)) self.old.stops.items self.new.stops.items }
         ensures long { length self.new.stops.items ≡ length self.old.stops.items }
     {
         for i in 0..self.stops.len() {
-            self.stops[i].lost();
+            self.stops[i].lost_for(gives);
         }
     }
 
@@ -248,6 +258,10 @@ impl<H: Hand> Tour<H> {
             SideShows (H.shows s.side.hand x) s.side.out s.side.inn s.side.fresh s.side.duty d a →
             Under s.side.station s.at s.under s.side.carried d.halves (duty_access a.hand) sent →
             SideShows (H.shows t.side.hand x) t.side.out t.side.inn t.side.fresh t.side.duty (Seats.side_back x number s.side.station (seen lens frame.now.items) d) (account_back s.side.station number a (seen lens frame.now.items))) × (t.side.station ≡ s.side.station)) self.old.stops.items self.new.stops.items }
+        ensures lives { (lens : ℕ → Lens) (sent : List (Datagram Body)) → Returns sent (seen lens frame.now.items) → 1 ≤ length sent →
+            EachPair (λ s t. ((x : Speech Body H.Asked Reply) (more : Body → Bool) (passed : H.Asked → Bool) (number recover : ℕ) (spot : Spot) (ns : List (News Body)) (l : Life Body H.Asked Reply) →
+            IsSpot spot s.side.station s.place s.start → StandUnder lens s.side.station s.at s.under s.side.carried s.stand l sent → StopShows (λ d a. SideShows (H.shows s.side.hand x) s.side.out s.side.inn s.side.fresh s.side.duty d a) recover spot s.stand s.spare l →
+            FollowShows (λ d a. SideShows (H.shows t.side.hand x) t.side.out t.side.inn t.side.fresh t.side.duty d a) recover spot t.stand t.spare t.news l (life_back x H.acknowledged more passed number spot ns (seen lens frame.now.items) (came_at s.under s.at (seen lens frame.now.items)) l l.stand)) × (t.place ≡ s.place) × (t.start ≡ s.start)) self.old.stops.items self.new.stops.items }
         ensures long { length self.new.stops.items ≡ length self.old.stops.items }
     {
         let octets = frame.as_slice();
@@ -263,6 +277,10 @@ impl<H: Hand> Tour<H> {
             SideShows (H.shows s.side.hand x) s.side.out s.side.inn s.side.fresh s.side.duty d a →
             Under s.side.station s.at s.under s.side.carried d.halves (duty_access a.hand) sent →
             SideShows (H.shows t.side.hand x) t.side.out t.side.inn t.side.fresh t.side.duty (Seats.side_back x number s.side.station (seen lens frame.now.items) d) (account_back s.side.station number a (seen lens frame.now.items))) × (t.side.station ≡ s.side.station)) self.old.stops.items self.new.stops.items }
+        ensures lives { (lens : ℕ → Lens) (sent : List (Datagram Body)) → Returns sent (seen lens frame.now.items) → 1 ≤ length sent →
+            EachPair (λ s t. ((x : Speech Body H.Asked Reply) (more : Body → Bool) (passed : H.Asked → Bool) (number recover : ℕ) (spot : Spot) (ns : List (News Body)) (l : Life Body H.Asked Reply) →
+            IsSpot spot s.side.station s.place s.start → StandUnder lens s.side.station s.at s.under s.side.carried s.stand l sent → StopShows (λ d a. SideShows (H.shows s.side.hand x) s.side.out s.side.inn s.side.fresh s.side.duty d a) recover spot s.stand s.spare l →
+            FollowShows (λ d a. SideShows (H.shows t.side.hand x) t.side.out t.side.inn t.side.fresh t.side.duty d a) recover spot t.stand t.spare t.news l (life_back x H.acknowledged more passed number spot ns (seen lens frame.now.items) (came_at s.under s.at (seen lens frame.now.items)) l l.stand)) × (t.place ≡ s.place) × (t.start ≡ s.start)) self.old.stops.items self.new.stops.items }
         ensures long { length self.new.stops.items ≡ length self.old.stops.items }
     {
         self.hear(frame, made);
@@ -274,18 +292,6 @@ impl<H: Hand> Tour<H> {
         self.opened = opened;
     }
 
-    // All slaves that the lost frames carried are given up.
-    fn give_up(&mut self)
-        ensures { length self.new.stops.items ≡ length self.old.stops.items }
-    {
-        for k in 0..self.visit.len() {
-            match self.visit.get(k) {
-                Some(&place) if place < self.stops.len() => self.stops[place].give_up(),
-                _ => {}
-            }
-        }
-    }
-
     /// The frame under way was lost: the same slaves come again, or, behind one lost frame more than `retry` in a row,
     /// are given up.
     pub fn lost(&mut self)
@@ -293,17 +299,19 @@ impl<H: Hand> Tour<H> {
             SideShows (H.shows s.side.hand x) s.side.out s.side.inn s.side.fresh s.side.duty d a →
             Under s.side.station s.at s.under s.side.carried d.halves (duty_access a.hand) sent →
             SideShows (H.shows t.side.hand x) t.side.out t.side.inn t.side.fresh t.side.duty (Seats.side_lost s.side.station sent d) a) × (t.side.station ≡ s.side.station)) self.old.stops.items self.new.stops.items }
+        ensures lives { (lens : ℕ → Lens) (octets : List ℕ) → EachPair (λ s t. ((x : Speech Body H.Asked Reply) (more : Body → Bool) (passed : H.Asked → Bool) (number recover : ℕ) (spot : Spot) (ns : List (News Body)) (l : Life Body H.Asked Reply) →
+            IsSpot spot s.side.station s.place s.start → StandUnder lens s.side.station s.at s.under s.side.carried s.stand l (seen lens octets) → StopShows (λ d a. SideShows (H.shows s.side.hand x) s.side.out s.side.inn s.side.fresh s.side.duty d a) recover spot s.stand s.spare l →
+            FollowShows (λ d a. SideShows (H.shows t.side.hand x) t.side.out t.side.inn t.side.fresh t.side.duty d a) recover spot t.stand t.spare t.news l (given_where (not (nat_lt self.old.missed self.old.retry) && s.under) recover spot number (life_lost x H.acknowledged more passed spot ns (seen lens octets) l l.stand))) × (t.place ≡ s.place) × (t.start ≡ s.start)) self.old.stops.items self.new.stops.items }
         ensures long { length self.new.stops.items ≡ length self.old.stops.items }
     {
         let missed = self.missed;
         let comes_again = missed < self.retry;
-        self.all_lost();
+        self.all_lost(!comes_again);
         if comes_again {
             self.again = true;
             self.missed = missed + 1;
             return;
         }
-        self.give_up();
         let last = self.last_behind();
         let opened = self.opened_behind();
         self.again = false;

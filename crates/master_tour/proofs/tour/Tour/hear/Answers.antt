@@ -1,3 +1,14 @@
+use Rattle.std.proofs.Common.{◌≡◌, ℕ, List, subst}
+use Rattle.std.specs.Prelude.{Bool}
+use Rattle.exchange_model.specs.Exchange.{Speech}
+use Rattle.link_mails.specs.Body.{Body}
+use Rattle.segment_model.specs.Returned.{Returns}
+use Rattle.segment_model.specs.Record.{News}
+use Rattle.life_model.specs.Lives.{Life, Spot, life_back}
+use Rattle.master_duty.specs.Reply.{Reply}
+use Rattle.master_side.specs.Shown.{SideShows}
+use Rattle.master_tour.specs.Walks.{EachPair}
+use Rattle.master_tour.specs.Stands.{StopShows, FollowShows, IsSpot, StandUnder, came_at}
 use Rattle.std.proofs.Common.{sym, ap, refl}
 use Rattle.task_model.specs.Accounts.{duty_access}
 use Rattle.frame_view.specs.Seen.{seen}
@@ -14,12 +25,19 @@ returns-then-is_none g c = record {
       let is = ap (seen lens) (sym c.as_slice-octets.ensures.value) in
       each_map _ _ c.args.self.now.stops.items c.all_back.new.self.stops.items
       (λ s t p. (λ o x number d k h u. p.0 o x number lens back d k is h (under_back s.side.station s.at s.under s.side.carried d.halves (duty_access k.hand) sent back a u), p.1)) c.all_back.ensures.each;
+  lives = λ lens sent a n.
+      subst (λ octets. EachPair (λ s t. ((x : Speech Body g.H.Hand.Asked Reply) (more : Body → Bool) (passed : g.H.Hand.Asked → Bool) (number recover : ℕ) (spot : Spot) (ns : List (News Body)) (k : Life Body g.H.Hand.Asked Reply) →
+      IsSpot spot s.side.station s.place s.start → StandUnder lens s.side.station s.at s.under s.side.carried s.stand k sent → StopShows (λ d a. SideShows (g.H.Hand.shows s.side.hand x) s.side.out s.side.inn s.side.fresh s.side.duty d a) recover spot s.stand s.spare k →
+      FollowShows (λ d a. SideShows (g.H.Hand.shows t.side.hand x) t.side.out t.side.inn t.side.fresh t.side.duty d a) recover spot t.stand t.spare t.news k (life_back x g.H.Hand.acknowledged more passed number spot ns (seen lens octets) (came_at s.under s.at (seen lens octets)) k k.stand)) × (t.place ≡ s.place) × (t.start ≡ s.start)) c.args.self.now.stops.items c.all_back.new.self.stops.items) c.as_slice-octets.ensures.value
+      (each_map _ _ c.args.self.now.stops.items c.all_back.new.self.stops.items (λ s t p. ((λ x more passed number recover spot ns k i u h. p.0 lens sent (subst (λ z. Returns sent (seen lens z)) (sym c.as_slice-octets.ensures.value) a) x more passed number recover spot ns k i u h), p.1, p.2)) c.all_back.ensures.lives);
   long = c.all_back.ensures.long;
 }
 
 pub returns-else-is_none : goal.returns-else-is_none
 returns-else-is_none g c = record {
   each = λ lens sent a n.
+      absurd (none_returns sent (seen lens c.args.frame.now.items) n a (seen_none lens c.args.frame.now.items c.as_slice-octets.result.now c.fault.result c.as_slice-octets.ensures.value c.fault.ensures.fault c.if-is_none.ensures));
+  lives = λ lens sent a n.
       absurd (none_returns sent (seen lens c.args.frame.now.items) n a (seen_none lens c.args.frame.now.items c.as_slice-octets.result.now c.fault.result c.as_slice-octets.ensures.value c.fault.ensures.fault c.if-is_none.ensures));
   long = refl;
 }

@@ -1,0 +1,37 @@
+use Rattle.std.proofs.Common.{sym, subst, ap, ◌∙◌}
+use Rattle.std.specs.Prelude.{◌&&◌, nat_lt}
+use Rattle.master_tour.specs.Stands.{IsSpot}
+use Rattle.frame_view.specs.Seen.{seen}
+use Rattle.life_model.specs.Lives.{life_lost}
+use Rattle.master_side.specs.Shown.{SideShows}
+use Rattle.master_tour.specs.Stands.{FollowShows, given_where}
+use Rattle.master_tour.proofs.Backs.{gave_turned, lost_gave}
+use Rattle.master_tour.proofs.stop.Stop.lost_for.Goals as goal
+
+pub returns-then-not-gives-clause-lives : goal.returns-then-not-gives-clause-lives
+returns-then-not-gives-clause-lives g c = λ x more passed number recover spot lens ns octets l sp u sh.
+    let t = c.args.self.now in
+    let f = c.lost.new.self in
+    let y = c.lost.new.self.side in
+    let m = life_lost x g.H.Hand.acknowledged more passed spot ns (seen lens octets) l l.stand in
+    subst (λ z. FollowShows (λ d a. SideShows (g.H.Hand.shows y.hand x) y.out y.inn y.fresh y.duty d a) recover spot f.stand f.spare f.news l (given_where (z && t.under) recover spot number m)) (sym c.if-not-gives.true) (c.lost.ensures.lives x more passed recover spot lens ns octets l sp u sh)
+
+pub returns-else-self-clause-lives : goal.returns-else-self-clause-lives
+returns-else-self-clause-lives g c = λ x more passed number recover spot lens ns octets l sp u sh.
+    let t = c.args.self.now in
+    let f = c.lost.new.self in
+    let y = c.lost.new.self.side in
+    let m = life_lost x g.H.Hand.acknowledged more passed spot ns (seen lens octets) l l.stand in
+    subst (λ z. FollowShows (λ d a. SideShows (g.H.Hand.shows y.hand x) y.out y.inn y.fresh y.duty d a) recover spot f.stand f.spare f.news l (given_where z recover spot number m)) (sym (ap (λ z. z && t.under) c.if-not-gives.false ∙ sym c.lost.ensures.under ∙ c.if-self.false)) (c.lost.ensures.lives x more passed recover spot lens ns octets l sp u sh)
+
+pub returns-then-self-clause-lives : goal.returns-then-self-clause-lives
+returns-then-self-clause-lives g c = λ x more passed number recover spot lens ns octets l sp u sh.
+    let t = c.args.self.now in
+    let f = c.give_up.new.self in
+    let y = c.give_up.new.self.side in
+    let m = life_lost x g.H.Hand.acknowledged more passed spot ns (seen lens octets) l l.stand in
+    let first = c.lost.ensures.lives x more passed recover spot lens ns octets l sp u sh in
+    let spot_is : IsSpot spot c.lost.new.self.side.station c.lost.new.self.place c.lost.new.self.start = record { station_is = c.lost.ensures.station ∙ sp.station_is; place_is = c.lost.ensures.kept.0 ∙ sp.place_is; start_is = c.lost.ensures.kept.1 ∙ sp.start_is; small = ap (λ k. nat_lt k 16) c.lost.ensures.kept.1 ∙ sp.small } in
+    let second = c.give_up.ensures.lives x number recover spot m spot_is first.shown in
+    subst (λ z. FollowShows (λ d a. SideShows (g.H.Hand.shows y.hand x) y.out y.inn y.fresh y.duty d a) recover spot f.stand f.spare f.news l (given_where z recover spot number m)) (sym (ap (λ z. z && t.under) c.if-not-gives.false ∙ sym c.lost.ensures.under ∙ c.if-self.true))
+    (record { shown = second.shown; told = second.told ∙ gave_turned l m recover spot number (lost_gave x g.H.Hand.acknowledged more passed spot ns (seen lens octets) l l.stand) })
