@@ -21,4 +21,5 @@ pub mod Arrives
 pub mod AllSeats
 pub mod ClosedFrames
 pub mod Backs
+pub mod EraEnds
 mod Worked

@@ -8,7 +8,7 @@ mod opening_laws;
 mod step_laws;
 
 pub use life_laws::{
-    access_law, begin_law, closed_frame_law, closed_life_law, closed_way_law, open_life_law,
+    access_law, begin_law, closed_frame_law, closed_life_law, closed_way_law, end_law, open_life_law,
     own_law, seats_law,
 };
 pub use node_laws::{node_law, ring_law};
