@@ -22,4 +22,5 @@ pub mod AllSeats
 pub mod ClosedFrames
 pub mod Backs
 pub mod EraEnds
+pub mod Quiets
 mod Worked

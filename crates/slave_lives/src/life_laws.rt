@@ -1,6 +1,6 @@
 //! What a ring's frames make of its slaves' lives.
 
-ghost use Rattle.std.specs.Prelude.{◌≡◌, ◌<◌, ◌≤◌, ◌==◌, ◌⊎◌, ◌+◌, ◌∷◌, ◌++◌, ℕ, suc, Bool, true, false, List, Option, None, length};
+ghost use Rattle.std.specs.Prelude.{◌≡◌, ◌<◌, ◌≤◌, ◌==◌, ◌⊎◌, ◌+◌, ◌∷◌, ◌++◌, ℕ, [], suc, Bool, true, false, List, Option, None, length};
 ghost use Rattle.datagrams.specs.Datagram as Raw;
 ghost use Rattle.frame_pass.specs.Passing.{datagrams_after};
 ghost use Rattle.frame_view.specs.View.{Lens};
@@ -14,8 +14,8 @@ ghost use Rattle.life_model.specs.Own.{own};
 ghost use Rattle.link_mails.specs.Body.{Body};
 ghost use Rattle.segment_model.specs.Record.{Frame, News};
 ghost use Rattle.segment_model.specs.Slaves.{Found};
-ghost use Rattle.slave_lives.specs.Lived.{Behind, IsBehind, RingFrame, OpenFrame, LivedOn, StandsBehind, node_behind, OpensEra, BegunEra, ClosedFrame, AccessBack, IsForOpen, LivesEra, table_of};
-ghost use Rattle.slave_lives.specs.Ends.{LeftEra, LeftEras, ClearsAs};
+ghost use Rattle.slave_lives.specs.Lived.{Behind, IsBehind, RingFrame, OpenFrame, LivedOn, StandsBehind, node_behind, OpensEra, BegunEra, ClosedFrame, AccessBack, IsForOpen, LivesEra, table_of, frame_of};
+ghost use Rattle.slave_lives.specs.Ends.{LeftEra, LeftEras, ClearsAs, YetFrame};
 ghost use Rattle.slave_lives.specs.Nodes.{stepped};
 ghost use Rattle.slave_lives.specs.Opening.{Plan, IsPlan, IsOpened, AtMostOne, JustOne};
 ghost use Rattle.slave_lives.specs.Returning.{IsTurn};
@@ -95,6 +95,12 @@ pub fn seats_law<S>()
     ensures each { (before : List (Seat S)) (s : Seat S) (behind : List (Seat S)) (ds : List Raw.Datagram) → AllMeet (before ++ s ∷ behind) ds → MeetsOne s (come_to (nodes_of before) ds) }
     ensures opens { (before : List (Seat S)) (s : Seat S) (behind : List (Seat S)) (ds : List Raw.Datagram) → s.stand ≡ Stand.Open → s.node.registers.station ≡ s.plan.station → (0 == s.plan.station) ≡ false →
         AreDistinct (before ++ s ∷ behind) → AllMeet (before ++ s ∷ behind) ds → IsForOpen (nodes_of before) s.node (nodes_of behind) ds }
+{}
+
+/// A SLAVE WHOSE REOPENING HAS BEGUN lives its epoch yet, as long as the frames don't reach it with that: a frame without datagrams of its own
+/// leaves the master's view of the epoch, and the node lives it on.
+pub fn yet_law<S, V, A, Q, R>()
+    ensures { (w : Behind S V A Q R) → IsBehind w → (spot : Spot) (from : A) (e : Era Body Q R) (fs : List (Frame Body)) (t : RingFrame S) → YetFrame w spot from e fs t → LivesEra w spot from e (fs ++ frame_of w.lens t ∷ []) (node_behind w.running t) }
 {}
 
 /// AN EPOCH IS OVER where its slave meets what returns it to Init: it left the server that its node has, stays over as frames follow, and the
