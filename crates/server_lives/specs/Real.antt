@@ -11,7 +11,8 @@ use Rattle.slave_model.specs.Profile.{Protocol, Profile}
 use Rattle.slave_model.specs.Server.{ServiceOf, Reply}
 use Rattle.slave_parts.specs.Parts.{Core, Server, parts}
 use Rattle.slave_server.specs.Seen.{seen_in}
-use Rattle.slave_server.specs.Serving.{Serving, takes, next_mail, rest, cleared}
+use Rattle.life_model.specs.Eras.{Clearing}
+use Rattle.slave_server.specs.Serving.{Serving, takes, next_mail, rest, fresh, cleared}
 use Rattle.slave_steps.specs.Node.{Node}
 use Rattle.slave_steps.specs.Step.{pdi_step}
 use Rattle.slave_lives.specs.Lived.{Behind}
@@ -38,3 +39,10 @@ real p boot lens = record {
 pub record StepsAs (p : Profile) (n : Node Serving) : Type 0 where
   pub step : pdi_step takes next_mail rest cleared n ≡ stepped (running_as p) n
   pub profile : (pdi_step takes next_mail rest cleared n).server.profile ≡ p
+
+-- what a return to Init does to the server, and to its application: all transfers are gone and the next packet has frame number 0
+abbrev pub real_clearing : Clearing (InState Server) (InState (Station Core))
+real_clearing = record {
+  clear = λ v. record v { inner = record (fresh v.inner.app.app) { handled = v.inner.handled } };
+  cleared = λ a. record a { inner = record a.inner { frame = 0 } };
+}

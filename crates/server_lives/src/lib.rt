@@ -4,14 +4,17 @@
 
 ghost use Rattle.std.specs.Prelude.{◌≡◌, ℕ, Bool};
 ghost use Rattle.frame_view.specs.View.{Lens};
+ghost use Rattle.slave_lives.specs.Ends.{ClearsAs};
 ghost use Rattle.slave_lives.specs.Lived.{IsBehind};
 ghost use Rattle.slave_model.specs.Profile.{Profile};
 ghost use Rattle.slave_server.specs.Serving.{Serving};
 ghost use Rattle.slave_steps.specs.Node.{Node};
-ghost use Rattle.server_lives.specs.Real.{real, StepsAs};
+ghost use Rattle.server_lives.specs.Real.{real, real_clearing, StepsAs};
 
-/// The services of a slave of a plan are those of its exchange, in each AL state, and its steps are theirs.
+/// The services of a slave of a plan are those of its exchange, in each AL state, a return to Init
+/// clears them, and its steps are theirs.
 pub fn real_server_law()
     ensures behind { (p : Profile) (boot : Bool) (lens : ℕ → Lens) → IsBehind (real p boot lens) }
+    ensures clears { (p : Profile) (boot : Bool) (lens : ℕ → Lens) → ClearsAs (real p boot lens) real_clearing }
     ensures steps { (p : Profile) (n : Node Serving) → n.server.profile ≡ p → StepsAs p n }
 {}

@@ -34,8 +34,15 @@ module _ {S V A Q R : Type 0} (w : Behind S V A Q R) (is : IsBehind w) (stated :
       let told : w.states.tell al v ≡ v = sym (tells al v) ∙ ap (λ (x : Serving V Body). x.server) (is.served.told al al s) in
       ap (λ x. w.states.state (w.exchange.app x)) (sym told) ∙ ap w.states.state (stated.app al v) ∙ stated.is al (w.exchange.app v)
 
-  pub begun : (p : Plan) (spot : Spot) (cleared : Option ℕ) (opened : ℕ) (fs : List (Frame Body)) (n : Running.Node S) → length fs ≡ suc opened → OpensEra w p spot n → BegunEra w p spot cleared opened fs n
-  begun p spot cleared opened fs n frames o =
+  -- it is told by being seen in another state
+  pub seen_told : (al to : ℕ) (s : S) → w.exchange.app (w.sees to s).server ≡ w.states.told to (w.exchange.app (w.sees al s).server)
+  seen_told al to s =
+      let v = (w.sees al s).server in
+      let told : w.states.tell to v ≡ (w.sees to s).server = sym (tells to v) ∙ ap (λ (x : Serving V Body). x.server) (is.served.told al to s) in
+      ap w.exchange.app (sym told) ∙ stated.app to v
+
+  pub begun : (p : Plan) (spot : Spot) (al0 : ℕ) (cleared : Option ℕ) (opened : ℕ) (fs : List (Frame Body)) (n : Running.Node S) → length fs ≡ suc opened → OpensEra w p spot n → BegunEra w p spot al0 cleared opened fs n
+  begun p spot al0 cleared opened fs n frames o =
       let al = (registers_seen n.registers).state in
       let v = (w.sees al n.server).server in
       let r = registers_seen n.registers in
@@ -71,6 +78,7 @@ module _ {S V A Q R : Type 0} (w : Behind S V A Q R) (is : IsBehind w) (stated :
           opened = opened;
           server = v;
           registers = r;
+          begins = seen_told al0 al n.server;
           before = omega (arith, frames);
           is = subst (λ t. EraIs w.exchange w.states w.processor (table_of w) spot (opened_era {Q = Q} {R = R} cleared opened) opened (length fs) fs v r t) (sym slave) begins;
           opens = o.opened.opens;

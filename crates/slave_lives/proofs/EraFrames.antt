@@ -231,7 +231,7 @@ module _ {S V A Q R : Type 0} (w : Behind S V A Q R) (is_behind : IsBehind w) wh
             }
 
   -- THE EPOCH GOES ON
-  pub lives_on : (more : Body → Bool) (passed : Q → Bool) (spot : Spot) (e : Era Body Q R) (fs : List (Frame Body)) (n : Running.Node S) → LivesEra w spot e fs n →
+  pub lives_on : (more : Body → Bool) (passed : Q → Bool) (spot : Spot) (from : A) (e : Era Body Q R) (fs : List (Frame Body)) (n : Running.Node S) → LivesEra w spot from e fs n →
       (before : List (Running.Node S)) (behind : List (Running.Node S)) (ds : List Raw.Datagram) (fate : Fate) (pick : Pick Q) (news : List (News Body)) (pace number : ℕ) → length before ≡ spot.place →
       (is_met_at (length before) fate ≡ true → IsForOpen before n behind ds) →
       (let next = era_next w.exchange.speech w.states.acknowledged more passed (length fs) e pick in
@@ -239,8 +239,8 @@ module _ {S V A Q R : Type 0} (w : Behind S V A Q R) (is_behind : IsBehind w) wh
       let sent = datagrams_seen w.lens ds in
       let back = datagrams_seen w.lens (returned fate before n behind ds) in
       AsksOpen spot.station next sent → (is_in_pace pace number ≡ true → StepsUp w m) →
-      LivesEra w spot (era_after w.exchange.speech w.states.acknowledged more passed spot.station (length fs) news sent (fate_seen fate) back next) (fs ++ frame_seen w.lens ds fate (returned fate before n behind ds) ∷ []) (turned w.running pace number m))
-  lives_on more passed spot e fs n lives before behind ds fate pick news pace number place f asks up =
+      LivesEra w spot from (era_after w.exchange.speech w.states.acknowledged more passed spot.station (length fs) news sent (fate_seen fate) back next) (fs ++ frame_seen w.lens ds fate (returned fate before n behind ds) ∷ []) (turned w.running pace number m))
+  lives_on more passed spot from e fs n lives before behind ds fate pick news pace number place f asks up =
       let t = turns_open spot n before behind ds place lives.station fate (is_met_at (length before) fate) (is_in_pace pace number) refl lives.boot lives.opens lives.stands lives.runs f up in
       let sent = datagrams_seen w.lens ds in
       let back = datagrams_seen w.lens (returned fate before n behind ds) in
@@ -255,6 +255,7 @@ module _ {S V A Q R : Type 0} (w : Behind S V A Q R) (is_behind : IsBehind w) wh
         opened = lives.opened;
         server = lives.server;
         registers = lives.registers;
+        begins = lives.begins;
         before = omega (arith, len, was);
         is = subst (λ (k : ℕ). EraIs w.exchange w.states w.processor (table_of w) spot now lives.opened k (fs ++ one ∷ []) lives.server lives.registers (views m)) len grown;
         opens = t.opens;

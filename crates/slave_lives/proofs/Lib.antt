@@ -21,4 +21,6 @@ pub mod Arrives
 pub mod AllSeats
 pub mod ClosedFrames
 pub mod Backs
+pub mod EraEnds
+pub mod Quiets
 mod Worked

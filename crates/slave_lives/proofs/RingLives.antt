@@ -39,18 +39,18 @@ back_is u lens t = go (fate_of t) (λ e. x.back e) (λ after e. x.lost after e)
     go Pass back lost = Octets.seen_is lens (octets_back t) (come_back t.before t.node t.behind t.datagrams) (back refl)
     go (Lost after) back lost = ap (seen lens) (lost after refl)
 
-pub lived_on : {S V A Q R : Type 0} (w : Behind S V A Q R) → IsBehind w → (more : Body → Bool) (passed : Q → Bool) (spot : Spot) (e : Era Body Q R) (fs : List (Frame Body)) (t : RingFrame S) (pick : Pick Q) (news : List (News Body)) →
-    OpenFrame w more passed spot e fs t pick → LivedOn w more passed spot e fs t pick news
-lived_on w is more passed spot e fs t pick news o =
+pub lived_on : {S V A Q R : Type 0} (w : Behind S V A Q R) → IsBehind w → (more : Body → Bool) (passed : Q → Bool) (spot : Spot) (from : A) (e : Era Body Q R) (fs : List (Frame Body)) (t : RingFrame S) (pick : Pick Q) (news : List (News Body)) →
+    OpenFrame w more passed spot from e fs t pick → LivedOn w more passed spot from e fs t pick news
+lived_on w is more passed spot from e fs t pick news o =
     let next = era_next w.exchange.speech w.states.acknowledged more passed (length fs) e pick in
     let sent = sent_is w.lens t in
     let back = back_is w.running w.lens t in
     let asks = subst (λ ds. AsksOpen spot.station next ds) sent o.asks in
-    let lives = lives_on w is more passed spot e fs t.node o.lives t.before t.behind t.datagrams (fate_of t) pick news t.pace t.ring.number o.at o.alone asks o.steps in
+    let lives = lives_on w is more passed spot from e fs t.node o.lives t.before t.behind t.datagrams (fate_of t) pick news t.pace t.ring.number o.at o.alone asks o.steps in
     let f = frame_of w.lens t in
     record {
       stands = stands_behind w.running t;
       lives = subst (λ (x : List (Datagram Body) × List (Datagram Body)).
-          LivesEra w spot (era_after w.exchange.speech w.states.acknowledged more passed spot.station (length fs) news x.0 f.fate x.1 next) (fs ++ record { sent = x.0; fate = f.fate; back = x.1 } ∷ []) (node_behind w.running t))
+          LivesEra w spot from (era_after w.exchange.speech w.states.acknowledged more passed spot.station (length fs) news x.0 f.fate x.1 next) (fs ++ record { sent = x.0; fate = f.fate; back = x.1 } ∷ []) (node_behind w.running t))
           (ap₂ (λ (a b : List (Datagram Body)). (a, b)) (sym sent) (sym back)) lives;
     }

@@ -7,3 +7,4 @@ pub mod Rings
 pub mod Lived
 pub mod Stands
 pub mod Seats
+pub mod Ends

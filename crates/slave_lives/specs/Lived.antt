@@ -58,12 +58,14 @@ pub record IsBehind {S V A Q R : Type 0} (w : Behind S V A Q R) : Type 0 where
 abbrev pub node_seen : {S V A Q R : Type 0} → Behind S V A Q R → Node S → Slave V Body
 node_seen w n = slave_of n.kept n.registers (w.sees (registers_seen n.registers).state n.server)
 
--- AN OPEN SLAVE'S NODE LIVES THE EPOCH: it is open at its station, and the slave of the epoch's session up to the last of these frames
-pub record LivesEra {S V A Q R : Type 0} (w : Behind S V A Q R) (spot : Spot) (e : Era Body Q R) (fs : List (Frame Body)) (n : Node S) : Type 0 where
+-- AN OPEN SLAVE'S NODE LIVES THE EPOCH, which began with this application, told the AL state that was opened: it is open at its station, and the
+-- slave of the epoch's session up to the last of these frames
+pub record LivesEra {S V A Q R : Type 0} (w : Behind S V A Q R) (spot : Spot) (from : A) (e : Era Body Q R) (fs : List (Frame Body)) (n : Node S) : Type 0 where
   pub opened : ℕ
   pub server : V
   pub registers : Registers
   pub before : opened < length fs
+  pub begins : w.exchange.app server ≡ w.states.told registers.state from
   pub is : EraIs w.exchange w.states w.processor (table_of w) spot e opened (length fs) fs server registers (node_seen w n)
   pub opens : IsOpen w.lens n.registers
   pub station : n.registers.station ≡ spot.station
@@ -139,19 +141,19 @@ pub record StandsBehind {S : Type 0} (u : Running S) (t : RingFrame S) (m : Node
 
 -- A FRAME OF AN OPEN SLAVE: its epoch is lived by its node, the master's choice asks for what the frame has for it, the frame is for it alone
 -- where it comes so far, and a step behind it is one of a slave that stays up
-pub record OpenFrame {S V A Q R : Type 0} (w : Behind S V A Q R) (more : Body → Bool) (passed : Q → Bool) (spot : Spot) (e : Era Body Q R) (fs : List (Frame Body)) (t : RingFrame S) (pick : Pick Q) : Type 0 where
+pub record OpenFrame {S V A Q R : Type 0} (w : Behind S V A Q R) (more : Body → Bool) (passed : Q → Bool) (spot : Spot) (from : A) (e : Era Body Q R) (fs : List (Frame Body)) (t : RingFrame S) (pick : Pick Q) : Type 0 where
   pub at : length t.before ≡ spot.place
-  pub lives : LivesEra w spot e fs t.node
+  pub lives : LivesEra w spot from e fs t.node
   pub alone : is_reached t ≡ true → IsForOpen t.before t.node t.behind t.datagrams
   pub asks : AsksOpen spot.station (era_next w.exchange.speech w.states.acknowledged more passed (length fs) e pick) (seen w.lens t.octets)
   pub steps : is_in_pace t.pace t.ring.number ≡ true → StepsUp w (node_met t)
 
 -- THE EPOCH IS LIVED ON: behind the frame the slave's node stands at its place of the ring and lives the epoch as the master has it then
-pub record LivedOn {S V A Q R : Type 0} (w : Behind S V A Q R) (more : Body → Bool) (passed : Q → Bool) (spot : Spot) (e : Era Body Q R) (fs : List (Frame Body)) (t : RingFrame S) (pick : Pick Q) (news : List (News Body)) : Type 0 where
+pub record LivedOn {S V A Q R : Type 0} (w : Behind S V A Q R) (more : Body → Bool) (passed : Q → Bool) (spot : Spot) (from : A) (e : Era Body Q R) (fs : List (Frame Body)) (t : RingFrame S) (pick : Pick Q) (news : List (News Body)) : Type 0 where
   pub stands : StandsBehind w.running t (node_behind w.running t)
   pub lives : (let f = frame_of w.lens t in
       let next = era_next w.exchange.speech w.states.acknowledged more passed (length fs) e pick in
-      LivesEra w spot (era_after w.exchange.speech w.states.acknowledged more passed spot.station (length fs) news f.sent f.fate f.back next) (fs ++ f ∷ []) (node_behind w.running t))
+      LivesEra w spot from (era_after w.exchange.speech w.states.acknowledged more passed spot.station (length fs) news f.sent f.fate f.back next) (fs ++ f ∷ []) (node_behind w.running t))
 
 -- A SLAVE THAT WAS JUST OPENED by this plan, whose server has nothing waiting and may be served
 pub record OpensEra {S V A Q R : Type 0} (w : Behind S V A Q R) (p : Plan) (spot : Spot) (n : Node S) : Type 0 where
@@ -167,9 +169,10 @@ pub record OpensEra {S V A Q R : Type 0} (w : Behind S V A Q R) (p : Plan) (spot
 abbrev pub opened_era : {Q R : Type 0} → Option ℕ → ℕ → Era Body Q R
 opened_era {Q} {R} cleared opened = record (new_era {M = Body} {Q = Q} {R = R} cleared) { opened = Some opened }
 
--- THE EPOCH BEGINS: the node lives it, from the server and the registers as its opening left them
-pub record BegunEra {S V A Q R : Type 0} (w : Behind S V A Q R) (p : Plan) (spot : Spot) (cleared : Option ℕ) (opened : ℕ) (fs : List (Frame Body)) (n : Node S) : Type 0 where
-  pub lives : LivesEra w spot (opened_era {Q = Q} {R = R} cleared opened) fs n
+-- THE EPOCH BEGINS: the node lives it, from the server and the registers as its opening left them, with the application that it had in whatever
+-- AL state it is seen
+pub record BegunEra {S V A Q R : Type 0} (w : Behind S V A Q R) (p : Plan) (spot : Spot) (al : ℕ) (cleared : Option ℕ) (opened : ℕ) (fs : List (Frame Body)) (n : Node S) : Type 0 where
+  pub lives : LivesEra w spot (w.exchange.app (w.sees al n.server).server) (opened_era {Q = Q} {R = R} cleared opened) fs n
   pub server : lives.server ≡ (w.sees p.start n.server).server
   pub state : w.states.state (w.exchange.app lives.server) ≡ p.start
 

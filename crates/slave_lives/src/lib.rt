@@ -8,8 +8,8 @@ mod opening_laws;
 mod step_laws;
 
 pub use life_laws::{
-    access_law, begin_law, closed_frame_law, closed_life_law, closed_way_law, open_life_law,
-    own_law, seats_law,
+    access_law, begin_law, closed_frame_law, closed_life_law, closed_way_law, end_law,
+    open_life_law, own_law, seats_law, yet_law,
 };
 pub use node_laws::{node_law, ring_law};
 pub use opening_laws::{bring_law, closed_law, return_law, way_law};

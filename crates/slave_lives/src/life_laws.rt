@@ -1,6 +1,6 @@
 //! What a ring's frames make of its slaves' lives.
 
-ghost use Rattle.std.specs.Prelude.{◌≡◌, ◌<◌, ◌≤◌, ◌==◌, ◌⊎◌, ◌+◌, ◌∷◌, ◌++◌, ℕ, suc, Bool, true, false, List, Option, None, length};
+ghost use Rattle.std.specs.Prelude.{◌≡◌, ◌<◌, ◌≤◌, ◌==◌, ◌⊎◌, ◌+◌, ◌∷◌, ◌++◌, ℕ, [], suc, Bool, true, false, List, Option, None, length};
 ghost use Rattle.datagrams.specs.Datagram as Raw;
 ghost use Rattle.frame_pass.specs.Passing.{datagrams_after};
 ghost use Rattle.frame_view.specs.View.{Lens};
@@ -9,11 +9,13 @@ ghost use Rattle.esc_registers.specs.declared.registers.Registers.{Registers};
 ghost use Rattle.frames_seen.specs.Own.{own_seen, NoneMeant};
 ghost use Rattle.frames_seen.specs.Ring.{all_after, AllApart};
 ghost use Rattle.life_model.specs.Lives.{Spot, Era, Opening, Stand, Life, opening_back};
+ghost use Rattle.life_model.specs.Eras.{Eras, Clearing};
 ghost use Rattle.life_model.specs.Own.{own};
 ghost use Rattle.link_mails.specs.Body.{Body};
 ghost use Rattle.segment_model.specs.Record.{Frame, News};
 ghost use Rattle.segment_model.specs.Slaves.{Found};
-ghost use Rattle.slave_lives.specs.Lived.{Behind, IsBehind, RingFrame, OpenFrame, LivedOn, StandsBehind, node_behind, OpensEra, BegunEra, ClosedFrame, AccessBack, IsForOpen};
+ghost use Rattle.slave_lives.specs.Lived.{Behind, IsBehind, RingFrame, OpenFrame, LivedOn, StandsBehind, node_behind, OpensEra, BegunEra, ClosedFrame, AccessBack, IsForOpen, LivesEra, table_of, frame_of};
+ghost use Rattle.slave_lives.specs.Ends.{LeftEra, LeftEras, ClearsAs, YetFrame};
 ghost use Rattle.slave_lives.specs.Nodes.{stepped};
 ghost use Rattle.slave_lives.specs.Opening.{Plan, IsPlan, IsOpened, AtMostOne, JustOne};
 ghost use Rattle.slave_lives.specs.Returning.{IsTurn};
@@ -66,16 +68,16 @@ pub fn access_law()
 /// An epoch begins with the slave as its opening leaves it, behind the frame that showed the state and the step that follows: both mailboxes
 /// empty, its server told the state.
 pub fn begin_law<S, V, A, Q, R>()
-    ensures { (w : Behind S V A Q R) → IsBehind w → IsStated w.exchange w.states → ((state : ℕ) (v : V) → w.processor.tell state v ≡ w.states.tell state v) → (p : Plan) (spot : Spot) (cleared : Option ℕ) (opened : ℕ) (fs : List (Frame Body)) (n : Node S) →
-        length fs ≡ suc opened → OpensEra w p spot n → BegunEra w p spot cleared opened fs n }
+    ensures { (w : Behind S V A Q R) → IsBehind w → IsStated w.exchange w.states → ((state : ℕ) (v : V) → w.processor.tell state v ≡ w.states.tell state v) → (p : Plan) (spot : Spot) (al : ℕ) (cleared : Option ℕ) (opened : ℕ) (fs : List (Frame Body)) (n : Node S) →
+        length fs ≡ suc opened → OpensEra w p spot n → BegunEra w p spot al cleared opened fs n }
 {}
 
 /// AN OPEN SLAVE'S LIFE IS LIVED BY ITS NODE: by each frame of octets that the ring exchanges, met by all slaves or by the first of them, and by
 /// the step behind it, the epoch goes on as the master has it, and the node at the slave's place is the slave of it.
 pub fn open_life_law<S, V, A, Q, R>()
     ensures stands { (u : Running S) (t : RingFrame S) → StandsBehind u t (node_behind u t) }
-    ensures lives { (w : Behind S V A Q R) → IsBehind w → (more : Body → Bool) (passed : Q → Bool) (spot : Spot) (e : Era Body Q R) (fs : List (Frame Body)) (t : RingFrame S) (pick : Pick Q) (news : List (News Body)) →
-        OpenFrame w more passed spot e fs t pick → LivedOn w more passed spot e fs t pick news }
+    ensures lives { (w : Behind S V A Q R) → IsBehind w → (more : Body → Bool) (passed : Q → Bool) (spot : Spot) (from : A) (e : Era Body Q R) (fs : List (Frame Body)) (t : RingFrame S) (pick : Pick Q) (news : List (News Body)) →
+        OpenFrame w more passed spot from e fs t pick → LivedOn w more passed spot from e fs t pick news }
 {}
 
 /// A CLOSED SLAVE'S LIFE by each frame of octets that the ring exchanges, met or not, and by the step behind it: what is known of its node
@@ -93,4 +95,21 @@ pub fn seats_law<S>()
     ensures each { (before : List (Seat S)) (s : Seat S) (behind : List (Seat S)) (ds : List Raw.Datagram) → AllMeet (before ++ s ∷ behind) ds → MeetsOne s (come_to (nodes_of before) ds) }
     ensures opens { (before : List (Seat S)) (s : Seat S) (behind : List (Seat S)) (ds : List Raw.Datagram) → s.stand ≡ Stand.Open → s.node.registers.station ≡ s.plan.station → (0 == s.plan.station) ≡ false →
         AreDistinct (before ++ s ∷ behind) → AllMeet (before ++ s ∷ behind) ds → IsForOpen (nodes_of before) s.node (nodes_of behind) ds }
+{}
+
+/// A SLAVE WHOSE REOPENING HAS BEGUN lives its epoch yet, as long as the frames don't reach it with that: a frame without datagrams of its own
+/// leaves the master's view of the epoch, and the node lives it on.
+pub fn yet_law<S, V, A, Q, R>()
+    ensures { (w : Behind S V A Q R) → IsBehind w → (spot : Spot) (from : A) (e : Era Body Q R) (fs : List (Frame Body)) (t : RingFrame S) → YetFrame w spot from e fs t → LivesEra w spot from e (fs ++ frame_of w.lens t ∷ []) (node_behind w.running t) }
+{}
+
+/// AN EPOCH IS OVER where its slave meets what returns it to Init: it left the server that its node has, stays over as frames follow, and the
+/// server behind the return has that application, cleared. All that are over are epochs as the model has them, one behind the other.
+pub fn end_law<S, V, A, Q, R>()
+    ensures ends { (w : Behind S V A Q R) (spot : Spot) (from : A) (e : Era Body Q R) (fs : List (Frame Body)) (n : Node S) → LivesEra w spot from e fs n → LeftEra w spot from e fs n.server }
+    ensures stays { (w : Behind S V A Q R) (spot : Spot) (from : A) (e : Era Body Q R) (fs gs : List (Frame Body)) (s : S) → LeftEra w spot from e fs s → LeftEra w spot from e (fs ++ gs) s }
+    ensures all_stay { (w : Behind S V A Q R) (cleared : A → A) (spot : Spot) (fs gs : List (Frame Body)) (a : A) (es : List (Era Body Q R)) (b : A) → LeftEras w cleared spot fs a es b → LeftEras w cleared spot (fs ++ gs) a es b }
+    ensures chain { (w : Behind S V A Q R) (cleared : A → A) (spot : Spot) (fs : List (Frame Body)) (a : A) (es : List (Era Body Q R)) (b : A) → LeftEras w cleared spot fs a es b →
+        Eras w.exchange w.states w.processor (table_of w) cleared spot fs a es b }
+    ensures clears { (w : Behind S V A Q R) (c : Clearing V A) → ClearsAs w c → (al : ℕ) (s : S) → w.exchange.app (w.sees al (w.running.clear s)).server ≡ c.cleared (w.exchange.app (w.sees al s).server) }
 {}

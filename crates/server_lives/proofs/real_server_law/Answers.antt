@@ -1,3 +1,4 @@
+use Rattle.std.proofs.Common.{refl}
 use Rattle.slave_server.proofs.SeenLaw.{is_exchange}
 use Rattle.server_lives.proofs.Reals as Its
 use Rattle.server_lives.proofs.real_server_law.Goals as goal
@@ -5,5 +6,6 @@ use Rattle.server_lives.proofs.real_server_law.Goals as goal
 pub returns : goal.returns
 returns c = record {
   behind = λ p boot lens. Its.is_behind is_exchange p boot lens;
+  clears = λ p boot lens. record { clearing = λ v. refl; seen = λ al s. refl };
   steps = λ p n e. Its.steps_as p n e;
 }
