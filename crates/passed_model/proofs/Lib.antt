@@ -1,1 +1,2 @@
 mod Clears
+mod Naturals
