@@ -2,7 +2,14 @@
 //! running code.
 #![tactic(auto)]
 
-ghost use Rattle.std.specs.Prelude.{◌≡◌, Bool, true, List, [], ◌∷◌, ◌++◌, Some, None};
+ghost use Rattle.std.specs.Prelude.{◌≡◌, ℕ, Bool, true, List, [], ◌∷◌, ◌++◌, map, Some, None};
+ghost use Rattle.exchange_model.specs.Exchange.{Speech};
+ghost use Rattle.link_model.specs.Frames.{all_accepted};
+ghost use Rattle.segment_model.specs.Slaves.{Datagram, grams};
+ghost use Rattle.segment_model.specs.Record.{Frame, Kept, frame_news, kept_after, news_each};
+ghost use Rattle.segment_model.specs.Seats.{Side, Choice, side_next, side_back, side_lost};
+ghost use Rattle.serving_model.specs.Erasing.{all_as};
+ghost use Rattle.passed_model.specs.Erased.{side_as, frame_as, all_news_as, AreOne, PlanOne, EndOne, OfRow};
 ghost use Rattle.exchange_model.specs.Exchange.{Exchange};
 ghost use Rattle.serving_model.specs.Tagged.{IsServed, Rowed, Meant, Asked, real, ideal, rows_done, tagged, serve_tagged};
 ghost use Rattle.passed_model.specs.Clearing.{InRow, Forgets, cleared_rowed};
@@ -19,4 +26,17 @@ pub fn clear_law<V, M, Q, R, C>()
     ensures first { (x : Exchange V V M Q R) (w : Rowed V M Q) (q : Q) (m : M) (rest : List M) → x.ready (ideal x w) ≡ true → x.speech.valid q ≡ true → x.full (ideal x w) q ≡ m ∷ rest → InRow x (serve_tagged x w m (Meant.First q)).0 }
     ensures one_more { (x : Exchange V V M Q R) (w : Rowed V M Q) (q : Q) (m : M) (rest : List M) → w.hand ≡ Some q → x.ready w.base ≡ true → x.speech.valid q ≡ true → x.full w.base q ≡ w.part ++ m ∷ rest → InRow x (serve_tagged x w m Meant.More).0 }
     ensures alone { (x : Exchange V V M Q R) (w : Rowed V M Q) (m : M) (answers : Bool) → InRow x (serve_tagged x w m (Meant.Alone answers)).0 }
+{}
+
+/// A master's side of a slave is the same where mails are seen otherwise, as with what is meant by them or without, where its two clients plan and
+/// end the row in hand alike: by its choices, by frames that came back, and by lost ones. What frames tell of a slave is the same too.
+pub fn erased_law<N, M, Q, R>()
+    ensures next { (f : N → M) (y : Speech N Q R) (x : Speech M Q R) → AreOne f y x → ((q : Q) → PlanOne f y x q []) → (frame : ℕ) (d : Side N Q R) (c : Choice Q) → OfRow (λ r. PlanOne f y x r.service r.heard) d.now →
+        side_as f (side_next y frame d c) ≡ side_next x frame (side_as f d) c }
+    ensures back { (f : N → M) (y : Speech N Q R) (x : Speech M Q R) (frame station : ℕ) (back : List (Datagram N)) (d : Side N Q R) → OfRow (λ r. EndOne f y x r.service (r.heard ++ all_accepted station d.halves (grams back))) d.now →
+        side_as f (side_back y frame station back d) ≡ side_back x frame station (all_as f back) (side_as f d) }
+    ensures lost { (f : N → M) (station : ℕ) (sent : List (Datagram N)) (d : Side N Q R) → side_as f (side_lost station sent d) ≡ side_lost station (all_as f sent) (side_as f d) }
+    ensures news { (f : N → M) (station : ℕ) (kept : Kept) (k : Frame N) → all_news_as f (frame_news station kept k) ≡ frame_news station kept (frame_as f k) }
+    ensures counters { (f : N → M) (station : ℕ) (kept : Kept) (k : Frame N) → kept_after station kept k ≡ kept_after station kept (frame_as f k) }
+    ensures record_ { (f : N → M) (station : ℕ) (kept : Kept) (ks : List (Frame N)) → map (λ ns. all_news_as f ns) (news_each station kept ks) ≡ news_each station kept (map (λ k. frame_as f k) ks) }
 {}
