@@ -1,9 +1,9 @@
 -- A server in a row, cleared, is the one behind whole rows, cleared.
-use Rattle.std.proofs.Common.{◌≡◌, ◌⊎◌, inl, inr, ℕ, suc, ◌+◌, ◌-◌, ◌==◌, Bool, true, false, Option, None, Some, List, [], ◌∷◌, ◌++◌, refl, ap, sym, ◌∙◌, subst, arith, append_assoc, eq-eqb, if◌then◌else◌}
+use Rattle.std.proofs.Common.{◌≡◌, ◌⊎◌, inl, inr, ℕ, suc, ◌+◌, ◌-◌, ◌==◌, true, false, Option, None, Some, List, [], ◌∷◌, ◌++◌, ap, sym, ◌∙◌, subst, arith, append_assoc, eq-eqb, if◌then◌else◌}
 use Rattle.std.proofs.lemmas.Bool.Decides.{nat_tests}
 use Rattle.exchange_model.specs.Exchange.{Exchange, after}
 use Rattle.serving_model.specs.Tagged.{IsServed, Untouched, Touched, Rowed, Meant, real, ideal, ideal_in, rows_done, serve_tagged}
-use Rattle.passed_model.specs.Clearing.{IsPart, InRowOf, InRow, Forgets, cleared_rowed}
+use Rattle.passed_model.specs.Clearing.{InRowOf, InRow, Forgets, cleared_rowed}
 
 same-is : (a b : ℕ) → a ≡ b → (a == b) ≡ true
 same-is a b e = eq-eqb a b e

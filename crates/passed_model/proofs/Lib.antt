@@ -1,2 +1,3 @@
 mod Clears
 mod Naturals
+mod Clients

@@ -1,5 +1,5 @@
 -- What a master does of frames doesn't depend on what is in its mails, but for its client.
-use Rattle.std.proofs.Common.{◌≡◌, ℕ, suc, ◌==◌, ◌&&◌, ◌||◌, Bool, true, false, not, is_none, is_some, Option, None, Some, option_map, List, [], ◌∷◌, ◌++◌, map, drop, length, refl, ap, ap₂, sym, ◌∙◌, subst, if◌then◌else◌}
+use Rattle.std.proofs.Common.{◌≡◌, ℕ, ◌==◌, ◌&&◌, ◌||◌, Bool, true, false, not, is_none, is_some, Option, None, Some, option_map, List, [], ◌∷◌, ◌++◌, map, drop, length, refl, ap, ap₂, sym, ◌∙◌, subst, if◌then◌else◌}
 use Rattle.std.proofs.lemmas.List.{length-map, drop-map}
 use Rattle.exchange_model.specs.Exchange.{Speech, plain}
 use Rattle.exchange_model.specs.Rows.{Row, begun, row_heard, row_told, answer_after, left}
@@ -8,9 +8,9 @@ use Rattle.link_model.specs.Master.{out_hold, out_answered, read_answered, doubt
 use Rattle.link_model.specs.Link.{Halves}
 use Rattle.link_model.specs.Frames.{Ask, Gram, mail_back, halves_answered, halves_accept, halves_lost, halves_after, all_accepted, halves_without}
 use Rattle.segment_model.specs.Slaves.{Datagram, Found, grams}
-use Rattle.segment_model.specs.Record.{Frame, News, Kept, is_for, mail_told, last_told, all_told, told_behind, gram_news, last_heard, found_news, datagram_news, back_news, heard_behind, frame_news, kept_after, news_each, mails_heard}
+use Rattle.segment_model.specs.Record.{Frame, News, Kept, is_for, mail_told, last_told, all_told, told_behind, gram_news, last_heard, found_news, datagram_news, back_news, heard_behind, frame_news, kept_after, news_each}
 use Rattle.segment_model.specs.Seats.{Side, Choice, is_none_left, is_over, side_begins, first_left, next_mail, side_holds, side_next, is_write, writes, side_back, side_lost}
-use Rattle.serving_model.specs.Erasing.{mail_as, box_as, ask_as, gram_as, datagram_as, all_as}
+use Rattle.serving_model.specs.Erasing.{box_as, ask_as, gram_as, datagram_as, all_as}
 use Rattle.passed_model.specs.Erased.{halves_as, row_as, side_as, frame_as, news_as, all_news_as, AreOne, PlanOne, EndOne, OfRow}
 
 module _ {N M : Type 0} (f : N → M) where

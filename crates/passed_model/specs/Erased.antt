@@ -1,8 +1,7 @@
 -- A master's side of a slave, and what frames tell of it, with the mails as another sees them.
-use Rattle.std.specs.Prelude.{◌≡◌, ℕ, Option, None, Some, option_map, List, map}
+use Rattle.std.specs.Prelude.{◌≡◌, Option, None, Some, option_map, List, map}
 use Rattle.exchange_model.specs.Exchange.{Speech, plain}
 use Rattle.exchange_model.specs.Rows.{Row}
-use Rattle.link_model.specs.Master.{OutHalf}
 use Rattle.link_model.specs.Link.{Halves}
 use Rattle.segment_model.specs.Record.{Frame, News}
 use Rattle.segment_model.specs.Seats.{Side}

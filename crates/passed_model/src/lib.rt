@@ -11,7 +11,8 @@ ghost use Rattle.segment_model.specs.Seats.{Side, Choice, side_next, side_back, 
 ghost use Rattle.serving_model.specs.Erasing.{all_as};
 ghost use Rattle.passed_model.specs.Erased.{side_as, frame_as, all_news_as, AreOne, PlanOne, EndOne, OfRow};
 ghost use Rattle.exchange_model.specs.Exchange.{Exchange};
-ghost use Rattle.serving_model.specs.Tagged.{IsServed, Rowed, Meant, Asked, real, ideal, rows_done, tagged, serve_tagged};
+ghost use Rattle.serving_model.specs.Tagged.{IsServed, Tagged, Rowed, Meant, Asked, real, ideal, tagged, serve_tagged, tagged_speech};
+ghost use Rattle.passed_model.specs.Client.{asked_speech, ByContents, MarksTold};
 ghost use Rattle.passed_model.specs.Clearing.{InRow, Forgets, cleared_rowed};
 
 /// A return to Init clears the server that stands, in whatever row, and that is to clear the one behind whole rows: so an epoch begins with what the
@@ -39,4 +40,12 @@ pub fn erased_law<N, M, Q, R>()
     ensures news { (f : N → M) (station : ℕ) (kept : Kept) (k : Frame N) → all_news_as f (frame_news station kept k) ≡ frame_news station kept (frame_as f k) }
     ensures counters { (f : N → M) (station : ℕ) (kept : Kept) (k : Frame N) → kept_after station kept k ≡ kept_after station kept (frame_as f k) }
     ensures record_ { (f : N → M) (station : ℕ) (kept : Kept) (ks : List (Frame N)) → map (λ ns. all_news_as f ns) (news_each station kept ks) ≡ news_each station kept (map (λ k. frame_as f k) ks) }
+{}
+
+/// Two such clients: one sees what is meant by its mails, the other the mails alone. They are one where the contents of the mails that a row heard tell
+/// which are replies, and, of the replies to a mail that was passed on, whether the last is there (`passed_law` of `serving_model`).
+pub fn asked_law<M, Q, R>()
+    ensures one { (x : Speech M Q R) (more : M → Bool) → AreOne (λ t. t.mail) (tagged_speech x) (asked_speech x more) }
+    ensures plans { (x : Speech M Q R) (more : M → Bool) (q : Asked M Q) (hs : List (Tagged M Q)) → ByContents x.emission hs → PlanOne (λ t. t.mail) (tagged_speech x) (asked_speech x more) q hs }
+    ensures ends { (x : Speech M Q R) (more : M → Bool) (q : Asked M Q) (hs : List (Tagged M Q)) → ByContents x.emission hs → MarksTold more q hs → EndOne (λ t. t.mail) (tagged_speech x) (asked_speech x more) q hs }
 {}

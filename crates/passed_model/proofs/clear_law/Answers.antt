@@ -1,5 +1,4 @@
 -- The lemmas on cleared servers, at the types of the function.
-use Rattle.std.proofs.Common.{refl}
 use Rattle.passed_model.proofs.Clears
 use Rattle.passed_model.proofs.clear_law.Goals as goal
 
