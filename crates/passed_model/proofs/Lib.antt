@@ -1,0 +1,3 @@
+mod Clears
+mod Naturals
+mod Clients
