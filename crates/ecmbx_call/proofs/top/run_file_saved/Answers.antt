@@ -1,13 +1,16 @@
 use Rattle.ec_outside.specs.Faults.{Rose}
 use Rattle.run_book.specs.Book.{IsNew}
 use Rattle.ecmbx_words.proofs.Put.{rose_from}
+use Rattle.ecmbx_call.specs.Files.{Followed}
 use Rattle.ecmbx_call.specs.Course.{SavedCourse}
 use Rattle.ecmbx_call.proofs.Courses.{loaded, unloaded, saved_later}
 use Rattle.ecmbx_call.proofs.top.run_file_saved.Goals as goal
 
 pub returns-in-Ok-clause-course : goal.returns-in-Ok-clause-course
 returns-in-Ok-clause-course g c =
-    let course = rw (c.bytes.ensures, c.in-Ok.ensures.quiet, c.load.ensures.same) at c.run_saved.ensures.course in
+    let raw : Followed (SavedCourse c.args.capture.now (g.F.Files.table c.load.new.files) (g.F.Files.table c.run_saved.new.files) (Rose (g.F.Files.file_faults c.load.new.files) (g.F.Files.file_faults c.run_saved.new.files)) c.run_saved.new.book c.bytes.result.now)
+    (g.O.Sink.written c.load.new.out) (g.O.Sink.written c.run_saved.new.out) c.run_saved.result = c.run_saved.ensures.course in
+    let course = rw (c.bytes.ensures, c.in-Ok.ensures.quiet, c.load.ensures.same) at raw in
     let later = saved_later c.args.capture.now (g.F.Files.table c.args.files.now) (g.F.Files.table c.run_saved.new.files) (Rose (g.F.Files.file_faults c.load.new.files) (g.F.Files.file_faults c.run_saved.new.files))
     (Rose (g.F.Files.file_faults c.args.files.now) (g.F.Files.file_faults c.run_saved.new.files))
     (rose_from (g.F.Files.file_faults c.args.files.now) (g.F.Files.file_faults c.load.new.files) (g.F.Files.file_faults c.run_saved.new.files) c.load.ensures.later c.run_saved.ensures.later) c.run_saved.new.book c.in-Ok.octets
