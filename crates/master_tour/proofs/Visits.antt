@@ -26,7 +26,7 @@ use Rattle.segment_model.specs.Ends.{Passing}
 use Rattle.task_model.specs.Accounts.{Pick, mails_choice, account_next}
 use Rattle.life_model.specs.Lives
 use Rattle.life_model.specs.Lives.{Life, Era, era_next, granted, life_next}
-use Rattle.master_tour.specs.Stands.{NextShows, is_open}
+use Rattle.master_tour.specs.Stands.{NextShows, HoldShows, is_open}
 
 pub picked_map : {Q : Type 0} (x : Speech Body Q Reply) (acknowledged : Q → Bool) (made : ℕ) (d : Side Body Q Reply) (a : Account Q Reply) (X Y : Side Body Q Reply → Account Q Reply → Type 0) →
     Picked x acknowledged made d a X → ((e : Side Body Q Reply) (b : Account Q Reply) → X e b → Y e b) → Picked x acknowledged made d a Y
@@ -81,3 +81,26 @@ open_next {Q} x acknowledged more passed made l waits R P o w k h f = go l.era.p
           shown = subst (λ z. P (life_next x acknowledged more passed made l z pick)) (sym o) (f (era_next x acknowledged more passed made l.era pick)
               (subst (λ (z : Option Passing). R (side_next x made l.era.side (mails_choice l.era.account (granted z pick))) (account_next x acknowledged made l.era.side l.era.account (granted z pick))) (sym e) (h t).shown));
         }
+
+-- the same where no service begins
+pub still_hold : {Q : Type 0} (x : Speech Body Q Reply) (acknowledged : Q → Bool) (more : Body → Bool) (passed : Q → Bool) (made : ℕ) (l : Life Body Q Reply) (P : Life Body Q Reply → Type 0) → is_open l.stand ≡ false → P l → HoldShows x acknowledged more passed made l P
+still_hold {Q} x acknowledged more passed made l P s p = record { hold = false; shown = go l.stand s }
+  where
+    go : (z : Lives.Stand) → is_open z ≡ false → P (life_next x acknowledged more passed made l z (record { begin = None; hold = false }))
+    go (Lives.Stand.Opens o) e = p
+    go Lives.Stand.Open e = absurd (cc)
+    go Lives.Stand.Gone e = p
+
+pub open_hold : {Q : Type 0} (x : Speech Body Q Reply) (acknowledged : Q → Bool) (more : Body → Bool) (passed : Q → Bool) (made : ℕ) (l : Life Body Q Reply) (R : Side Body Q Reply → Account Q Reply → Type 0) (P : Life Body Q Reply → Type 0) → l.stand ≡ Lives.Stand.Open →
+    Holds x l.era.side (λ e. R e l.era.account) → ((era : Era Body Q Reply) → R era.side era.account → P (record l { era = era })) → HoldShows x acknowledged more passed made l P
+open_hold {Q} x acknowledged more passed made l R P o h f = record {
+  hold = h.hold;
+  shown = subst (λ z. P (life_next x acknowledged more passed made l z pick)) (sym o) (f (era_next x acknowledged more passed made l.era pick) (go l.era.passing));
+}
+  where
+    pick : Pick Q
+    pick = record { begin = None; hold = h.hold }
+
+    go : (p : Option Passing) → R (side_next x made l.era.side (mails_choice l.era.account (granted p pick))) (account_next x acknowledged made l.era.side l.era.account (granted p pick))
+    go None = h.shown
+    go (Some p) = h.shown

@@ -1,6 +1,7 @@
 -- A walk over all places of a list.
 use Rattle.std.proofs.Common.{◌≡◌, ℕ, zero, suc, ◌<◌, ◌≤◌, List, [], ◌∷◌, sym, ap, ◌∙◌, subst, arith, length, drop, get_or, set}
-use Rattle.master_tour.specs.Walks.{EachPair, Walked}
+use Rattle.std.proofs.Common.{refl}
+use Rattle.master_tour.specs.Walks.{EachPair, Walked, StepsAt}
 
 pub walk_step : {S : Type 0} (P : S → S → Type 0) (i : ℕ) (xs ys : List S) (v w : S) → Walked P i xs ys → i < length ys → v ≡ get_or ys i v → P v w → Walked P (suc i) xs (set ys i w)
 walk_step P zero xs [] v w e l g p = absurd (omega (arith, l))
@@ -35,3 +36,9 @@ each_map P T [] [] h e = tt
 each_map P T (x ∷ xs) (y ∷ ys) h e = (h x y e.0, each_map P T xs ys h e.1)
 each_map P T [] (y ∷ ys) h e = absurd e
 each_map P T (x ∷ xs) [] h e = absurd e
+
+pub steps_set : {S : Type 0} (P : S → S → Type 0) (i : ℕ) (xs : List S) (v w : S) → i < length xs → v ≡ get_or xs i v → P v w → StepsAt P i xs (set xs i w)
+steps_set P zero [] v w l g p = absurd (omega (arith, l))
+steps_set P (suc i) [] v w l g p = absurd (omega (arith, l))
+steps_set P zero (x ∷ xs) v w l g p = (subst (λ z. P z w) g p, refl)
+steps_set P (suc i) (x ∷ xs) v w l g p = (refl, steps_set P i xs v w (omega (arith, l)) g p)

@@ -187,3 +187,8 @@ pub record NextShows {Q : Type 0} (x : Speech Body Q Reply) (acknowledged : Q �
 abbrev pub given_where : {Q : Type 0} → Bool → ℕ → Spot → ℕ → Life Body Q Reply → Life Body Q Reply
 given_where false recover spot number l = l
 given_where true recover spot number l = gives_up recover spot number l
+
+-- the life before a frame in which no service begins: the next mail is taken up, or none is
+pub record HoldShows {Q : Type 0} (x : Speech Body Q Reply) (acknowledged : Q → Bool) (more : Body → Bool) (passed : Q → Bool) (made : ℕ) (l : Life Body Q Reply) (P : Life Body Q Reply → Type 0) : Type 0 where
+  pub hold : Bool
+  pub shown : P (life_next x acknowledged more passed made l l.stand (record { begin = None; hold = hold }))

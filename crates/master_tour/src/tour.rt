@@ -44,8 +44,11 @@ impl<H: Hand> Tour<H> {
     ghost use Rattle.master_duty.specs.Reply.{Reply};
     ghost use Rattle.master_side.specs.Shown.{SideShows};
     ghost use Rattle.master_tour.specs.Under.{Under};
-    ghost use Rattle.master_tour.specs.Walks.{EachPair};
-    ghost use Rattle.master_tour.specs.Stands.{StopShows, FollowShows, IsSpot, StandUnder, came_at, given_where};
+    ghost use Rattle.master_tour.specs.Walks.{EachPair, StepsAt};
+    ghost use Rattle.master_tour.specs.Stands.{StopShows, FollowShows, IsSpot, StandUnder, came_at, given_where, stand_gram, StandMeant, NextShows, HoldShows};
+    ghost use Rattle.frame_view.specs.View.{datagram_seen};
+    ghost use Rattle.mailbox_master.specs.Any.{in_area_len};
+    ghost use Rattle.std.specs.Prelude.{is_some, true, ◌++◌};
     ghost use Rattle.life_model.specs.Lives.{Life, Spot, life_back, life_lost};
     ghost use Rattle.segment_model.specs.Record.{News};
     ghost use Rattle.std.specs.Prelude.{Bool, false, not, nat_lt, ◌&&◌};
@@ -180,6 +183,8 @@ impl<H: Hand> Tour<H> {
     pub fn fits(&mut self, place: usize, wish: Option<Wish>, frame: &FrameBuf) -> bool
         requires inside { place < length self.old.stops.items }
         ensures count { self.new.count ≡ self.old.count }
+        ensures lives { StepsAt (λ s t. ((x : Speech Body H.Asked Reply) (more : Body → Bool) (passed : H.Asked → Bool) (made recover : ℕ) (spot : Spot) (l : Life Body H.Asked Reply) → StopShows (λ d a. SideShows (H.shows s.side.hand x) s.side.out s.side.inn s.side.fresh s.side.duty d a) recover spot s.stand s.spare l →
+            HoldShows x H.acknowledged more passed made l (StopShows (λ d a. SideShows (H.shows t.side.hand x) t.side.out t.side.inn t.side.fresh t.side.duty d a) recover spot t.stand t.spare)) × (t.place ≡ s.place) × (t.start ≡ s.start) × (t.under ≡ s.under) × (t.at ≡ s.at)) place self.old.stops.items self.new.stops.items }
         ensures long { length self.new.stops.items ≡ length self.old.stops.items }
     {
         self.stops[place].ahead(wish) <= datagrams::room(frame)
@@ -198,15 +203,27 @@ impl<H: Hand> Tour<H> {
         requires few { self.old.count < 16 }
         requires begun { (ds : List Raw.Datagram) × IsBegun frame.old.items ds }
         ensures begun { (ds : List Raw.Datagram) × IsBegun frame.new.items ds }
+        ensures lives { StepsAt (λ s t. ((x : Speech Body H.Asked Reply) (more : Body → Bool) (passed : H.Asked → Bool) (made recover : ℕ) (spot : Spot) (lens : ℕ → Lens) (l : Life Body H.Asked Reply) →
+            (lens s.side.station).out ≡ s.side.out.len → (lens s.side.station).back ≡ in_area_len s.side.inn → IsSpot spot s.side.station s.place s.start → is_some l.era.passing ≡ is_some s.side.passing → StopShows (λ d a. SideShows (H.shows s.side.hand x) s.side.out s.side.inn s.side.fresh s.side.duty d a) recover spot s.stand s.spare l →
+            NextShows x H.acknowledged more passed made l (λ n. StopShows (λ d a. SideShows (H.shows t.side.hand x) t.side.out t.side.inn t.side.fresh t.side.duty d a) recover spot t.stand t.spare n ×
+            (t.under ≡ true → StandMeant lens t.side.station index t.side.carried t.stand n (datagram_seen lens (stand_gram t.side.station index t.stand t.side.out t.side.inn t.side.duty t.side.carried))))) × ((ds : List Raw.Datagram) → IsBegun frame.old.items ds → t.under ≡ true → IsBegun frame.new.items (ds ++ (stand_gram t.side.station index t.stand t.side.out t.side.inn t.side.duty t.side.carried) ∷ [])) × (t.under ≡ false → frame.new.items ≡ frame.old.items) × (t.under ≡ true → t.at ≡ self.old.count) × (t.place ≡ s.place) × (t.start ≡ s.start)) place self.old.stops.items self.new.stops.items }
         ensures long { length self.new.stops.items ≡ length self.old.stops.items }
     {
         let at = self.count;
-        let stop = &mut self.stops[place];
-        let began = stop.visit(wish, at, index, frame);
-        if stop.under {
+        let began = self.stops[place].visit(wish, at, index, frame);
+        let under = self.stops[place].under;
+        self.carry_where(under, place);
+        began
+    }
+
+    // The same, where the slave has it.
+    fn carry_where(&mut self, under: bool, place: usize)
+        requires few { self.old.count < 16 }
+        ensures stops { self.new.stops ≡ self.old.stops }
+    {
+        if under {
             self.carry(place);
         }
-        began
     }
 
     // The slave at this place has the next datagram of the frame.

@@ -1,0 +1,32 @@
+use Rattle.std.proofs.Common.{sym, subst, ap}
+use Rattle.master_side.specs.Shown.{SideShows}
+use Rattle.master_tour.specs.Stands.{StopShows, StandShows, is_open}
+use Rattle.master_tour.proofs.Visits.{still_hold, open_hold}
+use Rattle.master_tour.proofs.stop.Stop.ahead.Goals as goal
+
+pub returns-in-Gone-clause-lives : goal.returns-in-Gone-clause-lives
+returns-in-Gone-clause-lives g c = λ x more passed made recover spot l sh.
+    let t = c.args.self.now in
+    let s = c.args.self.now.side in
+    let stood = (subst (λ z. StopShows (λ d a. SideShows (g.H.Hand.shows s.hand x) s.out s.inn s.fresh s.duty d a) recover spot z t.spare l) c.in-Gone.is sh).stood in
+    still_hold x g.H.Hand.acknowledged more passed made l _ (ap is_open stood) sh
+
+pub returns-in-Opening-clause-lives : goal.returns-in-Opening-clause-lives
+returns-in-Opening-clause-lives g c = λ x more passed made recover spot l sh.
+    let t = c.args.self.now in
+    let s = c.args.self.now.side in
+    let stood = (subst (λ z. StopShows (λ d a. SideShows (g.H.Hand.shows s.hand x) s.out s.inn s.fresh s.duty d a) recover spot z t.spare l) c.in-Opening.is sh).stood in
+    still_hold x g.H.Hand.acknowledged more passed made l _ (ap is_open stood.stand) sh
+
+pub returns-in-Open-clause-lives : goal.returns-in-Open-clause-lives
+returns-in-Open-clause-lives g c = λ x more passed made recover spot l sh.
+    let t = c.args.self.now in
+    let s = c.args.self.now.side in
+    let n = c.ahead.new.self in
+    let stood = (subst (λ z. StopShows (λ d a. SideShows (g.H.Hand.shows s.hand x) s.out s.inn s.fresh s.duty d a) recover spot z t.spare l) c.in-Open.is sh).stood in
+    open_hold x g.H.Hand.acknowledged more passed made l (λ e r. SideShows (g.H.Hand.shows n.hand x) n.out n.inn n.fresh n.duty e r) _ stood.0 (c.ahead.ensures.shown x l.era.side l.era.account stood.1)
+    (λ era r. record {
+      stood = subst (λ z. StandShows (λ d a. SideShows (g.H.Hand.shows n.hand x) n.out n.inn n.fresh n.duty d a) spot z (record l { era = era })) (sym c.in-Open.is) (stood.0, r);
+      spared = sh.spared;
+      over = sh.over;
+    })
