@@ -1,5 +1,5 @@
 -- The real server is one of those of which lives speak.
-use Rattle.std.proofs.Common.{◌≡◌, ℕ, Bool, true, false, refl, ap, sym, ◌∙◌}
+use Rattle.std.proofs.Common.{◌≡◌, ℕ, Bool, true, false, refl, ap}
 use Rattle.std.specs.Prelude.{if◌then◌else◌, not, Option, Some, None}
 use Rattle.al_state.specs.declared.machine.Al.{Al}
 use Rattle.link_model.specs.Counters.{repeats}
@@ -8,7 +8,6 @@ use Rattle.slave_steps.specs.Node.{is_init}
 use Rattle.slave_steps.specs.Step.{looked, al_behind, word_behind, served, returned}
 use Rattle.frame_view.specs.View.{Lens}
 use Rattle.esc_registers.specs.declared.registers.Registers as Esc
-use Rattle.link_mails.specs.Body.{Body}
 use Rattle.mailbox_mail.specs.declared.mail.Mail.{Mail}
 use Rattle.mailbox_slave.specs.Kept.{Kept}
 use Rattle.mailbox_slave.specs.Exact as Exact

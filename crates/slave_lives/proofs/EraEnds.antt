@@ -1,5 +1,5 @@
 -- AN EPOCH ENDS with the server as its node had it, and stays over as frames follow.
-use Rattle.std.proofs.Common.{◌≡◌, ℕ, suc, ◌+◌, ◌-◌, ◌≤◌, ◌<◌, List, [], ◌∷◌, ◌++◌, length, map, take, drop, refl, ap, sym, ◌∙◌, subst, arith, length-append, length-drop}
+use Rattle.std.proofs.Common.{◌≡◌, ℕ, suc, ◌-◌, ◌≤◌, ◌<◌, List, [], ◌∷◌, ◌++◌, length, map, take, drop, refl, ap, sym, ◌∙◌, subst, arith, length-append, length-drop}
 use Rattle.std.specs.Prelude.{replicate}
 use Rattle.std.proofs.lemmas.List.{drop-append-le, take-append-le}
 use Rattle.link_mails.specs.Body.{Body}
@@ -8,7 +8,7 @@ use Rattle.frames_seen.specs.Slaves.{registers_seen}
 use Rattle.slave_steps.specs.Node.{Node}
 use Rattle.life_model.specs.Own.{own_frame, blank}
 use Rattle.life_model.specs.Lives.{Spot, Era}
-use Rattle.life_model.specs.Eras.{EraIs, WasOpen, Eras, Clearing, IsClearing, era_frames, planned}
+use Rattle.life_model.specs.Eras.{WasOpen, Eras, Clearing, era_frames, planned}
 use Rattle.slave_lives.specs.Ends.{LeftEra, LeftEras, ClearsAs}
 use Rattle.slave_lives.specs.Lived.{Behind, LivesEra, table_of, node_seen}
 use Rattle.task_model.specs.Tasks.{IsTasked}

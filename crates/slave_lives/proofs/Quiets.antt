@@ -1,26 +1,22 @@
 -- A FRAME WITHOUT DATAGRAMS of an open slave leaves the master's view of its epoch, and the node lives it on.
-use Rattle.std.proofs.Common.{◌≡◌, ◌⊎◌, inl, inr, ℕ, ◌==◌, ◌&&◌, not, Bool, true, false, List, [], ◌∷◌, ◌++◌, length, refl, ap, ap₂, sym, ◌∙◌, subst, append-nil}
+use Rattle.std.proofs.Common.{◌≡◌, ◌⊎◌, inl, inr, ℕ, ◌&&◌, Bool, true, false, List, [], ◌∷◌, ◌++◌, length, refl, ap, sym, ◌∙◌, subst, append-nil}
 use Rattle.std.specs.Prelude.{Option, Some, None, if◌then◌else◌, option_map}
 use Rattle.std.proofs.lemmas.Bool.{eq-eqb}
 use Rattle.exchange_model.specs.Exchange.{Speech, plain}
 use Rattle.exchange_model.specs.Rows.{Row, row_heard, answer_after}
 use Rattle.link_mails.specs.Body.{Body}
 use Rattle.link_model.specs.Frames.{IsFrameFor, IsSent}
-use Rattle.link_model.specs.Master.{InState}
 use Rattle.link_model.specs.Segment.{RingFate}
 use Rattle.segment_model.specs.Ends.{Passing}
-use Rattle.segment_model.specs.Record.{Frame, News, is_for}
+use Rattle.segment_model.specs.Record.{Frame, is_for}
 use Rattle.segment_model.specs.Seats.{Side, side_begins, side_holds, side_next, side_back, side_lost, next_mail}
 use Rattle.segment_model.specs.Slaves.{Datagram, Address, Access, grams}
-use Rattle.segment_ring.specs.Ring.{is_in_pace}
 use Rattle.task_model.specs.Accounts.{Account, Duty, Pick, IsServed, account_begins, account_next, account_back, mails_begin, mails_choice, duty_access}
 use Rattle.state_exchange.specs.Stated.{Service}
 use Rattle.life_model.specs.Lives.{Spot, Era, AsksOpen, ReadsFull, granted, era_next, era_after, passing_begins, passes}
 use Rattle.life_model.specs.Own.{own}
-use Rattle.frame_view.specs.Seen.{seen}
-use Rattle.slave_lives.specs.Ends.{no_pick, IsAnswered, QuietFrame, YetFrame}
-use Rattle.slave_lives.specs.Lived.{Behind, IsBehind, LivesEra, RingFrame, fate_of, is_reached, node_met, node_behind, octets_back, frame_of, OpenFrame, LivedOn, StandsBehind}
-use Rattle.slave_lives.specs.Rings.{fate_seen}
+use Rattle.slave_lives.specs.Ends.{no_pick, IsAnswered, YetFrame}
+use Rattle.slave_lives.specs.Lived.{Behind, IsBehind, LivesEra, RingFrame, node_behind, frame_of, OpenFrame}
 use Rattle.slave_lives.proofs.RingLives.{lived_on}
 
 module _ {M Q R : Type 0} (x : Speech M Q R) (acknowledged : Q → Bool) (more : M → Bool) (passed : Q → Bool) where

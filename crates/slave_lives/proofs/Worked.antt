@@ -1,13 +1,11 @@
 -- A frame of 60 octets round a ring of two slaves: a mail for the first, which is open, and the first access of a reopening for the second.
 use Rattle.std.proofs.Common.{◌≡◌, ℕ, true, false, List, [], ◌∷◌, refl}
-use Rattle.std.specs.Prelude.{Some, None, Ok, map, replicate, zero, suc}
+use Rattle.std.specs.Prelude.{None, Ok, map, replicate, zero, suc}
 use Rattle.datagrams.specs.declared.command.Command.TheVariants.{Fpwr, Apwr}
 use Rattle.datagrams.specs.Datagram as Raw
 use Rattle.datagrams.specs.Frame.{frame_text}
 use Rattle.esc_registers.specs.declared.registers.Registers as Esc
 use Rattle.mailbox_mail.specs.declared.mail.Kind.TheVariants.{CoE}
-use Rattle.mailbox_mail.specs.declared.mail.Mail.{Mail}
-use Rattle.link_mails.specs.Body.{Body}
 use Rattle.link_model.specs.Frames.{Ask}
 use Rattle.segment_model.specs.Slaves.{Address, Access}
 use Rattle.segment_ring.specs.Ring.{ring_behind, RingState}
