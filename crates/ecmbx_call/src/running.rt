@@ -34,15 +34,15 @@ fn status_of(ending: Ending) -> Status
     }
 }
 
-// The plan that octets write; or the answer where they write none, whose line is put.
-fn plan_in<O: Sink>(alloc: Global, octets: &[u8], out: &mut O) -> Result<Scenario, Status>
-    ensures found { IfOk result (λ plan. plan_of octets.now ≡ Ok plan) }
+// The plan that octets write, which are let go; or the answer where they write none, whose line is put.
+fn plan_in<O: Sink>(alloc: Global, octets: Octets, out: &mut O) -> Result<Scenario, Status>
+    ensures found { IfOk result (λ plan. plan_of octets ≡ Ok plan) }
     ensures sound { IfOk result IsPlan }
     ensures quiet { IfOk result (λ plan. out.new ≡ out.old) }
-    ensures failed { IfErr result (IsUnread octets.now (O.written out.old) (O.written out.new)) }
+    ensures failed { IfErr result (IsUnread octets (O.written out.old) (O.written out.new)) }
     ensures sink { IfErr result (λ status. status ≡ statuses.SinkFault → Rose (O.sink_faults out.old) (O.sink_faults out.new)) }
 {
-    match read(alloc, octets) {
+    match read(alloc, octets.bytes()) {
         Ok(plan) => Ok(plan),
         Err(ReadErr::NoMemory) => Err(Status::NoMemory),
         Err(ReadErr::Refused { rule, place }) => Err(refuse(alloc, rule, place, out)),
@@ -98,12 +98,12 @@ fn save<F: Files>(
     }
 }
 
-/// Runs the plan that octets write, and puts the report; or why they write none.
-pub fn run_octets<O: Sink>(alloc: Global, octets: &[u8], out: &mut O, book: &mut Book) -> Status
+/// Runs the plan that octets write, and puts the report; or why they write none. The octets are let go before the run, whose book wants the memory.
+pub fn run_octets<O: Sink>(alloc: Global, octets: Octets, out: &mut O, book: &mut Book) -> Status
     requires { IsNew book.old }
-    ensures course { Followed (RunCourse book.new octets.now) (O.written out.old) (O.written out.new) result }
+    ensures course { Followed (RunCourse book.new octets) (O.written out.old) (O.written out.new) result }
     ensures sink { result ≡ statuses.SinkFault → Rose (O.sink_faults out.old) (O.sink_faults out.new) }
-    ensures book { IsNew book.new ⊎ BeganOn octets.now book.new }
+    ensures book { IsNew book.new ⊎ BeganOn octets book.new }
 {
     let plan = match plan_in(alloc, octets, out) {
         Ok(plan) => plan,
@@ -118,16 +118,16 @@ pub fn run_octets<O: Sink>(alloc: Global, octets: &[u8], out: &mut O, book: &mut
 /// The same, and saves the frames as a capture before the report is put. Where that fails nothing is put.
 pub fn run_saved<F: Files, O: Sink>(
     alloc: Global,
-    octets: &[u8],
+    octets: Octets,
     name: &str,
     files: &mut F,
     out: &mut O,
     book: &mut Book,
 ) -> Status
     requires { IsNew book.old }
-    ensures course { SavesRun F.table F.file_faults O.written octets.now name.now book.new files.old files.new out.old out.new result }
+    ensures course { SavesRun F.table F.file_faults O.written octets name.now book.new files.old files.new out.old out.new result }
     ensures sink { result ≡ statuses.SinkFault → Rose (O.sink_faults out.old) (O.sink_faults out.new) }
-    ensures book { IsNew book.new ⊎ BeganOn octets.now book.new }
+    ensures book { IsNew book.new ⊎ BeganOn octets book.new }
     ensures later { F.file_faults files.old ≤ F.file_faults files.new }
 {
     let plan = match plan_in(alloc, octets, out) {

@@ -31,7 +31,7 @@ fn run_file<F: Files, O: Sink>(
     ensures same { F.table files.new ≡ F.table files.old }
 {
     match load(alloc, name, files, out) {
-        Ok(octets) => run_octets(alloc, octets.bytes(), out, book),
+        Ok(octets) => run_octets(alloc, octets, out, book),
         Err(status) => status,
     }
 }
@@ -50,7 +50,7 @@ fn run_file_saved<F: Files, O: Sink>(
     ensures book { IsNew book.new ⊎ BeganIn name.now (F.table files.old) book.new }
 {
     match load(alloc, name, files, out) {
-        Ok(octets) => run_saved(alloc, octets.bytes(), capture, files, out, book),
+        Ok(octets) => run_saved(alloc, octets, capture, files, out, book),
         Err(status) => status,
     }
 }

@@ -6,10 +6,10 @@ use Rattle.ecmbx_call.proofs.Courses.{said, run_unread, has_run}
 use Rattle.ecmbx_call.proofs.running.run_octets.Goals as goal
 
 pub returns-in-Err-clause-course : goal.returns-in-Err-clause-course
-returns-in-Err-clause-course g c = run_unread c.args.book.now c.args.octets.now (g.O.Sink.written c.args.out.now) (g.O.Sink.written c.plan_in.new.out) c.in-Err.status c.requires c.in-Err.ensures.failed
+returns-in-Err-clause-course g c = run_unread c.args.book.now c.args.octets (g.O.Sink.written c.args.out.now) (g.O.Sink.written c.plan_in.new.out) c.in-Err.status c.requires c.in-Err.ensures.failed
 
 pub returns-clause-course : goal.returns-clause-course
 returns-clause-course g c =
     let put = rw c.in-Ok.ensures.quiet at c.tell.ensures.put in
-    said (RunCourse c.run.new.book c.args.octets.now) (status_of c.run.new.book.ending) (text_of (report_lines c.in-Ok.plan c.run.new.book)) (g.O.Sink.written c.args.out.now) (g.O.Sink.written c.tell.new.out) c.tell.result
+    said (RunCourse c.run.new.book c.args.octets) (status_of c.run.new.book.ending) (text_of (report_lines c.in-Ok.plan c.run.new.book)) (g.O.Sink.written c.args.out.now) (g.O.Sink.written c.tell.new.out) c.tell.result
     (ran c.in-Ok.plan c.in-Ok.ensures.found (has_run c.in-Ok.plan c.run.new.book c.run.result c.run.ensures.frames c.run.ensures.ends c.run.ensures.ending)) put

@@ -8,18 +8,18 @@ use Rattle.ecmbx_call.proofs.running.run_saved.Goals as goal
 
 pub returns-in-Err-clause-course : goal.returns-in-Err-clause-course
 returns-in-Err-clause-course g c =
-    save_unread c.args.name.now (g.F.Files.table c.args.files.now) (g.F.Files.table c.args.files.now) (Rose (g.F.Files.file_faults c.args.files.now) (g.F.Files.file_faults c.args.files.now)) c.args.book.now c.args.octets.now (g.O.Sink.written c.args.out.now)
+    save_unread c.args.name.now (g.F.Files.table c.args.files.now) (g.F.Files.table c.args.files.now) (Rose (g.F.Files.file_faults c.args.files.now) (g.F.Files.file_faults c.args.files.now)) c.args.book.now c.args.octets (g.O.Sink.written c.args.out.now)
     (g.O.Sink.written c.plan_in.new.out) c.in-Err.status c.requires c.in-Err.ensures.failed
 
 pub returns-in-Ok-save-clause-course : goal.returns-in-Ok-save-clause-course
 returns-in-Ok-save-clause-course g c =
     let put = rw c.in-Ok.ensures.quiet at c.tell.ensures.put in
-    said (SavedCourse c.args.name.now (g.F.Files.table c.args.files.now) (g.F.Files.table c.save.new.files) (Rose (g.F.Files.file_faults c.args.files.now) (g.F.Files.file_faults c.save.new.files)) c.run.new.book c.args.octets.now) (status_of c.run.new.book.ending)
+    said (SavedCourse c.args.name.now (g.F.Files.table c.args.files.now) (g.F.Files.table c.save.new.files) (Rose (g.F.Files.file_faults c.args.files.now) (g.F.Files.file_faults c.save.new.files)) c.run.new.book c.args.octets) (status_of c.run.new.book.ending)
     (text_of (report_lines c.in-Ok.plan c.run.new.book)) (g.O.Sink.written c.args.out.now) (g.O.Sink.written c.tell.new.out) c.tell.result
     (ran c.in-Ok.plan c.in-Ok.ensures.found (has_run c.in-Ok.plan c.run.new.book c.run.result c.run.ensures.frames c.run.ensures.ends c.run.ensures.ending) c.in-Ok-save.ensures.saved) put
 
 pub returns-clause-course : goal.returns-clause-course
 returns-clause-course g c =
     rw (c.in-Ok.ensures.quiet)
-    (save_failed c.args.name.now (g.F.Files.table c.args.files.now) (g.F.Files.table c.save.new.files) (Rose (g.F.Files.file_faults c.args.files.now) (g.F.Files.file_faults c.save.new.files)) c.in-Ok.plan c.run.new.book c.args.octets.now
+    (save_failed c.args.name.now (g.F.Files.table c.args.files.now) (g.F.Files.table c.save.new.files) (Rose (g.F.Files.file_faults c.args.files.now) (g.F.Files.file_faults c.save.new.files)) c.in-Ok.plan c.run.new.book c.args.octets
     (g.O.Sink.written c.args.out.now) c.in-Err-save.status c.in-Ok.ensures.found (has_run c.in-Ok.plan c.run.new.book c.run.result c.run.ensures.frames c.run.ensures.ends c.run.ensures.ending) c.in-Err-save.ensures.failed)

@@ -6,7 +6,7 @@ use Rattle.ecmbx_call.proofs.top.run_file.Goals as goal
 
 pub returns-in-Ok-clause-course : goal.returns-in-Ok-clause-course
 returns-in-Ok-clause-course g c =
-    let course = rw (c.bytes.ensures, c.in-Ok.ensures.quiet) at c.run_octets.ensures.course in
+    let course = rw c.in-Ok.ensures.quiet at c.run_octets.ensures.course in
     loaded c.args.name.now (g.F.Files.table c.args.files.now) (Rose (g.F.Files.file_faults c.args.files.now) (g.F.Files.file_faults c.load.new.files)) (IsNew c.run_octets.new.book) (RunCourse c.run_octets.new.book) c.in-Ok.octets
     (g.O.Sink.written c.args.out.now) (g.O.Sink.written c.run_octets.new.out) c.run_octets.result c.in-Ok.ensures.found course
 

@@ -8,9 +8,9 @@ use Rattle.ecmbx_call.proofs.top.run_file_saved.Goals as goal
 
 pub returns-in-Ok-clause-course : goal.returns-in-Ok-clause-course
 returns-in-Ok-clause-course g c =
-    let raw : Followed (SavedCourse c.args.capture.now (g.F.Files.table c.load.new.files) (g.F.Files.table c.run_saved.new.files) (Rose (g.F.Files.file_faults c.load.new.files) (g.F.Files.file_faults c.run_saved.new.files)) c.run_saved.new.book c.bytes.result.now)
+    let raw : Followed (SavedCourse c.args.capture.now (g.F.Files.table c.load.new.files) (g.F.Files.table c.run_saved.new.files) (Rose (g.F.Files.file_faults c.load.new.files) (g.F.Files.file_faults c.run_saved.new.files)) c.run_saved.new.book c.in-Ok.octets)
     (g.O.Sink.written c.load.new.out) (g.O.Sink.written c.run_saved.new.out) c.run_saved.result = c.run_saved.ensures.course in
-    let course = rw (c.bytes.ensures, c.in-Ok.ensures.quiet, c.load.ensures.same) at raw in
+    let course = rw (c.in-Ok.ensures.quiet, c.load.ensures.same) at raw in
     let later = saved_later c.args.capture.now (g.F.Files.table c.args.files.now) (g.F.Files.table c.run_saved.new.files) (Rose (g.F.Files.file_faults c.load.new.files) (g.F.Files.file_faults c.run_saved.new.files))
     (Rose (g.F.Files.file_faults c.args.files.now) (g.F.Files.file_faults c.run_saved.new.files))
     (rose_from (g.F.Files.file_faults c.args.files.now) (g.F.Files.file_faults c.load.new.files) (g.F.Files.file_faults c.run_saved.new.files) c.load.ensures.later c.run_saved.ensures.later) c.run_saved.new.book c.in-Ok.octets
