@@ -5,3 +5,4 @@ pub mod Frames
 pub mod Cursors
 pub mod Openings
 pub mod Backs
+pub mod Twice
