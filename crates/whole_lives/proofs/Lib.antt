@@ -1,0 +1,4 @@
+pub mod Steady
+pub mod Kept
+pub mod Still
+pub mod Rows

@@ -1,0 +1,25 @@
+//! All epochs of a slave's life, its node and the frames so far. No running code: each function here does nothing, and its contract states a law.
+#![tactic(auto)]
+
+ghost use Rattle.std.specs.Prelude.{◌≡◌, ◌≢◌, ◌∷◌, ◌++◌, ℕ, Bool, Option, None, List, []};
+ghost use Rattle.link_mails.specs.Body.{Body};
+ghost use Rattle.segment_model.specs.Record.{Frame, News};
+ghost use Rattle.segment_model.specs.Slaves.{Found};
+ghost use Rattle.slave_steps.specs.Node.{new_node};
+ghost use Rattle.task_model.specs.Accounts.{Pick};
+ghost use Rattle.life_model.specs.Eras.{Clearing, Eras};
+ghost use Rattle.life_model.specs.Lives.{Spot, Life, Stand, new_life, gives_up};
+ghost use Rattle.slave_lives.specs.Lived.{Behind, RingFrame, node_behind, frame_of, table_of};
+ghost use Rattle.slave_lives.specs.Opening.{Plan};
+ghost use Rattle.whole_lives.specs.Whole.{IsWhole, IsLived};
+ghost use Rattle.whole_lives.specs.Turns.{FrameComes, TurnsAs, life_by};
+
+/// A LIFE IS LIVED BY ITS NODE from the moment the slave is switched on; by each frame that the ring exchanges, met by the slave, lost before it or
+/// behind it, and by the step behind it, at any pace; and where the slave is given up.
+pub fn life_law<S, V, A, Q, R>()
+    ensures begins { (w : Behind S V A Q R) (c : Clearing V A) (p : Plan) (spot : Spot) (al : ℕ) (s : S) → IsWhole w c p spot → w.running.clear s ≡ s → w.running.next s ≡ None →
+        IsLived w c p spot (w.exchange.app (w.sees al s).server) (new_life {M = Body} {Q = Q} {R = R} spot.start) [] (new_node p.out p.back w.boot s) }
+    ensures turns { (w : Behind S V A Q R) (c : Clearing V A) (p : Plan) (spot : Spot) (first : A) (l : Life Body Q R) (fs : List (Frame Body)) (t : RingFrame S) (more : Body → Bool) (passed : Q → Bool) (pick : Pick Q) (news : List (News Body)) (came : Option (Bool × Option Found)) →
+        IsWhole w c p spot → IsLived w c p spot first l fs t.node → FrameComes w p spot l.stand t → TurnsAs w more passed p spot fs t pick news came l.era l.stand →
+        IsLived w c p spot first (life_by w more passed spot fs t pick news came (frame_of w.lens t).fate l l.stand) (fs ++ frame_of w.lens t ∷ []) (node_behind w.running t) }
+{}
