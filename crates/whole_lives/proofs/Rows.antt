@@ -3,12 +3,14 @@ use Rattle.std.proofs.Common.{◌≡◌, ℕ, Bool, true, false, List, [], ◌�
 use Rattle.std.specs.Prelude.{Option, Some, None, if◌then◌else◌, option_map, ◌&&◌, ⊤}
 use Rattle.exchange_model.specs.Exchange.{Speech, plain}
 use Rattle.exchange_model.specs.Rows.{Row, begun, answer_after, row_heard, row_told}
+use Rattle.link_model.specs.Frames.{all_accepted}
 use Rattle.link_model.specs.Segment.{RingFate}
 use Rattle.segment_model.specs.Record.{Frame, News}
-use Rattle.segment_model.specs.Slaves.{Datagram}
-use Rattle.segment_model.specs.Seats.{Side, side_begins, side_holds, side_next, side_back, is_over}
-use Rattle.task_model.specs.Accounts.{Pick}
-use Rattle.life_model.specs.Lives.{Era, era_next, era_after}
+use Rattle.segment_model.specs.Slaves.{Datagram, grams}
+use Rattle.segment_model.specs.Seats.{Side, side_begins, side_holds, side_next, side_back, is_over, next_mail}
+use Rattle.task_model.specs.Accounts.{Pick, mails_choice}
+use Rattle.life_model.specs.Lives.{Era, era_next, era_after, granted}
+use Rattle.life_model.specs.Own.{own}
 use Rattle.slave_lives.specs.Ends.{IsAnswered}
 
 module _ {M Q R : Type 0} (x : Speech M Q R) (none : (q : Q) → x.ends q [] ≡ None) where
@@ -48,9 +50,12 @@ module _ {M Q R : Type 0} (x : Speech M Q R) (none : (q : Q) → x.ends q [] ≡
 
   module _ (acknowledged : Q → Bool) (more : M → Bool) (passed : Q → Bool) where
     pub next_answered : (frame : ℕ) (e : Era M Q R) (pick : Pick Q) → IsAnswered x e.side.now → IsAnswered x (era_next x acknowledged more passed frame e pick).side.now
-    next_answered frame e pick is = holds _ _ (begins frame e.side e.side.now _ is)
+    next_answered frame e pick is =
+        let choice = mails_choice e.account (granted e.passing pick) in
+        let side = side_begins x frame e.side e.side.now choice.begin in
+        holds side (next_mail x side.now side.halves.out.holding choice.hold) (begins frame e.side e.side.now choice.begin is)
 
     pub after_answered : (station frame : ℕ) (news : List (News M)) (sent : List (Datagram M)) (fate : RingFate) (back : List (Datagram M)) (e : Era M Q R) → IsAnswered x e.side.now →
         IsAnswered x (era_after x acknowledged more passed station frame news sent fate back e).side.now
-    after_answered station frame news sent RingFate.Back back e is = heard frame _ e.side.now is
+    after_answered station frame news sent RingFate.Back back e is = heard frame (all_accepted station e.side.halves (grams (own station back))) e.side.now is
     after_answered station frame news sent (RingFate.Lost after) back e is = is

@@ -37,12 +37,12 @@ carried_state : (table : States.Table) (r : Registers) → IsUp r → (States.ca
 carried_state table r up = go r.refused r.control refl
   where
     decides : (found : Option ℕ) (target : ℕ) → target ≢ 1 → (States.decided r target found).state ≢ 1
-    decides None target no = no
-    decides (Some code) target no = up.state
+    decides None target other = other
+    decides (Some code) target other = up.state
 
     flag : (b : Bool) (target : ℕ) (found : Option ℕ) → target ≢ 1 → (if b then States.decided r target found else record r { control = None }).state ≢ 1
-    flag true target found no = decides found target no
-    flag false target found no = up.state
+    flag true target found other = decides found target other
+    flag false target found other = up.state
 
     go : (refused : Option ℕ) (control : Option (ℕ × Bool)) → r.control ≡ control → (States.word_carried table r refused control).state ≢ 1
     go None None e = up.state

@@ -1,11 +1,11 @@
 //! All epochs of a slave's life, its node and the frames so far. No running code: each function here does nothing, and its contract states a law.
 #![tactic(auto)]
 
-ghost use Rattle.std.specs.Prelude.{◌≡◌, ◌≢◌, ◌∷◌, ◌++◌, ℕ, Bool, Option, None, List, []};
+ghost use Rattle.std.specs.Prelude.{◌≡◌, ◌∷◌, ◌++◌, ℕ, Bool, Option, None, List, []};
 ghost use Rattle.link_mails.specs.Body.{Body};
 ghost use Rattle.segment_model.specs.Record.{Frame, News};
 ghost use Rattle.segment_model.specs.Slaves.{Found};
-ghost use Rattle.slave_steps.specs.Node.{new_node};
+ghost use Rattle.slave_steps.specs.Node.{Node, new_node};
 ghost use Rattle.task_model.specs.Accounts.{Pick};
 ghost use Rattle.life_model.specs.Eras.{Clearing, Eras};
 ghost use Rattle.life_model.specs.Lives.{Spot, Life, Stand, new_life, gives_up};
@@ -13,13 +13,27 @@ ghost use Rattle.slave_lives.specs.Lived.{Behind, RingFrame, node_behind, frame_
 ghost use Rattle.slave_lives.specs.Opening.{Plan};
 ghost use Rattle.whole_lives.specs.Whole.{IsWhole, IsLived};
 ghost use Rattle.whole_lives.specs.Turns.{FrameComes, TurnsAs, life_by};
+ghost use Rattle.whole_lives.specs.Promises.{IsPromised};
 
 /// A LIFE IS LIVED BY ITS NODE from the moment the slave is switched on; by each frame that the ring exchanges, met by the slave, lost before it or
-/// behind it, and by the step behind it, at any pace; and where the slave is given up.
+/// behind it, and by the step behind it, at any pace; and where the slave is given up, for good or not.
+#[tactic(none)]
 pub fn life_law<S, V, A, Q, R>()
     ensures begins { (w : Behind S V A Q R) (c : Clearing V A) (p : Plan) (spot : Spot) (al : ℕ) (s : S) → IsWhole w c p spot → w.running.clear s ≡ s → w.running.next s ≡ None →
         IsLived w c p spot (w.exchange.app (w.sees al s).server) (new_life {M = Body} {Q = Q} {R = R} spot.start) [] (new_node p.out p.back w.boot s) }
     ensures turns { (w : Behind S V A Q R) (c : Clearing V A) (p : Plan) (spot : Spot) (first : A) (l : Life Body Q R) (fs : List (Frame Body)) (t : RingFrame S) (more : Body → Bool) (passed : Q → Bool) (pick : Pick Q) (news : List (News Body)) (came : Option (Bool × Option Found)) →
         IsWhole w c p spot → IsLived w c p spot first l fs t.node → FrameComes w p spot l.stand t → TurnsAs w more passed p spot fs t pick news came l.era l.stand →
         IsLived w c p spot first (life_by w more passed spot fs t pick news came (frame_of w.lens t).fate l l.stand) (fs ++ frame_of w.lens t ∷ []) (node_behind w.running t) }
+    ensures gives { (w : Behind S V A Q R) (c : Clearing V A) (p : Plan) (spot : Spot) (first : A) (l : Life Body Q R) (fs : List (Frame Body)) (n : Node S) (recover frame : ℕ) →
+        IsWhole w c p spot → IsLived w c p spot first l fs n → IsLived w c p spot first (gives_up recover spot frame l) fs n }
+{}
+
+/// Of a life that is lived the epochs that are over are epochs of the model, one behind the other, up to the application with which the newest
+/// begins; and while the slave is open its epoch promises what an open epoch of the model does, of the node as it is seen.
+#[tactic(none)]
+pub fn open_epoch_law<S, V, A, Q, R>()
+    ensures chain { (w : Behind S V A Q R) (c : Clearing V A) (p : Plan) (spot : Spot) (first : A) (l : Life Body Q R) (fs : List (Frame Body)) (n : Node S) → (i : IsLived w c p spot first l fs n) →
+        Eras w.exchange w.states w.processor (table_of w) c.cleared spot fs first l.past i.from }
+    ensures promises { (w : Behind S V A Q R) (c : Clearing V A) (p : Plan) (spot : Spot) (first : A) (l : Life Body Q R) (fs : List (Frame Body)) (n : Node S) → IsWhole w c p spot → (i : IsLived w c p spot first l fs n) → l.stand ≡ Stand.Open →
+        IsPromised w spot i.from l.era fs n }
 {}
