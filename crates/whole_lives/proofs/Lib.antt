@@ -2,6 +2,7 @@ pub mod Steady
 pub mod Kept
 pub mod Still
 pub mod Rows
+pub mod Overs
 pub mod Open
 pub mod Shut
 pub mod Turning

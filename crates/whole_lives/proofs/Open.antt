@@ -19,11 +19,12 @@ use Rattle.segment_model.specs.Slaves.{Datagram, Found}
 use Rattle.segment_ring.specs.declared.wire.Fate.TheVariants.{Lost}
 use Rattle.slave_steps.specs.Node.{Node}
 use Rattle.state_exchange.specs.Stated.{Service}
-use Rattle.task_model.specs.Accounts.{Account, Pick, Duty, Stage, is_free, is_acknowledged, starts, state_begins, account_begins}
+use Rattle.task_model.specs.Accounts.{Account, Pick, Duty, Stage, is_free, is_acknowledged, starts, state_begins, account_begins, duty_access}
 use Rattle.task_model.specs.Steady.{IsSteady, AsksNoInit, NoneToInit, HandToInit, StageToInit}
 use Rattle.task_model.proofs.Sessions.{tasks_steady}
 use Rattle.life_model.specs.Lives.{Spot, Era, Life, Stand, AsksOpen, granted, returns_to_init, opens_state, reopening, reopens, reopens_at}
 use Rattle.life_model.specs.Eras.{Clearing, OpenEra}
+use Rattle.life_model.specs.Own.{own}
 use Rattle.life_model.proofs.Eras.{session_of, of_one}
 use Rattle.slave_lives.specs.Ends.{LeftEras, IsAnswered}
 use Rattle.slave_lives.specs.Lived.{Behind, IsBehind, table_of, node_seen, RingFrame, IsForOpen, LivesEra, OpenFrame, is_reached, node_met, node_behind, frame_of}
@@ -35,6 +36,7 @@ use Rattle.slave_lives.proofs.RingLives.{sent_is, lived_on}
 use Rattle.whole_lives.specs.Turns.{FrameComes, AsksFor, era_before, era_behind, life_by}
 use Rattle.whole_lives.specs.Whole.{IsWhole, Lives, LivesOpen, LivesStill, OpensAs, StandsAs, IsLived, plan_to}
 use Rattle.whole_lives.proofs.Kept.{turned_with}
+use Rattle.whole_lives.proofs.Overs.{over_back, quiet_back, sent_quiet}
 use Rattle.whole_lives.proofs.Rows.{next_answered, after_answered}
 use Rattle.whole_lives.proofs.Steady.{IsUp, carried_up, stays_up}
 use Rattle.whole_lives.proofs.Still.{own_comes}
@@ -171,7 +173,7 @@ module _ {S V A Q R : Type 0} (w : Behind S V A Q R) (c : Clearing V A) (p : Pla
   pub open_turns : (first from : A) (l : Life Body Q R) (fs : List (Frame Body)) (t : RingFrame S) (more : Body → Bool) (passed : Q → Bool) (pick : Pick Q) (news : List (News Body)) (came : Option (Bool × Option Found)) →
       l.stand ≡ Stand.Open → LeftEras w c.cleared spot (fs ++ frame_of w.lens t ∷ []) first l.past from → LivesOpen w spot from l.era fs t.node → FrameComes w p spot Stand.Open t → AsksFor w more passed spot fs t pick news l.era →
       IsLived w c p spot first (life_by w more passed spot fs t pick news came (frame_of w.lens t).fate l Stand.Open) (fs ++ frame_of w.lens t ∷ []) (node_behind w.running t)
-  open_turns first from l fs t more passed pick news came stand past lives f a = go (frame_of w.lens t).fate on.lives a.over a.boots
+  open_turns first from l fs t more passed pick news came stand past lives f a = go (frame_of w.lens t).fate on.lives a.boots
     where
       m : Node S
       m = node_behind w.running t
@@ -199,6 +201,17 @@ module _ {S V A Q R : Type 0} (w : Behind S V A Q R) (c : Clearing V A) (p : Pla
         boot = epoch.boot;
       }
 
+      over_next : NoneToInit (era_before w more passed spot fs t pick news l.era).account.over
+      over_next = over_begins w.exchange.speech w.states.acknowledged (length fs) l.era.side l.era.account l.era.account.hand (granted l.era.passing pick).begin lives.over
+
+      hand_next : HandToInit (era_before w more passed spot fs t pick news l.era).account.hand
+      hand_next = hand_begins w.exchange.speech w.states.acknowledged (length fs) l.era.side l.era.account l.era.account.hand (granted l.era.passing pick).begin lives.hand
+
+      over_behind : NoneToInit (era_behind w more passed spot fs t pick news RingFate.Back l.era).account.over
+      over_behind = over_back spot.station (length fs) (own spot.station (frame_of w.lens t).back) (era_before w more passed spot fs t pick news l.era).account over_next hand_next
+          (λ none. quiet_back w spot.station t lives.lives.epoch.opens lives.lives.epoch.station (λ reached. comes_open from l.era fs t more passed pick news f lives.lives.epoch.station reached)
+          (sent_quiet spot.station (duty_access (era_before w more passed spot fs t pick news l.era).account.hand) (seen w.lens t.octets) a.asks.served none))
+
       -- its reopening begins
       opens_anew : (target : ℕ) → returns_to_init target ≡ true → (target ≡ 3 → w.boot ≡ true) → LivesEra w spot from (era_behind w more passed spot fs t pick news RingFate.Back l.era) (fs ++ frame_of w.lens t ∷ []) (node_behind w.running t) →
           IsLived w c p spot first (record l { era = era_behind w more passed spot fs t pick news RingFate.Back l.era; stand = reopening (opens_state target) true }) (fs ++ frame_of w.lens t ∷ []) (node_behind w.running t)
@@ -211,11 +224,11 @@ module _ {S V A Q R : Type 0} (w : Behind S V A Q R) (c : Clearing V A) (p : Pla
       }
 
       go : (fate : RingFate) → LivesEra w spot from (era_behind w more passed spot fs t pick news fate l.era) (fs ++ frame_of w.lens t ∷ []) (node_behind w.running t) →
-          NoneToInit (era_behind w more passed spot fs t pick news fate l.era).account.over → ((duty : Duty) → (era_behind w more passed spot fs t pick news fate l.era).account.hand ≡ Some duty → duty.target ≡ 3 → w.boot ≡ true) →
+          ((duty : Duty) → (era_behind w more passed spot fs t pick news fate l.era).account.hand ≡ Some duty → duty.target ≡ 3 → w.boot ≡ true) →
           IsLived w c p spot first (life_by w more passed spot fs t pick news came fate l Stand.Open) (fs ++ frame_of w.lens t ∷ []) (node_behind w.running t)
-      go (RingFate.Lost after) epoch over boots =
-          still_open (RingFate.Lost after) epoch over (hand_begins w.exchange.speech w.states.acknowledged (length fs) l.era.side l.era.account l.era.account.hand (granted l.era.passing pick).begin lives.hand)
-      go RingFate.Back epoch over boots = by (era_behind w more passed spot fs t pick news RingFate.Back l.era).account.hand refl
+      go (RingFate.Lost after) epoch boots =
+          still_open (RingFate.Lost after) epoch over_next (hand_begins w.exchange.speech w.states.acknowledged (length fs) l.era.side l.era.account l.era.account.hand (granted l.era.passing pick).begin lives.hand)
+      go RingFate.Back epoch boots = by (era_behind w more passed spot fs t pick news RingFate.Back l.era).account.hand refl
         where
           now : Life Body Q R
           now = record l { era = era_behind w more passed spot fs t pick news RingFate.Back l.era }
@@ -223,7 +236,7 @@ module _ {S V A Q R : Type 0} (w : Behind S V A Q R) (c : Clearing V A) (p : Pla
           turned_to : (duty : Duty) → (era_behind w more passed spot fs t pick news RingFate.Back l.era).account.hand ≡ Some duty → (b : Bool) → returns_to_init duty.target ≡ b →
               IsLived w c p spot first (if b then record l { era = era_behind w more passed spot fs t pick news RingFate.Back l.era; stand = reopening (opens_state duty.target) true } else record l { era = era_behind w more passed spot fs t pick news RingFate.Back l.era }) (fs ++ frame_of w.lens t ∷ []) (node_behind w.running t)
           turned_to duty is true returns = opens_anew duty.target returns (boots duty is) epoch
-          turned_to duty is false returns = still_open RingFate.Back epoch over (subst HandToInit (sym is) (no_init duty.stage))
+          turned_to duty is false returns = still_open RingFate.Back epoch over_behind (subst HandToInit (sym is) (no_init duty.stage))
             where
               no_init : (stage : Stage) → StageToInit duty.target stage
               no_init Stage.Drains = tt
@@ -231,10 +244,10 @@ module _ {S V A Q R : Type 0} (w : Behind S V A Q R) (c : Clearing V A) (p : Pla
 
           staged : (duty : Duty) (stage : Stage) → (era_behind w more passed spot fs t pick news RingFate.Back l.era).account.hand ≡ Some duty → duty.stage ≡ stage →
               IsLived w c p spot first (reopens_at (record l { era = era_behind w more passed spot fs t pick news RingFate.Back l.era }) duty.target stage) (fs ++ frame_of w.lens t ∷ []) (node_behind w.running t)
-          staged duty Stage.Drains is at = still_open RingFate.Back epoch over (subst HandToInit (sym is) (subst (λ (s : Stage). StageToInit duty.target s) (sym at) tt))
+          staged duty Stage.Drains is at = still_open RingFate.Back epoch over_behind (subst HandToInit (sym is) (subst (λ (s : Stage). StageToInit duty.target s) (sym at) tt))
           staged duty (Stage.Goes phase) is at = turned_to duty is (returns_to_init duty.target) refl
 
           by : (hand : Option Duty) → (era_behind w more passed spot fs t pick news RingFate.Back l.era).account.hand ≡ hand →
               IsLived w c p spot first (reopens (record l { era = era_behind w more passed spot fs t pick news RingFate.Back l.era }) hand) (fs ++ frame_of w.lens t ∷ []) (node_behind w.running t)
-          by None is = still_open RingFate.Back epoch over (subst HandToInit (sym is) tt)
+          by None is = still_open RingFate.Back epoch over_behind (subst HandToInit (sym is) tt)
           by (Some duty) is = staged duty duty.stage is refl

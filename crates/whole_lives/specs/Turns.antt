@@ -13,7 +13,6 @@ use Rattle.segment_model.specs.Slaves.{Found}
 use Rattle.segment_ring.specs.Ring.{is_in_pace}
 use Rattle.slave_steps.specs.Node.{Node}
 use Rattle.task_model.specs.Accounts.{Pick, Duty}
-use Rattle.task_model.specs.Steady.{NoneToInit}
 use Rattle.life_model.specs.Lives.{Spot, Era, Opening, Stand, Life, AsksOpen, era_next, era_after, life_next, life_back, life_lost}
 use Rattle.slave_lives.specs.Lived.{Behind, RingFrame, is_reached, node_met, node_behind, frame_of, AccessBack}
 use Rattle.slave_lives.specs.Nodes.{IsRoomy}
@@ -53,11 +52,9 @@ module _ {S V A Q R : Type 0} (w : Behind S V A Q R) (more : Body → Bool) (pas
   life_by came (RingFate.Lost after) l stand =
       life_lost w.exchange.speech w.states.acknowledged more passed spot news (frame_of w.lens t).sent (life_next w.exchange.speech w.states.acknowledged more passed (length fs) l stand pick) stand
 
-  -- of an open slave the frame has what the epoch asks for; none of its state services that are over had Init as its target, and one in hand
-  -- asks for Bootstrap only where the slave has it
+  -- of an open slave the frame has what the epoch asks for, and a state service asks for Bootstrap only where the slave has it
   pub record AsksFor (e : Era Body Q R) : Type 0 where
     pub asks : AsksOpen spot.station (era_before e) (seen w.lens t.octets)
-    pub over : NoneToInit (era_behind (frame_of w.lens t).fate e).account.over
     pub boots : (duty : Duty) → (era_behind (frame_of w.lens t).fate e).account.hand ≡ Some duty → duty.target ≡ 3 → w.boot ≡ true
 
 -- of one that is opened the access came back so, and where that opens the slave, its server may be served
