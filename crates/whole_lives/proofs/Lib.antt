@@ -7,3 +7,4 @@ pub mod Open
 pub mod Shut
 pub mod Turning
 pub mod Promised
+pub mod Seated
