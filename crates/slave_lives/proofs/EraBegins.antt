@@ -1,5 +1,5 @@
 -- AN EPOCH BEGINS with the slave as its opening leaves it.
-use Rattle.std.proofs.Common.{◌≡◌, ◌⊎◌, inr, ℕ, suc, Bool, true, List, [], ◌∷◌, length, Ok, refl, ap, sym, ◌∙◌, subst, arith}
+use Rattle.std.proofs.Common.{◌≡◌, ◌⊎◌, inl, inr, ℕ, suc, Bool, true, List, [], ◌∷◌, length, Ok, refl, ap, sym, ◌∙◌, subst, arith}
 use Rattle.std.specs.Prelude.{Option, None, option_map}
 use Rattle.frames_seen.specs.Slaves.{registers_seen}
 use Rattle.link_model.specs.Link.{new_link}
@@ -41,6 +41,11 @@ module _ {S V A Q R : Type 0} (w : Behind S V A Q R) (is : IsBehind w) (stated :
       let told : w.states.tell to v ≡ (w.sees to s).server = sym (tells to v) ∙ ap (λ (x : Serving V Body). x.server) (is.served.told al to s) in
       ap w.exchange.app (sym told) ∙ stated.app to v
 
+  -- the state that is opened isn't Init
+  not_init : {start : ℕ} → (start ≡ 2) ⊎ ((start ≡ 3) × (w.boot ≡ true)) → start ≡ 1 → ⊥
+  not_init (inl two) init = let no : 2 ≡ 1 = sym two ∙ init in cc
+  not_init (inr three) init = let no : 3 ≡ 1 = sym three.0 ∙ init in cc
+
   pub begun : (p : Plan) (spot : Spot) (al0 : ℕ) (cleared : Option ℕ) (opened : ℕ) (fs : List (Frame Body)) (n : Running.Node S) → length fs ≡ suc opened → OpensEra w p spot n → BegunEra w p spot al0 cleared opened fs n
   begun p spot al0 cleared opened fs n frames o =
       let al = (registers_seen n.registers).state in
@@ -79,6 +84,7 @@ module _ {S V A Q R : Type 0} (w : Behind S V A Q R) (is : IsBehind w) (stated :
           server = v;
           registers = r;
           begins = seen_told al0 al n.server;
+          up = λ init. not_init o.plan.start (sym (knows ∙ state) ∙ init);
           before = omega (arith, frames);
           is = subst (λ t. EraIs w.exchange w.states w.processor (table_of w) spot (opened_era {Q = Q} {R = R} cleared opened) opened (length fs) fs v r t) (sym slave) begins;
           opens = o.opened.opens;

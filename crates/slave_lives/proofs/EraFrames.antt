@@ -256,6 +256,7 @@ module _ {S V A Q R : Type 0} (w : Behind S V A Q R) (is_behind : IsBehind w) wh
         server = lives.server;
         registers = lives.registers;
         begins = lives.begins;
+        up = lives.up;
         before = omega (arith, len, was);
         is = subst (λ (k : ℕ). EraIs w.exchange w.states w.processor (table_of w) spot now lives.opened k (fs ++ one ∷ []) lives.server lives.registers (views m)) len grown;
         opens = t.opens;

@@ -162,6 +162,12 @@ module _ {S : Type 0} (u : Running S) (boot : Bool) (lens : ℕ → Lens) (p : P
           ∙ into_state v u.clear from (request_of r) (acknowledge_of r) s next
           ∙ ap₂ (λ x y. renewed x y (request_of r) (request_of r) s) (sym out) (sym inn)
 
+  -- its server stays
+  pub step_server : IsReturned u p n r k s → HasStepped u boot r q k j s t → t ≡ s
+  step_server b steps =
+      let c = turns boot p n (registers_seen r) (are_areas_right r) plan.start (rights b) (record { refused = b.refused; state = b.state; word = b.word }) in
+      ap (λ (x : Node Body S). x.server) (stepped_node b steps c)
+
   pub step_returns : IsReturned u p n r k s → KeepsOthers r q → HasStepped u boot r q k j s t → q.al_status < 32 → q.al_code < 65536 → IsReturned u p n q j t
   step_returns b keeps steps status code =
       let c = turns boot p n (registers_seen r) (are_areas_right r) plan.start (rights b) (record { refused = b.refused; state = b.state; word = b.word }) in

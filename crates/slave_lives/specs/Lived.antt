@@ -1,5 +1,5 @@
 -- A SLAVE'S LIFE AS ITS NODE LIVES IT: the node's registers, box and server, as the exchange's, are the slave of the epoch that is open.
-use Rattle.std.specs.Prelude.{◌≡◌, ◌<◌, ◌∷◌, ◌++◌, ℕ, Bool, true, List, [], length, Option, Some, None}
+use Rattle.std.specs.Prelude.{◌≡◌, ◌≢◌, ◌<◌, ◌∷◌, ◌++◌, ℕ, Bool, true, List, [], length, Option, Some, None}
 use Rattle.datagrams.specs.Datagram as Raw
 use Rattle.datagrams.specs.Frame.{IsFrame}
 use Rattle.exchange_model.specs.Exchange.{Exchange}
@@ -58,7 +58,7 @@ pub record IsBehind {S V A Q R : Type 0} (w : Behind S V A Q R) : Type 0 where
 abbrev pub node_seen : {S V A Q R : Type 0} → Behind S V A Q R → Node S → Slave V Body
 node_seen w n = slave_of n.kept n.registers (w.sees (registers_seen n.registers).state n.server)
 
--- AN OPEN SLAVE'S NODE LIVES THE EPOCH, which began with this application, told the AL state that was opened: it is open at its station, and the
+-- AN OPEN SLAVE'S NODE LIVES THE EPOCH, which began with this application, told the AL state that was opened, not Init: it is open at its station, and the
 -- slave of the epoch's session up to the last of these frames
 pub record LivesEra {S V A Q R : Type 0} (w : Behind S V A Q R) (spot : Spot) (from : A) (e : Era Body Q R) (fs : List (Frame Body)) (n : Node S) : Type 0 where
   pub opened : ℕ
@@ -66,6 +66,7 @@ pub record LivesEra {S V A Q R : Type 0} (w : Behind S V A Q R) (spot : Spot) (f
   pub registers : Registers
   pub before : opened < length fs
   pub begins : w.exchange.app server ≡ w.states.told registers.state from
+  pub up : w.states.state (w.exchange.app server) ≢ 1
   pub is : EraIs w.exchange w.states w.processor (table_of w) spot e opened (length fs) fs server registers (node_seen w n)
   pub opens : IsOpen w.lens n.registers
   pub station : n.registers.station ≡ spot.station

@@ -1,0 +1,10 @@
+pub mod Steady
+pub mod Kept
+pub mod Still
+pub mod Rows
+pub mod Overs
+pub mod Open
+pub mod Shut
+pub mod Turning
+pub mod Promised
+pub mod Seated

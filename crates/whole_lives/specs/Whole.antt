@@ -1,0 +1,82 @@
+-- THE WHOLE LIFE OF A SLAVE AS ITS NODE LIVES IT: what holds between all epochs of its life, its node and the frames so far.
+use Rattle.std.specs.Prelude.{◌≡◌, ◌⊎◌, ℕ, true, false, List, Option}
+use Rattle.exchange_model.specs.Exchange.{IsLawful}
+use Rattle.link_mails.specs.Body.{Body}
+use Rattle.segment_model.specs.Record.{Frame}
+use Rattle.slave_steps.specs.Node.{Node}
+use Rattle.state_exchange.specs.Stated.{IsStated}
+use Rattle.task_model.specs.Steady.{IsSteady, NoneToInit, HandToInit}
+use Rattle.life_model.specs.Lives.{Spot, Era, Opening, Stand, Life, new_era}
+use Rattle.life_model.specs.Eras.{Clearing}
+use Rattle.slave_lives.specs.Ends.{LeftEra, LeftEras, ClearsAs, IsAnswered}
+use Rattle.slave_lives.specs.Lived.{Behind, IsBehind, node_seen, LivesEra}
+use Rattle.slave_lives.specs.Nodes.{IsRunning}
+use Rattle.slave_lives.specs.Opening.{Plan, IsPlan}
+use Rattle.slave_lives.specs.Stands.{Closing, opening_again}
+
+-- what stays through a run: the slave's services are those of a session that the laws speak of, a return to Init clears them, and its plan
+pub record IsWhole {S V A Q R : Type 0} (w : Behind S V A Q R) (c : Clearing V A) (p : Plan) (spot : Spot) : Type 0 where
+  pub behind : IsBehind w
+  pub lawful : IsLawful w.exchange
+  pub stated : IsStated w.exchange w.states
+  pub tells : (state : ℕ) (v : V) → w.processor.tell state v ≡ w.states.tell state v
+  pub clears : ClearsAs w c
+  pub plan : IsPlan w.boot w.lens p
+  pub station : p.station ≡ spot.station
+  pub start : p.start ≡ spot.start
+
+-- the plan, with the state that an opening opens
+abbrev pub plan_to : Plan → ℕ → Plan
+plan_to p state = record p { start = state }
+
+module _ {S V A Q R : Type 0} (w : Behind S V A Q R) (spot : Spot) (from : A) (e : Era Body Q R) where
+  -- THE NODE LIVES THE NEWEST EPOCH, and the row in hand has the answer of what was heard for it
+  pub record Lives (fs : List (Frame Body)) (n : Node S) : Type 0 where
+    pub epoch : LivesEra w spot from e fs n
+    pub answered : IsAnswered w.exchange.speech e.side.now
+
+  -- while the slave is open no state service of the epoch asked for Init
+  pub record LivesOpen (fs : List (Frame Body)) (n : Node S) : Type 0 where
+    pub lives : Lives fs n
+    pub over : NoneToInit e.account.over
+    pub hand : HandToInit e.account.hand
+
+  -- once its reopening has begun and hasn't reached it, the slave stays up
+  pub record LivesStill (fs : List (Frame Body)) (n : Node S) : Type 0 where
+    pub lives : Lives fs n
+    pub steady : IsSteady (node_seen w n)
+
+  -- THE NEWEST EPOCH HASN'T BEGUN: it is new, and will begin with the application that the slave's server has, in whatever AL state it is seen
+  pub record Waits (s : S) : Type 0 where
+    pub cleared : Option ℕ
+    pub is_new : e ≡ new_era cleared
+    pub al : ℕ
+    pub begins : from ≡ w.exchange.app (w.sees al (w.running.clear s)).server
+
+  -- THE NEWEST EPOCH IS OVER: the slave's server is the one that it left, or that one cleared
+  pub record IsOver (fs : List (Frame Body)) (s : S) : Type 0 where
+    pub server : S
+    pub left : LeftEra w spot from e fs server
+    pub cleared : w.running.clear s ≡ w.running.clear server
+
+-- A SLAVE THAT IS OPENED: its epoch is lived yet, as long as no frame reached it with the first access of a reopening; or it is closed, and the
+-- newest epoch waits, or is over and wasn't seen so
+pub data OpensAs {S V A Q R : Type 0} (w : Behind S V A Q R) (p : Plan) (spot : Spot) (from : A) (e : Era Body Q R) (fs : List (Frame Body)) (o : Opening) (n : Node S) : Type 0 where
+  yet : o.again ≡ true → o.step ≡ 1 → IsPlan w.boot w.lens (plan_to p o.state) → LivesStill w spot from e fs n → OpensAs w p spot from e fs o n
+  anew : Closing w.running w.boot w.lens (plan_to p o.state) o n → Waits w spot from e n.server → OpensAs w p spot from e fs o n
+  over : Closing w.running w.boot w.lens (plan_to p o.state) o n → o.again ≡ true → (o.step ≡ 1) ⊎ (o.step ≡ 2) → IsOver w spot from e fs n.server → OpensAs w p spot from e fs o n
+
+-- BY HOW THE MASTER STANDS TO IT: one that is given up for good stays as it is before the first access of a reopening, which never comes
+abbrev pub StandsAs : {S V A Q R : Type 0} → Behind S V A Q R → Plan → Spot → A → Era Body Q R → List (Frame Body) → Stand → Node S → Type 0
+StandsAs w p spot from e fs (Stand.Opens o) n = OpensAs w p spot from e fs o n
+StandsAs w p spot from e fs Stand.Open n = LivesOpen w spot from e fs n
+StandsAs w p spot from e fs Stand.Gone n = OpensAs w p spot from e fs (opening_again spot.start false) n
+
+-- A LIFE IS LIVED BY ITS NODE up to the last of these frames: all epochs that are over lead from the plan's application to the one with which
+-- the newest begins, and the node stands as the master does to it
+pub record IsLived {S V A Q R : Type 0} (w : Behind S V A Q R) (c : Clearing V A) (p : Plan) (spot : Spot) (first : A) (l : Life Body Q R) (fs : List (Frame Body)) (n : Node S) : Type 0 where
+  pub from : A
+  pub past : LeftEras w c.cleared spot fs first l.past from
+  pub now : StandsAs w p spot from l.era fs l.stand n
+  pub runs : IsRunning w.running n
+  pub boot : n.boot ≡ w.boot
