@@ -21,7 +21,6 @@ ghost use Rattle.whole_lives.specs.Promises.{IsPromised};
 
 /// A LIFE IS LIVED BY ITS NODE from the moment the slave is switched on; by each frame that the ring exchanges, met by the slave, lost before it or
 /// behind it, and by the step behind it, at any pace; and where the slave is given up, for good or not.
-#[tactic(none)]
 pub fn life_law<S, V, A, Q, R>()
     ensures begins { (w : Behind S V A Q R) (c : Clearing V A) (p : Plan) (spot : Spot) (al : ℕ) (s : S) → IsWhole w c p spot → w.running.clear s ≡ s → w.running.next s ≡ None →
         IsLived w c p spot (w.exchange.app (w.sees al s).server) (new_life {M = Body} {Q = Q} {R = R} spot.start) [] (new_node p.out p.back w.boot s) }
@@ -34,7 +33,6 @@ pub fn life_law<S, V, A, Q, R>()
 
 /// Of a life that is lived the epochs that are over are epochs of the model, one behind the other, up to the application with which the newest
 /// begins; and while the slave is open its epoch promises what an open epoch of the model does, of the node as it is seen.
-#[tactic(none)]
 pub fn open_epoch_law<S, V, A, Q, R>()
     ensures chain { (w : Behind S V A Q R) (c : Clearing V A) (p : Plan) (spot : Spot) (first : A) (l : Life Body Q R) (fs : List (Frame Body)) (n : Node S) → (i : IsLived w c p spot first l fs n) →
         Eras w.exchange w.states w.processor (table_of w) c.cleared spot fs first l.past i.from }
@@ -44,7 +42,6 @@ pub fn open_epoch_law<S, V, A, Q, R>()
 
 /// Of a life that is lived what is known of its node is what the law of a ring's seats asks for, by how the master stands to it; and a frame that
 /// comes to all seats as it is for each comes so to its slave.
-#[tactic(none)]
 pub fn seated_law<S, V, A, Q, R>()
     ensures known { (w : Behind S V A Q R) (c : Clearing V A) (p : Plan) (spot : Spot) (first : A) (l : Life Body Q R) (fs : List (Frame Body)) (n : Node S) → IsWhole w c p spot → IsLived w c p spot first l fs n →
         KnownAs w.running w.boot w.lens (plan_at p l.stand) l.stand n }
