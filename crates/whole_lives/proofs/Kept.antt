@@ -1,19 +1,18 @@
 -- WHAT A FRAME AND A STEP keep of a node: it runs, and where the slave is closed its server is, cleared, what it was.
-use Rattle.std.proofs.Common.{◌≡◌, ◌⊎◌, inl, inr, ℕ, ◌<◌, ◌==◌, Bool, true, false, List, [], ◌∷◌, refl, ap, sym, ◌∙◌, subst, arith}
+use Rattle.std.proofs.Common.{◌≡◌, ◌⊎◌, inl, inr, ℕ, Bool, true, false, List, [], ◌∷◌, refl, ap, ◌∙◌, subst, arith}
 use Rattle.std.specs.Prelude.{if◌then◌else◌}
 use Rattle.datagrams.specs.Datagram as Raw
 use Rattle.esc_registers.specs.declared.registers.Registers as Esc
 use Rattle.frame_pass.specs.Passing.{passed}
 use Rattle.frame_view.specs.View.{Lens}
-use Rattle.frames_seen.specs.Own.{NoneMeant, IsAlone, is_to}
-use Rattle.frames_seen.specs.Spoken.{means}
+use Rattle.frames_seen.specs.Own.{NoneMeant, IsAlone}
 use Rattle.mailbox_slave.specs.Registers.{in_len}
 use Rattle.segment_ring.specs.Ring.{is_in_pace}
 use Rattle.slave_steps.specs.Node.{Node}
 use Rattle.life_model.specs.Lives.{Opening}
 use Rattle.slave_lives.specs.Nodes.{IsRunning, IsRoomy, StepsOn, stepped}
 use Rattle.slave_lives.specs.Opening.{Plan, IsPlan, AtMostOne, JustOne}
-use Rattle.slave_lives.specs.Returning.{Clears, IsReturned, IsFrozen}
+use Rattle.slave_lives.specs.Returning.{Clears, IsFrozen}
 use Rattle.slave_lives.specs.Rings.{met, turned}
 use Rattle.slave_lives.specs.Stands.{bring_turn, IsClosed}
 use Rattle.slave_lives.specs.Steps.{Running, HasStepped}

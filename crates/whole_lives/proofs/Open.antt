@@ -1,21 +1,19 @@
 -- AN OPEN SLAVE'S LIFE by a frame: it is steady, its epoch is lived on, or its reopening begins.
-use Rattle.std.proofs.Common.{◌≡◌, ◌≢◌, ◌⊎◌, inl, inr, ℕ, zero, suc, ◌<◌, ◌==◌, Bool, true, false, List, [], ◌∷◌, ◌++◌, length, refl, ap, sym, ◌∙◌, subst, arith}
-use Rattle.std.specs.Prelude.{Option, Some, None, if◌then◌else◌, ⊤, ◌&&◌}
-use Rattle.std.proofs.lemmas.Bool.{eqb-true, eqb-false, eq-eqb}
-use Rattle.datagrams.specs.Datagram as Raw
-use Rattle.esc_registers.specs.declared.registers.Registers as Esc
+use Rattle.std.proofs.Common.{◌≡◌, ◌≢◌, ◌⊎◌, inl, inr, ℕ, zero, suc, ◌==◌, Bool, true, false, List, [], ◌∷◌, ◌++◌, length, refl, ap, sym, ◌∙◌, subst}
+use Rattle.std.specs.Prelude.{Option, Some, None, if◌then◌else◌, ◌&&◌}
+use Rattle.std.proofs.lemmas.Bool.{eqb-true}
 use Rattle.exchange_model.specs.Exchange.{Speech}
 use Rattle.frame_pass.specs.Passing.{datagrams_after}
-use Rattle.frame_view.specs.Seen.{seen, datagrams_seen}
+use Rattle.frame_view.specs.Seen.{seen}
 use Rattle.frames_seen.specs.Own.{own_of, IsAlone}
-use Rattle.frames_seen.specs.Ring.{all_after, AllApart}
+use Rattle.frames_seen.specs.Ring.{AllApart}
 use Rattle.frames_seen.specs.Slaves.{registers_seen}
 use Rattle.frames_seen.specs.Spoken.{AllSpoken}
 use Rattle.link_mails.specs.Body.{Body}
 use Rattle.link_model.specs.Segment.{RingFate}
 use Rattle.segment_model.specs.Record.{Frame, News}
 use Rattle.segment_model.specs.Seats.{Side}
-use Rattle.segment_model.specs.Slaves.{Datagram, Found}
+use Rattle.segment_model.specs.Slaves.{Found}
 use Rattle.segment_ring.specs.declared.wire.Fate.TheVariants.{Lost}
 use Rattle.slave_steps.specs.Node.{Node}
 use Rattle.state_exchange.specs.Stated.{Service}
@@ -27,14 +25,14 @@ use Rattle.life_model.specs.Eras.{Clearing, OpenEra}
 use Rattle.life_model.specs.Own.{own}
 use Rattle.life_model.proofs.Eras.{session_of, of_one}
 use Rattle.slave_lives.specs.Ends.{LeftEras, IsAnswered}
-use Rattle.slave_lives.specs.Lived.{Behind, IsBehind, table_of, node_seen, RingFrame, IsForOpen, LivesEra, OpenFrame, is_reached, node_met, node_behind, frame_of}
+use Rattle.slave_lives.specs.Lived.{Behind, table_of, node_seen, RingFrame, IsForOpen, LivesEra, OpenFrame, is_reached, node_met, node_behind, frame_of}
 use Rattle.slave_lives.specs.Opening.{Plan, IsPlan}
 use Rattle.slave_lives.specs.Rings.{registers_of, come_to, met, is_among}
 use Rattle.slave_lives.proofs.EraFrames.{lives_on}
 use Rattle.slave_lives.proofs.RingFrames.{met_runs}
 use Rattle.slave_lives.proofs.RingLives.{sent_is, lived_on}
 use Rattle.whole_lives.specs.Turns.{FrameComes, AsksFor, era_before, era_behind, life_by}
-use Rattle.whole_lives.specs.Whole.{IsWhole, Lives, LivesOpen, LivesStill, OpensAs, StandsAs, IsLived, plan_to}
+use Rattle.whole_lives.specs.Whole.{IsWhole, LivesOpen, OpensAs, StandsAs, IsLived, plan_to}
 use Rattle.whole_lives.proofs.Kept.{turned_with}
 use Rattle.whole_lives.proofs.Overs.{over_back, quiet_back, sent_quiet}
 use Rattle.whole_lives.proofs.Rows.{next_answered, after_answered}

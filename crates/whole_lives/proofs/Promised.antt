@@ -1,5 +1,5 @@
 -- THE PROMISES of an open slave's epoch, and the epochs before it as the model has them.
-use Rattle.std.proofs.Common.{◌≡◌, ℕ, Bool, false, List, length, sym, subst}
+use Rattle.std.proofs.Common.{◌≡◌, false, List, length, subst}
 use Rattle.link_mails.specs.Body.{Body}
 use Rattle.segment_model.specs.Laws.{HandedBy, KnowsCounters}
 use Rattle.segment_model.specs.Record.{Frame}

@@ -1,13 +1,13 @@
 -- THE ROW IN HAND has the answer of what was heard for it: so it stays by a master's choices and frames.
-use Rattle.std.proofs.Common.{◌≡◌, ℕ, Bool, true, false, List, [], ◌∷◌, ◌++◌, refl, ap, sym, ◌∙◌, subst}
-use Rattle.std.specs.Prelude.{Option, Some, None, if◌then◌else◌, option_map, ◌&&◌, ⊤}
+use Rattle.std.proofs.Common.{◌≡◌, ℕ, Bool, true, false, List, [], ◌∷◌, ◌++◌, refl, ap}
+use Rattle.std.specs.Prelude.{Option, Some, None, if◌then◌else◌, option_map, ◌&&◌}
 use Rattle.exchange_model.specs.Exchange.{Speech, plain}
 use Rattle.exchange_model.specs.Rows.{Row, begun, answer_after, row_heard, row_told}
 use Rattle.link_model.specs.Frames.{all_accepted}
 use Rattle.link_model.specs.Segment.{RingFate}
-use Rattle.segment_model.specs.Record.{Frame, News}
+use Rattle.segment_model.specs.Record.{News}
 use Rattle.segment_model.specs.Slaves.{Datagram, grams}
-use Rattle.segment_model.specs.Seats.{Side, side_begins, side_holds, side_next, side_back, is_over, next_mail}
+use Rattle.segment_model.specs.Seats.{Side, side_begins, side_holds, is_over, next_mail}
 use Rattle.task_model.specs.Accounts.{Pick, mails_choice}
 use Rattle.life_model.specs.Lives.{Era, era_next, era_after, granted}
 use Rattle.life_model.specs.Own.{own}

@@ -1,5 +1,5 @@
 -- A LIFE THAT IS LIVED among the slaves of a ring: what is known of its node, and how the master's frame comes to it.
-use Rattle.std.proofs.Common.{◌≡◌, ◌⊎◌, inl, inr, ℕ, ◌==◌, Bool, true, false, List, [], ◌∷◌, ◌++◌, length, refl, ap, sym, ◌∙◌, subst}
+use Rattle.std.proofs.Common.{◌≡◌, inl, inr, ℕ, ◌==◌, true, false, List, ◌∷◌, ◌++◌, length, refl, ap, sym, ◌∙◌, subst}
 use Rattle.std.proofs.lemmas.Bool.{ne_eqb}
 use Rattle.al_state.specs.Request.{is_state}
 use Rattle.ec_fields.specs.Fields.{bits_of}
@@ -12,8 +12,8 @@ use Rattle.segment_model.specs.Record.{Frame}
 use Rattle.segment_ring.specs.Ring.{is_in_pace}
 use Rattle.slave_steps.specs.Node.{Node}
 use Rattle.life_model.specs.Eras.{Clearing}
-use Rattle.life_model.specs.Lives.{Spot, Era, Life, Stand}
-use Rattle.slave_lives.specs.Lived.{Behind, RingFrame, is_reached, node_met}
+use Rattle.life_model.specs.Lives.{Spot, Era, Stand}
+use Rattle.slave_lives.specs.Lived.{Behind, RingFrame, node_met}
 use Rattle.slave_lives.specs.Nodes.{IsRoomy}
 use Rattle.slave_lives.specs.Opening.{Plan}
 use Rattle.slave_lives.specs.Rings.{registers_of, come_to}
@@ -23,7 +23,7 @@ use Rattle.slave_lives.proofs.AllSeats as All
 use Rattle.slave_lives.proofs.Arrives as Arrived
 use Rattle.slave_lives.proofs.Words.{state_in}
 use Rattle.whole_lives.specs.Turns.{FrameComes, plan_at}
-use Rattle.whole_lives.specs.Whole.{IsWhole, LivesOpen, LivesStill, OpensAs, StandsAs, IsLived, plan_to}
+use Rattle.whole_lives.specs.Whole.{IsWhole, LivesStill, OpensAs, StandsAs, plan_to}
 
 module _ {S V A Q R : Type 0} (w : Behind S V A Q R) (c : Clearing V A) (p : Plan) (spot : Spot) (whole : IsWhole w c p spot) where
   up_still : (state : ℕ) (from : A) (e : Era Body Q R) (fs : List (Frame Body)) (n : Node S) → LivesStill w spot from e fs n → OpenUp w.lens (plan_to p state) n.registers

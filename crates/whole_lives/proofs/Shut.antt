@@ -1,9 +1,8 @@
 -- A CLOSED SLAVE'S LIFE by a frame: the newest epoch waits, or is over and wasn't seen so, until its return to Init is seen or it is opened.
-use Rattle.std.proofs.Common.{◌≡◌, ◌≢◌, ◌⊎◌, inl, inr, ℕ, suc, ◌<◌, ◌+◌, ◌==◌, Bool, true, false, List, [], ◌∷◌, ◌++◌, length, refl, ap, ap₂, sym, ◌∙◌, subst, arith, length-append}
-use Rattle.std.specs.Prelude.{Option, Some, None, if◌then◌else◌, ⊤, ◌&&◌}
+use Rattle.std.proofs.Common.{◌≡◌, ◌⊎◌, inl, inr, ℕ, suc, ◌+◌, ◌==◌, Bool, true, false, List, [], ◌∷◌, ◌++◌, length, refl, ap, ap₂, sym, ◌∙◌, subst, arith, length-append}
+use Rattle.std.specs.Prelude.{Option, Some, if◌then◌else◌, ◌&&◌}
 use Rattle.std.proofs.lemmas.Bool.{eqb-true, ne_eqb, and_parts}
 use Rattle.al_state.specs.Request.{is_state}
-use Rattle.datagrams.specs.Datagram as Raw
 use Rattle.ec_fields.specs.Fields.{bits_of}
 use Rattle.frames_seen.specs.Own.{NoneMeant}
 use Rattle.frames_seen.specs.Slaves.{registers_seen}
@@ -13,15 +12,14 @@ use Rattle.segment_model.specs.Slaves.{Found}
 use Rattle.segment_ring.specs.declared.wire.Fate.{Fate}
 use Rattle.mailbox_slave.specs.Registers.{in_len}
 use Rattle.segment_ring.specs.Ring.{is_in_pace}
-use Rattle.slave_steps.specs.Node.{Node, new_node}
 use Rattle.life_model.specs.Lives.{Spot, Era, Life, Opening, Stand, new_era, last_step, shows_clear, is_shown, steps_on, clears, opens, opening_back}
 use Rattle.life_model.specs.Eras.{Clearing}
-use Rattle.slave_lives.specs.Ends.{LeftEra, LeftEras}
-use Rattle.slave_lives.specs.Lived.{Behind, RingFrame, LivesEra, ClosedFrame, AccessBack, OpensEra, is_reached, node_met, node_behind, frame_of, fate_of}
+use Rattle.slave_lives.specs.Ends.{LeftEras}
+use Rattle.slave_lives.specs.Lived.{Behind, RingFrame, LivesEra, ClosedFrame, OpensEra, is_reached, node_met, node_behind, frame_of}
 use Rattle.slave_lives.specs.Nodes.{IsRunning, IsRoomy, stepped}
 use Rattle.slave_lives.specs.Opening.{Plan, IsPlan, AtMostOne, JustOne}
-use Rattle.slave_lives.specs.Rings.{come_to, met, is_met_at, turned}
-use Rattle.slave_lives.specs.Stands.{turn_of, IsClosed, IsUp, ClosedAs, Closing, MayStep, OpenUp, opening_again}
+use Rattle.slave_lives.specs.Rings.{come_to, met, is_met_at}
+use Rattle.slave_lives.specs.Stands.{turn_of, IsClosed, IsUp, ClosedAs, Closing, OpenUp}
 use Rattle.slave_lives.proofs.Arrives as Arrived
 use Rattle.slave_lives.proofs.Closing as Closed
 use Rattle.slave_lives.proofs.ClosedFrames as Frames
@@ -30,8 +28,8 @@ use Rattle.slave_lives.proofs.EraEnds as Ends
 use Rattle.slave_lives.proofs.RingFrames.{met_runs}
 use Rattle.slave_lives.proofs.Words.{state_in}
 use Rattle.whole_lives.specs.Turns.{Came}
-use Rattle.whole_lives.specs.Whole.{IsWhole, Lives, LivesOpen, LivesStill, Waits, IsOver, OpensAs, StandsAs, IsLived, plan_to}
-use Rattle.whole_lives.proofs.Kept.{one_or_none, none_is_most, met_server, met_boot, turned_with, turned_runs, turned_boot, closed_server}
+use Rattle.whole_lives.specs.Whole.{IsWhole, LivesOpen, LivesStill, Waits, IsOver, OpensAs, StandsAs, IsLived, plan_to}
+use Rattle.whole_lives.proofs.Kept.{one_or_none, met_server, met_boot, turned_runs, turned_boot, closed_server}
 use Rattle.whole_lives.proofs.Still.{Nothing, still_on}
 
 module _ {S V A Q R : Type 0} (w : Behind S V A Q R) (spot : Spot) (from : A) (e : Era Body Q R) where

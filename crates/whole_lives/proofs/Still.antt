@@ -1,10 +1,9 @@
 -- A SLAVE WHOSE REOPENING HASN'T REACHED IT lives its epoch on and stays up, by each frame without datagrams of its own.
-use Rattle.std.proofs.Common.{◌≡◌, ◌≢◌, ◌⊎◌, inl, inr, ℕ, suc, ◌<◌, ◌==◌, Bool, true, false, List, [], ◌∷◌, ◌++◌, length, refl, ap, sym, ◌∙◌, subst, arith}
-use Rattle.std.specs.Prelude.{Option, Some, None, if◌then◌else◌, ⊤}
+use Rattle.std.proofs.Common.{◌≡◌, inl, inr, ℕ, Bool, true, false, List, [], ◌∷◌, ◌++◌, length, refl, ap, sym, ◌∙◌, subst}
+use Rattle.std.specs.Prelude.{if◌then◌else◌}
 use Rattle.datagrams.specs.Datagram as Raw
 use Rattle.esc_registers.specs.declared.registers.Registers as Esc
 use Rattle.frame_pass.specs.Passing.{datagrams_after}
-use Rattle.frame_view.specs.View.{Lens}
 use Rattle.frame_view.specs.Seen.{seen, datagrams_seen}
 use Rattle.frames_seen.specs.Own.{own_of, is_to, NoneMeant}
 use Rattle.frames_seen.specs.Ring.{all_after, AllApart}
@@ -18,21 +17,20 @@ use Rattle.segment_model.specs.Record.{Frame}
 use Rattle.segment_ring.specs.declared.wire.Fate.{Fate}
 use Rattle.segment_ring.specs.declared.wire.Fate.TheVariants.{Pass, Lost}
 use Rattle.segment_ring.specs.Ring.{is_in_pace}
-use Rattle.slave_steps.specs.Node.{Node}
 use Rattle.life_model.specs.Lives.{Spot, Era}
 use Rattle.life_model.specs.Own.{own}
 use Rattle.slave_lives.specs.Ends.{YetFrame}
-use Rattle.slave_lives.specs.Lived.{Behind, IsBehind, RingFrame, IsForOpen, LivesEra, fate_of, is_reached, node_met, node_behind, frame_of, octets_back, returned}
-use Rattle.slave_lives.specs.Nodes.{IsRunning, IsRoomy, stepped}
+use Rattle.slave_lives.specs.Lived.{Behind, IsBehind, RingFrame, IsForOpen, fate_of, is_reached, node_met, node_behind, frame_of, octets_back, returned}
+use Rattle.slave_lives.specs.Nodes.{IsRoomy}
 use Rattle.slave_lives.specs.Opening.{Plan, aim}
 use Rattle.slave_lives.specs.Rings.{registers_of, come_to, come_back, is_met_at}
-use Rattle.slave_lives.specs.Ways.{OneOnWay, AllNotFor, IsNotFor, IsOnWay}
+use Rattle.slave_lives.specs.Ways.{OneOnWay, AllNotFor, IsOnWay}
 use Rattle.slave_lives.proofs.Owned.{own_is}
 use Rattle.slave_lives.proofs.Quiets.{lives_yet}
 use Rattle.slave_lives.proofs.RingFrames.{met_runs}
 use Rattle.slave_lives.proofs.RingLives.{sent_is, back_is}
 use Rattle.whole_lives.specs.Whole.{LivesStill}
-use Rattle.whole_lives.proofs.Kept.{met_none, met_boot, none_alone, turned_with}
+use Rattle.whole_lives.proofs.Kept.{met_none, none_alone, turned_with}
 use Rattle.whole_lives.proofs.Steady.{IsUp, carried_up, stays_up}
 
 -- what isn't for it has no datagram to its station, and neither has the first access of a reopening

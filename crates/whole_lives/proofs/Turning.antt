@@ -1,6 +1,6 @@
 -- A LIFE TURNS, by how the master stands to the slave; it begins with the slave as it is switched on; and it goes on where the slave is given up.
-use Rattle.std.proofs.Common.{◌≡◌, ◌≢◌, ◌⊎◌, inl, inr, ℕ, suc, ◌==◌, Bool, true, false, List, [], ◌∷◌, ◌++◌, length, refl, ap, sym, ◌∙◌, subst}
-use Rattle.std.specs.Prelude.{Option, Some, None, if◌then◌else◌, nat_lt, ⊤}
+use Rattle.std.proofs.Common.{◌≡◌, inl, ℕ, Bool, true, false, List, [], ◌∷◌, ◌++◌, length, refl, ap, sym, ◌∙◌, subst}
+use Rattle.std.specs.Prelude.{Option, Some, None, if◌then◌else◌, nat_lt}
 use Rattle.frame_pass.specs.Passing.{datagrams_after}
 use Rattle.frames_seen.specs.Own.{own_of, NoneMeant}
 use Rattle.frames_seen.specs.Ring.{AllApart}
@@ -14,20 +14,19 @@ use Rattle.life_model.specs.Eras.{Clearing}
 use Rattle.life_model.specs.Lives.{Spot, Era, Opening, Life, Stand, new_life, gives_up, reopening}
 use Rattle.slave_lives.specs.Ends.{LeftEras}
 use Rattle.slave_lives.specs.Lived.{Behind, RingFrame, is_reached, node_behind, frame_of}
-use Rattle.slave_lives.specs.Nodes.{IsRunning}
 use Rattle.slave_lives.specs.Opening.{Plan, IsPlan}
 use Rattle.slave_lives.specs.Rings.{registers_of, come_to}
-use Rattle.slave_lives.specs.Stands.{turn_of, Closing, first_opening, opening_again}
+use Rattle.slave_lives.specs.Stands.{Closing, first_opening, opening_again}
 use Rattle.slave_lives.specs.Ways.{OneOnWay}
 use Rattle.slave_lives.proofs.Arrives as Arrived
 use Rattle.slave_lives.proofs.Closing.{again_is}
 use Rattle.slave_lives.proofs.EraEnds as Ends
 use Rattle.slave_lives.proofs.NodeFrames as NodeFrames
-use Rattle.whole_lives.specs.Turns.{FrameComes, AsksFor, Came, CameAs, TurnsAs, life_by}
-use Rattle.whole_lives.specs.Whole.{IsWhole, LivesOpen, LivesStill, Waits, IsOver, OpensAs, StandsAs, IsLived, plan_to}
+use Rattle.whole_lives.specs.Turns.{FrameComes, CameAs, TurnsAs, life_by}
+use Rattle.whole_lives.specs.Whole.{IsWhole, OpensAs, StandsAs, IsLived, plan_to}
 use Rattle.whole_lives.proofs.Kept.{none_is_most}
 use Rattle.whole_lives.proofs.Open.{steady_of, open_turns}
-use Rattle.whole_lives.proofs.Shut.{ShutFrame, runs_behind, boot_behind, shut_stays, shut_goes, past_behind, stays_so}
+use Rattle.whole_lives.proofs.Shut.{ShutFrame, runs_behind, boot_behind, shut_stays, shut_goes, stays_so}
 use Rattle.whole_lives.proofs.Still.{Nothing, own_first, own_not}
 
 module _ {S V A Q R : Type 0} (w : Behind S V A Q R) (c : Clearing V A) (p : Plan) (spot : Spot) (whole : IsWhole w c p spot) where

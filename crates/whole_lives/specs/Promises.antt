@@ -1,5 +1,5 @@
 -- WHAT THE EPOCH OF AN OPEN SLAVE PROMISES OF ITS NODE, over the slave's own part of the frames.
-use Rattle.std.specs.Prelude.{ℕ, Bool, List, length}
+use Rattle.std.specs.Prelude.{Bool, List, length}
 use Rattle.link_mails.specs.Body.{Body}
 use Rattle.segment_model.specs.Laws.{HandedBy, KnowsCounters}
 use Rattle.segment_model.specs.Record.{Frame}

@@ -1,7 +1,6 @@
 -- ONE EXCHANGE OF A FRAME, for one slave of the ring and its life.
-use Rattle.std.specs.Prelude.{◌≡◌, ◌≢◌, ℕ, Bool, true, Option, Some, None, List, [], ◌∷◌, ◌++◌, length, ⊤}
+use Rattle.std.specs.Prelude.{◌≡◌, Bool, true, Option, Some, None, List, length, ⊤}
 use Rattle.datagrams.specs.Datagram as Raw
-use Rattle.exchange_model.specs.Exchange.{Exchange, Speech}
 use Rattle.frame_pass.specs.Passing.{datagrams_after}
 use Rattle.frames_seen.specs.Ring.{AllApart}
 use Rattle.frame_view.specs.Seen.{seen}
@@ -11,7 +10,6 @@ use Rattle.mailbox_slave.specs.Registers.{in_len}
 use Rattle.segment_model.specs.Record.{Frame, News}
 use Rattle.segment_model.specs.Slaves.{Found}
 use Rattle.segment_ring.specs.Ring.{is_in_pace}
-use Rattle.slave_steps.specs.Node.{Node}
 use Rattle.task_model.specs.Accounts.{Pick, Duty}
 use Rattle.life_model.specs.Lives.{Spot, Era, Opening, Stand, Life, AsksOpen, era_next, era_after, life_next, life_back, life_lost}
 use Rattle.slave_lives.specs.Lived.{Behind, RingFrame, is_reached, node_met, node_behind, frame_of, AccessBack}
