@@ -16,6 +16,9 @@ use Rattle.slave_model.specs.Profile.{Protocol, Profile, areas_of, serves}
 use Rattle.slave_model.specs.Server.{ServiceOf, Reply}
 use Rattle.slave_parts.specs.Parts.{Core, Server, parts}
 use Rattle.named_lives.specs.Named.{only, named, Agrees, AgreesLast}
+use Rattle.book_model.specs.Chain.{Same}
+use Rattle.book_lives.specs.First.{Forgets}
+use Rattle.server_lives.specs.Real.{real_clearing}
 use Rattle.named_lives.specs.Alike.{Alike}
 use Rattle.plan_ring.specs.Asked.{is_service, service_of, as_asked, asked}
 
@@ -79,3 +82,10 @@ alike p boot lens = record {
   ends = λ q hs is. sym (ap (λ (b : Bool). if b then (hand_speech (areas_of p)).ends q hs else None) is);
   handed = λ q is. refl;
 }
+
+-- the AL state told last stands, and a return to Init leaves it
+cleared_same : (a b : InState (Station Core)) → Same (states_of {V = Server} {A = Station Core} Slave.acknowledged) a b → Same (states_of {V = Server} {A = Station Core} Slave.acknowledged) (real_clearing.cleared a) (real_clearing.cleared b)
+cleared_same a b same = λ k. ap (λ (x : InState (Station Core)). record x { inner = record x.inner { frame = 0 } }) (same k)
+
+pub forgets_as : (p : Profile) (boot : Bool) (lens : ℕ → Lens) → Forgets (asked p boot lens) real_clearing
+forgets_as p boot lens = record { forgets = λ k j a. refl; keeps = λ a b same. cleared_same a b same }

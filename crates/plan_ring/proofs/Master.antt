@@ -30,7 +30,7 @@ use Rattle.whole_ring.proofs.Members as Members
 use Rattle.whole_ring.proofs.Turning.{next_stand}
 use Rattle.plan_ring.specs.Asked.{is_service}
 use Rattle.plan_ring.specs.Plan.{PlanMember, FitsPlan, step, new_members}
-use Rattle.plan_ring.proofs.Asked.{alike}
+use Rattle.plan_ring.proofs.Asked.{alike, forgets_as}
 use Rattle.slave_server.specs.Spec.{profile_of}
 use Rattle.plan_ring.specs.Master.{speech_of, lived_of, IsLed, AllLed, Under, IsUnder, AllUnder, led_behind, AllBehind, OnAs, GoesOn}
 
@@ -117,13 +117,13 @@ module _ (more : Body → Bool) (passed : Asked → Bool) (lens : ℕ → Lens) 
       let rest = led_back gives recover f (suc place) ms us (datagrams_after m.node.registers es) led.1 xs.1 in
       let same = back_life m u led.0 xs.0 f in
       record {
-        led = (record { alike = led.0.alike; last = led.0.last; in_hand = subst (λ (l : Life Body Asked Master.Reply). InHandIs is_service l) (sym same) (back_in m u led.0 xs.0 f) }, rest.led);
+        led = (record { alike = led.0.alike; last = led.0.last; in_hand = subst (λ (l : Life Body Asked Master.Reply). InHandIs is_service l) (sym same) (back_in m u led.0 xs.0 f); forgets = led.0.forgets }, rest.led);
         shown = ((λ i. record { spot = sym xs.0.next.spot i; life = same i }), rest.shown);
       }
 
   -- one that is given up, or isn't
   led_given : (b : Bool) (recover : ℕ) (n : PlanMember) → IsLed n → IsLed (if b then record n { life = gives_up recover n.spot made n.life } else n)
-  led_given true recover n k = record { alike = k.alike; last = k.last; in_hand = k.in_hand }
+  led_given true recover n k = record { alike = k.alike; last = k.last; in_hand = k.in_hand; forgets = k.forgets }
   led_given false recover n k = k
 
   shown_given : (b : Bool) (recover : ℕ) (n : PlanMember) (spot : Spot) (l : Life Body Asked Master.Reply) → n.spot ≡ spot → n.life ≡ l →
@@ -143,7 +143,7 @@ module _ (more : Body → Bool) (passed : Asked → Bool) (lens : ℕ → Lens) 
         life = life_by more passed made f (fate_seen (Lost after)) m.services m.spot m.life (turn_of m u led.0 xs.0);
         node = turned m.services.running m.pace made (met (is_met_at place (Lost after)) m.node es);
       } in
-      let mine : IsLed n = record { alike = led.0.alike; last = led.0.last; in_hand = subst (λ (l : Life Body Asked Master.Reply). InHandIs is_service l) (sym same) (lost_in m u led.0 xs.0 f) } in
+      let mine : IsLed n = record { alike = led.0.alike; last = led.0.last; in_hand = subst (λ (l : Life Body Asked Master.Reply). InHandIs is_service l) (sym same) (lost_in m u led.0 xs.0 f); forgets = led.0.forgets } in
       record {
         led = (led_given (gives && u.share.under) recover n mine, rest.led);
         shown = (shown_given (gives && u.share.under) recover n u.lived.spot (life_lost (speech_of m) acknowledged more passed u.lived.spot u.news f.sent u.lived.life u.lived.life.stand) (sym xs.0.next.spot) same, rest.shown);
@@ -182,4 +182,4 @@ module _ (more : Body → Bool) (passed : Asked → Bool) (lens : ℕ → Lens) 
 pub led_first : (lens : ℕ → Lens) (place : ℕ) (ss : List SlaveSpec) (paces : List ℕ) → AllLed (new_members lens place ss paces)
 led_first lens place [] paces = tt
 led_first lens place (s ∷ ss) [] = tt
-led_first lens place (s ∷ ss) (pace ∷ paces) = (record { alike = alike (profile_of s) s.boot lens; last = refl; in_hand = tt }, led_first lens (suc place) ss paces)
+led_first lens place (s ∷ ss) (pace ∷ paces) = (record { alike = alike (profile_of s) s.boot lens; last = refl; in_hand = tt; forgets = forgets_as (profile_of s) s.boot lens }, led_first lens (suc place) ss paces)

@@ -18,6 +18,7 @@ use Rattle.master_hand.specs.Spoken.{Asked, hand_speech, acknowledged}
 use Rattle.life_frames.specs.Frames.{Share}
 use Rattle.life_frames.specs.Shares as Shares
 use Rattle.life_frames.specs.Shares.{Lived, IsNext, lived_back, lived_lost}
+use Rattle.book_lives.specs.First.{Forgets}
 use Rattle.named_lives.specs.Alike.{Alike, WishIs, InHandIs}
 use Rattle.whole_ring.specs.Members.{IsRing}
 use Rattle.whole_ring.specs.Turning.{BeginBoots, frame_at}
@@ -32,11 +33,13 @@ speech_of m = hand_speech (record { out = m.plan.out; back = m.plan.back })
 abbrev pub lived_of : PlanMember → Lived Asked Master.Reply
 lived_of m = record { spot = m.spot; life = m.life }
 
--- A MASTER LEADS THE LIFE: it speaks as the slave's client does, and no mail that is passed on is in hand
+-- A MASTER LEADS THE LIFE: it speaks as the slave's client does, and no mail that is passed on is in hand; and what telling an AL state and a return
+-- to Init do to the slave's application
 pub record IsLed (m : PlanMember) : Type 0 where
   pub alike : Alike is_service (speech_of m) m.services.exchange.speech
   pub last : m.services.states.acknowledged ≡ acknowledged
   pub in_hand : InHandIs is_service m.life
+  pub forgets : Forgets m.services m.clearing
 
 abbrev pub AllLed : List PlanMember → Type 0
 AllLed [] = ⊤

@@ -13,7 +13,9 @@ ghost use Rattle.segment_ring.specs.Schedule.{fate_at};
 ghost use Rattle.slave_steps.specs.Node.{Node, node_passed};
 ghost use Rattle.slave_server.specs.Serving.{Serving};
 ghost use Rattle.slave_server.specs.Spec.{node_of};
-ghost use Rattle.life_model.specs.Lives.{Spot};
+ghost use Rattle.life_model.specs.Lives.{Spot, Stand};
+ghost use Rattle.book_lives.specs.First.{FirstBook};
+ghost use Rattle.book_lives.specs.Rows.{IsFirst};
 ghost use Rattle.master_hand.specs.Spoken.{Asked, hand_speech};
 ghost use Rattle.named_lives.specs.Alike.{Alike};
 ghost use Rattle.slave_lives.specs.Opening as Opening;
@@ -23,10 +25,10 @@ ghost use Rattle.segment_plan.specs.declared.plan.Scenario.{Scenario};
 ghost use Rattle.segment_plan.specs.declared.slave.SlaveSpec.{SlaveSpec};
 ghost use Rattle.server_lives.specs.Real.{real_clearing};
 ghost use Rattle.whole_lives.specs.Whole.{IsWhole};
-ghost use Rattle.whole_ring.specs.Members.{IsRing, first_ring};
+ghost use Rattle.whole_ring.specs.Members.{MemberIs, IsRing, first_ring};
 ghost use Rattle.whole_ring.specs.Turning.{Turn, AllTurn, frame_at, behind_frame, given_up};
 ghost use Rattle.plan_ring.specs.Asked.{is_service, asked};
-ghost use Rattle.plan_ring.specs.Master.{Under, AllLed, AllUnder, GoesOn};
+ghost use Rattle.plan_ring.specs.Master.{Under, IsLed, AllLed, AllUnder, GoesOn};
 ghost use Rattle.plan_ring.specs.Plan.{PlanMember, FitsPlan, AllMacs, lens_of, members_of, step};
 
 /// The services of a slave of a plan, as the master asks for them, are such as the laws of whole lives speak of; and the master speaks of them as
@@ -60,4 +62,11 @@ pub fn master_ring_law()
     ensures begins { (plan : Scenario) → AllLed (members_of plan) }
     ensures goes_on { (more : Body → Bool) (passed : Asked → Bool) (lens : ℕ → Lens) (ss : List SlaveSpec) (gives : Bool) (recover : ℕ) (fs : List (Frame Body)) (ring : RingState (Node Serving)) (octets : List ℕ) (ds : List Raw.Datagram) (ms : List PlanMember) (us : List Under) →
         IsFrame octets (chained ds) → IsRing lens step (FitsPlan ss) fs ring ms → AllLed ms → AllUnder more passed lens (length fs) ds ms us → GoesOn more passed lens ss gives recover fs ring octets ms us }
+{}
+
+/// THE BOOK OF EACH SLAVE THAT IS IN ITS FIRST EPOCH: of such a ring's slave, which its master leads, the answers are those that the frames give, the
+/// application of its node is what is done of its rows, and where it is settled and nothing is wanted of it, all is done.
+pub fn first_book_law()
+    ensures { (lens : ℕ → Lens) (ss : List SlaveSpec) (more : Body → Bool) (fs : List (Frame Body)) (place : ℕ) (m : PlanMember) → (i : MemberIs lens step (FitsPlan ss) fs place m) → (led : IsLed m) → IsFirst (length fs) m.life → m.life.stand ≡ Stand.Open →
+        FirstBook m.services m.clearing m.plan m.spot i.whole led.forgets more m.first m.life fs m.node }
 {}

@@ -46,8 +46,8 @@ module _ {S V A Q R : Type 0} (w : Behind S V A Q R) (is : IsBehind w) (stated :
   not_init (inl two) init = let no : 2 ≡ 1 = sym two ∙ init in cc
   not_init (inr three) init = let no : 3 ≡ 1 = sym three.0 ∙ init in cc
 
-  pub begun : (p : Plan) (spot : Spot) (al0 : ℕ) (cleared : Option ℕ) (opened : ℕ) (fs : List (Frame Body)) (n : Running.Node S) → length fs ≡ suc opened → OpensEra w p spot n → BegunEra w p spot al0 cleared opened fs n
-  begun p spot al0 cleared opened fs n frames o =
+  pub begun : (p : Plan) (spot : Spot) (al0 : ℕ) (cleared : Option ℕ) (opened : ℕ) (fs : List (Frame Body)) (n : Running.Node S) → length fs ≡ suc opened → (cleared ≡ None → p.start ≡ spot.start) → OpensEra w p spot n → BegunEra w p spot al0 cleared opened fs n
+  begun p spot al0 cleared opened fs n frames start o =
       let al = (registers_seen n.registers).state in
       let v = (w.sees al n.server).server in
       let r = registers_seen n.registers in
@@ -85,6 +85,7 @@ module _ {S V A Q R : Type 0} (w : Behind S V A Q R) (is : IsBehind w) (stated :
           registers = r;
           begins = seen_told al0 al n.server;
           up = λ init. not_init o.plan.start (sym (knows ∙ state) ∙ init);
+          first = λ none. state ∙ start none;
           before = omega (arith, frames);
           is = subst (λ t. EraIs w.exchange w.states w.processor (table_of w) spot (opened_era {Q = Q} {R = R} cleared opened) opened (length fs) fs v r t) (sym slave) begins;
           opens = o.opened.opens;

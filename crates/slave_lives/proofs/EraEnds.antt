@@ -33,6 +33,7 @@ module _ {S V A Q R : Type 0} (w : Behind S V A Q R) where
     before = l.before;
     within = omega arith;
     begins = l.begins;
+    first = l.first;
     is = l.is;
     state = (registers_seen n.registers).state;
     leaves = refl;
@@ -51,6 +52,7 @@ module _ {S V A Q R : Type 0} (w : Behind S V A Q R) where
         before = l.before;
         within = omega (arith, within, length-append fs gs);
         begins = l.begins;
+        first = l.first;
         is = record {
           plan = l.is.plan;
           answers = l.is.answers;

@@ -24,6 +24,8 @@ use Rattle.segment_ring.specs.Ring.{is_in_pace}
 use Rattle.slave_steps.specs.Node as Running
 use Rattle.task_model.specs.Accounts.{Pick}
 use Rattle.life_model.specs.Own.{own, own_fate}
+use Rattle.exchange_model.specs.Exchange.{Speech}
+use Rattle.link_model.specs.Segment.{RingFate}
 use Rattle.life_model.specs.Lives.{Spot, Era, AsksOpen, era_next, era_after}
 use Rattle.life_model.specs.Eras.{EraIs}
 use Rattle.life_model.proofs.Eras as Eras
@@ -65,6 +67,12 @@ among_not : (place count : ℕ) → is_among place count ≡ false → count - p
 among_not place zero e = omega arith
 among_not zero (suc count) e = absurd (cc)
 among_not (suc place) (suc count) e = let m = among_not place count e in omega (arith, m)
+
+-- a frame leaves where the return to Init was seen
+after_cleared : {M Q R : Type 0} (x : Speech M Q R) (acknowledged : Q → Bool) (more : M → Bool) (passed : Q → Bool) (station frame : ℕ) (news : List (News M)) (sent : List (Datagram M)) (fate : RingFate) (back : List (Datagram M)) (e : Era M Q R) →
+    (era_after x acknowledged more passed station frame news sent fate back e).cleared ≡ e.cleared
+after_cleared x acknowledged more passed station frame news sent RingFate.Back back e = refl
+after_cleared x acknowledged more passed station frame news sent (RingFate.Lost after) back e = refl
 
 module _ {V : Type 0} (station place : ℕ) (s : Slave V Body) (ds : List (Datagram Body)) where
   abbrev alone_ring : Ring V Body
@@ -257,6 +265,7 @@ module _ {S V A Q R : Type 0} (w : Behind S V A Q R) (is_behind : IsBehind w) wh
         registers = lives.registers;
         begins = lives.begins;
         up = lives.up;
+        first = λ none. lives.first (sym (after_cleared w.exchange.speech w.states.acknowledged more passed spot.station (length fs) news sent (fate_seen fate) back next) ∙ none);
         before = omega (arith, len, was);
         is = subst (λ (k : ℕ). EraIs w.exchange w.states w.processor (table_of w) spot now lives.opened k (fs ++ one ∷ []) lives.server lives.registers (views m)) len grown;
         opens = t.opens;

@@ -58,8 +58,8 @@ pub record IsBehind {S V A Q R : Type 0} (w : Behind S V A Q R) : Type 0 where
 abbrev pub node_seen : {S V A Q R : Type 0} → Behind S V A Q R → Node S → Slave V Body
 node_seen w n = slave_of n.kept n.registers (w.sees (registers_seen n.registers).state n.server)
 
--- AN OPEN SLAVE'S NODE LIVES THE EPOCH, which began with this application, told the AL state that was opened, not Init: it is open at its station, and the
--- slave of the epoch's session up to the last of these frames
+-- AN OPEN SLAVE'S NODE LIVES THE EPOCH, which began with this application, told the AL state that was opened, not Init, and in the first epoch the
+-- plan's: it is open at its station, and the slave of the epoch's session up to the last of these frames
 pub record LivesEra {S V A Q R : Type 0} (w : Behind S V A Q R) (spot : Spot) (from : A) (e : Era Body Q R) (fs : List (Frame Body)) (n : Node S) : Type 0 where
   pub opened : ℕ
   pub server : V
@@ -67,6 +67,7 @@ pub record LivesEra {S V A Q R : Type 0} (w : Behind S V A Q R) (spot : Spot) (f
   pub before : opened < length fs
   pub begins : w.exchange.app server ≡ w.states.told registers.state from
   pub up : w.states.state (w.exchange.app server) ≢ 1
+  pub first : e.cleared ≡ None → registers.state ≡ spot.start
   pub is : EraIs w.exchange w.states w.processor (table_of w) spot e opened (length fs) fs server registers (node_seen w n)
   pub opens : IsOpen w.lens n.registers
   pub station : n.registers.station ≡ spot.station

@@ -69,7 +69,7 @@ pub fn access_law()
 /// empty, its server told the state.
 pub fn begin_law<S, V, A, Q, R>()
     ensures { (w : Behind S V A Q R) → IsBehind w → IsStated w.exchange w.states → ((state : ℕ) (v : V) → w.processor.tell state v ≡ w.states.tell state v) → (p : Plan) (spot : Spot) (al : ℕ) (cleared : Option ℕ) (opened : ℕ) (fs : List (Frame Body)) (n : Node S) →
-        length fs ≡ suc opened → OpensEra w p spot n → BegunEra w p spot al cleared opened fs n }
+        length fs ≡ suc opened → (cleared ≡ None → p.start ≡ spot.start) → OpensEra w p spot n → BegunEra w p spot al cleared opened fs n }
 {}
 
 /// AN OPEN SLAVE'S LIFE IS LIVED BY ITS NODE: by each frame of octets that the ring exchanges, met by all slaves or by the first of them, and by

@@ -38,11 +38,11 @@ module _ {S V A Q R : Type 0} (w : Behind S V A Q R) (c : Clearing V A) (p : Pla
 
   pub known : (from : A) (e : Era Body Q R) (fs : List (Frame Body)) (stand : Stand) (n : Node S) → StandsAs w p spot from e fs stand n → KnownAs w.running w.boot w.lens (plan_at p stand) stand n
   known from e fs (Stand.Opens o) n (OpensAs.yet again step plan l) = inr (record { again = again; step = step; up = up_still o.state from e fs n l })
-  known from e fs (Stand.Opens o) n (OpensAs.anew cl x) = inl cl.closed
+  known from e fs (Stand.Opens o) n (OpensAs.anew cl x first) = inl cl.closed
   known from e fs (Stand.Opens o) n (OpensAs.over cl again early x) = inl cl.closed
   known from e fs Stand.Open n now = (now.lives.epoch.opens, now.lives.epoch.station ∙ sym whole.station)
   known from e fs Stand.Gone n (OpensAs.yet again step plan l) = inr (l.lives.epoch.station ∙ sym whole.station)
-  known from e fs Stand.Gone n (OpensAs.anew cl x) = Arrived.called_is w.running w.boot w.lens (plan_to p spot.start) cl.plan _ n cl.closed
+  known from e fs Stand.Gone n (OpensAs.anew cl x first) = Arrived.called_is w.running w.boot w.lens (plan_to p spot.start) cl.plan _ n cl.closed
   known from e fs Stand.Gone n (OpensAs.over cl again early x) = Arrived.called_is w.running w.boot w.lens (plan_to p spot.start) cl.plan _ n cl.closed
 
 pub plan_station : (p : Plan) (stand : Stand) → (plan_at p stand).station ≡ p.station

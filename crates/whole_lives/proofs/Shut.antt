@@ -1,6 +1,6 @@
 -- A CLOSED SLAVE'S LIFE by a frame: the newest epoch waits, or is over and wasn't seen so, until its return to Init is seen or it is opened.
 use Rattle.std.proofs.Common.{◌≡◌, ◌⊎◌, inl, inr, ℕ, suc, ◌+◌, ◌==◌, Bool, true, false, List, [], ◌∷◌, ◌++◌, length, refl, ap, ap₂, sym, ◌∙◌, subst, arith, length-append}
-use Rattle.std.specs.Prelude.{Option, Some, if◌then◌else◌, ◌&&◌}
+use Rattle.std.specs.Prelude.{Option, Some, None, if◌then◌else◌, ◌&&◌}
 use Rattle.std.proofs.lemmas.Bool.{eqb-true, ne_eqb, and_parts}
 use Rattle.al_state.specs.Request.{is_state}
 use Rattle.ec_fields.specs.Fields.{bits_of}
@@ -126,7 +126,7 @@ module _ {S V A Q R : Type 0} (w : Behind S V A Q R) (c : Clearing V A) (p : Pla
       go : (b : Bool) → is_reached t ≡ b → OpensAs w p spot from e (fs ++ frame_of w.lens t ∷ []) o (node_behind w.running t)
       go false is = quiet (λ r. absurd (let no_ : false ≡ true = sym is ∙ r in cc))
       go true is = either is (one_or_none (plan_to p o.state) (turn_of o) t.node.registers (come_to t.before t.datagrams) (f.one is))
-  shut_stays from e (OpensAs.anew cl x) = OpensAs.anew (closing_behind cl) (waits_stay w spot from e t.node.server (node_behind w.running t).server (same_behind cl) x)
+  shut_stays from e (OpensAs.anew cl x start) = OpensAs.anew (closing_behind cl) (waits_stay w spot from e t.node.server (node_behind w.running t).server (same_behind cl) x) start
   shut_stays from e (OpensAs.over cl again early x) =
       OpensAs.over (closing_behind cl) again early (over_stays w spot from e fs (frame_of w.lens t ∷ []) t.node.server (node_behind w.running t).server (same_behind cl) x)
 
@@ -153,7 +153,7 @@ module _ {S V A Q R : Type 0} (w : Behind S V A Q R) (c : Clearing V A) (p : Pla
     clears_so to past_ al begins plan closed = record {
       from = to;
       past = past_;
-      now = OpensAs.anew (record { plan = plan; state = refl; closed = closed }) (record { cleared = Some (length fs); is_new = refl; al = al; begins = begins });
+      now = OpensAs.anew (record { plan = plan; state = refl; closed = closed }) (record { cleared = Some (length fs); is_new = refl; al = al; begins = begins }) (λ none. absurd (let no_ : Some (length fs) ≡ None = none in cc));
       runs = runs_behind;
       boot = boot_behind;
     }
@@ -173,16 +173,16 @@ module _ {S V A Q R : Type 0} (w : Behind S V A Q R) (c : Clearing V A) (p : Pla
         plan closed
 
     -- the state that is opened was shown
-    opens_so : IsPlan w.boot w.lens (plan_to p o.state) → w.running.clear (node_behind w.running t).server ≡ w.running.clear t.node.server → Waits w spot from l.era t.node.server →
+    opens_so : IsPlan w.boot w.lens (plan_to p o.state) → w.running.clear (node_behind w.running t).server ≡ w.running.clear t.node.server → Waits w spot from l.era t.node.server → (l.era.cleared ≡ None → o.state ≡ spot.start) →
         w.exchange.ready (w.sees o.state (node_behind w.running t).server).server ≡ true → IsUp w.running (plan_to p o.state) (node_behind w.running t) →
         IsLived w c p spot first (opens (length fs) l) (fs ++ frame_of w.lens t ∷ []) (node_behind w.running t)
-    opens_so plan same x ready up =
+    opens_so plan same x start ready up =
         let m = node_behind w.running t in
         let gs = fs ++ frame_of w.lens t ∷ [] in
         let both = Closed.up_opens w.running w.boot w.lens (plan_to p o.state) plan m up in
         let len : length gs ≡ suc (length fs) = length-append fs (frame_of w.lens t ∷ []) ∙ (let plus : length fs + 1 ≡ suc (length fs) = omega arith in plus) in
         let opening : OpensEra w (plan_to p o.state) spot m = record { plan = plan; station = whole.station; opened = both.0; waits = both.1; ready = ready; runs = runs_behind; boot = boot_behind } in
-        let begun = Begins.begun w whole.behind whole.stated whole.tells (plan_to p o.state) spot x.al x.cleared (length fs) gs m len opening in
+        let begun = Begins.begun w whole.behind whole.stated whole.tells (plan_to p o.state) spot x.al x.cleared (length fs) gs m len (λ none. start (ap (λ (e : Era Body Q R). e.cleared) x.is_new ∙ none)) opening in
         let app : w.exchange.app (w.sees x.al m.server).server ≡ from = ap (λ (s : S). w.exchange.app (w.sees x.al s).server) (sym up.returned.cleared ∙ same) ∙ sym x.begins in
         let lives : LivesEra w spot from (record (new_era {M = Body} {Q = Q} {R = R} x.cleared) { opened = Some (length fs) }) gs m = subst (λ (a : A). LivesEra w spot a (record (new_era {M = Body} {Q = Q} {R = R} x.cleared) { opened = Some (length fs) }) gs m) app begun.lives in
         let open_ : LivesOpen w spot from (record (new_era {M = Body} {Q = Q} {R = R} x.cleared) { opened = Some (length fs) }) gs m = record { lives = record { epoch = lives; answered = tt }; over = tt; hand = tt } in
@@ -225,7 +225,7 @@ module _ {S V A Q R : Type 0} (w : Behind S V A Q R) (c : Clearing V A) (p : Pla
         go true is b late x z = absurd (let no_ : 1 ≡ 2 = sym step ∙ clear_two is in cc)
         go false is true late x z = absurd (step_late again (inl step) late)
         go false is false late x z = steps_so (frozen_on from l.era (suc o.step) again (inr (ap suc step)) plan y reached just)
-    shut_goes came k (OpensAs.anew cl x) = go (shows_clear o) (o.step == last_step o) (came.0 && is_shown 1 came.1) (came.0 && is_shown o.state came.1) as_closed
+    shut_goes came k (OpensAs.anew cl x start) = go (shows_clear o) (o.step == last_step o) (came.0 && is_shown 1 came.1) (came.0 && is_shown o.state came.1) as_closed
       where
         frame : ClosedFrame w.running w.boot w.lens (plan_to p o.state) o t
         frame = record { closing = cl; one = f.one; steps = λ now. record { clears = whole.behind.clears; boot_is = boot_met; runs = runs_met; roomy = f.roomy now } }
@@ -236,11 +236,11 @@ module _ {S V A Q R : Type 0} (w : Behind S V A Q R) (c : Clearing V A) (p : Pla
         go : (a b y z : Bool) → ClosedAs w.running w.boot w.lens (plan_to p o.state) (if a then (if y then clears (length fs) l o else l) else if b then (if z then opens (length fs) l else l) else steps_on l o).stand (node_behind w.running t) →
             IsLived w c p spot first (if a then (if y then clears (length fs) l o else l) else if b then (if z then opens (length fs) l else l) else steps_on l o) (fs ++ frame_of w.lens t ∷ []) (node_behind w.running t)
         go true b true z shut = waits_clear cl.plan (same_behind cl) x shut
-        go true b false z shut = stays_so (shut_stays from l.era (OpensAs.anew cl x))
-        go false true y true shut = opens_so cl.plan (same_behind cl) x (k.ready shut.returned.cleared) shut
-        go false true y false shut = stays_so (shut_stays from l.era (OpensAs.anew cl x))
+        go true b false z shut = stays_so (shut_stays from l.era (OpensAs.anew cl x start))
+        go false true y true shut = opens_so cl.plan (same_behind cl) x start (k.ready shut.returned.cleared) shut
+        go false true y false shut = stays_so (shut_stays from l.era (OpensAs.anew cl x start))
         go false false y z shut =
-            steps_so (OpensAs.anew (record { plan = cl.plan; state = refl; closed = shut }) (waits_stay w spot from l.era t.node.server (node_behind w.running t).server (same_behind cl) x))
+            steps_so (OpensAs.anew (record { plan = cl.plan; state = refl; closed = shut }) (waits_stay w spot from l.era t.node.server (node_behind w.running t).server (same_behind cl) x) start)
     shut_goes came k (OpensAs.over cl again early x) = go (shows_clear o) refl (o.step == last_step o) refl (came.0 && is_shown 1 came.1) (came.0 && is_shown o.state came.1) as_closed
       where
         frame : ClosedFrame w.running w.boot w.lens (plan_to p o.state) o t

@@ -39,7 +39,7 @@ module _ {S V A Q R : Type 0} (w : Behind S V A Q R) (c : Clearing V A) (p : Pla
         from = w.exchange.app (w.sees al s).server;
         past = LeftEras.none (w.exchange.app (w.sees al s).server);
         now = OpensAs.anew (subst (λ (st : ℕ). Closing w.running w.boot w.lens (plan_to p st) (first_opening st) n) whole.start first)
-            (record { cleared = None; is_new = refl; al = al; begins = ap (λ (k : S). w.exchange.app (w.sees al k).server) (sym clear) });
+            (record { cleared = None; is_new = refl; al = al; begins = ap (λ (k : S). w.exchange.app (w.sees al k).server) (sym clear) }) (λ none. refl);
         runs = NodeFrames.begins w.running p.out p.back w.boot s clear;
         boot = refl;
       }
@@ -50,7 +50,7 @@ module _ {S V A Q R : Type 0} (w : Behind S V A Q R) (c : Clearing V A) (p : Pla
   -- GIVEN UP: what is known then is known of the next opening's first access
   again_as : (from : A) (e : Era Body Q R) (fs : List (Frame Body)) (o : Opening) (n : Node S) → OpensAs w p spot from e fs o n → OpensAs w p spot from e fs (opening_again spot.start false) n
   again_as from e fs o n (OpensAs.yet again step plan l) = OpensAs.yet refl refl plan_start l
-  again_as from e fs o n (OpensAs.anew cl x) = OpensAs.anew (record { plan = plan_start; state = refl; closed = Arrived.left_by w.running w.boot w.lens (plan_to p o.state) cl.plan o n spot.start false cl.closed }) x
+  again_as from e fs o n (OpensAs.anew cl x first) = OpensAs.anew (record { plan = plan_start; state = refl; closed = Arrived.left_by w.running w.boot w.lens (plan_to p o.state) cl.plan o n spot.start false cl.closed }) x (λ none. refl)
   again_as from e fs o n (OpensAs.over cl again early x) =
       OpensAs.over (record { plan = plan_start; state = refl; closed = Arrived.left_by w.running w.boot w.lens (plan_to p o.state) cl.plan o n spot.start false cl.closed }) refl (inl refl) x
 

@@ -1,5 +1,5 @@
 -- THE WHOLE LIFE OF A SLAVE AS ITS NODE LIVES IT: what holds between all epochs of its life, its node and the frames so far.
-use Rattle.std.specs.Prelude.{◌≡◌, ◌⊎◌, ℕ, true, false, List, Option}
+use Rattle.std.specs.Prelude.{◌≡◌, ◌⊎◌, ℕ, true, false, List, Option, None}
 use Rattle.exchange_model.specs.Exchange.{IsLawful}
 use Rattle.link_mails.specs.Body.{Body}
 use Rattle.segment_model.specs.Record.{Frame}
@@ -60,10 +60,10 @@ module _ {S V A Q R : Type 0} (w : Behind S V A Q R) (spot : Spot) (from : A) (e
     pub cleared : w.running.clear s ≡ w.running.clear server
 
 -- A SLAVE THAT IS OPENED: its epoch is lived yet, as long as no frame reached it with the first access of a reopening; or it is closed, and the
--- newest epoch waits, or is over and wasn't seen so
+-- newest epoch waits, the first one for the plan's state, or is over and wasn't seen so
 pub data OpensAs {S V A Q R : Type 0} (w : Behind S V A Q R) (p : Plan) (spot : Spot) (from : A) (e : Era Body Q R) (fs : List (Frame Body)) (o : Opening) (n : Node S) : Type 0 where
   yet : o.again ≡ true → o.step ≡ 1 → IsPlan w.boot w.lens (plan_to p o.state) → LivesStill w spot from e fs n → OpensAs w p spot from e fs o n
-  anew : Closing w.running w.boot w.lens (plan_to p o.state) o n → Waits w spot from e n.server → OpensAs w p spot from e fs o n
+  anew : Closing w.running w.boot w.lens (plan_to p o.state) o n → Waits w spot from e n.server → (e.cleared ≡ None → o.state ≡ spot.start) → OpensAs w p spot from e fs o n
   over : Closing w.running w.boot w.lens (plan_to p o.state) o n → o.again ≡ true → (o.step ≡ 1) ⊎ (o.step ≡ 2) → IsOver w spot from e fs n.server → OpensAs w p spot from e fs o n
 
 -- BY HOW THE MASTER STANDS TO IT: one that is given up for good stays as it is before the first access of a reopening, which never comes

@@ -71,7 +71,7 @@ came_none false at = refl
 -- the plan of the opening in hand is one
 pub plan_known : {S V A Q R : Type 0} (w : Behind S V A Q R) (c : Clearing V A) (p : Plan) (spot : Spot) (whole : IsWhole w c p spot) (fs : List (Frame Body)) (n : Node S) (from : A) (e : Era Body Q R) (stand : Stand) → StandsAs w p spot from e fs stand n → IsPlan w.boot w.lens (plan_at p stand)
 plan_known w c p spot whole fs n from e (Stand.Opens o) (OpensAs.yet again step plan l) = plan
-plan_known w c p spot whole fs n from e (Stand.Opens o) (OpensAs.anew cl x) = cl.plan
+plan_known w c p spot whole fs n from e (Stand.Opens o) (OpensAs.anew cl x first) = cl.plan
 plan_known w c p spot whole fs n from e (Stand.Opens o) (OpensAs.over cl again early x) = cl.plan
 plan_known w c p spot whole fs n from e Stand.Open now = whole.plan
 plan_known w c p spot whole fs n from e Stand.Gone now = whole.plan
