@@ -16,14 +16,14 @@ use Rattle.link_mails.specs.Body.{Body}
 use Rattle.segment_model.specs.Slaves.{Serving}
 use Rattle.slave_steps.specs.Node.{Node, new_box}
 use Rattle.life_model.specs.Lives.{Opening, Stand}
-use Rattle.slave_lives.specs.Opening.{Plan, IsPlan, AtMostOne}
+use Rattle.slave_lives.specs.Opening.{Plan, IsPlan, AtMostOne, JustOne}
 use Rattle.slave_lives.specs.Lived.{IsForOpen}
 use Rattle.slave_lives.specs.Returning.{IsTurn}
 use Rattle.slave_lives.specs.Rings.{registers_of, come_to}
 use Rattle.slave_lives.specs.Seats.{Seat, StandsYet, KnownAs, ComesAs, MeetsAs, AllSeats, IsElsewhere, AreDistinct, AllCome, MeetsOne, AllMeet, nodes_of}
 use Rattle.slave_lives.specs.Stands.{turn_of, IsClosed}
 use Rattle.slave_lives.specs.Steps.{Running}
-use Rattle.slave_lives.specs.Ways.{OneOnWay}
+use Rattle.slave_lives.specs.Ways.{OneOnWay, JustOnWay}
 use Rattle.slave_lives.proofs.Arrives as Arrives
 use Rattle.slave_lives.proofs.Closed.{closed_apart}
 use Rattle.slave_lives.proofs.Closing.{again_is}
@@ -37,14 +37,20 @@ other_way : (a b : ℕ) → (a == b) ≡ false → (b == a) ≡ false
 other_way a b e = ne_eqb b a (λ (f : b ≡ a). eqb-false a b e (sym f))
 
 module _ {S : Type 0} (u : Running S) (boot : Bool) (lens : ℕ → Lens) where
-  -- the slave at its place
-  record Known (p : Plan) (o : Opening) (n : Node S) : Type 0 where
-    turn : IsTurn (turn_of o)
-    called : (n.registers.station ≡ 0) ⊎ (n.registers.station ≡ p.station)
-    comes : (place : ℕ) (ds : List Raw.Datagram) → place < 16 → OneOnWay p (turn_of o) place place ds → AtMostOne p (turn_of o) n.registers ds
+  -- the slave at its place: a frame that has at most the access in hand comes to it so, and one that has it too
+  pub record Known (p : Plan) (o : Opening) (n : Node S) : Type 0 where
+    pub turn : IsTurn (turn_of o)
+    pub called : (n.registers.station ≡ 0) ⊎ (n.registers.station ≡ p.station)
+    pub comes : (place : ℕ) (ds : List Raw.Datagram) → place < 16 → OneOnWay p (turn_of o) place place ds → AtMostOne p (turn_of o) n.registers ds
+    pub meets : (place : ℕ) (ds : List Raw.Datagram) → place < 16 → JustOnWay p (turn_of o) place place ds → JustOne p (turn_of o) n.registers ds
 
-  known : (p : Plan) (o : Opening) (n : Node S) → IsPlan boot lens p → IsClosed u boot lens p o n ⊎ StandsYet lens p o n → Known p o n
-  known p o n plan (inl c) = record { turn = Arrives.turn_is u boot lens p plan o n c; called = Arrives.called_is u boot lens p plan o n c; comes = λ place ds near one. Arrives.comes u boot lens p plan o n place ds near one c }
+  pub known : (p : Plan) (o : Opening) (n : Node S) → IsPlan boot lens p → IsClosed u boot lens p o n ⊎ StandsYet lens p o n → Known p o n
+  known p o n plan (inl c) = record {
+    turn = Arrives.turn_is u boot lens p plan o n c;
+    called = Arrives.called_is u boot lens p plan o n c;
+    comes = λ place ds near one. Arrives.comes u boot lens p plan o n place ds near one c;
+    meets = λ place ds near just. Arrives.comes_just u boot lens p plan o n place ds near just c;
+  }
   known p o n plan (inr s) =
       let e = again_is o s.again ∙ s.step in
       let turn = subst IsTurn (sym e) IsTurn.return in
@@ -52,6 +58,7 @@ module _ {S : Type 0} (u : Running S) (boot : Bool) (lens : ℕ → Lens) where
         turn = turn;
         called = inr s.up.station;
         comes = λ place ds near one. Way.called_comes p (turn_of o) place turn near (λ r d called a. Arrives.calls boot lens p plan r d (turn_of o) turn called a) n.registers ds (inr s.up.station) (λ late. s.up.station) one;
+        meets = λ place ds near just. Way.called_just p (turn_of o) place turn near (λ r d called a. Arrives.calls boot lens p plan r d (turn_of o) turn called a) n.registers ds (inr s.up.station) (λ late. s.up.station) just;
       }
 
   meets_one : (s : Seat S) (stand : Stand) (place : ℕ) (ds : List Raw.Datagram) → place < 16 → IsPlan boot lens s.plan → KnownAs u boot lens s.plan stand s.node → ComesAs s.plan stand place place ds →
@@ -77,26 +84,27 @@ module _ {S : Type 0} (u : Running S) (boot : Bool) (lens : ℕ → Lens) where
       (all_else_behind place behind r ds (omega arith) comes.0, subst (λ l. AllSpoken p.station l) (sym (other_view p.station r ds apart)) comes.1)
   comes_on p Stand.Gone n place behind r ds plan k near before apart comes = Way.others_behind p place behind r ds (omega arith) comes
 
-  all_on : (place behind : ℕ) (ss : List (Seat S)) (q : Plan) (r : Esc.Registers) (ds : List Raw.Datagram) → behind < place → place + length ss < 17 → IsElsewhere q ss → AllSeats u boot lens ss →
+module _ {S : Type 0} (lens : ℕ → Lens) where
+  all_on : (place behind : ℕ) (ss : List (Seat S)) (q : Plan) (r : Esc.Registers) (ds : List Raw.Datagram) → behind < place → place + length ss < 17 → IsElsewhere q ss → AllSeats lens ss →
       ((station : ℕ) → (0 == station) ≡ false → (q.station == station) ≡ false → IsApart station r ds) → AllCome place behind ss ds → AllCome place (suc behind) ss (datagrams_after r ds)
   all_on place behind [] q r ds before near other seats apart come = tt
   all_on place behind (s ∷ ss) q r ds before near other seats apart come = (
-    comes_on s.plan s.stand s.node place behind r ds seats.0.plan seats.0.known (omega arith) before (apart s.plan.station seats.0.named other.0) come.0,
+    comes_on s.services s.boot lens s.plan s.stand s.node place behind r ds seats.0.plan_is seats.0.known (omega arith) before (apart s.plan.station seats.0.named other.0) come.0,
     all_on (suc place) behind ss q r ds (omega arith) (omega arith) other.1 seats.1 apart come.1,
   )
 
   -- TO EACH
-  pub all_meet : (place : ℕ) (ss : List (Seat S)) (ds : List Raw.Datagram) → place + length ss < 17 → AreDistinct ss → AllSeats u boot lens ss → AllCome place place ss ds → AllMeet ss ds
+  pub all_meet : (place : ℕ) (ss : List (Seat S)) (ds : List Raw.Datagram) → place + length ss < 17 → AreDistinct ss → AllSeats lens ss → AllCome place place ss ds → AllMeet ss ds
   all_meet place [] ds near distinct seats come = tt
   all_meet place (s ∷ ss) ds near distinct seats come =
-      let one = meets_one s s.stand place ds (omega arith) seats.0.plan seats.0.known come.0 in (
+      let one = meets_one s.services s.boot lens s s.stand place ds (omega arith) seats.0.plan_is seats.0.known come.0 in (
         record { meets = one.0; apart = one.1 },
         all_meet (suc place) ss (datagrams_after s.node.registers ds) (omega arith) distinct.1 seats.1 (all_on (suc place) place ss s.plan s.node.registers ds (omega arith) (omega arith) distinct.0 seats.1 one.1 come.1),
       )
 
 module _ {S : Type 0} where
-  pub all_meet_first : (u : Running S) (boot : Bool) (lens : ℕ → Lens) (ss : List (Seat S)) (ds : List Raw.Datagram) → length ss < 17 → AreDistinct ss → AllSeats u boot lens ss → AllCome 0 0 ss ds → AllMeet ss ds
-  all_meet_first u boot lens ss ds few distinct seats come = all_meet u boot lens 0 ss ds (omega arith) distinct seats come
+  pub all_meet_first : (lens : ℕ → Lens) (ss : List (Seat S)) (ds : List Raw.Datagram) → length ss < 17 → AreDistinct ss → AllSeats lens ss → AllCome 0 0 ss ds → AllMeet ss ds
+  all_meet_first lens ss ds few distinct seats come = all_meet lens 0 ss ds (omega arith) distinct seats come
 
 -- a slave's own datagrams come past those that are apart
 own_comes : (station : ℕ) (rs : List Esc.Registers) (ds : List Raw.Datagram) → AllApart station rs ds → own_of station (all_after rs ds) ≡ own_of station ds

@@ -124,7 +124,7 @@ moved_adp p n j h at few command adp = (λ i. (moved_on (record h { command = co
     go IsTurn.word = refl
     go IsTurn.status = refl
 
-moved_counter : (h : Head) → (moved_on h).counter ≡ h.counter
+pub moved_counter : (h : Head) → (moved_on h).counter ≡ h.counter
 moved_counter h = go (is_by_place h.command)
   where
     go : (b : Bool) → (if b then record h { adp = (h.adp + 1) % 65536 } else h).counter ≡ h.counter

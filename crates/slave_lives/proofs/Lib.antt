@@ -23,4 +23,5 @@ pub mod ClosedFrames
 pub mod Backs
 pub mod EraEnds
 pub mod Quiets
+pub mod Servers
 mod Worked

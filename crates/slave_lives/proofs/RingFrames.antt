@@ -25,10 +25,10 @@ after_keeps r (d ∷ ds) = keeps_both r (passed r d).registers (registers_after 
 
 module _ {S : Type 0} where
   -- octets that are a frame, at one slave
-  node_is : (n : Node S) (octets : List ℕ) (ds : List Raw.Datagram) → IsFrame octets ds → (node_passed n octets).0 ≡ record n { registers = registers_after n.registers ds }
+  pub node_is : (n : Node S) (octets : List ℕ) (ds : List Raw.Datagram) → IsFrame octets ds → (node_passed n octets).0 ≡ record n { registers = registers_after n.registers ds }
   node_is n octets ds f = ap (λ (r : Esc.Registers). record n { registers = r }) (Octets.passes n.registers octets ds f).registers
 
-  node_frame : (n : Node S) (octets : List ℕ) (ds : List Raw.Datagram) → IsFrame octets ds → IsFrame (node_passed n octets).1 (datagrams_after n.registers ds)
+  pub node_frame : (n : Node S) (octets : List ℕ) (ds : List Raw.Datagram) → IsFrame octets ds → IsFrame (node_passed n octets).1 (datagrams_after n.registers ds)
   node_frame n octets ds f = (Octets.passes n.registers octets ds f).frame
 
   -- the slave at a place of those that the frame comes by

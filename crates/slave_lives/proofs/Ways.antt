@@ -96,14 +96,14 @@ moves_on p n place behind d IsTurn.in_on few near w = record { command = refl; a
 moves_on p n place behind d IsTurn.word few near w = record { command = refl; adp = w.adp; ado = w.ado; octets = w.octets }
 moves_on p n place behind d IsTurn.status few near w = record { command = refl; adp = w.adp; ado = w.ado; octets = w.octets }
 
-way_behind : (p : Plan) (n place behind : ℕ) (q : Esc.Registers) (d : Raw.Datagram) → IsTurn n → place < 16 → behind < 16 → IsOnWay p n place behind d → means q.station d.head ≡ false → IsOnWay p n place (suc behind) (datagram_after q d)
+pub way_behind : (p : Plan) (n place behind : ℕ) (q : Esc.Registers) (d : Raw.Datagram) → IsTurn n → place < 16 → behind < 16 → IsOnWay p n place behind d → means q.station d.head ≡ false → IsOnWay p n place (suc behind) (datagram_after q d)
 way_behind p n place behind q d at few near w not_ =
     let same : d ≡ aimed d (aim p n).command d.head.adp d.head.ado = λ i. record d { head = record d.head { command = w.command i } } in
     let on = moves_on p n place behind d at few near (subst (IsOnWay p n place behind) same w) in
     subst (IsOnWay p n place (suc behind)) (sym (moved q d not_ ∙ (λ i. record d { head = moved_on (record d.head { command = w.command i }) }))) on
 
 -- it doesn't mean a slave at another place, with another station
-not_its : (p : Plan) (n place behind : ℕ) (q : Esc.Registers) (d : Raw.Datagram) → IsTurn n → place < 16 → behind < 16 → (place == behind) ≡ false → (is_to p.station d ≡ true → means q.station d.head ≡ false) → IsOnWay p n place behind d →
+pub not_its : (p : Plan) (n place behind : ℕ) (q : Esc.Registers) (d : Raw.Datagram) → IsTurn n → place < 16 → behind < 16 → (place == behind) ≡ false → (is_to p.station d ≡ true → means q.station d.head ≡ false) → IsOnWay p n place behind d →
     means q.station d.head ≡ false
 not_its p n place behind q d at few near other apart w = go at (λ i. means q.station (record d.head { command = w.command i })) (λ i. is_by_station (w.command i) && d.head.adp == p.station) w.adp
   where

@@ -15,8 +15,11 @@ use Rattle.slave_lives.specs.Stands.{turn_of, IsClosed, OpenUp}
 use Rattle.slave_lives.specs.Steps.{Running}
 use Rattle.slave_lives.specs.Ways.{OneOnWay, AllNotFor}
 
--- a slave of the ring: its plan with the state that is opened, how the master stands to it, and its node
+-- a slave of the ring: its services as they run, whether it has Bootstrap, its plan with the state that is opened, how the master stands to it,
+-- and its node
 pub record Seat (S : Type 0) : Type 0 where
+  pub services : Running S
+  pub boot : Bool
   pub plan : Plan
   pub stand : Stand
   pub node : Node S
@@ -47,14 +50,14 @@ MeetsAs p Stand.Open r ds = IsAlone r.station r ds × AllSpoken r.station (own_o
 MeetsAs p Stand.Gone r ds = NoneMeant r ds
 
 -- each slave from a place on is known, has a plan with a station of its own, and the frame is the master's for it
-pub record SeatIs {S : Type 0} (u : Running S) (boot : Bool) (lens : ℕ → Lens) (s : Seat S) : Type 0 where
-  pub plan : IsPlan boot lens s.plan
+pub record SeatIs {S : Type 0} (lens : ℕ → Lens) (s : Seat S) : Type 0 where
+  pub plan_is : IsPlan s.boot lens s.plan
   pub named : (0 == s.plan.station) ≡ false
-  pub known : KnownAs u boot lens s.plan s.stand s.node
+  pub known : KnownAs s.services s.boot lens s.plan s.stand s.node
 
-abbrev pub AllSeats : {S : Type 0} → Running S → Bool → (ℕ → Lens) → List (Seat S) → Type 0
-AllSeats u boot lens [] = ⊤
-AllSeats u boot lens (s ∷ ss) = SeatIs u boot lens s × AllSeats u boot lens ss
+abbrev pub AllSeats : {S : Type 0} → (ℕ → Lens) → List (Seat S) → Type 0
+AllSeats lens [] = ⊤
+AllSeats lens (s ∷ ss) = SeatIs lens s × AllSeats lens ss
 
 -- no station twice
 abbrev pub IsElsewhere : {S : Type 0} → Plan → List (Seat S) → Type 0

@@ -88,10 +88,10 @@ pub fn closed_frame_law<S, M, Q, R>()
         ClosedFrame u boot lens p o t → l.stand ≡ Stand.Opens o → AccessBack lens p o t d done found → ClosedAs u boot lens p (opening_back frame l o done found).stand (node_behind u t) }
 {}
 
-/// ONE FRAME OF THE MASTER AND ALL SLAVES OF A RING: sent so that it has for each what its stand allows, it comes to each so, past the others,
-/// which it leaves alone: to an open slave as a frame that is for it alone, and to a closed one with at most its access.
+/// ONE FRAME OF THE MASTER AND ALL SLAVES OF A RING, each with its own services: sent so that it has for each what its stand allows, it comes to
+/// each so, past the others, which it leaves alone: to an open slave as a frame that is for it alone, and to a closed one with at most its access.
 pub fn seats_law<S>()
-    ensures meets { (u : Running S) (boot : Bool) (lens : ℕ → Lens) (ss : List (Seat S)) (ds : List Raw.Datagram) → length ss < 17 → AreDistinct ss → AllSeats u boot lens ss → AllCome 0 0 ss ds → AllMeet ss ds }
+    ensures meets { (lens : ℕ → Lens) (ss : List (Seat S)) (ds : List Raw.Datagram) → length ss < 17 → AreDistinct ss → AllSeats lens ss → AllCome 0 0 ss ds → AllMeet ss ds }
     ensures each { (before : List (Seat S)) (s : Seat S) (behind : List (Seat S)) (ds : List Raw.Datagram) → AllMeet (before ++ s ∷ behind) ds → MeetsOne s (come_to (nodes_of before) ds) }
     ensures opens { (before : List (Seat S)) (s : Seat S) (behind : List (Seat S)) (ds : List Raw.Datagram) → s.stand ≡ Stand.Open → s.node.registers.station ≡ s.plan.station → (0 == s.plan.station) ≡ false →
         AreDistinct (before ++ s ∷ behind) → AllMeet (before ++ s ∷ behind) ds → IsForOpen (nodes_of before) s.node (nodes_of behind) ds }

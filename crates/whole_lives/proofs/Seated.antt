@@ -22,7 +22,7 @@ use Rattle.slave_lives.specs.Stands.{OpenUp}
 use Rattle.slave_lives.proofs.AllSeats as All
 use Rattle.slave_lives.proofs.Arrives as Arrived
 use Rattle.slave_lives.proofs.Words.{state_in}
-use Rattle.whole_lives.specs.Turns.{FrameComes, plan_at}
+use Rattle.whole_lives.specs.Turns.{FrameComes, plan_at, seat_at}
 use Rattle.whole_lives.specs.Whole.{IsWhole, LivesStill, OpensAs, StandsAs, plan_to}
 
 module _ {S V A Q R : Type 0} (w : Behind S V A Q R) (c : Clearing V A) (p : Plan) (spot : Spot) (whole : IsWhole w c p spot) where
@@ -45,17 +45,17 @@ module _ {S V A Q R : Type 0} (w : Behind S V A Q R) (c : Clearing V A) (p : Pla
   known from e fs Stand.Gone n (OpensAs.anew cl x) = Arrived.called_is w.running w.boot w.lens (plan_to p spot.start) cl.plan _ n cl.closed
   known from e fs Stand.Gone n (OpensAs.over cl again early x) = Arrived.called_is w.running w.boot w.lens (plan_to p spot.start) cl.plan _ n cl.closed
 
-plan_station : (p : Plan) (stand : Stand) → (plan_at p stand).station ≡ p.station
+pub plan_station : (p : Plan) (stand : Stand) → (plan_at p stand).station ≡ p.station
 plan_station p (Stand.Opens o) = refl
 plan_station p Stand.Open = refl
 plan_station p Stand.Gone = refl
 
 -- the frame comes to it past the others
 pub comes : {S V A Q R : Type 0} (w : Behind S V A Q R) (p : Plan) (spot : Spot) (stand : Stand) (t : RingFrame S) (before behind : List (Seat S)) → t.before ≡ nodes_of before → t.behind ≡ nodes_of behind → length t.before ≡ spot.place → (0 == p.station) ≡ false →
-    AreDistinct (before ++ record { plan = plan_at p stand; stand = stand; node = t.node } ∷ behind) → AllMeet (before ++ record { plan = plan_at p stand; stand = stand; node = t.node } ∷ behind) t.datagrams →
+    AreDistinct (before ++ seat_at w p stand t.node ∷ behind) → AllMeet (before ++ seat_at w p stand t.node ∷ behind) t.datagrams →
     ComesAs (plan_at p stand) stand spot.place 0 t.datagrams → (is_in_pace t.pace t.ring.number ≡ true → IsRoomy w.running (in_len (node_met t).registers) (node_met t).server) → FrameComes w p spot stand t
 comes {S = S} w p spot stand t before behind first last at named distinct meet sent roomy =
-    let s : Seat S = record { plan = plan_at p stand; stand = stand; node = t.node } in
+    let s : Seat S = seat_at w p stand t.node in
     let one = (All.meets_at before s behind t.datagrams meet).meets in
     let both = All.aparts before s behind t.datagrams (ap (λ (a : ℕ). 0 == a) (plan_station p stand) ∙ named) distinct meet in
     let mine : MeetsAs (plan_at p stand) stand t.node.registers (come_to t.before t.datagrams) = subst (λ (bs : List (Node S)). MeetsAs (plan_at p stand) stand t.node.registers (come_to bs t.datagrams)) (sym first) one in

@@ -237,7 +237,7 @@ module _ {S V A Q R : Type 0} (w : Behind S V A Q R) (c : Clearing V A) (p : Pla
             IsLived w c p spot first (if a then (if y then clears (length fs) l o else l) else if b then (if z then opens (length fs) l else l) else steps_on l o) (fs ++ frame_of w.lens t ∷ []) (node_behind w.running t)
         go true b true z shut = waits_clear cl.plan (same_behind cl) x shut
         go true b false z shut = stays_so (shut_stays from l.era (OpensAs.anew cl x))
-        go false true y true shut = opens_so cl.plan (same_behind cl) x k.ready shut
+        go false true y true shut = opens_so cl.plan (same_behind cl) x (k.ready shut.returned.cleared) shut
         go false true y false shut = stays_so (shut_stays from l.era (OpensAs.anew cl x))
         go false false y z shut =
             steps_so (OpensAs.anew (record { plan = cl.plan; state = refl; closed = shut }) (waits_stay w spot from l.era t.node.server (node_behind w.running t).server (same_behind cl) x))

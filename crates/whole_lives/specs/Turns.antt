@@ -15,8 +15,9 @@ use Rattle.life_model.specs.Lives.{Spot, Era, Opening, Stand, Life, AsksOpen, er
 use Rattle.slave_lives.specs.Lived.{Behind, RingFrame, is_reached, node_met, node_behind, frame_of, AccessBack}
 use Rattle.slave_lives.specs.Nodes.{IsRoomy}
 use Rattle.slave_lives.specs.Opening.{Plan}
+use Rattle.slave_steps.specs.Node.{Node}
 use Rattle.slave_lives.specs.Rings.{registers_of, come_to}
-use Rattle.slave_lives.specs.Seats.{ComesAs, MeetsAs}
+use Rattle.slave_lives.specs.Seats.{Seat, ComesAs, MeetsAs}
 use Rattle.whole_lives.specs.Whole.{plan_to}
 
 -- the plan of the opening in hand
@@ -24,6 +25,10 @@ abbrev pub plan_at : Plan → Stand → Plan
 plan_at p (Stand.Opens o) = plan_to p o.state
 plan_at p Stand.Open = p
 plan_at p Stand.Gone = p
+
+-- the slave among those of its ring
+abbrev pub seat_at : {S V A Q R : Type 0} → Behind S V A Q R → Plan → Stand → Node S → Seat S
+seat_at w p stand n = record { services = w.running; boot = w.boot; plan = plan_at p stand; stand = stand; node = n }
 
 -- THE MASTER'S FRAME comes to the slave's place with what its stand allows; where it comes so far, it comes so to the slave, past others that are
 -- apart from its station; and before a step there is room for the mail that the slave offers
@@ -55,11 +60,11 @@ module _ {S V A Q R : Type 0} (w : Behind S V A Q R) (more : Body → Bool) (pas
     pub asks : AsksOpen spot.station (era_before e) (seen w.lens t.octets)
     pub boots : (duty : Duty) → (era_behind (frame_of w.lens t).fate e).account.hand ≡ Some duty → duty.target ≡ 3 → w.boot ≡ true
 
--- of one that is opened the access came back so, and where that opens the slave, its server may be served
+-- of one that is opened the access came back so; and the slave's server, where it is a cleared one, may be served
 pub record Came {S V A Q R : Type 0} (w : Behind S V A Q R) (p : Plan) (o : Opening) (t : RingFrame S) (came : Bool × Option Found) : Type 0 where
   pub access : Raw.Datagram
   pub back : AccessBack w.lens (plan_to p o.state) o t access came.0 came.1
-  pub ready : w.exchange.ready (w.sees o.state (node_behind w.running t).server).server ≡ true
+  pub ready : (let s = (node_behind w.running t).server in w.running.clear s ≡ s → w.exchange.ready (w.sees o.state s).server ≡ true)
 
 abbrev pub CameAs : {S V A Q R : Type 0} → Behind S V A Q R → Plan → Opening → RingFrame S → Option (Bool × Option Found) → Type 0
 CameAs w p o t None = ⊤

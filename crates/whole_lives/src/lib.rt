@@ -16,7 +16,7 @@ ghost use Rattle.slave_lives.specs.Nodes.{IsRoomy};
 ghost use Rattle.slave_lives.specs.Seats.{Seat, KnownAs, ComesAs, AreDistinct, AllMeet, nodes_of};
 ghost use Rattle.slave_lives.specs.Opening.{Plan};
 ghost use Rattle.whole_lives.specs.Whole.{IsWhole, IsLived};
-ghost use Rattle.whole_lives.specs.Turns.{FrameComes, TurnsAs, life_by, plan_at};
+ghost use Rattle.whole_lives.specs.Turns.{FrameComes, TurnsAs, life_by, plan_at, seat_at};
 ghost use Rattle.whole_lives.specs.Promises.{IsPromised};
 
 /// A LIFE IS LIVED BY ITS NODE from the moment the slave is switched on; by each frame that the ring exchanges, met by the slave, lost before it or
@@ -46,6 +46,6 @@ pub fn seated_law<S, V, A, Q, R>()
     ensures known { (w : Behind S V A Q R) (c : Clearing V A) (p : Plan) (spot : Spot) (first : A) (l : Life Body Q R) (fs : List (Frame Body)) (n : Node S) → IsWhole w c p spot → IsLived w c p spot first l fs n →
         KnownAs w.running w.boot w.lens (plan_at p l.stand) l.stand n }
     ensures comes { (w : Behind S V A Q R) (p : Plan) (spot : Spot) (stand : Stand) (t : RingFrame S) (before behind : List (Seat S)) → t.before ≡ nodes_of before → t.behind ≡ nodes_of behind → length t.before ≡ spot.place → (0 == p.station) ≡ false →
-        AreDistinct (before ++ record { plan = plan_at p stand; stand = stand; node = t.node } ∷ behind) → AllMeet (before ++ record { plan = plan_at p stand; stand = stand; node = t.node } ∷ behind) t.datagrams →
+        AreDistinct (before ++ seat_at w p stand t.node ∷ behind) → AllMeet (before ++ seat_at w p stand t.node ∷ behind) t.datagrams →
         ComesAs (plan_at p stand) stand spot.place 0 t.datagrams → (is_in_pace t.pace t.ring.number ≡ true → IsRoomy w.running (in_len (node_met t).registers) (node_met t).server) → FrameComes w p spot stand t }
 {}
