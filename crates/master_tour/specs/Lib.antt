@@ -2,3 +2,4 @@ pub mod Under
 pub mod Walks
 pub mod Cursor
 pub mod Stands
+pub mod Made

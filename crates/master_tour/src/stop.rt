@@ -119,9 +119,12 @@ impl<H: Hand> Stop<H> {
     ghost use Rattle.task_model.specs.Accounts.{Account, duty_access, account_back};
     ghost use Rattle.frame_view.specs.View.{Lens, datagram_seen};
     ghost use Rattle.frame_view.specs.Seen.{seen};
-    ghost use Rattle.mailbox_master.specs.Any.{in_area_len};
+    ghost use Rattle.mailbox_master.specs.Any.{in_half_of, in_area_len};
+    ghost use Rattle.link_model.specs.Master.{InState};
     ghost use Rattle.master_duty.specs.Reply.{Reply};
+    ghost use Rattle.master_side.specs.declared.carried.Carried.{Carried};
     ghost use Rattle.master_side.specs.Carried.{Meant};
+    ghost use Rattle.master_tour.specs.Made.{IsClearFor};
     ghost use Rattle.master_side.specs.Sent.{IsSent, SameLink, visit_gram};
     ghost use Rattle.master_side.specs.Shown.{SideShows, Holds, Picked};
     ghost use Rattle.datagrams.specs.Frame.{datagram_of};
@@ -370,6 +373,7 @@ impl<H: Hand> Stop<H> {
         ensures kept { (self.new.place ≡ self.old.place) × (self.new.start ≡ self.old.start) × (self.new.spare ≡ self.old.spare) × (self.new.under ≡ self.old.under) × (self.new.at ≡ self.old.at) }
         ensures link { SameLink self.old.side.out self.old.side.inn self.old.side.station self.old.side.area self.new.side.out self.new.side.inn self.new.side.station self.new.side.area }
         ensures stand { self.new.stand ≡ self.old.stand }
+        ensures passing { self.new.side.passing ≡ self.old.side.passing }
     {
         match self.stand {
             Stand::Gone => 0,
@@ -404,6 +408,7 @@ impl<H: Hand> Stop<H> {
         ensures stand { self.new.stand ≡ self.old.stand }
         ensures kept { (self.new.place ≡ self.old.place) × (self.new.start ≡ self.old.start) × (self.new.spare ≡ self.old.spare) × (self.new.news ≡ self.old.news) }
         ensures at { self.new.at ≡ at }
+        ensures order { self.new.under ≡ true → self.new.side.carried ≡ Carried.Full → (in_half_of self.new.side.inn).state ≡ InState.Clear }
     {
         let began = self.side.choose(wish);
         let placed = self.side.add_datagram(index, frame);
@@ -446,6 +451,8 @@ impl<H: Hand> Stop<H> {
         ensures stand { self.new.stand ≡ self.old.stand }
         ensures kept { (self.new.place ≡ self.old.place) × (self.new.start ≡ self.old.start) × (self.new.spare ≡ self.old.spare) × (self.new.news ≡ self.old.news) }
         ensures station { self.new.side.station ≡ self.old.side.station }
+        ensures link { SameLink self.old.side.out self.old.side.inn self.old.side.station self.old.side.area self.new.side.out self.new.side.inn self.new.side.station self.new.side.area }
+        ensures order { self.new.under ≡ true → IsClearFor self.new.stand self.new.side.carried self.new.side.inn }
     {
         self.under = false;
         match self.stand {

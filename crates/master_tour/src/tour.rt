@@ -48,7 +48,10 @@ impl<H: Hand> Tour<H> {
     ghost use Rattle.master_tour.specs.Stands.{StopShows, FollowShows, IsSpot, StandUnder, came_at, given_where, stand_gram, StandMeant, NextShows, HoldShows};
     ghost use Rattle.frame_view.specs.View.{datagram_seen};
     ghost use Rattle.mailbox_master.specs.Any.{in_area_len};
-    ghost use Rattle.std.specs.Prelude.{is_some, true, ◌++◌};
+    ghost use Rattle.std.specs.Prelude.{is_some, true, ◌++◌, ◌+◌, ◌==◌};
+    ghost use Rattle.life_frames.specs.Shares.{Lived, AllBoth, AreDistinct};
+    ghost use Rattle.master_side.specs.Sent.{SameLink};
+    ghost use Rattle.master_tour.specs.Made.{StopLives, StopMade, StopSent, FrameMade, FrameSent, IsClearFor, is_in};
     ghost use Rattle.life_model.specs.Lives.{Life, Spot, life_back, life_lost};
     ghost use Rattle.segment_model.specs.Record.{News};
     ghost use Rattle.std.specs.Prelude.{Bool, false, not, nat_lt, ◌&&◌};
@@ -90,10 +93,20 @@ impl<H: Hand> Tour<H> {
 
     // No slave has a datagram in the frame that is made.
     fn rewind(&mut self)
-        ensures { length self.new.stops.items ≡ length self.old.stops.items }
+        ensures long { length self.new.stops.items ≡ length self.old.stops.items }
+        ensures each { EachPair (λ s t. (t.side ≡ s.side) × (t.stand ≡ s.stand) × (t.place ≡ s.place) × (t.start ≡ s.start) × (t.spare ≡ s.spare) × (t.under ≡ false)) self.old.stops.items self.new.stops.items }
     {
         for i in 0..self.stops.len() {
             self.stops[i].under = false;
+        }
+    }
+
+    // The slaves of the last frame are forgotten, unless they come again.
+    fn forget(&mut self)
+        ensures { self.new.stops ≡ self.old.stops }
+    {
+        if !self.again {
+            self.visit.clear();
         }
     }
 
@@ -101,12 +114,14 @@ impl<H: Hand> Tour<H> {
     pub fn begin(&mut self, frame: &mut FrameBuf)
         ensures begun { IsBegun frame.new.items [] }
         ensures long { length self.new.stops.items ≡ length self.old.stops.items }
+        ensures count { self.new.count ≡ 0 }
+        ensures made { (x : Speech Body H.Asked Reply) (more : Body → Bool) (passed : H.Asked → Bool) (made recover index : ℕ) (lens : ℕ → Lens) (left : List ℕ) (lives : List (Lived H.Asked Reply)) →
+            AllBoth (λ a s. StopLives lens recover (λ d b. SideShows (H.shows s.side.hand x) s.side.out s.side.inn s.side.fresh s.side.duty d b) s.side.station s.place s.start s.stand s.spare s.side.out.len (in_area_len s.side.inn) a × (is_some a.life.era.passing ≡ is_some s.side.passing)) lives self.old.stops.items →
+            FrameMade (λ ds i a s. StopMade x H.acknowledged more passed made lens recover index (λ d b. SideShows (H.shows s.side.hand x) s.side.out s.side.inn s.side.fresh s.side.duty d b) s.side.station s.place s.start s.stand s.spare s.side.out s.side.inn s.side.duty s.side.carried s.side.passing s.under s.at left ds i a) frame.new.items 0 lives self.new.stops.items }
     {
         self.rewind();
         datagrams::begin(frame);
-        if !self.again {
-            self.visit.clear();
-        }
+        self.forget();
         self.count = 0;
         self.passed = 0;
     }
@@ -172,6 +187,7 @@ impl<H: Hand> Tour<H> {
         ensures inside { IfSome result (λ p. p < length self.new.stops.items) }
         ensures few { IfSome result (λ p. self.new.count < 16) }
         ensures stops { self.new.stops ≡ self.old.stops }
+        ensures count { self.new.count ≡ self.old.count }
     {
         if self.count >= 16 {
             return None;
@@ -186,6 +202,10 @@ impl<H: Hand> Tour<H> {
         ensures lives { StepsAt (λ s t. ((x : Speech Body H.Asked Reply) (more : Body → Bool) (passed : H.Asked → Bool) (made recover : ℕ) (spot : Spot) (l : Life Body H.Asked Reply) → StopShows (λ d a. SideShows (H.shows s.side.hand x) s.side.out s.side.inn s.side.fresh s.side.duty d a) recover spot s.stand s.spare l →
             HoldShows x H.acknowledged more passed made l (StopShows (λ d a. SideShows (H.shows t.side.hand x) t.side.out t.side.inn t.side.fresh t.side.duty d a) recover spot t.stand t.spare)) × (t.place ≡ s.place) × (t.start ≡ s.start) × (t.under ≡ s.under) × (t.at ≡ s.at)) place self.old.stops.items self.new.stops.items }
         ensures long { length self.new.stops.items ≡ length self.old.stops.items }
+        ensures step { StepsAt (λ s t. SameLink s.side.out s.side.inn s.side.station s.side.area t.side.out t.side.inn t.side.station t.side.area × (t.stand ≡ s.stand) × (t.side.passing ≡ s.side.passing)) place self.old.stops.items self.new.stops.items }
+        ensures made { (x : Speech Body H.Asked Reply) (more : Body → Bool) (passed : H.Asked → Bool) (made recover index count : ℕ) (lens : ℕ → Lens) (left : List ℕ) (lives : List (Lived H.Asked Reply)) (octets : List ℕ) → AreDistinct lives → is_in place left ≡ true →
+            FrameMade (λ ds i a s. StopMade x H.acknowledged more passed made lens recover index (λ d b. SideShows (H.shows s.side.hand x) s.side.out s.side.inn s.side.fresh s.side.duty d b) s.side.station s.place s.start s.stand s.spare s.side.out s.side.inn s.side.duty s.side.carried s.side.passing s.under s.at left ds i a) octets count lives self.old.stops.items →
+            FrameMade (λ ds i a s. StopMade x H.acknowledged more passed made lens recover index (λ d b. SideShows (H.shows s.side.hand x) s.side.out s.side.inn s.side.fresh s.side.duty d b) s.side.station s.place s.start s.stand s.spare s.side.out s.side.inn s.side.duty s.side.carried s.side.passing s.under s.at left ds i a) octets count lives self.new.stops.items }
     {
         self.stops[place].ahead(wish) <= datagrams::room(frame)
     }
@@ -208,6 +228,10 @@ impl<H: Hand> Tour<H> {
             NextShows x H.acknowledged more passed made l (λ n. StopShows (λ d a. SideShows (H.shows t.side.hand x) t.side.out t.side.inn t.side.fresh t.side.duty d a) recover spot t.stand t.spare n ×
             (t.under ≡ true → StandMeant lens t.side.station index t.side.carried t.stand n (datagram_seen lens (stand_gram t.side.station index t.stand t.side.out t.side.inn t.side.duty t.side.carried))))) × ((ds : List Raw.Datagram) → IsBegun frame.old.items ds → t.under ≡ true → IsBegun frame.new.items (ds ++ (stand_gram t.side.station index t.stand t.side.out t.side.inn t.side.duty t.side.carried) ∷ [])) × (t.under ≡ false → frame.new.items ≡ frame.old.items) × (t.under ≡ true → t.at ≡ self.old.count) × (t.place ≡ s.place) × (t.start ≡ s.start)) place self.old.stops.items self.new.stops.items }
         ensures long { length self.new.stops.items ≡ length self.old.stops.items }
+        ensures step { StepsAt (λ s t. SameLink s.side.out s.side.inn s.side.station s.side.area t.side.out t.side.inn t.side.station t.side.area × (t.stand ≡ s.stand) × (t.under ≡ true → IsClearFor t.stand t.side.carried t.side.inn) × (t.under ≡ true → self.new.count ≡ self.old.count + 1) × (t.under ≡ false → self.new.count ≡ self.old.count)) place self.old.stops.items self.new.stops.items }
+        ensures made { (x : Speech Body H.Asked Reply) (more : Body → Bool) (passed : H.Asked → Bool) (made recover : ℕ) (lens : ℕ → Lens) (left next : List ℕ) (lives : List (Lived H.Asked Reply)) → AreDistinct lives → is_in place left ≡ true → is_in place next ≡ false → ((k : ℕ) → is_in k next ≡ true → is_in k left ≡ true) →
+            FrameMade (λ ds i a s. StopMade x H.acknowledged more passed made lens recover index (λ d b. SideShows (H.shows s.side.hand x) s.side.out s.side.inn s.side.fresh s.side.duty d b) s.side.station s.place s.start s.stand s.spare s.side.out s.side.inn s.side.duty s.side.carried s.side.passing s.under s.at left ds i a) frame.old.items self.old.count lives self.old.stops.items →
+            FrameMade (λ ds i a s. StopMade x H.acknowledged more passed made lens recover index (λ d b. SideShows (H.shows s.side.hand x) s.side.out s.side.inn s.side.fresh s.side.duty d b) s.side.station s.place s.start s.stand s.spare s.side.out s.side.inn s.side.duty s.side.carried s.side.passing s.under s.at next ds i a) frame.new.items self.new.count lives self.new.stops.items }
     {
         let at = self.count;
         let began = self.stops[place].visit(wish, at, index, frame);
@@ -220,6 +244,8 @@ impl<H: Hand> Tour<H> {
     fn carry_where(&mut self, under: bool, place: usize)
         requires few { self.old.count < 16 }
         ensures stops { self.new.stops ≡ self.old.stops }
+        ensures carried { under ≡ true → self.new.count ≡ self.old.count + 1 }
+        ensures still { under ≡ false → self.new.count ≡ self.old.count }
     {
         if under {
             self.carry(place);
@@ -230,6 +256,7 @@ impl<H: Hand> Tour<H> {
     fn carry(&mut self, place: usize)
         requires few { self.old.count < 16 }
         ensures stops { self.new.stops ≡ self.old.stops }
+        ensures count { self.new.count ≡ self.old.count + 1 }
     {
         if !self.again {
             let _room = self.visit.try_push(place);
@@ -240,6 +267,10 @@ impl<H: Hand> Tour<H> {
     /// Ends the frame: `false` where it has no datagram, since no slave is live.
     pub fn finish(&self, frame: &mut FrameBuf) -> bool
         requires { (ds : List Raw.Datagram) × IsBegun frame.old.items ds }
+        ensures some { result ≡ not (self.now.count == 0) }
+        ensures made { result ≡ true → (x : Speech Body H.Asked Reply) (more : Body → Bool) (passed : H.Asked → Bool) (made recover index : ℕ) (lens : ℕ → Lens) (left : List ℕ) (lives : List (Lived H.Asked Reply)) →
+            FrameMade (λ ds i a s. StopMade x H.acknowledged more passed made lens recover index (λ d b. SideShows (H.shows s.side.hand x) s.side.out s.side.inn s.side.fresh s.side.duty d b) s.side.station s.place s.start s.stand s.spare s.side.out s.side.inn s.side.duty s.side.carried s.side.passing s.under s.at left ds i a) frame.old.items self.now.count lives self.now.stops.items →
+            FrameSent (λ ds a b s. StopSent x H.acknowledged more passed made lens recover (λ d k. SideShows (H.shows s.side.hand x) s.side.out s.side.inn s.side.fresh s.side.duty d k) s.side.station s.place s.start s.stand s.spare s.side.out.len (in_area_len s.side.inn) s.side.carried s.under s.at ds a b) frame.new.items lives self.now.stops.items }
     {
         if self.count == 0 {
             return false;
