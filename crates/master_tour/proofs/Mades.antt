@@ -23,10 +23,11 @@ use Rattle.master_side.specs.declared.passing.Passing as Side
 use Rattle.life_model.specs.Lives
 use Rattle.life_model.specs.Lives.{Life, Era, Spot, life_next, era_next, passing_begins}
 use Rattle.life_frames.specs.Frames.{AllNotFor, IsNotFor, HasOne, GramFor, AreApart}
-use Rattle.life_frames.specs.Shares.{Lived, AllBoth, AllFrom}
+use Rattle.life_frames.specs.Shares.{Lived, AllBoth, AllFrom, AllThree}
 use Rattle.master_tour.specs.Walks.{EachPair}
 use Rattle.life_frames.proofs.Frames.{none_more, one_more, one_new}
 use Rattle.life_frames.proofs.Twice.{twice, stays, still_stands, holds, BothOf}
+use Rattle.al_state.specs.declared.bringing.BringUp.{BringUp}
 use Rattle.master_tour.specs.declared.stop.Stand.{Stand}
 use Rattle.master_tour.specs.Stands.{StopShows, StandMeant, NextShows, HoldShows, stand_gram}
 use Rattle.master_tour.specs.Made.{IsPlanned, IsSized, StopLives, StopHas, IsClearFor, StopMade, is_in}
@@ -250,3 +251,26 @@ grown_none lens P spot octets count ds b l p = record {
   long = ap length (nothing_more ds) ∙ l;
   goes = subst P (sym (nothing_more ds)) p;
 }
+
+-- a slave behind a frame is planned as before
+pub planned_as : (lens : ℕ → Lens) (spot : Spot) (station station' place place' start start' : ℕ) (stand stand' : Stand) (out out' back back' : ℕ) → station' ≡ station → place' ≡ place → start' ≡ start → out' ≡ out → back' ≡ back → (IsSized stand out back → IsSized stand' out' back') →
+    IsPlanned lens spot station place start stand out back → IsPlanned lens spot station' place' start' stand' out' back'
+planned_as lens spot station station' place place' start start' stand stand' out out' back back' a b c e f h p = record {
+  stands = record { station_is = a ∙ p.stands.station_is; place_is = b ∙ p.stands.place_is; start_is = c ∙ p.stands.start_is; small = subst (λ z. nat_lt z 16 ≡ true) (sym c) p.stands.small };
+  out_is = ap (λ z. (lens z).out) a ∙ p.out_is ∙ sym e;
+  back_is = ap (λ z. (lens z).back) a ∙ p.back_is ∙ sym f;
+  sized = h p.sized;
+}
+
+pub sized_behind : (ends : Bool) (next : BringUp) (out back : ℕ) → next.out_len ≡ out → next.in_len ≡ back → IsSized (if ends then Stand.Open else Stand.Opening next) out back
+sized_behind true next out back a b = tt
+sized_behind false next out back a b = (a, b)
+
+-- all of them, behind a frame
+pub all_behind : {A S : Type 0} (P : A → S → Type 0) (R U : S → S → Type 0) (T : A → S → S → Type 0) → ((a : A) (s t : S) → P a s → R s t → U s t → T a s t) → (as' : List A) (ss ts : List S) → AllBoth P as' ss → EachPair R ss ts → EachPair U ss ts → AllThree T as' ss ts
+all_behind P R U T h [] [] [] p r u = tt
+all_behind P R U T h (a ∷ as') (s ∷ ss) (t ∷ ts) p r u = (h a s t p.0 r.0 u.0, all_behind P R U T h as' ss ts p.1 r.1 u.1)
+all_behind P R U T h [] (s ∷ ss) ts p r u = absurd p
+all_behind P R U T h [] [] (t ∷ ts) p r u = absurd r
+all_behind P R U T h (a ∷ as') [] ts p r u = absurd p
+all_behind P R U T h (a ∷ as') (s ∷ ss) [] p r u = absurd r

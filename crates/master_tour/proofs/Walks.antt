@@ -50,3 +50,7 @@ steps_both P T zero (x ∷ xs) [] a b = absurd a
 steps_both P T (suc i) (x ∷ xs) [] a b = absurd a
 steps_both P T zero (x ∷ xs) (y ∷ ys) a b = ((a.0, b.0), a.1)
 steps_both P T (suc i) (x ∷ xs) (y ∷ ys) a b = (a.0, steps_both P T i xs ys a.1 b.1)
+
+pub each_same : {S : Type 0} (P : S → S → Type 0) (xs : List S) → ((x : S) → P x x) → EachPair P xs xs
+each_same P [] h = tt
+each_same P (x ∷ xs) h = (h x, each_same P xs h)

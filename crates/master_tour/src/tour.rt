@@ -49,9 +49,9 @@ impl<H: Hand> Tour<H> {
     ghost use Rattle.frame_view.specs.View.{datagram_seen};
     ghost use Rattle.mailbox_master.specs.Any.{in_area_len};
     ghost use Rattle.std.specs.Prelude.{is_some, true, ◌++◌, ◌+◌, ◌==◌};
-    ghost use Rattle.life_frames.specs.Shares.{Lived, AllBoth, AreDistinct};
+    ghost use Rattle.life_frames.specs.Shares.{Lived, AllBoth, AllThree, AreDistinct, lived_back, lived_lost};
     ghost use Rattle.master_side.specs.Sent.{SameLink};
-    ghost use Rattle.master_tour.specs.Made.{StopLives, StopMade, StopSent, FrameMade, FrameSent, IsClearFor, is_in};
+    ghost use Rattle.master_tour.specs.Made.{StopLives, StopMade, StopSent, FrameMade, FrameSent, IsClearFor, IsSized, is_in};
     ghost use Rattle.life_model.specs.Lives.{Life, Spot, life_back, life_lost};
     ghost use Rattle.segment_model.specs.Record.{News};
     ghost use Rattle.std.specs.Prelude.{Bool, false, not, nat_lt, ◌&&◌};
@@ -68,6 +68,7 @@ impl<H: Hand> Tour<H> {
             IsSpot spot s.side.station s.place s.start → StandUnder lens s.side.station s.at s.under s.side.carried s.stand l sent → StopShows (λ d a. SideShows (H.shows s.side.hand x) s.side.out s.side.inn s.side.fresh s.side.duty d a) recover spot s.stand s.spare l →
             FollowShows (λ d a. SideShows (H.shows t.side.hand x) t.side.out t.side.inn t.side.fresh t.side.duty d a) recover spot t.stand t.spare t.news l (life_back x H.acknowledged more passed number spot ns (seen lens octets.now) (came_at s.under s.at (seen lens octets.now)) l l.stand)) × (t.place ≡ s.place) × (t.start ≡ s.start)) self.old.stops.items self.new.stops.items }
         ensures long { length self.new.stops.items ≡ length self.old.stops.items }
+        ensures kept { EachPair (λ s t. SameLink s.side.out s.side.inn s.side.station s.side.area t.side.out t.side.inn t.side.station t.side.area × (IsSized s.stand s.side.out.len (in_area_len s.side.inn) → IsSized t.stand t.side.out.len (in_area_len t.side.inn))) self.old.stops.items self.new.stops.items }
     {
         let mut cursor = Cursor::new(octets);
         for i in 0..self.stops.len() {
@@ -85,6 +86,7 @@ impl<H: Hand> Tour<H> {
             IsSpot spot s.side.station s.place s.start → StandUnder lens s.side.station s.at s.under s.side.carried s.stand l (seen lens octets) → StopShows (λ d a. SideShows (H.shows s.side.hand x) s.side.out s.side.inn s.side.fresh s.side.duty d a) recover spot s.stand s.spare l →
             FollowShows (λ d a. SideShows (H.shows t.side.hand x) t.side.out t.side.inn t.side.fresh t.side.duty d a) recover spot t.stand t.spare t.news l (given_where (gives && s.under) recover spot number (life_lost x H.acknowledged more passed spot ns (seen lens octets) l l.stand))) × (t.place ≡ s.place) × (t.start ≡ s.start)) self.old.stops.items self.new.stops.items }
         ensures long { length self.new.stops.items ≡ length self.old.stops.items }
+        ensures kept { EachPair (λ s t. SameLink s.side.out s.side.inn s.side.station s.side.area t.side.out t.side.inn t.side.station t.side.area × (IsSized s.stand s.side.out.len (in_area_len s.side.inn) → IsSized t.stand t.side.out.len (in_area_len t.side.inn))) self.old.stops.items self.new.stops.items }
     {
         for i in 0..self.stops.len() {
             self.stops[i].lost_for(gives);
@@ -311,6 +313,7 @@ impl<H: Hand> Tour<H> {
             IsSpot spot s.side.station s.place s.start → StandUnder lens s.side.station s.at s.under s.side.carried s.stand l sent → StopShows (λ d a. SideShows (H.shows s.side.hand x) s.side.out s.side.inn s.side.fresh s.side.duty d a) recover spot s.stand s.spare l →
             FollowShows (λ d a. SideShows (H.shows t.side.hand x) t.side.out t.side.inn t.side.fresh t.side.duty d a) recover spot t.stand t.spare t.news l (life_back x H.acknowledged more passed number spot ns (seen lens frame.now.items) (came_at s.under s.at (seen lens frame.now.items)) l l.stand)) × (t.place ≡ s.place) × (t.start ≡ s.start)) self.old.stops.items self.new.stops.items }
         ensures long { length self.new.stops.items ≡ length self.old.stops.items }
+        ensures kept { EachPair (λ s t. SameLink s.side.out s.side.inn s.side.station s.side.area t.side.out t.side.inn t.side.station t.side.area × (IsSized s.stand s.side.out.len (in_area_len s.side.inn) → IsSized t.stand t.side.out.len (in_area_len t.side.inn))) self.old.stops.items self.new.stops.items }
     {
         let octets = frame.as_slice();
         if datagrams::fault(octets).is_none() {
@@ -330,6 +333,9 @@ impl<H: Hand> Tour<H> {
             IsSpot spot s.side.station s.place s.start → StandUnder lens s.side.station s.at s.under s.side.carried s.stand l sent → StopShows (λ d a. SideShows (H.shows s.side.hand x) s.side.out s.side.inn s.side.fresh s.side.duty d a) recover spot s.stand s.spare l →
             FollowShows (λ d a. SideShows (H.shows t.side.hand x) t.side.out t.side.inn t.side.fresh t.side.duty d a) recover spot t.stand t.spare t.news l (life_back x H.acknowledged more passed number spot ns (seen lens frame.now.items) (came_at s.under s.at (seen lens frame.now.items)) l l.stand)) × (t.place ≡ s.place) × (t.start ≡ s.start)) self.old.stops.items self.new.stops.items }
         ensures long { length self.new.stops.items ≡ length self.old.stops.items }
+        ensures shown { (lens : ℕ → Lens) (sent : List (Datagram Body)) → Returns sent (seen lens frame.now.items) → 1 ≤ length sent → (x : Speech Body H.Asked Reply) (more : Body → Bool) (passed : H.Asked → Bool) (number recover : ℕ) (lives : List (Lived H.Asked Reply)) →
+            AllBoth (λ a s. StopLives lens recover (λ d b. SideShows (H.shows s.side.hand x) s.side.out s.side.inn s.side.fresh s.side.duty d b) s.side.station s.place s.start s.stand s.spare s.side.out.len (in_area_len s.side.inn) a × StandUnder lens s.side.station s.at s.under s.side.carried s.stand a.life sent) lives self.old.stops.items →
+            AllThree (λ a s t. (ns : List (News Body)) → StopLives lens recover (λ d b. SideShows (H.shows t.side.hand x) t.side.out t.side.inn t.side.fresh t.side.duty d b) t.side.station t.place t.start t.stand t.spare t.side.out.len (in_area_len t.side.inn) (lived_back x H.acknowledged more passed number (seen lens frame.now.items) a (record { under = s.under; at = s.at }) ns)) lives self.old.stops.items self.new.stops.items }
     {
         self.hear(frame, made);
         let last = self.last_behind();
@@ -351,6 +357,9 @@ impl<H: Hand> Tour<H> {
             IsSpot spot s.side.station s.place s.start → StandUnder lens s.side.station s.at s.under s.side.carried s.stand l (seen lens octets) → StopShows (λ d a. SideShows (H.shows s.side.hand x) s.side.out s.side.inn s.side.fresh s.side.duty d a) recover spot s.stand s.spare l →
             FollowShows (λ d a. SideShows (H.shows t.side.hand x) t.side.out t.side.inn t.side.fresh t.side.duty d a) recover spot t.stand t.spare t.news l (given_where (not (nat_lt self.old.missed self.old.retry) && s.under) recover spot number (life_lost x H.acknowledged more passed spot ns (seen lens octets) l l.stand))) × (t.place ≡ s.place) × (t.start ≡ s.start)) self.old.stops.items self.new.stops.items }
         ensures long { length self.new.stops.items ≡ length self.old.stops.items }
+        ensures shown { (lens : ℕ → Lens) (octets : List ℕ) (x : Speech Body H.Asked Reply) (more : Body → Bool) (passed : H.Asked → Bool) (number recover : ℕ) (lives : List (Lived H.Asked Reply)) →
+            AllBoth (λ a s. StopLives lens recover (λ d b. SideShows (H.shows s.side.hand x) s.side.out s.side.inn s.side.fresh s.side.duty d b) s.side.station s.place s.start s.stand s.spare s.side.out.len (in_area_len s.side.inn) a × StandUnder lens s.side.station s.at s.under s.side.carried s.stand a.life (seen lens octets)) lives self.old.stops.items →
+            AllThree (λ a s t. (ns : List (News Body)) → StopLives lens recover (λ d b. SideShows (H.shows t.side.hand x) t.side.out t.side.inn t.side.fresh t.side.duty d b) t.side.station t.place t.start t.stand t.spare t.side.out.len (in_area_len t.side.inn) (lived_lost x H.acknowledged more passed (not (nat_lt self.old.missed self.old.retry)) recover number (seen lens octets) a (record { under = s.under; at = s.at }) ns)) lives self.old.stops.items self.new.stops.items }
     {
         let missed = self.missed;
         let comes_again = missed < self.retry;
