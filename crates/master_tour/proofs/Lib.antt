@@ -9,3 +9,4 @@ pub mod Grams
 pub mod Steps
 pub mod Mades
 pub mod Sents
+pub mod Orders

@@ -3,3 +3,4 @@ pub mod Walks
 pub mod Cursor
 pub mod Stands
 pub mod Made
+pub mod Orders

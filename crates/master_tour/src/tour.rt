@@ -25,7 +25,7 @@ pub struct Tour<H: Hand> {
     pub last: Option<usize>,
     /// How many datagrams the frame that is made has so far.
     pub count: usize,
-    /// How many slaves of this round were passed, carried or not.
+    /// How many of the visits that this frame may have were passed, carried or not.
     pub passed: usize,
 }
 
@@ -49,6 +49,8 @@ impl<H: Hand> Tour<H> {
     ghost use Rattle.frame_view.specs.View.{datagram_seen};
     ghost use Rattle.mailbox_master.specs.Any.{in_area_len};
     ghost use Rattle.std.specs.Prelude.{is_some, true, ◌++◌, ◌+◌, ◌==◌};
+    ghost use Rattle.std.specs.Prelude.{Some, drop};
+    ghost use Rattle.master_tour.specs.Orders.{start_of, place_in, round_left, visits_left, AreOnce, IsNextOf};
     ghost use Rattle.life_frames.specs.Shares.{Lived, AllBoth, AllThree, AreDistinct, lived_back, lived_lost};
     ghost use Rattle.master_side.specs.Sent.{SameLink};
     ghost use Rattle.master_tour.specs.Made.{StopLives, StopMade, StopSent, FrameMade, FrameSent, IsClearFor, IsSized, is_in};
@@ -131,7 +133,8 @@ impl<H: Hand> Tour<H> {
     // The place of the slave number `k` of the round, which begins behind the last one carried.
     fn place_of(&self, k: usize) -> usize
         requires { k < length self.now.stops.items }
-        ensures { result < length self.now.stops.items }
+        ensures inside { result < length self.now.stops.items }
+        ensures is { result ≡ place_in (start_of (length self.now.stops.items) self.now.last) (length self.now.stops.items) k }
     {
         let count = self.stops.len();
         let start = match self.last {
@@ -147,7 +150,8 @@ impl<H: Hand> Tour<H> {
 
     // The number of the next live slave of the round.
     fn next_live(&self) -> Option<usize>
-        ensures { IfSome result (λ k. k < length self.now.stops.items) }
+        ensures inside { IfSome result (λ k. k < length self.now.stops.items) }
+        ensures later { IfSome result (λ k. self.now.passed ≤ k) }
     {
         for k in self.passed..self.stops.len() {
             if !matches!(self.stops[self.place_of(k)].stand, Stand::Gone) {
@@ -157,31 +161,61 @@ impl<H: Hand> Tour<H> {
         None
     }
 
-    // The slave whose datagram stands next, if the frame has room for it: behind a lost frame the slaves of that one, in the first
-    // bring-up the one that is brought up, else those of a round.
-    fn candidate(&mut self) -> Option<usize>
-        ensures count { self.new.count ≡ self.old.count }
-        ensures stops { self.new.stops ≡ self.old.stops }
+    // Behind a lost frame: the next of the slaves that it carried.
+    fn carried_again(&mut self) -> Option<usize>
+        ensures kept { (self.new.stops ≡ self.old.stops) × (self.new.count ≡ self.old.count) × (self.new.again ≡ self.old.again) × (self.new.visit ≡ self.old.visit) × (self.new.opened ≡ self.old.opened) × (self.new.last ≡ self.old.last) }
         ensures inside { IfSome result (λ p. p < length self.new.stops.items) }
+        ensures left { (p : ℕ) → result ≡ Some p → AreOnce self.old.visit.items → IsNextOf p (drop self.old.passed self.old.visit.items) (drop self.new.passed self.old.visit.items) }
     {
-        if self.again {
-            let place = *self.visit.get(self.count)?;
-            return if place < self.stops.len() {
-                Some(place)
-            } else {
-                None
-            };
+        let place = *self.visit.get(self.passed)?;
+        self.passed += 1;
+        if place < self.stops.len() {
+            Some(place)
+        } else {
+            None
         }
-        if self.opened < self.stops.len() {
-            return if self.count == 0 {
-                Some(self.opened)
-            } else {
-                None
-            };
+    }
+
+    // In the first bring-up: the slave that is brought up.
+    fn brought_up(&mut self) -> Option<usize>
+        requires { self.old.opened < length self.old.stops.items }
+        ensures kept { (self.new.stops ≡ self.old.stops) × (self.new.count ≡ self.old.count) × (self.new.again ≡ self.old.again) × (self.new.visit ≡ self.old.visit) × (self.new.opened ≡ self.old.opened) × (self.new.last ≡ self.old.last) }
+        ensures inside { IfSome result (λ p. p < length self.new.stops.items) }
+        ensures left { (p : ℕ) → result ≡ Some p → IsNextOf p (drop self.old.passed (self.old.opened ∷ [])) (drop self.new.passed (self.old.opened ∷ [])) }
+    {
+        if self.passed > 0 {
+            return None;
         }
+        self.passed = 1;
+        Some(self.opened)
+    }
+
+    // The next live slave of a round.
+    fn next_in_round(&mut self) -> Option<usize>
+        ensures kept { (self.new.stops ≡ self.old.stops) × (self.new.count ≡ self.old.count) × (self.new.again ≡ self.old.again) × (self.new.visit ≡ self.old.visit) × (self.new.opened ≡ self.old.opened) × (self.new.last ≡ self.old.last) }
+        ensures inside { IfSome result (λ p. p < length self.new.stops.items) }
+        ensures left { (p : ℕ) → result ≡ Some p → IsNextOf p (round_left (start_of (length self.old.stops.items) self.old.last) (length self.old.stops.items) self.old.passed) (round_left (start_of (length self.old.stops.items) self.old.last) (length self.old.stops.items) self.new.passed) }
+    {
         let k = self.next_live()?;
         self.passed = k + 1;
         Some(self.place_of(k))
+    }
+
+    // The slave whose datagram stands next, if the frame has room for it: behind a lost frame the slaves of that one, in the first
+    // bring-up the one that is brought up, else those of a round.
+    fn candidate(&mut self) -> Option<usize>
+        ensures kept { (self.new.stops ≡ self.old.stops) × (self.new.count ≡ self.old.count) × (self.new.again ≡ self.old.again) × (self.new.visit ≡ self.old.visit) × (self.new.opened ≡ self.old.opened) × (self.new.last ≡ self.old.last) }
+        ensures inside { IfSome result (λ p. p < length self.new.stops.items) }
+        ensures left { (p : ℕ) → result ≡ Some p → (self.old.again ≡ true → AreOnce self.old.visit.items) →
+            IsNextOf p (visits_left self.old.again self.old.visit.items self.old.opened (length self.old.stops.items) self.old.last self.old.passed) (visits_left self.old.again self.old.visit.items self.old.opened (length self.old.stops.items) self.old.last self.new.passed) }
+    {
+        if self.again {
+            return self.carried_again();
+        }
+        if self.opened < self.stops.len() {
+            return self.brought_up();
+        }
+        self.next_in_round()
     }
 
     /// The place of the slave whose datagram stands next, if it fits: `None` where no slave is left for the frame.
@@ -189,7 +223,9 @@ impl<H: Hand> Tour<H> {
         ensures inside { IfSome result (λ p. p < length self.new.stops.items) }
         ensures few { IfSome result (λ p. self.new.count < 16) }
         ensures stops { self.new.stops ≡ self.old.stops }
-        ensures count { self.new.count ≡ self.old.count }
+        ensures kept { (self.new.count ≡ self.old.count) × (self.new.again ≡ self.old.again) × (self.new.visit ≡ self.old.visit) × (self.new.opened ≡ self.old.opened) × (self.new.last ≡ self.old.last) }
+        ensures left { (p : ℕ) → result ≡ Some p → (self.old.again ≡ true → AreOnce self.old.visit.items) →
+            IsNextOf p (visits_left self.old.again self.old.visit.items self.old.opened (length self.old.stops.items) self.old.last self.old.passed) (visits_left self.old.again self.old.visit.items self.old.opened (length self.old.stops.items) self.old.last self.new.passed) }
     {
         if self.count >= 16 {
             return None;
