@@ -1,18 +1,23 @@
-//! The services of a slave of a plan are such as the laws of lives speak of. No running code: the function here does nothing, and its contract
-//! states the law.
+//! The services of a slave of a plan are such as the laws of lives speak of. No running code: the functions here do nothing, and their contracts
+//! state the laws.
 #![tactic(auto)]
 
-ghost use Rattle.std.specs.Prelude.{◌≡◌, ℕ, Bool};
+ghost use Rattle.std.specs.Prelude.{◌≡◌, ◌+◌, ◌≤◌, ℕ, Bool, true, [], None, length};
 ghost use Rattle.frame_view.specs.View.{Lens};
+ghost use Rattle.link_mails.specs.Body.{Body};
 ghost use Rattle.slave_lives.specs.Ends.{ClearsAs};
 ghost use Rattle.slave_lives.specs.Lived.{IsBehind};
 ghost use Rattle.life_model.specs.Lives.{Spot};
+ghost use Rattle.slave_lives.specs.Nodes.{GivesPlaced};
 ghost use Rattle.slave_lives.specs.Opening.{Plan, IsPlan};
 ghost use Rattle.slave_model.specs.Profile.{Profile, IsProfile};
+ghost use Rattle.slave_model.specs.Application.{station_valid};
+ghost use Rattle.slave_parts.specs.Parts.{Core, parts};
 ghost use Rattle.whole_lives.specs.Whole.{IsWhole};
-ghost use Rattle.slave_server.specs.Serving.{Serving};
+ghost use Rattle.slave_server.specs.Serving.{Serving, fresh};
 ghost use Rattle.slave_steps.specs.Node.{Node};
-ghost use Rattle.server_lives.specs.Real.{real, real_clearing, StepsAs};
+ghost use Rattle.server_lives.specs.Real.{running_as, real, real_clearing, StepsAs};
+ghost use Rattle.server_lives.specs.Rooms.{IsSound};
 
 /// The services of a slave of a plan are those of its exchange, in each AL state, a return to Init
 /// clears them, and its steps are theirs.
@@ -28,4 +33,17 @@ pub fn real_whole_law()
 {
     slave_parts::slave_is_lawful();
     real_server_law();
+}
+
+/// WHAT A SLAVE'S SERVER GIVES HAS ROOM in the mailbox, whatever mails it took, in whatever AL states: a server of a plan's profile is sound before
+/// any mail, and stays so by each mail taken, each mail given and each return to Init. Cleared it may be served.
+pub fn real_room_law()
+    ensures begins { (p : Profile) → IsProfile p → (core : Core) → station_valid parts (record { app = core; frame = 0 }) ≡ true → length core.block + 10 ≤ p.back → IsSound p (record { profile = p; server = fresh core; waiting = [] }) }
+    ensures takes { (p : Profile) → IsProfile p → (al : ℕ) (s : Serving) (b : Body) → IsSound p s → IsSound p ((running_as p).take s b al) }
+    ensures gives { (p : Profile) (s : Serving) → IsSound p s → IsSound p ((running_as p).rest s) }
+    ensures clears { (p : Profile) (s : Serving) → IsSound p s → IsSound p ((running_as p).clear s) }
+    ensures placed { (p : Profile) (s : Serving) → IsSound p s → GivesPlaced (running_as p) p.back s }
+    ensures ready { (p : Profile) (boot : Bool) (lens : ℕ → Lens) (al : ℕ) (s : Serving) → IsSound p s → (running_as p).clear s ≡ s → (real p boot lens).exchange.ready ((real p boot lens).sees al s).server ≡ true }
+{
+    slave_parts::parts_are_lawful();
 }
