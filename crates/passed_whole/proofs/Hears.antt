@@ -1,31 +1,31 @@
 -- What a frame makes of a mail that is always answered: a reply is heard by it, or the mail goes on as it was awaited.
-use Rattle.std.proofs.Common.{◌≡◌, ◌≢◌, ◌⊎◌, inl, inr, ℕ, ◌+◌, ◌≤◌, ◌&&◌, ◌||◌, Bool, true, false, not, is_none, is_some, Option, Some, None, List, [], ◌∷◌, ◌++◌, map, length, refl, ap, ap₂, sym, ◌∙◌, subst, arith, append_assoc, append-nil, length-append, if◌then◌else◌}
+use Rattle.std.proofs.Common.{◌≡◌, ◌≢◌, ◌⊎◌, inl, inr, ℕ, ◌+◌, ◌≤◌, ◌&&◌, Bool, true, false, not, is_none, is_some, Option, Some, None, List, [], ◌∷◌, ◌++◌, map, length, refl, ap, sym, ◌∙◌, subst, arith, append-nil, length-append, if◌then◌else◌}
 use Rattle.exchange_model.specs.Exchange.{Exchange}
-use Rattle.link_model.specs.Mails.{LinkMail, news, seen, bodies}
-use Rattle.link_model.specs.Master.{InHalf, InState, in_lost}
-use Rattle.link_model.specs.Slave.{InSide, Node}
+use Rattle.link_model.specs.Mails.{LinkMail, news, bodies}
+use Rattle.link_model.specs.Master.{InState}
+use Rattle.link_model.specs.Slave.{Node}
 use Rattle.link_model.specs.Link.{Halves, Link, in_met}
 use Rattle.link_model.specs.Agree.{Agrees, Knows, last_met_of, unread}
-use Rattle.link_model.specs.Frames.{Gram, IsFrameFor, own, halves_after, halves_without, all_accepted, node_after}
+use Rattle.link_model.specs.Frames.{Gram, IsFrameFor, own, halves_after, halves_without, all_accepted}
 use Rattle.link_model.proofs.Law.{accepted_of_offered}
 use Rattle.link_model.proofs.Own.{grams_all, halves_all, lost_all, node_all, node_after-own, halves_after-own, halves_without-own, own-grams_after}
 use Rattle.segment_model.specs.Slaves.{Serving, Slave, Datagram, grams, slave_after, frame_after}
 use Rattle.segment_model.specs.Record.{Kept, News, back_news, mails_heard, all_told, did_read}
 use Rattle.segment_model.specs.Ends.{Passing}
-use Rattle.segment_model.specs.Seats.{Side, Seat, link_of, writes, seat_back, side_lost}
+use Rattle.segment_model.specs.Seats.{Seat, link_of, writes, seat_back}
 use Rattle.segment_model.proofs.News.{heard_back}
 use Rattle.segment_model.proofs.Rests.{all_taken, all_offered, all_news}
 use Rattle.segment_model.proofs.Views.{node-slave_after, grams-frame_after}
-use Rattle.segment_model.proofs.Written.{mails_told, has_written, back_tells, back_frees, losts_out, Tells, Tells.told, Tells.quiet}
+use Rattle.segment_model.proofs.Written.{mails_told, has_written, back_tells, back_frees, Tells, Tells.told, Tells.quiet}
 use Rattle.segment_model.proofs.Posts.{KeptOut, IsKnown}
 use Rattle.life_model.specs.Lives.{ReadsFull}
 use Rattle.serving_model.specs.Tagged.{no_reply}
 use Rattle.passed_whole.specs.Led.{AreSingle, counted_news}
 use Rattle.passed_whole.proofs.Ways.{found_empty, was_read, reads_in, answered_in, Quiet, Asked, way}
 use Rattle.passed_whole.proofs.Founds.{sees_empty, sees_late, AllFindNone, empty_was, late_tells, status_read}
-use Rattle.passed_whole.proofs.Passings.{reads_nothing, SameNews, counted_same, counted_told, by, skips, sends, waiting, sent, boxed, sent_boxed, served, boxed_served}
-use Rattle.passed_whole.proofs.Withdrawn.{Shown, Hidden, IsHidden, answers, loses, read_own, nothing_read}
-use Rattle.passed_whole.proofs.Awaits.{caught, IsLast, IsTaken, Awaits, StageOf}
+use Rattle.passed_whole.proofs.Passings.{reads_nothing, SameNews, counted_same, by, skips, sends, waiting, sent, boxed, sent_boxed, served, boxed_served}
+use Rattle.passed_whole.proofs.Withdrawn.{Hidden, IsHidden, answers, loses, read_own, nothing_read}
+use Rattle.passed_whole.proofs.Awaits.{caught, IsTaken, Awaits, StageOf}
 
 -- THE HALF AND MAILBOX 1 BEHIND A FRAME, by the datagrams of the station alone
 module _ {V M : Type 0} (station : ℕ) (h : Halves M) (s : Slave V M) (ds : List (Datagram M)) where

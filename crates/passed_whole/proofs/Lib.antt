@@ -7,3 +7,4 @@ pub mod Hears
 pub mod Steps
 pub mod Picks
 pub mod Turns
+pub mod Silences

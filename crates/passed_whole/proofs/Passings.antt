@@ -1,5 +1,5 @@
 -- How far a mail that is passed on comes by the news of a frame that lets no reply of it be heard.
-use Rattle.std.proofs.Common.{◌≡◌, ◌&&◌, ◌||◌, Bool, true, false, not, Option, Some, None, List, [], ◌∷◌, ◌++◌, map, refl, ap, sym, ◌∙◌, if◌then◌else◌}
+use Rattle.std.proofs.Common.{◌≡◌, ◌&&◌, Bool, true, false, Option, Some, None, List, [], ◌∷◌, ◌++◌, map, refl, ap, ◌∙◌, if◌then◌else◌}
 use Rattle.segment_model.specs.Record.{News, mails_heard, without_empty}
 use Rattle.segment_model.specs.Ends.{Passing, passing_after}
 use Rattle.segment_model.proofs.Written.{mails_told, has_written}

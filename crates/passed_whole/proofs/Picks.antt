@@ -1,5 +1,5 @@
 -- What a master's choice makes of the row in hand: a service that is always answered begins where the one before was heard, and holds its mail.
-use Rattle.std.proofs.Common.{◌≡◌, ◌⊎◌, inl, inr, ℕ, suc, ◌+◌, ◌&&◌, Bool, true, false, not, is_none, is_some, Option, Some, None, option_map, List, [], ◌∷◌, ◌++◌, drop, length, refl, ap, ap₂, sym, ◌∙◌, subst, arith, append-nil, length-append, if◌then◌else◌}
+use Rattle.std.proofs.Common.{◌≡◌, ◌⊎◌, inl, inr, ℕ, ◌+◌, ◌&&◌, Bool, true, false, not, is_none, is_some, Option, Some, None, option_map, List, [], ◌∷◌, ◌++◌, drop, length, refl, ap, sym, ◌∙◌, subst, arith, append-nil, length-append, if◌then◌else◌}
 use Rattle.std.specs.Prelude.{⊤, nat_lt}
 use Rattle.std.proofs.lemmas.Bool.Decides.{nat_tests}
 use Rattle.exchange_model.specs.Exchange.{Exchange, IsLawful, plain}
@@ -9,14 +9,13 @@ use Rattle.link_model.specs.Agree.{Agrees}
 use Rattle.link_model.proofs.Law.{taken_of_held}
 use Rattle.segment_model.specs.Slaves.{Processor}
 use Rattle.segment_model.specs.Ends.{Passing}
-use Rattle.segment_model.specs.Seats.{Side, Seat, Choice, link_of, newest, is_over, is_none_left, side_begins, side_holds, side_next, next_mail, first_left, seat_next}
+use Rattle.segment_model.specs.Seats.{Side, Seat, link_of, newest, is_none_left, side_begins, side_holds, next_mail, first_left}
 use Rattle.segment_model.proofs.Posts.{KeptOut, IsFresh}
 use Rattle.state_exchange.specs.Stated.{Service}
-use Rattle.task_model.specs.Accounts.{Account, Duty, Pick, Started, mails_begin, mails_choice, account_begins, is_free, is_acknowledged, starts, state_begins}
+use Rattle.task_model.specs.Accounts.{Account, Duty, Pick, mails_begin, account_begins, is_free, starts}
 use Rattle.life_model.specs.Lives.{granted, passing_begins}
 use Rattle.serving_model.specs.Tagged.{no_reply}
-use Rattle.passed_whole.specs.Led.{IsAnswered, AllHeard, HasHeard}
-use Rattle.passed_whole.proofs.Awaits.{IsLast, IsTaken, Awaits, StageOf}
+use Rattle.passed_whole.proofs.Awaits.{StageOf}
 use Rattle.passed_whole.proofs.Steps.{StageBy, RowStage, NowStage}
 
 not_less : (n : ℕ) → nat_lt n n ≡ false

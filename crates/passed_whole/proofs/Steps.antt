@@ -1,22 +1,21 @@
 -- What the steps of the slave's processor leave of a mail that is awaited.
-use Rattle.std.proofs.Common.{◌≡◌, ◌⊎◌, inl, inr, ℕ, zero, suc, ◌≤◌, Bool, true, false, Option, Some, None, List, [], ◌∷◌, ◌++◌, length, refl, ap, sym, ◌∙◌, subst, arith, if◌then◌else◌}
+use Rattle.std.proofs.Common.{◌≡◌, ◌⊎◌, inl, inr, ℕ, zero, suc, Bool, true, false, Option, Some, None, List, [], ◌∷◌, length, refl, ap, subst, arith, if◌then◌else◌}
 use Rattle.std.specs.Prelude.{⊤}
 use Rattle.exchange_model.specs.Exchange.{Exchange, IsLawful}
 use Rattle.exchange_model.specs.Rows.{Row}
 use Rattle.link_model.specs.Master.{InState}
-use Rattle.link_model.specs.Slave.{Node}
 use Rattle.link_model.specs.Agree.{Agrees}
 use Rattle.link_model.proofs.Gains.{processor_steps}
-use Rattle.segment_model.specs.Slaves.{Serving, serving, Processor, Slave, ring_steps}
+use Rattle.segment_model.specs.Slaves.{Serving, serving, Processor, ring_steps}
 use Rattle.segment_model.specs.Record.{Frame}
 use Rattle.segment_model.specs.Ends.{Passing}
-use Rattle.segment_model.specs.Seats.{Side, Seat, link_of, seat_steps}
+use Rattle.segment_model.specs.Seats.{Seat, link_of, seat_steps}
 use Rattle.segment_model.proofs.Sounds.{step_agrees}
-use Rattle.segment_model.proofs.Kept.{Follows, step_stations, step_records}
+use Rattle.segment_model.proofs.Kept.{Follows, step_records}
 use Rattle.serving_model.specs.Tagged.{no_reply}
 use Rattle.passed_whole.specs.Led.{IsAnswered, has_step}
 use Rattle.passed_whole.proofs.Withdrawn.{Shown, Hidden, IsHidden}
-use Rattle.passed_whole.proofs.Awaits.{IsTaken, Awaits, StageOf, step_taken, step_awaits}
+use Rattle.passed_whole.proofs.Awaits.{StageOf, step_taken, step_awaits}
 
 shown_hides : {M : Type 0} (state : InState) (h : _) (s : _) → Shown {M = M} s → Hidden true state h s
 shown_hides InState.Clear h s k = λ c. k

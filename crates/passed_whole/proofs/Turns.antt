@@ -1,40 +1,38 @@
 -- Turn by turn: no mail that is always answered is over before a reply of it was heard.
-use Rattle.std.proofs.Common.{◌≡◌, ◌⊎◌, inl, inr, ℕ, zero, suc, ◌+◌, ◌-◌, ◌<◌, ◌≤◌, ◌==◌, ◌&&◌, Bool, true, false, not, Option, Some, None, option_map, List, [], ◌∷◌, ◌++◌, map, take, drop, length, refl, ap, ap₂, sym, ◌∙◌, subst, arith, append-nil, length-append, if◌then◌else◌}
-use Rattle.std.specs.Prelude.{⊤, filter, replicate}
+use Rattle.std.proofs.Common.{◌≡◌, ◌⊎◌, inl, inr, ℕ, zero, suc, ◌-◌, ◌<◌, ◌&&◌, Bool, true, false, not, Option, Some, None, option_map, List, [], ◌∷◌, ◌++◌, map, take, drop, length, refl, ap, sym, ◌∙◌, subst, arith, append-nil, length-append, if◌then◌else◌}
+use Rattle.std.specs.Prelude.{replicate}
 use Rattle.exchange_model.specs.Exchange.{Exchange, IsLawful}
 use Rattle.exchange_model.specs.Rows.{Row, begun, row_heard}
-use Rattle.link_model.specs.Master.{InState}
 use Rattle.link_model.specs.Link.{Halves}
-use Rattle.link_model.specs.Agree.{Agrees}
-use Rattle.link_model.specs.Frames.{Gram, IsFrameFor, all_accepted, halves_without}
+use Rattle.link_model.specs.Frames.{all_accepted}
 use Rattle.link_model.specs.Segment.{RingFate}
 use Rattle.segment_model.specs.Slaves.{Registers, Processor, Slave, Datagram, Access, Address, grams, slave_after, frame_after, Ring, first_meet, ring_after, ring_back, ring_steps}
 use Rattle.segment_model.specs.Record as Rec
 use Rattle.segment_model.specs.Record.{Frame, News, is_for, all_told, told_behind, frame_news, back_news, did_read}
 use Rattle.segment_model.specs.Ends.{Passing}
-use Rattle.segment_model.specs.Seats.{Side, Seat, Choice, link_of, newest, side_begins, side_next, side_back, side_lost, next_mail, seat_next, seat_back, seats_after, writes, IsOpening}
+use Rattle.segment_model.specs.Seats.{Side, Seat, Choice, newest, side_begins, side_next, side_back, side_lost, seat_next, seat_back, seats_after, writes, IsOpening}
 use Rattle.segment_model.proofs.Sounds.{began_halves}
 use Rattle.segment_model.proofs.Answers.{kept_of}
-use Rattle.segment_model.proofs.Written.{Tells, frame_tells, losts_out}
+use Rattle.segment_model.proofs.Written.{frame_tells, losts_out}
 use Rattle.segment_model.proofs.Posts.{KeptOut, writes-all_back}
 use Rattle.segment_model.proofs.Handed.{KeptSide, next_out, back_out, lost_out}
-use Rattle.segment_model.proofs.Kept.{Records, Follows, nexts_follow, afters_follow, new_follows}
+use Rattle.segment_model.proofs.Kept.{Follows, nexts_follow, afters_follow, new_follows}
 use Rattle.segment_model.proofs.Hands.{new_out}
-use Rattle.task_model.specs.Accounts.{Account, Pick, IsOther, IsServed, IsServed.nothing, IsServed.other, IsServed.quiet, IsServed.own, duty_access, mails_choice, mails_begin}
+use Rattle.task_model.specs.Accounts.{Pick, IsServed, IsServed.nothing, IsServed.other, IsServed.quiet, IsServed.own, duty_access, mails_choice}
 use Rattle.life_model.specs.Own as Own
 use Rattle.life_model.specs.Own.{own_fate, own_frame, blank}
 use Rattle.life_model.specs.Lives.{Spot, Era, ReadsFull, AsksOpen, granted, passes, new_era, era_next}
 use Rattle.life_model.specs.Eras.{era_frames, planned, opened_slave}
 use Rattle.life_model.proofs.Eras.{frames_push}
 use Rattle.serving_model.specs.Tagged.{no_reply}
-use Rattle.passed_whole.specs.Led.{IsAnswered, AllHeard, HasHeard, NowHeard, NoneUnheard, IsLed, IsLed.begins, IsLed.goes_on, EraTurn, MayTurn, frame_in, news_in, turn_next, turn_after, has_step, counted_news, counts_behind, AreSingle}
-use Rattle.passed_whole.proofs.Founds.{FindsNone, AllFindNone}
+use Rattle.passed_whole.specs.Led.{AllHeard, NowHeard, NoneUnheard, IsLed, EraTurn, frame_in, turn_after, has_step, counted_news, counts_behind, AreSingle}
+use Rattle.passed_whole.proofs.Founds.{AllFindNone}
 use Rattle.passed_whole.proofs.Passings.{skips, sends, counted_told}
-use Rattle.passed_whole.proofs.Withdrawn.{Hidden, IsHidden}
-use Rattle.passed_whole.proofs.Awaits.{IsTaken, Awaits, StageOf}
+use Rattle.passed_whole.proofs.Withdrawn.{IsHidden}
+use Rattle.passed_whole.proofs.Awaits.{Awaits, StageOf}
 use Rattle.passed_whole.proofs.Hears.{Meets, goes, hides_back, hides_lost, known_tells}
-use Rattle.passed_whole.proofs.Steps.{StageBy, RowStage, NowStage, Steps, steps}
-use Rattle.passed_whole.proofs.Picks.{NewOf, NewRow, begins as row_begins, Begins, holds, Holds}
+use Rattle.passed_whole.proofs.Steps.{StageBy, RowStage, NowStage, steps}
+use Rattle.passed_whole.proofs.Picks.{NewOf, begins as row_begins, Begins, holds}
 
 -- what a frame's datagrams find before their slave meets them
 module _ {M : Type 0} (station : ℕ) where

@@ -1,5 +1,5 @@
 -- What the datagrams of a frame to one station do to the inward half and to mailbox 1: nothing, or what the half's one datagram does.
-use Rattle.std.proofs.Common.{◌≡◌, ◌⊎◌, inl, inr, ℕ, ◌==◌, ◌&&◌, ◌||◌, Bool, true, false, not, is_none, is_some, Option, Some, None, List, [], ◌∷◌, ◌++◌, refl, ap, ap₂, sym, ◌∙◌, subst, if◌then◌else◌}
+use Rattle.std.proofs.Common.{◌≡◌, ◌⊎◌, inl, inr, ◌==◌, ◌&&◌, ◌||◌, Bool, true, false, not, is_none, is_some, Option, Some, None, List, [], ◌∷◌, refl, ap, ap₂, sym, ◌∙◌}
 use Rattle.link_model.specs.Mails.{LinkMail}
 use Rattle.link_model.specs.Master.{InHalf, InState, in_lost}
 use Rattle.link_model.specs.Slave.{InSide, Node}

@@ -1,18 +1,14 @@
 -- What the slave may still have withdrawn: where an empty read of mailbox 1 counts, nothing.
-use Rattle.std.proofs.Common.{◌≡◌, ◌⊎◌, inl, inr, ℕ, zero, suc, ◌==◌, ◌&&◌, ◌||◌, Bool, true, false, not, is_none, is_some, Option, Some, None, List, [], ◌∷◌, ◌++◌, map, refl, ap, ap₂, sym, ◌∙◌, subst, if◌then◌else◌}
-use Rattle.exchange_model.specs.Exchange.{Exchange}
+use Rattle.std.proofs.Common.{◌≡◌, ℕ, ◌==◌, ◌&&◌, ◌||◌, Bool, true, false, not, is_some, Option, Some, None, List, [], ◌∷◌, ◌++◌, map, refl, ap, ap₂, sym, ◌∙◌, subst, if◌then◌else◌}
 use Rattle.link_model.specs.Mails.{LinkMail, news, differs}
 use Rattle.link_model.specs.Master.{InHalf, InState, in_lost}
-use Rattle.link_model.specs.Slave.{InSide, Node, processor_step}
-use Rattle.link_model.specs.Link.{Halves, Fate, Link, in_half_after, in_met}
+use Rattle.link_model.specs.Slave.{InSide}
+use Rattle.link_model.specs.Link.{Fate, in_half_after, in_met}
 use Rattle.link_model.specs.Agree.{Knows}
-use Rattle.link_model.specs.Frames.{Ask, Gram, IsFrameFor, own, halves_after, halves_without}
-use Rattle.link_model.proofs.Own.{grams_all, halves_all, lost_all, node_all, node_after-own, halves_after-own, halves_without-own, own-grams_after}
-use Rattle.link_model.proofs.Gains.{processor_steps}
-use Rattle.segment_model.specs.Slaves.{Serving, serving, Processor, Slave, Datagram, Found, grams, slave_after, frame_after, slave_steps}
+use Rattle.link_model.specs.Frames.{Ask, Gram, own}
+use Rattle.segment_model.specs.Slaves.{Datagram, Found, grams}
 use Rattle.segment_model.specs.Record.{News, is_for, is_read, did_read, gram_news, found_news, datagram_news, last_heard, back_news}
-use Rattle.segment_model.proofs.Views.{node-slave_after, grams-frame_after}
-use Rattle.passed_whole.proofs.Ways.{found_empty, was_read, reads_in, answered_in, Quiet, Asked, way}
+use Rattle.passed_whole.proofs.Ways.{found_empty, was_read, reads_in}
 use Rattle.passed_whole.proofs.Passings.{reads_nothing}
 
 -- an empty mailbox 1 has nothing withdrawn behind it

@@ -1,13 +1,12 @@
 -- An epoch as its master leads it, which passes mails on: the status of mailbox 0 is read only where nothing is in doubt.
-use Rattle.std.specs.Prelude.{◌≡◌, ◌⊎◌, ℕ, zero, suc, ◌<◌, ◌&&◌, Bool, true, false, not, if◌then◌else◌, Option, Some, None, List, [], ◌∷◌, ◌++◌, length, ⊤}
+use Rattle.std.specs.Prelude.{◌≡◌, ◌⊎◌, ℕ, zero, suc, ◌&&◌, Bool, true, false, not, if◌then◌else◌, Option, Some, None, List, [], ◌∷◌, ◌++◌, length, ⊤}
 use Rattle.exchange_model.specs.Exchange.{Exchange, plain, emitted}
 use Rattle.exchange_model.specs.Rows.{Row}
 use Rattle.link_model.specs.Frames.{Ask}
 use Rattle.link_model.specs.Segment.{RingFate}
-use Rattle.segment_model.specs.Slaves.{Registers, Processor, Slave, Datagram, Access, Ring, grams, ring_after, ring_back, ring_steps}
+use Rattle.segment_model.specs.Slaves.{Registers, Processor, Slave, Datagram, Access, grams, ring_after, ring_back, ring_steps}
 use Rattle.segment_model.specs.Record.{Frame, News, frame_news, kept_all, nothing_kept, did_read, without_empty}
 use Rattle.segment_model.specs.Ends.{Passing}
-use Rattle.segment_model.specs.Seats.{Side}
 use Rattle.task_model.specs.Accounts.{Pick}
 use Rattle.life_model.specs.Own.{own, own_fate, own_frame}
 use Rattle.life_model.specs.Lives.{Spot, Era, AsksOpen, new_era, era_next, era_after}
