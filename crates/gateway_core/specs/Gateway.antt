@@ -1,5 +1,5 @@
 -- The requests of the gateway that aren't finished.
-use Rattle.std.specs.Prelude.{◌≡◌, ℕ, ◌+◌, ◌==◌, Bool, true, false, if◌then◌else◌, nat_lt, nat_le, List, [], ◌∷◌, length, count_by, Option, Some, None, Result, Ok, Err}
+use Rattle.std.specs.Prelude.{◌≡◌, ◌<◌, ℕ, ◌+◌, ◌==◌, Bool, true, false, if◌then◌else◌, nat_lt, nat_le, List, [], ◌∷◌, length, count_by, Option, Some, None, Result, Ok, Err}
 use Rattle.slab.specs.Slab.{Slab, Updates, entries, get, slab_len}
 use Rattle.ec_outside.specs.declared.port.Peer.{Peer}
 use Rattle.mailbox_mail.specs.Mail.{error_of}
@@ -63,6 +63,18 @@ pub record Queues (old new : Slab Asker) (peer : Peer) (slave : ℕ) (mail : Mai
   pub is_asker : IsAsker peer slave mail asker
   pub updates : Updates old new key (Some asker)
   pub one : slab_len new ≡ slab_len old + 1
+
+-- a mail that is to be passed on goes to this slave
+abbrev pub IsFor : ℕ → Asked → Type 0
+IsFor slave (asked.Queued key own mail) = own ≡ slave
+IsFor slave asked.Ignored = Unit {0}
+IsFor slave (asked.Error gram) = Unit {0}
+
+-- a mail that is to be passed on goes to one of so many slaves
+abbrev pub IsWithin : ℕ → Asked → Type 0
+IsWithin many (asked.Queued key slave mail) = slave < many
+IsWithin many asked.Ignored = Unit {0}
+IsWithin many (asked.Error gram) = Unit {0}
 
 -- what becomes of a mail, by the slave to which it goes or the detail of an error
 abbrev pub AnswersMail : Slab Asker → Slab Asker → Peer → Mail → Result ℕ ℕ → Asked → Type 0

@@ -1,7 +1,7 @@
-ghost use Rattle.std.specs.Prelude.{◌≡◌, ◌≤◌, ◌+◌, [], None, length, nat_le, IfSome, IfOk, OnOk, OnErr};
+ghost use Rattle.std.specs.Prelude.{◌≡◌, ◌<◌, ◌≤◌, ◌+◌, [], None, ◌↔◌, IsTrue, length, nat_le, IfSome, IfOk, OnOk, OnErr};
 ghost use Rattle.slab.specs.Slab.{ContainsKey, SameValues, Updates, get, slab_len};
 ghost use Rattle.gateway_core.specs.Framing.{request_in};
-ghost use Rattle.gateway_core.specs.Gateway.{place_from, is_passed, unfinished_at, judged, error_text, Queues, Answers, RepliesTo};
+ghost use Rattle.gateway_core.specs.Gateway.{place_from, is_passed, unfinished_at, judged, error_text, IsFor, IsWithin, Queues, Answers, RepliesTo};
 
 use crate::asker::{Asked, Asker};
 use crate::framing::{mail_behind, write_to};
@@ -45,7 +45,8 @@ impl Model for Gateway {
 // The first live slave of a station, and the length of its area.
 fn place_of(stations: &[Option<(u16, u16)>], station: u16) -> Option<(u32, u16)>
     requires { length stations.now ≤ 16 }
-    ensures { result ≡ place_from 0 station stations.now }
+    ensures value { result ≡ place_from 0 station stations.now }
+    ensures within { IfSome result (λ place. place.0 < length stations.now) }
 {
     for (at, row) in stations.iter().enumerate() {
         if let Some((own, len)) = row
@@ -93,6 +94,13 @@ impl Gateway {
         self.askers.len()
     }
 
+    /// Whether the request of a key isn't finished.
+    pub fn is_unfinished(&self, key: usize) -> bool
+        ensures { IsTrue result ↔ ContainsKey self.now key }
+    {
+        self.askers.contains(key)
+    }
+
     // Whether as many requests of a slave are unfinished as may be.
     fn is_full(&self, slave: u32) -> bool
         ensures { result ≡ nat_le 64 (unfinished_at slave self.now) }
@@ -112,7 +120,8 @@ impl Gateway {
     // The slave to which a mail is to be passed on, or the detail of the error that answers it.
     fn judge(&self, mail: &Mail, stations: &[Option<(u16, u16)>]) -> Result<u32, u16>
         requires { length stations.now ≤ 16 }
-        ensures { result ≡ judged self.now mail.now stations.now }
+        ensures value { result ≡ judged self.now mail.now stations.now }
+        ensures within { IfOk result (λ slave. slave < length stations.now) }
     {
         let (slave, len) = place_of(stations, mail.address).ok_or(NO_STATION)?;
         if !is_passed(mail.kind) {
@@ -130,6 +139,7 @@ impl Gateway {
     fn queue(&mut self, peer: Peer, slave: u32, mail: Mail) -> Result<Asked, NoMemory>
         requires { mail.counter ≤ 7 }
         ensures ok { IfOk result (λ asked. Queues self.old self.new peer slave mail asked) }
+        ensures slave { IfOk result (λ asked. IsFor slave asked) }
         ensures err { OnErr result (SameValues self.old self.new) }
     {
         let asker = Asker {
@@ -158,6 +168,7 @@ impl Gateway {
     ) -> Result<Asked, NoMemory>
         requires { length stations.now ≤ 16 }
         ensures ok { IfOk result (Answers self.old self.new peer stations.now (request_in bytes.now)) }
+        ensures within { IfOk result (IsWithin (length stations.now)) }
         ensures err { OnErr result (SameValues self.old self.new) }
     {
         let Ok(view) = mail_behind(bytes) else {
