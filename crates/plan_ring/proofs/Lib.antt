@@ -1,0 +1,4 @@
+pub mod Asked
+pub mod Valid
+pub mod Plan
+pub mod Master

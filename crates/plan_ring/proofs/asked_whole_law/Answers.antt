@@ -1,0 +1,31 @@
+use Rattle.std.proofs.Common.{refl}
+use Rattle.master_hand.specs.Spoken.{hand_speech, acknowledged}
+use Rattle.slave_model.specs.Acknowledged as Slave
+use Rattle.slave_model.specs.Product.{product}
+use Rattle.slave_model.specs.Profile.{areas_of}
+use Rattle.slave_parts.specs.Parts.{parts}
+use Rattle.state_exchange.specs.Families.{states_of}
+use Rattle.named_lives.proofs.Named.{named_law, named_stated}
+use Rattle.plan_ring.specs.Asked.{as_asked}
+use Rattle.plan_ring.proofs.Asked as Its
+use Rattle.plan_ring.proofs.asked_whole_law.Goals as goal
+
+pub returns : goal.returns
+returns c = record {
+  whole = λ p profile boot lens plan spot is station start.
+      let behind = c.real_server_law.ensures.behind p boot lens in
+      let clears = c.real_server_law.ensures.clears p boot lens in
+      let law = c.slave_is_lawful.ensures.lawful p profile in
+      let stated = c.slave_is_lawful.ensures.stated p profile in
+      record {
+        behind = record { served = record { seen = behind.served.seen; told = behind.served.told }; carries = behind.carries; clears = behind.clears };
+        lawful = named_law (product parts p) as_asked (hand_speech (areas_of p)) law (Its.agrees p);
+        stated = named_stated (product parts p) as_asked (hand_speech (areas_of p)) law (Its.agrees p) (states_of Slave.acknowledged) stated acknowledged Its.agrees_last;
+        tells = λ state v. refl;
+        clears = record { clearing = clears.clearing; seen = clears.seen };
+        plan = is;
+        station = station;
+        start = start;
+      };
+  speech = λ p boot lens. Its.alike p boot lens;
+}

@@ -1,0 +1,50 @@
+-- THE SERVICES OF A SLAVE AS A MASTER ASKS FOR THEM: by the names that the master has for them, and with its replies.
+use Rattle.std.specs.Prelude.{◌≡◌, ℕ, Bool, true, false, Some}
+use Rattle.mailbox_mail.specs.declared.outcome.ReplyKind.{ReplyKind}
+use Rattle.frame_view.specs.View.{Lens}
+use Rattle.coe_model.specs.Meaning as CoeMeaning
+use Rattle.coe_model.specs.Tables.{nowhere}
+use Rattle.eoe_model.specs.Network.{Station}
+use Rattle.state_exchange.specs.Families.{InState, states_of}
+use Rattle.master_duty.specs.Reply as Master
+use Rattle.master_hand.specs.Spoken.{Asked, sdo, file, drive, net, passed, hand_speech, acknowledged}
+use Rattle.named_lives.specs.Named.{Naming, named, named_states}
+use Rattle.slave_lives.specs.Lived.{Behind}
+use Rattle.slave_model.specs.Acknowledged as Slave
+use Rattle.slave_model.specs.Product.{product}
+use Rattle.slave_model.specs.Profile.{Protocol, Profile, areas_of}
+use Rattle.slave_model.specs.Server.{ServiceOf, Reply}
+use Rattle.slave_parts.specs.Parts.{Core, Server, parts}
+use Rattle.slave_server.specs.Serving.{Serving}
+use Rattle.server_lives.specs.Real.{real}
+
+-- a service of one of the slave's protocols; a mail that is passed on is none
+abbrev pub is_service : Asked → Bool
+is_service (sdo q) = true
+is_service (file q) = true
+is_service (drive q) = true
+is_service (net q) = true
+is_service (passed m) = false
+
+-- which
+abbrev pub service_of : Asked → (i : Protocol) × ServiceOf i
+service_of (sdo q) = (Protocol.CoE, q)
+service_of (file q) = (Protocol.FoE, q)
+service_of (drive q) = (Protocol.SoE, q)
+service_of (net q) = (Protocol.EoE, q)
+service_of (passed m) = (Protocol.CoE, CoeMeaning.upload nowhere)
+
+abbrev pub as_asked : Naming ((i : Protocol) × ServiceOf i) Reply Asked Master.Reply
+as_asked = record { is = is_service; service = service_of; reply = λ r. Some r }
+
+-- THE SLAVE'S SERVICES IN A SESSION with that master
+abbrev pub asked : Profile → Bool → (ℕ → Lens) → Behind Serving (InState Server) (InState (Station Core)) Asked Master.Reply
+asked p boot lens = record {
+  exchange = named (product parts p) as_asked (hand_speech (areas_of p));
+  states = named_states (states_of Slave.acknowledged) acknowledged;
+  processor = (real p boot lens).processor;
+  running = (real p boot lens).running;
+  sees = (real p boot lens).sees;
+  boot = boot;
+  lens = lens;
+}

@@ -1,0 +1,3 @@
+pub mod Asked
+pub mod Plan
+pub mod Master

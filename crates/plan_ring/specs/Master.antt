@@ -1,0 +1,84 @@
+-- A MASTER AND THE RING OF ITS PLAN: its lives of the slaves are those that the ring's law speaks of.
+use Rattle.std.specs.Prelude.{◌≡◌, ℕ, suc, ◌&&◌, Bool, false, List, [], ◌∷◌, ◌++◌, length, ⊤}
+use Rattle.datagrams.specs.Datagram as Raw
+use Rattle.exchange_model.specs.Areas.{Areas}
+use Rattle.exchange_model.specs.Exchange.{Speech}
+use Rattle.frame_view.specs.View.{Lens}
+use Rattle.link_mails.specs.Body.{Body}
+use Rattle.segment_model.specs.Record.{Frame, News}
+use Rattle.segment_plan.specs.declared.slave.SlaveSpec.{SlaveSpec}
+use Rattle.segment_ring.specs.declared.wire.Fate.{Fate}
+use Rattle.segment_ring.specs.declared.wire.Fate.TheVariants.{Pass, Lost}
+use Rattle.segment_ring.specs.Ring.{RingState, ring_behind}
+use Rattle.segment_ring.specs.Schedule.{fate_at}
+use Rattle.slave_server.specs.Serving.{Serving}
+use Rattle.slave_steps.specs.Node.{Node, node_passed}
+use Rattle.master_duty.specs.Reply as Master
+use Rattle.master_hand.specs.Spoken.{Asked, hand_speech, acknowledged}
+use Rattle.life_frames.specs.Frames.{Share}
+use Rattle.life_frames.specs.Shares as Shares
+use Rattle.life_frames.specs.Shares.{Lived, IsNext, lived_back, lived_lost}
+use Rattle.named_lives.specs.Alike.{Alike, WishIs, InHandIs}
+use Rattle.whole_ring.specs.Members.{IsRing}
+use Rattle.whole_ring.specs.Turning.{BeginBoots, frame_at}
+use Rattle.plan_ring.specs.Asked.{is_service}
+use Rattle.plan_ring.specs.Plan.{PlanMember, FitsPlan, step}
+
+-- what the master speaks with a slave, by the lengths of its mailboxes
+abbrev pub speech_of : PlanMember → Speech Body Asked Master.Reply
+speech_of m = hand_speech (record { out = m.plan.out; back = m.plan.back })
+
+-- a slave's life as a master shows it
+abbrev pub lived_of : PlanMember → Lived Asked Master.Reply
+lived_of m = record { spot = m.spot; life = m.life }
+
+-- A MASTER LEADS THE LIFE: it speaks as the slave's client does, and no mail that is passed on is in hand
+pub record IsLed (m : PlanMember) : Type 0 where
+  pub alike : Alike is_service (speech_of m) m.services.exchange.speech
+  pub last : m.services.states.acknowledged ≡ acknowledged
+  pub in_hand : InHandIs is_service m.life
+
+abbrev pub AllLed : List PlanMember → Type 0
+AllLed [] = ⊤
+AllLed (m ∷ ms) = IsLed m × AllLed ms
+
+-- a life before a frame as the master shows it, the slave's share of the frame, and the news by which a mail that is passed on goes on
+pub record Under : Type 0 where
+  pub lived : Lived Asked Master.Reply
+  pub share : Share
+  pub news : List (News Body)
+
+module _ (more : Body → Bool) (passed : Asked → Bool) where
+  -- THE FRAME UNDER WAY for a slave: by a choice of the master's the life is the one before the frame, the frame has its share for it, and what
+  -- was chosen is a service of the slave
+  pub record IsUnder (lens : ℕ → Lens) (made : ℕ) (ds : List Raw.Datagram) (m : PlanMember) (u : Under) : Type 0 where
+    pub next : IsNext (speech_of m) acknowledged more passed made (lived_of m) u.lived
+    pub asked : Shares.Asked lens ds u.lived u.share
+    pub wish : WishIs is_service next.pick.begin
+    pub boots : BeginBoots m.services.boot next.pick.begin
+
+  abbrev pub AllUnder : (ℕ → Lens) → ℕ → List Raw.Datagram → List PlanMember → List Under → Type 0
+  AllUnder lens made ds [] [] = ⊤
+  AllUnder lens made ds (m ∷ ms) (u ∷ us) = IsUnder lens made ds m u × AllUnder lens made ds ms us
+  AllUnder lens made ds _ _ = ⊥
+
+  -- the life that the master shows behind the frame; `gives` says whether slaves that a lost frame carried are given up
+  abbrev pub led_behind : Bool → ℕ → ℕ → Frame Body → Fate → PlanMember → Under → Lived Asked Master.Reply
+  led_behind gives recover made f Pass m u = lived_back (speech_of m) acknowledged more passed made f.back u.lived u.share u.news
+  led_behind gives recover made f (Lost after) m u = lived_lost (speech_of m) acknowledged more passed gives recover made f.sent u.lived u.share u.news
+
+  abbrev pub AllBehind : Bool → ℕ → ℕ → Frame Body → Fate → List PlanMember → List Under → List PlanMember → Type 0
+  AllBehind gives recover made f fate [] [] [] = ⊤
+  AllBehind gives recover made f fate (m ∷ ms) (u ∷ us) (n ∷ ns) = (lived_of n ≡ led_behind gives recover made f fate m u) × AllBehind gives recover made f fate ms us ns
+  AllBehind gives recover made f fate _ _ _ = ⊥
+
+  -- THE RING BEHIND THE FRAME: all lives are lived by its nodes, a master leads them, and they are those that it shows
+  pub record OnAs (lens : ℕ → Lens) (ss : List SlaveSpec) (gives : Bool) (recover : ℕ) (fs : List (Frame Body)) (ring : RingState (Node Serving)) (octets : List ℕ) (ms : List PlanMember) (us : List Under) (fate : Fate) : Type 0 where
+    pub behind : List PlanMember
+    pub lives : IsRing lens step (FitsPlan ss) (fs ++ frame_at lens ring octets ∷ []) (ring_behind node_passed step ring octets) behind
+    pub led : AllLed behind
+    pub shown : AllBehind gives recover (length fs) (frame_at lens ring octets) fate ms us behind
+
+  -- by the schedule of lost frames
+  abbrev pub GoesOn : (ℕ → Lens) → List SlaveSpec → Bool → ℕ → List (Frame Body) → RingState (Node Serving) → List ℕ → List PlanMember → List Under → Type 0
+  GoesOn lens ss gives recover fs ring octets ms us = OnAs lens ss gives recover fs ring octets ms us (fate_at ring.lose ring.number)

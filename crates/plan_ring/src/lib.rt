@@ -1,0 +1,63 @@
+//! The ring of a plan's slaves, with their services as the master asks for them. No running code: each function here does nothing, and its
+//! contract states a law.
+#![tactic(auto)]
+
+ghost use Rattle.std.specs.Prelude.{◌≡◌, ◌<◌, ◌∷◌, ◌++◌, ℕ, Bool, List, [], map, length};
+ghost use Rattle.datagrams.specs.Datagram as Raw;
+ghost use Rattle.datagrams.specs.Frame.{IsFrame, chained};
+ghost use Rattle.frame_view.specs.View.{Lens};
+ghost use Rattle.link_mails.specs.Body.{Body};
+ghost use Rattle.segment_model.specs.Record.{Frame};
+ghost use Rattle.segment_ring.specs.Ring.{RingState, ring_behind};
+ghost use Rattle.segment_ring.specs.Schedule.{fate_at};
+ghost use Rattle.slave_steps.specs.Node.{Node, node_passed};
+ghost use Rattle.slave_server.specs.Serving.{Serving};
+ghost use Rattle.slave_server.specs.Spec.{node_of};
+ghost use Rattle.life_model.specs.Lives.{Spot};
+ghost use Rattle.master_hand.specs.Spoken.{Asked, hand_speech};
+ghost use Rattle.named_lives.specs.Alike.{Alike};
+ghost use Rattle.slave_lives.specs.Opening as Opening;
+ghost use Rattle.slave_model.specs.Profile.{Profile, IsProfile, areas_of};
+ghost use Rattle.segment_plan.specs.Sound as Plan;
+ghost use Rattle.segment_plan.specs.declared.plan.Scenario.{Scenario};
+ghost use Rattle.segment_plan.specs.declared.slave.SlaveSpec.{SlaveSpec};
+ghost use Rattle.server_lives.specs.Real.{real_clearing};
+ghost use Rattle.whole_lives.specs.Whole.{IsWhole};
+ghost use Rattle.whole_ring.specs.Members.{IsRing, first_ring};
+ghost use Rattle.whole_ring.specs.Turning.{Turn, AllTurn, frame_at, behind_frame, given_up};
+ghost use Rattle.plan_ring.specs.Asked.{is_service, asked};
+ghost use Rattle.plan_ring.specs.Master.{Under, AllLed, AllUnder, GoesOn};
+ghost use Rattle.plan_ring.specs.Plan.{PlanMember, FitsPlan, AllMacs, lens_of, members_of, step};
+
+/// The services of a slave of a plan, as the master asks for them, are such as the laws of whole lives speak of; and the master speaks of them as
+/// their own client does, but for mails that are passed on.
+pub fn asked_whole_law()
+    ensures whole { (p : Profile) → IsProfile p → (boot : Bool) (lens : ℕ → Lens) (plan : Opening.Plan) (spot : Spot) → Opening.IsPlan boot lens plan → plan.station ≡ spot.station → plan.start ≡ spot.start → IsWhole (asked p boot lens) real_clearing plan spot }
+    ensures speech { (p : Profile) (boot : Bool) (lens : ℕ → Lens) → Alike is_service (hand_speech (areas_of p)) (asked p boot lens).exchange.speech }
+{
+    slave_parts::slave_is_lawful();
+    server_lives::real_server_law();
+}
+
+/// THE LIVES OF A PLAN'S RING begin with the ring that runs; they go on by each frame and step, and where slaves are given up.
+pub fn plan_ring_law()
+    ensures begins { (plan : Scenario) → Plan.IsPlan plan → AllMacs plan.slaves → IsRing (lens_of plan.slaves) step (FitsPlan plan.slaves) [] (first_ring plan.lose (members_of plan)) (members_of plan) }
+    ensures runs { (plan : Scenario) → Plan.IsPlan plan → first_ring plan.lose (members_of plan) ≡ record { nodes = map node_of plan.slaves; paces = plan.paces; lose = plan.lose; number = 0 } }
+    ensures turns { (lens : ℕ → Lens) (ss : List SlaveSpec) (more : Body → Bool) (passed : Asked → Bool) (fs : List (Frame Body)) (ring : RingState (Node Serving)) (octets : List ℕ) (ds : List Raw.Datagram) (ms : List PlanMember) (turns : List (Turn Asked)) →
+        IsFrame octets (chained ds) → IsRing lens step (FitsPlan ss) fs ring ms → AllTurn more passed lens (length fs) ds ms turns →
+        IsRing lens step (FitsPlan ss) (fs ++ frame_at lens ring octets ∷ []) (ring_behind node_passed step ring octets) (behind_frame more passed (length fs) (frame_at lens ring octets) (fate_at ring.lose ring.number) 0 ms turns (chained ds)) }
+    ensures gives { (lens : ℕ → Lens) (ss : List SlaveSpec) (fs : List (Frame Body)) (ring : RingState (Node Serving)) (recover frame : ℕ) (ms : List PlanMember) (carried : List Bool) →
+        IsRing lens step (FitsPlan ss) fs ring ms → IsRing lens step (FitsPlan ss) fs ring (given_up recover frame ms carried) }
+{
+    asked_whole_law();
+    server_lives::real_server_law();
+    server_lives::real_room_law();
+}
+
+/// A MASTER OF A PLAN'S RING leads the lives of its slaves: it begins with them; and where the frame under way is its own, and was exchanged with the
+/// ring, the lives that it shows behind the frame are lived by the ring's nodes, whether it came back, was lost, or slaves were given up by it.
+pub fn master_ring_law()
+    ensures begins { (plan : Scenario) → AllLed (members_of plan) }
+    ensures goes_on { (more : Body → Bool) (passed : Asked → Bool) (lens : ℕ → Lens) (ss : List SlaveSpec) (gives : Bool) (recover : ℕ) (fs : List (Frame Body)) (ring : RingState (Node Serving)) (octets : List ℕ) (ds : List Raw.Datagram) (ms : List PlanMember) (us : List Under) →
+        IsFrame octets (chained ds) → IsRing lens step (FitsPlan ss) fs ring ms → AllLed ms → AllUnder more passed lens (length fs) ds ms us → GoesOn more passed lens ss gives recover fs ring octets ms us }
+{}
