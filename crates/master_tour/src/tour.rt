@@ -50,7 +50,7 @@ impl<H: Hand> Tour<H> {
     ghost use Rattle.mailbox_master.specs.Any.{in_area_len};
     ghost use Rattle.std.specs.Prelude.{is_some, true, ◌++◌, ◌+◌, ◌==◌};
     ghost use Rattle.std.specs.Prelude.{Some, drop};
-    ghost use Rattle.master_tour.specs.Orders.{start_of, place_in, round_left, visits_left, AreOnce, IsNextOf};
+    ghost use Rattle.master_tour.specs.Orders.{start_of, place_in, round_left, visits_left, AreOnce, IsNextOf, IsCarried};
     ghost use Rattle.life_frames.specs.Shares.{Lived, AllBoth, AllThree, AreDistinct, lived_back, lived_lost};
     ghost use Rattle.master_side.specs.Sent.{SameLink};
     ghost use Rattle.master_tour.specs.Made.{StopLives, StopMade, StopSent, FrameMade, FrameSent, IsClearFor, IsSized, is_in};
@@ -99,6 +99,7 @@ impl<H: Hand> Tour<H> {
     fn rewind(&mut self)
         ensures long { length self.new.stops.items ≡ length self.old.stops.items }
         ensures each { EachPair (λ s t. (t.side ≡ s.side) × (t.stand ≡ s.stand) × (t.place ≡ s.place) × (t.start ≡ s.start) × (t.spare ≡ s.spare) × (t.under ≡ false)) self.old.stops.items self.new.stops.items }
+        ensures tour { (self.new.again ≡ self.old.again) × (self.new.visit ≡ self.old.visit) × (self.new.opened ≡ self.old.opened) × (self.new.last ≡ self.old.last) × (self.new.missed ≡ self.old.missed) × (self.new.retry ≡ self.old.retry) }
     {
         for i in 0..self.stops.len() {
             self.stops[i].under = false;
@@ -107,7 +108,10 @@ impl<H: Hand> Tour<H> {
 
     // The slaves of the last frame are forgotten, unless they come again.
     fn forget(&mut self)
-        ensures { self.new.stops ≡ self.old.stops }
+        ensures stops { self.new.stops ≡ self.old.stops }
+        ensures kept { (self.new.again ≡ self.old.again) × (self.new.opened ≡ self.old.opened) × (self.new.last ≡ self.old.last) × (self.new.missed ≡ self.old.missed) × (self.new.retry ≡ self.old.retry) }
+        ensures again { self.old.again ≡ true → self.new.visit ≡ self.old.visit }
+        ensures anew { self.old.again ≡ false → self.new.visit.items ≡ [] }
     {
         if !self.again {
             self.visit.clear();
@@ -122,6 +126,9 @@ impl<H: Hand> Tour<H> {
         ensures made { (x : Speech Body H.Asked Reply) (more : Body → Bool) (passed : H.Asked → Bool) (made recover index : ℕ) (lens : ℕ → Lens) (left : List ℕ) (lives : List (Lived H.Asked Reply)) →
             AllBoth (λ a s. StopLives lens recover (λ d b. SideShows (H.shows s.side.hand x) s.side.out s.side.inn s.side.fresh s.side.duty d b) s.side.station s.place s.start s.stand s.spare s.side.out.len (in_area_len s.side.inn) a × (is_some a.life.era.passing ≡ is_some s.side.passing)) lives self.old.stops.items →
             FrameMade (λ ds i a s. StopMade x H.acknowledged more passed made lens recover index (λ d b. SideShows (H.shows s.side.hand x) s.side.out s.side.inn s.side.fresh s.side.duty d b) s.side.station s.place s.start s.stand s.spare s.side.out s.side.inn s.side.duty s.side.carried s.side.passing s.under s.at left ds i a) frame.new.items 0 lives self.new.stops.items }
+        ensures tour { (self.new.again ≡ self.old.again) × (self.new.opened ≡ self.old.opened) × (self.new.last ≡ self.old.last) × (self.new.missed ≡ self.old.missed) × (self.new.retry ≡ self.old.retry) × (self.new.passed ≡ 0) }
+        ensures again { self.old.again ≡ true → self.new.visit ≡ self.old.visit }
+        ensures anew { self.old.again ≡ false → self.new.visit.items ≡ [] }
     {
         self.rewind();
         datagrams::begin(frame);
@@ -244,6 +251,7 @@ impl<H: Hand> Tour<H> {
         ensures made { (x : Speech Body H.Asked Reply) (more : Body → Bool) (passed : H.Asked → Bool) (made recover index count : ℕ) (lens : ℕ → Lens) (left : List ℕ) (lives : List (Lived H.Asked Reply)) (octets : List ℕ) → AreDistinct lives → is_in place left ≡ true →
             FrameMade (λ ds i a s. StopMade x H.acknowledged more passed made lens recover index (λ d b. SideShows (H.shows s.side.hand x) s.side.out s.side.inn s.side.fresh s.side.duty d b) s.side.station s.place s.start s.stand s.spare s.side.out s.side.inn s.side.duty s.side.carried s.side.passing s.under s.at left ds i a) octets count lives self.old.stops.items →
             FrameMade (λ ds i a s. StopMade x H.acknowledged more passed made lens recover index (λ d b. SideShows (H.shows s.side.hand x) s.side.out s.side.inn s.side.fresh s.side.duty d b) s.side.station s.place s.start s.stand s.spare s.side.out s.side.inn s.side.duty s.side.carried s.side.passing s.under s.at left ds i a) octets count lives self.new.stops.items }
+        ensures tour { (self.new.again ≡ self.old.again) × (self.new.visit ≡ self.old.visit) × (self.new.opened ≡ self.old.opened) × (self.new.last ≡ self.old.last) × (self.new.missed ≡ self.old.missed) × (self.new.retry ≡ self.old.retry) × (self.new.passed ≡ self.old.passed) }
     {
         self.stops[place].ahead(wish) <= datagrams::room(frame)
     }
@@ -284,6 +292,8 @@ impl<H: Hand> Tour<H> {
         ensures stops { self.new.stops ≡ self.old.stops }
         ensures carried { under ≡ true → self.new.count ≡ self.old.count + 1 }
         ensures still { under ≡ false → self.new.count ≡ self.old.count }
+        ensures tour { (self.new.again ≡ self.old.again) × (self.new.opened ≡ self.old.opened) × (self.new.last ≡ self.old.last) × (self.new.missed ≡ self.old.missed) × (self.new.retry ≡ self.old.retry) × (self.new.passed ≡ self.old.passed) }
+        ensures visits { length self.old.visit.items < 16 → IsCarried under self.old.again place self.old.visit.items self.new.visit.items }
     {
         if under {
             self.carry(place);
@@ -295,6 +305,8 @@ impl<H: Hand> Tour<H> {
         requires few { self.old.count < 16 }
         ensures stops { self.new.stops ≡ self.old.stops }
         ensures count { self.new.count ≡ self.old.count + 1 }
+        ensures tour { (self.new.again ≡ self.old.again) × (self.new.opened ≡ self.old.opened) × (self.new.last ≡ self.old.last) × (self.new.missed ≡ self.old.missed) × (self.new.retry ≡ self.old.retry) × (self.new.passed ≡ self.old.passed) }
+        ensures visits { length self.old.visit.items < 16 → IsCarried true self.old.again place self.old.visit.items self.new.visit.items }
     {
         if !self.again {
             let _room = self.visit.try_push(place);
