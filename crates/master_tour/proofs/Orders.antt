@@ -3,7 +3,7 @@ use Rattle.std.proofs.Common.{◌≡◌, ℕ, zero, suc, ◌+◌, ◌-◌, ◌<�
 use Rattle.std.specs.Prelude.{nat_lt, if◌then◌else◌}
 use Rattle.std.proofs.lemmas.Bool.{ltb-true, ltb-false, lt-ltb, le-ltb}
 use Rattle.master_tour.specs.Made.{is_in}
-use Rattle.master_tour.specs.Orders.{start_of, place_in, places_from, round_left, visits_left, AreOnce, IsNextOf}
+use Rattle.master_tour.specs.Orders.{start_of, place_in, places_from, round_left, visits_left, AreOnce, IsNextOf, IsCarried}
 use Rattle.master_tour.proofs.Steps.{differ}
 
 in_behind : (k p : ℕ) (ps : List ℕ) → is_in k ps ≡ true → is_in k (p ∷ ps) ≡ true
@@ -117,3 +117,8 @@ module _ (again : Bool) (visit : List ℕ) (opened count : ℕ) (last : Option �
   round_of e l h =
       subst (λ z. IsNextOf p (visits_left z visit opened count last i) (visits_left z visit opened count last j)) (sym e)
       (subst (λ (z : Bool). IsNextOf p (if z then drop i (opened ∷ []) else round_left (start_of count last) count i) (if z then drop j (opened ∷ []) else round_left (start_of count last) count j)) (sym (le-ltb opened count l)) h)
+
+-- a datagram more is counted
+pub counted_carried : (under again : Bool) (count count' place : ℕ) (old new : List ℕ) → IsCarried under again place old new → (under ≡ true → count' ≡ count + 1) → (under ≡ false → count' ≡ count) → IsCarried (nat_lt count count') again place old new
+counted_carried true again count count' place old new c a b = let e = a refl in subst (λ z. IsCarried z again place old new) (sym (lt-ltb count count' (omega (arith, e)))) c
+counted_carried false again count count' place old new c a b = let e = b refl in subst (λ z. IsCarried z again place old new) (sym (le-ltb count count' (omega (arith, e)))) c

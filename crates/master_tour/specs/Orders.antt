@@ -1,5 +1,5 @@
 -- THE ORDER OF A FRAME'S VISITS, by places in the ring.
-use Rattle.std.specs.Prelude.{◌≡◌, ℕ, zero, suc, ◌+◌, ◌-◌, nat_lt, Bool, true, false, if◌then◌else◌, Option, Some, None, List, [], ◌∷◌, drop, ⊤}
+use Rattle.std.specs.Prelude.{◌≡◌, ℕ, zero, suc, ◌+◌, ◌-◌, nat_lt, Bool, true, false, if◌then◌else◌, Option, Some, None, List, [], ◌∷◌, ◌++◌, drop, ⊤}
 use Rattle.master_tour.specs.Made.{is_in}
 
 -- a round begins behind the slave that was carried last
@@ -36,3 +36,9 @@ pub record IsNextOf (p : ℕ) (left next : List ℕ) : Type 0 where
   pub among : is_in p left ≡ true
   pub over : is_in p next ≡ false
   pub fewer : (k : ℕ) → is_in k next ≡ true → is_in k left ≡ true
+
+-- THE PLACES THAT A FRAME CARRIES: one more where this one is, behind the others, unless the same come again
+abbrev pub IsCarried : Bool → Bool → ℕ → List ℕ → List ℕ → Type 0
+IsCarried true false place old new = new ≡ old ++ place ∷ []
+IsCarried true true place old new = new ≡ old
+IsCarried false again place old new = new ≡ old

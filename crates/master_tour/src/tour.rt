@@ -50,13 +50,13 @@ impl<H: Hand> Tour<H> {
     ghost use Rattle.mailbox_master.specs.Any.{in_area_len};
     ghost use Rattle.std.specs.Prelude.{is_some, true, ◌++◌, ◌+◌, ◌==◌};
     ghost use Rattle.std.specs.Prelude.{Some, drop};
-    ghost use Rattle.master_tour.specs.Orders.{start_of, place_in, round_left, visits_left, AreOnce, IsNextOf};
+    ghost use Rattle.master_tour.specs.Orders.{start_of, place_in, round_left, visits_left, AreOnce, IsNextOf, IsCarried};
     ghost use Rattle.life_frames.specs.Shares.{Lived, AllBoth, AllThree, AreDistinct, lived_back, lived_lost};
     ghost use Rattle.master_side.specs.Sent.{SameLink};
     ghost use Rattle.master_tour.specs.Made.{StopLives, StopMade, StopSent, FrameMade, FrameSent, IsClearFor, IsSized, is_in};
     ghost use Rattle.life_model.specs.Lives.{Life, Spot, life_back, life_lost};
     ghost use Rattle.segment_model.specs.Record.{News};
-    ghost use Rattle.std.specs.Prelude.{Bool, false, not, nat_lt, ◌&&◌};
+    ghost use Rattle.std.specs.Prelude.{Bool, false, not, nat_lt, ◌&&◌, if◌then◌else◌};
     ghost use Rattle.master_tour.specs.declared.stop.Stand.{Stand};
 
     // Each slave hears what came back.
@@ -71,6 +71,7 @@ impl<H: Hand> Tour<H> {
             FollowShows (λ d a. SideShows (H.shows t.side.hand x) t.side.out t.side.inn t.side.fresh t.side.duty d a) recover spot t.stand t.spare t.news l (life_back x H.acknowledged more passed number spot ns (seen lens octets.now) (came_at s.under s.at (seen lens octets.now)) l l.stand)) × (t.place ≡ s.place) × (t.start ≡ s.start)) self.old.stops.items self.new.stops.items }
         ensures long { length self.new.stops.items ≡ length self.old.stops.items }
         ensures kept { EachPair (λ s t. SameLink s.side.out s.side.inn s.side.station s.side.area t.side.out t.side.inn t.side.station t.side.area × (IsSized s.stand s.side.out.len (in_area_len s.side.inn) → IsSized t.stand t.side.out.len (in_area_len t.side.inn))) self.old.stops.items self.new.stops.items }
+        ensures tour { (self.new.again ≡ self.old.again) × (self.new.visit ≡ self.old.visit) × (self.new.opened ≡ self.old.opened) × (self.new.last ≡ self.old.last) × (self.new.missed ≡ self.old.missed) × (self.new.retry ≡ self.old.retry) }
     {
         let mut cursor = Cursor::new(octets);
         for i in 0..self.stops.len() {
@@ -89,6 +90,7 @@ impl<H: Hand> Tour<H> {
             FollowShows (λ d a. SideShows (H.shows t.side.hand x) t.side.out t.side.inn t.side.fresh t.side.duty d a) recover spot t.stand t.spare t.news l (given_where (gives && s.under) recover spot number (life_lost x H.acknowledged more passed spot ns (seen lens octets) l l.stand))) × (t.place ≡ s.place) × (t.start ≡ s.start)) self.old.stops.items self.new.stops.items }
         ensures long { length self.new.stops.items ≡ length self.old.stops.items }
         ensures kept { EachPair (λ s t. SameLink s.side.out s.side.inn s.side.station s.side.area t.side.out t.side.inn t.side.station t.side.area × (IsSized s.stand s.side.out.len (in_area_len s.side.inn) → IsSized t.stand t.side.out.len (in_area_len t.side.inn))) self.old.stops.items self.new.stops.items }
+        ensures tour { (self.new.again ≡ self.old.again) × (self.new.visit ≡ self.old.visit) × (self.new.opened ≡ self.old.opened) × (self.new.last ≡ self.old.last) × (self.new.missed ≡ self.old.missed) × (self.new.retry ≡ self.old.retry) }
     {
         for i in 0..self.stops.len() {
             self.stops[i].lost_for(gives);
@@ -99,6 +101,7 @@ impl<H: Hand> Tour<H> {
     fn rewind(&mut self)
         ensures long { length self.new.stops.items ≡ length self.old.stops.items }
         ensures each { EachPair (λ s t. (t.side ≡ s.side) × (t.stand ≡ s.stand) × (t.place ≡ s.place) × (t.start ≡ s.start) × (t.spare ≡ s.spare) × (t.under ≡ false)) self.old.stops.items self.new.stops.items }
+        ensures tour { (self.new.again ≡ self.old.again) × (self.new.visit ≡ self.old.visit) × (self.new.opened ≡ self.old.opened) × (self.new.last ≡ self.old.last) × (self.new.missed ≡ self.old.missed) × (self.new.retry ≡ self.old.retry) }
     {
         for i in 0..self.stops.len() {
             self.stops[i].under = false;
@@ -107,7 +110,10 @@ impl<H: Hand> Tour<H> {
 
     // The slaves of the last frame are forgotten, unless they come again.
     fn forget(&mut self)
-        ensures { self.new.stops ≡ self.old.stops }
+        ensures stops { self.new.stops ≡ self.old.stops }
+        ensures kept { (self.new.again ≡ self.old.again) × (self.new.opened ≡ self.old.opened) × (self.new.last ≡ self.old.last) × (self.new.missed ≡ self.old.missed) × (self.new.retry ≡ self.old.retry) }
+        ensures again { self.old.again ≡ true → self.new.visit ≡ self.old.visit }
+        ensures anew { self.old.again ≡ false → self.new.visit.items ≡ [] }
     {
         if !self.again {
             self.visit.clear();
@@ -122,6 +128,9 @@ impl<H: Hand> Tour<H> {
         ensures made { (x : Speech Body H.Asked Reply) (more : Body → Bool) (passed : H.Asked → Bool) (made recover index : ℕ) (lens : ℕ → Lens) (left : List ℕ) (lives : List (Lived H.Asked Reply)) →
             AllBoth (λ a s. StopLives lens recover (λ d b. SideShows (H.shows s.side.hand x) s.side.out s.side.inn s.side.fresh s.side.duty d b) s.side.station s.place s.start s.stand s.spare s.side.out.len (in_area_len s.side.inn) a × (is_some a.life.era.passing ≡ is_some s.side.passing)) lives self.old.stops.items →
             FrameMade (λ ds i a s. StopMade x H.acknowledged more passed made lens recover index (λ d b. SideShows (H.shows s.side.hand x) s.side.out s.side.inn s.side.fresh s.side.duty d b) s.side.station s.place s.start s.stand s.spare s.side.out s.side.inn s.side.duty s.side.carried s.side.passing s.under s.at left ds i a) frame.new.items 0 lives self.new.stops.items }
+        ensures tour { (self.new.again ≡ self.old.again) × (self.new.opened ≡ self.old.opened) × (self.new.last ≡ self.old.last) × (self.new.missed ≡ self.old.missed) × (self.new.retry ≡ self.old.retry) × (self.new.passed ≡ 0) }
+        ensures again { self.old.again ≡ true → self.new.visit ≡ self.old.visit }
+        ensures anew { self.old.again ≡ false → self.new.visit.items ≡ [] }
     {
         self.rewind();
         datagrams::begin(frame);
@@ -244,6 +253,7 @@ impl<H: Hand> Tour<H> {
         ensures made { (x : Speech Body H.Asked Reply) (more : Body → Bool) (passed : H.Asked → Bool) (made recover index count : ℕ) (lens : ℕ → Lens) (left : List ℕ) (lives : List (Lived H.Asked Reply)) (octets : List ℕ) → AreDistinct lives → is_in place left ≡ true →
             FrameMade (λ ds i a s. StopMade x H.acknowledged more passed made lens recover index (λ d b. SideShows (H.shows s.side.hand x) s.side.out s.side.inn s.side.fresh s.side.duty d b) s.side.station s.place s.start s.stand s.spare s.side.out s.side.inn s.side.duty s.side.carried s.side.passing s.under s.at left ds i a) octets count lives self.old.stops.items →
             FrameMade (λ ds i a s. StopMade x H.acknowledged more passed made lens recover index (λ d b. SideShows (H.shows s.side.hand x) s.side.out s.side.inn s.side.fresh s.side.duty d b) s.side.station s.place s.start s.stand s.spare s.side.out s.side.inn s.side.duty s.side.carried s.side.passing s.under s.at left ds i a) octets count lives self.new.stops.items }
+        ensures tour { (self.new.again ≡ self.old.again) × (self.new.visit ≡ self.old.visit) × (self.new.opened ≡ self.old.opened) × (self.new.last ≡ self.old.last) × (self.new.missed ≡ self.old.missed) × (self.new.retry ≡ self.old.retry) × (self.new.passed ≡ self.old.passed) }
     {
         self.stops[place].ahead(wish) <= datagrams::room(frame)
     }
@@ -270,6 +280,8 @@ impl<H: Hand> Tour<H> {
         ensures made { (x : Speech Body H.Asked Reply) (more : Body → Bool) (passed : H.Asked → Bool) (made recover : ℕ) (lens : ℕ → Lens) (left next : List ℕ) (lives : List (Lived H.Asked Reply)) → AreDistinct lives → is_in place left ≡ true → is_in place next ≡ false → ((k : ℕ) → is_in k next ≡ true → is_in k left ≡ true) →
             FrameMade (λ ds i a s. StopMade x H.acknowledged more passed made lens recover index (λ d b. SideShows (H.shows s.side.hand x) s.side.out s.side.inn s.side.fresh s.side.duty d b) s.side.station s.place s.start s.stand s.spare s.side.out s.side.inn s.side.duty s.side.carried s.side.passing s.under s.at left ds i a) frame.old.items self.old.count lives self.old.stops.items →
             FrameMade (λ ds i a s. StopMade x H.acknowledged more passed made lens recover index (λ d b. SideShows (H.shows s.side.hand x) s.side.out s.side.inn s.side.fresh s.side.duty d b) s.side.station s.place s.start s.stand s.spare s.side.out s.side.inn s.side.duty s.side.carried s.side.passing s.under s.at next ds i a) frame.new.items self.new.count lives self.new.stops.items }
+        ensures tour { (self.new.again ≡ self.old.again) × (self.new.opened ≡ self.old.opened) × (self.new.last ≡ self.old.last) × (self.new.missed ≡ self.old.missed) × (self.new.retry ≡ self.old.retry) × (self.new.passed ≡ self.old.passed) }
+        ensures visits { length self.old.visit.items < 16 → IsCarried (nat_lt self.old.count self.new.count) self.old.again place self.old.visit.items self.new.visit.items }
     {
         let at = self.count;
         let began = self.stops[place].visit(wish, at, index, frame);
@@ -284,6 +296,8 @@ impl<H: Hand> Tour<H> {
         ensures stops { self.new.stops ≡ self.old.stops }
         ensures carried { under ≡ true → self.new.count ≡ self.old.count + 1 }
         ensures still { under ≡ false → self.new.count ≡ self.old.count }
+        ensures tour { (self.new.again ≡ self.old.again) × (self.new.opened ≡ self.old.opened) × (self.new.last ≡ self.old.last) × (self.new.missed ≡ self.old.missed) × (self.new.retry ≡ self.old.retry) × (self.new.passed ≡ self.old.passed) }
+        ensures visits { length self.old.visit.items < 16 → IsCarried under self.old.again place self.old.visit.items self.new.visit.items }
     {
         if under {
             self.carry(place);
@@ -295,6 +309,8 @@ impl<H: Hand> Tour<H> {
         requires few { self.old.count < 16 }
         ensures stops { self.new.stops ≡ self.old.stops }
         ensures count { self.new.count ≡ self.old.count + 1 }
+        ensures tour { (self.new.again ≡ self.old.again) × (self.new.opened ≡ self.old.opened) × (self.new.last ≡ self.old.last) × (self.new.missed ≡ self.old.missed) × (self.new.retry ≡ self.old.retry) × (self.new.passed ≡ self.old.passed) }
+        ensures visits { length self.old.visit.items < 16 → IsCarried true self.old.again place self.old.visit.items self.new.visit.items }
     {
         if !self.again {
             let _room = self.visit.try_push(place);
@@ -350,6 +366,7 @@ impl<H: Hand> Tour<H> {
             FollowShows (λ d a. SideShows (H.shows t.side.hand x) t.side.out t.side.inn t.side.fresh t.side.duty d a) recover spot t.stand t.spare t.news l (life_back x H.acknowledged more passed number spot ns (seen lens frame.now.items) (came_at s.under s.at (seen lens frame.now.items)) l l.stand)) × (t.place ≡ s.place) × (t.start ≡ s.start)) self.old.stops.items self.new.stops.items }
         ensures long { length self.new.stops.items ≡ length self.old.stops.items }
         ensures kept { EachPair (λ s t. SameLink s.side.out s.side.inn s.side.station s.side.area t.side.out t.side.inn t.side.station t.side.area × (IsSized s.stand s.side.out.len (in_area_len s.side.inn) → IsSized t.stand t.side.out.len (in_area_len t.side.inn))) self.old.stops.items self.new.stops.items }
+        ensures tour { (self.new.again ≡ self.old.again) × (self.new.visit ≡ self.old.visit) × (self.new.opened ≡ self.old.opened) × (self.new.last ≡ self.old.last) × (self.new.missed ≡ self.old.missed) × (self.new.retry ≡ self.old.retry) }
     {
         let octets = frame.as_slice();
         if datagrams::fault(octets).is_none() {
@@ -372,6 +389,7 @@ impl<H: Hand> Tour<H> {
         ensures shown { (lens : ℕ → Lens) (sent : List (Datagram Body)) → Returns sent (seen lens frame.now.items) → 1 ≤ length sent → (x : Speech Body H.Asked Reply) (more : Body → Bool) (passed : H.Asked → Bool) (number recover : ℕ) (lives : List (Lived H.Asked Reply)) →
             AllBoth (λ a s. StopLives lens recover (λ d b. SideShows (H.shows s.side.hand x) s.side.out s.side.inn s.side.fresh s.side.duty d b) s.side.station s.place s.start s.stand s.spare s.side.out.len (in_area_len s.side.inn) a × StandUnder lens s.side.station s.at s.under s.side.carried s.stand a.life sent) lives self.old.stops.items →
             AllThree (λ a s t. (ns : List (News Body)) → StopLives lens recover (λ d b. SideShows (H.shows t.side.hand x) t.side.out t.side.inn t.side.fresh t.side.duty d b) t.side.station t.place t.start t.stand t.spare t.side.out.len (in_area_len t.side.inn) (lived_back x H.acknowledged more passed number (seen lens frame.now.items) a (record { under = s.under; at = s.at }) ns)) lives self.old.stops.items self.new.stops.items }
+        ensures tour { (self.new.visit ≡ self.old.visit) × (self.new.again ≡ false) × (self.new.missed ≡ 0) × (self.new.retry ≡ self.old.retry) }
     {
         self.hear(frame, made);
         let last = self.last_behind();
@@ -396,6 +414,7 @@ impl<H: Hand> Tour<H> {
         ensures shown { (lens : ℕ → Lens) (octets : List ℕ) (x : Speech Body H.Asked Reply) (more : Body → Bool) (passed : H.Asked → Bool) (number recover : ℕ) (lives : List (Lived H.Asked Reply)) →
             AllBoth (λ a s. StopLives lens recover (λ d b. SideShows (H.shows s.side.hand x) s.side.out s.side.inn s.side.fresh s.side.duty d b) s.side.station s.place s.start s.stand s.spare s.side.out.len (in_area_len s.side.inn) a × StandUnder lens s.side.station s.at s.under s.side.carried s.stand a.life (seen lens octets)) lives self.old.stops.items →
             AllThree (λ a s t. (ns : List (News Body)) → StopLives lens recover (λ d b. SideShows (H.shows t.side.hand x) t.side.out t.side.inn t.side.fresh t.side.duty d b) t.side.station t.place t.start t.stand t.spare t.side.out.len (in_area_len t.side.inn) (lived_lost x H.acknowledged more passed (not (nat_lt self.old.missed self.old.retry)) recover number (seen lens octets) a (record { under = s.under; at = s.at }) ns)) lives self.old.stops.items self.new.stops.items }
+        ensures tour { (self.new.visit ≡ self.old.visit) × (self.new.again ≡ nat_lt self.old.missed self.old.retry) × (self.new.missed ≡ (if nat_lt self.old.missed self.old.retry then self.old.missed + 1 else 0)) × (self.new.retry ≡ self.old.retry) }
     {
         let missed = self.missed;
         let comes_again = missed < self.retry;

@@ -14,7 +14,7 @@ returns-clause-made g c = λ x more passed made recover index lens left lives h.
   begun = c.begin.ensures.begun;
   long = refl;
   named = tt;
-  each = subst (λ z. AllFrom (λ i a s. StopMade x g.H.Hand.acknowledged more passed made lens recover index (λ d b. SideShows (g.H.Hand.shows s.side.hand x) s.side.out s.side.inn s.side.fresh s.side.duty d b) s.side.station s.place s.start s.stand s.spare s.side.out s.side.inn s.side.duty s.side.carried s.side.passing s.under s.at left [] i a) 0 lives z.items) (sym c.forget.ensures)
+  each = subst (λ z. AllFrom (λ i a s. StopMade x g.H.Hand.acknowledged more passed made lens recover index (λ d b. SideShows (g.H.Hand.shows s.side.hand x) s.side.out s.side.inn s.side.fresh s.side.duty d b) s.side.station s.place s.start s.stand s.spare s.side.out s.side.inn s.side.duty s.side.carried s.side.passing s.under s.at left [] i a) 0 lives z.items) (sym c.forget.ensures.stops)
       (all_first _ _ _
       (λ i a s t p r. made_first x g.H.Hand.acknowledged more passed made lens recover index (λ d b. SideShows (g.H.Hand.shows t.side.hand x) t.side.out t.side.inn t.side.fresh t.side.duty d b) t.side.station t.place t.start t.stand t.spare t.side.out t.side.inn t.side.duty t.side.carried t.side.passing t.under t.at left i a r.5
       (p.1 ∙ ap (λ z. is_some z.passing) (sym r.0))

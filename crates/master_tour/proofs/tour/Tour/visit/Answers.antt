@@ -15,6 +15,7 @@ use Rattle.std.proofs.Common.{ap, ◌∙◌, ◌+◌}
 use Rattle.master_side.specs.Sent.{SameLink}
 use Rattle.master_tour.specs.Made.{IsClearFor}
 use Rattle.std.proofs.lemmas.List.{get_or-set_same}
+use Rattle.master_tour.proofs.Orders.{counted_carried}
 use Rattle.master_tour.proofs.Steps.{frame_grows}
 use Rattle.master_tour.proofs.Mades.{made_visit, made_other, grown_of}
 use Rattle.master_tour.proofs.Walks.{steps_set}
@@ -55,3 +56,9 @@ returns-clause-made g c = λ x more passed made recover lens left next lives d k
     (e.lives x more passed made recover b.spot lens m.life m.lives.planned.out_is m.lives.planned.back_is m.lives.planned.stands (m.waits k) m.lives.shown))
     bg l (λ u. e.begun ds bg u) e.full (λ u. c.carry_where.ensures.carried (ap (λ z. z.under) same ∙ u)) (λ u. c.carry_where.ensures.still (ap (λ z. z.under) same ∙ u)))
     f
+
+pub returns-clause-visits : goal.returns-clause-visits
+returns-clause-visits g c = λ l.
+    let s = c.args.self.now in
+    let w = c.carry_where.new.self in
+    counted_carried c.index.result.now.under s.again s.count w.count c.args.place s.visit.items w.visit.items (c.carry_where.ensures.visits l) c.carry_where.ensures.carried c.carry_where.ensures.still
