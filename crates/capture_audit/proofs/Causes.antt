@@ -1,10 +1,8 @@
 -- When each verdict comes.
 use Rattle.std.proofs.Common.{◌≡◌, ℕ, List, [], ◌∷◌, ◌++◌, refl, sym, ap, ◌∙◌, subst, append_assoc, Option, Some, None, Result, Ok, Err}
-use Rattle.std.proofs.lemmas.List.{append-nil}
 use Rattle.capture_audit.specs.declared.known.Known.{Known}
 use Rattle.capture_audit.specs.declared.rule.Rule.{Rule}
 use Rattle.capture_audit.specs.declared.station.StationAudit.{StationAudit}
-use Rattle.capture_audit.specs.declared.verdict.Verdict.{Verdict}
 use Rattle.capture_audit.specs.declared.verdict.Verdict.TheVariants.{Yes, No}
 use Rattle.capture_audit.specs.Exchanges.{Sent, Exchange}
 use Rattle.capture_audit.specs.Rules.{number_of}

@@ -1,4 +1,4 @@
-mod Causes
+pub mod Causes
 mod Frames
 mod Keyed
 mod Steps

@@ -1,7 +1,6 @@
 -- What a datagram does to what is known.
-use Rattle.std.proofs.Common.{◌≡◌, ℕ, Bool, true, false, List, [], ◌∷◌, refl, sym, ap, ◌∙◌, Option, Some, None}
+use Rattle.std.proofs.Common.{◌≡◌, ℕ, true, false, List, sym, ap, ◌∙◌, Some, None}
 use Rattle.std.specs.Prelude.{slice_set, slice_index_or}
-use Rattle.mailbox_mail.specs.declared.mail.Mail.{Mail}
 use Rattle.capture_audit.specs.declared.access.MailAccess.{MailAccess}
 use Rattle.capture_audit.specs.declared.access.Manager.{Manager}
 use Rattle.capture_audit.specs.declared.known.Known.{Known}
@@ -11,9 +10,9 @@ use Rattle.capture_audit.specs.declared.station.Seat.{Seat}
 use Rattle.capture_audit.specs.declared.station.Step.TheVariants.{Moves}
 use Rattle.capture_audit.specs.declared.station.StationAudit.{StationAudit}
 use Rattle.capture_audit.specs.Exchanges.{Sent}
-use Rattle.capture_audit.specs.Rules.{link_on, mails_sent, mails_accepted}
+use Rattle.capture_audit.specs.Rules.{link_on}
 use Rattle.capture_audit.specs.Audit.{seat_of, seat_changed, station_changed, with_mails, managed, opens, manager_met, mailbox_rule, mailbox_met}
-use Rattle.capture_audit.specs.Moves.{sent_by, accepted_by, Steps, GoesOn}
+use Rattle.capture_audit.specs.Moves.{sent_by, accepted_by, Steps}
 use Rattle.capture_audit.specs.Judged.{HasSeat, HasStation}
 
 met_seats : (seats : List Seat) (st at : ℕ) (row seat : Seat) (link behind : Link) (access : MailAccess) (d : Sent) → HasSeat seats seats st at → row ≡ seat_of st seats → seat ≡ record row { link = Some behind } → behind ≡ link_on link access d

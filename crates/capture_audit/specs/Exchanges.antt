@@ -1,5 +1,5 @@
 -- The exchanges of a capture: frames that were sent, with what returned of each.
-use Rattle.std.specs.Prelude.{ℕ, ◌+◌, ◌==◌, ◌&&◌, Bool, true, false, is_some, if◌then◌else◌, List, [], ◌∷◌, ◌++◌, slice_get, Option, Some, None, option_map, Result, Ok, Err}
+use Rattle.std.specs.Prelude.{ℕ, ◌+◌, ◌==◌, ◌&&◌, Bool, true, false, is_some, if◌then◌else◌, List, [], ◌∷◌, slice_get, Option, Some, None, option_map, Result, Ok, Err}
 use Rattle.datagrams.specs.declared.head.Head.{Head}
 use Rattle.datagrams.specs.declared.frame.Frame.{Frame}
 use Rattle.datagrams.specs.declared.frame.FrameFault.{FrameFault}

@@ -1,5 +1,5 @@
 -- What a datagram, and those of a frame, come to.
-use Rattle.std.specs.Prelude.{◌≡◌, ◌<◌, ℕ, List, length, slice_set, slice_index_or, Option, Some, None, Result, Ok, Err}
+use Rattle.std.specs.Prelude.{◌≡◌, ◌<◌, ℕ, List, length, slice_set, slice_index_or, Option, Some, None, Ok, Err}
 use Rattle.capture_audit.specs.declared.access.MailAccess.{MailAccess}
 use Rattle.capture_audit.specs.declared.known.Known.{Known}
 use Rattle.capture_audit.specs.declared.rule.Rule.{Rule}

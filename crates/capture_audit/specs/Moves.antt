@@ -1,12 +1,11 @@
 -- What an access of a mailbox does to its link and its station.
-use Rattle.std.specs.Prelude.{◌≡◌, ℕ, Bool, not, if◌then◌else◌, List, [], ◌∷◌, Option, Some, None, Result, Ok, Err}
+use Rattle.std.specs.Prelude.{◌≡◌, ℕ, Bool, not, if◌then◌else◌, List, [], ◌∷◌, Some, None, Result, Ok, Err}
 use Rattle.mailbox_mail.specs.declared.mail.Mail.{Mail}
 use Rattle.mailbox_mail.specs.declared.mail.MailFault.{MailFault}
 use Rattle.capture_audit.specs.declared.access.MailAccess.{MailAccess}
 use Rattle.capture_audit.specs.declared.link.Link.{Link}
 use Rattle.capture_audit.specs.declared.link.Moved.{Moved}
 use Rattle.capture_audit.specs.declared.link.Moved.TheVariants.{Nothing, Sent as SentMail, Accepted}
-use Rattle.capture_audit.specs.declared.rule.Rule.{Rule}
 use Rattle.capture_audit.specs.declared.station.Seat.{Seat}
 use Rattle.capture_audit.specs.declared.station.Step.{Step}
 use Rattle.capture_audit.specs.declared.station.Step.TheVariants.{Breaks, Moves}

@@ -1,4 +1,4 @@
-use Rattle.std.proofs.Common.{◌≡◌, List, sym, subst, false}
+use Rattle.std.proofs.Common.{List, sym, subst, false}
 use Rattle.std.specs.Prelude.{All}
 use Rattle.pcap_frames.specs.declared.capture.PacketAt.{PacketAt}
 use Rattle.capture_view.specs.View.{IsWithin}

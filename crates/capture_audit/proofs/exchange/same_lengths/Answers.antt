@@ -1,4 +1,4 @@
-use Rattle.std.proofs.Common.{rules, ◌≡◌, length}
+use Rattle.std.proofs.Common.{rules}
 use Rattle.capture_audit.proofs.Frames.{lengths_differ}
 use Rattle.capture_audit.proofs.exchange.same_lengths.Goals as goal
 

@@ -1,4 +1,4 @@
-use Rattle.std.proofs.Common.{rules, ◌≡◌, ◌==◌, ◌-◌, ◌+◌, ◌++◌, ◌∷◌, [], length, position, Some, None, sym, ap, ◌∙◌, subst, arith, length-append}
+use Rattle.std.proofs.Common.{rules, ◌≡◌, ◌==◌, ◌-◌, ◌++◌, ◌∷◌, [], length, position, Some, None, sym, ap, subst, arith, length-append}
 use Rattle.capture_audit.specs.declared.station.StationAudit.{StationAudit}
 use Rattle.capture_audit.specs.Audit.{new_station}
 use Rattle.capture_audit.specs.Judged.{HasRow}

@@ -2,9 +2,8 @@ use Rattle.std.proofs.Common.{rules, ◌≡◌, ◌==◌, position, Some, None, 
 use Rattle.capture_audit.specs.declared.station.Seat.{Seat}
 use Rattle.capture_audit.specs.declared.station.Step.TheVariants.{Breaks, Moves}
 use Rattle.capture_audit.specs.Seen.{datagram_seen}
-use Rattle.capture_audit.specs.Audit.{new_seat, seat_of, mailbox_rule}
+use Rattle.capture_audit.specs.Audit.{new_seat, mailbox_rule}
 use Rattle.capture_audit.specs.Moves.{Steps}
-use Rattle.capture_audit.specs.Judged.{HasSeat}
 use Rattle.capture_audit.proofs.Keyed.{has_found, row_absent}
 use Rattle.capture_audit.proofs.Steps.{moved_on}
 use Rattle.capture_audit.proofs.known.Known.access.Goals as goal
