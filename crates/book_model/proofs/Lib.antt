@@ -9,3 +9,4 @@ pub mod Opens
 pub mod Endings
 pub mod Grows
 pub mod Moving
+pub mod Scripts

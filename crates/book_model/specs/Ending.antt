@@ -4,6 +4,7 @@ use Rattle.exchange_model.specs.Exchange.{Exchange}
 use Rattle.link_model.specs.Slave.{Node}
 use Rattle.segment_model.specs.Slaves.{Serving, Registers, Processor, Slave, Datagram, Access, is_meant, slave_after, slave_steps}
 use Rattle.life_model.specs.Own.{own, AreSeen}
+use Rattle.life_model.specs.Eras.{Clearing, IsClearing}
 
 -- no datagram of these means a slave with these registers
 abbrev pub NoneMean : {M : Type 0} → Registers → List (Datagram M) → Type 0
@@ -71,3 +72,25 @@ pub record HasEnded {V A M Q R : Type 0} (x : Exchange V A M Q R) (clear : V →
   pub state : now.registers.state ≡ 1
   pub server : now.node.server ≡ record { server = clear stood.node.server.server; waiting = [] }
   pub app : x.app now.node.server.server ≡ cleared (x.app stood.node.server.server)
+
+-- A RETURN TO INIT as its slave takes it: the frame that returns it, those behind that close it, and a step that carries the word out
+pub record Returning (V A M Q R : Type 0) : Type 0 where
+  pub exchange : Exchange V A M Q R
+  pub processor : Processor V
+  pub clearing : Clearing V A
+  pub sees : IsClearing exchange clearing
+  pub station : ℕ
+  pub slave : Slave V M
+  pub frame : List (Datagram M)
+  pub later : List (List (Datagram M))
+  pub returns : ReturnsIt station slave frame
+  pub closes : AllClose station slave.registers later
+  pub carries : (processor.carry (worded slave).registers).state ≡ 1
+
+-- the slave behind that step
+abbrev pub returned : {V A M Q R : Type 0} → Returning V A M Q R → Slave V M
+returned w = steps_or_returns w.exchange w.processor w.clearing.clear (behind_all w.station (slave_after w.station w.slave w.frame) w.later)
+
+-- the epoch has ended with it
+abbrev pub EndsIt : {V A M Q R : Type 0} → Returning V A M Q R → Type 0
+EndsIt w = HasEnded w.exchange w.clearing.clear w.clearing.cleared w.slave (returned w)

@@ -3,3 +3,4 @@ pub mod Chain
 pub mod Open
 pub mod Ending
 pub mod Steps
+pub mod Script

@@ -154,3 +154,23 @@ HasApp w b end = w.states.told b.state b.app ≡ w.states.told b.state end
 -- application and AL state are those of the open slave
 abbrev pub HasOpen : {V A M Q R : Type 0} → (w : Setting V A M Q R) (b : SlaveBook A M Q R) → IsOpenLife w b → Type 0
 HasOpen w b l = (b.app ≡ w.exchange.app l.epoch.slave.node.server.server) × (b.state ≡ l.epoch.slave.registers.state)
+
+-- the book's slave starts in the state of its plan
+abbrev pub StartsSo : {V A M Q R : Type 0} → Setting V A M Q R → SlaveBook A M Q R → Type 0
+StartsSo w b = b.start ≡ w.spot.start
+
+-- A LIFE WHOSE NEWEST EPOCH ISN'T OPEN, up to a frame, with the application that its slave has
+pub record IsShutLife {V A M Q R : Type 0} (w : Setting V A M Q R) (b : SlaveBook A M Q R) : Type 0 where
+  pub stop : ℕ
+  pub end : A
+  pub app : HasApp w b end
+  pub life : IsLife w b stop end
+  pub past : List (EpochBook M Q R)
+  pub last : EpochBook M Q R
+  pub epochs : b.epochs ≡ past ++ last ∷ []
+  pub shut : IsShut b.gave last
+
+-- its slave was never given up
+pub record WasNeverGiven {A M Q R : Type 0} (b : SlaveBook A M Q R) : Type 0 where
+  pub live : b.given_up ≡ None
+  pub never : b.gave ≡ []

@@ -69,3 +69,38 @@ pub record IsNext {A M Q R : Type 0} (b c : SlaveBook A M Q R) (epochs : List (E
 -- an epoch's session, over other frames
 abbrev pub StaysIn : {V A M Q R : Type 0} → (w : Setting V A M Q R) → EpochOf w → List (Frame M) → Type 0
 StaysIn w e fs = EraIs w.exchange w.states w.processor w.table w.spot e.era e.opened e.until fs e.server e.registers e.slave
+
+-- AN OPEN LIFE AS IT GOES ON by a frame: its newest epoch does, and the book has the rows that then have begun
+pub record NextOpen {V A M Q R : Type 0} (w : Setting V A M Q R) (b : SlaveBook A M Q R) (l : IsOpenLife w b) (c : SlaveBook A M Q R) : Type 0 where
+  pub frame : Frame M
+  pub now : EpochOf (with_frames w (frame ∷ []))
+  pub body : EpochBook M Q R
+  pub goes : GoesOnBy w b l frame now body
+  pub next : IsNext b c (epochs_with w b l body)
+
+-- and as it is over, behind further frames and give-ups
+pub record OverBehind {V A M Q R : Type 0} (w : Setting V A M Q R) (b : SlaveBook A M Q R) (l : IsOpenLife w b) : Type 0 where
+  pub frames : List (Frame M)
+  pub gave : List ℕ
+  pub now : EpochOf (with_frames w frames)
+  pub stop : ℕ
+  pub carry : List (Started Q)
+  pub body : EpochBook M Q R
+  pub is : IsOverBy w b l frames gave now stop carry body
+
+-- all its epochs are past then
+abbrev pub AllPast : {V A M Q R : Type 0} → (w : Setting V A M Q R) (b : SlaveBook A M Q R) (l : IsOpenLife w b) → OverBehind w b l → Type 0
+AllPast w b l o = IsPast (with_frames w o.frames) (b.gave ++ o.gave) o.stop o.carry (left_by (with_frames w o.frames) o.now) b.first (epochs_with w b l o.body)
+
+-- past epochs, and what they carry over and leave
+pub record PastEpochs (A M Q R : Type 0) : Type 0 where
+  pub gave : List ℕ
+  pub stop : ℕ
+  pub carry : List (Started Q)
+  pub left : A
+  pub first : A
+  pub epochs : List (EpochBook M Q R)
+
+-- they are so in a run with these give-ups behind them
+abbrev pub ArePast : {V A M Q R : Type 0} → Setting V A M Q R → List ℕ → PastEpochs A M Q R → Type 0
+ArePast w later p = IsPast w (p.gave ++ later) p.stop p.carry p.left p.first p.epochs

@@ -1,13 +1,11 @@
 //! How an epoch ends.
 
 ghost use Rattle.std.specs.Prelude.{◌≡◌, ℕ, ◌≤◌, true, Some, None, List, [], ◌∷◌, ◌++◌, length};
-ghost use Rattle.exchange_model.specs.Exchange.{Exchange};
 ghost use Rattle.link_model.specs.Segment.{RingFate};
-ghost use Rattle.segment_model.specs.Slaves.{Registers, Processor, Slave, Datagram, Ring, slave_after, first_meet, ring_after};
+ghost use Rattle.segment_model.specs.Slaves.{Registers, Slave, Datagram, Ring, slave_after, first_meet, ring_after};
 ghost use Rattle.state_model.specs.States.{Table, carry};
 ghost use Rattle.life_model.specs.Own.{own, AreSeen};
-ghost use Rattle.life_model.specs.Eras.{Clearing, IsClearing};
-ghost use Rattle.book_model.specs.Ending.{NoneMean, ReturnsIt, worded, AllClose, behind_all, steps_or_returns, HasEnded};
+ghost use Rattle.book_model.specs.Ending.{NoneMean, ReturnsIt, worded, AllClose, behind_all, Returning, EndsIt};
 
 /// An epoch ends where its slave meets the word that returns it to Init, and not before; its server is the one that stood there, and then cleared.
 pub fn end_law<V, A, M, Q, R>()
@@ -19,8 +17,7 @@ pub fn end_law<V, A, M, Q, R>()
     ensures word { (station : ℕ) (s : Slave V M) (ds : List (Datagram M)) → ReturnsIt station s ds → slave_after station s ds ≡ worded s }
     ensures waits { (station : ℕ) (s : Slave V M) (fs : List (List (Datagram M))) → AllClose station s.registers fs → behind_all station (worded s) fs ≡ worded s }
     // Its next step takes no mail: it clears the server that stood before the word was met.
-    ensures ends { (x : Exchange V A M Q R) (processor : Processor V) (c : Clearing V A) → IsClearing x c → (station : ℕ) (s : Slave V M) (ds : List (Datagram M)) (fs : List (List (Datagram M))) → ReturnsIt station s ds →
-        AllClose station s.registers fs → (processor.carry (worded s).registers).state ≡ 1 → HasEnded x c.clear c.cleared s (steps_or_returns x processor c.clear (behind_all station (slave_after station s ds) fs)) }
+    ensures ends { (w : Returning V A M Q R) → EndsIt w }
     // Such a word is carried out, with or without an error flag, where the slave's table lets it return to Init.
     ensures carried { (table : Table) (r : Registers) → table r.state 1 ≡ None → (carry table (record r { control = Some (1, true) })).state ≡ 1 }
 {}

@@ -6,4 +6,4 @@ mod bodies;
 mod lines;
 mod viewing;
 
-pub use viewing::view;
+pub use viewing::{body_of, octets_of, view};

@@ -63,7 +63,8 @@ fn moves_mail(head: &Head) -> bool
     head.counter != 0 && is_for_mail(head.command, head.ado)
 }
 
-fn body_of<'a>(frame: &'a [u8], part: &Part) -> &'a [u8]
+/// The octets of a datagram's body in its frame.
+pub fn body_of<'a>(frame: &'a [u8], part: &Part) -> &'a [u8]
     requires { IsPart frame.now part.now }
     ensures { result.now ≡ body_of frame.now part.now }
 {
@@ -116,7 +117,8 @@ fn put_frame<O: Sink>(frame: &[u8], line: &mut String, sink: &mut O) -> Result<(
     put_line(line.as_str(), sink)
 }
 
-fn octets_of<'a>(file: &'a [u8], packet: &PacketAt) -> &'a [u8]
+/// The octets of a packet in its file.
+pub fn octets_of<'a>(file: &'a [u8], packet: &PacketAt) -> &'a [u8]
     requires { packet.now.from + packet.now.len ≤ length file.now }
     ensures { result.now ≡ octets_of file.now packet.now }
 {

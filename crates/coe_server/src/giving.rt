@@ -84,6 +84,17 @@ impl CoeServer {
         answers || matches!(self.emitted, Emitted::Emergency)
     }
 
+    /// Whether the mail taken last has emitted a packet that wasn't handed out yet.
+    pub fn has_packet(&self) -> bool
+        ensures some { OnTrue result (self.now.emitted ≡ Emitted.Packet) }
+        ensures none { OnFalse result (self.now.emitted ≢ Emitted.Packet) }
+    {
+        match self.emitted {
+            Emitted::Packet => true,
+            Emitted::Nothing | Emitted::Emergency => false,
+        }
+    }
+
     /// Hands out the packet that the mail taken last has emitted, in place of what `into` has. `false` where there is none, or it was handed out.
     pub fn packet(&mut self, into: &mut ArrayVec<u8, 1514>) -> bool
         ensures given { OnTrue result (self.old.emitted ≡ Emitted.Packet) }

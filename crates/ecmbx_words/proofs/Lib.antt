@@ -1,2 +1,3 @@
 pub mod Put
 pub mod Numbers
+pub mod Words

@@ -16,9 +16,12 @@ abbrev pub made_in : Option ℕ → Option ℕ → Form
 made_in (Some seed) (Some size) = if nat_le 1 size && nat_le size 4096 then forms.Make seed size else forms.Other
 made_in _ _ = forms.Other
 
--- two words: `run SCENARIO` or `decode CAPTURE`
+-- two words: `run SCENARIO`, `decode CAPTURE` or `audit CAPTURE`
 abbrev pub pair_in : List ℕ → Form
-pair_in word = if bytes_eq word (codes "run") then forms.Run else (if bytes_eq word (codes "decode") then forms.Decode else forms.Other)
+pair_in word =
+    if bytes_eq word (codes "run") then forms.Run
+    else (if bytes_eq word (codes "decode") then forms.Decode
+    else (if bytes_eq word (codes "audit") then forms.Audit else forms.Other))
 
 -- three words: `run SCENARIO CAPTURE` or `make SEED SIZE`
 abbrev pub triple_in : List ℕ → List ℕ → List ℕ → Form

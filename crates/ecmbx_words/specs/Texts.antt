@@ -1,6 +1,6 @@
 -- The lines put where nothing runs.
-use Rattle.std.specs.Prelude.{ℕ, List, [], ◌++◌, codes}
-use Rattle.std.specs.Fmt.{decimal}
+use Rattle.std.specs.Prelude.{ℕ, ◌-◌, ◌^◌, false, List, [], ◌++◌, codes}
+use Rattle.std.specs.Fmt.{decimal, digits, format_spec, padded_integral}
 use Rattle.pcap_frames.specs.declared.capture.PcapFault.{PcapFault}
 use Rattle.pcap_frames.specs.declared.capture.PcapFault.TheVariants as faults
 use Rattle.scenario_keys.specs.declared.place.Place.{Place}
@@ -9,7 +9,7 @@ use Rattle.scenario_keys.specs.declared.refusal.Refusal.{Refusal}
 use Rattle.scenario_keys.specs.Rules.{number_of}
 
 abbrev pub usage_line : List ℕ
-usage_line = codes "usage: ecmbx run SCENARIO [CAPTURE] | decode CAPTURE | serve SCENARIO COUNT | make SEED SIZE\n"
+usage_line = codes "usage: ecmbx run SCENARIO [CAPTURE] | decode CAPTURE | serve SCENARIO COUNT | make SEED SIZE | audit CAPTURE\n"
 
 abbrev pub absent_line : List ℕ
 absent_line = codes "absent\n"
@@ -44,6 +44,22 @@ numbered number = codes "refused P" ++ (decimal number ++ codes "\n")
 
 abbrev pub faulted_at : ℕ → ℕ → List ℕ
 faulted_at number at = codes "refused P" ++ (decimal number ++ (codes " at " ++ (decimal at ++ codes "\n")))
+
+-- a number in hexadecimal digits, with zeros in front up to four
+abbrev pub four_digits : ℕ → List ℕ
+four_digits n = padded_integral (format_spec 32 0 4 4 (2 ^ 64 - 1)) false [] (digits 16 false n)
+
+-- a station of an audit, and how many mails were sent there and accepted
+abbrev pub station_line : ℕ → ℕ → ℕ → List ℕ
+station_line station sent accepted =
+    codes "station " ++ (four_digits station ++ (codes " sent " ++ (decimal sent ++ (codes " accepted " ++ (decimal accepted ++ codes "\n")))))
+
+abbrev pub yes_line : List ℕ
+yes_line = codes "audit yes\n"
+
+-- the rule that a capture breaks, and the packet
+abbrev pub no_line : ℕ → ℕ → List ℕ
+no_line rule packet = codes "audit no A" ++ (decimal rule ++ (codes " at " ++ (decimal packet ++ codes "\n")))
 
 -- a refusal of a capture by its fault; want of memory is none
 abbrev pub capture_line : PcapFault → List ℕ

@@ -1,5 +1,5 @@
 ghost use Rattle.std.specs.Prelude.{◌≡◌, ◌≤◌, string_bytes, map};
-ghost use Rattle.ecmbx_words.specs.Form.{number_in, form_in, made_in};
+ghost use Rattle.ecmbx_words.specs.Form.{number_in, made_in, pair_in, triple_in, form_in};
 
 use itoa::Buffer;
 
@@ -15,6 +15,8 @@ pub enum Form {
     RunSaved,
     /// `decode CAPTURE`
     Decode,
+    /// `audit CAPTURE`
+    Audit,
     /// `make SEED SIZE`, the size 1 to 4,096.
     Make { seed: u32, size: u32 },
     /// Any other words.
@@ -46,15 +48,41 @@ fn made(seed: &str, size: &str) -> Form
     }
 }
 
+// The form of two words: the name of a form, and a file.
+fn pair(word: &str) -> Form
+    ensures { result ≡ pair_in word.now }
+{
+    if word == "run" {
+        Form::Run
+    } else if word == "decode" {
+        Form::Decode
+    } else if word == "audit" {
+        Form::Audit
+    } else {
+        Form::Other
+    }
+}
+
+// The form of three words: the name of a form, and what it takes.
+fn triple(word: &str, second: &str, third: &str) -> Form
+    ensures { result ≡ triple_in word.now second.now third.now }
+{
+    if word == "run" {
+        Form::RunSaved
+    } else if word == "make" {
+        made(second, third)
+    } else {
+        Form::Other
+    }
+}
+
 /// The form of the words, `Other` where they are none that is built.
 pub fn form_of(words: &[String]) -> Form
     ensures { result ≡ form_in (map string_bytes words.now) }
 {
     match words {
-        [word, _] if word.as_str() == "run" => Form::Run,
-        [word, _] if word.as_str() == "decode" => Form::Decode,
-        [word, _, _] if word.as_str() == "run" => Form::RunSaved,
-        [word, seed, size] if word.as_str() == "make" => made(seed.as_str(), size.as_str()),
+        [word, _] => pair(word.as_str()),
+        [word, second, third] => triple(word.as_str(), second.as_str(), third.as_str()),
         _ => Form::Other,
     }
 }

@@ -9,4 +9,7 @@ mod texts;
 pub use form::{Form, form_of};
 pub use lines::{say, say_lines, say_text};
 pub use status::Status;
-pub use texts::{absent, capture_refusal, file_fault, refusal, too_long, usage};
+pub use texts::{
+    absent, audit_no, audit_yes, capture_refusal, file_fault, refusal, station_text, too_long,
+    usage,
+};

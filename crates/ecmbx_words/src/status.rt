@@ -26,10 +26,12 @@ pub enum Status {
     PortFault,
     /// 10: want of memory.
     NoMemory,
+    /// 11: a capture breaks a rule of the mailboxes.
+    AuditNo,
 }
 
 impl Status {
-    /// The number, 0 to 10.
+    /// The number, 0 to 11.
     pub fn number(self) -> u8
         ensures { result ≡ number_of self }
     {
@@ -45,6 +47,7 @@ impl Status {
             Status::BudgetSpent => 8,
             Status::PortFault => 9,
             Status::NoMemory => 10,
+            Status::AuditNo => 11,
         }
     }
 }

@@ -1,7 +1,7 @@
 ghost use Rattle.std.specs.Prelude.{◌≡◌, ◌≢◌, ◌++◌, codes, IfOk, string_bytes};
 ghost use Rattle.pcap_frames.specs.declared.capture.PcapFault.TheVariants as faults;
 ghost use Rattle.std.specs.Fmt.{decimal};
-ghost use Rattle.ecmbx_words.specs.Texts.{usage_line, absent_line, long_line, fault_line, place_text, refusal_line, capture_line};
+ghost use Rattle.ecmbx_words.specs.Texts.{usage_line, absent_line, long_line, fault_line, place_text, refusal_line, capture_line, station_line, yes_line, no_line};
 
 use ec_fields::{NoMemory, Octets};
 use pcap_frames::PcapFault;
@@ -12,7 +12,7 @@ use std::alloc::Global;
 pub fn usage() -> &'static [u8]
     ensures { result.now ≡ usage_line }
 {
-    b"usage: ecmbx run SCENARIO [CAPTURE] | decode CAPTURE | serve SCENARIO COUNT | make SEED SIZE\n"
+    b"usage: ecmbx run SCENARIO [CAPTURE] | decode CAPTURE | serve SCENARIO COUNT | make SEED SIZE | audit CAPTURE\n"
 }
 
 pub fn absent() -> &'static [u8]
@@ -31,6 +31,34 @@ pub fn file_fault() -> &'static [u8]
     ensures { result.now ≡ fault_line }
 {
     b"file fault\n"
+}
+
+/// The last line of an audit that no datagram fails.
+pub fn audit_yes() -> &'static [u8]
+    ensures { result.now ≡ yes_line }
+{
+    b"audit yes\n"
+}
+
+/// A station of an audit, and how many mails were sent there and accepted.
+pub fn station_text(
+    alloc: Global,
+    station: u16,
+    sent: usize,
+    accepted: usize,
+) -> Result<Octets, NoMemory>
+    ensures { IfOk result (λ line. line ≡ station_line station sent accepted) }
+{
+    let text = format!(in alloc; "station {station:04x} sent {sent} accepted {accepted}\n")?;
+    Octets::copy_of(alloc, text.as_bytes())
+}
+
+/// The line of an audit that a datagram fails: the rule's number, and the packet.
+pub fn audit_no(alloc: Global, rule: u8, packet: u32) -> Result<Octets, NoMemory>
+    ensures { IfOk result (λ line. line ≡ no_line rule packet) }
+{
+    let text = format!(in alloc; "audit no A{rule} at {packet}\n")?;
+    Octets::copy_of(alloc, text.as_bytes())
 }
 
 fn place_words(alloc: Global, place: Place) -> Result<String, NoMemory>

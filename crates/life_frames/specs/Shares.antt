@@ -29,6 +29,12 @@ AllBoth P [] [] = ⊤
 AllBoth P (x ∷ xs) (y ∷ ys) = P x y × AllBoth P xs ys
 AllBoth P _ _ = ⊥
 
+-- three lists
+abbrev pub AllThree : {S T U : Type 0} → (S → T → U → Type 0) → List S → List T → List U → Type 0
+AllThree P [] [] [] = ⊤
+AllThree P (x ∷ xs) (y ∷ ys) (z ∷ zs) = P x y z × AllThree P xs ys zs
+AllThree P _ _ _ = ⊥
+
 -- it is apart from each of these
 abbrev pub IsElsewhere : {Q R : Type 0} → Spot → List (Lived Q R) → Type 0
 IsElsewhere spot [] = ⊤

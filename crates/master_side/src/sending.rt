@@ -189,6 +189,7 @@ impl<H: Hand> Side<H> {
         ensures shown { (x : Speech Body H.Asked Reply) (d : Seats.Side Body H.Asked Reply) (a : Account H.Asked Reply) → SideShows (H.shows self.old.hand x) self.old.out self.old.inn self.old.fresh self.old.duty d a →
             Holds x d (λ e. SideShows (H.shows self.new.hand x) self.new.out self.new.inn self.new.fresh self.new.duty e a) }
         ensures link { SameLink self.old.out self.old.inn self.old.station self.old.area self.new.out self.new.inn self.new.station self.new.area }
+        ensures passing { self.new.passing ≡ self.old.passing }
     {
         match wish {
             Some(wish) if self.is_free() => self.first_len(wish),

@@ -5,4 +5,8 @@ pub mod Frames
 pub mod Cursors
 pub mod Openings
 pub mod Backs
-pub mod Twice
+pub mod Grams
+pub mod Steps
+pub mod Mades
+pub mod Sents
+pub mod Orders

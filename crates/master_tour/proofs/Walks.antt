@@ -42,3 +42,15 @@ steps_set P zero [] v w l g p = absurd (omega (arith, l))
 steps_set P (suc i) [] v w l g p = absurd (omega (arith, l))
 steps_set P zero (x ∷ xs) v w l g p = (subst (λ z. P z w) g p, refl)
 steps_set P (suc i) (x ∷ xs) v w l g p = (refl, steps_set P i xs v w (omega (arith, l)) g p)
+
+pub steps_both : {S : Type 0} (P T : S → S → Type 0) (i : ℕ) (xs ys : List S) → StepsAt P i xs ys → StepsAt T i xs ys → StepsAt (λ s t. P s t × T s t) i xs ys
+steps_both P T zero [] ys a b = absurd a
+steps_both P T (suc i) [] ys a b = absurd a
+steps_both P T zero (x ∷ xs) [] a b = absurd a
+steps_both P T (suc i) (x ∷ xs) [] a b = absurd a
+steps_both P T zero (x ∷ xs) (y ∷ ys) a b = ((a.0, b.0), a.1)
+steps_both P T (suc i) (x ∷ xs) (y ∷ ys) a b = (a.0, steps_both P T i xs ys a.1 b.1)
+
+pub each_same : {S : Type 0} (P : S → S → Type 0) (xs : List S) → ((x : S) → P x x) → EachPair P xs xs
+each_same P [] h = tt
+each_same P (x ∷ xs) h = (h x, each_same P xs h)

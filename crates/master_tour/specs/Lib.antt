@@ -2,3 +2,5 @@ pub mod Under
 pub mod Walks
 pub mod Cursor
 pub mod Stands
+pub mod Made
+pub mod Orders

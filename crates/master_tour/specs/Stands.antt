@@ -19,42 +19,14 @@ use Rattle.master_side.specs.Carried.{Meant}
 use Rattle.master_side.specs.Sent.{visit_gram, no_gram}
 use Rattle.life_model.specs.Lives
 use Rattle.life_model.specs.Lives.{Opening, Era, Life, Spot, life_next, gives_up}
-use Rattle.life_model.specs.Tours.{item_at}
+pub use Rattle.life_frames.specs.Openings.{step_number, has_step, opening_of}
+pub use Rattle.life_frames.specs.Shares.{came_of, came_at, given_where}
 use Rattle.frame_view.specs.View.{Lens, datagram_seen, found_of}
 use Rattle.master_duty.specs.Reply.{Reply}
 use Rattle.master_side.specs.declared.carried.Carried.{Carried}
 use Rattle.master_tour.specs.declared.stop.Stand.{Stand}
 use Rattle.master_tour.specs.declared.stop.Turned.{Turned}
 use Rattle.master_tour.specs.Under.{Grams, IsAt, Under}
-
--- the number of an access, of a reopening or of a first bring-up, which has no access that leads to Init or turns a mailbox off
-abbrev pub step_number : Bool → BringStep → ℕ
-step_number true Return = 1
-step_number true Watch = 2
-step_number true Address = 3
-step_number true OutOff = 4
-step_number true InOff = 5
-step_number true OutManager = 6
-step_number true InManager = 7
-step_number true Start = 8
-step_number true Await = 9
-step_number false Return = 0
-step_number false Watch = 0
-step_number false Address = 1
-step_number false OutOff = 0
-step_number false InOff = 0
-step_number false OutManager = 2
-step_number false InManager = 3
-step_number false Start = 4
-step_number false Await = 5
-
--- it has this access
-abbrev pub has_step : BringUp → Bool
-has_step up = not (step_number up.again up.step == 0)
-
--- the opening whose access is in hand; `own` says whether a state service wanted it
-abbrev pub opening_of : BringUp → Bool → Opening
-opening_of up own = record { again = up.again; step = step_number up.again up.step; state = up.start; own = own }
 
 -- until a reopening has shown Init, its slave's mailboxes are those of the epoch before
 abbrev pub is_still : BringUp → Bool
@@ -116,16 +88,6 @@ StandUnder lens station at under carried (Stand.Opening up) l sent = OpensUnder 
 StandUnder lens station at under carried Stand.Open l sent = Under station at under carried l.era.side.halves (duty_access l.era.account.hand) sent
 StandUnder lens station at under carried Stand.Gone l sent = under ≡ false
 
--- what an access brought back: whether just one slave met it, and what it found
-abbrev pub came_of : Option (Datagram Body) → Option (Bool × Option Found)
-came_of None = None
-came_of (Some d) = Some (d.counter == 1, d.found)
-
--- that of the frame's datagram at this place, where it has one of the slave
-abbrev pub came_at : Bool → ℕ → Grams → Option (Bool × Option Found)
-came_at false at back = None
-came_at true at back = came_of (item_at at back)
-
 -- an opening is under way
 abbrev pub is_opening : Lives.Stand → Bool
 is_opening (Lives.Stand.Opens o) = true
@@ -182,11 +144,6 @@ StandMeant lens station index carried Stand.Gone l d = ⊥
 pub record NextShows {Q : Type 0} (x : Speech Body Q Reply) (acknowledged : Q → Bool) (more : Body → Bool) (passed : Q → Bool) (made : ℕ) (l : Life Body Q Reply) (P : Life Body Q Reply → Type 0) : Type 0 where
   pub pick : Pick Q
   pub shown : P (life_next x acknowledged more passed made l l.stand pick)
-
--- the life behind a lost frame by which the slave is given up, or isn't
-abbrev pub given_where : {Q : Type 0} → Bool → ℕ → Spot → ℕ → Life Body Q Reply → Life Body Q Reply
-given_where false recover spot number l = l
-given_where true recover spot number l = gives_up recover spot number l
 
 -- the life before a frame in which no service begins: the next mail is taken up, or none is
 pub record HoldShows {Q : Type 0} (x : Speech Body Q Reply) (acknowledged : Q → Bool) (more : Body → Bool) (passed : Q → Bool) (made : ℕ) (l : Life Body Q Reply) (P : Life Body Q Reply → Type 0) : Type 0 where

@@ -119,9 +119,12 @@ impl<H: Hand> Stop<H> {
     ghost use Rattle.task_model.specs.Accounts.{Account, duty_access, account_back};
     ghost use Rattle.frame_view.specs.View.{Lens, datagram_seen};
     ghost use Rattle.frame_view.specs.Seen.{seen};
-    ghost use Rattle.mailbox_master.specs.Any.{in_area_len};
+    ghost use Rattle.mailbox_master.specs.Any.{in_half_of, in_area_len};
+    ghost use Rattle.link_model.specs.Master.{InState};
     ghost use Rattle.master_duty.specs.Reply.{Reply};
+    ghost use Rattle.master_side.specs.declared.carried.Carried.{Carried};
     ghost use Rattle.master_side.specs.Carried.{Meant};
+    ghost use Rattle.master_tour.specs.Made.{IsClearFor, IsSized};
     ghost use Rattle.master_side.specs.Sent.{IsSent, SameLink, visit_gram};
     ghost use Rattle.master_side.specs.Shown.{SideShows, Holds, Picked};
     ghost use Rattle.datagrams.specs.Frame.{datagram_of};
@@ -188,6 +191,7 @@ impl<H: Hand> Stop<H> {
         ensures station { self.new.side.station ≡ self.old.side.station }
         ensures kept { (self.new.stand ≡ self.old.stand) × (self.new.spare ≡ self.old.spare) × (self.new.news ≡ self.old.news) }
         ensures plan { (self.new.place ≡ self.old.place) × (self.new.start ≡ self.old.start) }
+        ensures link { SameLink self.old.side.out self.old.side.inn self.old.side.station self.old.side.area self.new.side.out self.new.side.inn self.new.side.station self.new.side.area }
     {
         if is_cleared {
             self.side.renew();
@@ -201,6 +205,8 @@ impl<H: Hand> Stop<H> {
             FollowShows (λ d a. SideShows (H.shows self.new.side.hand x) self.new.side.out self.new.side.inn self.new.side.fresh self.new.side.duty d a) recover spot self.new.stand self.new.spare self.new.news l (life_back x H.acknowledged more passed frame spot news back (Some came) l l.stand) }
         ensures kept { (self.new.place ≡ self.old.place) × (self.new.start ≡ self.old.start) }
         ensures station { self.new.side.station ≡ self.old.side.station }
+        ensures link { SameLink self.old.side.out self.old.side.inn self.old.side.station self.old.side.area self.new.side.out self.new.side.inn self.new.side.station self.new.side.area }
+        ensures sized { IsSized (Stand.Opening up) self.old.side.out.len (in_area_len self.old.side.inn) → IsSized self.new.stand self.new.side.out.len (in_area_len self.new.side.inn) }
     {
         let mut next = up;
         let is_up = came_back(&mut next, counter, body);
@@ -220,6 +226,8 @@ impl<H: Hand> Stop<H> {
             FollowShows (λ d a. SideShows (H.shows self.new.side.hand x) self.new.side.out self.new.side.inn self.new.side.fresh self.new.side.duty d a) recover spot self.new.stand self.new.spare self.new.news l (life_back x H.acknowledged more passed number spot ns (seen lens octets.now) (came_at self.old.under self.old.at (seen lens octets.now)) l l.stand) }
         ensures kept { (self.new.place ≡ self.old.place) × (self.new.start ≡ self.old.start) }
         ensures station { self.new.side.station ≡ self.old.side.station }
+        ensures link { SameLink self.old.side.out self.old.side.inn self.old.side.station self.old.side.area self.new.side.out self.new.side.inn self.new.side.station self.new.side.area }
+        ensures sized { self.old.stand ≡ Stand.Opening up → IsSized self.old.stand self.old.side.out.len (in_area_len self.old.side.inn) → IsSized self.new.stand self.new.side.out.len (in_area_len self.new.side.inn) }
     {
         if !self.under {
             return;
@@ -236,6 +244,7 @@ impl<H: Hand> Stop<H> {
         ensures lives { self.old.stand ≡ Stand.Open → (x : Speech Body H.Asked Reply) (recover : ℕ) (spot : Spot) (l : Life Body H.Asked Reply) → IsSpot spot self.old.side.station self.old.place self.old.start → StopShows (λ d a. SideShows (H.shows self.old.side.hand x) self.old.side.out self.old.side.inn self.old.side.fresh self.old.side.duty d a) recover spot self.old.stand self.old.spare l →
             StopShows (λ d a. SideShows (H.shows self.new.side.hand x) self.new.side.out self.new.side.inn self.new.side.fresh self.new.side.duty d a) recover spot self.new.stand self.new.spare (reopens l l.era.account.hand) }
         ensures kept { (self.new.place ≡ self.old.place) × (self.new.start ≡ self.old.start) × (self.new.spare ≡ self.old.spare) × (self.new.news ≡ self.old.news) }
+        ensures sized { IsSized self.old.stand self.old.side.out.len (in_area_len self.old.side.inn) → IsSized self.new.stand self.new.side.out.len (in_area_len self.new.side.inn) }
     {
         let Some(duty) = self.side.duty else {
             return;
@@ -273,6 +282,8 @@ impl<H: Hand> Stop<H> {
             FollowShows (λ d a. SideShows (H.shows self.new.side.hand x) self.new.side.out self.new.side.inn self.new.side.fresh self.new.side.duty d a) recover spot self.new.stand self.new.spare self.new.news l (life_back x H.acknowledged more passed number spot ns (seen lens octets.now) (came_at self.old.under self.old.at (seen lens octets.now)) l l.stand) }
         ensures kept { (self.new.place ≡ self.old.place) × (self.new.start ≡ self.old.start) }
         ensures station { self.new.side.station ≡ self.old.side.station }
+        ensures link { SameLink self.old.side.out self.old.side.inn self.old.side.station self.old.side.area self.new.side.out self.new.side.inn self.new.side.station self.new.side.area }
+        ensures sized { IsSized self.old.stand self.old.side.out.len (in_area_len self.old.side.inn) → IsSized self.new.stand self.new.side.out.len (in_area_len self.new.side.inn) }
     {
         self.open_back(cursor, octets, made);
         self.reopen();
@@ -292,6 +303,8 @@ impl<H: Hand> Stop<H> {
             FollowShows (λ d a. SideShows (H.shows self.new.side.hand x) self.new.side.out self.new.side.inn self.new.side.fresh self.new.side.duty d a) recover spot self.new.stand self.new.spare self.new.news l (life_back x H.acknowledged more passed number spot ns (seen lens octets.now) (came_at self.old.under self.old.at (seen lens octets.now)) l l.stand) }
         ensures kept { (self.new.place ≡ self.old.place) × (self.new.start ≡ self.old.start) }
         ensures station { self.new.side.station ≡ self.old.side.station }
+        ensures link { SameLink self.old.side.out self.old.side.inn self.old.side.station self.old.side.area self.new.side.out self.new.side.inn self.new.side.station self.new.side.area }
+        ensures sized { IsSized self.old.stand self.old.side.out.len (in_area_len self.old.side.inn) → IsSized self.new.stand self.new.side.out.len (in_area_len self.new.side.inn) }
     {
         self.news = None;
         match self.stand {
@@ -313,6 +326,8 @@ impl<H: Hand> Stop<H> {
         ensures kept { (self.new.place ≡ self.old.place) × (self.new.start ≡ self.old.start) }
         ensures under { self.new.under ≡ self.old.under }
         ensures station { self.new.side.station ≡ self.old.side.station }
+        ensures link { SameLink self.old.side.out self.old.side.inn self.old.side.station self.old.side.area self.new.side.out self.new.side.inn self.new.side.station self.new.side.area }
+        ensures sized { IsSized self.old.stand self.old.side.out.len (in_area_len self.old.side.inn) → IsSized self.new.stand self.new.side.out.len (in_area_len self.new.side.inn) }
     {
         self.news = None;
         match self.stand {
@@ -328,6 +343,8 @@ impl<H: Hand> Stop<H> {
             FollowShows (λ d a. SideShows (H.shows self.new.side.hand x) self.new.side.out self.new.side.inn self.new.side.fresh self.new.side.duty d a) recover spot self.new.stand self.new.spare self.new.news l (gives_up recover spot number l) }
         ensures kept { (self.new.place ≡ self.old.place) × (self.new.start ≡ self.old.start) }
         ensures station { self.new.side.station ≡ self.old.side.station }
+        ensures link { SameLink self.old.side.out self.old.side.inn self.old.side.station self.old.side.area self.new.side.out self.new.side.inn self.new.side.station self.new.side.area }
+        ensures sized { IsSized self.old.stand self.old.side.out.len (in_area_len self.old.side.inn) → IsSized self.new.stand self.new.side.out.len (in_area_len self.new.side.inn) }
     {
         self.news = Some(Turned::GivenUp);
         if self.spare == 0 {
@@ -351,6 +368,8 @@ impl<H: Hand> Stop<H> {
             FollowShows (λ d a. SideShows (H.shows self.new.side.hand x) self.new.side.out self.new.side.inn self.new.side.fresh self.new.side.duty d a) recover spot self.new.stand self.new.spare self.new.news l (given_where (gives && self.old.under) recover spot number (life_lost x H.acknowledged more passed spot ns (seen lens octets) l l.stand)) }
         ensures kept { (self.new.place ≡ self.old.place) × (self.new.start ≡ self.old.start) }
         ensures station { self.new.side.station ≡ self.old.side.station }
+        ensures link { SameLink self.old.side.out self.old.side.inn self.old.side.station self.old.side.area self.new.side.out self.new.side.inn self.new.side.station self.new.side.area }
+        ensures sized { IsSized self.old.stand self.old.side.out.len (in_area_len self.old.side.inn) → IsSized self.new.stand self.new.side.out.len (in_area_len self.new.side.inn) }
     {
         self.lost();
         if !gives {
@@ -370,6 +389,7 @@ impl<H: Hand> Stop<H> {
         ensures kept { (self.new.place ≡ self.old.place) × (self.new.start ≡ self.old.start) × (self.new.spare ≡ self.old.spare) × (self.new.under ≡ self.old.under) × (self.new.at ≡ self.old.at) }
         ensures link { SameLink self.old.side.out self.old.side.inn self.old.side.station self.old.side.area self.new.side.out self.new.side.inn self.new.side.station self.new.side.area }
         ensures stand { self.new.stand ≡ self.old.stand }
+        ensures passing { self.new.side.passing ≡ self.old.side.passing }
     {
         match self.stand {
             Stand::Gone => 0,
@@ -404,6 +424,7 @@ impl<H: Hand> Stop<H> {
         ensures stand { self.new.stand ≡ self.old.stand }
         ensures kept { (self.new.place ≡ self.old.place) × (self.new.start ≡ self.old.start) × (self.new.spare ≡ self.old.spare) × (self.new.news ≡ self.old.news) }
         ensures at { self.new.at ≡ at }
+        ensures order { self.new.under ≡ true → self.new.side.carried ≡ Carried.Full → (in_half_of self.new.side.inn).state ≡ InState.Clear }
     {
         let began = self.side.choose(wish);
         let placed = self.side.add_datagram(index, frame);
@@ -446,6 +467,8 @@ impl<H: Hand> Stop<H> {
         ensures stand { self.new.stand ≡ self.old.stand }
         ensures kept { (self.new.place ≡ self.old.place) × (self.new.start ≡ self.old.start) × (self.new.spare ≡ self.old.spare) × (self.new.news ≡ self.old.news) }
         ensures station { self.new.side.station ≡ self.old.side.station }
+        ensures link { SameLink self.old.side.out self.old.side.inn self.old.side.station self.old.side.area self.new.side.out self.new.side.inn self.new.side.station self.new.side.area }
+        ensures order { self.new.under ≡ true → IsClearFor self.new.stand self.new.side.carried self.new.side.inn }
     {
         self.under = false;
         match self.stand {

@@ -25,7 +25,7 @@ pub struct Tour<H: Hand> {
     pub last: Option<usize>,
     /// How many datagrams the frame that is made has so far.
     pub count: usize,
-    /// How many slaves of this round were passed, carried or not.
+    /// How many of the visits that this frame may have were passed, carried or not.
     pub passed: usize,
 }
 
@@ -48,10 +48,15 @@ impl<H: Hand> Tour<H> {
     ghost use Rattle.master_tour.specs.Stands.{StopShows, FollowShows, IsSpot, StandUnder, came_at, given_where, stand_gram, StandMeant, NextShows, HoldShows};
     ghost use Rattle.frame_view.specs.View.{datagram_seen};
     ghost use Rattle.mailbox_master.specs.Any.{in_area_len};
-    ghost use Rattle.std.specs.Prelude.{is_some, true, ◌++◌};
+    ghost use Rattle.std.specs.Prelude.{is_some, true, ◌++◌, ◌+◌, ◌==◌};
+    ghost use Rattle.std.specs.Prelude.{Some, drop};
+    ghost use Rattle.master_tour.specs.Orders.{start_of, place_in, round_left, visits_left, AreOnce, IsNextOf, IsCarried};
+    ghost use Rattle.life_frames.specs.Shares.{Lived, AllBoth, AllThree, AreDistinct, lived_back, lived_lost};
+    ghost use Rattle.master_side.specs.Sent.{SameLink};
+    ghost use Rattle.master_tour.specs.Made.{StopLives, StopMade, StopSent, FrameMade, FrameSent, IsClearFor, IsSized, is_in};
     ghost use Rattle.life_model.specs.Lives.{Life, Spot, life_back, life_lost};
     ghost use Rattle.segment_model.specs.Record.{News};
-    ghost use Rattle.std.specs.Prelude.{Bool, false, not, nat_lt, ◌&&◌};
+    ghost use Rattle.std.specs.Prelude.{Bool, false, not, nat_lt, ◌&&◌, if◌then◌else◌};
     ghost use Rattle.master_tour.specs.declared.stop.Stand.{Stand};
 
     // Each slave hears what came back.
@@ -65,6 +70,8 @@ impl<H: Hand> Tour<H> {
             IsSpot spot s.side.station s.place s.start → StandUnder lens s.side.station s.at s.under s.side.carried s.stand l sent → StopShows (λ d a. SideShows (H.shows s.side.hand x) s.side.out s.side.inn s.side.fresh s.side.duty d a) recover spot s.stand s.spare l →
             FollowShows (λ d a. SideShows (H.shows t.side.hand x) t.side.out t.side.inn t.side.fresh t.side.duty d a) recover spot t.stand t.spare t.news l (life_back x H.acknowledged more passed number spot ns (seen lens octets.now) (came_at s.under s.at (seen lens octets.now)) l l.stand)) × (t.place ≡ s.place) × (t.start ≡ s.start)) self.old.stops.items self.new.stops.items }
         ensures long { length self.new.stops.items ≡ length self.old.stops.items }
+        ensures kept { EachPair (λ s t. SameLink s.side.out s.side.inn s.side.station s.side.area t.side.out t.side.inn t.side.station t.side.area × (IsSized s.stand s.side.out.len (in_area_len s.side.inn) → IsSized t.stand t.side.out.len (in_area_len t.side.inn))) self.old.stops.items self.new.stops.items }
+        ensures tour { (self.new.again ≡ self.old.again) × (self.new.visit ≡ self.old.visit) × (self.new.opened ≡ self.old.opened) × (self.new.last ≡ self.old.last) × (self.new.missed ≡ self.old.missed) × (self.new.retry ≡ self.old.retry) }
     {
         let mut cursor = Cursor::new(octets);
         for i in 0..self.stops.len() {
@@ -82,6 +89,8 @@ impl<H: Hand> Tour<H> {
             IsSpot spot s.side.station s.place s.start → StandUnder lens s.side.station s.at s.under s.side.carried s.stand l (seen lens octets) → StopShows (λ d a. SideShows (H.shows s.side.hand x) s.side.out s.side.inn s.side.fresh s.side.duty d a) recover spot s.stand s.spare l →
             FollowShows (λ d a. SideShows (H.shows t.side.hand x) t.side.out t.side.inn t.side.fresh t.side.duty d a) recover spot t.stand t.spare t.news l (given_where (gives && s.under) recover spot number (life_lost x H.acknowledged more passed spot ns (seen lens octets) l l.stand))) × (t.place ≡ s.place) × (t.start ≡ s.start)) self.old.stops.items self.new.stops.items }
         ensures long { length self.new.stops.items ≡ length self.old.stops.items }
+        ensures kept { EachPair (λ s t. SameLink s.side.out s.side.inn s.side.station s.side.area t.side.out t.side.inn t.side.station t.side.area × (IsSized s.stand s.side.out.len (in_area_len s.side.inn) → IsSized t.stand t.side.out.len (in_area_len t.side.inn))) self.old.stops.items self.new.stops.items }
+        ensures tour { (self.new.again ≡ self.old.again) × (self.new.visit ≡ self.old.visit) × (self.new.opened ≡ self.old.opened) × (self.new.last ≡ self.old.last) × (self.new.missed ≡ self.old.missed) × (self.new.retry ≡ self.old.retry) }
     {
         for i in 0..self.stops.len() {
             self.stops[i].lost_for(gives);
@@ -90,10 +99,24 @@ impl<H: Hand> Tour<H> {
 
     // No slave has a datagram in the frame that is made.
     fn rewind(&mut self)
-        ensures { length self.new.stops.items ≡ length self.old.stops.items }
+        ensures long { length self.new.stops.items ≡ length self.old.stops.items }
+        ensures each { EachPair (λ s t. (t.side ≡ s.side) × (t.stand ≡ s.stand) × (t.place ≡ s.place) × (t.start ≡ s.start) × (t.spare ≡ s.spare) × (t.under ≡ false)) self.old.stops.items self.new.stops.items }
+        ensures tour { (self.new.again ≡ self.old.again) × (self.new.visit ≡ self.old.visit) × (self.new.opened ≡ self.old.opened) × (self.new.last ≡ self.old.last) × (self.new.missed ≡ self.old.missed) × (self.new.retry ≡ self.old.retry) }
     {
         for i in 0..self.stops.len() {
             self.stops[i].under = false;
+        }
+    }
+
+    // The slaves of the last frame are forgotten, unless they come again.
+    fn forget(&mut self)
+        ensures stops { self.new.stops ≡ self.old.stops }
+        ensures kept { (self.new.again ≡ self.old.again) × (self.new.opened ≡ self.old.opened) × (self.new.last ≡ self.old.last) × (self.new.missed ≡ self.old.missed) × (self.new.retry ≡ self.old.retry) }
+        ensures again { self.old.again ≡ true → self.new.visit ≡ self.old.visit }
+        ensures anew { self.old.again ≡ false → self.new.visit.items ≡ [] }
+    {
+        if !self.again {
+            self.visit.clear();
         }
     }
 
@@ -101,12 +124,17 @@ impl<H: Hand> Tour<H> {
     pub fn begin(&mut self, frame: &mut FrameBuf)
         ensures begun { IsBegun frame.new.items [] }
         ensures long { length self.new.stops.items ≡ length self.old.stops.items }
+        ensures count { self.new.count ≡ 0 }
+        ensures made { (x : Speech Body H.Asked Reply) (more : Body → Bool) (passed : H.Asked → Bool) (made recover index : ℕ) (lens : ℕ → Lens) (left : List ℕ) (lives : List (Lived H.Asked Reply)) →
+            AllBoth (λ a s. StopLives lens recover (λ d b. SideShows (H.shows s.side.hand x) s.side.out s.side.inn s.side.fresh s.side.duty d b) s.side.station s.place s.start s.stand s.spare s.side.out.len (in_area_len s.side.inn) a × (is_some a.life.era.passing ≡ is_some s.side.passing)) lives self.old.stops.items →
+            FrameMade (λ ds i a s. StopMade x H.acknowledged more passed made lens recover index (λ d b. SideShows (H.shows s.side.hand x) s.side.out s.side.inn s.side.fresh s.side.duty d b) s.side.station s.place s.start s.stand s.spare s.side.out s.side.inn s.side.duty s.side.carried s.side.passing s.under s.at left ds i a) frame.new.items 0 lives self.new.stops.items }
+        ensures tour { (self.new.again ≡ self.old.again) × (self.new.opened ≡ self.old.opened) × (self.new.last ≡ self.old.last) × (self.new.missed ≡ self.old.missed) × (self.new.retry ≡ self.old.retry) × (self.new.passed ≡ 0) }
+        ensures again { self.old.again ≡ true → self.new.visit ≡ self.old.visit }
+        ensures anew { self.old.again ≡ false → self.new.visit.items ≡ [] }
     {
         self.rewind();
         datagrams::begin(frame);
-        if !self.again {
-            self.visit.clear();
-        }
+        self.forget();
         self.count = 0;
         self.passed = 0;
     }
@@ -114,7 +142,8 @@ impl<H: Hand> Tour<H> {
     // The place of the slave number `k` of the round, which begins behind the last one carried.
     fn place_of(&self, k: usize) -> usize
         requires { k < length self.now.stops.items }
-        ensures { result < length self.now.stops.items }
+        ensures inside { result < length self.now.stops.items }
+        ensures is { result ≡ place_in (start_of (length self.now.stops.items) self.now.last) (length self.now.stops.items) k }
     {
         let count = self.stops.len();
         let start = match self.last {
@@ -130,7 +159,8 @@ impl<H: Hand> Tour<H> {
 
     // The number of the next live slave of the round.
     fn next_live(&self) -> Option<usize>
-        ensures { IfSome result (λ k. k < length self.now.stops.items) }
+        ensures inside { IfSome result (λ k. k < length self.now.stops.items) }
+        ensures later { IfSome result (λ k. self.now.passed ≤ k) }
     {
         for k in self.passed..self.stops.len() {
             if !matches!(self.stops[self.place_of(k)].stand, Stand::Gone) {
@@ -140,31 +170,61 @@ impl<H: Hand> Tour<H> {
         None
     }
 
-    // The slave whose datagram stands next, if the frame has room for it: behind a lost frame the slaves of that one, in the first
-    // bring-up the one that is brought up, else those of a round.
-    fn candidate(&mut self) -> Option<usize>
-        ensures count { self.new.count ≡ self.old.count }
-        ensures stops { self.new.stops ≡ self.old.stops }
+    // Behind a lost frame: the next of the slaves that it carried.
+    fn carried_again(&mut self) -> Option<usize>
+        ensures kept { (self.new.stops ≡ self.old.stops) × (self.new.count ≡ self.old.count) × (self.new.again ≡ self.old.again) × (self.new.visit ≡ self.old.visit) × (self.new.opened ≡ self.old.opened) × (self.new.last ≡ self.old.last) }
         ensures inside { IfSome result (λ p. p < length self.new.stops.items) }
+        ensures left { (p : ℕ) → result ≡ Some p → AreOnce self.old.visit.items → IsNextOf p (drop self.old.passed self.old.visit.items) (drop self.new.passed self.old.visit.items) }
     {
-        if self.again {
-            let place = *self.visit.get(self.count)?;
-            return if place < self.stops.len() {
-                Some(place)
-            } else {
-                None
-            };
+        let place = *self.visit.get(self.passed)?;
+        self.passed += 1;
+        if place < self.stops.len() {
+            Some(place)
+        } else {
+            None
         }
-        if self.opened < self.stops.len() {
-            return if self.count == 0 {
-                Some(self.opened)
-            } else {
-                None
-            };
+    }
+
+    // In the first bring-up: the slave that is brought up.
+    fn brought_up(&mut self) -> Option<usize>
+        requires { self.old.opened < length self.old.stops.items }
+        ensures kept { (self.new.stops ≡ self.old.stops) × (self.new.count ≡ self.old.count) × (self.new.again ≡ self.old.again) × (self.new.visit ≡ self.old.visit) × (self.new.opened ≡ self.old.opened) × (self.new.last ≡ self.old.last) }
+        ensures inside { IfSome result (λ p. p < length self.new.stops.items) }
+        ensures left { (p : ℕ) → result ≡ Some p → IsNextOf p (drop self.old.passed (self.old.opened ∷ [])) (drop self.new.passed (self.old.opened ∷ [])) }
+    {
+        if self.passed > 0 {
+            return None;
         }
+        self.passed = 1;
+        Some(self.opened)
+    }
+
+    // The next live slave of a round.
+    fn next_in_round(&mut self) -> Option<usize>
+        ensures kept { (self.new.stops ≡ self.old.stops) × (self.new.count ≡ self.old.count) × (self.new.again ≡ self.old.again) × (self.new.visit ≡ self.old.visit) × (self.new.opened ≡ self.old.opened) × (self.new.last ≡ self.old.last) }
+        ensures inside { IfSome result (λ p. p < length self.new.stops.items) }
+        ensures left { (p : ℕ) → result ≡ Some p → IsNextOf p (round_left (start_of (length self.old.stops.items) self.old.last) (length self.old.stops.items) self.old.passed) (round_left (start_of (length self.old.stops.items) self.old.last) (length self.old.stops.items) self.new.passed) }
+    {
         let k = self.next_live()?;
         self.passed = k + 1;
         Some(self.place_of(k))
+    }
+
+    // The slave whose datagram stands next, if the frame has room for it: behind a lost frame the slaves of that one, in the first
+    // bring-up the one that is brought up, else those of a round.
+    fn candidate(&mut self) -> Option<usize>
+        ensures kept { (self.new.stops ≡ self.old.stops) × (self.new.count ≡ self.old.count) × (self.new.again ≡ self.old.again) × (self.new.visit ≡ self.old.visit) × (self.new.opened ≡ self.old.opened) × (self.new.last ≡ self.old.last) }
+        ensures inside { IfSome result (λ p. p < length self.new.stops.items) }
+        ensures left { (p : ℕ) → result ≡ Some p → (self.old.again ≡ true → AreOnce self.old.visit.items) →
+            IsNextOf p (visits_left self.old.again self.old.visit.items self.old.opened (length self.old.stops.items) self.old.last self.old.passed) (visits_left self.old.again self.old.visit.items self.old.opened (length self.old.stops.items) self.old.last self.new.passed) }
+    {
+        if self.again {
+            return self.carried_again();
+        }
+        if self.opened < self.stops.len() {
+            return self.brought_up();
+        }
+        self.next_in_round()
     }
 
     /// The place of the slave whose datagram stands next, if it fits: `None` where no slave is left for the frame.
@@ -172,6 +232,9 @@ impl<H: Hand> Tour<H> {
         ensures inside { IfSome result (λ p. p < length self.new.stops.items) }
         ensures few { IfSome result (λ p. self.new.count < 16) }
         ensures stops { self.new.stops ≡ self.old.stops }
+        ensures kept { (self.new.count ≡ self.old.count) × (self.new.again ≡ self.old.again) × (self.new.visit ≡ self.old.visit) × (self.new.opened ≡ self.old.opened) × (self.new.last ≡ self.old.last) }
+        ensures left { (p : ℕ) → result ≡ Some p → (self.old.again ≡ true → AreOnce self.old.visit.items) →
+            IsNextOf p (visits_left self.old.again self.old.visit.items self.old.opened (length self.old.stops.items) self.old.last self.old.passed) (visits_left self.old.again self.old.visit.items self.old.opened (length self.old.stops.items) self.old.last self.new.passed) }
     {
         if self.count >= 16 {
             return None;
@@ -186,6 +249,11 @@ impl<H: Hand> Tour<H> {
         ensures lives { StepsAt (λ s t. ((x : Speech Body H.Asked Reply) (more : Body → Bool) (passed : H.Asked → Bool) (made recover : ℕ) (spot : Spot) (l : Life Body H.Asked Reply) → StopShows (λ d a. SideShows (H.shows s.side.hand x) s.side.out s.side.inn s.side.fresh s.side.duty d a) recover spot s.stand s.spare l →
             HoldShows x H.acknowledged more passed made l (StopShows (λ d a. SideShows (H.shows t.side.hand x) t.side.out t.side.inn t.side.fresh t.side.duty d a) recover spot t.stand t.spare)) × (t.place ≡ s.place) × (t.start ≡ s.start) × (t.under ≡ s.under) × (t.at ≡ s.at)) place self.old.stops.items self.new.stops.items }
         ensures long { length self.new.stops.items ≡ length self.old.stops.items }
+        ensures step { StepsAt (λ s t. SameLink s.side.out s.side.inn s.side.station s.side.area t.side.out t.side.inn t.side.station t.side.area × (t.stand ≡ s.stand) × (t.side.passing ≡ s.side.passing)) place self.old.stops.items self.new.stops.items }
+        ensures made { (x : Speech Body H.Asked Reply) (more : Body → Bool) (passed : H.Asked → Bool) (made recover index count : ℕ) (lens : ℕ → Lens) (left : List ℕ) (lives : List (Lived H.Asked Reply)) (octets : List ℕ) → AreDistinct lives → is_in place left ≡ true →
+            FrameMade (λ ds i a s. StopMade x H.acknowledged more passed made lens recover index (λ d b. SideShows (H.shows s.side.hand x) s.side.out s.side.inn s.side.fresh s.side.duty d b) s.side.station s.place s.start s.stand s.spare s.side.out s.side.inn s.side.duty s.side.carried s.side.passing s.under s.at left ds i a) octets count lives self.old.stops.items →
+            FrameMade (λ ds i a s. StopMade x H.acknowledged more passed made lens recover index (λ d b. SideShows (H.shows s.side.hand x) s.side.out s.side.inn s.side.fresh s.side.duty d b) s.side.station s.place s.start s.stand s.spare s.side.out s.side.inn s.side.duty s.side.carried s.side.passing s.under s.at left ds i a) octets count lives self.new.stops.items }
+        ensures tour { (self.new.again ≡ self.old.again) × (self.new.visit ≡ self.old.visit) × (self.new.opened ≡ self.old.opened) × (self.new.last ≡ self.old.last) × (self.new.missed ≡ self.old.missed) × (self.new.retry ≡ self.old.retry) × (self.new.passed ≡ self.old.passed) }
     {
         self.stops[place].ahead(wish) <= datagrams::room(frame)
     }
@@ -208,6 +276,12 @@ impl<H: Hand> Tour<H> {
             NextShows x H.acknowledged more passed made l (λ n. StopShows (λ d a. SideShows (H.shows t.side.hand x) t.side.out t.side.inn t.side.fresh t.side.duty d a) recover spot t.stand t.spare n ×
             (t.under ≡ true → StandMeant lens t.side.station index t.side.carried t.stand n (datagram_seen lens (stand_gram t.side.station index t.stand t.side.out t.side.inn t.side.duty t.side.carried))))) × ((ds : List Raw.Datagram) → IsBegun frame.old.items ds → t.under ≡ true → IsBegun frame.new.items (ds ++ (stand_gram t.side.station index t.stand t.side.out t.side.inn t.side.duty t.side.carried) ∷ [])) × (t.under ≡ false → frame.new.items ≡ frame.old.items) × (t.under ≡ true → t.at ≡ self.old.count) × (t.place ≡ s.place) × (t.start ≡ s.start)) place self.old.stops.items self.new.stops.items }
         ensures long { length self.new.stops.items ≡ length self.old.stops.items }
+        ensures step { StepsAt (λ s t. SameLink s.side.out s.side.inn s.side.station s.side.area t.side.out t.side.inn t.side.station t.side.area × (t.stand ≡ s.stand) × (t.under ≡ true → IsClearFor t.stand t.side.carried t.side.inn) × (t.under ≡ true → self.new.count ≡ self.old.count + 1) × (t.under ≡ false → self.new.count ≡ self.old.count)) place self.old.stops.items self.new.stops.items }
+        ensures made { (x : Speech Body H.Asked Reply) (more : Body → Bool) (passed : H.Asked → Bool) (made recover : ℕ) (lens : ℕ → Lens) (left next : List ℕ) (lives : List (Lived H.Asked Reply)) → AreDistinct lives → is_in place left ≡ true → is_in place next ≡ false → ((k : ℕ) → is_in k next ≡ true → is_in k left ≡ true) →
+            FrameMade (λ ds i a s. StopMade x H.acknowledged more passed made lens recover index (λ d b. SideShows (H.shows s.side.hand x) s.side.out s.side.inn s.side.fresh s.side.duty d b) s.side.station s.place s.start s.stand s.spare s.side.out s.side.inn s.side.duty s.side.carried s.side.passing s.under s.at left ds i a) frame.old.items self.old.count lives self.old.stops.items →
+            FrameMade (λ ds i a s. StopMade x H.acknowledged more passed made lens recover index (λ d b. SideShows (H.shows s.side.hand x) s.side.out s.side.inn s.side.fresh s.side.duty d b) s.side.station s.place s.start s.stand s.spare s.side.out s.side.inn s.side.duty s.side.carried s.side.passing s.under s.at next ds i a) frame.new.items self.new.count lives self.new.stops.items }
+        ensures tour { (self.new.again ≡ self.old.again) × (self.new.opened ≡ self.old.opened) × (self.new.last ≡ self.old.last) × (self.new.missed ≡ self.old.missed) × (self.new.retry ≡ self.old.retry) × (self.new.passed ≡ self.old.passed) }
+        ensures visits { length self.old.visit.items < 16 → IsCarried (nat_lt self.old.count self.new.count) self.old.again place self.old.visit.items self.new.visit.items }
     {
         let at = self.count;
         let began = self.stops[place].visit(wish, at, index, frame);
@@ -220,6 +294,10 @@ impl<H: Hand> Tour<H> {
     fn carry_where(&mut self, under: bool, place: usize)
         requires few { self.old.count < 16 }
         ensures stops { self.new.stops ≡ self.old.stops }
+        ensures carried { under ≡ true → self.new.count ≡ self.old.count + 1 }
+        ensures still { under ≡ false → self.new.count ≡ self.old.count }
+        ensures tour { (self.new.again ≡ self.old.again) × (self.new.opened ≡ self.old.opened) × (self.new.last ≡ self.old.last) × (self.new.missed ≡ self.old.missed) × (self.new.retry ≡ self.old.retry) × (self.new.passed ≡ self.old.passed) }
+        ensures visits { length self.old.visit.items < 16 → IsCarried under self.old.again place self.old.visit.items self.new.visit.items }
     {
         if under {
             self.carry(place);
@@ -230,6 +308,9 @@ impl<H: Hand> Tour<H> {
     fn carry(&mut self, place: usize)
         requires few { self.old.count < 16 }
         ensures stops { self.new.stops ≡ self.old.stops }
+        ensures count { self.new.count ≡ self.old.count + 1 }
+        ensures tour { (self.new.again ≡ self.old.again) × (self.new.opened ≡ self.old.opened) × (self.new.last ≡ self.old.last) × (self.new.missed ≡ self.old.missed) × (self.new.retry ≡ self.old.retry) × (self.new.passed ≡ self.old.passed) }
+        ensures visits { length self.old.visit.items < 16 → IsCarried true self.old.again place self.old.visit.items self.new.visit.items }
     {
         if !self.again {
             let _room = self.visit.try_push(place);
@@ -240,6 +321,10 @@ impl<H: Hand> Tour<H> {
     /// Ends the frame: `false` where it has no datagram, since no slave is live.
     pub fn finish(&self, frame: &mut FrameBuf) -> bool
         requires { (ds : List Raw.Datagram) × IsBegun frame.old.items ds }
+        ensures some { result ≡ not (self.now.count == 0) }
+        ensures made { result ≡ true → (x : Speech Body H.Asked Reply) (more : Body → Bool) (passed : H.Asked → Bool) (made recover index : ℕ) (lens : ℕ → Lens) (left : List ℕ) (lives : List (Lived H.Asked Reply)) →
+            FrameMade (λ ds i a s. StopMade x H.acknowledged more passed made lens recover index (λ d b. SideShows (H.shows s.side.hand x) s.side.out s.side.inn s.side.fresh s.side.duty d b) s.side.station s.place s.start s.stand s.spare s.side.out s.side.inn s.side.duty s.side.carried s.side.passing s.under s.at left ds i a) frame.old.items self.now.count lives self.now.stops.items →
+            FrameSent (λ ds a b s. StopSent x H.acknowledged more passed made lens recover (λ d k. SideShows (H.shows s.side.hand x) s.side.out s.side.inn s.side.fresh s.side.duty d k) s.side.station s.place s.start s.stand s.spare s.side.out.len (in_area_len s.side.inn) s.side.carried s.under s.at ds a b) frame.new.items lives self.now.stops.items }
     {
         if self.count == 0 {
             return false;
@@ -280,6 +365,8 @@ impl<H: Hand> Tour<H> {
             IsSpot spot s.side.station s.place s.start → StandUnder lens s.side.station s.at s.under s.side.carried s.stand l sent → StopShows (λ d a. SideShows (H.shows s.side.hand x) s.side.out s.side.inn s.side.fresh s.side.duty d a) recover spot s.stand s.spare l →
             FollowShows (λ d a. SideShows (H.shows t.side.hand x) t.side.out t.side.inn t.side.fresh t.side.duty d a) recover spot t.stand t.spare t.news l (life_back x H.acknowledged more passed number spot ns (seen lens frame.now.items) (came_at s.under s.at (seen lens frame.now.items)) l l.stand)) × (t.place ≡ s.place) × (t.start ≡ s.start)) self.old.stops.items self.new.stops.items }
         ensures long { length self.new.stops.items ≡ length self.old.stops.items }
+        ensures kept { EachPair (λ s t. SameLink s.side.out s.side.inn s.side.station s.side.area t.side.out t.side.inn t.side.station t.side.area × (IsSized s.stand s.side.out.len (in_area_len s.side.inn) → IsSized t.stand t.side.out.len (in_area_len t.side.inn))) self.old.stops.items self.new.stops.items }
+        ensures tour { (self.new.again ≡ self.old.again) × (self.new.visit ≡ self.old.visit) × (self.new.opened ≡ self.old.opened) × (self.new.last ≡ self.old.last) × (self.new.missed ≡ self.old.missed) × (self.new.retry ≡ self.old.retry) }
     {
         let octets = frame.as_slice();
         if datagrams::fault(octets).is_none() {
@@ -299,6 +386,10 @@ impl<H: Hand> Tour<H> {
             IsSpot spot s.side.station s.place s.start → StandUnder lens s.side.station s.at s.under s.side.carried s.stand l sent → StopShows (λ d a. SideShows (H.shows s.side.hand x) s.side.out s.side.inn s.side.fresh s.side.duty d a) recover spot s.stand s.spare l →
             FollowShows (λ d a. SideShows (H.shows t.side.hand x) t.side.out t.side.inn t.side.fresh t.side.duty d a) recover spot t.stand t.spare t.news l (life_back x H.acknowledged more passed number spot ns (seen lens frame.now.items) (came_at s.under s.at (seen lens frame.now.items)) l l.stand)) × (t.place ≡ s.place) × (t.start ≡ s.start)) self.old.stops.items self.new.stops.items }
         ensures long { length self.new.stops.items ≡ length self.old.stops.items }
+        ensures shown { (lens : ℕ → Lens) (sent : List (Datagram Body)) → Returns sent (seen lens frame.now.items) → 1 ≤ length sent → (x : Speech Body H.Asked Reply) (more : Body → Bool) (passed : H.Asked → Bool) (number recover : ℕ) (lives : List (Lived H.Asked Reply)) →
+            AllBoth (λ a s. StopLives lens recover (λ d b. SideShows (H.shows s.side.hand x) s.side.out s.side.inn s.side.fresh s.side.duty d b) s.side.station s.place s.start s.stand s.spare s.side.out.len (in_area_len s.side.inn) a × StandUnder lens s.side.station s.at s.under s.side.carried s.stand a.life sent) lives self.old.stops.items →
+            AllThree (λ a s t. (ns : List (News Body)) → StopLives lens recover (λ d b. SideShows (H.shows t.side.hand x) t.side.out t.side.inn t.side.fresh t.side.duty d b) t.side.station t.place t.start t.stand t.spare t.side.out.len (in_area_len t.side.inn) (lived_back x H.acknowledged more passed number (seen lens frame.now.items) a (record { under = s.under; at = s.at }) ns)) lives self.old.stops.items self.new.stops.items }
+        ensures tour { (self.new.visit ≡ self.old.visit) × (self.new.again ≡ false) × (self.new.missed ≡ 0) × (self.new.retry ≡ self.old.retry) }
     {
         self.hear(frame, made);
         let last = self.last_behind();
@@ -320,6 +411,10 @@ impl<H: Hand> Tour<H> {
             IsSpot spot s.side.station s.place s.start → StandUnder lens s.side.station s.at s.under s.side.carried s.stand l (seen lens octets) → StopShows (λ d a. SideShows (H.shows s.side.hand x) s.side.out s.side.inn s.side.fresh s.side.duty d a) recover spot s.stand s.spare l →
             FollowShows (λ d a. SideShows (H.shows t.side.hand x) t.side.out t.side.inn t.side.fresh t.side.duty d a) recover spot t.stand t.spare t.news l (given_where (not (nat_lt self.old.missed self.old.retry) && s.under) recover spot number (life_lost x H.acknowledged more passed spot ns (seen lens octets) l l.stand))) × (t.place ≡ s.place) × (t.start ≡ s.start)) self.old.stops.items self.new.stops.items }
         ensures long { length self.new.stops.items ≡ length self.old.stops.items }
+        ensures shown { (lens : ℕ → Lens) (octets : List ℕ) (x : Speech Body H.Asked Reply) (more : Body → Bool) (passed : H.Asked → Bool) (number recover : ℕ) (lives : List (Lived H.Asked Reply)) →
+            AllBoth (λ a s. StopLives lens recover (λ d b. SideShows (H.shows s.side.hand x) s.side.out s.side.inn s.side.fresh s.side.duty d b) s.side.station s.place s.start s.stand s.spare s.side.out.len (in_area_len s.side.inn) a × StandUnder lens s.side.station s.at s.under s.side.carried s.stand a.life (seen lens octets)) lives self.old.stops.items →
+            AllThree (λ a s t. (ns : List (News Body)) → StopLives lens recover (λ d b. SideShows (H.shows t.side.hand x) t.side.out t.side.inn t.side.fresh t.side.duty d b) t.side.station t.place t.start t.stand t.spare t.side.out.len (in_area_len t.side.inn) (lived_lost x H.acknowledged more passed (not (nat_lt self.old.missed self.old.retry)) recover number (seen lens octets) a (record { under = s.under; at = s.at }) ns)) lives self.old.stops.items self.new.stops.items }
+        ensures tour { (self.new.visit ≡ self.old.visit) × (self.new.again ≡ nat_lt self.old.missed self.old.retry) × (self.new.missed ≡ (if nat_lt self.old.missed self.old.retry then self.old.missed + 1 else 0)) × (self.new.retry ≡ self.old.retry) }
     {
         let missed = self.missed;
         let comes_again = missed < self.retry;

@@ -5,16 +5,15 @@ use Rattle.toml.specs.Data.{Data, Items, Members, get_member, as_array}
 use Rattle.toml.specs.Parse.{parse_document}
 use Rattle.arrayvec.specs.ArrayVec.{ArrayVec}
 use Rattle.segment_plan.specs.declared.plan.Scenario.{Scenario}
-use Rattle.segment_plan.specs.Sound.{repeated_name, repeated_station, are_lost, is_bounded}
 use Rattle.scenario_keys.specs.declared.place.Place.{Place}
 use Rattle.scenario_keys.specs.declared.place.Place.TheVariants as places
-use Rattle.scenario_keys.specs.declared.refusal.Rule.{Rule}
-use Rattle.scenario_keys.specs.declared.refusal.Rule.TheVariants.{NotToml, WrongVersion, WrongKind, OutOfRange, SameName, SameStation, Schedule, TooMany}
+use Rattle.scenario_keys.specs.declared.refusal.Rule.TheVariants.{NotToml, WrongVersion, WrongKind, OutOfRange, TooMany}
 use Rattle.scenario_keys.specs.declared.refusal.Refusal.{Refusal}
 use Rattle.scenario_keys.specs.Reading.{◌>>=◌, refuse, wanted, unless_refused, optional, each}
 use Rattle.scenario_keys.specs.Keys.{only_keys, needed_at, number_in, in_range, integer_in, integer_at, integer_or, two_numbers_in, octets_at, tables_at, optional_tables_at, list_of}
 use Rattle.scenario_slaves.specs.Slaves.{slaves_of, paces_of}
 use Rattle.scenario_services.specs.Services.{services_of}
+use Rattle.scenario_whole.specs.Whole.{whole}
 
 -- ---- the keys of the top
 
@@ -76,20 +75,6 @@ abbrev pub packets_of : List Members → Result (List (ArrayVec ℕ)) Refusal
 packets_of tables = each packet_of 0 tables
 
 -- ---- the whole
-
--- no slave that one before it equals
-abbrev pub unless_repeated : Rule → Option ℕ → Result (Unit {0}) Refusal
-unless_repeated rule None = Ok tt
-unless_repeated rule (Some slave) = refuse rule (places.Slave slave)
-
--- what is judged behind all tables: names, stations, the lost frames and the frame bound
-abbrev pub whole : Scenario → Result Scenario Refusal
-whole s = do
-  _ ← unless_repeated SameName (repeated_name s.slaves)
-  _ ← unless_repeated SameStation (repeated_station s.slaves)
-  _ ← unless_refused Schedule places.Top (are_lost (length s.slaves) s.lose)
-  _ ← unless_refused TooMany places.Top (is_bounded s)
-  Ok s
 
 abbrev pub top_keys : List (List ℕ)
 top_keys =

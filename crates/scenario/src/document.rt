@@ -2,6 +2,7 @@ ghost use Rattle.std.specs.Prelude.{◌≡◌, ◌≤◌, map, length, IfOk, IfS
 ghost use Rattle.toml.specs.View.{table_view};
 ghost use Rattle.segment_plan.specs.Sound.{IsPacket, IsLaid};
 ghost use Rattle.scenario_keys.specs.Reading.{Gives};
+ghost use Rattle.scenario.specs.Told.{IsTold};
 ghost use Rattle.scenario.specs.Document.{version_of, version_at, budget_at, slave_tables_at, packet_of, packets_of, tables_of};
 
 use crate::losses::lose;
@@ -94,6 +95,7 @@ fn packets(alloc: Global, tables: &[&Table]) -> Result<Rows<Packet>, Stop>
 pub fn tables(alloc: Global, table: &Table) -> Result<Scenario, Stop>
     ensures gives { Gives (λ s. s) result (tables_of (table_view table.now)) }
     ensures sound { IfOk result IsLaid }
+    ensures told { IfOk result IsTold }
 {
     let version = version(table)?;
     only_known(table, KEYS, Place::Top)?;

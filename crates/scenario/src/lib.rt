@@ -4,7 +4,6 @@
 mod document;
 mod losses;
 mod reading;
-mod whole;
 
 pub use reading::read;
 pub use scenario_keys::{Place, ReadErr};

@@ -6,11 +6,12 @@ ghost use Rattle.scenario_keys.specs.declared.place.Place.TheVariants.{Top};
 ghost use Rattle.scenario_keys.specs.declared.refusal.Rule.TheVariants.{NotToml};
 ghost use Rattle.scenario_keys.specs.Reading.{Gives, wanted};
 ghost use Rattle.scenario_keys.specs.Rules.{Answers};
+ghost use Rattle.scenario.specs.Told.{IsTold};
 ghost use Rattle.scenario.specs.Document.{document_of, plan_of};
 
 use crate::document::tables;
-use crate::whole::whole;
 use scenario_keys::{Place, ReadErr, Rule, Stop, refused};
+use scenario_whole::whole;
 use segment_plan::Scenario;
 use std::alloc::Global;
 use std::str;
@@ -45,6 +46,7 @@ fn document(alloc: Global, bytes: &[u8]) -> Result<Table, Stop>
 fn plan(alloc: Global, bytes: &[u8]) -> Result<Scenario, Stop>
     ensures gives { Gives (λ s. s) result (plan_of bytes.now) }
     ensures sound { IfOk result IsPlan }
+    ensures told { IfOk result IsTold }
 {
     let table = document(alloc, bytes)?;
     let scenario = tables(alloc, &table)?;
@@ -58,6 +60,8 @@ pub fn read(alloc: Global, bytes: &[u8]) -> Result<Scenario, ReadErr>
     // What is read is the plan that the octets write, and what is refused is refused as they are.
     ensures exact { Answers result (plan_of bytes.now) }
     ensures sound { IfOk result IsPlan }
+    // No file's name, and no drive and number of an IDN, comes twice, and an address block fits the mailboxes that it goes through.
+    ensures told { IfOk result IsTold }
 {
     match plan(alloc, bytes) {
         Ok(scenario) => Ok(scenario),

@@ -285,13 +285,13 @@ fn is_label_text(text: &str) -> bool
 }
 
 /// A name: 1 to 32 characters from 0x21 to 0x7E.
-pub fn needed_name(alloc: Global, table: &Table, key: &str, place: Place) -> Result<Octets, Stop>
-    ensures gives { Gives (λ t. t) result (name_at key.now place (table_view table.now)) }
-    ensures within { IfOk result (λ t. (1 ≤ length t) × (length t ≤ 32)) }
+pub fn needed_name<'a>(table: &'a Table, key: &str, place: Place) -> Result<&'a str, Stop>
+    ensures gives { Gives (λ t. t.now) result (name_at key.now place (table_view table.now)) }
+    ensures within { IfOk result (λ t. (1 ≤ length t.now) × (length t.now ≤ 32)) }
 {
     let text = needed_text(table, key, place)?;
     unless(is_name_text(text), Rule::OutOfRange, place)?;
-    Ok(Octets::copy_of(alloc, text.as_bytes())?)
+    Ok(text)
 }
 
 fn label(alloc: Global, value: &Value, place: Place) -> Result<Octets, Stop>

@@ -2,6 +2,7 @@
 //! not octets, out of range.
 #![tactic(auto)]
 
+mod digits;
 mod keys;
 mod octets;
 mod place;

@@ -3,22 +3,26 @@ ghost use Rattle.toml.specs.View.{view, table_view};
 ghost use Rattle.scenario_keys.specs.Reading.{Gives};
 ghost use Rattle.scenario_keys.specs.Keys.{digits_in, octets_in, octets_at, no_octets_at};
 
+use crate::digits::decode_into;
 use crate::keys::{find, needed, text, unless};
 use crate::place::Place;
 use crate::refusal::{Rule, Stop, refused};
 use ec_fields::Octets;
-use hex::FromHexError;
 use std::alloc::Global;
 use toml::{Table, Value};
 
 fn digits(alloc: Global, value: &Value, place: Place) -> Result<Octets, Stop>
     ensures { Gives (λ t. t) result (digits_in place (view value.now)) }
 {
-    match hex::decode(alloc, text(value, place)?) {
-        Ok(octets) => Ok(Octets::from_vec(octets)),
-        Err(FromHexError::OutOfMemory) => Err(Stop::NoMemory),
-        Err(_) => Err(refused(Rule::NotOctets, place)),
-    }
+    let text = text(value, place)?.as_bytes();
+    unless(text.len() % 2 == 0, Rule::NotOctets, place)?;
+    let mut octets = vec![in alloc; 0u8; text.len() / 2]?;
+    unless(
+        decode_into(text, octets.as_mut_slice()),
+        Rule::NotOctets,
+        place,
+    )?;
+    Ok(Octets::from_vec(octets))
 }
 
 fn octets(

@@ -1,18 +1,20 @@
-ghost use Rattle.std.specs.Prelude.{◌≡◌, ◌≤◌, codes, length, IfOk, true};
+ghost use Rattle.std.specs.Prelude.{◌≡◌, ◌≤◌, ◌+◌, codes, length, IfOk, OnOk, true};
 ghost use Rattle.toml.specs.View.{table_view};
 ghost use Rattle.eoe.specs.Address.{is_block};
+ghost use Rattle.segment_plan.specs.Bound.{smaller};
 ghost use Rattle.segment_plan.specs.Sound.{IsSlave, IsSdo, IsName, IsService, is_target};
 ghost use Rattle.scenario_keys.specs.Reading.{Gives};
 ghost use Rattle.scenario_keys.specs.Keys.{name_at};
+ghost use Rattle.scenario_services.specs.Reading.{Appends, BlockFits, sent_to};
 ghost use Rattle.scenario_services.specs.Services.{word_at, sub_at, sdo_of, password_at, element_at, block_at, state_at, body_of};
 
 use crate::actions::{Action, SdoAction};
-use ec_fields::{Octets, buffer_of};
+use ec_fields::{Octets, Rows, buffer_of};
 use eoe::is_block;
 use file_store::Name;
 use object_dictionary::SdoService;
 use scenario_keys::{
-    Place, Rule, Stop, integer_or, needed_integer, needed_name, needed_octets, unless,
+    Place, Rule, Stop, integer_or, needed_integer, needed_name, needed_octets, put, unless,
 };
 use segment_plan::{Service, SlaveSpec, smaller};
 use std::alloc::Global;
@@ -89,12 +91,12 @@ fn password(table: &Table, place: Place) -> Result<u32, Stop>
 }
 
 /// The name of a file.
-fn file_name(alloc: Global, table: &Table, place: Place) -> Result<Name, Stop>
+fn file_name(table: &Table, place: Place) -> Result<Name, Stop>
     ensures gives { Gives (λ n. n.items) result (name_at (codes "name") place (table_view table.now)) }
     ensures within { IfOk result IsName }
 {
-    let name = needed_name(alloc, table, "name", place)?;
-    Ok(buffer_of(name.bytes()))
+    let name = needed_name(table, "name", place)?;
+    Ok(buffer_of(name.as_bytes()))
 }
 
 /// A drive, an IDN and element flags.
@@ -113,6 +115,7 @@ fn block(alloc: Global, table: &Table, slave: &SlaveSpec, place: Place) -> Resul
     requires { IsSlave slave.now }
     ensures gives { Gives (λ b. b) result (block_at slave.now place (table_view table.now)) }
     ensures within { IfOk result (λ b. (is_block b ≡ true) × (length b ≤ 1476)) }
+    ensures fits { IfOk result (λ b. length b + 10 ≤ smaller slave.now) }
 {
     let most = usize::from(smaller(slave)) - 10;
     let block = needed_octets(alloc, table, "block", 4, most, place)?;
@@ -137,56 +140,76 @@ fn state_target(table: &Table, slave: &SlaveSpec, place: Place) -> Result<u8, St
     Ok(target as u8)
 }
 
-/// What the keys of a service say, behind its slave.
+/// Appends what the keys of a service say, with the number of its slave.
 #[tactic(auto, unfolding(crate::specs::Services::body_of))]
-pub fn body(
+pub fn add_body(
     alloc: Global,
     action: Action,
     table: &Table,
+    number: u32,
     slave: &SlaveSpec,
     place: Place,
-) -> Result<Service, Stop>
+    rows: &mut Rows<(u32, Service)>,
+) -> Result<(), Stop>
     requires { IsSlave slave.now }
-    ensures gives { Gives (λ s. s) result (body_of action slave.now place (table_view table.now)) }
-    ensures sound { IfOk result IsService }
+    ensures gives { Appends rows.old rows.new result (sent_to number (body_of action slave.now place (table_view table.now))) }
+    ensures sound { OnOk result (IfOk (body_of action slave.now place (table_view table.now)) IsService) }
+    ensures fits { OnOk result (IfOk (body_of action slave.now place (table_view table.now)) (BlockFits slave.now)) }
 {
     match action {
-        Action::Sdo(action) => Ok(Service::Sdo(sdo_body(alloc, action, table, place)?)),
+        Action::Sdo(action) => {
+            let service = sdo_body(alloc, action, table, place)?;
+            put(rows, (number, Service::Sdo(service)))
+        }
         Action::ReadFile => {
-            let name = file_name(alloc, table, place)?;
+            let name = file_name(table, place)?;
             let pass = password(table, place)?;
-            Ok(Service::ReadFile { name, pass })
+            put(rows, (number, Service::ReadFile { name, pass }))
         }
         Action::WriteFile => {
-            let name = file_name(alloc, table, place)?;
+            let name = file_name(table, place)?;
             let pass = password(table, place)?;
             let bytes = needed_octets(alloc, table, "value", 0, 131_072, place)?;
-            Ok(Service::WriteFile { name, pass, bytes })
+            put(rows, (number, Service::WriteFile { name, pass, bytes }))
         }
         Action::ReadIdn => {
             let (drive, idn, elements) = element(table, place)?;
-            Ok(Service::ReadIdn {
-                drive,
-                idn,
-                elements,
-            })
+            put(
+                rows,
+                (
+                    number,
+                    Service::ReadIdn {
+                        drive,
+                        idn,
+                        elements,
+                    },
+                ),
+            )
         }
         Action::WriteIdn => {
             let (drive, idn, elements) = element(table, place)?;
             let bytes = needed_octets(alloc, table, "value", 1, 4096, place)?;
-            Ok(Service::WriteIdn {
-                drive,
-                idn,
-                elements,
-                bytes,
-            })
+            put(
+                rows,
+                (
+                    number,
+                    Service::WriteIdn {
+                        drive,
+                        idn,
+                        elements,
+                        bytes,
+                    },
+                ),
+            )
         }
-        Action::SetIp => Ok(Service::SetIp {
-            block: block(alloc, table, slave, place)?,
-        }),
-        Action::GetIp => Ok(Service::GetIp),
-        Action::State => Ok(Service::State {
-            target: state_target(table, slave, place)?,
-        }),
+        Action::SetIp => {
+            let block = block(alloc, table, slave, place)?;
+            put(rows, (number, Service::SetIp { block }))
+        }
+        Action::GetIp => put(rows, (number, Service::GetIp)),
+        Action::State => {
+            let target = state_target(table, slave, place)?;
+            put(rows, (number, Service::State { target }))
+        }
     }
 }

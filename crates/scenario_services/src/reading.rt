@@ -1,13 +1,14 @@
-ghost use Rattle.std.specs.Prelude.{◌≡◌, ◌≤◌, ◌<◌, map, length, IfOk, IfSome, All};
+ghost use Rattle.std.specs.Prelude.{◌≡◌, ◌≤◌, ◌<◌, map, length, IfOk, IfSome, OnOk, All};
 ghost use Rattle.toml.specs.View.{table_view};
 ghost use Rattle.segment_plan.specs.Sound.{IsSlave, IsService, IsAddressed};
 ghost use Rattle.scenario_keys.specs.Reading.{Gives};
+ghost use Rattle.scenario_services.specs.Reading.{Appends, FitsSlave, IsRead, sent_to};
 ghost use Rattle.scenario_services.specs.Services.{slave_named, given_action, only_keys_of, action_at, target_at, addressed_body, service_of, services_of};
 
 use crate::actions::{Action, known_for, word_action};
-use crate::bodies::body;
+use crate::bodies::add_body;
 use ec_fields::Rows;
-use scenario_keys::{Place, Rule, Stop, find, needed_text, only_known, put, refused};
+use scenario_keys::{Place, Rule, Stop, find, needed_text, only_known, refused};
 use segment_plan::{Service, SlaveSpec};
 use std::alloc::Global;
 use toml::Table;
@@ -34,12 +35,18 @@ fn only_known_of(table: &Table, action: Option<Action>, place: Place) -> Result<
     }
 }
 
-fn needed_action(table: &Table, place: Place) -> Result<Action, Stop>
+/// What a service does, where `said` is what its key `do` says.
+#[tactic(auto, using(crate::proofs::Said::said_word, crate::proofs::Said::said_nothing))]
+fn needed_action(table: &Table, said: Option<Action>, place: Place) -> Result<Action, Stop>
+    requires { said ≡ given_action (table_view table.now) }
     ensures { Gives (λ a. a) result (action_at place (table_view table.now)) }
 {
-    match word_action(needed_text(table, "do", place)?) {
+    match said {
         Some(action) => Ok(action),
-        None => Err(refused(Rule::OutOfRange, place)),
+        None => {
+            needed_text(table, "do", place)?;
+            Err(refused(Rule::OutOfRange, place))
+        }
     }
 }
 
@@ -63,42 +70,46 @@ fn target(table: &Table, slaves: &[SlaveSpec], place: Place) -> Result<u32, Stop
     }
 }
 
-fn addressed_body(
+fn add_addressed(
     alloc: Global,
     action: Action,
     table: &Table,
     slaves: &[SlaveSpec],
     slave: u32,
     place: Place,
-) -> Result<Service, Stop>
+    rows: &mut Rows<(u32, Service)>,
+) -> Result<(), Stop>
     requires { All IsSlave slaves.now }
-    ensures gives { Gives (λ s. s) result (addressed_body action slaves.now slave place (table_view table.now)) }
-    ensures sound { IfOk result IsService }
+    ensures gives { Appends rows.old rows.new result (sent_to slave (addressed_body action slaves.now slave place (table_view table.now))) }
+    ensures sound { OnOk result (IfOk (addressed_body action slaves.now slave place (table_view table.now)) IsService) }
+    ensures fits { OnOk result (IfOk (addressed_body action slaves.now slave place (table_view table.now)) (λ s. FitsSlave slaves.now (slave, s))) }
 {
     match slaves.get(slave as usize) {
-        Some(spec) => body(alloc, action, table, spec, place),
+        Some(spec) => add_body(alloc, action, table, slave, spec, place, rows),
         None => Err(refused(Rule::UnknownSlave, place)),
     }
 }
 
+/// Appends a service with the number of its slave.
 #[tactic(auto, unfolding(crate::specs::Services::service_of))]
-fn service(
+fn add_service(
     alloc: Global,
     table: &Table,
     slaves: &[SlaveSpec],
     number: u32,
-) -> Result<(u32, Service), Stop>
+    rows: &mut Rows<(u32, Service)>,
+) -> Result<(), Stop>
     requires ring { length slaves.now ≤ 16 }
     requires slaves { All IsSlave slaves.now }
-    ensures gives { Gives (λ s. s) result (service_of slaves.now number (table_view table.now)) }
-    ensures sound { IfOk result (IsAddressed (length slaves.now)) }
+    ensures gives { Appends rows.old rows.new result (service_of slaves.now number (table_view table.now)) }
+    ensures sound { OnOk result (IfOk (service_of slaves.now number (table_view table.now)) (IsRead slaves.now)) }
 {
     let place = Place::Service(number);
-    only_known_of(table, said_action(table), place)?;
+    let said = said_action(table);
+    only_known_of(table, said, place)?;
     let slave = target(table, slaves, place)?;
-    let action = needed_action(table, place)?;
-    let body = addressed_body(alloc, action, table, slaves, slave, place)?;
-    Ok((slave, body))
+    let action = needed_action(table, said, place)?;
+    add_addressed(alloc, action, table, slaves, slave, place, rows)
 }
 
 /// The services in order, each with the number of its slave.
@@ -113,11 +124,11 @@ pub fn services(
     ensures gives { Gives (λ ss. ss) result (services_of slaves.now (map (λ t. table_view t.now) tables.now)) }
     ensures many { IfOk result (λ ss. length ss ≡ length tables.now) }
     ensures sound { IfOk result (All (IsAddressed (length slaves.now))) }
+    ensures fits { IfOk result (All (FitsSlave slaves.now)) }
 {
     let mut rows = Rows::new(alloc);
     for (i, table) in tables.iter().enumerate() {
-        let row = service(alloc, table, slaves, i as u32)?;
-        put(&mut rows, row)?;
+        add_service(alloc, table, slaves, i as u32, &mut rows)?;
     }
     Ok(rows)
 }

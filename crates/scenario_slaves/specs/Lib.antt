@@ -1,3 +1,2 @@
-pub mod Files
-pub mod Idns
+pub mod Distinct
 pub mod Slaves

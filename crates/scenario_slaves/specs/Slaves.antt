@@ -14,8 +14,8 @@ use Rattle.scenario_keys.specs.declared.refusal.Refusal.{Refusal}
 use Rattle.scenario_keys.specs.Reading.{◌>>=◌, wanted, unless_refused, optional, each, each_behind}
 use Rattle.scenario_keys.specs.Keys.{only_keys, needed_at, integer_at, integer_or, pair_at, bool_at, text_in, name_at, octets_in, octets_at, no_octets_at, optional_tables_at, list_of}
 use Rattle.scenario_objects.specs.Objects.{objects_of}
-use Rattle.scenario_slaves.specs.Files.{files_of}
-use Rattle.scenario_slaves.specs.Idns.{idns_of}
+use Rattle.scenario_files.specs.Files.{files_of}
+use Rattle.scenario_idns.specs.Idns.{idns_of}
 use Rattle.scenario_slaves.specs.declared.protocols.Served.{Served}
 
 -- ---- protocols

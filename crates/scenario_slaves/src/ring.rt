@@ -1,13 +1,14 @@
 ghost use Rattle.std.specs.Prelude.{◌≡◌, ◌≤◌, ◌%◌, map, length, replicate, IfOk, IfSome, All, codes, slice_index, true};
 ghost use Rattle.toml.specs.View.{view, table_view};
 ghost use Rattle.segment_plan.specs.Sound.{is_start, is_mac, IsSlave, IsPace, IsObject, IsFile, IsIdn};
+ghost use Rattle.scenario_slaves.specs.Distinct.{IsDistinct};
 ghost use Rattle.scenario_keys.specs.Reading.{Gives, each};
 ghost use Rattle.scenario_slaves.specs.Slaves.{start_of, start_in, start_at, own_mac_at, mac_at, pace_at, slave_keys, plain_slave_of, slave_of, slaves_of, paces_of};
 
-use crate::files::files;
-use crate::idns::idns;
 use crate::protocols::serves;
-use ec_fields::Rows;
+use ec_fields::{Octets, Rows};
+use scenario_files::files;
+use scenario_idns::idns;
 use scenario_keys::{
     Place, Rule, Stop, bool_or_false, find, integer_or, needed_integer, needed_name, needed_octets,
     needed_pair, no_octets, only_known, put, refused, tables_or_none, text, unless,
@@ -111,7 +112,7 @@ fn plain_slave(alloc: Global, table: &Table, version: u32, place: Place) -> Resu
     ensures gives { Gives (λ s. s) result (plain_slave_of version place (table_view table.now)) }
     ensures sound { IfOk result IsSlave }
 {
-    let name = needed_name(alloc, table, "name", place)?;
+    let name = needed_name(table, "name", place)?;
     let station = needed_integer(table, "station", 1, 0xFFFF, place)?;
     pace(table, version, place)?;
     let (out_len, in_len) = needed_pair(table, "mail", 64, 1486, place)?;
@@ -122,7 +123,7 @@ fn plain_slave(alloc: Global, table: &Table, version: u32, place: Place) -> Resu
     let mac = mac(alloc, table, served.eoe, place)?;
     let fixed_ip = bool_or_false(table, "fixed_ip", place)?;
     Ok(SlaveSpec {
-        name,
+        name: Octets::copy_of(alloc, name.as_bytes())?,
         station: station as u16,
         out_len: out_len as u16,
         in_len: in_len as u16,
@@ -145,6 +146,7 @@ fn plain_slave(alloc: Global, table: &Table, version: u32, place: Place) -> Resu
 fn slave(alloc: Global, table: &Table, version: u32, number: u32) -> Result<SlaveSpec, Stop>
     ensures gives { Gives (λ s. s) result (slave_of version number (table_view table.now)) }
     ensures sound { IfOk result IsSlave }
+    ensures distinct { IfOk result IsDistinct }
 {
     let place = Place::Slave(number);
     only_known(table, known_keys(version), place)?;
@@ -164,6 +166,7 @@ pub fn slaves(alloc: Global, tables: &[&Table], version: u32) -> Result<Rows<Sla
     ensures gives { Gives (λ ss. ss) result (slaves_of version (map (λ t. table_view t.now) tables.now)) }
     ensures many { IfOk result (λ ss. length ss ≡ length tables.now) }
     ensures sound { IfOk result (All IsSlave) }
+    ensures distinct { IfOk result (All IsDistinct) }
 {
     let mut rows = Rows::new(alloc);
     for (i, table) in tables.iter().enumerate() {

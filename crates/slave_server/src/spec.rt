@@ -54,8 +54,8 @@ fn copy_of_object(alloc: Global, object: &ObjectSpec) -> Result<ObjectSpec, NoMe
     })
 }
 
-// The profile's own objects and the slave's.
-fn objects_of(alloc: Global, spec: &SlaveSpec) -> Result<Objects, NoMemory>
+/// The object dictionary of a slave of a plan: the profile's own objects and the plan's. It takes the memory of the greatest value of each entry.
+pub fn objects_of(alloc: Global, spec: &SlaveSpec) -> Result<Objects, NoMemory>
     requires { IsSlave spec.now }
     ensures { IfOk result (λ objects. objects ≡ objects_of spec.now) }
 {
@@ -103,8 +103,8 @@ fn add_file(store: &mut Store, file: &FileSpec, octets: &[u8]) -> Result<(), NoM
     store.insert(copy_of_file(file), octets)
 }
 
-// The slave's files; of files of one name the first.
-fn store_of(alloc: Global, spec: &SlaveSpec) -> Result<Store, NoMemory>
+/// The files of a slave of a plan, in the blocks that they share; of files of one name the first. It takes the memory of all blocks.
+pub fn store_of(alloc: Global, spec: &SlaveSpec) -> Result<Store, NoMemory>
     requires { IsSlave spec.now }
     ensures { IfOk result (λ store. store ≡ record { kept = files_of spec.now; part = None }) }
 {
@@ -158,8 +158,8 @@ fn add_idn(alloc: Global, idns: &mut IdnTable, idn: &IdnSpec) -> Result<(), NoMe
     idns.insert(&copy)
 }
 
-// The slave's IDNs; of IDNs of one drive and number the first.
-fn idns_of(alloc: Global, spec: &SlaveSpec) -> Result<IdnTable, NoMemory>
+/// The IDNs of a slave of a plan; of IDNs of one drive and number the first. It takes the memory of the greatest value of each.
+pub fn idns_of(alloc: Global, spec: &SlaveSpec) -> Result<IdnTable, NoMemory>
     requires { IsSlave spec.now }
     ensures { IfOk result (λ idns. idns ≡ idns_of spec.now) }
 {

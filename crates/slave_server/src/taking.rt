@@ -1,11 +1,16 @@
-ghost use Rattle.std.specs.Prelude.{◌≡◌, ◌<◌, [], true, Ok};
+ghost use Rattle.std.specs.Prelude.{◌≡◌, ◌<◌, ◌+◌, ◌%◌, [], true, Ok};
+ghost use Rattle.coe_server.specs.declared.state.Emitted.{Emitted};
+ghost use Rattle.eoe_model.specs.Mails.{packet_mails};
+ghost use Rattle.eoe_server.specs.Serving.{cut_mails};
 ghost use Rattle.link_mails.specs.Body.{link_read, uncounted};
 ghost use Rattle.slave_model.specs.Profile.{Protocol, serves};
 ghost use Rattle.slave_server.specs.Serving.{takes, failed, counted};
 
 use crate::quiet::{is_last_ether, is_quiet_drive, is_quiet_ether};
 use crate::server::SlaveServer;
+use coe_server::CoeServer;
 use eoe::Packet;
+use eoe_server::EoeServer;
 use mailbox_mail::{Kind, Mail, MailFault};
 
 /// The AL state in which files alone are served.
@@ -16,6 +21,19 @@ const UNSUPPORTED: u16 = 2;
 
 /// The mailbox error of a mail whose length isn't right.
 const INVALID_SIZE: u16 = 8;
+
+// The packet that a mail of CoE emitted goes to the sender of EoE. Apart from the taking of mails, so that only a packet pays for its room.
+fn hand_over(sdo: &mut CoeServer, ether: &mut EoeServer)
+    requires { sdo.old.emitted ≡ Emitted.Packet }
+    ensures once { sdo.new ≡ record sdo.old { emitted = Emitted.Nothing } }
+    ensures sends { cut_mails ether.new.sending ≡ packet_mails ether.old.room sdo.old.octets ether.old.frame }
+    ensures frame { ether.new.frame ≡ (ether.old.frame + 1) % 16 }
+    ensures same { ether.new ≡ record ether.old { frame = ether.new.frame; sending = ether.new.sending } }
+{
+    let mut packet = Packet::new();
+    let _given = sdo.packet(&mut packet);
+    ether.send(&packet);
+}
 
 impl SlaveServer {
     // A mailbox error, which counts as a service.
@@ -48,9 +66,8 @@ impl SlaveServer {
         let _ = &self.failure;
         let counts = self.sdo.take(&mut self.objects, al, mail.body.as_slice());
         self.handled += counts as u64;
-        let mut packet = Packet::new();
-        if self.sdo.packet(&mut packet) {
-            self.ether.send(&packet);
+        if self.sdo.has_packet() {
+            hand_over(&mut self.sdo, &mut self.ether);
         }
     }
 

@@ -17,13 +17,13 @@ returns-clause-open_now g c = λ w b start l has. record {
 }
 
 pub returns-clause-shut : goal.returns-clause-shut
-returns-clause-shut g c = λ w b start stop end has l past last is shut. record {
+returns-clause-shut g c = λ w b start o. record {
   epochs =
-      let k = walk w.exchange w.lawful w.states w.stated w.processor w.table w.cleared w.more w.spot w.frames b.gave w.forgets w.keeps b start stop [] end [] [] b.first b.epochs b.first (λ n. refl) l in
-      subst (FitsFrom w.exchange w.states (w.table w.spot.station) w.cleared (λ a q. 1) b b.first) (append-nil b.epochs) (k.fits (has ∙ sym (k.same b.state)));
+      let k = walk w.exchange w.lawful w.states w.stated w.processor w.table w.cleared w.more w.spot w.frames b.gave w.forgets w.keeps b start o.stop [] o.end [] [] b.first b.epochs b.first (λ n. refl) o.life in
+      subst (FitsFrom w.exchange w.states (w.table w.spot.station) w.cleared (λ a q. 1) b b.first) (append-nil b.epochs) (k.fits (o.app ∙ sym (k.same b.state)));
   state = λ says. absurd (
       let clash : false ≡ true =
-      sym (ap (says_state w.exchange w.states (w.table w.spot.station) w.cleared (λ a q. 1) b.gave) is ∙ shut_says w.exchange w.lawful w.states w.stated w.processor w.table w.cleared w.more w.spot w.frames b.gave b past last shut) ∙ says in
+      sym (ap (says_state w.exchange w.states (w.table w.spot.station) w.cleared (λ a q. 1) b.gave) o.epochs ∙ shut_says w.exchange w.lawful w.states w.stated w.processor w.table w.cleared w.more w.spot w.frames b.gave b o.past o.last o.shut) ∙ says in
       cc
       );
 }

@@ -9,11 +9,11 @@ returns-clause-rests g c = λ w b start live l idle. record {
 }
 
 pub returns-clause-done : goal.returns-clause-done
-returns-clause-done g c = λ w b start live never l idle drained. record {
+returns-clause-done g c = λ w b start given l idle drained. record {
   rest = record {
-    live = live;
+    live = given.live;
     rests = open_rests w.exchange w.lawful w.states w.stated w.processor w.table w.cleared w.more w.spot w.frames b.gave b w.forgets w.keeps start l idle;
   };
-  never = never;
+  never = given.never;
   each = open_each w.exchange w.lawful w.states w.stated w.processor w.table w.cleared w.more w.spot w.frames b.gave b w.forgets w.keeps start l idle drained;
 }

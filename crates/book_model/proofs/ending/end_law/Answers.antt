@@ -15,7 +15,7 @@ pub returns-clause-waits : goal.returns-clause-waits
 returns-clause-waits g c = λ station s fs close. Endings.waits station s fs close
 
 pub returns-clause-ends : goal.returns-clause-ends
-returns-clause-ends g c = λ x processor k clears station s ds fs w close init. Endings.ends x processor k clears station s ds fs w close init
+returns-clause-ends g c = λ w. Endings.ends w.exchange w.processor w.clearing w.sees w.station w.slave w.frame w.later w.returns w.closes w.carries
 
 pub returns-clause-carried : goal.returns-clause-carried
 returns-clause-carried g c = λ table r free. Endings.carried table r free

@@ -34,16 +34,16 @@ returns-clause-opens g c = λ w b e h k. record {
 }
 
 pub returns-clause-goes_on : goal.returns-clause-goes_on
-returns-clause-goes_on g c = λ w b l f now body k next is.
-    subst (λ gave. OpenLife w.exchange w.lawful w.states w.stated w.processor w.table w.cleared w.more w.spot (w.frames ++ f ∷ []) gave next) (sym is.gave)
-    (goes_on w.exchange w.lawful w.states w.stated w.processor w.table w.cleared w.more w.spot w.frames b.gave f b l now body k next is.first is.epochs_are)
+returns-clause-goes_on g c = λ w b l next n.
+    subst (λ gave. OpenLife w.exchange w.lawful w.states w.stated w.processor w.table w.cleared w.more w.spot (w.frames ++ n.frame ∷ []) gave next) (sym n.next.gave)
+    (goes_on w.exchange w.lawful w.states w.stated w.processor w.table w.cleared w.more w.spot w.frames b.gave n.frame b l n.now n.body n.goes next n.next.first n.next.epochs_are)
 
 pub returns-clause-over : goal.returns-clause-over
-returns-clause-over g c = λ w b l gs hs now stop carry body k. over w.exchange w.lawful w.states w.stated w.processor w.table w.cleared w.more w.spot w.frames gs b.gave hs b l now stop carry body k
+returns-clause-over g c = λ w b l o. over w.exchange w.lawful w.states w.stated w.processor w.table w.cleared w.more w.spot w.frames o.frames b.gave o.gave b l o.now o.stop o.carry o.body o.is
 
 pub returns-clause-past : goal.returns-clause-past
-returns-clause-past g c = λ w gs gave hs stop carry left first es late inside past.
-    chain_more w.exchange w.lawful w.states w.stated w.processor w.table w.cleared w.more w.spot w.frames gs gave hs late stop carry left [] first es inside past
+returns-clause-past g c = λ w p gs hs late inside past.
+    chain_more w.exchange w.lawful w.states w.stated w.processor w.table w.cleared w.more w.spot w.frames gs p.gave hs late p.stop p.carry p.left [] p.first p.epochs inside past
 
 pub returns-clause-stays : goal.returns-clause-stays
 returns-clause-stays g c = λ w gs e le. keeps w.exchange w.lawful w.states w.stated w.processor w.table w.cleared w.more w.spot w.frames gs e le

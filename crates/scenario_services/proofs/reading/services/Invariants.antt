@@ -1,9 +1,9 @@
-use Rattle.std.proofs.Common.{length, map}
+use Rattle.std.proofs.Common.{map}
 use Rattle.toml.specs.View.{table_view}
 use Rattle.scenario_services.specs.Services.{service_of}
-use Rattle.segment_plan.specs.Sound.{IsAddressed}
+use Rattle.scenario_services.specs.Reading.{IsRead}
 use Rattle.scenario_keys.proofs.Each.{HasRead}
 use Rattle.scenario_services.proofs.reading.services.Given as goal
 
 abbrev pub invariant-loop-i : goal.invariant-loop-i
-invariant-loop-i l = HasRead (IsAddressed (length l.slaves)) (λ _ _. tt {0}) (λ k _ ms. service_of l.slaves k ms) (tt {0}) (map (λ t. table_view t.now) l.tables) l.i (tt {0}) l.rows
+invariant-loop-i l = HasRead (IsRead l.slaves) (λ _ _. tt {0}) (λ k _ ms. service_of l.slaves k ms) (tt {0}) (map (λ t. table_view t.now) l.tables) l.i (tt {0}) l.rows

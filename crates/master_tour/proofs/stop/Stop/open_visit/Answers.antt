@@ -1,6 +1,8 @@
 use Rattle.std.proofs.Common.{sym, subst, ap, ◌∙◌}
 use Rattle.task_model.specs.Accounts.{duty_access}
 use Rattle.master_tour.proofs.Visits.{picked_map, holds_map, same_shown, same_meant}
+use Rattle.mailbox_master.specs.Any.{in_half_of}
+use Rattle.master_tour.proofs.Grams.{choice_clear}
 use Rattle.master_tour.proofs.stop.Stop.open_visit.Goals as goal
 
 pub returns-clause-shown : goal.returns-clause-shown
@@ -26,3 +28,9 @@ returns-clause-waits g c = λ p x lens d a l b s.
       λ u. same_meant lens c.args.index m.out n.out m.inn n.inn m.fresh n.fresh m.duty n.duty m.station n.station c.args.self.now.side.station n.carried e.halves (duty_access a.hand) c.add_datagram-placed.ensures.kept c.add_datagram-placed.ensures.link.0 k.station_is
           (c.add_datagram-placed.ensures.meant u x lens e a (ap (λ z. (lens z).out) k.station_is ∙ l ∙ sym k.out_is) (ap (λ z. (lens z).back) k.station_is ∙ b ∙ sym k.in_is) t),
     ))
+
+pub returns-clause-order : goal.returns-clause-order
+returns-clause-order g c = λ u f.
+    let m = c.choose-began.new.self in
+    let k = c.add_datagram-placed.ensures in
+    ap (λ z. (in_half_of z).state) k.kept.in_is ∙ choice_clear m.duty m.passing (in_half_of m.inn).state m.turn m.paused m.out.state (sym (k.order u) ∙ f)

@@ -15,7 +15,7 @@ use Rattle.frame_view.specs.Seen.{seen}
 use Rattle.master_tour.proofs.Unders.{under_back}
 use Rattle.master_tour.proofs.Cursors.{seen_none}
 use Rattle.master_tour.proofs.Frames.{none_returns}
-use Rattle.master_tour.proofs.Walks.{each_map}
+use Rattle.master_tour.proofs.Walks.{each_map, each_same}
 use Rattle.master_tour.proofs.tour.Tour.hear.Goals as goal
 
 pub returns-then-is_none : goal.returns-then-is_none
@@ -31,6 +31,8 @@ returns-then-is_none g c = record {
       FollowShows (λ d a. SideShows (g.H.Hand.shows t.side.hand x) t.side.out t.side.inn t.side.fresh t.side.duty d a) recover spot t.stand t.spare t.news k (life_back x g.H.Hand.acknowledged more passed number spot ns (seen lens octets) (came_at s.under s.at (seen lens octets)) k k.stand)) × (t.place ≡ s.place) × (t.start ≡ s.start)) c.args.self.now.stops.items c.all_back.new.self.stops.items) c.as_slice-octets.ensures.value
       (each_map _ _ c.args.self.now.stops.items c.all_back.new.self.stops.items (λ s t p. ((λ x more passed number recover spot ns k i u h. p.0 lens sent (subst (λ z. Returns sent (seen lens z)) (sym c.as_slice-octets.ensures.value) a) x more passed number recover spot ns k i u h), p.1, p.2)) c.all_back.ensures.lives);
   long = c.all_back.ensures.long;
+  tour = c.all_back.ensures.tour;
+  kept = c.all_back.ensures.kept;
 }
 
 pub returns-else-is_none : goal.returns-else-is_none
@@ -40,4 +42,6 @@ returns-else-is_none g c = record {
   lives = λ lens sent a n.
       absurd (none_returns sent (seen lens c.args.frame.now.items) n a (seen_none lens c.args.frame.now.items c.as_slice-octets.result.now c.fault.result c.as_slice-octets.ensures.value c.fault.ensures.fault c.if-is_none.ensures));
   long = refl;
+  tour = (refl, refl, refl, refl, refl, refl);
+  kept = each_same _ c.args.self.now.stops.items (λ s. (record { out_is = refl; in_is = refl; station_is = refl; area_is = refl }, λ h. h));
 }

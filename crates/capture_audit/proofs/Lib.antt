@@ -1,0 +1,5 @@
+pub mod Causes
+mod Frames
+mod Keyed
+mod Steps
+mod Walk

@@ -1,0 +1,10 @@
+pub mod Ways
+pub mod Founds
+pub mod Passings
+pub mod Withdrawn
+pub mod Awaits
+pub mod Hears
+pub mod Steps
+pub mod Picks
+pub mod Turns
+pub mod Silences

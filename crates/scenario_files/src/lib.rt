@@ -1,0 +1,6 @@
+//! The files of a scenario's slaves: read from their tables, or refused.
+#![tactic(auto)]
+
+mod reading;
+
+pub use reading::files;

@@ -1,0 +1,13 @@
+//! What the services of a slave act on, and what each of them means there: on whole values, with its codes in their order, and without mails,
+//! mailboxes and frames. It is what the exchange of a service's mails comes to.
+#![tactic(auto)]
+
+mod app;
+mod files;
+mod perform;
+mod performed;
+mod sdo;
+
+pub use app::App;
+pub use performed::{Emission, Performed, Reply};
+pub use segment_plan::{IdnSpec, ObjectSpec, Service, SlaveSpec};

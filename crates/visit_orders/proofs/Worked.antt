@@ -1,0 +1,40 @@
+-- Worked rounds of three slaves.
+use Rattle.std.proofs.Common.{◌≡◌, true, false, Some, None, List, [], ◌∷◌, refl}
+use Rattle.segment_model.specs.Visits.{Stop}
+use Rattle.life_model.specs.Tours.{Member, round}
+use Rattle.master_tour.specs.Orders.{visits_left}
+use Rattle.visit_orders.specs.Visits.{GoesThrough, stations_at, last_station}
+
+abbrev ring : List Stop
+ring = record { station = 101; state = 2; area = 128 } ∷ record { station = 102; state = 2; area = 1486 } ∷ record { station = 103; state = 3; area = 64 } ∷ []
+
+-- the second was given up for good
+abbrev members : List Member
+members = record { stop = record { station = 101; state = 2; area = 128 }; spare = 1; live = true } ∷ record { stop = record { station = 102; state = 2; area = 1486 }; spare = 0; live = false } ∷ record { stop = record { station = 103; state = 3; area = 64 }; spare = 0; live = true } ∷ []
+
+-- behind the first bring-up the round begins with the first, behind the slave at place 1 with the one at place 2, and behind the last with the first
+begins : visits_left false [] 3 3 None 0 ≡ 0 ∷ 1 ∷ 2 ∷ []
+begins = refl
+
+goes_on : visits_left false [] 3 3 (Some 1) 0 ≡ 2 ∷ 0 ∷ 1 ∷ []
+goes_on = refl
+
+turns_round : visits_left false [] 3 3 (Some 2) 1 ≡ 1 ∷ 2 ∷ []
+turns_round = refl
+
+-- in the first bring-up the one that is brought up alone; behind a lost frame the slaves of that one
+brings_up : visits_left false [] 1 3 None 0 ≡ 1 ∷ []
+brings_up = refl
+
+comes_again : visits_left true (2 ∷ 0 ∷ []) 3 3 (Some 1) 1 ≡ 0 ∷ []
+comes_again = refl
+
+-- a frame that carries the third and the first, and passes the one that was given up
+carries : GoesThrough 200 ring members (visits_left false [] 3 3 (Some 1) 0) (2 ∷ 0 ∷ [])
+carries = (refl, (refl, tt))
+
+stations : stations_at ring (2 ∷ 0 ∷ []) ≡ 103 ∷ 101 ∷ []
+stations = refl
+
+same_round : round ring (last_station ring (Some 1)) members ≡ record { station = 103; state = 3; area = 64 } ∷ record { station = 101; state = 2; area = 128 } ∷ []
+same_round = refl

@@ -1,0 +1,25 @@
+//! The order in which a running master goes through its slaves, by places in the ring, and the visits of a tour, by stations. No running code:
+//! each function here does nothing, and its contract states a law.
+#![tactic(auto)]
+
+ghost use Rattle.std.specs.Prelude.{◌≡◌, ◌≤◌, ◌<◌, ◌∷◌, [], ℕ, Bool, false, List, Option, None, length};
+ghost use Rattle.segment_model.specs.Visits.{Stop, IsVisit};
+ghost use Rattle.life_model.specs.Tours.{Member, round};
+ghost use Rattle.master_tour.specs.Orders.{visits_left, IsNextOf, IsCarried};
+ghost use Rattle.visit_orders.specs.Visits.{AreOf, AreApart, IsPlace, GoesThrough, last_station, stations_at, stop_at, Carried};
+
+/// BEHIND THE FIRST BRING-UP a frame is a visit of the tour where the master goes through the places of its round as it does: it carries the live
+/// slaves one behind the other, at least one, and ends before the first that may not fit.
+pub fn round_law()
+    ensures round { (size opened : ℕ) (ring : List Stop) (members : List Member) (last : Option ℕ) (visit places : List ℕ) → AreOf ring members → AreApart ring → IsPlace ring last → length ring ≤ opened → 1 ≤ length places →
+        GoesThrough size ring members (visits_left false visit opened (length ring) last 0) places → IsVisit size None [] (round ring (last_station ring last) members) (stations_at ring places) }
+    // In the first bring-up it is one too: it carries the slave that is brought up.
+    ensures first { (size opened : ℕ) (ring : List Stop) (members : List Member) (last : Option ℕ) (visit places : List ℕ) (others round : List Stop) → opened < length ring → 1 ≤ length places →
+        GoesThrough size ring members (visits_left false visit opened (length ring) last 0) places → IsVisit size None (stop_at ring opened ∷ others) round (stations_at ring places) }
+{}
+
+/// NO SLAVE IS CARRIED TWICE by a frame: where each visit is the next of those left, the places carried are different ones, and none of them is
+/// among those left, unless the slaves of a lost frame come again.
+pub fn once_law()
+    ensures { (again under : Bool) (place : ℕ) (left next old new : List ℕ) → Carried again left old → IsNextOf place left next → IsCarried under again place old new → Carried again next new }
+{}
