@@ -16,6 +16,7 @@ use Rattle.slave_lives.specs.Opening.{Plan}
 use Rattle.whole_lives.specs.Whole.{IsWhole, LivesOpen, StandsAs, IsLived}
 use Rattle.segment_model.specs.Laws.{IsSettled, WantsNothing}
 use Rattle.book_model.proofs.Opens.{open_answers, open_epochs, open_state, open_rests, open_each}
+use Rattle.book_model.proofs.Scripts.{open_rows}
 use Rattle.book_lives.specs.First.{Forgets, setting_of, FirstBook}
 use Rattle.book_lives.specs.Rows.{IsFirst, StandsFirst}
 
@@ -128,6 +129,7 @@ module _ {S V A Q R : Type 0} (w : Behind S V A Q R) (c : Clearing V A) (p : Pla
         life = o;
         era = refl;
         rows = refl;
+        begun = open_rows x b o;
         answers = λ pace. open_answers x.exchange x.lawful x.states x.stated x.processor x.table x.cleared x.more x.spot x.frames [] b pace o;
         fits = record {
           epochs = open_epochs x.exchange x.lawful x.states x.stated x.processor x.table x.cleared x.more x.spot x.frames [] b x.forgets x.keeps refl o refl;

@@ -6,11 +6,13 @@ use Rattle.segment_model.specs.Laws.{IsSettled, WantsNothing}
 use Rattle.segment_model.specs.Record.{Frame}
 use Rattle.slave_steps.specs.Node.{Node}
 use Rattle.state_exchange.specs.Stated.{IsStated}
+use Rattle.task_model.specs.Promise.{services_in}
 use Rattle.life_model.specs.Book.{SlaveBook, IsForgetful}
 use Rattle.life_model.specs.Eras.{Clearing}
 use Rattle.life_model.specs.Lives.{Spot, Life}
 use Rattle.book_model.specs.Chain.{KeepsSame}
 use Rattle.book_model.specs.Open.{Setting, IsOpenLife, HasOpen, BookAnswers, BookFits, BookRests, BookDone}
+use Rattle.book_model.specs.Script.{services_of}
 use Rattle.slave_lives.specs.Lived.{Behind, table_of, node_seen}
 use Rattle.slave_lives.specs.Opening.{Plan}
 use Rattle.whole_lives.specs.Whole.{IsWhole}
@@ -49,6 +51,7 @@ pub record FirstBook {S V A Q R : Type 0} (w : Behind S V A Q R) (c : Clearing V
   pub life : IsOpenLife (setting_of w c p spot whole f more fs) book
   pub era : life.epoch.era ≡ l.era
   pub rows : life.epoch.rows ≡ l.era.account.started
+  pub begun : services_of book.epochs ≡ services_in l.era.account.started
   pub answers : (pace : ℕ) → BookAnswers (setting_of w c p spot whole f more fs) book pace (length fs)
   pub fits : BookFits (setting_of w c p spot whole f more fs) book
   pub rests : IsSettled (node_seen w n) → WantsNothing w.exchange.speech l.era.side → l.era.account.hand ≡ None → BookRests (setting_of w c p spot whole f more fs) book

@@ -2,3 +2,4 @@ pub mod Asked
 pub mod Valid
 pub mod Plan
 pub mod Master
+pub mod First

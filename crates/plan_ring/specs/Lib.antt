@@ -1,3 +1,4 @@
 pub mod Asked
 pub mod Plan
 pub mod Master
+pub mod First

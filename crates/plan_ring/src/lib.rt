@@ -2,18 +2,20 @@
 //! contract states a law.
 #![tactic(auto)]
 
-ghost use Rattle.std.specs.Prelude.{◌≡◌, ◌<◌, ◌∷◌, ◌++◌, ℕ, Bool, List, [], map, length};
+ghost use Rattle.std.specs.Prelude.{◌≡◌, ◌<◌, ◌∷◌, ◌++◌, ℕ, suc, Bool, List, [], map, length};
 ghost use Rattle.datagrams.specs.Datagram as Raw;
 ghost use Rattle.datagrams.specs.Frame.{IsFrame, chained};
 ghost use Rattle.frame_view.specs.View.{Lens};
 ghost use Rattle.link_mails.specs.Body.{Body};
 ghost use Rattle.segment_model.specs.Record.{Frame};
+ghost use Rattle.segment_ring.specs.declared.wire.Fate.{Fate};
 ghost use Rattle.segment_ring.specs.Ring.{RingState, ring_behind};
 ghost use Rattle.segment_ring.specs.Schedule.{fate_at};
 ghost use Rattle.slave_steps.specs.Node.{Node, node_passed};
 ghost use Rattle.slave_server.specs.Serving.{Serving};
 ghost use Rattle.slave_server.specs.Spec.{node_of};
 ghost use Rattle.life_model.specs.Lives.{Spot, Stand};
+ghost use Rattle.book_model.specs.Script.{Addressed, AnyLive};
 ghost use Rattle.book_lives.specs.First.{FirstBook};
 ghost use Rattle.book_lives.specs.Rows.{IsFirst};
 ghost use Rattle.master_hand.specs.Spoken.{Asked, hand_speech};
@@ -28,7 +30,8 @@ ghost use Rattle.whole_lives.specs.Whole.{IsWhole};
 ghost use Rattle.whole_ring.specs.Members.{MemberIs, IsRing, first_ring};
 ghost use Rattle.whole_ring.specs.Turning.{Turn, AllTurn, frame_at, behind_frame, given_up};
 ghost use Rattle.plan_ring.specs.Asked.{is_service, asked};
-ghost use Rattle.plan_ring.specs.Master.{Under, IsLed, AllLed, AllUnder, GoesOn};
+ghost use Rattle.plan_ring.specs.Master.{Under, IsLed, AllLed, AllUnder, AllBehind, GoesOn};
+ghost use Rattle.plan_ring.specs.First.{AllFirst, AllStay, AllOpen, AllBooks, AllAtRest, runs_of, RunEnds};
 ghost use Rattle.plan_ring.specs.Plan.{PlanMember, FitsPlan, AllMacs, lens_of, members_of, step};
 
 /// The services of a slave of a plan, as the master asks for them, are such as the laws of whole lives speak of; and the master speaks of them as
@@ -69,4 +72,16 @@ pub fn master_ring_law()
 pub fn first_book_law()
     ensures { (lens : ℕ → Lens) (ss : List SlaveSpec) (more : Body → Bool) (fs : List (Frame Body)) (place : ℕ) (m : PlanMember) → (i : MemberIs lens step (FitsPlan ss) fs place m) → (led : IsLed m) → IsFirst (length fs) m.life → m.life.stand ≡ Stand.Open →
         FirstBook m.services m.clearing m.plan m.spot i.whole led.forgets more m.first m.life fs m.node }
+{}
+
+/// A RUN IN WHICH NO SLAVE IS GIVEN UP OR RETURNED TO INIT: each slave stays in its first epoch, from the switch on and by each frame; each that is
+/// open has its book; and where nothing is wanted of any and all that is addressed to it came into hand, nothing is left of the run, and all is done.
+pub fn first_run_law<P>()
+    ensures begins { (plan : Scenario) → AllFirst 0 (members_of plan) }
+    ensures goes_on { (more : Body → Bool) (passed : Asked → Bool) (lens : ℕ → Lens) (made : ℕ) (ds : List Raw.Datagram) (gives : Bool) (recover : ℕ) (f : Frame Body) (fate : Fate) (ms : List PlanMember) (us : List Under) (ns : List PlanMember) → (xs : AllUnder more passed lens made ds ms us) →
+        AllStay more passed lens made ds gives fate ms us xs → AllBehind more passed gives recover made f fate ms us ns → AllFirst made ms → AllFirst (suc made) ns }
+    ensures books { (lens : ℕ → Lens) (ss : List SlaveSpec) (more : Body → Bool) (fs : List (Frame Body)) (ring : RingState (Node Serving)) (ms : List PlanMember) → (lives : IsRing lens step (FitsPlan ss) fs ring ms) → (led : AllLed ms) → AllFirst (length fs) ms → AllOpen lens ss more fs ms →
+        AllBooks lens ss more fs 0 ms lives.each led }
+    ensures ends { (lens : ℕ → Lens) (ss : List SlaveSpec) (more : Body → Bool) (fs : List (Frame Body)) (ring : RingState (Node Serving)) (ms : List PlanMember) → (lives : IsRing lens step (FitsPlan ss) fs ring ms) → (led : AllLed ms) → (books : AllBooks lens ss more fs 0 ms lives.each led) →
+        (as' : List (Addressed Asked)) (host arrived : List P) → AllAtRest lens ss more fs ms as' → (AnyLive (runs_of lens ss more fs 0 ms lives.each led books as') → arrived ≡ host) → RunEnds lens ss more fs 0 ms lives.each led books as' host arrived }
 {}
