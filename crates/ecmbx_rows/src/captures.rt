@@ -1,4 +1,4 @@
-use crate::stage::{SLAVE, call, numbers};
+use crate::stage::{SLAVE, call, numbers, saved};
 use ec_outside::{MemFiles, MemSink};
 use ecmbx_call::Status;
 use std::alloc::Global;
@@ -8,22 +8,6 @@ use std::test::Fail;
 const HEAD: usize = 24;
 
 const PACKET: usize = 76;
-
-/// The scenario of a slave that is brought up, with its capture under `a.pcap`.
-fn saved(alloc: Global) -> Result<MemFiles, Fail> {
-    let mut files = MemFiles::new(alloc, numbers(alloc, None)?);
-    files.add("scenario.toml", SLAVE.as_bytes())?;
-    let mut out = MemSink::new(alloc, numbers(alloc, None)?);
-    match call(
-        alloc,
-        &["run", "scenario.toml", "a.pcap"],
-        &mut files,
-        &mut out,
-    )? {
-        Status::Done => Ok(files),
-        status => Err(Fail::new(format_args!("{status:?}"))),
-    }
-}
 
 /// Decodes octets: the status and the text.
 fn decoded(alloc: Global, octets: &[u8], out: &mut MemSink) -> Result<Status, Fail> {
@@ -36,7 +20,7 @@ fn decoded(alloc: Global, octets: &[u8], out: &mut MemSink) -> Result<Status, Fa
 #[test]
 fn a_capture_is_saved_and_decoded(rt: HostRuntime) -> Result<(), Fail> {
     let alloc = rt.alloc();
-    let files = saved(alloc)?;
+    let files = saved(alloc, SLAVE)?;
     let octets = files.get("a.pcap").unwrap_or(b"");
     assert_eq!(rt; octets.len(), HEAD + 10 * PACKET);
     assert!(rt;
@@ -70,7 +54,7 @@ fn expected(alloc: Global, len: usize) -> Result<(Status, String), Fail> {
 #[test]
 fn cut_captures_are_refused_at_their_place(rt: HostRuntime) -> Result<(), Fail> {
     let alloc = rt.alloc();
-    let files = saved(alloc)?;
+    let files = saved(alloc, SLAVE)?;
     let octets = files.get("a.pcap").unwrap_or(b"");
     for len in 0..octets.len() {
         let mut out = MemSink::new(alloc, numbers(alloc, None)?);

@@ -48,6 +48,22 @@ pub fn call(
     Ok(ecmbx(alloc, words.as_slice(), files, out, &mut book))
 }
 
+/// A scenario that is run to its end, with its capture under `a.pcap`.
+pub fn saved(alloc: Global, scenario: &str) -> Result<MemFiles, Fail> {
+    let mut files = MemFiles::new(alloc, numbers(alloc, None)?);
+    files.add("scenario.toml", scenario.as_bytes())?;
+    let mut out = MemSink::new(alloc, numbers(alloc, None)?);
+    match call(
+        alloc,
+        &["run", "scenario.toml", "a.pcap"],
+        &mut files,
+        &mut out,
+    )? {
+        Status::Done => Ok(files),
+        status => Err(Fail::new(format_args!("{status:?}"))),
+    }
+}
+
 /// Makes the call and compares its status and what the sink took.
 pub fn check(alloc: Global, case: &Case<'_>) -> Result<(), Fail> {
     let mut files = MemFiles::new(alloc, numbers(alloc, case.failing_file)?);
