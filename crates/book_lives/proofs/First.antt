@@ -1,5 +1,5 @@
 -- A SLAVE IN ITS FIRST EPOCH: its life is an open one of the book.
-use Rattle.std.proofs.Common.{◌≡◌, ℕ, ◌-◌, ◌<◌, Bool, true, false, List, [], ◌∷◌, ◌++◌, take, drop, length, refl, ap, sym, ◌∙◌, subst, arith, append-nil}
+use Rattle.std.proofs.Common.{◌≡◌, ℕ, ◌-◌, Bool, List, [], ◌∷◌, ◌++◌, take, drop, length, refl, ap, sym, ◌∙◌, subst, arith, append-nil}
 use Rattle.std.specs.Prelude.{Option, Some, None, is_some, if◌then◌else◌}
 use Rattle.link_mails.specs.Body.{Body}
 use Rattle.segment_model.specs.Record.{Frame}
@@ -7,11 +7,11 @@ use Rattle.slave_steps.specs.Node.{Node}
 use Rattle.life_model.specs.Book.{SlaveBook}
 use Rattle.life_model.specs.Eras.{Clearing}
 use Rattle.life_model.specs.Lives.{Spot, Life, Era, Stand}
-use Rattle.book_model.specs.Chain.{Epoch, booked, leaves, behind_clear, Timed, Written, Chained, AreLeft, AllBegin}
+use Rattle.book_model.specs.Chain.{Epoch, booked, leaves, behind_clear, Written, Chained, AreLeft, AllBegin}
 use Rattle.book_model.specs.Answers.{between}
 use Rattle.book_model.specs.Open.{Setting, Begun, IsOpenLife, IsIdle}
 use Rattle.slave_lives.specs.Ends.{LeftEras}
-use Rattle.slave_lives.specs.Lived.{Behind, LivesEra, table_of, node_seen}
+use Rattle.slave_lives.specs.Lived.{Behind, LivesEra, node_seen}
 use Rattle.slave_lives.specs.Opening.{Plan}
 use Rattle.whole_lives.specs.Whole.{IsWhole, LivesOpen, StandsAs, IsLived}
 use Rattle.segment_model.specs.Laws.{IsSettled, WantsNothing}

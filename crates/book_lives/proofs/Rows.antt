@@ -1,5 +1,5 @@
 -- A LIFE STAYS IN ITS FIRST EPOCH by choices that return it nowhere and by frames, as long as it isn't given up.
-use Rattle.std.proofs.Common.{◌≡◌, ℕ, suc, ◌<◌, ◌==◌, Bool, true, false, List, [], ◌∷◌, ◌++◌, map, refl, ap, sym, ◌∙◌, subst, arith}
+use Rattle.std.proofs.Common.{◌≡◌, ℕ, suc, ◌<◌, ◌==◌, Bool, true, false, List, [], ◌∷◌, ◌++◌, refl, ap, sym, ◌∙◌, subst, arith}
 use Rattle.std.specs.Prelude.{Option, Some, None, if◌then◌else◌, not, ◌&&◌}
 use Rattle.exchange_model.specs.Exchange.{Speech}
 use Rattle.segment_model.specs.Ends.{Passing}

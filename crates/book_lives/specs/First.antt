@@ -1,17 +1,15 @@
 -- THE BOOK OF A SLAVE IN ITS FIRST EPOCH, of the node as it is seen.
-use Rattle.std.specs.Prelude.{◌≡◌, ℕ, Bool, None, List, [], ◌∷◌, length}
-use Rattle.exchange_model.specs.Exchange.{IsLawful}
+use Rattle.std.specs.Prelude.{◌≡◌, ℕ, Bool, None, List, [], length}
 use Rattle.link_mails.specs.Body.{Body}
 use Rattle.segment_model.specs.Laws.{IsSettled, WantsNothing}
 use Rattle.segment_model.specs.Record.{Frame}
 use Rattle.slave_steps.specs.Node.{Node}
-use Rattle.state_exchange.specs.Stated.{IsStated}
 use Rattle.task_model.specs.Promise.{services_in}
 use Rattle.life_model.specs.Book.{SlaveBook, IsForgetful}
 use Rattle.life_model.specs.Eras.{Clearing}
 use Rattle.life_model.specs.Lives.{Spot, Life}
 use Rattle.book_model.specs.Chain.{KeepsSame}
-use Rattle.book_model.specs.Open.{Setting, IsOpenLife, HasOpen, BookAnswers, BookFits, BookRests, BookDone}
+use Rattle.book_model.specs.Open.{Setting, IsOpenLife, BookAnswers, BookFits, BookRests, BookDone}
 use Rattle.book_model.specs.Script.{services_of}
 use Rattle.slave_lives.specs.Lived.{Behind, table_of, node_seen}
 use Rattle.slave_lives.specs.Opening.{Plan}

@@ -1,7 +1,7 @@
 -- A LIFE IN ITS FIRST EPOCH: it was opened at most once, and never given up or returned to Init.
-use Rattle.std.specs.Prelude.{◌≡◌, ℕ, ◌<◌, Bool, false, Option, Some, None, List, [], ◌∷◌, ⊤}
+use Rattle.std.specs.Prelude.{◌≡◌, ℕ, ◌<◌, false, Option, Some, None, [], ⊤}
 use Rattle.state_exchange.specs.Stated.{Service}
-use Rattle.task_model.specs.Accounts.{Started, Duty}
+use Rattle.task_model.specs.Accounts.{Duty}
 use Rattle.task_model.specs.Promise.{services_in}
 use Rattle.life_model.specs.Book.{NoInits}
 use Rattle.life_model.specs.Lives.{Life, Stand, returns_to_init}

@@ -1,10 +1,10 @@
 -- A SLAVE'S SERVICES BY THE MASTER'S NAMES are such as the laws of lives speak of.
-use Rattle.std.proofs.Common.{◌≡◌, ℕ, ◌&&◌, Bool, true, false, List, refl, ap, sym, ◌∙◌, subst}
+use Rattle.std.proofs.Common.{◌≡◌, ℕ, ◌&&◌, Bool, true, false, List, refl, ap, sym, ◌∙◌}
 use Rattle.std.specs.Prelude.{if◌then◌else◌, None, option_map}
 use Rattle.frame_view.specs.View.{Lens}
 use Rattle.link_mails.specs.Body.{Body}
-use Rattle.exchange_model.specs.Exchange.{Exchange, Speech, IsLawful}
-use Rattle.exchange_sum.specs.Refusing.{Refusal, gated, refusing}
+use Rattle.exchange_model.specs.Exchange.{Exchange}
+use Rattle.exchange_sum.specs.Refusing.{Refusal, gated}
 use Rattle.foe_model.specs.Meaning as FoeMeaning
 use Rattle.eoe_model.specs.Network.{Station}
 use Rattle.master_duty.specs.Reply as Master
@@ -13,9 +13,8 @@ use Rattle.state_exchange.specs.Families.{InState, states_of}
 use Rattle.slave_model.specs.Acknowledged as Slave
 use Rattle.slave_model.specs.Product.{product, served, refusal, side}
 use Rattle.slave_model.specs.Profile.{Protocol, Profile, areas_of, serves}
-use Rattle.slave_model.specs.Server.{ServiceOf, Reply}
 use Rattle.slave_parts.specs.Parts.{Core, Server, parts}
-use Rattle.named_lives.specs.Named.{only, named, Agrees, AgreesLast}
+use Rattle.named_lives.specs.Named.{Agrees, AgreesLast}
 use Rattle.book_model.specs.Chain.{Same}
 use Rattle.book_lives.specs.First.{Forgets}
 use Rattle.server_lives.specs.Real.{real_clearing}

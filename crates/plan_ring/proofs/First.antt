@@ -1,5 +1,5 @@
 -- A RUN IN WHICH EACH SLAVE STAYS IN ITS FIRST EPOCH.
-use Rattle.std.proofs.Common.{◌≡◌, ℕ, suc, ◌&&◌, Bool, false, List, [], ◌∷◌, length, refl, ap, sym, ◌∙◌, subst}
+use Rattle.std.proofs.Common.{◌≡◌, ℕ, suc, Bool, List, [], ◌∷◌, length, refl, sym, subst}
 use Rattle.datagrams.specs.Datagram as Raw
 use Rattle.frame_view.specs.View.{Lens}
 use Rattle.link_mails.specs.Body.{Body}
@@ -14,13 +14,12 @@ use Rattle.master_hand.specs.Spoken.{Asked, acknowledged}
 use Rattle.life_frames.specs.Shares.{came_at, given_where}
 use Rattle.book_model.specs.Script.{Addressed, HaveBegun, AnyLive, EachLive, AllLive, RestsWhole, DoneWhole}
 use Rattle.book_lives.specs.Rows.{IsFirst}
-use Rattle.book_lives.specs.First.{FirstBook}
 use Rattle.book_lives.proofs.Rows.{back_first, lost_first, new_first}
 use Rattle.book_lives.proofs.First.{first_book}
 use Rattle.whole_ring.specs.Members.{AllLived}
 use Rattle.plan_ring.specs.Plan.{PlanMember, FitsPlan, step, new_members}
-use Rattle.plan_ring.specs.Master.{speech_of, lived_of, AllLed, Under, IsUnder, AllUnder, led_behind, AllBehind}
-use Rattle.plan_ring.specs.First.{AllFirst, NotGiven, Stays, AllStay, AllOpen, AllBooks, runs_of, IsAtRest, AllAtRest, RunEnds}
+use Rattle.plan_ring.specs.Master.{speech_of, AllLed, Under, IsUnder, AllUnder, led_behind, AllBehind}
+use Rattle.plan_ring.specs.First.{AllFirst, Stays, AllStay, AllOpen, AllBooks, runs_of, AllAtRest, RunEnds}
 
 next_stands : (m : PlanMember) (more : Body → Bool) (passed : Asked → Bool) (made : ℕ) (stand : Stand) (pick : Pick Asked) → (life_next (speech_of m) acknowledged more passed made m.life stand pick).stand ≡ m.life.stand
 next_stands m more passed made (Stand.Opens o) pick = refl

@@ -1,12 +1,12 @@
 -- THE MASTER'S LIVES are those of the ring: what it speaks with a slave is what the slave's client speaks, but for mails that are passed on.
-use Rattle.std.proofs.Common.{◌≡◌, ℕ, suc, ◌&&◌, Bool, true, false, List, [], ◌∷◌, ◌++◌, length, refl, ap, ap₂, sym, ◌∙◌, subst}
+use Rattle.std.proofs.Common.{◌≡◌, ℕ, suc, ◌&&◌, Bool, true, false, List, [], ◌∷◌, ◌++◌, length, refl, ap, sym, ◌∙◌, subst}
 use Rattle.std.specs.Prelude.{if◌then◌else◌}
 use Rattle.datagrams.specs.Datagram as Raw
 use Rattle.datagrams.specs.Frame.{IsFrame, chained}
 use Rattle.frame_pass.specs.Passing.{datagrams_after}
 use Rattle.frame_view.specs.View.{Lens}
 use Rattle.link_mails.specs.Body.{Body}
-use Rattle.segment_model.specs.Record.{Frame, News}
+use Rattle.segment_model.specs.Record.{Frame}
 use Rattle.segment_plan.specs.declared.slave.SlaveSpec.{SlaveSpec}
 use Rattle.segment_ring.specs.declared.wire.Fate.{Fate}
 use Rattle.segment_ring.specs.declared.wire.Fate.TheVariants.{Pass, Lost}
@@ -15,9 +15,8 @@ use Rattle.segment_ring.specs.Schedule.{fate_at}
 use Rattle.slave_server.specs.Serving.{Serving}
 use Rattle.slave_steps.specs.Node.{Node, node_passed}
 use Rattle.master_duty.specs.Reply as Master
-use Rattle.master_hand.specs.Spoken.{Asked, hand_speech, acknowledged}
-use Rattle.life_model.specs.Lives.{Spot, Life, Stand, life_next, life_back, life_lost, gives_up}
-use Rattle.life_frames.specs.Frames.{Share}
+use Rattle.master_hand.specs.Spoken.{Asked, acknowledged}
+use Rattle.life_model.specs.Lives.{Spot, Life, life_next, life_back, life_lost, gives_up}
 use Rattle.life_frames.specs.Shares as Shares
 use Rattle.life_frames.specs.Shares.{Lived, came_at, given_where}
 use Rattle.named_lives.specs.Alike.{InHandIs}
@@ -32,7 +31,7 @@ use Rattle.plan_ring.specs.Asked.{is_service}
 use Rattle.plan_ring.specs.Plan.{PlanMember, FitsPlan, step, new_members}
 use Rattle.plan_ring.proofs.Asked.{alike, forgets_as}
 use Rattle.slave_server.specs.Spec.{profile_of}
-use Rattle.plan_ring.specs.Master.{speech_of, lived_of, IsLed, AllLed, Under, IsUnder, AllUnder, led_behind, AllBehind, OnAs, GoesOn}
+use Rattle.plan_ring.specs.Master.{speech_of, lived_of, IsLed, AllLed, Under, IsUnder, AllUnder, AllBehind, OnAs, GoesOn}
 
 module _ (more : Body → Bool) (passed : Asked → Bool) (lens : ℕ → Lens) (made : ℕ) (ds : List Raw.Datagram) where
   -- ONE SLAVE

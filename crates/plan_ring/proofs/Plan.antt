@@ -1,6 +1,6 @@
 -- A PLAN'S RING is switched on: each of its slaves is new, and passes what its ring asks for.
-use Rattle.std.proofs.Common.{◌≡◌, ◌⊎◌, inl, inr, ℕ, zero, suc, ◌+◌, ◌<◌, ◌≤◌, ◌==◌, ◌&&◌, ◌||◌, All, Bool, true, false, List, [], ◌∷◌, ◌++◌, map, length, refl, ap, sym, ◌∙◌, subst, arith}
-use Rattle.std.specs.Prelude.{Option, Some, None, if◌then◌else◌}
+use Rattle.std.proofs.Common.{◌≡◌, ◌⊎◌, inl, inr, ℕ, suc, ◌+◌, ◌<◌, ◌≤◌, ◌==◌, ◌&&◌, ◌||◌, All, Bool, true, false, List, [], ◌∷◌, ◌++◌, map, length, refl, ap, sym, ◌∙◌, subst, arith}
+use Rattle.std.specs.Prelude.{Some, None, if◌then◌else◌}
 use Rattle.std.proofs.lemmas.Bool.{ne_eqb, eqb-true, eq-eqb}
 use Rattle.frame_view.specs.View.{Lens}
 use Rattle.link_mails.specs.Body.{Body}
@@ -12,7 +12,6 @@ use Rattle.segment_plan.specs.Sound.{is_start, IsSlave, repeated_from, is_same_s
 use Rattle.segment_plan.specs.Sound as Plan
 use Rattle.segment_plan.specs.declared.plan.Scenario.{Scenario}
 use Rattle.segment_plan.specs.declared.slave.SlaveSpec.{SlaveSpec}
-use Rattle.segment_ring.specs.Ring.{RingState}
 use Rattle.slave_model.specs.Profile.{Profile, IsProfile}
 use Rattle.slave_lives.specs.Opening.{Plan, IsPlan}
 use Rattle.slave_server.specs.Serving.{Serving}
@@ -23,7 +22,7 @@ use Rattle.server_lives.specs.Rooms.{IsSound}
 use Rattle.slave_lives.specs.Nodes.{GivesPlaced}
 use Rattle.whole_lives.specs.Whole.{IsWhole}
 use Rattle.whole_ring.specs.Members as Ring
-use Rattle.whole_ring.specs.Members.{Member, Serves, IsNew, AllNew, IsRing, first_ring}
+use Rattle.whole_ring.specs.Members.{Serves, IsNew, AllNew, IsRing, first_ring}
 use Rattle.whole_ring.proofs.Begins.{ring_begins}
 use Rattle.plan_ring.specs.Asked.{asked}
 use Rattle.plan_ring.proofs.Valid.{core_is_valid}

@@ -1,8 +1,7 @@
 -- WHAT A PLAN'S SLAVE ACTS ON is what the laws speak of: its objects, its files and its IDNs, as it is switched on.
-use Rattle.std.proofs.Common.{◌≡◌, ◌≢◌, ℕ, zero, suc, ◌+◌, ◌-◌, ◌*◌, ◌^◌, ◌<◌, ◌≤◌, ◌==◌, ◌&&◌, nat_le, nat_lt, nat_eq, Bool, true, false, List, [], ◌∷◌, ◌++◌, length, drop, get_or, All, Option, Some, None, refl, ap, sym, ◌∙◌, subst, arith, le-leb, lt-ltb, leb-true}
-use Rattle.std.specs.Prelude.{if◌then◌else◌, is_some, is_none, IfSome}
+use Rattle.std.proofs.Common.{◌≡◌, ℕ, zero, suc, ◌+◌, ◌-◌, ◌<◌, ◌≤◌, ◌&&◌, nat_le, nat_lt, Bool, true, false, List, [], ◌∷◌, ◌++◌, length, drop, get_or, All, Option, Some, None, refl, ap, sym, ◌∙◌, subst, arith, le-leb}
+use Rattle.std.specs.Prelude.{if◌then◌else◌, is_some, IfSome}
 use Rattle.std.specs.List.{list_all}
-use Rattle.std.specs.Map.{lookup}
 use Rattle.std.proofs.lemmas.Bool.{ne_eqb}
 use Rattle.std.proofs.lemmas.List.Elements.{All-head, All-tail}
 use Rattle.std.proofs.lemmas.List.Sums.{sum_by_push, sum_by-cons}
@@ -11,8 +10,7 @@ use Rattle.file_store.specs.declared.file.FileSpec.{FileSpec}
 use Rattle.file_store.specs.Files as Store
 use Rattle.idn_table.specs.Idns as Idns
 use Rattle.idn_table.proofs.Placed.{idns_placed}
-use Rattle.object_dictionary.specs.declared.object.Object.{Object}
-use Rattle.object_dictionary.specs.Dictionary.{Table, object_of}
+use Rattle.object_dictionary.specs.Dictionary.{Table}
 use Rattle.object_dictionary.specs.Sound.{placed, own_table, is_table, is_rising, is_row, is_object, is_emitter, are_sized}
 use Rattle.object_dictionary.proofs.Placed.{table_placed}
 use Rattle.segment_plan.specs.declared.slave.ObjectSpec.{ObjectSpec}
@@ -23,7 +21,7 @@ use Rattle.segment_plan.specs.Sound.{kept, IsObject, IsFile, IsIdn, IsSlave, ind
 use Rattle.slave_model.specs.Application.{station_valid}
 use Rattle.slave_model.proofs.Stations.{both}
 use Rattle.slave_parts.specs.Parts.{parts}
-use Rattle.slave_server.specs.Spec.{with_objects, objects_of, with_file, with_files, files_of, idn_of, with_idn, with_idns, idns_of, core_of}
+use Rattle.slave_server.specs.Spec.{with_objects, objects_of, with_files, files_of, idn_of, with_idn, with_idns, idns_of, core_of}
 use Rattle.slave_server.proofs.Objects as Taken
 
 -- an item of a list, whatever stands for none

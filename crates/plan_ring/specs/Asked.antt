@@ -1,6 +1,5 @@
 -- THE SERVICES OF A SLAVE AS A MASTER ASKS FOR THEM: by the names that the master has for them, and with its replies.
-use Rattle.std.specs.Prelude.{◌≡◌, ℕ, Bool, true, false, Some}
-use Rattle.mailbox_mail.specs.declared.outcome.ReplyKind.{ReplyKind}
+use Rattle.std.specs.Prelude.{ℕ, Bool, true, false, Some}
 use Rattle.frame_view.specs.View.{Lens}
 use Rattle.coe_model.specs.Meaning as CoeMeaning
 use Rattle.coe_model.specs.Tables.{nowhere}

@@ -1,5 +1,5 @@
 -- A RUN IN WHICH NO SLAVE IS GIVEN UP OR RETURNED TO INIT: each slave stays in its first epoch, and the books of all of them.
-use Rattle.std.specs.Prelude.{◌≡◌, ℕ, suc, ◌&&◌, Bool, false, None, List, [], ◌∷◌, length, ⊤}
+use Rattle.std.specs.Prelude.{◌≡◌, ℕ, suc, ◌&&◌, Bool, false, None, List, [], ◌∷◌, ⊤}
 use Rattle.datagrams.specs.Datagram as Raw
 use Rattle.eoe_model.specs.Network.{Station}
 use Rattle.frame_view.specs.View.{Lens}
@@ -14,14 +14,14 @@ use Rattle.task_model.specs.Promise.{services_in}
 use Rattle.life_model.specs.Lives.{Stand}
 use Rattle.master_duty.specs.Reply as Master
 use Rattle.master_hand.specs.Spoken as Spoken
-use Rattle.book_model.specs.Script.{Addressed, HaveBegun, SlaveRun, AnyLive, RunRests, RunDone}
+use Rattle.book_model.specs.Script.{Addressed, HaveBegun, SlaveRun, RunRests, RunDone}
 use Rattle.book_lives.specs.Rows.{WishStays, IsFirst}
 use Rattle.book_lives.specs.First.{setting_of, FirstBook}
 use Rattle.slave_lives.specs.Lived.{node_seen}
 use Rattle.slave_parts.specs.Parts.{Core, Server}
 use Rattle.whole_ring.specs.Members.{AllLived}
 use Rattle.plan_ring.specs.Plan.{PlanMember, FitsPlan, step}
-use Rattle.plan_ring.specs.Master.{IsLed, AllLed, Under, IsUnder, AllUnder}
+use Rattle.plan_ring.specs.Master.{AllLed, Under, IsUnder, AllUnder}
 
 -- each life is in its first epoch
 abbrev pub AllFirst : ℕ → List PlanMember → Type 0

@@ -1,7 +1,6 @@
 -- A MASTER AND THE RING OF ITS PLAN: its lives of the slaves are those that the ring's law speaks of.
-use Rattle.std.specs.Prelude.{◌≡◌, ℕ, suc, ◌&&◌, Bool, false, List, [], ◌∷◌, ◌++◌, length, ⊤}
+use Rattle.std.specs.Prelude.{◌≡◌, ℕ, Bool, List, [], ◌∷◌, ◌++◌, length, ⊤}
 use Rattle.datagrams.specs.Datagram as Raw
-use Rattle.exchange_model.specs.Areas.{Areas}
 use Rattle.exchange_model.specs.Exchange.{Speech}
 use Rattle.frame_view.specs.View.{Lens}
 use Rattle.link_mails.specs.Body.{Body}

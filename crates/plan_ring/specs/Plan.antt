@@ -1,7 +1,6 @@
 -- THE RING OF A PLAN: its slaves as they are switched on, with their lives before the first frame.
-use Rattle.std.specs.Prelude.{◌≡◌, ◌⊎◌, ℕ, suc, ◌==◌, Bool, true, false, if◌then◌else◌, Option, Some, None, List, [], ◌∷◌, length, ⊤}
+use Rattle.std.specs.Prelude.{◌≡◌, ℕ, suc, ◌==◌, false, if◌then◌else◌, Some, List, [], ◌∷◌, length, ⊤}
 use Rattle.frame_view.specs.View.{Lens}
-use Rattle.link_mails.specs.Body.{Body}
 use Rattle.eoe_model.specs.Network.{Station}
 use Rattle.state_exchange.specs.Families.{InState}
 use Rattle.master_duty.specs.Reply as Master

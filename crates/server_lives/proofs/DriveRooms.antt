@@ -1,8 +1,6 @@
 -- WHAT SERVERS OF SOE AND EOE give has room, and leaves what they act on.
-use Rattle.std.proofs.Common.{◌≡◌, ℕ, zero, suc, ◌+◌, ◌-◌, ◌*◌, ◌/◌, ◌%◌, ◌≤◌, ◌==◌, ◌&&◌, nat_le, Bool, true, false, List, [], ◌∷◌, map, length, take, drop, Option, Some, None, Result, Ok, Err, refl, ap, sym, ◌∙◌, subst, arith, leb-true}
+use Rattle.std.proofs.Common.{◌≡◌, ℕ, zero, suc, ◌+◌, ◌-◌, ◌*◌, ◌/◌, ◌%◌, ◌≤◌, ◌==◌, ◌&&◌, nat_le, Bool, true, false, List, [], ◌∷◌, map, length, take, drop, Option, Some, None, Result, Ok, Err, refl, ap, sym, subst, arith, leb-true}
 use Rattle.std.specs.Prelude.{if◌then◌else◌}
-use Rattle.mailbox_mail.specs.declared.mail.Mail.{Mail}
-use Rattle.soe_codec.specs.Message.{soe_text}
 use Rattle.soe_model.specs.Elements as Elements
 use Rattle.soe_model.specs.Elements.{Target, Elements}
 use Rattle.soe_model.specs.Mails as SoeMails

@@ -1,5 +1,5 @@
 -- The real server is one of those of which lives speak.
-use Rattle.std.proofs.Common.{◌≡◌, ℕ, Bool, true, false, refl, ap}
+use Rattle.std.proofs.Common.{◌≡◌, ℕ, Bool, refl, ap}
 use Rattle.frame_view.specs.View.{Lens}
 use Rattle.slave_model.specs.Profile.{Profile}
 use Rattle.slave_server.specs.Seen.{IsExchange}

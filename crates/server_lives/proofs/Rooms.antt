@@ -1,13 +1,12 @@
 -- EACH MAIL OF A SLAVE HAS ROOM: what a server gives for a mail, whatever the mail is.
-use Rattle.std.proofs.Common.{◌≡◌, ℕ, zero, suc, ◌+◌, ◌-◌, ◌*◌, ◌/◌, ◌%◌, ◌<◌, ◌≤◌, ◌==◌, ◌&&◌, ◌||◌, not, nat_le, nat_lt, Bool, true, false, List, [], ◌∷◌, ◌++◌, map, length, take, drop, Option, Some, None, Result, Ok, Err, refl, ap, sym, ◌∙◌, subst, arith, leb-true, length-append}
+use Rattle.std.proofs.Common.{ℕ, zero, suc, ◌+◌, ◌-◌, ◌*◌, ◌/◌, ◌≤◌, nat_lt, Bool, true, false, List, [], ◌∷◌, ◌++◌, map, length, take, drop, arith}
 use Rattle.std.specs.Prelude.{if◌then◌else◌}
 use Rattle.mailbox_mail.specs.Mail.{error_of}
 use Rattle.mailbox_mail.specs.declared.mail.Kind.{Kind}
 use Rattle.mailbox_mail.specs.declared.mail.Mail.{Mail}
-use Rattle.link_mails.specs.Body.{Body}
 use Rattle.eoe.specs.declared.message.Eoe.TheVariants.{Fragment as Part}
 use Rattle.eoe.specs.declared.message.Fragment.{Fragment}
-use Rattle.eoe.specs.Cutting.{fragment_at, fragments_from, fragments_of}
+use Rattle.eoe.specs.Cutting.{fragment_at, fragments_from}
 use Rattle.eoe.specs.Message.{eoe_text}
 use Rattle.coe_model.specs.Octets.{mail_with}
 use Rattle.slave_model.specs.Server.{told_by}

@@ -1,7 +1,6 @@
 -- A SLAVE'S SERVER STAYS SOUND, whatever mails it takes in whatever AL states: what it gives has room, and its services act on what laws speak of.
-use Rattle.std.proofs.Common.{◌≡◌, ℕ, zero, suc, ◌+◌, ◌-◌, ◌*◌, ◌/◌, ◌%◌, ◌<◌, ◌≤◌, ◌==◌, ◌&&◌, nat_lt, Bool, true, false, List, [], ◌∷◌, ◌++◌, map, length, Option, Some, None, Result, Ok, Err, refl, ap, ap₂, sym, ◌∙◌, subst, arith, lt-ltb, ltb-true}
+use Rattle.std.proofs.Common.{◌≡◌, ℕ, suc, ◌+◌, ◌-◌, ◌*◌, ◌/◌, ◌<◌, ◌≤◌, ◌&&◌, Bool, true, false, List, [], ◌∷◌, ◌++◌, map, length, Option, Some, None, Result, Ok, Err, refl, ap, sym, ◌∙◌, subst, arith, lt-ltb, ltb-true}
 use Rattle.std.specs.Prelude.{if◌then◌else◌, is_none}
-use Rattle.mailbox_mail.specs.Mail.{error_of}
 use Rattle.mailbox_mail.specs.declared.mail.Mail.{Mail}
 use Rattle.mailbox_mail.specs.declared.mail.Kind.{Kind}
 use Rattle.mailbox_mail.specs.declared.mail.MailFault.TheVariants.{Short, LengthPastArea, UnknownKind}
@@ -11,11 +10,10 @@ use Rattle.eoe.specs.declared.message.Fragment.{Fragment}
 use Rattle.eoe.specs.Cutting.{fragments_of}
 use Rattle.eoe.specs.Message.{eoe_text}
 use Rattle.exchange_sum.specs.Refusing.{gated}
-use Rattle.coe_model.specs.Tables.{Target}
 use Rattle.coe_model.specs.Mails.{fragment}
 use Rattle.coe_model.specs.Mails as CoeMails
 use Rattle.coe_model.specs.Octets as CoeOctets
-use Rattle.coe_model.specs.Octets.{mail_with, coe_mail_written}
+use Rattle.coe_model.specs.Octets.{coe_mail_written}
 use Rattle.coe_model.specs.Server as Coe
 use Rattle.foe_model.specs.Mails as FoeMails
 use Rattle.foe_model.specs.Octets as FoeOctets
@@ -30,9 +28,9 @@ use Rattle.eoe_model.specs.Network.{Station}
 use Rattle.object_dictionary.specs.Dictionary as Objects
 use Rattle.file_store.specs.Files as Store
 use Rattle.idn_table.specs.Idns as Idns
-use Rattle.slave_model.specs.Application.{Core, ArePartsLawful, core_valid, station_valid, with_objects, stored, written, fragment_bodies, station_tables, station_files, station_elements, network}
+use Rattle.slave_model.specs.Application.{Core, ArePartsLawful, core_valid, station_valid, with_objects, stored, written, station_tables, station_files, station_elements, network}
 use Rattle.slave_model.specs.Profile.{Protocol, Profile, IsProfile, serves}
-use Rattle.slave_model.specs.Server.{seat, reseated, one_more, told_by, heard_by, failure, refused_counts, refused_gives, soe_quiet, eoe_quiet}
+use Rattle.slave_model.specs.Server.{seat, reseated, one_more, heard_by, failure, refused_counts, refused_gives, soe_quiet, eoe_quiet}
 use Rattle.slave_model.specs.Product.{protocol_of, served, refusal, serve_by, serve_other, serve}
 use Rattle.slave_model.proofs.Stations.{both, left_of, right_of, tables_law, tables_spelled, files_law, elements_law}
 use Rattle.slave_parts.specs.Parts as The

@@ -2,7 +2,6 @@
 use Rattle.std.specs.Prelude.{◌≡◌, ℕ, ◌+◌, ◌≤◌, true, List, [], ◌∷◌, length, None, ⊤}
 use Rattle.file_store.specs.Files as Store
 use Rattle.foe_model.specs.Server.{Transfer, idle, reading, writing, closing}
-use Rattle.foe_server.specs.Stores.{store_files}
 use Rattle.mailbox_mail.specs.declared.mail.Mail.{Mail}
 use Rattle.slave_lives.specs.Nodes.{IsPlaced}
 use Rattle.slave_model.specs.Application.{station_valid}
