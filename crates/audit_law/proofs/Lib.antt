@@ -1,0 +1,4 @@
+pub mod Tracks
+pub mod Once
+pub mod Stations
+pub mod Captures
