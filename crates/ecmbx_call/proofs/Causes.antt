@@ -24,9 +24,14 @@ use Rattle.ecmbx_words.specs.declared.status.Status.TheVariants as statuses
 use Rattle.ecmbx_words.specs.Form.{form_in, name_in, saved_in}
 use Rattle.ecmbx_words.specs.Ends.{text_of, Ended}
 use Rattle.ecmbx_words.specs.Texts.{usage_line, refused_line}
+use Rattle.capture_audit.specs.declared.station.StationAudit.{StationAudit}
+use Rattle.capture_audit.specs.declared.verdict.Verdict.{Verdict}
+use Rattle.capture_audit.specs.declared.verdict.Verdict.TheVariants.{Yes, No}
+use Rattle.capture_audit.specs.Audit.{verdict_of}
+use Rattle.ecmbx_call.specs.Audits.{verdict_text, verdict_status, AuditCourse}
 use Rattle.ecmbx_call.specs.Files.{limit, Holds, IsLong, IsSaved, FileCourse, Followed}
 use Rattle.ecmbx_call.specs.Course.{HasRun, status_of, RunCourse, SavedCourse, ViewCourse, Course, Began}
-use Rattle.ecmbx_call.specs.Causes.{loaded_by, loaded_in, IsRefused, IsAmong, IsFound, UsageCause, AbsentCause, LongCause, RefusedCause, GivenUpCause, SpentCause, EndingAt, IsAnswer, RunsTo, SavesTo, ShowsTo, MakesTo}
+use Rattle.ecmbx_call.specs.Causes.{loaded_by, loaded_in, IsRefused, IsAmong, IsFound, UsageCause, AbsentCause, LongCause, RefusedCause, GivenUpCause, SpentCause, IsBroken, BrokenCause, EndingAt, IsAnswer, RunsTo, SavesTo, ShowsTo, AuditsTo, MakesTo}
 
 -- ---- what a planned status says
 
@@ -39,6 +44,8 @@ data Told (words : List (List ℕ)) (table saved : Option Table) (faulted : Type
   refused : (name octets : List ℕ) → loaded_in words ≡ Some name → Holds table name (Some octets) → length octets ≤ limit → IsRefused (form_in words) octets → IsNew book → planned ≡ statuses.Refused → Told words table saved faulted book planned text
   made : (seed size : ℕ) → form_in words ≡ forms.Make seed size → IsNew book → planned ≡ statuses.Done → text ≡ made_text [] seed size → Told words table saved faulted book planned text
   shown : (name octets : List ℕ) (capture : Capture) → form_in words ≡ forms.Decode → loaded_in words ≡ Some name → Holds table name (Some octets) → length octets ≤ limit → capture_read octets ≡ Ok capture → IsNew book → planned ≡ statuses.Done → text ≡ view_text octets capture → Told words table saved faulted book planned text
+  passed : (name octets : List ℕ) (capture : Capture) (stations : List StationAudit) → form_in words ≡ forms.Audit → loaded_in words ≡ Some name → Holds table name (Some octets) → length octets ≤ limit → capture_read octets ≡ Ok capture → verdict_of octets capture ≡ Yes stations → IsNew book → planned ≡ statuses.Done → text ≡ verdict_text (Yes stations) → Told words table saved faulted book planned text
+  failed : (name octets : List ℕ) (capture : Capture) (rule packet : ℕ) → form_in words ≡ forms.Audit → loaded_in words ≡ Some name → Holds table name (Some octets) → length octets ≤ limit → capture_read octets ≡ Ok capture → verdict_of octets capture ≡ No rule packet → IsNew book → planned ≡ statuses.AuditNo → text ≡ verdict_text (No rule packet) → Told words table saved faulted book planned text
   ran : (name octets : List ℕ) (plan : Scenario) → form_in words ≡ forms.Run → loaded_in words ≡ Some name → Holds table name (Some octets) → length octets ≤ limit → plan_of octets ≡ Ok plan → HasRun plan book
       → planned ≡ status_of book.ending → text ≡ text_of (report_lines plan book) → Told words table saved faulted book planned text
   kept : (name octets : List ℕ) (plan : Scenario) → form_in words ≡ forms.RunSaved → loaded_in words ≡ Some name → Holds table name (Some octets) → length octets ≤ limit → plan_of octets ≡ Ok plan → HasRun plan book → IsSaved table saved (saved_in words) (capture_of book.frames)
@@ -54,6 +61,21 @@ module _ (words : List (List ℕ)) (table saved : Option Table) (faulted : Type 
   told_view _ _ f fresh (FileCourse.absent holds u) = Told.absent (name_in words) (rw f refl) holds fresh refl
   told_view _ _ f fresh (FileCourse.long is u) = Told.long (name_in words) (rw f refl) is fresh refl
   told_view _ _ f fresh (FileCourse.found octets planned text holds fits course) = told_octets octets planned text f fresh holds fits course
+
+  told_verdict : (octets : List ℕ) (capture : Capture) (planned : Status) (text : List ℕ) (v : Verdict) → form_in words ≡ forms.Audit → IsNew book → Holds table (name_in words) (Some octets) → length octets ≤ limit → capture_read octets ≡ Ok capture
+      → verdict_of octets capture ≡ v → planned ≡ verdict_status v → text ≡ verdict_text v → Told words table saved faulted book planned text
+  told_verdict octets capture planned text (Yes stations) f fresh holds fits read is e t = Told.passed (name_in words) octets capture stations f (rw f refl) holds fits read is fresh e t
+  told_verdict octets capture planned text (No rule packet) f fresh holds fits read is e t = Told.failed (name_in words) octets capture rule packet f (rw f refl) holds fits read is fresh e t
+
+  told_audited : (octets : List ℕ) (planned : Status) (text : List ℕ) → form_in words ≡ forms.Audit → IsNew book → Holds table (name_in words) (Some octets) → length octets ≤ limit → AuditCourse octets planned text → Told words table saved faulted book planned text
+  told_audited octets _ _ f fresh holds fits (AuditCourse.refused flaw is) = Told.refused (name_in words) octets (rw f refl) holds fits (rw f (flaw, is)) fresh refl
+  told_audited octets _ _ f fresh holds fits (AuditCourse.audited capture is) = told_verdict octets capture _ _ (verdict_of octets capture) f fresh holds fits is refl refl refl
+
+  told_audit : (planned : Status) (text : List ℕ) → form_in words ≡ forms.Audit → IsNew book → FileCourse (name_in words) table faulted (Unit {0}) AuditCourse planned text → Told words table saved faulted book planned text
+  told_audit _ _ f fresh (FileCourse.fault rose u) = Told.fault (name_in words) (rw f refl) rose refl
+  told_audit _ _ f fresh (FileCourse.absent holds u) = Told.absent (name_in words) (rw f refl) holds fresh refl
+  told_audit _ _ f fresh (FileCourse.long is u) = Told.long (name_in words) (rw f refl) is fresh refl
+  told_audit _ _ f fresh (FileCourse.found octets planned text holds fits course) = told_audited octets planned text f fresh holds fits course
 
   told_run : (planned : Status) (text : List ℕ) → form_in words ≡ forms.Run → FileCourse (name_in words) table faulted (IsNew book) (RunCourse book) planned text → Told words table saved faulted book planned text
   told_run _ _ f (FileCourse.fault rose fresh) = Told.fault (name_in words) (rw f refl) rose refl
@@ -74,6 +96,7 @@ module _ (words : List (List ℕ)) (table saved : Option Table) (faulted : Type 
   told _ _ (Course.usage f fresh) = Told.usage f fresh refl
   told _ _ (Course.make seed size f fresh) = Told.made seed size f fresh refl refl
   told planned text (Course.decode _ _ f fresh c) = told_view planned text f fresh c
+  told planned text (Course.audit _ _ f fresh c) = told_audit planned text f fresh c
   told planned text (Course.run _ _ f c) = told_run planned text f c
   told planned text (Course.run_saved _ _ f c) = told_saved planned text f c
 
@@ -84,6 +107,7 @@ is_own statuses.Absent = true
 is_own statuses.TooLong = true
 is_own statuses.Refused = true
 is_own statuses.FileFault = true
+is_own statuses.AuditNo = true
 is_own _ = false
 
 own_of : (ending : Ending) → is_own (status_of ending) ≡ false
@@ -149,6 +173,8 @@ module _ (words : List (List ℕ)) (table saved : Option Table) (faulted : Type 
   told_usage (Told.refused name octets said holds fits refusal fresh is) e = absurd cc
   told_usage (Told.made seed size f fresh is text) e = absurd cc
   told_usage (Told.shown name octets capture f said holds fits read fresh is text) e = absurd cc
+  told_usage (Told.passed name octets capture stations f said holds fits read verdict fresh is text) e = absurd cc
+  told_usage (Told.failed name octets capture rule packet f said holds fits read verdict fresh is text) e = absurd cc
   told_usage (Told.ran name octets plan f said holds fits read run is text) e = absurd (ends_not statuses.Usage planned book.ending refl is e)
   told_usage (Told.kept name octets plan f said holds fits read run file is text) e = absurd (ends_not statuses.Usage planned book.ending refl is e)
 
@@ -160,6 +186,8 @@ module _ (words : List (List ℕ)) (table saved : Option Table) (faulted : Type 
   told_other (Told.refused name octets said holds fits refusal fresh is) o = absurd (no_file (form_in words) (name_in words) name o said)
   told_other (Told.made seed size f fresh is text) o = absurd cc
   told_other (Told.shown name octets capture f said holds fits read fresh is text) o = absurd cc
+  told_other (Told.passed name octets capture stations f said holds fits read verdict fresh is text) o = absurd cc
+  told_other (Told.failed name octets capture rule packet f said holds fits read verdict fresh is text) o = absurd cc
   told_other (Told.ran name octets plan f said holds fits read run is text) o = absurd cc
   told_other (Told.kept name octets plan f said holds fits read run file is text) o = absurd cc
 
@@ -171,6 +199,8 @@ module _ (words : List (List ℕ)) (table saved : Option Table) (faulted : Type 
   told_absent (Told.refused name octets said holds fits refusal fresh is) e = absurd cc
   told_absent (Told.made seed size f fresh is text) e = absurd cc
   told_absent (Told.shown name octets capture f said holds fits read fresh is text) e = absurd cc
+  told_absent (Told.passed name octets capture stations f said holds fits read verdict fresh is text) e = absurd cc
+  told_absent (Told.failed name octets capture rule packet f said holds fits read verdict fresh is text) e = absurd cc
   told_absent (Told.ran name octets plan f said holds fits read run is text) e = absurd (ends_not statuses.Absent planned book.ending refl is e)
   told_absent (Told.kept name octets plan f said holds fits read run file is text) e = absurd (ends_not statuses.Absent planned book.ending refl is e)
 
@@ -182,6 +212,8 @@ module _ (words : List (List ℕ)) (table saved : Option Table) (faulted : Type 
   told_long (Told.refused name octets said holds fits refusal fresh is) e = absurd cc
   told_long (Told.made seed size f fresh is text) e = absurd cc
   told_long (Told.shown name octets capture f said holds fits read fresh is text) e = absurd cc
+  told_long (Told.passed name octets capture stations f said holds fits read verdict fresh is text) e = absurd cc
+  told_long (Told.failed name octets capture rule packet f said holds fits read verdict fresh is text) e = absurd cc
   told_long (Told.ran name octets plan f said holds fits read run is text) e = absurd (ends_not statuses.TooLong planned book.ending refl is e)
   told_long (Told.kept name octets plan f said holds fits read run file is text) e = absurd (ends_not statuses.TooLong planned book.ending refl is e)
 
@@ -193,6 +225,8 @@ module _ (words : List (List ℕ)) (table saved : Option Table) (faulted : Type 
   told_refused (Told.refused name octets said holds fits refusal fresh is) e = (name, octets, said, holds, refusal)
   told_refused (Told.made seed size f fresh is text) e = absurd cc
   told_refused (Told.shown name octets capture f said holds fits read fresh is text) e = absurd cc
+  told_refused (Told.passed name octets capture stations f said holds fits read verdict fresh is text) e = absurd cc
+  told_refused (Told.failed name octets capture rule packet f said holds fits read verdict fresh is text) e = absurd cc
   told_refused (Told.ran name octets plan f said holds fits read run is text) e = absurd (ends_not statuses.Refused planned book.ending refl is e)
   told_refused (Told.kept name octets plan f said holds fits read run file is text) e = absurd (ends_not statuses.Refused planned book.ending refl is e)
 
@@ -204,8 +238,27 @@ module _ (words : List (List ℕ)) (table saved : Option Table) (faulted : Type 
   told_fault (Told.refused name octets said holds fits refusal fresh is) e = absurd cc
   told_fault (Told.made seed size f fresh is text) e = absurd cc
   told_fault (Told.shown name octets capture f said holds fits read fresh is text) e = absurd cc
+  told_fault (Told.passed name octets capture stations f said holds fits read verdict fresh is text) e = absurd cc
+  told_fault (Told.failed name octets capture rule packet f said holds fits read verdict fresh is text) e = absurd cc
   told_fault (Told.ran name octets plan f said holds fits read run is text) e = absurd (ends_not statuses.FileFault planned book.ending refl is e)
   told_fault (Told.kept name octets plan f said holds fits read run file is text) e = absurd (ends_not statuses.FileFault planned book.ending refl is e)
+
+  audit_name : (form : Form) (file name : List ℕ) → form ≡ forms.Audit → loaded_by form file ≡ Some name → file ≡ name
+  audit_name form file name is said = let own : loaded_by form file ≡ Some file = rw is refl in cc
+
+  told_broken : Told words table saved faulted book planned text → planned ≡ statuses.AuditNo → (form_in words ≡ forms.Audit) × (octets : List ℕ) × Holds table (name_in words) (Some octets) × IsBroken octets
+  told_broken (Told.usage f fresh is) e = absurd cc
+  told_broken (Told.fault name said rose is) e = absurd cc
+  told_broken (Told.absent name said holds fresh is) e = absurd cc
+  told_broken (Told.long name said big fresh is) e = absurd cc
+  told_broken (Told.refused name octets said holds fits refusal fresh is) e = absurd cc
+  told_broken (Told.made seed size f fresh is text) e = absurd cc
+  told_broken (Told.shown name octets capture f said holds fits read fresh is text) e = absurd cc
+  told_broken (Told.passed name octets capture stations f said holds fits read verdict fresh is text) e = absurd cc
+  told_broken (Told.failed name octets capture rule packet f said holds fits read verdict fresh is text) e =
+      (f, octets, subst (λ n. Holds table n (Some octets)) (sym (audit_name (form_in words) (name_in words) name f said)) holds, (capture, rule, packet, read, verdict))
+  told_broken (Told.ran name octets plan f said holds fits read run is text) e = absurd (ends_not statuses.AuditNo planned book.ending refl is e)
+  told_broken (Told.kept name octets plan f said holds fits read run file is text) e = absurd (ends_not statuses.AuditNo planned book.ending refl is e)
 
   -- a run with its ending
   told_ran : Told words table saved faulted book planned text → (e : Ending) → planned ≡ status_of e → is_run (status_of e) ≡ true → (run : Scenario) × HasRun run book × (planned ≡ status_of book.ending)
@@ -216,6 +269,8 @@ module _ (words : List (List ℕ)) (table saved : Option Table) (faulted : Type 
   told_ran (Told.refused name octets said holds fits refusal fresh is) e end own = absurd (run_not statuses.Refused planned e refl is end own)
   told_ran (Told.made seed size f fresh is text) e end own = absurd (run_not statuses.Done planned e refl is end own)
   told_ran (Told.shown name octets capture f said holds fits read fresh is text) e end own = absurd (run_not statuses.Done planned e refl is end own)
+  told_ran (Told.passed name octets capture stations f said holds fits read verdict fresh is text) e end own = absurd (run_not statuses.Done planned e refl is end own)
+  told_ran (Told.failed name octets capture rule packet f said holds fits read verdict fresh is text) e end own = absurd (run_not statuses.AuditNo planned e refl is end own)
   told_ran (Told.ran name octets run f said holds fits read did is text) e end own = (run, did, is)
   told_ran (Told.kept name octets run f said holds fits read did file is text) e end own = (run, did, is)
 
@@ -224,6 +279,7 @@ data Found (words : List (List ℕ)) (table saved : Option Table) (book : Book) 
   fault : planned ≡ statuses.FileFault → Found words table saved book octets planned text
   refused : IsRefused (form_in words) octets → planned ≡ statuses.Refused → Found words table saved book octets planned text
   shown : (capture : Capture) → form_in words ≡ forms.Decode → capture_read octets ≡ Ok capture → planned ≡ statuses.Done → text ≡ view_text octets capture → Found words table saved book octets planned text
+  audited : (capture : Capture) → form_in words ≡ forms.Audit → capture_read octets ≡ Ok capture → planned ≡ verdict_status (verdict_of octets capture) → text ≡ verdict_text (verdict_of octets capture) → Found words table saved book octets planned text
   ran : (plan : Scenario) → form_in words ≡ forms.Run → plan_of octets ≡ Ok plan → HasRun plan book → planned ≡ status_of book.ending → text ≡ text_of (report_lines plan book) → Found words table saved book octets planned text
   kept : (plan : Scenario) → form_in words ≡ forms.RunSaved → plan_of octets ≡ Ok plan → HasRun plan book → IsSaved table saved (saved_in words) (capture_of book.frames) → planned ≡ status_of book.ending → text ≡ text_of (report_lines plan book) → Found words table saved book octets planned text
 
@@ -259,6 +315,14 @@ module _ (words : List (List ℕ)) (table saved : Option Table) (faulted : Type 
   found_told found (Told.shown name others capture f said holds fits read fresh is text) =
       let same = same_octets found name others said holds in
       Found.shown capture f (rw (← same) read) is (text ∙ ap (λ o. view_text o capture) same)
+  found_told found (Told.passed name others capture stations f said holds fits read verdict fresh is text) =
+      let same = same_octets found name others said holds in
+      let v : verdict_of octets capture ≡ Yes stations = ap (λ o. verdict_of o capture) (sym same) ∙ verdict in
+      Found.audited capture f (rw (← same) read) (is ∙ ap verdict_status (sym v)) (text ∙ ap verdict_text (sym v))
+  found_told found (Told.failed name others capture rule packet f said holds fits read verdict fresh is text) =
+      let same = same_octets found name others said holds in
+      let v : verdict_of octets capture ≡ No rule packet = ap (λ o. verdict_of o capture) (sym same) ∙ verdict in
+      Found.audited capture f (rw (← same) read) (is ∙ ap verdict_status (sym v)) (text ∙ ap verdict_text (sym v))
   found_told found (Told.ran name others plan f said holds fits read run is text) = Found.ran plan f (rw (← same_octets found name others said holds) read) run is text
   found_told found (Told.kept name others plan f said holds fits read run file is text) = Found.kept plan f (rw (← same_octets found name others said holds) read) run file is text
 
@@ -266,6 +330,7 @@ module _ (words : List (List ℕ)) (table saved : Option Table) (faulted : Type 
   found_refused refusal (Found.fault is) = inr is
   found_refused refusal (Found.refused other is) = inl is
   found_refused refusal (Found.shown capture f read is text) = let r : (fault : PcapFault) × (capture_read octets ≡ Err fault) = rw f at refusal in absurd cc
+  found_refused refusal (Found.audited capture f read is text) = let r : (fault : PcapFault) × (capture_read octets ≡ Err fault) = rw f at refusal in absurd cc
   found_refused refusal (Found.ran plan f read run is text) = let r : (e : Refusal) × (plan_of octets ≡ Err e) = rw f at refusal in absurd cc
   found_refused refusal (Found.kept plan f read run file is text) = let r : (e : Refusal) × (plan_of octets ≡ Err e) = rw f at refusal in absurd cc
 
@@ -273,6 +338,7 @@ module _ (words : List (List ℕ)) (table saved : Option Table) (faulted : Type 
   found_ran plan f is (Found.fault e) = inl e
   found_ran plan f is (Found.refused refusal e) = let r : (e : Refusal) × (plan_of octets ≡ Err e) = rw f at refusal in absurd cc
   found_ran plan f is (Found.shown capture g read e text) = absurd cc
+  found_ran plan f is (Found.audited capture g read e text) = absurd cc
   found_ran plan f is (Found.ran other g read run e text) =
       let same : other ≡ plan = cc in
       inr (subst (λ p. HasRun p book) same run, e, text ∙ ap (λ p. text_of (report_lines p book)) same)
@@ -283,6 +349,7 @@ module _ (words : List (List ℕ)) (table saved : Option Table) (faulted : Type 
   found_kept plan f is (Found.fault e) = inl e
   found_kept plan f is (Found.refused refusal e) = let r : (e : Refusal) × (plan_of octets ≡ Err e) = rw f at refusal in absurd cc
   found_kept plan f is (Found.shown capture g read e text) = absurd cc
+  found_kept plan f is (Found.audited capture g read e text) = absurd cc
   found_kept plan f is (Found.ran other g read run e text) = absurd cc
   found_kept plan f is (Found.kept other g read run file e text) =
       let same : other ≡ plan = cc in
@@ -292,8 +359,19 @@ module _ (words : List (List ℕ)) (table saved : Option Table) (faulted : Type 
   found_shown capture f is (Found.fault e) = inl e
   found_shown capture f is (Found.refused refusal e) = let r : (fault : PcapFault) × (capture_read octets ≡ Err fault) = rw f at refusal in absurd cc
   found_shown capture f is (Found.shown other g read e text) = let same : other ≡ capture = cc in inr (e, text ∙ ap (λ c. view_text octets c) same)
+  found_shown capture f is (Found.audited other g read e text) = absurd cc
   found_shown capture f is (Found.ran other g read run e text) = absurd cc
   found_shown capture f is (Found.kept other g read run file e text) = absurd cc
+
+  found_audited : (capture : Capture) → form_in words ≡ forms.Audit → capture_read octets ≡ Ok capture → Found words table saved book octets planned text → (planned ≡ statuses.FileFault) ⊎ ((planned ≡ verdict_status (verdict_of octets capture)) × (text ≡ verdict_text (verdict_of octets capture)))
+  found_audited capture f is (Found.fault e) = inl e
+  found_audited capture f is (Found.refused refusal e) = let r : (fault : PcapFault) × (capture_read octets ≡ Err fault) = rw f at refusal in absurd cc
+  found_audited capture f is (Found.shown other g read e text) = absurd cc
+  found_audited capture f is (Found.audited other g read e text) =
+      let same : other ≡ capture = cc in
+      inr (e ∙ ap (λ c. verdict_status (verdict_of octets c)) same, text ∙ ap (λ c. verdict_text (verdict_of octets c)) same)
+  found_audited capture f is (Found.ran other g read run e text) = absurd cc
+  found_audited capture f is (Found.kept other g read run file e text) = absurd cc
 
 -- ---- how a book's run ended
 
@@ -341,6 +419,8 @@ module _ (words : List (List ℕ)) (table saved : Option Table) (faulted : Type 
   told_ending (Told.refused name octets said holds fits refusal fresh is) = at statuses.Refused is fresh.ending
   told_ending (Told.made seed size f fresh is text) = at statuses.Done is (inr fresh.ending)
   told_ending (Told.shown name octets capture f said holds fits read fresh is text) = at statuses.Done is (inr fresh.ending)
+  told_ending (Told.passed name octets capture stations f said holds fits read verdict fresh is text) = at statuses.Done is (inr fresh.ending)
+  told_ending (Told.failed name octets capture rule packet f said holds fits read verdict fresh is text) = at statuses.AuditNo is fresh.ending
   told_ending (Told.ran name octets run f said holds fits read did is text) = at (status_of book.ending) is (ending_of book.ending)
   told_ending (Told.kept name octets run f said holds fits read did file is text) = at (status_of book.ending) is (ending_of book.ending)
 
@@ -352,6 +432,8 @@ module _ (words : List (List ℕ)) (table saved : Option Table) (faulted : Type 
   told_answer (Told.refused name octets said holds fits refusal fresh is) e = absurd cc
   told_answer (Told.made seed size f fresh is text) e = absurd cc
   told_answer (Told.shown name octets capture f said holds fits read fresh is text) e = absurd cc
+  told_answer (Told.passed name octets capture stations f said holds fits read verdict fresh is text) e = absurd cc
+  told_answer (Told.failed name octets capture rule packet f said holds fits read verdict fresh is text) e = absurd cc
   told_answer (Told.ran name octets run f said holds fits read did is text) e = port_never run book book.ending did.ending (sym is ∙ e)
   told_answer (Told.kept name octets run f said holds fits read did file is text) e = port_never run book book.ending did.ending (sym is ∙ e)
 
@@ -366,6 +448,8 @@ module _ (words : List (List ℕ)) (table saved : Option Table) (faulted : Type 
       let two : z ≡ size = cc in
       (is, t ∙ ap (λ n. made_text [] n z) one ∙ ap (λ n. made_text [] seed n) two)
   told_made seed size m (Told.shown name octets capture f said holds fits read fresh is text) = absurd cc
+  told_made seed size m (Told.passed name octets capture stations f said holds fits read verdict fresh is text) = absurd cc
+  told_made seed size m (Told.failed name octets capture rule packet f said holds fits read verdict fresh is text) = absurd cc
   told_made seed size m (Told.ran name octets run f said holds fits read did is text) = absurd cc
   told_made seed size m (Told.kept name octets run f said holds fits read did file is text) = absurd cc
 
@@ -406,6 +490,8 @@ module _ (words : List (List ℕ)) (table saved : Option Table) (faulted : Type 
   absent_told name files said there none planned text (Told.refused other octets also holds fits refusal fresh is) = let file = told_file name other octets files said also there holds in absurd cc
   absent_told name files said there none planned text (Told.made seed size m fresh is t) = absurd (no_made (form_in words) (name_in words) name seed size m said)
   absent_told name files said there none planned text (Told.shown other octets capture f also holds fits read fresh is t) = let file = told_file name other octets files said also there holds in absurd cc
+  absent_told name files said there none planned text (Told.passed other octets capture stations f also holds fits read verdict fresh is t) = let file = told_file name other octets files said also there holds in absurd cc
+  absent_told name files said there none planned text (Told.failed other octets capture rule packet f also holds fits read verdict fresh is t) = let file = told_file name other octets files said also there holds in absurd cc
   absent_told name files said there none planned text (Told.ran other octets run f also holds fits read did is t) = let file = told_file name other octets files said also there holds in absurd cc
   absent_told name files said there none planned text (Told.kept other octets run f also holds fits read did stored is t) = let file = told_file name other octets files said also there holds in absurd cc
 
@@ -430,6 +516,8 @@ module _ (words : List (List ℕ)) (table saved : Option Table) (faulted : Type 
   long_told name octets files said there is past planned text (Told.refused other short also holds fits refusal fresh e) = absurd (too_long name other octets short files said also there is past holds fits)
   long_told name octets files said there is past planned text (Told.made seed size m fresh e t) = absurd (no_made (form_in words) (name_in words) name seed size m said)
   long_told name octets files said there is past planned text (Told.shown other short capture f also holds fits read fresh e t) = absurd (too_long name other octets short files said also there is past holds fits)
+  long_told name octets files said there is past planned text (Told.passed other short capture stations f also holds fits read verdict fresh e t) = absurd (too_long name other octets short files said also there is past holds fits)
+  long_told name octets files said there is past planned text (Told.failed other short capture rule packet f also holds fits read verdict fresh e t) = absurd (too_long name other octets short files said also there is past holds fits)
   long_told name octets files said there is past planned text (Told.ran other short run f also holds fits read did e t) = absurd (too_long name other octets short files said also there is past holds fits)
   long_told name octets files said there is past planned text (Told.kept other short run f also holds fits read did stored e t) = absurd (too_long name other octets short files said also there is past holds fits)
 
@@ -503,6 +591,29 @@ module _ (words : List (List ℕ)) (table saved : Option Table) (faulted : Type 
         | inl cause ↦ absurd (calm (told_fault words table saved faulted book planned text (seen planned text c) cause))
         | inr view ↦ inr (all.0 ∙ view.0, rw (← view.1) all.1)
       ]
+
+  pub audits_to : (rose : Type 0) → (status ≡ statuses.SinkFault → rose) → (rose → ⊥) → (faulted → ⊥) → Followed (Course words table saved faulted book) old new status → AuditsTo words table old new status
+  audits_to rose rises quiet calm (inl memory) octets capture f found is = inl memory
+  audits_to rose rises quiet calm (inr (planned, text, c, ended)) octets capture f found is =
+      let all = whole rose rises quiet planned text ended in
+      elim (found_audited words table saved faulted book planned text octets capture f is (found_told words table saved faulted book planned text octets found (seen planned text c))) [
+        | inl cause ↦ absurd (calm (told_fault words table saved faulted book planned text (seen planned text c) cause))
+        | inr view ↦ inr (all.0 ∙ view.0, rw (← view.1) all.1)
+      ]
+
+  broken_among : (octets : List ℕ) (planned : Status) (text : List ℕ) → form_in words ≡ forms.Audit → IsFound words table octets → IsBroken octets → Told words table saved faulted book planned text → (planned ≡ statuses.AuditNo) ⊎ (planned ≡ statuses.FileFault)
+  broken_among octets planned text f found (capture, rule, packet, read, is) t =
+      elim (found_audited words table saved faulted book planned text octets capture f read (found_told words table saved faulted book planned text octets found t)) [
+        | inl cause ↦ inr cause
+        | inr both ↦ inl (both.0 ∙ ap verdict_status is)
+      ]
+
+  pub broken_cause : Followed (Course words table saved faulted book) old new status → BrokenCause words table status
+  broken_cause (inl memory) = (λ is. absurd cc, λ octets f found broken. inr (inr (inr (inl memory))))
+  broken_cause (inr (planned, text, c, ended)) = (
+    λ is. told_broken words table saved faulted book planned text (seen planned text c) (planned_is statuses.AuditNo planned text old new status (λ sink. cc) ended is),
+    λ octets f found broken. settle_two statuses.AuditNo statuses.FileFault planned text old new status (broken_among octets planned text f found broken (seen planned text c)) ended,
+  )
 
   pub makes_to : (rose : Type 0) → (status ≡ statuses.SinkFault → rose) → (rose → ⊥) → Followed (Course words table saved faulted book) old new status → MakesTo words old new status
   makes_to rose rises quiet (inl memory) seed size m = inl memory

@@ -33,6 +33,7 @@ use Rattle.pcap_frames.specs.declared.capture.PcapFault.TheVariants as faults
 use Rattle.pcap_frames.specs.Reading.{capture_read, UnlessNoMemory}
 use Rattle.ecmbx_call.specs.Files.{limit, Holds, IsLong, FileCourse, Followed, IsLoaded, IsUnloaded}
 use Rattle.ecmbx_call.specs.Files.FileCourse.{fault, absent, long, found}
+use Rattle.ecmbx_call.specs.Audits.{AuditCourse}
 use Rattle.ecmbx_call.specs.Course.{HasRun, IsReportable, status_of, RunCourse, SavedCourse, ViewCourse, Course, IsUnread, IsUnsaved, BeganOn, BeganIn}
 
 -- a text that was put, as the course says
@@ -159,15 +160,15 @@ ok_of (Ok done) P is h = h
 ok_of (Err e) P is h = absurd cc
 
 -- octets that are no capture
-pub view_refused : (octets : List ℕ) (read : Result Capture PcapFault) (fault : PcapFault) (old new : Option (List ℕ)) (status : Status) → read ≡ Err fault → UnlessNoMemory read (read ≡ capture_read octets) → PutAll statuses.Refused (capture_line fault) old new status → (fault ≡ faults.NoMemory → status ≡ statuses.NoMemory)
-    → Followed (ViewCourse octets) old new status
-view_refused octets read (faults.Short at) old new status is h put memory = let exact = rw is at h in said (ViewCourse octets) statuses.Refused (capture_line (faults.Short at)) old new status (ViewCourse.refused (faults.Short at) (sym exact)) put
-view_refused octets read faults.Magic old new status is h put memory = let exact = rw is at h in said (ViewCourse octets) statuses.Refused (capture_line faults.Magic) old new status (ViewCourse.refused faults.Magic (sym exact)) put
-view_refused octets read faults.Version old new status is h put memory = let exact = rw is at h in said (ViewCourse octets) statuses.Refused (capture_line faults.Version) old new status (ViewCourse.refused faults.Version (sym exact)) put
-view_refused octets read faults.LinkType old new status is h put memory = let exact = rw is at h in said (ViewCourse octets) statuses.Refused (capture_line faults.LinkType) old new status (ViewCourse.refused faults.LinkType (sym exact)) put
-view_refused octets read (faults.RecordCut at) old new status is h put memory = let exact = rw is at h in said (ViewCourse octets) statuses.Refused (capture_line (faults.RecordCut at)) old new status (ViewCourse.refused (faults.RecordCut at) (sym exact)) put
-view_refused octets read (faults.RecordTooLong at) old new status is h put memory = let exact = rw is at h in said (ViewCourse octets) statuses.Refused (capture_line (faults.RecordTooLong at)) old new status (ViewCourse.refused (faults.RecordTooLong at) (sym exact)) put
-view_refused octets read faults.NoMemory old new status is h put memory = inl (memory refl)
+pub capture_refused : (octets : List ℕ) (course : Status → List ℕ → Type 0) → ((fault : PcapFault) → capture_read octets ≡ Err fault → course statuses.Refused (capture_line fault)) → (read : Result Capture PcapFault) (fault : PcapFault) (old new : Option (List ℕ)) (status : Status) → read ≡ Err fault → UnlessNoMemory read (read ≡ capture_read octets) → PutAll statuses.Refused (capture_line fault) old new status → (fault ≡ faults.NoMemory → status ≡ statuses.NoMemory)
+    → Followed course old new status
+capture_refused octets course turn read (faults.Short at) old new status is h put memory = let exact = rw is at h in said course statuses.Refused (capture_line (faults.Short at)) old new status (turn (faults.Short at) (sym exact)) put
+capture_refused octets course turn read faults.Magic old new status is h put memory = let exact = rw is at h in said course statuses.Refused (capture_line faults.Magic) old new status (turn faults.Magic (sym exact)) put
+capture_refused octets course turn read faults.Version old new status is h put memory = let exact = rw is at h in said course statuses.Refused (capture_line faults.Version) old new status (turn faults.Version (sym exact)) put
+capture_refused octets course turn read faults.LinkType old new status is h put memory = let exact = rw is at h in said course statuses.Refused (capture_line faults.LinkType) old new status (turn faults.LinkType (sym exact)) put
+capture_refused octets course turn read (faults.RecordCut at) old new status is h put memory = let exact = rw is at h in said course statuses.Refused (capture_line (faults.RecordCut at)) old new status (turn (faults.RecordCut at) (sym exact)) put
+capture_refused octets course turn read (faults.RecordTooLong at) old new status is h put memory = let exact = rw is at h in said course statuses.Refused (capture_line (faults.RecordTooLong at)) old new status (turn (faults.RecordTooLong at) (sym exact)) put
+capture_refused octets course turn read faults.NoMemory old new status is h put memory = inl (memory refl)
 
 -- ---- the words
 
@@ -181,6 +182,11 @@ module _ (words : List (List ℕ)) (table saved : Option Table) (faulted : Type 
   decode_course f is fresh h =
       turned (FileCourse name table faulted (Unit {0}) ViewCourse) (Course words table saved faulted book)
       (λ planned text c. Course.decode planned text f fresh (subst (λ n. FileCourse n table faulted (Unit {0}) ViewCourse planned text) is c)) old new status h
+
+  pub audit_course : form_in words ≡ forms.Audit → name ≡ name_in words → IsNew book → Followed (FileCourse name table faulted (Unit {0}) AuditCourse) old new status → Followed (Course words table saved faulted book) old new status
+  audit_course f is fresh h =
+      turned (FileCourse name table faulted (Unit {0}) AuditCourse) (Course words table saved faulted book)
+      (λ planned text c. Course.audit planned text f fresh (subst (λ n. FileCourse n table faulted (Unit {0}) AuditCourse planned text) is c)) old new status h
 
   pub saved_words : (capture : List ℕ) → form_in words ≡ forms.RunSaved → name ≡ name_in words → capture ≡ saved_in words → Followed (FileCourse name table faulted (IsNew book) (SavedCourse capture table saved faulted book)) old new status
       → Followed (Course words table saved faulted book) old new status
@@ -196,16 +202,17 @@ name_at (a ∷ []) word is other = absurd (other refl)
 name_at (a ∷ b ∷ words) word is other = ap string_bytes is
 
 -- two words don't save a capture
-pair_by : (run decode : Bool) → (if run then forms.Run else (if decode then forms.Decode else forms.Other)) ≡ forms.RunSaved → ⊥
-pair_by true decode is = absurd cc
-pair_by false true is = absurd cc
-pair_by false false is = absurd cc
+pair_by : (run decode audit : Bool) → (if run then forms.Run else (if decode then forms.Decode else (if audit then forms.Audit else forms.Other))) ≡ forms.RunSaved → ⊥
+pair_by true decode audit is = absurd cc
+pair_by false true audit is = absurd cc
+pair_by false false true is = absurd cc
+pair_by false false false is = absurd cc
 
 -- the word behind the second, of a form that saves a capture
 pub saved_at : (words : List (String Global)) (word : String Global) → word ≡ get_or words 2 word → form_in (map string_bytes words) ≡ forms.RunSaved → string_bytes word ≡ saved_in (map string_bytes words)
 saved_at [] word is f = absurd cc
 saved_at (a ∷ []) word is f = absurd cc
-saved_at (a ∷ b ∷ []) word is f = absurd (pair_by (bytes_eq (string_bytes a) (codes "run")) (bytes_eq (string_bytes a) (codes "decode")) f)
+saved_at (a ∷ b ∷ []) word is f = absurd (pair_by (bytes_eq (string_bytes a) (codes "run")) (bytes_eq (string_bytes a) (codes "decode")) (bytes_eq (string_bytes a) (codes "audit")) f)
 saved_at (a ∷ b ∷ d ∷ words) word is f = ap string_bytes is
 
 -- no form is none
@@ -217,3 +224,6 @@ saved_other is = absurd cc
 
 pub decode_other : forms.Other ≡ forms.Decode → ⊥
 decode_other is = absurd cc
+
+pub audit_other : forms.Other ≡ forms.Audit → ⊥
+audit_other is = absurd cc

@@ -1,3 +1,4 @@
+mod Audits
 mod Courses
 mod Causes
 mod Frames

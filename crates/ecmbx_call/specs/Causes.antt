@@ -24,6 +24,9 @@ use Rattle.ecmbx_words.specs.declared.status.Status.{Status}
 use Rattle.ecmbx_words.specs.declared.status.Status.TheVariants as statuses
 use Rattle.ecmbx_words.specs.Form.{form_in, name_in, saved_in}
 use Rattle.ecmbx_words.specs.Ends.{text_of, Ended}
+use Rattle.capture_audit.specs.declared.verdict.Verdict.TheVariants.{No}
+use Rattle.capture_audit.specs.Audit.{verdict_of}
+use Rattle.ecmbx_call.specs.Audits.{verdict_status, verdict_text}
 use Rattle.ecmbx_call.specs.Files.{limit, Holds, IsLong, IsSaved}
 use Rattle.ecmbx_call.specs.Course.{HasRun, status_of}
 
@@ -32,6 +35,7 @@ abbrev pub loaded_by : Form → List ℕ → Option (List ℕ)
 loaded_by forms.Run name = Some name
 loaded_by forms.RunSaved name = Some name
 loaded_by forms.Decode name = Some name
+loaded_by forms.Audit name = Some name
 loaded_by (forms.Make seed size) name = None
 loaded_by forms.Other name = None
 
@@ -42,6 +46,7 @@ loaded_in words = loaded_by (form_in words) (name_in words)
 -- octets that a form refuses
 abbrev pub IsRefused : Form → List ℕ → Type 0
 IsRefused forms.Decode octets = (fault : PcapFault) × (capture_read octets ≡ Err fault)
+IsRefused forms.Audit octets = (fault : PcapFault) × (capture_read octets ≡ Err fault)
 IsRefused _ octets = (e : Refusal) × (plan_of octets ≡ Err e)
 
 -- a status out of some
@@ -77,7 +82,7 @@ LongCause words table status =
     × ((name octets : List ℕ) (files : Table) → loaded_in words ≡ Some name → table ≡ Some files → file_of name files ≡ Some octets → limit < length octets
     → IsAmong (statuses.TooLong ∷ statuses.FileFault ∷ statuses.SinkFault ∷ statuses.NoMemory ∷ []) status)
 
--- Refused comes exactly where the octets are no scenario or, for `decode`, no capture, but for a fault.
+-- Refused comes exactly where the octets are no scenario or, for `decode` and `audit`, no capture, but for a fault.
 abbrev pub RefusedCause : List (List ℕ) → Option Table → Status → Type 0
 RefusedCause words table status =
     (status ≡ statuses.Refused → (name octets : List ℕ) × (loaded_in words ≡ Some name) × Holds table name (Some octets) × IsRefused (form_in words) octets)
@@ -92,6 +97,17 @@ GivenUpCause book status = status ≡ statuses.GivenUp → (plan : Scenario) × 
 abbrev pub SpentCause : Book → Status → Type 0
 SpentCause book status = status ≡ statuses.BudgetSpent → (plan : Scenario) × HasRun plan book × IsSpent plan book
 
+-- a capture with a datagram that breaks a rule
+abbrev pub IsBroken : List ℕ → Type 0
+IsBroken octets = (capture : Capture) × (rule packet : ℕ) × (capture_read octets ≡ Ok capture) × (verdict_of octets capture ≡ No rule packet)
+
+-- AuditNo comes exactly where a capture that is audited breaks a rule, but for a fault.
+abbrev pub BrokenCause : List (List ℕ) → Option Table → Status → Type 0
+BrokenCause words table status =
+    (status ≡ statuses.AuditNo → (form_in words ≡ forms.Audit) × (octets : List ℕ) × Holds table (name_in words) (Some octets) × IsBroken octets)
+    × ((octets : List ℕ) → form_in words ≡ forms.Audit → IsFound words table octets → IsBroken octets
+    → IsAmong (statuses.AuditNo ∷ statuses.FileFault ∷ statuses.SinkFault ∷ statuses.NoMemory ∷ []) status)
+
 -- How a book's run ended, by the status: as the status says, or, where no run began, not at all. After a fault of file or sink, and want of
 -- memory, each is possible but for what the fault's own clause says.
 abbrev pub EndingAt : Status → Ending → Type 0
@@ -102,6 +118,7 @@ EndingAt statuses.Usage ending = ending ≡ endings.Unfinished
 EndingAt statuses.Absent ending = ending ≡ endings.Unfinished
 EndingAt statuses.TooLong ending = ending ≡ endings.Unfinished
 EndingAt statuses.Refused ending = ending ≡ endings.Unfinished
+EndingAt statuses.AuditNo ending = ending ≡ endings.Unfinished
 EndingAt _ ending = Unit {0}
 
 -- no fault came in a call, by the count of faults before it and behind it
@@ -129,6 +146,12 @@ abbrev pub ShowsTo : List (List ℕ) → Option Table → Option (List ℕ) → 
 ShowsTo words table old new status =
     (octets : List ℕ) (capture : Capture) → form_in words ≡ forms.Decode → IsFound words table octets → capture_read octets ≡ Ok capture
     → (status ≡ statuses.NoMemory) ⊎ ((status ≡ statuses.Done) × Wrote old new (view_text octets capture))
+
+-- a capture that is found is audited whole
+abbrev pub AuditsTo : List (List ℕ) → Option Table → Option (List ℕ) → Option (List ℕ) → Status → Type 0
+AuditsTo words table old new status =
+    (octets : List ℕ) (capture : Capture) → form_in words ≡ forms.Audit → IsFound words table octets → capture_read octets ≡ Ok capture
+    → (status ≡ statuses.NoMemory) ⊎ ((status ≡ verdict_status (verdict_of octets capture)) × Wrote old new (verdict_text (verdict_of octets capture)))
 
 -- a scenario is made whole
 abbrev pub MakesTo : List (List ℕ) → Option (List ℕ) → Option (List ℕ) → Status → Type 0

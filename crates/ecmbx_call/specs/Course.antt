@@ -26,6 +26,7 @@ use Rattle.ecmbx_words.specs.Form.{form_in, name_in, saved_in}
 use Rattle.ecmbx_words.specs.Ends.{text_of, Ended}
 use Rattle.ecmbx_words.specs.Texts.{usage_line, refused_line, capture_line}
 pub use Rattle.ecmbx_call.specs.Files.{Followed}
+use Rattle.ecmbx_call.specs.Audits.{AuditCourse}
 use Rattle.ecmbx_call.specs.Files.{Holds, IsSaved, FileCourse}
 
 -- the octets of the words
@@ -74,6 +75,7 @@ pub data Course (words : List (List ℕ)) (table saved : Option Table) (faulted 
   usage : form_in words ≡ forms.Other → IsNew book → Course words table saved faulted book statuses.Usage usage_line
   make : (seed size : ℕ) → form_in words ≡ forms.Make seed size → IsNew book → Course words table saved faulted book statuses.Done (made_text [] seed size)
   decode : (planned : Status) (text : List ℕ) → form_in words ≡ forms.Decode → IsNew book → FileCourse (name_in words) table faulted (Unit {0}) ViewCourse planned text → Course words table saved faulted book planned text
+  audit : (planned : Status) (text : List ℕ) → form_in words ≡ forms.Audit → IsNew book → FileCourse (name_in words) table faulted (Unit {0}) AuditCourse planned text → Course words table saved faulted book planned text
   run : (planned : Status) (text : List ℕ) → form_in words ≡ forms.Run → FileCourse (name_in words) table faulted (IsNew book) (RunCourse book) planned text → Course words table saved faulted book planned text
   run_saved : (planned : Status) (text : List ℕ) → form_in words ≡ forms.RunSaved → FileCourse (name_in words) table faulted (IsNew book) (SavedCourse (saved_in words) table saved faulted book) planned text → Course words table saved faulted book planned text
 
@@ -119,6 +121,11 @@ SavesFile table faults written name capture book files files' out out' status =
 abbrev pub ShowsFile : {F O : Type 0} → (F → Option Table) → (F → ℕ) → (O → Option (List ℕ)) → List ℕ → F → F → O → O → Status → Type 0
 ShowsFile table faults written name files files' out out' status =
     Followed (FileCourse name (table files) (Rose (faults files) (faults files')) (Unit {0}) ViewCourse) (written out) (written out') status
+
+-- the capture under a name is audited
+abbrev pub AuditsFile : {F O : Type 0} → (F → Option Table) → (F → ℕ) → (O → Option (List ℕ)) → List ℕ → F → F → O → O → Status → Type 0
+AuditsFile table faults written name files files' out out' status =
+    Followed (FileCourse name (table files) (Rose (faults files) (faults files')) (Unit {0}) AuditCourse) (written out) (written out') status
 
 -- the words are carried out
 abbrev pub CarriesOut : {F O : Type 0} → (F → Option Table) → (F → ℕ) → (O → Option (List ℕ)) → List (List ℕ) → Book → F → F → O → O → Status → Type 0

@@ -2,6 +2,7 @@
 //! caller.
 #![tactic(auto)]
 
+mod auditing;
 mod loading;
 mod making;
 mod running;

@@ -5,13 +5,13 @@ ghost use Rattle.run_book.specs.Book.{IsNew};
 ghost use Rattle.ecmbx_words.specs.declared.form.Form.TheVariants as forms;
 ghost use Rattle.ecmbx_words.specs.declared.status.Status.TheVariants as statuses;
 ghost use Rattle.ecmbx_words.specs.Form.{form_in, name_in, saved_in};
-ghost use Rattle.ecmbx_call.specs.Course.{words_of, RunsFile, SavesFile, ShowsFile, CarriesOut, Began, BeganIn};
-ghost use Rattle.ecmbx_call.specs.Causes.{UsageCause, AbsentCause, LongCause, RefusedCause, GivenUpCause, SpentCause, EndingAt, IsCalm, IsAnswer, RunsTo, SavesTo, ShowsTo, MakesTo};
+ghost use Rattle.ecmbx_call.specs.Course.{words_of, RunsFile, SavesFile, ShowsFile, AuditsFile, CarriesOut, Began, BeganIn};
+ghost use Rattle.ecmbx_call.specs.Causes.{UsageCause, AbsentCause, LongCause, RefusedCause, GivenUpCause, SpentCause, BrokenCause, EndingAt, IsCalm, IsAnswer, RunsTo, SavesTo, ShowsTo, AuditsTo, MakesTo};
 
 use crate::loading::load;
 use crate::making::make;
 use crate::running::{run_octets, run_saved};
-use crate::viewing::decode;
+use crate::viewing::{audit, decode};
 use ec_outside::{Files, Sink};
 use ecmbx_words::{Form, Status, form_of, say, usage};
 use run_book::Book;
@@ -66,6 +66,17 @@ fn decode_file<F: Files, O: Sink>(alloc: Global, name: &str, files: &mut F, out:
     }
 }
 
+fn audit_file<F: Files, O: Sink>(alloc: Global, name: &str, files: &mut F, out: &mut O) -> Status
+    ensures course { AuditsFile F.table F.file_faults O.written name.now files.old files.new out.old out.new result }
+    ensures sink { result ≡ statuses.SinkFault → Rose (O.sink_faults out.old) (O.sink_faults out.new) }
+    ensures same { F.table files.new ≡ F.table files.old }
+{
+    match load(alloc, name, files, out) {
+        Ok(octets) => audit(alloc, octets.bytes(), out),
+        Err(status) => status,
+    }
+}
+
 fn carry_out<F: Files, O: Sink>(
     alloc: Global,
     words: &[String],
@@ -90,17 +101,18 @@ fn carry_out<F: Files, O: Sink>(
             book,
         ),
         Form::Decode => decode_file(alloc, words[1].as_str(), files, out),
+        Form::Audit => audit_file(alloc, words[1].as_str(), files, out),
         Form::Make { seed, size } => make(alloc, seed, size, out),
         Form::Other => say(out, Status::Usage, usage()),
     }
 }
 
 /// Does what the words say. `run SCENARIO` loads the scenario, runs it, and puts the report, a `put` a line; with CAPTURE behind, the
-/// frames are saved under that name before. `decode CAPTURE` puts the decoding text of a capture, `make SEED SIZE` the text of a scenario.
-/// Every other list of words is `Usage`. The book has what the run left; where no run began it stays new.
+/// frames are saved under that name before. `decode CAPTURE` puts the decoding text of a capture, `audit CAPTURE` whether it obeys the rules of
+/// the mailboxes, `make SEED SIZE` the text of a scenario. Every other list of words is `Usage`. The book has what the run left; where no run began it stays new.
 ///
 /// `Usage` comes exactly where the words are no form, `Absent` and `TooLong` where the load said so, `Refused` where the octets are no
-/// scenario or no capture, `GivenUp` and `BudgetSpent` where the run ended so; `FileFault` and `SinkFault` only where that object's count
+/// scenario or no capture, `AuditNo` where a capture that is audited breaks a rule, `GivenUp` and `BudgetSpent` where the run ended so; `FileFault` and `SinkFault` only where that object's count
 /// of faults rose. Each yields to `SinkFault`, and all to `NoMemory`.
 pub fn ecmbx<F: Files, O: Sink>(
     alloc: Global,
@@ -124,6 +136,9 @@ pub fn ecmbx<F: Files, O: Sink>(
     ensures shows { IsCalm F.file_faults files.old files.new → IsCalm O.sink_faults out.old out.new → ShowsTo (words_of words.now) (F.table files.old) (O.written out.old) (O.written out.new) result }
     ensures makes { IsCalm O.sink_faults out.old out.new → MakesTo (words_of words.now) (O.written out.old) (O.written out.new) result }
 
+    // A found capture that is audited: the lines of its verdict, and the status that goes with it.
+    ensures audits { IsCalm F.file_faults files.old files.new → IsCalm O.sink_faults out.old out.new → AuditsTo (words_of words.now) (F.table files.old) (O.written out.old) (O.written out.new) result }
+
     // When each status comes.
     ensures usage { UsageCause (words_of words.now) result }
     ensures absent { AbsentCause (words_of words.now) (F.table files.old) result }
@@ -131,6 +146,7 @@ pub fn ecmbx<F: Files, O: Sink>(
     ensures refused { RefusedCause (words_of words.now) (F.table files.old) result }
     ensures given_up { GivenUpCause book.new result }
     ensures budget_spent { SpentCause book.new result }
+    ensures audit_no { BrokenCause (words_of words.now) (F.table files.old) result }
     ensures file_fault { result ≡ statuses.FileFault → Rose (F.file_faults files.old) (F.file_faults files.new) }
     ensures sink_fault { result ≡ statuses.SinkFault → Rose (O.sink_faults out.old) (O.sink_faults out.new) }
     ensures answers { IsAnswer result }

@@ -1,4 +1,4 @@
-ghost use Rattle.std.specs.Prelude.{◌≡◌, ◌≢◌, Ok, Err};
+ghost use Rattle.std.specs.Prelude.{◌≡◌, ◌≢◌, ◌≤◌, length, Ok, Err};
 ghost use Rattle.ec_outside.specs.Faults.{Rose};
 ghost use Rattle.pcap_frames.specs.Reading.{capture_read};
 ghost use Rattle.pcap_frames.specs.declared.capture.PcapFault.TheVariants as faults;
@@ -6,8 +6,10 @@ ghost use Rattle.capture_view.specs.View.{view_text};
 ghost use Rattle.ecmbx_words.specs.Ends.{PutAll};
 ghost use Rattle.ecmbx_words.specs.Texts.{capture_line};
 ghost use Rattle.ecmbx_words.specs.declared.status.Status.TheVariants as statuses;
+ghost use Rattle.ecmbx_call.specs.Audits.{AuditCourse};
 ghost use Rattle.ecmbx_call.specs.Course.{Followed, ViewCourse};
 
+use crate::auditing::audit_capture;
 use capture_view::view;
 use ec_outside::{Sink, SinkErr};
 use ecmbx_words::{Status, capture_refusal, say};
@@ -34,6 +36,18 @@ fn show<O: Sink>(alloc: Global, octets: &[u8], capture: &Capture, out: &mut O) -
         Ok(()) => Status::Done,
         Err(SinkErr::Failed) => Status::SinkFault,
         Err(SinkErr::NoMemory) => Status::NoMemory,
+    }
+}
+
+/// Puts the audit of a capture, or why the octets are none.
+pub fn audit<O: Sink>(alloc: Global, octets: &[u8], out: &mut O) -> Status
+    requires { length octets.now ≤ 16777216 }
+    ensures course { Followed (AuditCourse octets.now) (O.written out.old) (O.written out.new) result }
+    ensures sink { result ≡ statuses.SinkFault → Rose (O.sink_faults out.old) (O.sink_faults out.new) }
+{
+    match read(alloc, octets) {
+        Ok(capture) => audit_capture(alloc, octets, &capture, out),
+        Err(fault) => refuse(alloc, fault, out),
     }
 }
 

@@ -4,7 +4,7 @@ use Rattle.scenario_made.specs.Made.{text_of}
 use Rattle.ecmbx_words.specs.declared.status.Status.TheVariants as statuses
 use Rattle.ecmbx_words.specs.Texts.{usage_line}
 use Rattle.ecmbx_call.specs.Course.{words_of, Course}
-use Rattle.ecmbx_call.proofs.Courses.{said, run_course, decode_course, saved_words, name_at, saved_at, run_other, saved_other, decode_other}
+use Rattle.ecmbx_call.proofs.Courses.{said, run_course, decode_course, audit_course, saved_words, name_at, saved_at, run_other, saved_other, decode_other, audit_other}
 use Rattle.ecmbx_call.proofs.top.carry_out.Goals as goal
 
 pub returns-in-Run-clause-course : goal.returns-in-Run-clause-course
@@ -22,6 +22,11 @@ pub returns-in-Decode-clause-course : goal.returns-in-Decode-clause-course
 returns-in-Decode-clause-course g c =
     decode_course (words_of c.args.words.now) (g.F.Files.table c.args.files.now) (g.F.Files.table c.decode_file.new.files) (Rose (g.F.Files.file_faults c.args.files.now) (g.F.Files.file_faults c.decode_file.new.files)) c.args.book.now c.as_str-in-Decode.result.now
     (g.O.Sink.written c.args.out.now) (g.O.Sink.written c.decode_file.new.out) c.decode_file.result (sym c.in-Decode.ensures) (c.as_str-in-Decode.ensures.value ∙ name_at c.args.words.now c.index-words-1-in-Decode.result c.index-words-1-in-Decode.is (λ other. absurd (decode_other (sym other ∙ sym c.in-Decode.ensures)))) c.requires c.decode_file.ensures.course
+
+pub returns-in-Audit-clause-course : goal.returns-in-Audit-clause-course
+returns-in-Audit-clause-course g c =
+    audit_course (words_of c.args.words.now) (g.F.Files.table c.args.files.now) (g.F.Files.table c.audit_file.new.files) (Rose (g.F.Files.file_faults c.args.files.now) (g.F.Files.file_faults c.audit_file.new.files)) c.args.book.now c.as_str-in-Audit.result.now
+    (g.O.Sink.written c.args.out.now) (g.O.Sink.written c.audit_file.new.out) c.audit_file.result (sym c.in-Audit.ensures) (c.as_str-in-Audit.ensures.value ∙ name_at c.args.words.now c.index-words-1-in-Audit.result c.index-words-1-in-Audit.is (λ other. absurd (audit_other (sym other ∙ sym c.in-Audit.ensures)))) c.requires c.audit_file.ensures.course
 
 pub returns-in-Make-clause-course : goal.returns-in-Make-clause-course
 returns-in-Make-clause-course g c =

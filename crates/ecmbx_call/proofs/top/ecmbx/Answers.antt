@@ -1,6 +1,6 @@
 use Rattle.ec_outside.specs.Faults.{Rose}
 use Rattle.ecmbx_call.specs.Course.{words_of}
-use Rattle.ecmbx_call.proofs.Causes.{usage_cause, absent_cause, long_cause, refused_cause, given_up_cause, spent_cause, file_fault_cause, answers_are, ending_is, runs_to, saves_to, shows_to, makes_to}
+use Rattle.ecmbx_call.proofs.Causes.{usage_cause, absent_cause, long_cause, refused_cause, broken_cause, given_up_cause, spent_cause, file_fault_cause, answers_are, ending_is, runs_to, saves_to, shows_to, audits_to, makes_to}
 use Rattle.ecmbx_call.proofs.top.ecmbx.Goals as goal
 
 pub returns-clause-runs : goal.returns-clause-runs
@@ -16,6 +16,11 @@ returns-clause-saves g c =
 pub returns-clause-shows : goal.returns-clause-shows
 returns-clause-shows g c =
     λ calm quiet. shows_to (words_of c.args.words.now) (g.F.Files.table c.args.files.now) (g.F.Files.table c.carry_out.new.files) (Rose (g.F.Files.file_faults c.args.files.now) (g.F.Files.file_faults c.carry_out.new.files)) c.carry_out.new.book
+    (g.O.Sink.written c.args.out.now) (g.O.Sink.written c.carry_out.new.out) c.carry_out.result (Rose (g.O.Sink.sink_faults c.args.out.now) (g.O.Sink.sink_faults c.carry_out.new.out)) c.carry_out.ensures.sink quiet calm c.carry_out.ensures.course
+
+pub returns-clause-audits : goal.returns-clause-audits
+returns-clause-audits g c =
+    λ calm quiet. audits_to (words_of c.args.words.now) (g.F.Files.table c.args.files.now) (g.F.Files.table c.carry_out.new.files) (Rose (g.F.Files.file_faults c.args.files.now) (g.F.Files.file_faults c.carry_out.new.files)) c.carry_out.new.book
     (g.O.Sink.written c.args.out.now) (g.O.Sink.written c.carry_out.new.out) c.carry_out.result (Rose (g.O.Sink.sink_faults c.args.out.now) (g.O.Sink.sink_faults c.carry_out.new.out)) c.carry_out.ensures.sink quiet calm c.carry_out.ensures.course
 
 pub returns-clause-makes : goal.returns-clause-makes
@@ -41,6 +46,11 @@ returns-clause-too_long g c =
 pub returns-clause-refused : goal.returns-clause-refused
 returns-clause-refused g c =
     refused_cause (words_of c.args.words.now) (g.F.Files.table c.args.files.now) (g.F.Files.table c.carry_out.new.files) (Rose (g.F.Files.file_faults c.args.files.now) (g.F.Files.file_faults c.carry_out.new.files)) c.carry_out.new.book
+    (g.O.Sink.written c.args.out.now) (g.O.Sink.written c.carry_out.new.out) c.carry_out.result c.carry_out.ensures.course
+
+pub returns-clause-audit_no : goal.returns-clause-audit_no
+returns-clause-audit_no g c =
+    broken_cause (words_of c.args.words.now) (g.F.Files.table c.args.files.now) (g.F.Files.table c.carry_out.new.files) (Rose (g.F.Files.file_faults c.args.files.now) (g.F.Files.file_faults c.carry_out.new.files)) c.carry_out.new.book
     (g.O.Sink.written c.args.out.now) (g.O.Sink.written c.carry_out.new.out) c.carry_out.result c.carry_out.ensures.course
 
 pub returns-clause-given_up : goal.returns-clause-given_up

@@ -2,8 +2,8 @@ use Rattle.std.proofs.Common.{sym}
 use Rattle.capture_view.specs.View.{view_text}
 use Rattle.ecmbx_words.specs.declared.status.Status.TheVariants as statuses
 use Rattle.ecmbx_call.specs.Course.{ViewCourse}
-use Rattle.ecmbx_call.specs.Course.ViewCourse.{shown}
-use Rattle.ecmbx_call.proofs.Courses.{said, view_refused}
+use Rattle.ecmbx_call.specs.Course.ViewCourse.{shown, refused}
+use Rattle.ecmbx_call.proofs.Courses.{said, capture_refused}
 use Rattle.ecmbx_call.proofs.viewing.decode.Goals as goal
 
 pub returns-in-Ok-clause-course : goal.returns-in-Ok-clause-course
@@ -12,4 +12,4 @@ returns-in-Ok-clause-course g c =
 
 pub returns-in-Err-clause-course : goal.returns-in-Err-clause-course
 returns-in-Err-clause-course g c =
-    view_refused c.args.octets.now c.read.result c.in-Err.fault (g.O.Sink.written c.args.out.now) (g.O.Sink.written c.refuse.new.out) c.refuse.result c.in-Err.is c.read.ensures.exact c.refuse.ensures.put c.refuse.ensures.memory
+    capture_refused c.args.octets.now (ViewCourse c.args.octets.now) (λ fault is. refused fault is) c.read.result c.in-Err.fault (g.O.Sink.written c.args.out.now) (g.O.Sink.written c.refuse.new.out) c.refuse.result c.in-Err.is c.read.ensures.exact c.refuse.ensures.put c.refuse.ensures.memory
