@@ -1,7 +1,6 @@
 -- The lines of an audit, and how many packets a file has.
 use Rattle.std.proofs.Common.{◌≡◌, ℕ, suc, ◌+◌, ◌<◌, ◌≤◌, List, [], ◌∷◌, ◌++◌, length, map, take, get_or, Ok, Result, Err, refl, sym, ap, ◌∙◌, arith, length-append, Bool}
 use Rattle.std.proofs.lemmas.List.{take_more}
-use Rattle.byteorder.specs.Endian.{little_bytes, big_bytes}
 use Rattle.ec_fields.proofs.Cells.{AreOctets}
 use Rattle.pcap_frames.specs.declared.capture.Capture.{Capture}
 use Rattle.pcap_frames.specs.declared.capture.PacketAt.{PacketAt}

@@ -256,7 +256,7 @@ module _ (words : List (List ℕ)) (table saved : Option Table) (faulted : Type 
   told_broken (Told.shown name octets capture f said holds fits read fresh is text) e = absurd cc
   told_broken (Told.passed name octets capture stations f said holds fits read verdict fresh is text) e = absurd cc
   told_broken (Told.failed name octets capture rule packet f said holds fits read verdict fresh is text) e =
-      (f, octets, subst (λ n. Holds table n (Some octets)) (sym (audit_name (form_in words) (name_in words) name f said)) holds, capture, rule, packet, read, verdict)
+      (f, octets, subst (λ n. Holds table n (Some octets)) (sym (audit_name (form_in words) (name_in words) name f said)) holds, (capture, rule, packet, read, verdict))
   told_broken (Told.ran name octets plan f said holds fits read run is text) e = absurd (ends_not statuses.AuditNo planned book.ending refl is e)
   told_broken (Told.kept name octets plan f said holds fits read run file is text) e = absurd (ends_not statuses.AuditNo planned book.ending refl is e)
 
