@@ -49,6 +49,9 @@ fn a_broken_rule_is_told(rt: HostRuntime) -> Result<(), Fail> {
     let alloc = rt.alloc();
     let files = saved(alloc, SERVED)?;
     let octets = files.get("a.pcap").unwrap_or(b"");
+    if octets.len() <= MANAGER_BACK {
+        return Err(Fail::new(format_args!("{} octets", octets.len())));
+    }
     let mut broken = Octets::copy_of(alloc, &octets[..MANAGER_BACK])?;
     broken.add(b"\x00")?;
     broken.add(&octets[MANAGER_BACK + 1..])?;
@@ -58,5 +61,10 @@ fn a_broken_rule_is_told(rt: HostRuntime) -> Result<(), Fail> {
         Status::AuditNo,
         "audit no A5 at 10\n",
     )?;
-    check(alloc, &octets[..100], Status::Refused, "refused P5 at 24\n")
+    check(
+        alloc,
+        &octets[..MANAGER_BACK],
+        Status::Refused,
+        "refused P5 at 252\n",
+    )
 }
