@@ -189,6 +189,7 @@ impl<H: Hand> Side<H> {
         ensures shown { (x : Speech Body H.Asked Reply) (d : Seats.Side Body H.Asked Reply) (a : Account H.Asked Reply) → SideShows (H.shows self.old.hand x) self.old.out self.old.inn self.old.fresh self.old.duty d a →
             Holds x d (λ e. SideShows (H.shows self.new.hand x) self.new.out self.new.inn self.new.fresh self.new.duty e a) }
         ensures link { SameLink self.old.out self.old.inn self.old.station self.old.area self.new.out self.new.inn self.new.station self.new.area }
+        ensures script { H.script self.new.hand ≡ H.script self.old.hand }
         ensures passing { self.new.passing ≡ self.old.passing }
     {
         match wish {
@@ -210,7 +211,7 @@ impl<H: Hand> Side<H> {
             Meant self.old.station self.new.carried d.halves (duty_access a.hand) (datagram_seen lens (visit_gram self.old.station index self.old.out self.old.inn self.old.duty self.new.carried)) }
         ensures full { result ≡ false → frame.new.items ≡ frame.old.items }
         ensures kept { SameSide self.old.out self.old.inn self.old.fresh self.old.duty self.new.out self.new.inn self.new.fresh self.new.duty }
-        ensures hand { self.new.hand ≡ self.old.hand }
+        ensures hand { (self.new.hand ≡ self.old.hand) × (self.new.passing ≡ self.old.passing) }
         ensures link { (self.new.station ≡ self.old.station) × (self.new.area ≡ self.old.area) }
     {
         self.heard = None;
