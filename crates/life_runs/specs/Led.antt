@@ -19,6 +19,7 @@ use Rattle.segment_plan.specs.declared.service.Service as Plan
 use Rattle.segment_ring.specs.declared.wire.Fate.{Fate}
 use Rattle.segment_ring.specs.declared.wire.Fate.TheVariants.{Pass, Lost}
 use Rattle.state_exchange.specs.Stated.{Service}
+use Rattle.task_model.specs.Accounts.{Account, starts}
 
 -- a frame as it went round: its octets, its fate, and what came back
 pub record Exchanged : Type 0 where
@@ -43,6 +44,11 @@ pub data Comes (room : ℕ) (script : List Plan.Service) (n : ℕ) : Option (Ser
   state : (target : ℕ) → slice_get script n ≡ Some (Plan.Service.State target) → Comes room script n (Some (Service.State (target % 16))) (suc n)
   packet : (octets : List ℕ) (frame : ℕ) → Comes room script n (Some (Service.Mails (net (EoeClient.packet octets frame)))) n
 
+-- A SERVICE THAT BEGAN CAME INTO HAND: it is the newest of the account. So none is skipped
+abbrev pub Took : {Q R : Type 0} → ℕ → Account Q R → Account Q R → Option (Service Q) → Type 0
+Took made old new None = ⊤
+Took made old new (Some s) = new.started ≡ starts old s made
+
 -- a slave as its master leads it: its script, the number of the script's next service, and its life
 pub record Leads : Type 0 where
   pub script : List Plan.Service
@@ -65,6 +71,7 @@ module _ (lens : ℕ → Lens) where
     pub comes : Comes (lens a.lived.spot.station).out a.script a.number u.begun u.number
     pub next : IsNext (speech_at lens a.lived.spot) acknowledged is_followed is_passed made a.lived u.lived
     pub begun : next.pick.begin ≡ u.begun
+    pub took : Took made a.lived.life.era.account u.lived.life.era.account u.begun
     pub asked : Asked lens ds u.lived u.share
 
   abbrev pub AllTurn : ℕ → List Raw.Datagram → List Leads → List Turn → Type 0
