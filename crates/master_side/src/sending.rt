@@ -192,6 +192,7 @@ impl<H: Hand> Side<H> {
         ensures shown { (x : Speech Body H.Asked Reply) (d : Seats.Side Body H.Asked Reply) (a : Account H.Asked Reply) → SideShows (H.shows self.old.hand x) self.old.out self.old.inn self.old.fresh self.old.duty d a →
             Holds x d (λ e. SideShows (H.shows self.new.hand x) self.new.out self.new.inn self.new.fresh self.new.duty e a) }
         ensures link { SameLink self.old.out self.old.inn self.old.station self.old.area self.new.out self.new.inn self.new.station self.new.area }
+        ensures script { H.script self.new.hand ≡ H.script self.old.hand }
         ensures passing { self.new.passing ≡ self.old.passing }
         ensures most { result ≤ 1486 }
     {
@@ -215,7 +216,7 @@ impl<H: Hand> Side<H> {
         ensures full { result ≡ false → frame.new.items ≡ frame.old.items }
         ensures room { length frame.old.items ≡ 16 → result ≡ true }
         ensures kept { SameSide self.old.out self.old.inn self.old.fresh self.old.duty self.new.out self.new.inn self.new.fresh self.new.duty }
-        ensures hand { self.new.hand ≡ self.old.hand }
+        ensures hand { (self.new.hand ≡ self.old.hand) × (self.new.passing ≡ self.old.passing) }
         ensures link { (self.new.station ≡ self.old.station) × (self.new.area ≡ self.old.area) }
     {
         self.heard = None;
