@@ -76,6 +76,7 @@ impl InHand {
     fn stray(&mut self) -> Heard
         ensures course { self.new.course ≡ Course.Astray }
         ensures areas { self.new.clients.areas ≡ self.old.clients.areas }
+        ensures laying { self.new.laying ≡ self.old.laying }
     {
         self.course = Course::Astray;
         Heard::Foreign
@@ -88,6 +89,7 @@ impl InHand {
         ensures shown { (frame : ℕ) (now : Option (Row Body Asked Reply)) → emission (body_of (mail_seen mail.now)) ≡ false → HandShows self.old.course self.old.which self.old.clients now →
             HandShows self.new.course self.new.which self.new.clients (option_map (λ r. row_heard (hand_speech self.old.clients.areas) frame (body_of (mail_seen mail.now) ∷ []) r) now) }
         ensures areas { self.new.clients.areas ≡ self.old.clients.areas }
+        ensures laying { self.new.laying ≡ self.old.laying }
     {
         self.found.keep(mail);
         let took = self.clients.take(self.which, &self.found.mail);

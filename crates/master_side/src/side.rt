@@ -181,6 +181,7 @@ impl<H: Hand> Side<H> {
         ensures picked { (x : Speech Body H.Asked Reply) (made : ℕ) (d : Seats.Side Body H.Asked Reply) (a : Account H.Asked Reply) → SideShows (H.shows self.old.hand x) self.old.out self.old.inn self.old.fresh self.old.duty d a → is_free x d d.now ≡ true → self.old.duty ≡ None →
             Begins x H.acknowledged made d a (wish_begun result (Some Wish.Mails) (H.ready self.old.hand)) (λ e b. SideShows (H.shows self.new.hand x) self.new.out self.new.inn self.new.fresh self.new.duty e b) }
         ensures link { SameLink self.old.out self.old.inn self.old.station self.old.area self.new.out self.new.inn self.new.station self.new.area }
+        ensures did { result ≡ is_some (H.ready self.old.hand) }
         ensures script { H.script self.new.hand ≡ (if result then H.behind self.old.hand else H.script self.old.hand) }
         ensures unpassed { (result ≡ true → (q : H.Asked) → H.ready self.old.hand ≡ Some q → H.passed q ≡ false) → self.new.passing ≡ None }
     {
@@ -210,6 +211,7 @@ impl<H: Hand> Side<H> {
             Begins x H.acknowledged made d a (wish_begun result wish (H.ready self.old.hand)) (λ e b. SideShows (H.shows self.new.hand x) self.new.out self.new.inn self.new.fresh self.new.duty e b) }
         ensures link { SameLink self.old.out self.old.inn self.old.station self.old.area self.new.out self.new.inn self.new.station self.new.area }
         ensures waits { is_some self.old.passing ≡ true → (result ≡ false) × (self.new ≡ self.old) }
+        ensures ready { takes_ready result wish ≡ true → is_some (H.ready self.old.hand) ≡ true }
         ensures script { H.script self.new.hand ≡ (if takes_ready result wish then H.behind self.old.hand else H.script self.old.hand) }
         ensures unpassed { self.old.passing ≡ None → (takes_ready result wish ≡ true → (q : H.Asked) → H.ready self.old.hand ≡ Some q → H.passed q ≡ false) → self.new.passing ≡ None }
     {
@@ -237,6 +239,7 @@ impl<H: Hand> Side<H> {
         ensures still { is_some self.old.passing ≡ true → result ≡ false }
         ensures waits { is_some self.old.passing ≡ true → (x : Speech Body H.Asked Reply) (d : Seats.Side Body H.Asked Reply) (a : Account H.Asked Reply) → SideShows (H.shows self.old.hand x) self.old.out self.old.inn self.old.fresh self.old.duty d a →
             Holds x d (λ e. SideShows (H.shows self.new.hand x) self.new.out self.new.inn self.new.fresh self.new.duty e a) }
+        ensures ready { takes_ready result wish ≡ true → is_some (H.ready self.old.hand) ≡ true }
         ensures script { H.script self.new.hand ≡ (if takes_ready result wish then H.behind self.old.hand else H.script self.old.hand) }
         ensures unpassed { self.old.passing ≡ None → (takes_ready result wish ≡ true → (q : H.Asked) → H.ready self.old.hand ≡ Some q → H.passed q ≡ false) → self.new.passing ≡ None }
     {
