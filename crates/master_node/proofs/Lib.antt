@@ -6,3 +6,4 @@ pub mod Kepts
 pub mod Goings
 pub mod Firsts
 pub mod Lefts
+pub mod Cames

@@ -359,10 +359,13 @@ impl<H: Hand> Tour<H> {
     fn opened_behind(&self) -> usize
         ensures { result ≡ opened_behind (λ s. is_opened s.stand) self.now.opened self.now.stops.items }
     {
-        if self.opened < self.stops.len() && !self.stops[self.opened].is_opened() {
-            self.opened + 1
-        } else {
+        if self.opened >= self.stops.len() {
+            return self.opened;
+        }
+        if self.stops[self.opened].is_opened() {
             self.opened
+        } else {
+            self.opened + 1
         }
     }
 
