@@ -6,7 +6,8 @@ use Rattle.std.proofs.lemmas.Bool.{ltb-true, ltb-false, lt-ltb, le-ltb}
 use Rattle.std.specs.Prelude.{All}
 use Rattle.std.proofs.lemmas.List.Elements.{All-nil, All-cons}
 use Rattle.std.proofs.lemmas.List.Folds.{list_any_none}
-use Rattle.master_tour.specs.Goes.{holds_at, BeginsLive}
+use Rattle.std.specs.Prelude.{◌&&◌, not}
+use Rattle.master_tour.specs.Goes.{holds_at, BeginsLive, opened_behind}
 use Rattle.master_tour.specs.Orders.{place_in}
 
 -- what holds somewhere is inside
@@ -58,3 +59,17 @@ begins_some live (p ∷ ps) opened ss b = omega arith
 pub begins_at : {S : Type 0} (live : S → Bool) (visit : List ℕ) (opened : ℕ) (ss : List S) (i d : ℕ) → i ≡ 0 → BeginsLive live true visit opened ss → holds_at live ss (get_or visit i d) ≡ true
 begins_at live [] opened ss i d e b = absurd b
 begins_at live (p ∷ ps) opened ss i d e b = subst (λ z. holds_at live ss (get_or (p ∷ ps) z d) ≡ true) (sym e) b
+
+-- how many have ended their first bring-up
+module _ {S : Type 0} (opens : S → Bool) (opened : ℕ) (ss : List S) where
+  by_both : (x y : Bool) → nat_lt opened (length ss) ≡ x → holds_at opens ss opened ≡ y → opened_behind opens opened ss ≡ (if x && not y then opened + 1 else opened)
+  by_both x y p q = ap (λ z. if z && not (holds_at opens ss opened) then opened + 1 else opened) p ∙ ap (λ z. if x && not z then opened + 1 else opened) q
+
+  pub opened_more : opened < length ss → holds_at opens ss opened ≡ false → opened_behind opens opened ss ≡ opened + 1
+  opened_more l e = by_both true false (lt-ltb opened (length ss) l) e
+
+  pub opened_here : opened < length ss → holds_at opens ss opened ≡ true → opened_behind opens opened ss ≡ opened
+  opened_here l e = by_both true true (lt-ltb opened (length ss) l) e
+
+  pub opened_out : length ss ≤ opened → opened_behind opens opened ss ≡ opened
+  opened_out l = by_both false (holds_at opens ss opened) (le-ltb opened (length ss) l) refl

@@ -132,7 +132,7 @@ impl<H: Hand> Stop<H> {
     ghost use Rattle.al_state.specs.BringUp.{head_of, octets_of};
     ghost use Rattle.master_tour.specs.Under.{Under};
     ghost use Rattle.master_tour.specs.Cursor.{IsAtOne};
-    ghost use Rattle.master_tour.specs.Goes.{is_live};
+    ghost use Rattle.master_tour.specs.Goes.{is_live, is_opened};
     ghost use Rattle.master_tour.specs.Stands.{StopShows, FollowShows, IsMet, IsSpot, StandUnder, came_at, given_where, stand_gram, StandMeant, NextShows, HoldShows};
     ghost use Rattle.std.specs.Prelude.{is_some, ◌&&◌};
     ghost use Rattle.segment_model.specs.Returned.{Returns};
@@ -145,6 +145,20 @@ impl<H: Hand> Stop<H> {
     ghost use Rattle.master_side.specs.Shown.{new_side};
     ghost use Rattle.std.specs.Prelude.{Bool, Option, Some, if◌then◌else◌};
     ghost use Rattle.master_tour.specs.declared.stop.Stand.{Stand};
+
+    /// Whether it gets datagrams: it was not given up for good.
+    pub fn is_live(&self) -> bool
+        ensures { result ≡ is_live self.now.stand }
+    {
+        !matches!(self.stand, Stand::Gone)
+    }
+
+    /// Whether it is brought up, or opened anew.
+    pub fn is_opened(&self) -> bool
+        ensures { result ≡ is_opened self.now.stand }
+    {
+        matches!(self.stand, Stand::Opening(_))
+    }
 
     /// Its datagram of the frame that came back, while it is open. `made` is the frame's number.
     pub fn open_back(&mut self, cursor: &mut Cursor, octets: &[u8], made: u32)

@@ -1,7 +1,7 @@
 ghost use Rattle.std.specs.Prelude.{◌≡◌, ℕ, List};
 
 use crate::cursor::Cursor;
-use crate::stop::{Stand, Stop};
+use crate::stop::Stop;
 use arrayvec::ArrayVec;
 use datagrams::FrameBuf;
 use master_side::{Hand, Wish};
@@ -165,7 +165,7 @@ impl<H: Hand> Tour<H> {
         ensures none { result ≡ None → (k : ℕ) → self.now.passed ≤ k → k < length self.now.stops.items → holds_at (λ s. is_live s.stand) self.now.stops.items (place_in (start_of (length self.now.stops.items) self.now.last) (length self.now.stops.items) k) ≡ false }
     {
         for k in self.passed..self.stops.len() {
-            if !matches!(self.stops[self.place_of(k)].stand, Stand::Gone) {
+            if self.stops[self.place_of(k)].is_live() {
                 return Some(k);
             }
         }
@@ -357,12 +357,13 @@ impl<H: Hand> Tour<H> {
     fn opened_behind(&self) -> usize
         ensures { result ≡ opened_behind (λ s. is_opened s.stand) self.now.opened self.now.stops.items }
     {
-        if self.opened < self.stops.len()
-            && !matches!(self.stops[self.opened].stand, Stand::Opening(_))
-        {
-            self.opened + 1
-        } else {
+        if self.opened >= self.stops.len() {
+            return self.opened;
+        }
+        if self.stops[self.opened].is_opened() {
             self.opened
+        } else {
+            self.opened + 1
         }
     }
 

@@ -17,6 +17,8 @@ use Rattle.master_side.specs.Sent.{SameLink}
 use Rattle.master_tour.specs.Made.{IsClearFor, ComesAt}
 use Rattle.life_frames.proofs.Frames.{apart_back}
 use Rattle.std.proofs.lemmas.List.{get_or-set_same}
+use Rattle.master_tour.specs.Goes.{is_live}
+use Rattle.master_tour.proofs.Goes.{holds_here}
 use Rattle.master_tour.proofs.Orders.{counted_carried}
 use Rattle.master_tour.proofs.Steps.{frame_grows}
 use Rattle.master_tour.proofs.Mades.{made_visit, made_other, grown_of}
@@ -74,3 +76,10 @@ returns-clause-visits g c = λ l.
     let s = c.args.self.now in
     let w = c.carry_where.new.self in
     counted_carried c.index.result.now.under s.again s.count w.count c.args.place s.visit.items w.visit.items (c.carry_where.ensures.visits l) c.carry_where.ensures.carried c.carry_where.ensures.still
+
+pub returns-clause-first : goal.returns-clause-first
+returns-clause-first g c = λ e live.
+    let s = c.args.self.now in
+    let same = c.index.ensures ∙ get_or-set_same s.stops.items c.args.place c.visit-began.new.self c.index.result.now c.requires.inside in
+    let here = holds_here (λ t. is_live t.stand) s.stops.items c.args.place c.index_mut.result.now c.requires.inside c.index_mut.ensures.value in
+    c.carry_where.ensures.carried (ap (λ z. z.under) same ∙ c.visit-began.ensures.first e (here ∙ live))
