@@ -1,0 +1,3 @@
+mod Epochs
+mod Came
+mod Served

@@ -1,0 +1,21 @@
+//! What a run of a plan's ring promises of each slave. No running code: the function here does nothing, and its contract states a law.
+#![tactic(auto)]
+
+ghost use Rattle.std.specs.Prelude.{ℕ, List};
+ghost use Rattle.life_runs.specs.First.{lens_of, first_leads};
+ghost use Rattle.life_runs.specs.Led.{Exchanged, Leads, IsLed};
+ghost use Rattle.segment_plan.specs.Sound.{IsPlan};
+ghost use Rattle.segment_plan.specs.declared.plan.Scenario.{Scenario};
+ghost use Rattle.run_lives.specs.Lives.{IsKnown};
+ghost use Rattle.run_lives.specs.Round.{ring_of, AllRound, ring_after};
+ghost use Rattle.run_promises.specs.Slaves.{AllServed};
+
+/// THE PROMISE OF A RUN, whatever frames are lost: of each slave just the first services of its script came into hand, with the packets of its port
+/// among them, and its application, which is that of the ring's node behind the frames, has carried out in each epoch just the first of these, each
+/// once and in order; each reply is that application's; and where nothing is left of an open slave all of them are carried out.
+pub fn run_promise_law()
+    ensures { (plan : Scenario) → IsPlan plan → IsKnown plan → (fs : List Exchanged) (missed : ℕ) (as' : List Leads) →
+        IsLed (lens_of plan.slaves) plan.recover plan.retry (first_leads plan) fs missed as' → AllRound (ring_of plan) fs → AllServed plan fs 0 plan.slaves as' (ring_after (ring_of plan) fs).nodes }
+{
+    run_lives::run_lives_law();
+}
