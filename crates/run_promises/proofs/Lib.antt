@@ -1,3 +1,4 @@
 mod Epochs
 mod Came
+mod Firsts
 mod Served

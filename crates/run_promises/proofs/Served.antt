@@ -24,6 +24,7 @@ use Rattle.run_promises.specs.Epochs.{IsKeptLife}
 use Rattle.run_promises.specs.Slaves.{services_of, IsServed, AllServed}
 use Rattle.run_promises.proofs.Came.{HasCome, AllCome}
 use Rattle.run_promises.proofs.Epochs.{kept_life}
+use Rattle.run_promises.proofs.Firsts.{firsts}
 
 module _ (plan : Scenario) (fs : List Exchanged) where
   abbrev lens : ℕ → Lens
@@ -42,8 +43,10 @@ module _ (plan : Scenario) (fs : List Exchanged) where
       let by_spot = subst (λ spot. IsKeptLife (services_of plan s) is_followed spot m.clearing.cleared gs m.first m.life m.node) x.is.spot by_services in
       let by_clearing = subst (λ c. IsKeptLife (services_of plan s) is_followed (spot_of place s) c.cleared gs m.first m.life m.node) x.is.clearing by_spot in
       let by_first = subst (λ first. IsKeptLife (services_of plan s) is_followed (spot_of place s) real_clearing.cleared gs first m.life m.node) x.is.first by_clearing in
+      let came = subst (λ (room : ℕ). Came room (script_for place plan.services) a.number (life_started a.lived.life)) out come.came in
       record {
-        came = subst (λ (room : ℕ). Came room (script_for place plan.services) a.number (life_started a.lived.life)) out come.came;
+        came = came;
+        firsts = firsts s.out_len (script_for place plan.services) a.number (life_started a.lived.life) came;
         life = subst (λ (l : Life Body Asked Reply). IsKeptLife (services_of plan s) is_followed (spot_of place s) real_clearing.cleared gs (first_app s) l m.node) (ap (λ (l : Lived Asked Reply). l.life) x.lived) by_first;
       }
 

@@ -20,7 +20,7 @@ use Rattle.slave_server.specs.Spec.{profile_of}
 use Rattle.slave_steps.specs.Node.{Node}
 use Rattle.state_exchange.specs.Families.{InState}
 use Rattle.run_lives.specs.Round.{all_seen}
-use Rattle.run_promises.specs.Came.{Came}
+use Rattle.run_promises.specs.Came.{Came, AreFirst}
 use Rattle.run_promises.specs.Epochs.{IsKeptLife}
 
 -- the services of a plan's slave, as its master asks for them
@@ -31,6 +31,7 @@ services_of plan s = asked (profile_of s) s.boot (lens_of plan.slaves)
 -- in each epoch of its life its application has carried out just the first of these, each once and in order, from the application of the plan on
 pub record IsServed (plan : Scenario) (fs : List Exchanged) (place : ℕ) (s : SlaveSpec) (a : Leads) (n : Node Serving) : Type 0 where
   pub came : Came s.out_len (script_for place plan.services) a.number (life_started a.lived.life)
+  pub firsts : AreFirst s.out_len (script_for place plan.services) a.number (life_started a.lived.life)
   pub life : IsKeptLife (services_of plan s) is_followed (spot_of place s) real_clearing.cleared (all_seen (lens_of plan.slaves) fs) (first_app s) a.lived.life n
 
 -- OF ALL OF THEM, from a place on
