@@ -29,7 +29,7 @@ use Rattle.task_model.specs.Promise.{services_in}
 use Rattle.run_promises.specs.Came.{Came}
 
 -- none or one
-abbrev listed : Option (Service Asked) → List (Service Asked)
+abbrev pub listed : Option (Service Asked) → List (Service Asked)
 listed None = []
 listed (Some q) = q ∷ []
 
@@ -61,7 +61,7 @@ module _ {M Q R : Type 0} (x : Speech M Q R) (ack : Q → Bool) (more : M → Bo
 
 -- A TURN: what came into hand is the newest
 module _ (lens : ℕ → Lens) (made : ℕ) (ds : List Raw.Datagram) (a : Leads) (t : Turn) (y : IsTurn lens made ds a t) where
-  past_is : t.lived.life.past ≡ a.lived.life.past
+  pub past_is : t.lived.life.past ≡ a.lived.life.past
   past_is = ap (λ (l : Life Body Asked Reply). l.past) y.next.life ∙ past_stays (speech_at lens a.lived.spot) acknowledged is_followed is_passed made a.lived.life y.next.pick a.lived.life.stand
 
   started_is : (b : Option (Service Asked)) → t.begun ≡ b → Took made a.lived.life.era.account t.lived.life.era.account b → services_in t.lived.life.era.account.started ≡ services_in a.lived.life.era.account.started ++ listed b
@@ -70,7 +70,7 @@ module _ (lens : ℕ → Lens) (made : ℕ) (ds : List Raw.Datagram) (a : Leads)
       ∙ sym (append-nil (services_in a.lived.life.era.account.started))
   started_is (Some q) e took = ap services_in took ∙ services_append a.lived.life.era.account.started (record { service = q; frame = made } ∷ [])
 
-  turn_started : life_started t.lived.life ≡ life_started a.lived.life ++ listed t.begun
+  pub turn_started : life_started t.lived.life ≡ life_started a.lived.life ++ listed t.begun
   turn_started =
       ap (λ es. eras_started es ++ services_in t.lived.life.era.account.started) past_is
       ∙ ap (λ qs. eras_started a.lived.life.past ++ qs) (started_is t.begun refl y.took)
@@ -89,7 +89,7 @@ module _ (lens : ℕ → Lens) (recover retry : ℕ) (gives : Bool) (made : ℕ)
   given_same true m = refl
   given_same false m = refl
 
-  behind_same : (fate : Fate) → life_started (life_behind lens recover retry gives made f fate l share).life ≡ life_started l.life
+  pub behind_same : (fate : Fate) → life_started (life_behind lens recover retry gives made f fate l share).life ≡ life_started l.life
   behind_same Pass = back_same (speech_at lens l.spot) acknowledged is_followed is_passed l.spot l.life made [] (seen lens f.back) (came_at share.under share.at (seen lens f.back)) l.life.stand
   behind_same (Lost after) = given_same (gives && share.under) (life_lost (speech_at lens l.spot) acknowledged is_followed is_passed l.spot [] (seen lens f.sent) l.life l.life.stand)
       ∙ lost_same (speech_at lens l.spot) acknowledged is_followed is_passed l.spot l.life [] (seen lens f.sent) l.life.stand

@@ -2,3 +2,5 @@ mod Epochs
 mod Came
 mod Firsts
 mod Served
+mod Ups
+mod Books

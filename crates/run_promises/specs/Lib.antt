@@ -1,3 +1,4 @@
 pub mod Came
 pub mod Epochs
 pub mod Slaves
+pub mod Books

@@ -8,6 +8,7 @@ ghost use Rattle.segment_plan.specs.Sound.{IsPlan};
 ghost use Rattle.segment_plan.specs.declared.plan.Scenario.{Scenario};
 ghost use Rattle.run_lives.specs.Lives.{IsKnown};
 ghost use Rattle.run_lives.specs.Round.{ring_of, AllRound, ring_after};
+ghost use Rattle.run_promises.specs.Books.{AllHaveBooks};
 ghost use Rattle.run_promises.specs.Slaves.{AllServed};
 
 /// THE PROMISE OF A RUN, whatever frames are lost: of each slave just the first services of its script came into hand, with the packets of its port
@@ -16,6 +17,15 @@ ghost use Rattle.run_promises.specs.Slaves.{AllServed};
 pub fn run_promise_law()
     ensures { (plan : Scenario) → IsPlan plan → IsKnown plan → (fs : List Exchanged) (missed : ℕ) (as' : List Leads) →
         IsLed (lens_of plan.slaves) plan.recover plan.retry (first_leads plan) fs missed as' → AllRound (ring_of plan) fs → AllServed plan fs 0 plan.slaves as' (ring_after (ring_of plan) fs).nodes }
+{
+    run_lives::run_lives_law();
+}
+
+/// THE BOOK OF EACH SLAVE THAT STAYS UP: of one that is open, was never given up and never returned to Init, what a book tells of its rows fits its
+/// application; and where it is settled and nothing is wanted of it, nothing is left and all is done.
+pub fn run_book_law()
+    ensures { (plan : Scenario) → IsPlan plan → IsKnown plan → (fs : List Exchanged) (missed : ℕ) (as' : List Leads) →
+        IsLed (lens_of plan.slaves) plan.recover plan.retry (first_leads plan) fs missed as' → AllRound (ring_of plan) fs → AllHaveBooks plan fs 0 plan.slaves as' (ring_after (ring_of plan) fs).nodes }
 {
     run_lives::run_lives_law();
 }
