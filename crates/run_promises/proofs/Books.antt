@@ -20,18 +20,22 @@ use Rattle.segment_model.specs.Record.{Frame}
 use Rattle.segment_plan.specs.declared.plan.Scenario.{Scenario}
 use Rattle.segment_plan.specs.declared.slave.SlaveSpec.{SlaveSpec}
 use Rattle.server_lives.specs.Real.{real_clearing}
-use Rattle.slave_lives.specs.Lived.{Behind}
+use Rattle.slave_lives.specs.Lived.{Behind, node_seen}
 use Rattle.slave_lives.specs.Opening as Opening
 use Rattle.slave_parts.specs.Parts.{Core, Server}
 use Rattle.slave_server.specs.Serving.{Serving}
-use Rattle.slave_steps.specs.Node.{Node}
+use Rattle.slave_steps.specs.Node.{Node, is_settled}
+use Rattle.slave_lives.specs.Steps.{Stands}
+use Rattle.mailbox_slave.specs.Node.{in_side}
+use Rattle.segment_model.specs.Laws.{IsSettled}
 use Rattle.state_exchange.specs.Families.{InState}
-use Rattle.whole_lives.specs.Whole.{IsWhole}
+use Rattle.whole_lives.specs.Whole.{IsWhole, StandsAs}
 use Rattle.whole_ring.specs.Members.{MemberIs, AllLived}
 use Rattle.run_lives.specs.Lives.{IsShown, AllShown, AreLived}
 use Rattle.run_lives.specs.Round.{ring_of, ring_after, frame_seen, all_seen}
 use Rattle.run_promises.specs.Books.{StaysUp, HasBook, AllHaveBooks}
 use Rattle.run_promises.specs.Slaves.{services_of}
+use Rattle.run_promises.proofs.Settled.{settled_seen}
 use Rattle.run_promises.proofs.Ups.{AllUp}
 
 -- a book of a slave with any services
@@ -39,6 +43,7 @@ record Booked (w : Behind Serving (InState Server) (InState (Station Core)) Aske
   whole : IsWhole w c p spot
   forgets : Forgets w c
   book : FirstBook w c p spot whole forgets is_followed first l gs n
+  settled : is_settled w.running.next n ≡ true → IsSettled (node_seen w n)
 
 module _ (plan : Scenario) (fs : List Exchanged) where
   abbrev lens : ℕ → Lens
@@ -47,6 +52,10 @@ module _ (plan : Scenario) (fs : List Exchanged) where
   abbrev gs : List (Frame Body)
   gs = all_seen lens fs
 
+  -- an open slave's mailbox 1 has the mail that is offered
+  open_stands : {place : ℕ} (m : PlanMember) → MemberIs lens step (FitsPlan plan.slaves) gs place m → m.life.stand ≡ Stand.Open → Stands (in_side m.node.kept m.node.registers)
+  open_stands m i stand = (subst (λ (st : Stand). StandsAs m.services m.plan m.spot i.lived.from m.life.era gs st m.node) stand i.lived.now).lives.epoch.stands
+
   one_book : (place : ℕ) (s : SlaveSpec) (m : PlanMember) (a : Leads) → MemberIs lens step (FitsPlan plan.slaves) gs place m → IsLed m → IsShown plan place s m a → (StaysUp a.lived.life → IsFirst (length fs) a.lived.life) →
       a.lived.life.stand ≡ Stand.Open → StaysUp a.lived.life → HasBook plan fs place s a m.node
   one_book place s m a i led x up open_ stays =
@@ -54,14 +63,14 @@ module _ (plan : Scenario) (fs : List Exchanged) where
       let first : IsFirst (length gs) m.life = subst (λ (k : ℕ). IsFirst k m.life) (sym (length-map fs (frame_seen lens))) (subst (λ (l : Life Body Asked Reply). IsFirst (length fs) l) life (up stays)) in
       let stands : m.life.stand ≡ Stand.Open = ap (λ (l : Life Body Asked Reply). l.stand) (sym life) ∙ open_ in
       let here : Booked m.services m.clearing m.plan m.spot m.first m.life gs m.node =
-      record { whole = i.whole; forgets = led.forgets; book = first_book m.services m.clearing m.plan m.spot i.whole led.forgets is_followed m.first m.life gs m.node i.lived first stands } in
+      record { whole = i.whole; forgets = led.forgets; book = first_book m.services m.clearing m.plan m.spot i.whole led.forgets is_followed m.first m.life gs m.node i.lived first stands; settled = λ e. settled_seen m.services i.whole.behind m.node (open_stands m i stands) e } in
       let by_services = subst (λ w. Booked w m.clearing m.plan m.spot m.first m.life gs m.node) x.is.services here in
       let by_clearing = subst (λ c. Booked (services_of plan s) c m.plan m.spot m.first m.life gs m.node) x.is.clearing by_services in
       let by_plan = subst (λ p. Booked (services_of plan s) real_clearing p m.spot m.first m.life gs m.node) x.is.plan by_clearing in
       let by_spot = subst (λ spot. Booked (services_of plan s) real_clearing (plan_of s) spot m.first m.life gs m.node) x.is.spot by_plan in
       let by_first = subst (λ first. Booked (services_of plan s) real_clearing (plan_of s) (spot_of place s) first m.life gs m.node) x.is.first by_spot in
       let by_life = subst (λ (l : Life Body Asked Reply). Booked (services_of plan s) real_clearing (plan_of s) (spot_of place s) (first_app s) l gs m.node) (sym life) by_first in
-      record { whole = by_life.whole; forgets = by_life.forgets; book = by_life.book }
+      record { whole = by_life.whole; forgets = by_life.forgets; book = by_life.book; settled = by_life.settled }
 
   all_books : (place : ℕ) (ss : List SlaveSpec) (ms : List PlanMember) (as' : List Leads) → AllLived lens step (FitsPlan plan.slaves) gs place ms → AllLed ms → AllShown plan place ss ms as' → AllUp plan (length fs) as' →
       AllHaveBooks plan fs place ss as' (map (λ (m : PlanMember). m.node) ms)

@@ -16,6 +16,7 @@ use Rattle.slave_steps.specs.Node.{Node}
 use Rattle.task_model.specs.Promise.{TasksPromised, TasksAnswered, TasksRestIf, services_in}
 use Rattle.task_model.proofs.Sessions.{tasks_promised, tasks_rest, tasks_answered}
 use Rattle.whole_lives.specs.Whole.{IsWhole, OpensAs, StandsAs, IsLived}
+use Rattle.run_promises.proofs.Settled.{settled_seen}
 use Rattle.run_promises.specs.Epochs.{IsCarriedOut, IsAnswered, IsTold, IsKept, AreKept, NothingLeft, RestsIf, IsNewest, IsKeptLife, app_of, app_behind, emitted_by}
 
 module _ {S V A Q R : Type 0} (w : Behind S V A Q R) (c : Clearing V A) (p : Plan) (spot : Spot) (whole : IsWhole w c p spot) (more : Body → Bool) (fs : List (Frame Body)) where
@@ -86,7 +87,7 @@ module _ {S V A Q R : Type 0} (w : Behind S V A Q R) (c : Clearing V A) (p : Pla
 
     lived_rests : RestsIf w more spot fs e from n
     lived_rests settled wants hand =
-        let t = rests e from k.opened (length fs) k.server k.registers (node_seen w n) k.begins k.is settled wants hand in
+        let t = rests e from k.opened (length fs) k.server k.registers (node_seen w n) k.begins k.is (settled_seen w whole.behind n k.stands settled) wants hand in
         let qs = services_in e.account.started in
         let heard_then = emitted w.exchange.speech.emission (heard spot.station (era_frames spot k.opened (length fs) fs)) in
         let both : (app_of w more spot n ≡ app_behind w more spot (w.states.told k.registers.state from) qs) × (heard_then ≡ emitted_by w more spot (w.states.told k.registers.state from) qs) =

@@ -1,3 +1,4 @@
+mod Settled
 mod Epochs
 mod Came
 mod Firsts

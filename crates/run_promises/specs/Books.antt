@@ -1,5 +1,5 @@
 -- THE BOOK OF A SLAVE THAT STAYS UP: in its first epoch, from the switch on.
-use Rattle.std.specs.Prelude.{◌≡◌, ℕ, suc, List, [], ◌∷◌, ⊤}
+use Rattle.std.specs.Prelude.{◌≡◌, ℕ, suc, true, List, [], ◌∷◌, ⊤}
 use Rattle.book_lives.specs.First.{Forgets, FirstBook}
 use Rattle.book_model.specs.Script.{life_started}
 use Rattle.life_model.specs.Book.{NoInits}
@@ -11,8 +11,10 @@ use Rattle.plan_ring.specs.Plan.{plan_of, first_app}
 use Rattle.segment_plan.specs.declared.plan.Scenario.{Scenario}
 use Rattle.segment_plan.specs.declared.slave.SlaveSpec.{SlaveSpec}
 use Rattle.server_lives.specs.Real.{real_clearing}
-use Rattle.slave_server.specs.Serving.{Serving}
-use Rattle.slave_steps.specs.Node.{Node}
+use Rattle.segment_model.specs.Laws.{IsSettled}
+use Rattle.slave_lives.specs.Lived.{node_seen}
+use Rattle.slave_server.specs.Serving.{Serving, next_mail}
+use Rattle.slave_steps.specs.Node.{Node, is_settled}
 use Rattle.whole_lives.specs.Whole.{IsWhole}
 use Rattle.run_lives.specs.Round.{all_seen}
 use Rattle.run_promises.specs.Slaves.{services_of}
@@ -29,6 +31,7 @@ pub record HasBook (plan : Scenario) (fs : List Exchanged) (place : ℕ) (s : Sl
   pub whole : IsWhole (services_of plan s) real_clearing (plan_of s) (spot_of place s)
   pub forgets : Forgets (services_of plan s) real_clearing
   pub book : FirstBook (services_of plan s) real_clearing (plan_of s) (spot_of place s) whole forgets is_followed (first_app s) a.lived.life (all_seen (lens_of plan.slaves) fs) n
+  pub settled : is_settled next_mail n ≡ true → IsSettled (node_seen (services_of plan s) n)
 
 -- each that is open, from a place on
 abbrev pub AllHaveBooks : Scenario → List Exchanged → ℕ → List SlaveSpec → List Leads → List (Node Serving) → Type 0

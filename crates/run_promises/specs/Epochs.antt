@@ -1,16 +1,16 @@
 -- WHAT A SLAVE DID, epoch by epoch, of the services that came into hand of it.
-use Rattle.std.specs.Prelude.{◌≡◌, ℕ, ◌+◌, ◌<◌, ◌≤◌, Bool, Option, Some, None, List, [], ◌∷◌, ◌++◌, map, take, length}
+use Rattle.std.specs.Prelude.{◌≡◌, ℕ, ◌+◌, ◌<◌, ◌≤◌, Bool, true, Option, Some, None, List, [], ◌∷◌, ◌++◌, map, take, length}
 use Rattle.exchange_model.specs.Exchange.{emitted}
 use Rattle.exchange_model.specs.Prefix.{IsPrefixOf}
 use Rattle.exchange_model.specs.Rows.{exec_all, emits_all}
 use Rattle.life_model.specs.Eras.{era_frames}
 use Rattle.life_model.specs.Lives.{Spot, Era, Life}
 use Rattle.link_mails.specs.Body.{Body}
-use Rattle.segment_model.specs.Laws.{AllAnswered, IsSettled, WantsNothing}
+use Rattle.segment_model.specs.Laws.{AllAnswered, WantsNothing}
 use Rattle.segment_model.specs.Record.{Frame, heard}
 use Rattle.segment_model.specs.Seats.{rows_of}
 use Rattle.slave_lives.specs.Lived.{Behind, table_of, node_seen}
-use Rattle.slave_steps.specs.Node.{Node}
+use Rattle.slave_steps.specs.Node.{Node, is_settled}
 use Rattle.state_exchange.specs.Stated.{Service, with_states, mails}
 use Rattle.task_model.specs.Accounts.{Started}
 use Rattle.task_model.specs.Promise.{services_in, mails_started, rows_started, states_started, changes_in, duty_in, AllReplied, AllDone, AllFound, AllEnded, but_last}
@@ -84,7 +84,7 @@ module _ {S V A Q R : Type 0} (w : Behind S V A Q R) (more : Body → Bool) (spo
 
   -- so it is where the slave is settled and the master wants nothing of it
   abbrev pub RestsIf : List (Frame Body) → Era Body Q R → A → Node S → Type 0
-  RestsIf fs e from n = IsSettled (node_seen w n) → WantsNothing w.exchange.speech e.side → e.account.hand ≡ None → NothingLeft fs e from (app_of n)
+  RestsIf fs e from n = is_settled w.running.next n ≡ true → WantsNothing w.exchange.speech e.side → e.account.hand ≡ None → NothingLeft fs e from (app_of n)
 
   -- THE NEWEST EPOCH: it is open, and the slave's application is what was carried out of it; or nothing began in it yet; or it is over, left with what
   -- was carried out of it, and the slave begins anew with that, cleared
