@@ -14,6 +14,7 @@ use Rattle.link_mails.specs.Body.{Body}
 use Rattle.master_duty.specs.Reply.{Reply}
 use Rattle.master_hand.specs.Spoken as Spoken
 use Rattle.master_hand.specs.Spoken.{net, hand_speech, acknowledged, is_followed}
+pub use Rattle.master_hand.specs.Spoken.{is_passed}
 use Rattle.master_hand.specs.Talk.{asked_of}
 use Rattle.segment_plan.specs.declared.service.Service as Plan
 use Rattle.segment_ring.specs.declared.wire.Fate.{Fate}
@@ -26,11 +27,6 @@ pub record Exchanged : Type 0 where
   pub sent : List ℕ
   pub fate : Fate
   pub back : List ℕ
-
--- a mail that is passed on
-abbrev pub is_passed : Spoken.Asked → Bool
-is_passed (Spoken.passed m) = true
-is_passed _ = false
 
 -- what a master speaks with a slave, by the lengths of its mailboxes
 abbrev pub speech_at : (ℕ → Lens) → Spot → Speech Body Spoken.Asked Reply
