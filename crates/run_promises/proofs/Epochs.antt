@@ -85,7 +85,7 @@ module _ {S V A Q R : Type 0} (w : Behind S V A Q R) (c : Clearing V A) (p : Pla
     lived_kept : IsKept w more spot fs e from (app_of w more spot n) (length fs)
     lived_kept = kept e from k.opened (length fs) k.server k.registers (node_seen w n) k.begins k.is k.before (omega arith) k.first (app_of w more spot n) refl
 
-    lived_rests : RestsIf w more spot fs e from n
+    pub lived_rests : RestsIf w more spot fs e from n
     lived_rests settled wants hand =
         let t = rests e from k.opened (length fs) k.server k.registers (node_seen w n) k.begins k.is (settled_seen w whole.behind n k.stands settled) wants hand in
         let qs = services_in e.account.started in
@@ -101,7 +101,7 @@ module _ {S V A Q R : Type 0} (w : Behind S V A Q R) (c : Clearing V A) (p : Pla
   left_kept : (from : A) (e : Era Body Q R) (s : S) (k : LeftEra w spot from e fs s) → IsKept w more spot fs e from (w.exchange.app (w.sees k.state s).server) k.until
   left_kept from e s k = kept e from k.opened k.until k.server k.registers k.slave k.begins k.is k.before k.within k.first (w.exchange.app (w.sees k.state s).server) (ap w.exchange.app k.leaves)
 
-  past_kept : (first : A) (es : List (Era Body Q R)) (from : A) → LeftEras w c.cleared spot fs first es from → AreKept w more spot c.cleared fs first es from
+  pub past_kept : (first : A) (es : List (Era Body Q R)) (from : A) → LeftEras w c.cleared spot fs first es from → AreKept w more spot c.cleared fs first es from
   past_kept first _ _ (LeftEras.none _) = AreKept.none
   past_kept first _ _ (LeftEras.closed _ es b e before never) = AreKept.unopened es b e (past_kept first es b before) never
   past_kept first _ _ (LeftEras.opened _ es b e s before left) = AreKept.opened es b e (w.exchange.app (w.sees left.state s).server) left.until (past_kept first es b before) (left_kept b e s left)

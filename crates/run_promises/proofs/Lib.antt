@@ -5,3 +5,4 @@ mod Firsts
 mod Served
 mod Ups
 mod Books
+mod Rests

@@ -34,7 +34,7 @@ module _ (plan : Scenario) (fs : List Exchanged) where
   gs = all_seen lens fs
 
   -- one slave
-  one_served : (place : ℕ) (s : SlaveSpec) (m : PlanMember) (a : Leads) → MemberIs lens step (FitsPlan plan.slaves) gs place m → IsShown plan place s m a → HasCome plan place s a → IsServed plan fs place s a m.node
+  pub one_served : (place : ℕ) (s : SlaveSpec) (m : PlanMember) (a : Leads) → MemberIs lens step (FitsPlan plan.slaves) gs place m → IsShown plan place s m a → HasCome plan place s a → IsServed plan fs place s a m.node
   one_served place s m a i x come =
       let out : (lens s.station).out ≡ s.out_len =
       ap (λ p. (lens p.station).out) (sym x.is.plan) ∙ subst (λ (l : ℕ → Lens). (l m.plan.station).out ≡ m.plan.out) i.lens_is i.whole.plan.lens_out ∙ ap (λ p. p.out) x.is.plan in

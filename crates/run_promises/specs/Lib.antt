@@ -2,3 +2,4 @@ pub mod Came
 pub mod Epochs
 pub mod Slaves
 pub mod Books
+pub mod Rests

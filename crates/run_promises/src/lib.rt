@@ -9,6 +9,7 @@ ghost use Rattle.segment_plan.specs.declared.plan.Scenario.{Scenario};
 ghost use Rattle.run_lives.specs.Lives.{IsKnown};
 ghost use Rattle.run_lives.specs.Round.{ring_of, AllRound, ring_after};
 ghost use Rattle.run_promises.specs.Books.{AllHaveBooks};
+ghost use Rattle.run_promises.specs.Rests.{AllDoneIf};
 ghost use Rattle.run_promises.specs.Slaves.{AllServed};
 
 /// THE PROMISE OF A RUN, whatever frames are lost: of each slave just the first services of its script came into hand, with the packets of its port
@@ -26,6 +27,15 @@ pub fn run_promise_law()
 pub fn run_book_law()
     ensures { (plan : Scenario) → IsPlan plan → IsKnown plan → (fs : List Exchanged) (missed : ℕ) (as' : List Leads) →
         IsLed (lens_of plan.slaves) plan.recover plan.retry (first_leads plan) fs missed as' → AllRound (ring_of plan) fs → AllHaveBooks plan fs 0 plan.slaves as' (ring_after (ring_of plan) fs).nodes }
+{
+    run_lives::run_lives_law();
+}
+
+/// WHERE NOTHING IS LEFT: of each slave that is settled and of which its master wants nothing, all services of the script came into hand, and those of
+/// its newest epoch are carried out, each once and in order, and each is answered.
+pub fn run_done_law()
+    ensures { (plan : Scenario) → IsPlan plan → IsKnown plan → (fs : List Exchanged) (missed : ℕ) (as' : List Leads) →
+        IsLed (lens_of plan.slaves) plan.recover plan.retry (first_leads plan) fs missed as' → AllRound (ring_of plan) fs → AllDoneIf plan fs 0 plan.slaves as' (ring_after (ring_of plan) fs).nodes }
 {
     run_lives::run_lives_law();
 }
