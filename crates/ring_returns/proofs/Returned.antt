@@ -1,5 +1,5 @@
 -- A FRAME THROUGH A RING: each slave, whatever its registers, leaves of a datagram what it asks, whom it means by station, and its length.
-use Rattle.std.proofs.Common.{◌≡◌, ℕ, suc, ◌+◌, ◌-◌, ◌%◌, ◌==◌, Bool, true, false, List, [], ◌∷◌, length, map, Option, Some, None, refl, ap, sym, ◌∙◌, subst}
+use Rattle.std.proofs.Common.{◌≡◌, ℕ, ◌+◌, ◌-◌, ◌%◌, ◌==◌, Bool, true, false, List, [], ◌∷◌, length, Option, Some, None, refl, ap, sym, ◌∙◌, subst}
 use Rattle.std.specs.Prelude.{if◌then◌else◌, nat_le, unwrap_or}
 use Rattle.datagrams.specs.declared.command.Command.{Command}
 use Rattle.datagrams.specs.declared.head.Head.{Head}
@@ -52,10 +52,10 @@ goes_on : (r : Esc.Registers) (h : Head) (body : List ℕ) → GoesOn h (access 
 goes_on r h body = go (if is_meant r h then row_of r h.ado (length body) else None) (access_len r h body)
   where
     go : (found : Option Row) → length (passed_at r h body found).body ≡ length body → GoesOn h (passed_at r h body found).head body (passed_at r h body found).body
-    go None len = let m = moved h in record { command = m.0; ado = m.1.0; adp = m.1.1; len = len; body_is = λ e. refl }
+    go None len = let m = moved h in record { command = m.0; ado = m.1; adp = m.2; len = len; body_is = λ e. refl }
     go (Some row) len =
         let m = moved h in
-        record { command = m.0; ado = m.1.0; adp = m.1.1; len = len; body_is = λ e. ap (λ (b : Bool). unwrap_or (if b then read_row r row else None) body) e }
+        record { command = m.0; ado = m.1; adp = m.2; len = len; body_is = λ e. ap (λ (b : Bool). unwrap_or (if b then read_row r row else None) body) e }
 
 module _ (lens : ℕ → Lens) where
   -- a datagram by its parts, as a session sees it
@@ -88,8 +88,8 @@ module _ (lens : ℕ → Lens) where
       let p = access r h d.body in
       let g = goes_on r h d.body in
       subst (λ (c : Command). IsReturn (datagram_seen lens d) (view c p.head.adp p.head.ado p.head.counter p.body)) (sym g.command)
-          (subst (λ (a : ℕ). IsReturn (datagram_seen lens d) (view h.command p.head.adp a p.head.counter p.body)) (sym g.ado)
-              (one h.adp p.head.adp h.ado d.body p.body h.counter p.head.counter g.len h.command g.adp g.body_is))
+      (subst (λ (a : ℕ). IsReturn (datagram_seen lens d) (view h.command p.head.adp a p.head.counter p.body)) (sym g.ado)
+      (one h.adp p.head.adp h.ado d.body p.body h.counter p.head.counter g.len h.command g.adp g.body_is))
 
   -- a frame's
   all_after : (r : Esc.Registers) (ds : List Raw.Datagram) → Returns (datagrams_seen lens ds) (datagrams_seen lens (datagrams_after r ds))
@@ -110,20 +110,20 @@ further (a ∷ as') (b ∷ bs) [] x y = absurd y
 further (a ∷ as') (b ∷ bs) (c ∷ cs) x y =
     (record { station = y.0.station ∙ x.0.station; ask = y.0.ask ∙ x.0.ask; address = λ s. y.0.address s ∙ x.0.address s; access = y.0.access ∙ x.0.access }, further as' bs cs x.1 y.1)
 
-module _ {S : Type 0} (lens : ℕ → Lens) where
-  -- the octets behind one slave, and behind all
-  one_back : (r : Esc.Registers) (octets : List ℕ) (ds : List Raw.Datagram) → IsFrame octets ds → Returns (seen lens octets) (seen lens (frame_passed r octets).1)
-  one_back r octets ds f =
-      let here = seen_is lens octets ds f in
-      let there = seen_is lens (frame_passed r octets).1 (datagrams_after r ds) (passes r octets ds f).frame in
-      subst (λ l. Returns l (seen lens (frame_passed r octets).1)) (sym here) (subst (λ l. Returns (datagrams_seen lens ds) l) (sym there) (all_after lens r ds))
+-- the octets behind one slave, and behind all
+one_back : (lens : ℕ → Lens) (r : Esc.Registers) (octets : List ℕ) (ds : List Raw.Datagram) → IsFrame octets ds → Returns (seen lens octets) (seen lens (frame_passed r octets).1)
+one_back lens r octets ds f =
+    let here = seen_is lens octets ds f in
+    let there = seen_is lens (frame_passed r octets).1 (datagrams_after r ds) (passes r octets ds f).frame in
+    subst (λ l. Returns l (seen lens (frame_passed r octets).1)) (sym here) (subst (λ l. Returns (datagrams_seen lens ds) l) (sym there) (all_after lens r ds))
 
+module _ {S : Type 0} (lens : ℕ → Lens) where
   all_back : (ns : List (Node S)) (octets : List ℕ) (ds : List Raw.Datagram) → IsFrame octets ds → Returns (seen lens octets) (seen lens (nodes_passed node_passed (length ns) ns octets).1)
   all_back [] octets ds f = same (seen lens octets)
   all_back (n ∷ ns) octets ds f =
       let behind = (node_passed n octets).1 in
-      further (seen lens octets) (seen lens behind) (seen lens (nodes_passed node_passed (length ns) ns behind).1) (one_back n.registers octets ds f)
-          (all_back ns behind (datagrams_after n.registers ds) (passes n.registers octets ds f).frame)
+      further (seen lens octets) (seen lens behind) (seen lens (nodes_passed node_passed (length ns) ns behind).1) (one_back lens n.registers octets ds f)
+      (all_back ns behind (datagrams_after n.registers ds) (passes n.registers octets ds f).frame)
 
   -- FROM THE RING
   pub ring_back : (ring : RingState (Node S)) (octets : List ℕ) (ds : List Raw.Datagram) → IsFrame octets ds → fate_at ring.lose ring.number ≡ Pass → Returns (seen lens octets) (seen lens (ring_returned node_passed ring octets))

@@ -1,0 +1,5 @@
+pub mod Came
+pub mod Epochs
+pub mod Slaves
+pub mod Books
+pub mod Rests
