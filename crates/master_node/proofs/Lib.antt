@@ -7,3 +7,4 @@ pub mod Goings
 pub mod Firsts
 pub mod Lefts
 pub mod Cames
+pub mod Fills

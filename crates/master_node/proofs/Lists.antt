@@ -1,12 +1,11 @@
 -- Lists that go on place by place.
 use Rattle.std.proofs.Common.{◌≡◌, ℕ, zero, suc, ◌+◌, ◌<◌, ◌≤◌, Bool, true, false, List, [], ◌∷◌, ◌++◌, refl, sym, ap, ◌∙◌, subst, arith, length, get_or, set}
-use Rattle.std.specs.Prelude.{map, All, ⊤}
+use Rattle.std.specs.Prelude.{map, All, IfSome, slice_get, ⊤}
 use Rattle.std.proofs.lemmas.List.Elements.{All-nil, All-cons, All-head, All-tail}
 use Rattle.life_frames.specs.Shares.{AllFrom, AllBoth, AllThree}
 use Rattle.master_tour.specs.Goes.{holds_at}
 use Rattle.master_tour.specs.Walks.{EachPair, StepsAt}
 use Rattle.master_tour.proofs.Walks.{each_same}
-use Rattle.master_node.specs.Coming.{HoldsAt}
 
 -- one has gone on, and the others are as they were
 pub steps_each : {S : Type 0} (P T : S → S → Type 0) (i : ℕ) (xs ys : List S) → ((x : S) → T x x) → ((x y : S) → P x y → T x y) → StepsAt P i xs ys → EachPair T xs ys
@@ -51,10 +50,10 @@ each_length P (x ∷ xs) [] e = absurd e
 each_length P (x ∷ xs) (y ∷ ys) e = ap suc (each_length P xs ys e.1)
 
 -- what stands at a place
-pub holds_set : {S : Type 0} (P : S → Type 0) (ss : List S) (i : ℕ) (s : S) → i < length ss → s ≡ get_or ss i s → P s → HoldsAt P ss i
-holds_set P [] i s l e p = absurd (omega (arith, l))
-holds_set P (x ∷ xs) zero s l e p = subst P e p
-holds_set P (x ∷ xs) (suc i) s l e p = holds_set P xs i s (omega (arith, l)) e p
+pub some_here : {S : Type 0} (P : S → Type 0) (ss : List S) (i : ℕ) (s : S) → i < length ss → s ≡ get_or ss i s → P s → IfSome (slice_get ss i) P
+some_here P [] i s l e p = absurd (omega (arith, l))
+some_here P (x ∷ xs) zero s l e p = subst P e p
+some_here P (x ∷ xs) (suc i) s l e p = some_here P xs i s (omega (arith, l)) e p
 
 -- all pass, and so does one that is put among them
 pub all_set : {S : Type 0} (P : S → Type 0) (ss : List S) (i : ℕ) (v w : S) → i < length ss → v ≡ get_or ss i v → (P v → P w) → All P ss → All P (set ss i w)

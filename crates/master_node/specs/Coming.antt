@@ -1,5 +1,5 @@
 -- WHAT MAY COME INTO HAND at a visit.
-use Rattle.std.specs.Prelude.{◌≡◌, ◌⊎◌, ◌<◌, ℕ, zero, suc, ◌%◌, Option, Some, None, List, [], ◌∷◌, length, slice_get, ⊤}
+use Rattle.std.specs.Prelude.{◌≡◌, ◌⊎◌, ◌<◌, ℕ, suc, ◌%◌, Option, Some, None, length, slice_get, ⊤}
 use Rattle.master_hand.specs.declared.hand.InHand.{InHand}
 use Rattle.master_hand.specs.declared.laying.Laid.{Laid}
 use Rattle.master_side.specs.declared.carried.Wish.{Wish}
@@ -8,12 +8,6 @@ use Rattle.master_tour.specs.declared.stop.Stop.{Stop}
 use Rattle.segment_plan.specs.declared.service.Service.{Service}
 use Rattle.master_node.specs.Kept.{StopKept, StopStays}
 use Rattle.master_node.specs.declared.coming.Coming.{Coming}
-
--- this holds of what stands at a place
-abbrev pub HoldsAt : {S : Type 0} → (S → Type 0) → List S → ℕ → Type 0
-HoldsAt P [] place = ⊥
-HoldsAt P (s ∷ ss) zero = P s
-HoldsAt P (s ∷ ss) (suc place) = HoldsAt P ss place
 
 -- the next service of a slave's script
 abbrev pub next_of : {G : Ghosts InHand} → Stop InHand G → Option Service

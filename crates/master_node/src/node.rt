@@ -70,12 +70,12 @@ impl MasterNode {
     ghost use Rattle.master_tour.specs.Goes.{is_live};
     ghost use Rattle.std.specs.List.{list_any};
     ghost use Rattle.master_node.specs.declared.node.Next.{Next};
-    ghost use Rattle.std.specs.Prelude.{All, Some};
+    ghost use Rattle.std.specs.Prelude.{All, IfSome, Some, slice_get};
     ghost use Rattle.master_tour.specs.Walks.{StepsAt};
     ghost use Rattle.master_node.specs.declared.coming.Coming.{Coming};
     ghost use Rattle.master_node.specs.Shows.{WaitsNone};
     ghost use Rattle.master_node.specs.Kept.{StopStays, TourKept, NodeKept};
-    ghost use Rattle.master_node.specs.Coming.{HoldsAt, next_of, IsComing, IsLaid, PassesBy};
+    ghost use Rattle.master_node.specs.Coming.{next_of, IsComing, IsLaid, PassesBy};
 
     // Whether a slave is live.
     fn has_live(&self) -> bool
@@ -110,7 +110,7 @@ impl MasterNode {
     // something in hand takes nothing.
     fn coming(&self, place: usize) -> Option<Coming>
         requires { place < vec_len self.now.posts }
-        ensures { All WaitsNone self.now.posts.items → HoldsAt (λ s. IsComing (next_of s) result) self.now.tour.stops.items place }
+        ensures { All WaitsNone self.now.posts.items → IfSome (slice_get self.now.tour.stops.items place) (λ s. IsComing (next_of s) result) }
     {
         let stop = &self.tour.stops[place];
         if !matches!(stop.stand, Stand::Open) || !stop.side.is_free() {
