@@ -64,7 +64,7 @@ fills_kept lens recover made begun index n left ds i a s t k m =
     }
 
 -- what came into hand of a slave, and of the others what did before
-pub begun_at : (ℕ → Option (Service Asked)) → ℕ → Option (Service Asked) → ℕ → Option (Service Asked)
+abbrev pub begun_at : (ℕ → Option (Service Asked)) → ℕ → Option (Service Asked) → ℕ → Option (Service Asked)
 begun_at begun place b k = if k == place then b else begun k
 
 pub begun_here : (begun : ℕ → Option (Service Asked)) (place : ℕ) (b : Option (Service Asked)) (k : ℕ) → k ≡ place → begun_at begun place b k ≡ b
@@ -87,6 +87,7 @@ module _ {G : Ghosts InHand} (lens : ℕ → Lens) (begun : ℕ → Option (Serv
     unpassed = m.unpassed;
     own = m.own;
     place = m.place;
+    room = m.room;
   }
 
   others : (spot : Spot) → spot.place ≡ place → (i : ℕ) (as' : List Leads) (ss : List (Stop InHand G)) → IsElsewhere spot (map lived_of as') → AllFrom (λ j a s. IsAmong lens begun left j a s) i as' ss → AllFrom (λ j a s. IsAmong lens (begun_at begun place b) next j a s) i as' ss

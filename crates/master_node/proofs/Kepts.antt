@@ -64,8 +64,9 @@ stop_on n m s t u a b = record {
 pub stop_trans : {G : Ghosts InHand} (s t u : Stop InHand G) → StopStays s t → StopStays t u → StopStays s u
 stop_trans s t u a b = subst (λ z. StopKept z s u) a.side.number (stop_on s.side.hand.laying.number t.side.hand.laying.number s t u a b)
 
-pub tour_same : (m n : MasterNode) → n.tour ≡ m.tour → TourKept m n
-tour_same m n e = record {
+pub tour_same : (m n : MasterNode) → n.tour ≡ m.tour → n.made ≡ m.made → TourKept m n
+tour_same m n e f = record {
+  made = f;
   again = ap (λ z. z.again) e;
   visit = ap (λ z. z.visit) e;
   opened = ap (λ z. z.opened) e;
@@ -86,13 +87,14 @@ tour_on m n o a b = record {
   retry = b.retry ∙ a.retry;
   count = b.count ∙ a.count;
   passed = b.passed ∙ a.passed;
+  made = b.made ∙ a.made;
 }
 
 -- the master stays where its tour does
-pub node_same : (m n : MasterNode) → n.tour ≡ m.tour → (All WaitsNone m.posts.items → All WaitsNone n.posts.items) → NodeKept m n
-node_same m n e q = record {
+pub node_same : (m n : MasterNode) → n.tour ≡ m.tour → n.made ≡ m.made → (All WaitsNone m.posts.items → All WaitsNone n.posts.items) → NodeKept m n
+node_same m n e f q = record {
   each = subst (λ z. EachPair (λ s t. StopStays s t) m.tour.stops.items z.stops.items) (sym e) (each_same (λ s t. StopStays s t) m.tour.stops.items (λ s. stop_same s));
-  tour = tour_same m n e;
+  tour = tour_same m n e f;
   quiet = q;
 }
 

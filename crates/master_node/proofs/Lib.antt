@@ -8,3 +8,4 @@ pub mod Firsts
 pub mod Lefts
 pub mod Cames
 pub mod Fills
+pub mod Visits

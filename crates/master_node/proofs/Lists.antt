@@ -1,5 +1,5 @@
 -- Lists that go on place by place.
-use Rattle.std.proofs.Common.{◌≡◌, ℕ, zero, suc, ◌+◌, ◌<◌, ◌≤◌, Bool, true, false, List, [], ◌∷◌, ◌++◌, refl, sym, ap, ◌∙◌, subst, arith, length, get_or, set}
+use Rattle.std.proofs.Common.{◌≡◌, ℕ, zero, suc, ◌+◌, ◌<◌, ◌≤◌, Bool, true, false, Some, List, [], ◌∷◌, ◌++◌, refl, sym, ap, ◌∙◌, subst, arith, length, get_or, set}
 use Rattle.std.specs.Prelude.{map, All, IfSome, slice_get, ⊤}
 use Rattle.std.proofs.lemmas.List.Elements.{All-nil, All-cons, All-head, All-tail}
 use Rattle.life_frames.specs.Shares.{AllFrom, AllBoth, AllThree}
@@ -34,6 +34,34 @@ steps_trans P T R zero (x ∷ xs) (y ∷ ys) [] h e f = absurd f
 steps_trans P T R (suc i) (x ∷ xs) (y ∷ ys) [] h e f = absurd f
 steps_trans P T R zero (x ∷ xs) (y ∷ ys) (z ∷ zs) h e f = (h x y z e.0 f.0, f.1 ∙ e.1)
 steps_trans P T R (suc i) (x ∷ xs) (y ∷ ys) (z ∷ zs) h e f = (f.0 ∙ e.0, steps_trans P T R i xs ys zs h e.1 f.1)
+
+-- what is known of the first step and of the second
+pub steps_mid : {S : Type 0} (P T R : S → S → Type 0) (i : ℕ) (xs ys zs : List S) → ((x y z : S) → P x y → T y z → R y z) → StepsAt P i xs ys → StepsAt T i ys zs → StepsAt R i ys zs
+steps_mid P T R zero [] ys zs h e f = absurd e
+steps_mid P T R (suc i) [] ys zs h e f = absurd e
+steps_mid P T R zero (x ∷ xs) [] zs h e f = absurd e
+steps_mid P T R (suc i) (x ∷ xs) [] zs h e f = absurd e
+steps_mid P T R zero (x ∷ xs) (y ∷ ys) [] h e f = absurd f
+steps_mid P T R (suc i) (x ∷ xs) (y ∷ ys) [] h e f = absurd f
+steps_mid P T R zero (x ∷ xs) (y ∷ ys) (z ∷ zs) h e f = (h x y z e.0 f.0, f.1)
+steps_mid P T R (suc i) (x ∷ xs) (y ∷ ys) (z ∷ zs) h e f = (f.0, steps_mid P T R i xs ys zs h e.1 f.1)
+
+-- what stands there
+pub steps_some : {S : Type 0} (Q : S → Type 0) (P : S → S → Type 0) (i : ℕ) (xs ys : List S) → StepsAt P i xs ys → IfSome (slice_get xs i) Q → StepsAt (λ x y. Q x × P x y) i xs ys
+steps_some Q P zero [] ys e q = absurd e
+steps_some Q P (suc i) [] ys e q = absurd e
+steps_some Q P zero (x ∷ xs) [] e q = absurd e
+steps_some Q P (suc i) (x ∷ xs) [] e q = absurd e
+steps_some Q P zero (x ∷ xs) (y ∷ ys) e q = ((q, e.0), e.1)
+steps_some Q P (suc i) (x ∷ xs) (y ∷ ys) e q = (e.0, steps_some Q P i xs ys e.1 q)
+
+pub steps_got : {S : Type 0} (P : S → S → Type 0) (i : ℕ) (xs ys : List S) → StepsAt P i xs ys → StepsAt (λ x y. (slice_get xs i ≡ Some x) × P x y) i xs ys
+steps_got P zero [] ys e = absurd e
+steps_got P (suc i) [] ys e = absurd e
+steps_got P zero (x ∷ xs) [] e = absurd e
+steps_got P (suc i) (x ∷ xs) [] e = absurd e
+steps_got P zero (x ∷ xs) (y ∷ ys) e = ((refl, e.0), e.1)
+steps_got P (suc i) (x ∷ xs) (y ∷ ys) e = (e.0, steps_got P i xs ys e.1)
 
 pub each_trans : {S : Type 0} (P : S → S → Type 0) (xs ys zs : List S) → ((x y z : S) → P x y → P y z → P x z) → EachPair P xs ys → EachPair P ys zs → EachPair P xs zs
 each_trans P [] [] [] h e f = tt
