@@ -41,6 +41,10 @@ side_same s = record {
 pub stop_same : {G : Ghosts InHand} (s : Stop InHand G) → StopStays s s
 stop_same s = record { side = side_same s.side; stand = refl; place = refl; start = refl; spare = refl; under = refl; at = refl }
 
+-- only its side may have changed
+pub stop_side : {G : Ghosts InHand} (n : ℕ) (s t : Stop InHand G) → SideKept n s.side t.side → t.stand ≡ s.stand → t.place ≡ s.place → t.start ≡ s.start → t.spare ≡ s.spare → t.under ≡ s.under → t.at ≡ s.at → StopKept n s t
+stop_side n s t k a b c d e f = record { side = k; stand = a; place = b; start = c; spare = d; under = e; at = f }
+
 -- one step after the other
 pub stop_on : {G : Ghosts InHand} (n m : ℕ) (s t u : Stop InHand G) → StopKept n s t → StopKept m t u → StopKept m s u
 stop_on n m s t u a b = record {

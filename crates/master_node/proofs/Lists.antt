@@ -63,6 +63,23 @@ steps_got P (suc i) (x ∷ xs) [] e = absurd e
 steps_got P zero (x ∷ xs) (y ∷ ys) e = ((refl, e.0), e.1)
 steps_got P (suc i) (x ∷ xs) (y ∷ ys) e = (e.0, steps_got P i xs ys e.1)
 
+pub steps_same : {S : Type 0} (P : S → S → Type 0) (i : ℕ) (xs : List S) → i < length xs → ((x : S) → P x x) → StepsAt P i xs xs
+steps_same P zero [] l h = absurd (omega (arith, l))
+steps_same P (suc i) [] l h = absurd (omega (arith, l))
+steps_same P zero (x ∷ xs) l h = (h x, refl)
+steps_same P (suc i) (x ∷ xs) l h = (refl, steps_same P i xs (omega (arith, l)) h)
+
+-- a test of each stays
+pub steps_holds : {S : Type 0} (test : S → Bool) (P : S → S → Type 0) (i : ℕ) (xs ys : List S) → ((x y : S) → P x y → test y ≡ test x) → StepsAt P i xs ys → (k : ℕ) → holds_at test ys k ≡ holds_at test xs k
+steps_holds test P zero [] ys h e k = absurd e
+steps_holds test P (suc i) [] ys h e k = absurd e
+steps_holds test P zero (x ∷ xs) [] h e k = absurd e
+steps_holds test P (suc i) (x ∷ xs) [] h e k = absurd e
+steps_holds test P zero (x ∷ xs) (y ∷ ys) h e zero = h x y e.0
+steps_holds test P zero (x ∷ xs) (y ∷ ys) h e (suc k) = ap (λ z. holds_at test z k) e.1
+steps_holds test P (suc i) (x ∷ xs) (y ∷ ys) h e zero = ap test e.0
+steps_holds test P (suc i) (x ∷ xs) (y ∷ ys) h e (suc k) = steps_holds test P i xs ys h e.1 k
+
 pub each_trans : {S : Type 0} (P : S → S → Type 0) (xs ys zs : List S) → ((x y z : S) → P x y → P y z → P x z) → EachPair P xs ys → EachPair P ys zs → EachPair P xs zs
 each_trans P [] [] [] h e f = tt
 each_trans P [] [] (z ∷ zs) h e f = absurd f

@@ -20,7 +20,7 @@ use Rattle.master_node.specs.Kept.{StopKept, StopStays}
 use Rattle.master_node.specs.Shows.{lived_of}
 use Rattle.master_node.specs.declared.coming.Coming.{Coming}
 use Rattle.master_node.proofs.Cames.{NumberBehind, came_by, ready_unpassed, got_inside}
-use Rattle.master_node.proofs.Fills.{begun_at, begun_here, begun_comes, among_step}
+use Rattle.master_node.proofs.Fills.{from_each, begun_at, begun_here, begun_comes, among_step}
 use Rattle.master_node.proofs.Kepts.{stop_same}
 use Rattle.master_node.proofs.Lists.{steps_map, steps_trans, steps_mid, steps_some, steps_got, steps_each}
 
@@ -186,3 +186,23 @@ module _ {G : Ghosts InHand} (coming : Option Coming) (result : Bool) (place : �
           go : (z : Bool) → (if z then scripted_behind s.side.hand.laying else scripted s.side.hand.laying).script ≡ s.side.hand.laying.script
           go true = refl
           go false = refl
+
+-- a slave of which the frame has no room
+pub fitted_same : {G : Ghosts InHand} (s : Stop InHand G) → Fitted s s
+fitted_same s = record { place = refl; passing = refl; script = refl; out = refl }
+
+pub among_fitted : {G : Ghosts InHand} (lens : ℕ → Lens) (begun : ℕ → Option (Service Asked)) (left : List ℕ) (as' : List Leads) (place : ℕ) (ss ts : List (Stop InHand G)) → StepsAt (λ s t. Fitted s t) place ss ts →
+    AllFrom (λ i a s. IsAmong lens begun left i a s) 0 as' ss → AllFrom (λ i a s. IsAmong lens begun left i a s) 0 as' ts
+among_fitted lens begun left as' place ss ts f m =
+    from_each (λ i a s. IsAmong lens begun left i a s) (λ s t. Fitted s t) (λ i a s. IsAmong lens begun left i a s)
+    (λ i a s t n k. record {
+      script = ap (λ w. w.script) k.script ∙ n.script;
+      comes = subst (λ w. Comes (lens a.lived.spot.station).out a.script a.number (begun a.lived.spot.place) w) (sym (ap (λ w. w.number) k.script)) n.comes;
+      still = λ e. ap (λ w. w.number) k.script ∙ n.still e;
+      short = n.short;
+      unpassed = k.passing ∙ n.unpassed;
+      own = n.own;
+      place = k.place ∙ n.place;
+      room = n.room ∙ sym k.out;
+    })
+    0 as' ss ts m (steps_each (λ s t. Fitted s t) (λ s t. Fitted s t) place ss ts (λ s. fitted_same s) (λ s t k. k) f)

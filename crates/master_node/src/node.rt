@@ -132,14 +132,14 @@ impl MasterNode {
         ensures laid { StepsAt (λ s t. StopStays s t × IsLaid (Some Coming.Packet) t.side.hand.laying.laid) place self.old.tour.stops.items self.new.tour.stops.items }
         ensures kept { TourKept self.old self.new × (All WaitsNone self.old.posts.items → All WaitsNone self.new.posts.items) }
     {
-        match self.lan.begin(place, &mut self.list) {
-            Some(packet) => lay_packet(&mut self.tour.stops[place].side, &packet),
-            None => lay_nothing(&mut self.tour.stops[place].side),
-        }
         let post = &mut self.posts[place];
         post.next = Work::Packet;
         post.origin = Origin::Forward(post.forwards);
         post.forwards = post.forwards.wrapping_add(1);
+        match self.lan.begin(place, &mut self.list) {
+            Some(packet) => lay_packet(&mut self.tour.stops[place].side, &packet),
+            None => lay_nothing(&mut self.tour.stops[place].side),
+        }
     }
 
     // The oldest mail that waits to be passed on is laid ready.
@@ -176,7 +176,7 @@ impl MasterNode {
     fn lay_state(&mut self, place: usize)
         requires { place < vec_len self.old.posts }
         ensures posts { vec_len self.new.posts ≡ vec_len self.old.posts }
-        ensures tour { self.new.tour ≡ self.old.tour }
+        ensures tour { (self.new.tour ≡ self.old.tour) × (self.new.made ≡ self.old.made) }
         ensures quiet { All WaitsNone self.old.posts.items → All WaitsNone self.new.posts.items }
     {
         let number = self.tour.stops[place].side.hand.number();
@@ -201,7 +201,19 @@ impl MasterNode {
         }
     }
 
-    // What was laid ready came into hand: a change of state is passed by in the script.
+    // A change of state that came into hand is passed by in the script.
+    fn pass_by(&mut self, place: usize, coming: Option<Coming>)
+        requires { place < vec_len self.old.posts }
+        ensures begun { StepsAt (λ s t. PassesBy coming s t) place self.old.tour.stops.items self.new.tour.stops.items }
+        ensures tour { TourKept self.old self.new }
+        ensures posts { self.new.posts ≡ self.old.posts }
+    {
+        if let Some(Coming::State(_)) = coming {
+            pass_by(&mut self.tour.stops[place].side);
+        }
+    }
+
+    // What was laid ready came into hand.
     fn begun(&mut self, place: usize, coming: Option<Coming>)
         requires { place < vec_len self.old.posts }
         ensures posts { vec_len self.new.posts ≡ vec_len self.old.posts }
@@ -212,16 +224,14 @@ impl MasterNode {
         post.work = post.next;
         post.answer = None;
         let origin = post.origin;
-        if let Some(Coming::State(_)) = coming {
-            pass_by(&mut self.tour.stops[place].side);
-        }
         self.list.put(Event::Began {
             slave: place as u32,
             origin,
         });
+        self.pass_by(place, coming);
     }
 
-    // So it does where something came into hand.
+    // So it does where something did.
     fn came(&mut self, place: usize, coming: Option<Coming>, began: bool)
         requires { place < vec_len self.old.posts }
         ensures posts { vec_len self.new.posts ≡ vec_len self.old.posts }
