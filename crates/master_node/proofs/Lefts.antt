@@ -15,7 +15,7 @@ abbrev pub below : ℕ → List ℕ
 below zero = []
 below (suc n) = n ∷ below n
 
-true_false : (z : Bool) → z ≡ true → z ≡ false → ⊥
+pub true_false : (z : Bool) → z ≡ true → z ≡ false → ⊥
 true_false true e f = cc
 true_false false e f = cc
 
@@ -101,7 +101,7 @@ in_more k p (q ∷ ps) P a b e = go (k == q) refl (λ t. in_more k p ps P (λ u.
     go true f r = a (in_here k q ps f)
     go false f r = r (sym (in_tail k q (ps ++ p ∷ []) f) ∙ e)
 
-not_in : (k : ℕ) (ps : List ℕ) → (is_in k ps ≡ true → ⊥) → is_in k ps ≡ false
+pub not_in : (k : ℕ) (ps : List ℕ) → (is_in k ps ≡ true → ⊥) → is_in k ps ≡ false
 not_in k ps n = go (is_in k ps) refl
   where
     go : (z : Bool) → is_in k ps ≡ z → is_in k ps ≡ false

@@ -9,3 +9,4 @@ pub mod Lefts
 pub mod Cames
 pub mod Fills
 pub mod Visits
+pub mod Filleds

@@ -2,25 +2,28 @@
 use Rattle.std.proofs.Common.{◌≡◌, ◌<◌, ◌≤◌, ◌==◌, ◌+◌, ℕ, zero, suc, Bool, true, false, Option, Some, None, List, [], ◌∷◌, refl, sym, ap, ◌∙◌, subst, arith, length}
 use Rattle.std.specs.Prelude.{is_some, slice_get, map, IfSome, if◌then◌else◌}
 use Rattle.frame_view.specs.View.{Lens}
-use Rattle.life_frames.specs.Shares.{AllFrom, AreDistinct}
+use Rattle.life_frames.specs.Shares.{Lived, AllFrom, AreDistinct}
+use Rattle.master_duty.specs.Reply.{Reply}
 use Rattle.life_runs.specs.Led.{Leads, Comes}
 use Rattle.master_hand.specs.Laying.{Scripted, scripted, scripted_behind, ready_of}
 use Rattle.master_hand.specs.Spoken.{Asked, is_passed}
 use Rattle.master_hand.specs.declared.hand.InHand.{InHand}
 use Rattle.master_side.specs.Shown.{wish_begun, takes_ready}
+use Rattle.master_side.specs.declared.carried.Target.{Target}
+use Rattle.master_side.specs.declared.carried.Wish.{Wish}
 use Rattle.master_side.specs.declared.hand.Hand.{Ghosts}
-use Rattle.master_tour.specs.Made.{ComesAt, is_in}
+use Rattle.master_tour.specs.Made.{ComesAt, FrameMade, is_in}
 use Rattle.master_tour.specs.Walks.{EachPair, StepsAt}
 use Rattle.master_tour.specs.declared.stop.Stop.{Stop}
 use Rattle.segment_plan.specs.declared.service.Service as Plan
 use Rattle.state_exchange.specs.Stated.{Service}
-use Rattle.master_node.specs.Coming.{IsComing, IsLaid, CameBy, next_of, wish_of}
-use Rattle.master_node.specs.Filling.{IsAmong}
+use Rattle.master_node.specs.Coming.{IsComing, IsLaid, PassesBy, CameBy, next_of, wish_of}
+use Rattle.master_node.specs.Filling.{IsAmong, StopFills}
 use Rattle.master_node.specs.Kept.{StopKept, StopStays}
 use Rattle.master_node.specs.Shows.{lived_of}
 use Rattle.master_node.specs.declared.coming.Coming.{Coming}
 use Rattle.master_node.proofs.Cames.{NumberBehind, came_by, ready_unpassed, got_inside}
-use Rattle.master_node.proofs.Fills.{from_each, begun_at, begun_here, begun_comes, among_step}
+use Rattle.master_node.proofs.Fills.{from_each, frame_each, fills_kept, begun_at, begun_here, begun_comes, among_step}
 use Rattle.master_node.proofs.Kepts.{stop_same}
 use Rattle.master_node.proofs.Lists.{steps_map, steps_trans, steps_mid, steps_some, steps_got, steps_each}
 
@@ -32,12 +35,12 @@ pub record Fitted {G : Ghosts InHand} (s t : Stop InHand G) : Type 0 where
   pub out : t.side.out.len ≡ s.side.out.len
 
 -- and one that is visited
-pub record Began {G : Ghosts InHand} (result : Bool) (coming : Option Coming) (s t : Stop InHand G) : Type 0 where
+pub record Began {G : Ghosts InHand} (result : Bool) (wish : Option Wish) (s t : Stop InHand G) : Type 0 where
   pub place : t.place ≡ s.place
   pub out : t.side.out.len ≡ s.side.out.len
-  pub ready : takes_ready result (wish_of coming) ≡ true → is_some (ready_of s.side.hand.laying) ≡ true
-  pub script : scripted t.side.hand.laying ≡ (if takes_ready result (wish_of coming) then scripted_behind s.side.hand.laying else scripted s.side.hand.laying)
-  pub unpassed : s.side.passing ≡ None → (takes_ready result (wish_of coming) ≡ true → (q : Asked) → ready_of s.side.hand.laying ≡ Some q → is_passed q ≡ false) → t.side.passing ≡ None
+  pub ready : takes_ready result wish ≡ true → is_some (ready_of s.side.hand.laying) ≡ true
+  pub script : scripted t.side.hand.laying ≡ (if takes_ready result wish then scripted_behind s.side.hand.laying else scripted s.side.hand.laying)
+  pub unpassed : s.side.passing ≡ None → (takes_ready result wish ≡ true → (q : Asked) → ready_of s.side.hand.laying ≡ Some q → is_passed q ≡ false) → t.side.passing ≡ None
 
 -- it has something laid ready, and is where it was
 pub record Laid {G : Ghosts InHand} (coming : Option Coming) (s t : Stop InHand G) : Type 0 where
@@ -55,7 +58,7 @@ pub record Visited {G : Ghosts InHand} (coming : Option Coming) (result : Bool) 
   pub is : got ≡ Some s
   pub comes : IsComing (next_of s) coming
   pub laid : IsLaid coming s.side.hand.laying.laid
-  pub began : Began result coming s t
+  pub began : Began result (wish_of coming) s t
 
 -- and of all that
 pub record Goes {G : Ghosts InHand} (coming : Option Coming) (result : Bool) (got : Option (Stop InHand G)) (s v : Stop InHand G) : Type 0 where
@@ -72,7 +75,7 @@ record Behind {G : Ghosts InHand} (coming : Option Coming) (result : Bool) (got 
   came : CameBy result coming third v
 
 module _ {G : Ghosts InHand} (coming : Option Coming) (result : Bool) (place : ℕ) (s0 s1 s2 s3 s4 : List (Stop InHand G)) (rooms : (s : Stop InHand G) → s.side.out.len ≡ s.side.hand.laying.areas.out) (comings : IfSome (slice_get s0 place) (λ s. IsComing (next_of s) coming))
-    (fitted : StepsAt (λ s t. Fitted s t) place s0 s1) (laid : StepsAt (λ s t. StopStays s t × IsLaid coming t.side.hand.laying.laid) place s1 s2) (began : StepsAt (λ s t. Began result coming s t) place s2 s3) (came : StepsAt (λ s t. CameBy result coming s t) place s3 s4) where
+    (fitted : StepsAt (λ s t. Fitted s t) place s0 s1) (laid : StepsAt (λ s t. StopStays s t × IsLaid coming t.side.hand.laying.laid) place s1 s2) (began : StepsAt (λ s t. Began result (wish_of coming) s t) place s2 s3) (came : StepsAt (λ s t. CameBy result coming s t) place s3 s4) where
   -- what came into hand, and where
   abbrev came_of : Option (Stop InHand G) → Option (Service Asked)
   came_of None = None
@@ -117,7 +120,7 @@ module _ {G : Ghosts InHand} (coming : Option Coming) (result : Bool) (place : �
   all_laid = steps_trans _ _ (λ s u. Laid coming s u) place s0 s1 s2 (λ s t u a b. is_laid s t u a b) (steps_some (λ s. IsComing (next_of s) coming) (λ s t. Fitted s t) place s0 s1 fitted comings) laid
 
   all_visited : StepsAt (λ s t. Visited coming result (slice_get s2 place) s t) place s2 s3
-  all_visited = steps_mid (λ s u. Laid coming s u) _ (λ s t. Visited coming result (slice_get s2 place) s t) place s0 s2 s3 (λ s t u a b. record { is = b.0; comes = a.comes; laid = a.laid; began = b.1 }) all_laid (steps_got (λ s t. Began result coming s t) place s2 s3 began)
+  all_visited = steps_mid (λ s u. Laid coming s u) _ (λ s t. Visited coming result (slice_get s2 place) s t) place s0 s2 s3 (λ s t u a b. record { is = b.0; comes = a.comes; laid = a.laid; began = b.1 }) all_laid (steps_got (λ s t. Began result (wish_of coming) s t) place s2 s3 began)
 
   -- the script's number behind it
   number_is : (coming : Option Coming) (result : Bool) (s t : Stop InHand G) → CameBy result coming s t → NumberBehind result coming (scripted s.side.hand.laying) t.side.hand.laying.number
@@ -143,6 +146,19 @@ module _ {G : Ghosts InHand} (coming : Option Coming) (result : Bool) (place : �
   pub kept : EachPair (λ s t. SomeKept s t) s3 s4
   kept = steps_each _ (λ s t. SomeKept s t) place s3 s4 any_same (λ s t k. k)
       (steps_mid (λ s t. Visited coming result (slice_get s2 place) s t) _ (λ s t. SomeKept s t) place s2 s3 s4 (λ s t u a b. kept_is coming result s t u a.comes a.began.script b) all_visited came)
+
+  -- THE FRAME, where that visit goes on with it
+  pub frame : (lens : ℕ → Lens) (recover made index : ℕ) (begun : ℕ → Option (Service Asked)) (left next : List ℕ) (as' : List (Lived Asked Reply)) (octets octets' : List ℕ) (n n2 n3 : ℕ) → n2 ≡ n →
+      FrameMade (λ ds i a s. StopFills lens recover made begun index left ds i a s) octets n as' s1 →
+      (FrameMade (λ ds i a s. StopFills lens recover made begun index left ds i a s) octets n2 as' s2 → FrameMade (λ ds i a s. StopFills lens recover made (now begun) index next ds i a s) octets' n3 as' s3) →
+      FrameMade (λ ds i a s. StopFills lens recover made (now begun) index next ds i a s) octets' n3 as' s4
+  frame lens recover made index begun left next as' octets octets' n n2 n3 e f v =
+      frame_each (λ ds i a s. StopFills lens recover made (now begun) index next ds i a s) (λ s t. SomeKept s t) (λ ds i a s. StopFills lens recover made (now begun) index next ds i a s)
+      (λ ds i a s t p k. fills_kept lens recover made (now begun) index k.number next ds i a s t k.kept p) octets' n3 as' s3 s4
+      (v (frame_each (λ ds i a s. StopFills lens recover made begun index left ds i a s) (λ s t. StopStays s t) (λ ds i a s. StopFills lens recover made begun index left ds i a s)
+      (λ ds i a s t p k. fills_kept lens recover made begun index s.side.hand.laying.number left ds i a s t k p) octets n2 as' s1 s2 (subst (λ z. FrameMade (λ ds i a s. StopFills lens recover made begun index left ds i a s) octets z as' s1) (sym e) f)
+      (steps_each (λ s t. StopStays s t × IsLaid coming t.side.hand.laying.laid) (λ s t. StopStays s t) place s1 s2 (λ s. stop_same s) (λ s t k. k.0) laid)))
+      kept
 
   -- THE SLAVE GOES ON
   all_go : StepsAt (λ s v. Goes coming result (slice_get s2 place) s v) place s0 s4
@@ -186,6 +202,10 @@ module _ {G : Ghosts InHand} (coming : Option Coming) (result : Bool) (place : �
           go : (z : Bool) → (if z then scripted_behind s.side.hand.laying else scripted s.side.hand.laying).script ≡ s.side.hand.laying.script
           go true = refl
           go false = refl
+
+-- a change of state is passed by
+pub state_passes : {G : Ghosts InHand} (coming : Coming) (target : Target) (s t : Stop InHand G) → coming ≡ Coming.State target → (s.side.hand.laying.number < length s.side.hand.laying.script → StopKept (suc s.side.hand.laying.number) s t) → PassesBy (Some coming) s t
+state_passes coming target s t e k = subst (λ z. PassesBy (Some z) s t) (sym e) k
 
 -- a slave of which the frame has no room
 pub fitted_same : {G : Ghosts InHand} (s : Stop InHand G) → Fitted s s

@@ -68,7 +68,7 @@ impl MasterNode {
     ghost use Rattle.master_node.specs.Shows.{WaitsNone};
     ghost use Rattle.master_node.specs.Kept.{StopStays, TourKept, TourOn};
     ghost use Rattle.master_node.specs.Coming.{next_of, IsComing, IsLaid, PassesBy, CameBy};
-    ghost use Rattle.std.specs.Prelude.{◌+◌, ◌∷◌, [], nat_lt, map, if◌then◌else◌};
+    ghost use Rattle.std.specs.Prelude.{◌⊎◌, ◌+◌, ◌∷◌, [], nat_lt, map, if◌then◌else◌};
     ghost use Rattle.frame_view.specs.View.{Lens};
     ghost use Rattle.life_frames.specs.Shares.{AreDistinct};
     ghost use Rattle.life_runs.specs.Led.{Leads, Turn, IsLedFrame};
@@ -185,7 +185,22 @@ impl MasterNode {
         post.origin = Origin::Script(number);
     }
 
-    // What may come into hand is laid ready.
+    // What comes is laid ready.
+    fn lay_coming(&mut self, place: usize, coming: Coming)
+        requires { place < vec_len self.old.posts }
+        ensures posts { vec_len self.new.posts ≡ vec_len self.old.posts }
+        ensures laid { StepsAt (λ s t. StopStays s t × IsLaid (Some coming) t.side.hand.laying.laid) place self.old.tour.stops.items self.new.tour.stops.items }
+        ensures kept { TourKept self.old self.new × (All WaitsNone self.old.posts.items → All WaitsNone self.new.posts.items) }
+    {
+        match coming {
+            Coming::Packet => self.lay_packet(place),
+            Coming::Mail => self.lay_mail(place),
+            Coming::Script => self.lay_script(place),
+            Coming::State(_) => self.lay_state(place),
+        }
+    }
+
+    // So is what may come into hand, if something may.
     fn lay(&mut self, place: usize, coming: Option<Coming>)
         requires { place < vec_len self.old.posts }
         ensures posts { vec_len self.new.posts ≡ vec_len self.old.posts }
@@ -194,22 +209,22 @@ impl MasterNode {
     {
         match coming {
             None => {}
-            Some(Coming::Packet) => self.lay_packet(place),
-            Some(Coming::Mail) => self.lay_mail(place),
-            Some(Coming::Script) => self.lay_script(place),
-            Some(Coming::State(_)) => self.lay_state(place),
+            Some(what) => self.lay_coming(place, what),
         }
     }
 
     // A change of state that came into hand is passed by in the script.
-    fn pass_by(&mut self, place: usize, coming: Option<Coming>)
+    fn pass_by(&mut self, place: usize, coming: Coming)
         requires { place < vec_len self.old.posts }
-        ensures begun { StepsAt (λ s t. PassesBy coming s t) place self.old.tour.stops.items self.new.tour.stops.items }
+        ensures begun { StepsAt (λ s t. PassesBy (Some coming) s t) place self.old.tour.stops.items self.new.tour.stops.items }
         ensures tour { TourKept self.old self.new }
         ensures posts { self.new.posts ≡ self.old.posts }
     {
-        if let Some(Coming::State(_)) = coming {
-            pass_by(&mut self.tour.stops[place].side);
+        match coming {
+            Coming::State(_) => pass_by(&mut self.tour.stops[place].side),
+            Coming::Packet => {}
+            Coming::Mail => {}
+            Coming::Script => {}
         }
     }
 
@@ -228,7 +243,10 @@ impl MasterNode {
             slave: place as u32,
             origin,
         });
-        self.pass_by(place, coming);
+        match coming {
+            None => {}
+            Some(what) => self.pass_by(place, what),
+        }
     }
 
     // So it does where something did.
@@ -253,6 +271,8 @@ impl MasterNode {
         ensures on { TourOn self.old self.new × (self.new.tour.passed ≡ self.old.tour.passed) }
         ensures quiet { All WaitsNone self.old.posts.items → All WaitsNone self.new.posts.items }
         ensures visits { (self.old.tour.again ≡ false → length self.old.tour.visit.items < 16) → IsCarried (nat_lt self.old.tour.count self.new.tour.count) self.old.tour.again place self.old.tour.visit.items self.new.tour.visit.items }
+        ensures counts { (self.new.tour.count ≡ self.old.tour.count) ⊎ (self.new.tour.count ≡ self.old.tour.count + 1) }
+        ensures still { result ≡ false → (self.new.tour.count ≡ self.old.tour.count) × (self.new.tour.visit ≡ self.old.tour.visit) }
         ensures first { length into.old.items ≡ 16 → holds_at (λ s. is_live s.stand) self.old.tour.stops.items place ≡ true → (result ≡ true) × (self.new.tour.count ≡ self.old.tour.count + 1) }
         ensures led { (lens : ℕ → Lens) (recover made : ℕ) (left next : List ℕ) (as' : List Leads) → All WaitsNone self.old.posts.items → AreDistinct (map lived_of as') → is_in place left ≡ true → is_in place next ≡ false → ((k : ℕ) → is_in k next ≡ true → is_in k left ≡ true) →
             IsFilling lens recover made left self.old into.old.items as' → IsFilling lens recover made (if result then next else left) self.new into.new.items as' }
