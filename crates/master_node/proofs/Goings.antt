@@ -93,11 +93,12 @@ module _ (lens : ℕ → Lens) (recover retry : ℕ) where
         from x y p q = subst (λ z. (if z && not y then opened + 1 else opened) ≤ k) p (subst (λ z. (if nat_lt opened (length ts) && not z then opened + 1 else opened) ≤ k) q a)
         go : (x : Bool) → nat_lt opened (length ts) ≡ x → (y : Bool) → holds_at opens ts opened ≡ y → goal
         go true p false q = let l = from true false p q in later opened visit us g k (omega (arith, l)) few
-        go true p true q = let l = from true true p q in here (nat_lt opened k) refl
+        go true p true q = here (nat_lt opened k) refl
           where
             here : (z : Bool) → nat_lt opened k ≡ z → goal
             here true e = later opened visit us g k (ltb-true opened k e) few
             here false e =
+                let l = from true true p q in
                 let m = ltb-false opened k e in
                 let same : opened ≡ k = omega (arith, l, m) in
                 subst (λ z. holds_at is_opening_lead (map (led_behind lens recover retry gives made f) us) z ≡ true) same (sym (h opened) ∙ q)

@@ -7,3 +7,5 @@ pub mod Goings
 pub mod Firsts
 pub mod Lefts
 pub mod Cames
+pub mod Behinds
+pub mod Tells
