@@ -9,3 +9,5 @@ pub mod Lefts
 pub mod Cames
 pub mod Behinds
 pub mod Tells
+pub mod Fills
+pub mod Visits

@@ -14,10 +14,10 @@ use Rattle.master_node.proofs.Kepts.{stop_same, node_same, node_on}
 use Rattle.master_node.proofs.Lists.{steps_each}
 
 pub node_refl : (m : MasterNode) → NodeKept m m
-node_refl m = node_same m m refl (λ q. q)
+node_refl m = node_same m m refl refl (λ q. q)
 
-pub node_told : (m n : MasterNode) → n.tour ≡ m.tour → n.posts ≡ m.posts → NodeKept m n
-node_told m n e p = node_same m n e (λ q. subst (λ z. All WaitsNone z.items) (sym p) q)
+pub node_told : (m n : MasterNode) → n.tour ≡ m.tour → n.made ≡ m.made → n.posts ≡ m.posts → NodeKept m n
+node_told m n e f p = node_same m n e f (λ q. subst (λ z. All WaitsNone z.items) (sym p) q)
 
 pub node_then : (m n o : MasterNode) → NodeKept n o → NodeKept m n → NodeKept m o
 node_then m n o b a = node_on m n o a b

@@ -9,4 +9,4 @@ returns-clause-kept c =
     let m = c.args.self.now in
     let r = c.requires in
     let k = m.posts.ok.0 in
-    node_same m _ refl (λ q. all_set WaitsNone m.posts.items c.args.place c.index_mut.result.now c.drop_all.new.self (omega (arith, r, k)) c.index_mut.ensures.value (λ p. c.drop_all.ensures.mails) q)
+    node_same m _ refl refl (λ q. all_set WaitsNone m.posts.items c.args.place c.index_mut.result.now c.drop_all.new.self (omega (arith, r, k)) c.index_mut.ensures.value (λ p. c.drop_all.ensures.mails) q)

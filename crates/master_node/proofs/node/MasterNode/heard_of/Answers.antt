@@ -11,6 +11,6 @@ returns-clause-kept c =
     record {
       each = stops_set m.tour.stops.items c.args.place c.index_mut.result.now _ (omega (arith, r, k, p)) c.index_mut.ensures.value
           (record { side = c.heard_once.ensures; stand = refl; place = refl; start = refl; spare = refl; under = refl; at = refl });
-      tour = record { again = refl; visit = refl; opened = refl; last = refl; missed = refl; retry = refl; count = refl; passed = refl };
+      tour = record { again = refl; visit = refl; opened = refl; last = refl; missed = refl; retry = refl; count = refl; passed = refl; made = refl };
       quiet = λ q. q;
     }
