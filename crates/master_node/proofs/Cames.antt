@@ -95,6 +95,9 @@ asked_own room Plan.Service.GetIp = refl
 asked_own room (Plan.Service.State state) = tt
 asked_own room (Plan.Service.Forward packet) = tt
 
+pub asked_unpassed : (room : ℕ) (s : Service) (q : Asked) → asked_of room s ≡ Some q → is_passed q ≡ false
+asked_unpassed room s q e = subst IsOwn e (asked_own room s)
+
 next_own : (room : ℕ) (next : Option Service) → IsOwn (asked_next room next)
 next_own room None = tt
 next_own room (Some s) = asked_own room s

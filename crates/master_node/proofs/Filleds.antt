@@ -6,7 +6,7 @@ use Rattle.std.proofs.lemmas.Bool.{lt-ltb, le-ltb}
 use Rattle.frame_view.specs.View.{Lens}
 use Rattle.life_frames.specs.Shares.{AllFrom, AreDistinct}
 use Rattle.life_runs.specs.Led.{Leads}
-use Rattle.master_tour.specs.Goes.{is_live, holds_at, BeginsLive}
+use Rattle.master_tour.specs.Goes.{is_live, holds_at, Passes, BeginsLive}
 use Rattle.master_tour.specs.Made.{FrameMade, is_in}
 use Rattle.master_tour.specs.Orders.{visits_left, AreOnce, IsNextOf, IsCarried}
 use Rattle.master_tour.specs.Walks.{StepsAt}
@@ -292,3 +292,40 @@ module _ (lens : ℕ → Lens) (recover made : ℕ) (as' : List Leads) where
       repeats = λ a. carried_first p m.tour.visit.items f.left (nat_lt m.tour.count m2.tour.count) m.tour.again m2.tour.visit.items carried (f.repeats (sym again2 ∙ a));
       first = λ l. first2 m.tour.again refl (none_or n);
     }
+
+  -- one that the frame has no room for
+  pub fills_still : (n : ℕ) (m m1 m2 : MasterNode) (octets octets2 : List ℕ) (p : ℕ) → 1 ≤ n → (f : Fills lens recover made as' n m octets) → SameTour m m1 → is_in p f.left ≡ true → TourOn m1 m2 → (All WaitsNone m1.posts.items → All WaitsNone m2.posts.items) →
+      m2.tour.count ≡ m1.tour.count → m2.tour.visit ≡ m1.tour.visit →
+      ((left next : List ℕ) → All WaitsNone m1.posts.items → is_in p left ≡ true → is_in p next ≡ false → ((j : ℕ) → is_in j next ≡ true → is_in j left ≡ true) → IsFilling lens recover made left m1 octets as' → IsFilling lens recover made left m2 octets2 as') →
+      IsFilled lens recover made m2 octets2 as'
+  fills_still n m m1 m2 octets octets2 p l f k at on quiets count visit led =
+      let quiet1 = subst (λ z. All WaitsNone z.items) (sym k.posts) f.quiet in
+      let opened2 = on.opened ∙ k.opened in
+      record {
+        left = f.left;
+        filling = led f.left (without p f.left) quiet1 at (without_not p f.left) (λ j e. without_fewer p j f.left e) (filling_same f.left m m1 octets k f.filling);
+        quiet = quiets quiet1;
+        some = let w = f.some l in let u = k.count in omega (arith, w, u, count);
+        apart = subst (λ z. z < length as' → (j : ℕ) → j < length as' → (j ≡ z → ⊥) → is_in j f.left ≡ true) (sym opened2) f.apart;
+        comes = subst (λ z. ComeAgain is_live_lead z.items m2.tour.opened as') (sym (visit ∙ k.visit)) (subst (λ z. ComeAgain is_live_lead m.tour.visit.items z as') (sym opened2) (record { once = f.once; first = f.first l; alone = f.alone }));
+      }
+
+-- one step after the other
+pub on_same : (m : MasterNode) → TourOn m m
+on_same m = record { again = refl; opened = refl; last = refl; missed = refl; retry = refl; made = refl }
+
+pub on_on : (m n o : MasterNode) → TourOn m n → TourOn n o → TourOn m o
+on_on m n o a b = record { again = b.again ∙ a.again; opened = b.opened ∙ a.opened; last = b.last ∙ a.last; missed = b.missed ∙ a.missed; retry = b.retry ∙ a.retry; made = b.made ∙ a.made }
+
+-- a place that passes is one
+pub passes_some : {S : Type 0} (test : S → Bool) (ss : List S) (o : Option ℕ) → o ≡ None → Passes test ss o → ⊥
+passes_some test ss None e p = p
+passes_some test ss (Some k) e p = cc
+
+pub passes_at : {S : Type 0} (test : S → Bool) (ss : List S) (o : Option ℕ) (k : ℕ) → o ≡ Some k → Passes test ss o → holds_at test ss k ≡ true
+passes_at test ss None k e p = absurd p
+passes_at test ss (Some j) k e p = let f : j ≡ k = cc in subst (λ z. holds_at test ss z ≡ true) f p
+
+pub some_count : (n : ℕ) → (n ≡ 0 → ⊥) → 1 ≤ n
+some_count zero h = absurd (h refl)
+some_count (suc n) h = omega arith

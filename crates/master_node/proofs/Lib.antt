@@ -12,3 +12,4 @@ pub mod Tells
 pub mod Fills
 pub mod Visits
 pub mod Filleds
+pub mod Sents
