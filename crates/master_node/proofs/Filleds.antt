@@ -52,7 +52,7 @@ pub record Fills (lens : ℕ → Lens) (recover made : ℕ) (as' : List Leads) (
   pub repeats : m.tour.again ≡ true → HoldsFirst is_live_lead as' m.tour.visit.items
   pub first : 1 ≤ n → HoldsFirst is_live_lead as' m.tour.visit.items
 
-from_length : {A S : Type 0} (P : ℕ → A → S → Type 0) (i : ℕ) (as' : List A) (ss : List S) → AllFrom P i as' ss → length ss ≡ length as'
+pub from_length : {A S : Type 0} (P : ℕ → A → S → Type 0) (i : ℕ) (as' : List A) (ss : List S) → AllFrom P i as' ss → length ss ≡ length as'
 from_length P i [] [] p = refl
 from_length P i [] (s ∷ ss) p = absurd p
 from_length P i (a ∷ as') [] p = absurd p
@@ -281,7 +281,7 @@ module _ (lens : ℕ → Lens) (recover made : ℕ) (as' : List Leads) where
       behind = λ a j e.
           let b = sym again2 ∙ a in
           not_in j (without p f.left) (λ t. carried_or p m.tour.visit.items f.left (nat_lt m.tour.count m2.tour.count) m.tour.again m2.tour.visit.items j ⊥ carried
-            (λ w. true_false (is_in j f.left) (without_fewer p j f.left t) (f.behind b j w)) (λ q. true_false (is_in p (without p f.left)) (subst (λ z. is_in z (without p f.left) ≡ true) q t) (without_not p f.left)) e);
+          (λ w. true_false (is_in j f.left) (without_fewer p j f.left t) (f.behind b j w)) (λ q. true_false (is_in p (without p f.left)) (subst (λ z. is_in z (without p f.left) ≡ true) q t) (without_not p f.left)) e);
       alone = λ l j e.
           let l0 = subst (λ z. z < length as') opened2 l in
           carried_or p m.tour.visit.items f.left (nat_lt m.tour.count m2.tour.count) m.tour.again m2.tour.visit.items j (j ≡ m2.tour.opened) carried (λ w. f.alone l0 j w ∙ sym opened2) (λ q. q ∙ is_opened_one l0 ∙ sym opened2) e;

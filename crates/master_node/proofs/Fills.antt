@@ -49,7 +49,7 @@ pub fills_kept : {G : Ghosts InHand} (lens : ℕ → Lens) (recover made : ℕ) 
     StopFills lens recover made begun index left ds i a s → StopFills lens recover made begun index left ds i a t
 fills_kept lens recover made begun index n left ds i a s t k m =
     let path : StopHas lens index a.spot t.side.station t.stand t.side.out t.side.inn t.side.duty t.side.carried t.under t.at ds m.life ≡ StopHas lens index a.spot s.side.station s.stand s.side.out s.side.inn s.side.duty s.side.carried s.under s.at ds m.life =
-        λ j. StopHas lens index a.spot (k.side.station j) (k.stand j) (k.side.side.out_is j) (k.side.side.in_is j) (k.side.side.duty_is j) (k.side.carried j) (k.under j) (k.at j) ds m.life in
+    λ j. StopHas lens index a.spot (k.side.station j) (k.stand j) (k.side.side.out_is j) (k.side.side.in_is j) (k.side.side.duty_is j) (k.side.carried j) (k.under j) (k.at j) ds m.life in
     record {
       life = m.life;
       pick = m.pick;

@@ -1,6 +1,8 @@
 -- A slave before its bring-up.
 use Rattle.std.proofs.Common.{◌≡◌, ◌≤◌, ℕ, zero, suc, ◌+◌, ◌<◌, ◌-◌, ◌%◌, Bool, true, false, None, List, [], ◌∷◌, ◌++◌, refl, sym, ap, ◌∙◌, subst, arith, length, take}
-use Rattle.std.specs.Prelude.{nat_lt}
+use Rattle.std.specs.Prelude.{nat_lt, ◌==◌, ◌||◌, ◌&&◌}
+use Rattle.std.proofs.lemmas.Bool.{eqb-true}
+use Rattle.segment_plan.specs.Sound.{is_start}
 use Rattle.al_state.specs.declared.bringing.BringStep.{BringStep}
 use Rattle.al_state.specs.declared.bringing.BringUp.{BringUp}
 use Rattle.frame_view.specs.View.{Lens}
@@ -89,3 +91,12 @@ pub all_open : (plan : Scenario) (place : ℕ) (specs : List SlaveSpec) (k : ℕ
 all_open plan place [] k l = absurd (omega (arith, l))
 all_open plan place (spec ∷ specs) zero l = refl
 all_open plan place (spec ∷ specs) (suc k) l = all_open plan (suc place) specs k (omega (arith, l))
+
+-- a start state is small
+pub start_small : (boot : Bool) (start : ℕ) → is_start boot start ≡ true → nat_lt start 16 ≡ true
+start_small boot start e = go (start == 2) refl boot refl
+  where
+    go : (a : Bool) → (start == 2) ≡ a → (b : Bool) → boot ≡ b → nat_lt start 16 ≡ true
+    go true f b g = ap (λ z. nat_lt z 16) (eqb-true start 2 f)
+    go false f true g = ap (λ z. nat_lt z 16) (eqb-true start 3 (let h : (start == 2 || (boot && start == 3)) ≡ true = e in (λ i. (sym f i || (sym g i && start == 3))) ∙ h))
+    go false f false g = absurd (let h : (start == 2 || (boot && start == 3)) ≡ true = e in let k : false ≡ true = (λ i. (sym f i || (sym g i && start == 3))) ∙ h in cc)

@@ -47,6 +47,7 @@ without_fewer p k (q ∷ qs) e = go (p == q) e (λ t. without_fewer p k qs t)
     other : (y : Bool) → (k == q) ≡ y → is_in k (q ∷ without p qs) ≡ true → (is_in k (without p qs) ≡ true → is_in k qs ≡ true) → is_in k (q ∷ qs) ≡ true
     other true f t r = in_here k q qs f
     other false f t r = in_there k q qs (r (sym (in_tail k q (without p qs) f) ∙ t))
+
     go : (z : Bool) → is_in k (if z then without p qs else q ∷ without p qs) ≡ true → (is_in k (without p qs) ≡ true → is_in k qs ≡ true) → is_in k (q ∷ qs) ≡ true
     go true t r = in_there k q qs (r t)
     go false t r = other (k == q) refl t r

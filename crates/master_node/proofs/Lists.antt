@@ -139,3 +139,8 @@ both_holds P f g h [] (s ∷ ss) p k = absurd p
 both_holds P f g h (a ∷ as') [] p k = absurd p
 both_holds P f g h (a ∷ as') (s ∷ ss) p zero = h a s p.0
 both_holds P f g h (a ∷ as') (s ∷ ss) p (suc k) = both_holds P f g h as' ss p.1 k
+
+-- one more that passes
+pub all_more : {S : Type 0} (P : S → Type 0) (ss : List S) (s : S) → All P ss → P s → All P (ss ++ s ∷ [])
+all_more P [] s a p = All-cons P s [] p (All-nil P)
+all_more P (x ∷ xs) s a p = All-cons P x (xs ++ s ∷ []) (All-head P x xs a) (all_more P xs s (All-tail P x xs a) p)

@@ -174,26 +174,26 @@ module _ {G : Ghosts InHand} (coming : Option Coming) (result : Bool) (place : �
   among lens begun left next as' fewer at over d m =
       among_step lens begun left next fewer (λ s v. Goes coming result (slice_get s2 place) s v) here what 0 place place as' s0 s4 (omega arith)
       (λ a s v p n g.
-        let t = g.second in
-        let f = g.laid.fitted in
-        let z = g.visited.began in
-        let k = g.kept.kept in
-        let script = ap (λ w. w.script) f.script ∙ n.script in
-        let number = ap (λ w. w.number) f.script ∙ n.still at in
-        let room = sym (rooms t) ∙ f.out ∙ sym n.room in
-        let what_is : came_of (Some t) ≡ what = ap came_of (sym g.visited.is) in
-        let came = came_by coming result (lens a.lived.spot.station).out t.side.hand.laying (scripted g.third.side.hand.laying) v.side.hand.laying.number room g.visited.comes g.visited.laid z.ready z.script (number_is coming result g.third v g.came) in
-        record {
-          script = k.side.script ∙ script_behind coming result t g.third z.script ∙ script;
-          comes = subst (λ w. Comes (lens a.lived.spot.station).out a.script a.number w v.side.hand.laying.number) (what_is ∙ sym (begun_here begun here what a.lived.spot.place p))
-              (subst (λ w. Comes (lens a.lived.spot.station).out w a.number (came_of (Some t)) v.side.hand.laying.number) script (subst (λ w. Comes (lens a.lived.spot.station).out t.side.hand.laying.script w (came_of (Some t)) v.side.hand.laying.number) number came));
-          still = λ e. absurd (let w = sym over ∙ e in cc);
-          short = n.short;
-          unpassed = k.side.passing ∙ z.unpassed (f.passing ∙ n.unpassed) (λ w q e. ready_unpassed coming result t.side.hand.laying g.visited.comes g.visited.laid w q e);
-          own = n.own;
-          place = k.place ∙ z.place ∙ f.place ∙ n.place;
-          room = n.room ∙ sym f.out ∙ sym z.out ∙ sym (ap (λ w. w.len) k.side.side.out_is);
-        })
+      let t = g.second in
+      let f = g.laid.fitted in
+      let z = g.visited.began in
+      let k = g.kept.kept in
+      let script = ap (λ w. w.script) f.script ∙ n.script in
+      let number = ap (λ w. w.number) f.script ∙ n.still at in
+      let room = sym (rooms t) ∙ f.out ∙ sym n.room in
+      let what_is : came_of (Some t) ≡ what = ap came_of (sym g.visited.is) in
+      let came = came_by coming result (lens a.lived.spot.station).out t.side.hand.laying (scripted g.third.side.hand.laying) v.side.hand.laying.number room g.visited.comes g.visited.laid z.ready z.script (number_is coming result g.third v g.came) in
+      record {
+        script = k.side.script ∙ script_behind coming result t g.third z.script ∙ script;
+        comes = subst (λ w. Comes (lens a.lived.spot.station).out a.script a.number w v.side.hand.laying.number) (what_is ∙ sym (begun_here begun here what a.lived.spot.place p))
+            (subst (λ w. Comes (lens a.lived.spot.station).out w a.number (came_of (Some t)) v.side.hand.laying.number) script (subst (λ w. Comes (lens a.lived.spot.station).out t.side.hand.laying.script w (came_of (Some t)) v.side.hand.laying.number) number came));
+        still = λ e. absurd (let w = sym over ∙ e in cc);
+        short = n.short;
+        unpassed = k.side.passing ∙ z.unpassed (f.passing ∙ n.unpassed) (λ w q e. ready_unpassed coming result t.side.hand.laying g.visited.comes g.visited.laid w q e);
+        own = n.own;
+        place = k.place ∙ z.place ∙ f.place ∙ n.place;
+        room = n.room ∙ sym f.out ∙ sym z.out ∙ sym (ap (λ w. w.len) k.side.side.out_is);
+      })
       d m all_go all_here
     where
       script_behind : (coming : Option Coming) (result : Bool) (s t : Stop InHand G) → scripted t.side.hand.laying ≡ (if takes_ready result (wish_of coming) then scripted_behind s.side.hand.laying else scripted s.side.hand.laying) → t.side.hand.laying.script ≡ s.side.hand.laying.script

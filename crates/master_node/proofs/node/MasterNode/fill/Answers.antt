@@ -36,9 +36,9 @@ returns-then-not-visit-clause-filled c = λ lens recover made as' d x.
     let next = e.left p is (λ a. f.once) in
     fills_still lens recover made as' c.loop.counter c.loop.self _ c.visit.new.self c.loop.into.items c.visit.new.into.items p
     (some_count c.loop.counter (λ z.
-      let y = f.none z in
-      let yes = (v.first y.short (subst (λ w. holds_at (λ s. is_live s.stand) w.items p ≡ true) (sym e.stops) (passes_at (λ s. is_live s.stand) c.loop.self.tour.stops.items c.due.result p is (e.first y.count y.passed y.begins y.some)))).0 in
-      (let w : true ≡ false = sym yes ∙ no in cc)))
+    let y = f.none z in
+    let yes = (v.first y.short (subst (λ w. holds_at (λ s. is_live s.stand) w.items p ≡ true) (sym e.stops) (passes_at (λ s. is_live s.stand) c.loop.self.tour.stops.items c.due.result p is (e.first y.count y.passed y.begins y.some)))).0 in
+    (let w : true ≡ false = sym yes ∙ no in cc)))
     f (record { stops = e.stops; count = e.kept.0; again = e.kept.1; visit = e.kept.2; opened = e.kept.3; last = e.kept.4; made = refl; posts = refl }) (f.most p next.among) v.on.0 v.quiet (v.still no).0 (v.still no).1
     (λ left other q a o s g. subst (λ (z : Bool). IsFilling lens recover made (if z then other else left) c.visit.new.self c.visit.new.into.items as') no (v.led lens recover made left other as' q d a o s g))
 
@@ -57,18 +57,18 @@ loop-preserved c = (
   c.visit.ensures.begun,
   c.visit.ensures.posts ∙ c.loop.invariant.1,
   (let e = c.due.ensures in
-    on_on c.args.self.now c.loop.self c.visit.new.self c.loop.invariant.2
-    (record { again = c.visit.ensures.on.0.again ∙ e.kept.1; opened = c.visit.ensures.on.0.opened ∙ e.kept.3; last = c.visit.ensures.on.0.last ∙ e.kept.4; missed = c.visit.ensures.on.0.missed ∙ e.rest.0; retry = c.visit.ensures.on.0.retry ∙ e.rest.1; made = c.visit.ensures.on.0.made })),
+      on_on c.args.self.now c.loop.self c.visit.new.self c.loop.invariant.2
+      (record { again = c.visit.ensures.on.0.again ∙ e.kept.1; opened = c.visit.ensures.on.0.opened ∙ e.kept.3; last = c.visit.ensures.on.0.last ∙ e.kept.4; missed = c.visit.ensures.on.0.missed ∙ e.rest.0; retry = c.visit.ensures.on.0.retry ∙ e.rest.1; made = c.visit.ensures.on.0.made })),
   λ lens recover made as' d x.
-    let e = c.due.ensures in
-    let v = c.visit.ensures in
-    let f = c.loop.invariant.3 lens recover made as' d x in
-    let p = c.in-Some.place in
-    let is : c.due.result ≡ Some p = cc in
-    let yes : c.visit.result ≡ true = cc in
-    fills_more lens recover made as' c.loop.counter c.loop.self _ c.visit.new.self c.loop.into.items c.visit.new.into.items p f
-    (record { stops = e.stops; count = e.kept.0; again = e.kept.1; visit = e.kept.2; opened = e.kept.3; last = e.kept.4; made = refl; posts = refl })
-    (λ a. e.left p is a) (λ a b g h. passes_at (λ s. is_live s.stand) c.loop.self.tour.stops.items c.due.result p is (e.first a b g h))
-    (c.in-Some.ensures.few) v.on.0 v.on.1 v.quiet v.visits v.counts (λ a b. (v.first a b).1)
-    (λ left other q a o s g. subst (λ (z : Bool). IsFilling lens recover made (if z then other else left) c.visit.new.self c.visit.new.into.items as') yes (v.led lens recover made left other as' q d a o s g)),
+      let e = c.due.ensures in
+      let v = c.visit.ensures in
+      let f = c.loop.invariant.3 lens recover made as' d x in
+      let p = c.in-Some.place in
+      let is : c.due.result ≡ Some p = cc in
+      let yes : c.visit.result ≡ true = cc in
+      fills_more lens recover made as' c.loop.counter c.loop.self _ c.visit.new.self c.loop.into.items c.visit.new.into.items p f
+      (record { stops = e.stops; count = e.kept.0; again = e.kept.1; visit = e.kept.2; opened = e.kept.3; last = e.kept.4; made = refl; posts = refl })
+      (λ a. e.left p is a) (λ a b g h. passes_at (λ s. is_live s.stand) c.loop.self.tour.stops.items c.due.result p is (e.first a b g h))
+      (c.in-Some.ensures.few) v.on.0 v.on.1 v.quiet v.visits v.counts (λ a b. (v.first a b).1)
+      (λ left other q a o s g. subst (λ (z : Bool). IsFilling lens recover made (if z then other else left) c.visit.new.self c.visit.new.into.items as') yes (v.led lens recover made left other as' q d a o s g)),
 )

@@ -14,9 +14,9 @@ returns-clause-leads c = λ lens recover retry missed number octets us f p b u r
     let ts = c.returned.new.self.stops.items in
     let gives = gives_up_at lens recover retry missed in
     let three = c.returned.ensures.shown lens (seen lens octets) r u.sent (λ spot. speech_at lens spot) is_followed is_passed number recover (map turned_of us)
-        (both_map turned_of _ _ (λ v s i. (i.lead.lives, i.way)) us m.tour.stops.items u.each) in
+    (both_map turned_of _ _ (λ v s i. (i.lead.lives, i.way)) us m.tour.stops.items u.each) in
     let leads = all_led lens recover retry gives number f octets _ _ us m.tour.stops.items ts u.each three c.returned.ensures.stays
-        (λ v s t i w e. lead_behind lens recover retry gives number f octets v s t _ i (w []) (life_back_is lens recover retry gives number f octets c.args.frame.now.items v s p b i) e.0 e.1) in
+    (λ v s t i w e. lead_behind lens recover retry gives number f octets v s t _ i (w []) (life_back_is lens recover retry gives number f octets c.args.frame.now.items v s p b i) e.0 e.1) in
     behind_shows lens recover retry gives number f _ _ 0 us c.all_back.ensures.kept leads u.distinct u.quiet
     (goes_behind lens recover retry gives number f c.returned.new.self.again m.tour.visit.items c.returned.new.self.visit.items m.tour.opened c.returned.new.self.opened us ts c.returned.ensures.tour.1 c.returned.ensures.opened leads u.goes)
     c.returned.ensures.tour.2 (c.returned.ensures.tour.3 ∙ u.retry_is)

@@ -57,7 +57,7 @@ returns-clause-led c = λ lens recover made left next as' quiet d at over fewer 
     let s4 = c.came.new.self.tour.stops.items in
     let fitted = steps_map _ (λ s t. Fitted s t) place s0 s1 (λ s t p. record { place = p.0.1; passing = p.1.2; script = p.1.3; out = p.1.0.out_is }) (steps_both _ _ place s0 s1 e.lives e.step) in
     let began = subst (λ z. StepsAt (λ s t. Began r z s t) place s2 s3) c.wish_of-wish.ensures
-        (steps_map _ (λ s t. Began r c.wish_of-wish.result s t) place s2 s3 (λ s t p. record { place = p.0.4; out = p.1.0.0.out_is; ready = p.1.1.0; script = p.1.1.1; unpassed = p.1.1.2 }) (steps_both _ _ place s2 s3 v.lives (steps_both _ _ place s2 s3 v.step v.began))) in
+    (steps_map _ (λ s t. Began r c.wish_of-wish.result s t) place s2 s3 (λ s t p. record { place = p.0.4; out = p.1.0.0.out_is; ready = p.1.1.0; script = p.1.1.1; unpassed = p.1.1.2 }) (steps_both _ _ place s2 s3 v.lives (steps_both _ _ place s2 s3 v.step v.began))) in
     let rooms : (s : Stop InHand Impl.ghosts) → s.side.out.len ≡ s.side.hand.laying.areas.out = λ s. s.side.room ∙ ap (λ z. z.out) (sym s.side.hand.one_slave) in
     let coms = c.coming-coming.ensures quiet in
     let laid = c.lay.ensures.laid in
@@ -66,8 +66,8 @@ returns-clause-led c = λ lens recover made left next as' quiet d at over fewer 
     let begun = now coming r place s0 s1 s2 s3 s4 rooms coms fitted laid began came f.begun in
     let same = ap (λ n. n % 256) (c.came.ensures.kept.0.made ∙ c.lay.ensures.kept.0.made) in
     let made_frame = frame coming r place s0 s1 s2 s3 s4 rooms coms fitted laid began came lens recover made index f.begun left next (map lived_of as') c.args.into.now.items c.visit-began.new.frame.items m.tour.count c.lay.new.self.tour.count c.visit-began.new.self.count
-        (c.lay.ensures.kept.0.count ∙ e.count) (e.made (speech_at lens) is_followed is_passed made recover index m.tour.count lens left (map lived_of as') c.args.into.now.items f.begun d at f.frame)
-        (λ g. v.made (speech_at lens) is_followed is_passed made recover lens left next (map lived_of as') f.begun begun d at over fewer (subst (λ z. IfSome (slice_get s2 place) (λ s. ComesAt f.begun begun s.place (wish_begun r z (ready_of s.side.hand.laying)))) (sym c.wish_of-wish.ensures) (comes coming r place s0 s1 s2 s3 s4 rooms coms fitted laid began came f.begun)) g) in
+    (c.lay.ensures.kept.0.count ∙ e.count) (e.made (speech_at lens) is_followed is_passed made recover index m.tour.count lens left (map lived_of as') c.args.into.now.items f.begun d at f.frame)
+    (λ g. v.made (speech_at lens) is_followed is_passed made recover lens left next (map lived_of as') f.begun begun d at over fewer (subst (λ z. IfSome (slice_get s2 place) (λ s. ComesAt f.begun begun s.place (wish_begun r z (ready_of s.side.hand.laying)))) (sym c.wish_of-wish.ensures) (comes coming r place s0 s1 s2 s3 s4 rooms coms fitted laid began came f.begun)) g) in
     record {
       begun = begun;
       frame = subst (λ n. FrameMade (λ ds i a s. StopFills lens recover made begun (c.came.new.self.made % 256) next ds i a s) c.visit-began.new.frame.items n (map lived_of as') s4) (sym c.came.ensures.kept.0.count)
