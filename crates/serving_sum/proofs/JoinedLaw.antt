@@ -18,6 +18,11 @@ each_not : {M : Type 0} (p q : M → Bool) (ms : List M) → EachOf (λ m. p m �
 each_not p q [] all = tt
 each_not p q (m ∷ ms) all = (ap not all.0, each_not p q ms all.1)
 
+-- a slave that any mail leaves ready, any mails leave ready
+ready_after : {J C M : Type 0} (s : Slave J C M) → ((j : J) (m : M) → s.ready j ≡ true → s.ready (s.serve j m).0 ≡ true) → (j : J) (ms : List M) → s.ready j ≡ true → s.ready (after s.serve j ms) ≡ true
+ready_after s passes j [] ready = ready
+ready_after s passes j (m ∷ ms) ready = ready_after s passes (s.serve j m).0 ms (passes j m ready)
+
 module _ {J V M Q R C : Type 0} (s : Slave J C M) (x : Exchange V V M Q R) (core : V → C) (seat : J → V) (reseat : J → V → J) (side : IsWholeSide s x core seat reseat) where
   abbrev pub AllMine : List M → Type 0
   AllMine ms = EachOf (λ m. side.mine m ≡ true) ms
@@ -100,12 +105,14 @@ module _ {I J C M R : Type 0} {V Q : I → Type 0} (s : Slave J C M) (x : (i : I
   joined_served law passes grows =
       let mails = λ (j : J) (q : (i : I) × Q i) (r : s.ready j ≡ true) (k : (x q.0).speech.valid q.1 ≡ true). mine_full s (x q.0) (core q.0) (seat q.0) (reseat q.0) (side q.0) j q.1 r k in
       let told = λ (j : J) (q : (i : I) × Q i) (r : s.ready j ≡ true) (k : (x q.0).speech.valid q.1 ≡ true). told_full s (x q.0) (core q.0) (seat q.0) (reseat q.0) (side q.0) j q.1 r k in
+      let whole = λ (j : J) (q : (i : I) × Q i) (r : s.ready j ≡ true) (k : (x q.0).speech.valid q.1 ≡ true).
+      whole_after s (x q.0) (core q.0) (seat q.0) (reseat q.0) (side q.0) j ((x q.0).full (seat q.0 j) q.1) (mails j q r k) ∙ ap (reseat q.0 j) ((law q.0).whole (seat q.0 j) q.1 ((side q.0).ready j r) k) in
       let replies = λ (j : J) (q : (i : I) × Q i) (r : s.ready j ≡ true) (k : (x q.0).speech.valid q.1 ≡ true).
       plain_whole s (x q.0) (core q.0) (seat q.0) (reseat q.0) (side q.0) j ((x q.0).full (seat q.0 j) q.1) (mails j q r k) (told j q r k) in
       record {
-        ready = λ j q r k. (side q.0).stays j _ ((law q.0).ready (seat q.0 j) q.1 ((side q.0).ready j r) k);
+        ready = λ j q r k. ap s.ready (sym (whole j q r k)) ∙ ready_after s passes j ((x q.0).full (seat q.0 j) q.1) r;
         passes = passes;
-        whole = λ j q r k. whole_after s (x q.0) (core q.0) (seat q.0) (reseat q.0) (side q.0) j ((x q.0).full (seat q.0 j) q.1) (mails j q r k) ∙ ap (reseat q.0 j) ((law q.0).whole (seat q.0 j) q.1 ((side q.0).ready j r) k);
+        whole = whole;
         counts = λ j q r k. handled_at s (x q.0) (core q.0) (seat q.0) (reseat q.0) (side q.0) j ((x q.0).exec (seat q.0 j) q.1) ∙ (law q.0).counts (seat q.0 j) q.1 ((side q.0).ready j r) k ∙ ap suc (sym ((side q.0).handled j));
         all_emitted = λ j q r k. emitted_whole s (x q.0) (core q.0) (seat q.0) (reseat q.0) (side q.0) j ((x q.0).full (seat q.0 j) q.1) (mails j q r k) (told j q r k) ∙ (law q.0).all_emitted (seat q.0 j) q.1 ((side q.0).ready j r) k;
         replied = λ j q r k h. ap ((x q.0).speech.ends q.1) (replies j q r k) ∙ (law q.0).replied (seat q.0 j) q.1 ((side q.0).ready j r) k h;

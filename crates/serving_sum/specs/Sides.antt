@@ -10,7 +10,6 @@ pub record IsWholeSide {J V M Q R C : Type 0} (s : Slave J C M) (x : Exchange V 
   pub core_is : (j : J) → s.app j ≡ core (seat j)
   pub handled : (j : J) → s.handled j ≡ x.handled (seat j)
   pub ready : (j : J) → s.ready j ≡ true → x.ready (seat j) ≡ true
-  pub stays : (j : J) (v : V) → x.ready v ≡ true → s.ready (reseat j v) ≡ true
   -- what is put in a protocol's place stands there, and the rest stays
   pub again : (j : J) (v : V) → seat (reseat j v) ≡ v
   pub own : (j : J) → reseat j (seat j) ≡ j
