@@ -21,7 +21,7 @@ module _ {V M Q R C : Type 0} (x : Exchange V V M Q R) (core : V → C) (r : Ref
   quiet_after v [] all = refl
   quiet_after v (m ∷ ms) all = ap (λ (b : Bool). after y.serve (if b then r.counted v else v) ms) all.0.0 ∙ quiet_after v ms all.1
 
-  quiet_given : (v : V) (ms : List M) → Quiet ms → given y.serve v ms ≡ []
+  pub quiet_given : (v : V) (ms : List M) → Quiet ms → given y.serve v ms ≡ []
   quiet_given v [] all = refl
   quiet_given v (m ∷ ms) all = ap (λ (l : List M). l ++ given y.serve (y.serve v m).0 ms) all.0.1 ∙ quiet_given (y.serve v m).0 ms all.1
 
@@ -48,7 +48,7 @@ module _ {V M Q R C : Type 0} (x : Exchange V V M Q R) (core : V → C) (r : Ref
   heard_emitted true = refl
   heard_emitted false = ap (λ (b : Bool). cond b (r.refusal ∷ []) []) is.plain
 
-  replies : (v : V) (handed : Bool) (ms : List M) → IsAsked r handed ms → plain x.speech.emission (given y.serve v ms) ≡ heard_of handed
+  pub replies : (v : V) (handed : Bool) (ms : List M) → IsAsked r handed ms → plain x.speech.emission (given y.serve v ms) ≡ heard_of handed
   replies v handed ms a = ap (plain x.speech.emission) (all_given v handed ms a) ∙ heard_plain handed
 
   none_emitted : (v : V) (handed : Bool) (ms : List M) → IsAsked r handed ms → emitted x.speech.emission (given y.serve v ms) ≡ []
