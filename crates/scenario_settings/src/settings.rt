@@ -1,4 +1,4 @@
-ghost use Rattle.std.specs.Prelude.{◌≡◌, ◌%◌, IfOk, IfSome, slice_index, true};
+ghost use Rattle.std.specs.Prelude.{◌≡◌, ◌%◌, IfOk, IfSome, length, slice_index, true};
 ghost use Rattle.toml.specs.View.{view, table_view};
 ghost use Rattle.segment_plan.specs.Sound.{is_start, is_mac, IsPace};
 ghost use Rattle.scenario_keys.specs.Reading.{Gives};
@@ -46,6 +46,7 @@ pub fn start(table: &Table, boot: bool, place: Place) -> Result<u8, Stop>
 fn own_mac(alloc: Global, table: &Table, place: Place) -> Result<[u8; 6], Stop>
     ensures gives { Gives (λ m. m) result (own_mac_at place (table_view table.now)) }
     ensures within { IfOk result (λ m. slice_index m 0 % 2 ≡ 0) }
+    ensures whole { IfOk result (λ m. length m ≡ 6) }
 {
     let octets = needed_octets(alloc, table, "mac", 6, 6, place)?;
     let mut mac = [0; 6];
@@ -58,6 +59,7 @@ fn own_mac(alloc: Global, table: &Table, place: Place) -> Result<[u8; 6], Stop>
 pub fn mac(alloc: Global, table: &Table, eoe: bool, place: Place) -> Result<[u8; 6], Stop>
     ensures gives { Gives (λ m. m) result (mac_at eoe place (table_view table.now)) }
     ensures within { IfOk result (λ m. is_mac eoe m ≡ true) }
+    ensures whole { IfOk result (λ m. length m ≡ 6) }
 {
     if eoe {
         own_mac(alloc, table, place)

@@ -1,7 +1,7 @@
 ghost use Rattle.std.specs.Prelude.{◌≡◌, ◌≤◌, map, length, IfOk, All};
 ghost use Rattle.toml.specs.View.{table_view};
 ghost use Rattle.segment_plan.specs.Sound.{IsSlave, IsPace};
-ghost use Rattle.scenario_slaves.specs.Distinct.{IsDistinct};
+ghost use Rattle.scenario_slaves.specs.Distinct.{HasMac, IsDistinct};
 ghost use Rattle.scenario_keys.specs.Reading.{Gives};
 ghost use Rattle.scenario_slaves.specs.Slaves.{slave_keys, plain_slave_of, slave_of, slaves_of, paces_of};
 
@@ -42,6 +42,7 @@ fn known_keys(version: u32) -> &'static [&'static str]
 fn plain_slave(alloc: Global, table: &Table, version: u32, place: Place) -> Result<SlaveSpec, Stop>
     ensures gives { Gives (λ s. s) result (plain_slave_of version place (table_view table.now)) }
     ensures sound { IfOk result IsSlave }
+    ensures mac { IfOk result HasMac }
 {
     let name = needed_name(table, "name", place)?;
     let station = needed_integer(table, "station", 1, 0xFFFF, place)?;
@@ -78,6 +79,7 @@ fn slave(alloc: Global, table: &Table, version: u32, number: u32) -> Result<Slav
     ensures gives { Gives (λ s. s) result (slave_of version number (table_view table.now)) }
     ensures sound { IfOk result IsSlave }
     ensures distinct { IfOk result IsDistinct }
+    ensures mac { IfOk result HasMac }
 {
     let place = Place::Slave(number);
     only_known(table, known_keys(version), place)?;
@@ -98,6 +100,7 @@ pub fn slaves(alloc: Global, tables: &[&Table], version: u32) -> Result<Rows<Sla
     ensures many { IfOk result (λ ss. length ss ≡ length tables.now) }
     ensures sound { IfOk result (All IsSlave) }
     ensures distinct { IfOk result (All IsDistinct) }
+    ensures macs { IfOk result (All HasMac) }
 {
     let mut rows = Rows::new(alloc);
     for (i, table) in tables.iter().enumerate() {
