@@ -5,17 +5,16 @@ ghost use Rattle.segment_plan.specs.Bound.{smaller};
 ghost use Rattle.segment_plan.specs.Sound.{IsSlave, IsSdo, IsName, IsService, is_target};
 ghost use Rattle.scenario_keys.specs.Reading.{Gives};
 ghost use Rattle.scenario_keys.specs.Keys.{name_at};
-ghost use Rattle.scenario_services.specs.Reading.{Appends, BlockFits, sent_to};
+ghost use Rattle.scenario_services.specs.Reading.{Appends, Suits, sent_to};
 ghost use Rattle.scenario_services.specs.Services.{word_at, sub_at, sdo_of, password_at, element_at, block_at, state_at, body_of};
 
-use crate::actions::{Action, SdoAction};
 use ec_fields::{Octets, Rows, buffer_of};
 use eoe::is_block;
 use file_store::Name;
 use object_dictionary::SdoService;
-use scenario_keys::{
-    Place, Rule, Stop, integer_or, needed_integer, needed_name, needed_octets, put, unless,
-};
+use scenario_actions::{Action, SdoAction};
+use scenario_keys::{Place, Rule, Stop, integer_or, needed_integer, needed_name, put, unless};
+use scenario_octets::needed_octets;
 use segment_plan::{Service, SlaveSpec, smaller};
 use std::alloc::Global;
 use toml::Table;
@@ -133,6 +132,7 @@ fn is_target(target: u64) -> bool
 fn state_target(table: &Table, slave: &SlaveSpec, place: Place) -> Result<u8, Stop>
     ensures gives { Gives (λ n. n) result (state_at slave.now place (table_view table.now)) }
     ensures within { IfOk result (λ n. is_target n ≡ true) }
+    ensures suits { IfOk result (λ n. n ≡ 3 → slave.now.boot ≡ true) }
 {
     let target = needed_integer(table, "target", 1, 8, place)?;
     let taken = is_target(target) && (slave.boot || target != 3);
@@ -154,7 +154,7 @@ pub fn add_body(
     requires { IsSlave slave.now }
     ensures gives { Appends rows.old rows.new result (sent_to number (body_of action slave.now place (table_view table.now))) }
     ensures sound { OnOk result (IfOk (body_of action slave.now place (table_view table.now)) IsService) }
-    ensures fits { OnOk result (IfOk (body_of action slave.now place (table_view table.now)) (BlockFits slave.now)) }
+    ensures fits { OnOk result (IfOk (body_of action slave.now place (table_view table.now)) (Suits slave.now)) }
 {
     match action {
         Action::Sdo(action) => {
