@@ -1,7 +1,5 @@
 mod Settled
 mod Epochs
-mod Came
-mod Firsts
 mod Served
 mod Ups
 mod Books

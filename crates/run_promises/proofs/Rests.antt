@@ -35,11 +35,11 @@ use Rattle.whole_lives.specs.Whole.{StandsAs, LivesOpen}
 use Rattle.whole_ring.specs.Members.{MemberIs, AllLived}
 use Rattle.run_lives.specs.Lives.{IsShown, AllShown, AreLived}
 use Rattle.run_lives.specs.Round.{ring_of, ring_after, all_seen}
-use Rattle.run_promises.specs.Came.{AreThose, is_packet}
+use Rattle.script_runs.specs.Came.{AreThose, is_packet}
 use Rattle.run_promises.specs.Epochs.{AreKept, NothingLeft, app_of}
 use Rattle.run_promises.specs.Rests.{IsIdle, IsDone, AllDoneIf}
 use Rattle.run_promises.specs.Slaves.{services_of}
-use Rattle.run_promises.proofs.Came.{HasCome, AllCome}
+use Rattle.script_runs.specs.Slaves.{HasCome, AllCome}
 use Rattle.run_promises.proofs.Epochs.{lived_rests, past_kept}
 use Rattle.run_promises.proofs.Served.{one_served}
 

@@ -27,7 +27,7 @@ use Rattle.segment_ring.specs.declared.wire.Fate.TheVariants.{Pass, Lost}
 use Rattle.state_exchange.specs.Stated.{Service}
 use Rattle.task_model.specs.Accounts.{Duty, Stage, Pick}
 use Rattle.run_promises.specs.Books.{StaysUp}
-use Rattle.run_promises.proofs.Came.{listed, past_is, turn_started, behind_same}
+use Rattle.script_runs.proofs.Came.{listed, past_is, turn_started, behind_same}
 
 -- services of which none returns to Init
 quiet_front : {Q : Type 0} (xs ys : List (Service Q)) → NoInits (xs ++ ys) → NoInits xs

@@ -17,7 +17,7 @@ use Rattle.slave_server.specs.Serving.{Serving, next_mail}
 use Rattle.slave_steps.specs.Node.{Node, is_settled}
 use Rattle.state_exchange.specs.Families.{InState}
 use Rattle.run_lives.specs.Round.{all_seen}
-use Rattle.run_promises.specs.Came.{AreThose, is_packet}
+use Rattle.script_runs.specs.Came.{AreThose, is_packet}
 use Rattle.run_promises.specs.Epochs.{AreKept, NothingLeft, app_of}
 use Rattle.run_promises.specs.Slaves.{services_of}
 

@@ -20,7 +20,7 @@ use Rattle.slave_server.specs.Spec.{profile_of}
 use Rattle.slave_steps.specs.Node.{Node}
 use Rattle.state_exchange.specs.Families.{InState}
 use Rattle.run_lives.specs.Round.{all_seen}
-use Rattle.run_promises.specs.Came.{Came, AreFirst}
+use Rattle.script_runs.specs.Came.{Came, AreFirst}
 use Rattle.run_promises.specs.Epochs.{IsKeptLife}
 
 -- the services of a plan's slave, as its master asks for them

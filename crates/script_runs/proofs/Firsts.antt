@@ -10,7 +10,7 @@ use Rattle.master_hand.specs.Spoken.{Asked, net}
 use Rattle.master_hand.specs.Talk.{asked_of}
 use Rattle.segment_plan.specs.declared.service.Service as Plan
 use Rattle.state_exchange.specs.Stated.{Service}
-use Rattle.run_promises.specs.Came.{Came, handed_over, AreThose, is_packet, AreFirst}
+use Rattle.script_runs.specs.Came.{Came, handed_over, AreThose, is_packet, AreFirst}
 
 -- no script has a packet
 packet_in : Option Asked → Bool

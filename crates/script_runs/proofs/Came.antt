@@ -26,7 +26,9 @@ use Rattle.segment_ring.specs.declared.wire.Fate.TheVariants.{Pass, Lost}
 use Rattle.state_exchange.specs.Stated.{Service}
 use Rattle.task_model.specs.Accounts.{Account, Duty, Pick, Started, account_begins, starts}
 use Rattle.task_model.specs.Promise.{services_in}
-use Rattle.run_promises.specs.Came.{Came}
+use Rattle.script_runs.specs.Came.{Came}
+use Rattle.script_runs.specs.Slaves.{HasCome, AllCome}
+use Rattle.script_runs.proofs.Firsts.{firsts}
 
 -- none or one
 abbrev pub listed : Option (Service Asked) → List (Service Asked)
@@ -103,35 +105,27 @@ module _ (plan : Scenario) where
   abbrev lens : ℕ → Lens
   lens = lens_of plan.slaves
 
-  pub record HasCome (place : ℕ) (s : SlaveSpec) (a : Leads) : Type 0 where
-    pub spot : a.lived.spot ≡ spot_of place s
-    pub script : a.script ≡ script_for place plan.services
-    pub came : Came (lens s.station).out (script_for place plan.services) a.number (life_started a.lived.life)
-
-  abbrev pub AllCome : ℕ → List SlaveSpec → List Leads → Type 0
-  AllCome place [] [] = ⊤
-  AllCome place (s ∷ ss) (a ∷ as') = HasCome place s a × AllCome (suc place) ss as'
-  AllCome place _ _ = ⊥
-
-  first_come : (place : ℕ) (ss : List SlaveSpec) → AllCome place ss (leads_from plan.services place ss)
+  first_come : (place : ℕ) (ss : List SlaveSpec) → AllCome plan place ss (leads_from plan.services place ss)
   first_come place [] = tt
-  first_come place (s ∷ ss) = (record { spot = refl; script = refl; came = Came.none }, first_come (suc place) ss)
+  first_come place (s ∷ ss) = (record { spot = refl; script = refl; came = Came.none; firsts = firsts (lens s.station).out (script_for place plan.services) 0 [] Came.none }, first_come (suc place) ss)
 
   module _ (gives : Bool) (made : ℕ) (f : Exchanged) (ds : List Raw.Datagram) where
-    one_come : (place : ℕ) (s : SlaveSpec) (a : Leads) (t : Turn) → IsTurn lens made ds a t → HasCome place s a → HasCome place s (Led.led_behind lens plan.recover plan.retry gives made f t)
+    one_come : (place : ℕ) (s : SlaveSpec) (a : Leads) (t : Turn) → IsTurn lens made ds a t → HasCome plan place s a → HasCome plan place s (Led.led_behind lens plan.recover plan.retry gives made f t)
     one_come place s a t y x =
         let comes : Comes (lens s.station).out (script_for place plan.services) a.number t.begun t.number =
         subst (λ (script : List Plan.Service). Comes (lens s.station).out script a.number t.begun t.number) x.script
             (subst (λ (spot : Spot). Comes (lens spot.station).out a.script a.number t.begun t.number) x.spot y.comes) in
         let came = came_on (lens s.station).out (script_for place plan.services) a.number (life_started a.lived.life) t.begun t.number x.came comes in
+        let now = subst (λ (qs : List (Service Asked)). Came (lens s.station).out (script_for place plan.services) t.number qs)
+            (sym (behind_same lens plan.recover plan.retry gives made f t.lived t.share f.fate ∙ turn_started lens made ds a t y)) came in
         record {
           spot = spot_same lens plan.recover plan.retry gives made f t.lived t.share f.fate ∙ y.next.spot ∙ x.spot;
           script = y.script ∙ x.script;
-          came = subst (λ (qs : List (Service Asked)). Came (lens s.station).out (script_for place plan.services) t.number qs)
-              (sym (behind_same lens plan.recover plan.retry gives made f t.lived t.share f.fate ∙ turn_started lens made ds a t y)) came;
+          came = now;
+          firsts = firsts (lens s.station).out (script_for place plan.services) t.number _ now;
         }
 
-    all_come : (place : ℕ) (ss : List SlaveSpec) (as' : List Leads) (ts : List Turn) → AllTurn lens made ds as' ts → AllCome place ss as' → AllCome place ss (map (Led.led_behind lens plan.recover plan.retry gives made f) ts)
+    all_come : (place : ℕ) (ss : List SlaveSpec) (as' : List Leads) (ts : List Turn) → AllTurn lens made ds as' ts → AllCome plan place ss as' → AllCome plan place ss (map (Led.led_behind lens plan.recover plan.retry gives made f) ts)
     all_come place [] [] [] y x = tt
     all_come place [] [] (t ∷ ts) y x = absurd y
     all_come place [] (a ∷ as') ts y x = absurd x
@@ -140,6 +134,6 @@ module _ (plan : Scenario) where
     all_come place (s ∷ ss) (a ∷ as') (t ∷ ts) y x = (one_come place s a t y.0 x.0, all_come (suc place) ss as' ts y.1 x.1)
 
   -- BEHIND ALL FRAMES
-  pub come : (fs : List Exchanged) (missed : ℕ) (as' : List Leads) → IsLed lens plan.recover plan.retry (first_leads plan) fs missed as' → AllCome 0 plan.slaves as'
+  pub come : (fs : List Exchanged) (missed : ℕ) (as' : List Leads) → IsLed lens plan.recover plan.retry (first_leads plan) fs missed as' → AllCome plan 0 plan.slaves as'
   come _ _ _ IsLed.start = first_come 0 plan.slaves
   come _ _ _ (IsLed.on fs missed as' f ts l y) = all_come (gives_up_at lens plan.recover plan.retry missed) (length fs) f y.datagrams 0 plan.slaves as' ts y.each (come fs missed as' l)
