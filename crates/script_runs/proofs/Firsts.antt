@@ -13,18 +13,15 @@ use Rattle.state_exchange.specs.Stated.{Service}
 use Rattle.script_runs.specs.Came.{Came, handed_over, AreThose, is_packet, AreFirst}
 
 -- no script has a packet
-packet_in : Option Asked → Bool
-unfolding packet_in
+abbrev packet_in : Option Asked → Bool
 packet_in None = false
 packet_in (Some q) = is_packet (Service.Mails q)
 
 none_set : (b : Bool) (block : List ℕ) → packet_in (if b then None else Some (net (EoeClient.set_ip block))) ≡ false
-unfolding packet_in
 none_set true block = refl
 none_set false block = refl
 
 none_in : (room : ℕ) (s : Plan.Service) → packet_in (asked_of room s) ≡ false
-unfolding packet_in
 none_in room (Plan.Service.Sdo service) = refl
 none_in room (Plan.Service.ReadFile name pass) = refl
 none_in room (Plan.Service.WriteFile name pass bytes) = refl
@@ -36,7 +33,6 @@ none_in room (Plan.Service.State target) = refl
 none_in room (Plan.Service.Forward packet) = refl
 
 not_packet : (room : ℕ) (s : Plan.Service) (q : Asked) → asked_of room s ≡ Some q → is_packet (Service.Mails q) ≡ false
-unfolding packet_in
 not_packet room s q e = ap packet_in (sym e) ∙ none_in room s
 
 -- what is asked for comes into hand so
