@@ -1,6 +1,6 @@
 -- WHAT CAME INTO HAND over a run: frame by frame the next of the script, a packet, or nothing; no frame takes one back.
 use Rattle.std.proofs.Common.{◌≡◌, ℕ, suc, Bool, true, false, Option, Some, None, List, [], ◌∷◌, ◌++◌, map, length, refl, ap, sym, ◌∙◌, subst, append_assoc, append-nil}
-use Rattle.std.specs.Prelude.{◌%◌, ◌&&◌, ⊤}
+use Rattle.std.specs.Prelude.{◌%◌, ◌&&◌}
 use Rattle.datagrams.specs.Datagram as Raw
 use Rattle.book_model.specs.Script.{eras_started, life_started}
 use Rattle.book_model.proofs.Scripts.{back_same, lost_same}
@@ -9,8 +9,8 @@ use Rattle.frame_view.specs.View.{Lens}
 use Rattle.frame_view.specs.Seen.{seen}
 use Rattle.life_frames.specs.Frames.{Share}
 use Rattle.life_frames.specs.Shares.{Lived, came_at, given_where}
-use Rattle.life_model.specs.Lives.{Spot, Life, Era, Stand, granted, era_next, life_next, life_lost, gives_up}
-use Rattle.life_runs.specs.First.{lens_of, spot_of, script_for, first_leads, leads_from}
+use Rattle.life_model.specs.Lives.{Spot, Life, Stand, granted, life_next, life_lost}
+use Rattle.life_runs.specs.First.{lens_of, script_for, first_leads, leads_from}
 use Rattle.life_runs.specs.Led as Led
 use Rattle.life_runs.specs.Led.{Exchanged, Leads, Turn, Comes, Took, IsTurn, AllTurn, IsLed, IsLedFrame, is_passed, speech_at, life_behind, gives_up_at}
 use Rattle.link_mails.specs.Body.{Body}
@@ -24,7 +24,7 @@ use Rattle.segment_plan.specs.declared.slave.SlaveSpec.{SlaveSpec}
 use Rattle.segment_ring.specs.declared.wire.Fate.{Fate}
 use Rattle.segment_ring.specs.declared.wire.Fate.TheVariants.{Pass, Lost}
 use Rattle.state_exchange.specs.Stated.{Service}
-use Rattle.task_model.specs.Accounts.{Account, Duty, Pick, Started, account_begins, starts}
+use Rattle.task_model.specs.Accounts.{Account, Duty, Pick, Started, account_begins}
 use Rattle.task_model.specs.Promise.{services_in}
 use Rattle.script_runs.specs.Came.{Came}
 use Rattle.script_runs.specs.Slaves.{HasCome, AllCome}
@@ -114,10 +114,10 @@ module _ (plan : Scenario) where
     one_come place s a t y x =
         let comes : Comes (lens s.station).out (script_for place plan.services) a.number t.begun t.number =
         subst (λ (script : List Plan.Service). Comes (lens s.station).out script a.number t.begun t.number) x.script
-            (subst (λ (spot : Spot). Comes (lens spot.station).out a.script a.number t.begun t.number) x.spot y.comes) in
+        (subst (λ (spot : Spot). Comes (lens spot.station).out a.script a.number t.begun t.number) x.spot y.comes) in
         let came = came_on (lens s.station).out (script_for place plan.services) a.number (life_started a.lived.life) t.begun t.number x.came comes in
         let now = subst (λ (qs : List (Service Asked)). Came (lens s.station).out (script_for place plan.services) t.number qs)
-            (sym (behind_same lens plan.recover plan.retry gives made f t.lived t.share f.fate ∙ turn_started lens made ds a t y)) came in
+        (sym (behind_same lens plan.recover plan.retry gives made f t.lived t.share f.fate ∙ turn_started lens made ds a t y)) came in
         record {
           spot = spot_same lens plan.recover plan.retry gives made f t.lived t.share f.fate ∙ y.next.spot ∙ x.spot;
           script = y.script ∙ x.script;

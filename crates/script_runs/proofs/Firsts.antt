@@ -1,6 +1,6 @@
 -- WITHOUT THE PACKETS what came into hand are the first services of the script.
-use Rattle.std.proofs.Common.{◌≡◌, ℕ, suc, ◌+◌, ◌≤◌, ◌<◌, Bool, true, false, cond, Option, Some, None, List, [], ◌∷◌, ◌++◌, length, take, filter, refl, ap, sym, ◌∙◌, subst, arith, append-nil}
-use Rattle.std.specs.Prelude.{◌%◌, not, option_map, slice_get, nat_lt, if◌then◌else◌, ⊤}
+use Rattle.std.proofs.Common.{◌≡◌, ℕ, suc, ◌+◌, Bool, true, false, cond, Option, Some, None, List, [], ◌∷◌, ◌++◌, length, take, filter, refl, ap, sym, ◌∙◌, subst, arith, append-nil}
+use Rattle.std.specs.Prelude.{◌%◌, not, option_map, slice_get, nat_lt, if◌then◌else◌}
 use Rattle.std.proofs.lemmas.List.Elements.{filter-append}
 use Rattle.std.proofs.lemmas.Option.{slice_get_within, get_or_from_slice_get}
 use Rattle.std.proofs.Math.Seq.{take-suc}

@@ -1,5 +1,5 @@
 -- WHAT CAME INTO HAND OF A SLAVE, by its script.
-use Rattle.std.specs.Prelude.{◌≡◌, ℕ, ◌≤◌, ◌%◌, Bool, true, false, not, Option, Some, None, option_map, List, [], ◌∷◌, ◌++◌, take, filter, length, ⊤}
+use Rattle.std.specs.Prelude.{◌≡◌, ℕ, ◌≤◌, ◌%◌, Bool, true, false, not, Option, Some, option_map, List, [], ◌∷◌, ◌++◌, take, filter, length, ⊤}
 use Rattle.eoe_model.specs.Client as EoeClient
 use Rattle.life_runs.specs.Led.{Comes}
 use Rattle.master_hand.specs.Spoken.{Asked, net}
