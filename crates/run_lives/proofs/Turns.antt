@@ -49,8 +49,8 @@ all_served : (room : ℕ) (s : Plan.Service) → served (asked_of room s) ≡ tr
 all_served room (Plan.Service.Sdo service) = refl
 all_served room (Plan.Service.ReadFile name pass) = refl
 all_served room (Plan.Service.WriteFile name pass bytes) = refl
-all_served room (Plan.Service.ReadIdn drive idn elements) = refl
-all_served room (Plan.Service.WriteIdn drive idn elements bytes) = refl
+all_served room (Plan.Service.ReadIdn number idn elements) = refl
+all_served room (Plan.Service.WriteIdn number idn elements bytes) = refl
 all_served room (Plan.Service.SetIp block) = room_served (nat_lt room (length block + 10)) block
 all_served room Plan.Service.GetIp = refl
 all_served room (Plan.Service.State target) = refl
