@@ -2,4 +2,5 @@ pub mod Listed
 pub mod Lives
 pub mod Ported
 pub mod Scripts
-pub mod Stands
+pub mod Shows
+pub mod Kept

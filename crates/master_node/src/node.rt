@@ -1,5 +1,5 @@
 ghost use Rattle.std.specs.Prelude.{◌≡◌, ◌≤◌, vec_len};
-ghost use Rattle.master_node.specs.Stands.{is_live};
+ghost use Rattle.master_tour.specs.Goes.{is_live};
 
 use crate::event::{Event, EventList, Origin};
 use crate::lan::Lan;
@@ -99,7 +99,7 @@ impl MasterNode {
     ghost use Rattle.std.specs.Prelude.{◌↔◌};
     ghost use Rattle.master_node.specs.Listed.{listed, listed_last};
     ghost use Rattle.master_node.specs.Lives.{holds_at, waiting_at};
-    ghost use Rattle.master_node.specs.Stands.{is_live};
+    ghost use Rattle.master_tour.specs.Goes.{is_live};
     ghost use Rattle.std.specs.List.{list_any};
     ghost use Rattle.master_node.specs.declared.node.Next.{Next};
 

@@ -10,3 +10,4 @@ pub mod Steps
 pub mod Mades
 pub mod Sents
 pub mod Orders
+pub mod Goes

@@ -1,4 +1,4 @@
-ghost use Rattle.std.specs.Prelude.{◌≡◌, ◌+◌, ℕ, All, take, drop, true, nat_lt, nat_le};
+ghost use Rattle.std.specs.Prelude.{◌≡◌, ◌≤◌, ◌+◌, ℕ, All, take, drop, true, nat_lt, nat_le};
 ghost use Rattle.datagrams.specs.Frame.{IsPart};
 ghost use Rattle.std.specs.Prelude.{length};
 ghost use Rattle.al_state.specs.BringUp.{octets_of};
@@ -99,7 +99,8 @@ fn body_of(octets: &[u8], part: Part) -> &[u8]
 
 // How many octets the access of an opening has.
 fn access_len(up: &BringUp) -> usize
-    ensures { result ≡ length (octets_of up.now) }
+    ensures is { result ≡ length (octets_of up.now) }
+    ensures most { result ≤ 8 }
 {
     match up.step {
         BringStep::Return | BringStep::Address | BringStep::Start => 2,
@@ -131,6 +132,7 @@ impl<H: Hand> Stop<H> {
     ghost use Rattle.al_state.specs.BringUp.{head_of, octets_of};
     ghost use Rattle.master_tour.specs.Under.{Under};
     ghost use Rattle.master_tour.specs.Cursor.{IsAtOne};
+    ghost use Rattle.master_tour.specs.Goes.{is_live};
     ghost use Rattle.master_tour.specs.Stands.{StopShows, FollowShows, IsMet, IsSpot, StandUnder, came_at, given_where, stand_gram, StandMeant, NextShows, HoldShows};
     ghost use Rattle.std.specs.Prelude.{is_some, ◌&&◌};
     ghost use Rattle.segment_model.specs.Returned.{Returns};
@@ -390,6 +392,7 @@ impl<H: Hand> Stop<H> {
         ensures link { SameLink self.old.side.out self.old.side.inn self.old.side.station self.old.side.area self.new.side.out self.new.side.inn self.new.side.station self.new.side.area }
         ensures stand { self.new.stand ≡ self.old.stand }
         ensures passing { self.new.side.passing ≡ self.old.side.passing }
+        ensures most { result ≤ 1486 }
     {
         match self.stand {
             Stand::Gone => 0,
@@ -425,6 +428,7 @@ impl<H: Hand> Stop<H> {
         ensures kept { (self.new.place ≡ self.old.place) × (self.new.start ≡ self.old.start) × (self.new.spare ≡ self.old.spare) × (self.new.news ≡ self.old.news) }
         ensures at { self.new.at ≡ at }
         ensures order { self.new.under ≡ true → self.new.side.carried ≡ Carried.Full → (in_half_of self.new.side.inn).state ≡ InState.Clear }
+        ensures first { length frame.old.items ≡ 16 → self.new.under ≡ true }
     {
         let began = self.side.choose(wish);
         let placed = self.side.add_datagram(index, frame);
@@ -469,6 +473,7 @@ impl<H: Hand> Stop<H> {
         ensures station { self.new.side.station ≡ self.old.side.station }
         ensures link { SameLink self.old.side.out self.old.side.inn self.old.side.station self.old.side.area self.new.side.out self.new.side.inn self.new.side.station self.new.side.area }
         ensures order { self.new.under ≡ true → IsClearFor self.new.stand self.new.side.carried self.new.side.inn }
+        ensures first { length frame.old.items ≡ 16 → is_live self.old.stand ≡ true → self.new.under ≡ true }
     {
         self.under = false;
         match self.stand {

@@ -58,6 +58,9 @@ impl<H: Hand> Tour<H> {
     ghost use Rattle.segment_model.specs.Record.{News};
     ghost use Rattle.std.specs.Prelude.{Bool, false, not, nat_lt, ◌&&◌, if◌then◌else◌};
     ghost use Rattle.master_tour.specs.declared.stop.Stand.{Stand};
+    ghost use Rattle.master_tour.specs.Goes.{is_live, is_opened, holds_at, Passes, BeginsLive, opened_behind};
+    ghost use Rattle.std.specs.List.{list_any};
+    ghost use Rattle.std.specs.Prelude.{None};
 
     // Each slave hears what came back.
     fn all_back(&mut self, octets: &[u8], made: u32)
@@ -125,6 +128,7 @@ impl<H: Hand> Tour<H> {
         ensures begun { IsBegun frame.new.items [] }
         ensures long { length self.new.stops.items ≡ length self.old.stops.items }
         ensures count { self.new.count ≡ 0 }
+        ensures empty { length frame.new.items ≡ 16 }
         ensures made { (x : Speech Body H.Asked Reply) (more : Body → Bool) (passed : H.Asked → Bool) (made recover index : ℕ) (lens : ℕ → Lens) (left : List ℕ) (lives : List (Lived H.Asked Reply)) →
             AllBoth (λ a s. StopLives lens recover (λ d b. SideShows (H.shows s.side.hand x) s.side.out s.side.inn s.side.fresh s.side.duty d b) s.side.station s.place s.start s.stand s.spare s.side.out.len (in_area_len s.side.inn) a × (is_some a.life.era.passing ≡ is_some s.side.passing)) lives self.old.stops.items →
             FrameMade (λ ds i a s. StopMade x H.acknowledged more passed made lens recover index (λ d b. SideShows (H.shows s.side.hand x) s.side.out s.side.inn s.side.fresh s.side.duty d b) s.side.station s.place s.start s.stand s.spare s.side.out s.side.inn s.side.duty s.side.carried s.side.passing s.under s.at left ds i a) frame.new.items 0 lives self.new.stops.items }
@@ -161,6 +165,8 @@ impl<H: Hand> Tour<H> {
     fn next_live(&self) -> Option<usize>
         ensures inside { IfSome result (λ k. k < length self.now.stops.items) }
         ensures later { IfSome result (λ k. self.now.passed ≤ k) }
+        ensures live { IfSome result (λ k. holds_at (λ s. is_live s.stand) self.now.stops.items (place_in (start_of (length self.now.stops.items) self.now.last) (length self.now.stops.items) k) ≡ true) }
+        ensures none { result ≡ None → (k : ℕ) → self.now.passed ≤ k → k < length self.now.stops.items → holds_at (λ s. is_live s.stand) self.now.stops.items (place_in (start_of (length self.now.stops.items) self.now.last) (length self.now.stops.items) k) ≡ false }
     {
         for k in self.passed..self.stops.len() {
             if !matches!(self.stops[self.place_of(k)].stand, Stand::Gone) {
@@ -175,6 +181,7 @@ impl<H: Hand> Tour<H> {
         ensures kept { (self.new.stops ≡ self.old.stops) × (self.new.count ≡ self.old.count) × (self.new.again ≡ self.old.again) × (self.new.visit ≡ self.old.visit) × (self.new.opened ≡ self.old.opened) × (self.new.last ≡ self.old.last) }
         ensures inside { IfSome result (λ p. p < length self.new.stops.items) }
         ensures left { (p : ℕ) → result ≡ Some p → AreOnce self.old.visit.items → IsNextOf p (drop self.old.passed self.old.visit.items) (drop self.new.passed self.old.visit.items) }
+        ensures first { self.old.passed ≡ 0 → BeginsLive (λ s. is_live s.stand) true self.old.visit.items self.old.opened self.old.stops.items → Passes (λ s. is_live s.stand) self.old.stops.items result }
     {
         let place = *self.visit.get(self.passed)?;
         self.passed += 1;
@@ -191,6 +198,7 @@ impl<H: Hand> Tour<H> {
         ensures kept { (self.new.stops ≡ self.old.stops) × (self.new.count ≡ self.old.count) × (self.new.again ≡ self.old.again) × (self.new.visit ≡ self.old.visit) × (self.new.opened ≡ self.old.opened) × (self.new.last ≡ self.old.last) }
         ensures inside { IfSome result (λ p. p < length self.new.stops.items) }
         ensures left { (p : ℕ) → result ≡ Some p → IsNextOf p (drop self.old.passed (self.old.opened ∷ [])) (drop self.new.passed (self.old.opened ∷ [])) }
+        ensures first { self.old.passed ≡ 0 → result ≡ Some self.old.opened }
     {
         if self.passed > 0 {
             return None;
@@ -204,6 +212,7 @@ impl<H: Hand> Tour<H> {
         ensures kept { (self.new.stops ≡ self.old.stops) × (self.new.count ≡ self.old.count) × (self.new.again ≡ self.old.again) × (self.new.visit ≡ self.old.visit) × (self.new.opened ≡ self.old.opened) × (self.new.last ≡ self.old.last) }
         ensures inside { IfSome result (λ p. p < length self.new.stops.items) }
         ensures left { (p : ℕ) → result ≡ Some p → IsNextOf p (round_left (start_of (length self.old.stops.items) self.old.last) (length self.old.stops.items) self.old.passed) (round_left (start_of (length self.old.stops.items) self.old.last) (length self.old.stops.items) self.new.passed) }
+        ensures first { self.old.passed ≡ 0 → list_any (λ s. is_live s.stand) self.old.stops.items ≡ true → Passes (λ s. is_live s.stand) self.old.stops.items result }
     {
         let k = self.next_live()?;
         self.passed = k + 1;
@@ -217,6 +226,7 @@ impl<H: Hand> Tour<H> {
         ensures inside { IfSome result (λ p. p < length self.new.stops.items) }
         ensures left { (p : ℕ) → result ≡ Some p → (self.old.again ≡ true → AreOnce self.old.visit.items) →
             IsNextOf p (visits_left self.old.again self.old.visit.items self.old.opened (length self.old.stops.items) self.old.last self.old.passed) (visits_left self.old.again self.old.visit.items self.old.opened (length self.old.stops.items) self.old.last self.new.passed) }
+        ensures first { self.old.passed ≡ 0 → BeginsLive (λ s. is_live s.stand) self.old.again self.old.visit.items self.old.opened self.old.stops.items → list_any (λ s. is_live s.stand) self.old.stops.items ≡ true → Passes (λ s. is_live s.stand) self.old.stops.items result }
     {
         if self.again {
             return self.carried_again();
@@ -235,6 +245,7 @@ impl<H: Hand> Tour<H> {
         ensures kept { (self.new.count ≡ self.old.count) × (self.new.again ≡ self.old.again) × (self.new.visit ≡ self.old.visit) × (self.new.opened ≡ self.old.opened) × (self.new.last ≡ self.old.last) }
         ensures left { (p : ℕ) → result ≡ Some p → (self.old.again ≡ true → AreOnce self.old.visit.items) →
             IsNextOf p (visits_left self.old.again self.old.visit.items self.old.opened (length self.old.stops.items) self.old.last self.old.passed) (visits_left self.old.again self.old.visit.items self.old.opened (length self.old.stops.items) self.old.last self.new.passed) }
+        ensures first { self.old.count ≡ 0 → self.old.passed ≡ 0 → BeginsLive (λ s. is_live s.stand) self.old.again self.old.visit.items self.old.opened self.old.stops.items → list_any (λ s. is_live s.stand) self.old.stops.items ≡ true → Passes (λ s. is_live s.stand) self.old.stops.items result }
     {
         if self.count >= 16 {
             return None;
@@ -254,6 +265,7 @@ impl<H: Hand> Tour<H> {
             FrameMade (λ ds i a s. StopMade x H.acknowledged more passed made lens recover index (λ d b. SideShows (H.shows s.side.hand x) s.side.out s.side.inn s.side.fresh s.side.duty d b) s.side.station s.place s.start s.stand s.spare s.side.out s.side.inn s.side.duty s.side.carried s.side.passing s.under s.at left ds i a) octets count lives self.old.stops.items →
             FrameMade (λ ds i a s. StopMade x H.acknowledged more passed made lens recover index (λ d b. SideShows (H.shows s.side.hand x) s.side.out s.side.inn s.side.fresh s.side.duty d b) s.side.station s.place s.start s.stand s.spare s.side.out s.side.inn s.side.duty s.side.carried s.side.passing s.under s.at left ds i a) octets count lives self.new.stops.items }
         ensures tour { (self.new.again ≡ self.old.again) × (self.new.visit ≡ self.old.visit) × (self.new.opened ≡ self.old.opened) × (self.new.last ≡ self.old.last) × (self.new.missed ≡ self.old.missed) × (self.new.retry ≡ self.old.retry) × (self.new.passed ≡ self.old.passed) }
+        ensures first { length frame.now.items ≡ 16 → result ≡ true }
     {
         self.stops[place].ahead(wish) <= datagrams::room(frame)
     }
@@ -282,6 +294,7 @@ impl<H: Hand> Tour<H> {
             FrameMade (λ ds i a s. StopMade x H.acknowledged more passed made lens recover index (λ d b. SideShows (H.shows s.side.hand x) s.side.out s.side.inn s.side.fresh s.side.duty d b) s.side.station s.place s.start s.stand s.spare s.side.out s.side.inn s.side.duty s.side.carried s.side.passing s.under s.at next ds i a) frame.new.items self.new.count lives self.new.stops.items }
         ensures tour { (self.new.again ≡ self.old.again) × (self.new.opened ≡ self.old.opened) × (self.new.last ≡ self.old.last) × (self.new.missed ≡ self.old.missed) × (self.new.retry ≡ self.old.retry) × (self.new.passed ≡ self.old.passed) }
         ensures visits { length self.old.visit.items < 16 → IsCarried (nat_lt self.old.count self.new.count) self.old.again place self.old.visit.items self.new.visit.items }
+        ensures first { length frame.old.items ≡ 16 → holds_at (λ s. is_live s.stand) self.old.stops.items place ≡ true → self.new.count ≡ self.old.count + 1 }
     {
         let at = self.count;
         let began = self.stops[place].visit(wish, at, index, frame);
@@ -343,7 +356,9 @@ impl<H: Hand> Tour<H> {
     }
 
     // How many slaves from the first on have ended their first bring-up, or were given up in it.
-    fn opened_behind(&self) -> usize {
+    fn opened_behind(&self) -> usize
+        ensures { result ≡ opened_behind (λ s. is_opened s.stand) self.now.opened self.now.stops.items }
+    {
         if self.opened < self.stops.len()
             && !matches!(self.stops[self.opened].stand, Stand::Opening(_))
         {
@@ -390,6 +405,7 @@ impl<H: Hand> Tour<H> {
             AllBoth (λ a s. StopLives lens recover (λ d b. SideShows (H.shows s.side.hand x) s.side.out s.side.inn s.side.fresh s.side.duty d b) s.side.station s.place s.start s.stand s.spare s.side.out.len (in_area_len s.side.inn) a × StandUnder lens s.side.station s.at s.under s.side.carried s.stand a.life sent) lives self.old.stops.items →
             AllThree (λ a s t. (ns : List (News Body)) → StopLives lens recover (λ d b. SideShows (H.shows t.side.hand x) t.side.out t.side.inn t.side.fresh t.side.duty d b) t.side.station t.place t.start t.stand t.spare t.side.out.len (in_area_len t.side.inn) (lived_back x H.acknowledged more passed number (seen lens frame.now.items) a (record { under = s.under; at = s.at }) ns)) lives self.old.stops.items self.new.stops.items }
         ensures tour { (self.new.visit ≡ self.old.visit) × (self.new.again ≡ false) × (self.new.missed ≡ 0) × (self.new.retry ≡ self.old.retry) }
+        ensures opened { self.new.opened ≡ opened_behind (λ s. is_opened s.stand) self.old.opened self.new.stops.items }
     {
         self.hear(frame, made);
         let last = self.last_behind();
@@ -415,6 +431,7 @@ impl<H: Hand> Tour<H> {
             AllBoth (λ a s. StopLives lens recover (λ d b. SideShows (H.shows s.side.hand x) s.side.out s.side.inn s.side.fresh s.side.duty d b) s.side.station s.place s.start s.stand s.spare s.side.out.len (in_area_len s.side.inn) a × StandUnder lens s.side.station s.at s.under s.side.carried s.stand a.life (seen lens octets)) lives self.old.stops.items →
             AllThree (λ a s t. (ns : List (News Body)) → StopLives lens recover (λ d b. SideShows (H.shows t.side.hand x) t.side.out t.side.inn t.side.fresh t.side.duty d b) t.side.station t.place t.start t.stand t.spare t.side.out.len (in_area_len t.side.inn) (lived_lost x H.acknowledged more passed (not (nat_lt self.old.missed self.old.retry)) recover number (seen lens octets) a (record { under = s.under; at = s.at }) ns)) lives self.old.stops.items self.new.stops.items }
         ensures tour { (self.new.visit ≡ self.old.visit) × (self.new.again ≡ nat_lt self.old.missed self.old.retry) × (self.new.missed ≡ (if nat_lt self.old.missed self.old.retry then self.old.missed + 1 else 0)) × (self.new.retry ≡ self.old.retry) }
+        ensures opened { self.new.opened ≡ (if nat_lt self.old.missed self.old.retry then self.old.opened else opened_behind (λ s. is_opened s.stand) self.old.opened self.new.stops.items) }
     {
         let missed = self.missed;
         let comes_again = missed < self.retry;

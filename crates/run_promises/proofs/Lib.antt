@@ -1,0 +1,6 @@
+mod Settled
+mod Epochs
+mod Served
+mod Ups
+mod Books
+mod Rests

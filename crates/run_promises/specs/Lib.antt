@@ -1,0 +1,4 @@
+pub mod Epochs
+pub mod Slaves
+pub mod Books
+pub mod Rests
