@@ -1,6 +1,7 @@
 //! A master before its first frame.
 
-ghost use Rattle.std.specs.Prelude.{◌≡◌, ◌≤◌, ◌<◌, length, vec_len, IfOk};
+ghost use Rattle.std.specs.Prelude.{◌≡◌, ◌≤◌, ◌<◌, length, map, replicate, vec_len, IfOk};
+ghost use Rattle.master_node.specs.Lives.{waiting_of};
 ghost use Rattle.segment_plan.specs.Sound.{IsPlan, IsSlave, IsPace};
 
 use crate::copies::script_of;
@@ -78,7 +79,8 @@ fn stops_of(alloc: Global, plan: &Scenario) -> Result<Vec<Stop<InHand>>, NoMemor
 
 // Nothing is in hand of any slave.
 fn posts_of(alloc: Global, count: usize) -> Result<Vec<Post>, NoMemory>
-    ensures { IfOk result (λ posts. vec_len posts ≡ count) }
+    ensures many { IfOk result (λ posts. vec_len posts ≡ count) }
+    ensures waiting { IfOk result (λ posts. map waiting_of posts.items ≡ replicate count 0) }
 {
     let mut posts = Vec::new(alloc);
     for _ in 0..count {
@@ -107,13 +109,15 @@ fn tour_of(alloc: Global, plan: &Scenario) -> Result<Tour<InHand>, NoMemory>
 }
 
 impl MasterNode {
-    ghost use Rattle.std.specs.Prelude.{◌≡◌, length, vec_len, IfOk};
+    ghost use Rattle.std.specs.Prelude.{◌≡◌, length, map, replicate, vec_len, IfOk};
+    ghost use Rattle.master_node.specs.Lives.{waiting_of};
     ghost use Rattle.segment_plan.specs.Sound.{IsPlan};
 
     /// The master of a segment before its first frame: no slave is brought up, and no packet of the host has come in.
     pub fn new(alloc: Global, plan: &Scenario) -> Result<MasterNode, NoMemory>
         requires { IsPlan plan.now }
-        ensures { IfOk result (λ master. vec_len master.posts ≡ length plan.now.slaves) }
+        ensures posts { IfOk result (λ master. vec_len master.posts ≡ length plan.now.slaves) }
+        ensures waiting { IfOk result (λ master. map waiting_of master.posts.items ≡ replicate (length plan.now.slaves) 0) }
     {
         let tour = tour_of(alloc, plan)?;
         let posts = posts_of(alloc, plan.slaves.len())?;
