@@ -1,5 +1,5 @@
 -- A session that is under way, run or serving.
-use Rattle.std.proofs.Common.{◌≡◌, ℕ, ◌+◌, ◌<◌, ◌≤◌, inl, inr, [], ◌∷◌, ◌++◌, length, map, Bool, false, ap, sym, ◌∙◌, subst, length-append, false-eqb, arith}
+use Rattle.std.proofs.Common.{◌≡◌, ℕ, suc, ◌+◌, ◌<◌, ◌≤◌, inl, inr, [], ◌∷◌, ◌++◌, length, map, Bool, false, ap, sym, ◌∙◌, subst, length-append, false-eqb, arith}
 use Rattle.std.specs.Prelude.{All, ◌==◌}
 use Rattle.std.proofs.lemmas.List.Elements.{All-nil, All-cons, All-append}
 use Rattle.segment_plan.specs.declared.plan.Scenario.{Scenario}
@@ -99,6 +99,26 @@ stopped plan grams s b b' h left stop = record {
     | inr f ↦ subst (All IsShort) (sym f.1) (more_short plan grams s b f.0 h f.2 f.3)
   ];
   at_port = subst (λ (n : ℕ). All (IsAtPort n) b'.switch) h.ports (stop.rest.at_port (subst (λ (n : ℕ). All (IsAtPort n) b.switch) (sym h.ports) h.at_port));
+}
+
+-- one frame more was sent
+pub one_more : (s : SessionState) (b : Book) (s' : SessionState) (b' : Book) (f : SentFrame) → Steps s b s' b' f → s'.ring.number ≡ suc s.ring.number
+one_more s b s' b' f step = ap (λ (r : RingState (Node SlaveServer)). r.number) step.ring
+
+-- mails were passed on, and datagrams put into the book
+pub same_on : (plan : Scenario) (grams : ℕ) (s s' : SessionState) (b b' : Book) → IsUnderway plan grams s b → s' ≡ record s { asked = s'.asked; waiting = s'.waiting } → b'.frames ≡ b.frames → b'.switch ≡ b.switch → b'.slaves ≡ b.slaves → IsUnderway plan grams s' b'
+same_on plan grams s s' b b' h same frames switch slaves = record {
+  ring = ap (λ (t : SessionState). t.ring) same ∙ h.ring ∙ ap (ring_after (first_ring plan)) (sym frames);
+  recorded = subst (AreRecorded (first_ring plan)) (sym frames) h.recorded;
+  short = subst (All IsShort) (sym frames) h.short;
+  homes = ap (λ (t : SessionState). t.homes) same ∙ h.homes;
+  ports = ap (λ (t : SessionState). t.ports) same ∙ h.ports;
+  at_port = subst (All (IsAtPort (ports_of plan.slaves))) (sym switch) h.at_port;
+  recover = ap (λ (t : SessionState). t.recover) same ∙ h.recover;
+  budget = ap (λ (t : SessionState). t.budget) same ∙ h.budget;
+  serves = ap (λ (t : SessionState). t.serving) same ∙ h.serves;
+  few = let n = ap (λ (t : SessionState). t.ring.number) same in let b = ap (λ (t : SessionState). t.budget) same in let few = h.few in omega (arith, n, b, few);
+  slaves = slaves ∙ h.slaves;
 }
 
 -- the rows at the end

@@ -1,5 +1,5 @@
 ghost use Rattle.std.specs.Prelude.{◌≡◌, ◌≢◌, ◌<◌, ◌≤◌, ◌==◌, ◌++◌, ◌∷◌, ◌⊎◌, ◌↔◌, [], ℕ, length, map, Ok, IfOk, OnOk, OnErr, All, true, false, slice_get};
-ghost use Rattle.std.specs.Bool.{OnTrue};
+ghost use Rattle.std.specs.Bool.{OnTrue, OnFalse};
 ghost use Rattle.std.specs.List.{list_any};
 ghost use Rattle.run_record.specs.Notes.{has_given_up, stations_of};
 ghost use Rattle.segment_plan.specs.Sound.{IsPlan, IsLaid, IsSlave};
@@ -236,7 +236,8 @@ impl Session {
 
     /// Whether as many frames were sent as the budget allows.
     pub fn spent(&self) -> bool
-        ensures { result ≡ (self.now.ring.number == self.now.budget) }
+        ensures value { result ≡ (self.now.ring.number == self.now.budget) }
+        ensures left { OnFalse result (self.now.ring.number < self.now.budget) }
     {
         self.number == self.budget
     }

@@ -8,7 +8,7 @@ returns-in_err-step-clause-frames c =
     let s = c.loop-settled.session in
     let under = c.loop-settled.invariant.underway in
     let no : c.spent.result ≡ false = search rules in
-    stopped c.args.plan.now 0 s c.loop-settled.book c.step.new.book under (still_left s.ring.number s.budget c.spent.result c.spent.ensures no under.few) c.in_err-step.ensures.err
+    stopped c.args.plan.now 0 s c.loop-settled.book c.step.new.book under (still_left s.ring.number s.budget c.spent.result c.spent.ensures.value no under.few) c.in_err-step.ensures.err
 
 pub loop-settled-preserved : goal.loop-settled-preserved
 loop-settled-preserved c =
@@ -17,7 +17,7 @@ loop-settled-preserved c =
     let no : c.spent.result ≡ false = search rules in
     let step = c.in_ok-step.ensures.ok in
     record {
-      underway = stepped_on c.args.plan.now 0 s c.loop-settled.book c.step.new.self c.step.new.book step.0 under (still_left s.ring.number s.budget c.spent.result c.spent.ensures no under.few) step.1;
+      underway = stepped_on c.args.plan.now 0 s c.loop-settled.book c.step.new.self c.step.new.book step.0 under (still_left s.ring.number s.budget c.spent.result c.spent.ensures.value no under.few) step.1;
       serving = step.1.rest.serving ∙ c.loop-settled.invariant.serving;
       grams = step.1.rest.grams ∙ c.loop-settled.invariant.grams;
       replies = step.1.rest.replies ∙ c.loop-settled.invariant.replies;
