@@ -1,12 +1,7 @@
 -- What a master has of its slaves.
-use Rattle.std.specs.Prelude.{ℕ, zero, suc, Bool, false, List, [], ◌∷◌, length}
+use Rattle.std.specs.Prelude.{ℕ, zero, suc, List, [], ◌∷◌, length}
+pub use Rattle.master_tour.specs.Goes.{holds_at}
 use Rattle.master_node.specs.declared.post.Post.{Post}
-
--- the test of what stands at a place; nothing passes it where nothing stands
-abbrev pub holds_at : {S : Type 0} → (S → Bool) → List S → ℕ → Bool
-holds_at test [] place = false
-holds_at test (s ∷ ss) zero = test s
-holds_at test (s ∷ ss) (suc place) = holds_at test ss place
 
 -- how many mails wait to be passed on to the slave at a place
 abbrev pub waiting_at : List Post → ℕ → ℕ

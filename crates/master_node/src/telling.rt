@@ -14,10 +14,13 @@ use master_side::Heard;
 use master_tour::{Stand, Turned};
 
 impl MasterNode {
+    ghost use Rattle.master_node.specs.Kept.{NodeKept};
+
     // The service in hand has its answer.
     fn answered(&mut self, place: usize, kind: ReplyKind)
         requires { place < vec_len self.old.posts }
-        ensures { vec_len self.new.posts ≡ vec_len self.old.posts }
+        ensures posts { vec_len self.new.posts ≡ vec_len self.old.posts }
+        ensures kept { NodeKept self.old self.new }
     {
         let post = &mut self.posts[place];
         post.work = Work::Nothing;
@@ -31,7 +34,8 @@ impl MasterNode {
     // The slave emitted an emergency, or the last fragment of a packet.
     fn emitted(&mut self, place: usize)
         requires { place < vec_len self.old.posts }
-        ensures { vec_len self.new.posts ≡ vec_len self.old.posts }
+        ensures posts { vec_len self.new.posts ≡ vec_len self.old.posts }
+        ensures kept { NodeKept self.old self.new }
     {
         let hand = &self.tour.stops[place].side.hand;
         if let Some(octets) = hand.emergency() {
@@ -50,7 +54,8 @@ impl MasterNode {
     // A reply of the mail that is passed on.
     fn replied(&mut self, place: usize, key: usize)
         requires { place < vec_len self.old.posts }
-        ensures { vec_len self.new.posts ≡ vec_len self.old.posts }
+        ensures posts { vec_len self.new.posts ≡ vec_len self.old.posts }
+        ensures kept { NodeKept self.old self.new }
     {
         if let Some(mail) = self.tour.stops[place].side.hand.replied() {
             let mail = bare(mail);
@@ -61,7 +66,8 @@ impl MasterNode {
     // The last reply of a scripted service was accepted.
     fn complete(&mut self, place: usize)
         requires { place < vec_len self.old.posts }
-        ensures { vec_len self.new.posts ≡ vec_len self.old.posts }
+        ensures posts { vec_len self.new.posts ≡ vec_len self.old.posts }
+        ensures kept { NodeKept self.old self.new }
     {
         if let Some(kind) = self.tour.stops[place].side.hand.answer() {
             self.answered(place, kind);
@@ -71,7 +77,8 @@ impl MasterNode {
     // A mail was accepted.
     fn heard(&mut self, place: usize, what: Heard)
         requires { place < vec_len self.old.posts }
-        ensures { vec_len self.new.posts ≡ vec_len self.old.posts }
+        ensures posts { vec_len self.new.posts ≡ vec_len self.old.posts }
+        ensures kept { NodeKept self.old self.new }
     {
         if matches!(what, Heard::Emission) {
             self.emitted(place);
@@ -87,7 +94,8 @@ impl MasterNode {
     // A packet is over once the write of its last fragment is done.
     fn handed(&mut self, place: usize)
         requires { place < vec_len self.old.posts }
-        ensures { vec_len self.new.posts ≡ vec_len self.old.posts }
+        ensures posts { vec_len self.new.posts ≡ vec_len self.old.posts }
+        ensures kept { NodeKept self.old self.new }
     {
         if self.tour.stops[place].side.is_free() {
             self.answered(place, ReplyKind::Handed);
@@ -97,7 +105,8 @@ impl MasterNode {
     // A mail that is passed on is over once its side forgets it.
     fn passed(&mut self, place: usize, key: usize)
         requires { place < vec_len self.old.posts }
-        ensures { vec_len self.new.posts ≡ vec_len self.old.posts }
+        ensures posts { vec_len self.new.posts ≡ vec_len self.old.posts }
+        ensures kept { NodeKept self.old self.new }
     {
         if self.tour.stops[place].side.passing.is_none() {
             self.answered(place, ReplyKind::Handed);
@@ -108,7 +117,8 @@ impl MasterNode {
     // A state service is over once it has met its target or a refusal.
     fn met(&mut self, place: usize)
         requires { place < vec_len self.old.posts }
-        ensures { vec_len self.new.posts ≡ vec_len self.old.posts }
+        ensures posts { vec_len self.new.posts ≡ vec_len self.old.posts }
+        ensures kept { NodeKept self.old self.new }
     {
         match met_once(&mut self.tour.stops[place].side) {
             Some(Met::Reached) => self.answered(place, ReplyKind::Done),
@@ -120,7 +130,8 @@ impl MasterNode {
     // What the slave has in hand is over, where it has no reply by mails of its own.
     fn over(&mut self, place: usize)
         requires { place < vec_len self.old.posts }
-        ensures { vec_len self.new.posts ≡ vec_len self.old.posts }
+        ensures posts { vec_len self.new.posts ≡ vec_len self.old.posts }
+        ensures kept { NodeKept self.old self.new }
     {
         match self.posts[place].work {
             Work::Nothing | Work::Mails => {}
@@ -133,7 +144,8 @@ impl MasterNode {
     // The slave was seen in Init, or is open.
     fn turned(&mut self, place: usize)
         requires { place < vec_len self.old.posts }
-        ensures { vec_len self.new.posts ≡ vec_len self.old.posts }
+        ensures posts { vec_len self.new.posts ≡ vec_len self.old.posts }
+        ensures kept { NodeKept self.old self.new }
     {
         let slave = place as u32;
         let own = matches!(self.posts[place].work, Work::State);
@@ -152,7 +164,8 @@ impl MasterNode {
     // What the frame brought of a slave that it carried.
     fn back(&mut self, place: usize)
         requires { place < vec_len self.old.posts }
-        ensures { vec_len self.new.posts ≡ vec_len self.old.posts }
+        ensures posts { vec_len self.new.posts ≡ vec_len self.old.posts }
+        ensures kept { NodeKept self.old self.new }
     {
         if let Some(what) = heard_once(&mut self.tour.stops[place].side) {
             self.heard(place, what);
@@ -161,12 +174,11 @@ impl MasterNode {
         self.turned(place);
     }
 
-    /// The frame that `next` made came back.
-    pub fn returned(&mut self, frame: &FrameBuf)
-        ensures { vec_len self.new.posts ≡ vec_len self.old.posts }
+    // What it brought of all of them.
+    fn all_back(&mut self)
+        ensures posts { vec_len self.new.posts ≡ vec_len self.old.posts }
+        ensures kept { NodeKept self.old self.new }
     {
-        self.list.ends();
-        self.tour.returned(frame, self.made.wrapping_sub(1));
         for k in 0..self.tour.visit.len() {
             match self.tour.visit.get(k) {
                 Some(&place) if place < self.posts.len() => self.back(place),
@@ -175,10 +187,20 @@ impl MasterNode {
         }
     }
 
+    /// The frame that `next` made came back.
+    pub fn returned(&mut self, frame: &FrameBuf)
+        ensures posts { vec_len self.new.posts ≡ vec_len self.old.posts }
+    {
+        self.list.ends();
+        self.tour.returned(frame, self.made.wrapping_sub(1));
+        self.all_back();
+    }
+
     // A slave was given up, where it was.
     fn given_up(&mut self, place: usize)
         requires { place < vec_len self.old.posts }
-        ensures { vec_len self.new.posts ≡ vec_len self.old.posts }
+        ensures posts { vec_len self.new.posts ≡ vec_len self.old.posts }
+        ensures kept { NodeKept self.old self.new }
     {
         if !matches!(self.tour.stops[place].news, Some(Turned::GivenUp)) {
             return;
@@ -192,17 +214,25 @@ impl MasterNode {
         }
     }
 
-    /// The frame that `next` made was lost.
-    pub fn lost(&mut self)
-        ensures { vec_len self.new.posts ≡ vec_len self.old.posts }
+    // Those of all that the frame carried that were.
+    fn all_given_up(&mut self)
+        ensures posts { vec_len self.new.posts ≡ vec_len self.old.posts }
+        ensures kept { NodeKept self.old self.new }
     {
-        self.list.ends();
-        self.tour.lost();
         for k in 0..self.tour.visit.len() {
             match self.tour.visit.get(k) {
                 Some(&place) if place < self.posts.len() => self.given_up(place),
                 _ => {}
             }
         }
+    }
+
+    /// The frame that `next` made was lost.
+    pub fn lost(&mut self)
+        ensures posts { vec_len self.new.posts ≡ vec_len self.old.posts }
+    {
+        self.list.ends();
+        self.tour.lost();
+        self.all_given_up();
     }
 }
