@@ -1,6 +1,8 @@
 -- A serving at its end.
 use Rattle.std.proofs.Common.{◌≡◌, ℕ, ◌<◌, ◌≤◌, ◌⊎◌, [], List, length, map, Bool, true, false, not, ◌&&◌, nat_lt, refl, sym, ap, ◌∙◌, subst, inl, inr, ltb-true, ltb-false, lt-ltb, arith}
-use Rattle.std.specs.Prelude.{◌≢◌, All}
+use Rattle.std.specs.Prelude.{◌≢◌, All, Result, Ok, Err}
+use Rattle.gateway_run.specs.declared.stop.Stop.{Stop}
+use Rattle.gateway_run.specs.declared.stop.Stop.TheVariants as stops
 use Rattle.std.proofs.lemmas.List.Elements.{All-nil}
 use Rattle.ec_outside.specs.Port.{HeardGram}
 use Rattle.segment_plan.specs.declared.plan.Scenario.{Scenario}
@@ -15,7 +17,7 @@ use Rattle.run_record.specs.Ran.{HasSent, IsUnderway, EndsSo, StopsSo, StopsAs}
 use Rattle.run_record.proofs.Underway.{begun, has_frames, ended}
 use Rattle.gateway_run.specs.Heard.{heard_as, AreHeard, AreSent, AreSentBut, IsOwed, IsRightly}
 use Rattle.gateway_run.specs.Desk.{IsOpen}
-use Rattle.gateway_run.specs.Serving.{Told, IsOn, IsServing, IsFaulted, can_hear}
+use Rattle.gateway_run.specs.Serving.{Told, IsOn, IsServing, IsFaulted, Goes, can_hear}
 use Rattle.gateway_run.specs.Served.{HasGrams, IsThrough, IsBroken, IsServed}
 use Rattle.gateway_run.specs.declared.turn.Serving.{Serving}
 use Rattle.gateway_run.proofs.Turns.{heard_none, sent_none}
@@ -112,3 +114,10 @@ pub faulted : (plan : Scenario) (count : ℕ) (first now : Told) (v : Serving) (
 faulted plan count first now v b b' result some h frames switch grams replies serving many rows is =
     faulted_so plan count first now v b b' some h.on h.heard frames switch grams replies serving many result rows is
     (record { rose = h.rose; sent = subst (AreSentBut first.sent now.sent) (sym replies) h.sent })
+
+-- the port failed, or memory ran out
+pub fault_of : (plan : Scenario) (count : ℕ) (first now : Told) (v : Serving) (b : Book) (r : Result Ending Stop) → r ≡ Err stops.PortFault → Goes plan count first now v b r → IsFaulted plan count first now v b
+fault_of plan count first now v b r is g = subst (Goes plan count first now v b) is g
+
+pub cut_of : (plan : Scenario) (count : ℕ) (first now : Told) (v : Serving) (b : Book) (r : Result Ending Stop) → r ≡ Err stops.NoMemory → Goes plan count first now v b r → HasSent plan count b
+cut_of plan count first now v b r is g = subst (Goes plan count first now v b) is g

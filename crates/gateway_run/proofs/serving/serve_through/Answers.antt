@@ -1,7 +1,9 @@
-use Rattle.std.proofs.Common.{refl}
+use Rattle.std.proofs.Common.{◌≡◌, refl}
+use Rattle.std.specs.Prelude.{Err}
 use Rattle.run_record.proofs.Underway.{has_frames}
 use Rattle.gateway_run.specs.Serving.{told}
-use Rattle.gateway_run.proofs.Ended.{first_serving, served, faulted}
+use Rattle.gateway_run.specs.declared.stop.Stop.TheVariants as stops
+use Rattle.gateway_run.proofs.Ended.{first_serving, served, faulted, fault_of, cut_of}
 use Rattle.gateway_run.proofs.serving.serve_through.Goals as goal
 
 pub finish-requires : goal.finish-requires
@@ -9,13 +11,22 @@ finish-requires g c = (c.in-Ok.ensures.goes c.args.plan.now c.args.count (told g
     (first_serving c.args.plan.now c.args.count (told g.P.Port.heard g.P.Port.sent g.P.Port.over g.P.Port.port_faults c.args.port.now) c.in_ok-serving.serving c.args.book.now c.in_ok-serving.ensures.session c.in_ok-serving.ensures.requests c.in_ok-serving.ensures.outbox c.in_ok-serving.ensures.count c.in_ok-serving.ensures.over c.requires.new c.ranges.count.fits)).on.underway.slaves
 
 pub finish-requires-in-Err-PortFault : goal.finish-requires-in-Err-PortFault
-finish-requires-in-Err-PortFault g c = (c.in-Err-PortFault.ensures.goes c.args.plan.now c.args.count (told g.P.Port.heard g.P.Port.sent g.P.Port.over g.P.Port.port_faults c.args.port.now)
-    (first_serving c.args.plan.now c.args.count (told g.P.Port.heard g.P.Port.sent g.P.Port.over g.P.Port.port_faults c.args.port.now) c.in_ok-serving.serving c.args.book.now c.in_ok-serving.ensures.session c.in_ok-serving.ensures.requests c.in_ok-serving.ensures.outbox c.in_ok-serving.ensures.count c.in_ok-serving.ensures.over c.requires.new c.ranges.count.fits)).on.underway.slaves
+finish-requires-in-Err-PortFault g c =
+    let is = c.in-Err-PortFault.is in
+    let so = c.in-Err-PortFault.field-0-is in
+    let e : c.turns.result ≡ Err stops.PortFault = cc in
+    let h = fault_of c.args.plan.now c.args.count (told g.P.Port.heard g.P.Port.sent g.P.Port.over g.P.Port.port_faults c.args.port.now) (told g.P.Port.heard g.P.Port.sent g.P.Port.over g.P.Port.port_faults c.turns.new.port) c.turns.new.serving c.turns.new.book c.turns.result e (c.turns.ensures.goes c.args.plan.now c.args.count (told g.P.Port.heard g.P.Port.sent g.P.Port.over g.P.Port.port_faults c.args.port.now)
+        (first_serving c.args.plan.now c.args.count (told g.P.Port.heard g.P.Port.sent g.P.Port.over g.P.Port.port_faults c.args.port.now) c.in_ok-serving.serving c.args.book.now c.in_ok-serving.ensures.session c.in_ok-serving.ensures.requests c.in_ok-serving.ensures.outbox c.in_ok-serving.ensures.count c.in_ok-serving.ensures.over c.requires.new c.ranges.count.fits)) in
+    h.on.underway.slaves
 
 pub returns-in-Err-NoMemory-clause-frames : goal.returns-in-Err-NoMemory-clause-frames
 returns-in-Err-NoMemory-clause-frames g c =
-    c.in-Err-NoMemory.ensures.goes c.args.plan.now c.args.count (told g.P.Port.heard g.P.Port.sent g.P.Port.over g.P.Port.port_faults c.args.port.now)
-    (first_serving c.args.plan.now c.args.count (told g.P.Port.heard g.P.Port.sent g.P.Port.over g.P.Port.port_faults c.args.port.now) c.in_ok-serving.serving c.args.book.now c.in_ok-serving.ensures.session c.in_ok-serving.ensures.requests c.in_ok-serving.ensures.outbox c.in_ok-serving.ensures.count c.in_ok-serving.ensures.over c.requires.new c.ranges.count.fits)
+    let is = c.in-Err-NoMemory.is in
+    let so = c.in-Err-NoMemory.field-0-is in
+    let e : c.turns.result ≡ Err stops.NoMemory = cc in
+    let h = cut_of c.args.plan.now c.args.count (told g.P.Port.heard g.P.Port.sent g.P.Port.over g.P.Port.port_faults c.args.port.now) (told g.P.Port.heard g.P.Port.sent g.P.Port.over g.P.Port.port_faults c.turns.new.port) c.turns.new.serving c.turns.new.book c.turns.result e (c.turns.ensures.goes c.args.plan.now c.args.count (told g.P.Port.heard g.P.Port.sent g.P.Port.over g.P.Port.port_faults c.args.port.now)
+        (first_serving c.args.plan.now c.args.count (told g.P.Port.heard g.P.Port.sent g.P.Port.over g.P.Port.port_faults c.args.port.now) c.in_ok-serving.serving c.args.book.now c.in_ok-serving.ensures.session c.in_ok-serving.ensures.requests c.in_ok-serving.ensures.outbox c.in_ok-serving.ensures.count c.in_ok-serving.ensures.over c.requires.new c.ranges.count.fits)) in
+    h
 
 pub returns-in-Ok-clause-frames : goal.returns-in-Ok-clause-frames
 returns-in-Ok-clause-frames g c =
@@ -32,13 +43,21 @@ returns-in-Ok-clause-served g c =
 
 pub returns-in-Err-PortFault-clause-frames : goal.returns-in-Err-PortFault-clause-frames
 returns-in-Err-PortFault-clause-frames g c =
-    has_frames c.args.plan.now c.args.count c.turns.new.serving.session c.turns.new.book c.finish-in-Err-PortFault.new.book (c.in-Err-PortFault.ensures.goes c.args.plan.now c.args.count (told g.P.Port.heard g.P.Port.sent g.P.Port.over g.P.Port.port_faults c.args.port.now)
-    (first_serving c.args.plan.now c.args.count (told g.P.Port.heard g.P.Port.sent g.P.Port.over g.P.Port.port_faults c.args.port.now) c.in_ok-serving.serving c.args.book.now c.in_ok-serving.ensures.session c.in_ok-serving.ensures.requests c.in_ok-serving.ensures.outbox c.in_ok-serving.ensures.count c.in_ok-serving.ensures.over c.requires.new c.ranges.count.fits)).on.underway
+    let is = c.in-Err-PortFault.is in
+    let so = c.in-Err-PortFault.field-0-is in
+    let e : c.turns.result ≡ Err stops.PortFault = cc in
+    let h = fault_of c.args.plan.now c.args.count (told g.P.Port.heard g.P.Port.sent g.P.Port.over g.P.Port.port_faults c.args.port.now) (told g.P.Port.heard g.P.Port.sent g.P.Port.over g.P.Port.port_faults c.turns.new.port) c.turns.new.serving c.turns.new.book c.turns.result e (c.turns.ensures.goes c.args.plan.now c.args.count (told g.P.Port.heard g.P.Port.sent g.P.Port.over g.P.Port.port_faults c.args.port.now)
+        (first_serving c.args.plan.now c.args.count (told g.P.Port.heard g.P.Port.sent g.P.Port.over g.P.Port.port_faults c.args.port.now) c.in_ok-serving.serving c.args.book.now c.in_ok-serving.ensures.session c.in_ok-serving.ensures.requests c.in_ok-serving.ensures.outbox c.in_ok-serving.ensures.count c.in_ok-serving.ensures.over c.requires.new c.ranges.count.fits)) in
+    has_frames c.args.plan.now c.args.count c.turns.new.serving.session c.turns.new.book c.finish-in-Err-PortFault.new.book h.on.underway
     c.finish-in-Err-PortFault.ensures.frames c.finish-in-Err-PortFault.ensures.switch
 
 pub returns-in-Err-PortFault-clause-served : goal.returns-in-Err-PortFault-clause-served
 returns-in-Err-PortFault-clause-served g c =
+    let is = c.in-Err-PortFault.is in
+    let so = c.in-Err-PortFault.field-0-is in
+    let e : c.turns.result ≡ Err stops.PortFault = cc in
+    let h = fault_of c.args.plan.now c.args.count (told g.P.Port.heard g.P.Port.sent g.P.Port.over g.P.Port.port_faults c.args.port.now) (told g.P.Port.heard g.P.Port.sent g.P.Port.over g.P.Port.port_faults c.turns.new.port) c.turns.new.serving c.turns.new.book c.turns.result e (c.turns.ensures.goes c.args.plan.now c.args.count (told g.P.Port.heard g.P.Port.sent g.P.Port.over g.P.Port.port_faults c.args.port.now)
+        (first_serving c.args.plan.now c.args.count (told g.P.Port.heard g.P.Port.sent g.P.Port.over g.P.Port.port_faults c.args.port.now) c.in_ok-serving.serving c.args.book.now c.in_ok-serving.ensures.session c.in_ok-serving.ensures.requests c.in_ok-serving.ensures.outbox c.in_ok-serving.ensures.count c.in_ok-serving.ensures.over c.requires.new c.ranges.count.fits)) in
     faulted c.args.plan.now c.args.count (told g.P.Port.heard g.P.Port.sent g.P.Port.over g.P.Port.port_faults c.args.port.now) (told g.P.Port.heard g.P.Port.sent g.P.Port.over g.P.Port.port_faults c.turns.new.port) c.turns.new.serving c.turns.new.book c.finish-in-Err-PortFault.new.book c.finish-in-Err-PortFault.result c.requires.some
-    (c.in-Err-PortFault.ensures.goes c.args.plan.now c.args.count (told g.P.Port.heard g.P.Port.sent g.P.Port.over g.P.Port.port_faults c.args.port.now)
-    (first_serving c.args.plan.now c.args.count (told g.P.Port.heard g.P.Port.sent g.P.Port.over g.P.Port.port_faults c.args.port.now) c.in_ok-serving.serving c.args.book.now c.in_ok-serving.ensures.session c.in_ok-serving.ensures.requests c.in_ok-serving.ensures.outbox c.in_ok-serving.ensures.count c.in_ok-serving.ensures.over c.requires.new c.ranges.count.fits))
+    h
     c.finish-in-Err-PortFault.ensures.frames c.finish-in-Err-PortFault.ensures.switch c.finish-in-Err-PortFault.ensures.grams c.finish-in-Err-PortFault.ensures.replies c.finish-in-Err-PortFault.ensures.serving c.finish-in-Err-PortFault.ensures.many c.finish-in-Err-PortFault.ensures.rows c.finish-in-Err-PortFault.ensures.answers
