@@ -1,5 +1,5 @@
 -- THE SLAVES OF A PLAN before the first frame, as their master leads them.
-use Rattle.std.specs.Prelude.{ℕ, suc, ◌==◌, if◌then◌else◌, List, [], ◌∷◌}
+use Rattle.std.specs.Prelude.{◌≡◌, ℕ, suc, ◌==◌, false, if◌then◌else◌, List, [], ◌∷◌, ⊤}
 use Rattle.frame_view.specs.View.{Lens}
 use Rattle.life_model.specs.Lives.{Spot}
 use Rattle.segment_plan.specs.declared.plan.Scenario.{Scenario}
@@ -11,6 +11,20 @@ use Rattle.life_runs.specs.Led.{Leads, new_leads}
 abbrev pub lens_of : List SlaveSpec → ℕ → Lens
 lens_of [] station = record { out = 0; back = 0 }
 lens_of (s ∷ ss) station = if s.station == station then record { out = s.out_len; back = s.in_len } else lens_of ss station
+
+-- no station twice
+abbrev pub IsElsewhere : ℕ → List SlaveSpec → Type 0
+IsElsewhere station [] = ⊤
+IsElsewhere station (s ∷ ss) = ((station == s.station) ≡ false) × IsElsewhere station ss
+
+abbrev pub AreApart : List SlaveSpec → Type 0
+AreApart [] = ⊤
+AreApart (s ∷ ss) = IsElsewhere s.station ss × AreApart ss
+
+-- these are the lengths of their mailboxes
+abbrev pub HaveLens : (ℕ → Lens) → List SlaveSpec → Type 0
+HaveLens lens [] = ⊤
+HaveLens lens (s ∷ ss) = (((lens s.station).out ≡ s.out_len) × ((lens s.station).back ≡ s.in_len)) × HaveLens lens ss
 
 -- what a plan says of a slave, and its place
 abbrev pub spot_of : ℕ → SlaveSpec → Spot

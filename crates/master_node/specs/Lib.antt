@@ -4,3 +4,5 @@ pub mod Ported
 pub mod Scripts
 pub mod Shows
 pub mod Kept
+pub mod Coming
+pub mod First

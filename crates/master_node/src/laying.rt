@@ -1,6 +1,6 @@
 //! Services that are laid ready in the hand of a slave's side, and what its side has to tell.
 
-ghost use Rattle.std.specs.Prelude.{◌≡◌, ◌≤◌, ◌<◌, ◌+◌, length};
+ghost use Rattle.std.specs.Prelude.{◌≡◌, ◌≤◌, ◌<◌, suc, length};
 ghost use Rattle.master_hand.specs.declared.laying.Laid.{Laid};
 ghost use Rattle.master_node.specs.Kept.{SideKept};
 
@@ -46,7 +46,7 @@ pub fn lay_script(side: &mut Side<InHand>)
 
 /// The scripted service behind the next comes next.
 pub fn pass_by(side: &mut Side<InHand>)
-    ensures { side.old.hand.laying.number < length side.old.hand.laying.script → SideKept (side.old.hand.laying.number + 1) side.old side.new }
+    ensures { side.old.hand.laying.number < length side.old.hand.laying.script → SideKept (suc side.old.hand.laying.number) side.old side.new }
 {
     side.hand.pass_by();
 }

@@ -1,18 +1,18 @@
 ghost use Rattle.std.specs.Prelude.{◌≡◌, ◌≤◌, vec_len};
 ghost use Rattle.master_tour.specs.Goes.{is_live};
 
+use crate::coming::{Coming, scripted, wish_of};
 use crate::event::{Event, EventList, Origin};
 use crate::lan::Lan;
-use crate::laying::{lay_mail, lay_packet, lay_script, pass_by};
+use crate::laying::{lay_mail, lay_nothing, lay_packet, lay_script, pass_by};
 use crate::post::{Post, Work};
 use datagrams::FrameBuf;
 use ec_fields::{NoMemory, Octets};
 use mailbox_mail::{Mail, ReplyKind};
 use mailbox_master::InwardHalf;
 use master_hand::InHand;
-use master_side::{Side, Target, Wish};
+use master_side::Side;
 use master_tour::{Stand, Stop, Tour};
-use segment_plan::Service;
 
 /// The most slaves of a segment.
 const SLAVES: usize = 16;
@@ -43,38 +43,6 @@ pub struct MasterNode {
     pub ghost few: { vec_len posts ≤ 16 },
 }
 
-/// What may come into hand at a visit.
-#[derive(Clone, Copy, Debug)]
-enum Coming {
-    /// A packet from the switch.
-    Packet,
-    /// A mail that is passed on.
-    Mail,
-    /// The next scripted service, by mails.
-    Script,
-    /// The next scripted service, a change of the AL state.
-    State(Target),
-}
-
-// What the slave's side is to wish.
-fn wish_of(coming: Option<Coming>) -> Option<Wish> {
-    match coming? {
-        Coming::Packet | Coming::Mail | Coming::Script => Some(Wish::Mails),
-        Coming::State(target) => Some(Wish::State(target)),
-    }
-}
-
-// What the script has next; a script hands over no packet. A control word has room for a state below 16.
-fn scripted(hand: &InHand) -> Option<Coming> {
-    match hand.scripted()? {
-        Service::Forward(_) => None,
-        Service::State { target } => Some(Coming::State(Target {
-            state: *target % 16,
-        })),
-        _ => Some(Coming::Script),
-    }
-}
-
 /// Whether a slave gets datagrams: it was not given up for good.
 fn is_live(stop: &Stop<InHand>) -> bool
     ensures { result ≡ is_live stop.now.stand }
@@ -102,6 +70,12 @@ impl MasterNode {
     ghost use Rattle.master_tour.specs.Goes.{is_live};
     ghost use Rattle.std.specs.List.{list_any};
     ghost use Rattle.master_node.specs.declared.node.Next.{Next};
+    ghost use Rattle.std.specs.Prelude.{All, Some};
+    ghost use Rattle.master_tour.specs.Walks.{StepsAt};
+    ghost use Rattle.master_node.specs.declared.coming.Coming.{Coming};
+    ghost use Rattle.master_node.specs.Shows.{WaitsNone};
+    ghost use Rattle.master_node.specs.Kept.{StopStays, TourKept, NodeKept};
+    ghost use Rattle.master_node.specs.Coming.{HoldsAt, next_of, IsComing, IsLaid, PassesBy};
 
     // Whether a slave is live.
     fn has_live(&self) -> bool
@@ -136,6 +110,7 @@ impl MasterNode {
     // something in hand takes nothing.
     fn coming(&self, place: usize) -> Option<Coming>
         requires { place < vec_len self.now.posts }
+        ensures { All WaitsNone self.now.posts.items → HoldsAt (λ s. IsComing (next_of s) result) self.now.tour.stops.items place }
     {
         let stop = &self.tour.stops[place];
         if !matches!(stop.stand, Stand::Open) || !stop.side.is_free() {
@@ -153,11 +128,13 @@ impl MasterNode {
     // The oldest packet that waits at the slave's port is laid ready.
     fn lay_packet(&mut self, place: usize)
         requires { place < vec_len self.old.posts }
-        ensures count { self.new.tour.count ≡ self.old.tour.count }
         ensures posts { vec_len self.new.posts ≡ vec_len self.old.posts }
+        ensures laid { StepsAt (λ s t. StopStays s t × IsLaid (Some Coming.Packet) t.side.hand.laying.laid) place self.old.tour.stops.items self.new.tour.stops.items }
+        ensures kept { TourKept self.old self.new × (All WaitsNone self.old.posts.items → All WaitsNone self.new.posts.items) }
     {
-        if let Some(packet) = self.lan.begin(place, &mut self.list) {
-            lay_packet(&mut self.tour.stops[place].side, &packet);
+        match self.lan.begin(place, &mut self.list) {
+            Some(packet) => lay_packet(&mut self.tour.stops[place].side, &packet),
+            None => lay_nothing(&mut self.tour.stops[place].side),
         }
         let post = &mut self.posts[place];
         post.next = Work::Packet;
@@ -168,8 +145,9 @@ impl MasterNode {
     // The oldest mail that waits to be passed on is laid ready.
     fn lay_mail(&mut self, place: usize)
         requires { place < vec_len self.old.posts }
-        ensures count { self.new.tour.count ≡ self.old.tour.count }
         ensures posts { vec_len self.new.posts ≡ vec_len self.old.posts }
+        ensures laid { StepsAt (λ s t. StopStays s t) place self.old.tour.stops.items self.new.tour.stops.items }
+        ensures kept { TourKept self.old self.new × (All WaitsNone self.old.posts.items → All WaitsNone self.new.posts.items) }
     {
         let post = &mut self.posts[place];
         post.origin = Origin::Gateway(post.oldest());
@@ -179,47 +157,62 @@ impl MasterNode {
         }
     }
 
-    // The next scripted service is laid ready; a change of state is its side's own.
-    fn lay_script(&mut self, place: usize, work: Work)
+    // The next scripted service is laid ready.
+    fn lay_script(&mut self, place: usize)
         requires { place < vec_len self.old.posts }
-        ensures count { self.new.tour.count ≡ self.old.tour.count }
         ensures posts { vec_len self.new.posts ≡ vec_len self.old.posts }
+        ensures laid { StepsAt (λ s t. StopStays s t × IsLaid (Some Coming.Script) t.side.hand.laying.laid) place self.old.tour.stops.items self.new.tour.stops.items }
+        ensures kept { TourKept self.old self.new × (All WaitsNone self.old.posts.items → All WaitsNone self.new.posts.items) }
     {
         let side = &mut self.tour.stops[place].side;
         let number = side.hand.number();
-        if matches!(work, Work::Mails) {
-            lay_script(side);
-        }
+        lay_script(side);
         let post = &mut self.posts[place];
-        post.next = work;
+        post.next = Work::Mails;
+        post.origin = Origin::Script(number);
+    }
+
+    // So it is where it is a change of state, which is its side's own.
+    fn lay_state(&mut self, place: usize)
+        requires { place < vec_len self.old.posts }
+        ensures posts { vec_len self.new.posts ≡ vec_len self.old.posts }
+        ensures tour { self.new.tour ≡ self.old.tour }
+        ensures quiet { All WaitsNone self.old.posts.items → All WaitsNone self.new.posts.items }
+    {
+        let number = self.tour.stops[place].side.hand.number();
+        let post = &mut self.posts[place];
+        post.next = Work::State;
         post.origin = Origin::Script(number);
     }
 
     // What may come into hand is laid ready.
     fn lay(&mut self, place: usize, coming: Option<Coming>)
         requires { place < vec_len self.old.posts }
-        ensures count { self.new.tour.count ≡ self.old.tour.count }
         ensures posts { vec_len self.new.posts ≡ vec_len self.old.posts }
+        ensures laid { StepsAt (λ s t. StopStays s t × IsLaid coming t.side.hand.laying.laid) place self.old.tour.stops.items self.new.tour.stops.items }
+        ensures kept { TourKept self.old self.new × (All WaitsNone self.old.posts.items → All WaitsNone self.new.posts.items) }
     {
         match coming {
             None => {}
             Some(Coming::Packet) => self.lay_packet(place),
             Some(Coming::Mail) => self.lay_mail(place),
-            Some(Coming::Script) => self.lay_script(place, Work::Mails),
-            Some(Coming::State(_)) => self.lay_script(place, Work::State),
+            Some(Coming::Script) => self.lay_script(place),
+            Some(Coming::State(_)) => self.lay_state(place),
         }
     }
 
-    // The service that was laid ready came into hand.
-    fn begun(&mut self, place: usize)
+    // What was laid ready came into hand: a change of state is passed by in the script.
+    fn begun(&mut self, place: usize, coming: Option<Coming>)
         requires { place < vec_len self.old.posts }
-        ensures { vec_len self.new.posts ≡ vec_len self.old.posts }
+        ensures posts { vec_len self.new.posts ≡ vec_len self.old.posts }
+        ensures begun { StepsAt (λ s t. PassesBy coming s t) place self.old.tour.stops.items self.new.tour.stops.items }
+        ensures kept { TourKept self.old self.new × (All WaitsNone self.old.posts.items → All WaitsNone self.new.posts.items) }
     {
         let post = &mut self.posts[place];
         post.work = post.next;
         post.answer = None;
         let origin = post.origin;
-        if matches!(post.work, Work::State) {
+        if let Some(Coming::State(_)) = coming {
             pass_by(&mut self.tour.stops[place].side);
         }
         self.list.put(Event::Began {
@@ -244,7 +237,7 @@ impl MasterNode {
         }
         self.lay(place, coming);
         if self.tour.visit(place, wish, index, into) {
-            self.begun(place);
+            self.begun(place, coming);
         }
         true
     }

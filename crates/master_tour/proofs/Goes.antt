@@ -1,12 +1,13 @@
 -- The first visit of a frame.
-use Rattle.std.proofs.Common.{◌≡◌, ℕ, zero, suc, ◌+◌, ◌-◌, ◌<◌, ◌≤◌, ◌==◌, Bool, true, false, Option, Some, None, List, [], ◌∷◌, length, get_or, refl, sym, ap, ◌∙◌, subst, arith}
+use Rattle.std.proofs.Common.{◌≡◌, ℕ, zero, suc, ◌+◌, ◌-◌, ◌<◌, ◌≤◌, Bool, true, false, List, [], ◌∷◌, length, get_or, refl, sym, ap, ◌∙◌, subst, arith}
 use Rattle.std.specs.Prelude.{nat_lt, if◌then◌else◌}
 use Rattle.std.specs.List.{list_any}
 use Rattle.std.proofs.lemmas.Bool.{ltb-true, ltb-false, lt-ltb, le-ltb}
 use Rattle.std.specs.Prelude.{All}
 use Rattle.std.proofs.lemmas.List.Elements.{All-nil, All-cons}
 use Rattle.std.proofs.lemmas.List.Folds.{list_any_none}
-use Rattle.master_tour.specs.Goes.{holds_at, BeginsLive}
+use Rattle.std.specs.Prelude.{◌&&◌, not}
+use Rattle.master_tour.specs.Goes.{holds_at, BeginsLive, opened_behind}
 use Rattle.master_tour.specs.Orders.{place_in}
 
 -- what holds somewhere is inside
@@ -34,6 +35,7 @@ place_met start count p s l = go (nat_lt p start) refl
   where
     at : (k : ℕ) (b : Bool) → nat_lt k (count - start) ≡ b → place_in start count k ≡ (if b then start + k else k - (count - start))
     at k b e = ap (λ (z : Bool). if z then start + k else k - (count - start)) e
+
     go : (z : Bool) → nat_lt p start ≡ z → (k : ℕ) × (k < count) × (place_in start count k ≡ p)
     go true e =
         let a = ltb-true p start e in
@@ -47,8 +49,8 @@ pub none_in_round : {S : Type 0} (test : S → Bool) (ss : List S) (start count 
     ((k : ℕ) → passed ≤ k → k < count → holds_at test ss (place_in start count k) ≡ false) → list_any test ss ≡ false
 none_in_round test ss start count passed c s z h =
     none_holds test ss (λ p l.
-      let m = place_met start count p s (omega (arith, l, c)) in
-      subst (λ q. holds_at test ss q ≡ false) m.2 (h m.0 (omega (arith, z)) m.1))
+    let m = place_met start count p s (omega (arith, l, c)) in
+    subst (λ q. holds_at test ss q ≡ false) m.2 (h m.0 (omega (arith, z)) m.1))
 
 -- behind a lost frame the first that it carried comes first
 pub begins_some : {S : Type 0} (live : S → Bool) (visit : List ℕ) (opened : ℕ) (ss : List S) → BeginsLive live true visit opened ss → 0 < length visit
@@ -58,3 +60,17 @@ begins_some live (p ∷ ps) opened ss b = omega arith
 pub begins_at : {S : Type 0} (live : S → Bool) (visit : List ℕ) (opened : ℕ) (ss : List S) (i d : ℕ) → i ≡ 0 → BeginsLive live true visit opened ss → holds_at live ss (get_or visit i d) ≡ true
 begins_at live [] opened ss i d e b = absurd b
 begins_at live (p ∷ ps) opened ss i d e b = subst (λ z. holds_at live ss (get_or (p ∷ ps) z d) ≡ true) (sym e) b
+
+-- how many have ended their first bring-up
+module _ {S : Type 0} (opens : S → Bool) (opened : ℕ) (ss : List S) where
+  by_both : (x y : Bool) → nat_lt opened (length ss) ≡ x → holds_at opens ss opened ≡ y → opened_behind opens opened ss ≡ (if x && not y then opened + 1 else opened)
+  by_both x y p q = ap (λ z. if z && not (holds_at opens ss opened) then opened + 1 else opened) p ∙ ap (λ z. if x && not z then opened + 1 else opened) q
+
+  pub opened_more : opened < length ss → holds_at opens ss opened ≡ false → opened_behind opens opened ss ≡ opened + 1
+  opened_more l e = by_both true false (lt-ltb opened (length ss) l) e
+
+  pub opened_here : opened < length ss → holds_at opens ss opened ≡ true → opened_behind opens opened ss ≡ opened
+  opened_here l e = by_both true true (lt-ltb opened (length ss) l) e
+
+  pub opened_out : length ss ≤ opened → opened_behind opens opened ss ≡ opened
+  opened_out l = by_both false (holds_at opens ss opened) (le-ltb opened (length ss) l) refl

@@ -6,7 +6,7 @@ use Rattle.state_exchange.specs.Families.{InState}
 use Rattle.master_duty.specs.Reply as Master
 use Rattle.master_hand.specs.Spoken.{Asked}
 use Rattle.life_model.specs.Lives.{Spot, new_life}
-pub use Rattle.life_runs.specs.First.{lens_of, spot_of}
+pub use Rattle.life_runs.specs.First.{lens_of, spot_of, IsElsewhere, AreApart}
 use Rattle.life_model.specs.Tours.{item_at}
 use Rattle.segment_plan.specs.Sound.{IsSlave}
 use Rattle.segment_plan.specs.declared.plan.Scenario.{Scenario}
@@ -81,12 +81,3 @@ AllMacs (s ∷ ss) = (length s.mac ≡ 6) × AllMacs ss
 -- THE SLAVES OF A PLAN as they are switched on
 abbrev pub members_of : Scenario → List PlanMember
 members_of plan = new_members (lens_of plan.slaves) 0 plan.slaves plan.paces
-
--- no station twice
-abbrev pub IsElsewhere : ℕ → List SlaveSpec → Type 0
-IsElsewhere station [] = ⊤
-IsElsewhere station (s ∷ ss) = ((station == s.station) ≡ false) × IsElsewhere station ss
-
-abbrev pub AreApart : List SlaveSpec → Type 0
-AreApart [] = ⊤
-AreApart (s ∷ ss) = IsElsewhere s.station ss × AreApart ss

@@ -4,5 +4,6 @@ pub mod Lists
 pub mod Plans
 pub mod Replays
 pub mod Rows
+pub mod Stations
 pub mod Steps
 pub mod Underway

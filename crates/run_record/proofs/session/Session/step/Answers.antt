@@ -47,6 +47,8 @@ returns-clause-ok c =
         recorded = subst (λ r. IsRecorded r f) ring (record { fate = c.exchange-fate.ensures.fate; back = c.exchange-fate.ensures.back });
         short = record { sent = c.put_frame.ensures.sent_fits; back = c.put_frame.ensures.back_fits };
         ring = ap (λ (s : SessionState). s.ring) told ∙ c.exchange-fate.ensures.wire ∙ ap (λ (r : RingState (Node SlaveServer)). behind r c.next.new.into.items) ring;
+        homes = c.note-2.ensures.slaves.homes ∙ ap (λ (s : SessionState). s.homes) told ∙ c.note.ensures.slaves.homes ∙ ap (λ (s : SessionState). s.homes) c.self.view_is;
+        asked = c.note-2.ensures.slaves.asked ∙ ap (λ (s : SessionState). s.asked) told ∙ c.note.ensures.slaves.asked ∙ ap (λ (s : SessionState). s.asked) c.self.view_is;
         ports = ap (λ (l : List ℕ). 1 + length l) c.note-2.ensures.slaves.ports ∙ same ∙ before;
         recover = c.note-2.ensures.slaves.recover ∙ ap (λ (s : SessionState). s.recover) told ∙ c.note.ensures.slaves.recover ∙ ap (λ (s : SessionState). s.recover) c.self.view_is;
         budget = ap (λ (s : SessionState). s.budget) told ∙ ap (λ (s : SessionState). s.budget) c.self.view_is;
