@@ -1,5 +1,3 @@
-mod Settled
-mod Epochs
 mod Served
 mod Ups
 mod Books

@@ -36,11 +36,11 @@ use Rattle.whole_ring.specs.Members.{MemberIs, AllLived}
 use Rattle.run_lives.specs.Lives.{IsShown, AllShown, AreLived}
 use Rattle.run_lives.specs.Round.{ring_of, ring_after, all_seen}
 use Rattle.script_runs.specs.Came.{AreThose, is_packet}
-use Rattle.run_promises.specs.Epochs.{AreKept, NothingLeft, app_of}
+use Rattle.kept_lives.specs.Epochs.{AreKept, NothingLeft, app_of}
 use Rattle.run_promises.specs.Rests.{IsIdle, IsDone, AllDoneIf}
 use Rattle.run_promises.specs.Slaves.{services_of}
 use Rattle.script_runs.specs.Slaves.{HasCome, AllCome}
-use Rattle.run_promises.proofs.Epochs.{lived_rests, past_kept}
+use Rattle.kept_lives.proofs.Epochs.{lived_rests, past_kept}
 use Rattle.run_promises.proofs.Served.{one_served}
 
 -- a newest epoch of which nothing is left, of a slave with any services

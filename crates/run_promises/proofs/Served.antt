@@ -20,10 +20,10 @@ use Rattle.whole_ring.specs.Members.{MemberIs, AllLived}
 use Rattle.run_lives.specs.Lives.{IsShown, AllShown, AreLived}
 use Rattle.run_lives.specs.Round.{ring_of, ring_after, all_seen}
 use Rattle.script_runs.specs.Came.{Came, AreFirst}
-use Rattle.run_promises.specs.Epochs.{IsKeptLife}
+use Rattle.kept_lives.specs.Epochs.{IsKeptLife}
 use Rattle.run_promises.specs.Slaves.{services_of, IsServed, AllServed}
 use Rattle.script_runs.specs.Slaves.{HasCome, AllCome}
-use Rattle.run_promises.proofs.Epochs.{kept_life}
+use Rattle.kept_lives.proofs.Epochs.{kept_life}
 
 module _ (plan : Scenario) (fs : List Exchanged) where
   abbrev lens : ℕ → Lens

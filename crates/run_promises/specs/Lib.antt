@@ -1,4 +1,3 @@
-pub mod Epochs
 pub mod Slaves
 pub mod Books
 pub mod Rests

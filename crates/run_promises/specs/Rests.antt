@@ -18,7 +18,7 @@ use Rattle.slave_steps.specs.Node.{Node, is_settled}
 use Rattle.state_exchange.specs.Families.{InState}
 use Rattle.run_lives.specs.Round.{all_seen}
 use Rattle.script_runs.specs.Came.{AreThose, is_packet}
-use Rattle.run_promises.specs.Epochs.{AreKept, NothingLeft, app_of}
+use Rattle.kept_lives.specs.Epochs.{AreKept, NothingLeft, app_of}
 use Rattle.run_promises.specs.Slaves.{services_of}
 
 -- THE MASTER WANTS NOTHING of a slave: it is open, no service is in hand and none is left of its script, and both halves of its link are idle

@@ -21,7 +21,7 @@ use Rattle.slave_steps.specs.Node.{Node}
 use Rattle.state_exchange.specs.Families.{InState}
 use Rattle.run_lives.specs.Round.{all_seen}
 use Rattle.script_runs.specs.Came.{Came, AreFirst}
-use Rattle.run_promises.specs.Epochs.{IsKeptLife}
+use Rattle.kept_lives.specs.Epochs.{IsKeptLife}
 
 -- the services of a plan's slave, as its master asks for them
 abbrev pub services_of : Scenario → SlaveSpec → Behind Serving (InState Server) (InState (Station Core)) Asked Reply

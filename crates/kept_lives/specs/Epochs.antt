@@ -33,7 +33,7 @@ module _ {S V A Q R : Type 0} (w : Behind S V A Q R) (more : Body → Bool) (spo
   -- ANSWERED, by these frames: each reply is that of its service on the application behind those before it, and its service was carried out; only
   -- the newest may be without one; and what was heard besides are the first of the emissions
   pub record IsAnswered (gs : List (Frame Body)) (from : A) (count : ℕ) (started : List (Started Q)) : Type 0 where
-    pub replies : AllReplied w.exchange w.states (table_of w spot.station) more gs spot.station (from, 0) started
+    pub replies : AllReplied w.exchange w.states (table_of w spot.station) more spot.station gs (from, 0) started
     pub done : AllDone w.exchange.speech more spot.station gs count 0 started
     pub ended : AllEnded w.exchange.speech more spot.station gs (but_last started)
     pub emissions : IsPrefixOf (emitted w.exchange.speech.emission (heard spot.station gs)) (emitted_by from (take count (services_in started)))

@@ -1,5 +1,5 @@
 -- EACH EPOCH of a life that is lived keeps what the model's law of an epoch promises.
-use Rattle.std.proofs.Common.{◌≡◌, ◌⊎◌, ℕ, ◌<◌, ◌≤◌, Bool, List, [], ◌∷◌, ◌++◌, length, refl, ap, sym, ◌∙◌, subst, arith}
+use Rattle.std.proofs.Common.{◌≡◌, ◌⊎◌, ℕ, ◌<◌, ◌≤◌, Bool, false, None, List, [], ◌∷◌, ◌++◌, length, refl, ap, sym, ◌∙◌, subst, arith}
 use Rattle.link_mails.specs.Body.{Body}
 use Rattle.life_model.specs.Eras.{Clearing, EraIs, OpenEra, era_frames}
 use Rattle.life_model.specs.Lives.{Spot, Era, Life, Opening, Stand}
@@ -16,8 +16,8 @@ use Rattle.slave_steps.specs.Node.{Node}
 use Rattle.task_model.specs.Promise.{TasksPromised, TasksAnswered, TasksRestIf, services_in}
 use Rattle.task_model.proofs.Sessions.{tasks_promised, tasks_rest, tasks_answered}
 use Rattle.whole_lives.specs.Whole.{IsWhole, OpensAs, StandsAs, IsLived}
-use Rattle.run_promises.proofs.Settled.{settled_seen}
-use Rattle.run_promises.specs.Epochs.{IsCarriedOut, IsAnswered, IsTold, IsKept, AreKept, NothingLeft, RestsIf, IsNewest, IsKeptLife, app_of, app_behind, emitted_by}
+use Rattle.kept_lives.proofs.Settled.{settled_seen}
+use Rattle.kept_lives.specs.Epochs.{IsCarriedOut, IsAnswered, IsTold, IsKept, AreKept, NothingLeft, RestsIf, IsNewest, IsKeptLife, app_of, app_behind, emitted_by}
 
 module _ {S V A Q R : Type 0} (w : Behind S V A Q R) (c : Clearing V A) (p : Plan) (spot : Spot) (whole : IsWhole w c p spot) (more : Body → Bool) (fs : List (Frame Body)) where
   -- an epoch as the model has it
