@@ -103,7 +103,7 @@ module _ {M Q R : Type 0} (x : Speech M Q R) (ack : Q → Bool) (more : M → Bo
   stand_stays Stand.Gone e = e
 
 -- a slave that is given up has given up
-given_none : {M Q R : Type 0} (b : Bool) (recover : ℕ) (spot : Spot) (made : ℕ) (l : Life M Q R) → (given_where b recover spot made l).gave ≡ [] → b ≡ false
+given_none : (b : Bool) (recover : ℕ) (spot : Spot) (made : ℕ) (l : Life Body Asked Reply) → (given_where b recover spot made l).gave ≡ [] → b ≡ false
 given_none true recover spot made l e = absurd (never_empty l.gave made e)
 given_none false recover spot made l e = refl
 
