@@ -49,19 +49,19 @@ module _ {S V A Q R : Type 0} (w : Behind S V A Q R) (c : Clearing V A) (p : Pla
     promised =
         let q = session_of open_era in
         of_one open_era (λ station start d a s. TasksPromised w.exchange w.states (table_of w station) more gs station start d a s)
-            (tasks_promised q.exchange q.lawful q.states q.stated q.processor q.table more q.planned.tells q.plan q.planned q.sides q.accounts q.ring q.frames q.tasked)
+        (tasks_promised q.exchange q.lawful q.states q.stated q.processor q.table more q.planned.tells q.plan q.planned q.sides q.accounts q.ring q.frames q.tasked)
 
     answered : TasksAnswered w.exchange w.states (table_of w spot.station) more gs spot.station server e.side e.account slave
     answered =
         let q = session_of open_era in
         of_one open_era (λ station start d a s. TasksAnswered w.exchange w.states (table_of w station) more gs station start d a s)
-            (tasks_answered q.exchange q.lawful q.states q.stated q.processor q.table more q.planned.tells q.plan q.planned q.sides q.accounts q.ring q.frames q.tasked)
+        (tasks_answered q.exchange q.lawful q.states q.stated q.processor q.table more q.planned.tells q.plan q.planned q.sides q.accounts q.ring q.frames q.tasked)
 
     rests : TasksRestIf w.exchange w.states (table_of w spot.station) more gs spot.station server e.side e.account slave
     rests =
         let q = session_of open_era in
         of_one open_era (λ station start d a s. TasksRestIf w.exchange w.states (table_of w station) more gs station start d a s)
-            (tasks_rest q.exchange q.lawful q.states q.stated q.processor q.table more q.planned.tells q.plan q.planned q.sides q.accounts q.ring q.frames q.tasked)
+        (tasks_rest q.exchange q.lawful q.states q.stated q.processor q.table more q.planned.tells q.plan q.planned q.sides q.accounts q.ring q.frames q.tasked)
 
     kept : opened < until → until ≤ length fs → (e.cleared ≡ None → registers.state ≡ spot.start) → (to : A) → w.exchange.app slave.node.server.server ≡ to → IsKept w more spot fs e from to until
     kept before within first to leaves =
@@ -112,7 +112,7 @@ module _ {S V A Q R : Type 0} (w : Behind S V A Q R) (c : Clearing V A) (p : Pla
   opens_newest from e o n (OpensAs.anew closing waits start) = IsNewest.waits waits.al (ap (λ (d : Era Body Q R). d.account.started) waits.is_new) waits.begins
   opens_newest from e o n (OpensAs.over closing again step over) =
       IsNewest.left over.left.state (w.exchange.app (w.sees over.left.state over.server).server) over.left.until (left_kept from e over.server over.left)
-          (ap (λ (s : S). w.exchange.app (w.sees over.left.state s).server) over.cleared ∙ Ends.clears_to w c whole.clears over.left.state over.server)
+      (ap (λ (s : S). w.exchange.app (w.sees over.left.state s).server) over.cleared ∙ Ends.clears_to w c whole.clears over.left.state over.server)
 
   newest : (from : A) (e : Era Body Q R) (stand : Stand) (n : Node S) → StandsAs w p spot from e fs stand n → IsNewest w more spot c.cleared fs e from n
   newest from e (Stand.Opens o) n x = opens_newest from e o n x

@@ -1,5 +1,5 @@
 -- THE BOOKS of slaves that stay up.
-use Rattle.std.proofs.Common.{◌≡◌, ℕ, suc, List, [], ◌∷◌, map, length, refl, ap, sym, ◌∙◌, subst}
+use Rattle.std.proofs.Common.{◌≡◌, ℕ, suc, true, List, [], ◌∷◌, map, length, ap, sym, ◌∙◌, subst}
 use Rattle.std.proofs.lemmas.List.{length-map}
 use Rattle.book_lives.specs.First.{Forgets, FirstBook}
 use Rattle.book_lives.specs.Rows.{IsFirst}

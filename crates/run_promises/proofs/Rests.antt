@@ -1,6 +1,6 @@
 -- WHERE NOTHING IS LEFT, all is done.
-use Rattle.std.proofs.Common.{◌≡◌, ℕ, suc, true, Option, Some, None, List, [], ◌∷◌, map, length, take, filter, refl, ap, sym, ◌∙◌, subst}
-use Rattle.std.specs.Prelude.{not, ⊤}
+use Rattle.std.proofs.Common.{◌≡◌, ℕ, suc, true, Option, Some, None, List, [], ◌∷◌, map, length, take, filter, ap, sym, ◌∙◌, subst}
+use Rattle.std.specs.Prelude.{not}
 use Rattle.std.proofs.Math.Seq.{take-length}
 use Rattle.book_model.specs.Script.{life_started}
 use Rattle.eoe_model.specs.Network.{Station}
@@ -22,7 +22,6 @@ use Rattle.plan_ring.specs.Master.{speech_of, IsLed, AllLed}
 use Rattle.plan_ring.specs.Plan.{PlanMember, FitsPlan, step, first_app}
 use Rattle.segment_model.specs.Laws.{WantsNothing, NothingInHand}
 use Rattle.segment_model.specs.Record.{Frame}
-use Rattle.segment_model.specs.Seats.{Side}
 use Rattle.segment_plan.specs.declared.plan.Scenario.{Scenario}
 use Rattle.segment_plan.specs.declared.slave.SlaveSpec.{SlaveSpec}
 use Rattle.server_lives.specs.Real.{real_clearing}

@@ -1,10 +1,10 @@
 -- THE PROMISE, slave by slave.
-use Rattle.std.proofs.Common.{◌≡◌, ℕ, suc, List, [], ◌∷◌, map, refl, ap, sym, ◌∙◌, subst}
+use Rattle.std.proofs.Common.{◌≡◌, ℕ, suc, List, [], ◌∷◌, map, ap, sym, ◌∙◌, subst}
 use Rattle.frame_view.specs.View.{Lens}
 use Rattle.life_frames.specs.Shares.{Lived}
 use Rattle.life_model.specs.Lives.{Life}
-use Rattle.life_runs.specs.First.{lens_of, spot_of, script_for, first_leads}
-use Rattle.life_runs.specs.Led.{Exchanged, Leads, IsLed}
+use Rattle.life_runs.specs.First.{lens_of, spot_of, script_for}
+use Rattle.life_runs.specs.Led.{Exchanged, Leads}
 use Rattle.link_mails.specs.Body.{Body}
 use Rattle.book_model.specs.Script.{life_started}
 use Rattle.master_duty.specs.Reply.{Reply}
