@@ -1,12 +1,10 @@
 -- The services of a scenario, or their first refusal.
-use Rattle.std.specs.Prelude.{ℕ, ◌==◌, ◌||◌, ◌&&◌, ◌-◌, not, List, [], ◌∷◌, codes, Option, Some, None, Result, Ok, Bool, true, if◌then◌else◌, option_and_then, slice_get}
+use Rattle.std.specs.Prelude.{ℕ, ◌==◌, ◌||◌, ◌&&◌, ◌-◌, not, List, codes, Option, Result, Ok, slice_get}
 use Rattle.std.specs.List.{position_from}
 use Rattle.std.specs.Str.{bytes_eq}
 use Rattle.toml.specs.Data.{Members}
 use Rattle.arrayvec.specs.ArrayVec.{ArrayVec}
 use Rattle.eoe.specs.Address.{is_block}
-use Rattle.object_dictionary.specs.declared.service.SdoService.{SdoService}
-use Rattle.object_dictionary.specs.declared.service.SdoService.TheVariants.{Download, Upload, DownloadAll, UploadAll, List as ObjectList, ObjectInfo, EntryInfo}
 use Rattle.segment_plan.specs.declared.slave.SlaveSpec.{SlaveSpec}
 use Rattle.segment_plan.specs.declared.service.Service.{Service}
 use Rattle.segment_plan.specs.declared.service.Service.TheVariants.{Sdo, ReadFile, WriteFile, ReadIdn, WriteIdn, SetIp, GetIp, State}
@@ -19,50 +17,14 @@ use Rattle.scenario_keys.specs.declared.refusal.Refusal.{Refusal}
 use Rattle.scenario_keys.specs.Reading.{◌>>=◌, wanted, unless_refused, each}
 use Rattle.scenario_keys.specs.Keys.{integer_at, integer_or, text_at, name_at}
 use Rattle.scenario_octets.specs.Octets.{octets_at}
-use Rattle.scenario_actions.specs.declared.actions.SdoAction.{SdoAction}
-use Rattle.scenario_actions.specs.declared.actions.SdoAction.TheVariants as sdo
 use Rattle.scenario_actions.specs.declared.actions.Action.{Action}
 use Rattle.scenario_actions.specs.declared.actions.Action.TheVariants as actions
 use Rattle.scenario_actions.specs.Actions.{given_action, only_keys_of, action_at}
+use Rattle.scenario_sdo.specs.Sdo.{word_at, sub_at, sdo_of}
 
 -- the slave of a name
 abbrev pub slave_named : List ℕ → List SlaveSpec → Option ℕ
 slave_named name slaves = position_from (λ (s : SlaveSpec). bytes_eq s.name name) 0 slaves
-
--- an index or a kind of list
-abbrev pub word_at : List ℕ → Place → Members → Result ℕ Refusal
-word_at key place ms = integer_at key 0 0xFFFF place ms
-
--- a subindex
-abbrev pub sub_at : List ℕ → Place → Members → Result ℕ Refusal
-sub_at key place ms = integer_at key 0 0xFF place ms
-
--- what the keys of a service of CoE say
-unfoldable pub sdo_of : SdoAction → Place → Members → Result SdoService Refusal
-sdo_of sdo.Download place ms = do
-  index ← word_at (codes "index") place ms
-  sub ← sub_at (codes "sub") place ms
-  bytes ← octets_at (codes "value") 1 8000 place ms
-  Ok (Download index sub bytes)
-sdo_of sdo.Upload place ms = do
-  index ← word_at (codes "index") place ms
-  sub ← sub_at (codes "sub") place ms
-  Ok (Upload index sub)
-sdo_of sdo.DownloadAll place ms = do
-  index ← word_at (codes "index") place ms
-  from ← sub_at (codes "from") place ms
-  bytes ← octets_at (codes "value") 1 16000 place ms
-  Ok (DownloadAll index from bytes)
-sdo_of sdo.UploadAll place ms = do
-  index ← word_at (codes "index") place ms
-  from ← sub_at (codes "from") place ms
-  Ok (UploadAll index from)
-sdo_of sdo.List place ms = word_at (codes "kind") place ms >>= λ kind. Ok (ObjectList kind)
-sdo_of sdo.ObjectInfo place ms = word_at (codes "index") place ms >>= λ index. Ok (ObjectInfo index)
-sdo_of sdo.EntryInfo place ms = do
-  index ← word_at (codes "index") place ms
-  sub ← sub_at (codes "sub") place ms
-  Ok (EntryInfo index sub 0)
 
 -- the password of a file
 abbrev pub password_at : Place → Members → Result ℕ Refusal
