@@ -27,7 +27,7 @@ NumberBehind false coming s n = n ≡ s.number
 none_comes : (room : ℕ) (script : List Service) (n m : ℕ) → m ≡ n → Comes room script n None m
 none_comes room script n m e = subst (λ z. Comes room script n None z) (sym e) Comes.none
 
-got_inside : (script : List Service) (n : ℕ) (s : Service) → slice_get script n ≡ Some s → n < length script
+pub got_inside : (script : List Service) (n : ℕ) (s : Service) → slice_get script n ≡ Some s → n < length script
 got_inside [] n s e = absurd (cc)
 got_inside (x ∷ xs) zero s e = omega arith
 got_inside (x ∷ xs) (suc n) s e = let l = got_inside xs n s e in omega (arith, l)
@@ -76,7 +76,7 @@ came_by (Some (Coming.State target)) true room w s n r c l i e b =
     subst (λ z. Comes room w.script w.number (Some (Stated.Service.State z)) n) (sym c.2) (subst (λ z. Comes room w.script w.number (Some (Stated.Service.State (c.0 % 16))) z) (sym at) (Comes.state c.0 c.1))
 
 -- no mail that is passed on
-IsOwn : Option Asked → Type 0
+abbrev IsOwn : Option Asked → Type 0
 IsOwn None = ⊤
 IsOwn (Some q) = is_passed q ≡ false
 
@@ -94,6 +94,9 @@ asked_own room (Plan.Service.SetIp block) = go (nat_lt room (length block + 10))
 asked_own room Plan.Service.GetIp = refl
 asked_own room (Plan.Service.State state) = tt
 asked_own room (Plan.Service.Forward packet) = tt
+
+pub asked_unpassed : (room : ℕ) (s : Service) (q : Asked) → asked_of room s ≡ Some q → is_passed q ≡ false
+asked_unpassed room s q e = subst IsOwn e (asked_own room s)
 
 next_own : (room : ℕ) (next : Option Service) → IsOwn (asked_next room next)
 next_own room None = tt

@@ -91,16 +91,15 @@ module _ (lens : ℕ → Lens) (recover retry : ℕ) where
         few = let e = map_length (led_behind lens recover retry gives made f) us in omega (arith, b, e)
         from : (x y : Bool) → nat_lt opened (length ts) ≡ x → holds_at opens ts opened ≡ y → (if x && not y then opened + 1 else opened) ≤ k
         from x y p q = subst (λ z. (if z && not y then opened + 1 else opened) ≤ k) p (subst (λ z. (if nat_lt opened (length ts) && not z then opened + 1 else opened) ≤ k) q a)
+        here : (z : Bool) → nat_lt opened k ≡ z → opened ≤ k → holds_at opens ts opened ≡ true → goal
+        here true e l q = later opened visit us g k (ltb-true opened k e) few
+        here false e l q =
+            let m = ltb-false opened k e in
+            let same : opened ≡ k = omega (arith, l, m) in
+            subst (λ z. holds_at is_opening_lead (map (led_behind lens recover retry gives made f) us) z ≡ true) same (sym (h opened) ∙ q)
         go : (x : Bool) → nat_lt opened (length ts) ≡ x → (y : Bool) → holds_at opens ts opened ≡ y → goal
         go true p false q = let l = from true false p q in later opened visit us g k (omega (arith, l)) few
-        go true p true q = let l = from true true p q in here (nat_lt opened k) refl
-          where
-            here : (z : Bool) → nat_lt opened k ≡ z → goal
-            here true e = later opened visit us g k (ltb-true opened k e) few
-            here false e =
-                let m = ltb-false opened k e in
-                let same : opened ≡ k = omega (arith, l, m) in
-                subst (λ z. holds_at is_opening_lead (map (led_behind lens recover retry gives made f) us) z ≡ true) same (sym (h opened) ∙ q)
+        go true p true q = here (nat_lt opened k) refl (from true true p q) q
         go false p y q = let l = from false y p q in let m = ltb-false opened (length ts) p in absurd (omega (arith, l, m, n, few))
 
   -- BEHIND A LOST FRAME by which no slave is given up

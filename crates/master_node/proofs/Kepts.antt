@@ -41,6 +41,10 @@ side_same s = record {
 pub stop_same : {G : Ghosts InHand} (s : Stop InHand G) → StopStays s s
 stop_same s = record { side = side_same s.side; stand = refl; place = refl; start = refl; spare = refl; under = refl; at = refl }
 
+-- only its side may have changed
+pub stop_side : {G : Ghosts InHand} (n : ℕ) (s t : Stop InHand G) → SideKept n s.side t.side → t.stand ≡ s.stand → t.place ≡ s.place → t.start ≡ s.start → t.spare ≡ s.spare → t.under ≡ s.under → t.at ≡ s.at → StopKept n s t
+stop_side n s t k a b c d e f = record { side = k; stand = a; place = b; start = c; spare = d; under = e; at = f }
+
 -- one step after the other
 pub stop_on : {G : Ghosts InHand} (n m : ℕ) (s t u : Stop InHand G) → StopKept n s t → StopKept m t u → StopKept m s u
 stop_on n m s t u a b = record {
@@ -64,8 +68,9 @@ stop_on n m s t u a b = record {
 pub stop_trans : {G : Ghosts InHand} (s t u : Stop InHand G) → StopStays s t → StopStays t u → StopStays s u
 stop_trans s t u a b = subst (λ z. StopKept z s u) a.side.number (stop_on s.side.hand.laying.number t.side.hand.laying.number s t u a b)
 
-pub tour_same : (m n : MasterNode) → n.tour ≡ m.tour → TourKept m n
-tour_same m n e = record {
+pub tour_same : (m n : MasterNode) → n.tour ≡ m.tour → n.made ≡ m.made → TourKept m n
+tour_same m n e f = record {
+  made = f;
   again = ap (λ z. z.again) e;
   visit = ap (λ z. z.visit) e;
   opened = ap (λ z. z.opened) e;
@@ -86,13 +91,14 @@ tour_on m n o a b = record {
   retry = b.retry ∙ a.retry;
   count = b.count ∙ a.count;
   passed = b.passed ∙ a.passed;
+  made = b.made ∙ a.made;
 }
 
 -- the master stays where its tour does
-pub node_same : (m n : MasterNode) → n.tour ≡ m.tour → (All WaitsNone m.posts.items → All WaitsNone n.posts.items) → NodeKept m n
-node_same m n e q = record {
+pub node_same : (m n : MasterNode) → n.tour ≡ m.tour → n.made ≡ m.made → (All WaitsNone m.posts.items → All WaitsNone n.posts.items) → NodeKept m n
+node_same m n e f q = record {
   each = subst (λ z. EachPair (λ s t. StopStays s t) m.tour.stops.items z.stops.items) (sym e) (each_same (λ s t. StopStays s t) m.tour.stops.items (λ s. stop_same s));
-  tour = tour_same m n e;
+  tour = tour_same m n e f;
   quiet = q;
 }
 

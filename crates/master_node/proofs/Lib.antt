@@ -7,3 +7,9 @@ pub mod Goings
 pub mod Firsts
 pub mod Lefts
 pub mod Cames
+pub mod Behinds
+pub mod Tells
+pub mod Fills
+pub mod Visits
+pub mod Filleds
+pub mod Sents

@@ -1,12 +1,11 @@
 -- Lists that go on place by place.
-use Rattle.std.proofs.Common.{◌≡◌, ℕ, zero, suc, ◌+◌, ◌<◌, ◌≤◌, Bool, true, false, List, [], ◌∷◌, ◌++◌, refl, sym, ap, ◌∙◌, subst, arith, length, get_or, set}
-use Rattle.std.specs.Prelude.{map, All, ⊤}
+use Rattle.std.proofs.Common.{◌≡◌, ℕ, zero, suc, ◌+◌, ◌<◌, ◌≤◌, Bool, true, false, Some, List, [], ◌∷◌, ◌++◌, refl, sym, ap, ◌∙◌, subst, arith, length, get_or, set}
+use Rattle.std.specs.Prelude.{map, All, IfSome, slice_get, ⊤}
 use Rattle.std.proofs.lemmas.List.Elements.{All-nil, All-cons, All-head, All-tail}
 use Rattle.life_frames.specs.Shares.{AllFrom, AllBoth, AllThree}
 use Rattle.master_tour.specs.Goes.{holds_at}
 use Rattle.master_tour.specs.Walks.{EachPair, StepsAt}
 use Rattle.master_tour.proofs.Walks.{each_same}
-use Rattle.master_node.specs.Coming.{HoldsAt}
 
 -- one has gone on, and the others are as they were
 pub steps_each : {S : Type 0} (P T : S → S → Type 0) (i : ℕ) (xs ys : List S) → ((x : S) → T x x) → ((x y : S) → P x y → T x y) → StepsAt P i xs ys → EachPair T xs ys
@@ -36,6 +35,51 @@ steps_trans P T R (suc i) (x ∷ xs) (y ∷ ys) [] h e f = absurd f
 steps_trans P T R zero (x ∷ xs) (y ∷ ys) (z ∷ zs) h e f = (h x y z e.0 f.0, f.1 ∙ e.1)
 steps_trans P T R (suc i) (x ∷ xs) (y ∷ ys) (z ∷ zs) h e f = (f.0 ∙ e.0, steps_trans P T R i xs ys zs h e.1 f.1)
 
+-- what is known of the first step and of the second
+pub steps_mid : {S : Type 0} (P T R : S → S → Type 0) (i : ℕ) (xs ys zs : List S) → ((x y z : S) → P x y → T y z → R y z) → StepsAt P i xs ys → StepsAt T i ys zs → StepsAt R i ys zs
+steps_mid P T R zero [] ys zs h e f = absurd e
+steps_mid P T R (suc i) [] ys zs h e f = absurd e
+steps_mid P T R zero (x ∷ xs) [] zs h e f = absurd e
+steps_mid P T R (suc i) (x ∷ xs) [] zs h e f = absurd e
+steps_mid P T R zero (x ∷ xs) (y ∷ ys) [] h e f = absurd f
+steps_mid P T R (suc i) (x ∷ xs) (y ∷ ys) [] h e f = absurd f
+steps_mid P T R zero (x ∷ xs) (y ∷ ys) (z ∷ zs) h e f = (h x y z e.0 f.0, f.1)
+steps_mid P T R (suc i) (x ∷ xs) (y ∷ ys) (z ∷ zs) h e f = (f.0, steps_mid P T R i xs ys zs h e.1 f.1)
+
+-- what stands there
+pub steps_some : {S : Type 0} (Q : S → Type 0) (P : S → S → Type 0) (i : ℕ) (xs ys : List S) → StepsAt P i xs ys → IfSome (slice_get xs i) Q → StepsAt (λ x y. Q x × P x y) i xs ys
+steps_some Q P zero [] ys e q = absurd e
+steps_some Q P (suc i) [] ys e q = absurd e
+steps_some Q P zero (x ∷ xs) [] e q = absurd e
+steps_some Q P (suc i) (x ∷ xs) [] e q = absurd e
+steps_some Q P zero (x ∷ xs) (y ∷ ys) e q = ((q, e.0), e.1)
+steps_some Q P (suc i) (x ∷ xs) (y ∷ ys) e q = (e.0, steps_some Q P i xs ys e.1 q)
+
+pub steps_got : {S : Type 0} (P : S → S → Type 0) (i : ℕ) (xs ys : List S) → StepsAt P i xs ys → StepsAt (λ x y. (slice_get xs i ≡ Some x) × P x y) i xs ys
+steps_got P zero [] ys e = absurd e
+steps_got P (suc i) [] ys e = absurd e
+steps_got P zero (x ∷ xs) [] e = absurd e
+steps_got P (suc i) (x ∷ xs) [] e = absurd e
+steps_got P zero (x ∷ xs) (y ∷ ys) e = ((refl, e.0), e.1)
+steps_got P (suc i) (x ∷ xs) (y ∷ ys) e = (e.0, steps_got P i xs ys e.1)
+
+pub steps_same : {S : Type 0} (P : S → S → Type 0) (i : ℕ) (xs : List S) → i < length xs → ((x : S) → P x x) → StepsAt P i xs xs
+steps_same P zero [] l h = absurd (omega (arith, l))
+steps_same P (suc i) [] l h = absurd (omega (arith, l))
+steps_same P zero (x ∷ xs) l h = (h x, refl)
+steps_same P (suc i) (x ∷ xs) l h = (refl, steps_same P i xs (omega (arith, l)) h)
+
+-- a test of each stays
+pub steps_holds : {S : Type 0} (test : S → Bool) (P : S → S → Type 0) (i : ℕ) (xs ys : List S) → ((x y : S) → P x y → test y ≡ test x) → StepsAt P i xs ys → (k : ℕ) → holds_at test ys k ≡ holds_at test xs k
+steps_holds test P zero [] ys h e k = absurd e
+steps_holds test P (suc i) [] ys h e k = absurd e
+steps_holds test P zero (x ∷ xs) [] h e k = absurd e
+steps_holds test P (suc i) (x ∷ xs) [] h e k = absurd e
+steps_holds test P zero (x ∷ xs) (y ∷ ys) h e zero = h x y e.0
+steps_holds test P zero (x ∷ xs) (y ∷ ys) h e (suc k) = ap (λ z. holds_at test z k) e.1
+steps_holds test P (suc i) (x ∷ xs) (y ∷ ys) h e zero = ap test e.0
+steps_holds test P (suc i) (x ∷ xs) (y ∷ ys) h e (suc k) = steps_holds test P i xs ys h e.1 k
+
 pub each_trans : {S : Type 0} (P : S → S → Type 0) (xs ys zs : List S) → ((x y z : S) → P x y → P y z → P x z) → EachPair P xs ys → EachPair P ys zs → EachPair P xs zs
 each_trans P [] [] [] h e f = tt
 each_trans P [] [] (z ∷ zs) h e f = absurd f
@@ -51,10 +95,10 @@ each_length P (x ∷ xs) [] e = absurd e
 each_length P (x ∷ xs) (y ∷ ys) e = ap suc (each_length P xs ys e.1)
 
 -- what stands at a place
-pub holds_set : {S : Type 0} (P : S → Type 0) (ss : List S) (i : ℕ) (s : S) → i < length ss → s ≡ get_or ss i s → P s → HoldsAt P ss i
-holds_set P [] i s l e p = absurd (omega (arith, l))
-holds_set P (x ∷ xs) zero s l e p = subst P e p
-holds_set P (x ∷ xs) (suc i) s l e p = holds_set P xs i s (omega (arith, l)) e p
+pub some_here : {S : Type 0} (P : S → Type 0) (ss : List S) (i : ℕ) (s : S) → i < length ss → s ≡ get_or ss i s → P s → IfSome (slice_get ss i) P
+some_here P [] i s l e p = absurd (omega (arith, l))
+some_here P (x ∷ xs) zero s l e p = subst P e p
+some_here P (x ∷ xs) (suc i) s l e p = some_here P xs i s (omega (arith, l)) e p
 
 -- all pass, and so does one that is put among them
 pub all_set : {S : Type 0} (P : S → Type 0) (ss : List S) (i : ℕ) (v w : S) → i < length ss → v ≡ get_or ss i v → (P v → P w) → All P ss → All P (set ss i w)

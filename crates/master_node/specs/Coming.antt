@@ -1,5 +1,5 @@
 -- WHAT MAY COME INTO HAND at a visit.
-use Rattle.std.specs.Prelude.{◌≡◌, ◌⊎◌, ◌<◌, ℕ, zero, suc, ◌%◌, Option, Some, None, List, [], ◌∷◌, length, slice_get, ⊤}
+use Rattle.std.specs.Prelude.{Bool, true, false, ◌≡◌, ◌⊎◌, ◌<◌, ℕ, suc, ◌%◌, Option, Some, None, length, slice_get, ⊤}
 use Rattle.master_hand.specs.declared.hand.InHand.{InHand}
 use Rattle.master_hand.specs.declared.laying.Laid.{Laid}
 use Rattle.master_side.specs.declared.carried.Wish.{Wish}
@@ -8,12 +8,6 @@ use Rattle.master_tour.specs.declared.stop.Stop.{Stop}
 use Rattle.segment_plan.specs.declared.service.Service.{Service}
 use Rattle.master_node.specs.Kept.{StopKept, StopStays}
 use Rattle.master_node.specs.declared.coming.Coming.{Coming}
-
--- this holds of what stands at a place
-abbrev pub HoldsAt : {S : Type 0} → (S → Type 0) → List S → ℕ → Type 0
-HoldsAt P [] place = ⊥
-HoldsAt P (s ∷ ss) zero = P s
-HoldsAt P (s ∷ ss) (suc place) = HoldsAt P ss place
 
 -- the next service of a slave's script
 abbrev pub next_of : {G : Ghosts InHand} → Stop InHand G → Option Service
@@ -50,3 +44,8 @@ PassesBy (Some Coming.Packet) s t = StopStays s t
 PassesBy (Some Coming.Mail) s t = StopStays s t
 PassesBy (Some Coming.Script) s t = StopStays s t
 PassesBy (Some (Coming.State target)) s t = s.side.hand.laying.number < length s.side.hand.laying.script → StopKept (suc s.side.hand.laying.number) s t
+
+-- what came into hand, where something did
+abbrev pub CameBy : {G : Ghosts InHand} → Bool → Option Coming → Stop InHand G → Stop InHand G → Type 0
+CameBy true coming s t = PassesBy coming s t
+CameBy false coming s t = StopStays s t

@@ -44,6 +44,16 @@ pub record TourKept (m n : MasterNode) : Type 0 where
   pub retry : n.tour.retry ≡ m.tour.retry
   pub count : n.tour.count ≡ m.tour.count
   pub passed : n.tour.passed ≡ m.tour.passed
+  pub made : n.made ≡ m.made
+
+-- it does while a slave is visited, but for what the frame carries
+pub record TourOn (m n : MasterNode) : Type 0 where
+  pub again : n.tour.again ≡ m.tour.again
+  pub opened : n.tour.opened ≡ m.tour.opened
+  pub last : n.tour.last ≡ m.tour.last
+  pub missed : n.tour.missed ≡ m.tour.missed
+  pub retry : n.tour.retry ≡ m.tour.retry
+  pub made : n.made ≡ m.made
 
 -- THE MASTER: its slaves, its tour, and that no mail waits to be passed on
 pub record NodeKept (m n : MasterNode) : Type 0 where

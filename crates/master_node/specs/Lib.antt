@@ -6,3 +6,4 @@ pub mod Shows
 pub mod Kept
 pub mod Coming
 pub mod First
+pub mod Filling

@@ -46,7 +46,8 @@ pub fn lay_script(side: &mut Side<InHand>)
 
 /// The scripted service behind the next comes next.
 pub fn pass_by(side: &mut Side<InHand>)
-    ensures { side.old.hand.laying.number < length side.old.hand.laying.script → SideKept (suc side.old.hand.laying.number) side.old side.new }
+    ensures kept { side.old.hand.laying.number < length side.old.hand.laying.script → SideKept (suc side.old.hand.laying.number) side.old side.new }
+    ensures station { side.new.station ≡ side.old.station }
 {
     side.hand.pass_by();
 }

@@ -175,6 +175,7 @@ impl<H: Hand> Tour<H> {
     // Behind a lost frame: the next of the slaves that it carried.
     fn carried_again(&mut self) -> Option<usize>
         ensures kept { (self.new.stops ≡ self.old.stops) × (self.new.count ≡ self.old.count) × (self.new.again ≡ self.old.again) × (self.new.visit ≡ self.old.visit) × (self.new.opened ≡ self.old.opened) × (self.new.last ≡ self.old.last) }
+        ensures rest { (self.new.missed ≡ self.old.missed) × (self.new.retry ≡ self.old.retry) }
         ensures inside { IfSome result (λ p. p < length self.new.stops.items) }
         ensures left { (p : ℕ) → result ≡ Some p → AreOnce self.old.visit.items → IsNextOf p (drop self.old.passed self.old.visit.items) (drop self.new.passed self.old.visit.items) }
         ensures first { self.old.passed ≡ 0 → BeginsLive (λ s. is_live s.stand) true self.old.visit.items self.old.opened self.old.stops.items → Passes (λ s. is_live s.stand) self.old.stops.items result }
@@ -192,6 +193,7 @@ impl<H: Hand> Tour<H> {
     fn brought_up(&mut self) -> Option<usize>
         requires { self.old.opened < length self.old.stops.items }
         ensures kept { (self.new.stops ≡ self.old.stops) × (self.new.count ≡ self.old.count) × (self.new.again ≡ self.old.again) × (self.new.visit ≡ self.old.visit) × (self.new.opened ≡ self.old.opened) × (self.new.last ≡ self.old.last) }
+        ensures rest { (self.new.missed ≡ self.old.missed) × (self.new.retry ≡ self.old.retry) }
         ensures inside { IfSome result (λ p. p < length self.new.stops.items) }
         ensures left { (p : ℕ) → result ≡ Some p → IsNextOf p (drop self.old.passed (self.old.opened ∷ [])) (drop self.new.passed (self.old.opened ∷ [])) }
         ensures first { self.old.passed ≡ 0 → result ≡ Some self.old.opened }
@@ -206,6 +208,7 @@ impl<H: Hand> Tour<H> {
     // The next live slave of a round.
     fn next_in_round(&mut self) -> Option<usize>
         ensures kept { (self.new.stops ≡ self.old.stops) × (self.new.count ≡ self.old.count) × (self.new.again ≡ self.old.again) × (self.new.visit ≡ self.old.visit) × (self.new.opened ≡ self.old.opened) × (self.new.last ≡ self.old.last) }
+        ensures rest { (self.new.missed ≡ self.old.missed) × (self.new.retry ≡ self.old.retry) }
         ensures inside { IfSome result (λ p. p < length self.new.stops.items) }
         ensures left { (p : ℕ) → result ≡ Some p → IsNextOf p (round_left (start_of (length self.old.stops.items) self.old.last) (length self.old.stops.items) self.old.passed) (round_left (start_of (length self.old.stops.items) self.old.last) (length self.old.stops.items) self.new.passed) }
         ensures first { self.old.passed ≡ 0 → list_any (λ s. is_live s.stand) self.old.stops.items ≡ true → Passes (λ s. is_live s.stand) self.old.stops.items result }
@@ -219,6 +222,7 @@ impl<H: Hand> Tour<H> {
     // bring-up the one that is brought up, else those of a round.
     fn candidate(&mut self) -> Option<usize>
         ensures kept { (self.new.stops ≡ self.old.stops) × (self.new.count ≡ self.old.count) × (self.new.again ≡ self.old.again) × (self.new.visit ≡ self.old.visit) × (self.new.opened ≡ self.old.opened) × (self.new.last ≡ self.old.last) }
+        ensures rest { (self.new.missed ≡ self.old.missed) × (self.new.retry ≡ self.old.retry) }
         ensures inside { IfSome result (λ p. p < length self.new.stops.items) }
         ensures left { (p : ℕ) → result ≡ Some p → (self.old.again ≡ true → AreOnce self.old.visit.items) →
             IsNextOf p (visits_left self.old.again self.old.visit.items self.old.opened (length self.old.stops.items) self.old.last self.old.passed) (visits_left self.old.again self.old.visit.items self.old.opened (length self.old.stops.items) self.old.last self.new.passed) }
@@ -239,6 +243,7 @@ impl<H: Hand> Tour<H> {
         ensures few { IfSome result (λ p. self.new.count < 16) }
         ensures stops { self.new.stops ≡ self.old.stops }
         ensures kept { (self.new.count ≡ self.old.count) × (self.new.again ≡ self.old.again) × (self.new.visit ≡ self.old.visit) × (self.new.opened ≡ self.old.opened) × (self.new.last ≡ self.old.last) }
+        ensures rest { (self.new.missed ≡ self.old.missed) × (self.new.retry ≡ self.old.retry) }
         ensures left { (p : ℕ) → result ≡ Some p → (self.old.again ≡ true → AreOnce self.old.visit.items) →
             IsNextOf p (visits_left self.old.again self.old.visit.items self.old.opened (length self.old.stops.items) self.old.last self.old.passed) (visits_left self.old.again self.old.visit.items self.old.opened (length self.old.stops.items) self.old.last self.new.passed) }
         ensures first { self.old.count ≡ 0 → self.old.passed ≡ 0 → BeginsLive (λ s. is_live s.stand) self.old.again self.old.visit.items self.old.opened self.old.stops.items → list_any (λ s. is_live s.stand) self.old.stops.items ≡ true → Passes (λ s. is_live s.stand) self.old.stops.items result }
