@@ -1,7 +1,7 @@
 -- What events leave, one after the other.
 use Rattle.std.proofs.Common.{ℕ, ◌+◌, length, ap, ◌∙◌, subst}
 use Rattle.run_book.specs.declared.book.Book.{Book}
-use Rattle.run_record.specs.declared.log.Log.{Log}
+use Rattle.run_record.specs.declared.standing.Log.{Log}
 use Rattle.run_record.specs.Session.{KeepsRest, SameFrames, SameSlaves}
 
 pub slaves_more : {a b c : Log} → SameSlaves a b → SameSlaves b c → SameSlaves a c

@@ -1,3 +1,5 @@
+pub mod Asking
+pub mod Budgets
 pub mod Firsts
 pub mod Kept
 pub mod Lists

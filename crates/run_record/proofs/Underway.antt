@@ -153,9 +153,9 @@ ran_so s endings.PortFault so = tt
 ran_so s endings.Unfinished so = so
 
 pub ran_as : (plan : Scenario) (s : SessionState) (book : Book) (ending : Ending) → EndsSo s ending → StopsAs plan 0 book ending → EndsAs plan book ending
-ran_as plan s book endings.Done so as = as
-ran_as plan s book endings.GivenUp so as = as
-ran_as plan s book endings.BudgetSpent so as = as
-ran_as plan s book endings.NoMemory so as = tt
-ran_as plan s book endings.PortFault so as = so
-ran_as plan s book endings.Unfinished so as = as
+ran_as plan s book endings.Done so ends = ends
+ran_as plan s book endings.GivenUp so ends = ends
+ran_as plan s book endings.BudgetSpent so ends = ends
+ran_as plan s book endings.NoMemory so ends = tt
+ran_as plan s book endings.PortFault so ends = so
+ran_as plan s book endings.Unfinished so ends = ends

@@ -16,8 +16,8 @@ use Rattle.run_book.specs.declared.book.SentFrame.{SentFrame}
 use Rattle.run_book.specs.declared.book.SlaveBook.{SlaveBook}
 use Rattle.run_record.specs.declared.notes.Notes.{Notes}
 use Rattle.mailbox_mail.specs.declared.mail.Mail.{Mail}
-use Rattle.run_record.specs.declared.log.AskedMail.{AskedMail}
-use Rattle.run_record.specs.declared.log.Log.{Log}
+use Rattle.run_record.specs.declared.standing.AskedMail.{AskedMail}
+use Rattle.run_record.specs.declared.standing.Log.{Log}
 use Rattle.run_record.specs.Notes.{new_notes, ended}
 use Rattle.run_record.specs.Replay.{first_ring, behind, IsRecorded}
 
@@ -60,17 +60,13 @@ first_notes services number (spec ∷ specs) = new_notes (scripted services numb
 abbrev pub home_of : SlaveSpec → ℕ × ℕ
 home_of spec = (spec.station, spec.out_len)
 
--- no mail is passed on to a slave
-abbrev pub no_mails : SlaveSpec → List AskedMail
-no_mails spec = []
-
 -- a session of a plan before its first frame
 abbrev pub first_session : Scenario → ℕ → SessionState
 first_session plan grams = record {
   ring = first_ring plan;
   notes = first_notes plan.services 0 plan.slaves;
   homes = map home_of plan.slaves;
-  asked = map no_mails plan.slaves;
+  asked = replicate (length plan.slaves) [];
   waiting = replicate (length plan.slaves) 0;
   ports = ports_of plan.slaves;
   recover = plan.recover;

@@ -1,14 +1,15 @@
-ghost use Rattle.std.specs.Prelude.{◌≡◌, ◌≤◌, ◌+◌, length, map, IfOk};
+ghost use Rattle.std.specs.Prelude.{◌≡◌, ◌≤◌, ◌+◌, [], Some, length, map, replicate, IfOk};
 ghost use Rattle.std.specs.Bool.{OnTrue};
 ghost use Rattle.segment_plan.specs.Sound.{IsLaid};
 ghost use Rattle.run_book.specs.Ports.{ports_of, IsAtPort};
-ghost use Rattle.run_record.specs.Session.{scripted, first_notes, home_of, no_mails, SameFrames, SameSlaves};
+ghost use Rattle.run_record.specs.Session.{scripted, first_notes, home_of, SameFrames, SameSlaves};
 ghost use Rattle.run_record.specs.Notes.{station_of, stations_of};
 
 use crate::notes::Notes;
+use crate::standing::{AskedMail, Log};
 use ec_fields::{NoMemory, Octets, Rows, buffer_of};
 use eoe_switch::SwitchEvent;
-use mailbox_mail::{Kind, ReplyKind};
+use mailbox_mail::ReplyKind;
 use master_node::{Event, MasterNode};
 use run_book::{Book, Reply};
 use segment_plan::{Scenario, Service, SlaveSpec};
@@ -22,32 +23,6 @@ const LEAST_PACKET: usize = 14;
 pub struct Moment {
     pub frame: u32,
     pub sent: u32,
-}
-
-/// A mail that is passed on to a slave.
-#[derive(Debug, Drop)]
-pub struct AskedMail {
-    /// The key of its asker.
-    pub key: usize,
-    pub kind: Kind,
-    pub body: Octets,
-}
-
-/// What became of the slaves of a segment so far.
-#[derive(Drop)]
-pub struct Log {
-    pub notes: Rows<Notes>,
-    /// The station of each slave and the length of its mailbox.
-    pub homes: Rows<(u16, u16)>,
-    /// The same while the slave is live.
-    pub stations: Rows<Option<(u16, u16)>>,
-    /// The mails that are passed on to each slave, in order.
-    pub asked: Rows<Rows<AskedMail>>,
-    /// The slaves at the ports of the switch, from port 1 on.
-    pub ports: Rows<u32>,
-    /// How often a slave that was given up is taken up again.
-    pub recover: u32,
-    ghost lit: { stations ≡ stations_of recover homes notes },
 }
 
 fn copy_of_event(event: &SwitchEvent) -> SwitchEvent
@@ -154,11 +129,11 @@ fn first_stations(alloc: Global, homes: &[(u16, u16)]) -> Result<Rows<Option<(u1
 }
 
 // No mail is passed on to a slave.
-fn first_asked(alloc: Global, slaves: &[SlaveSpec]) -> Result<Rows<Rows<AskedMail>>, NoMemory>
-    ensures { IfOk result (λ asked. asked ≡ map no_mails slaves.now) }
+fn first_asked(alloc: Global, slaves: usize) -> Result<Rows<Rows<AskedMail>>, NoMemory>
+    ensures { IfOk result (λ asked. asked ≡ replicate slaves []) }
 {
     let mut asked = Rows::new(alloc);
-    for _ in slaves {
+    for _ in 0..slaves {
         asked.add(Rows::new(alloc))?;
     }
     Ok(asked)
@@ -194,7 +169,7 @@ impl Log {
         requires { IsLaid plan.now }
         ensures notes { IfOk result (λ log. log.notes ≡ first_notes plan.now.services 0 plan.now.slaves) }
         ensures homes { IfOk result (λ log. log.homes ≡ map home_of plan.now.slaves) }
-        ensures asked { IfOk result (λ log. log.asked ≡ map no_mails plan.now.slaves) }
+        ensures asked { IfOk result (λ log. log.asked ≡ replicate (length plan.now.slaves) []) }
         ensures ports { IfOk result (λ log. 1 + length log.ports ≡ ports_of plan.now.slaves) }
         ensures recover { IfOk result (λ log. log.recover ≡ plan.now.recover) }
     {
@@ -204,7 +179,7 @@ impl Log {
             notes: first_notes(alloc, plan)?,
             homes,
             stations,
-            asked: first_asked(alloc, plan.slaves.as_slice())?,
+            asked: first_asked(alloc, plan.slaves.len())?,
             ports: slaves_at_ports(alloc, plan.slaves.as_slice())?,
             recover: plan.recover,
         })

@@ -1,4 +1,4 @@
-ghost use Rattle.std.specs.Prelude.{◌≡◌, ◌≢◌, ◌<◌, ◌≤◌, ◌==◌, ◌++◌, ◌∷◌, ◌⊎◌, ◌↔◌, [], ℕ, length, map, Ok, IfOk, OnOk, OnErr, All, true, false, slice_get};
+ghost use Rattle.std.specs.Prelude.{◌≡◌, ◌≢◌, ◌<◌, ◌≤◌, ◌==◌, ◌++◌, ◌∷◌, ◌⊎◌, ◌↔◌, [], ℕ, length, map, Ok, Some, IfOk, OnOk, OnErr, All, true, false, slice_get};
 ghost use Rattle.std.specs.Bool.{OnTrue, OnFalse};
 ghost use Rattle.std.specs.List.{list_any};
 ghost use Rattle.run_record.specs.Notes.{has_given_up, stations_of};
@@ -9,8 +9,9 @@ ghost use Rattle.run_book.specs.declared.book.Ending.TheVariants as endings;
 ghost use Rattle.run_record.specs.Replay.{first_ring};
 ghost use Rattle.run_record.specs.Session.{budget_of, smaller_bound, slave_row, rests_at, slave_rows, session_rows, first_session, are_at_rest, some_given_up, KeepsRest, Steps, Stops, Asks};
 
-use crate::log::{AskedMail, Log, Moment};
+use crate::log::Moment;
 use crate::notes::Notes;
+use crate::standing::{AskedMail, Log};
 use datagrams::FrameBuf;
 use ec_fields::{NoMemory, Octets, Rows};
 use mailbox_mail::Mail;
@@ -308,7 +309,7 @@ impl Session {
 
     // The master gets its frame back, or learns that it is lost.
     fn tell(&mut self, fate: Fate)
-        ensures { self.new ≡ self.old }
+        ensures { self.new ≡ record self.old { waiting = self.new.waiting } }
     {
         match fate {
             Fate::Pass => self.master.returned(&self.back),

@@ -5,12 +5,16 @@
 mod port;
 mod telling;
 
+ghost use Rattle.std.specs.Prelude.{◌≡◌, ◌<◌, IfOk};
+ghost use Rattle.segment_plan.specs.Sound.{IsPlan};
+ghost use Rattle.serving_rows.specs.Told.{IsTold};
+
 use anyhow::{Result, bail};
 use ec_fields::Octets;
 use ec_outside::{DiskFiles, Files, Loaded};
 use gateway_run::serve;
 use port::{Script, script_in};
-use run_book::Book;
+use run_book::{Book, Ending};
 use scenario::read;
 use segment_plan::Scenario;
 use std::alloc::Global;
@@ -30,7 +34,9 @@ fn octets_of<F: Files>(alloc: Global, name: &str, files: &mut F) -> Result<Octet
 }
 
 // The plan of a name.
-fn plan_of<F: Files>(alloc: Global, name: &str, files: &mut F) -> Result<Scenario> {
+fn plan_of<F: Files>(alloc: Global, name: &str, files: &mut F) -> Result<Scenario>
+    ensures { IfOk result IsPlan }
+{
     let file = format!(in alloc; "{name}.toml")?;
     let octets = octets_of(alloc, file.as_str(), files)?;
     match read(alloc, octets.bytes()) {
@@ -40,10 +46,25 @@ fn plan_of<F: Files>(alloc: Global, name: &str, files: &mut F) -> Result<Scenari
 }
 
 // The port of a name.
-fn script_of<F: Files>(alloc: Global, name: &str, files: &mut F) -> Result<Script> {
+fn script_of<F: Files>(alloc: Global, name: &str, files: &mut F) -> Result<Script>
+    ensures { IfOk result (λ script. 0 < script.count) }
+{
     let file = format!(in alloc; "{name}.port")?;
     let octets = octets_of(alloc, file.as_str(), files)?;
     script_in(alloc, octets.bytes())
+}
+
+// Serves a plan over a port, and gives the book.
+fn book_of(alloc: Global, name: &str, plan: &Scenario, script: &mut Script) -> Result<Book>
+    requires plan { IsPlan plan.now }
+    requires some { 0 < script.old.count }
+    ensures { IfOk result (IsTold plan.now) }
+{
+    let mut book = Book::new(alloc);
+    if serve(alloc, plan, script.count, &mut script.port, &mut book) == Ending::NoMemory {
+        bail!("{name}: no memory");
+    }
+    Ok(book)
 }
 
 fn main(rt: HostRuntime) -> Result<()> {
@@ -52,8 +73,7 @@ fn main(rt: HostRuntime) -> Result<()> {
     for name in env::args(&rt)?.skip(1) {
         let plan = plan_of(alloc, name.as_str(), &mut files)?;
         let mut script = script_of(alloc, name.as_str(), &mut files)?;
-        let mut book = Book::new(alloc);
-        serve(alloc, &plan, script.count, &mut script.port, &mut book);
+        let book = book_of(alloc, name.as_str(), &plan, &mut script)?;
         tell(&rt, name.as_str(), &plan, &script.port, &book)?;
     }
     Ok(())

@@ -1,3 +1,5 @@
+ghost use Rattle.std.specs.Prelude.{◌<◌, IfOk};
+
 use anyhow::{Result, bail};
 use ec_fields::{Octets, Rows};
 use ec_outside::{MemPort, Peer, PortItem};
@@ -46,7 +48,9 @@ fn read_line(alloc: Global, line: &str, lines: &mut Lines) -> Result<()> {
 }
 
 /// Reads a script, a line each.
-pub fn script_in(alloc: Global, octets: &[u8]) -> Result<Script> {
+pub fn script_in(alloc: Global, octets: &[u8]) -> Result<Script>
+    ensures { IfOk result (λ script. 0 < script.count) }
+{
     let mut lines = Lines {
         count: 0,
         items: Rows::new(alloc),
@@ -54,6 +58,9 @@ pub fn script_in(alloc: Global, octets: &[u8]) -> Result<Script> {
     };
     for line in std::str::from_utf8(octets)?.lines() {
         read_line(alloc, line, &mut lines)?;
+    }
+    if lines.count == 0 {
+        bail!("a port without a count");
     }
     Ok(Script {
         count: lines.count,

@@ -1,3 +1,7 @@
+ghost use Rattle.std.specs.Prelude.{◌≡◌, ◌≤◌, length, All};
+ghost use Rattle.run_book.specs.Book.{IsShort};
+ghost use Rattle.serving_rows.specs.Told.{IsTold};
+
 use anyhow::Result;
 use ec_fields::{Octets, Rows};
 use ec_outside::{MemPort, SentGram};
@@ -8,14 +12,19 @@ use sha2::{Digest, Sha256};
 use std::alloc::Global;
 
 // The report of a serving.
-fn lines_of(alloc: Global, plan: &Scenario, book: &Book) -> Result<Rows<Octets>> {
+fn lines_of(alloc: Global, plan: &Scenario, book: &Book) -> Result<Rows<Octets>>
+    requires { IsTold plan.now book.now }
+{
     let mut lines = Rows::new(alloc);
     report(alloc, plan, book, &mut lines)?;
     Ok(lines)
 }
 
 // The digest of the frames as a capture.
-fn digest_of(alloc: Global, book: &Book) -> Result<String> {
+fn digest_of(alloc: Global, book: &Book) -> Result<String>
+    requires few { length book.now.frames ≤ 100000000 }
+    requires short { All IsShort book.now.frames }
+{
     let mut capture = Octets::new(alloc);
     saved(book.frames.as_slice(), &mut capture)?;
     let digest = Sha256::digest(capture.bytes());
@@ -37,7 +46,9 @@ pub fn tell<P: Print + AllocGlobal>(
     plan: &Scenario,
     port: &MemPort,
     book: &Book,
-) -> Result<()> {
+) -> Result<()>
+    requires { IsTold plan.now book.now }
+{
     println!(rt; "{name}")?;
     for line in lines_of(rt.alloc(), plan, book)?.as_slice() {
         let text = std::str::from_utf8(line.bytes())?;

@@ -1,6 +1,6 @@
 use Rattle.std.proofs.Common.{◌+◌, length}
 use Rattle.run_record.specs.Session.{SameSlaves, SameFrames}
-use Rattle.run_record.proofs.log.Log.note.Given as goal
+use Rattle.run_record.proofs.standing.Log.note.Given as goal
 
 abbrev pub invariant-loop-event : goal.invariant-loop-event
 invariant-loop-event l = record {

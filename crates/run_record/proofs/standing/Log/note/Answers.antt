@@ -1,6 +1,6 @@
 use Rattle.std.proofs.Common.{◌+◌, length}
 use Rattle.run_record.proofs.Kept.{slaves_more, frames_more, at_log}
-use Rattle.run_record.proofs.log.Log.note.Goals as goal
+use Rattle.run_record.proofs.standing.Log.note.Goals as goal
 
 pub returns-in_err-note_event-clause-slaves : goal.returns-in_err-note_event-clause-slaves
 returns-in_err-note_event-clause-slaves c = slaves_more c.loop-event.invariant.slaves c.note_event.ensures.slaves
