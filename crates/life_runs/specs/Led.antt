@@ -1,6 +1,6 @@
 -- A MASTER LEADS THE LIVES OF ITS SLAVES, frame by frame: what comes into hand of each, what the frame has for it, and what the return or the loss
 -- of the frame makes of its life.
-use Rattle.std.specs.Prelude.{◌≡◌, ℕ, suc, ◌+◌, ◌%◌, Bool, true, false, not, nat_lt, if◌then◌else◌, Option, Some, None, List, [], ◌∷◌, ◌++◌, map, length, slice_get, ⊤}
+use Rattle.std.specs.Prelude.{◌≡◌, ℕ, suc, ◌+◌, ◌%◌, Bool, not, nat_lt, if◌then◌else◌, Option, Some, None, List, [], ◌∷◌, ◌++◌, map, length, slice_get, ⊤}
 use Rattle.datagrams.specs.Datagram as Raw
 use Rattle.datagrams.specs.Frame.{IsFrame, chained}
 use Rattle.eoe_model.specs.Client as EoeClient

@@ -8,3 +8,7 @@ abbrev pub waiting_at : List Post → ℕ → ℕ
 waiting_at [] place = 0
 waiting_at (p ∷ ps) zero = length p.mails.items
 waiting_at (p ∷ ps) (suc place) = waiting_at ps place
+
+-- how many mails wait to be passed on to a slave
+abbrev pub waiting_of : Post → ℕ
+waiting_of p = length p.mails.items

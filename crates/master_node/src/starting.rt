@@ -1,7 +1,8 @@
 //! A master before its first frame.
 
-ghost use Rattle.std.specs.Prelude.{◌≡◌, ◌≤◌, ◌<◌, length, vec_len, false, All, IfOk};
+ghost use Rattle.std.specs.Prelude.{◌≡◌, ◌≤◌, ◌<◌, length, map, replicate, vec_len, false, All, IfOk};
 ghost use Rattle.life_frames.specs.Shares.{AllFrom};
+ghost use Rattle.master_node.specs.Lives.{waiting_of};
 ghost use Rattle.segment_plan.specs.Sound.{IsPlan, IsSlave, IsPace};
 ghost use Rattle.master_node.specs.First.{IsNewSide, IsFirst};
 ghost use Rattle.master_node.specs.Shows.{WaitsNone};
@@ -85,6 +86,7 @@ fn stops_of(alloc: Global, plan: &Scenario) -> Result<Vec<Stop<InHand>>, NoMemor
 fn posts_of(alloc: Global, count: usize) -> Result<Vec<Post>, NoMemory>
     ensures many { IfOk result (λ posts. vec_len posts ≡ count) }
     ensures quiet { IfOk result (λ posts. All WaitsNone posts.items) }
+    ensures waiting { IfOk result (λ posts. map waiting_of posts.items ≡ replicate count 0) }
 {
     let mut posts = Vec::new(alloc);
     for _ in 0..count {
@@ -115,7 +117,8 @@ fn tour_of(alloc: Global, plan: &Scenario) -> Result<Tour<InHand>, NoMemory>
 }
 
 impl MasterNode {
-    ghost use Rattle.std.specs.Prelude.{◌≡◌, length, vec_len, IfOk};
+    ghost use Rattle.std.specs.Prelude.{◌≡◌, length, map, replicate, vec_len, IfOk};
+    ghost use Rattle.master_node.specs.Lives.{waiting_of};
     ghost use Rattle.segment_plan.specs.Sound.{IsPlan};
     ghost use Rattle.life_runs.specs.First.{lens_of, first_leads};
     ghost use Rattle.master_node.specs.Shows.{MasterShows};
@@ -123,7 +126,8 @@ impl MasterNode {
     /// The master of a segment before its first frame: no slave is brought up, and no packet of the host has come in.
     pub fn new(alloc: Global, plan: &Scenario) -> Result<MasterNode, NoMemory>
         requires { IsPlan plan.now }
-        ensures many { IfOk result (λ master. vec_len master.posts ≡ length plan.now.slaves) }
+        ensures posts { IfOk result (λ master. vec_len master.posts ≡ length plan.now.slaves) }
+        ensures waiting { IfOk result (λ master. map waiting_of master.posts.items ≡ replicate (length plan.now.slaves) 0) }
         ensures leads { IfOk result (λ master. MasterShows (lens_of plan.now.slaves) plan.now.recover plan.now.retry master 0 (first_leads plan.now)) }
     {
         let tour = tour_of(alloc, plan)?;

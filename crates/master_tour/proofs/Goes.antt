@@ -1,5 +1,5 @@
 -- The first visit of a frame.
-use Rattle.std.proofs.Common.{◌≡◌, ℕ, zero, suc, ◌+◌, ◌-◌, ◌<◌, ◌≤◌, ◌==◌, Bool, true, false, Option, Some, None, List, [], ◌∷◌, length, get_or, refl, sym, ap, ◌∙◌, subst, arith}
+use Rattle.std.proofs.Common.{◌≡◌, ℕ, zero, suc, ◌+◌, ◌-◌, ◌<◌, ◌≤◌, Bool, true, false, List, [], ◌∷◌, length, get_or, refl, sym, ap, ◌∙◌, subst, arith}
 use Rattle.std.specs.Prelude.{nat_lt, if◌then◌else◌}
 use Rattle.std.specs.List.{list_any}
 use Rattle.std.proofs.lemmas.Bool.{ltb-true, ltb-false, lt-ltb, le-ltb}
@@ -35,6 +35,7 @@ place_met start count p s l = go (nat_lt p start) refl
   where
     at : (k : ℕ) (b : Bool) → nat_lt k (count - start) ≡ b → place_in start count k ≡ (if b then start + k else k - (count - start))
     at k b e = ap (λ (z : Bool). if z then start + k else k - (count - start)) e
+
     go : (z : Bool) → nat_lt p start ≡ z → (k : ℕ) × (k < count) × (place_in start count k ≡ p)
     go true e =
         let a = ltb-true p start e in
@@ -48,8 +49,8 @@ pub none_in_round : {S : Type 0} (test : S → Bool) (ss : List S) (start count 
     ((k : ℕ) → passed ≤ k → k < count → holds_at test ss (place_in start count k) ≡ false) → list_any test ss ≡ false
 none_in_round test ss start count passed c s z h =
     none_holds test ss (λ p l.
-      let m = place_met start count p s (omega (arith, l, c)) in
-      subst (λ q. holds_at test ss q ≡ false) m.2 (h m.0 (omega (arith, z)) m.1))
+    let m = place_met start count p s (omega (arith, l, c)) in
+    subst (λ q. holds_at test ss q ≡ false) m.2 (h m.0 (omega (arith, z)) m.1))
 
 -- behind a lost frame the first that it carried comes first
 pub begins_some : {S : Type 0} (live : S → Bool) (visit : List ℕ) (opened : ℕ) (ss : List S) → BeginsLive live true visit opened ss → 0 < length visit

@@ -1,18 +1,16 @@
 -- A slave while a frame is made: it is looked at ahead of its visit, visited, and shown behind the last visit.
-use Rattle.std.proofs.Common.{◌≡◌, ℕ, zero, suc, ◌+◌, ◌-◌, ◌<◌, ◌==◌, Bool, true, false, List, [], ◌∷◌, ◌++◌, length, Option, Some, None, refl, sym, ap, ◌∙◌, subst, arith, length-append, append-nil}
-use Rattle.std.specs.Prelude.{◌&&◌, is_some, if◌then◌else◌, nat_le, nat_lt}
+use Rattle.std.proofs.Common.{◌≡◌, ℕ, suc, ◌+◌, Bool, true, false, List, [], ◌∷◌, ◌++◌, length, Option, Some, None, refl, sym, ap, ◌∙◌, subst, arith, length-append, append-nil}
+use Rattle.std.specs.Prelude.{is_some, if◌then◌else◌, nat_le, nat_lt}
 use Rattle.std.proofs.lemmas.Bool.{ltb-true, leb-true}
 use Rattle.datagrams.specs.Datagram as Raw
 use Rattle.datagrams.specs.Frame.{IsBegun}
 use Rattle.exchange_model.specs.Exchange.{Speech}
 use Rattle.frame_view.specs.View.{Lens, datagram_seen}
-use Rattle.frame_view.specs.Seen.{datagrams_seen}
 use Rattle.link_mails.specs.Body.{Body}
-use Rattle.link_model.specs.Master.{InState}
 use Rattle.mailbox_mail.specs.declared.mail.Mail.{Mail}
 use Rattle.mailbox_master.specs.declared.halves.InwardHalf.{InwardHalf}
 use Rattle.mailbox_master.specs.Links.{OutLink}
-use Rattle.mailbox_master.specs.Any.{in_half_of, in_station, in_area_len}
+use Rattle.mailbox_master.specs.Any.{in_station, in_area_len}
 use Rattle.segment_model.specs.Ends.{Passing}
 use Rattle.segment_model.specs.Seats.{Side}
 use Rattle.task_model.specs.Accounts.{Account, Pick}
@@ -22,11 +20,11 @@ use Rattle.master_side.specs.declared.carried.Carried.{Carried}
 use Rattle.master_side.specs.declared.passing.Passing as Side
 use Rattle.life_model.specs.Lives
 use Rattle.life_model.specs.Lives.{Life, Era, Spot, life_next, era_next, passing_begins}
-use Rattle.life_frames.specs.Frames.{AllNotFor, IsNotFor, HasOne, GramFor, AreApart}
+use Rattle.life_frames.specs.Frames.{AllNotFor, IsNotFor, HasOne, AreApart}
 use Rattle.life_frames.specs.Shares.{Lived, AllBoth, AllFrom, AllThree}
 use Rattle.master_tour.specs.Walks.{EachPair}
 use Rattle.life_frames.proofs.Frames.{none_more, one_more, one_new}
-use Rattle.life_frames.proofs.Twice.{twice, stays, still_stands, holds, BothOf}
+use Rattle.life_frames.proofs.Twice.{twice, stays, still_stands}
 use Rattle.al_state.specs.declared.bringing.BringUp.{BringUp}
 use Rattle.master_tour.specs.declared.stop.Stand.{Stand}
 use Rattle.master_tour.specs.Stands.{StopShows, StandMeant, NextShows, HoldShows, Counts, stand_gram}

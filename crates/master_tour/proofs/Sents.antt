@@ -1,6 +1,6 @@
 -- A frame that was made, for each slave: what its epoch asks for, and what is under way of it.
 use Rattle.std.proofs.Common.{◌≡◌, inl, inr, ℕ, zero, suc, ◌==◌, Bool, true, false, List, [], ◌∷◌, ◌++◌, length, Option, Some, None, refl, sym, ap, ◌∙◌, subst, eq-eqb, arith}
-use Rattle.std.specs.Prelude.{◌⊎◌, ◌≤◌, if◌then◌else◌, cond, nat_le}
+use Rattle.std.specs.Prelude.{◌≤◌, if◌then◌else◌, cond, nat_le}
 use Rattle.std.proofs.lemmas.Bool.{leb-true}
 use Rattle.datagrams.specs.Datagram as Raw
 use Rattle.exchange_model.specs.Exchange.{Speech}
@@ -16,7 +16,7 @@ use Rattle.mailbox_mail.specs.declared.mail.Mail.{Mail}
 use Rattle.mailbox_master.specs.declared.halves.InwardHalf.{InwardHalf}
 use Rattle.mailbox_master.specs.Links.{OutLink}
 use Rattle.mailbox_master.specs.Any.{in_half_of, in_station, in_area_len}
-use Rattle.segment_model.specs.Slaves.{Datagram, Address, Access, grams}
+use Rattle.segment_model.specs.Slaves.{Datagram, Access, grams}
 use Rattle.segment_model.specs.Record.{is_for}
 use Rattle.segment_model.specs.Seats.{Side}
 use Rattle.state_exchange.specs.Stated.{Service}
@@ -30,13 +30,13 @@ use Rattle.master_side.specs.Sent.{visit_gram}
 use Rattle.life_model.specs.Lives
 use Rattle.life_model.specs.Lives.{Life, Era, Spot, AsksOpen, ReadsFull}
 use Rattle.life_model.specs.Own.{own}
-use Rattle.life_frames.specs.Frames.{AllNotFor, HasOne, GramFor, FrameFor, Share}
-use Rattle.life_frames.specs.Shares.{Lived, IsNext, Asked, AllFrom, AllThree}
+use Rattle.life_frames.specs.Frames.{AllNotFor, HasOne, FrameFor}
+use Rattle.life_frames.specs.Shares.{Lived, AllFrom, AllThree}
 use Rattle.life_frames.proofs.Frames.{own_none, own_one, not_gram}
 use Rattle.master_tour.specs.declared.stop.Stand.{Stand}
 use Rattle.master_tour.specs.Under.{Grams, mine, IsAt, Under}
-use Rattle.master_tour.specs.Stands.{StopShows, StandShows, StandMeant, StandUnder, OpensUnder, stand_gram}
-use Rattle.master_tour.specs.Made.{StopLives, StopHas, StopMade, StopSent, IsClearFor}
+use Rattle.master_tour.specs.Stands.{StandUnder, OpensUnder, stand_gram}
+use Rattle.master_tour.specs.Made.{StopLives, StopHas, StopMade, StopSent}
 use Rattle.master_tour.proofs.Grams.{gram_for, visit_open}
 use Rattle.master_tour.proofs.Steps.{differ}
 

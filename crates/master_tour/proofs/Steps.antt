@@ -1,5 +1,5 @@
 -- One slave of a tour goes on while a frame is made: the frame grows by its datagram or by none, and all others have what they had.
-use Rattle.std.proofs.Common.{◌≡◌, ℕ, zero, suc, ◌+◌, ◌<◌, ◌==◌, Bool, true, false, List, [], ◌∷◌, ◌++◌, length, get_or, set, refl, sym, ap, ◌∙◌, subst, arith}
+use Rattle.std.proofs.Common.{◌≡◌, ℕ, zero, suc, ◌+◌, ◌<◌, ◌==◌, Bool, true, false, List, [], ◌∷◌, ◌++◌, length, get_or, set, refl, sym, subst, arith}
 use Rattle.std.specs.Prelude.{⊤}
 use Rattle.std.proofs.lemmas.Bool.{eqb-true}
 use Rattle.datagrams.specs.Datagram as Raw
@@ -9,7 +9,7 @@ use Rattle.datagrams.specs.Frame.{IsBegun, Each}
 use Rattle.life_model.specs.Lives
 use Rattle.life_model.specs.Lives.{Spot}
 use Rattle.master_duty.specs.Reply.{Reply}
-use Rattle.life_frames.specs.Frames.{AllNotFor, IsNotFor, HasOne, GramFor, AreApart}
+use Rattle.life_frames.specs.Frames.{IsNotFor, GramFor, AreApart}
 use Rattle.life_frames.specs.Shares.{Lived, AllFrom, IsElsewhere, AreDistinct}
 use Rattle.life_frames.proofs.Frames.{apart_back, not_for, gram_named}
 use Rattle.master_tour.specs.Walks.{StepsAt}

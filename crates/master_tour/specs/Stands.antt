@@ -1,7 +1,7 @@
 -- What a slave of the tour shows of its life.
 use Rattle.std.specs.Prelude.{◌≡◌, ℕ, ◌-◌, ◌%◌, ◌==◌, ◌&&◌, not, nat_lt, Bool, true, false, Option, Some, None, List, ◌++◌, length}
 use Rattle.al_state.specs.declared.bringing.BringStep.{BringStep}
-use Rattle.al_state.specs.declared.bringing.BringStep.TheVariants.{Return, Watch, Address, OutOff, InOff, OutManager, InManager, Start, Await}
+use Rattle.al_state.specs.declared.bringing.BringStep.TheVariants.{Watch, Await}
 use Rattle.al_state.specs.declared.bringing.BringUp.{BringUp}
 use Rattle.al_state.specs.BringUp.{is_behind_init, head_of, octets_of}
 use Rattle.datagrams.specs.Frame.{datagram_of}

@@ -55,17 +55,15 @@ boots_one s (Plan.Service.Forward packet) is fits = tt
 -- THE SCRIPT OF A SLAVE asks for no more than the slave has
 pub script_boots : (n : ℕ) (ss : List SlaveSpec) (place : ℕ) (s : SlaveSpec) → slice_get ss place ≡ Some s → (rows : List (ℕ × Plan.Service)) → All (IsAddressed n) rows → All (RowFits ss) rows → All (Boots s.boot) (script_for place rows)
 script_boots n ss place s at [] sound fits = All-nil (Boots s.boot)
-script_boots n ss place s at (row ∷ rows) sound fits = go (row.0 == place) refl
+script_boots n ss place s at (row ∷ rows) sound fits =
+    go (row.0 == place) refl (script_boots n ss place s at rows (All-tail (IsAddressed n) row rows sound) (All-tail (RowFits ss) row rows fits))
   where
-    rest : All (Boots s.boot) (script_for place rows)
-    rest = script_boots n ss place s at rows (All-tail (IsAddressed n) row rows sound) (All-tail (RowFits ss) row rows fits)
-
-    go : (b : Bool) → (row.0 == place) ≡ b → All (Boots s.boot) (if b then row.1 ∷ script_for place rows else script_for place rows)
-    go true e =
+    go : (b : Bool) → (row.0 == place) ≡ b → All (Boots s.boot) (script_for place rows) → All (Boots s.boot) (if b then row.1 ∷ script_for place rows else script_for place rows)
+    go true e rest =
         let there : slice_get ss row.0 ≡ Some s = ap (slice_get ss) (eqb-true row.0 place e) ∙ at in
         let mine : StateFits s row.1 = subst (λ (o : Option SlaveSpec). IfSome o (λ slave. StateFits slave row.1)) there (All-head (RowFits ss) row rows fits) in
         All-cons (Boots s.boot) row.1 (script_for place rows) (boots_one s row.1 (All-head (IsAddressed n) row rows sound).service mine) rest
-    go false e = rest
+    go false e rest = rest
 
 -- of all slaves from a place on
 abbrev pub AllBoot : List (ℕ × Plan.Service) → ℕ → List SlaveSpec → Type 0

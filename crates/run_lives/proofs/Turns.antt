@@ -37,30 +37,26 @@ use Rattle.run_lives.specs.Round.{WentRound}
 use Rattle.run_lives.proofs.Known.{Boots, AllBoot, all_at}
 
 -- A SERVICE OF A SCRIPT is one of the slave's
-served : Option Asked → Bool
-unfolding served
+abbrev served : Option Asked → Bool
 served None = true
 served (Some q) = is_service q
 
 room_served : (b : Bool) (block : List ℕ) → served (if b then None else Some (net (Rattle.eoe_model.specs.Client.set_ip block))) ≡ true
-unfolding served
 room_served true block = refl
 room_served false block = refl
 
 all_served : (room : ℕ) (s : Plan.Service) → served (asked_of room s) ≡ true
-unfolding served
 all_served room (Plan.Service.Sdo service) = refl
 all_served room (Plan.Service.ReadFile name pass) = refl
 all_served room (Plan.Service.WriteFile name pass bytes) = refl
-all_served room (Plan.Service.ReadIdn drive idn elements) = refl
-all_served room (Plan.Service.WriteIdn drive idn elements bytes) = refl
+all_served room (Plan.Service.ReadIdn number idn elements) = refl
+all_served room (Plan.Service.WriteIdn number idn elements bytes) = refl
 all_served room (Plan.Service.SetIp block) = room_served (nat_lt room (length block + 10)) block
 all_served room Plan.Service.GetIp = refl
 all_served room (Plan.Service.State target) = refl
 all_served room (Plan.Service.Forward packet) = refl
 
 asked_is : (room : ℕ) (s : Plan.Service) (q : Asked) → asked_of room s ≡ Some q → is_service q ≡ true
-unfolding served
 asked_is room s q e = ap served (sym e) ∙ all_served room s
 
 -- SO WHAT COMES INTO HAND is one, and asks for no state that the slave lacks
@@ -77,7 +73,7 @@ boots_is boot room script n _ _ all (Comes.state target at) = all_at (Boots boot
 boots_is boot room script n _ _ all (Comes.packet octets frame) = tt
 
 -- a turn as the ring's law has it
-pub abbrev under_of : Turn → Under
+abbrev pub under_of : Turn → Under
 under_of t = record { lived = t.lived; share = t.share; news = [] }
 
 module _ (plan : Scenario) where

@@ -1,5 +1,5 @@
 -- THE BOOKS of slaves that stay up.
-use Rattle.std.proofs.Common.{◌≡◌, ℕ, suc, List, [], ◌∷◌, map, length, refl, ap, sym, ◌∙◌, subst}
+use Rattle.std.proofs.Common.{◌≡◌, ℕ, suc, true, List, [], ◌∷◌, map, length, ap, sym, ◌∙◌, subst}
 use Rattle.std.proofs.lemmas.List.{length-map}
 use Rattle.book_lives.specs.First.{Forgets, FirstBook}
 use Rattle.book_lives.specs.Rows.{IsFirst}
@@ -35,7 +35,7 @@ use Rattle.run_lives.specs.Lives.{IsShown, AllShown, AreLived}
 use Rattle.run_lives.specs.Round.{ring_of, ring_after, frame_seen, all_seen}
 use Rattle.run_promises.specs.Books.{StaysUp, HasBook, AllHaveBooks}
 use Rattle.run_promises.specs.Slaves.{services_of}
-use Rattle.run_promises.proofs.Settled.{settled_seen}
+use Rattle.kept_lives.proofs.Settled.{settled_seen}
 use Rattle.run_promises.proofs.Ups.{AllUp}
 
 -- a book of a slave with any services

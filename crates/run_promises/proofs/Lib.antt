@@ -1,7 +1,3 @@
-mod Settled
-mod Epochs
-mod Came
-mod Firsts
 mod Served
 mod Ups
 mod Books

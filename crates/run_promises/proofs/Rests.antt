@@ -1,6 +1,6 @@
 -- WHERE NOTHING IS LEFT, all is done.
-use Rattle.std.proofs.Common.{◌≡◌, ℕ, suc, true, Option, Some, None, List, [], ◌∷◌, map, length, take, filter, refl, ap, sym, ◌∙◌, subst}
-use Rattle.std.specs.Prelude.{not, ⊤}
+use Rattle.std.proofs.Common.{◌≡◌, ℕ, suc, true, Option, Some, None, List, [], ◌∷◌, map, length, take, filter, ap, sym, ◌∙◌, subst}
+use Rattle.std.specs.Prelude.{not}
 use Rattle.std.proofs.Math.Seq.{take-length}
 use Rattle.book_model.specs.Script.{life_started}
 use Rattle.eoe_model.specs.Network.{Station}
@@ -22,7 +22,6 @@ use Rattle.plan_ring.specs.Master.{speech_of, IsLed, AllLed}
 use Rattle.plan_ring.specs.Plan.{PlanMember, FitsPlan, step, first_app}
 use Rattle.segment_model.specs.Laws.{WantsNothing, NothingInHand}
 use Rattle.segment_model.specs.Record.{Frame}
-use Rattle.segment_model.specs.Seats.{Side}
 use Rattle.segment_plan.specs.declared.plan.Scenario.{Scenario}
 use Rattle.segment_plan.specs.declared.slave.SlaveSpec.{SlaveSpec}
 use Rattle.server_lives.specs.Real.{real_clearing}
@@ -35,12 +34,12 @@ use Rattle.whole_lives.specs.Whole.{StandsAs, LivesOpen}
 use Rattle.whole_ring.specs.Members.{MemberIs, AllLived}
 use Rattle.run_lives.specs.Lives.{IsShown, AllShown, AreLived}
 use Rattle.run_lives.specs.Round.{ring_of, ring_after, all_seen}
-use Rattle.run_promises.specs.Came.{AreThose, is_packet}
-use Rattle.run_promises.specs.Epochs.{AreKept, NothingLeft, app_of}
+use Rattle.script_runs.specs.Came.{AreThose, is_packet}
+use Rattle.kept_lives.specs.Epochs.{AreKept, NothingLeft, app_of}
 use Rattle.run_promises.specs.Rests.{IsIdle, IsDone, AllDoneIf}
 use Rattle.run_promises.specs.Slaves.{services_of}
-use Rattle.run_promises.proofs.Came.{HasCome, AllCome}
-use Rattle.run_promises.proofs.Epochs.{lived_rests, past_kept}
+use Rattle.script_runs.specs.Slaves.{HasCome, AllCome}
+use Rattle.kept_lives.proofs.Epochs.{lived_rests, past_kept}
 use Rattle.run_promises.proofs.Served.{one_served}
 
 -- a newest epoch of which nothing is left, of a slave with any services

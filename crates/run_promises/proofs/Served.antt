@@ -1,10 +1,10 @@
 -- THE PROMISE, slave by slave.
-use Rattle.std.proofs.Common.{◌≡◌, ℕ, suc, List, [], ◌∷◌, map, refl, ap, sym, ◌∙◌, subst}
+use Rattle.std.proofs.Common.{◌≡◌, ℕ, suc, List, [], ◌∷◌, map, ap, sym, ◌∙◌, subst}
 use Rattle.frame_view.specs.View.{Lens}
 use Rattle.life_frames.specs.Shares.{Lived}
 use Rattle.life_model.specs.Lives.{Life}
-use Rattle.life_runs.specs.First.{lens_of, spot_of, script_for, first_leads}
-use Rattle.life_runs.specs.Led.{Exchanged, Leads, IsLed}
+use Rattle.life_runs.specs.First.{lens_of, spot_of, script_for}
+use Rattle.life_runs.specs.Led.{Exchanged, Leads}
 use Rattle.link_mails.specs.Body.{Body}
 use Rattle.book_model.specs.Script.{life_started}
 use Rattle.master_duty.specs.Reply.{Reply}
@@ -19,12 +19,11 @@ use Rattle.slave_steps.specs.Node.{Node}
 use Rattle.whole_ring.specs.Members.{MemberIs, AllLived}
 use Rattle.run_lives.specs.Lives.{IsShown, AllShown, AreLived}
 use Rattle.run_lives.specs.Round.{ring_of, ring_after, all_seen}
-use Rattle.run_promises.specs.Came.{Came}
-use Rattle.run_promises.specs.Epochs.{IsKeptLife}
+use Rattle.script_runs.specs.Came.{Came, AreFirst}
+use Rattle.kept_lives.specs.Epochs.{IsKeptLife}
 use Rattle.run_promises.specs.Slaves.{services_of, IsServed, AllServed}
-use Rattle.run_promises.proofs.Came.{HasCome, AllCome}
-use Rattle.run_promises.proofs.Epochs.{kept_life}
-use Rattle.run_promises.proofs.Firsts.{firsts}
+use Rattle.script_runs.specs.Slaves.{HasCome, AllCome}
+use Rattle.kept_lives.proofs.Epochs.{kept_life}
 
 module _ (plan : Scenario) (fs : List Exchanged) where
   abbrev lens : ℕ → Lens
@@ -46,7 +45,7 @@ module _ (plan : Scenario) (fs : List Exchanged) where
       let came = subst (λ (room : ℕ). Came room (script_for place plan.services) a.number (life_started a.lived.life)) out come.came in
       record {
         came = came;
-        firsts = firsts s.out_len (script_for place plan.services) a.number (life_started a.lived.life) came;
+        firsts = subst (λ (room : ℕ). AreFirst room (script_for place plan.services) a.number (life_started a.lived.life)) out come.firsts;
         life = subst (λ (l : Life Body Asked Reply). IsKeptLife (services_of plan s) is_followed (spot_of place s) real_clearing.cleared gs (first_app s) l m.node) (ap (λ (l : Lived Asked Reply). l.life) x.lived) by_first;
       }
 

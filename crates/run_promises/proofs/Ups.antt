@@ -1,6 +1,6 @@
 -- A SLAVE THAT STAYS UP is in its first epoch: one that was never given up or returned to Init behind a frame never was before it.
-use Rattle.std.proofs.Common.{◌≡◌, ℕ, suc, ◌+◌, Bool, true, false, Option, Some, None, List, [], ◌∷◌, ◌++◌, map, length, refl, ap, sym, ◌∙◌, subst, arith, length-append}
-use Rattle.std.specs.Prelude.{◌&&◌, ◌==◌, if◌then◌else◌, nat_lt, ⊤}
+use Rattle.std.proofs.Common.{◌≡◌, ℕ, suc, Bool, true, false, Option, Some, None, List, [], ◌∷◌, ◌++◌, map, length, refl, ap, sym, ◌∙◌, subst, arith, length-append}
+use Rattle.std.specs.Prelude.{◌&&◌, ◌==◌, if◌then◌else◌, ⊤}
 use Rattle.datagrams.specs.Datagram as Raw
 use Rattle.book_lives.specs.Rows.{WishStays, IsFirst}
 use Rattle.book_lives.proofs.Rows.{back_first, lost_first, new_first}
@@ -8,10 +8,9 @@ use Rattle.book_model.specs.Script.{life_started}
 use Rattle.exchange_model.specs.Exchange.{Speech}
 use Rattle.frame_view.specs.View.{Lens}
 use Rattle.frame_view.specs.Seen.{seen}
-use Rattle.life_frames.specs.Frames.{Share}
-use Rattle.life_frames.specs.Shares.{Lived, came_at, given_where}
+use Rattle.life_frames.specs.Shares.{came_at, given_where}
 use Rattle.life_model.specs.Book.{NoInits}
-use Rattle.life_model.specs.Lives.{Spot, Life, Opening, Stand, life_next, life_back, life_lost, gives_up, opening_back, shows_clear, is_shown, last_step, clears, opens, steps_on, reopens, reopens_at, reopening, opens_state, returns_to_init, era_back}
+use Rattle.life_model.specs.Lives.{Spot, Life, Opening, Stand, life_next, life_back, life_lost, opening_back, shows_clear, is_shown, last_step, clears, opens, steps_on, reopens, reopens_at, reopening, opens_state, returns_to_init, era_back}
 use Rattle.life_runs.specs.First.{lens_of, first_leads, leads_from}
 use Rattle.life_runs.specs.Led as Led
 use Rattle.life_runs.specs.Led.{Exchanged, Leads, Turn, IsTurn, AllTurn, IsLed, is_passed, speech_at, life_behind, gives_up_at}
@@ -27,7 +26,7 @@ use Rattle.segment_ring.specs.declared.wire.Fate.TheVariants.{Pass, Lost}
 use Rattle.state_exchange.specs.Stated.{Service}
 use Rattle.task_model.specs.Accounts.{Duty, Stage, Pick}
 use Rattle.run_promises.specs.Books.{StaysUp}
-use Rattle.run_promises.proofs.Came.{listed, past_is, turn_started, behind_same}
+use Rattle.script_runs.proofs.Came.{listed, past_is, turn_started, behind_same}
 
 -- services of which none returns to Init
 quiet_front : {Q : Type 0} (xs ys : List (Service Q)) → NoInits (xs ++ ys) → NoInits xs
@@ -103,7 +102,7 @@ module _ {M Q R : Type 0} (x : Speech M Q R) (ack : Q → Bool) (more : M → Bo
   stand_stays Stand.Gone e = e
 
 -- a slave that is given up has given up
-given_none : {M Q R : Type 0} (b : Bool) (recover : ℕ) (spot : Spot) (made : ℕ) (l : Life M Q R) → (given_where b recover spot made l).gave ≡ [] → b ≡ false
+given_none : (b : Bool) (recover : ℕ) (spot : Spot) (made : ℕ) (l : Life Body Asked Reply) → (given_where b recover spot made l).gave ≡ [] → b ≡ false
 given_none true recover spot made l e = absurd (never_empty l.gave made e)
 given_none false recover spot made l e = refl
 

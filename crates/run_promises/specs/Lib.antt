@@ -1,5 +1,3 @@
-pub mod Came
-pub mod Epochs
 pub mod Slaves
 pub mod Books
 pub mod Rests

@@ -17,8 +17,8 @@ use Rattle.slave_server.specs.Serving.{Serving, next_mail}
 use Rattle.slave_steps.specs.Node.{Node, is_settled}
 use Rattle.state_exchange.specs.Families.{InState}
 use Rattle.run_lives.specs.Round.{all_seen}
-use Rattle.run_promises.specs.Came.{AreThose, is_packet}
-use Rattle.run_promises.specs.Epochs.{AreKept, NothingLeft, app_of}
+use Rattle.script_runs.specs.Came.{AreThose, is_packet}
+use Rattle.kept_lives.specs.Epochs.{AreKept, NothingLeft, app_of}
 use Rattle.run_promises.specs.Slaves.{services_of}
 
 -- THE MASTER WANTS NOTHING of a slave: it is open, no service is in hand and none is left of its script, and both halves of its link are idle

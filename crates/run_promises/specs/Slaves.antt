@@ -1,11 +1,10 @@
 -- WHAT A MACHINE BUILDER MAY RELY ON of each slave of a plan, behind any frames of a run: which of its services came into hand, and what its
 -- application has carried out of them.
-use Rattle.std.specs.Prelude.{ℕ, suc, Bool, List, [], ◌∷◌, ⊤}
+use Rattle.std.specs.Prelude.{ℕ, suc, List, [], ◌∷◌, ⊤}
 use Rattle.book_model.specs.Script.{life_started}
 use Rattle.eoe_model.specs.Network.{Station}
 use Rattle.life_runs.specs.First.{lens_of, spot_of, script_for}
 use Rattle.life_runs.specs.Led.{Exchanged, Leads}
-use Rattle.link_mails.specs.Body.{Body}
 use Rattle.master_duty.specs.Reply.{Reply}
 use Rattle.master_hand.specs.Spoken.{Asked, is_followed}
 use Rattle.plan_ring.specs.Asked.{asked}
@@ -20,8 +19,8 @@ use Rattle.slave_server.specs.Spec.{profile_of}
 use Rattle.slave_steps.specs.Node.{Node}
 use Rattle.state_exchange.specs.Families.{InState}
 use Rattle.run_lives.specs.Round.{all_seen}
-use Rattle.run_promises.specs.Came.{Came, AreFirst}
-use Rattle.run_promises.specs.Epochs.{IsKeptLife}
+use Rattle.script_runs.specs.Came.{Came, AreFirst}
+use Rattle.kept_lives.specs.Epochs.{IsKeptLife}
 
 -- the services of a plan's slave, as its master asks for them
 abbrev pub services_of : Scenario → SlaveSpec → Behind Serving (InState Server) (InState (Station Core)) Asked Reply

@@ -20,6 +20,7 @@ pub fn run_promise_law()
         IsLed (lens_of plan.slaves) plan.recover plan.retry (first_leads plan) fs missed as' → AllRound (ring_of plan) fs → AllServed plan fs 0 plan.slaves as' (ring_after (ring_of plan) fs).nodes }
 {
     run_lives::run_lives_law();
+    script_runs::script_run_law();
 }
 
 /// THE BOOK OF EACH SLAVE THAT STAYS UP: of one that is open, was never given up and never returned to Init, what a book tells of its rows fits its
@@ -38,4 +39,5 @@ pub fn run_done_law()
         IsLed (lens_of plan.slaves) plan.recover plan.retry (first_leads plan) fs missed as' → AllRound (ring_of plan) fs → AllDoneIf plan fs 0 plan.slaves as' (ring_after (ring_of plan) fs).nodes }
 {
     run_lives::run_lives_law();
+    script_runs::script_run_law();
 }

@@ -1,4 +1,4 @@
-ghost use Rattle.std.specs.Prelude.{◌≡◌, IfOk, true, false};
+ghost use Rattle.std.specs.Prelude.{◌≡◌, [], IfOk, true, false};
 ghost use Rattle.segment_plan.specs.Sound.{IsPlan};
 ghost use Rattle.run_book.specs.Book.{IsNew};
 ghost use Rattle.std.specs.Bool.{OnTrue, OnFalse};
@@ -33,6 +33,8 @@ fn run_through(alloc: Global, plan: &Scenario, book: &mut Book) -> Result<Ending
     ensures ends { IfOk result (EndsAs plan.now book.new) }
     ensures ending { IfOk result (λ ending. book.new.ending ≡ ending) }
     ensures serving { book.new.serving ≡ false }
+    ensures unheard { book.new.grams ≡ [] }
+    ensures unsent { book.new.replies ≡ [] }
 {
     let mut session = Session::begin(alloc, plan, 0)?;
     let mut settled = session.settled();
@@ -53,6 +55,8 @@ pub fn run(alloc: Global, plan: &Scenario, book: &mut Book) -> Ending
     ensures ends { EndsAs plan.now book.new result }
     ensures ending { book.new.ending ≡ result }
     ensures serving { book.new.serving ≡ false }
+    ensures unheard { book.new.grams ≡ [] }
+    ensures unsent { book.new.replies ≡ [] }
 {
     match run_through(alloc, plan, book) {
         Ok(ending) => ending,

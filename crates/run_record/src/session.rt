@@ -1,18 +1,20 @@
-ghost use Rattle.std.specs.Prelude.{◌≡◌, ◌≢◌, ◌<◌, ◌≤◌, ◌==◌, ◌++◌, ◌∷◌, ◌⊎◌, [], ℕ, length, map, IfOk, OnOk, OnErr, All, true, slice_get};
-ghost use Rattle.std.specs.Bool.{OnTrue};
+ghost use Rattle.std.specs.Prelude.{◌≡◌, ◌≢◌, ◌<◌, ◌≤◌, ◌==◌, ◌++◌, ◌∷◌, ◌⊎◌, ◌↔◌, [], ℕ, length, map, Ok, Some, IfOk, OnOk, OnErr, All, true, false, slice_get};
+ghost use Rattle.std.specs.Bool.{OnTrue, OnFalse};
 ghost use Rattle.std.specs.List.{list_any};
-ghost use Rattle.run_record.specs.Notes.{has_given_up};
+ghost use Rattle.run_record.specs.Notes.{has_given_up, stations_of};
 ghost use Rattle.segment_plan.specs.Sound.{IsPlan, IsLaid, IsSlave};
 ghost use Rattle.slave_server.specs.Spec.{node_of};
 ghost use Rattle.run_book.specs.declared.book.SentFrame.{SentFrame as Recorded};
 ghost use Rattle.run_book.specs.declared.book.Ending.TheVariants as endings;
 ghost use Rattle.run_record.specs.Replay.{first_ring};
-ghost use Rattle.run_record.specs.Session.{budget_of, smaller_bound, slave_row, rests_at, slave_rows, session_rows, first_session, are_at_rest, some_given_up, KeepsRest, Steps, Stops};
+ghost use Rattle.run_record.specs.Session.{budget_of, smaller_bound, slave_row, rests_at, slave_rows, session_rows, first_session, are_at_rest, some_given_up, KeepsRest, Steps, Stops, Asks};
 
-use crate::log::{Log, Moment};
+use crate::log::Moment;
 use crate::notes::Notes;
+use crate::standing::{AskedMail, Log};
 use datagrams::FrameBuf;
 use ec_fields::{NoMemory, Octets, Rows};
+use mailbox_mail::Mail;
 use master_node::{Event, MasterNode};
 use run_book::{Book, Ending, SentFrame, SlaveBook};
 use segment_plan::{Scenario, SlaveSpec, bound};
@@ -40,14 +42,15 @@ pub struct Session {
 }
 
 impl Model for Session {
-    ghost use Rattle.std.specs.Prelude.{◌≡◌, ◌≤◌, ◌+◌, length};
+    ghost use Rattle.std.specs.Prelude.{◌≡◌, ◌≤◌, ◌+◌, length, map, vec_len};
+    ghost use Rattle.master_node.specs.Lives.{waiting_of};
     ghost use Rattle.run_record.specs.Session.{SessionState};
 
     ghost Value = { SessionState };
 
-    ghost view = { λ s. record { ring = s.ring; notes = s.log.notes; ports = 1 + length s.log.ports; recover = s.log.recover; budget = s.budget; serving = s.serving } };
+    ghost view = { λ s. record { ring = s.ring; notes = s.log.notes; homes = s.log.homes; asked = s.log.asked; waiting = map waiting_of s.master.posts.items; ports = 1 + length s.log.ports; recover = s.log.recover; budget = s.budget; serving = s.serving } };
 
-    ghost invariant = { λ s. (s.number ≡ s.ring.number) × (s.number ≤ s.budget) × (s.budget ≤ 100000000) × (length s.log.notes ≡ length s.ring.nodes) × (length s.ring.nodes ≤ 16) };
+    ghost invariant = { λ s. (s.number ≡ s.ring.number) × (s.number ≤ s.budget) × (s.budget ≤ 100000000) × (length s.log.notes ≡ length s.ring.nodes) × (length s.ring.nodes ≤ 16) × (length s.log.homes ≡ length s.ring.nodes) × (length s.log.asked ≡ length s.ring.nodes) × (vec_len s.master.posts ≡ length s.ring.nodes) };
 }
 
 // The most frames that a run of the plan sends, or a serving of it that hears so many datagrams.
@@ -234,7 +237,8 @@ impl Session {
 
     /// Whether as many frames were sent as the budget allows.
     pub fn spent(&self) -> bool
-        ensures { result ≡ (self.now.ring.number == self.now.budget) }
+        ensures value { result ≡ (self.now.ring.number == self.now.budget) }
+        ensures left { OnFalse result (self.now.ring.number < self.now.budget) }
     {
         self.number == self.budget
     }
@@ -247,9 +251,39 @@ impl Session {
         some_given_up(self.log.notes.as_slice())
     }
 
-    /// The station of each slave and the length of its mailbox, while it is live.
-    pub fn stations(&self) -> &[Option<(u16, u16)>] {
+    /// The station of each slave and the length of its mailbox, while it is live: it was not given up for good.
+    pub fn stations(&self) -> &[Option<(u16, u16)>]
+        ensures value { result.now ≡ stations_of self.now.recover self.now.homes self.now.notes }
+        ensures many { length result.now ≡ length self.now.ring.nodes }
+        ensures few { length result.now ≤ 16 }
+    {
+        let _ = &self.number;
         self.log.stations.as_slice()
+    }
+
+    /// A mail is passed on to a slave, behind those before; `key` names its asker. `false` comes exactly where 64 mails wait for that slave,
+    /// and then nothing changed, as after `NoMemory`.
+    pub fn ask(
+        &mut self,
+        alloc: Global,
+        slave: u32,
+        key: usize,
+        mail: &Mail,
+    ) -> Result<bool, NoMemory>
+        requires { slave < length self.old.ring.nodes }
+        ensures asked { IfOk result (Asks slave key mail.now self.old self.new) }
+        ensures full { OnOk result ((result ≡ Ok false) ↔ (slice_get self.old.waiting slave ≡ Some 64)) }
+        ensures err { OnErr result (self.new ≡ self.old) }
+    {
+        let body = Octets::copy_of(alloc, mail.body.as_slice())?;
+        let kind = mail.kind;
+        let asked = self.log.asked.at_mut(slave as usize);
+        asked.add(AskedMail { key, kind, body })?;
+        if self.master.ask(slave, key, mail) {
+            return Ok(true);
+        }
+        let _ = self.log.asked.at_mut(slave as usize).pop();
+        Ok(false)
     }
 
     /// Sends one frame, behind which the processors of the slaves make their steps. The frame and what happened stand in the book.
@@ -275,7 +309,7 @@ impl Session {
 
     // The master gets its frame back, or learns that it is lost.
     fn tell(&mut self, fate: Fate)
-        ensures { self.new ≡ self.old }
+        ensures { self.new ≡ record self.old { waiting = self.new.waiting } }
     {
         match fate {
             Fate::Pass => self.master.returned(&self.back),
@@ -294,6 +328,8 @@ impl Session {
         ensures ending { book.new.ending ≡ result }
         ensures frames { book.new.frames ≡ book.old.frames }
         ensures switch { book.new.switch ≡ book.old.switch }
+        ensures grams { book.new.grams ≡ book.old.grams }
+        ensures replies { book.new.replies ≡ book.old.replies }
         ensures serving { book.new.serving ≡ self.serving }
         ensures answers { (result ≡ ending) ⊎ (result ≡ endings.NoMemory) }
         ensures rows { result ≢ endings.NoMemory → book.new.slaves ≡ session_rows self }

@@ -1,12 +1,15 @@
-use Rattle.std.proofs.Common.{◌≡◌, ◌-◌, true}
+use Rattle.std.proofs.Common.{◌≡◌, ◌-◌, true, false, []}
 use Rattle.std.specs.Bool.{OnTrue}
 use Rattle.run_record.specs.Session.{session_rows, are_at_rest}
-use Rattle.run_record.proofs.Underway.{IsUnderway}
+use Rattle.run_record.specs.Ran.{IsUnderway}
 use Rattle.run_record.proofs.running.run_through.Given as goal
 
 abbrev pub invariant-loop-settled : goal.invariant-loop-settled
 invariant-loop-settled l = record {
-  underway : IsUnderway l.plan l.session l.book;
+  underway : IsUnderway l.plan 0 l.session l.book;
+  serving : l.book.serving ≡ false;
+  grams : l.book.grams ≡ [];
+  replies : l.book.replies ≡ [];
   settled : OnTrue l.settled (are_at_rest (session_rows l.session) ≡ true);
 }
 

@@ -1,4 +1,4 @@
-use Rattle.std.proofs.Common.{◌≡◌, true, sym, ◌∙◌}
+use Rattle.std.proofs.Common.{sym, ◌∙◌}
 use Rattle.master_side.proofs.Begins.{begins_ready, none_passed}
 use Rattle.master_side.proofs.side.Side.begin_mails.Goals.{then-began, else-began, then-passed, else-passed}
 use Rattle.master_side.proofs.side.Side.begin_mails.Goals as goal
@@ -11,10 +11,10 @@ pub returns-clause-unpassed : goal.returns-clause-unpassed
 returns-clause-unpassed g c = λ h.
     let ready = g.H.Hand.ready c.args.self.now.hand in
     elim c.if-passed.branch [
-      then-passed w ↦ elim c.if-began.branch [
-        then-began v ↦ absurd (let no = none_passed ready c.begin-began.result (g.H.Hand.passes c.begin-began.new.self) g.H.Hand.passed c.begin-began.ensures.did v.if-began.true (h v.if-began.true) c.begin-began.ensures.passes in
+      | then-passed w ↦ elim c.if-began.branch [
+        | then-began v ↦ absurd (let no = none_passed ready c.begin-began.result (g.H.Hand.passes c.begin-began.new.self) g.H.Hand.passed c.begin-began.ensures.did v.if-began.true (h v.if-began.true) c.begin-began.ensures.passes in
             let t = sym w.if-passed.true ∙ v.passed-is ∙ v.is_passed-passed.ensures ∙ no in cc)
-      | else-began v ↦ absurd (let t = sym w.if-passed.true ∙ v.passed-is in cc)
+        | else-began v ↦ absurd (let t = sym w.if-passed.true ∙ v.passed-is in cc)
       ]
-    | else-passed w ↦ w.passing-is
+      | else-passed w ↦ w.passing-is
     ]

@@ -7,16 +7,12 @@ use Rattle.master_tour.specs.Stands.{StopShows, FollowShows, IsSpot, StandUnder,
 use Rattle.exchange_model.specs.Exchange.{Speech}
 use Rattle.link_mails.specs.Body.{Body}
 use Rattle.segment_model.specs.Slaves.{Datagram}
-use Rattle.segment_model.specs.Seats
-use Rattle.task_model.specs.Accounts.{Account, duty_access, account_back}
 use Rattle.frame_view.specs.Seen.{seen}
 use Rattle.frame_view.specs.View.{Lens}
 use Rattle.master_duty.specs.Reply.{Reply}
 use Rattle.master_side.specs.Shown.{SideShows}
-use Rattle.master_tour.specs.Under.{Under}
 use Rattle.master_tour.specs.Cursor.{IsAtOne}
 use Rattle.master_tour.specs.Walks.{Walked}
-use Rattle.master_tour.specs.declared.stop.Stand.{Stand}
 use Rattle.mailbox_master.specs.Any.{in_area_len}
 use Rattle.master_side.specs.Sent.{SameLink}
 use Rattle.master_tour.specs.Made.{IsSized}

@@ -3,18 +3,12 @@ use Rattle.std.specs.Prelude.{◌&&◌, Bool, None}
 use Rattle.segment_model.specs.Record.{News}
 use Rattle.life_model.specs.Lives.{Life, Spot, life_lost}
 use Rattle.master_tour.specs.Stands.{StopShows, FollowShows, IsSpot, StandUnder, given_where}
-use Rattle.std.specs.Prelude.{false}
 use Rattle.frame_view.specs.View.{Lens}
 use Rattle.frame_view.specs.Seen.{seen}
 use Rattle.exchange_model.specs.Exchange.{Speech}
 use Rattle.link_mails.specs.Body.{Body}
-use Rattle.segment_model.specs.Slaves.{Datagram}
-use Rattle.segment_model.specs.Seats
-use Rattle.task_model.specs.Accounts.{Account, duty_access}
 use Rattle.master_duty.specs.Reply.{Reply}
 use Rattle.master_side.specs.Shown.{SideShows}
-use Rattle.master_tour.specs.Under.{Under}
-use Rattle.master_tour.specs.declared.stop.Stand.{Stand}
 use Rattle.master_tour.proofs.Walks.{walk_on, walk_over, walked_length}
 use Rattle.mailbox_master.specs.Any.{in_area_len}
 use Rattle.master_side.specs.Sent.{SameLink}

@@ -1,7 +1,6 @@
-use Rattle.std.proofs.Common.{◌≡◌, ℕ, List, [], sym, ap, ◌∙◌, subst, refl}
+use Rattle.std.proofs.Common.{◌≡◌, [], sym, ap, ◌∙◌, subst, refl}
 use Rattle.std.specs.Prelude.{is_some, false}
 use Rattle.master_tour.specs.Walks.{EachPair}
-use Rattle.datagrams.specs.Datagram as Raw
 use Rattle.mailbox_master.specs.Any.{in_area_len}
 use Rattle.master_side.specs.Shown.{SideShows}
 use Rattle.life_frames.specs.Shares.{AllFrom}

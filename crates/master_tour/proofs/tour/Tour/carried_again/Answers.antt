@@ -1,7 +1,7 @@
 use Rattle.std.proofs.Common.{◌≡◌, ◌<◌, length, get_or, sym, ap, ◌∙◌, subst, arith, true}
 use Rattle.std.proofs.lemmas.Bool.{ltb-true}
 use Rattle.master_tour.specs.Goes.{is_live, holds_at}
-use Rattle.master_tour.proofs.Goes.{begins_at, begins_some, holds_inside}
+use Rattle.master_tour.proofs.Goes.{begins_at, holds_inside}
 use Rattle.master_tour.proofs.Orders.{list_next}
 use Rattle.master_tour.proofs.tour.Tour.carried_again.Goals as goal
 

@@ -1,7 +1,4 @@
-use Rattle.std.proofs.Common.{◌≡◌, ℕ, ◌==◌, ap, length}
-use Rattle.std.specs.Prelude.{◌≤◌, not}
-use Rattle.mailbox_master.specs.Any.{in_half_of}
-use Rattle.segment_model.specs.Seats.{Side}
+use Rattle.std.proofs.Common.{ap, length}
 use Rattle.master_side.specs.Shown.{SideShows}
 use Rattle.master_tour.proofs.Sents.{stop_sent, all_sent, some_more}
 use Rattle.master_tour.proofs.tour.Tour.finish.Goals as goal

@@ -9,10 +9,8 @@ use Rattle.master_duty.specs.Reply.{Reply}
 use Rattle.master_side.specs.Shown.{SideShows}
 use Rattle.master_tour.specs.Walks.{EachPair}
 use Rattle.master_tour.specs.Stands.{StopShows, FollowShows, IsSpot, StandUnder, came_at}
-use Rattle.std.proofs.Common.{sym, ap, refl}
-use Rattle.task_model.specs.Accounts.{duty_access}
+use Rattle.std.proofs.Common.{sym, refl}
 use Rattle.frame_view.specs.Seen.{seen}
-use Rattle.master_tour.proofs.Unders.{under_back}
 use Rattle.master_tour.proofs.Cursors.{seen_none}
 use Rattle.master_tour.proofs.Frames.{none_returns}
 use Rattle.master_tour.proofs.Walks.{each_map, each_same}

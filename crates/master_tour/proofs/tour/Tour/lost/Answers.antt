@@ -1,4 +1,3 @@
-use Rattle.std.proofs.Common.{◌≡◌}
 use Rattle.mailbox_master.specs.Any.{in_area_len}
 use Rattle.master_tour.proofs.Mades.{planned_as, all_behind}
 use Rattle.master_tour.proofs.Walks.{each_map}

@@ -1,5 +1,4 @@
-use Rattle.std.proofs.Common.{◌≡◌, length, sym, ◌∙◌, refl, true, false, Bool, None}
-use Rattle.std.specs.List.{list_any}
+use Rattle.std.proofs.Common.{◌≡◌, length, sym, ◌∙◌, refl, true, false, None}
 use Rattle.master_tour.specs.Goes.{is_live}
 use Rattle.master_tour.proofs.Goes.{none_in_round}
 use Rattle.master_tour.specs.Orders.{start_of}

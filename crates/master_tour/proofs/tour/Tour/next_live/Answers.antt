@@ -1,4 +1,4 @@
-use Rattle.std.proofs.Common.{◌≡◌, ◌<◌, ◌≤◌, ℕ, false, true, length, sym, ap, ◌∙◌, subst, arith, get_or, refl, ◌+◌}
+use Rattle.std.proofs.Common.{◌≡◌, ◌<◌, ◌≤◌, ℕ, false, true, length, sym, ◌∙◌, subst, arith, refl, ◌+◌}
 use Rattle.std.proofs.lemmas.Bool.{ltb-true, ltb-false}
 use Rattle.std.specs.Prelude.{nat_lt, Bool}
 use Rattle.master_tour.specs.Goes.{is_live, holds_at}

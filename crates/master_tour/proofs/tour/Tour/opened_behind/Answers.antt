@@ -1,4 +1,4 @@
-use Rattle.std.proofs.Common.{◌≡◌, ◌<◌, ◌≤◌, length, sym, ◌∙◌, arith}
+use Rattle.std.proofs.Common.{◌<◌, length, sym, ◌∙◌, arith}
 use Rattle.master_tour.specs.Goes.{is_opened}
 use Rattle.master_tour.proofs.Goes.{holds_here, opened_more, opened_here, opened_out}
 use Rattle.master_tour.proofs.tour.Tour.opened_behind.Goals as goal

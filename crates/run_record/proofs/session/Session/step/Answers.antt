@@ -1,4 +1,4 @@
-use Rattle.std.proofs.Common.{◌≡◌, ℕ, List, ◌+◌, ◌++◌, ◌∷◌, [], length, ap, ◌∙◌, subst, arith}
+use Rattle.std.proofs.Common.{◌≡◌, ℕ, List, ◌+◌, ◌++◌, ◌∷◌, [], length, vec_len, ap, ◌∙◌, subst, arith}
 use Rattle.segment_ring.specs.Ring.{RingState}
 use Rattle.slave_steps.specs.Node.{Node}
 use Rattle.slave_server.specs.declared.server.SlaveServer.{SlaveServer}
@@ -14,8 +14,8 @@ invariant_of-self-in_err-put_frame c =
     let n : c.self.inside.ring.number ≡ c.args.self.now.ring.number = ap (λ (s : SessionState). s.ring.number) c.self.view_is in
     let b : c.self.inside.budget ≡ c.args.self.now.budget = ap (λ (s : SessionState). s.budget) c.self.view_is in
     let h = c.requires in
-    holds_on c.self.inside.number c.self.inside.budget c.self.inside.log.notes c.note.new.self.notes c.self.inside.ring c.exchange-fate.new.self c.next.new.into.items
-    c.self.invariant (omega (arith, n, b, h)) c.note.ensures.slaves.notes c.exchange-fate.ensures.wire
+    holds_on c.self.inside.number c.self.inside.budget c.self.inside.log.notes c.note.new.self.notes c.self.inside.ring c.exchange-fate.new.self c.next.new.into.items (length c.self.inside.log.homes) (length c.self.inside.log.asked) (vec_len c.self.inside.master.posts) (length c.note.new.self.homes) (length c.note.new.self.asked) (vec_len c.next.new.self.posts)
+    c.self.invariant (omega (arith, n, b, h)) c.note.ensures.slaves.notes c.exchange-fate.ensures.wire (ap length c.note.ensures.slaves.homes) (ap length c.note.ensures.slaves.asked) c.next.ensures
 
 pub returns-in_err-put_frame-clause-err : goal.returns-in_err-put_frame-clause-err
 returns-in_err-put_frame-clause-err c =
@@ -29,8 +29,8 @@ invariant_of-self-2 c =
     let n : c.self.inside.ring.number ≡ c.args.self.now.ring.number = ap (λ (s : SessionState). s.ring.number) c.self.view_is in
     let b : c.self.inside.budget ≡ c.args.self.now.budget = ap (λ (s : SessionState). s.budget) c.self.view_is in
     let h = c.requires in
-    holds_on c.self.inside.number c.self.inside.budget c.self.inside.log.notes c.note.new.self.notes c.self.inside.ring c.exchange-fate.new.self c.next.new.into.items
-    c.self.invariant (omega (arith, n, b, h)) c.note.ensures.slaves.notes c.exchange-fate.ensures.wire
+    holds_on c.self.inside.number c.self.inside.budget c.self.inside.log.notes c.note.new.self.notes c.self.inside.ring c.exchange-fate.new.self c.next.new.into.items (length c.self.inside.log.homes) (length c.self.inside.log.asked) (vec_len c.self.inside.master.posts) (length c.note.new.self.homes) (length c.note.new.self.asked) (vec_len c.next.new.self.posts)
+    c.self.invariant (omega (arith, n, b, h)) c.note.ensures.slaves.notes c.exchange-fate.ensures.wire (ap length c.note.ensures.slaves.homes) (ap length c.note.ensures.slaves.asked) c.next.ensures
 
 pub returns-clause-ok : goal.returns-clause-ok
 returns-clause-ok c =
@@ -47,6 +47,8 @@ returns-clause-ok c =
         recorded = subst (λ r. IsRecorded r f) ring (record { fate = c.exchange-fate.ensures.fate; back = c.exchange-fate.ensures.back });
         short = record { sent = c.put_frame.ensures.sent_fits; back = c.put_frame.ensures.back_fits };
         ring = ap (λ (s : SessionState). s.ring) told ∙ c.exchange-fate.ensures.wire ∙ ap (λ (r : RingState (Node SlaveServer)). behind r c.next.new.into.items) ring;
+        homes = c.note-2.ensures.slaves.homes ∙ ap (λ (s : SessionState). s.homes) told ∙ c.note.ensures.slaves.homes ∙ ap (λ (s : SessionState). s.homes) c.self.view_is;
+        asked = c.note-2.ensures.slaves.asked ∙ ap (λ (s : SessionState). s.asked) told ∙ c.note.ensures.slaves.asked ∙ ap (λ (s : SessionState). s.asked) c.self.view_is;
         ports = ap (λ (l : List ℕ). 1 + length l) c.note-2.ensures.slaves.ports ∙ same ∙ before;
         recover = c.note-2.ensures.slaves.recover ∙ ap (λ (s : SessionState). s.recover) told ∙ c.note.ensures.slaves.recover ∙ ap (λ (s : SessionState). s.recover) c.self.view_is;
         budget = ap (λ (s : SessionState). s.budget) told ∙ ap (λ (s : SessionState). s.budget) c.self.view_is;
