@@ -54,7 +54,7 @@ over_so heard count over over' told (inl all) = inl all
 over_so heard count over over' told (inr is) = inr (told is)
 
 module _ (plan : Scenario) (count : ℕ) (first now : Told) (v : Serving) (b b' : Book) (some : 0 < count) (on : IsOn plan count v b) (heard : AreHeard first.heard now.heard b.grams)
-  (frames : b'.frames ≡ b.frames) (switch : b'.switch ≡ b.switch) (grams : b'.grams ≡ b.grams) (replies : b'.replies ≡ b.replies) (serving : b'.serving ≡ v.session.serving) (many : length v.session.notes ≡ length v.session.ring.nodes) where
+    (frames : b'.frames ≡ b.frames) (switch : b'.switch ≡ b.switch) (grams : b'.grams ≡ b.grams) (replies : b'.replies ≡ b.replies) (serving : b'.serving ≡ v.session.serving) (many : length v.session.notes ≡ length v.session.ring.nodes) where
   pub sent_frames : HasSent plan count b'
   sent_frames = has_frames plan count v.session b b' on.underway frames switch
 

@@ -256,7 +256,7 @@ module _ (plan : Scenario) (count : ℕ) (first : Told) where
       }
 
   module _ (now next : Told) (v v' : Serving) (b b' : Book) (r : GramOut) (h : IsServing plan count first now v b) (session : v'.session ≡ v.session) (counts : v'.count ≡ v.count) (over' : v'.over ≡ v.over)
-    (outbox : v.desk.outbox.items ≡ r ∷ v'.desk.outbox.items) (gateway : v'.desk.gateway ≡ v.desk.gateway) (requests : v'.desk.requests.items ≡ v.desk.requests.items) where
+      (outbox : v.desk.outbox.items ≡ r ∷ v'.desk.outbox.items) (gateway : v'.desk.gateway ≡ v.desk.gateway) (requests : v'.desk.requests.items ≡ v.desk.requests.items) where
     pub handed : SentOne r now next b b' → IsServing plan count first next v' b'
     handed s = record {
       on = handed_on v v' b b' r h.on session counts outbox gateway requests s.puts;

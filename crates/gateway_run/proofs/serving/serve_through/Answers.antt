@@ -16,7 +16,7 @@ finish-requires-in-Err-PortFault g c =
     let so = c.in-Err-PortFault.field-0-is in
     let e : c.turns.result ≡ Err stops.PortFault = cc in
     let h = fault_of c.args.plan.now c.args.count (told g.P.Port.heard g.P.Port.sent g.P.Port.over g.P.Port.port_faults c.args.port.now) (told g.P.Port.heard g.P.Port.sent g.P.Port.over g.P.Port.port_faults c.turns.new.port) c.turns.new.serving c.turns.new.book c.turns.result e (c.turns.ensures.goes c.args.plan.now c.args.count (told g.P.Port.heard g.P.Port.sent g.P.Port.over g.P.Port.port_faults c.args.port.now)
-        (first_serving c.args.plan.now c.args.count (told g.P.Port.heard g.P.Port.sent g.P.Port.over g.P.Port.port_faults c.args.port.now) c.in_ok-serving.serving c.args.book.now c.in_ok-serving.ensures.session c.in_ok-serving.ensures.requests c.in_ok-serving.ensures.outbox c.in_ok-serving.ensures.count c.in_ok-serving.ensures.over c.requires.new c.ranges.count.fits)) in
+    (first_serving c.args.plan.now c.args.count (told g.P.Port.heard g.P.Port.sent g.P.Port.over g.P.Port.port_faults c.args.port.now) c.in_ok-serving.serving c.args.book.now c.in_ok-serving.ensures.session c.in_ok-serving.ensures.requests c.in_ok-serving.ensures.outbox c.in_ok-serving.ensures.count c.in_ok-serving.ensures.over c.requires.new c.ranges.count.fits)) in
     h.on.underway.slaves
 
 pub returns-in-Err-NoMemory-clause-frames : goal.returns-in-Err-NoMemory-clause-frames
@@ -25,7 +25,7 @@ returns-in-Err-NoMemory-clause-frames g c =
     let so = c.in-Err-NoMemory.field-0-is in
     let e : c.turns.result ≡ Err stops.NoMemory = cc in
     let h = cut_of c.args.plan.now c.args.count (told g.P.Port.heard g.P.Port.sent g.P.Port.over g.P.Port.port_faults c.args.port.now) (told g.P.Port.heard g.P.Port.sent g.P.Port.over g.P.Port.port_faults c.turns.new.port) c.turns.new.serving c.turns.new.book c.turns.result e (c.turns.ensures.goes c.args.plan.now c.args.count (told g.P.Port.heard g.P.Port.sent g.P.Port.over g.P.Port.port_faults c.args.port.now)
-        (first_serving c.args.plan.now c.args.count (told g.P.Port.heard g.P.Port.sent g.P.Port.over g.P.Port.port_faults c.args.port.now) c.in_ok-serving.serving c.args.book.now c.in_ok-serving.ensures.session c.in_ok-serving.ensures.requests c.in_ok-serving.ensures.outbox c.in_ok-serving.ensures.count c.in_ok-serving.ensures.over c.requires.new c.ranges.count.fits)) in
+    (first_serving c.args.plan.now c.args.count (told g.P.Port.heard g.P.Port.sent g.P.Port.over g.P.Port.port_faults c.args.port.now) c.in_ok-serving.serving c.args.book.now c.in_ok-serving.ensures.session c.in_ok-serving.ensures.requests c.in_ok-serving.ensures.outbox c.in_ok-serving.ensures.count c.in_ok-serving.ensures.over c.requires.new c.ranges.count.fits)) in
     h
 
 pub returns-in-Ok-clause-frames : goal.returns-in-Ok-clause-frames
@@ -47,7 +47,7 @@ returns-in-Err-PortFault-clause-frames g c =
     let so = c.in-Err-PortFault.field-0-is in
     let e : c.turns.result ≡ Err stops.PortFault = cc in
     let h = fault_of c.args.plan.now c.args.count (told g.P.Port.heard g.P.Port.sent g.P.Port.over g.P.Port.port_faults c.args.port.now) (told g.P.Port.heard g.P.Port.sent g.P.Port.over g.P.Port.port_faults c.turns.new.port) c.turns.new.serving c.turns.new.book c.turns.result e (c.turns.ensures.goes c.args.plan.now c.args.count (told g.P.Port.heard g.P.Port.sent g.P.Port.over g.P.Port.port_faults c.args.port.now)
-        (first_serving c.args.plan.now c.args.count (told g.P.Port.heard g.P.Port.sent g.P.Port.over g.P.Port.port_faults c.args.port.now) c.in_ok-serving.serving c.args.book.now c.in_ok-serving.ensures.session c.in_ok-serving.ensures.requests c.in_ok-serving.ensures.outbox c.in_ok-serving.ensures.count c.in_ok-serving.ensures.over c.requires.new c.ranges.count.fits)) in
+    (first_serving c.args.plan.now c.args.count (told g.P.Port.heard g.P.Port.sent g.P.Port.over g.P.Port.port_faults c.args.port.now) c.in_ok-serving.serving c.args.book.now c.in_ok-serving.ensures.session c.in_ok-serving.ensures.requests c.in_ok-serving.ensures.outbox c.in_ok-serving.ensures.count c.in_ok-serving.ensures.over c.requires.new c.ranges.count.fits)) in
     has_frames c.args.plan.now c.args.count c.turns.new.serving.session c.turns.new.book c.finish-in-Err-PortFault.new.book h.on.underway
     c.finish-in-Err-PortFault.ensures.frames c.finish-in-Err-PortFault.ensures.switch
 
@@ -57,7 +57,7 @@ returns-in-Err-PortFault-clause-served g c =
     let so = c.in-Err-PortFault.field-0-is in
     let e : c.turns.result ≡ Err stops.PortFault = cc in
     let h = fault_of c.args.plan.now c.args.count (told g.P.Port.heard g.P.Port.sent g.P.Port.over g.P.Port.port_faults c.args.port.now) (told g.P.Port.heard g.P.Port.sent g.P.Port.over g.P.Port.port_faults c.turns.new.port) c.turns.new.serving c.turns.new.book c.turns.result e (c.turns.ensures.goes c.args.plan.now c.args.count (told g.P.Port.heard g.P.Port.sent g.P.Port.over g.P.Port.port_faults c.args.port.now)
-        (first_serving c.args.plan.now c.args.count (told g.P.Port.heard g.P.Port.sent g.P.Port.over g.P.Port.port_faults c.args.port.now) c.in_ok-serving.serving c.args.book.now c.in_ok-serving.ensures.session c.in_ok-serving.ensures.requests c.in_ok-serving.ensures.outbox c.in_ok-serving.ensures.count c.in_ok-serving.ensures.over c.requires.new c.ranges.count.fits)) in
+    (first_serving c.args.plan.now c.args.count (told g.P.Port.heard g.P.Port.sent g.P.Port.over g.P.Port.port_faults c.args.port.now) c.in_ok-serving.serving c.args.book.now c.in_ok-serving.ensures.session c.in_ok-serving.ensures.requests c.in_ok-serving.ensures.outbox c.in_ok-serving.ensures.count c.in_ok-serving.ensures.over c.requires.new c.ranges.count.fits)) in
     faulted c.args.plan.now c.args.count (told g.P.Port.heard g.P.Port.sent g.P.Port.over g.P.Port.port_faults c.args.port.now) (told g.P.Port.heard g.P.Port.sent g.P.Port.over g.P.Port.port_faults c.turns.new.port) c.turns.new.serving c.turns.new.book c.finish-in-Err-PortFault.new.book c.finish-in-Err-PortFault.result c.requires.some
     h
     c.finish-in-Err-PortFault.ensures.frames c.finish-in-Err-PortFault.ensures.switch c.finish-in-Err-PortFault.ensures.grams c.finish-in-Err-PortFault.ensures.replies c.finish-in-Err-PortFault.ensures.serving c.finish-in-Err-PortFault.ensures.many c.finish-in-Err-PortFault.ensures.rows c.finish-in-Err-PortFault.ensures.answers
