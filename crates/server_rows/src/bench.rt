@@ -221,10 +221,11 @@ impl Bench {
         block: &[u8],
         sent: &mut Rows<Mail>,
     ) -> Result<Reply> {
-        self.address = AddressClient::new(self.room.max(64));
-        if block.len() > 1476 || block.len() + 10 > usize::from(self.room.max(64)) {
+        let room = self.room.max(64);
+        if block.len() > 1476 || block.len() + 10 > usize::from(room) {
             bail!("a block too long");
         }
+        self.address = AddressClient::new(room);
         self.address.start_set(block);
         self.desk.talk(rt, &mut self.address, self.app.al, sent)
     }
