@@ -8,14 +8,13 @@ ghost use Rattle.scenario_keys.specs.Keys.{name_at};
 ghost use Rattle.scenario_services.specs.Reading.{Appends, BlockFits, sent_to};
 ghost use Rattle.scenario_services.specs.Services.{word_at, sub_at, sdo_of, password_at, element_at, block_at, state_at, body_of};
 
-use crate::actions::{Action, SdoAction};
 use ec_fields::{Octets, Rows, buffer_of};
 use eoe::is_block;
 use file_store::Name;
 use object_dictionary::SdoService;
-use scenario_keys::{
-    Place, Rule, Stop, integer_or, needed_integer, needed_name, needed_octets, put, unless,
-};
+use scenario_actions::{Action, SdoAction};
+use scenario_keys::{Place, Rule, Stop, integer_or, needed_integer, needed_name, put, unless};
+use scenario_octets::needed_octets;
 use segment_plan::{Service, SlaveSpec, smaller};
 use std::alloc::Global;
 use toml::Table;
