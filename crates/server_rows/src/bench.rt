@@ -1,4 +1,4 @@
-ghost use Rattle.std.specs.Prelude.{◌≡◌, ◌<◌, ℕ, All};
+ghost use Rattle.std.specs.Prelude.{◌≡◌, All};
 ghost use Rattle.coe_client.specs.Talk.{octets_in};
 ghost use Rattle.segment_plan.specs.Sound.{IsSlave, IsAddressed, IsPacket, IsPlan};
 ghost use Rattle.slave_app.specs.Meaning.{IsPerformable};
@@ -320,8 +320,9 @@ impl Bench {
     }
 
     // Services, one after the other.
-    fn services<P: Print>(&mut self, rt: &P, rows: &[(u32, Service)]) -> Result<()>
-        requires { (slaves : ℕ) × All (IsAddressed slaves) rows.now }
+    #[tactic(auto, using(crate::proofs::Performable::performable))]
+    fn services<P: Print>(&mut self, rt: &P, slaves: usize, rows: &[(u32, Service)]) -> Result<()>
+        requires { All (IsAddressed slaves) rows.now }
     {
         for (slave, service) in rows {
             if *slave != 0 {
@@ -352,7 +353,7 @@ fn follow_plan<P: Print>(rt: &P, alloc: Global, plan: &Scenario, tells: bool) ->
         None => bail!("no slave"),
         Some(spec) => {
             let mut bench = bench_of(alloc, spec, tells)?;
-            bench.services(rt, plan.services.as_slice())?;
+            bench.services(rt, plan.slaves.len(), plan.services.as_slice())?;
             bench.packets(rt, plan.host.as_slice())
         }
     }
