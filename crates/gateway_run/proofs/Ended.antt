@@ -23,7 +23,7 @@ use Rattle.gateway_run.specs.declared.turn.Serving.{Serving}
 use Rattle.gateway_run.proofs.Turns.{heard_none, sent_none}
 
 -- before the first turn
-pub first_serving : (plan : Scenario) (count : ℕ) (now : Told) (v : Serving) (b : Book) → v.session ≡ first_session plan count → v.desk.requests.items ≡ [] → v.desk.outbox.items ≡ [] → v.count ≡ count → v.over ≡ false → IsNew b → count < 4294967296 →
+pub first_serving : (plan : Scenario) (count : ℕ) (now : Told) (v : Serving) (b : Book) → v.session ≡ first_session plan count v.session.master → v.desk.requests.items ≡ [] → v.desk.outbox.items ≡ [] → v.count ≡ count → v.over ≡ false → IsNew b → count < 4294967296 →
     IsServing plan count now now v b
 first_serving plan count now v b session requests outbox counts over new fits = record {
   on = record {

@@ -32,7 +32,7 @@ pub record IsSound (heard : List HeardGram) (d : Desk) : Type 0 where
 
 -- a session in which mails were passed on: all else stays
 abbrev pub AsksMails : SessionState → SessionState → Type 0
-AsksMails s s' = s' ≡ record s { asked = s'.asked; waiting = s'.waiting }
+AsksMails s s' = s' ≡ record s { asked = s'.asked; waiting = s'.waiting; master = s'.master }
 
 -- a datagram was heard: it stands in the book, behind those before
 pub record Takes (homes : List (ℕ × ℕ)) (peer : Peer) (octets : List ℕ) (b b' : Book) : Type 0 where

@@ -42,7 +42,7 @@ impl Serving {
     /// A serving of the plan before its first frame, that is to hear so many datagrams.
     pub fn begin(alloc: Global, plan: &Scenario, count: u32) -> Result<Serving, NoMemory>
         requires { IsPlan plan.now }
-        ensures session { IfOk result (λ v. v.session ≡ first_session plan.now count) }
+        ensures session { IfOk result (λ v. v.session ≡ first_session plan.now count v.session.master) }
         ensures requests { IfOk result (λ v. v.desk.requests.items ≡ []) }
         ensures outbox { IfOk result (λ v. v.desk.outbox.items ≡ []) }
         ensures count { IfOk result (λ v. v.count ≡ count) }

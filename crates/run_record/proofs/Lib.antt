@@ -1,7 +1,9 @@
 pub mod Asking
 pub mod Budgets
 pub mod Firsts
+pub mod Gones
 pub mod Kept
+pub mod Leads
 pub mod Lists
 pub mod Plans
 pub mod Replays

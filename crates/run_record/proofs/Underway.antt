@@ -22,7 +22,7 @@ use Rattle.run_record.proofs.Replays.{after_more, recorded_more, number_after, l
 use Rattle.run_record.proofs.Rows.{nodes_of_rows, rows_given_up}
 
 -- before the first frame
-pub begun : (plan : Scenario) (grams : ℕ) (s : SessionState) (b : Book) → s ≡ first_session plan grams → IsNew b → IsUnderway plan grams s b
+pub begun : (plan : Scenario) (grams : ℕ) (s : SessionState) (b : Book) → s ≡ first_session plan grams s.master → IsNew b → IsUnderway plan grams s b
 begun plan grams s b first new = record {
   ring = ap (λ (t : SessionState). t.ring) first ∙ ap (ring_after (first_ring plan)) (sym new.frames);
   recorded = subst (AreRecorded (first_ring plan)) (sym new.frames) tt;
@@ -106,7 +106,7 @@ pub one_more : (s : SessionState) (b : Book) (s' : SessionState) (b' : Book) (f 
 one_more s b s' b' f step = ap (λ (r : RingState (Node SlaveServer)). r.number) step.ring
 
 -- mails were passed on, and datagrams put into the book
-pub same_on : (plan : Scenario) (grams : ℕ) (s s' : SessionState) (b b' : Book) → IsUnderway plan grams s b → s' ≡ record s { asked = s'.asked; waiting = s'.waiting } → b'.frames ≡ b.frames → b'.switch ≡ b.switch → b'.slaves ≡ b.slaves → IsUnderway plan grams s' b'
+pub same_on : (plan : Scenario) (grams : ℕ) (s s' : SessionState) (b b' : Book) → IsUnderway plan grams s b → s' ≡ record s { asked = s'.asked; waiting = s'.waiting; master = s'.master } → b'.frames ≡ b.frames → b'.switch ≡ b.switch → b'.slaves ≡ b.slaves → IsUnderway plan grams s' b'
 same_on plan grams s s' b b' h same frames switch slaves = record {
   ring = ap (λ (t : SessionState). t.ring) same ∙ h.ring ∙ ap (ring_after (first_ring plan)) (sym frames);
   recorded = subst (AreRecorded (first_ring plan)) (sym frames) h.recorded;

@@ -19,10 +19,12 @@ use Rattle.mailbox_mail.specs.declared.mail.Mail.{Mail}
 use Rattle.run_record.specs.declared.standing.AskedMail.{AskedMail}
 use Rattle.run_record.specs.declared.standing.Log.{Log}
 use Rattle.run_record.specs.Notes.{new_notes, ended}
+use Rattle.master_node.specs.declared.node.MasterNode.{MasterNode}
+use Rattle.run_record.specs.Led.{LeadsOn}
 use Rattle.run_record.specs.Replay.{first_ring, behind, IsRecorded}
 
 -- a session: the ring with its slaves, what became of each slave, their stations and the lengths of their mailboxes, the mails that are
--- passed on to each and how many of them still wait, the ports of its switch, how often a slave is taken up again, the most frames, and
+-- passed on to each and how many of them still wait, the master, the ports of its switch, how often a slave is taken up again, the most frames, and
 -- whether requests are served
 pub record SessionState : Type 0 where
   pub ring : RingState (Node SlaveServer)
@@ -30,6 +32,7 @@ pub record SessionState : Type 0 where
   pub homes : List (ℕ × ℕ)
   pub asked : List (List AskedMail)
   pub waiting : List ℕ
+  pub master : MasterNode
   pub ports : ℕ
   pub recover : ℕ
   pub budget : ℕ
@@ -60,14 +63,15 @@ first_notes services number (spec ∷ specs) = new_notes (scripted services numb
 abbrev pub home_of : SlaveSpec → ℕ × ℕ
 home_of spec = (spec.station, spec.out_len)
 
--- a session of a plan before its first frame
-abbrev pub first_session : Scenario → ℕ → SessionState
-first_session plan grams = record {
+-- a session of a plan before its first frame, with this master
+abbrev pub first_session : Scenario → ℕ → MasterNode → SessionState
+first_session plan grams master = record {
   ring = first_ring plan;
   notes = first_notes plan.services 0 plan.slaves;
   homes = map home_of plan.slaves;
   asked = replicate (length plan.slaves) [];
   waiting = replicate (length plan.slaves) 0;
+  master = master;
   ports = ports_of plan.slaves;
   recover = plan.recover;
   budget = budget_of plan grams;
@@ -148,6 +152,7 @@ pub record Steps (s : SessionState) (b : Book) (s' : SessionState) (b' : Book) (
   pub budget : s'.budget ≡ s.budget
   pub serving : s'.serving ≡ s.serving
   pub rest : KeepsRest s.ports b b'
+  pub leads : LeadsOn s.master s'.master f
 
 -- a mail as it is passed on, with the key of its asker
 abbrev pub asked_mail : ℕ → Mail → AskedMail
@@ -161,10 +166,10 @@ asked_more (mails ∷ rest) (suc slave) more = mails ∷ asked_more rest slave m
 
 -- A MAIL IS PASSED ON: it stands behind those of its slave, unless as many wait as may, and nothing else changes but how many wait
 abbrev pub Asks : ℕ → ℕ → Mail → SessionState → SessionState → Bool → Type 0
-Asks slave key mail s s' true = s' ≡ record s { asked = asked_more s.asked slave (asked_mail key mail); waiting = s'.waiting }
-Asks slave key mail s s' false = s' ≡ record s { waiting = s'.waiting }
+Asks slave key mail s s' true = s' ≡ record s { asked = asked_more s.asked slave (asked_mail key mail); waiting = s'.waiting; master = s'.master }
+Asks slave key mail s s' false = s' ≡ record s { waiting = s'.waiting; master = s'.master }
 
 -- memory ran out in a step: the book has the frame of the step, or not
 pub record Stops (s : SessionState) (b b' : Book) : Type 0 where
-  pub frames : (b'.frames ≡ b.frames) ⊎ ((f : SentFrame) × (b'.frames ≡ b.frames ++ f ∷ []) × IsRecorded s.ring f × IsShort f)
+  pub frames : (b'.frames ≡ b.frames) ⊎ ((f : SentFrame) × (b'.frames ≡ b.frames ++ f ∷ []) × IsRecorded s.ring f × IsShort f × ((m : MasterNode) × LeadsOn s.master m f))
   pub rest : KeepsRest s.ports b b'

@@ -3,6 +3,7 @@ ghost use Rattle.segment_plan.specs.Sound.{IsPlan};
 ghost use Rattle.run_book.specs.Book.{IsNew};
 ghost use Rattle.std.specs.Bool.{OnTrue, OnFalse};
 ghost use Rattle.run_record.specs.Session.{session_rows, are_at_rest};
+ghost use Rattle.run_record.specs.Led.{AreLed};
 ghost use Rattle.run_record.specs.Ran.{HasFrames, EndsSo, EndsAs};
 
 use crate::session::Session;
@@ -30,6 +31,7 @@ fn run_through(alloc: Global, plan: &Scenario, book: &mut Book) -> Result<Ending
     requires plan { IsPlan plan.now }
     requires new { IsNew book.old }
     ensures frames { HasFrames plan.now book.new }
+    ensures led { AreLed plan.now book.new.frames }
     ensures ends { IfOk result (EndsAs plan.now book.new) }
     ensures ending { IfOk result (λ ending. book.new.ending ≡ ending) }
     ensures serving { book.new.serving ≡ false }
@@ -52,6 +54,7 @@ pub fn run(alloc: Global, plan: &Scenario, book: &mut Book) -> Ending
     requires plan { IsPlan plan.now }
     requires new { IsNew book.old }
     ensures frames { HasFrames plan.now book.new }
+    ensures led { AreLed plan.now book.new.frames }
     ensures ends { EndsAs plan.now book.new result }
     ensures ending { book.new.ending ≡ result }
     ensures serving { book.new.serving ≡ false }

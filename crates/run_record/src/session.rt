@@ -1,4 +1,4 @@
-ghost use Rattle.std.specs.Prelude.{◌≡◌, ◌≢◌, ◌<◌, ◌≤◌, ◌==◌, ◌++◌, ◌∷◌, ◌⊎◌, ◌↔◌, [], ℕ, length, map, Ok, Some, IfOk, OnOk, OnErr, All, true, false, slice_get};
+ghost use Rattle.std.specs.Prelude.{◌≡◌, ◌≢◌, ◌<◌, ◌≤◌, ◌==◌, ◌++◌, ◌∷◌, ◌⊎◌, ◌↔◌, [], ℕ, List, vec_len, length, map, Ok, Some, IfOk, OnOk, OnErr, All, true, false, slice_get};
 ghost use Rattle.std.specs.Bool.{OnTrue, OnFalse};
 ghost use Rattle.std.specs.List.{list_any};
 ghost use Rattle.run_record.specs.Notes.{has_given_up, stations_of};
@@ -6,6 +6,13 @@ ghost use Rattle.segment_plan.specs.Sound.{IsPlan, IsLaid, IsSlave};
 ghost use Rattle.slave_server.specs.Spec.{node_of};
 ghost use Rattle.run_book.specs.declared.book.SentFrame.{SentFrame as Recorded};
 ghost use Rattle.run_book.specs.declared.book.Ending.TheVariants as endings;
+ghost use Rattle.frame_view.specs.View.{Lens};
+ghost use Rattle.frame_view.specs.Seen.{seen};
+ghost use Rattle.life_runs.specs.Led.{Exchanged, Turn, led_behind, gives_up_at, missed_behind};
+ghost use Rattle.master_node.specs.Shows.{MasterShows, MasterUnder};
+ghost use Rattle.segment_model.specs.Returned.{Returns};
+ghost use Rattle.segment_ring.specs.declared.wire.Fate.TheVariants as Fates;
+ghost use Rattle.run_record.specs.Led.{Leading};
 ghost use Rattle.run_record.specs.Replay.{first_ring};
 ghost use Rattle.run_record.specs.Session.{budget_of, smaller_bound, slave_row, rests_at, slave_rows, session_rows, first_session, are_at_rest, some_given_up, KeepsRest, Steps, Stops, Asks};
 
@@ -48,7 +55,7 @@ impl Model for Session {
 
     ghost Value = { SessionState };
 
-    ghost view = { λ s. record { ring = s.ring; notes = s.log.notes; homes = s.log.homes; asked = s.log.asked; waiting = map waiting_of s.master.posts.items; ports = 1 + length s.log.ports; recover = s.log.recover; budget = s.budget; serving = s.serving } };
+    ghost view = { λ s. record { ring = s.ring; notes = s.log.notes; homes = s.log.homes; asked = s.log.asked; waiting = map waiting_of s.master.posts.items; master = s.master; ports = 1 + length s.log.ports; recover = s.log.recover; budget = s.budget; serving = s.serving } };
 
     ghost invariant = { λ s. (s.number ≡ s.ring.number) × (s.number ≤ s.budget) × (s.budget ≤ 100000000) × (length s.log.notes ≡ length s.ring.nodes) × (length s.ring.nodes ≤ 16) × (length s.log.homes ≡ length s.ring.nodes) × (length s.log.asked ≡ length s.ring.nodes) × (vec_len s.master.posts ≡ length s.ring.nodes) };
 }
@@ -188,11 +195,24 @@ fn put_frame(
     book.frames.add(SentFrame { sent, fate, back })
 }
 
+// The master gets its frame back, or learns that it is lost: it goes on leading its slaves.
+fn tell(master: &mut MasterNode, fate: Fate, back: &FrameBuf)
+    ensures posts { vec_len master.new.posts ≡ vec_len master.old.posts }
+    ensures leads { (lens : ℕ → Lens) (recover retry missed number : ℕ) (us : List Turn) (f : Exchanged) → f.fate ≡ fate → f.back ≡ back.now.items → MasterUnder lens recover retry master.old f.sent missed us →
+        (fate ≡ Fates.Pass → Returns (seen lens f.sent) (seen lens back.now.items)) → MasterShows lens recover retry master.new (missed_behind lens recover retry f.fate missed) (map (led_behind lens recover retry (gives_up_at lens recover retry missed) number f) us) }
+{
+    match fate {
+        Fate::Pass => master.returned(back),
+        Fate::Lost { .. } => master.lost(),
+    }
+}
+
 impl Session {
     /// A run of the plan before its first frame, or a serving of it that hears so many datagrams.
     pub fn begin(alloc: Global, plan: &Scenario, grams: u32) -> Result<Session, NoMemory>
         requires { IsPlan plan.now }
-        ensures { IfOk result (λ session. session ≡ first_session plan.now grams) }
+        ensures session { IfOk result (λ session. session ≡ first_session plan.now grams session.master) }
+        ensures leads { IfOk result (λ session. Leading plan.now session.master []) }
     {
         Ok(Session {
             master: MasterNode::new(alloc, plan)?,
@@ -299,22 +319,12 @@ impl Session {
         let fate = self.ring.exchange(&self.sent, &mut self.back);
         self.number += 1;
         put_frame(alloc, &self.sent, fate, &self.back, book)?;
-        self.tell(fate);
+        tell(&mut self.master, fate, &self.back);
         let behind = Moment {
             frame,
             sent: frame + 1,
         };
         self.log.note(alloc, &self.master, behind, book)
-    }
-
-    // The master gets its frame back, or learns that it is lost.
-    fn tell(&mut self, fate: Fate)
-        ensures { self.new ≡ record self.old { waiting = self.new.waiting } }
-    {
-        match fate {
-            Fate::Pass => self.master.returned(&self.back),
-            Fate::Lost { .. } => self.master.lost(),
-        }
     }
 
     /// What happened in the last step.

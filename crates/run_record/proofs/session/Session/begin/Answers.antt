@@ -6,6 +6,7 @@ use Rattle.slave_server.specs.Spec.{node_of}
 use Rattle.slave_server.specs.declared.server.SlaveServer.{SlaveServer}
 use Rattle.run_record.specs.Session.{home_of}
 use Rattle.run_record.proofs.Firsts.{length_first}
+use Rattle.run_record.proofs.Leads.{begins}
 use Rattle.run_record.proofs.session.Session.begin.Goals as goal
 
 pub invariant_of-result : goal.invariant_of-result
@@ -22,3 +23,6 @@ invariant_of-result c =
       ap length c.in_ok-new-2.ensures.asked ∙ length-replicate (length c.args.plan.now.slaves) [] ∙ sym nodes,
       c.in_ok-new.ensures.posts ∙ sym nodes,
     )
+
+pub returns-clause-leads : goal.returns-clause-leads
+returns-clause-leads c = begins c.args.plan.now c.in_ok-new.value c.in_ok-new.ensures.leads
