@@ -12,6 +12,9 @@ returns-in_err-step-clause-frames c =
     let no : c.spent.result ≡ false = search rules in
     stopped c.args.plan.now 0 s c.loop-settled.book c.step.new.book under (still_left s.ring.number s.budget c.spent.result c.spent.ensures.value no under.few) c.in_err-step.ensures.err
 
+pub returns-in_err-session-clause-led : goal.returns-in_err-session-clause-led
+returns-in_err-session-clause-led c = none_led c.args.plan.now c.args.book.now.frames c.requires.new.frames
+
 pub returns-in_err-step-clause-led : goal.returns-in_err-step-clause-led
 returns-in_err-step-clause-led c =
     let plan = c.args.plan.now in

@@ -25,4 +25,4 @@ invariant_of-result c =
     )
 
 pub returns-clause-leads : goal.returns-clause-leads
-returns-clause-leads c = begins c.args.plan.now c.in_ok-new.value c.in_ok-new.ensures.leads
+returns-clause-leads c = begins c.args.plan.now _ c.in_ok-new.ensures.leads
