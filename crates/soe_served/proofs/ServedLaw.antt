@@ -56,12 +56,11 @@ module _ {S : Type 0} (o : Elements S) (lawful : AreLawful o) (areas : Areas) (s
         (subst (λ l. Carried o areas.back (waiting o areas.back v t kept) (fragments fuel 3 t part back) (left_by v.app (o.write v.app t l)) (answer_to t (o.write v.app t l))) all rest))
   ]
 
-  gives : Server S → Service → List SoeMail
+  abbrev pub gives : Server S → Service → List SoeMail
   gives v (read t) = answer_to_read o lawful areas sized t (o.read v.app t)
   gives v (write t bytes) = answer_to t (o.write v.app t (take most (ahead_of v.join t ++ bytes)))
 
-  kept : (v : Server S) (q : Service) → Carried o areas.back v (mails_of areas.out q) (meaning_of o v.app (met v.join q)).app (gives v q)
-  unfolding gives
+  pub kept : (v : Server S) (q : Service) → Carried o areas.back v (mails_of areas.out q) (meaning_of o v.app (met v.join q)).app (gives v q)
   kept v (read t) =
       subst (λ a. Carried o areas.back v (mails_of areas.out (read t)) a (answer_to_read o lawful areas sized t (o.read v.app t))) (sym (read_app o lawful areas sized v.app (o.read v.app t))) (read_carried o lawful areas sized v t (o.read v.app t) refl)
   kept v (write t bytes) =
@@ -70,7 +69,6 @@ module _ {S : Type 0} (o : Elements S) (lawful : AreLawful o) (areas : Areas) (s
       (writes_on (suc (length bytes)) (areas.out - 10) v t (ahead_of v.join t) bytes (omega (arith, least)) (omega arith) (λ incomplete field octets. came_of v.join t incomplete field octets))
 
   replies : (v : Server S) (q : Service) → o.valid v.app ≡ true → ends q (gives v q) ≡ Some (meaning_of o v.app (met v.join q)).reply
-  unfolding gives
   replies v (read t) fine = value_replied o lawful areas sized t v.app (o.read v.app t) fine refl
   replies v (write t bytes) fine = write_replied o lawful areas sized t (take most (ahead_of v.join t ++ bytes)) v.app (o.write v.app t (take most (ahead_of v.join t ++ bytes))) fine refl
 

@@ -1,0 +1,5 @@
+pub mod WholeLaw
+pub mod SpelledLaw
+pub mod RefusedLaw
+pub mod JoinedLaw
+pub mod StatesLaw

@@ -1,0 +1,63 @@
+-- Each mail of a service brings a reply at last, but for the acknowledgement of a file that is read, whatever server it meets.
+use Rattle.std.proofs.Common.{◌≡◌, inl, inr, ℕ, Bool, true, false, List, [], ◌∷◌, ◌++◌, Option, Some, None, refl, sym, ap, ◌∙◌, subst}
+use Rattle.std.specs.Prelude.{if◌then◌else◌}
+use Rattle.link_mails.specs.Body.{Body}
+use Rattle.exchange_model.specs.Areas.{Areas, AreMailboxes}
+use Rattle.exchange_model.specs.Exchange.{Exchange, AnswersLast, given, plain}
+use Rattle.exchange_model.specs.Lifted.{EachOf}
+use Rattle.exchange_model.proofs.Lasts.{lifted_last}
+use Rattle.exchange_sum.specs.Refusing.{Refusal}
+use Rattle.exchange_sum.specs.Sides.{Slave}
+use Rattle.exchange_sum.proofs.RefusingLaw.{snoc_cut, each_front}
+use Rattle.serving_model.specs.Tagged.{IsServed}
+use Rattle.serving_sum.specs.Whole.{refusing_whole, gated_whole, IsRefusedWhole}
+use Rattle.serving_sum.specs.Sides.{IsWholeSide, joined_whole}
+use Rattle.serving_sum.proofs.RefusedLaw.{quiet_given, replies}
+use Rattle.serving_sum.proofs.JoinedLaw.{plain_whole, mine_full, mine_part, told_full, told_part}
+use Rattle.soe_model.specs.Elements.{Elements, AreLawful}
+use Rattle.soe_model.specs.Mails.{is_emission}
+use Rattle.soe_model.specs.Client.{ends}
+use Rattle.soe_served.specs.Served.{soe_served}
+use Rattle.soe_served.proofs.ServedLaw.{kept, soe_is_served}
+
+module _ {S : Type 0} (o : Elements S) (lawful : AreLawful o) (areas : Areas) (sized : AreMailboxes areas) where
+  pub soe_last : AnswersLast (soe_served o areas) (λ q. false)
+  soe_last v q fine valid answers quiet p [] e same = refl
+  soe_last v q fine valid answers quiet p (h ∷ r) e same =
+      let l = soe_is_served o lawful areas sized in
+      let idle = (kept o lawful areas sized v q).late p h r e in
+      let whole = l.replied v q fine valid refl in
+      let begun = ap (ends q) (ap (plain is_emission) (sym idle.given) ∙ same) ∙ whole in
+      let none = l.none q in
+      absurd (cc)
+
+module _ {V M Q R C : Type 0} (x : Exchange V V M Q R) (core : V → C) (r : Refusal V M Q R) (law : IsServed x core) (is : IsRefusedWhole x core r) (acknowledged : Q → Bool) where
+  refused_last : AnswersLast (refusing_whole x r) acknowledged
+  refused_last v q ready valid answers quiet p rest e same =
+      let a = is.asked q valid in
+      elim (snoc_cut a.front a.last p rest (sym a.mails ∙ e)) [
+        | inl front ↦
+            let none : plain x.speech.emission (given (refusing_whole x r).serve v p) ≡ [] =
+            ap (plain x.speech.emission) (quiet_given x core r law is v p (each_front _ p front.0 (subst (EachOf (λ m. (r.counts m ≡ false) × (r.gives m ≡ []))) front.1 a.quiet))) in
+            let some : plain x.speech.emission (given (refusing_whole x r).serve v (r.asked q)) ≡ r.refusal ∷ [] =
+            replies x core r law is v (x.speech.handed q) (r.asked q) a ∙ ap (λ (b : Bool). if b then [] else r.refusal ∷ []) answers in
+            let impossible : [] ≡ r.refusal ∷ [] = sym none ∙ same ∙ some in
+            absurd (cc)
+        | inr whole ↦ whole.1
+      ]
+
+  pub gated_last : AnswersLast x acknowledged → (b : Bool) → AnswersLast (gated_whole b x r) acknowledged
+  gated_last last true = last
+  gated_last last false = refused_last
+
+module _ {I J C M R : Type 0} {V Q : I → Type 0} (s : Slave J C M) (x : (i : I) → Exchange (V i) (V i) M (Q i) R) (core : (i : I) → V i → C) (seat : (i : I) → J → V i) (reseat : (i : I) → J → V i → J)
+    (side : (i : I) → IsWholeSide s (x i) (core i) (seat i) (reseat i)) (acknowledged : (i : I) → Q i → Bool) (last : (i : I) → AnswersLast (x i) (acknowledged i)) where
+  pub joined_last : AnswersLast (joined_whole s x seat reseat) (λ q. acknowledged q.0 q.1)
+  joined_last j q ready valid answers quiet p rest e same =
+      let i = q.0 in
+      let mine = mine_part s (x i) (core i) (seat i) (reseat i) (side i) j q.1 ready valid p rest e in
+      let part = told_part s (x i) (core i) (seat i) (reseat i) (side i) j q.1 ready valid p rest e in
+      let mails = mine_full s (x i) (core i) (seat i) (reseat i) (side i) j q.1 ready valid in
+      let all = told_full s (x i) (core i) (seat i) (reseat i) (side i) j q.1 ready valid in
+      last i (seat i j) q.1 ((side i).ready j ready) valid answers quiet p rest e
+      (sym (plain_whole s (x i) (core i) (seat i) (reseat i) (side i) j p mine part) ∙ same ∙ plain_whole s (x i) (core i) (seat i) (reseat i) (side i) j ((x i).full (seat i j) q.1) mails all)
