@@ -1,5 +1,5 @@
 -- What waits to come into hand: the script of a slave, and what is laid ready.
-use Rattle.std.specs.Prelude.{ℕ, List, Option, Some, None, slice_get}
+use Rattle.std.specs.Prelude.{ℕ, suc, List, Option, Some, None, slice_get}
 use Rattle.exchange_model.specs.Areas.{Areas}
 use Rattle.eoe_model.specs.Client as EoeClient
 use Rattle.segment_plan.specs.declared.service.Service.{Service}
@@ -33,3 +33,21 @@ ready_by Laid.Mail w = Some (passed (mail_of w.mail))
 
 abbrev pub ready_of : Waiting → Option Asked
 ready_of w = ready_by w.laid w
+
+-- a script, and the number of its next service
+pub record Scripted : Type 0 where
+  pub script : List Service
+  pub number : ℕ
+
+abbrev pub scripted : Waiting → Scripted
+scripted w = record { script = w.script; number = w.number }
+
+-- that number, once what is laid ready has come into hand
+abbrev pub number_behind : Laid → ℕ → ℕ
+number_behind Laid.Nothing n = n
+number_behind Laid.Script n = suc n
+number_behind Laid.Packet n = n
+number_behind Laid.Mail n = n
+
+abbrev pub scripted_behind : Waiting → Scripted
+scripted_behind w = record { script = w.script; number = number_behind w.laid w.number }

@@ -6,7 +6,7 @@ use Rattle.link_mails.specs.Body.{Body}
 use Rattle.master_duty.specs.Reply.{Reply}
 use Rattle.master_hand.specs.Spoken.{Asked, hand_speech}
 use Rattle.master_hand.specs.Grips.{Going}
-use Rattle.master_hand.specs.Talk.{Talking, IsOf, client_later, client_awaits}
+use Rattle.master_hand.specs.Talk.{Talking, IsOf, is_mail, client_later, client_awaits}
 use Rattle.master_hand.specs.declared.course.Course.{Course}
 use Rattle.master_hand.specs.declared.clients.Which.{Which}
 
@@ -20,6 +20,13 @@ HandShows Course.Astray which c now = ⊤
 -- WHAT A HAND SHOWS, of the speech of its slave
 abbrev pub Shows : Course → Which → Talking → Speech Body Asked Reply → Option (Row Body Asked Reply) → Type 0
 Shows course which c x now = (x ≡ hand_speech c.areas) × HandShows course which c now
+
+-- the newest service is a mail that is passed on
+abbrev pub is_passing : Course → Which → Bool
+is_passing Course.Nothing which = false
+is_passing Course.Goes which = is_mail which
+is_passing Course.Answered which = is_mail which
+is_passing Course.Astray which = is_mail which
 
 -- the reply of a service that is answered is there
 abbrev pub is_answered : Course → Which → Talking → Bool

@@ -144,3 +144,11 @@ hand_speech areas = record { emission = emission; valid = valid areas; planned =
 abbrev pub acknowledged : Asked → Bool
 acknowledged (file q) = FoeMeaning.is_file_read q
 acknowledged _ = false
+
+-- a mail that is passed on
+abbrev pub is_passed : Asked → Bool
+is_passed (sdo q) = false
+is_passed (file q) = false
+is_passed (drive q) = false
+is_passed (net q) = false
+is_passed (passed m) = true

@@ -50,6 +50,11 @@ is_handed Which.Packet = true
 is_handed Which.Passed = true
 is_handed _ = false
 
+-- a mail that is passed on
+abbrev pub is_mail : Which → Bool
+is_mail Which.Passed = true
+is_mail _ = false
+
 -- a read of a file ends with an acknowledgement
 abbrev pub is_read : Which → Bool
 is_read Which.ReadFile = true

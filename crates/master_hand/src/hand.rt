@@ -42,6 +42,7 @@ impl InHand {
     ghost use Rattle.master_hand.specs.Talk.{client_later, is_handed};
     ghost use Rattle.master_hand.specs.Shown.{Shows, HandShows};
     ghost use Rattle.master_hand.specs.declared.course.Course.{Course};
+    ghost use Rattle.master_hand.specs.declared.laying.Laid.{Laid};
 
     /// No service came into hand yet. The hand owns the scripted services of its slave, in order, and takes all its memory here.
     pub fn new(
@@ -55,9 +56,11 @@ impl InHand {
         requires in_least { 64 ≤ in_len }
         requires in_most { in_len ≤ 1486 }
         requires sound { All IsService script }
+        requires few { length script ≤ 4096 }
         ensures areas { IfOk result (λ h. h.clients.areas ≡ record { out = out_len; back = in_len }) }
         ensures shown { IfOk result (λ h. Shows h.course h.which h.clients (hand_speech (record { out = out_len; back = in_len })) None) }
         ensures script { IfOk result (λ h. (h.laying.script ≡ script) × (h.laying.number ≡ 0)) }
+        ensures laid { IfOk result (λ h. h.laying.laid ≡ Laid.Nothing) }
     {
         Ok(InHand {
             clients: Clients::new(alloc, out_len, in_len)?,
@@ -73,6 +76,7 @@ impl InHand {
     fn stray(&mut self) -> Heard
         ensures course { self.new.course ≡ Course.Astray }
         ensures areas { self.new.clients.areas ≡ self.old.clients.areas }
+        ensures laying { self.new.laying ≡ self.old.laying }
     {
         self.course = Course::Astray;
         Heard::Foreign
@@ -85,6 +89,7 @@ impl InHand {
         ensures shown { (frame : ℕ) (now : Option (Row Body Asked Reply)) → emission (body_of (mail_seen mail.now)) ≡ false → HandShows self.old.course self.old.which self.old.clients now →
             HandShows self.new.course self.new.which self.new.clients (option_map (λ r. row_heard (hand_speech self.old.clients.areas) frame (body_of (mail_seen mail.now) ∷ []) r) now) }
         ensures areas { self.new.clients.areas ≡ self.old.clients.areas }
+        ensures laying { self.new.laying ≡ self.old.laying }
     {
         self.found.keep(mail);
         let took = self.clients.take(self.which, &self.found.mail);
@@ -117,10 +122,10 @@ impl InHand {
 }
 
 impl Hand for InHand {
-    ghost use Rattle.master_hand.specs.Spoken.{Asked, acknowledged};
+    ghost use Rattle.master_hand.specs.Spoken.{Asked, acknowledged, is_passed};
     ghost use Rattle.master_hand.specs.Passed.{mail_of};
-    ghost use Rattle.master_hand.specs.Laying.{ready_of};
-    ghost use Rattle.master_hand.specs.Shown.{Shows};
+    ghost use Rattle.master_hand.specs.Laying.{ready_of, Scripted, scripted, scripted_behind};
+    ghost use Rattle.master_hand.specs.Shown.{Shows, is_passing};
     ghost use Rattle.master_hand.specs.Quiet.{quiet_shown};
 
     ghost Asked = { Asked };
@@ -134,6 +139,16 @@ impl Hand for InHand {
     ghost ready = { λ h. ready_of h.laying };
 
     ghost taken = { λ h. mail_of h.held };
+
+    ghost Script = { Scripted };
+
+    ghost script = { λ h. scripted h.laying };
+
+    ghost behind = { λ h. scripted_behind h.laying };
+
+    ghost passed = { is_passed };
+
+    ghost passes = { λ h. is_passing h.course h.which };
 
     ghost quiet = { λ h x frame now s. quiet_shown h.course h.which h.clients x frame now s };
 

@@ -1,8 +1,8 @@
-ghost use Rattle.std.specs.Prelude.{◌≡◌, ◌≤◌, ◌+◌, All, true, length, slice_get};
+ghost use Rattle.std.specs.Prelude.{◌≡◌, ◌≤◌, ◌<◌, ◌+◌, suc, All, IsSome, is_some, if◌then◌else◌, true, length, slice_get};
 ghost use Rattle.std.specs.Option.{option_copied};
 ghost use Rattle.segment_plan.specs.Sound.{IsService};
 ghost use Rattle.master_hand.specs.Talk.{Begins, is_askable};
-ghost use Rattle.master_hand.specs.Laying.{asked_next, ready_of};
+ghost use Rattle.master_hand.specs.Laying.{asked_next, ready_of, scripted, scripted_behind};
 ghost use Rattle.master_hand.specs.declared.laying.Laid.{Laid};
 
 use crate::clients::{Clients, Which};
@@ -47,7 +47,7 @@ impl Model for Laying {
 
     ghost view = { λ l. record { areas = record { out = l.out_len; back = l.in_len }; script = l.script; number = l.number; laid = l.laid; packet = l.packet.items; frame = l.frame; mail = l.mail } };
 
-    ghost invariant = { λ l. All IsService l.script × (14 ≤ length l.packet.items) × (length l.packet.items ≤ 1514) × (l.frame < 16) × (6 + length l.mail.body.items ≤ l.out_len) };
+    ghost invariant = { λ l. All IsService l.script × (length l.script ≤ 4096) × (14 ≤ length l.packet.items) × (length l.packet.items ≤ 1514) × (l.frame < 16) × (6 + length l.mail.body.items ≤ l.out_len) };
 }
 
 impl Laying {
@@ -55,6 +55,7 @@ impl Laying {
     pub fn new(out_len: u16, in_len: u16, script: Rows<Service>) -> Laying
         requires least { 64 ≤ out_len }
         requires sound { All IsService script }
+        requires few { length script ≤ 4096 }
         ensures areas { result.areas ≡ record { out = out_len; back = in_len } }
         ensures script { (result.script ≡ script) × (result.number ≡ 0) }
         ensures laid { result.laid ≡ Laid.Nothing }
@@ -87,7 +88,8 @@ impl Laying {
 
     /// The service behind it comes next.
     pub fn pass_by(&mut self)
-        ensures { self.new.areas ≡ self.old.areas }
+        ensures areas { self.new.areas ≡ self.old.areas }
+        ensures next { self.old.number < length self.old.script → self.new ≡ record self.old { number = suc self.old.number } }
     {
         self.number = self.number.saturating_add(1);
     }
@@ -131,6 +133,7 @@ impl Laying {
         ensures begins { Begins result (asked_next self.now.areas.out (slice_get self.now.script self.now.number)) clients.old clients.new }
         ensures askable { is_askable self.now.areas (asked_next self.now.areas.out (slice_get self.now.script self.now.number)) ≡ true }
         ensures areas { clients.new.areas ≡ clients.old.areas }
+        ensures inside { is_some result ≡ true → self.now.number < length self.now.script }
     {
         match self.script.get(self.number as usize) {
             None => None,
@@ -144,6 +147,8 @@ impl Laying {
         ensures begins { Begins result (asked_next self.old.areas.out (slice_get self.old.script self.old.number)) clients.old clients.new }
         ensures askable { is_askable self.old.areas (asked_next self.old.areas.out (slice_get self.old.script self.old.number)) ≡ true }
         ensures areas { (clients.new.areas ≡ clients.old.areas) × (self.new.areas ≡ self.old.areas) }
+        ensures script { self.new.script ≡ self.old.script }
+        ensures number { self.new.number ≡ (if is_some result then suc self.old.number else self.old.number) }
     {
         let began = self.start_next(clients);
         if began.is_some() {
@@ -159,6 +164,7 @@ impl Laying {
         ensures begins { Begins result (ready_of self.old) clients.old clients.new }
         ensures askable { is_askable self.old.areas (ready_of self.old) ≡ true }
         ensures areas { (clients.new.areas ≡ clients.old.areas) × (self.new.areas ≡ self.old.areas) }
+        ensures script { scripted self.new ≡ scripted self.old }
     {
         clients.start_packet(&self.packet, self.frame);
         self.frame = (self.frame + 1) % 16;
@@ -172,6 +178,7 @@ impl Laying {
         ensures begins { Begins result (ready_of self.old) clients.old clients.new }
         ensures askable { is_askable self.old.areas (ready_of self.old) ≡ true }
         ensures areas { (clients.new.areas ≡ clients.old.areas) × (self.new.areas ≡ self.old.areas) }
+        ensures script { scripted self.new ≡ scripted self.old }
     {
         clients.start_mail(&self.mail);
         Some(Which::Passed)
@@ -183,6 +190,8 @@ impl Laying {
         ensures begins { Begins result (ready_of self.old) clients.old clients.new }
         ensures askable { is_askable self.old.areas (ready_of self.old) ≡ true }
         ensures areas { (clients.new.areas ≡ clients.old.areas) × (self.new.areas ≡ self.old.areas) }
+        ensures script { scripted self.new ≡ (if is_some result then scripted_behind self.old else scripted self.old) }
+        ensures laid { self.new.laid ≡ Laid.Nothing }
     {
         let began = match self.laid {
             Laid::Nothing => None,

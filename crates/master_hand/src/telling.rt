@@ -1,4 +1,4 @@
-ghost use Rattle.std.specs.Prelude.{◌≡◌, ◌≤◌, ◌+◌, ◌++◌, ℕ, [], length, slice_get, IfSome, Option, Some, OnOk, OnErr};
+ghost use Rattle.std.specs.Prelude.{◌≡◌, ◌≤◌, ◌<◌, ◌+◌, ◌++◌, ℕ, suc, [], length, slice_get, IfSome, Option, Some, OnOk, OnErr};
 ghost use Rattle.std.specs.Option.{option_copied};
 ghost use Rattle.master_hand.specs.Talk.{client_awaits, value_of};
 ghost use Rattle.exchange_model.specs.Exchange.{Speech};
@@ -37,7 +37,8 @@ impl InHand {
 
     /// The next scripted service is a change of state, which another has in hand: the one behind it comes next.
     pub fn pass_by(&mut self)
-        ensures { SameHand self.old.course self.old.which self.old.clients self.new.course self.new.which self.new.clients }
+        ensures kept { SameHand self.old.course self.old.which self.old.clients self.new.course self.new.which self.new.clients }
+        ensures next { self.old.laying.number < length self.old.laying.script → self.new.laying ≡ record self.old.laying { number = suc self.old.laying.number } }
     {
         self.laying.pass_by();
     }

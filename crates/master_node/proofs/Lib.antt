@@ -1,3 +1,15 @@
 pub mod Places
 pub mod Ports
 pub mod Script
+pub mod Lists
+pub mod Kepts
+pub mod Goings
+pub mod Firsts
+pub mod Lefts
+pub mod Cames
+pub mod Behinds
+pub mod Tells
+pub mod Fills
+pub mod Visits
+pub mod Filleds
+pub mod Sents

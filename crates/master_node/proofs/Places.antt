@@ -2,11 +2,7 @@
 use Rattle.std.proofs.Common.{◌≡◌, ◌<◌, ℕ, zero, suc, List, [], ◌∷◌, Bool, ap, ◌∙◌, arith, length, get_or}
 use Rattle.master_node.specs.declared.post.Post.{Post}
 use Rattle.master_node.specs.Lives.{holds_at, waiting_at}
-
-pub holds_here : {S : Type 0} (test : S → Bool) (ss : List S) (place : ℕ) (s : S) → place < length ss → s ≡ get_or ss place s → test s ≡ holds_at test ss place
-holds_here test [] place s l e = absurd (omega (arith, l))
-holds_here test (x ∷ xs) zero s l e = ap test e
-holds_here test (x ∷ xs) (suc place) s l e = holds_here test xs place s (omega (arith, l)) e
+use Rattle.master_tour.proofs.Goes.{holds_here}
 
 pub tested_here : {S : Type 0} (test : S → Bool) (ss : List S) (place : ℕ) (s : S) (r : Bool) → place < length ss → s ≡ get_or ss place s → r ≡ test s → r ≡ holds_at test ss place
 tested_here test ss place s r l e t = t ∙ holds_here test ss place s l e

@@ -1,5 +1,5 @@
 -- The script of a slave.
-use Rattle.std.proofs.Common.{◌≡◌, ◌<◌, ◌+◌, ℕ, List, [], ◌∷◌, ◌++◌, Bool, true, false, refl, sym, ap, ◌∙◌, subst, length, take, get_or}
+use Rattle.std.proofs.Common.{◌≡◌, ◌<◌, ◌≤◌, ◌+◌, ℕ, suc, List, [], ◌∷◌, ◌++◌, Bool, true, false, refl, sym, ap, ◌∙◌, subst, length, take, get_or, arith}
 use Rattle.std.specs.Prelude.{◌==◌, if◌then◌else◌, All}
 use Rattle.std.proofs.lemmas.List.{take_more}
 use Rattle.std.proofs.lemmas.List.Elements.{All-nil, All-cons, All-head, All-tail}
@@ -36,3 +36,12 @@ script_sound slaves slave (row ∷ rows) h =
       | true ↦ All-cons IsService row.1 (script_for slave rows) (All-head (IsAddressed slaves) row rows h).service (script_sound slaves slave rows (All-tail (IsAddressed slaves) row rows h))
       | false ↦ script_sound slaves slave rows (All-tail (IsAddressed slaves) row rows h)
     ]
+
+-- it is no longer than all of them
+pub script_few : (slave : ℕ) (rows : List (ℕ × Service)) → length (script_for slave rows) ≤ length rows
+script_few slave [] = omega arith
+script_few slave (row ∷ rows) = go (row.0 == slave) (script_few slave rows)
+  where
+    go : (b : Bool) → length (script_for slave rows) ≤ length rows → length (if b then row.1 ∷ script_for slave rows else script_for slave rows) ≤ suc (length rows)
+    go true l = omega (arith, l)
+    go false l = omega (arith, l)

@@ -2,4 +2,8 @@ pub mod Listed
 pub mod Lives
 pub mod Ported
 pub mod Scripts
-pub mod Stands
+pub mod Shows
+pub mod Kept
+pub mod Coming
+pub mod First
+pub mod Filling

@@ -1,6 +1,8 @@
 //! Services that are laid ready in the hand of a slave's side, and what its side has to tell.
 
-ghost use Rattle.std.specs.Prelude.{◌≡◌, ◌≤◌, length};
+ghost use Rattle.std.specs.Prelude.{◌≡◌, ◌≤◌, ◌<◌, suc, length};
+ghost use Rattle.master_hand.specs.declared.laying.Laid.{Laid};
+ghost use Rattle.master_node.specs.Kept.{SideKept};
 
 use eoe::Packet;
 use mailbox_mail::Mail;
@@ -11,37 +13,48 @@ use master_side::{Heard, Side};
 /// A packet is laid ready.
 pub fn lay_packet(side: &mut Side<InHand>, packet: &Packet)
     requires { 14 ≤ length packet.now.items }
-    ensures { side.new.station ≡ side.old.station }
+    ensures kept { SideKept side.old.hand.laying.number side.old side.new }
+    ensures laid { side.new.hand.laying.laid ≡ Laid.Packet }
 {
     side.hand.lay_packet(packet);
 }
 
 /// A mail that is passed on is laid ready, if it fits the slave's mailbox.
 pub fn lay_mail(side: &mut Side<InHand>, mail: &Mail)
-    ensures { side.new.station ≡ side.old.station }
+    ensures { SideKept side.old.hand.laying.number side.old side.new }
 {
     if 6 + mail.body.len() <= side.out_len as usize {
         side.hand.lay_mail(mail);
     }
 }
 
+/// Nothing is laid ready.
+pub fn lay_nothing(side: &mut Side<InHand>)
+    ensures kept { SideKept side.old.hand.laying.number side.old side.new }
+    ensures laid { side.new.hand.laying.laid ≡ Laid.Nothing }
+{
+    side.hand.laying.forget();
+}
+
 /// The next scripted service is laid ready.
 pub fn lay_script(side: &mut Side<InHand>)
-    ensures { side.new.station ≡ side.old.station }
+    ensures kept { SideKept side.old.hand.laying.number side.old side.new }
+    ensures laid { side.new.hand.laying.laid ≡ Laid.Script }
 {
     side.hand.lay_script();
 }
 
 /// The scripted service behind the next comes next.
 pub fn pass_by(side: &mut Side<InHand>)
-    ensures { side.new.station ≡ side.old.station }
+    ensures kept { side.old.hand.laying.number < length side.old.hand.laying.script → SideKept (suc side.old.hand.laying.number) side.old side.new }
+    ensures station { side.new.station ≡ side.old.station }
 {
     side.hand.pass_by();
 }
 
 /// What the mail was that the last returned frame brought, told once.
 pub fn heard_once(side: &mut Side<InHand>) -> Option<Heard>
-    ensures { side.new.station ≡ side.old.station }
+    ensures { SideKept side.old.hand.laying.number side.old side.new }
 {
     let heard = side.heard;
     side.heard = None;
@@ -50,7 +63,7 @@ pub fn heard_once(side: &mut Side<InHand>) -> Option<Heard>
 
 /// How the last returned frame ended a state service, told once.
 pub fn met_once(side: &mut Side<InHand>) -> Option<Met>
-    ensures { side.new.station ≡ side.old.station }
+    ensures { SideKept side.old.hand.laying.number side.old side.new }
 {
     let met = side.met;
     side.met = None;

@@ -3,6 +3,7 @@
 //! but [`MasterNode::new`] and [`MasterNode::value`] takes memory.
 #![tactic(auto)]
 
+mod coming;
 mod copies;
 mod event;
 mod lan;

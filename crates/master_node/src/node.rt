@@ -1,18 +1,17 @@
 ghost use Rattle.std.specs.Prelude.{◌≡◌, ◌≤◌, vec_len};
-ghost use Rattle.master_node.specs.Stands.{is_live};
 
+use crate::coming::{Coming, scripted, wish_of};
 use crate::event::{Event, EventList, Origin};
 use crate::lan::Lan;
-use crate::laying::{lay_mail, lay_packet, lay_script, pass_by};
+use crate::laying::{lay_mail, lay_nothing, lay_packet, lay_script, pass_by};
 use crate::post::{Post, Work};
 use datagrams::FrameBuf;
 use ec_fields::{NoMemory, Octets};
 use mailbox_mail::{Mail, ReplyKind};
 use mailbox_master::InwardHalf;
 use master_hand::InHand;
-use master_side::{Side, Target, Wish};
-use master_tour::{Stand, Stop, Tour};
-use segment_plan::Service;
+use master_side::Side;
+use master_tour::{Stand, Tour};
 
 /// The most slaves of a segment.
 const SLAVES: usize = 16;
@@ -43,45 +42,6 @@ pub struct MasterNode {
     pub ghost few: { vec_len posts ≤ 16 },
 }
 
-/// What may come into hand at a visit.
-#[derive(Clone, Copy, Debug)]
-enum Coming {
-    /// A packet from the switch.
-    Packet,
-    /// A mail that is passed on.
-    Mail,
-    /// The next scripted service, by mails.
-    Script,
-    /// The next scripted service, a change of the AL state.
-    State(Target),
-}
-
-// What the slave's side is to wish.
-fn wish_of(coming: Option<Coming>) -> Option<Wish> {
-    match coming? {
-        Coming::Packet | Coming::Mail | Coming::Script => Some(Wish::Mails),
-        Coming::State(target) => Some(Wish::State(target)),
-    }
-}
-
-// What the script has next; a script hands over no packet. A control word has room for a state below 16.
-fn scripted(hand: &InHand) -> Option<Coming> {
-    match hand.scripted()? {
-        Service::Forward(_) => None,
-        Service::State { target } => Some(Coming::State(Target {
-            state: *target % 16,
-        })),
-        _ => Some(Coming::Script),
-    }
-}
-
-/// Whether a slave gets datagrams: it was not given up for good.
-fn is_live(stop: &Stop<InHand>) -> bool
-    ensures { result ≡ is_live stop.now.stand }
-{
-    !matches!(stop.stand, Stand::Gone)
-}
-
 // Whether a slave's link is at rest: no mail is held, and nothing is asked again.
 fn is_at_rest(side: &Side<InHand>) -> bool {
     side.out.is_idle() && matches!(side.inn, InwardHalf::Clear(_))
@@ -99,15 +59,29 @@ impl MasterNode {
     ghost use Rattle.std.specs.Prelude.{◌↔◌};
     ghost use Rattle.master_node.specs.Listed.{listed, listed_last};
     ghost use Rattle.master_node.specs.Lives.{holds_at, waiting_at};
-    ghost use Rattle.master_node.specs.Stands.{is_live};
+    ghost use Rattle.master_tour.specs.Goes.{is_live};
     ghost use Rattle.std.specs.List.{list_any};
     ghost use Rattle.master_node.specs.declared.node.Next.{Next};
+    ghost use Rattle.std.specs.Prelude.{All, IfSome, Some, slice_get};
+    ghost use Rattle.master_tour.specs.Walks.{StepsAt};
+    ghost use Rattle.master_node.specs.declared.coming.Coming.{Coming};
+    ghost use Rattle.master_node.specs.Shows.{WaitsNone};
+    ghost use Rattle.master_node.specs.Kept.{StopStays, TourKept, TourOn};
+    ghost use Rattle.master_node.specs.Coming.{next_of, IsComing, IsLaid, PassesBy, CameBy};
+    ghost use Rattle.std.specs.Prelude.{◌⊎◌, ◌+◌, ◌∷◌, [], nat_lt, map, if◌then◌else◌};
+    ghost use Rattle.frame_view.specs.View.{Lens};
+    ghost use Rattle.life_frames.specs.Shares.{AreDistinct};
+    ghost use Rattle.life_runs.specs.Led.{Leads, Turn, IsLedFrame};
+    ghost use Rattle.master_tour.specs.Made.{is_in};
+    ghost use Rattle.master_tour.specs.Orders.{IsCarried};
+    ghost use Rattle.master_node.specs.Shows.{lived_of, MasterShows, MasterUnder};
+    ghost use Rattle.master_node.specs.Filling.{IsFilling, IsEmpty, IsFilled};
 
     // Whether a slave is live.
     fn has_live(&self) -> bool
         ensures { result ≡ list_any (λ s. is_live s.stand) self.now.tour.stops.items }
     {
-        self.tour.stops.iter().any(|stop| is_live(stop))
+        self.tour.stops.iter().any(|stop| stop.is_live())
     }
 
     // Whether a live slave has a packet in hand.
@@ -122,7 +96,7 @@ impl MasterNode {
 
     // A packet of the host comes into the switch, where one may.
     fn admit(&mut self)
-        ensures { vec_len self.new.posts ≡ vec_len self.old.posts }
+        ensures same { (self.new.posts ≡ self.old.posts) × (self.new.tour ≡ self.old.tour) }
     {
         if self.tour.opened < self.tour.stops.len() || !self.lan.has_host() {
             return;
@@ -136,6 +110,7 @@ impl MasterNode {
     // something in hand takes nothing.
     fn coming(&self, place: usize) -> Option<Coming>
         requires { place < vec_len self.now.posts }
+        ensures { All WaitsNone self.now.posts.items → IfSome (slice_get self.now.tour.stops.items place) (λ s. IsComing (next_of s) result) }
     {
         let stop = &self.tour.stops[place];
         if !matches!(stop.stand, Stand::Open) || !stop.side.is_free() {
@@ -153,23 +128,26 @@ impl MasterNode {
     // The oldest packet that waits at the slave's port is laid ready.
     fn lay_packet(&mut self, place: usize)
         requires { place < vec_len self.old.posts }
-        ensures count { self.new.tour.count ≡ self.old.tour.count }
         ensures posts { vec_len self.new.posts ≡ vec_len self.old.posts }
+        ensures laid { StepsAt (λ s t. StopStays s t × IsLaid (Some Coming.Packet) t.side.hand.laying.laid) place self.old.tour.stops.items self.new.tour.stops.items }
+        ensures kept { TourKept self.old self.new × (All WaitsNone self.old.posts.items → All WaitsNone self.new.posts.items) }
     {
-        if let Some(packet) = self.lan.begin(place, &mut self.list) {
-            lay_packet(&mut self.tour.stops[place].side, &packet);
-        }
         let post = &mut self.posts[place];
         post.next = Work::Packet;
         post.origin = Origin::Forward(post.forwards);
         post.forwards = post.forwards.wrapping_add(1);
+        match self.lan.begin(place, &mut self.list) {
+            Some(packet) => lay_packet(&mut self.tour.stops[place].side, &packet),
+            None => lay_nothing(&mut self.tour.stops[place].side),
+        }
     }
 
     // The oldest mail that waits to be passed on is laid ready.
     fn lay_mail(&mut self, place: usize)
         requires { place < vec_len self.old.posts }
-        ensures count { self.new.tour.count ≡ self.old.tour.count }
         ensures posts { vec_len self.new.posts ≡ vec_len self.old.posts }
+        ensures laid { StepsAt (λ s t. StopStays s t) place self.old.tour.stops.items self.new.tour.stops.items }
+        ensures kept { TourKept self.old self.new × (All WaitsNone self.old.posts.items → All WaitsNone self.new.posts.items) }
     {
         let post = &mut self.posts[place];
         post.origin = Origin::Gateway(post.oldest());
@@ -179,53 +157,108 @@ impl MasterNode {
         }
     }
 
-    // The next scripted service is laid ready; a change of state is its side's own.
-    fn lay_script(&mut self, place: usize, work: Work)
+    // The next scripted service is laid ready.
+    fn lay_script(&mut self, place: usize)
         requires { place < vec_len self.old.posts }
-        ensures count { self.new.tour.count ≡ self.old.tour.count }
         ensures posts { vec_len self.new.posts ≡ vec_len self.old.posts }
+        ensures laid { StepsAt (λ s t. StopStays s t × IsLaid (Some Coming.Script) t.side.hand.laying.laid) place self.old.tour.stops.items self.new.tour.stops.items }
+        ensures kept { TourKept self.old self.new × (All WaitsNone self.old.posts.items → All WaitsNone self.new.posts.items) }
     {
         let side = &mut self.tour.stops[place].side;
         let number = side.hand.number();
-        if matches!(work, Work::Mails) {
-            lay_script(side);
-        }
+        lay_script(side);
         let post = &mut self.posts[place];
-        post.next = work;
+        post.next = Work::Mails;
         post.origin = Origin::Script(number);
     }
 
-    // What may come into hand is laid ready.
-    fn lay(&mut self, place: usize, coming: Option<Coming>)
+    // So it is where it is a change of state, which is its side's own.
+    fn lay_state(&mut self, place: usize)
         requires { place < vec_len self.old.posts }
-        ensures count { self.new.tour.count ≡ self.old.tour.count }
         ensures posts { vec_len self.new.posts ≡ vec_len self.old.posts }
+        ensures tour { (self.new.tour ≡ self.old.tour) × (self.new.made ≡ self.old.made) }
+        ensures quiet { All WaitsNone self.old.posts.items → All WaitsNone self.new.posts.items }
+    {
+        let number = self.tour.stops[place].side.hand.number();
+        let post = &mut self.posts[place];
+        post.next = Work::State;
+        post.origin = Origin::Script(number);
+    }
+
+    // What comes is laid ready.
+    fn lay_coming(&mut self, place: usize, coming: Coming)
+        requires { place < vec_len self.old.posts }
+        ensures posts { vec_len self.new.posts ≡ vec_len self.old.posts }
+        ensures laid { StepsAt (λ s t. StopStays s t × IsLaid (Some coming) t.side.hand.laying.laid) place self.old.tour.stops.items self.new.tour.stops.items }
+        ensures kept { TourKept self.old self.new × (All WaitsNone self.old.posts.items → All WaitsNone self.new.posts.items) }
     {
         match coming {
-            None => {}
-            Some(Coming::Packet) => self.lay_packet(place),
-            Some(Coming::Mail) => self.lay_mail(place),
-            Some(Coming::Script) => self.lay_script(place, Work::Mails),
-            Some(Coming::State(_)) => self.lay_script(place, Work::State),
+            Coming::Packet => self.lay_packet(place),
+            Coming::Mail => self.lay_mail(place),
+            Coming::Script => self.lay_script(place),
+            Coming::State(_) => self.lay_state(place),
         }
     }
 
-    // The service that was laid ready came into hand.
-    fn begun(&mut self, place: usize)
+    // So is what may come into hand, if something may.
+    fn lay(&mut self, place: usize, coming: Option<Coming>)
         requires { place < vec_len self.old.posts }
-        ensures { vec_len self.new.posts ≡ vec_len self.old.posts }
+        ensures posts { vec_len self.new.posts ≡ vec_len self.old.posts }
+        ensures laid { StepsAt (λ s t. StopStays s t × IsLaid coming t.side.hand.laying.laid) place self.old.tour.stops.items self.new.tour.stops.items }
+        ensures kept { TourKept self.old self.new × (All WaitsNone self.old.posts.items → All WaitsNone self.new.posts.items) }
+    {
+        match coming {
+            None => {}
+            Some(what) => self.lay_coming(place, what),
+        }
+    }
+
+    // A change of state that came into hand is passed by in the script.
+    fn pass_by(&mut self, place: usize, coming: Coming)
+        requires { place < vec_len self.old.posts }
+        ensures begun { StepsAt (λ s t. PassesBy (Some coming) s t) place self.old.tour.stops.items self.new.tour.stops.items }
+        ensures tour { TourKept self.old self.new }
+        ensures posts { self.new.posts ≡ self.old.posts }
+    {
+        match coming {
+            Coming::State(_) => pass_by(&mut self.tour.stops[place].side),
+            Coming::Packet => {}
+            Coming::Mail => {}
+            Coming::Script => {}
+        }
+    }
+
+    // What was laid ready came into hand.
+    fn begun(&mut self, place: usize, coming: Option<Coming>)
+        requires { place < vec_len self.old.posts }
+        ensures posts { vec_len self.new.posts ≡ vec_len self.old.posts }
+        ensures begun { StepsAt (λ s t. PassesBy coming s t) place self.old.tour.stops.items self.new.tour.stops.items }
+        ensures kept { TourKept self.old self.new × (All WaitsNone self.old.posts.items → All WaitsNone self.new.posts.items) }
     {
         let post = &mut self.posts[place];
         post.work = post.next;
         post.answer = None;
         let origin = post.origin;
-        if matches!(post.work, Work::State) {
-            pass_by(&mut self.tour.stops[place].side);
-        }
         self.list.put(Event::Began {
             slave: place as u32,
             origin,
         });
+        match coming {
+            None => {}
+            Some(what) => self.pass_by(place, what),
+        }
+    }
+
+    // So it does where something did.
+    fn came(&mut self, place: usize, coming: Option<Coming>, began: bool)
+        requires { place < vec_len self.old.posts }
+        ensures posts { vec_len self.new.posts ≡ vec_len self.old.posts }
+        ensures came { StepsAt (λ s t. CameBy began coming s t) place self.old.tour.stops.items self.new.tour.stops.items }
+        ensures kept { TourKept self.old self.new × (All WaitsNone self.old.posts.items → All WaitsNone self.new.posts.items) }
+    {
+        if began {
+            self.begun(place, coming);
+        }
     }
 
     // A slave is visited: its datagram stands next in the frame, and `false` where that has no room for it.
@@ -235,6 +268,14 @@ impl MasterNode {
         requires begun { (ds : List Raw.Datagram) × IsBegun into.old.items ds }
         ensures begun { (ds : List Raw.Datagram) × IsBegun into.new.items ds }
         ensures posts { vec_len self.new.posts ≡ vec_len self.old.posts }
+        ensures on { TourOn self.old self.new × (self.new.tour.passed ≡ self.old.tour.passed) }
+        ensures quiet { All WaitsNone self.old.posts.items → All WaitsNone self.new.posts.items }
+        ensures visits { (self.old.tour.again ≡ false → length self.old.tour.visit.items < 16) → IsCarried (nat_lt self.old.tour.count self.new.tour.count) self.old.tour.again place self.old.tour.visit.items self.new.tour.visit.items }
+        ensures counts { (self.new.tour.count ≡ self.old.tour.count) ⊎ (self.new.tour.count ≡ self.old.tour.count + 1) }
+        ensures still { result ≡ false → (self.new.tour.count ≡ self.old.tour.count) × (self.new.tour.visit ≡ self.old.tour.visit) }
+        ensures first { length into.old.items ≡ 16 → holds_at (λ s. is_live s.stand) self.old.tour.stops.items place ≡ true → (result ≡ true) × (self.new.tour.count ≡ self.old.tour.count + 1) }
+        ensures led { (lens : ℕ → Lens) (recover made : ℕ) (left next : List ℕ) (as' : List Leads) → All WaitsNone self.old.posts.items → AreDistinct (map lived_of as') → is_in place left ≡ true → is_in place next ≡ false → ((k : ℕ) → is_in k next ≡ true → is_in k left ≡ true) →
+            IsFilling lens recover made left self.old into.old.items as' → IsFilling lens recover made (if result then next else left) self.new into.new.items as' }
     {
         let index = (self.made % 256) as u8;
         let coming = self.coming(place);
@@ -243,9 +284,8 @@ impl MasterNode {
             return false;
         }
         self.lay(place, coming);
-        if self.tour.visit(place, wish, index, into) {
-            self.begun(place);
-        }
+        let began = self.tour.visit(place, wish, index, into);
+        self.came(place, coming, began);
         true
     }
 
@@ -254,6 +294,8 @@ impl MasterNode {
         requires { (ds : List Raw.Datagram) × IsBegun into.old.items ds }
         ensures begun { (ds : List Raw.Datagram) × IsBegun into.new.items ds }
         ensures posts { vec_len self.new.posts ≡ vec_len self.old.posts }
+        ensures on { TourOn self.old self.new }
+        ensures filled { (lens : ℕ → Lens) (recover made : ℕ) (as' : List Leads) → AreDistinct (map lived_of as') → IsEmpty lens recover made self.old into.old.items as' → IsFilled lens recover made self.new into.new.items as' }
     {
         for _ in 0..SLAVES {
             let Some(place) = self.tour.due() else {
@@ -265,19 +307,31 @@ impl MasterNode {
         }
     }
 
-    /// Makes the next frame; `Idle` exactly where no slave is live.
+    // The next frame is made, of the slaves that it carries.
+    fn make(&mut self, into: &mut FrameBuf)
+        ensures posts { vec_len self.new.posts ≡ vec_len self.old.posts }
+        ensures led { (lens : ℕ → Lens) (recover retry missed number : ℕ) (as' : List Leads) → list_any (λ s. is_live s.stand) self.old.tour.stops.items ≡ true → MasterShows lens recover retry self.old missed as' →
+            (us : List Turn) × IsLedFrame lens number into.new.items as' us × MasterUnder lens recover retry self.new into.new.items missed us }
+    {
+        self.tour.begin(into);
+        self.fill(into);
+        let _some = self.tour.finish(into);
+    }
+
+    /// Makes the next frame; `Idle` exactly where no slave is live. The frame has just the datagrams that the lives of the slaves ask for, and
+    /// what came into hand of each is next of its script, or a packet.
     pub fn next(&mut self, into: &mut FrameBuf) -> Next
         ensures idle { (result ≡ Next.Idle) ↔ (list_any (λ s. is_live s.stand) self.old.tour.stops.items ≡ false) }
         ensures posts { vec_len self.new.posts ≡ vec_len self.old.posts }
+        ensures led { result ≡ Next.Frame → (lens : ℕ → Lens) (recover retry missed number : ℕ) (as' : List Leads) → MasterShows lens recover retry self.old missed as' →
+            (us : List Turn) × IsLedFrame lens number into.new.items as' us × MasterUnder lens recover retry self.new into.new.items missed us }
     {
         self.list.clear();
         if !self.has_live() {
             return Next::Idle;
         }
         self.admit();
-        self.tour.begin(into);
-        self.fill(into);
-        let _some = self.tour.finish(into);
+        self.make(into);
         self.list.made();
         self.made = self.made.wrapping_add(1);
         Next::Frame
@@ -345,7 +399,7 @@ impl MasterNode {
         requires { slave < vec_len self.now.posts }
         ensures { result ≡ holds_at (λ s. is_live s.stand) self.now.tour.stops.items slave }
     {
-        is_live(&self.tour.stops[slave as usize])
+        self.tour.stops[slave as usize].is_live()
     }
 
     /// A mail waits to be passed on to a slave; `false` exactly where 64 do already. `key` names its asker.

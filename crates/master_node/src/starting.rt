@@ -1,7 +1,11 @@
 //! A master before its first frame.
 
-ghost use Rattle.std.specs.Prelude.{◌≡◌, ◌≤◌, ◌<◌, length, vec_len, IfOk};
+ghost use Rattle.std.specs.Prelude.{◌≡◌, ◌≤◌, ◌<◌, length, map, replicate, vec_len, false, All, IfOk};
+ghost use Rattle.life_frames.specs.Shares.{AllFrom};
+ghost use Rattle.master_node.specs.Lives.{waiting_of};
 ghost use Rattle.segment_plan.specs.Sound.{IsPlan, IsSlave, IsPace};
+ghost use Rattle.master_node.specs.First.{IsNewSide, IsFirst};
+ghost use Rattle.master_node.specs.Shows.{WaitsNone};
 
 use crate::copies::script_of;
 use crate::event::EventList;
@@ -28,7 +32,7 @@ fn side_of(
     requires plan { IsPlan plan.now }
     requires slave { IsSlave spec.now }
     requires pace { IsPace pace }
-    ensures { IfOk result (λ s. s.station ≡ spec.now.station) }
+    ensures { IfOk result (λ s. IsNewSide plan.now.services place spec.now s) }
 {
     let script = script_of(alloc, place, plan.services.as_slice())?;
     let hand = InHand::new(alloc, spec.out_len, spec.in_len, script)?;
@@ -47,6 +51,7 @@ fn stop_of(
     requires slave { IsSlave spec.now }
     requires pace { IsPace pace }
     requires place { place < 16 }
+    ensures { IfOk result (λ s. IsFirst plan.now place spec.now s) }
 {
     let side = side_of(alloc, plan, place, spec, pace)?;
     let up = bring_new(place, spec.station, spec.out_len, spec.in_len, spec.start);
@@ -65,7 +70,8 @@ fn stop_of(
 // All slaves before their bring-up.
 fn stops_of(alloc: Global, plan: &Scenario) -> Result<Vec<Stop<InHand>>, NoMemory>
     requires { IsPlan plan.now }
-    ensures { IfOk result (λ stops. vec_len stops ≡ length plan.now.slaves) }
+    ensures many { IfOk result (λ stops. vec_len stops ≡ length plan.now.slaves) }
+    ensures first { IfOk result (λ stops. AllFrom (λ place spec s. IsFirst plan.now place spec s) 0 plan.now.slaves stops.items) }
 {
     let slaves = plan.slaves.as_slice();
     let paces = plan.paces.as_slice();
@@ -78,7 +84,9 @@ fn stops_of(alloc: Global, plan: &Scenario) -> Result<Vec<Stop<InHand>>, NoMemor
 
 // Nothing is in hand of any slave.
 fn posts_of(alloc: Global, count: usize) -> Result<Vec<Post>, NoMemory>
-    ensures { IfOk result (λ posts. vec_len posts ≡ count) }
+    ensures many { IfOk result (λ posts. vec_len posts ≡ count) }
+    ensures quiet { IfOk result (λ posts. All WaitsNone posts.items) }
+    ensures waiting { IfOk result (λ posts. map waiting_of posts.items ≡ replicate count 0) }
 {
     let mut posts = Vec::new(alloc);
     for _ in 0..count {
@@ -90,7 +98,9 @@ fn posts_of(alloc: Global, count: usize) -> Result<Vec<Post>, NoMemory>
 // The tour before its first frame.
 fn tour_of(alloc: Global, plan: &Scenario) -> Result<Tour<InHand>, NoMemory>
     requires { IsPlan plan.now }
-    ensures { IfOk result (λ tour. vec_len tour.stops ≡ length plan.now.slaves) }
+    ensures many { IfOk result (λ tour. vec_len tour.stops ≡ length plan.now.slaves) }
+    ensures first { IfOk result (λ tour. AllFrom (λ place spec s. IsFirst plan.now place spec s) 0 plan.now.slaves tour.stops.items) }
+    ensures begins { IfOk result (λ tour. (tour.opened ≡ 0) × (tour.again ≡ false) × (tour.missed ≡ 0) × (tour.retry ≡ plan.now.retry)) }
 {
     let stops = stops_of(alloc, plan)?;
     Ok(Tour {
@@ -107,13 +117,18 @@ fn tour_of(alloc: Global, plan: &Scenario) -> Result<Tour<InHand>, NoMemory>
 }
 
 impl MasterNode {
-    ghost use Rattle.std.specs.Prelude.{◌≡◌, length, vec_len, IfOk};
+    ghost use Rattle.std.specs.Prelude.{◌≡◌, length, map, replicate, vec_len, IfOk};
+    ghost use Rattle.master_node.specs.Lives.{waiting_of};
     ghost use Rattle.segment_plan.specs.Sound.{IsPlan};
+    ghost use Rattle.life_runs.specs.First.{lens_of, first_leads};
+    ghost use Rattle.master_node.specs.Shows.{MasterShows};
 
     /// The master of a segment before its first frame: no slave is brought up, and no packet of the host has come in.
     pub fn new(alloc: Global, plan: &Scenario) -> Result<MasterNode, NoMemory>
         requires { IsPlan plan.now }
-        ensures { IfOk result (λ master. vec_len master.posts ≡ length plan.now.slaves) }
+        ensures posts { IfOk result (λ master. vec_len master.posts ≡ length plan.now.slaves) }
+        ensures waiting { IfOk result (λ master. map waiting_of master.posts.items ≡ replicate (length plan.now.slaves) 0) }
+        ensures leads { IfOk result (λ master. MasterShows (lens_of plan.now.slaves) plan.now.recover plan.now.retry master 0 (first_leads plan.now)) }
     {
         let tour = tour_of(alloc, plan)?;
         let posts = posts_of(alloc, plan.slaves.len())?;

@@ -11,13 +11,23 @@ use ec_fields::buffer_of;
 use mailbox_mail::ReplyKind;
 use master_duty::Met;
 use master_side::Heard;
-use master_tour::{Stand, Turned};
+use master_tour::Turned;
 
 impl MasterNode {
+    ghost use Rattle.std.specs.Prelude.{◌≡◌, ℕ, List, map};
+    ghost use Rattle.frame_view.specs.View.{Lens};
+    ghost use Rattle.frame_view.specs.Seen.{seen};
+    ghost use Rattle.segment_model.specs.Returned.{Returns};
+    ghost use Rattle.segment_ring.specs.declared.wire.Fate.{Fate};
+    ghost use Rattle.life_runs.specs.Led.{Turn, Exchanged, led_behind, gives_up_at, missed_behind};
+    ghost use Rattle.master_node.specs.Kept.{NodeKept};
+    ghost use Rattle.master_node.specs.Shows.{MasterShows, MasterUnder};
+
     // The service in hand has its answer.
     fn answered(&mut self, place: usize, kind: ReplyKind)
         requires { place < vec_len self.old.posts }
-        ensures { vec_len self.new.posts ≡ vec_len self.old.posts }
+        ensures posts { vec_len self.new.posts ≡ vec_len self.old.posts }
+        ensures kept { NodeKept self.old self.new }
     {
         let post = &mut self.posts[place];
         post.work = Work::Nothing;
@@ -31,7 +41,8 @@ impl MasterNode {
     // The slave emitted an emergency, or the last fragment of a packet.
     fn emitted(&mut self, place: usize)
         requires { place < vec_len self.old.posts }
-        ensures { vec_len self.new.posts ≡ vec_len self.old.posts }
+        ensures posts { vec_len self.new.posts ≡ vec_len self.old.posts }
+        ensures kept { NodeKept self.old self.new }
     {
         let hand = &self.tour.stops[place].side.hand;
         if let Some(octets) = hand.emergency() {
@@ -50,7 +61,8 @@ impl MasterNode {
     // A reply of the mail that is passed on.
     fn replied(&mut self, place: usize, key: usize)
         requires { place < vec_len self.old.posts }
-        ensures { vec_len self.new.posts ≡ vec_len self.old.posts }
+        ensures posts { vec_len self.new.posts ≡ vec_len self.old.posts }
+        ensures kept { NodeKept self.old self.new }
     {
         if let Some(mail) = self.tour.stops[place].side.hand.replied() {
             let mail = bare(mail);
@@ -61,7 +73,8 @@ impl MasterNode {
     // The last reply of a scripted service was accepted.
     fn complete(&mut self, place: usize)
         requires { place < vec_len self.old.posts }
-        ensures { vec_len self.new.posts ≡ vec_len self.old.posts }
+        ensures posts { vec_len self.new.posts ≡ vec_len self.old.posts }
+        ensures kept { NodeKept self.old self.new }
     {
         if let Some(kind) = self.tour.stops[place].side.hand.answer() {
             self.answered(place, kind);
@@ -71,7 +84,8 @@ impl MasterNode {
     // A mail was accepted.
     fn heard(&mut self, place: usize, what: Heard)
         requires { place < vec_len self.old.posts }
-        ensures { vec_len self.new.posts ≡ vec_len self.old.posts }
+        ensures posts { vec_len self.new.posts ≡ vec_len self.old.posts }
+        ensures kept { NodeKept self.old self.new }
     {
         if matches!(what, Heard::Emission) {
             self.emitted(place);
@@ -87,7 +101,8 @@ impl MasterNode {
     // A packet is over once the write of its last fragment is done.
     fn handed(&mut self, place: usize)
         requires { place < vec_len self.old.posts }
-        ensures { vec_len self.new.posts ≡ vec_len self.old.posts }
+        ensures posts { vec_len self.new.posts ≡ vec_len self.old.posts }
+        ensures kept { NodeKept self.old self.new }
     {
         if self.tour.stops[place].side.is_free() {
             self.answered(place, ReplyKind::Handed);
@@ -97,7 +112,8 @@ impl MasterNode {
     // A mail that is passed on is over once its side forgets it.
     fn passed(&mut self, place: usize, key: usize)
         requires { place < vec_len self.old.posts }
-        ensures { vec_len self.new.posts ≡ vec_len self.old.posts }
+        ensures posts { vec_len self.new.posts ≡ vec_len self.old.posts }
+        ensures kept { NodeKept self.old self.new }
     {
         if self.tour.stops[place].side.passing.is_none() {
             self.answered(place, ReplyKind::Handed);
@@ -105,12 +121,22 @@ impl MasterNode {
         }
     }
 
+    // How the last returned frame ended the state service in hand, told once.
+    fn met_of(&mut self, place: usize) -> Option<Met>
+        requires { place < vec_len self.old.posts }
+        ensures posts { vec_len self.new.posts ≡ vec_len self.old.posts }
+        ensures kept { NodeKept self.old self.new }
+    {
+        met_once(&mut self.tour.stops[place].side)
+    }
+
     // A state service is over once it has met its target or a refusal.
     fn met(&mut self, place: usize)
         requires { place < vec_len self.old.posts }
-        ensures { vec_len self.new.posts ≡ vec_len self.old.posts }
+        ensures posts { vec_len self.new.posts ≡ vec_len self.old.posts }
+        ensures kept { NodeKept self.old self.new }
     {
-        match met_once(&mut self.tour.stops[place].side) {
+        match self.met_of(place) {
             Some(Met::Reached) => self.answered(place, ReplyKind::Done),
             Some(Met::Refused(code)) => self.answered(place, ReplyKind::StateRefused(code)),
             Some(Met::On(_)) | None => {}
@@ -120,7 +146,8 @@ impl MasterNode {
     // What the slave has in hand is over, where it has no reply by mails of its own.
     fn over(&mut self, place: usize)
         requires { place < vec_len self.old.posts }
-        ensures { vec_len self.new.posts ≡ vec_len self.old.posts }
+        ensures posts { vec_len self.new.posts ≡ vec_len self.old.posts }
+        ensures kept { NodeKept self.old self.new }
     {
         match self.posts[place].work {
             Work::Nothing | Work::Mails => {}
@@ -130,13 +157,21 @@ impl MasterNode {
         }
     }
 
+    // Whether a change of state is in hand.
+    fn has_state(&self, place: usize) -> bool
+        requires { place < vec_len self.now.posts }
+    {
+        matches!(self.posts[place].work, Work::State)
+    }
+
     // The slave was seen in Init, or is open.
     fn turned(&mut self, place: usize)
         requires { place < vec_len self.old.posts }
-        ensures { vec_len self.new.posts ≡ vec_len self.old.posts }
+        ensures posts { vec_len self.new.posts ≡ vec_len self.old.posts }
+        ensures kept { NodeKept self.old self.new }
     {
         let slave = place as u32;
-        let own = matches!(self.posts[place].work, Work::State);
+        let own = self.has_state(place);
         match self.tour.stops[place].news {
             Some(Turned::Cleared) => self.list.put(Event::Cleared { slave, own }),
             Some(Turned::Opened) => {
@@ -149,60 +184,135 @@ impl MasterNode {
         }
     }
 
+    // What the mail was that the last returned frame brought, told once.
+    fn heard_of(&mut self, place: usize) -> Option<Heard>
+        requires { place < vec_len self.old.posts }
+        ensures posts { vec_len self.new.posts ≡ vec_len self.old.posts }
+        ensures kept { NodeKept self.old self.new }
+    {
+        heard_once(&mut self.tour.stops[place].side)
+    }
+
+    // A mail was accepted, or none was.
+    fn heard_where(&mut self, place: usize, what: Option<Heard>)
+        requires { place < vec_len self.old.posts }
+        ensures posts { vec_len self.new.posts ≡ vec_len self.old.posts }
+        ensures kept { NodeKept self.old self.new }
+    {
+        if let Some(what) = what {
+            self.heard(place, what);
+        }
+    }
+
     // What the frame brought of a slave that it carried.
     fn back(&mut self, place: usize)
         requires { place < vec_len self.old.posts }
-        ensures { vec_len self.new.posts ≡ vec_len self.old.posts }
+        ensures posts { vec_len self.new.posts ≡ vec_len self.old.posts }
+        ensures kept { NodeKept self.old self.new }
     {
-        if let Some(what) = heard_once(&mut self.tour.stops[place].side) {
-            self.heard(place, what);
-        }
+        let what = self.heard_of(place);
+        self.heard_where(place, what);
         self.over(place);
         self.turned(place);
     }
 
+    // The same of the one with this number among those that it carried.
+    fn carried_back(&mut self, k: usize)
+        ensures posts { vec_len self.new.posts ≡ vec_len self.old.posts }
+        ensures kept { NodeKept self.old self.new }
+    {
+        match self.tour.visit.get(k) {
+            Some(&place) if place < self.posts.len() => self.back(place),
+            _ => {}
+        }
+    }
+
+    // What it brought of all of them.
+    fn all_back(&mut self)
+        ensures posts { vec_len self.new.posts ≡ vec_len self.old.posts }
+        ensures kept { NodeKept self.old self.new }
+    {
+        for k in 0..self.tour.visit.len() {
+            self.carried_back(k);
+        }
+    }
+
     /// The frame that `next` made came back.
     pub fn returned(&mut self, frame: &FrameBuf)
-        ensures { vec_len self.new.posts ≡ vec_len self.old.posts }
+        ensures posts { vec_len self.new.posts ≡ vec_len self.old.posts }
+        ensures leads { (lens : ℕ → Lens) (recover retry missed number : ℕ) (octets : List ℕ) (us : List Turn) (f : Exchanged) → f.fate ≡ Fate.Pass → f.back ≡ frame.now.items → MasterUnder lens recover retry self.old octets missed us → Returns (seen lens octets) (seen lens frame.now.items) →
+            MasterShows lens recover retry self.new 0 (map (led_behind lens recover retry (gives_up_at lens recover retry missed) number f) us) }
     {
         self.list.ends();
         self.tour.returned(frame, self.made.wrapping_sub(1));
-        for k in 0..self.tour.visit.len() {
-            match self.tour.visit.get(k) {
-                Some(&place) if place < self.posts.len() => self.back(place),
-                _ => {}
-            }
+        self.all_back();
+    }
+
+    // Nothing is in hand of the slave any more, and no mail waits to be passed on to it.
+    fn dropped(&mut self, place: usize)
+        requires { place < vec_len self.old.posts }
+        ensures posts { vec_len self.new.posts ≡ vec_len self.old.posts }
+        ensures kept { NodeKept self.old self.new }
+    {
+        self.posts[place].drop_all();
+    }
+
+    // The slave's port is down, where it was given up for good.
+    fn down_where(&mut self, place: usize)
+        requires { place < vec_len self.old.posts }
+        ensures posts { vec_len self.new.posts ≡ vec_len self.old.posts }
+        ensures kept { NodeKept self.old self.new }
+    {
+        if !self.tour.stops[place].is_live() {
+            self.lan.down(place, &mut self.list);
         }
     }
 
     // A slave was given up, where it was.
     fn given_up(&mut self, place: usize)
         requires { place < vec_len self.old.posts }
-        ensures { vec_len self.new.posts ≡ vec_len self.old.posts }
+        ensures posts { vec_len self.new.posts ≡ vec_len self.old.posts }
+        ensures kept { NodeKept self.old self.new }
     {
         if !matches!(self.tour.stops[place].news, Some(Turned::GivenUp)) {
             return;
         }
-        self.posts[place].drop_all();
+        self.dropped(place);
         self.list.put(Event::GivenUp {
             slave: place as u32,
         });
-        if matches!(self.tour.stops[place].stand, Stand::Gone) {
-            self.lan.down(place, &mut self.list);
+        self.down_where(place);
+    }
+
+    // The one with this number among those that the frame carried, where it was.
+    fn carried_given_up(&mut self, k: usize)
+        ensures posts { vec_len self.new.posts ≡ vec_len self.old.posts }
+        ensures kept { NodeKept self.old self.new }
+    {
+        match self.tour.visit.get(k) {
+            Some(&place) if place < self.posts.len() => self.given_up(place),
+            _ => {}
+        }
+    }
+
+    // Those of all that the frame carried that were.
+    fn all_given_up(&mut self)
+        ensures posts { vec_len self.new.posts ≡ vec_len self.old.posts }
+        ensures kept { NodeKept self.old self.new }
+    {
+        for k in 0..self.tour.visit.len() {
+            self.carried_given_up(k);
         }
     }
 
     /// The frame that `next` made was lost.
     pub fn lost(&mut self)
-        ensures { vec_len self.new.posts ≡ vec_len self.old.posts }
+        ensures posts { vec_len self.new.posts ≡ vec_len self.old.posts }
+        ensures leads { (lens : ℕ → Lens) (recover retry missed number after : ℕ) (octets : List ℕ) (us : List Turn) (f : Exchanged) → f.fate ≡ Fate.Lost after → f.sent ≡ octets → MasterUnder lens recover retry self.old octets missed us →
+            MasterShows lens recover retry self.new (missed_behind lens recover retry f.fate missed) (map (led_behind lens recover retry (gives_up_at lens recover retry missed) number f) us) }
     {
         self.list.ends();
         self.tour.lost();
-        for k in 0..self.tour.visit.len() {
-            match self.tour.visit.get(k) {
-                Some(&place) if place < self.posts.len() => self.given_up(place),
-                _ => {}
-            }
-        }
+        self.all_given_up();
     }
 }

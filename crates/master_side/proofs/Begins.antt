@@ -1,6 +1,6 @@
 -- A service that comes into hand.
-use Rattle.std.proofs.Common.{◌≡◌, ℕ, List, [], ◌∷◌, ◌++◌, Bool, true, false, Option, Some, None, refl, sym, ap, ◌∙◌, subst}
-use Rattle.std.specs.Prelude.{◌&&◌, is_none, if◌then◌else◌, Ok}
+use Rattle.std.proofs.Common.{◌≡◌, ℕ, List, [], ◌∷◌, ◌++◌, Bool, true, false, Option, Some, None, refl, sym, ap, ◌∙◌, subst, append-nil}
+use Rattle.std.specs.Prelude.{◌&&◌, is_none, is_some, if◌then◌else◌, Ok}
 use Rattle.exchange_model.specs.Exchange.{Speech}
 use Rattle.exchange_model.specs.Rows.{Row, begun}
 use Rattle.mailbox_mail.specs.declared.mail.Mail.{Mail}
@@ -22,7 +22,13 @@ use Rattle.master_duty.specs.declared.stage.Stage.{Stage}
 use Rattle.master_duty.specs.Stages.{stage_of}
 use Rattle.master_duty.specs.Reply.{Reply}
 use Rattle.master_side.specs.Fits.{Tells}
-use Rattle.master_side.specs.Shown.{SideShows, DutyShows, Begins, Holds, Picked}
+use Rattle.master_side.specs.Shown.{SideShows, DutyShows, Begins, Holds, Picked, wish_begun, started_by}
+use Rattle.master_side.specs.declared.carried.Wish.{Wish}
+
+-- none that is laid ready is a mail that is passed on, so what came into hand is none
+pub none_passed : {Q : Type 0} (ready : Option Q) (began passes : Bool) (passed : Q → Bool) → began ≡ is_some ready → began ≡ true → ((q : Q) → ready ≡ Some q → passed q ≡ false) → ((q : Q) → ready ≡ Some q → passes ≡ passed q) → passes ≡ false
+none_passed None began passes passed did e h k = absurd (let t = sym e ∙ did in cc)
+none_passed (Some q) began passes passed did e h k = k q refl ∙ h q refl
 
 module _ {Q : Type 0} (x : Speech Body Q Reply) (acknowledged : Q → Bool) where
   abbrev Rows : Type 0
@@ -44,17 +50,18 @@ module _ {Q : Type 0} (x : Speech Body Q Reply) (acknowledged : Q → Bool) wher
   no_duty duty hand e s = subst (λ (o : Option Duty). DutyShows o hand) e s
 
   -- no service does
-  pub begins_none : (made : ℕ) (d : Side Body Q Reply) (a : Account Q Reply) (shows : Side Body Q Reply → Account Q Reply → Type 0) → shows d a → Begins x acknowledged made d a shows
-  begins_none made d a shows s = record { wish = None; shown = s }
+  pub begins_none : (made : ℕ) (d : Side Body Q Reply) (a : Account Q Reply) (shows : Side Body Q Reply → Account Q Reply → Type 0) → shows d a → Begins x acknowledged made d a None shows
+  begins_none made d a shows s = record { shown = s; took = sym (append-nil a.started) }
 
   -- a service by mails
   pub begins_mails : (made : ℕ) (d : Side Body Q Reply) (a : Account Q Reply) (shows new : Rows → Type 0) (out : OutLink (Option Mail)) (inn : InwardHalf) (fresh : Bool) (duty : Option Duty) (q : Q) →
       SideShows shows out inn fresh duty d a → duty ≡ None → x.valid q ≡ true → is_free x d d.now ≡ true → ((frame : ℕ) → new (Some (begun q frame))) →
-      Begins x acknowledged made d a (λ e b. SideShows new out inn fresh duty e b)
+      Begins x acknowledged made d a (Some (Service.Mails q)) (λ e b. SideShows new out inn fresh duty e b)
   begins_mails made d a shows new out inn fresh duty q s n v free began = record {
-    wish = Some (Service.Mails q);
     shown = subst (λ (h : Option Accounts.Duty). SideShows new out inn fresh duty (Seats.side_begins x made d d.now (mails_begin h (Some (Service.Mails q)))) (account_begins x acknowledged made d a h (Some (Service.Mails q))))
         (sym (no_duty duty a.hand n s.state)) (side d.now free);
+    took = subst (λ (h : Option Accounts.Duty). (account_begins x acknowledged made d a h (Some (Service.Mails q))).started ≡ a.started ++ started_by made (Some (Service.Mails q))) (sym (no_duty duty a.hand n s.state))
+        (ap (λ (b : Bool). (if b then record a { started = starts a (Service.Mails q) made } else a).started) (λ i. v i && free i));
   }
     where
       account : (b : Bool) → DutyShows duty (if b then record a { started = starts a (Service.Mails q) made } else a).hand
@@ -68,25 +75,27 @@ module _ {Q : Type 0} (x : Speech Body Q Reply) (acknowledged : Q → Bool) wher
           (record { halves = s.halves; unsent = s.unsent; row = began made; state = account (x.valid q && is_free x d d.now) })
 
   -- one that was laid ready, or none
-  pub begins_ready : (made : ℕ) (d : Side Body Q Reply) (a : Account Q Reply) (shows new : Rows → Type 0) (out : OutLink (Option Mail)) (inn : InwardHalf) (fresh : Bool) (duty : Option Duty) (ready : Option Q) →
+  pub begins_ready : (made : ℕ) (d : Side Body Q Reply) (a : Account Q Reply) (shows new : Rows → Type 0) (out : OutLink (Option Mail)) (inn : InwardHalf) (fresh : Bool) (duty : Option Duty) (ready : Option Q) (began : Bool) → began ≡ is_some ready →
       SideShows shows out inn fresh duty d a → duty ≡ None → is_free x d d.now ≡ true → ((now : Rows) (q : Q) (frame : ℕ) → shows now → ready ≡ Some q → (x.valid q ≡ true) × new (Some (begun q frame))) → ((now : Rows) → shows now → ready ≡ None → new now) →
-      Begins x acknowledged made d a (λ e b. SideShows new out inn fresh duty e b)
-  begins_ready made d a shows new out inn fresh duty ready s n free some none = go ready refl
+      Begins x acknowledged made d a (wish_begun began (Some Wish.Mails) ready) (λ e b. SideShows new out inn fresh duty e b)
+  begins_ready made d a shows new out inn fresh duty ready began did s n free some none =
+      subst (λ (w : Option (Service Q)). Begins x acknowledged made d a w (λ e b. SideShows new out inn fresh duty e b)) (ap (λ b. wish_begun b (Some Wish.Mails) ready) (sym did)) (go ready refl)
     where
-      go : (o : Option Q) → ready ≡ o → Begins x acknowledged made d a (λ e b. SideShows new out inn fresh duty e b)
+      go : (o : Option Q) → ready ≡ o → Begins x acknowledged made d a (wish_begun (is_some o) (Some Wish.Mails) o) (λ e b. SideShows new out inn fresh duty e b)
       go None e = begins_none made d a (λ e b. SideShows new out inn fresh duty e b) (record { halves = s.halves; unsent = s.unsent; row = none d.now s.row e; state = s.state })
       go (Some q) e = begins_mails made d a shows new out inn fresh duty q s n (some d.now q 0 s.row e).0 free (λ frame. (some d.now q frame s.row e).1)
 
   -- a state service
   pub begins_state : (made : ℕ) (d : Side Body Q Reply) (a : Account Q Reply) (shows : Rows → Type 0) (out : OutLink (Option Mail)) (inn : InwardHalf) (fresh : Bool) (duty : Option Duty) (new : Duty) (target : ℕ) →
       SideShows shows out inn fresh duty d a → duty ≡ None → is_free x d d.now ≡ true → is_acknowledged acknowledged d d.now ≡ true → new.target ≡ target → new.stage ≡ Stage.Drain →
-      Begins x acknowledged made d a (λ e b. SideShows shows out inn fresh (Some new) e b)
+      Begins x acknowledged made d a (Some (Service.State target)) (λ e b. SideShows shows out inn fresh (Some new) e b)
   begins_state made d a shows out inn fresh duty new target s n free known to stage = record {
-    wish = Some (Service.State target);
     shown = subst (λ (h : Option Accounts.Duty). SideShows shows out inn fresh (Some new) (Seats.side_begins x made d d.now (mails_begin h (Some (Service.State target)))) (account_begins x acknowledged made d a h (Some (Service.State target))))
         (sym (no_duty duty a.hand n s.state))
         (subst (λ (b : Bool). SideShows shows out inn fresh (Some new) d (if b then state_begins a target made else a)) (λ i. (sym free) i && (sym known) i)
         (record { halves = s.halves; unsent = s.unsent; row = s.row; state = (made, λ j. Some (record { target = (sym to) j; frame = made; stage = stage_of ((sym stage) j) })) }));
+    took = subst (λ (h : Option Accounts.Duty). (account_begins x acknowledged made d a h (Some (Service.State target))).started ≡ a.started ++ started_by made (Some (Service.State target))) (sym (no_duty duty a.hand n s.state))
+        (ap (λ (b : Bool). (if b then state_begins a target made else a).started) (λ i. free i && known i));
   }
 
   -- none is held
@@ -123,9 +132,8 @@ module _ {Q : Type 0} (x : Speech Body Q Reply) (acknowledged : Q → Bool) wher
       held = ap (out_hold (seat_half out)) (sym b) ∙ sym (ap (λ (o : Option (LinkMail Body)). out_held (seat_half out) o body) (seat_idle out e)) ∙ sym h
 
   -- both steps are one choice
-  pub picked : (made : ℕ) (d : Side Body Q Reply) (a : Account Q Reply) (shows new : Side Body Q Reply → Account Q Reply → Type 0) →
-      Begins x acknowledged made d a shows → ((e : Side Body Q Reply) (b : Account Q Reply) → shows e b → Holds x e (λ f. new f b)) → Picked x acknowledged made d a new
-  picked made d a shows new b holds =
-      let e = Seats.side_begins x made d d.now (mails_begin a.hand b.wish) in
-      let h = holds e (account_begins x acknowledged made d a a.hand b.wish) b.shown in
-      record { pick = record { begin = b.wish; hold = h.hold }; shown = h.shown }
+  pub picked : (made : ℕ) (d : Side Body Q Reply) (a : Account Q Reply) (begin : Option (Service Q)) (shows new : Side Body Q Reply → Account Q Reply → Type 0) →
+      Begins x acknowledged made d a begin shows → ((e : Side Body Q Reply) (b : Account Q Reply) → shows e b → Holds x e (λ f. new f b)) → Picked x acknowledged made d a begin new
+  picked made d a begin shows new b holds =
+      let h = holds (Seats.side_begins x made d d.now (mails_begin a.hand begin)) (account_begins x acknowledged made d a a.hand begin) b.shown in
+      record { hold = h.hold; shown = h.shown; took = b.took }

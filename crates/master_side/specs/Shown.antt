@@ -1,5 +1,5 @@
 -- What a side shows of the model's side and account of its slave.
-use Rattle.std.specs.Prelude.{◌≡◌, ℕ, Bool, false, Option, Some, None, [], ⊤}
+use Rattle.std.specs.Prelude.{◌≡◌, ℕ, Bool, true, false, Option, Some, None, option_map, List, [], ◌∷◌, ◌++◌, ⊤}
 use Rattle.mailbox_mail.specs.declared.mail.Mail.{Mail}
 use Rattle.link_mails.specs.Body.{Body}
 use Rattle.link_model.specs.Link.{new_link}
@@ -9,7 +9,7 @@ use Rattle.segment_model.specs.Seats
 use Rattle.segment_model.specs.Seats.{Side, next_mail, side_holds, side_next}
 use Rattle.state_exchange.specs.Stated.{Service}
 use Rattle.task_model.specs.Accounts
-use Rattle.task_model.specs.Accounts.{Account, Pick, mails_choice, mails_begin, account_begins, account_next}
+use Rattle.task_model.specs.Accounts.{Account, Started, Pick, mails_choice, mails_begin, account_begins, account_next}
 use Rattle.mailbox_master.specs.declared.halves.InwardHalf.{InwardHalf}
 use Rattle.mailbox_master.specs.Links.{OutLink}
 use Rattle.mailbox_master.specs.Any.{in_half_of}
@@ -17,6 +17,7 @@ use Rattle.mailbox_master.specs.Seat.{seat_half}
 use Rattle.master_duty.specs.declared.duty.Duty.{Duty}
 use Rattle.master_duty.specs.Stages.{stage_of}
 use Rattle.master_duty.specs.Reply.{Reply}
+use Rattle.master_side.specs.declared.carried.Wish.{Wish}
 
 -- a state service in hand: its target and its stage; the frame at which it began is stored nowhere
 abbrev pub DutyShows : Option Duty → Option Accounts.Duty → Type 0
@@ -41,12 +42,33 @@ pub record Holds {Q : Type 0} (x : Speech Body Q Reply) (d : Side Body Q Reply) 
   pub hold : Bool
   pub shown : shows (side_holds d (next_mail x d.now d.halves.out.holding hold))
 
--- a service comes into hand by some wish, or none does
-pub record Begins {Q : Type 0} (x : Speech Body Q Reply) (acknowledged : Q → Bool) (made : ℕ) (d : Side Body Q Reply) (a : Account Q Reply) (shows : Side Body Q Reply → Account Q Reply → Type 0) : Type 0 where
-  pub wish : Option (Service Q)
-  pub shown : shows (Seats.side_begins x made d d.now (mails_begin a.hand wish)) (account_begins x acknowledged made d a a.hand wish)
+-- what comes into hand by a wish: the service by mails that is laid ready, or a change of state
+abbrev pub wished : {Q : Type 0} → Wish → Option Q → Option (Service Q)
+wished Wish.Mails ready = option_map (λ q. Service.Mails q) ready
+wished (Wish.State target) ready = Some (Service.State target.state)
 
--- a slave's next step by some choice
-pub record Picked {Q : Type 0} (x : Speech Body Q Reply) (acknowledged : Q → Bool) (made : ℕ) (d : Side Body Q Reply) (a : Account Q Reply) (shows : Side Body Q Reply → Account Q Reply → Type 0) : Type 0 where
-  pub pick : Pick Q
-  pub shown : shows (side_next x made d (mails_choice a pick)) (account_next x acknowledged made d a pick)
+-- WHAT CAME INTO HAND AT A VISIT, where something did: what was wished
+abbrev pub wish_begun : {Q : Type 0} → Bool → Option Wish → Option Q → Option (Service Q)
+wish_begun true (Some wish) ready = wished wish ready
+wish_begun _ _ ready = None
+
+-- it is the service that was laid ready
+abbrev pub takes_ready : Bool → Option Wish → Bool
+takes_ready true (Some Wish.Mails) = true
+takes_ready _ _ = false
+
+-- what comes into hand before a frame, as an account counts it
+abbrev pub started_by : {Q : Type 0} → ℕ → Option (Service Q) → List (Started Q)
+started_by made None = []
+started_by made (Some service) = record { service = service; frame = made } ∷ []
+
+-- this comes into hand, where something does, and is counted
+pub record Begins {Q : Type 0} (x : Speech Body Q Reply) (acknowledged : Q → Bool) (made : ℕ) (d : Side Body Q Reply) (a : Account Q Reply) (begin : Option (Service Q)) (shows : Side Body Q Reply → Account Q Reply → Type 0) : Type 0 where
+  pub shown : shows (Seats.side_begins x made d d.now (mails_begin a.hand begin)) (account_begins x acknowledged made d a a.hand begin)
+  pub took : (account_begins x acknowledged made d a a.hand begin).started ≡ a.started ++ started_by made begin
+
+-- A SLAVE'S NEXT STEP: this comes into hand, and the next mail is taken up, or none is
+pub record Picked {Q : Type 0} (x : Speech Body Q Reply) (acknowledged : Q → Bool) (made : ℕ) (d : Side Body Q Reply) (a : Account Q Reply) (begin : Option (Service Q)) (shows : Side Body Q Reply → Account Q Reply → Type 0) : Type 0 where
+  pub hold : Bool
+  pub shown : shows (side_next x made d (mails_choice a (record { begin = begin; hold = hold }))) (account_next x acknowledged made d a (record { begin = begin; hold = hold }))
+  pub took : (account_next x acknowledged made d a (record { begin = begin; hold = hold })).started ≡ a.started ++ started_by made begin

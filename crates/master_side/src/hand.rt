@@ -20,7 +20,7 @@ pub enum Heard {
 /// The newest service by mails of a slave, and the one that is laid ready to follow it. What it shows of its
 /// row has mails in it that nobody keeps, so that is a relation; the speech of the slave's client is part of it.
 pub trait Hand {
-    ghost use Rattle.std.specs.Prelude.{◌≡◌, ◌≤◌, ◌+◌, ℕ, List, [], ◌∷◌, Bool, true, false, Option, Some, None, Ok, option_map, is_some, length};
+    ghost use Rattle.std.specs.Prelude.{◌≡◌, ◌≤◌, ◌+◌, ℕ, List, [], ◌∷◌, Bool, true, false, Option, Some, None, Ok, option_map, is_some, length, if◌then◌else◌};
     ghost use Rattle.mailbox_mail.specs.declared.mail.Mail.{Mail};
     ghost use Rattle.mailbox_mail.specs.View.{mail_seen};
     ghost use Rattle.exchange_model.specs.Exchange.{Speech};
@@ -43,11 +43,25 @@ pub trait Hand {
 
     ghost taken: { Self → Mail };
 
+    // What is left of what it was given to ask, and that once the service that was laid ready has come into hand.
+    ghost Script: { Type 0 };
+
+    ghost script: { Self → Script };
+
+    ghost behind: { Self → Script };
+
+    // A service that passes a mail on, and a hand whose newest service does.
+    ghost passed: { Asked → Bool };
+
+    ghost passes: { Self → Bool };
+
     /// The service that was laid ready comes into hand in place of the one before: whether there was one.
     fn begin(&mut self) -> bool
         ensures did { result ≡ is_some (ready self.old) }
         ensures begun { (x : Speech Body Asked Reply) (now : Option (Row Body Asked Reply)) (q : Asked) (frame : ℕ) → shows self.old x now → ready self.old ≡ Some q → (x.valid q ≡ true) × shows self.new x (Some (begun q frame)) }
         ensures none { (x : Speech Body Asked Reply) (now : Option (Row Body Asked Reply)) → shows self.old x now → ready self.old ≡ None → shows self.new x now }
+        ensures script { script self.new ≡ (if result then behind self.old else script self.old) }
+        ensures passes { (q : Asked) → ready self.old ≡ Some q → passes self.new ≡ passed q }
         ensures room { room self.new ≡ room self.old };
 
     /// The mail that goes next, if there is one, is taken to be held; `kind` and `body` are its parts. Its address is 0, as
@@ -56,6 +70,7 @@ pub trait Hand {
         ensures local { result ≡ true → (taken self.new).address ≡ 0 }
         ensures fits { result ≡ true → 6 + length (taken self.new).body.items ≤ room self.old }
         ensures held { (x : Speech Body Asked Reply) (now : Option (Row Body Asked Reply)) → shows self.old x now → Tells result (taken self.new) x now (shows self.new x) }
+        ensures script { script self.new ≡ script self.old }
         ensures room { room self.new ≡ room self.old };
 
     /// The kind of the mail that was taken last.
@@ -69,6 +84,7 @@ pub trait Hand {
     /// A mail was accepted.
     fn hear(&mut self, mail: &MailView) -> Heard
         ensures shown { (x : Speech Body Asked Reply) (frame : ℕ) (now : Option (Row Body Asked Reply)) → shows self.old x now → shows self.new x (option_map (λ r. row_heard x frame (Ok (uncounted (mail_seen mail.now)) ∷ []) r) now) }
+        ensures script { script self.new ≡ script self.old }
         ensures room { room self.new ≡ room self.old };
 
     /// Whether the newest service is over: the mail held was sent (`fresh` is false), or none is held (`idle`).
@@ -82,10 +98,12 @@ pub trait Hand {
     /// The newest service is forgotten, and the one that was laid ready: the slave is opened anew.
     fn renew(&mut self)
         ensures shown { (x : Speech Body Asked Reply) (now : Option (Row Body Asked Reply)) → shows self.old x now → shows self.new x None }
+        ensures script { script self.new ≡ script self.old }
         ensures room { room self.new ≡ room self.old };
 
     /// Whether the newest service is a mail that is passed on as it is.
-    fn is_passed(&self) -> bool;
+    fn is_passed(&self) -> bool
+        ensures { result ≡ passes self.now };
 
     ghost quiet: { (h : Self) (x : Speech Body Asked Reply) (frame : ℕ) (now : Option (Row Body Asked Reply)) → shows h x now → shows h x (option_map (λ r. row_heard x frame [] r) now) };
 }

@@ -160,7 +160,8 @@ impl<H: Hand> Side<H> {
 
     // How many octets this datagram has.
     fn len_of(&self, carried: Carried) -> usize
-        ensures { result ≡ gram_len self.now.out self.now.inn carried }
+        ensures is { result ≡ gram_len self.now.out self.now.inn carried }
+        ensures most { result ≤ 1486 }
     {
         match carried {
             Carried::Nothing => 0,
@@ -173,7 +174,9 @@ impl<H: Hand> Side<H> {
     }
 
     // How many octets the first datagram of a service has that comes into hand: a drain begins with the status, mails with their write.
-    fn first_len(&self, wish: Wish) -> usize {
+    fn first_len(&self, wish: Wish) -> usize
+        ensures { result ≤ 1486 }
+    {
         if !matches!(self.inn, InwardHalf::Clear(_)) {
             return self.len_of(Carried::Inward);
         }
@@ -189,7 +192,9 @@ impl<H: Hand> Side<H> {
         ensures shown { (x : Speech Body H.Asked Reply) (d : Seats.Side Body H.Asked Reply) (a : Account H.Asked Reply) → SideShows (H.shows self.old.hand x) self.old.out self.old.inn self.old.fresh self.old.duty d a →
             Holds x d (λ e. SideShows (H.shows self.new.hand x) self.new.out self.new.inn self.new.fresh self.new.duty e a) }
         ensures link { SameLink self.old.out self.old.inn self.old.station self.old.area self.new.out self.new.inn self.new.station self.new.area }
+        ensures script { H.script self.new.hand ≡ H.script self.old.hand }
         ensures passing { self.new.passing ≡ self.old.passing }
+        ensures most { result ≤ 1486 }
     {
         match wish {
             Some(wish) if self.is_free() => self.first_len(wish),
@@ -209,8 +214,9 @@ impl<H: Hand> Side<H> {
         ensures meant { result ≡ true → (x : Speech Body H.Asked Reply) (lens : ℕ → Lens) (d : Seats.Side Body H.Asked Reply) (a : Account H.Asked Reply) → (lens self.old.station).out ≡ self.old.out.len → (lens self.old.station).back ≡ in_area_len self.old.inn → SideShows (H.shows self.old.hand x) self.old.out self.old.inn self.old.fresh self.old.duty d a →
             Meant self.old.station self.new.carried d.halves (duty_access a.hand) (datagram_seen lens (visit_gram self.old.station index self.old.out self.old.inn self.old.duty self.new.carried)) }
         ensures full { result ≡ false → frame.new.items ≡ frame.old.items }
+        ensures room { length frame.old.items ≡ 16 → result ≡ true }
         ensures kept { SameSide self.old.out self.old.inn self.old.fresh self.old.duty self.new.out self.new.inn self.new.fresh self.new.duty }
-        ensures hand { self.new.hand ≡ self.old.hand }
+        ensures hand { (self.new.hand ≡ self.old.hand) × (self.new.passing ≡ self.old.passing) }
         ensures link { (self.new.station ≡ self.old.station) × (self.new.area ≡ self.old.area) }
     {
         self.heard = None;

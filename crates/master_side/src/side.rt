@@ -73,7 +73,7 @@ pub struct Side<H: Hand> {
 }
 
 impl<H: Hand> Side<H> {
-    ghost use Rattle.std.specs.Prelude.{◌≡◌, ℕ, Bool, true, false, List, [], ◌∷◌, Option, Some, None, is_none, is_some, option_map, length};
+    ghost use Rattle.std.specs.Prelude.{◌≡◌, ℕ, Bool, true, false, List, [], ◌∷◌, Option, Some, None, is_none, is_some, option_map, length, if◌then◌else◌};
     ghost use Rattle.exchange_model.specs.Exchange.{Speech};
     ghost use Rattle.exchange_model.specs.Rows.{Row, row_heard};
     ghost use Rattle.segment_model.specs.Slaves.{Datagram};
@@ -89,8 +89,10 @@ impl<H: Hand> Side<H> {
     ghost use Rattle.master_side.specs.Carried.{Meant, IsBack, is_errand, paused_after, turn_after, one};
     ghost use Rattle.master_side.specs.Sent.{SameLink};
     ghost use Rattle.master_side.specs.Heard.{heard_of};
-    ghost use Rattle.master_side.specs.Shown.{SideShows, Holds, Begins, Picked, new_side};
+    ghost use Rattle.master_side.specs.Shown.{SideShows, Holds, Begins, Picked, new_side, wish_begun, takes_ready};
     ghost use Rattle.master_side.specs.declared.carried.Carried.{Carried};
+    ghost use Rattle.master_side.specs.declared.carried.Wish.{Wish};
+    ghost use Rattle.state_exchange.specs.Stated.{Service};
 
     /// A slave at the end of its bring-up. The lengths are those of its mailboxes, 64 to 1,486 octets.
     pub fn new(station: u16, out_len: u16, in_len: u16, pace: u32, hand: H) -> Side<H>
@@ -102,6 +104,7 @@ impl<H: Hand> Side<H> {
         requires room { H.room hand ≡ out_len }
         ensures shown { (x : Speech Body H.Asked Reply) → H.shows hand x None → SideShows (H.shows result.hand x) result.out result.inn result.fresh result.duty new_side new_account }
         ensures link { (result.out.len ≡ out_len) × (in_area_len result.inn ≡ in_len) × (result.station ≡ station) }
+        ensures hand { (result.hand ≡ hand) × (result.passing ≡ None) }
     {
         Side {
             station,
@@ -129,6 +132,8 @@ impl<H: Hand> Side<H> {
         ensures shown { (x : Speech Body H.Asked Reply) (d : Seats.Side Body H.Asked Reply) (a : Account H.Asked Reply) → SideShows (H.shows self.old.hand x) self.old.out self.old.inn self.old.fresh self.old.duty d a →
             SideShows (H.shows self.new.hand x) self.new.out self.new.inn self.new.fresh self.new.duty new_side new_account }
         ensures link { SameLink self.old.out self.old.inn self.old.station self.old.area self.new.out self.new.inn self.new.station self.new.area }
+        ensures script { H.script self.new.hand ≡ H.script self.old.hand }
+        ensures passing { self.new.passing ≡ None }
     {
         self.out = OutwardSeat::new(self.station, self.out_len);
         self.inn = InwardHalf::Clear(new_inward(self.station, self.in_len));
@@ -147,6 +152,7 @@ impl<H: Hand> Side<H> {
         ensures shown { (x : Speech Body H.Asked Reply) (d : Seats.Side Body H.Asked Reply) (a : Account H.Asked Reply) → SideShows (H.shows self.old.hand x) self.old.out self.old.inn self.old.fresh self.old.duty d a →
             Holds x d (λ e. SideShows (H.shows self.new.hand x) self.new.out self.new.inn self.new.fresh self.new.duty e a) }
         ensures link { SameLink self.old.out self.old.inn self.old.station self.old.area self.new.out self.new.inn self.new.station self.new.area }
+        ensures script { H.script self.new.hand ≡ H.script self.old.hand }
         ensures passing { self.new.passing ≡ self.old.passing }
     {
         if !self.out.is_idle() {
@@ -173,8 +179,11 @@ impl<H: Hand> Side<H> {
     // The service by mails that was laid ready comes into hand: whether there was one.
     fn begin_mails(&mut self) -> bool
         ensures picked { (x : Speech Body H.Asked Reply) (made : ℕ) (d : Seats.Side Body H.Asked Reply) (a : Account H.Asked Reply) → SideShows (H.shows self.old.hand x) self.old.out self.old.inn self.old.fresh self.old.duty d a → is_free x d d.now ≡ true → self.old.duty ≡ None →
-            Begins x H.acknowledged made d a (λ e b. SideShows (H.shows self.new.hand x) self.new.out self.new.inn self.new.fresh self.new.duty e b) }
+            Begins x H.acknowledged made d a (wish_begun result (Some Wish.Mails) (H.ready self.old.hand)) (λ e b. SideShows (H.shows self.new.hand x) self.new.out self.new.inn self.new.fresh self.new.duty e b) }
         ensures link { SameLink self.old.out self.old.inn self.old.station self.old.area self.new.out self.new.inn self.new.station self.new.area }
+        ensures did { result ≡ is_some (H.ready self.old.hand) }
+        ensures script { H.script self.new.hand ≡ (if result then H.behind self.old.hand else H.script self.old.hand) }
+        ensures unpassed { (result ≡ true → (q : H.Asked) → H.ready self.old.hand ≡ Some q → H.passed q ≡ false) → self.new.passing ≡ None }
     {
         let began = self.hand.begin();
         let passed = began && self.hand.is_passed();
@@ -187,8 +196,9 @@ impl<H: Hand> Side<H> {
     // A state service comes into hand, and drains.
     fn begin_state(&mut self, target: Target)
         ensures picked { (x : Speech Body H.Asked Reply) (made : ℕ) (d : Seats.Side Body H.Asked Reply) (a : Account H.Asked Reply) → SideShows (H.shows self.old.hand x) self.old.out self.old.inn self.old.fresh self.old.duty d a → is_free x d d.now ≡ true → is_acknowledged H.acknowledged d d.now ≡ true → self.old.duty ≡ None →
-            Begins x H.acknowledged made d a (λ e b. SideShows (H.shows self.new.hand x) self.new.out self.new.inn self.new.fresh self.new.duty e b) }
+            Begins x H.acknowledged made d a (Some (Service.State target.state)) (λ e b. SideShows (H.shows self.new.hand x) self.new.out self.new.inn self.new.fresh self.new.duty e b) }
         ensures link { SameLink self.old.out self.old.inn self.old.station self.old.area self.new.out self.new.inn self.new.station self.new.area }
+        ensures kept { (self.new.hand ≡ self.old.hand) × (self.new.passing ≡ self.old.passing) }
     {
         let duty = Duty::new(target.state);
         self.duty = Some(duty);
@@ -197,17 +207,23 @@ impl<H: Hand> Side<H> {
 
     // A service comes into hand where that may be: whether one did.
     fn begin(&mut self, wish: Option<Wish>) -> bool
-        ensures picked { (x : Speech Body H.Asked Reply) (made : ℕ) (d : Seats.Side Body H.Asked Reply) (a : Account H.Asked Reply) → SideShows (H.shows self.old.hand x) self.old.out self.old.inn self.old.fresh self.old.duty d a → Begins x H.acknowledged made d a (λ e b. SideShows (H.shows self.new.hand x) self.new.out self.new.inn self.new.fresh self.new.duty e b) }
+        ensures picked { (x : Speech Body H.Asked Reply) (made : ℕ) (d : Seats.Side Body H.Asked Reply) (a : Account H.Asked Reply) → SideShows (H.shows self.old.hand x) self.old.out self.old.inn self.old.fresh self.old.duty d a →
+            Begins x H.acknowledged made d a (wish_begun result wish (H.ready self.old.hand)) (λ e b. SideShows (H.shows self.new.hand x) self.new.out self.new.inn self.new.fresh self.new.duty e b) }
         ensures link { SameLink self.old.out self.old.inn self.old.station self.old.area self.new.out self.new.inn self.new.station self.new.area }
-        ensures waits { is_some self.old.passing ≡ true → self.new ≡ self.old }
+        ensures waits { is_some self.old.passing ≡ true → (result ≡ false) × (self.new ≡ self.old) }
+        ensures ready { takes_ready result wish ≡ true → is_some (H.ready self.old.hand) ≡ true }
+        ensures script { H.script self.new.hand ≡ (if takes_ready result wish then H.behind self.old.hand else H.script self.old.hand) }
+        ensures unpassed { self.old.passing ≡ None → (takes_ready result wish ≡ true → (q : H.Asked) → H.ready self.old.hand ≡ Some q → H.passed q ≡ false) → self.new.passing ≡ None }
     {
         if !self.is_free() {
             return false;
         }
+        let Some(wish) = wish else {
+            return false;
+        };
         match wish {
-            None => false,
-            Some(Wish::Mails) => self.begin_mails(),
-            Some(Wish::State(target)) => {
+            Wish::Mails => self.begin_mails(),
+            Wish::State(target) => {
                 self.begin_state(target);
                 true
             }
@@ -217,10 +233,15 @@ impl<H: Hand> Side<H> {
     /// What comes before this slave's datagram: a service comes into hand, where one may, and the next mail is
     /// held. Tells whether a service came into hand.
     pub fn choose(&mut self, wish: Option<Wish>) -> bool
-        ensures picked { (x : Speech Body H.Asked Reply) (made : ℕ) (d : Seats.Side Body H.Asked Reply) (a : Account H.Asked Reply) → SideShows (H.shows self.old.hand x) self.old.out self.old.inn self.old.fresh self.old.duty d a → Picked x H.acknowledged made d a (λ e b. SideShows (H.shows self.new.hand x) self.new.out self.new.inn self.new.fresh self.new.duty e b) }
+        ensures picked { (x : Speech Body H.Asked Reply) (made : ℕ) (d : Seats.Side Body H.Asked Reply) (a : Account H.Asked Reply) → SideShows (H.shows self.old.hand x) self.old.out self.old.inn self.old.fresh self.old.duty d a →
+            Picked x H.acknowledged made d a (wish_begun result wish (H.ready self.old.hand)) (λ e b. SideShows (H.shows self.new.hand x) self.new.out self.new.inn self.new.fresh self.new.duty e b) }
         ensures link { SameLink self.old.out self.old.inn self.old.station self.old.area self.new.out self.new.inn self.new.station self.new.area }
+        ensures still { is_some self.old.passing ≡ true → result ≡ false }
         ensures waits { is_some self.old.passing ≡ true → (x : Speech Body H.Asked Reply) (d : Seats.Side Body H.Asked Reply) (a : Account H.Asked Reply) → SideShows (H.shows self.old.hand x) self.old.out self.old.inn self.old.fresh self.old.duty d a →
             Holds x d (λ e. SideShows (H.shows self.new.hand x) self.new.out self.new.inn self.new.fresh self.new.duty e a) }
+        ensures ready { takes_ready result wish ≡ true → is_some (H.ready self.old.hand) ≡ true }
+        ensures script { H.script self.new.hand ≡ (if takes_ready result wish then H.behind self.old.hand else H.script self.old.hand) }
+        ensures unpassed { self.old.passing ≡ None → (takes_ready result wish ≡ true → (q : H.Asked) → H.ready self.old.hand ≡ Some q → H.passed q ≡ false) → self.new.passing ≡ None }
     {
         let began = self.begin(wish);
         self.hold_next();
@@ -233,6 +254,8 @@ impl<H: Hand> Side<H> {
             SideShows (H.shows self.new.hand x) self.new.out self.new.inn self.new.fresh self.new.duty (Seats.side_lost self.old.station (one b) d) a }
         ensures link { SameLink self.old.out self.old.inn self.old.station self.old.area self.new.out self.new.inn self.new.station self.new.area }
         ensures carried { self.new.carried ≡ self.old.carried }
+        ensures script { H.script self.new.hand ≡ H.script self.old.hand }
+        ensures unpassed { self.old.passing ≡ None → self.new.passing ≡ None }
     {
         match self.carried {
             Carried::Write => self.write_lost(),
@@ -245,6 +268,7 @@ impl<H: Hand> Side<H> {
     fn write_lost(&mut self)
         ensures fresh { self.new.fresh ≡ false }
         ensures kept { (self.new.out ≡ self.old.out) × (self.new.inn ≡ self.old.inn) × (self.new.hand ≡ self.old.hand) × (self.new.duty ≡ self.old.duty) × (self.new.station ≡ self.old.station) × (self.new.area ≡ self.old.area) × (self.new.carried ≡ self.old.carried) }
+        ensures unpassed { self.old.passing ≡ None → self.new.passing ≡ None }
     {
         let passing = told(self.passing, self.fresh);
         self.passing = passing;
@@ -260,6 +284,8 @@ impl<H: Hand> Side<H> {
         ensures link { SameLink self.old.out self.old.inn self.old.station self.old.area self.new.out self.new.inn self.new.station self.new.area }
         ensures paused { self.new.paused ≡ paused_after self.old.carried (in_half_of self.old.inn).state counter self.old.paused }
         ensures turn { self.new.turn ≡ turn_after self.old.carried (in_half_of self.old.inn).state counter self.old.turn }
+        ensures script { H.script self.new.hand ≡ H.script self.old.hand }
+        ensures unpassed { self.old.passing ≡ None → self.new.passing ≡ None }
     {
         let passing = written(told(self.passing, self.fresh), counter);
         self.passing = passing;
@@ -274,6 +300,8 @@ impl<H: Hand> Side<H> {
         ensures kept { (self.new.out ≡ self.old.out) × (self.new.inn ≡ self.old.inn) × (self.new.fresh ≡ self.old.fresh) × (self.new.duty ≡ self.old.duty) }
         ensures link { SameLink self.old.out self.old.inn self.old.station self.old.area self.new.out self.new.inn self.new.station self.new.area }
         ensures pace { (self.new.paused ≡ self.old.paused) × (self.new.turn ≡ self.old.turn) }
+        ensures script { H.script self.new.hand ≡ H.script self.old.hand }
+        ensures unpassed { self.old.passing ≡ None → self.new.passing ≡ None }
     {
         if let Some(mail) = mail {
             let what = self.hand.hear(&mail);
@@ -289,6 +317,7 @@ impl<H: Hand> Side<H> {
         ensures kept { (self.new.out ≡ self.old.out) × (self.new.inn ≡ self.old.inn) × (self.new.fresh ≡ self.old.fresh) × (self.new.duty ≡ self.old.duty) × (self.new.hand ≡ self.old.hand) }
         ensures link { SameLink self.old.out self.old.inn self.old.station self.old.area self.new.out self.new.inn self.new.station self.new.area }
         ensures pace { (self.new.paused ≡ self.old.paused) × (self.new.turn ≡ self.old.turn) }
+        ensures unpassed { self.old.passing ≡ None → self.new.passing ≡ None }
     {
         if !was_read {
             return;
@@ -316,6 +345,8 @@ impl<H: Hand> Side<H> {
         ensures link { SameLink self.old.out self.old.inn self.old.station self.old.area self.new.out self.new.inn self.new.station self.new.area }
         ensures paused { self.new.paused ≡ paused_after self.old.carried (in_half_of self.old.inn).state counter self.old.paused }
         ensures turn { self.new.turn ≡ turn_after self.old.carried (in_half_of self.old.inn).state counter self.old.turn }
+        ensures script { H.script self.new.hand ≡ H.script self.old.hand }
+        ensures unpassed { self.old.passing ≡ None → self.new.passing ≡ None }
     {
         let got = self.inn.returned(counter, octets);
         let was_read = got.is_some();
@@ -336,6 +367,8 @@ impl<H: Hand> Side<H> {
         ensures link { SameLink self.old.out self.old.inn self.old.station self.old.area self.new.out self.new.inn self.new.station self.new.area }
         ensures paused { self.new.paused ≡ paused_after self.old.carried (in_half_of self.old.inn).state counter self.old.paused }
         ensures turn { self.new.turn ≡ turn_after self.old.carried (in_half_of self.old.inn).state counter self.old.turn }
+        ensures script { H.script self.new.hand ≡ H.script self.old.hand }
+        ensures unpassed { self.old.passing ≡ None → self.new.passing ≡ None }
     {
         if counter == 0 {
             return;
@@ -359,6 +392,8 @@ impl<H: Hand> Side<H> {
         ensures link { SameLink self.old.out self.old.inn self.old.station self.old.area self.new.out self.new.inn self.new.station self.new.area }
         ensures paused { self.new.paused ≡ paused_after self.old.carried (in_half_of self.old.inn).state counter self.old.paused }
         ensures turn { self.new.turn ≡ turn_after self.old.carried (in_half_of self.old.inn).state counter self.old.turn }
+        ensures script { H.script self.new.hand ≡ H.script self.old.hand }
+        ensures unpassed { self.old.passing ≡ None → self.new.passing ≡ None }
     {
         match self.carried {
             Carried::Nothing => {}

@@ -1,7 +1,6 @@
 -- The datagram of a visit is one of its slave, of which a session speaks.
-use Rattle.std.proofs.Common.{◌≡◌, inl, inr, ℕ, ◌+◌, ◌*◌, ◌==◌, Bool, true, false, List, [], ◌∷◌, Option, Some, None, refl, sym, ap, ◌∙◌, subst}
+use Rattle.std.proofs.Common.{◌≡◌, inl, inr, ℕ, ◌+◌, ◌*◌, Bool, true, false, [], ◌∷◌, Option, Some, None, refl, sym, ap, ◌∙◌, subst}
 use Rattle.std.specs.Prelude.{◌&&◌, not, is_some, if◌then◌else◌}
-use Rattle.datagrams.specs.Datagram as Raw
 use Rattle.frame_view.specs.View.{Lens, datagram_seen}
 use Rattle.link_mails.specs.Body.{Body}
 use Rattle.link_model.specs.Link.{Halves}
@@ -23,13 +22,11 @@ use Rattle.master_side.specs.declared.carried.Carried.{Carried}
 use Rattle.master_side.specs.declared.passing.Passing.{Passing}
 use Rattle.master_side.specs.Carried.{Meant, is_clear, link_choice, drain_choice, errand_choice, mails_choice, choice_of}
 use Rattle.master_side.specs.Sent.{write_gram, inward_gram, errand_gram, duty_gram, visit_gram}
-use Rattle.life_model.specs.Lives
 use Rattle.life_model.specs.Lives.{Life, Spot}
 use Rattle.life_frames.specs.Frames.{IsOpenGram, IsRequest, GramFor}
-use Rattle.life_frames.specs.Shares.{Lived}
 use Rattle.master_tour.specs.declared.stop.Stand.{Stand}
-use Rattle.master_tour.specs.Stands.{StopShows, StandMeant, stand_gram}
-use Rattle.master_tour.specs.Made.{IsPlanned, IsSized, StopLives}
+use Rattle.master_tour.specs.Stands.{StandMeant, stand_gram}
+use Rattle.master_tour.specs.Made.{StopLives}
 
 -- THE STATUS OF MAILBOX 0 is read only where the inward half is clear
 never_full : (b : Bool) → (if b then Carried.Write else Carried.Inward) ≡ Carried.Full → ⊥

@@ -10,3 +10,6 @@ pub mod Steps
 pub mod Mades
 pub mod Sents
 pub mod Orders
+pub mod Counts
+pub mod Unpassed
+pub mod Goes

@@ -1,18 +1,16 @@
 -- A slave while a frame is made: it is looked at ahead of its visit, visited, and shown behind the last visit.
-use Rattle.std.proofs.Common.{◌≡◌, ℕ, zero, suc, ◌+◌, ◌-◌, ◌<◌, ◌==◌, Bool, true, false, List, [], ◌∷◌, ◌++◌, length, Option, Some, None, refl, sym, ap, ◌∙◌, subst, arith, length-append}
-use Rattle.std.specs.Prelude.{◌&&◌, is_some, if◌then◌else◌, nat_le, nat_lt}
+use Rattle.std.proofs.Common.{◌≡◌, ℕ, suc, ◌+◌, Bool, true, false, List, [], ◌∷◌, ◌++◌, length, Option, Some, None, refl, sym, ap, ◌∙◌, subst, arith, length-append, append-nil}
+use Rattle.std.specs.Prelude.{is_some, if◌then◌else◌, nat_le, nat_lt}
 use Rattle.std.proofs.lemmas.Bool.{ltb-true, leb-true}
 use Rattle.datagrams.specs.Datagram as Raw
 use Rattle.datagrams.specs.Frame.{IsBegun}
 use Rattle.exchange_model.specs.Exchange.{Speech}
 use Rattle.frame_view.specs.View.{Lens, datagram_seen}
-use Rattle.frame_view.specs.Seen.{datagrams_seen}
 use Rattle.link_mails.specs.Body.{Body}
-use Rattle.link_model.specs.Master.{InState}
 use Rattle.mailbox_mail.specs.declared.mail.Mail.{Mail}
 use Rattle.mailbox_master.specs.declared.halves.InwardHalf.{InwardHalf}
 use Rattle.mailbox_master.specs.Links.{OutLink}
-use Rattle.mailbox_master.specs.Any.{in_half_of, in_station, in_area_len}
+use Rattle.mailbox_master.specs.Any.{in_station, in_area_len}
 use Rattle.segment_model.specs.Ends.{Passing}
 use Rattle.segment_model.specs.Seats.{Side}
 use Rattle.task_model.specs.Accounts.{Account, Pick}
@@ -22,15 +20,18 @@ use Rattle.master_side.specs.declared.carried.Carried.{Carried}
 use Rattle.master_side.specs.declared.passing.Passing as Side
 use Rattle.life_model.specs.Lives
 use Rattle.life_model.specs.Lives.{Life, Era, Spot, life_next, era_next, passing_begins}
-use Rattle.life_frames.specs.Frames.{AllNotFor, IsNotFor, HasOne, GramFor, AreApart}
+use Rattle.life_frames.specs.Frames.{AllNotFor, IsNotFor, HasOne, AreApart}
 use Rattle.life_frames.specs.Shares.{Lived, AllBoth, AllFrom, AllThree}
 use Rattle.master_tour.specs.Walks.{EachPair}
 use Rattle.life_frames.proofs.Frames.{none_more, one_more, one_new}
-use Rattle.life_frames.proofs.Twice.{twice, stays, still_stands, holds, BothOf}
+use Rattle.life_frames.proofs.Twice.{twice, stays, still_stands}
 use Rattle.al_state.specs.declared.bringing.BringUp.{BringUp}
 use Rattle.master_tour.specs.declared.stop.Stand.{Stand}
-use Rattle.master_tour.specs.Stands.{StopShows, StandMeant, NextShows, HoldShows, stand_gram}
-use Rattle.master_tour.specs.Made.{IsPlanned, IsSized, StopLives, StopHas, IsClearFor, StopMade, is_in}
+use Rattle.master_tour.specs.Stands.{StopShows, StandMeant, NextShows, HoldShows, Counts, stand_gram}
+use Rattle.state_exchange.specs.Stated.{Service}
+use Rattle.master_side.specs.Shown.{started_by}
+use Rattle.master_tour.specs.Made.{IsPlanned, IsSized, StopLives, StopHas, IsClearFor, ComesAt, StopMade, is_in}
+use Rattle.master_tour.proofs.Counts.{counted_begin, counts_none}
 use Rattle.master_tour.proofs.Grams.{gram_for}
 use Rattle.master_tour.proofs.Steps.{Hits, hits_apart, differ, Grown}
 
@@ -107,14 +108,16 @@ pub record Visited (lens : ℕ → Lens) (P : List Raw.Datagram → Type 0) (spo
 
 module _ {Q : Type 0} (x : Speech Body Q Reply) (acknowledged : Q → Bool) (more : Body → Bool) (passed : Q → Bool) (made : ℕ) (lens : ℕ → Lens) (recover index : ℕ) where
   -- ANOTHER SLAVE stays as it is
-  pub made_other : (shows : Side Body Q Reply → Account Q Reply → Type 0) (station place start : ℕ) (stand : Stand) (spare : ℕ) (out : OutLink (Option Mail)) (inn : InwardHalf) (duty : Option Duty) (carried : Carried) (passing : Option Side.Passing) (under : Bool) (at : ℕ) (left next : List ℕ) (ds es : List Raw.Datagram) (i : ℕ) (a : Lived Q Reply) (other : Spot) →
-      ((k : ℕ) → is_in k next ≡ true → is_in k left ≡ true) → Hits lens other es → AreApart other a.spot →
-      StopMade x acknowledged more passed made lens recover index shows station place start stand spare out inn duty carried passing under at left ds i a →
-      StopMade x acknowledged more passed made lens recover index shows station place start stand spare out inn duty carried passing under at next (ds ++ es) i a
-  made_other shows station place start stand spare out inn duty carried passing under at left next ds es i a other n h p m = record {
+  pub made_other : (shows : Side Body Q Reply → Account Q Reply → Type 0) (station place start : ℕ) (stand : Stand) (spare : ℕ) (out : OutLink (Option Mail)) (inn : InwardHalf) (duty : Option Duty) (carried : Carried) (passing : Option Side.Passing) (under : Bool) (at : ℕ) (left next : List ℕ) (begun now : ℕ → Option (Service Q)) (ds es : List Raw.Datagram) (i : ℕ) (a : Lived Q Reply) (other : Spot) →
+      now a.spot.place ≡ begun a.spot.place → ((k : ℕ) → is_in k next ≡ true → is_in k left ≡ true) → Hits lens other es → AreApart other a.spot →
+      StopMade x acknowledged more passed made begun lens recover index shows station place start stand spare out inn duty carried passing under at left ds i a →
+      StopMade x acknowledged more passed made now lens recover index shows station place start stand spare out inn duty carried passing under at next (ds ++ es) i a
+  made_other shows station place start stand spare out inn duty carried passing under at left next begun now ds es i a other w n h p m = record {
     life = m.life;
     pick = m.pick;
     next = m.next;
+    wish = m.wish ∙ sym w;
+    took = m.took;
     lives = m.lives;
     idle = λ e. m.idle (n i e);
     waits = λ e. m.waits (n i e);
@@ -124,15 +127,18 @@ module _ {Q : Type 0} (x : Speech Body Q Reply) (acknowledged : Q → Bool) (mor
 
   -- ITS DATAGRAM IS LOOKED AT AHEAD: the next mail may be taken up, and nothing begins
   pub made_ahead : (shows shows' : Side Body Q Reply → Account Q Reply → Type 0) (station station' place place' start start' : ℕ) (stand stand' : Stand) (spare spare' : ℕ) (out out' : OutLink (Option Mail)) (inn inn' : InwardHalf) (duty duty' : Option Duty) (carried carried' : Carried) (passing passing' : Option Side.Passing) (under under' : Bool) (at at' : ℕ)
-      (left : List ℕ) (ds : List Raw.Datagram) (i : ℕ) (a : Lived Q Reply) → station' ≡ station → place' ≡ place → start' ≡ start → stand' ≡ stand → out'.len ≡ out.len → in_area_len inn' ≡ in_area_len inn → passing' ≡ passing → under' ≡ under → is_in i left ≡ true →
-      (m : StopMade x acknowledged more passed made lens recover index shows station place start stand spare out inn duty carried passing under at left ds i a) → HoldShows x acknowledged more passed made m.life (StopShows shows' recover a.spot stand' spare') →
-      StopMade x acknowledged more passed made lens recover index shows' station' place' start' stand' spare' out' inn' duty' carried' passing' under' at' left ds i a
-  made_ahead shows shows' station station' place place' start start' stand stand' spare spare' out out' inn inn' duty duty' carried carried' passing passing' under under' at at' left ds i a b c d e f g p u k m h =
+      (left : List ℕ) (begun : ℕ → Option (Service Q)) (ds : List Raw.Datagram) (i : ℕ) (a : Lived Q Reply) → station' ≡ station → place' ≡ place → start' ≡ start → stand' ≡ stand → out'.len ≡ out.len → in_area_len inn' ≡ in_area_len inn → passing' ≡ passing → under' ≡ under → is_in i left ≡ true →
+      (m : StopMade x acknowledged more passed made begun lens recover index shows station place start stand spare out inn duty carried passing under at left ds i a) → HoldShows x acknowledged more passed made m.life (StopShows shows' recover a.spot stand' spare') →
+      StopMade x acknowledged more passed made begun lens recover index shows' station' place' start' stand' spare' out' inn' duty' carried' passing' under' at' left ds i a
+  made_ahead shows shows' station station' place place' start start' stand stand' spare spare' out out' inn inn' duty duty' carried carried' passing passing' under under' at at' left begun ds i a b c d e f g p u k m h =
       let w = next_twice x acknowledged more passed made a.life m.life m.pick m.next (m.idle k) (record { begin = None; hold = h.hold }) in
+      let none = m.idle k ∙ sym (w.idle refl) in
       record {
         life = life_next x acknowledged more passed made m.life m.life.stand (record { begin = None; hold = h.hold });
         pick = w.one;
         next = w.is;
+        wish = sym none ∙ m.wish;
+        took = counts_none x acknowledged more passed made m.life m.life.stand h.hold ∙ m.took ∙ ap (λ z. a.life.era.account.started ++ started_by made z) none;
         lives = record { planned = planned_on lens a.spot station station' place place' start start' stand stand' out.len out'.len (in_area_len inn) (in_area_len inn') b c d e f g m.lives.planned; shown = h.shown };
         idle = λ t. w.idle refl;
         waits = λ t. ap is_some (passing_stays x acknowledged more passed made m.life m.life.stand h.hold) ∙ m.waits k ∙ ap is_some (sym p);
@@ -142,26 +148,39 @@ module _ {Q : Type 0} (x : Speech Body Q Reply) (acknowledged : Q → Bool) (mor
 
   -- IT IS VISITED: a service comes into hand, where one may, and its datagram stands next, if there is room for it
   pub made_visit : (shows shows' : Side Body Q Reply → Account Q Reply → Type 0) (station station' place place' start start' : ℕ) (stand stand' : Stand) (spare spare' : ℕ) (out out' : OutLink (Option Mail)) (inn inn' : InwardHalf) (duty duty' : Option Duty) (carried carried' : Carried) (passing passing' : Option Side.Passing) (under under' : Bool) (at at' : ℕ)
-      (left next : List ℕ) (ds : List Raw.Datagram) (i : ℕ) (a : Lived Q Reply) → station' ≡ station → place' ≡ place → start' ≡ start → stand' ≡ stand → out'.len ≡ out.len → in_area_len inn' ≡ in_area_len inn → out'.station ≡ station' → in_station inn' ≡ station' → nat_le 1 station' ≡ true → nat_lt place' 16 ≡ true →
+      (left next : List ℕ) (begun now : ℕ → Option (Service Q)) (begin : Option (Service Q)) (ds : List Raw.Datagram) (i : ℕ) (a : Lived Q Reply) → ComesAt begun now place begin → station' ≡ station → place' ≡ place → start' ≡ start → stand' ≡ stand → out'.len ≡ out.len → in_area_len inn' ≡ in_area_len inn → out'.station ≡ station' → in_station inn' ≡ station' → nat_le 1 station' ≡ true → nat_lt place' 16 ≡ true →
       (under' ≡ true → at' ≡ length ds) → (under' ≡ true → IsClearFor stand' carried' inn') → is_in i left ≡ true → is_in i next ≡ false →
-      (m : StopMade x acknowledged more passed made lens recover index shows station place start stand spare out inn duty carried passing under at left ds i a) →
-      NextShows x acknowledged more passed made m.life (λ n. StopShows shows' recover a.spot stand' spare' n × (under' ≡ true → StandMeant lens station' index carried' stand' n (datagram_seen lens (stand_gram station' index stand' out' inn' duty' carried')))) →
-      Visited lens (λ es. StopMade x acknowledged more passed made lens recover index shows' station' place' start' stand' spare' out' inn' duty' carried' passing' under' at' next (ds ++ es) i a) a.spot under' (stand_gram station' index stand' out' inn' duty' carried')
-  made_visit shows shows' station station' place place' start start' stand stand' spare spare' out out' inn inn' duty duty' carried carried' passing passing' under under' at at' left next ds i a b c d e f g os is named near stands clear k n m h = go under' refl
+      (m : StopMade x acknowledged more passed made begun lens recover index shows station place start stand spare out inn duty carried passing under at left ds i a) →
+      NextShows x acknowledged more passed made m.life begin (λ n. StopShows shows' recover a.spot stand' spare' n × (under' ≡ true → StandMeant lens station' index carried' stand' n (datagram_seen lens (stand_gram station' index stand' out' inn' duty' carried')))) →
+      Visited lens (λ es. StopMade x acknowledged more passed made now lens recover index shows' station' place' start' stand' spare' out' inn' duty' carried' passing' under' at' next (ds ++ es) i a) a.spot under' (stand_gram station' index stand' out' inn' duty' carried')
+  made_visit shows shows' station station' place place' start start' stand stand' spare spare' out out' inn inn' duty duty' carried carried' passing passing' under under' at at' left next begun now begin ds i a comes b c d e f g os is named near stands clear k n m h = go under' refl
     where
+      pick : Pick Q
+      pick = record { begin = begin; hold = h.hold }
+
       life : Life Body Q Reply
-      life = life_next x acknowledged more passed made m.life m.life.stand h.pick
+      life = life_next x acknowledged more passed made m.life m.life.stand pick
+
+      one : NextTwice x acknowledged more passed made a.life m.life pick
+      one = next_twice x acknowledged more passed made a.life m.life m.pick m.next (m.idle k) pick
+
+      count : Counts made begin a.life life
+      count = h.took ∙ ap (λ z. z ++ started_by made begin) (m.took ∙ ap (λ z. a.life.era.account.started ++ started_by made z) (m.idle k) ∙ append-nil a.life.era.account.started)
+
+      same : one.one.begin ≡ begin
+      same = counted_begin x acknowledged more passed made a.life a.life.stand one.one begin (subst (λ z. Counts made begin a.life z) one.is count) one.idle
 
       lives : StopLives lens recover shows' station' place' start' stand' spare' out'.len (in_area_len inn') (record { spot = a.spot; life = life })
       lives = record { planned = planned_on lens a.spot station station' place place' start start' stand stand' out.len out'.len (in_area_len inn) (in_area_len inn') b c d e f g m.lives.planned; shown = h.shown.0 }
 
-      goes : (es : List Raw.Datagram) → StopHas lens index a.spot station' stand' out' inn' duty' carried' under' at' (ds ++ es) life → StopMade x acknowledged more passed made lens recover index shows' station' place' start' stand' spare' out' inn' duty' carried' passing' under' at' next (ds ++ es) i a
+      goes : (es : List Raw.Datagram) → StopHas lens index a.spot station' stand' out' inn' duty' carried' under' at' (ds ++ es) life → StopMade x acknowledged more passed made now lens recover index shows' station' place' start' stand' spare' out' inn' duty' carried' passing' under' at' next (ds ++ es) i a
       goes es has =
-          let w = next_twice x acknowledged more passed made a.life m.life m.pick m.next (m.idle k) h.pick in
           record {
             life = life;
-            pick = w.one;
-            next = w.is;
+            pick = one.one;
+            next = one.is;
+            wish = same ∙ sym comes.here ∙ ap now m.lives.planned.stands.place_is;
+            took = subst (λ z. Counts made z a.life life) (sym same) count;
             lives = lives;
             idle = λ t. absurd (let z = sym t ∙ n in cc);
             waits = λ t. absurd (let z = sym t ∙ n in cc);
@@ -172,7 +191,7 @@ module _ {Q : Type 0} (x : Speech Body Q Reply) (acknowledged : Q → Bool) (mor
       bare : AllNotFor a.spot ds
       bare = none_yet lens index a.spot station stand out inn duty carried under at ds m.life (m.bare k) m.has
 
-      go : (z : Bool) → under' ≡ z → Visited lens (λ es. StopMade x acknowledged more passed made lens recover index shows' station' place' start' stand' spare' out' inn' duty' carried' passing' under' at' next (ds ++ es) i a) a.spot under' (stand_gram station' index stand' out' inn' duty' carried')
+      go : (z : Bool) → under' ≡ z → Visited lens (λ es. StopMade x acknowledged more passed made now lens recover index shows' station' place' start' stand' spare' out' inn' duty' carried' passing' under' at' next (ds ++ es) i a) a.spot under' (stand_gram station' index stand' out' inn' duty' carried')
       go false u = record { grows = []; hits = Hits.nothing; is = λ t. absurd (let z = sym t ∙ u in cc); none = λ t. refl; goes = goes [] (StopHas.none u (subst (AllNotFor a.spot) (sym (nothing_more ds)) bare)) }
       go true u =
           let gram = stand_gram station' index stand' out' inn' duty' carried' in
@@ -191,12 +210,14 @@ module _ {Q : Type 0} (x : Speech Body Q Reply) (acknowledged : Q → Bool) (mor
           }
 
 -- BEFORE ANY VISIT of a frame a slave has no datagram in it
-pub made_first : {Q : Type 0} (x : Speech Body Q Reply) (acknowledged : Q → Bool) (more : Body → Bool) (passed : Q → Bool) (made : ℕ) (lens : ℕ → Lens) (recover index : ℕ) (shows : Side Body Q Reply → Account Q Reply → Type 0) (station place start : ℕ) (stand : Stand) (spare : ℕ) (out : OutLink (Option Mail)) (inn : InwardHalf) (duty : Option Duty) (carried : Carried) (passing : Option Side.Passing) (under : Bool) (at : ℕ) (left : List ℕ) (i : ℕ) (a : Lived Q Reply) →
-    under ≡ false → is_some a.life.era.passing ≡ is_some passing → StopLives lens recover shows station place start stand spare out.len (in_area_len inn) a → StopMade x acknowledged more passed made lens recover index shows station place start stand spare out inn duty carried passing under at left [] i a
-made_first x acknowledged more passed made lens recover index shows station place start stand spare out inn duty carried passing under at left i a u w v = record {
+pub made_first : {Q : Type 0} (x : Speech Body Q Reply) (acknowledged : Q → Bool) (more : Body → Bool) (passed : Q → Bool) (made : ℕ) (lens : ℕ → Lens) (recover index : ℕ) (shows : Side Body Q Reply → Account Q Reply → Type 0) (station place start : ℕ) (stand : Stand) (spare : ℕ) (out : OutLink (Option Mail)) (inn : InwardHalf) (duty : Option Duty) (carried : Carried) (passing : Option Side.Passing) (under : Bool) (at : ℕ) (left : List ℕ) (begun : ℕ → Option (Service Q)) (i : ℕ) (a : Lived Q Reply) →
+    ((k : ℕ) → begun k ≡ None) → under ≡ false → is_some a.life.era.passing ≡ is_some passing → StopLives lens recover shows station place start stand spare out.len (in_area_len inn) a → StopMade x acknowledged more passed made begun lens recover index shows station place start stand spare out inn duty carried passing under at left [] i a
+made_first x acknowledged more passed made lens recover index shows station place start stand spare out inn duty carried passing under at left begun i a n u w v = record {
   life = a.life;
   pick = record { begin = None; hold = false };
   next = sym (stays x acknowledged more passed made a.life a.life.stand);
+  wish = sym (n a.spot.place);
+  took = sym (append-nil a.life.era.account.started);
   lives = record { planned = v.planned; shown = v.shown };
   idle = λ e. refl;
   waits = λ e. w;

@@ -1,6 +1,6 @@
 -- A frame that was made, for each slave: what its epoch asks for, and what is under way of it.
 use Rattle.std.proofs.Common.{◌≡◌, inl, inr, ℕ, zero, suc, ◌==◌, Bool, true, false, List, [], ◌∷◌, ◌++◌, length, Option, Some, None, refl, sym, ap, ◌∙◌, subst, eq-eqb, arith}
-use Rattle.std.specs.Prelude.{◌⊎◌, ◌≤◌, if◌then◌else◌, cond, nat_le}
+use Rattle.std.specs.Prelude.{◌≤◌, if◌then◌else◌, cond, nat_le}
 use Rattle.std.proofs.lemmas.Bool.{leb-true}
 use Rattle.datagrams.specs.Datagram as Raw
 use Rattle.exchange_model.specs.Exchange.{Speech}
@@ -16,9 +16,10 @@ use Rattle.mailbox_mail.specs.declared.mail.Mail.{Mail}
 use Rattle.mailbox_master.specs.declared.halves.InwardHalf.{InwardHalf}
 use Rattle.mailbox_master.specs.Links.{OutLink}
 use Rattle.mailbox_master.specs.Any.{in_half_of, in_station, in_area_len}
-use Rattle.segment_model.specs.Slaves.{Datagram, Address, Access, grams}
+use Rattle.segment_model.specs.Slaves.{Datagram, Access, grams}
 use Rattle.segment_model.specs.Record.{is_for}
 use Rattle.segment_model.specs.Seats.{Side}
+use Rattle.state_exchange.specs.Stated.{Service}
 use Rattle.task_model.specs.Accounts.{Account, IsServed, is_quiet, duty_access}
 use Rattle.master_duty.specs.declared.duty.Duty.{Duty}
 use Rattle.master_duty.specs.Reply.{Reply}
@@ -29,13 +30,13 @@ use Rattle.master_side.specs.Sent.{visit_gram}
 use Rattle.life_model.specs.Lives
 use Rattle.life_model.specs.Lives.{Life, Era, Spot, AsksOpen, ReadsFull}
 use Rattle.life_model.specs.Own.{own}
-use Rattle.life_frames.specs.Frames.{AllNotFor, HasOne, GramFor, FrameFor, Share}
-use Rattle.life_frames.specs.Shares.{Lived, IsNext, Asked, AllFrom, AllThree}
+use Rattle.life_frames.specs.Frames.{AllNotFor, HasOne, FrameFor}
+use Rattle.life_frames.specs.Shares.{Lived, AllFrom, AllThree}
 use Rattle.life_frames.proofs.Frames.{own_none, own_one, not_gram}
 use Rattle.master_tour.specs.declared.stop.Stand.{Stand}
 use Rattle.master_tour.specs.Under.{Grams, mine, IsAt, Under}
-use Rattle.master_tour.specs.Stands.{StopShows, StandShows, StandMeant, StandUnder, OpensUnder, stand_gram}
-use Rattle.master_tour.specs.Made.{StopLives, StopHas, StopMade, StopSent, IsClearFor}
+use Rattle.master_tour.specs.Stands.{StandUnder, OpensUnder, stand_gram}
+use Rattle.master_tour.specs.Made.{StopLives, StopHas, StopMade, StopSent}
 use Rattle.master_tour.proofs.Grams.{gram_for, visit_open}
 use Rattle.master_tour.proofs.Steps.{differ}
 
@@ -174,15 +175,17 @@ module _ {Q : Type 0} (lens : ℕ → Lens) (recover index : ℕ) (shows : Side 
   frame_of stand v (StopHas.one u h m c) = FrameFor.one u (stand_gram station index stand out inn duty carried) h (gram_for lens recover index shows station place start stand spare out inn duty carried spot l v os is m)
 
 -- THE SLAVE, once the frame is made
-pub stop_sent : {Q : Type 0} (x : Speech Body Q Reply) (acknowledged : Q → Bool) (more : Body → Bool) (passed : Q → Bool) (made : ℕ) (lens : ℕ → Lens) (recover index : ℕ) (shows : Side Body Q Reply → Account Q Reply → Type 0) (station place start : ℕ) (stand : Stand) (spare : ℕ) (out : OutLink (Option Mail)) (inn : InwardHalf) (duty : Option Duty) (carried : Carried) (passing : Option Passing) (under : Bool) (at : ℕ) (left : List ℕ) (ds : List Raw.Datagram) (i : ℕ) (a : Lived Q Reply) →
-    ((d : Side Body Q Reply) (k : Account Q Reply) → shows d k → d.halves.inn ≡ in_half_of inn) → out.station ≡ station → in_station inn ≡ station → nat_le 1 station ≡ true → StopMade x acknowledged more passed made lens recover index shows station place start stand spare out inn duty carried passing under at left ds i a →
-    (b : Lived Q Reply) × StopSent x acknowledged more passed made lens recover shows station place start stand spare out.len (in_area_len inn) carried under at ds a b
-stop_sent x acknowledged more passed made lens recover index shows station place start stand spare out inn duty carried passing under at left ds i a same os is named m =
+pub stop_sent : {Q : Type 0} (x : Speech Body Q Reply) (acknowledged : Q → Bool) (more : Body → Bool) (passed : Q → Bool) (made : ℕ) (lens : ℕ → Lens) (recover index : ℕ) (shows : Side Body Q Reply → Account Q Reply → Type 0) (station place start : ℕ) (stand : Stand) (spare : ℕ) (out : OutLink (Option Mail)) (inn : InwardHalf) (duty : Option Duty) (carried : Carried) (passing : Option Passing) (under : Bool) (at : ℕ) (left : List ℕ) (begun : ℕ → Option (Service Q)) (ds : List Raw.Datagram) (i : ℕ) (a : Lived Q Reply) →
+    ((d : Side Body Q Reply) (k : Account Q Reply) → shows d k → d.halves.inn ≡ in_half_of inn) → out.station ≡ station → in_station inn ≡ station → nat_le 1 station ≡ true → StopMade x acknowledged more passed made begun lens recover index shows station place start stand spare out inn duty carried passing under at left ds i a →
+    (b : Lived Q Reply) × StopSent x acknowledged more passed made begun lens recover shows station place start stand spare out.len (in_area_len inn) carried under at ds a b
+stop_sent x acknowledged more passed made lens recover index shows station place start stand spare out inn duty carried passing under at left begun ds i a same os is named m =
     let st = m.lives.planned.stands.station_is in
     let low = leb-true 1 station named in (
       record { spot = a.spot; life = m.life },
       record {
         next = record { pick = m.pick; spot = refl; life = m.next };
+        wish = m.wish;
+        took = m.took;
         asked = record {
           has = frame_of lens recover index shows station place start spare out inn duty carried under at ds a.spot m.life same os is stand m.lives m.has;
           asks = asks_of lens recover index shows station place start spare out inn duty carried under at ds a.spot m.life same os is stand m.lives m.has;

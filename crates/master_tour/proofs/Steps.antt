@@ -1,5 +1,5 @@
 -- One slave of a tour goes on while a frame is made: the frame grows by its datagram or by none, and all others have what they had.
-use Rattle.std.proofs.Common.{◌≡◌, ℕ, zero, suc, ◌+◌, ◌<◌, ◌==◌, Bool, true, false, List, [], ◌∷◌, ◌++◌, length, get_or, set, refl, sym, ap, ◌∙◌, subst, arith}
+use Rattle.std.proofs.Common.{◌≡◌, ℕ, zero, suc, ◌+◌, ◌<◌, ◌==◌, Bool, true, false, List, [], ◌∷◌, ◌++◌, length, get_or, set, refl, sym, subst, arith}
 use Rattle.std.specs.Prelude.{⊤}
 use Rattle.std.proofs.lemmas.Bool.{eqb-true}
 use Rattle.datagrams.specs.Datagram as Raw
@@ -9,7 +9,7 @@ use Rattle.datagrams.specs.Frame.{IsBegun, Each}
 use Rattle.life_model.specs.Lives
 use Rattle.life_model.specs.Lives.{Spot}
 use Rattle.master_duty.specs.Reply.{Reply}
-use Rattle.life_frames.specs.Frames.{AllNotFor, IsNotFor, HasOne, GramFor, AreApart}
+use Rattle.life_frames.specs.Frames.{IsNotFor, GramFor, AreApart}
 use Rattle.life_frames.specs.Shares.{Lived, AllFrom, IsElsewhere, AreDistinct}
 use Rattle.life_frames.proofs.Frames.{apart_back, not_for, gram_named}
 use Rattle.master_tour.specs.Walks.{StepsAt}
@@ -37,28 +37,28 @@ pub hits_apart : (lens : ℕ → Lens) (spot other : Spot) (ds : List Raw.Datagr
 hits_apart lens spot other ds Hits.nothing a = tt
 hits_apart lens spot other ds (Hits.gram stand d g n l) a = (not_for lens spot other stand d g a n l, tt)
 
-module _ {Q S : Type 0} (lens : ℕ → Lens) (P : ℕ → Lived Q Reply → S → Type 0) (T : List Raw.Datagram → ℕ → Lived Q Reply → S → Type 0) (R : S → S → Type 0) (W : List Raw.Datagram → Type 0) (at : ℕ) where
+module _ {Q S : Type 0} (lens : ℕ → Lens) (P : ℕ → Lived Q Reply → S → Type 0) (T : List Raw.Datagram → ℕ → Lived Q Reply → S → Type 0) (R : S → S → Type 0) (W : Spot → List Raw.Datagram → Type 0) (at : ℕ) where
   -- the slave at the place goes on, by these datagrams
   pub record Here (a : Lived Q Reply) (t : S) : Type 0 where
     pub more : List Raw.Datagram
     pub hits : Hits lens a.spot more
-    pub tied : W more
+    pub tied : W a.spot more
     pub goes : T more at a t
 
   pub record Stepped (i : ℕ) (as' : List (Lived Q Reply)) (ts : List S) : Type 0 where
     pub more : List Raw.Datagram
     pub spot : Spot
     pub hits : Hits lens spot more
-    pub tied : W more
+    pub tied : W spot more
     pub far : (other : Spot) → IsElsewhere other as' → AreApart other spot
     pub each : AllFrom (T more) i as' ts
 
-  module _ (others : (more : List Raw.Datagram) (spot : Spot) (c : Lived Q Reply) (k : ℕ) (s : S) → Hits lens spot more → (k == at) ≡ false → AreApart spot c.spot → P k c s → T more k c s) where
-    rest : (more : List Raw.Datagram) (spot : Spot) → Hits lens spot more → (i : ℕ) → at < i → (as' : List (Lived Q Reply)) (ss : List S) → IsElsewhere spot as' → AllFrom P i as' ss → AllFrom (T more) i as' ss
-    rest more spot h i l [] [] e p = tt
-    rest more spot h i l (a ∷ as') (s ∷ ss) e p = (others more spot a i s h (differ i at (λ q. omega (arith, l, q))) e.0 p.0, rest more spot h (suc i) (omega (arith, l)) as' ss e.1 p.1)
-    rest more spot h i l [] (s ∷ ss) e p = absurd p
-    rest more spot h i l (a ∷ as') [] e p = absurd p
+  module _ (others : (more : List Raw.Datagram) (spot : Spot) (c : Lived Q Reply) (k : ℕ) (s : S) → W spot more → Hits lens spot more → (k == at) ≡ false → AreApart spot c.spot → P k c s → T more k c s) where
+    rest : (more : List Raw.Datagram) (spot : Spot) → W spot more → Hits lens spot more → (i : ℕ) → at < i → (as' : List (Lived Q Reply)) (ss : List S) → IsElsewhere spot as' → AllFrom P i as' ss → AllFrom (T more) i as' ss
+    rest more spot w h i l [] [] e p = tt
+    rest more spot w h i l (a ∷ as') (s ∷ ss) e p = (others more spot a i s w h (differ i at (λ q. omega (arith, l, q))) e.0 p.0, rest more spot w h (suc i) (omega (arith, l)) as' ss e.1 p.1)
+    rest more spot w h i l [] (s ∷ ss) e p = absurd p
+    rest more spot w h i l (a ∷ as') [] e p = absurd p
 
     pub step : ((a : Lived Q Reply) (s t : S) → P at a s → R s t → Here a t) → (i n : ℕ) → at ≡ i + n → (as' : List (Lived Q Reply)) (ss ts : List S) → AreDistinct as' → AllFrom P i as' ss → StepsAt R n ss ts → Stepped i as' ts
     step here i zero e (a ∷ as') (s ∷ ss) (t ∷ ts) d p r =
@@ -70,7 +70,7 @@ module _ {Q S : Type 0} (lens : ℕ → Lens) (P : ℕ → Lived Q Reply → S �
           hits = h.hits;
           tied = h.tied;
           far = λ other w. w.0;
-          each = (subst (λ k. T h.more k a t) is h.goes, subst (λ z. AllFrom (T h.more) (suc i) as' z) (sym r.1) (rest h.more a.spot h.hits (suc i) (omega (arith, is)) as' ss d.0 p.1));
+          each = (subst (λ k. T h.more k a t) is h.goes, subst (λ z. AllFrom (T h.more) (suc i) as' z) (sym r.1) (rest h.more a.spot h.tied h.hits (suc i) (omega (arith, is)) as' ss d.0 p.1));
         }
     step here i (suc n) e (a ∷ as') (s ∷ ss) (t ∷ ts) d p r =
         let w = step here (suc i) n (omega (arith, e)) as' ss ts d.1 p.1 r.1 in
@@ -80,7 +80,7 @@ module _ {Q S : Type 0} (lens : ℕ → Lens) (P : ℕ → Lived Q Reply → S �
           hits = w.hits;
           tied = w.tied;
           far = λ other z. w.far other z.1;
-          each = (subst (λ z. T w.more i a z) (sym r.0) (others w.more w.spot a i s w.hits (differ i at (λ q. omega (arith, e, q))) (apart_back a.spot w.spot (w.far a.spot d.0)) p.0), w.each);
+          each = (subst (λ z. T w.more i a z) (sym r.0) (others w.more w.spot a i s w.tied w.hits (differ i at (λ q. omega (arith, e, q))) (apart_back a.spot w.spot (w.far a.spot d.0)) p.0), w.each);
         }
     step here i zero e [] [] ts d p r = absurd r
     step here i (suc n) e [] [] ts d p r = absurd r
@@ -113,13 +113,13 @@ pub record Grown (lens : ℕ → Lens) (P : List Raw.Datagram → Type 0) (octet
   pub goes : P (ds ++ more)
 
 -- THE FRAME GROWS by one slave
-pub frame_grows : {Q S : Type 0} (P T : List Raw.Datagram → ℕ → Lived Q Reply → S → Type 0) (lens : ℕ → Lens) (octets octets' : List ℕ) (count count' : ℕ) (as' : List (Lived Q Reply)) (ss ts : List S) (at : ℕ) (v w : S) → AreDistinct as' → at < length ss → v ≡ get_or ss at v → ts ≡ set ss at w →
-    ((ds more : List Raw.Datagram) (spot : Spot) (c : Lived Q Reply) (k : ℕ) (s : S) → Hits lens spot more → AreApart spot c.spot → P ds k c s → T (ds ++ more) k c s) →
+pub frame_grows : {Q S : Type 0} (P T : List Raw.Datagram → ℕ → Lived Q Reply → S → Type 0) (lens : ℕ → Lens) (octets octets' : List ℕ) (count count' : ℕ) (as' : List (Lived Q Reply)) (ss ts : List S) (at : ℕ) (v w : S) (K : Spot → Type 0) → AreDistinct as' → at < length ss → v ≡ get_or ss at v → ts ≡ set ss at w → ((ds : List Raw.Datagram) (a : Lived Q Reply) → P ds at a v → K a.spot) →
+    ((ds more : List Raw.Datagram) (spot : Spot) (c : Lived Q Reply) (k : ℕ) (s : S) → K spot → Hits lens spot more → AreApart spot c.spot → P ds k c s → T (ds ++ more) k c s) →
     ((ds : List Raw.Datagram) (a : Lived Q Reply) → IsBegun octets ds → length ds ≡ count → P ds at a v → Grown lens (λ es. T es at a w) octets' count' a.spot ds) → FrameMade P octets count as' ss → FrameMade T octets' count' as' ts
-frame_grows P T lens octets octets' count count' as' ss ts at v w d l g e others here f =
+frame_grows P T lens octets octets' count count' as' ss ts at v w K d l g e known others here f =
     let ds = f.datagrams in
-    let z = step lens (P ds) (λ more. T (ds ++ more)) (λ s t. (s ≡ v) × (t ≡ w)) (λ more. IsBegun octets' (ds ++ more) × (length (ds ++ more) ≡ count')) at (λ more spot c k s h n a p. others ds more spot c k s h a p)
-    (λ a s t p r. (let k = here ds a f.begun f.long (subst (λ y. P ds at a y) r.0 p) in record { more = k.more; hits = k.hits; tied = (k.begun, k.long); goes = subst (λ y. T (ds ++ k.more) at a y) (sym r.1) k.goes }))
+    let z = step lens (P ds) (λ more. T (ds ++ more)) (λ s t. (s ≡ v) × (t ≡ w)) (λ spot more. IsBegun octets' (ds ++ more) × (length (ds ++ more) ≡ count') × K spot) at (λ more spot c k s t h n a p. others ds more spot c k s t.2 h a p)
+    (λ a s t p r. (let k = here ds a f.begun f.long (subst (λ y. P ds at a y) r.0 p) in record { more = k.more; hits = k.hits; tied = (k.begun, k.long, known ds a (subst (λ y. P ds at a y) r.0 p)); goes = subst (λ y. T (ds ++ k.more) at a y) (sym r.1) k.goes }))
     0 at (omega arith) as' ss (set ss at w) d f.each (steps_set (λ s t. (s ≡ v) × (t ≡ w)) at ss v w l g (refl, refl)) in
     record {
       datagrams = ds ++ z.more;

@@ -1,5 +1,5 @@
 -- A slave's visit: a choice, and its datagram.
-use Rattle.std.proofs.Common.{◌≡◌, ℕ, Bool, Option, sym, subst, ◌∙◌}
+use Rattle.std.proofs.Common.{◌≡◌, ℕ, Bool, Option, ◌++◌, sym, subst, ◌∙◌, append-nil}
 use Rattle.link_mails.specs.Body.{Body}
 use Rattle.link_model.specs.Link.{Halves}
 use Rattle.mailbox_mail.specs.declared.mail.Mail.{Mail}
@@ -26,11 +26,13 @@ use Rattle.segment_model.specs.Ends.{Passing}
 use Rattle.task_model.specs.Accounts.{Pick, mails_choice, account_next}
 use Rattle.life_model.specs.Lives
 use Rattle.life_model.specs.Lives.{Life, Era, era_next, granted, life_next}
-use Rattle.master_tour.specs.Stands.{NextShows, HoldShows, is_open}
+use Rattle.state_exchange.specs.Stated.{Service}
+use Rattle.master_side.specs.Shown.{started_by}
+use Rattle.master_tour.specs.Stands.{NextShows, HoldShows, Counts, is_open}
 
-pub picked_map : {Q : Type 0} (x : Speech Body Q Reply) (acknowledged : Q → Bool) (made : ℕ) (d : Side Body Q Reply) (a : Account Q Reply) (X Y : Side Body Q Reply → Account Q Reply → Type 0) →
-    Picked x acknowledged made d a X → ((e : Side Body Q Reply) (b : Account Q Reply) → X e b → Y e b) → Picked x acknowledged made d a Y
-picked_map x acknowledged made d a X Y p h = record { pick = p.pick; shown = h _ _ p.shown }
+pub picked_map : {Q : Type 0} (x : Speech Body Q Reply) (acknowledged : Q → Bool) (made : ℕ) (d : Side Body Q Reply) (a : Account Q Reply) (begin : Option (Service Q)) (X Y : Side Body Q Reply → Account Q Reply → Type 0) →
+    Picked x acknowledged made d a begin X → ((e : Side Body Q Reply) (b : Account Q Reply) → X e b → Y e b) → Picked x acknowledged made d a begin Y
+picked_map x acknowledged made d a begin X Y p h = record { hold = p.hold; shown = h _ _ p.shown; took = p.took }
 
 pub same_shown : {Q : Type 0} (shows new : Option (Row Body Q Reply) → Type 0) (out out' : OutLink (Option Mail)) (inn inn' : InwardHalf) (fresh fresh' : Bool) (duty duty' : Option Duty) (d : Side Body Q Reply) (a : Account Q Reply) →
     SameSide out inn fresh duty out' inn' fresh' duty' → ((now : Option (Row Body Q Reply)) → shows now → new now) → SideShows shows out inn fresh duty d a → SideShows new out' inn' fresh' duty' d a
@@ -50,36 +52,51 @@ same_meant lens index out out' inn inn' fresh fresh' duty duty' station station'
 pub holds_map : {Q : Type 0} (x : Speech Body Q Reply) (d : Side Body Q Reply) (X Y : Side Body Q Reply → Type 0) → Holds x d X → ((e : Side Body Q Reply) → X e → Y e) → Holds x d Y
 holds_map x d X Y p h = record { hold = p.hold; shown = h _ p.shown }
 
--- an opening, or a slave that is gone, has no choice
-pub still_next : {Q : Type 0} (x : Speech Body Q Reply) (acknowledged : Q → Bool) (more : Body → Bool) (passed : Q → Bool) (made : ℕ) (l : Life Body Q Reply) (P : Life Body Q Reply → Type 0) → is_open l.stand ≡ false → P l → NextShows x acknowledged more passed made l P
-still_next {Q} x acknowledged more passed made l P s p = record { pick = none; shown = go l.stand s }
-  where
-    none : Pick Q
-    none = record { begin = None; hold = false }
+-- an account that counts nothing is as it was
+counts_still : {Q : Type 0} (made : ℕ) (begin : Option (Service Q)) (a : Account Q Reply) → begin ≡ None → a.started ≡ a.started ++ started_by made begin
+counts_still made begin a b = sym (ap (λ z. a.started ++ started_by made z) b ∙ append-nil a.started)
 
-    go : (z : Lives.Stand) → is_open z ≡ false → P (life_next x acknowledged more passed made l z none)
+-- an opening, or a slave that is gone, has no choice
+pub still_next : {Q : Type 0} (x : Speech Body Q Reply) (acknowledged : Q → Bool) (more : Body → Bool) (passed : Q → Bool) (made : ℕ) (l : Life Body Q Reply) (begin : Option (Service Q)) (P : Life Body Q Reply → Type 0) → begin ≡ None → is_open l.stand ≡ false → P l → NextShows x acknowledged more passed made l begin P
+still_next {Q} x acknowledged more passed made l begin P b s p = record { hold = false; shown = go l.stand s; took = count l.stand s }
+  where
+    pick : Pick Q
+    pick = record { begin = begin; hold = false }
+
+    go : (z : Lives.Stand) → is_open z ≡ false → P (life_next x acknowledged more passed made l z pick)
     go (Lives.Stand.Opens o) e = p
     go Lives.Stand.Open e = absurd (cc)
     go Lives.Stand.Gone e = p
 
+    count : (z : Lives.Stand) → is_open z ≡ false → Counts made begin l (life_next x acknowledged more passed made l z pick)
+    count (Lives.Stand.Opens o) e = counts_still made begin l.era.account b
+    count Lives.Stand.Open e = absurd (cc)
+    count Lives.Stand.Gone e = counts_still made begin l.era.account b
+
 -- an open slave goes on by a choice; while a mail that is passed on isn't over, none begins
-pub open_next : {Q : Type 0} (x : Speech Body Q Reply) (acknowledged : Q → Bool) (more : Body → Bool) (passed : Q → Bool) (made : ℕ) (l : Life Body Q Reply) (waits : Bool) (R : Side Body Q Reply → Account Q Reply → Type 0) (P : Life Body Q Reply → Type 0) → l.stand ≡ Lives.Stand.Open →
-    is_some l.era.passing ≡ waits → Picked x acknowledged made l.era.side l.era.account R → (waits ≡ true → Holds x l.era.side (λ e. R e l.era.account)) → ((era : Era Body Q Reply) → R era.side era.account → P (record l { era = era })) → NextShows x acknowledged more passed made l P
-open_next {Q} x acknowledged more passed made l waits R P o w k h f = go l.era.passing refl
+pub open_next : {Q : Type 0} (x : Speech Body Q Reply) (acknowledged : Q → Bool) (more : Body → Bool) (passed : Q → Bool) (made : ℕ) (l : Life Body Q Reply) (waits : Bool) (begin : Option (Service Q)) (R : Side Body Q Reply → Account Q Reply → Type 0) (P : Life Body Q Reply → Type 0) → l.stand ≡ Lives.Stand.Open →
+    is_some l.era.passing ≡ waits → (waits ≡ true → begin ≡ None) → Picked x acknowledged made l.era.side l.era.account begin R → (waits ≡ true → Holds x l.era.side (λ e. R e l.era.account)) → ((era : Era Body Q Reply) → R era.side era.account → P (record l { era = era })) → NextShows x acknowledged more passed made l begin P
+open_next {Q} x acknowledged more passed made l waits begin R P o w n k h f = go l.era.passing refl
   where
-    go : (p : Option Passing) → l.era.passing ≡ p → NextShows x acknowledged more passed made l P
-    go None e = record {
-      pick = k.pick;
-      shown = subst (λ z. P (life_next x acknowledged more passed made l z k.pick)) (sym o) (f (era_next x acknowledged more passed made l.era k.pick)
-          (subst (λ (z : Option Passing). R (side_next x made l.era.side (mails_choice l.era.account (granted z k.pick))) (account_next x acknowledged made l.era.side l.era.account (granted z k.pick))) (sym e) k.shown));
-    }
+    go : (p : Option Passing) → l.era.passing ≡ p → NextShows x acknowledged more passed made l begin P
+    go None e =
+        let pick : Pick Q = record { begin = begin; hold = k.hold } in
+        record {
+          hold = k.hold;
+          shown = subst (λ z. P (life_next x acknowledged more passed made l z pick)) (sym o) (f (era_next x acknowledged more passed made l.era pick)
+              (subst (λ (z : Option Passing). R (side_next x made l.era.side (mails_choice l.era.account (granted z pick))) (account_next x acknowledged made l.era.side l.era.account (granted z pick))) (sym e) k.shown));
+          took = subst (λ z. Counts made begin l (life_next x acknowledged more passed made l z pick)) (sym o)
+              (subst (λ (z : Option Passing). (account_next x acknowledged made l.era.side l.era.account (granted z pick)).started ≡ l.era.account.started ++ started_by made begin) (sym e) k.took);
+        }
     go (Some p) e =
         let t : waits ≡ true = sym w ∙ ap is_some e in
-        let pick : Pick Q = record { begin = None; hold = (h t).hold } in
+        let pick : Pick Q = record { begin = begin; hold = (h t).hold } in
         record {
-          pick = pick;
+          hold = (h t).hold;
           shown = subst (λ z. P (life_next x acknowledged more passed made l z pick)) (sym o) (f (era_next x acknowledged more passed made l.era pick)
               (subst (λ (z : Option Passing). R (side_next x made l.era.side (mails_choice l.era.account (granted z pick))) (account_next x acknowledged made l.era.side l.era.account (granted z pick))) (sym e) (h t).shown));
+          took = subst (λ z. Counts made begin l (life_next x acknowledged more passed made l z pick)) (sym o)
+              (subst (λ (z : Option Passing). (account_next x acknowledged made l.era.side l.era.account (granted z pick)).started ≡ l.era.account.started ++ started_by made begin) (sym e) (counts_still made begin l.era.account (n t)));
         }
 
 -- the same where no service begins

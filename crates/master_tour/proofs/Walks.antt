@@ -1,6 +1,8 @@
 -- A walk over all places of a list.
 use Rattle.std.proofs.Common.{◌≡◌, ℕ, zero, suc, ◌<◌, ◌≤◌, List, [], ◌∷◌, sym, ap, ◌∙◌, subst, arith, length, drop, get_or, set}
 use Rattle.std.proofs.Common.{refl}
+use Rattle.std.specs.Prelude.{IfSome, slice_get}
+use Rattle.std.proofs.lemmas.Option.{slice_get_read}
 use Rattle.master_tour.specs.Walks.{EachPair, Walked, StepsAt}
 
 pub walk_step : {S : Type 0} (P : S → S → Type 0) (i : ℕ) (xs ys : List S) (v w : S) → Walked P i xs ys → i < length ys → v ≡ get_or ys i v → P v w → Walked P (suc i) xs (set ys i w)
@@ -54,3 +56,7 @@ steps_both P T (suc i) (x ∷ xs) (y ∷ ys) a b = (a.0, steps_both P T i xs ys 
 pub each_same : {S : Type 0} (P : S → S → Type 0) (xs : List S) → ((x : S) → P x x) → EachPair P xs xs
 each_same P [] h = tt
 each_same P (x ∷ xs) h = (h x, each_same P xs h)
+
+-- what holds of the one at a place
+pub at_place : {S : Type 0} (P : S → Type 0) (xs : List S) (at : ℕ) (v : S) → at < length xs → v ≡ get_or xs at v → IfSome (slice_get xs at) P → P v
+at_place P xs at v l g h = subst (λ o. IfSome o P) (slice_get_read xs (length xs) at v refl l g) h

@@ -4,3 +4,4 @@ pub mod Cursor
 pub mod Stands
 pub mod Made
 pub mod Orders
+pub mod Goes

@@ -20,9 +20,10 @@ use Rattle.master_duty.specs.Reply.{Reply}
 use Rattle.master_side.specs.declared.carried.Carried.{Carried}
 use Rattle.master_side.specs.declared.passing.Passing.{Passing}
 use Rattle.segment_model.specs.Seats.{Side}
+use Rattle.state_exchange.specs.Stated.{Service}
 use Rattle.task_model.specs.Accounts.{Account, Pick}
 use Rattle.master_tour.specs.declared.stop.Stand.{Stand}
-use Rattle.master_tour.specs.Stands.{StopShows, StandMeant, StandUnder, IsSpot, stand_gram}
+use Rattle.master_tour.specs.Stands.{StopShows, StandMeant, StandUnder, IsSpot, Counts, stand_gram}
 
 -- an opening has the lengths of its slave's mailboxes
 abbrev pub IsSized : Stand → ℕ → ℕ → Type 0
@@ -58,13 +59,20 @@ abbrev pub is_in : ℕ → List ℕ → Bool
 is_in i [] = false
 is_in i (p ∷ ps) = if i == p then true else is_in i ps
 
+-- what came into hand of the slaves, by their places: at this one this, and of the others what did before
+pub record ComesAt {Q : Type 0} (old new : ℕ → Option (Service Q)) (place : ℕ) (begin : Option (Service Q)) : Type 0 where
+  pub here : new place ≡ begin
+  pub elsewhere : (k : ℕ) → (k == place) ≡ false → new k ≡ old k
+
 -- THE SLAVE WHILE A FRAME IS MADE, at its place: its life before the frame, by a choice. As long as its visit is still to come no service begins
--- by that, and the frame has none of it; `left` are the places whose visit is
-pub record StopMade {Q : Type 0} (x : Speech Body Q Reply) (acknowledged : Q → Bool) (more : Body → Bool) (passed : Q → Bool) (made : ℕ) (lens : ℕ → Lens) (recover index : ℕ) (shows : Side Body Q Reply → Account Q Reply → Type 0)
+-- by that, and the frame has none of it; `left` are the places whose visit is, and `begun` says what came into hand, by places
+pub record StopMade {Q : Type 0} (x : Speech Body Q Reply) (acknowledged : Q → Bool) (more : Body → Bool) (passed : Q → Bool) (made : ℕ) (begun : ℕ → Option (Service Q)) (lens : ℕ → Lens) (recover index : ℕ) (shows : Side Body Q Reply → Account Q Reply → Type 0)
     (station place start : ℕ) (stand : Stand) (spare : ℕ) (out : OutLink (Option Mail)) (inn : InwardHalf) (duty : Option Duty) (carried : Carried) (passing : Option Passing) (under : Bool) (at : ℕ) (left : List ℕ) (ds : List Raw.Datagram) (i : ℕ) (a : Lived Q Reply) : Type 0 where
   pub life : Life Body Q Reply
   pub pick : Pick Q
   pub next : life ≡ life_next x acknowledged more passed made a.life a.life.stand pick
+  pub wish : pick.begin ≡ begun a.spot.place
+  pub took : Counts made pick.begin a.life life
   pub lives : StopLives lens recover shows station place start stand spare out.len (in_area_len inn) (record { spot = a.spot; life = life })
   pub idle : is_in i left ≡ true → pick.begin ≡ None
   pub waits : is_in i left ≡ true → is_some life.era.passing ≡ is_some passing
@@ -86,10 +94,13 @@ pub record FrameSent {A B S : Type 0} (P : List Raw.Datagram → A → B → S �
   pub lives : List B
   pub each : AllThree (P datagrams) as' lives ss
 
--- A SLAVE AND THE FRAME THAT WAS MADE: its life before the frame by some choice, what the frame has for it, and what the frame under way has of it
-pub record StopSent {Q : Type 0} (x : Speech Body Q Reply) (acknowledged : Q → Bool) (more : Body → Bool) (passed : Q → Bool) (made : ℕ) (lens : ℕ → Lens) (recover : ℕ) (shows : Side Body Q Reply → Account Q Reply → Type 0)
+-- A SLAVE AND THE FRAME THAT WAS MADE: its life before the frame by some choice, what came into hand by that, which is counted, what the frame has
+-- for it, and what the frame under way has of it
+pub record StopSent {Q : Type 0} (x : Speech Body Q Reply) (acknowledged : Q → Bool) (more : Body → Bool) (passed : Q → Bool) (made : ℕ) (begun : ℕ → Option (Service Q)) (lens : ℕ → Lens) (recover : ℕ) (shows : Side Body Q Reply → Account Q Reply → Type 0)
     (station place start : ℕ) (stand : Stand) (spare out back : ℕ) (carried : Carried) (under : Bool) (at : ℕ) (ds : List Raw.Datagram) (a b : Lived Q Reply) : Type 0 where
   pub next : IsNext x acknowledged more passed made a b
+  pub wish : next.pick.begin ≡ begun a.spot.place
+  pub took : Counts made next.pick.begin a.life b.life
   pub asked : Asked lens ds b (record { under = under; at = at })
   pub lives : StopLives lens recover shows station place start stand spare out back b
   pub way : StandUnder lens station at under carried stand b.life (datagrams_seen lens ds)

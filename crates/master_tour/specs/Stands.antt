@@ -1,14 +1,15 @@
 -- What a slave of the tour shows of its life.
-use Rattle.std.specs.Prelude.{◌≡◌, ℕ, ◌-◌, ◌%◌, ◌==◌, ◌&&◌, not, nat_lt, Bool, true, false, Option, Some, None, List, length}
+use Rattle.std.specs.Prelude.{◌≡◌, ℕ, ◌-◌, ◌%◌, ◌==◌, ◌&&◌, not, nat_lt, Bool, true, false, Option, Some, None, List, ◌++◌, length}
 use Rattle.al_state.specs.declared.bringing.BringStep.{BringStep}
-use Rattle.al_state.specs.declared.bringing.BringStep.TheVariants.{Return, Watch, Address, OutOff, InOff, OutManager, InManager, Start, Await}
+use Rattle.al_state.specs.declared.bringing.BringStep.TheVariants.{Watch, Await}
 use Rattle.al_state.specs.declared.bringing.BringUp.{BringUp}
 use Rattle.al_state.specs.BringUp.{is_behind_init, head_of, octets_of}
 use Rattle.datagrams.specs.Frame.{datagram_of}
 use Rattle.link_mails.specs.Body.{Body}
 use Rattle.segment_model.specs.Slaves.{Datagram, Access, Found}
 use Rattle.segment_model.specs.Seats.{Side}
-use Rattle.task_model.specs.Accounts.{Account, Pick, duty_access}
+use Rattle.task_model.specs.Accounts.{Account, duty_access}
+use Rattle.state_exchange.specs.Stated.{Service}
 use Rattle.exchange_model.specs.Exchange.{Speech}
 use Rattle.datagrams.specs.Datagram as Raw
 use Rattle.mailbox_mail.specs.declared.mail.Mail.{Mail}
@@ -17,6 +18,7 @@ use Rattle.mailbox_master.specs.Links.{OutLink}
 use Rattle.master_duty.specs.declared.duty.Duty.{Duty}
 use Rattle.master_side.specs.Carried.{Meant}
 use Rattle.master_side.specs.Sent.{visit_gram, no_gram}
+use Rattle.master_side.specs.Shown.{started_by}
 use Rattle.life_model.specs.Lives
 use Rattle.life_model.specs.Lives.{Opening, Era, Life, Spot, life_next, gives_up}
 pub use Rattle.life_frames.specs.Openings.{step_number, has_step, opening_of}
@@ -140,10 +142,15 @@ StandMeant lens station index carried (Stand.Opening up) l d = d ≡ datagram_se
 StandMeant lens station index carried Stand.Open l d = Meant station carried l.era.side.halves (duty_access l.era.account.hand) d
 StandMeant lens station index carried Stand.Gone l d = ⊥
 
--- THE LIFE BEFORE A FRAME, by some choice
-pub record NextShows {Q : Type 0} (x : Speech Body Q Reply) (acknowledged : Q → Bool) (more : Body → Bool) (passed : Q → Bool) (made : ℕ) (l : Life Body Q Reply) (P : Life Body Q Reply → Type 0) : Type 0 where
-  pub pick : Pick Q
-  pub shown : P (life_next x acknowledged more passed made l l.stand pick)
+-- what comes into hand before a frame is counted as the account's newest
+abbrev pub Counts : {Q : Type 0} → ℕ → Option (Service Q) → Life Body Q Reply → Life Body Q Reply → Type 0
+Counts made begin l m = m.era.account.started ≡ l.era.account.started ++ started_by made begin
+
+-- THE LIFE BEFORE A FRAME: this comes into hand, where something does, and the next mail is taken up, or none is
+pub record NextShows {Q : Type 0} (x : Speech Body Q Reply) (acknowledged : Q → Bool) (more : Body → Bool) (passed : Q → Bool) (made : ℕ) (l : Life Body Q Reply) (begin : Option (Service Q)) (P : Life Body Q Reply → Type 0) : Type 0 where
+  pub hold : Bool
+  pub shown : P (life_next x acknowledged more passed made l l.stand (record { begin = begin; hold = hold }))
+  pub took : Counts made begin l (life_next x acknowledged more passed made l l.stand (record { begin = begin; hold = hold }))
 
 -- the life before a frame in which no service begins: the next mail is taken up, or none is
 pub record HoldShows {Q : Type 0} (x : Speech Body Q Reply) (acknowledged : Q → Bool) (more : Body → Bool) (passed : Q → Bool) (made : ℕ) (l : Life Body Q Reply) (P : Life Body Q Reply → Type 0) : Type 0 where

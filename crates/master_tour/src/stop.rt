@@ -1,4 +1,4 @@
-ghost use Rattle.std.specs.Prelude.{◌≡◌, ◌+◌, ℕ, All, take, drop, true, nat_lt, nat_le};
+ghost use Rattle.std.specs.Prelude.{◌≡◌, ◌≤◌, ◌+◌, ℕ, All, take, drop, true, nat_lt, nat_le};
 ghost use Rattle.datagrams.specs.Frame.{IsPart};
 ghost use Rattle.std.specs.Prelude.{length};
 ghost use Rattle.al_state.specs.BringUp.{octets_of};
@@ -99,7 +99,8 @@ fn body_of(octets: &[u8], part: Part) -> &[u8]
 
 // How many octets the access of an opening has.
 fn access_len(up: &BringUp) -> usize
-    ensures { result ≡ length (octets_of up.now) }
+    ensures is { result ≡ length (octets_of up.now) }
+    ensures most { result ≤ 8 }
 {
     match up.step {
         BringStep::Return | BringStep::Address | BringStep::Start => 2,
@@ -126,11 +127,12 @@ impl<H: Hand> Stop<H> {
     ghost use Rattle.master_side.specs.Carried.{Meant};
     ghost use Rattle.master_tour.specs.Made.{IsClearFor, IsSized};
     ghost use Rattle.master_side.specs.Sent.{IsSent, SameLink, visit_gram};
-    ghost use Rattle.master_side.specs.Shown.{SideShows, Holds, Picked};
+    ghost use Rattle.master_side.specs.Shown.{SideShows, Holds, Picked, wish_begun, takes_ready};
     ghost use Rattle.datagrams.specs.Frame.{datagram_of};
     ghost use Rattle.al_state.specs.BringUp.{head_of, octets_of};
     ghost use Rattle.master_tour.specs.Under.{Under};
     ghost use Rattle.master_tour.specs.Cursor.{IsAtOne};
+    ghost use Rattle.master_tour.specs.Goes.{is_live, is_opened};
     ghost use Rattle.master_tour.specs.Stands.{StopShows, FollowShows, IsMet, IsSpot, StandUnder, came_at, given_where, stand_gram, StandMeant, NextShows, HoldShows};
     ghost use Rattle.std.specs.Prelude.{is_some, ◌&&◌};
     ghost use Rattle.segment_model.specs.Returned.{Returns};
@@ -141,8 +143,22 @@ impl<H: Hand> Stop<H> {
     ghost use Rattle.segment_model.specs.Slaves.{Found};
     ghost use Rattle.task_model.specs.Accounts.{new_account};
     ghost use Rattle.master_side.specs.Shown.{new_side};
-    ghost use Rattle.std.specs.Prelude.{Bool, Option, Some};
+    ghost use Rattle.std.specs.Prelude.{Bool, Option, Some, if◌then◌else◌};
     ghost use Rattle.master_tour.specs.declared.stop.Stand.{Stand};
+
+    /// Whether it gets datagrams: it was not given up for good.
+    pub fn is_live(&self) -> bool
+        ensures { result ≡ is_live self.now.stand }
+    {
+        !matches!(self.stand, Stand::Gone)
+    }
+
+    /// Whether it is brought up, or opened anew.
+    pub fn is_opened(&self) -> bool
+        ensures { result ≡ is_opened self.now.stand }
+    {
+        matches!(self.stand, Stand::Opening(_))
+    }
 
     /// Its datagram of the frame that came back, while it is open. `made` is the frame's number.
     pub fn open_back(&mut self, cursor: &mut Cursor, octets: &[u8], made: u32)
@@ -156,6 +172,8 @@ impl<H: Hand> Stop<H> {
         ensures link { SameLink self.old.side.out self.old.side.inn self.old.side.station self.old.side.area self.new.side.out self.new.side.inn self.new.side.station self.new.side.area }
         ensures kept { (self.new.place ≡ self.old.place) × (self.new.start ≡ self.old.start) × (self.new.spare ≡ self.old.spare) × (self.new.news ≡ self.old.news) }
         ensures stand { self.new.stand ≡ self.old.stand }
+        ensures script { H.script self.new.side.hand ≡ H.script self.old.side.hand }
+        ensures unpassed { self.old.side.passing ≡ None → self.new.side.passing ≡ None }
     {
         if !self.under {
             return;
@@ -177,6 +195,8 @@ impl<H: Hand> Stop<H> {
         ensures kept { (self.new.place ≡ self.old.place) × (self.new.start ≡ self.old.start) × (self.new.spare ≡ self.old.spare) × (self.new.news ≡ self.old.news) }
         ensures under { self.new.under ≡ self.old.under }
         ensures stand { self.new.stand ≡ self.old.stand }
+        ensures script { H.script self.new.side.hand ≡ H.script self.old.side.hand }
+        ensures unpassed { self.old.side.passing ≡ None → self.new.side.passing ≡ None }
     {
         if self.under {
             self.side.lost();
@@ -192,6 +212,8 @@ impl<H: Hand> Stop<H> {
         ensures kept { (self.new.stand ≡ self.old.stand) × (self.new.spare ≡ self.old.spare) × (self.new.news ≡ self.old.news) }
         ensures plan { (self.new.place ≡ self.old.place) × (self.new.start ≡ self.old.start) }
         ensures link { SameLink self.old.side.out self.old.side.inn self.old.side.station self.old.side.area self.new.side.out self.new.side.inn self.new.side.station self.new.side.area }
+        ensures script { H.script self.new.side.hand ≡ H.script self.old.side.hand }
+        ensures unpassed { self.old.side.passing ≡ None → self.new.side.passing ≡ None }
     {
         if is_cleared {
             self.side.renew();
@@ -207,6 +229,8 @@ impl<H: Hand> Stop<H> {
         ensures station { self.new.side.station ≡ self.old.side.station }
         ensures link { SameLink self.old.side.out self.old.side.inn self.old.side.station self.old.side.area self.new.side.out self.new.side.inn self.new.side.station self.new.side.area }
         ensures sized { IsSized (Stand.Opening up) self.old.side.out.len (in_area_len self.old.side.inn) → IsSized self.new.stand self.new.side.out.len (in_area_len self.new.side.inn) }
+        ensures script { H.script self.new.side.hand ≡ H.script self.old.side.hand }
+        ensures unpassed { self.old.side.passing ≡ None → self.new.side.passing ≡ None }
     {
         let mut next = up;
         let is_up = came_back(&mut next, counter, body);
@@ -228,6 +252,8 @@ impl<H: Hand> Stop<H> {
         ensures station { self.new.side.station ≡ self.old.side.station }
         ensures link { SameLink self.old.side.out self.old.side.inn self.old.side.station self.old.side.area self.new.side.out self.new.side.inn self.new.side.station self.new.side.area }
         ensures sized { self.old.stand ≡ Stand.Opening up → IsSized self.old.stand self.old.side.out.len (in_area_len self.old.side.inn) → IsSized self.new.stand self.new.side.out.len (in_area_len self.new.side.inn) }
+        ensures script { H.script self.new.side.hand ≡ H.script self.old.side.hand }
+        ensures unpassed { self.old.side.passing ≡ None → self.new.side.passing ≡ None }
     {
         if !self.under {
             return;
@@ -273,10 +299,6 @@ impl<H: Hand> Stop<H> {
         requires frame { (ds : List Raw.Datagram) × IsFrame octets.now ds }
         requires stands { IsAtOne octets.now cursor.old.number cursor.old.part }
         ensures stands { IsAtOne octets.now cursor.new.number cursor.new.part }
-        ensures shown { (x : Speech Body H.Asked Reply) (frame : ℕ) (lens : ℕ → Lens) (back : List (Datagram Body)) (d : Seats.Side Body H.Asked Reply) (a : Account H.Asked Reply) → back ≡ seen lens octets.now →
-            SideShows (H.shows self.old.side.hand x) self.old.side.out self.old.side.inn self.old.side.fresh self.old.side.duty d a →
-            Under self.old.side.station self.old.at self.old.under self.old.side.carried d.halves (duty_access a.hand) back →
-            SideShows (H.shows self.new.side.hand x) self.new.side.out self.new.side.inn self.new.side.fresh self.new.side.duty (Seats.side_back x frame self.old.side.station back d) (account_back self.old.side.station frame a back) }
         ensures lives { self.old.stand ≡ Stand.Open → self.old.news ≡ None → (x : Speech Body H.Asked Reply) (more : Body → Bool) (passed : H.Asked → Bool) (number recover : ℕ) (spot : Spot) (lens : ℕ → Lens) (ns : List (News Body)) (sent : List (Datagram Body)) (l : Life Body H.Asked Reply) →
             IsSpot spot self.old.side.station self.old.place self.old.start → Returns sent (seen lens octets.now) → StandUnder lens self.old.side.station self.old.at self.old.under self.old.side.carried self.old.stand l sent → StopShows (λ d a. SideShows (H.shows self.old.side.hand x) self.old.side.out self.old.side.inn self.old.side.fresh self.old.side.duty d a) recover spot self.old.stand self.old.spare l →
             FollowShows (λ d a. SideShows (H.shows self.new.side.hand x) self.new.side.out self.new.side.inn self.new.side.fresh self.new.side.duty d a) recover spot self.new.stand self.new.spare self.new.news l (life_back x H.acknowledged more passed number spot ns (seen lens octets.now) (came_at self.old.under self.old.at (seen lens octets.now)) l l.stand) }
@@ -284,6 +306,8 @@ impl<H: Hand> Stop<H> {
         ensures station { self.new.side.station ≡ self.old.side.station }
         ensures link { SameLink self.old.side.out self.old.side.inn self.old.side.station self.old.side.area self.new.side.out self.new.side.inn self.new.side.station self.new.side.area }
         ensures sized { IsSized self.old.stand self.old.side.out.len (in_area_len self.old.side.inn) → IsSized self.new.stand self.new.side.out.len (in_area_len self.new.side.inn) }
+        ensures script { H.script self.new.side.hand ≡ H.script self.old.side.hand }
+        ensures unpassed { self.old.side.passing ≡ None → self.new.side.passing ≡ None }
     {
         self.open_back(cursor, octets, made);
         self.reopen();
@@ -294,10 +318,6 @@ impl<H: Hand> Stop<H> {
         requires frame { (ds : List Raw.Datagram) × IsFrame octets.now ds }
         requires stands { IsAtOne octets.now cursor.old.number cursor.old.part }
         ensures stands { IsAtOne octets.now cursor.new.number cursor.new.part }
-        ensures shown { self.old.stand ≡ Stand.Open → (x : Speech Body H.Asked Reply) (frame : ℕ) (lens : ℕ → Lens) (back : List (Datagram Body)) (d : Seats.Side Body H.Asked Reply) (a : Account H.Asked Reply) → back ≡ seen lens octets.now →
-            SideShows (H.shows self.old.side.hand x) self.old.side.out self.old.side.inn self.old.side.fresh self.old.side.duty d a →
-            Under self.old.side.station self.old.at self.old.under self.old.side.carried d.halves (duty_access a.hand) back →
-            SideShows (H.shows self.new.side.hand x) self.new.side.out self.new.side.inn self.new.side.fresh self.new.side.duty (Seats.side_back x frame self.old.side.station back d) (account_back self.old.side.station frame a back) }
         ensures lives { (x : Speech Body H.Asked Reply) (more : Body → Bool) (passed : H.Asked → Bool) (number recover : ℕ) (spot : Spot) (lens : ℕ → Lens) (ns : List (News Body)) (sent : List (Datagram Body)) (l : Life Body H.Asked Reply) →
             IsSpot spot self.old.side.station self.old.place self.old.start → Returns sent (seen lens octets.now) → StandUnder lens self.old.side.station self.old.at self.old.under self.old.side.carried self.old.stand l sent → StopShows (λ d a. SideShows (H.shows self.old.side.hand x) self.old.side.out self.old.side.inn self.old.side.fresh self.old.side.duty d a) recover spot self.old.stand self.old.spare l →
             FollowShows (λ d a. SideShows (H.shows self.new.side.hand x) self.new.side.out self.new.side.inn self.new.side.fresh self.new.side.duty d a) recover spot self.new.stand self.new.spare self.new.news l (life_back x H.acknowledged more passed number spot ns (seen lens octets.now) (came_at self.old.under self.old.at (seen lens octets.now)) l l.stand) }
@@ -305,6 +325,8 @@ impl<H: Hand> Stop<H> {
         ensures station { self.new.side.station ≡ self.old.side.station }
         ensures link { SameLink self.old.side.out self.old.side.inn self.old.side.station self.old.side.area self.new.side.out self.new.side.inn self.new.side.station self.new.side.area }
         ensures sized { IsSized self.old.stand self.old.side.out.len (in_area_len self.old.side.inn) → IsSized self.new.stand self.new.side.out.len (in_area_len self.new.side.inn) }
+        ensures script { H.script self.new.side.hand ≡ H.script self.old.side.hand }
+        ensures unpassed { self.old.side.passing ≡ None → self.new.side.passing ≡ None }
     {
         self.news = None;
         match self.stand {
@@ -316,10 +338,6 @@ impl<H: Hand> Stop<H> {
 
     /// The frame under way was lost.
     pub fn lost(&mut self)
-        ensures shown { self.old.stand ≡ Stand.Open → (x : Speech Body H.Asked Reply) (sent : List (Datagram Body)) (d : Seats.Side Body H.Asked Reply) (a : Account H.Asked Reply) →
-            SideShows (H.shows self.old.side.hand x) self.old.side.out self.old.side.inn self.old.side.fresh self.old.side.duty d a →
-            Under self.old.side.station self.old.at self.old.under self.old.side.carried d.halves (duty_access a.hand) sent →
-            SideShows (H.shows self.new.side.hand x) self.new.side.out self.new.side.inn self.new.side.fresh self.new.side.duty (Seats.side_lost self.old.side.station sent d) a }
         ensures lives { (x : Speech Body H.Asked Reply) (more : Body → Bool) (passed : H.Asked → Bool) (recover : ℕ) (spot : Spot) (lens : ℕ → Lens) (ns : List (News Body)) (octets : List ℕ) (l : Life Body H.Asked Reply) →
             IsSpot spot self.old.side.station self.old.place self.old.start → StandUnder lens self.old.side.station self.old.at self.old.under self.old.side.carried self.old.stand l (seen lens octets) → StopShows (λ d a. SideShows (H.shows self.old.side.hand x) self.old.side.out self.old.side.inn self.old.side.fresh self.old.side.duty d a) recover spot self.old.stand self.old.spare l →
             FollowShows (λ d a. SideShows (H.shows self.new.side.hand x) self.new.side.out self.new.side.inn self.new.side.fresh self.new.side.duty d a) recover spot self.new.stand self.new.spare self.new.news l (life_lost x H.acknowledged more passed spot ns (seen lens octets) l l.stand) }
@@ -328,6 +346,8 @@ impl<H: Hand> Stop<H> {
         ensures station { self.new.side.station ≡ self.old.side.station }
         ensures link { SameLink self.old.side.out self.old.side.inn self.old.side.station self.old.side.area self.new.side.out self.new.side.inn self.new.side.station self.new.side.area }
         ensures sized { IsSized self.old.stand self.old.side.out.len (in_area_len self.old.side.inn) → IsSized self.new.stand self.new.side.out.len (in_area_len self.new.side.inn) }
+        ensures script { H.script self.new.side.hand ≡ H.script self.old.side.hand }
+        ensures unpassed { self.old.side.passing ≡ None → self.new.side.passing ≡ None }
     {
         self.news = None;
         match self.stand {
@@ -345,6 +365,8 @@ impl<H: Hand> Stop<H> {
         ensures station { self.new.side.station ≡ self.old.side.station }
         ensures link { SameLink self.old.side.out self.old.side.inn self.old.side.station self.old.side.area self.new.side.out self.new.side.inn self.new.side.station self.new.side.area }
         ensures sized { IsSized self.old.stand self.old.side.out.len (in_area_len self.old.side.inn) → IsSized self.new.stand self.new.side.out.len (in_area_len self.new.side.inn) }
+        ensures script { H.script self.new.side.hand ≡ H.script self.old.side.hand }
+        ensures unpassed { self.old.side.passing ≡ None → self.new.side.passing ≡ None }
     {
         self.news = Some(Turned::GivenUp);
         if self.spare == 0 {
@@ -359,10 +381,6 @@ impl<H: Hand> Stop<H> {
 
     /// The frame under way was lost; where `gives` says so, a slave that it carries is given up.
     pub fn lost_for(&mut self, gives: bool)
-        ensures shown { gives ≡ false → self.old.stand ≡ Stand.Open → (x : Speech Body H.Asked Reply) (sent : List (Datagram Body)) (d : Seats.Side Body H.Asked Reply) (a : Account H.Asked Reply) →
-            SideShows (H.shows self.old.side.hand x) self.old.side.out self.old.side.inn self.old.side.fresh self.old.side.duty d a →
-            Under self.old.side.station self.old.at self.old.under self.old.side.carried d.halves (duty_access a.hand) sent →
-            SideShows (H.shows self.new.side.hand x) self.new.side.out self.new.side.inn self.new.side.fresh self.new.side.duty (Seats.side_lost self.old.side.station sent d) a }
         ensures lives { (x : Speech Body H.Asked Reply) (more : Body → Bool) (passed : H.Asked → Bool) (number recover : ℕ) (spot : Spot) (lens : ℕ → Lens) (ns : List (News Body)) (octets : List ℕ) (l : Life Body H.Asked Reply) →
             IsSpot spot self.old.side.station self.old.place self.old.start → StandUnder lens self.old.side.station self.old.at self.old.under self.old.side.carried self.old.stand l (seen lens octets) → StopShows (λ d a. SideShows (H.shows self.old.side.hand x) self.old.side.out self.old.side.inn self.old.side.fresh self.old.side.duty d a) recover spot self.old.stand self.old.spare l →
             FollowShows (λ d a. SideShows (H.shows self.new.side.hand x) self.new.side.out self.new.side.inn self.new.side.fresh self.new.side.duty d a) recover spot self.new.stand self.new.spare self.new.news l (given_where (gives && self.old.under) recover spot number (life_lost x H.acknowledged more passed spot ns (seen lens octets) l l.stand)) }
@@ -370,6 +388,8 @@ impl<H: Hand> Stop<H> {
         ensures station { self.new.side.station ≡ self.old.side.station }
         ensures link { SameLink self.old.side.out self.old.side.inn self.old.side.station self.old.side.area self.new.side.out self.new.side.inn self.new.side.station self.new.side.area }
         ensures sized { IsSized self.old.stand self.old.side.out.len (in_area_len self.old.side.inn) → IsSized self.new.stand self.new.side.out.len (in_area_len self.new.side.inn) }
+        ensures script { H.script self.new.side.hand ≡ H.script self.old.side.hand }
+        ensures unpassed { self.old.side.passing ≡ None → self.new.side.passing ≡ None }
     {
         self.lost();
         if !gives {
@@ -382,14 +402,14 @@ impl<H: Hand> Stop<H> {
 
     /// How many octets the datagram of a visit with this wish has.
     pub fn ahead(&mut self, wish: Option<Wish>) -> usize
-        ensures shown { self.old.stand ≡ Stand.Open → (x : Speech Body H.Asked Reply) (d : Seats.Side Body H.Asked Reply) (a : Account H.Asked Reply) → SideShows (H.shows self.old.side.hand x) self.old.side.out self.old.side.inn self.old.side.fresh self.old.side.duty d a →
-            Holds x d (λ e. SideShows (H.shows self.new.side.hand x) self.new.side.out self.new.side.inn self.new.side.fresh self.new.side.duty e a) }
         ensures lives { (x : Speech Body H.Asked Reply) (more : Body → Bool) (passed : H.Asked → Bool) (made recover : ℕ) (spot : Spot) (l : Life Body H.Asked Reply) → StopShows (λ d a. SideShows (H.shows self.old.side.hand x) self.old.side.out self.old.side.inn self.old.side.fresh self.old.side.duty d a) recover spot self.old.stand self.old.spare l →
             HoldShows x H.acknowledged more passed made l (StopShows (λ d a. SideShows (H.shows self.new.side.hand x) self.new.side.out self.new.side.inn self.new.side.fresh self.new.side.duty d a) recover spot self.new.stand self.new.spare) }
         ensures kept { (self.new.place ≡ self.old.place) × (self.new.start ≡ self.old.start) × (self.new.spare ≡ self.old.spare) × (self.new.under ≡ self.old.under) × (self.new.at ≡ self.old.at) }
         ensures link { SameLink self.old.side.out self.old.side.inn self.old.side.station self.old.side.area self.new.side.out self.new.side.inn self.new.side.station self.new.side.area }
         ensures stand { self.new.stand ≡ self.old.stand }
         ensures passing { self.new.side.passing ≡ self.old.side.passing }
+        ensures most { result ≤ 1486 }
+        ensures script { H.script self.new.side.hand ≡ H.script self.old.side.hand }
     {
         match self.stand {
             Stand::Gone => 0,
@@ -411,8 +431,9 @@ impl<H: Hand> Stop<H> {
         requires begun { (ds : List Raw.Datagram) × IsBegun frame.old.items ds }
         ensures shown { (x : Speech Body H.Asked Reply) (made : ℕ) (lens : ℕ → Lens) (d : Seats.Side Body H.Asked Reply) (a : Account H.Asked Reply) → (lens self.old.side.station).out ≡ self.old.side.out.len → (lens self.old.side.station).back ≡ in_area_len self.old.side.inn →
             SideShows (H.shows self.old.side.hand x) self.old.side.out self.old.side.inn self.old.side.fresh self.old.side.duty d a →
-            Picked x H.acknowledged made d a (λ e b. SideShows (H.shows self.new.side.hand x) self.new.side.out self.new.side.inn self.new.side.fresh self.new.side.duty e b ×
+            Picked x H.acknowledged made d a (wish_begun result wish (H.ready self.old.side.hand)) (λ e b. SideShows (H.shows self.new.side.hand x) self.new.side.out self.new.side.inn self.new.side.fresh self.new.side.duty e b ×
             (self.new.under ≡ true → Meant self.old.side.station self.new.side.carried e.halves (duty_access b.hand) (datagram_seen lens (visit_gram self.new.side.station index self.new.side.out self.new.side.inn self.new.side.duty self.new.side.carried)))) }
+        ensures still { is_some self.old.side.passing ≡ true → result ≡ false }
         ensures waits { is_some self.old.side.passing ≡ true → (x : Speech Body H.Asked Reply) (lens : ℕ → Lens) (d : Seats.Side Body H.Asked Reply) (a : Account H.Asked Reply) → (lens self.old.side.station).out ≡ self.old.side.out.len → (lens self.old.side.station).back ≡ in_area_len self.old.side.inn →
             SideShows (H.shows self.old.side.hand x) self.old.side.out self.old.side.inn self.old.side.fresh self.old.side.duty d a →
             Holds x d (λ e. SideShows (H.shows self.new.side.hand x) self.new.side.out self.new.side.inn self.new.side.fresh self.new.side.duty e a ×
@@ -425,6 +446,10 @@ impl<H: Hand> Stop<H> {
         ensures kept { (self.new.place ≡ self.old.place) × (self.new.start ≡ self.old.start) × (self.new.spare ≡ self.old.spare) × (self.new.news ≡ self.old.news) }
         ensures at { self.new.at ≡ at }
         ensures order { self.new.under ≡ true → self.new.side.carried ≡ Carried.Full → (in_half_of self.new.side.inn).state ≡ InState.Clear }
+        ensures first { length frame.old.items ≡ 16 → self.new.under ≡ true }
+        ensures ready { takes_ready result wish ≡ true → is_some (H.ready self.old.side.hand) ≡ true }
+        ensures script { H.script self.new.side.hand ≡ (if takes_ready result wish then H.behind self.old.side.hand else H.script self.old.side.hand) }
+        ensures unpassed { self.old.side.passing ≡ None → (takes_ready result wish ≡ true → (q : H.Asked) → H.ready self.old.side.hand ≡ Some q → H.passed q ≡ false) → self.new.side.passing ≡ None }
     {
         let began = self.side.choose(wish);
         let placed = self.side.add_datagram(index, frame);
@@ -459,7 +484,7 @@ impl<H: Hand> Stop<H> {
         requires begun { (ds : List Raw.Datagram) × IsBegun frame.old.items ds }
         ensures lives { (x : Speech Body H.Asked Reply) (more : Body → Bool) (passed : H.Asked → Bool) (made recover : ℕ) (spot : Spot) (lens : ℕ → Lens) (l : Life Body H.Asked Reply) →
             (lens self.old.side.station).out ≡ self.old.side.out.len → (lens self.old.side.station).back ≡ in_area_len self.old.side.inn → IsSpot spot self.old.side.station self.old.place self.old.start → is_some l.era.passing ≡ is_some self.old.side.passing → StopShows (λ d a. SideShows (H.shows self.old.side.hand x) self.old.side.out self.old.side.inn self.old.side.fresh self.old.side.duty d a) recover spot self.old.stand self.old.spare l →
-            NextShows x H.acknowledged more passed made l (λ n. StopShows (λ d a. SideShows (H.shows self.new.side.hand x) self.new.side.out self.new.side.inn self.new.side.fresh self.new.side.duty d a) recover spot self.new.stand self.new.spare n ×
+            NextShows x H.acknowledged more passed made l (wish_begun result wish (H.ready self.old.side.hand)) (λ n. StopShows (λ d a. SideShows (H.shows self.new.side.hand x) self.new.side.out self.new.side.inn self.new.side.fresh self.new.side.duty d a) recover spot self.new.stand self.new.spare n ×
             (self.new.under ≡ true → StandMeant lens self.new.side.station index self.new.side.carried self.new.stand n (datagram_seen lens (stand_gram self.new.side.station index self.new.stand self.new.side.out self.new.side.inn self.new.side.duty self.new.side.carried)))) }
         ensures begun { (ds : List Raw.Datagram) → IsBegun frame.old.items ds → self.new.under ≡ true → IsBegun frame.new.items (ds ++ (stand_gram self.new.side.station index self.new.stand self.new.side.out self.new.side.inn self.new.side.duty self.new.side.carried) ∷ []) }
         ensures full { self.new.under ≡ false → frame.new.items ≡ frame.old.items }
@@ -469,6 +494,10 @@ impl<H: Hand> Stop<H> {
         ensures station { self.new.side.station ≡ self.old.side.station }
         ensures link { SameLink self.old.side.out self.old.side.inn self.old.side.station self.old.side.area self.new.side.out self.new.side.inn self.new.side.station self.new.side.area }
         ensures order { self.new.under ≡ true → IsClearFor self.new.stand self.new.side.carried self.new.side.inn }
+        ensures first { length frame.old.items ≡ 16 → is_live self.old.stand ≡ true → self.new.under ≡ true }
+        ensures ready { takes_ready result wish ≡ true → is_some (H.ready self.old.side.hand) ≡ true }
+        ensures script { H.script self.new.side.hand ≡ (if takes_ready result wish then H.behind self.old.side.hand else H.script self.old.side.hand) }
+        ensures unpassed { self.old.side.passing ≡ None → (takes_ready result wish ≡ true → (q : H.Asked) → H.ready self.old.side.hand ≡ Some q → H.passed q ≡ false) → self.new.side.passing ≡ None }
     {
         self.under = false;
         match self.stand {

@@ -1,7 +1,7 @@
 ghost use Rattle.std.specs.Prelude.{◌≡◌, ℕ, List};
 
 use crate::cursor::Cursor;
-use crate::stop::{Stand, Stop};
+use crate::stop::Stop;
 use arrayvec::ArrayVec;
 use datagrams::FrameBuf;
 use master_side::{Hand, Wish};
@@ -42,36 +42,37 @@ impl<H: Hand> Tour<H> {
     ghost use Rattle.frame_view.specs.View.{Lens};
     ghost use Rattle.frame_view.specs.Seen.{seen};
     ghost use Rattle.master_duty.specs.Reply.{Reply};
-    ghost use Rattle.master_side.specs.Shown.{SideShows};
+    ghost use Rattle.master_side.specs.Shown.{SideShows, wish_begun, takes_ready};
+    ghost use Rattle.state_exchange.specs.Stated.{Service};
     ghost use Rattle.master_tour.specs.Under.{Under};
     ghost use Rattle.master_tour.specs.Walks.{EachPair, StepsAt};
     ghost use Rattle.master_tour.specs.Stands.{StopShows, FollowShows, IsSpot, StandUnder, came_at, given_where, stand_gram, StandMeant, NextShows, HoldShows};
     ghost use Rattle.frame_view.specs.View.{datagram_seen};
     ghost use Rattle.mailbox_master.specs.Any.{in_area_len};
     ghost use Rattle.std.specs.Prelude.{is_some, true, ◌++◌, ◌+◌, ◌==◌};
-    ghost use Rattle.std.specs.Prelude.{Some, drop};
+    ghost use Rattle.std.specs.Prelude.{Option, Some, drop, slice_get};
     ghost use Rattle.master_tour.specs.Orders.{start_of, place_in, round_left, visits_left, AreOnce, IsNextOf, IsCarried};
     ghost use Rattle.life_frames.specs.Shares.{Lived, AllBoth, AllThree, AreDistinct, lived_back, lived_lost};
     ghost use Rattle.master_side.specs.Sent.{SameLink};
-    ghost use Rattle.master_tour.specs.Made.{StopLives, StopMade, StopSent, FrameMade, FrameSent, IsClearFor, IsSized, is_in};
+    ghost use Rattle.master_tour.specs.Made.{StopLives, StopMade, StopSent, FrameMade, FrameSent, ComesAt, IsClearFor, IsSized, is_in};
     ghost use Rattle.life_model.specs.Lives.{Life, Spot, life_back, life_lost};
     ghost use Rattle.segment_model.specs.Record.{News};
     ghost use Rattle.std.specs.Prelude.{Bool, false, not, nat_lt, ◌&&◌, if◌then◌else◌};
     ghost use Rattle.master_tour.specs.declared.stop.Stand.{Stand};
+    ghost use Rattle.master_tour.specs.Goes.{is_live, is_opened, holds_at, Passes, BeginsLive, opened_behind};
+    ghost use Rattle.std.specs.List.{list_any};
+    ghost use Rattle.std.specs.Prelude.{None};
 
     // Each slave hears what came back.
     fn all_back(&mut self, octets: &[u8], made: u32)
         requires { (ds : List Raw.Datagram) × IsFrame octets.now ds }
-        ensures each { EachPair (λ s t. (s.stand ≡ Stand.Open → (x : Speech Body H.Asked Reply) (frame : ℕ) (lens : ℕ → Lens) (back : List (Datagram Body)) (d : Seats.Side Body H.Asked Reply) (a : Account H.Asked Reply) → back ≡ seen lens octets.now →
-            SideShows (H.shows s.side.hand x) s.side.out s.side.inn s.side.fresh s.side.duty d a →
-            Under s.side.station s.at s.under s.side.carried d.halves (duty_access a.hand) back →
-            SideShows (H.shows t.side.hand x) t.side.out t.side.inn t.side.fresh t.side.duty (Seats.side_back x frame s.side.station back d) (account_back s.side.station frame a back)) × (t.side.station ≡ s.side.station)) self.old.stops.items self.new.stops.items }
         ensures lives { EachPair (λ s t. ((lens : ℕ → Lens) (sent : List (Datagram Body)) → Returns sent (seen lens octets.now) → (x : Speech Body H.Asked Reply) (more : Body → Bool) (passed : H.Asked → Bool) (number recover : ℕ) (spot : Spot) (ns : List (News Body)) (l : Life Body H.Asked Reply) →
             IsSpot spot s.side.station s.place s.start → StandUnder lens s.side.station s.at s.under s.side.carried s.stand l sent → StopShows (λ d a. SideShows (H.shows s.side.hand x) s.side.out s.side.inn s.side.fresh s.side.duty d a) recover spot s.stand s.spare l →
             FollowShows (λ d a. SideShows (H.shows t.side.hand x) t.side.out t.side.inn t.side.fresh t.side.duty d a) recover spot t.stand t.spare t.news l (life_back x H.acknowledged more passed number spot ns (seen lens octets.now) (came_at s.under s.at (seen lens octets.now)) l l.stand)) × (t.place ≡ s.place) × (t.start ≡ s.start)) self.old.stops.items self.new.stops.items }
         ensures long { length self.new.stops.items ≡ length self.old.stops.items }
         ensures kept { EachPair (λ s t. SameLink s.side.out s.side.inn s.side.station s.side.area t.side.out t.side.inn t.side.station t.side.area × (IsSized s.stand s.side.out.len (in_area_len s.side.inn) → IsSized t.stand t.side.out.len (in_area_len t.side.inn))) self.old.stops.items self.new.stops.items }
         ensures tour { (self.new.again ≡ self.old.again) × (self.new.visit ≡ self.old.visit) × (self.new.opened ≡ self.old.opened) × (self.new.last ≡ self.old.last) × (self.new.missed ≡ self.old.missed) × (self.new.retry ≡ self.old.retry) }
+        ensures stays { EachPair (λ s t. (H.script t.side.hand ≡ H.script s.side.hand) × (s.side.passing ≡ None → t.side.passing ≡ None)) self.old.stops.items self.new.stops.items }
     {
         let mut cursor = Cursor::new(octets);
         for i in 0..self.stops.len() {
@@ -81,16 +82,13 @@ impl<H: Hand> Tour<H> {
 
     // Each slave learns that the frame under way was lost; where `gives` says so, those that it carries are given up.
     fn all_lost(&mut self, gives: bool)
-        ensures each { EachPair (λ s t. (gives ≡ false → s.stand ≡ Stand.Open → (x : Speech Body H.Asked Reply) (sent : List (Datagram Body)) (d : Seats.Side Body H.Asked Reply) (a : Account H.Asked Reply) →
-            SideShows (H.shows s.side.hand x) s.side.out s.side.inn s.side.fresh s.side.duty d a →
-            Under s.side.station s.at s.under s.side.carried d.halves (duty_access a.hand) sent →
-            SideShows (H.shows t.side.hand x) t.side.out t.side.inn t.side.fresh t.side.duty (Seats.side_lost s.side.station sent d) a) × (t.side.station ≡ s.side.station)) self.old.stops.items self.new.stops.items }
         ensures lives { EachPair (λ s t. ((lens : ℕ → Lens) (octets : List ℕ) → (x : Speech Body H.Asked Reply) (more : Body → Bool) (passed : H.Asked → Bool) (number recover : ℕ) (spot : Spot) (ns : List (News Body)) (l : Life Body H.Asked Reply) →
             IsSpot spot s.side.station s.place s.start → StandUnder lens s.side.station s.at s.under s.side.carried s.stand l (seen lens octets) → StopShows (λ d a. SideShows (H.shows s.side.hand x) s.side.out s.side.inn s.side.fresh s.side.duty d a) recover spot s.stand s.spare l →
             FollowShows (λ d a. SideShows (H.shows t.side.hand x) t.side.out t.side.inn t.side.fresh t.side.duty d a) recover spot t.stand t.spare t.news l (given_where (gives && s.under) recover spot number (life_lost x H.acknowledged more passed spot ns (seen lens octets) l l.stand))) × (t.place ≡ s.place) × (t.start ≡ s.start)) self.old.stops.items self.new.stops.items }
         ensures long { length self.new.stops.items ≡ length self.old.stops.items }
         ensures kept { EachPair (λ s t. SameLink s.side.out s.side.inn s.side.station s.side.area t.side.out t.side.inn t.side.station t.side.area × (IsSized s.stand s.side.out.len (in_area_len s.side.inn) → IsSized t.stand t.side.out.len (in_area_len t.side.inn))) self.old.stops.items self.new.stops.items }
         ensures tour { (self.new.again ≡ self.old.again) × (self.new.visit ≡ self.old.visit) × (self.new.opened ≡ self.old.opened) × (self.new.last ≡ self.old.last) × (self.new.missed ≡ self.old.missed) × (self.new.retry ≡ self.old.retry) }
+        ensures stays { EachPair (λ s t. (H.script t.side.hand ≡ H.script s.side.hand) × (s.side.passing ≡ None → t.side.passing ≡ None)) self.old.stops.items self.new.stops.items }
     {
         for i in 0..self.stops.len() {
             self.stops[i].lost_for(gives);
@@ -125,12 +123,14 @@ impl<H: Hand> Tour<H> {
         ensures begun { IsBegun frame.new.items [] }
         ensures long { length self.new.stops.items ≡ length self.old.stops.items }
         ensures count { self.new.count ≡ 0 }
-        ensures made { (x : Speech Body H.Asked Reply) (more : Body → Bool) (passed : H.Asked → Bool) (made recover index : ℕ) (lens : ℕ → Lens) (left : List ℕ) (lives : List (Lived H.Asked Reply)) →
-            AllBoth (λ a s. StopLives lens recover (λ d b. SideShows (H.shows s.side.hand x) s.side.out s.side.inn s.side.fresh s.side.duty d b) s.side.station s.place s.start s.stand s.spare s.side.out.len (in_area_len s.side.inn) a × (is_some a.life.era.passing ≡ is_some s.side.passing)) lives self.old.stops.items →
-            FrameMade (λ ds i a s. StopMade x H.acknowledged more passed made lens recover index (λ d b. SideShows (H.shows s.side.hand x) s.side.out s.side.inn s.side.fresh s.side.duty d b) s.side.station s.place s.start s.stand s.spare s.side.out s.side.inn s.side.duty s.side.carried s.side.passing s.under s.at left ds i a) frame.new.items 0 lives self.new.stops.items }
+        ensures empty { length frame.new.items ≡ 16 }
+        ensures made { (x : Spot → Speech Body H.Asked Reply) (more : Body → Bool) (passed : H.Asked → Bool) (made recover index : ℕ) (lens : ℕ → Lens) (left : List ℕ) (lives : List (Lived H.Asked Reply)) (begun : ℕ → Option (Service H.Asked)) → ((k : ℕ) → begun k ≡ None) →
+            AllBoth (λ a s. StopLives lens recover (λ d b. SideShows (H.shows s.side.hand (x a.spot)) s.side.out s.side.inn s.side.fresh s.side.duty d b) s.side.station s.place s.start s.stand s.spare s.side.out.len (in_area_len s.side.inn) a × (is_some a.life.era.passing ≡ is_some s.side.passing)) lives self.old.stops.items →
+            FrameMade (λ ds i a s. StopMade (x a.spot) H.acknowledged more passed made begun lens recover index (λ d b. SideShows (H.shows s.side.hand (x a.spot)) s.side.out s.side.inn s.side.fresh s.side.duty d b) s.side.station s.place s.start s.stand s.spare s.side.out s.side.inn s.side.duty s.side.carried s.side.passing s.under s.at left ds i a) frame.new.items 0 lives self.new.stops.items }
         ensures tour { (self.new.again ≡ self.old.again) × (self.new.opened ≡ self.old.opened) × (self.new.last ≡ self.old.last) × (self.new.missed ≡ self.old.missed) × (self.new.retry ≡ self.old.retry) × (self.new.passed ≡ 0) }
         ensures again { self.old.again ≡ true → self.new.visit ≡ self.old.visit }
         ensures anew { self.old.again ≡ false → self.new.visit.items ≡ [] }
+        ensures each { EachPair (λ s t. (t.side ≡ s.side) × (t.stand ≡ s.stand) × (t.place ≡ s.place) × (t.start ≡ s.start) × (t.spare ≡ s.spare) × (t.under ≡ false)) self.old.stops.items self.new.stops.items }
     {
         self.rewind();
         datagrams::begin(frame);
@@ -161,9 +161,11 @@ impl<H: Hand> Tour<H> {
     fn next_live(&self) -> Option<usize>
         ensures inside { IfSome result (λ k. k < length self.now.stops.items) }
         ensures later { IfSome result (λ k. self.now.passed ≤ k) }
+        ensures live { IfSome result (λ k. holds_at (λ s. is_live s.stand) self.now.stops.items (place_in (start_of (length self.now.stops.items) self.now.last) (length self.now.stops.items) k) ≡ true) }
+        ensures none { result ≡ None → (k : ℕ) → self.now.passed ≤ k → k < length self.now.stops.items → holds_at (λ s. is_live s.stand) self.now.stops.items (place_in (start_of (length self.now.stops.items) self.now.last) (length self.now.stops.items) k) ≡ false }
     {
         for k in self.passed..self.stops.len() {
-            if !matches!(self.stops[self.place_of(k)].stand, Stand::Gone) {
+            if self.stops[self.place_of(k)].is_live() {
                 return Some(k);
             }
         }
@@ -173,8 +175,10 @@ impl<H: Hand> Tour<H> {
     // Behind a lost frame: the next of the slaves that it carried.
     fn carried_again(&mut self) -> Option<usize>
         ensures kept { (self.new.stops ≡ self.old.stops) × (self.new.count ≡ self.old.count) × (self.new.again ≡ self.old.again) × (self.new.visit ≡ self.old.visit) × (self.new.opened ≡ self.old.opened) × (self.new.last ≡ self.old.last) }
+        ensures rest { (self.new.missed ≡ self.old.missed) × (self.new.retry ≡ self.old.retry) }
         ensures inside { IfSome result (λ p. p < length self.new.stops.items) }
         ensures left { (p : ℕ) → result ≡ Some p → AreOnce self.old.visit.items → IsNextOf p (drop self.old.passed self.old.visit.items) (drop self.new.passed self.old.visit.items) }
+        ensures first { self.old.passed ≡ 0 → BeginsLive (λ s. is_live s.stand) true self.old.visit.items self.old.opened self.old.stops.items → Passes (λ s. is_live s.stand) self.old.stops.items result }
     {
         let place = *self.visit.get(self.passed)?;
         self.passed += 1;
@@ -189,8 +193,10 @@ impl<H: Hand> Tour<H> {
     fn brought_up(&mut self) -> Option<usize>
         requires { self.old.opened < length self.old.stops.items }
         ensures kept { (self.new.stops ≡ self.old.stops) × (self.new.count ≡ self.old.count) × (self.new.again ≡ self.old.again) × (self.new.visit ≡ self.old.visit) × (self.new.opened ≡ self.old.opened) × (self.new.last ≡ self.old.last) }
+        ensures rest { (self.new.missed ≡ self.old.missed) × (self.new.retry ≡ self.old.retry) }
         ensures inside { IfSome result (λ p. p < length self.new.stops.items) }
         ensures left { (p : ℕ) → result ≡ Some p → IsNextOf p (drop self.old.passed (self.old.opened ∷ [])) (drop self.new.passed (self.old.opened ∷ [])) }
+        ensures first { self.old.passed ≡ 0 → result ≡ Some self.old.opened }
     {
         if self.passed > 0 {
             return None;
@@ -202,8 +208,10 @@ impl<H: Hand> Tour<H> {
     // The next live slave of a round.
     fn next_in_round(&mut self) -> Option<usize>
         ensures kept { (self.new.stops ≡ self.old.stops) × (self.new.count ≡ self.old.count) × (self.new.again ≡ self.old.again) × (self.new.visit ≡ self.old.visit) × (self.new.opened ≡ self.old.opened) × (self.new.last ≡ self.old.last) }
+        ensures rest { (self.new.missed ≡ self.old.missed) × (self.new.retry ≡ self.old.retry) }
         ensures inside { IfSome result (λ p. p < length self.new.stops.items) }
         ensures left { (p : ℕ) → result ≡ Some p → IsNextOf p (round_left (start_of (length self.old.stops.items) self.old.last) (length self.old.stops.items) self.old.passed) (round_left (start_of (length self.old.stops.items) self.old.last) (length self.old.stops.items) self.new.passed) }
+        ensures first { self.old.passed ≡ 0 → list_any (λ s. is_live s.stand) self.old.stops.items ≡ true → Passes (λ s. is_live s.stand) self.old.stops.items result }
     {
         let k = self.next_live()?;
         self.passed = k + 1;
@@ -214,9 +222,11 @@ impl<H: Hand> Tour<H> {
     // bring-up the one that is brought up, else those of a round.
     fn candidate(&mut self) -> Option<usize>
         ensures kept { (self.new.stops ≡ self.old.stops) × (self.new.count ≡ self.old.count) × (self.new.again ≡ self.old.again) × (self.new.visit ≡ self.old.visit) × (self.new.opened ≡ self.old.opened) × (self.new.last ≡ self.old.last) }
+        ensures rest { (self.new.missed ≡ self.old.missed) × (self.new.retry ≡ self.old.retry) }
         ensures inside { IfSome result (λ p. p < length self.new.stops.items) }
         ensures left { (p : ℕ) → result ≡ Some p → (self.old.again ≡ true → AreOnce self.old.visit.items) →
             IsNextOf p (visits_left self.old.again self.old.visit.items self.old.opened (length self.old.stops.items) self.old.last self.old.passed) (visits_left self.old.again self.old.visit.items self.old.opened (length self.old.stops.items) self.old.last self.new.passed) }
+        ensures first { self.old.passed ≡ 0 → BeginsLive (λ s. is_live s.stand) self.old.again self.old.visit.items self.old.opened self.old.stops.items → list_any (λ s. is_live s.stand) self.old.stops.items ≡ true → Passes (λ s. is_live s.stand) self.old.stops.items result }
     {
         if self.again {
             return self.carried_again();
@@ -233,8 +243,10 @@ impl<H: Hand> Tour<H> {
         ensures few { IfSome result (λ p. self.new.count < 16) }
         ensures stops { self.new.stops ≡ self.old.stops }
         ensures kept { (self.new.count ≡ self.old.count) × (self.new.again ≡ self.old.again) × (self.new.visit ≡ self.old.visit) × (self.new.opened ≡ self.old.opened) × (self.new.last ≡ self.old.last) }
+        ensures rest { (self.new.missed ≡ self.old.missed) × (self.new.retry ≡ self.old.retry) }
         ensures left { (p : ℕ) → result ≡ Some p → (self.old.again ≡ true → AreOnce self.old.visit.items) →
             IsNextOf p (visits_left self.old.again self.old.visit.items self.old.opened (length self.old.stops.items) self.old.last self.old.passed) (visits_left self.old.again self.old.visit.items self.old.opened (length self.old.stops.items) self.old.last self.new.passed) }
+        ensures first { self.old.count ≡ 0 → self.old.passed ≡ 0 → BeginsLive (λ s. is_live s.stand) self.old.again self.old.visit.items self.old.opened self.old.stops.items → list_any (λ s. is_live s.stand) self.old.stops.items ≡ true → Passes (λ s. is_live s.stand) self.old.stops.items result }
     {
         if self.count >= 16 {
             return None;
@@ -249,11 +261,12 @@ impl<H: Hand> Tour<H> {
         ensures lives { StepsAt (λ s t. ((x : Speech Body H.Asked Reply) (more : Body → Bool) (passed : H.Asked → Bool) (made recover : ℕ) (spot : Spot) (l : Life Body H.Asked Reply) → StopShows (λ d a. SideShows (H.shows s.side.hand x) s.side.out s.side.inn s.side.fresh s.side.duty d a) recover spot s.stand s.spare l →
             HoldShows x H.acknowledged more passed made l (StopShows (λ d a. SideShows (H.shows t.side.hand x) t.side.out t.side.inn t.side.fresh t.side.duty d a) recover spot t.stand t.spare)) × (t.place ≡ s.place) × (t.start ≡ s.start) × (t.under ≡ s.under) × (t.at ≡ s.at)) place self.old.stops.items self.new.stops.items }
         ensures long { length self.new.stops.items ≡ length self.old.stops.items }
-        ensures step { StepsAt (λ s t. SameLink s.side.out s.side.inn s.side.station s.side.area t.side.out t.side.inn t.side.station t.side.area × (t.stand ≡ s.stand) × (t.side.passing ≡ s.side.passing)) place self.old.stops.items self.new.stops.items }
-        ensures made { (x : Speech Body H.Asked Reply) (more : Body → Bool) (passed : H.Asked → Bool) (made recover index count : ℕ) (lens : ℕ → Lens) (left : List ℕ) (lives : List (Lived H.Asked Reply)) (octets : List ℕ) → AreDistinct lives → is_in place left ≡ true →
-            FrameMade (λ ds i a s. StopMade x H.acknowledged more passed made lens recover index (λ d b. SideShows (H.shows s.side.hand x) s.side.out s.side.inn s.side.fresh s.side.duty d b) s.side.station s.place s.start s.stand s.spare s.side.out s.side.inn s.side.duty s.side.carried s.side.passing s.under s.at left ds i a) octets count lives self.old.stops.items →
-            FrameMade (λ ds i a s. StopMade x H.acknowledged more passed made lens recover index (λ d b. SideShows (H.shows s.side.hand x) s.side.out s.side.inn s.side.fresh s.side.duty d b) s.side.station s.place s.start s.stand s.spare s.side.out s.side.inn s.side.duty s.side.carried s.side.passing s.under s.at left ds i a) octets count lives self.new.stops.items }
+        ensures step { StepsAt (λ s t. SameLink s.side.out s.side.inn s.side.station s.side.area t.side.out t.side.inn t.side.station t.side.area × (t.stand ≡ s.stand) × (t.side.passing ≡ s.side.passing) × (H.script t.side.hand ≡ H.script s.side.hand)) place self.old.stops.items self.new.stops.items }
+        ensures made { (x : Spot → Speech Body H.Asked Reply) (more : Body → Bool) (passed : H.Asked → Bool) (made recover index count : ℕ) (lens : ℕ → Lens) (left : List ℕ) (lives : List (Lived H.Asked Reply)) (octets : List ℕ) (begun : ℕ → Option (Service H.Asked)) → AreDistinct lives → is_in place left ≡ true →
+            FrameMade (λ ds i a s. StopMade (x a.spot) H.acknowledged more passed made begun lens recover index (λ d b. SideShows (H.shows s.side.hand (x a.spot)) s.side.out s.side.inn s.side.fresh s.side.duty d b) s.side.station s.place s.start s.stand s.spare s.side.out s.side.inn s.side.duty s.side.carried s.side.passing s.under s.at left ds i a) octets count lives self.old.stops.items →
+            FrameMade (λ ds i a s. StopMade (x a.spot) H.acknowledged more passed made begun lens recover index (λ d b. SideShows (H.shows s.side.hand (x a.spot)) s.side.out s.side.inn s.side.fresh s.side.duty d b) s.side.station s.place s.start s.stand s.spare s.side.out s.side.inn s.side.duty s.side.carried s.side.passing s.under s.at left ds i a) octets count lives self.new.stops.items }
         ensures tour { (self.new.again ≡ self.old.again) × (self.new.visit ≡ self.old.visit) × (self.new.opened ≡ self.old.opened) × (self.new.last ≡ self.old.last) × (self.new.missed ≡ self.old.missed) × (self.new.retry ≡ self.old.retry) × (self.new.passed ≡ self.old.passed) }
+        ensures first { length frame.now.items ≡ 16 → result ≡ true }
     {
         self.stops[place].ahead(wish) <= datagrams::room(frame)
     }
@@ -273,15 +286,18 @@ impl<H: Hand> Tour<H> {
         ensures begun { (ds : List Raw.Datagram) × IsBegun frame.new.items ds }
         ensures lives { StepsAt (λ s t. ((x : Speech Body H.Asked Reply) (more : Body → Bool) (passed : H.Asked → Bool) (made recover : ℕ) (spot : Spot) (lens : ℕ → Lens) (l : Life Body H.Asked Reply) →
             (lens s.side.station).out ≡ s.side.out.len → (lens s.side.station).back ≡ in_area_len s.side.inn → IsSpot spot s.side.station s.place s.start → is_some l.era.passing ≡ is_some s.side.passing → StopShows (λ d a. SideShows (H.shows s.side.hand x) s.side.out s.side.inn s.side.fresh s.side.duty d a) recover spot s.stand s.spare l →
-            NextShows x H.acknowledged more passed made l (λ n. StopShows (λ d a. SideShows (H.shows t.side.hand x) t.side.out t.side.inn t.side.fresh t.side.duty d a) recover spot t.stand t.spare n ×
+            NextShows x H.acknowledged more passed made l (wish_begun result wish (H.ready s.side.hand)) (λ n. StopShows (λ d a. SideShows (H.shows t.side.hand x) t.side.out t.side.inn t.side.fresh t.side.duty d a) recover spot t.stand t.spare n ×
             (t.under ≡ true → StandMeant lens t.side.station index t.side.carried t.stand n (datagram_seen lens (stand_gram t.side.station index t.stand t.side.out t.side.inn t.side.duty t.side.carried))))) × ((ds : List Raw.Datagram) → IsBegun frame.old.items ds → t.under ≡ true → IsBegun frame.new.items (ds ++ (stand_gram t.side.station index t.stand t.side.out t.side.inn t.side.duty t.side.carried) ∷ [])) × (t.under ≡ false → frame.new.items ≡ frame.old.items) × (t.under ≡ true → t.at ≡ self.old.count) × (t.place ≡ s.place) × (t.start ≡ s.start)) place self.old.stops.items self.new.stops.items }
         ensures long { length self.new.stops.items ≡ length self.old.stops.items }
         ensures step { StepsAt (λ s t. SameLink s.side.out s.side.inn s.side.station s.side.area t.side.out t.side.inn t.side.station t.side.area × (t.stand ≡ s.stand) × (t.under ≡ true → IsClearFor t.stand t.side.carried t.side.inn) × (t.under ≡ true → self.new.count ≡ self.old.count + 1) × (t.under ≡ false → self.new.count ≡ self.old.count)) place self.old.stops.items self.new.stops.items }
-        ensures made { (x : Speech Body H.Asked Reply) (more : Body → Bool) (passed : H.Asked → Bool) (made recover : ℕ) (lens : ℕ → Lens) (left next : List ℕ) (lives : List (Lived H.Asked Reply)) → AreDistinct lives → is_in place left ≡ true → is_in place next ≡ false → ((k : ℕ) → is_in k next ≡ true → is_in k left ≡ true) →
-            FrameMade (λ ds i a s. StopMade x H.acknowledged more passed made lens recover index (λ d b. SideShows (H.shows s.side.hand x) s.side.out s.side.inn s.side.fresh s.side.duty d b) s.side.station s.place s.start s.stand s.spare s.side.out s.side.inn s.side.duty s.side.carried s.side.passing s.under s.at left ds i a) frame.old.items self.old.count lives self.old.stops.items →
-            FrameMade (λ ds i a s. StopMade x H.acknowledged more passed made lens recover index (λ d b. SideShows (H.shows s.side.hand x) s.side.out s.side.inn s.side.fresh s.side.duty d b) s.side.station s.place s.start s.stand s.spare s.side.out s.side.inn s.side.duty s.side.carried s.side.passing s.under s.at next ds i a) frame.new.items self.new.count lives self.new.stops.items }
+        ensures made { (x : Spot → Speech Body H.Asked Reply) (more : Body → Bool) (passed : H.Asked → Bool) (made recover : ℕ) (lens : ℕ → Lens) (left next : List ℕ) (lives : List (Lived H.Asked Reply)) (begun now : ℕ → Option (Service H.Asked)) → AreDistinct lives → is_in place left ≡ true → is_in place next ≡ false → ((k : ℕ) → is_in k next ≡ true → is_in k left ≡ true) → IfSome (slice_get self.old.stops.items place) (λ s. ComesAt begun now s.place (wish_begun result wish (H.ready s.side.hand))) →
+            FrameMade (λ ds i a s. StopMade (x a.spot) H.acknowledged more passed made begun lens recover index (λ d b. SideShows (H.shows s.side.hand (x a.spot)) s.side.out s.side.inn s.side.fresh s.side.duty d b) s.side.station s.place s.start s.stand s.spare s.side.out s.side.inn s.side.duty s.side.carried s.side.passing s.under s.at left ds i a) frame.old.items self.old.count lives self.old.stops.items →
+            FrameMade (λ ds i a s. StopMade (x a.spot) H.acknowledged more passed made now lens recover index (λ d b. SideShows (H.shows s.side.hand (x a.spot)) s.side.out s.side.inn s.side.fresh s.side.duty d b) s.side.station s.place s.start s.stand s.spare s.side.out s.side.inn s.side.duty s.side.carried s.side.passing s.under s.at next ds i a) frame.new.items self.new.count lives self.new.stops.items }
         ensures tour { (self.new.again ≡ self.old.again) × (self.new.opened ≡ self.old.opened) × (self.new.last ≡ self.old.last) × (self.new.missed ≡ self.old.missed) × (self.new.retry ≡ self.old.retry) × (self.new.passed ≡ self.old.passed) }
-        ensures visits { length self.old.visit.items < 16 → IsCarried (nat_lt self.old.count self.new.count) self.old.again place self.old.visit.items self.new.visit.items }
+        ensures visits { (self.old.again ≡ false → length self.old.visit.items < 16) → IsCarried (nat_lt self.old.count self.new.count) self.old.again place self.old.visit.items self.new.visit.items }
+        ensures first { length frame.old.items ≡ 16 → holds_at (λ s. is_live s.stand) self.old.stops.items place ≡ true → self.new.count ≡ self.old.count + 1 }
+        ensures began { StepsAt (λ s t. (takes_ready result wish ≡ true → is_some (H.ready s.side.hand) ≡ true) × (H.script t.side.hand ≡ (if takes_ready result wish then H.behind s.side.hand else H.script s.side.hand)) ×
+            (s.side.passing ≡ None → (takes_ready result wish ≡ true → (q : H.Asked) → H.ready s.side.hand ≡ Some q → H.passed q ≡ false) → t.side.passing ≡ None)) place self.old.stops.items self.new.stops.items }
     {
         let at = self.count;
         let began = self.stops[place].visit(wish, at, index, frame);
@@ -297,7 +313,7 @@ impl<H: Hand> Tour<H> {
         ensures carried { under ≡ true → self.new.count ≡ self.old.count + 1 }
         ensures still { under ≡ false → self.new.count ≡ self.old.count }
         ensures tour { (self.new.again ≡ self.old.again) × (self.new.opened ≡ self.old.opened) × (self.new.last ≡ self.old.last) × (self.new.missed ≡ self.old.missed) × (self.new.retry ≡ self.old.retry) × (self.new.passed ≡ self.old.passed) }
-        ensures visits { length self.old.visit.items < 16 → IsCarried under self.old.again place self.old.visit.items self.new.visit.items }
+        ensures visits { (self.old.again ≡ false → length self.old.visit.items < 16) → IsCarried under self.old.again place self.old.visit.items self.new.visit.items }
     {
         if under {
             self.carry(place);
@@ -310,7 +326,7 @@ impl<H: Hand> Tour<H> {
         ensures stops { self.new.stops ≡ self.old.stops }
         ensures count { self.new.count ≡ self.old.count + 1 }
         ensures tour { (self.new.again ≡ self.old.again) × (self.new.opened ≡ self.old.opened) × (self.new.last ≡ self.old.last) × (self.new.missed ≡ self.old.missed) × (self.new.retry ≡ self.old.retry) × (self.new.passed ≡ self.old.passed) }
-        ensures visits { length self.old.visit.items < 16 → IsCarried true self.old.again place self.old.visit.items self.new.visit.items }
+        ensures visits { (self.old.again ≡ false → length self.old.visit.items < 16) → IsCarried true self.old.again place self.old.visit.items self.new.visit.items }
     {
         if !self.again {
             let _room = self.visit.try_push(place);
@@ -322,9 +338,9 @@ impl<H: Hand> Tour<H> {
     pub fn finish(&self, frame: &mut FrameBuf) -> bool
         requires { (ds : List Raw.Datagram) × IsBegun frame.old.items ds }
         ensures some { result ≡ not (self.now.count == 0) }
-        ensures made { result ≡ true → (x : Speech Body H.Asked Reply) (more : Body → Bool) (passed : H.Asked → Bool) (made recover index : ℕ) (lens : ℕ → Lens) (left : List ℕ) (lives : List (Lived H.Asked Reply)) →
-            FrameMade (λ ds i a s. StopMade x H.acknowledged more passed made lens recover index (λ d b. SideShows (H.shows s.side.hand x) s.side.out s.side.inn s.side.fresh s.side.duty d b) s.side.station s.place s.start s.stand s.spare s.side.out s.side.inn s.side.duty s.side.carried s.side.passing s.under s.at left ds i a) frame.old.items self.now.count lives self.now.stops.items →
-            FrameSent (λ ds a b s. StopSent x H.acknowledged more passed made lens recover (λ d k. SideShows (H.shows s.side.hand x) s.side.out s.side.inn s.side.fresh s.side.duty d k) s.side.station s.place s.start s.stand s.spare s.side.out.len (in_area_len s.side.inn) s.side.carried s.under s.at ds a b) frame.new.items lives self.now.stops.items }
+        ensures made { result ≡ true → (x : Spot → Speech Body H.Asked Reply) (more : Body → Bool) (passed : H.Asked → Bool) (made recover index : ℕ) (lens : ℕ → Lens) (left : List ℕ) (lives : List (Lived H.Asked Reply)) (begun : ℕ → Option (Service H.Asked)) →
+            FrameMade (λ ds i a s. StopMade (x a.spot) H.acknowledged more passed made begun lens recover index (λ d b. SideShows (H.shows s.side.hand (x a.spot)) s.side.out s.side.inn s.side.fresh s.side.duty d b) s.side.station s.place s.start s.stand s.spare s.side.out s.side.inn s.side.duty s.side.carried s.side.passing s.under s.at left ds i a) frame.old.items self.now.count lives self.now.stops.items →
+            FrameSent (λ ds a b s. StopSent (x a.spot) H.acknowledged more passed made begun lens recover (λ d k. SideShows (H.shows s.side.hand (x a.spot)) s.side.out s.side.inn s.side.fresh s.side.duty d k) s.side.station s.place s.start s.stand s.spare s.side.out.len (in_area_len s.side.inn) s.side.carried s.under s.at ds a b) frame.new.items lives self.now.stops.items }
     {
         if self.count == 0 {
             return false;
@@ -343,23 +359,21 @@ impl<H: Hand> Tour<H> {
     }
 
     // How many slaves from the first on have ended their first bring-up, or were given up in it.
-    fn opened_behind(&self) -> usize {
-        if self.opened < self.stops.len()
-            && !matches!(self.stops[self.opened].stand, Stand::Opening(_))
-        {
-            self.opened + 1
-        } else {
+    fn opened_behind(&self) -> usize
+        ensures { result ≡ opened_behind (λ s. is_opened s.stand) self.now.opened self.now.stops.items }
+    {
+        if self.opened >= self.stops.len() {
+            return self.opened;
+        }
+        if self.stops[self.opened].is_opened() {
             self.opened
+        } else {
+            self.opened + 1
         }
     }
 
     // The slaves hear their datagrams of the frame that came back.
     fn hear(&mut self, frame: &FrameBuf, made: u32)
-        ensures each { (lens : ℕ → Lens) (sent : List (Datagram Body)) → Returns sent (seen lens frame.now.items) → 1 ≤ length sent →
-            EachPair (λ s t. (s.stand ≡ Stand.Open → (x : Speech Body H.Asked Reply) (number : ℕ) (d : Seats.Side Body H.Asked Reply) (a : Account H.Asked Reply) →
-            SideShows (H.shows s.side.hand x) s.side.out s.side.inn s.side.fresh s.side.duty d a →
-            Under s.side.station s.at s.under s.side.carried d.halves (duty_access a.hand) sent →
-            SideShows (H.shows t.side.hand x) t.side.out t.side.inn t.side.fresh t.side.duty (Seats.side_back x number s.side.station (seen lens frame.now.items) d) (account_back s.side.station number a (seen lens frame.now.items))) × (t.side.station ≡ s.side.station)) self.old.stops.items self.new.stops.items }
         ensures lives { (lens : ℕ → Lens) (sent : List (Datagram Body)) → Returns sent (seen lens frame.now.items) → 1 ≤ length sent →
             EachPair (λ s t. ((x : Speech Body H.Asked Reply) (more : Body → Bool) (passed : H.Asked → Bool) (number recover : ℕ) (spot : Spot) (ns : List (News Body)) (l : Life Body H.Asked Reply) →
             IsSpot spot s.side.station s.place s.start → StandUnder lens s.side.station s.at s.under s.side.carried s.stand l sent → StopShows (λ d a. SideShows (H.shows s.side.hand x) s.side.out s.side.inn s.side.fresh s.side.duty d a) recover spot s.stand s.spare l →
@@ -367,6 +381,7 @@ impl<H: Hand> Tour<H> {
         ensures long { length self.new.stops.items ≡ length self.old.stops.items }
         ensures kept { EachPair (λ s t. SameLink s.side.out s.side.inn s.side.station s.side.area t.side.out t.side.inn t.side.station t.side.area × (IsSized s.stand s.side.out.len (in_area_len s.side.inn) → IsSized t.stand t.side.out.len (in_area_len t.side.inn))) self.old.stops.items self.new.stops.items }
         ensures tour { (self.new.again ≡ self.old.again) × (self.new.visit ≡ self.old.visit) × (self.new.opened ≡ self.old.opened) × (self.new.last ≡ self.old.last) × (self.new.missed ≡ self.old.missed) × (self.new.retry ≡ self.old.retry) }
+        ensures stays { EachPair (λ s t. (H.script t.side.hand ≡ H.script s.side.hand) × (s.side.passing ≡ None → t.side.passing ≡ None)) self.old.stops.items self.new.stops.items }
     {
         let octets = frame.as_slice();
         if datagrams::fault(octets).is_none() {
@@ -376,20 +391,17 @@ impl<H: Hand> Tour<H> {
 
     /// The frame under way came back. `made` is its number.
     pub fn returned(&mut self, frame: &FrameBuf, made: u32)
-        ensures each { (lens : ℕ → Lens) (sent : List (Datagram Body)) → Returns sent (seen lens frame.now.items) → 1 ≤ length sent →
-            EachPair (λ s t. (s.stand ≡ Stand.Open → (x : Speech Body H.Asked Reply) (number : ℕ) (d : Seats.Side Body H.Asked Reply) (a : Account H.Asked Reply) →
-            SideShows (H.shows s.side.hand x) s.side.out s.side.inn s.side.fresh s.side.duty d a →
-            Under s.side.station s.at s.under s.side.carried d.halves (duty_access a.hand) sent →
-            SideShows (H.shows t.side.hand x) t.side.out t.side.inn t.side.fresh t.side.duty (Seats.side_back x number s.side.station (seen lens frame.now.items) d) (account_back s.side.station number a (seen lens frame.now.items))) × (t.side.station ≡ s.side.station)) self.old.stops.items self.new.stops.items }
         ensures lives { (lens : ℕ → Lens) (sent : List (Datagram Body)) → Returns sent (seen lens frame.now.items) → 1 ≤ length sent →
             EachPair (λ s t. ((x : Speech Body H.Asked Reply) (more : Body → Bool) (passed : H.Asked → Bool) (number recover : ℕ) (spot : Spot) (ns : List (News Body)) (l : Life Body H.Asked Reply) →
             IsSpot spot s.side.station s.place s.start → StandUnder lens s.side.station s.at s.under s.side.carried s.stand l sent → StopShows (λ d a. SideShows (H.shows s.side.hand x) s.side.out s.side.inn s.side.fresh s.side.duty d a) recover spot s.stand s.spare l →
             FollowShows (λ d a. SideShows (H.shows t.side.hand x) t.side.out t.side.inn t.side.fresh t.side.duty d a) recover spot t.stand t.spare t.news l (life_back x H.acknowledged more passed number spot ns (seen lens frame.now.items) (came_at s.under s.at (seen lens frame.now.items)) l l.stand)) × (t.place ≡ s.place) × (t.start ≡ s.start)) self.old.stops.items self.new.stops.items }
         ensures long { length self.new.stops.items ≡ length self.old.stops.items }
-        ensures shown { (lens : ℕ → Lens) (sent : List (Datagram Body)) → Returns sent (seen lens frame.now.items) → 1 ≤ length sent → (x : Speech Body H.Asked Reply) (more : Body → Bool) (passed : H.Asked → Bool) (number recover : ℕ) (lives : List (Lived H.Asked Reply)) →
-            AllBoth (λ a s. StopLives lens recover (λ d b. SideShows (H.shows s.side.hand x) s.side.out s.side.inn s.side.fresh s.side.duty d b) s.side.station s.place s.start s.stand s.spare s.side.out.len (in_area_len s.side.inn) a × StandUnder lens s.side.station s.at s.under s.side.carried s.stand a.life sent) lives self.old.stops.items →
-            AllThree (λ a s t. (ns : List (News Body)) → StopLives lens recover (λ d b. SideShows (H.shows t.side.hand x) t.side.out t.side.inn t.side.fresh t.side.duty d b) t.side.station t.place t.start t.stand t.spare t.side.out.len (in_area_len t.side.inn) (lived_back x H.acknowledged more passed number (seen lens frame.now.items) a (record { under = s.under; at = s.at }) ns)) lives self.old.stops.items self.new.stops.items }
+        ensures shown { (lens : ℕ → Lens) (sent : List (Datagram Body)) → Returns sent (seen lens frame.now.items) → 1 ≤ length sent → (x : Spot → Speech Body H.Asked Reply) (more : Body → Bool) (passed : H.Asked → Bool) (number recover : ℕ) (lives : List (Lived H.Asked Reply)) →
+            AllBoth (λ a s. StopLives lens recover (λ d b. SideShows (H.shows s.side.hand (x a.spot)) s.side.out s.side.inn s.side.fresh s.side.duty d b) s.side.station s.place s.start s.stand s.spare s.side.out.len (in_area_len s.side.inn) a × StandUnder lens s.side.station s.at s.under s.side.carried s.stand a.life sent) lives self.old.stops.items →
+            AllThree (λ a s t. (ns : List (News Body)) → StopLives lens recover (λ d b. SideShows (H.shows t.side.hand (x a.spot)) t.side.out t.side.inn t.side.fresh t.side.duty d b) t.side.station t.place t.start t.stand t.spare t.side.out.len (in_area_len t.side.inn) (lived_back (x a.spot) H.acknowledged more passed number (seen lens frame.now.items) a (record { under = s.under; at = s.at }) ns)) lives self.old.stops.items self.new.stops.items }
         ensures tour { (self.new.visit ≡ self.old.visit) × (self.new.again ≡ false) × (self.new.missed ≡ 0) × (self.new.retry ≡ self.old.retry) }
+        ensures opened { self.new.opened ≡ opened_behind (λ s. is_opened s.stand) self.old.opened self.new.stops.items }
+        ensures stays { EachPair (λ s t. (H.script t.side.hand ≡ H.script s.side.hand) × (s.side.passing ≡ None → t.side.passing ≡ None)) self.old.stops.items self.new.stops.items }
     {
         self.hear(frame, made);
         let last = self.last_behind();
@@ -403,18 +415,16 @@ impl<H: Hand> Tour<H> {
     /// The frame under way was lost: the same slaves come again, or, behind one lost frame more than `retry` in a row,
     /// are given up.
     pub fn lost(&mut self)
-        ensures each { self.old.missed < self.old.retry → EachPair (λ s t. (s.stand ≡ Stand.Open → (x : Speech Body H.Asked Reply) (sent : List (Datagram Body)) (d : Seats.Side Body H.Asked Reply) (a : Account H.Asked Reply) →
-            SideShows (H.shows s.side.hand x) s.side.out s.side.inn s.side.fresh s.side.duty d a →
-            Under s.side.station s.at s.under s.side.carried d.halves (duty_access a.hand) sent →
-            SideShows (H.shows t.side.hand x) t.side.out t.side.inn t.side.fresh t.side.duty (Seats.side_lost s.side.station sent d) a) × (t.side.station ≡ s.side.station)) self.old.stops.items self.new.stops.items }
         ensures lives { (lens : ℕ → Lens) (octets : List ℕ) → EachPair (λ s t. ((x : Speech Body H.Asked Reply) (more : Body → Bool) (passed : H.Asked → Bool) (number recover : ℕ) (spot : Spot) (ns : List (News Body)) (l : Life Body H.Asked Reply) →
             IsSpot spot s.side.station s.place s.start → StandUnder lens s.side.station s.at s.under s.side.carried s.stand l (seen lens octets) → StopShows (λ d a. SideShows (H.shows s.side.hand x) s.side.out s.side.inn s.side.fresh s.side.duty d a) recover spot s.stand s.spare l →
             FollowShows (λ d a. SideShows (H.shows t.side.hand x) t.side.out t.side.inn t.side.fresh t.side.duty d a) recover spot t.stand t.spare t.news l (given_where (not (nat_lt self.old.missed self.old.retry) && s.under) recover spot number (life_lost x H.acknowledged more passed spot ns (seen lens octets) l l.stand))) × (t.place ≡ s.place) × (t.start ≡ s.start)) self.old.stops.items self.new.stops.items }
         ensures long { length self.new.stops.items ≡ length self.old.stops.items }
-        ensures shown { (lens : ℕ → Lens) (octets : List ℕ) (x : Speech Body H.Asked Reply) (more : Body → Bool) (passed : H.Asked → Bool) (number recover : ℕ) (lives : List (Lived H.Asked Reply)) →
-            AllBoth (λ a s. StopLives lens recover (λ d b. SideShows (H.shows s.side.hand x) s.side.out s.side.inn s.side.fresh s.side.duty d b) s.side.station s.place s.start s.stand s.spare s.side.out.len (in_area_len s.side.inn) a × StandUnder lens s.side.station s.at s.under s.side.carried s.stand a.life (seen lens octets)) lives self.old.stops.items →
-            AllThree (λ a s t. (ns : List (News Body)) → StopLives lens recover (λ d b. SideShows (H.shows t.side.hand x) t.side.out t.side.inn t.side.fresh t.side.duty d b) t.side.station t.place t.start t.stand t.spare t.side.out.len (in_area_len t.side.inn) (lived_lost x H.acknowledged more passed (not (nat_lt self.old.missed self.old.retry)) recover number (seen lens octets) a (record { under = s.under; at = s.at }) ns)) lives self.old.stops.items self.new.stops.items }
+        ensures shown { (lens : ℕ → Lens) (octets : List ℕ) (x : Spot → Speech Body H.Asked Reply) (more : Body → Bool) (passed : H.Asked → Bool) (number recover : ℕ) (lives : List (Lived H.Asked Reply)) →
+            AllBoth (λ a s. StopLives lens recover (λ d b. SideShows (H.shows s.side.hand (x a.spot)) s.side.out s.side.inn s.side.fresh s.side.duty d b) s.side.station s.place s.start s.stand s.spare s.side.out.len (in_area_len s.side.inn) a × StandUnder lens s.side.station s.at s.under s.side.carried s.stand a.life (seen lens octets)) lives self.old.stops.items →
+            AllThree (λ a s t. (ns : List (News Body)) → StopLives lens recover (λ d b. SideShows (H.shows t.side.hand (x a.spot)) t.side.out t.side.inn t.side.fresh t.side.duty d b) t.side.station t.place t.start t.stand t.spare t.side.out.len (in_area_len t.side.inn) (lived_lost (x a.spot) H.acknowledged more passed (not (nat_lt self.old.missed self.old.retry)) recover number (seen lens octets) a (record { under = s.under; at = s.at }) ns)) lives self.old.stops.items self.new.stops.items }
         ensures tour { (self.new.visit ≡ self.old.visit) × (self.new.again ≡ nat_lt self.old.missed self.old.retry) × (self.new.missed ≡ (if nat_lt self.old.missed self.old.retry then self.old.missed + 1 else 0)) × (self.new.retry ≡ self.old.retry) }
+        ensures opened { self.new.opened ≡ (if nat_lt self.old.missed self.old.retry then self.old.opened else opened_behind (λ s. is_opened s.stand) self.old.opened self.new.stops.items) }
+        ensures stays { EachPair (λ s t. (H.script t.side.hand ≡ H.script s.side.hand) × (s.side.passing ≡ None → t.side.passing ≡ None)) self.old.stops.items self.new.stops.items }
     {
         let missed = self.missed;
         let comes_again = missed < self.retry;

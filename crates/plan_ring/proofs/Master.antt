@@ -31,7 +31,7 @@ use Rattle.plan_ring.specs.Asked.{is_service}
 use Rattle.plan_ring.specs.Plan.{PlanMember, FitsPlan, step, new_members}
 use Rattle.plan_ring.proofs.Asked.{alike, forgets_as}
 use Rattle.slave_server.specs.Spec.{profile_of}
-use Rattle.plan_ring.specs.Master.{speech_of, lived_of, IsLed, AllLed, Under, IsUnder, AllUnder, AllBehind, OnAs, GoesOn}
+use Rattle.plan_ring.specs.Master.{speech_of, lived_of, IsLed, AllLed, Under, IsUnder, AllUnder, IsSame, AllSame, AllBehind, OnAs, GoesOn}
 
 module _ (more : Body → Bool) (passed : Asked → Bool) (lens : ℕ → Lens) (made : ℕ) (ds : List Raw.Datagram) where
   -- ONE SLAVE
@@ -105,11 +105,12 @@ module _ (more : Body → Bool) (passed : Asked → Bool) (lens : ℕ → Lens) 
   -- so they are led on, and are what the master shows
   record LedOn (gives : Bool) (recover : ℕ) (f : Frame Body) (fate : Fate) (ms : List PlanMember) (us : List Under) (ns : List PlanMember) : Type 0 where
     led : AllLed ns
+    same : AllSame ms ns
     shown : AllBehind more passed gives recover made f fate ms us ns
 
   led_back : (gives : Bool) (recover : ℕ) (f : Frame Body) (place : ℕ) (ms : List PlanMember) (us : List Under) (es : List Raw.Datagram) (led : AllLed ms) (xs : AllUnder more passed lens made ds ms us) →
       LedOn gives recover f Pass ms us (behind_frame more passed made f Pass place ms (turns_of ms us led xs) es)
-  led_back gives recover f place [] [] es led xs = record { led = tt; shown = tt }
+  led_back gives recover f place [] [] es led xs = record { led = tt; same = tt; shown = tt }
   led_back gives recover f place [] (u ∷ us) es led xs = absurd xs
   led_back gives recover f place (m ∷ ms) [] es led xs = absurd xs
   led_back gives recover f place (m ∷ ms) (u ∷ us) es led xs =
@@ -117,6 +118,7 @@ module _ (more : Body → Bool) (passed : Asked → Bool) (lens : ℕ → Lens) 
       let same = back_life m u led.0 xs.0 f in
       record {
         led = (record { alike = led.0.alike; last = led.0.last; in_hand = subst (λ (l : Life Body Asked Master.Reply). InHandIs is_service l) (sym same) (back_in m u led.0 xs.0 f); forgets = led.0.forgets }, rest.led);
+        same = (record { services = refl; clearing = refl; plan = refl; spot = refl; first = refl; pace = refl }, rest.same);
         shown = ((λ i. record { spot = sym xs.0.next.spot i; life = same i }), rest.shown);
       }
 
@@ -125,6 +127,10 @@ module _ (more : Body → Bool) (passed : Asked → Bool) (lens : ℕ → Lens) 
   led_given true recover n k = record { alike = k.alike; last = k.last; in_hand = k.in_hand; forgets = k.forgets }
   led_given false recover n k = k
 
+  same_given : (b : Bool) (recover : ℕ) (m n : PlanMember) → IsSame m n → IsSame m (if b then record n { life = gives_up recover n.spot made n.life } else n)
+  same_given true recover m n k = record { services = k.services; clearing = k.clearing; plan = k.plan; spot = k.spot; first = k.first; pace = k.pace }
+  same_given false recover m n k = k
+
   shown_given : (b : Bool) (recover : ℕ) (n : PlanMember) (spot : Spot) (l : Life Body Asked Master.Reply) → n.spot ≡ spot → n.life ≡ l →
       lived_of (if b then record n { life = gives_up recover n.spot made n.life } else n) ≡ record { spot = spot; life = given_where b recover spot made l }
   shown_given true recover n spot l e f = λ i. record { spot = e i; life = gives_up recover (e i) made (f i) }
@@ -132,7 +138,7 @@ module _ (more : Body → Bool) (passed : Asked → Bool) (lens : ℕ → Lens) 
 
   led_lost : (gives : Bool) (recover after : ℕ) (f : Frame Body) (place : ℕ) (ms : List PlanMember) (us : List Under) (es : List Raw.Datagram) (led : AllLed ms) (xs : AllUnder more passed lens made ds ms us) →
       LedOn gives recover f (Lost after) ms us (given_up recover made (behind_frame more passed made f (Lost after) place ms (turns_of ms us led xs) es) (carried gives (Lost after) us))
-  led_lost gives recover after f place [] [] es led xs = record { led = tt; shown = tt }
+  led_lost gives recover after f place [] [] es led xs = record { led = tt; same = tt; shown = tt }
   led_lost gives recover after f place [] (u ∷ us) es led xs = absurd xs
   led_lost gives recover after f place (m ∷ ms) [] es led xs = absurd xs
   led_lost gives recover after f place (m ∷ ms) (u ∷ us) es led xs =
@@ -145,6 +151,7 @@ module _ (more : Body → Bool) (passed : Asked → Bool) (lens : ℕ → Lens) 
       let mine : IsLed n = record { alike = led.0.alike; last = led.0.last; in_hand = subst (λ (l : Life Body Asked Master.Reply). InHandIs is_service l) (sym same) (lost_in m u led.0 xs.0 f); forgets = led.0.forgets } in
       record {
         led = (led_given (gives && u.share.under) recover n mine, rest.led);
+        same = (same_given (gives && u.share.under) recover m n (record { services = refl; clearing = refl; plan = refl; spot = refl; first = refl; pace = refl }), rest.same);
         shown = (shown_given (gives && u.share.under) recover n u.lived.spot (life_lost (speech_of m) acknowledged more passed u.lived.spot u.news f.sent u.lived.life u.lived.life.stand) (sym xs.0.next.spot) same, rest.shown);
       }
 
@@ -166,7 +173,7 @@ module _ (more : Body → Bool) (passed : Asked → Bool) (lens : ℕ → Lens) 
       go : (fate : Fate) → IsRing lens step (FitsPlan ss) (fs ++ frame_at lens ring octets ∷ []) (ring_behind node_passed step ring octets)
           (behind_frame more passed (length fs) (frame_at lens ring octets) fate 0 ms (turns_of more passed lens (length fs) ds ms us led xs) (chained ds)) →
           OnAs more passed lens ss gives recover fs ring octets ms us fate
-      go Pass on = let x = led_back more passed lens (length fs) ds gives recover (frame_at lens ring octets) 0 ms us (chained ds) led xs in record { behind = _; lives = on; led = x.led; shown = x.shown }
+      go Pass on = let x = led_back more passed lens (length fs) ds gives recover (frame_at lens ring octets) 0 ms us (chained ds) led xs in record { behind = _; lives = on; led = x.led; same = x.same; shown = x.shown }
       go (Lost after) on =
           let x = led_lost more passed lens (length fs) ds gives recover after (frame_at lens ring octets) 0 ms us (chained ds) led xs in
           record {
@@ -174,6 +181,7 @@ module _ (more : Body → Bool) (passed : Asked → Bool) (lens : ℕ → Lens) 
             lives = Begins.ring_given lens step (FitsPlan ss) (fs ++ frame_at lens ring octets ∷ []) recover (length fs) (ring_behind node_passed step ring octets)
                 (behind_frame more passed (length fs) (frame_at lens ring octets) (Lost after) 0 ms (turns_of more passed lens (length fs) ds ms us led xs) (chained ds)) (carried more passed lens (length fs) ds gives (Lost after) us) on;
             led = x.led;
+            same = x.same;
             shown = x.shown;
           }
 

@@ -24,6 +24,7 @@ use Rattle.whole_lives.specs.Whole.{IsWhole}
 use Rattle.whole_ring.specs.Members as Ring
 use Rattle.whole_ring.specs.Members.{Serves, IsNew, AllNew, IsRing, first_ring}
 use Rattle.whole_ring.proofs.Begins.{ring_begins}
+use Rattle.life_runs.proofs.First.{apart_from}
 use Rattle.plan_ring.specs.Asked.{asked}
 use Rattle.plan_ring.proofs.Valid.{core_is_valid}
 use Rattle.plan_ring.specs.Plan.{PlanMember, plan_of, spot_of, new_member, new_members, step, FitsPlan, IsPlanned, AllPlanned, AllMacs, lens_of, members_of, IsElsewhere, AreApart}
@@ -157,43 +158,6 @@ pub same_ring : (lens : ℕ → Lens) (lose : List (ℕ × ℕ)) (ss : List Slav
 same_ring lens lose ss paces e = λ i. record { nodes = same_nodes lens 0 ss paces e i; paces = same_paces lens 0 ss paces e i; lose = lose; number = 0 }
 
 -- ---- OF A WHOLE PLAN
--- a station that isn't among those before
-any_false : (t b : SlaveSpec) (xs ys : List SlaveSpec) → list_any (is_same_station t) (xs ++ b ∷ ys) ≡ false → (b.station == t.station) ≡ false
-any_false t b [] ys e = first (is_same_station t b) (list_any (is_same_station t) ys) e
-  where
-    first : (c d : Bool) → (c || d) ≡ false → c ≡ false
-    first true d f = f
-    first false d f = refl
-any_false t b (x ∷ xs) ys e = any_false t b xs ys (rest (is_same_station t x) (list_any (is_same_station t) (xs ++ b ∷ ys)) e)
-  where
-    rest : (c d : Bool) → (c || d) ≡ false → d ≡ false
-    rest true d f = absurd (cc)
-    rest false d f = f
-
-moved : (xs : List SlaveSpec) (b : SlaveSpec) (ys : List SlaveSpec) (t : SlaveSpec) → (xs ++ b ∷ ys) ++ t ∷ [] ≡ xs ++ b ∷ (ys ++ t ∷ [])
-moved [] b ys t = refl
-moved (x ∷ xs) b ys t = ap (λ l. x ∷ l) (moved xs b ys t)
-
--- what a repeat that isn't there says of the first
-not_repeated : (before : List SlaveSpec) (place : ℕ) (t : SlaveSpec) (ts : List SlaveSpec) → repeated_from is_same_station before place (t ∷ ts) ≡ None →
-    (list_any (is_same_station t) before ≡ false) × (repeated_from is_same_station (before ++ t ∷ []) (place + 1) ts ≡ None)
-not_repeated before place t ts e = go (list_any (is_same_station t) before) refl
-  where
-    go : (b : Bool) → list_any (is_same_station t) before ≡ b → (list_any (is_same_station t) before ≡ false) × (repeated_from is_same_station (before ++ t ∷ []) (place + 1) ts ≡ None)
-    go true f = absurd (let g : Some place ≡ None = sym (ap (λ (b : Bool). if b then Some place else repeated_from is_same_station (before ++ t ∷ []) (place + 1) ts) f) ∙ e in cc)
-    go false f = (f, sym (ap (λ (b : Bool). if b then Some place else repeated_from is_same_station (before ++ t ∷ []) (place + 1) ts) f) ∙ e)
-
-elsewhere_behind : (xs : List SlaveSpec) (b : SlaveSpec) (ys : List SlaveSpec) (place : ℕ) (ss : List SlaveSpec) → repeated_from is_same_station (xs ++ b ∷ ys) place ss ≡ None → IsElsewhere b.station ss
-elsewhere_behind xs b ys place [] e = tt
-elsewhere_behind xs b ys place (t ∷ ts) e =
-    let both = not_repeated (xs ++ b ∷ ys) place t ts e in
-    (any_false t b xs ys both.0, elsewhere_behind xs b (ys ++ t ∷ []) (place + 1) ts (subst (λ l. repeated_from is_same_station l (place + 1) ts ≡ None) (moved xs b ys t) both.1))
-
-apart_from : (before : List SlaveSpec) (place : ℕ) (ss : List SlaveSpec) → repeated_from is_same_station before place ss ≡ None → AreApart ss
-apart_from before place [] e = tt
-apart_from before place (s ∷ ss) e =
-    let both = not_repeated before place s ss e in (elsewhere_behind before s [] (place + 1) ss both.1, apart_from (before ++ s ∷ []) (place + 1) ss both.1)
-
 -- the lengths at a station are those of its slave
 further : (s : SlaveSpec) (all ss : List SlaveSpec) → IsElsewhere s.station ss → AllPlanned (lens_of all) ss → AllPlanned (lens_of (s ∷ all)) ss
 further s all [] other xs = tt

@@ -50,6 +50,20 @@ pub record Under : Type 0 where
   pub share : Share
   pub news : List (News Body)
 
+-- a slave stays: its services and its plan, its place in the ring and its pace
+pub record IsSame (m n : PlanMember) : Type 0 where
+  pub services : n.services ≡ m.services
+  pub clearing : n.clearing ≡ m.clearing
+  pub plan : n.plan ≡ m.plan
+  pub spot : n.spot ≡ m.spot
+  pub first : n.first ≡ m.first
+  pub pace : n.pace ≡ m.pace
+
+abbrev pub AllSame : List PlanMember → List PlanMember → Type 0
+AllSame [] [] = ⊤
+AllSame (m ∷ ms) (n ∷ ns) = IsSame m n × AllSame ms ns
+AllSame _ _ = ⊥
+
 module _ (more : Body → Bool) (passed : Asked → Bool) where
   -- THE FRAME UNDER WAY for a slave: by a choice of the master's the life is the one before the frame, the frame has its share for it, and what
   -- was chosen is a service of the slave
@@ -79,6 +93,7 @@ module _ (more : Body → Bool) (passed : Asked → Bool) where
     pub behind : List PlanMember
     pub lives : IsRing lens step (FitsPlan ss) (fs ++ frame_at lens ring octets ∷ []) (ring_behind node_passed step ring octets) behind
     pub led : AllLed behind
+    pub same : AllSame ms behind
     pub shown : AllBehind gives recover (length fs) (frame_at lens ring octets) fate ms us behind
 
   -- by the schedule of lost frames

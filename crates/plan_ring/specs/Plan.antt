@@ -1,11 +1,12 @@
 -- THE RING OF A PLAN: its slaves as they are switched on, with their lives before the first frame.
-use Rattle.std.specs.Prelude.{◌≡◌, ℕ, suc, ◌==◌, false, if◌then◌else◌, Some, List, [], ◌∷◌, length, ⊤}
+use Rattle.std.specs.Prelude.{◌≡◌, ℕ, suc, ◌==◌, false, Some, List, [], ◌∷◌, length, ⊤}
 use Rattle.frame_view.specs.View.{Lens}
 use Rattle.eoe_model.specs.Network.{Station}
 use Rattle.state_exchange.specs.Families.{InState}
 use Rattle.master_duty.specs.Reply as Master
 use Rattle.master_hand.specs.Spoken.{Asked}
 use Rattle.life_model.specs.Lives.{Spot, new_life}
+pub use Rattle.life_runs.specs.First.{lens_of, spot_of, IsElsewhere, AreApart}
 use Rattle.life_model.specs.Tours.{item_at}
 use Rattle.segment_plan.specs.Sound.{IsSlave}
 use Rattle.segment_plan.specs.declared.plan.Scenario.{Scenario}
@@ -25,12 +26,9 @@ use Rattle.plan_ring.specs.Asked.{asked}
 abbrev pub PlanMember : Type 0
 PlanMember = Member Serving (InState Server) (InState (Station Core)) Asked Master.Reply
 
--- what the plan says of it, and its place
+-- what the plan says of it
 abbrev pub plan_of : SlaveSpec → Opening.Plan
 plan_of s = record { station = s.station; out = s.out_len; back = s.in_len; start = s.start }
-
-abbrev pub spot_of : ℕ → SlaveSpec → Spot
-spot_of place s = record { station = s.station; place = place; start = s.start }
 
 -- the application that its services act on as it is switched on, in Init
 abbrev pub first_app : SlaveSpec → InState (Station Core)
@@ -80,20 +78,6 @@ abbrev pub AllMacs : List SlaveSpec → Type 0
 AllMacs [] = ⊤
 AllMacs (s ∷ ss) = (length s.mac ≡ 6) × AllMacs ss
 
--- the lengths of the mailboxes at each station of a plan
-abbrev pub lens_of : List SlaveSpec → ℕ → Lens
-lens_of [] station = record { out = 0; back = 0 }
-lens_of (s ∷ ss) station = if s.station == station then record { out = s.out_len; back = s.in_len } else lens_of ss station
-
 -- THE SLAVES OF A PLAN as they are switched on
 abbrev pub members_of : Scenario → List PlanMember
 members_of plan = new_members (lens_of plan.slaves) 0 plan.slaves plan.paces
-
--- no station twice
-abbrev pub IsElsewhere : ℕ → List SlaveSpec → Type 0
-IsElsewhere station [] = ⊤
-IsElsewhere station (s ∷ ss) = ((station == s.station) ≡ false) × IsElsewhere station ss
-
-abbrev pub AreApart : List SlaveSpec → Type 0
-AreApart [] = ⊤
-AreApart (s ∷ ss) = IsElsewhere s.station ss × AreApart ss

@@ -11,6 +11,8 @@ pub record IsNew (book : Book) : Type 0 where
   pub switch : book.switch ≡ []
   pub switched : book.switched ≡ []
   pub host : book.host ≡ []
+  pub grams : book.grams ≡ []
+  pub replies : book.replies ≡ []
   pub serving : book.serving ≡ false
   pub ending : book.ending ≡ Unfinished
 

@@ -1,6 +1,7 @@
 ghost use Rattle.run_book.specs.Book.{IsNew};
 
 use ec_fields::{Octets, Rows};
+use ec_outside::Peer;
 use eoe_switch::SwitchEvent;
 use mailbox_mail::ReplyKind;
 use master_node::Origin;
@@ -76,6 +77,30 @@ pub struct SlaveBook {
     pub given_up: Option<u32>,
 }
 
+/// A datagram that a serving heard.
+#[derive(Debug, Drop)]
+pub struct GramIn {
+    /// From whom it came.
+    pub peer: Peer,
+    /// Its octets.
+    pub bytes: Octets,
+    /// The slave to which its mail was passed on, in ring order; none where it was ignored or answered by an error.
+    pub queued: Option<u32>,
+    /// How many frames had been sent when it was heard.
+    pub frame: u32,
+}
+
+/// A datagram that a serving sent.
+#[derive(Debug, Drop)]
+pub struct GramOut {
+    /// To whom it went.
+    pub peer: Peer,
+    /// Its octets.
+    pub bytes: Octets,
+    /// The number of the heard datagram that it answers, counted from 0.
+    pub gram: u32,
+}
+
 /// How a run ended.
 #[derive(Clone, Copy, Debug, PartialEq, Eq)]
 pub enum Ending {
@@ -106,6 +131,10 @@ pub struct Book {
     pub switched: Rows<u32>,
     /// The packets that the host received, in order.
     pub host: Rows<Octets>,
+    /// The datagrams that were heard, in order.
+    pub grams: Rows<GramIn>,
+    /// The datagrams that were sent, in order.
+    pub replies: Rows<GramOut>,
     /// Whether requests were served.
     pub serving: bool,
     /// How the run ended.
@@ -123,6 +152,8 @@ impl Book {
             switch: Rows::new(alloc),
             switched: Rows::new(alloc),
             host: Rows::new(alloc),
+            grams: Rows::new(alloc),
+            replies: Rows::new(alloc),
             serving: false,
             ending: Ending::Unfinished,
         }

@@ -1,13 +1,14 @@
 -- What events leave, one after the other.
 use Rattle.std.proofs.Common.{ℕ, ◌+◌, length, ap, ◌∙◌, subst}
 use Rattle.run_book.specs.declared.book.Book.{Book}
-use Rattle.run_record.specs.declared.log.Log.{Log}
+use Rattle.run_record.specs.declared.standing.Log.{Log}
 use Rattle.run_record.specs.Session.{KeepsRest, SameFrames, SameSlaves}
 
 pub slaves_more : {a b c : Log} → SameSlaves a b → SameSlaves b c → SameSlaves a c
 slaves_more h k = record {
   notes = k.notes ∙ h.notes;
-  stations = k.stations ∙ h.stations;
+  homes = k.homes ∙ h.homes;
+  asked = k.asked ∙ h.asked;
   ports = k.ports ∙ h.ports;
   recover = k.recover ∙ h.recover;
 }
@@ -15,6 +16,8 @@ slaves_more h k = record {
 pub rest_more : (ports : ℕ) {a b c : Book} → KeepsRest ports a b → KeepsRest ports b c → KeepsRest ports a c
 rest_more ports h k = record {
   slaves = k.slaves ∙ h.slaves;
+  grams = k.grams ∙ h.grams;
+  replies = k.replies ∙ h.replies;
   serving = k.serving ∙ h.serving;
   at_port = λ all. k.at_port (h.at_port all);
 }

@@ -1,8 +1,13 @@
+pub mod Asking
+pub mod Budgets
 pub mod Firsts
+pub mod Gones
 pub mod Kept
+pub mod Leads
 pub mod Lists
 pub mod Plans
 pub mod Replays
 pub mod Rows
+pub mod Stations
 pub mod Steps
 pub mod Underway

@@ -8,6 +8,8 @@ use Rattle.run_book.specs.Book.{IsShort}
 use Rattle.run_book.specs.declared.book.Book.{Book}
 use Rattle.run_book.specs.declared.book.SentFrame.{SentFrame}
 use Rattle.run_record.specs.declared.notes.Notes.{Notes}
+use Rattle.master_node.specs.declared.node.MasterNode.{MasterNode}
+use Rattle.run_record.specs.Led.{LeadsOn}
 use Rattle.run_record.specs.Replay.{behind, IsRecorded}
 use Rattle.run_record.specs.Session.{SessionState, KeepsRest, SameFrames, Stops}
 use Rattle.run_record.proofs.Kept.{rest_more}
@@ -22,18 +24,19 @@ pub any_err : {T E P : Type 0} (r : Result T E) → P → OnErr r P
 any_err (Ok v) p = tt
 any_err (Err e) p = p
 
--- what a session keeps true
-abbrev pub Holds : ℕ → ℕ → List Notes → RingState (Node SlaveServer) → Type 0
-Holds number budget notes ring = (number ≡ ring.number) × (number ≤ budget) × (budget ≤ 100000000) × (length notes ≡ length ring.nodes) × (length ring.nodes ≤ 16)
+-- what a session keeps true: so many homes, lists of mails and posts as slaves
+abbrev pub Holds : ℕ → ℕ → List Notes → RingState (Node SlaveServer) → ℕ → ℕ → ℕ → Type 0
+Holds number budget notes ring homes asked posts =
+    (number ≡ ring.number) × (number ≤ budget) × (budget ≤ 100000000) × (length notes ≡ length ring.nodes) × (length ring.nodes ≤ 16) × (homes ≡ length ring.nodes) × (asked ≡ length ring.nodes) × (posts ≡ length ring.nodes)
 
-pub holds_on : (number budget : ℕ) (notes notes' : List Notes) (ring ring' : RingState (Node SlaveServer)) (sent : List ℕ) → Holds number budget notes ring →
-    ring.number < budget → length notes' ≡ length notes → ring' ≡ behind ring sent → Holds (number + 1) budget notes' ring'
-holds_on number budget notes notes' ring ring' sent h left same is =
+pub holds_on : (number budget : ℕ) (notes notes' : List Notes) (ring ring' : RingState (Node SlaveServer)) (sent : List ℕ) (homes asked posts homes' asked' posts' : ℕ) → Holds number budget notes ring homes asked posts →
+    ring.number < budget → length notes' ≡ length notes → ring' ≡ behind ring sent → homes' ≡ homes → asked' ≡ asked → posts' ≡ posts → Holds (number + 1) budget notes' ring' homes' asked' posts'
+holds_on number budget notes notes' ring ring' sent homes asked posts homes' asked' posts' h left same is same_homes same_asked same_posts =
     let n : ring'.number ≡ suc ring.number = ap (λ (r : RingState (Node SlaveServer)). r.number) is in
     let many : length ring'.nodes ≡ length ring.nodes = ap (λ (r : RingState (Node SlaveServer)). length r.nodes) is ∙ length_behind ring sent in
     let first = h.0 in
     let few = h.4 in
-    (omega (arith, n, first), omega (arith, first, left), h.2, same ∙ h.3 ∙ sym many, omega (arith, many, few))
+    (omega (arith, n, first), omega (arith, first, left), h.2, same ∙ h.3 ∙ sym many, omega (arith, many, few), same_homes ∙ h.5 ∙ sym many, same_asked ∙ h.6 ∙ sym many, same_posts ∙ h.7 ∙ sym many)
 
 -- ports that stay stay as many
 pub same_ports : (first noted behind : List ℕ) → 1 + length behind ≡ 1 + length noted → noted ≡ first → 1 + length behind ≡ 1 + length first
@@ -48,8 +51,8 @@ no_frame s ports b b1 b2 e h same k = record {
 
 -- memory ran out behind that
 pub one_frame : (s : SessionState) (ports : ℕ) (b b1 b2 b3 : Book) (f : SentFrame) → ports ≡ s.ports → SameFrames ports b b1 → b2.frames ≡ b1.frames ++ f ∷ [] → KeepsRest ports b1 b2 → SameFrames ports b2 b3 →
-    IsRecorded s.ring f → IsShort f → Stops s b b3
-one_frame s ports b b1 b2 b3 f e h put k l recorded short = record {
-  frames = inr (f, l.frames ∙ put ∙ ap (λ fs. fs ++ f ∷ []) h.frames, recorded, short);
+    IsRecorded s.ring f → IsShort f → (m : MasterNode) → LeadsOn s.master m f → Stops s b b3
+one_frame s ports b b1 b2 b3 f e h put k l recorded short m leads = record {
+  frames = inr (f, l.frames ∙ put ∙ ap (λ fs. fs ++ f ∷ []) h.frames, recorded, short, (m, leads));
   rest = subst (λ (n : ℕ). KeepsRest n b b3) e (rest_more ports h.rest (rest_more ports k l.rest));
 }

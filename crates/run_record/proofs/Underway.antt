@@ -1,5 +1,5 @@
--- A run that is under way: what its session and its book have in common.
-use Rattle.std.proofs.Common.{◌≡◌, ℕ, ◌+◌, ◌<◌, ◌≤◌, inl, inr, [], ◌∷◌, ◌++◌, length, map, Bool, false, ap, sym, ◌∙◌, subst, length-append, false-eqb, arith}
+-- A session that is under way, run or serving.
+use Rattle.std.proofs.Common.{◌≡◌, ℕ, suc, ◌+◌, ◌<◌, ◌≤◌, inl, inr, [], ◌∷◌, ◌++◌, length, map, Bool, false, ap, sym, ◌∙◌, subst, length-append, false-eqb, arith}
 use Rattle.std.specs.Prelude.{All, ◌==◌}
 use Rattle.std.proofs.lemmas.List.Elements.{All-nil, All-cons, All-append}
 use Rattle.segment_plan.specs.declared.plan.Scenario.{Scenario}
@@ -17,29 +17,17 @@ use Rattle.run_book.specs.declared.book.SentFrame.{SentFrame}
 use Rattle.run_book.specs.declared.book.SlaveBook.{SlaveBook}
 use Rattle.run_record.specs.Replay.{first_ring, behind, ring_after, IsRecorded, AreRecorded}
 use Rattle.run_record.specs.Session.{SessionState, first_session, session_rows, budget_of, are_at_rest, some_given_up, Steps, Stops}
-use Rattle.run_record.specs.Ran.{HasFrames, IsGivenUp, HasRows, EndsSo, EndsAs}
+use Rattle.run_record.specs.Ran.{HasSent, IsUnderway, IsGivenUp, HasRows, EndsSo, EndsAs, StopsSo, StopsAs}
 use Rattle.run_record.proofs.Replays.{after_more, recorded_more, number_after, length_after}
 use Rattle.run_record.proofs.Rows.{nodes_of_rows, rows_given_up}
 
-pub record IsUnderway (plan : Scenario) (s : SessionState) (b : Book) : Type 0 where
-  pub ring : s.ring ≡ ring_after (first_ring plan) b.frames
-  pub recorded : AreRecorded (first_ring plan) b.frames
-  pub short : All IsShort b.frames
-  pub ports : s.ports ≡ ports_of plan.slaves
-  pub at_port : All (IsAtPort (ports_of plan.slaves)) b.switch
-  pub recover : s.recover ≡ plan.recover
-  pub budget : s.budget ≡ budget_of plan 0
-  pub serves : s.serving ≡ false
-  pub few : s.ring.number ≤ s.budget
-  pub slaves : b.slaves ≡ []
-  pub serving : b.serving ≡ false
-
 -- before the first frame
-pub begun : (plan : Scenario) (s : SessionState) (b : Book) → s ≡ first_session plan 0 → IsNew b → IsUnderway plan s b
-begun plan s b first new = record {
+pub begun : (plan : Scenario) (grams : ℕ) (s : SessionState) (b : Book) → s ≡ first_session plan grams s.master → IsNew b → IsUnderway plan grams s b
+begun plan grams s b first new = record {
   ring = ap (λ (t : SessionState). t.ring) first ∙ ap (ring_after (first_ring plan)) (sym new.frames);
   recorded = subst (AreRecorded (first_ring plan)) (sym new.frames) tt;
   short = subst (All IsShort) (sym new.frames) (All-nil IsShort);
+  homes = ap (λ (t : SessionState). t.homes) first;
   ports = ap (λ (t : SessionState). t.ports) first;
   at_port = subst (All (IsAtPort (ports_of plan.slaves))) (sym new.switch) (All-nil (IsAtPort (ports_of plan.slaves)));
   recover = ap (λ (t : SessionState). t.recover) first;
@@ -47,11 +35,10 @@ begun plan s b first new = record {
   serves = ap (λ (t : SessionState). t.serving) first;
   few = let none = ap (λ (t : SessionState). t.ring.number) first in omega (arith, none);
   slaves = new.slaves;
-  serving = new.serving;
 }
 
 -- frames with one more
-module _ (plan : Scenario) (s : SessionState) (b : Book) (f : SentFrame) (h : IsUnderway plan s b) (one : IsRecorded s.ring f) (short : IsShort f) where
+module _ (plan : Scenario) (grams : ℕ) (s : SessionState) (b : Book) (f : SentFrame) (h : IsUnderway plan grams s b) (one : IsRecorded s.ring f) (short : IsShort f) where
   more_recorded : AreRecorded (first_ring plan) (b.frames ++ f ∷ [])
   more_recorded = recorded_more (first_ring plan) b.frames f h.recorded (subst (λ r. IsRecorded r f) h.ring one)
 
@@ -63,11 +50,13 @@ pub still_left : (number budget : ℕ) (spent : Bool) → spent ≡ (number == b
 still_left number budget spent is unspent le = let apart = false-eqb number budget (sym unspent ∙ is) in omega (arith, apart, le)
 
 -- one frame more
-pub stepped_on : (plan : Scenario) (s : SessionState) (b : Book) (s' : SessionState) (b' : Book) (f : SentFrame) → IsUnderway plan s b → s.ring.number < s.budget → Steps s b s' b' f → IsUnderway plan s' b'
-stepped_on plan s b s' b' f h left step = record {
+pub stepped_on : (plan : Scenario) (grams : ℕ) (s : SessionState) (b : Book) (s' : SessionState) (b' : Book) (f : SentFrame) →
+    IsUnderway plan grams s b → s.ring.number < s.budget → Steps s b s' b' f → IsUnderway plan grams s' b'
+stepped_on plan grams s b s' b' f h left step = record {
   ring = step.ring ∙ ap (λ (r : RingState (Node SlaveServer)). behind r f.sent) h.ring ∙ sym (after_more (first_ring plan) b.frames f) ∙ ap (ring_after (first_ring plan)) (sym step.put);
-  recorded = subst (AreRecorded (first_ring plan)) (sym step.put) (more_recorded plan s b f h step.recorded step.short);
-  short = subst (All IsShort) (sym step.put) (more_short plan s b f h step.recorded step.short);
+  recorded = subst (AreRecorded (first_ring plan)) (sym step.put) (more_recorded plan grams s b f h step.recorded step.short);
+  short = subst (All IsShort) (sym step.put) (more_short plan grams s b f h step.recorded step.short);
+  homes = step.homes ∙ h.homes;
   ports = step.ports ∙ h.ports;
   at_port = subst (λ (n : ℕ). All (IsAtPort n) b'.switch) h.ports (step.rest.at_port (subst (λ (n : ℕ). All (IsAtPort n) b.switch) (sym h.ports) h.at_port));
   recover = step.recover ∙ h.recover;
@@ -75,46 +64,65 @@ stepped_on plan s b s' b' f h left step = record {
   serves = step.serving ∙ h.serves;
   few = let number = ap (λ (r : RingState (Node SlaveServer)). r.number) step.ring in let same = step.budget in omega (arith, number, same, left);
   slaves = step.rest.slaves ∙ h.slaves;
-  serving = step.rest.serving ∙ h.serving;
 }
 
 -- how many frames there are
-pub many : (plan : Scenario) (s : SessionState) (b : Book) → IsUnderway plan s b → length b.frames ≡ s.ring.number
-many plan s b h =
+pub many : (plan : Scenario) (grams : ℕ) (s : SessionState) (b : Book) → IsUnderway plan grams s b → length b.frames ≡ s.ring.number
+many plan grams s b h =
     let n = ap (λ (r : RingState (Node SlaveServer)). r.number) h.ring in
     let m : (ring_after (first_ring plan) b.frames).number ≡ 0 + length b.frames = number_after (first_ring plan) b.frames in
     omega (arith, n, m)
 
 -- the frames so far
-pub has_frames : (plan : Scenario) (s : SessionState) (b b' : Book) → IsUnderway plan s b → b'.frames ≡ b.frames → b'.switch ≡ b.switch → HasFrames plan b'
-has_frames plan s b b' h frames switch = record {
+pub has_frames : (plan : Scenario) (grams : ℕ) (s : SessionState) (b b' : Book) → IsUnderway plan grams s b → b'.frames ≡ b.frames → b'.switch ≡ b.switch → HasSent plan grams b'
+has_frames plan grams s b b' h frames switch = record {
   recorded = subst (AreRecorded (first_ring plan)) (sym frames) h.recorded;
-  few = let number = many plan s b h in let few = h.few in let budget = h.budget in let same = ap length frames in omega (arith, number, few, budget, same);
+  few = let number = many plan grams s b h in let few = h.few in let budget = h.budget in let same = ap length frames in omega (arith, number, few, budget, same);
   short = subst (All IsShort) (sym frames) h.short;
   at_port = subst (All (IsAtPort (ports_of plan.slaves))) (sym switch) h.at_port;
 }
 
 -- those of a step in which memory ran out
-pub stopped : (plan : Scenario) (s : SessionState) (b b' : Book) → IsUnderway plan s b → s.ring.number < s.budget → Stops s b b' → HasFrames plan b'
-stopped plan s b b' h left stop = record {
+pub stopped : (plan : Scenario) (grams : ℕ) (s : SessionState) (b b' : Book) → IsUnderway plan grams s b → s.ring.number < s.budget → Stops s b b' → HasSent plan grams b'
+stopped plan grams s b b' h left stop = record {
   recorded = elim stop.frames [
     | inl same ↦ subst (AreRecorded (first_ring plan)) (sym same) h.recorded
-    | inr f ↦ subst (AreRecorded (first_ring plan)) (sym f.1) (more_recorded plan s b f.0 h f.2 f.3)
+    | inr f ↦ subst (AreRecorded (first_ring plan)) (sym f.1) (more_recorded plan grams s b f.0 h f.2 f.3)
   ];
-  few = let number = many plan s b h in let few = h.few in let budget = h.budget in
+  few = let number = many plan grams s b h in let few = h.few in let budget = h.budget in
       elim stop.frames [
         | inl same ↦ (let n = ap length same in omega (arith, number, few, budget, n))
         | inr f ↦ (let n = ap length f.1 ∙ length-append b.frames (f.0 ∷ []) in omega (arith, number, left, budget, n))
       ];
   short = elim stop.frames [
     | inl same ↦ subst (All IsShort) (sym same) h.short
-    | inr f ↦ subst (All IsShort) (sym f.1) (more_short plan s b f.0 h f.2 f.3)
+    | inr f ↦ subst (All IsShort) (sym f.1) (more_short plan grams s b f.0 h f.2 f.3)
   ];
   at_port = subst (λ (n : ℕ). All (IsAtPort n) b'.switch) h.ports (stop.rest.at_port (subst (λ (n : ℕ). All (IsAtPort n) b.switch) (sym h.ports) h.at_port));
 }
 
+-- one frame more was sent
+pub one_more : (s : SessionState) (b : Book) (s' : SessionState) (b' : Book) (f : SentFrame) → Steps s b s' b' f → s'.ring.number ≡ suc s.ring.number
+one_more s b s' b' f step = ap (λ (r : RingState (Node SlaveServer)). r.number) step.ring
+
+-- mails were passed on, and datagrams put into the book
+pub same_on : (plan : Scenario) (grams : ℕ) (s s' : SessionState) (b b' : Book) → IsUnderway plan grams s b → s' ≡ record s { asked = s'.asked; waiting = s'.waiting; master = s'.master } → b'.frames ≡ b.frames → b'.switch ≡ b.switch → b'.slaves ≡ b.slaves → IsUnderway plan grams s' b'
+same_on plan grams s s' b b' h same frames switch slaves = record {
+  ring = ap (λ (t : SessionState). t.ring) same ∙ h.ring ∙ ap (ring_after (first_ring plan)) (sym frames);
+  recorded = subst (AreRecorded (first_ring plan)) (sym frames) h.recorded;
+  short = subst (All IsShort) (sym frames) h.short;
+  homes = ap (λ (t : SessionState). t.homes) same ∙ h.homes;
+  ports = ap (λ (t : SessionState). t.ports) same ∙ h.ports;
+  at_port = subst (All (IsAtPort (ports_of plan.slaves))) (sym switch) h.at_port;
+  recover = ap (λ (t : SessionState). t.recover) same ∙ h.recover;
+  budget = ap (λ (t : SessionState). t.budget) same ∙ h.budget;
+  serves = ap (λ (t : SessionState). t.serving) same ∙ h.serves;
+  few = let n = ap (λ (t : SessionState). t.ring.number) same in let b = ap (λ (t : SessionState). t.budget) same in let few = h.few in omega (arith, n, b, few);
+  slaves = slaves ∙ h.slaves;
+}
+
 -- the rows at the end
-module _ (plan : Scenario) (s : SessionState) (b b' : Book) (h : IsUnderway plan s b) (frames : b'.frames ≡ b.frames) (rows : b'.slaves ≡ session_rows s) (same : length s.notes ≡ length s.ring.nodes) where
+module _ (plan : Scenario) (grams : ℕ) (s : SessionState) (b b' : Book) (h : IsUnderway plan grams s b) (frames : b'.frames ≡ b.frames) (rows : b'.slaves ≡ session_rows s) (same : length s.notes ≡ length s.ring.nodes) where
   rows_behind : map (λ (row : SlaveBook). row.node) b'.slaves ≡ (ring_after (first_ring plan) b'.frames).nodes
   rows_behind =
       ap (map (λ (row : SlaveBook). row.node)) rows ∙ nodes_of_rows s.recover s.ring.nodes s.notes same ∙ ap (λ (r : RingState (Node SlaveServer)). r.nodes) (h.ring ∙ ap (ring_after (first_ring plan)) (sym frames))
@@ -126,11 +134,28 @@ module _ (plan : Scenario) (s : SessionState) (b b' : Book) (h : IsUnderway plan
     given_up = subst (All (IsGivenUp plan.recover)) (sym rows) (subst (λ (n : ℕ). All (IsGivenUp n) (session_rows s)) h.recover (rows_given_up s.recover s.ring.nodes s.notes));
   }
 
-  -- how the run ended
-  pub ended : (ending : Ending) → EndsSo s ending → EndsAs plan b' ending
+  -- how a serving ended
+  pub ended : (ending : Ending) → StopsSo s ending → StopsAs plan grams b' ending
   ended endings.Done so = record { rows = has_rows; at_rest = ap are_at_rest rows ∙ so.0; gave = ap some_given_up rows ∙ so.1 }
   ended endings.GivenUp so = record { rows = has_rows; at_rest = ap are_at_rest rows ∙ so.0; gave = ap some_given_up rows ∙ so.1 }
-  ended endings.BudgetSpent so = record { rows = has_rows; spent = ap length frames ∙ many plan s b h ∙ so ∙ h.budget }
+  ended endings.BudgetSpent so = record { rows = has_rows; spent = ap length frames ∙ many plan grams s b h ∙ so ∙ h.budget }
   ended endings.NoMemory so = tt
-  ended endings.PortFault so = absurd so
+  ended endings.PortFault so = has_rows
   ended endings.Unfinished so = absurd so
+
+-- a run ends as a serving that hears nothing, and by no fault of a port
+pub ran_so : (s : SessionState) (ending : Ending) → EndsSo s ending → StopsSo s ending
+ran_so s endings.Done so = so
+ran_so s endings.GivenUp so = so
+ran_so s endings.BudgetSpent so = so
+ran_so s endings.NoMemory so = so
+ran_so s endings.PortFault so = tt
+ran_so s endings.Unfinished so = so
+
+pub ran_as : (plan : Scenario) (s : SessionState) (book : Book) (ending : Ending) → EndsSo s ending → StopsAs plan 0 book ending → EndsAs plan book ending
+ran_as plan s book endings.Done so ends = ends
+ran_as plan s book endings.GivenUp so ends = ends
+ran_as plan s book endings.BudgetSpent so ends = ends
+ran_as plan s book endings.NoMemory so ends = tt
+ran_as plan s book endings.PortFault so ends = so
+ran_as plan s book endings.Unfinished so ends = ends

@@ -1,4 +1,5 @@
 pub mod Notes
 pub mod Replay
+pub mod Led
 pub mod Session
 pub mod Ran

@@ -1,5 +1,5 @@
 -- What became of a slave so far, one event after the other.
-use Rattle.std.specs.Prelude.{ℕ, ◌-◌, Bool, true, false, if◌then◌else◌, nat_lt, List, [], ◌∷◌, ◌++◌, length, replicate, slice_get, slice_set, Option, Some, None}
+use Rattle.std.specs.Prelude.{ℕ, ◌-◌, Bool, true, false, if◌then◌else◌, nat_lt, List, [], ◌∷◌, ◌++◌, length, replicate, slice_get, slice_set, Option, Some, None, is_some}
 use Rattle.master_node.specs.declared.event.Origin.{Origin}
 use Rattle.master_node.specs.declared.event.Origin.TheVariants.{Script, Forward, Gateway}
 use Rattle.run_book.specs.declared.book.Answer.{Answer}
@@ -74,3 +74,12 @@ ended n = answers_doubted n ++ replicate n.left NotSent
 -- the slave was given up, for good or not
 abbrev pub has_given_up : Notes → Bool
 has_given_up n = nat_lt 0 (length n.gave)
+
+-- the station of a slave and the length of its mailbox, while it wasn't given up for good
+abbrev pub station_of : ℕ → ℕ × ℕ → Notes → Option (ℕ × ℕ)
+station_of recover home n = if is_some (slice_get n.gave recover) then None else Some home
+
+-- those of all slaves, in ring order
+abbrev pub stations_of : ℕ → List (ℕ × ℕ) → List Notes → List (Option (ℕ × ℕ))
+stations_of recover (home ∷ homes) (n ∷ notes) = station_of recover home n ∷ stations_of recover homes notes
+stations_of recover _ _ = []

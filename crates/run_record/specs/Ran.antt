@@ -1,5 +1,5 @@
 -- What a run leaves in its book.
-use Rattle.std.specs.Prelude.{◌≡◌, ◌≤◌, ℕ, Bool, true, false, length, map, All, slice_get}
+use Rattle.std.specs.Prelude.{◌≡◌, ◌≤◌, ℕ, Bool, true, false, nat_lt, [], length, map, All, slice_get}
 use Rattle.segment_plan.specs.declared.plan.Scenario.{Scenario}
 use Rattle.run_book.specs.Book.{IsShort}
 use Rattle.run_book.specs.Ports.{ports_of, IsAtPort}
@@ -8,15 +8,33 @@ use Rattle.run_book.specs.declared.book.Ending.{Ending}
 use Rattle.run_book.specs.declared.book.Ending.TheVariants as endings
 use Rattle.run_book.specs.declared.book.SlaveBook.{SlaveBook}
 use Rattle.run_record.specs.Replay.{first_ring, ring_after, AreRecorded}
-use Rattle.run_record.specs.Session.{SessionState, session_rows, budget_of, are_at_rest, some_given_up}
+use Rattle.run_record.specs.Session.{SessionState, session_rows, home_of, budget_of, are_at_rest, some_given_up}
 
--- the frames of a run: each as the ring of the plan's new slaves gives it, and no more than the budget; and each event at a port of the
--- switch
-pub record HasFrames (plan : Scenario) (book : Book) : Type 0 where
+-- the frames of a serving that hears so many datagrams, or of a run, which hears none: each as the ring of the plan's new slaves gives it,
+-- and no more than the budget; and each event at a port of the switch
+pub record HasSent (plan : Scenario) (grams : ℕ) (book : Book) : Type 0 where
   pub recorded : AreRecorded (first_ring plan) book.frames
-  pub few : length book.frames ≤ budget_of plan 0
+  pub few : length book.frames ≤ budget_of plan grams
   pub short : All IsShort book.frames
   pub at_port : All (IsAtPort (ports_of plan.slaves)) book.switch
+
+-- the frames of a run
+abbrev pub HasFrames : Scenario → Book → Type 0
+HasFrames plan book = HasSent plan 0 book
+
+-- a session that is under way: what it and its book have in common
+pub record IsUnderway (plan : Scenario) (grams : ℕ) (s : SessionState) (b : Book) : Type 0 where
+  pub ring : s.ring ≡ ring_after (first_ring plan) b.frames
+  pub recorded : AreRecorded (first_ring plan) b.frames
+  pub short : All IsShort b.frames
+  pub homes : s.homes ≡ map home_of plan.slaves
+  pub ports : s.ports ≡ ports_of plan.slaves
+  pub at_port : All (IsAtPort (ports_of plan.slaves)) b.switch
+  pub recover : s.recover ≡ plan.recover
+  pub budget : s.budget ≡ budget_of plan grams
+  pub serves : s.serving ≡ nat_lt 0 grams
+  pub few : s.ring.number ≤ s.budget
+  pub slaves : b.slaves ≡ []
 
 -- the frame at which a slave was given up for good
 abbrev pub IsGivenUp : ℕ → SlaveBook → Type 0
@@ -28,7 +46,7 @@ pub record HasRows (plan : Scenario) (book : Book) : Type 0 where
   pub nodes : map (λ (row : SlaveBook). row.node) book.slaves ≡ (ring_after (first_ring plan) book.frames).nodes
   pub given_up : All (IsGivenUp plan.recover) book.slaves
 
--- how a session may end
+-- how a run's session may end
 abbrev pub EndsSo : SessionState → Ending → Type 0
 EndsSo s endings.Done = (are_at_rest (session_rows s) ≡ true) × (some_given_up (session_rows s) ≡ false)
 EndsSo s endings.GivenUp = (are_at_rest (session_rows s) ≡ true) × (some_given_up (session_rows s) ≡ true)
@@ -43,10 +61,14 @@ pub record IsOver (plan : Scenario) (book : Book) (some : Bool) : Type 0 where
   pub at_rest : are_at_rest book.slaves ≡ true
   pub gave : some_given_up book.slaves ≡ some
 
--- a run that was cut off: as many frames as the budget allows
-pub record IsSpent (plan : Scenario) (book : Book) : Type 0 where
+-- a run or serving that was cut off: as many frames as the budget allows
+pub record IsCut (plan : Scenario) (grams : ℕ) (book : Book) : Type 0 where
   pub rows : HasRows plan book
-  pub spent : length book.frames ≡ budget_of plan 0
+  pub spent : length book.frames ≡ budget_of plan grams
+
+-- a run that was cut off
+abbrev pub IsSpent : Scenario → Book → Type 0
+IsSpent plan book = IsCut plan 0 book
 
 -- HOW A RUN ENDS
 abbrev pub EndsAs : Scenario → Book → Ending → Type 0
@@ -56,3 +78,17 @@ EndsAs plan book endings.BudgetSpent = IsSpent plan book
 EndsAs plan book endings.NoMemory = Unit {0}
 EndsAs plan book endings.PortFault = ⊥
 EndsAs plan book endings.Unfinished = ⊥
+
+-- how a serving's session may end
+abbrev pub StopsSo : SessionState → Ending → Type 0
+StopsSo s endings.PortFault = Unit {0}
+StopsSo s ending = EndsSo s ending
+
+-- HOW A SERVING ENDS that hears so many datagrams: as a run, or by a fault of its port
+abbrev pub StopsAs : Scenario → ℕ → Book → Ending → Type 0
+StopsAs plan grams book endings.Done = IsOver plan book false
+StopsAs plan grams book endings.GivenUp = IsOver plan book true
+StopsAs plan grams book endings.BudgetSpent = IsCut plan grams book
+StopsAs plan grams book endings.PortFault = HasRows plan book
+StopsAs plan grams book endings.NoMemory = Unit {0}
+StopsAs plan grams book endings.Unfinished = ⊥

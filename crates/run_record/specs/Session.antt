@@ -1,5 +1,5 @@
 -- A run that is made frame by frame.
-use Rattle.std.specs.Prelude.{◌≡◌, ℕ, ◌+◌, ◌==◌, Bool, true, nat_lt, if◌then◌else◌, ◌||◌, List, [], ◌∷◌, ◌++◌, ◌⊎◌, length, All, count_by, slice_get, Option, Some, None, is_some}
+use Rattle.std.specs.Prelude.{◌≡◌, ℕ, zero, suc, map, replicate, false, ◌+◌, ◌==◌, Bool, true, nat_lt, if◌then◌else◌, ◌||◌, List, [], ◌∷◌, ◌++◌, ◌⊎◌, length, All, count_by, slice_get, Option, Some, None, is_some}
 use Rattle.std.specs.List.{list_all, list_any}
 use Rattle.segment_plan.specs.Bound.{bound_of}
 use Rattle.segment_plan.specs.declared.plan.Scenario.{Scenario}
@@ -15,15 +15,24 @@ use Rattle.run_book.specs.declared.book.Book.{Book}
 use Rattle.run_book.specs.declared.book.SentFrame.{SentFrame}
 use Rattle.run_book.specs.declared.book.SlaveBook.{SlaveBook}
 use Rattle.run_record.specs.declared.notes.Notes.{Notes}
-use Rattle.run_record.specs.declared.log.Log.{Log}
+use Rattle.mailbox_mail.specs.declared.mail.Mail.{Mail}
+use Rattle.run_record.specs.declared.standing.AskedMail.{AskedMail}
+use Rattle.run_record.specs.declared.standing.Log.{Log}
 use Rattle.run_record.specs.Notes.{new_notes, ended}
+use Rattle.master_node.specs.declared.node.MasterNode.{MasterNode}
+use Rattle.run_record.specs.Led.{LeadsOn}
 use Rattle.run_record.specs.Replay.{first_ring, behind, IsRecorded}
 
--- a session: the ring with its slaves, what became of each slave, the ports of its switch, how often a slave is taken up again, the most
--- frames, and whether requests are served
+-- a session: the ring with its slaves, what became of each slave, their stations and the lengths of their mailboxes, the mails that are
+-- passed on to each and how many of them still wait, the master, the ports of its switch, how often a slave is taken up again, the most frames, and
+-- whether requests are served
 pub record SessionState : Type 0 where
   pub ring : RingState (Node SlaveServer)
   pub notes : List Notes
+  pub homes : List (ℕ × ℕ)
+  pub asked : List (List AskedMail)
+  pub waiting : List ℕ
+  pub master : MasterNode
   pub ports : ℕ
   pub recover : ℕ
   pub budget : ℕ
@@ -50,11 +59,19 @@ abbrev pub first_notes : List (ℕ × Service) → ℕ → List SlaveSpec → Li
 first_notes services number [] = []
 first_notes services number (spec ∷ specs) = new_notes (scripted services number) ∷ first_notes services (number + 1) specs
 
--- a session of a plan before its first frame
-abbrev pub first_session : Scenario → ℕ → SessionState
-first_session plan grams = record {
+-- the station of a slave and the length of its mailbox
+abbrev pub home_of : SlaveSpec → ℕ × ℕ
+home_of spec = (spec.station, spec.out_len)
+
+-- a session of a plan before its first frame, with this master
+abbrev pub first_session : Scenario → ℕ → MasterNode → SessionState
+first_session plan grams master = record {
   ring = first_ring plan;
   notes = first_notes plan.services 0 plan.slaves;
+  homes = map home_of plan.slaves;
+  asked = replicate (length plan.slaves) [];
+  waiting = replicate (length plan.slaves) 0;
+  master = master;
   ports = ports_of plan.slaves;
   recover = plan.recover;
   budget = budget_of plan grams;
@@ -104,6 +121,8 @@ some_given_up rows = list_any has_given_up rows
 -- what a step leaves of a book: its events at the switch stay at one of so many ports
 pub record KeepsRest (ports : ℕ) (b b' : Book) : Type 0 where
   pub slaves : b'.slaves ≡ b.slaves
+  pub grams : b'.grams ≡ b.grams
+  pub replies : b'.replies ≡ b.replies
   pub serving : b'.serving ≡ b.serving
   pub at_port : All (IsAtPort ports) b.switch → All (IsAtPort ports) b'.switch
 
@@ -115,7 +134,8 @@ pub record SameFrames (ports : ℕ) (b b' : Book) : Type 0 where
 -- the slaves and ports of a log stay as many
 pub record SameSlaves (r r' : Log) : Type 0 where
   pub notes : length r'.notes ≡ length r.notes
-  pub stations : length r'.stations ≡ length r.stations
+  pub homes : r'.homes ≡ r.homes
+  pub asked : r'.asked ≡ r.asked
   pub ports : r'.ports ≡ r.ports
   pub recover : r'.recover ≡ r.recover
 
@@ -125,13 +145,31 @@ pub record Steps (s : SessionState) (b : Book) (s' : SessionState) (b' : Book) (
   pub recorded : IsRecorded s.ring f
   pub short : IsShort f
   pub ring : s'.ring ≡ behind s.ring f.sent
+  pub homes : s'.homes ≡ s.homes
+  pub asked : s'.asked ≡ s.asked
   pub ports : s'.ports ≡ s.ports
   pub recover : s'.recover ≡ s.recover
   pub budget : s'.budget ≡ s.budget
   pub serving : s'.serving ≡ s.serving
   pub rest : KeepsRest s.ports b b'
+  pub leads : LeadsOn s.master s'.master f
+
+-- a mail as it is passed on, with the key of its asker
+abbrev pub asked_mail : ℕ → Mail → AskedMail
+asked_mail key mail = record { key = key; kind = mail.kind; body = mail.body.items }
+
+-- the mails of each slave, with one more for the slave at a place
+abbrev pub asked_more : List (List AskedMail) → ℕ → AskedMail → List (List AskedMail)
+asked_more [] slave more = []
+asked_more (mails ∷ rest) zero more = (mails ++ more ∷ []) ∷ rest
+asked_more (mails ∷ rest) (suc slave) more = mails ∷ asked_more rest slave more
+
+-- A MAIL IS PASSED ON: it stands behind those of its slave, unless as many wait as may, and nothing else changes but how many wait
+abbrev pub Asks : ℕ → ℕ → Mail → SessionState → SessionState → Bool → Type 0
+Asks slave key mail s s' true = s' ≡ record s { asked = asked_more s.asked slave (asked_mail key mail); waiting = s'.waiting; master = s'.master }
+Asks slave key mail s s' false = s' ≡ record s { waiting = s'.waiting; master = s'.master }
 
 -- memory ran out in a step: the book has the frame of the step, or not
 pub record Stops (s : SessionState) (b b' : Book) : Type 0 where
-  pub frames : (b'.frames ≡ b.frames) ⊎ ((f : SentFrame) × (b'.frames ≡ b.frames ++ f ∷ []) × IsRecorded s.ring f × IsShort f)
+  pub frames : (b'.frames ≡ b.frames) ⊎ ((f : SentFrame) × (b'.frames ≡ b.frames ++ f ∷ []) × IsRecorded s.ring f × IsShort f × ((m : MasterNode) × LeadsOn s.master m f))
   pub rest : KeepsRest s.ports b b'

@@ -5,6 +5,7 @@ mod log;
 mod notes;
 mod running;
 mod session;
+mod standing;
 
 pub use running::run;
 pub use session::Session;

@@ -1,10 +1,12 @@
-ghost use Rattle.std.specs.Prelude.{◌≡◌, ◌≤◌, ◌+◌, length, IfOk};
+ghost use Rattle.std.specs.Prelude.{◌≡◌, ◌≤◌, ◌+◌, [], Some, length, map, replicate, IfOk};
 ghost use Rattle.std.specs.Bool.{OnTrue};
 ghost use Rattle.segment_plan.specs.Sound.{IsLaid};
 ghost use Rattle.run_book.specs.Ports.{ports_of, IsAtPort};
-ghost use Rattle.run_record.specs.Session.{scripted, first_notes, SameFrames, SameSlaves};
+ghost use Rattle.run_record.specs.Session.{scripted, first_notes, home_of, SameFrames, SameSlaves};
+ghost use Rattle.run_record.specs.Notes.{station_of, stations_of};
 
 use crate::notes::Notes;
+use crate::standing::{AskedMail, Log};
 use ec_fields::{NoMemory, Octets, Rows, buffer_of};
 use eoe_switch::SwitchEvent;
 use mailbox_mail::ReplyKind;
@@ -21,18 +23,6 @@ const LEAST_PACKET: usize = 14;
 pub struct Moment {
     pub frame: u32,
     pub sent: u32,
-}
-
-/// What became of the slaves of a segment so far.
-#[derive(Drop)]
-pub struct Log {
-    pub notes: Rows<Notes>,
-    /// The station of each slave and the length of its mailbox while it is live.
-    pub stations: Rows<Option<(u16, u16)>>,
-    /// The slaves at the ports of the switch, from port 1 on.
-    pub ports: Rows<u32>,
-    /// How often a slave that was given up is taken up again.
-    pub recover: u32,
 }
 
 fn copy_of_event(event: &SwitchEvent) -> SwitchEvent
@@ -116,15 +106,47 @@ fn first_notes(alloc: Global, plan: &Scenario) -> Result<Rows<Notes>, NoMemory>
     Ok(notes)
 }
 
+// The station of each slave and the length of its mailbox.
+fn homes_of(alloc: Global, slaves: &[SlaveSpec]) -> Result<Rows<(u16, u16)>, NoMemory>
+    ensures { IfOk result (λ homes. homes ≡ map home_of slaves.now) }
+{
+    let mut homes = Rows::new(alloc);
+    for spec in slaves {
+        homes.add((spec.station, spec.out_len))?;
+    }
+    Ok(homes)
+}
+
 // All slaves are live.
-fn first_stations(alloc: Global, slaves: &[SlaveSpec]) -> Result<Rows<Option<(u16, u16)>>, NoMemory>
-    ensures { IfOk result (λ stations. length stations ≡ length slaves.now) }
+fn first_stations(alloc: Global, homes: &[(u16, u16)]) -> Result<Rows<Option<(u16, u16)>>, NoMemory>
+    ensures { IfOk result (λ stations. stations ≡ map Some homes.now) }
 {
     let mut stations = Rows::new(alloc);
-    for spec in slaves {
-        stations.add(Some((spec.station, spec.out_len)))?;
+    for home in homes {
+        stations.add(Some(*home))?;
     }
     Ok(stations)
+}
+
+// No mail is passed on to a slave.
+fn first_asked(alloc: Global, slaves: usize) -> Result<Rows<Rows<AskedMail>>, NoMemory>
+    ensures { IfOk result (λ asked. asked ≡ replicate slaves []) }
+{
+    let mut asked = Rows::new(alloc);
+    for _ in 0..slaves {
+        asked.add(Rows::new(alloc))?;
+    }
+    Ok(asked)
+}
+
+// The station of a slave and the length of its mailbox, while it is live.
+fn station_of(home: (u16, u16), notes: &Notes, recover: u32) -> Option<(u16, u16)>
+    ensures { result ≡ station_of recover home notes.now }
+{
+    match notes.given_up_for_good(recover) {
+        Some(_) => None,
+        None => Some(home),
+    }
 }
 
 // The slaves that serve EoE, each at a port of its own.
@@ -146,13 +168,18 @@ impl Log {
     pub fn new(alloc: Global, plan: &Scenario) -> Result<Log, NoMemory>
         requires { IsLaid plan.now }
         ensures notes { IfOk result (λ log. log.notes ≡ first_notes plan.now.services 0 plan.now.slaves) }
-        ensures stations { IfOk result (λ log. length log.stations ≡ length plan.now.slaves) }
+        ensures homes { IfOk result (λ log. log.homes ≡ map home_of plan.now.slaves) }
+        ensures asked { IfOk result (λ log. log.asked ≡ replicate (length plan.now.slaves) []) }
         ensures ports { IfOk result (λ log. 1 + length log.ports ≡ ports_of plan.now.slaves) }
         ensures recover { IfOk result (λ log. log.recover ≡ plan.now.recover) }
     {
+        let homes = homes_of(alloc, plan.slaves.as_slice())?;
+        let stations = first_stations(alloc, homes.as_slice())?;
         Ok(Log {
             notes: first_notes(alloc, plan)?,
-            stations: first_stations(alloc, plan.slaves.as_slice())?,
+            homes,
+            stations,
+            asked: first_asked(alloc, plan.slaves.len())?,
             ports: slaves_at_ports(alloc, plan.slaves.as_slice())?,
             recover: plan.recover,
         })
@@ -211,15 +238,16 @@ impl Log {
     ) -> Result<(), NoMemory>
         ensures { SameSlaves self.old self.new }
     {
-        if at >= self.notes.len() || at >= self.stations.len() {
+        let Some(&home) = self.homes.get(at) else {
+            return Ok(());
+        };
+        if at >= self.notes.len() {
             return Ok(());
         }
         let notes = self.notes.at_mut(at);
-        note_at(alloc, master, moment, event, notes)?;
-        if notes.given_up_for_good(self.recover).is_some() {
-            *self.stations.at_mut(at) = None;
-        }
-        Ok(())
+        let noted = note_at(alloc, master, moment, event, notes);
+        *self.stations.at_mut(at) = station_of(home, notes, self.recover);
+        noted
     }
 
     fn note_switch(

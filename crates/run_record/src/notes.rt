@@ -137,7 +137,9 @@ impl Notes {
     }
 
     /// A packet was received from the slave.
-    pub fn received(&mut self) {
+    pub fn received(&mut self)
+        ensures { self.new ≡ record self.old { packets = self.new.packets } }
+    {
         self.packets = self.packets.saturating_add(1);
     }
 

@@ -1,8 +1,9 @@
-ghost use Rattle.std.specs.Prelude.{◌≡◌, IfOk, true, false};
+ghost use Rattle.std.specs.Prelude.{◌≡◌, [], IfOk, true, false};
 ghost use Rattle.segment_plan.specs.Sound.{IsPlan};
 ghost use Rattle.run_book.specs.Book.{IsNew};
 ghost use Rattle.std.specs.Bool.{OnTrue, OnFalse};
 ghost use Rattle.run_record.specs.Session.{session_rows, are_at_rest};
+ghost use Rattle.run_record.specs.Led.{AreLed};
 ghost use Rattle.run_record.specs.Ran.{HasFrames, EndsSo, EndsAs};
 
 use crate::session::Session;
@@ -30,9 +31,12 @@ fn run_through(alloc: Global, plan: &Scenario, book: &mut Book) -> Result<Ending
     requires plan { IsPlan plan.now }
     requires new { IsNew book.old }
     ensures frames { HasFrames plan.now book.new }
+    ensures led { AreLed plan.now book.new.frames }
     ensures ends { IfOk result (EndsAs plan.now book.new) }
     ensures ending { IfOk result (λ ending. book.new.ending ≡ ending) }
     ensures serving { book.new.serving ≡ false }
+    ensures unheard { book.new.grams ≡ [] }
+    ensures unsent { book.new.replies ≡ [] }
 {
     let mut session = Session::begin(alloc, plan, 0)?;
     let mut settled = session.settled();
@@ -50,9 +54,12 @@ pub fn run(alloc: Global, plan: &Scenario, book: &mut Book) -> Ending
     requires plan { IsPlan plan.now }
     requires new { IsNew book.old }
     ensures frames { HasFrames plan.now book.new }
+    ensures led { AreLed plan.now book.new.frames }
     ensures ends { EndsAs plan.now book.new result }
     ensures ending { book.new.ending ≡ result }
     ensures serving { book.new.serving ≡ false }
+    ensures unheard { book.new.grams ≡ [] }
+    ensures unsent { book.new.replies ≡ [] }
 {
     match run_through(alloc, plan, book) {
         Ok(ending) => ending,

@@ -1,18 +1,27 @@
-ghost use Rattle.std.specs.Prelude.{◌≡◌, ◌≢◌, ◌<◌, ◌≤◌, ◌==◌, ◌++◌, ◌∷◌, ◌⊎◌, [], ℕ, length, map, IfOk, OnOk, OnErr, All, true, slice_get};
-ghost use Rattle.std.specs.Bool.{OnTrue};
+ghost use Rattle.std.specs.Prelude.{◌≡◌, ◌≢◌, ◌<◌, ◌≤◌, ◌==◌, ◌++◌, ◌∷◌, ◌⊎◌, ◌↔◌, [], ℕ, List, vec_len, length, map, Ok, Some, IfOk, OnOk, OnErr, All, true, false, slice_get};
+ghost use Rattle.std.specs.Bool.{OnTrue, OnFalse};
 ghost use Rattle.std.specs.List.{list_any};
-ghost use Rattle.run_record.specs.Notes.{has_given_up};
+ghost use Rattle.run_record.specs.Notes.{has_given_up, stations_of};
 ghost use Rattle.segment_plan.specs.Sound.{IsPlan, IsLaid, IsSlave};
 ghost use Rattle.slave_server.specs.Spec.{node_of};
 ghost use Rattle.run_book.specs.declared.book.SentFrame.{SentFrame as Recorded};
 ghost use Rattle.run_book.specs.declared.book.Ending.TheVariants as endings;
+ghost use Rattle.frame_view.specs.View.{Lens};
+ghost use Rattle.frame_view.specs.Seen.{seen};
+ghost use Rattle.life_runs.specs.Led.{Exchanged, Turn, led_behind, gives_up_at, missed_behind};
+ghost use Rattle.master_node.specs.Shows.{MasterShows, MasterUnder};
+ghost use Rattle.segment_model.specs.Returned.{Returns};
+ghost use Rattle.segment_ring.specs.declared.wire.Fate.TheVariants as Fates;
+ghost use Rattle.run_record.specs.Led.{Leading};
 ghost use Rattle.run_record.specs.Replay.{first_ring};
-ghost use Rattle.run_record.specs.Session.{budget_of, smaller_bound, slave_row, rests_at, slave_rows, session_rows, first_session, are_at_rest, some_given_up, KeepsRest, Steps, Stops};
+ghost use Rattle.run_record.specs.Session.{budget_of, smaller_bound, slave_row, rests_at, slave_rows, session_rows, first_session, are_at_rest, some_given_up, KeepsRest, Steps, Stops, Asks};
 
-use crate::log::{Log, Moment};
+use crate::log::Moment;
 use crate::notes::Notes;
+use crate::standing::{AskedMail, Log};
 use datagrams::FrameBuf;
 use ec_fields::{NoMemory, Octets, Rows};
+use mailbox_mail::Mail;
 use master_node::{Event, MasterNode};
 use run_book::{Book, Ending, SentFrame, SlaveBook};
 use segment_plan::{Scenario, SlaveSpec, bound};
@@ -40,14 +49,15 @@ pub struct Session {
 }
 
 impl Model for Session {
-    ghost use Rattle.std.specs.Prelude.{◌≡◌, ◌≤◌, ◌+◌, length};
+    ghost use Rattle.std.specs.Prelude.{◌≡◌, ◌≤◌, ◌+◌, length, map, vec_len};
+    ghost use Rattle.master_node.specs.Lives.{waiting_of};
     ghost use Rattle.run_record.specs.Session.{SessionState};
 
     ghost Value = { SessionState };
 
-    ghost view = { λ s. record { ring = s.ring; notes = s.log.notes; ports = 1 + length s.log.ports; recover = s.log.recover; budget = s.budget; serving = s.serving } };
+    ghost view = { λ s. record { ring = s.ring; notes = s.log.notes; homes = s.log.homes; asked = s.log.asked; waiting = map waiting_of s.master.posts.items; master = s.master; ports = 1 + length s.log.ports; recover = s.log.recover; budget = s.budget; serving = s.serving } };
 
-    ghost invariant = { λ s. (s.number ≡ s.ring.number) × (s.number ≤ s.budget) × (s.budget ≤ 100000000) × (length s.log.notes ≡ length s.ring.nodes) × (length s.ring.nodes ≤ 16) };
+    ghost invariant = { λ s. (s.number ≡ s.ring.number) × (s.number ≤ s.budget) × (s.budget ≤ 100000000) × (length s.log.notes ≡ length s.ring.nodes) × (length s.ring.nodes ≤ 16) × (length s.log.homes ≡ length s.ring.nodes) × (length s.log.asked ≡ length s.ring.nodes) × (vec_len s.master.posts ≡ length s.ring.nodes) };
 }
 
 // The most frames that a run of the plan sends, or a serving of it that hears so many datagrams.
@@ -185,11 +195,24 @@ fn put_frame(
     book.frames.add(SentFrame { sent, fate, back })
 }
 
+// The master gets its frame back, or learns that it is lost: it goes on leading its slaves.
+fn tell(master: &mut MasterNode, fate: Fate, back: &FrameBuf)
+    ensures posts { vec_len master.new.posts ≡ vec_len master.old.posts }
+    ensures leads { (lens : ℕ → Lens) (recover retry missed number : ℕ) (us : List Turn) (f : Exchanged) → f.fate ≡ fate → f.back ≡ back.now.items → MasterUnder lens recover retry master.old f.sent missed us →
+        (fate ≡ Fates.Pass → Returns (seen lens f.sent) (seen lens back.now.items)) → MasterShows lens recover retry master.new (missed_behind lens recover retry f.fate missed) (map (led_behind lens recover retry (gives_up_at lens recover retry missed) number f) us) }
+{
+    match fate {
+        Fate::Pass => master.returned(back),
+        Fate::Lost { .. } => master.lost(),
+    }
+}
+
 impl Session {
     /// A run of the plan before its first frame, or a serving of it that hears so many datagrams.
     pub fn begin(alloc: Global, plan: &Scenario, grams: u32) -> Result<Session, NoMemory>
         requires { IsPlan plan.now }
-        ensures { IfOk result (λ session. session ≡ first_session plan.now grams) }
+        ensures session { IfOk result (λ session. session ≡ first_session plan.now grams session.master) }
+        ensures leads { IfOk result (λ session. Leading plan.now session.master []) }
     {
         Ok(Session {
             master: MasterNode::new(alloc, plan)?,
@@ -234,7 +257,8 @@ impl Session {
 
     /// Whether as many frames were sent as the budget allows.
     pub fn spent(&self) -> bool
-        ensures { result ≡ (self.now.ring.number == self.now.budget) }
+        ensures value { result ≡ (self.now.ring.number == self.now.budget) }
+        ensures left { OnFalse result (self.now.ring.number < self.now.budget) }
     {
         self.number == self.budget
     }
@@ -247,9 +271,39 @@ impl Session {
         some_given_up(self.log.notes.as_slice())
     }
 
-    /// The station of each slave and the length of its mailbox, while it is live.
-    pub fn stations(&self) -> &[Option<(u16, u16)>] {
+    /// The station of each slave and the length of its mailbox, while it is live: it was not given up for good.
+    pub fn stations(&self) -> &[Option<(u16, u16)>]
+        ensures value { result.now ≡ stations_of self.now.recover self.now.homes self.now.notes }
+        ensures many { length result.now ≡ length self.now.ring.nodes }
+        ensures few { length result.now ≤ 16 }
+    {
+        let _ = &self.number;
         self.log.stations.as_slice()
+    }
+
+    /// A mail is passed on to a slave, behind those before; `key` names its asker. `false` comes exactly where 64 mails wait for that slave,
+    /// and then nothing changed, as after `NoMemory`.
+    pub fn ask(
+        &mut self,
+        alloc: Global,
+        slave: u32,
+        key: usize,
+        mail: &Mail,
+    ) -> Result<bool, NoMemory>
+        requires { slave < length self.old.ring.nodes }
+        ensures asked { IfOk result (Asks slave key mail.now self.old self.new) }
+        ensures full { OnOk result ((result ≡ Ok false) ↔ (slice_get self.old.waiting slave ≡ Some 64)) }
+        ensures err { OnErr result (self.new ≡ self.old) }
+    {
+        let body = Octets::copy_of(alloc, mail.body.as_slice())?;
+        let kind = mail.kind;
+        let asked = self.log.asked.at_mut(slave as usize);
+        asked.add(AskedMail { key, kind, body })?;
+        if self.master.ask(slave, key, mail) {
+            return Ok(true);
+        }
+        let _ = self.log.asked.at_mut(slave as usize).pop();
+        Ok(false)
     }
 
     /// Sends one frame, behind which the processors of the slaves make their steps. The frame and what happened stand in the book.
@@ -265,22 +319,12 @@ impl Session {
         let fate = self.ring.exchange(&self.sent, &mut self.back);
         self.number += 1;
         put_frame(alloc, &self.sent, fate, &self.back, book)?;
-        self.tell(fate);
+        tell(&mut self.master, fate, &self.back);
         let behind = Moment {
             frame,
             sent: frame + 1,
         };
         self.log.note(alloc, &self.master, behind, book)
-    }
-
-    // The master gets its frame back, or learns that it is lost.
-    fn tell(&mut self, fate: Fate)
-        ensures { self.new ≡ self.old }
-    {
-        match fate {
-            Fate::Pass => self.master.returned(&self.back),
-            Fate::Lost { .. } => self.master.lost(),
-        }
     }
 
     /// What happened in the last step.
@@ -294,6 +338,8 @@ impl Session {
         ensures ending { book.new.ending ≡ result }
         ensures frames { book.new.frames ≡ book.old.frames }
         ensures switch { book.new.switch ≡ book.old.switch }
+        ensures grams { book.new.grams ≡ book.old.grams }
+        ensures replies { book.new.replies ≡ book.old.replies }
         ensures serving { book.new.serving ≡ self.serving }
         ensures answers { (result ≡ ending) ⊎ (result ≡ endings.NoMemory) }
         ensures rows { result ≢ endings.NoMemory → book.new.slaves ≡ session_rows self }

@@ -177,11 +177,24 @@ ending_line endings.PortFault = codes "status 9 port fault\n"
 ending_line endings.Unfinished = []
 ending_line endings.NoMemory = []
 
--- THE REPORT: the frames, each slave, the host's packets, the packets that the switch dropped, and how the run ended
+-- how many datagrams were heard and how many were sent
+abbrev pub gateway_line : ℕ → ℕ → List ℕ
+gateway_line heard answered = codes "gateway heard " ++ (decimal heard ++ (codes " answered " ++ (decimal answered ++ codes "\n")))
+
+-- its line, where requests were served
+abbrev pub gateway_lines : Book → List (List ℕ)
+gateway_lines book = if book.serving then gateway_line (length book.grams) (length book.replies) ∷ [] else []
+
+-- the last lines
+abbrev pub end_lines : ℕ → Book → List (List ℕ)
+end_lines drops book = dropped_line drops ∷ (gateway_lines book ++ ending_line book.ending ∷ [])
+
+-- THE REPORT: the frames, each slave, the host's packets, the packets that the switch dropped, what the gateway heard and sent, and how the
+-- run ended
 abbrev pub report_lines : Scenario → Book → List (List ℕ)
 report_lines plan book =
     (frames_line book.frames ∷ slave_lines 0 plan.slaves book.slaves) ++ octets_lines (codes "host ") book.host
-    ++ dropped_line (switched (ports_of plan.slaves) book.switch).drops ∷ ending_line book.ending ∷ []
+    ++ end_lines (switched (ports_of plan.slaves) book.switch).drops book
 
 -- the new list is the old one with more lines behind it
 abbrev pub Extends : List (List ℕ) → List (List ℕ) → Type 0

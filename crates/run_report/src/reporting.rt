@@ -1,6 +1,6 @@
-ghost use Rattle.std.specs.Prelude.{◌≡◌, ◌≤◌, ◌++◌, ◌∷◌, [], length, All, false, IfOk, OnOk, OnErr};
+ghost use Rattle.std.specs.Prelude.{◌≡◌, ◌≤◌, ◌++◌, length, All, IfOk, OnOk, OnErr};
 ghost use Rattle.run_book.specs.Ports.{ports_of, IsAtPort};
-ghost use Rattle.run_report.specs.Report.{is_lost, frames_line, dropped_line, ending_line, report_lines, Extends};
+ghost use Rattle.run_report.specs.Report.{is_lost, frames_line, dropped_line, gateway_lines, ending_line, end_lines, report_lines, Extends};
 
 use crate::drops::drops;
 use crate::slaves::{push_octets, push_slaves};
@@ -35,6 +35,20 @@ fn line_of_drops(alloc: Global, drops: u128) -> Result<Octets, NoMemory>
     Octets::copy_of(alloc, text.as_bytes())
 }
 
+// How many datagrams were heard and sent; no line where nobody was served.
+fn push_gateway(alloc: Global, book: &Book, into: &mut Rows<Octets>) -> Result<(), NoMemory>
+    ensures ok { OnOk result (into.new ≡ into.old ++ gateway_lines book.now) }
+    ensures err { OnErr result (into.new ≡ into.old) }
+{
+    if !book.serving {
+        return Ok(());
+    }
+    let heard = book.grams.len();
+    let answered = book.replies.len();
+    let text = format!(in alloc; "gateway heard {heard} answered {answered}\n")?;
+    into.add(Octets::copy_of(alloc, text.as_bytes())?)
+}
+
 fn line_of_ending(alloc: Global, ending: Ending) -> Result<Octets, NoMemory>
     ensures { IfOk result (λ line. line ≡ ending_line ending) }
 {
@@ -47,22 +61,23 @@ fn line_of_ending(alloc: Global, ending: Ending) -> Result<Octets, NoMemory>
     }
 }
 
-// The last lines: the packets that were dropped, and how the run ended.
+// The last lines: the packets that were dropped, what was heard and sent, and how the run ended.
 fn push_end(
     alloc: Global,
     drops: u128,
-    ending: Ending,
+    book: &Book,
     into: &mut Rows<Octets>,
 ) -> Result<(), NoMemory>
-    ensures ok { OnOk result (into.new ≡ into.old ++ dropped_line drops ∷ ending_line ending ∷ []) }
+    ensures ok { OnOk result (into.new ≡ into.old ++ end_lines drops book.now) }
     ensures err { OnErr result (Extends into.old into.new) }
 {
     into.add(line_of_drops(alloc, drops)?)?;
-    into.add(line_of_ending(alloc, ending)?)?;
+    push_gateway(alloc, book, into)?;
+    into.add(line_of_ending(alloc, book.ending)?)?;
     Ok(())
 }
 
-/// Appends the report of a run that ended, a row a line. After `NoMemory` the rows before the call stand, and some lines behind them.
+/// Appends the report of a run or a serving that ended, a row a line. After `NoMemory` the rows before the call stand, and some lines behind them.
 pub fn report(
     alloc: Global,
     plan: &Scenario,
@@ -72,7 +87,6 @@ pub fn report(
     requires few { length plan.now.slaves ≤ 16 }
     requires rows { length book.now.slaves ≡ length plan.now.slaves }
     requires events { All (IsAtPort (ports_of plan.now.slaves)) book.now.switch }
-    requires run { book.now.serving ≡ false }
     ensures ok { OnOk result (into.new ≡ into.old ++ report_lines plan.now book.now) }
     ensures err { OnErr result (Extends into.old into.new) }
 {
@@ -80,5 +94,5 @@ pub fn report(
     into.add(line_of_frames(alloc, book.frames.as_slice())?)?;
     push_slaves(alloc, plan.slaves.as_slice(), book.slaves.as_slice(), into)?;
     push_octets(alloc, "host ", book.host.as_slice(), into)?;
-    push_end(alloc, drops, book.ending, into)
+    push_end(alloc, drops, book, into)
 }

@@ -2,7 +2,6 @@
 #![tactic(auto)]
 
 mod document;
-mod losses;
 mod reading;
 
 pub use reading::read;

@@ -60,7 +60,8 @@ pub fn read(alloc: Global, bytes: &[u8]) -> Result<Scenario, ReadErr>
     // What is read is the plan that the octets write, and what is refused is refused as they are.
     ensures exact { Answers result (plan_of bytes.now) }
     ensures sound { IfOk result IsPlan }
-    // No file's name, and no drive and number of an IDN, comes twice, and an address block fits the mailboxes that it goes through.
+    // No file's name, and no drive and number of an IDN, comes twice, and a MAC address has 6 octets. An address block fits the mailboxes that it
+    // goes through, and only a slave that has Bootstrap is asked for it.
     ensures told { IfOk result IsTold }
 {
     match plan(alloc, bytes) {

@@ -9,9 +9,10 @@ ghost use Rattle.scenario_files.specs.Files.{rights_of, rights_at, file_name_at,
 use ec_fields::{Octets, Rows, buffer_of};
 use file_store::{FileSpec, Name};
 use scenario_keys::{
-    Place, Rule, Stop, bool_or_false, integer_or, needed_name, needed_octets, needed_text,
-    only_known, put, refused, unless,
+    Place, Rule, Stop, bool_or_false, integer_or, needed_name, needed_text, only_known, put,
+    refused, unless,
 };
+use scenario_octets::needed_octets;
 use std::alloc::Global;
 use toml::Table;
 

@@ -9,7 +9,8 @@ use Rattle.scenario_keys.specs.declared.place.Place.TheVariants as places
 use Rattle.scenario_keys.specs.declared.refusal.Rule.TheVariants.{OutOfRange}
 use Rattle.scenario_keys.specs.declared.refusal.Refusal.{Refusal}
 use Rattle.scenario_keys.specs.Reading.{◌>>=◌, wanted, unless_refused, optional, each_behind}
-use Rattle.scenario_keys.specs.Keys.{only_keys, integer_at, integer_in, integer_or, sizes_at, bool_at, no_number_at, optional_label_at, octets_at}
+use Rattle.scenario_keys.specs.Keys.{only_keys, integer_at, integer_in, integer_or, sizes_at, bool_at, no_number_at, optional_label_at}
+use Rattle.scenario_octets.specs.Octets.{octets_at}
 
 -- a drive at which no IDN before has the number
 abbrev pub drive_at : List IdnSpec → ℕ → Place → Members → Result ℕ Refusal

@@ -9,9 +9,10 @@ ghost use Rattle.scenario_idns.specs.Idns.{drive_at, idn_bound_at, idn_bound_if,
 use byteorder::{ByteOrder, LittleEndian};
 use ec_fields::{Octets, Rows};
 use scenario_keys::{
-    Place, Rule, Stop, bool_or_false, find, integer, integer_or, needed_integer, needed_octets,
-    needed_sizes, no_number, only_known, put, some_label, unless,
+    Place, Rule, Stop, bool_or_false, find, integer, integer_or, needed_integer, needed_sizes,
+    no_number, only_known, put, some_label, unless,
 };
+use scenario_octets::needed_octets;
 use segment_plan::IdnSpec;
 use std::alloc::Global;
 use toml::Table;

@@ -1,14 +1,12 @@
--- The kinds of keys, each read in the order: missing, wrong kind, too many, not octets, out of range.
+-- The kinds of keys, each read in the order: missing, wrong kind, out of range.
 use Rattle.std.specs.Prelude.{ℕ, ◌&&◌, nat_le, ℤ, pos, negsuc, List, [], ◌∷◌, length, Option, Some, None, Result, Ok, Bool, true, false, if◌then◌else◌, unwrap_or, option_and_then, is_none}
 use Rattle.std.specs.List.{list_all, list_any}
-use Rattle.std.specs.Result.{result_ok}
 use Rattle.std.specs.Str.{bytes_eq}
-use Rattle.hex.specs.Hex.{decode_of}
-use Rattle.toml.specs.Data.{Data, Items, no_items, item, Members, no_members, member, get_member, as_integer, as_bool, as_str, as_array, as_table}
+use Rattle.toml.specs.Data.{Data, Items, no_items, item, Members, no_members, member, get_member, as_integer, as_bool, as_str, as_array}
 use Rattle.scenario_keys.specs.declared.place.Place.{Place}
-use Rattle.scenario_keys.specs.declared.refusal.Rule.TheVariants.{Missing, UnknownKey, WrongKind, OutOfRange, NotOctets, TooMany}
+use Rattle.scenario_keys.specs.declared.refusal.Rule.TheVariants.{Missing, UnknownKey, WrongKind, OutOfRange}
 use Rattle.scenario_keys.specs.declared.refusal.Refusal.{Refusal}
-use Rattle.scenario_keys.specs.Reading.{◌>>=◌, refuse, wanted, unless_refused, optional, each}
+use Rattle.scenario_keys.specs.Reading.{◌>>=◌, refuse, wanted, unless_refused, optional}
 
 -- whether the key is one of the known ones
 abbrev pub is_known : List (List ℕ) → List ℕ → Bool
@@ -137,43 +135,7 @@ optional_label_at key place ms = optional (label_in place) (get_member key ms)
 abbrev pub label_at : List ℕ → Place → Members → Result (List ℕ) Refusal
 label_at key place ms = optional_label_at key place ms >>= λ o. Ok (unwrap_or o [])
 
--- the octets that a text of hexadecimal digits writes
-abbrev pub digits_in : Place → Data → Result (List ℕ) Refusal
-digits_in place d = text_in place d >>= λ text. wanted NotOctets place (result_ok (decode_of text))
-
--- so many octets
-abbrev pub octets_in : ℕ → ℕ → Place → Data → Result (List ℕ) Refusal
-octets_in least most place d = do
-  octets ← digits_in place d
-  _ ← unless_refused OutOfRange place (nat_le least (length octets) && nat_le (length octets) most)
-  Ok octets
-
-abbrev pub octets_at : List ℕ → ℕ → ℕ → Place → Members → Result (List ℕ) Refusal
-octets_at key least most place ms = needed_at key place ms >>= octets_in least most place
-
--- no octets, since another key excludes them
-abbrev pub no_octets_at : List ℕ → Place → Members → Result (Unit {0}) Refusal
-no_octets_at key place ms = excluded digits_in key place ms
-
 -- the items as a list
 abbrev pub list_of : Items → List Data
 list_of no_items = []
 list_of (item d ds) = d ∷ list_of ds
-
--- items that are tables, at most so many
-abbrev pub tables_of : ℕ → Place → Items → Result (List Members) Refusal
-tables_of most place ds = do
-  tables ← each (λ _ d. wanted WrongKind place (as_table d)) 0 (list_of ds)
-  _ ← unless_refused TooMany place (nat_le (length tables) most)
-  Ok tables
-
--- a list of tables, at most so many
-abbrev pub tables_in : ℕ → Place → Data → Result (List Members) Refusal
-tables_in most place d = wanted WrongKind place (as_array d) >>= tables_of most place
-
-abbrev pub tables_at : List ℕ → ℕ → Place → Members → Result (List Members) Refusal
-tables_at key most place ms = needed_at key place ms >>= tables_in most place
-
--- a list that is empty where its key is left out
-abbrev pub optional_tables_at : List ℕ → ℕ → Place → Members → Result (List Members) Refusal
-optional_tables_at key most place ms = optional (tables_in most place) (get_member key ms) >>= λ o. Ok (unwrap_or o [])

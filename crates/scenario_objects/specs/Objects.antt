@@ -12,7 +12,9 @@ use Rattle.scenario_keys.specs.declared.place.Place.TheVariants as places
 use Rattle.scenario_keys.specs.declared.refusal.Rule.TheVariants.{OutOfRange, TooMany}
 use Rattle.scenario_keys.specs.declared.refusal.Refusal.{Refusal}
 use Rattle.scenario_keys.specs.Reading.{◌>>=◌, wanted, unless_refused, each_after}
-use Rattle.scenario_keys.specs.Keys.{only_keys, integer_at, optional_number_at, no_number_at, no_pair_at, sizes_at, text_at, label_at, octets_at, tables_at}
+use Rattle.scenario_keys.specs.Keys.{only_keys, integer_at, optional_number_at, no_number_at, no_pair_at, sizes_at, text_at, label_at}
+use Rattle.scenario_tables.specs.Tables.{tables_at}
+use Rattle.scenario_octets.specs.Octets.{octets_at}
 
 -- the type of the entry before, where that is the type of all of them
 abbrev pub is_wanted : Option ℕ → ℕ → Bool

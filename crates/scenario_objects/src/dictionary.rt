@@ -9,9 +9,11 @@ ghost use Rattle.segment_plan.specs.Sound.{is_kind, IsEntry, is_code, kept, IsOb
 use ec_fields::Rows;
 use object_dictionary::{EntrySpec, are_small, is_string, size_of_kind};
 use scenario_keys::{
-    Place, Rule, Stop, label_or_none, needed_integer, needed_octets, needed_sizes, needed_tables,
-    needed_text, no_number, no_pair, number_or_none, only_known, put, refused, unless,
+    Place, Rule, Stop, label_or_none, needed_integer, needed_sizes, needed_text, no_number,
+    no_pair, number_or_none, only_known, put, refused, unless,
 };
+use scenario_octets::needed_octets;
+use scenario_tables::needed_tables;
 use segment_plan::ObjectSpec;
 use std::alloc::Global;
 use toml::Table;

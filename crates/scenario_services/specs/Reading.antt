@@ -1,9 +1,9 @@
 -- Services that are appended as they are read, and what holds of those that were read.
-use Rattle.std.specs.Prelude.{ℕ, ◌+◌, ◌≤◌, List, [], ◌∷◌, ◌++◌, length, slice_get, IfSome, Result, Ok}
+use Rattle.std.specs.Prelude.{◌≡◌, ℕ, ◌+◌, ◌≤◌, true, List, [], ◌∷◌, ◌++◌, length, slice_get, IfSome, Result, Ok}
 use Rattle.arrayvec.specs.ArrayVec.{ArrayVec}
 use Rattle.segment_plan.specs.declared.slave.SlaveSpec.{SlaveSpec}
 use Rattle.segment_plan.specs.declared.service.Service.{Service}
-use Rattle.segment_plan.specs.declared.service.Service.TheVariants.{SetIp}
+use Rattle.segment_plan.specs.declared.service.Service.TheVariants.{SetIp, State}
 use Rattle.segment_plan.specs.Bound.{smaller}
 use Rattle.segment_plan.specs.Sound.{IsAddressed}
 use Rattle.scenario_keys.specs.declared.refusal.Refusal.{Refusal}
@@ -18,14 +18,16 @@ Appends old new result read = Gives (λ _. new) result (read >>= λ y. Ok (old +
 abbrev pub sent_to : ℕ → Result Service Refusal → Result (ℕ × Service) Refusal
 sent_to number read = read >>= λ service. Ok (number, service)
 
--- an address block that fits both mailboxes of a slave, behind the ten octets of the heads
-abbrev pub BlockFits : SlaveSpec → Service → Type 0
-BlockFits slave (SetIp block) = length block + 10 ≤ smaller slave
-BlockFits slave _ = Unit {0}
+-- a service that suits a slave: an address block fits both mailboxes, behind the ten octets of the heads, and Bootstrap is asked for only where
+-- the slave has it
+abbrev pub Suits : SlaveSpec → Service → Type 0
+Suits slave (SetIp block) = length block + 10 ≤ smaller slave
+Suits slave (State target) = target ≡ 3 → slave.boot ≡ true
+Suits slave _ = Unit {0}
 
--- a service whose address block, where it has one, fits the mailboxes of its slave
+-- a service that suits the slave to which it is addressed
 abbrev pub FitsSlave : List SlaveSpec → ℕ × Service → Type 0
-FitsSlave slaves row = IfSome (slice_get slaves row.0) (λ slave. BlockFits slave row.1)
+FitsSlave slaves row = IfSome (slice_get slaves row.0) (λ slave. Suits slave row.1)
 
 -- a service as it is read
 pub record IsRead (slaves : List SlaveSpec) (row : ℕ × Service) : Type 0 where

@@ -1,12 +1,10 @@
 -- The services of a scenario, or their first refusal.
-use Rattle.std.specs.Prelude.{ℕ, ◌==◌, ◌||◌, ◌&&◌, ◌-◌, not, List, [], ◌∷◌, codes, Option, Some, None, Result, Ok, Bool, true, if◌then◌else◌, option_and_then, slice_get}
+use Rattle.std.specs.Prelude.{ℕ, ◌==◌, ◌||◌, ◌&&◌, ◌-◌, not, List, codes, Option, Result, Ok, slice_get}
 use Rattle.std.specs.List.{position_from}
 use Rattle.std.specs.Str.{bytes_eq}
-use Rattle.toml.specs.Data.{Members, get_member, as_str}
+use Rattle.toml.specs.Data.{Members}
 use Rattle.arrayvec.specs.ArrayVec.{ArrayVec}
 use Rattle.eoe.specs.Address.{is_block}
-use Rattle.object_dictionary.specs.declared.service.SdoService.{SdoService}
-use Rattle.object_dictionary.specs.declared.service.SdoService.TheVariants.{Download, Upload, DownloadAll, UploadAll, List as ObjectList, ObjectInfo, EntryInfo}
 use Rattle.segment_plan.specs.declared.slave.SlaveSpec.{SlaveSpec}
 use Rattle.segment_plan.specs.declared.service.Service.{Service}
 use Rattle.segment_plan.specs.declared.service.Service.TheVariants.{Sdo, ReadFile, WriteFile, ReadIdn, WriteIdn, SetIp, GetIp, State}
@@ -17,104 +15,16 @@ use Rattle.scenario_keys.specs.declared.place.Place.TheVariants as places
 use Rattle.scenario_keys.specs.declared.refusal.Rule.TheVariants.{OutOfRange, UnknownSlave}
 use Rattle.scenario_keys.specs.declared.refusal.Refusal.{Refusal}
 use Rattle.scenario_keys.specs.Reading.{◌>>=◌, wanted, unless_refused, each}
-use Rattle.scenario_keys.specs.Keys.{only_keys, integer_at, integer_or, text_at, name_at, octets_at}
-use Rattle.scenario_services.specs.declared.actions.SdoAction.{SdoAction}
-use Rattle.scenario_services.specs.declared.actions.SdoAction.TheVariants as sdo
-use Rattle.scenario_services.specs.declared.actions.Action.{Action}
-use Rattle.scenario_services.specs.declared.actions.Action.TheVariants as actions
+use Rattle.scenario_keys.specs.Keys.{integer_at, integer_or, text_at, name_at}
+use Rattle.scenario_octets.specs.Octets.{octets_at}
+use Rattle.scenario_actions.specs.declared.actions.Action.{Action}
+use Rattle.scenario_actions.specs.declared.actions.Action.TheVariants as actions
+use Rattle.scenario_actions.specs.Actions.{given_action, only_keys_of, action_at}
+use Rattle.scenario_sdo.specs.Sdo.{word_at, sub_at, sdo_of}
 
 -- the slave of a name
 abbrev pub slave_named : List ℕ → List SlaveSpec → Option ℕ
 slave_named name slaves = position_from (λ (s : SlaveSpec). bytes_eq s.name name) 0 slaves
-
--- what a service of CoE does
-abbrev pub sdo_action_of : List ℕ → Option SdoAction
-sdo_action_of word =
-    if bytes_eq word (codes "download") then Some sdo.Download
-    else if bytes_eq word (codes "upload") then Some sdo.Upload
-    else if bytes_eq word (codes "download_all") then Some sdo.DownloadAll
-    else if bytes_eq word (codes "upload_all") then Some sdo.UploadAll
-    else if bytes_eq word (codes "list") then Some sdo.List
-    else if bytes_eq word (codes "object") then Some sdo.ObjectInfo
-    else if bytes_eq word (codes "entry") then Some sdo.EntryInfo
-    else None
-
--- the keys of a service of CoE
-abbrev pub sdo_keys_of : SdoAction → List (List ℕ)
-sdo_keys_of sdo.Download = codes "slave" ∷ codes "do" ∷ codes "index" ∷ codes "sub" ∷ codes "value" ∷ []
-sdo_keys_of sdo.Upload = codes "slave" ∷ codes "do" ∷ codes "index" ∷ codes "sub" ∷ []
-sdo_keys_of sdo.DownloadAll = codes "slave" ∷ codes "do" ∷ codes "index" ∷ codes "from" ∷ codes "value" ∷ []
-sdo_keys_of sdo.UploadAll = codes "slave" ∷ codes "do" ∷ codes "index" ∷ codes "from" ∷ []
-sdo_keys_of sdo.List = codes "slave" ∷ codes "do" ∷ codes "kind" ∷ []
-sdo_keys_of sdo.ObjectInfo = codes "slave" ∷ codes "do" ∷ codes "index" ∷ []
-sdo_keys_of sdo.EntryInfo = codes "slave" ∷ codes "do" ∷ codes "index" ∷ codes "sub" ∷ []
-
--- an index or a kind of list
-abbrev pub word_at : List ℕ → Place → Members → Result ℕ Refusal
-word_at key place ms = integer_at key 0 0xFFFF place ms
-
--- a subindex
-abbrev pub sub_at : List ℕ → Place → Members → Result ℕ Refusal
-sub_at key place ms = integer_at key 0 0xFF place ms
-
--- what the keys of a service of CoE say
-unfoldable pub sdo_of : SdoAction → Place → Members → Result SdoService Refusal
-sdo_of sdo.Download place ms = do
-  index ← word_at (codes "index") place ms
-  sub ← sub_at (codes "sub") place ms
-  bytes ← octets_at (codes "value") 1 8000 place ms
-  Ok (Download index sub bytes)
-sdo_of sdo.Upload place ms = do
-  index ← word_at (codes "index") place ms
-  sub ← sub_at (codes "sub") place ms
-  Ok (Upload index sub)
-sdo_of sdo.DownloadAll place ms = do
-  index ← word_at (codes "index") place ms
-  from ← sub_at (codes "from") place ms
-  bytes ← octets_at (codes "value") 1 16000 place ms
-  Ok (DownloadAll index from bytes)
-sdo_of sdo.UploadAll place ms = do
-  index ← word_at (codes "index") place ms
-  from ← sub_at (codes "from") place ms
-  Ok (UploadAll index from)
-sdo_of sdo.List place ms = word_at (codes "kind") place ms >>= λ kind. Ok (ObjectList kind)
-sdo_of sdo.ObjectInfo place ms = word_at (codes "index") place ms >>= λ index. Ok (ObjectInfo index)
-sdo_of sdo.EntryInfo place ms = do
-  index ← word_at (codes "index") place ms
-  sub ← sub_at (codes "sub") place ms
-  Ok (EntryInfo index sub 0)
-
--- what another service does
-abbrev pub other_action_of : List ℕ → Option Action
-other_action_of word =
-    if bytes_eq word (codes "read_file") then Some actions.ReadFile
-    else if bytes_eq word (codes "write_file") then Some actions.WriteFile
-    else if bytes_eq word (codes "read_idn") then Some actions.ReadIdn
-    else if bytes_eq word (codes "write_idn") then Some actions.WriteIdn
-    else if bytes_eq word (codes "set_ip") then Some actions.SetIp
-    else if bytes_eq word (codes "get_ip") then Some actions.GetIp
-    else if bytes_eq word (codes "state") then Some actions.State
-    else None
-
--- a service of CoE, or another one
-abbrev pub either_action : Option SdoAction → Option Action → Option Action
-either_action (Some action) other = Some (actions.Sdo action)
-either_action None other = other
-
--- what a service does
-abbrev pub action_of : List ℕ → Option Action
-action_of word = either_action (sdo_action_of word) (other_action_of word)
-
--- the keys of a service
-abbrev pub keys_of : Action → List (List ℕ)
-keys_of (actions.Sdo action) = sdo_keys_of action
-keys_of actions.ReadFile = codes "slave" ∷ codes "do" ∷ codes "name" ∷ codes "password" ∷ []
-keys_of actions.WriteFile = codes "slave" ∷ codes "do" ∷ codes "name" ∷ codes "password" ∷ codes "value" ∷ []
-keys_of actions.ReadIdn = codes "slave" ∷ codes "do" ∷ codes "drive" ∷ codes "number" ∷ codes "elements" ∷ []
-keys_of actions.WriteIdn = codes "slave" ∷ codes "do" ∷ codes "drive" ∷ codes "number" ∷ codes "elements" ∷ codes "value" ∷ []
-keys_of actions.SetIp = codes "slave" ∷ codes "do" ∷ codes "block" ∷ []
-keys_of actions.GetIp = codes "slave" ∷ codes "do" ∷ []
-keys_of actions.State = codes "slave" ∷ codes "do" ∷ codes "target" ∷ []
 
 -- the password of a file
 abbrev pub password_at : Place → Members → Result ℕ Refusal
@@ -162,18 +72,6 @@ body_of actions.WriteIdn slave place ms = do
 body_of actions.SetIp slave place ms = block_at slave place ms >>= λ block. Ok (SetIp block)
 body_of actions.GetIp slave place ms = Ok GetIp
 body_of actions.State slave place ms = state_at slave place ms >>= λ target. Ok (State target)
-
--- what a service's key `do` says, where it is a word that is known
-abbrev pub given_action : Members → Option Action
-given_action ms = option_and_then action_of (option_and_then as_str (get_member (codes "do") ms))
-
--- Which keys of a service are unknown is judged by what it does; where that isn't known, none is.
-abbrev pub only_keys_of : Option Action → Place → Members → Result (Unit {0}) Refusal
-only_keys_of None place ms = Ok tt
-only_keys_of (Some action) place ms = only_keys (keys_of action) place ms
-
-abbrev pub action_at : Place → Members → Result Action Refusal
-action_at place ms = text_at (codes "do") place ms >>= λ word. wanted OutOfRange place (action_of word)
 
 -- the slave of a service
 abbrev pub target_at : List SlaveSpec → Place → Members → Result ℕ Refusal

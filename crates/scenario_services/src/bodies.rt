@@ -2,86 +2,22 @@ ghost use Rattle.std.specs.Prelude.{◌≡◌, ◌≤◌, ◌+◌, codes, length
 ghost use Rattle.toml.specs.View.{table_view};
 ghost use Rattle.eoe.specs.Address.{is_block};
 ghost use Rattle.segment_plan.specs.Bound.{smaller};
-ghost use Rattle.segment_plan.specs.Sound.{IsSlave, IsSdo, IsName, IsService, is_target};
+ghost use Rattle.segment_plan.specs.Sound.{IsSlave, IsName, IsService, is_target};
 ghost use Rattle.scenario_keys.specs.Reading.{Gives};
 ghost use Rattle.scenario_keys.specs.Keys.{name_at};
-ghost use Rattle.scenario_services.specs.Reading.{Appends, BlockFits, sent_to};
-ghost use Rattle.scenario_services.specs.Services.{word_at, sub_at, sdo_of, password_at, element_at, block_at, state_at, body_of};
+ghost use Rattle.scenario_services.specs.Reading.{Appends, Suits, sent_to};
+ghost use Rattle.scenario_services.specs.Services.{password_at, element_at, block_at, state_at, body_of};
 
-use crate::actions::{Action, SdoAction};
 use ec_fields::{Octets, Rows, buffer_of};
 use eoe::is_block;
 use file_store::Name;
-use object_dictionary::SdoService;
-use scenario_keys::{
-    Place, Rule, Stop, integer_or, needed_integer, needed_name, needed_octets, put, unless,
-};
+use scenario_actions::Action;
+use scenario_keys::{Place, Rule, Stop, integer_or, needed_integer, needed_name, put, unless};
+use scenario_octets::needed_octets;
+use scenario_sdo::{sdo_body, subindex, word};
 use segment_plan::{Service, SlaveSpec, smaller};
 use std::alloc::Global;
 use toml::Table;
-
-fn word(table: &Table, key: &str, place: Place) -> Result<u16, Stop>
-    ensures { Gives (λ n. n) result (word_at key.now place (table_view table.now)) }
-{
-    Ok(needed_integer(table, key, 0, 0xFFFF, place)? as u16)
-}
-
-fn subindex(table: &Table, key: &str, place: Place) -> Result<u8, Stop>
-    ensures { Gives (λ n. n) result (sub_at key.now place (table_view table.now)) }
-{
-    Ok(needed_integer(table, key, 0, 0xFF, place)? as u8)
-}
-
-#[tactic(auto, unfolding(crate::specs::Services::sdo_of))]
-fn sdo_body(
-    alloc: Global,
-    action: SdoAction,
-    table: &Table,
-    place: Place,
-) -> Result<SdoService, Stop>
-    ensures gives { Gives (λ s. s) result (sdo_of action place (table_view table.now)) }
-    ensures sound { IfOk result IsSdo }
-{
-    match action {
-        SdoAction::Download => {
-            let index = word(table, "index", place)?;
-            let sub = subindex(table, "sub", place)?;
-            let bytes = needed_octets(alloc, table, "value", 1, 8000, place)?;
-            Ok(SdoService::Download { index, sub, bytes })
-        }
-        SdoAction::Upload => {
-            let index = word(table, "index", place)?;
-            let sub = subindex(table, "sub", place)?;
-            Ok(SdoService::Upload { index, sub })
-        }
-        SdoAction::DownloadAll => {
-            let index = word(table, "index", place)?;
-            let from = subindex(table, "from", place)?;
-            let bytes = needed_octets(alloc, table, "value", 1, 16_000, place)?;
-            Ok(SdoService::DownloadAll { index, from, bytes })
-        }
-        SdoAction::UploadAll => {
-            let index = word(table, "index", place)?;
-            let from = subindex(table, "from", place)?;
-            Ok(SdoService::UploadAll { index, from })
-        }
-        SdoAction::List => Ok(SdoService::List {
-            kind: word(table, "kind", place)?,
-        }),
-        SdoAction::ObjectInfo => Ok(SdoService::ObjectInfo {
-            index: word(table, "index", place)?,
-        }),
-        SdoAction::EntryInfo => {
-            let index = word(table, "index", place)?;
-            let sub = subindex(table, "sub", place)?;
-            Ok(SdoService::EntryInfo {
-                index,
-                sub,
-                info: 0,
-            })
-        }
-    }
-}
 
 /// The password of a file.
 fn password(table: &Table, place: Place) -> Result<u32, Stop>
@@ -133,6 +69,7 @@ fn is_target(target: u64) -> bool
 fn state_target(table: &Table, slave: &SlaveSpec, place: Place) -> Result<u8, Stop>
     ensures gives { Gives (λ n. n) result (state_at slave.now place (table_view table.now)) }
     ensures within { IfOk result (λ n. is_target n ≡ true) }
+    ensures suits { IfOk result (λ n. n ≡ 3 → slave.now.boot ≡ true) }
 {
     let target = needed_integer(table, "target", 1, 8, place)?;
     let taken = is_target(target) && (slave.boot || target != 3);
@@ -154,7 +91,7 @@ pub fn add_body(
     requires { IsSlave slave.now }
     ensures gives { Appends rows.old rows.new result (sent_to number (body_of action slave.now place (table_view table.now))) }
     ensures sound { OnOk result (IfOk (body_of action slave.now place (table_view table.now)) IsService) }
-    ensures fits { OnOk result (IfOk (body_of action slave.now place (table_view table.now)) (BlockFits slave.now)) }
+    ensures fits { OnOk result (IfOk (body_of action slave.now place (table_view table.now)) (Suits slave.now)) }
 {
     match action {
         Action::Sdo(action) => {

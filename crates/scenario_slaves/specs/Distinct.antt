@@ -1,5 +1,5 @@
 -- What holds of a slave that was read, beside the ranges of its numbers.
-use Rattle.std.specs.Prelude.{◌≡◌, [], true}
+use Rattle.std.specs.Prelude.{◌≡◌, [], true, length}
 use Rattle.segment_plan.specs.declared.slave.SlaveSpec.{SlaveSpec}
 use Rattle.segment_plan.specs.Sound.{IsSlave, are_new_files, are_new_idns}
 
@@ -8,7 +8,12 @@ pub record IsDistinct (s : SlaveSpec) : Type 0 where
   pub files : are_new_files [] s.files ≡ true
   pub idns : are_new_idns [] s.idns ≡ true
 
+-- a slave with a MAC address of 6 octets, which are 0 where it doesn't serve EoE
+abbrev pub HasMac : SlaveSpec → Type 0
+HasMac s = length s.mac ≡ 6
+
 -- a slave as it is read
 pub record IsRead (s : SlaveSpec) : Type 0 where
   pub slave : IsSlave s
   pub distinct : IsDistinct s
+  pub mac : HasMac s

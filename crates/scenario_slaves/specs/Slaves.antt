@@ -1,88 +1,23 @@
 -- The slaves of a scenario, or their first refusal.
-use Rattle.std.specs.Prelude.{ℕ, ◌==◌, ◌&&◌, ◌%◌, List, [], ◌∷◌, length, codes, replicate, slice_index, unwrap_or, Option, Some, None, Result, Ok, Bool, true, false, if◌then◌else◌}
-use Rattle.std.specs.List.{list_any}
-use Rattle.std.specs.Str.{bytes_eq}
-use Rattle.toml.specs.Data.{Data, Members, Items, get_member, as_array}
+use Rattle.std.specs.Prelude.{ℕ, ◌==◌, List, [], ◌∷◌, codes, Result, Ok, if◌then◌else◌}
+use Rattle.toml.specs.Data.{Members}
 use Rattle.file_store.specs.declared.file.FileSpec.{FileSpec}
 use Rattle.segment_plan.specs.declared.slave.ObjectSpec.{ObjectSpec}
 use Rattle.segment_plan.specs.declared.slave.IdnSpec.{IdnSpec}
 use Rattle.segment_plan.specs.declared.slave.SlaveSpec.{SlaveSpec}
 use Rattle.scenario_keys.specs.declared.place.Place.{Place}
 use Rattle.scenario_keys.specs.declared.place.Place.TheVariants as places
-use Rattle.scenario_keys.specs.declared.refusal.Rule.TheVariants.{Missing, WrongKind, OutOfRange}
 use Rattle.scenario_keys.specs.declared.refusal.Refusal.{Refusal}
-use Rattle.scenario_keys.specs.Reading.{◌>>=◌, wanted, unless_refused, optional, each, each_behind}
-use Rattle.scenario_keys.specs.Keys.{only_keys, needed_at, integer_at, integer_or, pair_at, bool_at, text_in, name_at, octets_in, octets_at, no_octets_at, optional_tables_at, list_of}
+use Rattle.scenario_keys.specs.Reading.{◌>>=◌, each}
+use Rattle.scenario_keys.specs.Keys.{only_keys, integer_at, integer_or, pair_at, bool_at, name_at}
+use Rattle.scenario_tables.specs.Tables.{optional_tables_at}
 use Rattle.scenario_objects.specs.Objects.{objects_of}
 use Rattle.scenario_files.specs.Files.{files_of}
 use Rattle.scenario_idns.specs.Idns.{idns_of}
-use Rattle.scenario_slaves.specs.declared.protocols.Served.{Served}
+use Rattle.scenario_settings.specs.Protocols.{serves_at}
+use Rattle.scenario_settings.specs.Settings.{start_at, mac_at, pace_at}
 
--- ---- protocols
-
--- the protocols so far with one more: none for another word, and none for a protocol that stands already
-abbrev pub more_served : Served → List ℕ → Option Served
-more_served s word =
-    if bytes_eq word (codes "coe") then (if s.«coe» then None else Some (record { «coe» = true; foe = s.foe; eoe = s.eoe; soe = s.soe }))
-    else if bytes_eq word (codes "foe") then (if s.foe then None else Some (record { «coe» = s.«coe»; foe = true; eoe = s.eoe; soe = s.soe }))
-    else if bytes_eq word (codes "eoe") then (if s.eoe then None else Some (record { «coe» = s.«coe»; foe = s.foe; eoe = true; soe = s.soe }))
-    else if bytes_eq word (codes "soe") then (if s.soe then None else Some (record { «coe» = s.«coe»; foe = s.foe; eoe = s.eoe; soe = true }))
-    else None
-
--- the protocols of words behind those so far
-abbrev pub served_of : Place → Served → List (List ℕ) → Result Served Refusal
-served_of place s [] = Ok s
-served_of place s (word ∷ words) = wanted OutOfRange place (more_served s word) >>= λ more. served_of place more words
-
--- no protocol
-abbrev pub none_served : Served
-none_served = record { «coe» = false; foe = false; eoe = false; soe = false }
-
--- the protocols of items that are all texts
-abbrev pub serves_of : Place → Items → Result Served Refusal
-serves_of place items = each (λ _ word. text_in place word) 0 (list_of items) >>= served_of place none_served
-
--- the protocols that are served: a list of their words, each at most once
-abbrev pub serves_in : Place → Data → Result Served Refusal
-serves_in place d = wanted WrongKind place (as_array d) >>= serves_of place
-
-abbrev pub serves_at : Place → Members → Result Served Refusal
-serves_at place ms = needed_at (codes "serves") place ms >>= serves_in place
-
--- ---- other keys
-
--- the AL state of a word, where the slave has it: Bootstrap only with that state
-abbrev pub start_of : Bool → List ℕ → Option ℕ
-start_of boot word =
-    if bytes_eq word (codes "preop") then Some 2
-    else if boot && bytes_eq word (codes "boot") then Some 3
-    else None
-
-abbrev pub start_in : Bool → Place → Data → Result ℕ Refusal
-start_in boot place d = text_in place d >>= λ word. wanted OutOfRange place (start_of boot word)
-
--- PreOp where the key is left out
-abbrev pub start_at : Bool → Place → Members → Result ℕ Refusal
-start_at boot place ms = optional (start_in boot place) (get_member (codes "start") ms) >>= λ o. Ok (unwrap_or o 2)
-
--- a MAC address: 6 octets, the first of them even
-abbrev pub own_mac_at : Place → Members → Result (List ℕ) Refusal
-own_mac_at place ms = do
-  mac ← octets_at (codes "mac") 6 6 place ms
-  _ ← unless_refused OutOfRange place (slice_index mac 0 % 2 == 0)
-  Ok mac
-
--- a MAC address stands just where EoE is served; else it is zeros
-abbrev pub mac_at : Bool → Place → Members → Result (List ℕ) Refusal
-mac_at true place ms = own_mac_at place ms
-mac_at false place ms = no_octets_at (codes "mac") place ms >>= λ _. Ok (replicate 6 0)
-
--- the pace of a slave: 1 in version 1
-abbrev pub pace_at : ℕ → Place → Members → Result ℕ Refusal
-pace_at version place ms = if version == 2 then integer_or (codes "pace") 1 1 16 place ms else Ok 1
-
--- ---- slaves
-
+-- the keys of a slave behind its station and its pace
 abbrev pub keys_behind : List (List ℕ)
 keys_behind =
     codes "mail" ∷ codes "serves" ∷ codes "boot" ∷ codes "start" ∷ codes "blocks" ∷ codes "mac" ∷ codes "fixed_ip"

@@ -1,22 +1,23 @@
-ghost use Rattle.std.specs.Prelude.{◌≡◌, ◌≤◌, ◌%◌, map, length, replicate, IfOk, IfSome, All, codes, slice_index, true};
-ghost use Rattle.toml.specs.View.{view, table_view};
-ghost use Rattle.segment_plan.specs.Sound.{is_start, is_mac, IsSlave, IsPace, IsObject, IsFile, IsIdn};
-ghost use Rattle.scenario_slaves.specs.Distinct.{IsDistinct};
-ghost use Rattle.scenario_keys.specs.Reading.{Gives, each};
-ghost use Rattle.scenario_slaves.specs.Slaves.{start_of, start_in, start_at, own_mac_at, mac_at, pace_at, slave_keys, plain_slave_of, slave_of, slaves_of, paces_of};
+ghost use Rattle.std.specs.Prelude.{◌≡◌, ◌≤◌, map, length, IfOk, All};
+ghost use Rattle.toml.specs.View.{table_view};
+ghost use Rattle.segment_plan.specs.Sound.{IsSlave, IsPace};
+ghost use Rattle.scenario_slaves.specs.Distinct.{HasMac, IsDistinct};
+ghost use Rattle.scenario_keys.specs.Reading.{Gives};
+ghost use Rattle.scenario_slaves.specs.Slaves.{slave_keys, plain_slave_of, slave_of, slaves_of, paces_of};
 
-use crate::protocols::serves;
 use ec_fields::{Octets, Rows};
 use scenario_files::files;
 use scenario_idns::idns;
 use scenario_keys::{
-    Place, Rule, Stop, bool_or_false, find, integer_or, needed_integer, needed_name, needed_octets,
-    needed_pair, no_octets, only_known, put, refused, tables_or_none, text, unless,
+    Place, Stop, bool_or_false, integer_or, needed_integer, needed_name, needed_pair, only_known,
+    put,
 };
 use scenario_objects::objects;
+use scenario_settings::{mac, pace, serves, start};
+use scenario_tables::tables_or_none;
 use segment_plan::SlaveSpec;
 use std::alloc::Global;
-use toml::{Table, Value};
+use toml::Table;
 
 /// The keys of a slave in version 1.
 const KEYS: &[&str] = &[
@@ -36,81 +37,12 @@ fn known_keys(version: u32) -> &'static [&'static str]
     if version == 2 { KEYS_WITH_PACE } else { KEYS }
 }
 
-fn start_of(boot: bool, word: &str) -> Option<u8>
-    ensures gives { result ≡ start_of boot word.now }
-    ensures within { IfSome result (λ n. is_start boot n ≡ true) }
-{
-    if word == "preop" {
-        Some(2)
-    } else if boot && word == "boot" {
-        Some(3)
-    } else {
-        None
-    }
-}
-
-fn start_in(boot: bool, value: &Value, place: Place) -> Result<u8, Stop>
-    ensures gives { Gives (λ n. n) result (start_in boot place (view value.now)) }
-    ensures within { IfOk result (λ n. is_start boot n ≡ true) }
-{
-    match start_of(boot, text(value, place)?) {
-        Some(start) => Ok(start),
-        None => Err(refused(Rule::OutOfRange, place)),
-    }
-}
-
-/// The AL state in which a slave is brought up.
-fn start(table: &Table, boot: bool, place: Place) -> Result<u8, Stop>
-    ensures gives { Gives (λ n. n) result (start_at boot place (table_view table.now)) }
-    ensures within { IfOk result (λ n. is_start boot n ≡ true) }
-{
-    match find(table, "start") {
-        Some(value) => start_in(boot, value, place),
-        None => Ok(2),
-    }
-}
-
-fn own_mac(alloc: Global, table: &Table, place: Place) -> Result<[u8; 6], Stop>
-    ensures gives { Gives (λ m. m) result (own_mac_at place (table_view table.now)) }
-    ensures within { IfOk result (λ m. slice_index m 0 % 2 ≡ 0) }
-{
-    let octets = needed_octets(alloc, table, "mac", 6, 6, place)?;
-    let mut mac = [0; 6];
-    mac.copy_from_slice(octets.bytes());
-    unless(mac[0] % 2 == 0, Rule::OutOfRange, place)?;
-    Ok(mac)
-}
-
-/// The MAC address, which stands just where EoE is served.
-fn mac(alloc: Global, table: &Table, eoe: bool, place: Place) -> Result<[u8; 6], Stop>
-    ensures gives { Gives (λ m. m) result (mac_at eoe place (table_view table.now)) }
-    ensures within { IfOk result (λ m. is_mac eoe m ≡ true) }
-{
-    if eoe {
-        own_mac(alloc, table, place)
-    } else {
-        no_octets(alloc, table, "mac", place)?;
-        Ok([0; 6])
-    }
-}
-
-/// The pace of a slave: 1 in version 1.
-fn pace(table: &Table, version: u32, place: Place) -> Result<u32, Stop>
-    ensures gives { Gives (λ n. n) result (pace_at version place (table_view table.now)) }
-    ensures within { IfOk result IsPace }
-{
-    if version == 2 {
-        Ok(integer_or(table, "pace", 1, 1, 16, place)? as u32)
-    } else {
-        Ok(1)
-    }
-}
-
 /// What a slave's plain keys say, without its lists.
 #[tactic(auto, unfolding(crate::specs::Slaves::plain_slave_of))]
 fn plain_slave(alloc: Global, table: &Table, version: u32, place: Place) -> Result<SlaveSpec, Stop>
     ensures gives { Gives (λ s. s) result (plain_slave_of version place (table_view table.now)) }
     ensures sound { IfOk result IsSlave }
+    ensures mac { IfOk result HasMac }
 {
     let name = needed_name(table, "name", place)?;
     let station = needed_integer(table, "station", 1, 0xFFFF, place)?;
@@ -147,6 +79,7 @@ fn slave(alloc: Global, table: &Table, version: u32, number: u32) -> Result<Slav
     ensures gives { Gives (λ s. s) result (slave_of version number (table_view table.now)) }
     ensures sound { IfOk result IsSlave }
     ensures distinct { IfOk result IsDistinct }
+    ensures mac { IfOk result HasMac }
 {
     let place = Place::Slave(number);
     only_known(table, known_keys(version), place)?;
@@ -167,6 +100,7 @@ pub fn slaves(alloc: Global, tables: &[&Table], version: u32) -> Result<Rows<Sla
     ensures many { IfOk result (λ ss. length ss ≡ length tables.now) }
     ensures sound { IfOk result (All IsSlave) }
     ensures distinct { IfOk result (All IsDistinct) }
+    ensures macs { IfOk result (All HasMac) }
 {
     let mut rows = Rows::new(alloc);
     for (i, table) in tables.iter().enumerate() {

@@ -1,5 +1,7 @@
-use Rattle.std.proofs.Common.{◌≡◌, vec_len}
+use Rattle.std.proofs.Common.{◌≡◌, take, vec_len}
+use Rattle.life_frames.specs.Shares.{AllFrom}
+use Rattle.master_node.specs.First.{IsFirst}
 use Rattle.master_node.proofs.starting.stops_of.Given as goal
 
 abbrev pub invariant-loop-place : goal.invariant-loop-place
-invariant-loop-place l = vec_len l.stops ≡ l.place
+invariant-loop-place l = (vec_len l.stops ≡ l.place) × AllFrom (λ place spec s. IsFirst l.plan place spec s) 0 (take l.place l.slaves) l.stops.items

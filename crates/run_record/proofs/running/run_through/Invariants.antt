@@ -1,13 +1,18 @@
-use Rattle.std.proofs.Common.{◌≡◌, ◌-◌, true}
+use Rattle.std.proofs.Common.{◌≡◌, ◌-◌, true, false, map, []}
 use Rattle.std.specs.Bool.{OnTrue}
 use Rattle.run_record.specs.Session.{session_rows, are_at_rest}
-use Rattle.run_record.proofs.Underway.{IsUnderway}
+use Rattle.run_record.specs.Led.{exchanged, Leading}
+use Rattle.run_record.specs.Ran.{IsUnderway}
 use Rattle.run_record.proofs.running.run_through.Given as goal
 
 abbrev pub invariant-loop-settled : goal.invariant-loop-settled
 invariant-loop-settled l = record {
-  underway : IsUnderway l.plan l.session l.book;
+  underway : IsUnderway l.plan 0 l.session l.book;
+  serving : l.book.serving ≡ false;
+  grams : l.book.grams ≡ [];
+  replies : l.book.replies ≡ [];
   settled : OnTrue l.settled (are_at_rest (session_rows l.session) ≡ true);
+  leading : Leading l.plan l.session.master (map exchanged l.book.frames);
 }
 
 abbrev pub decreases-loop-settled : goal.decreases-loop-settled

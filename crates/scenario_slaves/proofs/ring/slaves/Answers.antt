@@ -12,10 +12,13 @@ returns-in_err-row-clause-gives c =
 
 pub loop-i-preserved : goal.loop-i-preserved
 loop-i-preserved c =
-    goes_on IsRead (λ _ _. tt {0}) (λ k _ ms. slave_of c.args.version k ms) (tt {0}) (λ t. table_view t.now) c.args.tables.now c.loop-i.i (tt {0}) c.loop-i.rows c.index-tables-i.result c.in_ok-row.row c.put.new.rows c.loop-i-test.true c.index-tables-i.is c.in_ok-row.ensures.gives (record { slave = c.in_ok-row.ensures.sound; distinct = c.in_ok-row.ensures.distinct }) c.in_ok-put.ensures.ok c.loop-i.invariant
+    goes_on IsRead (λ _ _. tt {0}) (λ k _ ms. slave_of c.args.version k ms) (tt {0}) (λ t. table_view t.now) c.args.tables.now c.loop-i.i (tt {0}) c.loop-i.rows c.index-tables-i.result c.in_ok-row.row c.put.new.rows c.loop-i-test.true c.index-tables-i.is c.in_ok-row.ensures.gives (record { slave = c.in_ok-row.ensures.sound; distinct = c.in_ok-row.ensures.distinct; mac = c.in_ok-row.ensures.mac }) c.in_ok-put.ensures.ok c.loop-i.invariant
 
 pub returns-clause-sound : goal.returns-clause-sound
 returns-clause-sound c k d lt = (c.loop-i.invariant.sound k d lt).slave
 
 pub returns-clause-distinct : goal.returns-clause-distinct
 returns-clause-distinct c k d lt = (c.loop-i.invariant.sound k d lt).distinct
+
+pub returns-clause-macs : goal.returns-clause-macs
+returns-clause-macs c k d lt = (c.loop-i.invariant.sound k d lt).mac

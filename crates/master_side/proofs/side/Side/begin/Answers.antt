@@ -1,7 +1,27 @@
+use Rattle.std.proofs.Common.{◌≡◌, true, sym, subst, ap, ◌∙◌, Option, Some}
+use Rattle.master_side.specs.declared.carried.Wish.{Wish}
+use Rattle.master_side.specs.Shown.{SideShows, Begins, wish_begun, takes_ready}
 use Rattle.master_side.proofs.side.Side.begin.Goals as goal
 
-pub returns-in-Some-Mails-clause-picked : goal.returns-in-Some-Mails-clause-picked
-returns-in-Some-Mails-clause-picked g c = λ x made d a s. let f = c.is_free.ensures.free x d a s c.if-not-is_free.false in c.begin_mails.ensures.picked x made d a s f.0 f.2
+pub returns-in-Mails-clause-picked : goal.returns-in-Mails-clause-picked
+returns-in-Mails-clause-picked g c = λ x made d a s.
+    let old = c.args.self.now in
+    let new = c.begin_mails.new.self in
+    let f = c.is_free.ensures.free x d a s c.if-not-is_free.false in
+    let e : c.args.wish ≡ Some Wish.Mails = c.in-Some.is ∙ ap Some c.in-Mails.is in
+    subst (λ (w : Option Wish). Begins x g.H.Hand.acknowledged made d a (wish_begun c.begin_mails.result w (g.H.Hand.ready old.hand)) (λ e b. SideShows (g.H.Hand.shows new.hand x) new.out new.inn new.fresh new.duty e b)) (sym e)
+    (c.begin_mails.ensures.picked x made d a s f.0 f.2)
 
-pub returns-in-Some-State-clause-picked : goal.returns-in-Some-State-clause-picked
-returns-in-Some-State-clause-picked g c = λ x made d a s. let f = c.is_free.ensures.free x d a s c.if-not-is_free.false in c.begin_state.ensures.picked x made d a s f.0 f.1 f.2
+pub returns-in-Mails-clause-unpassed : goal.returns-in-Mails-clause-unpassed
+returns-in-Mails-clause-unpassed g c = λ p h.
+    let e : c.args.wish ≡ Some Wish.Mails = c.in-Some.is ∙ ap Some c.in-Mails.is in
+    c.begin_mails.ensures.unpassed (λ t. h (λ i. takes_ready (t i) (e i)))
+
+pub returns-in-State-clause-picked : goal.returns-in-State-clause-picked
+returns-in-State-clause-picked g c = λ x made d a s.
+    let old = c.args.self.now in
+    let new = c.begin_state.new.self in
+    let f = c.is_free.ensures.free x d a s c.if-not-is_free.false in
+    let e : c.args.wish ≡ Some (Wish.State c.in-State.target) = c.in-Some.is ∙ ap Some c.in-State.is in
+    subst (λ (w : Option Wish). Begins x g.H.Hand.acknowledged made d a (wish_begun true w (g.H.Hand.ready old.hand)) (λ e b. SideShows (g.H.Hand.shows new.hand x) new.out new.inn new.fresh new.duty e b)) (sym e)
+    (c.begin_state.ensures.picked x made d a s f.0 f.1 f.2)

@@ -1,6 +1,20 @@
-use Rattle.master_side.proofs.Begins.{begins_ready}
+use Rattle.std.proofs.Common.{sym, ◌∙◌}
+use Rattle.master_side.proofs.Begins.{begins_ready, none_passed}
+use Rattle.master_side.proofs.side.Side.begin_mails.Goals.{then-began, else-began, then-passed, else-passed}
 use Rattle.master_side.proofs.side.Side.begin_mails.Goals as goal
 
 pub returns-clause-picked : goal.returns-clause-picked
 returns-clause-picked g c = λ x made d a s free none.
-    begins_ready x g.H.Hand.acknowledged made d a (g.H.Hand.shows c.args.self.now.hand x) _ c.args.self.now.out c.args.self.now.inn c.args.self.now.fresh c.args.self.now.duty (g.H.Hand.ready c.args.self.now.hand) s none free (λ now q frame t e. c.begin-began.ensures.begun x now q frame t e) (λ now t e. c.begin-began.ensures.none x now t e)
+    begins_ready x g.H.Hand.acknowledged made d a (g.H.Hand.shows c.args.self.now.hand x) _ c.args.self.now.out c.args.self.now.inn c.args.self.now.fresh c.args.self.now.duty (g.H.Hand.ready c.args.self.now.hand) c.begin-began.result c.begin-began.ensures.did s none free (λ now q frame t e. c.begin-began.ensures.begun x now q frame t e) (λ now t e. c.begin-began.ensures.none x now t e)
+
+pub returns-clause-unpassed : goal.returns-clause-unpassed
+returns-clause-unpassed g c = λ h.
+    let ready = g.H.Hand.ready c.args.self.now.hand in
+    elim c.if-passed.branch [
+      | then-passed w ↦ elim c.if-began.branch [
+        | then-began v ↦ absurd (let no = none_passed ready c.begin-began.result (g.H.Hand.passes c.begin-began.new.self) g.H.Hand.passed c.begin-began.ensures.did v.if-began.true (h v.if-began.true) c.begin-began.ensures.passes in
+            let t = sym w.if-passed.true ∙ v.passed-is ∙ v.is_passed-passed.ensures ∙ no in cc)
+        | else-began v ↦ absurd (let t = sym w.if-passed.true ∙ v.passed-is in cc)
+      ]
+      | else-passed w ↦ w.passing-is
+    ]

@@ -4,7 +4,7 @@ use Rattle.master_side.proofs.Begins.{picked}
 use Rattle.master_side.proofs.side.Side.choose.Goals as goal
 
 pub returns-clause-picked : goal.returns-clause-picked
-returns-clause-picked g c = λ x made d a s. picked x g.H.Hand.acknowledged made d a _ _ (c.begin-began.ensures.picked x made d a s) (c.hold_next.ensures.shown x)
+returns-clause-picked g c = λ x made d a s. picked x g.H.Hand.acknowledged made d a _ _ _ (c.begin-began.ensures.picked x made d a s) (c.hold_next.ensures.shown x)
 
 pub returns-clause-waits : goal.returns-clause-waits
-returns-clause-waits g c = λ p x d a s. c.hold_next.ensures.shown x d a (subst (λ z. SideShows (g.H.Hand.shows z.hand x) z.out z.inn z.fresh z.duty d a) (sym (c.begin-began.ensures.waits p)) s)
+returns-clause-waits g c = λ p x d a s. c.hold_next.ensures.shown x d a (subst (λ z. SideShows (g.H.Hand.shows z.hand x) z.out z.inn z.fresh z.duty d a) (sym (c.begin-began.ensures.waits p).1) s)

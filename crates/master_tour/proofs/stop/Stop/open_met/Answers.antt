@@ -13,11 +13,6 @@ use Rattle.master_tour.proofs.Unders.{SameAim, aims, under_back}
 use Rattle.master_tour.proofs.Backs.{own_back, open_follows}
 use Rattle.master_tour.proofs.stop.Stop.open_met.Goals as goal
 
-pub returns-clause-shown : goal.returns-clause-shown
-returns-clause-shown g c = λ x frame lens back d a e s u.
-    let w = c.args.self.now.side in
-    subst (λ z. SideShows (g.H.Hand.shows z.hand x) z.out z.inn z.fresh z.duty (Seats.side_back x frame w.station back d) (account_back w.station frame a back)) (sym c.reopen.ensures.side) (c.open_back.ensures.shown x frame lens back d a e s u)
-
 pub returns-clause-lives : goal.returns-clause-lives
 returns-clause-lives g c = λ o n x more passed number recover spot lens ns sent l sp r u sh.
     let t = c.args.self.now in

@@ -10,9 +10,9 @@ returns-clause-shown g c = λ x made lens d a l b s.
     let m = c.choose-began.new.self in
     let n = c.add_datagram-placed.new.self in
     let k = c.choose-began.ensures.link in
-    picked_map x g.H.Hand.acknowledged made d a _ _ (c.choose-began.ensures.picked x made d a s)
+    picked_map x g.H.Hand.acknowledged made d a _ _ _ (c.choose-began.ensures.picked x made d a s)
     (λ e r t. (
-      same_shown (g.H.Hand.shows m.hand x) (g.H.Hand.shows n.hand x) m.out n.out m.inn n.inn m.fresh n.fresh m.duty n.duty e r c.add_datagram-placed.ensures.kept (λ now w. subst (λ h. g.H.Hand.shows h x now) (sym c.add_datagram-placed.ensures.hand) w) t,
+      same_shown (g.H.Hand.shows m.hand x) (g.H.Hand.shows n.hand x) m.out n.out m.inn n.inn m.fresh n.fresh m.duty n.duty e r c.add_datagram-placed.ensures.kept (λ now w. subst (λ h. g.H.Hand.shows h x now) (sym c.add_datagram-placed.ensures.hand.0) w) t,
       λ u. same_meant lens c.args.index m.out n.out m.inn n.inn m.fresh n.fresh m.duty n.duty m.station n.station c.args.self.now.side.station n.carried e.halves (duty_access r.hand) c.add_datagram-placed.ensures.kept c.add_datagram-placed.ensures.link.0 k.station_is
           (c.add_datagram-placed.ensures.meant u x lens e r (ap (λ z. (lens z).out) k.station_is ∙ l ∙ sym k.out_is) (ap (λ z. (lens z).back) k.station_is ∙ b ∙ sym k.in_is) t),
     ))
@@ -24,7 +24,7 @@ returns-clause-waits g c = λ p x lens d a l b s.
     let k = c.choose-began.ensures.link in
     holds_map x d _ _ (c.choose-began.ensures.waits p x d a s)
     (λ e t. (
-      same_shown (g.H.Hand.shows m.hand x) (g.H.Hand.shows n.hand x) m.out n.out m.inn n.inn m.fresh n.fresh m.duty n.duty e a c.add_datagram-placed.ensures.kept (λ now w. subst (λ h. g.H.Hand.shows h x now) (sym c.add_datagram-placed.ensures.hand) w) t,
+      same_shown (g.H.Hand.shows m.hand x) (g.H.Hand.shows n.hand x) m.out n.out m.inn n.inn m.fresh n.fresh m.duty n.duty e a c.add_datagram-placed.ensures.kept (λ now w. subst (λ h. g.H.Hand.shows h x now) (sym c.add_datagram-placed.ensures.hand.0) w) t,
       λ u. same_meant lens c.args.index m.out n.out m.inn n.inn m.fresh n.fresh m.duty n.duty m.station n.station c.args.self.now.side.station n.carried e.halves (duty_access a.hand) c.add_datagram-placed.ensures.kept c.add_datagram-placed.ensures.link.0 k.station_is
           (c.add_datagram-placed.ensures.meant u x lens e a (ap (λ z. (lens z).out) k.station_is ∙ l ∙ sym k.out_is) (ap (λ z. (lens z).back) k.station_is ∙ b ∙ sym k.in_is) t),
     ))

@@ -1,8 +1,8 @@
 use Rattle.std.proofs.Common.{◌≡◌, ℕ, true, sym, subst, ap, ◌∙◌, refl}
-use Rattle.std.specs.Prelude.{is_some}
+use Rattle.std.specs.Prelude.{Bool, is_some}
 use Rattle.task_model.specs.Accounts.{duty_access}
 use Rattle.frame_view.specs.View.{datagram_seen}
-use Rattle.master_side.specs.Shown.{SideShows}
+use Rattle.master_side.specs.Shown.{SideShows, wish_begun}
 use Rattle.master_side.specs.Carried.{Meant}
 use Rattle.master_side.specs.Sent.{visit_gram}
 use Rattle.master_tour.specs.Stands.{StopShows, StandShows, StandMeant, stand_gram, is_open}
@@ -14,14 +14,14 @@ returns-in-Gone-clause-lives g c = λ x more passed made recover spot lens l a b
     let t = c.args.self.now in
     let s = c.args.self.now.side in
     let stood = (subst (λ z. StopShows (λ d a. SideShows (g.H.Hand.shows s.hand x) s.out s.inn s.fresh s.duty d a) recover spot z t.spare l) c.in-Gone.is sh).stood in
-    still_next x g.H.Hand.acknowledged more passed made l _ (ap is_open stood) (sh, λ u. absurd (cc))
+    still_next x g.H.Hand.acknowledged more passed made l _ _ refl (ap is_open stood) (sh, λ u. absurd (cc))
 
 pub returns-then-access_len-room-clause-lives : goal.returns-then-access_len-room-clause-lives
 returns-then-access_len-room-clause-lives g c = λ x more passed made recover spot lens l a b sp w sh.
     let t = c.args.self.now in
     let s = c.args.self.now.side in
     let stood = (subst (λ z. StopShows (λ d a. SideShows (g.H.Hand.shows s.hand x) s.out s.inn s.fresh s.duty d a) recover spot z t.spare l) c.in-Opening.is sh).stood in
-    still_next x g.H.Hand.acknowledged more passed made l _ (ap is_open stood.stand) (sh, λ u. absurd (cc))
+    still_next x g.H.Hand.acknowledged more passed made l _ _ refl (ap is_open stood.stand) (sh, λ u. absurd (cc))
 
 pub returns-else-access_len-room-clause-lives : goal.returns-else-access_len-room-clause-lives
 returns-else-access_len-room-clause-lives g c = λ x more passed made recover spot lens l a b sp w sh.
@@ -34,7 +34,7 @@ returns-else-access_len-room-clause-lives g c = λ x more passed made recover sp
     let first = subst (λ z. StopShows (λ d a. SideShows (g.H.Hand.shows z.hand x) z.out z.inn z.fresh z.duty d a) recover spot t.stand t.spare l) (sym k.side) sh in
     let second = subst (λ z. StopShows (λ d a. SideShows (g.H.Hand.shows n.side.hand x) n.side.out n.side.inn n.side.fresh n.side.duty d a) recover spot z t.spare l) (sym k.stand) first in
     let third = subst (λ z. StopShows (λ d a. SideShows (g.H.Hand.shows n.side.hand x) n.side.out n.side.inn n.side.fresh n.side.duty d a) recover spot n.stand z l) (sym k.kept.2) second in
-    still_next x g.H.Hand.acknowledged more passed made l _ (ap is_open stood.stand)
+    still_next x g.H.Hand.acknowledged more passed made l _ _ refl (ap is_open stood.stand)
     (third, λ u. subst (λ z. StandMeant lens n.side.station c.args.index n.side.carried z l (datagram_seen lens (stand_gram n.side.station c.args.index z n.side.out n.side.inn n.side.duty n.side.carried))) (sym (k.stand ∙ c.in-Opening.is)) refl)
 
 pub returns-in-Open-clause-lives : goal.returns-in-Open-clause-lives
@@ -45,9 +45,9 @@ returns-in-Open-clause-lives g c = λ x more passed made recover spot lens l a b
     let k = c.open_visit.ensures in
     let is = k.stand ∙ c.in-Open.is in
     let stood = (subst (λ z. StopShows (λ d a. SideShows (g.H.Hand.shows s.hand x) s.out s.inn s.fresh s.duty d a) recover spot z t.spare l) c.in-Open.is sh).stood in
-    open_next x g.H.Hand.acknowledged more passed made l (is_some s.passing)
+    open_next x g.H.Hand.acknowledged more passed made l (is_some s.passing) _
     (λ e r. SideShows (g.H.Hand.shows n.side.hand x) n.side.out n.side.inn n.side.fresh n.side.duty e r × (n.under ≡ true → Meant s.station n.side.carried e.halves (duty_access r.hand) (datagram_seen lens (visit_gram n.side.station c.args.index n.side.out n.side.inn n.side.duty n.side.carried)))) _
-    stood.0 w (k.shown x made lens l.era.side l.era.account a b stood.1) (λ p. k.waits p x lens l.era.side l.era.account a b stood.1)
+    stood.0 w (λ p. ap (λ (z : Bool). wish_begun z c.args.wish (g.H.Hand.ready s.hand)) (k.still p)) (k.shown x made lens l.era.side l.era.account a b stood.1) (λ p. k.waits p x lens l.era.side l.era.account a b stood.1)
     (λ era r. (
       record {
         stood = subst (λ z. StandShows (λ d a. SideShows (g.H.Hand.shows n.side.hand x) n.side.out n.side.inn n.side.fresh n.side.duty d a) spot z (record l { era = era })) (sym is) (stood.0, r.0);

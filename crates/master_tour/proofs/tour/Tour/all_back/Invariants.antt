@@ -1,5 +1,5 @@
 use Rattle.std.proofs.Common.{◌≡◌, ℕ, List}
-use Rattle.std.specs.Prelude.{Bool}
+use Rattle.std.specs.Prelude.{Bool, None}
 use Rattle.segment_model.specs.Returned.{Returns}
 use Rattle.segment_model.specs.Record.{News}
 use Rattle.life_model.specs.Lives.{Life, Spot, life_back}
@@ -7,24 +7,18 @@ use Rattle.master_tour.specs.Stands.{StopShows, FollowShows, IsSpot, StandUnder,
 use Rattle.exchange_model.specs.Exchange.{Speech}
 use Rattle.link_mails.specs.Body.{Body}
 use Rattle.segment_model.specs.Slaves.{Datagram}
-use Rattle.segment_model.specs.Seats
-use Rattle.task_model.specs.Accounts.{Account, duty_access, account_back}
 use Rattle.frame_view.specs.Seen.{seen}
 use Rattle.frame_view.specs.View.{Lens}
 use Rattle.master_duty.specs.Reply.{Reply}
 use Rattle.master_side.specs.Shown.{SideShows}
-use Rattle.master_tour.specs.Under.{Under}
 use Rattle.master_tour.specs.Cursor.{IsAtOne}
 use Rattle.master_tour.specs.Walks.{Walked}
-use Rattle.master_tour.specs.declared.stop.Stand.{Stand}
 use Rattle.mailbox_master.specs.Any.{in_area_len}
 use Rattle.master_side.specs.Sent.{SameLink}
 use Rattle.master_tour.specs.Made.{IsSized}
 use Rattle.master_tour.proofs.tour.Tour.all_back.Given as goal
 
 abbrev pub invariant-loop-i : goal.invariant-loop-i
-invariant-loop-i g l = IsAtOne l.octets l.cursor.number l.cursor.part × Walked (λ s t. (s.stand ≡ Stand.Open → (x : Speech Body g.H.Hand.Asked Reply) (frame : ℕ) (lens : ℕ → Lens) (back : List (Datagram Body)) (d : Seats.Side Body g.H.Hand.Asked Reply) (a : Account g.H.Hand.Asked Reply) → back ≡ seen lens l.octets →
-    SideShows (g.H.Hand.shows s.side.hand x) s.side.out s.side.inn s.side.fresh s.side.duty d a → Under s.side.station s.at s.under s.side.carried d.halves (duty_access a.hand) back →
-    SideShows (g.H.Hand.shows t.side.hand x) t.side.out t.side.inn t.side.fresh t.side.duty (Seats.side_back x frame s.side.station back d) (account_back s.side.station frame a back)) × (t.side.station ≡ s.side.station)) l.i l.initial.self.stops.items l.self.stops.items × Walked (λ s t. ((lens : ℕ → Lens) (sent : List (Datagram Body)) → Returns sent (seen lens l.octets) → (x : Speech Body g.H.Hand.Asked Reply) (more : Body → Bool) (passed : g.H.Hand.Asked → Bool) (number recover : ℕ) (spot : Spot) (ns : List (News Body)) (k : Life Body g.H.Hand.Asked Reply) →
+invariant-loop-i g l = IsAtOne l.octets l.cursor.number l.cursor.part × Walked (λ s t. (g.H.Hand.script t.side.hand ≡ g.H.Hand.script s.side.hand) × (s.side.passing ≡ None → t.side.passing ≡ None)) l.i l.initial.self.stops.items l.self.stops.items × Walked (λ s t. ((lens : ℕ → Lens) (sent : List (Datagram Body)) → Returns sent (seen lens l.octets) → (x : Speech Body g.H.Hand.Asked Reply) (more : Body → Bool) (passed : g.H.Hand.Asked → Bool) (number recover : ℕ) (spot : Spot) (ns : List (News Body)) (k : Life Body g.H.Hand.Asked Reply) →
     IsSpot spot s.side.station s.place s.start → StandUnder lens s.side.station s.at s.under s.side.carried s.stand k sent → StopShows (λ d a. SideShows (g.H.Hand.shows s.side.hand x) s.side.out s.side.inn s.side.fresh s.side.duty d a) recover spot s.stand s.spare k →
     FollowShows (λ d a. SideShows (g.H.Hand.shows t.side.hand x) t.side.out t.side.inn t.side.fresh t.side.duty d a) recover spot t.stand t.spare t.news k (life_back x g.H.Hand.acknowledged more passed number spot ns (seen lens l.octets) (came_at s.under s.at (seen lens l.octets)) k k.stand)) × (t.place ≡ s.place) × (t.start ≡ s.start)) l.i l.initial.self.stops.items l.self.stops.items × Walked (λ s t. SameLink s.side.out s.side.inn s.side.station s.side.area t.side.out t.side.inn t.side.station t.side.area × (IsSized s.stand s.side.out.len (in_area_len s.side.inn) → IsSized t.stand t.side.out.len (in_area_len t.side.inn))) l.i l.initial.self.stops.items l.self.stops.items × (l.self.again ≡ l.initial.self.again) × (l.self.visit ≡ l.initial.self.visit) × (l.self.opened ≡ l.initial.self.opened) × (l.self.last ≡ l.initial.self.last) × (l.self.missed ≡ l.initial.self.missed) × (l.self.retry ≡ l.initial.self.retry)

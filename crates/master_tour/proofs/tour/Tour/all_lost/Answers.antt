@@ -1,20 +1,14 @@
 use Rattle.std.proofs.Common.{◌≡◌, ◌+◌, List, ℕ, sym, ◌∙◌, arith, add-one}
-use Rattle.std.specs.Prelude.{◌&&◌, Bool}
+use Rattle.std.specs.Prelude.{◌&&◌, Bool, None}
 use Rattle.segment_model.specs.Record.{News}
 use Rattle.life_model.specs.Lives.{Life, Spot, life_lost}
 use Rattle.master_tour.specs.Stands.{StopShows, FollowShows, IsSpot, StandUnder, given_where}
-use Rattle.std.specs.Prelude.{false}
 use Rattle.frame_view.specs.View.{Lens}
 use Rattle.frame_view.specs.Seen.{seen}
 use Rattle.exchange_model.specs.Exchange.{Speech}
 use Rattle.link_mails.specs.Body.{Body}
-use Rattle.segment_model.specs.Slaves.{Datagram}
-use Rattle.segment_model.specs.Seats
-use Rattle.task_model.specs.Accounts.{Account, duty_access}
 use Rattle.master_duty.specs.Reply.{Reply}
 use Rattle.master_side.specs.Shown.{SideShows}
-use Rattle.master_tour.specs.Under.{Under}
-use Rattle.master_tour.specs.declared.stop.Stand.{Stand}
 use Rattle.master_tour.proofs.Walks.{walk_on, walk_over, walked_length}
 use Rattle.mailbox_master.specs.Any.{in_area_len}
 use Rattle.master_side.specs.Sent.{SameLink}
@@ -25,10 +19,8 @@ pub loop-i-preserved : goal.loop-i-preserved
 loop-i-preserved g c =
     let len = c.len-i-end.ensures in
     let test = c.loop-i-test.true in (
-      walk_on (λ s t. (c.args.gives ≡ false → s.stand ≡ Stand.Open → (x : Speech Body g.H.Hand.Asked Reply) (sent : List (Datagram Body)) (d : Seats.Side Body g.H.Hand.Asked Reply) (a : Account g.H.Hand.Asked Reply) →
-          SideShows (g.H.Hand.shows s.side.hand x) s.side.out s.side.inn s.side.fresh s.side.duty d a → Under s.side.station s.at s.under s.side.carried d.halves (duty_access a.hand) sent →
-          SideShows (g.H.Hand.shows t.side.hand x) t.side.out t.side.inn t.side.fresh t.side.duty (Seats.side_lost s.side.station sent d) a) × (t.side.station ≡ s.side.station))
-          c.loop-i.i (c.loop-i.i + 1) c.args.self.now.stops.items c.loop-i.self.stops.items c.index_mut.result.now c.lost_for.new.self (add-one c.loop-i.i) c.loop-i.invariant.0 (let e = len ∙ c.args.self.now.stops.ok.0 in omega (arith, test, e)) c.index_mut.ensures.value (c.lost_for.ensures.shown, c.lost_for.ensures.station),
+      walk_on (λ s t. (g.H.Hand.script t.side.hand ≡ g.H.Hand.script s.side.hand) × (s.side.passing ≡ None → t.side.passing ≡ None))
+          c.loop-i.i (c.loop-i.i + 1) c.args.self.now.stops.items c.loop-i.self.stops.items c.index_mut.result.now c.lost_for.new.self (add-one c.loop-i.i) c.loop-i.invariant.0 (let e = len ∙ c.args.self.now.stops.ok.0 in omega (arith, test, e)) c.index_mut.ensures.value (c.lost_for.ensures.script, c.lost_for.ensures.unpassed),
       walk_on (λ s t. ((lens : ℕ → Lens) (octets : List ℕ) → (x : Speech Body g.H.Hand.Asked Reply) (more : Body → Bool) (passed : g.H.Hand.Asked → Bool) (number recover : ℕ) (spot : Spot) (ns : List (News Body)) (k : Life Body g.H.Hand.Asked Reply) →
           IsSpot spot s.side.station s.place s.start → StandUnder lens s.side.station s.at s.under s.side.carried s.stand k (seen lens octets) → StopShows (λ d a. SideShows (g.H.Hand.shows s.side.hand x) s.side.out s.side.inn s.side.fresh s.side.duty d a) recover spot s.stand s.spare k →
           FollowShows (λ d a. SideShows (g.H.Hand.shows t.side.hand x) t.side.out t.side.inn t.side.fresh t.side.duty d a) recover spot t.stand t.spare t.news k (given_where (c.args.gives && s.under) recover spot number (life_lost x g.H.Hand.acknowledged more passed spot ns (seen lens octets) k k.stand))) × (t.place ≡ s.place) × (t.start ≡ s.start))
@@ -48,9 +40,7 @@ returns g c =
     let len = c.len-i-end.ensures in
     let test = c.loop-i-test.false in
     record {
-      each = walk_over (λ s t. (c.args.gives ≡ false → s.stand ≡ Stand.Open → (x : Speech Body g.H.Hand.Asked Reply) (sent : List (Datagram Body)) (d : Seats.Side Body g.H.Hand.Asked Reply) (a : Account g.H.Hand.Asked Reply) →
-          SideShows (g.H.Hand.shows s.side.hand x) s.side.out s.side.inn s.side.fresh s.side.duty d a → Under s.side.station s.at s.under s.side.carried d.halves (duty_access a.hand) sent →
-          SideShows (g.H.Hand.shows t.side.hand x) t.side.out t.side.inn t.side.fresh t.side.duty (Seats.side_lost s.side.station sent d) a) × (t.side.station ≡ s.side.station)) c.loop-i.i c.args.self.now.stops.items c.loop-i.self.stops.items (let e = len ∙ c.args.self.now.stops.ok.0 in omega (arith, test, e)) c.loop-i.invariant.0;
+      stays = walk_over (λ s t. (g.H.Hand.script t.side.hand ≡ g.H.Hand.script s.side.hand) × (s.side.passing ≡ None → t.side.passing ≡ None)) c.loop-i.i c.args.self.now.stops.items c.loop-i.self.stops.items (let e = len ∙ c.args.self.now.stops.ok.0 in omega (arith, test, e)) c.loop-i.invariant.0;
       lives = walk_over (λ s t. ((lens : ℕ → Lens) (octets : List ℕ) → (x : Speech Body g.H.Hand.Asked Reply) (more : Body → Bool) (passed : g.H.Hand.Asked → Bool) (number recover : ℕ) (spot : Spot) (ns : List (News Body)) (k : Life Body g.H.Hand.Asked Reply) →
           IsSpot spot s.side.station s.place s.start → StandUnder lens s.side.station s.at s.under s.side.carried s.stand k (seen lens octets) → StopShows (λ d a. SideShows (g.H.Hand.shows s.side.hand x) s.side.out s.side.inn s.side.fresh s.side.duty d a) recover spot s.stand s.spare k →
           FollowShows (λ d a. SideShows (g.H.Hand.shows t.side.hand x) t.side.out t.side.inn t.side.fresh t.side.duty d a) recover spot t.stand t.spare t.news k (given_where (c.args.gives && s.under) recover spot number (life_lost x g.H.Hand.acknowledged more passed spot ns (seen lens octets) k k.stand))) × (t.place ≡ s.place) × (t.start ≡ s.start)) c.loop-i.i c.args.self.now.stops.items c.loop-i.self.stops.items (let e = len ∙ c.args.self.now.stops.ok.0 in omega (arith, test, e)) c.loop-i.invariant.1;

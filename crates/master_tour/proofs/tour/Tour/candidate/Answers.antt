@@ -1,4 +1,4 @@
-use Rattle.std.proofs.Common.{◌≡◌, length, sym, ◌∙◌, arith}
+use Rattle.std.proofs.Common.{length, ◌∙◌, arith}
 use Rattle.master_tour.proofs.Orders.{again_next, first_of, round_of}
 use Rattle.master_tour.proofs.tour.Tour.candidate.Goals as goal
 

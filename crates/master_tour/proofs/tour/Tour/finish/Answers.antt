@@ -1,15 +1,12 @@
-use Rattle.std.proofs.Common.{◌≡◌, ℕ, ◌==◌, ap, length}
-use Rattle.std.specs.Prelude.{◌≤◌, not}
-use Rattle.mailbox_master.specs.Any.{in_half_of}
-use Rattle.segment_model.specs.Seats.{Side}
+use Rattle.std.proofs.Common.{ap, length}
 use Rattle.master_side.specs.Shown.{SideShows}
 use Rattle.master_tour.proofs.Sents.{stop_sent, all_sent, some_more}
 use Rattle.master_tour.proofs.tour.Tour.finish.Goals as goal
 
 pub returns-clause-made : goal.returns-clause-made
-returns-clause-made g c = λ r x more passed made recover index lens left lives f.
+returns-clause-made g c = λ r x more passed made recover index lens left lives begun f.
     let all = all_sent _ _
-    (λ i a s m. stop_sent x g.H.Hand.acknowledged more passed made lens recover index (λ d k. SideShows (g.H.Hand.shows s.side.hand x) s.side.out s.side.inn s.side.fresh s.side.duty d k) s.side.station s.place s.start s.stand s.spare s.side.out s.side.inn s.side.duty s.side.carried s.side.passing s.under s.at left f.datagrams i a
+    (λ i a s m. stop_sent (x a.spot) g.H.Hand.acknowledged more passed made lens recover index (λ d k. SideShows (g.H.Hand.shows s.side.hand (x a.spot)) s.side.out s.side.inn s.side.fresh s.side.duty d k) s.side.station s.place s.start s.stand s.spare s.side.out s.side.inn s.side.duty s.side.carried s.side.passing s.under s.at left begun f.datagrams i a
     (λ d k h. ap (λ z. z.inn) h.halves) s.side.out_is s.side.in_is s.named m)
     0 lives c.args.self.now.stops.items f.each in
     record {

@@ -9,10 +9,8 @@ use Rattle.master_duty.specs.Reply.{Reply}
 use Rattle.master_side.specs.Shown.{SideShows}
 use Rattle.master_tour.specs.Walks.{EachPair}
 use Rattle.master_tour.specs.Stands.{StopShows, FollowShows, IsSpot, StandUnder, came_at}
-use Rattle.std.proofs.Common.{sym, ap, refl}
-use Rattle.task_model.specs.Accounts.{duty_access}
+use Rattle.std.proofs.Common.{sym, refl}
 use Rattle.frame_view.specs.Seen.{seen}
-use Rattle.master_tour.proofs.Unders.{under_back}
 use Rattle.master_tour.proofs.Cursors.{seen_none}
 use Rattle.master_tour.proofs.Frames.{none_returns}
 use Rattle.master_tour.proofs.Walks.{each_map, each_same}
@@ -20,11 +18,6 @@ use Rattle.master_tour.proofs.tour.Tour.hear.Goals as goal
 
 pub returns-then-is_none : goal.returns-then-is_none
 returns-then-is_none g c = record {
-  each = λ lens sent a n.
-      let back = seen lens c.args.frame.now.items in
-      let is = ap (seen lens) (sym c.as_slice-octets.ensures.value) in
-      each_map _ _ c.args.self.now.stops.items c.all_back.new.self.stops.items
-      (λ s t p. (λ o x number d k h u. p.0 o x number lens back d k is h (under_back s.side.station s.at s.under s.side.carried d.halves (duty_access k.hand) sent back a u), p.1)) c.all_back.ensures.each;
   lives = λ lens sent a n.
       subst (λ octets. EachPair (λ s t. ((x : Speech Body g.H.Hand.Asked Reply) (more : Body → Bool) (passed : g.H.Hand.Asked → Bool) (number recover : ℕ) (spot : Spot) (ns : List (News Body)) (k : Life Body g.H.Hand.Asked Reply) →
       IsSpot spot s.side.station s.place s.start → StandUnder lens s.side.station s.at s.under s.side.carried s.stand k sent → StopShows (λ d a. SideShows (g.H.Hand.shows s.side.hand x) s.side.out s.side.inn s.side.fresh s.side.duty d a) recover spot s.stand s.spare k →
@@ -33,15 +26,15 @@ returns-then-is_none g c = record {
   long = c.all_back.ensures.long;
   tour = c.all_back.ensures.tour;
   kept = c.all_back.ensures.kept;
+  stays = c.all_back.ensures.stays;
 }
 
 pub returns-else-is_none : goal.returns-else-is_none
 returns-else-is_none g c = record {
-  each = λ lens sent a n.
-      absurd (none_returns sent (seen lens c.args.frame.now.items) n a (seen_none lens c.args.frame.now.items c.as_slice-octets.result.now c.fault.result c.as_slice-octets.ensures.value c.fault.ensures.fault c.if-is_none.ensures));
   lives = λ lens sent a n.
       absurd (none_returns sent (seen lens c.args.frame.now.items) n a (seen_none lens c.args.frame.now.items c.as_slice-octets.result.now c.fault.result c.as_slice-octets.ensures.value c.fault.ensures.fault c.if-is_none.ensures));
   long = refl;
   tour = (refl, refl, refl, refl, refl, refl);
   kept = each_same _ c.args.self.now.stops.items (λ s. (record { out_is = refl; in_is = refl; station_is = refl; area_is = refl }, λ h. h));
+  stays = each_same _ c.args.self.now.stops.items (λ s. (refl, λ h. h));
 }

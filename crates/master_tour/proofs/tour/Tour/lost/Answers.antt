@@ -1,12 +1,7 @@
-use Rattle.std.proofs.Common.{ap, lt-ltb}
-use Rattle.std.specs.Prelude.{not}
 use Rattle.mailbox_master.specs.Any.{in_area_len}
 use Rattle.master_tour.proofs.Mades.{planned_as, all_behind}
 use Rattle.master_tour.proofs.Walks.{each_map}
 use Rattle.master_tour.proofs.tour.Tour.lost.Goals as goal
-
-pub returns-then-comes_again-clause-each : goal.returns-then-comes_again-clause-each
-returns-then-comes_again-clause-each g c = λ m. each_map _ _ c.args.self.now.stops.items c.all_lost.new.self.stops.items (λ s t p. (p.0 (ap not (lt-ltb c.args.self.now.missed c.args.self.now.retry m)), p.1)) c.all_lost.ensures.each
 
 pub returns-then-comes_again-clause-lives : goal.returns-then-comes_again-clause-lives
 returns-then-comes_again-clause-lives g c = λ lens octets. each_map _ _ c.args.self.now.stops.items c.all_lost.new.self.stops.items (λ s t p. ((λ x more passed number recover spot ns k i u h. p.0 lens octets x more passed number recover spot ns k i u h), p.1, p.2)) c.all_lost.ensures.lives
@@ -19,7 +14,7 @@ returns-then-comes_again-clause-shown g c = λ lens octets x more passed number 
     all_behind _ _ _ _
     (λ a s t p r u ns. record {
       planned = planned_as lens a.spot s.side.station t.side.station s.place t.place s.start t.start s.stand t.stand s.side.out.len t.side.out.len (in_area_len s.side.inn) (in_area_len t.side.inn) u.0.station_is r.1 r.2 u.0.out_is u.0.in_is u.1 p.0.planned;
-      shown = (r.0 lens octets x more passed number recover a.spot ns a.life p.0.planned.stands p.1 p.0.shown).shown;
+      shown = (r.0 lens octets (x a.spot) more passed number recover a.spot ns a.life p.0.planned.stands p.1 p.0.shown).shown;
     })
     lives c.args.self.now.stops.items c.all_lost.new.self.stops.items h c.all_lost.ensures.lives c.all_lost.ensures.kept
 
@@ -28,6 +23,6 @@ returns-clause-shown g c = λ lens octets x more passed number recover lives h.
     all_behind _ _ _ _
     (λ a s t p r u ns. record {
       planned = planned_as lens a.spot s.side.station t.side.station s.place t.place s.start t.start s.stand t.stand s.side.out.len t.side.out.len (in_area_len s.side.inn) (in_area_len t.side.inn) u.0.station_is r.1 r.2 u.0.out_is u.0.in_is u.1 p.0.planned;
-      shown = (r.0 lens octets x more passed number recover a.spot ns a.life p.0.planned.stands p.1 p.0.shown).shown;
+      shown = (r.0 lens octets (x a.spot) more passed number recover a.spot ns a.life p.0.planned.stands p.1 p.0.shown).shown;
     })
     lives c.args.self.now.stops.items c.all_lost.new.self.stops.items h c.all_lost.ensures.lives c.all_lost.ensures.kept

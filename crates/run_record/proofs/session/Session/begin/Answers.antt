@@ -1,10 +1,12 @@
-use Rattle.std.proofs.Common.{length, sym, ap, ◌∙◌, arith}
-use Rattle.std.proofs.lemmas.List.{length-map}
+use Rattle.std.proofs.Common.{[], length, sym, ap, ◌∙◌, arith}
+use Rattle.std.proofs.lemmas.List.{length-map, length-replicate}
 use Rattle.segment_ring.specs.Ring.{RingState}
 use Rattle.slave_steps.specs.Node.{Node}
 use Rattle.slave_server.specs.Spec.{node_of}
 use Rattle.slave_server.specs.declared.server.SlaveServer.{SlaveServer}
+use Rattle.run_record.specs.Session.{home_of}
 use Rattle.run_record.proofs.Firsts.{length_first}
+use Rattle.run_record.proofs.Leads.{begins}
 use Rattle.run_record.proofs.session.Session.begin.Goals as goal
 
 pub invariant_of-result : goal.invariant_of-result
@@ -17,4 +19,10 @@ invariant_of-result c =
       c.budget_of.ensures.most,
       notes ∙ sym nodes,
       omega (arith, nodes, few),
+      ap length c.in_ok-new-2.ensures.homes ∙ length-map c.args.plan.now.slaves home_of ∙ sym nodes,
+      ap length c.in_ok-new-2.ensures.asked ∙ length-replicate (length c.args.plan.now.slaves) [] ∙ sym nodes,
+      c.in_ok-new.ensures.posts ∙ sym nodes,
     )
+
+pub returns-clause-leads : goal.returns-clause-leads
+returns-clause-leads c = begins c.args.plan.now c.in_ok-new.value c.in_ok-new.ensures.leads

@@ -1,12 +1,16 @@
-use Rattle.std.proofs.Common.{◌≡◌, ℕ, List, ◌+◌, ◌++◌, ◌∷◌, [], length, ap, ◌∙◌, subst, arith}
+use Rattle.std.proofs.Common.{◌≡◌, refl, ℕ, List, ◌+◌, ◌++◌, ◌∷◌, [], length, vec_len, ap, ◌∙◌, subst, arith}
 use Rattle.segment_ring.specs.Ring.{RingState}
 use Rattle.slave_steps.specs.Node.{Node}
 use Rattle.slave_server.specs.declared.server.SlaveServer.{SlaveServer}
 use Rattle.run_book.specs.declared.book.SentFrame.{SentFrame}
+use Rattle.master_node.specs.declared.node.MasterNode.{MasterNode}
+use Rattle.run_record.specs.Led.{exchanged, LeadsOn}
+use Rattle.run_record.proofs.Gones.{all_gone}
+use Rattle.run_record.proofs.Leads.{leads_on, returned}
 use Rattle.run_record.specs.Replay.{behind, IsRecorded}
 use Rattle.run_record.specs.Session.{SessionState, SameFrames, KeepsRest}
 use Rattle.run_record.proofs.Kept.{rest_more}
-use Rattle.run_record.proofs.Steps.{any_ok, any_err, holds_on, same_ports, no_frame, one_frame}
+use Rattle.run_record.proofs.Steps.{any_ok, any_err, holds_on, no_frame, one_frame}
 use Rattle.run_record.proofs.session.Session.step.Goals as goal
 
 pub invariant_of-self-in_err-put_frame : goal.invariant_of-self-in_err-put_frame
@@ -14,8 +18,8 @@ invariant_of-self-in_err-put_frame c =
     let n : c.self.inside.ring.number ≡ c.args.self.now.ring.number = ap (λ (s : SessionState). s.ring.number) c.self.view_is in
     let b : c.self.inside.budget ≡ c.args.self.now.budget = ap (λ (s : SessionState). s.budget) c.self.view_is in
     let h = c.requires in
-    holds_on c.self.inside.number c.self.inside.budget c.self.inside.log.notes c.note.new.self.notes c.self.inside.ring c.exchange-fate.new.self c.next.new.into.items
-    c.self.invariant (omega (arith, n, b, h)) c.note.ensures.slaves.notes c.exchange-fate.ensures.wire
+    holds_on c.self.inside.number c.self.inside.budget c.self.inside.log.notes c.note.new.self.notes c.self.inside.ring c.exchange-fate.new.self c.next.new.into.items (length c.self.inside.log.homes) (length c.self.inside.log.asked) (vec_len c.self.inside.master.posts) (length c.note.new.self.homes) (length c.note.new.self.asked) (vec_len c.next.new.self.posts)
+    c.self.invariant (omega (arith, n, b, h)) c.note.ensures.slaves.notes c.exchange-fate.ensures.wire (ap length c.note.ensures.slaves.homes) (ap length c.note.ensures.slaves.asked) c.next.ensures.posts
 
 pub returns-in_err-put_frame-clause-err : goal.returns-in_err-put_frame-clause-err
 returns-in_err-put_frame-clause-err c =
@@ -29,8 +33,8 @@ invariant_of-self-2 c =
     let n : c.self.inside.ring.number ≡ c.args.self.now.ring.number = ap (λ (s : SessionState). s.ring.number) c.self.view_is in
     let b : c.self.inside.budget ≡ c.args.self.now.budget = ap (λ (s : SessionState). s.budget) c.self.view_is in
     let h = c.requires in
-    holds_on c.self.inside.number c.self.inside.budget c.self.inside.log.notes c.note.new.self.notes c.self.inside.ring c.exchange-fate.new.self c.next.new.into.items
-    c.self.invariant (omega (arith, n, b, h)) c.note.ensures.slaves.notes c.exchange-fate.ensures.wire
+    holds_on c.self.inside.number c.self.inside.budget c.self.inside.log.notes c.note-2.new.self.notes c.self.inside.ring c.exchange-fate.new.self c.next.new.into.items (length c.self.inside.log.homes) (length c.self.inside.log.asked) (vec_len c.self.inside.master.posts) (length c.note-2.new.self.homes) (length c.note-2.new.self.asked) (vec_len c.tell.new.master.posts)
+    c.self.invariant (omega (arith, n, b, h)) (c.note-2.ensures.slaves.notes ∙ c.note.ensures.slaves.notes) c.exchange-fate.ensures.wire (ap length (c.note-2.ensures.slaves.homes ∙ c.note.ensures.slaves.homes)) (ap length (c.note-2.ensures.slaves.asked ∙ c.note.ensures.slaves.asked)) (c.tell.ensures.posts ∙ c.next.ensures.posts)
 
 pub returns-clause-ok : goal.returns-clause-ok
 returns-clause-ok c =
@@ -38,21 +42,26 @@ returns-clause-ok c =
     let ports = 1 + length c.self.inside.log.ports in
     let before : ports ≡ c.args.self.now.ports = ap (λ (s : SessionState). s.ports) c.self.view_is in
     let ring : c.self.inside.ring ≡ c.args.self.now.ring = ap (λ (s : SessionState). s.ring) c.self.view_is in
-    let told = c.self-2.view_is ∙ c.tell.ensures in
-    let same = same_ports c.self.inside.log.ports c.note.new.self.ports c.self-2.inside.log.ports (ap (λ (s : SessionState). s.ports) told) c.note.ensures.slaves.ports in
+    let same : 1 + length c.note.new.self.ports ≡ ports = ap (λ (l : List ℕ). 1 + length l) c.note.ensures.slaves.ports in
     any_ok c.note-2.result (
       f,
       record {
         put = c.note-2.ensures.frames.frames ∙ c.in_ok-put_frame.ensures.ok ∙ ap (λ fs. fs ++ f ∷ []) c.note.ensures.frames.frames;
         recorded = subst (λ r. IsRecorded r f) ring (record { fate = c.exchange-fate.ensures.fate; back = c.exchange-fate.ensures.back });
         short = record { sent = c.put_frame.ensures.sent_fits; back = c.put_frame.ensures.back_fits };
-        ring = ap (λ (s : SessionState). s.ring) told ∙ c.exchange-fate.ensures.wire ∙ ap (λ (r : RingState (Node SlaveServer)). behind r c.next.new.into.items) ring;
+        ring = c.exchange-fate.ensures.wire ∙ ap (λ (r : RingState (Node SlaveServer)). behind r c.next.new.into.items) ring;
+        homes = c.note-2.ensures.slaves.homes ∙ c.note.ensures.slaves.homes ∙ ap (λ (s : SessionState). s.homes) c.self.view_is;
+        asked = c.note-2.ensures.slaves.asked ∙ c.note.ensures.slaves.asked ∙ ap (λ (s : SessionState). s.asked) c.self.view_is;
         ports = ap (λ (l : List ℕ). 1 + length l) c.note-2.ensures.slaves.ports ∙ same ∙ before;
-        recover = c.note-2.ensures.slaves.recover ∙ ap (λ (s : SessionState). s.recover) told ∙ c.note.ensures.slaves.recover ∙ ap (λ (s : SessionState). s.recover) c.self.view_is;
-        budget = ap (λ (s : SessionState). s.budget) told ∙ ap (λ (s : SessionState). s.budget) c.self.view_is;
-        serving = ap (λ (s : SessionState). s.serving) told ∙ ap (λ (s : SessionState). s.serving) c.self.view_is;
+        recover = c.note-2.ensures.slaves.recover ∙ c.note.ensures.slaves.recover ∙ ap (λ (s : SessionState). s.recover) c.self.view_is;
+        budget = ap (λ (s : SessionState). s.budget) c.self.view_is;
+        serving = ap (λ (s : SessionState). s.serving) c.self.view_is;
         rest = subst (λ (n : ℕ). KeepsRest n c.args.book.now c.note-2.new.book) before
             (rest_more ports c.note.ensures.frames.rest (rest_more ports (c.put_frame.ensures.rest ports) (subst (λ (n : ℕ). KeepsRest n c.put_frame.new.book c.note-2.new.book) same c.note-2.ensures.frames.rest)));
+        leads = subst (λ (m : MasterNode). LeadsOn m c.tell.new.master f) (ap (λ (s : SessionState). s.master) c.self.view_is)
+            (λ plan fs l. leads_on c.self.inside.master c.next.new.self c.tell.new.master (exchanged f) c.next.result (λ e lens recover retry missed as' shown. all_gone lens recover as' c.self.inside.master.tour.stops.items shown.each (c.next.ensures.idle.0 e)) c.next.ensures.led
+            (λ lens recover retry missed number as' us frame under. c.tell.ensures.leads lens recover retry missed number us (exchanged f) refl refl under
+            (λ pass. returned lens c.self.inside.ring (exchanged f) number as' us c.exchange-fate.ensures.fate c.exchange-fate.ensures.back frame pass)) plan fs l);
       },
     )
 
@@ -62,10 +71,14 @@ returns-clause-err c =
     let ports = 1 + length c.self.inside.log.ports in
     let before : ports ≡ c.args.self.now.ports = ap (λ (s : SessionState). s.ports) c.self.view_is in
     let ring : c.self.inside.ring ≡ c.args.self.now.ring = ap (λ (s : SessionState). s.ring) c.self.view_is in
-    let told = c.self-2.view_is ∙ c.tell.ensures in
-    let same = same_ports c.self.inside.log.ports c.note.new.self.ports c.self-2.inside.log.ports (ap (λ (s : SessionState). s.ports) told) c.note.ensures.slaves.ports in
+    let same : 1 + length c.note.new.self.ports ≡ ports = ap (λ (l : List ℕ). 1 + length l) c.note.ensures.slaves.ports in
     any_err c.note-2.result
     (one_frame c.args.self.now ports c.args.book.now c.note.new.book c.put_frame.new.book c.note-2.new.book f before c.note.ensures.frames c.in_ok-put_frame.ensures.ok
     (c.put_frame.ensures.rest ports) (subst (λ (n : ℕ). SameFrames n c.put_frame.new.book c.note-2.new.book) same c.note-2.ensures.frames)
     (subst (λ r. IsRecorded r f) ring (record { fate = c.exchange-fate.ensures.fate; back = c.exchange-fate.ensures.back }))
-    (record { sent = c.put_frame.ensures.sent_fits; back = c.put_frame.ensures.back_fits }))
+    (record { sent = c.put_frame.ensures.sent_fits; back = c.put_frame.ensures.back_fits })
+    c.tell.new.master
+    (subst (λ (m : MasterNode). LeadsOn m c.tell.new.master f) (ap (λ (s : SessionState). s.master) c.self.view_is)
+    (λ plan fs l. leads_on c.self.inside.master c.next.new.self c.tell.new.master (exchanged f) c.next.result (λ e lens recover retry missed as' shown. all_gone lens recover as' c.self.inside.master.tour.stops.items shown.each (c.next.ensures.idle.0 e)) c.next.ensures.led
+    (λ lens recover retry missed number as' us frame under. c.tell.ensures.leads lens recover retry missed number us (exchanged f) refl refl under
+    (λ pass. returned lens c.self.inside.ring (exchanged f) number as' us c.exchange-fate.ensures.fate c.exchange-fate.ensures.back frame pass)) plan fs l)))

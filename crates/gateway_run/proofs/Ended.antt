@@ -1,0 +1,123 @@
+-- A serving at its end.
+use Rattle.std.proofs.Common.{◌≡◌, ℕ, ◌<◌, ◌≤◌, ◌⊎◌, [], List, length, map, Bool, true, false, not, ◌&&◌, nat_lt, refl, sym, ap, ◌∙◌, subst, inl, inr, ltb-true, ltb-false, lt-ltb, arith}
+use Rattle.std.specs.Prelude.{◌≢◌, All, Result, Ok, Err}
+use Rattle.gateway_run.specs.declared.stop.Stop.{Stop}
+use Rattle.gateway_run.specs.declared.stop.Stop.TheVariants as stops
+use Rattle.std.proofs.lemmas.List.Elements.{All-nil}
+use Rattle.ec_outside.specs.Port.{HeardGram}
+use Rattle.segment_plan.specs.declared.plan.Scenario.{Scenario}
+use Rattle.run_book.specs.Book.{IsNew}
+use Rattle.run_book.specs.declared.book.Book.{Book}
+use Rattle.run_book.specs.declared.book.Ending.{Ending}
+use Rattle.run_book.specs.declared.book.Ending.TheVariants as endings
+use Rattle.run_book.specs.declared.book.GramIn.{GramIn}
+use Rattle.run_book.specs.declared.book.GramOut.{GramOut}
+use Rattle.run_record.specs.Session.{SessionState, first_session, session_rows, home_of}
+use Rattle.run_record.specs.Ran.{HasSent, IsUnderway, EndsSo, StopsSo, StopsAs}
+use Rattle.run_record.proofs.Underway.{begun, has_frames, ended}
+use Rattle.gateway_run.specs.Heard.{heard_as, AreHeard, AreSent, AreSentBut, IsOwed, IsRightly}
+use Rattle.gateway_run.specs.Desk.{IsOpen}
+use Rattle.gateway_run.specs.Serving.{Told, IsOn, IsServing, IsFaulted, Goes, can_hear}
+use Rattle.gateway_run.specs.Served.{HasGrams, IsThrough, IsBroken, IsServed}
+use Rattle.gateway_run.specs.declared.turn.Serving.{Serving}
+use Rattle.gateway_run.proofs.Turns.{heard_none, sent_none}
+
+-- before the first turn
+pub first_serving : (plan : Scenario) (count : ℕ) (now : Told) (v : Serving) (b : Book) → v.session ≡ first_session plan count v.session.master → v.desk.requests.items ≡ [] → v.desk.outbox.items ≡ [] → v.count ≡ count → v.over ≡ false → IsNew b → count < 4294967296 →
+    IsServing plan count now now v b
+first_serving plan count now v b session requests outbox counts over new fits = record {
+  on = record {
+    underway = begun plan count v.session b session new;
+    counts = counts;
+    few = let none = ap length new.grams in omega (arith, none);
+    fits = fits;
+    sound = record {
+      requests = subst (All (IsOpen v.desk.gateway (map heard_as b.grams))) (sym requests) (All-nil (IsOpen v.desk.gateway (map heard_as b.grams)));
+      owed = subst (All (IsOwed (map heard_as b.grams))) (sym outbox) (All-nil (IsOwed (map heard_as b.grams)));
+    };
+    answered = subst (All (IsOwed (map heard_as b.grams))) (sym new.replies) (All-nil (IsOwed (map heard_as b.grams)));
+    judged = subst (All (IsRightly (map home_of plan.slaves))) (sym new.grams) (All-nil (IsRightly (map home_of plan.slaves)));
+  };
+  heard = subst (AreHeard now.heard now.heard) (sym new.grams) (heard_none now.heard);
+  sent = subst (AreSent now.sent now.sent) (sym new.replies) (sent_none now.sent);
+  over = λ e. absurd (cc);
+  later = omega arith;
+}
+
+-- nothing more can be heard
+all_heard : (heard count : ℕ) (over : Bool) → (not over && nat_lt heard count) ≡ false → heard ≤ count → (heard ≡ count) ⊎ (over ≡ true)
+all_heard heard count true shut few = inr refl
+all_heard heard count false shut few = inl (let ge = ltb-false heard count shut in omega (arith, ge, few))
+
+over_so : (heard count : ℕ) (over over' : Bool) → (over ≡ true → over' ≡ true) → (heard ≡ count) ⊎ (over ≡ true) → (heard ≡ count) ⊎ (over' ≡ true)
+over_so heard count over over' told (inl all) = inl all
+over_so heard count over over' told (inr is) = inr (told is)
+
+module _ (plan : Scenario) (count : ℕ) (first now : Told) (v : Serving) (b b' : Book) (some : 0 < count) (on : IsOn plan count v b) (heard : AreHeard first.heard now.heard b.grams)
+    (frames : b'.frames ≡ b.frames) (switch : b'.switch ≡ b.switch) (grams : b'.grams ≡ b.grams) (replies : b'.replies ≡ b.replies) (serving : b'.serving ≡ v.session.serving) (many : length v.session.notes ≡ length v.session.ring.nodes) where
+  pub sent_frames : HasSent plan count b'
+  sent_frames = has_frames plan count v.session b b' on.underway frames switch
+
+  has_grams : HasGrams plan count first now b'
+  has_grams = record {
+    serving = serving ∙ on.underway.serves ∙ lt-ltb 0 count some;
+    heard = subst (AreHeard first.heard now.heard) (sym grams) heard;
+    few = subst (λ (l : List GramIn). length l ≤ count) (sym grams) on.few;
+    answered = subst (λ (l : List GramIn). All (IsOwed (map heard_as l)) b'.replies) (sym grams) (subst (All (IsOwed (map heard_as b.grams))) (sym replies) on.answered);
+    judged = subst (All (IsRightly (map home_of plan.slaves))) (sym grams) on.judged;
+  }
+
+  stops_as : (ending : Ending) → b'.slaves ≡ session_rows v.session → StopsSo v.session ending → StopsAs plan count b' ending
+  stops_as ending rows so = ended plan count v.session b b' on.underway frames rows many ending so
+
+  -- a serving whose port failed
+  faulted_so : (result : Ending) → (result ≢ endings.NoMemory → b'.slaves ≡ session_rows v.session) → (result ≡ endings.PortFault) ⊎ (result ≡ endings.NoMemory) → IsBroken first now b' → IsServed plan count first now b' result
+  faulted_so result rows (inl is) broken =
+      let apart : result ≢ endings.NoMemory = λ e. absurd (cc) in
+      subst (IsServed plan count first now b') (sym is) (stops_as endings.PortFault (rows apart) tt, has_grams, broken)
+  faulted_so result rows (inr is) broken = subst (IsServed plan count first now b') (sym is) tt
+
+  -- a serving that came to its end
+  through_so : (ending result : Ending) → (result ≢ endings.NoMemory → b'.slaves ≡ session_rows v.session) → (result ≡ ending) ⊎ (result ≡ endings.NoMemory) → EndsSo v.session ending → (ending ≢ endings.BudgetSpent → (length b'.grams ≡ count) ⊎ (now.over ≡ true)) →
+      AreSent first.sent now.sent b'.replies → IsServed plan count first now b' result
+  through_so ending result rows (inr is) so over sent = subst (IsServed plan count first now b') (sym is) tt
+  through_so endings.Done result rows (inl is) so over sent =
+      let apart : result ≢ endings.NoMemory = λ e. absurd (cc) in
+      subst (IsServed plan count first now b') (sym is) (stops_as endings.Done (rows apart) so, has_grams, record { over = over (λ e. absurd (cc)); sent = sent })
+  through_so endings.GivenUp result rows (inl is) so over sent =
+      let apart : result ≢ endings.NoMemory = λ e. absurd (cc) in
+      subst (IsServed plan count first now b') (sym is) (stops_as endings.GivenUp (rows apart) so, has_grams, record { over = over (λ e. absurd (cc)); sent = sent })
+  through_so endings.BudgetSpent result rows (inl is) so over sent =
+      let apart : result ≢ endings.NoMemory = λ e. absurd (cc) in
+      subst (IsServed plan count first now b') (sym is) (stops_as endings.BudgetSpent (rows apart) so, has_grams, sent)
+  through_so endings.PortFault result rows (inl is) so over sent = absurd so
+  through_so endings.NoMemory result rows (inl is) so over sent = absurd so
+  through_so endings.Unfinished result rows (inl is) so over sent = absurd so
+
+-- what a serving that ended leaves
+pub served : (plan : Scenario) (count : ℕ) (first now : Told) (v : Serving) (b b' : Book) (ending result : Ending) → 0 < count → IsServing plan count first now v b → b'.frames ≡ b.frames → b'.switch ≡ b.switch → b'.grams ≡ b.grams → b'.replies ≡ b.replies →
+    b'.serving ≡ v.session.serving → length v.session.notes ≡ length v.session.ring.nodes → (result ≢ endings.NoMemory → b'.slaves ≡ session_rows v.session) → (result ≡ ending) ⊎ (result ≡ endings.NoMemory) → EndsSo v.session ending →
+    (ending ≢ endings.BudgetSpent → can_hear v b ≡ false) → IsServed plan count first now b' result
+served plan count first now v b b' ending result some h frames switch grams replies serving many rows is so whole =
+    through_so plan count first now v b b' some h.on h.heard frames switch grams replies serving many ending result rows is so
+    (λ apart.
+    let counts = h.on.counts in
+    let few = h.on.few in
+    let same = ap length grams in
+    over_so (length b'.grams) count v.over now.over h.over (all_heard (length b'.grams) count v.over
+    (subst (λ (n : ℕ). (not v.over && nat_lt n count) ≡ false) (sym same) (subst (λ (n : ℕ). (not v.over && nat_lt (length b.grams) n) ≡ false) counts (whole apart))) (omega (arith, same, few))))
+    (subst (AreSent first.sent now.sent) (sym replies) h.sent)
+
+-- what one leaves whose port failed
+pub faulted : (plan : Scenario) (count : ℕ) (first now : Told) (v : Serving) (b b' : Book) (result : Ending) → 0 < count → IsFaulted plan count first now v b → b'.frames ≡ b.frames → b'.switch ≡ b.switch → b'.grams ≡ b.grams → b'.replies ≡ b.replies →
+    b'.serving ≡ v.session.serving → length v.session.notes ≡ length v.session.ring.nodes → (result ≢ endings.NoMemory → b'.slaves ≡ session_rows v.session) → (result ≡ endings.PortFault) ⊎ (result ≡ endings.NoMemory) → IsServed plan count first now b' result
+faulted plan count first now v b b' result some h frames switch grams replies serving many rows is =
+    faulted_so plan count first now v b b' some h.on h.heard frames switch grams replies serving many result rows is
+    (record { rose = h.rose; sent = subst (AreSentBut first.sent now.sent) (sym replies) h.sent })
+
+-- the port failed, or memory ran out
+pub fault_of : (plan : Scenario) (count : ℕ) (first now : Told) (v : Serving) (b : Book) (r : Result Ending Stop) → r ≡ Err stops.PortFault → Goes plan count first now v b r → IsFaulted plan count first now v b
+fault_of plan count first now v b r is g = subst (Goes plan count first now v b) is g
+
+pub cut_of : (plan : Scenario) (count : ℕ) (first now : Told) (v : Serving) (b : Book) (r : Result Ending Stop) → r ≡ Err stops.NoMemory → Goes plan count first now v b r → HasSent plan count b
+cut_of plan count first now v b r is g = subst (Goes plan count first now v b) is g

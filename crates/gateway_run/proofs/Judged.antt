@@ -1,0 +1,171 @@
+-- What becomes of a datagram.
+use Rattle.std.proofs.Common.{◌≡◌, ℕ, zero, suc, ◌+◌, ◌≤◌, List, [], ◌∷◌, ◌++◌, length, Bool, true, false, refl, sym, ap, ◌∙◌, subst, arith, ltb-false, eqb-true}
+use Rattle.std.specs.Prelude.{◌==◌, nat_lt, nat_le, slice_get, Option, Some, None, Result, Ok, Err, IfSome, if◌then◌else◌}
+use Rattle.slab.specs.Slab.{Slab, Updates, get}
+use Rattle.ec_outside.specs.Port.{HeardGram}
+use Rattle.ec_outside.specs.declared.port.Peer.{Peer}
+use Rattle.mailbox_mail.specs.Mail.{error_of}
+use Rattle.mailbox_mail.specs.declared.mail.Mail.{Mail}
+use Rattle.gateway_core.specs.Framing.{request_in}
+use Rattle.gateway_core.specs.Gateway.{place_from, is_passed, judged, judged_at, unfinished_at, error_text, IsAsker, Queues, AnswersMail, Answers}
+use Rattle.gateway_core.specs.declared.asker.Asked.{Asked}
+use Rattle.gateway_core.specs.declared.asker.Asked.TheVariants as asked
+use Rattle.gateway_core.specs.declared.asker.Asker.{Asker}
+use Rattle.gateway_core.specs.declared.framing.GatewayFault.{GatewayFault}
+use Rattle.run_book.specs.declared.book.GramOut.{GramOut}
+use Rattle.run_record.specs.Notes.{stations_of}
+use Rattle.run_record.specs.Session.{SessionState}
+use Rattle.run_record.proofs.Stations.{stands_at_home}
+use Rattle.gateway_run.specs.Heard.{IsOwed, IsPassedOn, IsJudged}
+use Rattle.gateway_run.specs.Desk.{IsOpen}
+use Rattle.gateway_run.specs.declared.desk.Request.{Request}
+use Rattle.gateway_run.proofs.Desks.{get_last}
+
+module _ (old new : Slab Asker) (peer : Peer) (stations : List (Option (ℕ × ℕ))) where
+  -- a datagram that is ignored leaves the requests
+  mail_ignored : (mail : Mail) (j : Result ℕ ℕ) → AnswersMail old new peer mail j asked.Ignored → new ≡ old
+  mail_ignored mail (Ok slave) q = let e = q.queued in absurd (cc)
+  mail_ignored mail (Err detail) e = e.1
+
+  pub ignored : (r : Result Mail GatewayFault) → Answers old new peer stations r asked.Ignored → new ≡ old
+  ignored (Ok mail) a = mail_ignored mail (judged old mail stations) a
+  ignored (Err fault) a = a.1
+
+  abbrev octets_of : Asked → List ℕ
+  octets_of (asked.Error gram) = gram.items
+  octets_of asked.Ignored = []
+  octets_of (asked.Queued key slave mail) = []
+
+  -- one that is answered by an error leaves them too
+  mail_refused : (mail : Mail) (j : Result ℕ ℕ) (octets : List ℕ) → AnswersMail old new peer mail j (asked.Error (record { items = octets })) →
+      (new ≡ old) × (detail : ℕ) × (octets ≡ error_text detail mail)
+  mail_refused mail (Ok slave) octets q = let e = q.queued in absurd (cc)
+  mail_refused mail (Err detail) octets e = (e.1, detail, ap octets_of e.0)
+
+  pub refused : (r : Result Mail GatewayFault) (octets : List ℕ) → Answers old new peer stations r (asked.Error (record { items = octets })) →
+      (new ≡ old) × (mail : Mail) × (detail : ℕ) × (r ≡ Ok mail) × (octets ≡ error_text detail mail)
+  refused (Ok mail) octets a = let e = mail_refused mail (judged old mail stations) octets a in (e.0, mail, e.1, refl, e.2)
+  refused (Err fault) octets a = let e = a.0 in absurd (cc)
+
+  -- one whose mail is passed on
+  pub record IsPut (r : Result Mail GatewayFault) (key slave : ℕ) (mail : Mail) : Type 0 where
+    pub asker : Asker
+    pub request : r ≡ Ok mail
+    pub place : judged old mail stations ≡ Ok slave
+    pub vacant : get old key ≡ None
+    pub updates : Updates old new key (Some asker)
+    pub peer_is : asker.peer ≡ peer
+    pub station_is : asker.station ≡ mail.address
+    pub counter_is : asker.counter ≡ mail.counter
+
+  put_so : (m : Mail) (slave' key' key slave : ℕ) (mail : Mail) (asker : Asker) → asked.Queued key slave mail ≡ asked.Queued key' slave' m → judged old m stations ≡ Ok slave' → get old key' ≡ None →
+      Updates old new key' (Some asker) → IsAsker peer slave' m asker → IsPut (Ok m) key slave mail
+  put_so m slave' key' key slave mail asker same place vacant updates is =
+      let k : key' ≡ key = cc in
+      let sl : slave' ≡ slave = cc in
+      let ml : m ≡ mail = cc in
+      record {
+        asker = asker;
+        request = ap Ok ml;
+        place = subst (λ (x : Mail). judged old x stations ≡ Ok slave) ml (place ∙ ap Ok sl);
+        vacant = subst (λ (n : ℕ). get old n ≡ None) k vacant;
+        updates = subst (λ (n : ℕ). Updates old new n (Some asker)) k updates;
+        peer_is = is.of_peer;
+        station_is = is.of_station ∙ ap (λ (x : Mail). x.address) ml;
+        counter_is = is.of_counter ∙ ap (λ (x : Mail). x.counter) ml;
+      }
+
+  mail_put : (m : Mail) (j : Result ℕ ℕ) (key slave : ℕ) (mail : Mail) → judged old m stations ≡ j → AnswersMail old new peer m j (asked.Queued key slave mail) → IsPut (Ok m) key slave mail
+  mail_put m (Ok slave') key slave mail is q = put_so m slave' q.key key slave mail q.asker q.queued is q.vacant q.updates q.is_asker
+  mail_put m (Err detail) key slave mail is e = let no = e.0 in absurd (cc)
+
+  pub put : (r : Result Mail GatewayFault) (key slave : ℕ) (mail : Mail) → Answers old new peer stations r (asked.Queued key slave mail) → IsPut r key slave mail
+  put (Ok m) key slave mail a = mail_put m (judged old m stations) key slave mail refl a
+  put (Err fault) key slave mail a = let no = a.0 in absurd (cc)
+
+-- the error that answers a datagram, the last of those heard
+pub error_owed : (heard : List HeardGram) (g : HeardGram) (peer : Peer) (octets bytes : List ℕ) (number detail : ℕ) (mail : Mail) → length heard ≡ number → g.from ≡ peer →
+    request_in g.bytes ≡ Ok mail → octets ≡ error_text detail mail → bytes ≡ octets → IsOwed (heard ++ g ∷ []) (record { peer = peer; bytes = bytes; gram = number })
+error_owed heard g peer octets bytes number detail mail last from request text same = record {
+  gram = g;
+  asked = mail;
+  mail = error_of detail;
+  answers = subst (λ (n : ℕ). slice_get (heard ++ g ∷ []) n ≡ Some g) last (get_last heard g);
+  request = request;
+  peer = sym from;
+  text = same ∙ text;
+}
+
+-- the request of a datagram, the last of those heard
+pub put_open : (old new : Slab Asker) (peer : Peer) (stations : List (Option (ℕ × ℕ))) (heard : List HeardGram) (g : HeardGram) (key slave number : ℕ) (mail : Mail) (begun : Bool) → length heard ≡ number → g.from ≡ peer →
+    IsPut old new peer stations (request_in g.bytes) key slave mail → IsOpen new (heard ++ g ∷ []) (record { key = key; slave = slave; gram = number; begun = begun })
+put_open old new peer stations heard g key slave number mail begun last from is = record {
+  asker = is.asker;
+  gram = g;
+  mail = mail;
+  stands = is.updates.changed;
+  answers = subst (λ (n : ℕ). slice_get (heard ++ g ∷ []) n ≡ Some g) last (get_last heard g);
+  request = is.request;
+  peer = is.peer_is ∙ sym from;
+  station = is.station_is;
+  counter = is.counter_is;
+}
+
+-- where a station stands
+abbrev StandsAt : ℕ → ℕ → List (Option (ℕ × ℕ)) → ℕ × ℕ → Type 0
+StandsAt at station rows place = (k : ℕ) × (place.0 ≡ at + k) × (slice_get rows k ≡ Some (Some (station, place.1)))
+
+stands_later : (at station : ℕ) (row : Option (ℕ × ℕ)) (rows : List (Option (ℕ × ℕ))) (place : ℕ × ℕ) → StandsAt (at + 1) station rows place → StandsAt at station (row ∷ rows) place
+stands_later at station row rows place more = (suc more.0, (let e = more.1 in omega (arith, e)), more.2)
+
+place_here : (at station : ℕ) (row : ℕ × ℕ) (rows : List (Option (ℕ × ℕ))) (place : ℕ × ℕ) (here : Bool) → (row.0 == station) ≡ here → (if here then Some (at, row.1) else place_from (at + 1) station rows) ≡ Some place →
+    (place_from (at + 1) station rows ≡ Some place → StandsAt (at + 1) station rows place) → StandsAt at station (Some row ∷ rows) place
+place_here at station row rows place true here is later =
+    let s = eqb-true row.0 station here in
+    let p : place ≡ (at, row.1) = cc in
+    (0, (let e = ap (λ (x : ℕ × ℕ). x.0) p in omega (arith, e)), ap (λ (x : ℕ). Some (Some (x, row.1))) s ∙ ap (λ (x : ℕ × ℕ). Some (Some (station, x.1))) (sym p))
+place_here at station row rows place false here is later = stands_later at station (Some row) rows place (later is)
+
+place_at : (at station : ℕ) (rows : List (Option (ℕ × ℕ))) (place : ℕ × ℕ) → place_from at station rows ≡ Some place → StandsAt at station rows place
+place_at at station [] place is = absurd (cc)
+place_at at station (None ∷ rows) place is = stands_later at station None rows place (place_at (at + 1) station rows place is)
+place_at at station (Some row ∷ rows) place is = place_here at station row rows place (row.0 == station) refl is (place_at (at + 1) station rows place)
+
+-- a mail that is to be passed on
+abbrev Passes : Slab Asker → Mail → Option (ℕ × ℕ) → ℕ → Type 0
+Passes g mail place slave = (len : ℕ) × (place ≡ Some (slave, len)) × (is_passed mail.kind ≡ true) × (6 + length mail.body.items ≤ len)
+
+abbrev judged_with : ℕ → Bool → Bool → Bool → Result ℕ ℕ
+judged_with slave passed long full = if passed then (if long then Err 8 else if full then Err 7 else Ok slave) else Err 2
+
+passes_with : (g : Slab Asker) (mail : Mail) (slave : ℕ) (place : ℕ × ℕ) (passed long full : Bool) → is_passed mail.kind ≡ passed → nat_lt place.1 (6 + length mail.body.items) ≡ long →
+    judged_with place.0 passed long full ≡ Ok slave → Passes g mail (Some place) slave
+passes_with g mail slave place true false false p l is = (place.1, ap (λ (n : ℕ). Some (n, place.1)) (cc), p, ltb-false place.1 (6 + length mail.body.items) l)
+passes_with g mail slave place true false true p l is = absurd (cc)
+passes_with g mail slave place true true full p l is = absurd (cc)
+passes_with g mail slave place false long full p l is = absurd (cc)
+
+passes : (g : Slab Asker) (mail : Mail) (slave : ℕ) (place : Option (ℕ × ℕ)) → judged_at g mail place ≡ Ok slave → Passes g mail place slave
+passes g mail slave None is = absurd (cc)
+passes g mail slave (Some place) is = passes_with g mail slave place (is_passed mail.kind) (nat_lt place.1 (6 + length mail.body.items)) (nat_le 64 (unfinished_at place.0 g)) refl refl is
+
+pub passed_on : (g : Slab Asker) (s : SessionState) (stations : List (Option (ℕ × ℕ))) (octets : List ℕ) (mail : Mail) (slave : ℕ) → stations ≡ stations_of s.recover s.homes s.notes →
+    request_in octets ≡ Ok mail → judged g mail stations ≡ Ok slave → IsPassedOn s.homes octets slave
+passed_on g s stations octets mail slave are request is =
+    let p = passes g mail slave (place_from 0 mail.address stations) is in
+    let at = place_at 0 mail.address stations (slave, p.0) p.1 in
+    let k : slave ≡ at.0 = (let e = at.1 in omega (arith, e)) in
+    record {
+      mail = mail;
+      len = p.0;
+      request = request;
+      home = subst (λ (n : ℕ). slice_get s.homes n ≡ Some (mail.address, p.0)) (sym k)
+          (stands_at_home s.recover s.homes s.notes at.0 (mail.address, p.0) (subst (λ (rows : List (Option (ℕ × ℕ))). slice_get rows at.0 ≡ Some (Some (mail.address, p.0))) are at.2));
+      passed = p.2;
+      fits = p.3;
+    }
+
+-- what is said of a datagram whose mail may have gone to a slave
+pub judged_so : (homes : List (ℕ × ℕ)) (octets : List ℕ) (slave : ℕ) → IsPassedOn homes octets slave → (queued : Option ℕ) → IfSome queued (λ n. n ≡ slave) → IsJudged homes octets queued
+judged_so homes octets slave on None is = tt
+judged_so homes octets slave on (Some n) is = subst (IsPassedOn homes octets) (sym is) on

@@ -1,0 +1,5 @@
+pub mod Desks
+pub mod Ended
+pub mod Judged
+pub mod Room
+pub mod Turns

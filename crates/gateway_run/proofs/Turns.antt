@@ -1,0 +1,320 @@
+-- A serving, step by step.
+use Rattle.std.proofs.Common.{◌≡◌, ℕ, ◌+◌, ◌-◌, ◌<◌, ◌≤◌, if◌then◌else◌, List, [], ◌∷◌, ◌++◌, length, map, Bool, true, false, refl, sym, ap, ◌∙◌, subst, inl, inr, length-append, append_assoc, append-nil, ltb, ltb-true, ltb-false, arith}
+use Rattle.std.specs.Prelude.{Option, Some, None, Result, Ok, Err, All}
+use Rattle.std.proofs.lemmas.List.Elements.{All-push, All-head, All-tail}
+use Rattle.ec_outside.specs.Faults.{Rose}
+use Rattle.ec_outside.specs.Port.{HeardGram, Hears}
+use Rattle.ec_outside.specs.declared.port.Peer.{Peer}
+use Rattle.ec_outside.specs.declared.port.Heard.TheVariants as heards
+use Rattle.ec_outside.specs.declared.port.PortErr.{PortErr}
+use Rattle.ec_outside.specs.declared.port.PortErr.TheVariants as errors
+use Rattle.gateway_run.specs.Stops.{stop_of}
+use Rattle.ec_outside.specs.declared.port.SentGram.{SentGram}
+use Rattle.segment_plan.specs.declared.plan.Scenario.{Scenario}
+use Rattle.run_book.specs.declared.book.Book.{Book}
+use Rattle.run_book.specs.declared.book.GramIn.{GramIn}
+use Rattle.run_book.specs.declared.book.GramOut.{GramOut}
+use Rattle.run_book.specs.declared.book.SentFrame.{SentFrame}
+use Rattle.run_record.specs.Session.{SessionState, home_of, Steps, Stops}
+use Rattle.run_record.specs.Ran.{HasSent, IsUnderway}
+use Rattle.run_record.proofs.Underway.{same_on, has_frames, stepped_on, stopped}
+use Rattle.gateway_run.specs.Heard.{heard_as, sent_as, AreHeard, AreSent, AreSentBut, IsOwed, IsRightly}
+use Rattle.slab.specs.Slab.{Slab}
+use Rattle.gateway_core.specs.declared.asker.Asker.{Asker}
+use Rattle.gateway_run.specs.Desk.{IsOpen, IsSound, AsksMails, Takes}
+use Rattle.gateway_run.specs.Serving.{Told, IsOn, IsServing, IsFaulted, Listens, PutsOne, SentOne, FailedOne, SendsOne, Goes, left}
+use Rattle.gateway_run.specs.declared.desk.Desk.{Desk}
+use Rattle.gateway_run.specs.declared.stop.Stop.{Stop}
+use Rattle.gateway_run.specs.declared.stop.Stop.TheVariants as stops
+use Rattle.gateway_run.specs.declared.turn.Serving.{Serving}
+use Rattle.gateway_run.proofs.Desks.{all_owed_more}
+
+pub map_push : {A B : Type 0} (f : A → B) (xs : List A) (x : A) → map f (xs ++ x ∷ []) ≡ map f xs ++ f x ∷ []
+map_push f [] x = refl
+map_push f (y ∷ xs) x = ap (λ l. f y ∷ l) (map_push f xs x)
+
+-- what was heard, with one more
+heard_on : (first now next : Option (List HeardGram)) (grams : List GramIn) (g : GramIn) (peer : Peer) (octets : List ℕ) → heard_as g ≡ record { from = peer; bytes = octets } →
+    AreHeard first now grams → Hears now next octets (Ok (heards.From peer)) → AreHeard first next (grams ++ g ∷ [])
+heard_on None now next grams g peer octets is a h = tt
+heard_on (Some old) now next grams g peer octets is a h =
+    let h' : next ≡ Some ((old ++ map heard_as grams) ++ record { from = peer; bytes = octets } ∷ []) = subst (λ (x : Option (List HeardGram)). Hears x next octets (Ok (heards.From peer))) a h in
+    h' ∙ ap Some (append_assoc old (map heard_as grams) (record { from = peer; bytes = octets } ∷ []) ∙ ap (λ (x : HeardGram). old ++ (map heard_as grams ++ x ∷ [])) (sym is) ∙ ap (λ (l : List HeardGram). old ++ l) (sym (map_push heard_as grams g)))
+
+-- nothing was heard
+abbrev Unheard : Option (List HeardGram) → Option (List HeardGram) → Type 0
+Unheard None new = Unit {0}
+Unheard (Some old) new = new ≡ Some old
+
+heard_same : (first now next : Option (List HeardGram)) (grams : List GramIn) → AreHeard first now grams → Unheard now next → AreHeard first next grams
+heard_same None now next grams a h = tt
+heard_same (Some old) now next grams a h = let h' : next ≡ Some (old ++ map heard_as grams) = subst (λ (x : Option (List HeardGram)). Unheard x next) a h in h'
+
+quiet_heard : (now next : Option (List HeardGram)) (octets : List ℕ) → Hears now next octets (Ok heards.Quiet) → Unheard now next
+quiet_heard None next octets h = tt
+quiet_heard (Some old) next octets h = h
+
+ended_heard : (now next : Option (List HeardGram)) (octets : List ℕ) → Hears now next octets (Ok heards.Ended) → Unheard now next
+ended_heard None next octets h = tt
+ended_heard (Some old) next octets h = h
+
+failed_heard : (now next : Option (List HeardGram)) (octets : List ℕ) → Hears now next octets (Err errors.Failed) → Unheard now next
+failed_heard None next octets h = tt
+failed_heard (Some old) next octets h = h
+
+pub heard_none : (now : Option (List HeardGram)) → AreHeard now now []
+heard_none None = tt
+heard_none (Some old) = ap Some (sym (append-nil old))
+
+pub sent_none : (now : Option (List SentGram)) → AreSent now now []
+sent_none None = tt
+sent_none (Some old) = ap Some (sym (append-nil old))
+
+heard_kept : (first now next : Option (List HeardGram)) (grams : List GramIn) → AreHeard first now grams → next ≡ now → AreHeard first next grams
+heard_kept first now next grams a same = subst (λ (x : Option (List HeardGram)). AreHeard first x grams) (sym same) a
+
+sent_kept : (first now next : Option (List SentGram)) (replies : List GramOut) → AreSent first now replies → next ≡ now → AreSent first next replies
+sent_kept first now next replies a same = subst (λ (x : Option (List SentGram)). AreSent first x replies) (sym same) a
+
+-- what was sent, with one more
+sent_on : (first now next : Option (List SentGram)) (replies : List GramOut) (r : GramOut) → AreSent first now replies → AreSent now next (r ∷ []) → AreSent first next (replies ++ r ∷ [])
+sent_on None now next replies r a s = tt
+sent_on (Some old) now next replies r a s =
+    let s' : next ≡ Some ((old ++ map sent_as replies) ++ sent_as r ∷ []) = subst (λ (x : Option (List SentGram)). AreSent x next (r ∷ [])) a s in
+    s' ∙ ap Some (append_assoc old (map sent_as replies) (sent_as r ∷ []) ∙ ap (λ (l : List SentGram). old ++ l) (sym (map_push sent_as replies r)))
+
+-- nothing was sent, though one was to be
+none_sent : (first now next : Option (List SentGram)) (replies : List GramOut) → AreSent first now replies → AreSent now next [] → AreSent first next replies
+none_sent None now next replies a s = tt
+none_sent (Some old) now next replies a s =
+    let s' : next ≡ Some ((old ++ map sent_as replies) ++ []) = subst (λ (x : Option (List SentGram)). AreSent x next []) a s in
+    s' ∙ ap Some (append_assoc old (map sent_as replies) [] ∙ ap (λ (l : List SentGram). old ++ l) (append-nil (map sent_as replies)))
+
+one_before : (earlier : List GramOut) (last r : GramOut) → r ∷ [] ≡ earlier ++ last ∷ [] → earlier ≡ []
+one_before [] last r is = refl
+one_before (a ∷ []) last r is = absurd (cc)
+one_before (a ∷ b ∷ earlier) last r is = absurd (cc)
+
+sent_but : (first now next : Option (List SentGram)) (replies : List GramOut) (r : GramOut) → AreSent first now replies → AreSentBut now next (r ∷ []) → AreSentBut first next (replies ++ r ∷ [])
+sent_but first now next replies r a (inl s) = inl (sent_on first now next replies r a s)
+sent_but first now next replies r a (inr s) =
+    inr (replies, r, refl, none_sent first now next replies a (subst (λ (l : List GramOut). AreSent now next l) (one_before s.0 s.1 r s.2) s.3))
+
+-- a count of faults rose since its first value
+pub rose_since : (first now next : ℕ) → first ≤ now → Rose now next → now ≤ next → Rose first next
+rose_since first now next le (inl lt) later = inl (omega (arith, le, lt))
+rose_since first now next le (inr most) later = since (ltb first next) refl
+  where
+    since : (less : Bool) → ltb first next ≡ less → Rose first next
+    since true is = inl (ltb-true first next is)
+    since false is = let ge = ltb-false first next is in let same : first ≡ now = omega (arith, le, later, ge) in inr (same ∙ most)
+
+session_same : (s s' : SessionState) → s' ≡ s → AsksMails s s'
+session_same s s' same = subst (λ (t : SessionState). AsksMails s t) (sym same) refl
+
+-- what is left to do, by what it depends on
+abbrev pub left_of : SessionState → ℕ → ℕ → Bool → ℕ
+left_of s heard count over = (s.budget - s.ring.number) + (count - heard) + (if over then 0 else 1)
+
+pub left_kept : (v v' : Serving) (b b' : Book) → v'.session ≡ v.session → v'.count ≡ v.count → v'.over ≡ v.over → b'.grams ≡ b.grams → left v' b' ≡ left v b
+left_kept v v' b b' session counts over grams =
+    ap (λ (s : SessionState). left_of s (length b'.grams) v'.count v'.over) session ∙ ap (λ (l : List GramIn). left_of v.session (length l) v'.count v'.over) grams
+    ∙ ap (λ (n : ℕ). left_of v.session (length b.grams) n v'.over) counts ∙ ap (λ (o : Bool). left_of v.session (length b.grams) v.count o) over
+
+module _ (plan : Scenario) (count : ℕ) (first : Told) where
+  -- the buffer of what was heard last doesn't matter
+  pub same_gram : (now : Told) (v v' : Serving) (b : Book) → v'.session ≡ v.session → v'.desk ≡ v.desk → v'.count ≡ v.count → v'.over ≡ v.over → IsServing plan count first now v b → IsServing plan count first now v' b
+  same_gram now v v' b session desk counts over h = record {
+    on = record {
+      underway = subst (λ (s : SessionState). IsUnderway plan count s b) (sym session) h.on.underway;
+      counts = counts ∙ h.on.counts;
+      few = h.on.few;
+      fits = h.on.fits;
+      sound = subst (IsSound (map heard_as b.grams)) (sym desk) h.on.sound;
+      answered = h.on.answered;
+      judged = h.on.judged;
+    };
+    heard = h.heard;
+    sent = h.sent;
+    over = λ e. h.over (sym over ∙ e);
+    later = h.later;
+  }
+
+  module _ (now next : Told) (v v' : Serving) (b b' : Book) (h : IsServing plan count first now v b) where
+    -- a datagram was taken
+    pub took : (peer : Peer) (octets : List ℕ) → Listens now next (heards.From peer) octets → length b.grams < v.count → Takes v.session.homes peer octets b b' →
+        (IsSound (map heard_as b.grams) v.desk → IsSound (map heard_as b'.grams) v'.desk) → b' ≡ record b { grams = b'.grams } → AsksMails v.session v'.session → v'.count ≡ v.count → v'.over ≡ v.over →
+        IsServing plan count first next v' b'
+    took peer octets l room t sound same asks counts over =
+        let g = t.gram in
+        let grams : map heard_as b'.grams ≡ map heard_as b.grams ++ heard_as g ∷ [] = ap (map heard_as) t.put ∙ map_push heard_as b.grams g in
+        let homes = h.on.underway.homes in
+        let told : heard_as g ≡ record { from = peer; bytes = octets } = ap (λ (p : Peer). record { from = p; bytes = g.bytes }) t.from_peer ∙ ap (λ (o : List ℕ). record { from = peer; bytes = o }) t.with_octets in
+        record {
+          on = record {
+            underway = same_on plan count v.session v'.session b b' h.on.underway asks (ap (λ (x : Book). x.frames) same) (ap (λ (x : Book). x.switch) same) (ap (λ (x : Book). x.slaves) same);
+            counts = counts ∙ h.on.counts;
+            few = let n = ap length t.put ∙ length-append b.grams (g ∷ []) in let c = h.on.counts in omega (arith, n, c, room);
+            fits = h.on.fits;
+            sound = sound h.on.sound;
+            answered = subst (λ (rs : List GramOut). All (IsOwed (map heard_as b'.grams)) rs) (sym (ap (λ (x : Book). x.replies) same))
+                (subst (λ (l : List HeardGram). All (IsOwed l) b.replies) (sym grams) (all_owed_more (map heard_as b.grams) (heard_as g ∷ []) b.replies h.on.answered));
+            judged = subst (All (IsRightly (map home_of plan.slaves))) (sym t.put) (All-push (IsRightly (map home_of plan.slaves)) b.grams g h.on.judged (subst (λ (l : List (ℕ × ℕ)). IsRightly l g) homes t.judged));
+          };
+          heard = subst (AreHeard first.heard next.heard) (sym t.put) (heard_on first.heard now.heard next.heard b.grams g peer octets told h.heard l.hears);
+          sent = subst (AreSent first.sent next.sent) (sym (ap (λ (x : Book). x.replies) same)) (sent_kept first.sent now.sent next.sent b.replies h.sent l.sent);
+          over = λ e. l.over ∙ h.over (sym over ∙ e);
+          later = let a = h.later in let b = l.later in omega (arith, a, b);
+        }
+
+  -- a serving that heard nothing, by what its port tells
+  pub listened : (now next : Told) (v : Serving) (b : Book) → IsServing plan count first now v b → Unheard now.heard next.heard → next.sent ≡ now.sent → (v.over ≡ true → next.over ≡ true) → now.faults ≤ next.faults →
+      IsServing plan count first next v b
+  listened now next v b h heard sent over later = record {
+    on = h.on;
+    heard = heard_same first.heard now.heard next.heard b.grams h.heard heard;
+    sent = sent_kept first.sent now.sent next.sent b.replies h.sent sent;
+    over = over;
+    later = let a = h.later in omega (arith, a, later);
+  }
+
+  pub quiet : (now next : Told) (v : Serving) (b : Book) (octets : List ℕ) → IsServing plan count first now v b → Listens now next heards.Quiet octets → IsServing plan count first next v b
+  quiet now next v b octets h l = listened now next v b h (quiet_heard now.heard next.heard octets l.hears) l.sent (λ e. l.over ∙ h.over e) l.later
+
+  -- the port ended
+  pub over : (now next : Told) (v v' : Serving) (b : Book) (octets : List ℕ) → v'.session ≡ v.session → v'.desk ≡ v.desk → v'.count ≡ v.count → IsServing plan count first now v b → Listens now next heards.Ended octets → IsServing plan count first next v' b
+  over now next v v' b octets session desk counts h l = record {
+    on = record {
+      underway = subst (λ (s : SessionState). IsUnderway plan count s b) (sym session) h.on.underway;
+      counts = counts ∙ h.on.counts;
+      few = h.on.few;
+      fits = h.on.fits;
+      sound = subst (IsSound (map heard_as b.grams)) (sym desk) h.on.sound;
+      answered = h.on.answered;
+      judged = h.on.judged;
+    };
+    heard = heard_same first.heard now.heard next.heard b.grams h.heard (ended_heard now.heard next.heard octets l.hears);
+    sent = sent_kept first.sent now.sent next.sent b.replies h.sent l.sent;
+    over = λ e. l.over;
+    later = let a = h.later in let b = l.later in omega (arith, a, b);
+  }
+
+  -- the port failed at listening
+  pub failed : (now next : Told) (v : Serving) (b : Book) (octets : List ℕ) → IsServing plan count first now v b → Hears now.heard next.heard octets (Err errors.Failed) → next.sent ≡ now.sent → Rose now.faults next.faults → now.faults ≤ next.faults →
+      IsFaulted plan count first next v b
+  failed now next v b octets h heard sent rose later = record {
+    on = h.on;
+    heard = heard_same first.heard now.heard next.heard b.grams h.heard (failed_heard now.heard next.heard octets heard);
+    sent = inl (sent_kept first.sent now.sent next.sent b.replies h.sent sent);
+    rose = rose_since first.faults now.faults next.faults h.later rose later;
+  }
+
+  -- a frame was sent
+  pub stepped : (now : Told) (v v' : Serving) (b b' : Book) (f : SentFrame) → IsServing plan count first now v b → v.session.ring.number < v.session.budget → Steps v.session b v'.session b' f →
+      IsSound (map heard_as b.grams) v'.desk → v'.count ≡ v.count → v'.over ≡ v.over → IsServing plan count first now v' b'
+  stepped now v v' b b' f h left step sound counts over =
+      let grams = step.rest.grams in
+      let replies = step.rest.replies in
+      record {
+        on = record {
+          underway = stepped_on plan count v.session b v'.session b' f h.on.underway left step;
+          counts = counts ∙ h.on.counts;
+          few = subst (λ (l : List GramIn). length l ≤ count) (sym grams) h.on.few;
+          fits = h.on.fits;
+          sound = subst (λ (l : List GramIn). IsSound (map heard_as l) v'.desk) (sym grams) sound;
+          answered = subst (λ (l : List GramIn). All (IsOwed (map heard_as l)) b'.replies) (sym grams) (subst (All (IsOwed (map heard_as b.grams))) (sym replies) h.on.answered);
+          judged = subst (All (IsRightly (map home_of plan.slaves))) (sym grams) h.on.judged;
+        };
+        heard = subst (AreHeard first.heard now.heard) (sym grams) h.heard;
+        sent = subst (AreSent first.sent now.sent) (sym replies) h.sent;
+        over = λ e. h.over (sym over ∙ e);
+        later = h.later;
+      }
+
+  pub frames_cut : (now : Told) (v : Serving) (b b' : Book) → IsServing plan count first now v b → v.session.ring.number < v.session.budget → Stops v.session b b' → HasSent plan count b'
+  frames_cut now v b b' h left stop = stopped plan count v.session b b' h.on.underway left stop
+
+  -- a datagram went from what is owed into the book
+  handed_on : (v v' : Serving) (b b' : Book) (r : GramOut) → IsOn plan count v b → v'.session ≡ v.session → v'.count ≡ v.count → v.desk.outbox.items ≡ r ∷ v'.desk.outbox.items → v'.desk.gateway ≡ v.desk.gateway → v'.desk.requests.items ≡ v.desk.requests.items →
+      PutsOne r b b' → IsOn plan count v' b'
+  handed_on v v' b b' r h session counts outbox gateway requests put =
+      let grams : b'.grams ≡ b.grams = ap (λ (x : Book). x.grams) put in
+      let replies : b'.replies ≡ b.replies ++ r ∷ [] = ap (λ (x : Book). x.replies) put in
+      let owed : All (IsOwed (map heard_as b.grams)) (r ∷ v'.desk.outbox.items) = subst (All (IsOwed (map heard_as b.grams))) outbox h.sound.owed in
+      record {
+        underway = same_on plan count v.session v'.session b b' h.underway (session_same v.session v'.session session) (ap (λ (x : Book). x.frames) put) (ap (λ (x : Book). x.switch) put) (ap (λ (x : Book). x.slaves) put);
+        counts = counts ∙ h.counts;
+        few = subst (λ (l : List GramIn). length l ≤ count) (sym grams) h.few;
+        fits = h.fits;
+        sound = subst (λ (l : List GramIn). IsSound (map heard_as l) v'.desk) (sym grams) (record {
+          requests = subst (λ (g : Slab Asker). All (IsOpen g (map heard_as b.grams)) v'.desk.requests.items) (sym gateway) (subst (All (IsOpen v.desk.gateway (map heard_as b.grams))) (sym requests) h.sound.requests);
+          owed = All-tail (IsOwed (map heard_as b.grams)) r v'.desk.outbox.items owed;
+        });
+        answered = subst (λ (l : List GramIn). All (IsOwed (map heard_as l)) b'.replies) (sym grams)
+            (subst (All (IsOwed (map heard_as b.grams))) (sym replies) (All-push (IsOwed (map heard_as b.grams)) b.replies r h.answered (All-head (IsOwed (map heard_as b.grams)) r v'.desk.outbox.items owed)));
+        judged = subst (All (IsRightly (map home_of plan.slaves))) (sym grams) h.judged;
+      }
+
+  module _ (now next : Told) (v v' : Serving) (b b' : Book) (r : GramOut) (h : IsServing plan count first now v b) (session : v'.session ≡ v.session) (counts : v'.count ≡ v.count) (over' : v'.over ≡ v.over)
+      (outbox : v.desk.outbox.items ≡ r ∷ v'.desk.outbox.items) (gateway : v'.desk.gateway ≡ v.desk.gateway) (requests : v'.desk.requests.items ≡ v.desk.requests.items) where
+    pub handed : SentOne r now next b b' → IsServing plan count first next v' b'
+    handed s = record {
+      on = handed_on v v' b b' r h.on session counts outbox gateway requests s.puts;
+      heard = subst (AreHeard first.heard next.heard) (sym (ap (λ (x : Book). x.grams) s.puts)) (heard_kept first.heard now.heard next.heard b.grams h.heard s.heard);
+      sent = subst (AreSent first.sent next.sent) (sym (ap (λ (x : Book). x.replies) s.puts)) (sent_on first.sent now.sent next.sent b.replies r h.sent s.sent);
+      over = λ e. s.over ∙ h.over (sym over' ∙ e);
+      later = let a = h.later in let b = s.later in omega (arith, a, b);
+    }
+
+    pub not_handed : FailedOne r now next b b' → IsFaulted plan count first next v' b'
+    not_handed s = record {
+      on = handed_on v v' b b' r h.on session counts outbox gateway requests s.puts;
+      heard = subst (AreHeard first.heard next.heard) (sym (ap (λ (x : Book). x.grams) s.puts)) (heard_kept first.heard now.heard next.heard b.grams h.heard s.heard);
+      sent = subst (AreSentBut first.sent next.sent) (sym (ap (λ (x : Book). x.replies) s.puts)) (sent_but first.sent now.sent next.sent b.replies r h.sent s.sent);
+      rose = rose_since first.faults now.faults next.faults h.later s.rose s.later;
+    }
+
+    pub all_handed : (e : Result (Unit {0}) Stop) → SendsOne r now next b b' e → Goes plan count first next v' b' e
+    all_handed (Ok done) s = handed s
+    all_handed (Err stops.PortFault) s = not_handed s
+    all_handed (Err stops.NoMemory) s = has_frames plan count v.session b b' h.on.underway (ap (λ (x : Book). x.frames) s) (ap (λ (x : Book). x.switch) s)
+
+  -- a desk of the same parts
+  pub same_desk : (now : Told) (v v' : Serving) (b : Book) → IsServing plan count first now v b → v'.session ≡ v.session → v'.count ≡ v.count → v'.over ≡ v.over → v'.desk.outbox.items ≡ v.desk.outbox.items → v'.desk.gateway ≡ v.desk.gateway →
+      v'.desk.requests.items ≡ v.desk.requests.items → IsServing plan count first now v' b
+  same_desk now v v' b h session counts over outbox gateway requests = record {
+    on = record {
+      underway = subst (λ (s : SessionState). IsUnderway plan count s b) (sym session) h.on.underway;
+      counts = counts ∙ h.on.counts;
+      few = h.on.few;
+      fits = h.on.fits;
+      sound = record {
+        requests = subst (λ (g : Slab Asker). All (IsOpen g (map heard_as b.grams)) v'.desk.requests.items) (sym gateway) (subst (All (IsOpen v.desk.gateway (map heard_as b.grams))) (sym requests) h.on.sound.requests);
+        owed = subst (All (IsOwed (map heard_as b.grams))) (sym outbox) h.on.sound.owed;
+      };
+      answered = h.on.answered;
+      judged = h.on.judged;
+    };
+    heard = h.heard;
+    sent = h.sent;
+    over = λ e. h.over (sym over ∙ e);
+    later = h.later;
+  }
+
+  -- the port failed at listening, or memory ran out there
+  pub listen_failed : {T : Type 0} (now next : Told) (v : Serving) (b : Book) (octets : List ℕ) (e : PortErr) (r : Result T Stop) → IsServing plan count first now v b → Hears now.heard next.heard octets (Err e) → next.sent ≡ now.sent →
+      (e ≡ errors.Failed → Rose now.faults next.faults) → now.faults ≤ next.faults → r ≡ Err (stop_of e) → Goes plan count first next v b r
+  listen_failed now next v b octets errors.Failed r h heard sent rose later is = subst (Goes plan count first next v b) (sym is) (failed now next v b octets h heard sent (rose refl) later)
+  listen_failed now next v b octets errors.NoMemory r h heard sent rose later is = subst (Goes plan count first next v b) (sym is) (has_frames plan count v.session b b h.on.underway refl refl)
+
+  -- the frames of a serving
+  pub frames_of : (now : Told) (v : Serving) (b b' : Book) → IsServing plan count first now v b → b'.frames ≡ b.frames → b'.switch ≡ b.switch → HasSent plan count b'
+  frames_of now v b b' h frames switch = has_frames plan count v.session b b' h.on.underway frames switch
+
+  pub goes_without : {T : Type 0} (now : Told) (v : Serving) (b : Book) (r : Result T Stop) → r ≡ Err stops.NoMemory → HasSent plan count b → Goes plan count first now v b r
+  goes_without now v b r is sent = subst (Goes plan count first now v b) (sym is) sent
+
+  -- an error is passed on
+  pub goes_so : {S T : Type 0} (now : Told) (v : Serving) (b : Book) (e : Stop) (r : Result S Stop) (r' : Result T Stop) → r ≡ Err e → r' ≡ Err e → Goes plan count first now v b r → Goes plan count first now v b r'
+  goes_so now v b stops.PortFault r r' is is' g = subst (Goes plan count first now v b) (sym is') (subst (Goes plan count first now v b) is g)
+  goes_so now v b stops.NoMemory r r' is is' g = subst (Goes plan count first now v b) (sym is') (subst (Goes plan count first now v b) is g)

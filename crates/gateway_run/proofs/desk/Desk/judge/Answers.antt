@@ -1,0 +1,71 @@
+use Rattle.std.proofs.Common.{◌≡◌, ℕ, ◌∷◌, ◌++◌, [], List, length, refl, sym, ap, ◌∙◌, subst, rules, arith}
+use Rattle.std.specs.Prelude.{All, map, Some, None, IfSome}
+use Rattle.std.proofs.lemmas.List.Elements.{All-push, All-filter, All-contains, All-set}
+use Rattle.ec_outside.specs.Port.{HeardGram}
+use Rattle.gateway_run.specs.Heard.{heard_as, IsOwed, IsJudged}
+use Rattle.std.proofs.lemmas.Result.{on_ok_weaker, IfOk-weaker}
+use Rattle.std.specs.Prelude.{false}
+use Rattle.gateway_run.specs.Desk.{IsOpen, IsSound}
+use Rattle.gateway_run.specs.declared.desk.Request.{Request}
+use Rattle.slab.specs.Slab.{Slab}
+use Rattle.gateway_core.specs.Framing.{request_in}
+use Rattle.gateway_core.specs.Gateway.{Answers}
+use Rattle.gateway_core.specs.declared.asker.Asked.{Asked}
+use Rattle.gateway_core.specs.declared.asker.Asker.{Asker}
+use Rattle.gateway_core.specs.declared.asker.Asked.TheVariants as asked
+use Rattle.gateway_run.proofs.Desks.{sound_more, all_owed_more, queued}
+use Rattle.gateway_run.proofs.Judged.{ignored, refused, put, error_owed, put_open, passed_on, judged_so}
+use Rattle.gateway_run.proofs.desk.Desk.judge.Goals as goal
+
+pub returns-in-Ignored-clause-sound : goal.returns-in-Ignored-clause-sound
+returns-in-Ignored-clause-sound c = λ heard many s.
+    let d = c.args.self.now in
+    let r = request_in c.args.bytes.now in
+    let a : Answers d.gateway c.request.new.self c.args.peer c.stations.result.now r asked.Ignored = subst (Answers d.gateway c.request.new.self c.args.peer c.stations.result.now r) c.in-Ignored.is c.in_ok-request.ensures.ok in
+    let same = ignored d.gateway c.request.new.self c.args.peer c.stations.result.now r a in
+    let more = sound_more heard (record { from = c.args.peer; bytes = c.args.bytes.now } ∷ []) d s in
+    record {
+      requests = subst (λ (g : Slab Asker). All (IsOpen g (heard ++ record { from = c.args.peer; bytes = c.args.bytes.now } ∷ [])) d.requests.items) (sym same) more.requests;
+      owed = more.owed;
+    }
+
+pub returns-in_ok-push_back-in-Error-clause-sound : goal.returns-in_ok-push_back-in-Error-clause-sound
+returns-in_ok-push_back-in-Error-clause-sound c = λ heard many s.
+    let d = c.args.self.now in
+    let g : HeardGram = record { from = c.args.peer; bytes = c.args.bytes.now } in
+    let r = request_in c.args.bytes.now in
+    let a : Answers d.gateway c.request.new.self c.args.peer c.stations.result.now r (asked.Error c.in-Error.error) = subst (Answers d.gateway c.request.new.self c.args.peer c.stations.result.now r) c.in-Error.is c.in_ok-request.ensures.ok in
+    let is = refused d.gateway c.request.new.self c.args.peer c.stations.result.now r c.in-Error.error.items a in
+    let more = sound_more heard (g ∷ []) d s in
+    record {
+      requests = subst (λ (k : Slab Asker). All (IsOpen k (heard ++ g ∷ [])) d.requests.items) (sym is.0) more.requests;
+      owed = subst (All (IsOwed (heard ++ g ∷ []))) (sym c.in_ok-push_back-in-Error.ensures.items)
+          (All-push (IsOwed (heard ++ g ∷ [])) d.outbox.items _ more.owed
+          (error_owed heard g c.args.peer c.in-Error.error.items c.in_ok-bytes-in-Error.bytes c.args.gram is.2 is.1 many refl is.3 is.4 (c.in_ok-bytes-in-Error.ensures ∙ c.as_slice.ensures.value)));
+    }
+
+pub returns-in-Queued-clause-sound : goal.returns-in-Queued-clause-sound
+returns-in-Queued-clause-sound c =
+    let d = c.args.self.now in
+    let q = c.in-Queued in
+    let a : Answers d.gateway c.request.new.self c.args.peer c.stations.result.now (request_in c.args.bytes.now) (asked.Queued q.key q.slave q.mail) = subst (Answers d.gateway c.request.new.self c.args.peer c.stations.result.now (request_in c.args.bytes.now)) q.is c.in_ok-request.ensures.ok in
+    let is = put d.gateway c.request.new.self c.args.peer c.stations.result.now (request_in c.args.bytes.now) q.key q.slave q.mail a in
+    on_ok_weaker c.pass_on.result
+    (λ kept. λ heard many s.
+    let g : HeardGram = record { from = c.args.peer; bytes = c.args.bytes.now } in
+    let more = sound_more heard (g ∷ []) d s in
+    kept (heard ++ g ∷ []) (put_open d.gateway c.request.new.self c.args.peer c.stations.result.now heard g q.key q.slave c.args.gram q.mail false many refl is)
+    (record {
+      requests = queued d.gateway c.request.new.self q.key is.asker (heard ++ g ∷ []) d.requests.items is.vacant is.updates more.requests;
+      owed = more.owed;
+    }))
+    c.pass_on.ensures.sound
+
+pub returns-in-Queued-clause-judged : goal.returns-in-Queued-clause-judged
+returns-in-Queued-clause-judged c =
+    let d = c.args.self.now in
+    let q = c.in-Queued in
+    let a : Answers d.gateway c.request.new.self c.args.peer c.stations.result.now (request_in c.args.bytes.now) (asked.Queued q.key q.slave q.mail) = subst (Answers d.gateway c.request.new.self c.args.peer c.stations.result.now (request_in c.args.bytes.now)) q.is c.in_ok-request.ensures.ok in
+    let is = put d.gateway c.request.new.self c.args.peer c.stations.result.now (request_in c.args.bytes.now) q.key q.slave q.mail a in
+    let on = passed_on d.gateway c.args.session.now c.stations.result.now c.args.bytes.now q.mail q.slave c.stations.ensures.value is.request is.place in
+    IfOk-weaker c.pass_on.result _ (IsJudged c.args.session.now.homes c.args.bytes.now) (judged_so c.args.session.now.homes c.args.bytes.now q.slave on) c.pass_on.ensures.slave

@@ -1,0 +1,16 @@
+use Rattle.std.proofs.Common.{◌≡◌, ◌≤◌, ℕ, ◌∷◌, ◌++◌, [], List, length, true, refl, sym, ap, ◌∙◌, subst, rules, arith}
+use Rattle.std.specs.Bool.{OnTrue}
+use Rattle.segment_plan.specs.declared.plan.Scenario.{Scenario}
+use Rattle.run_record.specs.Session.{session_rows, are_at_rest}
+use Rattle.gateway_run.specs.Serving.{Told, told, Goes, IsServing, left, can_hear}
+use Rattle.gateway_run.proofs.turn.Serving.send.Given as goal
+
+abbrev pub invariant-loop-reply : goal.invariant-loop-reply
+invariant-loop-reply g l = record {
+  goes : (plan : Scenario) (count : ℕ) (first : Told) → IsServing plan count first (told g.P.Port.heard g.P.Port.sent g.P.Port.over g.P.Port.port_faults l.fn.port) l.fn.self l.fn.book → IsServing plan count first (told g.P.Port.heard g.P.Port.sent g.P.Port.over g.P.Port.port_faults l.port) l.self l.book;
+  same : left l.self l.book ≡ left l.fn.self l.fn.book;
+  session : l.self.session ≡ l.fn.self.session;
+}
+
+abbrev pub decreases-loop-reply : goal.decreases-loop-reply
+decreases-loop-reply g l = length l.self.desk.outbox.items

@@ -1,0 +1,22 @@
+use Rattle.std.proofs.Common.{◌≡◌, ◌<◌, ◌≤◌, ℕ, ◌∷◌, ◌++◌, [], List, length, true, false, refl, sym, ap, ◌∙◌, subst, rules, arith}
+use Rattle.std.specs.Prelude.{Result, Ok, Err, All, map}
+use Rattle.std.specs.Bool.{OnTrue}
+use Rattle.std.proofs.lemmas.Result.{err_from_is_err_and}
+use Rattle.segment_plan.specs.declared.plan.Scenario.{Scenario}
+use Rattle.run_record.specs.Session.{session_rows, are_at_rest}
+use Rattle.gateway_run.specs.Serving.{Told, told, Goes, IsServing, left, can_hear}
+use Rattle.gateway_run.proofs.Turns.{goes_so}
+use Rattle.gateway_run.proofs.turn.Serving.turn.Goals as goal
+
+pub returns-in_err-send-clause-goes : goal.returns-in_err-send-clause-goes
+returns-in_err-send-clause-goes g c = λ plan count first h.
+    let p = err_from_is_err_and c.from_residual-in_err-send.result c.from_residual-in_err-send.ensures.1 in
+    let e = p.1 in
+    let e2 = p.2 in
+    let same : c.from_residual-in_err-send.result ≡ Err c.in_err-send.field-0.0 = cc in
+    goes_so plan count first _ _ _ c.in_err-send.field-0.0 c.send.result c.from_residual-in_err-send.result c.in_err-send.was same
+    (c.send.ensures.goes plan count first (c.in_ok-on.ensures.goes plan count first _ (c.in_ok-hear.ensures.goes plan count first h)))
+
+pub returns-clause-goes : goal.returns-clause-goes
+returns-clause-goes g c = λ plan count first h.
+    c.in_ok-send.ensures.goes plan count first (c.in_ok-on.ensures.goes plan count first _ (c.in_ok-hear.ensures.goes plan count first h))

@@ -1,0 +1,24 @@
+use Rattle.std.proofs.Common.{◌≡◌, ◌<◌, ◌≤◌, ℕ, ◌∷◌, ◌++◌, [], List, length, true, false, refl, sym, ap, ◌∙◌, subst, rules, arith}
+use Rattle.std.specs.Prelude.{Result, Ok, Err, All, map}
+use Rattle.std.specs.Bool.{OnTrue}
+use Rattle.std.proofs.lemmas.Result.{err_from_is_err_and}
+use Rattle.segment_plan.specs.declared.plan.Scenario.{Scenario}
+use Rattle.run_record.specs.Session.{session_rows, are_at_rest}
+use Rattle.gateway_run.specs.Serving.{Told, told, Goes, IsServing, left, can_hear}
+use Rattle.gateway_run.proofs.Turns.{same_gram, goes_so}
+use Rattle.gateway_run.proofs.turn.Serving.wait.Goals as goal
+
+pub returns-in_err-take-clause-goes : goal.returns-in_err-take-clause-goes
+returns-in_err-take-clause-goes g c = λ plan count first h.
+    let p = err_from_is_err_and c.from_residual-in_err-take.result c.from_residual-in_err-take.ensures.1 in
+    let e = p.1 in
+    let e2 = p.2 in
+    let same : c.from_residual-in_err-take.result ≡ Err c.in_err-take.field-0.0 = cc in
+    goes_so plan count first _ c.take.new.self c.take.new.book c.in_err-take.field-0.0 c.take.result c.from_residual-in_err-take.result c.in_err-take.was same
+    (c.take.ensures.goes plan count first _ _ (same_gram plan count first _ c.args.self.now _ c.args.book.now refl refl refl refl h)
+    (record { hears = c.in_ok-heard.ensures.hears; sent = c.in_ok-heard.ensures.sends; over = c.in_ok-heard.ensures.ended; later = c.in_ok-heard.ensures.later }))
+
+pub returns-clause-goes : goal.returns-clause-goes
+returns-clause-goes g c = λ plan count first h.
+    c.in_ok-take.ensures.goes plan count first _ _ (same_gram plan count first _ c.args.self.now _ c.args.book.now refl refl refl refl h)
+    (record { hears = c.in_ok-heard.ensures.hears; sent = c.in_ok-heard.ensures.sends; over = c.in_ok-heard.ensures.ended; later = c.in_ok-heard.ensures.later })

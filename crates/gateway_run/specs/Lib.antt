@@ -1,0 +1,5 @@
+pub mod Stops
+pub mod Heard
+pub mod Desk
+pub mod Serving
+pub mod Served

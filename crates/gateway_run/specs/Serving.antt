@@ -1,0 +1,98 @@
+-- A serving between its turns.
+use Rattle.std.specs.Prelude.{◌≡◌, ℕ, ◌+◌, ◌-◌, ◌<◌, ◌≤◌, ◌&&◌, ◌||◌, Bool, true, not, nat_lt, if◌then◌else◌, List, [], ◌∷◌, ◌++◌, length, map, All, Option, Result, Ok, Err}
+use Rattle.ec_outside.specs.Faults.{Rose}
+use Rattle.ec_outside.specs.Port.{HeardGram, Hears, has_ended}
+use Rattle.ec_outside.specs.declared.port.Heard.{Heard}
+use Rattle.run_book.specs.declared.book.GramOut.{GramOut}
+use Rattle.ec_outside.specs.declared.port.SentGram.{SentGram}
+use Rattle.segment_plan.specs.declared.plan.Scenario.{Scenario}
+use Rattle.run_book.specs.declared.book.Book.{Book}
+use Rattle.run_record.specs.Session.{home_of}
+use Rattle.run_record.specs.Ran.{HasSent, IsUnderway}
+use Rattle.gateway_run.specs.Heard.{heard_as, AreHeard, AreSent, AreSentBut, IsOwed, IsRightly}
+use Rattle.gateway_run.specs.Desk.{IsSound}
+use Rattle.gateway_run.specs.declared.stop.Stop.{Stop}
+use Rattle.gateway_run.specs.declared.stop.Stop.TheVariants as stops
+use Rattle.gateway_run.specs.declared.turn.Serving.{Serving}
+
+-- what a port tells: the datagrams heard and sent, whether it ended, and its faults
+pub record Told : Type 0 where
+  pub heard : Option (List HeardGram)
+  pub sent : Option (List SentGram)
+  pub over : Bool
+  pub faults : ℕ
+
+abbrev pub told : {Q : Type 0} → (Q → Option (List HeardGram)) → (Q → Option (List SentGram)) → (Q → Bool) → (Q → ℕ) → Q → Told
+told heard sent over faults port = record { heard = heard port; sent = sent port; over = over port; faults = faults port }
+
+-- a serving and its book: the session is under way, each reply goes to its own asker, and what was passed on was rightly so
+pub record IsOn (plan : Scenario) (count : ℕ) (v : Serving) (b : Book) : Type 0 where
+  pub underway : IsUnderway plan count v.session b
+  pub counts : v.count ≡ count
+  pub few : length b.grams ≤ count
+  pub fits : count < 4294967296
+  pub sound : IsSound (map heard_as b.grams) v.desk
+  pub answered : All (IsOwed (map heard_as b.grams)) b.replies
+  pub judged : All (IsRightly (map home_of plan.slaves)) b.grams
+
+-- a serving and its port, by what the port told first: the book has what was heard and sent since
+pub record IsServing (plan : Scenario) (count : ℕ) (first now : Told) (v : Serving) (b : Book) : Type 0 where
+  pub on : IsOn plan count v b
+  pub heard : AreHeard first.heard now.heard b.grams
+  pub sent : AreSent first.sent now.sent b.replies
+  pub over : v.over ≡ true → now.over ≡ true
+  pub later : first.faults ≤ now.faults
+
+-- a serving whose port failed: the last datagram of the book was sent or not
+pub record IsFaulted (plan : Scenario) (count : ℕ) (first now : Told) (v : Serving) (b : Book) : Type 0 where
+  pub on : IsOn plan count v b
+  pub heard : AreHeard first.heard now.heard b.grams
+  pub sent : AreSentBut first.sent now.sent b.replies
+  pub rose : Rose first.faults now.faults
+
+-- what a call of a port that listens tells: what it heard, and that it sent nothing
+pub record Listens (now next : Told) (answer : Heard) (octets : List ℕ) : Type 0 where
+  pub hears : Hears now.heard next.heard octets (Ok answer)
+  pub sent : next.sent ≡ now.sent
+  pub over : next.over ≡ (has_ended (Ok answer) || now.over)
+  pub later : now.faults ≤ next.faults
+
+-- a datagram stands in the book besides
+abbrev pub PutsOne : GramOut → Book → Book → Type 0
+PutsOne reply b b' = b' ≡ record b { replies = b.replies ++ reply ∷ [] }
+
+-- a datagram was sent and stands in the book
+pub record SentOne (reply : GramOut) (now next : Told) (b b' : Book) : Type 0 where
+  pub puts : PutsOne reply b b'
+  pub heard : next.heard ≡ now.heard
+  pub sent : AreSent now.sent next.sent (reply ∷ [])
+  pub over : next.over ≡ now.over
+  pub later : now.faults ≤ next.faults
+
+-- the port failed at a datagram, which was sent or not and stands in the book
+pub record FailedOne (reply : GramOut) (now next : Told) (b b' : Book) : Type 0 where
+  pub puts : PutsOne reply b b'
+  pub heard : next.heard ≡ now.heard
+  pub sent : AreSentBut now.sent next.sent (reply ∷ [])
+  pub rose : Rose now.faults next.faults
+  pub later : now.faults ≤ next.faults
+
+-- a datagram is sent and stands in the book
+abbrev pub SendsOne : GramOut → Told → Told → Book → Book → Result (Unit {0}) Stop → Type 0
+SendsOne reply now next b b' (Ok done) = SentOne reply now next b b'
+SendsOne reply now next b b' (Err stops.PortFault) = FailedOne reply now next b b'
+SendsOne reply now next b b' (Err stops.NoMemory) = b' ≡ record b { replies = b'.replies }
+
+-- a serving behind a step of it; where memory ran out, the frames of the book alone are told
+abbrev pub Goes : {T : Type 0} → Scenario → ℕ → Told → Told → Serving → Book → Result T Stop → Type 0
+Goes plan count first now v b (Ok value) = IsServing plan count first now v b
+Goes plan count first now v b (Err stops.PortFault) = IsFaulted plan count first now v b
+Goes plan count first now v b (Err stops.NoMemory) = HasSent plan count b
+
+-- more can be heard
+abbrev pub can_hear : Serving → Book → Bool
+can_hear v b = not v.over && nat_lt (length b.grams) v.count
+
+-- what is left to do at most: frames, datagrams to be heard, and the port's end
+abbrev pub left : Serving → Book → ℕ
+left v b = (v.session.budget - v.session.ring.number) + (v.count - length b.grams) + (if v.over then 0 else 1)

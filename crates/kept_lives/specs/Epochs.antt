@@ -1,0 +1,100 @@
+-- WHAT A SLAVE DID, epoch by epoch, of the services that came into hand of it.
+use Rattle.std.specs.Prelude.{◌≡◌, ℕ, ◌+◌, ◌<◌, ◌≤◌, Bool, true, Option, Some, None, List, [], ◌∷◌, ◌++◌, map, take, length}
+use Rattle.exchange_model.specs.Exchange.{emitted}
+use Rattle.exchange_model.specs.Prefix.{IsPrefixOf}
+use Rattle.exchange_model.specs.Rows.{exec_all, emits_all}
+use Rattle.life_model.specs.Eras.{era_frames}
+use Rattle.life_model.specs.Lives.{Spot, Era, Life}
+use Rattle.link_mails.specs.Body.{Body}
+use Rattle.segment_model.specs.Laws.{AllAnswered, WantsNothing}
+use Rattle.segment_model.specs.Record.{Frame, heard}
+use Rattle.segment_model.specs.Seats.{rows_of}
+use Rattle.slave_lives.specs.Lived.{Behind, table_of, node_seen}
+use Rattle.slave_steps.specs.Node.{Node, is_settled}
+use Rattle.state_exchange.specs.Stated.{Service, with_states, mails}
+use Rattle.task_model.specs.Accounts.{Started}
+use Rattle.task_model.specs.Promise.{services_in, mails_started, rows_started, states_started, changes_in, duty_in, AllReplied, AllDone, AllFound, AllEnded, but_last}
+
+module _ {S V A Q R : Type 0} (w : Behind S V A Q R) (more : Body → Bool) (spot : Spot) where
+  -- the application behind these services, from one on, and what they emit
+  abbrev pub app_behind : A → List (Service Q) → A
+  app_behind from qs = (exec_all (with_states w.exchange w.states (table_of w spot.station)) (from, 0) qs).0
+
+  abbrev pub emitted_by : A → List (Service Q) → List Body
+  emitted_by from qs = mails (emits_all (with_states w.exchange w.states (table_of w spot.station)) (from, 0) qs)
+
+  -- CARRIED OUT: from one application to another just the first so many of the services that came into hand, each once and in order; at most the
+  -- two newest are not among them
+  pub record IsCarriedOut (from to : A) (count : ℕ) (started : List (Started Q)) : Type 0 where
+    pub prefix : count ≤ length started
+    pub behind : length started ≤ count + 2
+    pub app : to ≡ app_behind from (take count (services_in started))
+
+  -- ANSWERED, by these frames: each reply is that of its service on the application behind those before it, and its service was carried out; only
+  -- the newest may be without one; and what was heard besides are the first of the emissions
+  pub record IsAnswered (gs : List (Frame Body)) (from : A) (count : ℕ) (started : List (Started Q)) : Type 0 where
+    pub replies : AllReplied w.exchange w.states (table_of w spot.station) more spot.station gs (from, 0) started
+    pub done : AllDone w.exchange.speech more spot.station gs count 0 started
+    pub ended : AllEnded w.exchange.speech more spot.station gs (but_last started)
+    pub emissions : IsPrefixOf (emitted w.exchange.speech.emission (heard spot.station gs)) (emitted_by from (take count (services_in started)))
+
+  -- THE MASTER HAS THESE ANSWERS: its rows are the services by mails that came into hand, and its changes the state services, each with the answer
+  -- that the frames give
+  pub record IsTold (gs : List (Frame Body)) (e : Era Body Q R) : Type 0 where
+    pub mails : mails_started e.account.started ≡ rows_started (rows_of e.side)
+    pub answers : AllAnswered w.exchange.speech more spot.station gs (rows_of e.side)
+    pub states : states_started e.account.started ≡ changes_in e.account.over ++ duty_in e.account.hand
+    pub over : AllFound w.exchange.speech more spot.station gs e.account.over
+
+  -- AN EPOCH from the frame that opened it to another: its slave began with this application, told the AL state that was opened, in the first epoch
+  -- the plan's
+  pub record IsKept (fs : List (Frame Body)) (e : Era Body Q R) (from to : A) (until : ℕ) : Type 0 where
+    pub opened : ℕ
+    pub opened_at : e.opened ≡ Some opened
+    pub before : opened < until
+    pub within : until ≤ length fs
+    pub state : ℕ
+    pub first : e.cleared ≡ None → state ≡ spot.start
+    pub count : ℕ
+    pub carried : IsCarriedOut (w.states.told state from) to count e.account.started
+    pub answered : IsAnswered (era_frames spot opened until fs) (w.states.told state from) count e.account.started
+    pub told : IsTold (era_frames spot opened until fs) e
+
+  -- ALL EPOCHS THAT ARE OVER, from the application of the plan on: each begins with what the one before left, cleared by the return to Init
+  pub data AreKept (cleared : A → A) (fs : List (Frame Body)) (first : A) : List (Era Body Q R) → A → Type 0 where
+    none : AreKept cleared fs first [] first
+    unopened : (es : List (Era Body Q R)) (b : A) (e : Era Body Q R) → AreKept cleared fs first es b → e.opened ≡ None → AreKept cleared fs first (es ++ e ∷ []) (cleared b)
+    opened : (es : List (Era Body Q R)) (b : A) (e : Era Body Q R) (left : A) (until : ℕ) → AreKept cleared fs first es b → IsKept fs e b left until → AreKept cleared fs first (es ++ e ∷ []) (cleared left)
+
+  -- the application of a node, and the one with which it begins anew once it is returned to Init, as it is seen in an AL state
+  abbrev pub app_of : Node S → A
+  app_of n = w.exchange.app (node_seen w n).node.server.server
+
+  abbrev pub app_anew : ℕ → Node S → A
+  app_anew state n = w.exchange.app (w.sees state (w.running.clear n.server)).server
+
+  -- NOTHING IS LEFT of an epoch: all that came into hand is carried out and answered, and all its emissions were heard
+  pub record NothingLeft (fs : List (Frame Body)) (e : Era Body Q R) (from to : A) : Type 0 where
+    pub opened : ℕ
+    pub opened_at : e.opened ≡ Some opened
+    pub state : ℕ
+    pub app : to ≡ app_behind (w.states.told state from) (services_in e.account.started)
+    pub ended : AllEnded w.exchange.speech more spot.station (era_frames spot opened (length fs) fs) e.account.started
+    pub emissions : emitted w.exchange.speech.emission (heard spot.station (era_frames spot opened (length fs) fs)) ≡ emitted_by (w.states.told state from) (services_in e.account.started)
+
+  -- so it is where the slave is settled and the master wants nothing of it
+  abbrev pub RestsIf : List (Frame Body) → Era Body Q R → A → Node S → Type 0
+  RestsIf fs e from n = is_settled w.running.next n ≡ true → WantsNothing w.exchange.speech e.side → e.account.hand ≡ None → NothingLeft fs e from (app_of n)
+
+  -- THE NEWEST EPOCH: it is open, and the slave's application is what was carried out of it; or nothing began in it yet; or it is over, left with what
+  -- was carried out of it, and the slave begins anew with that, cleared
+  pub data IsNewest (cleared : A → A) (fs : List (Frame Body)) (e : Era Body Q R) (from : A) (n : Node S) : Type 0 where
+    lives : IsKept fs e from (app_of n) (length fs) → RestsIf fs e from n → IsNewest cleared fs e from n
+    waits : (state : ℕ) → e.account.started ≡ [] → from ≡ app_anew state n → IsNewest cleared fs e from n
+    left : (state : ℕ) (to : A) (until : ℕ) → IsKept fs e from to until → app_anew state n ≡ cleared to → IsNewest cleared fs e from n
+
+  -- THE WHOLE LIFE of a slave with this node
+  pub record IsKeptLife (cleared : A → A) (fs : List (Frame Body)) (first : A) (l : Life Body Q R) (n : Node S) : Type 0 where
+    pub from : A
+    pub past : AreKept cleared fs first l.past from
+    pub newest : IsNewest cleared fs l.era from n

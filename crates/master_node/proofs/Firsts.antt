@@ -1,0 +1,102 @@
+-- A slave before its bring-up.
+use Rattle.std.proofs.Common.{◌≡◌, ◌≤◌, ℕ, zero, suc, ◌+◌, ◌<◌, ◌-◌, ◌%◌, Bool, true, false, None, List, [], ◌∷◌, ◌++◌, refl, sym, ap, ◌∙◌, subst, arith, length, take}
+use Rattle.std.specs.Prelude.{nat_lt, ◌==◌, ◌||◌, ◌&&◌}
+use Rattle.std.proofs.lemmas.Bool.{eqb-true}
+use Rattle.segment_plan.specs.Sound.{is_start}
+use Rattle.al_state.specs.declared.bringing.BringStep.{BringStep}
+use Rattle.al_state.specs.declared.bringing.BringUp.{BringUp}
+use Rattle.frame_view.specs.View.{Lens}
+use Rattle.life_frames.specs.Openings.{has_step, opening_of}
+use Rattle.life_frames.specs.Shares.{AllFrom, AllBoth}
+use Rattle.life_model.specs.Lives
+use Rattle.life_model.specs.Lives.{new_life}
+use Rattle.life_runs.specs.Led.{Leads, new_leads}
+use Rattle.life_runs.specs.First.{spot_of, script_for, leads_from, HaveLens}
+use Rattle.mailbox_master.specs.Any.{in_area_len}
+use Rattle.master_hand.specs.Shown.{Shows}
+use Rattle.master_hand.specs.Spoken.{hand_speech}
+use Rattle.master_hand.specs.declared.hand.InHand.{InHand}
+use Rattle.master_side.specs.Shown.{SideShows, new_side}
+use Rattle.master_side.specs.declared.hand.Hand.{Ghosts}
+use Rattle.master_tour.specs.Made.{IsSized}
+use Rattle.master_tour.specs.Stands.{StandShows, EraShows, OpeningShows, is_still}
+use Rattle.master_tour.specs.declared.stop.Stand.{Stand}
+use Rattle.master_tour.specs.declared.stop.Stop.{Stop}
+use Rattle.segment_plan.specs.declared.plan.Scenario.{Scenario}
+use Rattle.segment_plan.specs.declared.slave.SlaveSpec.{SlaveSpec}
+use Rattle.task_model.specs.Accounts.{new_account}
+use Rattle.master_node.specs.Shows.{side_shows, IsLead, is_opening_lead}
+use Rattle.master_node.specs.First.{IsNewSide, IsFirst}
+use Rattle.master_tour.specs.Goes.{holds_at}
+
+module _ {G : Ghosts InHand} (plan : Scenario) (place : ℕ) (spec : SlaveSpec) (s : Stop InHand G) (up : BringUp) (n : IsNewSide plan.services place spec s.side) (st : s.stand ≡ Stand.Opening up)
+    (u : up ≡ record { adp = (65536 - place) % 65536; station = spec.station; out_len = spec.out_len; in_len = spec.in_len; start = spec.start; again = false; step = BringStep.Address }) (small : nat_lt spec.start 16 ≡ true) where
+  module _ (lens : ℕ → Lens) (o : (lens spec.station).out ≡ spec.out_len) (b : (lens spec.station).back ≡ spec.in_len) where
+    new_shown : side_shows lens plan.recover s (spot_of place spec) new_side new_account
+    new_shown =
+        subst (λ z. SideShows (Shows s.side.hand.course s.side.hand.which s.side.hand.clients (hand_speech z)) s.side.out s.side.inn s.side.fresh s.side.duty new_side new_account)
+        (λ i. record { out = sym o i; back = sym b i }) n.shown
+
+    opening : OpeningShows (side_shows lens plan.recover s (spot_of place spec)) (spot_of place spec) up (new_life spec.start)
+    opening = record {
+      own = false;
+      stand = ap (λ z. Lives.Stand.Opens (opening_of z false)) (sym u);
+      opening = record {
+        step = ap has_step u;
+        state = ap (λ z. nat_lt z.start 16) u ∙ small;
+        station = ap (λ z. z.station) u;
+        place = ap (λ z. z.adp) u;
+      };
+      era = subst (λ z. EraShows (side_shows lens plan.recover s (spot_of place spec)) z (new_life spec.start).era) (sym (ap is_still u)) new_shown;
+    }
+
+  pub first_shown : s.place ≡ place → s.start ≡ spec.start → s.spare ≡ plan.recover → length (script_for place plan.services) ≤ 4096 → IsFirst plan place spec s
+  first_shown p t sp few = λ lens o b. record {
+    lives = record {
+      planned = record {
+        stands = record { station_is = n.station; place_is = p; start_is = t; small = subst (λ z. nat_lt z 16 ≡ true) (sym t) small };
+        out_is = ap (λ z. (lens z).out) n.station ∙ o ∙ sym n.out;
+        back_is = ap (λ z. (lens z).back) n.station ∙ b ∙ sym n.back;
+        sized = subst (λ z. IsSized z s.side.out.len (in_area_len s.side.inn)) (sym st) (ap (λ z. z.out_len) u ∙ sym n.out, ap (λ z. z.in_len) u ∙ sym n.back);
+      };
+      shown = record {
+        stood = subst (λ z. StandShows (side_shows lens plan.recover s (spot_of place spec)) (spot_of place spec) z (new_life spec.start)) (sym st) (opening lens o b);
+        spared = sp ∙ (let e : plan.recover ≡ plan.recover - 0 = omega arith in e);
+        over = λ e. absurd (let v = sym st ∙ e in cc);
+      };
+    };
+    script = n.script;
+    number = n.number;
+    short = few;
+    unpassed = n.unpassed;
+    own = refl;
+  }
+
+-- one slave more
+pub from_more : {A S : Type 0} (P : ℕ → A → S → Type 0) (i n : ℕ) (xs : List A) (ss : List S) (x : A) (s : S) → AllFrom P i xs ss → n ≡ i + length xs → P n x s → AllFrom P i (xs ++ x ∷ []) (ss ++ s ∷ [])
+from_more P i n [] [] x s a e p = (subst (λ k. P k x s) (let f : n ≡ i = omega (arith, e) in f) p, tt)
+from_more P i n [] (t ∷ ss) x s a e p = absurd a
+from_more P i n (y ∷ xs) [] x s a e p = absurd a
+from_more P i n (y ∷ xs) (t ∷ ss) x s a e p = (a.0, from_more P (suc i) n xs ss x s a.1 (omega (arith, e)) p)
+
+-- all of them
+pub all_leads : {G : Ghosts InHand} (plan : Scenario) (lens : ℕ → Lens) (place : ℕ) (specs : List SlaveSpec) (ss : List (Stop InHand G)) → HaveLens lens specs → AllFrom (λ i spec s. IsFirst plan i spec s) place specs ss →
+    AllBoth (λ a s. IsLead lens plan.recover a s) (leads_from plan.services place specs) ss
+all_leads plan lens place [] [] h a = tt
+all_leads plan lens place [] (s ∷ ss) h a = absurd a
+all_leads plan lens place (spec ∷ specs) [] h a = absurd a
+all_leads plan lens place (spec ∷ specs) (s ∷ ss) h a = (a.0 lens h.0.0 h.0.1, all_leads plan lens (suc place) specs ss h.1 a.1)
+
+pub all_open : (plan : Scenario) (place : ℕ) (specs : List SlaveSpec) (k : ℕ) → k < length (leads_from plan.services place specs) → holds_at is_opening_lead (leads_from plan.services place specs) k ≡ true
+all_open plan place [] k l = absurd (omega (arith, l))
+all_open plan place (spec ∷ specs) zero l = refl
+all_open plan place (spec ∷ specs) (suc k) l = all_open plan (suc place) specs k (omega (arith, l))
+
+-- a start state is small
+pub start_small : (boot : Bool) (start : ℕ) → is_start boot start ≡ true → nat_lt start 16 ≡ true
+start_small boot start e = go (start == 2) refl boot refl
+  where
+    go : (a : Bool) → (start == 2) ≡ a → (b : Bool) → boot ≡ b → nat_lt start 16 ≡ true
+    go true f b g = ap (λ z. nat_lt z 16) (eqb-true start 2 f)
+    go false f true g = ap (λ z. nat_lt z 16) (eqb-true start 3 (let h : (start == 2 || (boot && start == 3)) ≡ true = e in (λ i. (sym f i || (sym g i && start == 3))) ∙ h))
+    go false f false g = absurd (let h : (start == 2 || (boot && start == 3)) ≡ true = e in let k : false ≡ true = (λ i. (sym f i || (sym g i && start == 3))) ∙ h in cc)

@@ -1,0 +1,17 @@
+use Rattle.std.proofs.Common.{◌≡◌, ◌<◌, ◌∙◌, inl, inr, refl, sym, ap, subst, arith, length, Some, None, true, false}
+use Rattle.master_tour.specs.Walks.{StepsAt}
+use Rattle.master_tour.proofs.Walks.{steps_set}
+use Rattle.master_node.specs.Coming.{CameBy}
+use Rattle.master_node.proofs.Kepts.{stop_same}
+use Rattle.master_node.proofs.Lists.{steps_same}
+use Rattle.master_node.proofs.node.MasterNode.came.Goals as goal
+
+pub returns-then-began-clause-came : goal.returns-then-began-clause-came
+returns-then-began-clause-came c =
+    subst (λ z. StepsAt (λ s t. CameBy z c.args.coming s t) c.args.place c.args.self.now.tour.stops.items c.begun.new.self.tour.stops.items) (sym c.if-began.true) c.begun.ensures.begun
+
+pub returns-else-began-clause-came : goal.returns-else-began-clause-came
+returns-else-began-clause-came c =
+    let m = c.args.self.now in
+    let l : c.args.place < length m.tour.stops.items = omega (arith, c.requires, m.paired, m.tour.stops.ok.0) in
+    subst (λ z. StepsAt (λ s t. CameBy z c.args.coming s t) c.args.place m.tour.stops.items m.tour.stops.items) (sym c.if-began.false) (steps_same _ c.args.place m.tour.stops.items l (λ s. stop_same s))

@@ -1,0 +1,8 @@
+use Rattle.master_node.proofs.Tells.{node_refl}
+use Rattle.master_node.proofs.node.MasterNode.carried_given_up.Goals as goal
+
+pub returns-else-place-len-clause-kept : goal.returns-else-place-len-clause-kept
+returns-else-place-len-clause-kept c = node_refl _
+
+pub returns-clause-kept : goal.returns-clause-kept
+returns-clause-kept c = node_refl _

@@ -1,0 +1,74 @@
+use Rattle.std.proofs.Common.{◌≡◌, ◌<◌, ◌≤◌, ◌∙◌, ◌+◌, ℕ, true, false, Bool, None, Some, refl, sym, ap, subst, arith}
+use Rattle.std.specs.Prelude.{if◌then◌else◌}
+use Rattle.master_tour.specs.Goes.{is_live, holds_at}
+use Rattle.master_node.specs.Filling.{IsFilling}
+use Rattle.master_node.specs.Kept.{TourOn}
+use Rattle.master_node.proofs.Filleds.{SameTour, fills_first, fills_last, fills_same, fills_more, fills_still, on_same, on_on, passes_some, passes_at, some_count}
+use Rattle.master_node.proofs.node.MasterNode.fill.Goals as goal
+
+pub returns-in_default-clause-on : goal.returns-in_default-clause-on
+returns-in_default-clause-on c =
+    let e = c.due.ensures in
+    on_on c.args.self.now c.loop.self _ c.loop.invariant.2 (record { again = e.kept.1; opened = e.kept.3; last = e.kept.4; missed = e.rest.0; retry = e.rest.1; made = refl })
+
+pub returns-in_default-clause-filled : goal.returns-in_default-clause-filled
+returns-in_default-clause-filled c = λ lens recover made as' d x.
+    let e = c.due.ensures in
+    let f = c.loop.invariant.3 lens recover made as' d x in
+    let none : c.due.result ≡ None = cc in
+    fills_same lens recover made as' c.loop.counter c.loop.self _ c.loop.into.items (record { stops = e.stops; count = e.kept.0; again = e.kept.1; visit = e.kept.2; opened = e.kept.3; last = e.kept.4; made = refl; posts = refl }) f
+    (some_count c.loop.counter (λ z. let y = f.none z in passes_some (λ s. is_live s.stand) c.loop.self.tour.stops.items c.due.result none (e.first y.count y.passed y.begins y.some)))
+
+pub returns-then-not-visit-clause-on : goal.returns-then-not-visit-clause-on
+returns-then-not-visit-clause-on c =
+    let e = c.due.ensures in
+    on_on c.args.self.now c.loop.self c.visit.new.self c.loop.invariant.2
+    (record { again = c.visit.ensures.on.0.again ∙ e.kept.1; opened = c.visit.ensures.on.0.opened ∙ e.kept.3; last = c.visit.ensures.on.0.last ∙ e.kept.4; missed = c.visit.ensures.on.0.missed ∙ e.rest.0; retry = c.visit.ensures.on.0.retry ∙ e.rest.1; made = c.visit.ensures.on.0.made })
+
+pub returns-then-not-visit-clause-filled : goal.returns-then-not-visit-clause-filled
+returns-then-not-visit-clause-filled c = λ lens recover made as' d x.
+    let e = c.due.ensures in
+    let v = c.visit.ensures in
+    let f = c.loop.invariant.3 lens recover made as' d x in
+    let p = c.in-Some.place in
+    let is : c.due.result ≡ Some p = cc in
+    let no : c.visit.result ≡ false = cc in
+    let next = e.left p is (λ a. f.once) in
+    fills_still lens recover made as' c.loop.counter c.loop.self _ c.visit.new.self c.loop.into.items c.visit.new.into.items p
+    (some_count c.loop.counter (λ z.
+    let y = f.none z in
+    let yes = (v.first y.short (subst (λ w. holds_at (λ s. is_live s.stand) w.items p ≡ true) (sym e.stops) (passes_at (λ s. is_live s.stand) c.loop.self.tour.stops.items c.due.result p is (e.first y.count y.passed y.begins y.some)))).0 in
+    (let w : true ≡ false = sym yes ∙ no in cc)))
+    f (record { stops = e.stops; count = e.kept.0; again = e.kept.1; visit = e.kept.2; opened = e.kept.3; last = e.kept.4; made = refl; posts = refl }) (f.most p next.among) v.on.0 v.quiet (v.still no).0 (v.still no).1
+    (λ left other q a o s g. subst (λ (z : Bool). IsFilling lens recover made (if z then other else left) c.visit.new.self c.visit.new.into.items as') no (v.led lens recover made left other as' q d a o s g))
+
+pub returns-clause-on : goal.returns-clause-on
+returns-clause-on c = c.loop.invariant.2
+
+pub returns-clause-filled : goal.returns-clause-filled
+returns-clause-filled c = λ lens recover made as' d x.
+    fills_last lens recover made as' c.loop.counter c.loop.self c.loop.into.items (let t = c.loop-test.false in omega (arith, t)) (c.loop.invariant.3 lens recover made as' d x)
+
+pub loop-init : goal.loop-init
+loop-init c = (c.requires, refl, on_same c.args.self.now, λ lens recover made as' d x. fills_first lens recover made as' c.args.self.now c.args.into.now.items x)
+
+pub loop-preserved : goal.loop-preserved
+loop-preserved c = (
+  c.visit.ensures.begun,
+  c.visit.ensures.posts ∙ c.loop.invariant.1,
+  (let e = c.due.ensures in
+      on_on c.args.self.now c.loop.self c.visit.new.self c.loop.invariant.2
+      (record { again = c.visit.ensures.on.0.again ∙ e.kept.1; opened = c.visit.ensures.on.0.opened ∙ e.kept.3; last = c.visit.ensures.on.0.last ∙ e.kept.4; missed = c.visit.ensures.on.0.missed ∙ e.rest.0; retry = c.visit.ensures.on.0.retry ∙ e.rest.1; made = c.visit.ensures.on.0.made })),
+  λ lens recover made as' d x.
+      let e = c.due.ensures in
+      let v = c.visit.ensures in
+      let f = c.loop.invariant.3 lens recover made as' d x in
+      let p = c.in-Some.place in
+      let is : c.due.result ≡ Some p = cc in
+      let yes : c.visit.result ≡ true = cc in
+      fills_more lens recover made as' c.loop.counter c.loop.self _ c.visit.new.self c.loop.into.items c.visit.new.into.items p f
+      (record { stops = e.stops; count = e.kept.0; again = e.kept.1; visit = e.kept.2; opened = e.kept.3; last = e.kept.4; made = refl; posts = refl })
+      (λ a. e.left p is a) (λ a b g h. passes_at (λ s. is_live s.stand) c.loop.self.tour.stops.items c.due.result p is (e.first a b g h))
+      (c.in-Some.ensures.few) v.on.0 v.on.1 v.quiet v.visits v.counts (λ a b. (v.first a b).1)
+      (λ left other q a o s g. subst (λ (z : Bool). IsFilling lens recover made (if z then other else left) c.visit.new.self c.visit.new.into.items as') yes (v.led lens recover made left other as' q d a o s g)),
+)

@@ -1,0 +1,9 @@
+use Rattle.std.proofs.Common.{refl}
+use Rattle.master_node.proofs.Tells.{node_refl}
+use Rattle.master_node.proofs.node.MasterNode.heard.Goals as goal
+
+pub returns-else-matches-2-clause-kept : goal.returns-else-matches-2-clause-kept
+returns-else-matches-2-clause-kept c = node_refl _
+
+pub returns-else-matches : goal.returns-else-matches
+returns-else-matches c = record { posts = refl; kept = node_refl _ }

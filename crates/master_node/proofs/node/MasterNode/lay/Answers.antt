@@ -1,0 +1,21 @@
+use Rattle.std.proofs.Common.{◌≡◌, ◌<◌, ◌∙◌, inl, inr, refl, sym, ap, subst, arith, length, Some, None, true, false}
+use Rattle.std.specs.Prelude.{⊤}
+use Rattle.master_tour.specs.Walks.{StepsAt}
+use Rattle.master_tour.proofs.Walks.{steps_set}
+use Rattle.master_node.specs.Coming.{IsLaid}
+use Rattle.master_node.specs.Kept.{StopStays}
+use Rattle.master_node.specs.declared.coming.Coming.{Coming}
+use Rattle.master_node.proofs.Kepts.{stop_same, tour_same}
+use Rattle.master_node.proofs.Lists.{steps_same, steps_map}
+use Rattle.master_node.proofs.node.MasterNode.lay.Goals as goal
+
+pub returns-in-None-clause-laid : goal.returns-in-None-clause-laid
+returns-in-None-clause-laid c =
+    let m = c.args.self.now in
+    let l : c.args.place < length m.tour.stops.items = omega (arith, c.requires, m.paired, m.tour.stops.ok.0) in
+    let e = c.in-None.is in
+    subst (λ z. StepsAt (λ s t. StopStays s t × IsLaid z t.side.hand.laying.laid) c.args.place m.tour.stops.items m.tour.stops.items) (sym e) (steps_same _ c.args.place m.tour.stops.items l (λ s. (stop_same s, tt)))
+
+pub returns-in-Some-clause-laid : goal.returns-in-Some-clause-laid
+returns-in-Some-clause-laid c =
+    subst (λ z. StepsAt (λ s t. StopStays s t × IsLaid z t.side.hand.laying.laid) c.args.place c.args.self.now.tour.stops.items c.lay_coming.new.self.tour.stops.items) (sym c.in-Some.is) c.lay_coming.ensures.laid

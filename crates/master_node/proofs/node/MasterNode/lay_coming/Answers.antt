@@ -1,0 +1,42 @@
+use Rattle.std.proofs.Common.{◌≡◌, ◌<◌, ◌∙◌, inl, inr, refl, sym, ap, subst, arith, length, Some, None, true, false}
+use Rattle.std.specs.Prelude.{⊤}
+use Rattle.master_tour.specs.Walks.{StepsAt}
+use Rattle.master_tour.proofs.Walks.{steps_set}
+use Rattle.master_node.specs.Coming.{IsLaid}
+use Rattle.master_node.specs.Kept.{StopStays}
+use Rattle.master_node.specs.declared.coming.Coming.{Coming}
+use Rattle.master_node.proofs.Kepts.{stop_same, tour_same}
+use Rattle.master_node.proofs.Lists.{steps_same, steps_map}
+use Rattle.master_node.proofs.node.MasterNode.lay_coming.Goals as goal
+
+pub returns-in-Packet-clause-laid : goal.returns-in-Packet-clause-laid
+returns-in-Packet-clause-laid c =
+    let m = c.args.self.now in
+    let l : c.args.place < length m.tour.stops.items = omega (arith, c.requires, m.paired, m.tour.stops.ok.0) in
+    let e = c.in-Packet.is in
+    subst (λ z. StepsAt (λ s t. StopStays s t × IsLaid (Some z) t.side.hand.laying.laid) c.args.place m.tour.stops.items c.lay_packet.new.self.tour.stops.items) (sym e) c.lay_packet.ensures.laid
+
+pub returns-in-Script-clause-laid : goal.returns-in-Script-clause-laid
+returns-in-Script-clause-laid c =
+    let m = c.args.self.now in
+    let l : c.args.place < length m.tour.stops.items = omega (arith, c.requires, m.paired, m.tour.stops.ok.0) in
+    let e = c.in-Script.is in
+    subst (λ z. StepsAt (λ s t. StopStays s t × IsLaid (Some z) t.side.hand.laying.laid) c.args.place m.tour.stops.items c.lay_script.new.self.tour.stops.items) (sym e) c.lay_script.ensures.laid
+
+pub returns-in-Mail-clause-laid : goal.returns-in-Mail-clause-laid
+returns-in-Mail-clause-laid c =
+    let m = c.args.self.now in
+    let l : c.args.place < length m.tour.stops.items = omega (arith, c.requires, m.paired, m.tour.stops.ok.0) in
+    let e = c.in-Mail.is in
+    subst (λ z. StepsAt (λ s t. StopStays s t × IsLaid (Some z) t.side.hand.laying.laid) c.args.place m.tour.stops.items c.lay_mail.new.self.tour.stops.items) (sym e) (steps_map _ _ c.args.place m.tour.stops.items c.lay_mail.new.self.tour.stops.items (λ s t k. (k, tt)) c.lay_mail.ensures.laid)
+
+pub returns-in-State-clause-laid : goal.returns-in-State-clause-laid
+returns-in-State-clause-laid c =
+    let m = c.args.self.now in
+    let l : c.args.place < length m.tour.stops.items = omega (arith, c.requires, m.paired, m.tour.stops.ok.0) in
+    let e = c.in-State.is in
+    subst (λ z. StepsAt (λ s t. StopStays s t × IsLaid (Some z) t.side.hand.laying.laid) c.args.place m.tour.stops.items c.lay_state.new.self.tour.stops.items) (sym e)
+    (subst (λ z. StepsAt (λ s t. StopStays s t × ⊤) c.args.place m.tour.stops.items z.stops.items) (sym c.lay_state.ensures.tour.0) (steps_same _ c.args.place m.tour.stops.items l (λ s. (stop_same s, tt))))
+
+pub returns-in-State-clause-kept : goal.returns-in-State-clause-kept
+returns-in-State-clause-kept c = (tour_same c.args.self.now c.lay_state.new.self c.lay_state.ensures.tour.0 c.lay_state.ensures.tour.1, c.lay_state.ensures.quiet)

@@ -1,0 +1,19 @@
+use Rattle.std.proofs.Common.{◌≡◌, ◌<◌, ◌∙◌, inl, inr, refl, sym, ap, subst, arith, length, Some, None, true, false}
+use Rattle.master_tour.specs.Walks.{StepsAt}
+use Rattle.master_tour.proofs.Walks.{steps_set}
+use Rattle.master_node.specs.Kept.{StopStays}
+use Rattle.master_node.proofs.Kepts.{stop_side, stop_same}
+use Rattle.master_node.proofs.Lists.{steps_same}
+use Rattle.master_node.proofs.node.MasterNode.lay_mail.Goals as goal
+
+pub returns-in-Some-clause-laid : goal.returns-in-Some-clause-laid
+returns-in-Some-clause-laid c =
+    let m = c.args.self.now in
+    let l : c.args.place < length m.tour.stops.items = omega (arith, c.requires, m.paired, m.tour.stops.ok.0) in
+    steps_set _ c.args.place m.tour.stops.items c.index_mut.result.now _ l c.index_mut.ensures.value (stop_side _ _ _ c.lay_mail.ensures refl refl refl refl refl refl)
+
+pub returns-in_default-clause-laid : goal.returns-in_default-clause-laid
+returns-in_default-clause-laid c =
+    let m = c.args.self.now in
+    let l : c.args.place < length m.tour.stops.items = omega (arith, c.requires, m.paired, m.tour.stops.ok.0) in
+    steps_same _ c.args.place m.tour.stops.items l (λ s. stop_same s)

@@ -1,0 +1,11 @@
+use Rattle.std.proofs.Common.{◌≡◌, ◌<◌, ◌∙◌, inl, inr, refl, sym, ap, subst, arith, length, Some, None, true, false}
+use Rattle.master_tour.specs.Walks.{StepsAt}
+use Rattle.master_tour.proofs.Walks.{steps_set}
+use Rattle.master_node.proofs.Kepts.{stop_side}
+use Rattle.master_node.proofs.node.MasterNode.lay_script.Goals as goal
+
+pub returns-clause-laid : goal.returns-clause-laid
+returns-clause-laid c =
+    let m = c.args.self.now in
+    let l : c.args.place < length m.tour.stops.items = omega (arith, c.requires, m.paired, m.tour.stops.ok.0) in
+    steps_set _ c.args.place m.tour.stops.items c.index_mut.result.now _ l c.index_mut.ensures.value (stop_side _ _ _ c.lay_script.ensures.kept refl refl refl refl refl refl, c.lay_script.ensures.laid)

@@ -1,5 +1,0 @@
-use Rattle.std.proofs.Common.{◌≡◌, vec_len}
-use Rattle.master_node.proofs.node.MasterNode.lost.Given as goal
-
-abbrev pub invariant-loop-k : goal.invariant-loop-k
-invariant-loop-k l = vec_len l.self.posts ≡ vec_len l.initial.self.posts

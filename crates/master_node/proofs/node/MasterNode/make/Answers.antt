@@ -1,0 +1,68 @@
+use Rattle.std.proofs.Common.{◌≡◌, ◌∙◌, ◌%◌, ℕ, Option, None, true, false, refl, sym, ap, subst, length}
+use Rattle.std.specs.Prelude.{map, is_some}
+use Rattle.life_runs.specs.Led.{speech_at}
+use Rattle.master_hand.specs.Spoken.{Asked, is_followed, is_passed}
+use Rattle.master_tour.specs.Goes.{is_live, holds_at}
+use Rattle.master_tour.specs.Made.{FrameMade, is_in}
+use Rattle.state_exchange.specs.Stated.{Service}
+use Rattle.master_node.specs.Filling.{IsAmong, StopFills, IsEmpty}
+use Rattle.master_node.specs.Shows.{IsLead, GoesOn, lived_of, is_live_lead}
+use Rattle.master_node.proofs.Fills.{from_map}
+use Rattle.master_node.proofs.Lists.{both_map, both_holds, both_length}
+use Rattle.master_node.proofs.Sents.{stand_lives, each_holds, each_any, begins_live, both_from, lead_among, turns, turns_all, under_all, same_all, distinct_same, goes_under, sent_is, sent_some, goes_begun, some_not}
+use Rattle.master_tour.proofs.Steps as Steps
+use Rattle.master_node.proofs.node.MasterNode.make.Goals as goal
+
+pub returns-clause-led : goal.returns-clause-led
+returns-clause-led c = λ lens recover retry missed number as' some x.
+    let m = c.args.self.now in
+    let e = c.begin.ensures in
+    let t1 = c.begin.new.self in
+    let ss = m.tour.stops.items in
+    let ts = t1.stops.items in
+    let index = m.made % 256 in
+    let lives = map lived_of as' in
+    let nothing : ℕ → Option (Service Asked) = λ k. None in
+    let before = both_map lived_of (λ a s. IsLead lens recover a s) _ (λ a s l. (l.lives, ap is_some l.own ∙ sym (ap is_some l.unpassed))) as' ss x.each in
+    let many : length ts ≡ length as' = e.long ∙ sym (both_length (λ a s. IsLead lens recover a s) as' ss x.each) in
+    let alive : (k : ℕ) → holds_at (λ s. is_live s.stand) ts k ≡ holds_at is_live_lead as' k =
+    λ k. each_holds _ (λ s. is_live s.stand) (λ s t p. ap is_live p.1) ss ts e.each k ∙ both_holds (λ a s. IsLead lens recover a s) is_live_lead (λ s. is_live s.stand) (λ a s l. stand_lives lens recover a.lived s l.lives) as' ss x.each k in
+    let goes = goes_begun m.tour.again t1.again m.tour.visit.items t1.visit.items m.tour.opened t1.opened as' e.tour.0 e.tour.1 (λ a. ap (λ z. z.items) (e.again a)) x.goes in
+    let f = c.fill.ensures.filled lens recover number as' x.distinct (record {
+      filling = λ left. record {
+        begun = nothing;
+        frame = subst (λ n. FrameMade (λ ds i a s. StopFills lens recover number nothing index left ds i a s) c.begin.new.frame.items n lives ts) (sym e.count) (e.made (speech_at lens) is_followed is_passed number recover index lens left lives nothing (λ k. refl) before);
+        among = both_from (λ a s. IsLead lens recover a s) _ (λ i a s. IsAmong lens nothing left i a s) (λ i a s t l p. lead_among lens recover left i a s t l p.0 p.2) 0 as' ss ts x.each e.each;
+      };
+      quiet = x.quiet;
+      count = e.count;
+      passed = e.tour.5;
+      short = e.empty;
+      begins = begins_live (λ s. is_live s.stand) t1.again t1.visit.items t1.opened ts as' many alive goes;
+      some = each_any _ (λ s. is_live s.stand) (λ s t p. ap is_live p.1) ss ts e.each ∙ some;
+      lives = alive;
+      again = goes.comes;
+      anew = λ a. e.anew (sym e.tour.0 ∙ a);
+      many = many;
+    }) in
+    let on = c.fill.ensures.on in
+    let t2 = c.fill.new.self.tour in
+    let yes = c.finish-some.ensures.some ∙ some_not t2.count f.some in
+    let z = c.finish-some.ensures.made yes (speech_at lens) is_followed is_passed number recover (c.fill.new.self.made % 256) lens f.left lives f.filling.begun f.filling.frame in
+    let octets = c.finish-some.new.frame.items in
+    let is = sent_is lens octets z.datagrams z.frame in
+    let begun = f.filling.begun in
+    let bare = Steps.from_map _ (λ n a s. is_in n f.left ≡ true → s.under ≡ false) (λ i a s w. w.bare) 0 as' t2.stops.items (from_map lived_of (λ i a s. StopFills lens recover number begun (c.fill.new.self.made % 256) f.left f.filling.frame.datagrams i a s) 0 as' t2.stops.items f.filling.frame.each) in (
+      turns lens recover number begun octets z.datagrams is as' z.lives t2.stops.items,
+      record { datagrams = z.datagrams; frame = z.frame; each = turns_all lens recover number begun octets z.datagrams is f.left 0 as' z.lives t2.stops.items f.filling.among z.each },
+      record {
+        each = under_all lens recover number begun octets z.datagrams is f.left 0 as' z.lives t2.stops.items f.filling.among z.each;
+        distinct = distinct_same as' (turns lens recover number begun octets z.datagrams is as' z.lives t2.stops.items) (same_all lens recover number begun octets z.datagrams is as' z.lives t2.stops.items z.each) x.distinct;
+        quiet = f.quiet;
+        goes = goes_under lens recover number begun octets z.datagrams is t1.again t2.visit.items t1.visit.items t2.opened f.left as' z.lives t2.stops.items z.each bare f.apart f.comes
+            (subst (λ w. GoesOn t1.again t1.visit.items w as') (sym on.opened) goes);
+        missed_is = on.missed ∙ e.tour.3 ∙ x.missed_is;
+        retry_is = on.retry ∙ e.tour.4 ∙ x.retry_is;
+        sent = sent_some lens octets z.datagrams z.frame;
+      },
+    )

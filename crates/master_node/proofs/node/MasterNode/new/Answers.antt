@@ -1,0 +1,19 @@
+use Rattle.std.proofs.Common.{◌≡◌, ◌∙◌, [], true, false, sym}
+use Rattle.life_runs.specs.First.{lens_of}
+use Rattle.life_runs.proofs.First.{apart_from, have_lens, distinct_from}
+use Rattle.master_node.proofs.Firsts.{all_leads, all_open}
+use Rattle.master_node.proofs.node.MasterNode.new.Goals as goal
+
+pub returns-clause-leads : goal.returns-clause-leads
+returns-clause-leads c =
+    let plan = c.args.plan.now in
+    let apart = apart_from [] 0 plan.slaves c.requires.stations in
+    let e = c.in_ok-tour.ensures in
+    record {
+      each = all_leads plan (lens_of plan.slaves) 0 plan.slaves c.in_ok-tour.tour.stops.items (have_lens plan.slaves apart) e.first;
+      distinct = distinct_from plan.services 0 plan.slaves apart;
+      quiet = c.in_ok-posts.ensures.quiet;
+      goes = record { ahead = λ k a l. all_open plan 0 plan.slaves k l; comes = λ t. absurd (let w : true ≡ false = sym t ∙ e.begins.1 in cc) };
+      missed_is = e.begins.2;
+      retry_is = e.begins.3;
+    }

@@ -1,0 +1,36 @@
+use Rattle.std.proofs.Common.{◌≡◌, ◌<◌, ◌∙◌, inl, inr, refl, sym, ap, subst, arith, length, Some, None, true, false}
+use Rattle.master_tour.specs.Walks.{StepsAt}
+use Rattle.master_tour.proofs.Walks.{steps_set}
+use Rattle.master_node.specs.Coming.{PassesBy}
+use Rattle.master_node.specs.declared.coming.Coming.{Coming}
+use Rattle.master_node.proofs.Kepts.{stop_side, stop_same}
+use Rattle.master_node.proofs.Lists.{steps_same}
+use Rattle.master_node.proofs.Visits.{state_passes}
+use Rattle.master_node.proofs.node.MasterNode.pass_by.Goals as goal
+
+pub returns-in-State-clause-begun : goal.returns-in-State-clause-begun
+returns-in-State-clause-begun c =
+    let m = c.args.self.now in
+    let l : c.args.place < length m.tour.stops.items = omega (arith, c.requires, m.paired, m.tour.stops.ok.0) in
+    steps_set _ c.args.place m.tour.stops.items c.index_mut.result.now _ l c.index_mut.ensures.value (state_passes _ _ _ _ c.in-State.is (λ n. stop_side _ _ _ (c.pass_by.ensures.kept n) refl refl refl refl refl refl))
+
+pub returns-in-Packet-clause-begun : goal.returns-in-Packet-clause-begun
+returns-in-Packet-clause-begun c =
+    let m = c.args.self.now in
+    let l : c.args.place < length m.tour.stops.items = omega (arith, c.requires, m.paired, m.tour.stops.ok.0) in
+    let e = c.in-Packet.is in
+    subst (λ z. StepsAt (λ s t. PassesBy (Some z) s t) c.args.place m.tour.stops.items m.tour.stops.items) (sym e) (steps_same _ c.args.place m.tour.stops.items l (λ s. stop_same s))
+
+pub returns-in-Mail-clause-begun : goal.returns-in-Mail-clause-begun
+returns-in-Mail-clause-begun c =
+    let m = c.args.self.now in
+    let l : c.args.place < length m.tour.stops.items = omega (arith, c.requires, m.paired, m.tour.stops.ok.0) in
+    let e = c.in-Mail.is in
+    subst (λ z. StepsAt (λ s t. PassesBy (Some z) s t) c.args.place m.tour.stops.items m.tour.stops.items) (sym e) (steps_same _ c.args.place m.tour.stops.items l (λ s. stop_same s))
+
+pub returns-in-Script-clause-begun : goal.returns-in-Script-clause-begun
+returns-in-Script-clause-begun c =
+    let m = c.args.self.now in
+    let l : c.args.place < length m.tour.stops.items = omega (arith, c.requires, m.paired, m.tour.stops.ok.0) in
+    let e = c.in-Script.is in
+    subst (λ z. StepsAt (λ s t. PassesBy (Some z) s t) c.args.place m.tour.stops.items m.tour.stops.items) (sym e) (steps_same _ c.args.place m.tour.stops.items l (λ s. stop_same s))

@@ -1,0 +1,87 @@
+use Rattle.std.proofs.Common.{◌⊎◌, inl, inr, ◌≡◌, ◌∙◌, ◌+◌, ◌%◌, refl, sym, ap, subst}
+use Rattle.std.specs.Prelude.{map, IfSome, slice_get}
+use Rattle.master_hand.specs.Laying.{ready_of}
+use Rattle.master_hand.specs.contracts.hand.InHandHand.TheImpl as Impl
+use Rattle.master_hand.specs.declared.hand.InHand.{InHand}
+use Rattle.master_tour.specs.declared.stop.Stop.{Stop}
+use Rattle.master_side.specs.Shown.{wish_begun}
+use Rattle.life_runs.specs.Led.{speech_at}
+use Rattle.master_hand.specs.Spoken.{is_followed, is_passed}
+use Rattle.master_tour.specs.Goes.{is_live}
+use Rattle.master_tour.specs.Made.{FrameMade, ComesAt}
+use Rattle.master_tour.specs.Walks.{StepsAt}
+use Rattle.master_tour.proofs.Walks.{steps_both}
+use Rattle.master_node.specs.Filling.{StopFills}
+use Rattle.master_node.specs.Shows.{lived_of}
+use Rattle.master_node.proofs.Lists.{steps_map, steps_holds}
+use Rattle.master_node.proofs.Filleds.{count_behind}
+use Rattle.master_node.proofs.Visits.{Fitted, Began, now, comes, frame, among, among_fitted}
+use Rattle.master_node.proofs.node.MasterNode.visit.Goals as goal
+
+pub returns-then-not-fits-clause-led : goal.returns-then-not-fits-clause-led
+returns-then-not-fits-clause-led c = λ lens recover made left next as' quiet d at over fewer f.
+    let m = c.args.self.now in
+    let e = c.fits.ensures in
+    let s0 = m.tour.stops.items in
+    let s1 = c.fits.new.self.stops.items in
+    let fitted = steps_map _ (λ s t. Fitted s t) c.args.place s0 s1 (λ s t p. record { place = p.0.1; passing = p.1.2; script = p.1.3; out = p.1.0.out_is }) (steps_both _ _ c.args.place s0 s1 e.lives e.step) in
+    record {
+      begun = f.begun;
+      frame = subst (λ n. FrameMade (λ ds i a s. StopFills lens recover made f.begun (m.made % 256) left ds i a s) c.args.into.now.items n (map lived_of as') s1) (sym e.count)
+          (e.made (speech_at lens) is_followed is_passed made recover (m.made % 256) m.tour.count lens left (map lived_of as') c.args.into.now.items f.begun d at f.frame);
+      among = among_fitted lens f.begun left as' c.args.place s0 s1 fitted f.among;
+    }
+
+pub returns-clause-first : goal.returns-clause-first
+returns-clause-first c = λ e live.
+    let m = c.args.self.now in
+    let s0 = m.tour.stops.items in
+    let s1 = c.fits.new.self.stops.items in
+    let s2 = c.lay.new.self.tour.stops.items in
+    let first = steps_holds (λ s. is_live s.stand) _ c.args.place s0 s1 (λ s t p. ap is_live p.1) c.fits.ensures.step c.args.place in
+    let second = steps_holds (λ s. is_live s.stand) _ c.args.place s1 s2 (λ s t p. ap is_live p.0.stand) c.lay.ensures.laid c.args.place in
+    (refl, c.came.ensures.kept.0.count ∙ c.visit-began.ensures.first e (second ∙ first ∙ live) ∙ ap (λ n. n + 1) (c.lay.ensures.kept.0.count ∙ c.fits.ensures.count))
+
+pub returns-clause-led : goal.returns-clause-led
+returns-clause-led c = λ lens recover made left next as' quiet d at over fewer f.
+    let m = c.args.self.now in
+    let e = c.fits.ensures in
+    let v = c.visit-began.ensures in
+    let place = c.args.place in
+    let coming = c.coming-coming.result in
+    let r = c.visit-began.result in
+    let s0 = m.tour.stops.items in
+    let s1 = c.fits.new.self.stops.items in
+    let s2 = c.lay.new.self.tour.stops.items in
+    let s3 = c.visit-began.new.self.stops.items in
+    let s4 = c.came.new.self.tour.stops.items in
+    let fitted = steps_map _ (λ s t. Fitted s t) place s0 s1 (λ s t p. record { place = p.0.1; passing = p.1.2; script = p.1.3; out = p.1.0.out_is }) (steps_both _ _ place s0 s1 e.lives e.step) in
+    let began = subst (λ z. StepsAt (λ s t. Began r z s t) place s2 s3) c.wish_of-wish.ensures
+    (steps_map _ (λ s t. Began r c.wish_of-wish.result s t) place s2 s3 (λ s t p. record { place = p.0.4; out = p.1.0.0.out_is; ready = p.1.1.0; script = p.1.1.1; unpassed = p.1.1.2 }) (steps_both _ _ place s2 s3 v.lives (steps_both _ _ place s2 s3 v.step v.began))) in
+    let rooms : (s : Stop InHand Impl.ghosts) → s.side.out.len ≡ s.side.hand.laying.areas.out = λ s. s.side.room ∙ ap (λ z. z.out) (sym s.side.hand.one_slave) in
+    let coms = c.coming-coming.ensures quiet in
+    let laid = c.lay.ensures.laid in
+    let came = c.came.ensures.came in
+    let index = m.made % 256 in
+    let begun = now coming r place s0 s1 s2 s3 s4 rooms coms fitted laid began came f.begun in
+    let same = ap (λ n. n % 256) (c.came.ensures.kept.0.made ∙ c.lay.ensures.kept.0.made) in
+    let made_frame = frame coming r place s0 s1 s2 s3 s4 rooms coms fitted laid began came lens recover made index f.begun left next (map lived_of as') c.args.into.now.items c.visit-began.new.frame.items m.tour.count c.lay.new.self.tour.count c.visit-began.new.self.count
+    (c.lay.ensures.kept.0.count ∙ e.count) (e.made (speech_at lens) is_followed is_passed made recover index m.tour.count lens left (map lived_of as') c.args.into.now.items f.begun d at f.frame)
+    (λ g. v.made (speech_at lens) is_followed is_passed made recover lens left next (map lived_of as') f.begun begun d at over fewer (subst (λ z. IfSome (slice_get s2 place) (λ s. ComesAt f.begun begun s.place (wish_begun r z (ready_of s.side.hand.laying)))) (sym c.wish_of-wish.ensures) (comes coming r place s0 s1 s2 s3 s4 rooms coms fitted laid began came f.begun)) g) in
+    record {
+      begun = begun;
+      frame = subst (λ n. FrameMade (λ ds i a s. StopFills lens recover made begun (c.came.new.self.made % 256) next ds i a s) c.visit-began.new.frame.items n (map lived_of as') s4) (sym c.came.ensures.kept.0.count)
+          (subst (λ k. FrameMade (λ ds i a s. StopFills lens recover made begun k next ds i a s) c.visit-began.new.frame.items c.visit-began.new.self.count (map lived_of as') s4) (sym same) made_frame);
+      among = among coming r place s0 s1 s2 s3 s4 rooms coms fitted laid began came lens f.begun left next as' fewer at over d f.among;
+    }
+
+pub returns-then-not-fits-clause-counts : goal.returns-then-not-fits-clause-counts
+returns-then-not-fits-clause-counts c = inl c.fits.ensures.count
+
+pub returns-clause-counts : goal.returns-clause-counts
+returns-clause-counts c =
+    let same = c.lay.ensures.kept.0.count ∙ c.fits.ensures.count in
+    let behind = c.came.ensures.kept.0.count in
+    subst (λ z. (z ≡ c.args.self.now.tour.count) ⊎ (z ≡ c.args.self.now.tour.count + 1)) (sym behind)
+    (subst (λ z. (c.visit-began.new.self.count ≡ z) ⊎ (c.visit-began.new.self.count ≡ z + 1)) same
+    (count_behind _ (λ t. t.under) c.lay.new.self.tour.count c.visit-began.new.self.count c.args.place c.lay.new.self.tour.stops.items c.visit-began.new.self.stops.items (λ s t p. (p.3, p.4)) c.visit-began.ensures.step))

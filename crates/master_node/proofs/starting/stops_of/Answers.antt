@@ -1,0 +1,26 @@
+use Rattle.std.proofs.Common.{◌≡◌, ◌<◌, ◌∙◌, ◌+◌, ◌++◌, ◌∷◌, [], sym, ap, subst, arith, length, take, get_or}
+use Rattle.std.proofs.lemmas.List.{take_more}
+use Rattle.life_frames.specs.Shares.{AllFrom}
+use Rattle.master_node.specs.First.{IsFirst}
+use Rattle.master_node.proofs.Filleds.{from_length}
+use Rattle.master_node.proofs.Firsts.{from_more}
+use Rattle.master_node.proofs.starting.stops_of.Goals as goal
+
+pub loop-place-preserved : goal.loop-place-preserved
+loop-place-preserved c =
+    let plan = c.args.plan.now in
+    let p = c.loop-place.place in
+    let xs = c.as_slice-slaves.result.now in
+    let ss = c.loop-place.stops.items in
+    let x = c.index-slaves-place.result in
+    let all = c.loop-place.invariant.1 in
+    let long = from_length (λ place spec s. IsFirst plan place spec s) 0 (take p xs) ss all in
+    let many = c.loop-place.stops.ok.0 in
+    let count = c.loop-place.invariant.0 in
+    let l = c.loop-place-test.true in
+    let more = take_more xs p x l ∙ ap (λ z. take p xs ++ z ∷ []) (sym c.index-slaves-place.is) in (
+      c.in_ok-push.ensures.len ∙ ap (λ n. n + 1) count,
+      subst (λ z. AllFrom (λ place spec s. IsFirst plan place spec s) 0 (take (p + 1) xs) z) (sym c.in_ok-push.ensures.items)
+          (subst (λ z. AllFrom (λ place spec s. IsFirst plan place spec s) 0 z (ss ++ c.in_ok-stop_of.field-0 ∷ [])) (sym more)
+          (from_more (λ place spec s. IsFirst plan place spec s) 0 p (take p xs) ss x c.in_ok-stop_of.field-0 all (omega (arith, long, many, count)) c.in_ok-stop_of.ensures)),
+    )

@@ -1,0 +1,32 @@
+-- THE SLAVES OF A PLAN as a master has them before the first frame.
+use Rattle.std.specs.Prelude.{◌≡◌, ℕ, None, List}
+use Rattle.frame_view.specs.View.{Lens}
+use Rattle.life_runs.specs.Led.{new_leads}
+use Rattle.life_runs.specs.First.{spot_of, script_for}
+use Rattle.mailbox_master.specs.Any.{in_area_len}
+use Rattle.master_hand.specs.Shown.{Shows}
+use Rattle.master_hand.specs.Spoken.{hand_speech}
+use Rattle.master_hand.specs.declared.hand.InHand.{InHand}
+use Rattle.master_side.specs.Shown.{SideShows, new_side}
+use Rattle.master_side.specs.declared.hand.Hand.{Ghosts}
+use Rattle.master_side.specs.declared.side.Side.{Side}
+use Rattle.master_tour.specs.declared.stop.Stop.{Stop}
+use Rattle.segment_plan.specs.declared.plan.Scenario.{Scenario}
+use Rattle.segment_plan.specs.declared.service.Service.{Service}
+use Rattle.segment_plan.specs.declared.slave.SlaveSpec.{SlaveSpec}
+use Rattle.task_model.specs.Accounts.{new_account}
+use Rattle.master_node.specs.Shows.{IsLead}
+
+-- a slave's side: its mailboxes and services are new, and its script begins
+pub record IsNewSide {G : Ghosts InHand} (rows : List (ℕ × Service)) (place : ℕ) (spec : SlaveSpec) (s : Side InHand G) : Type 0 where
+  pub shown : SideShows (Shows s.hand.course s.hand.which s.hand.clients (hand_speech (record { out = spec.out_len; back = spec.in_len }))) s.out s.inn s.fresh s.duty new_side new_account
+  pub out : s.out.len ≡ spec.out_len
+  pub back : in_area_len s.inn ≡ spec.in_len
+  pub station : s.station ≡ spec.station
+  pub script : s.hand.laying.script ≡ script_for place rows
+  pub number : s.hand.laying.number ≡ 0
+  pub unpassed : s.passing ≡ None
+
+-- A SLAVE at this place before its bring-up: where these are the lengths of its mailboxes its master leads it from the start of its life
+abbrev pub IsFirst : {G : Ghosts InHand} → Scenario → ℕ → SlaveSpec → Stop InHand G → Type 0
+IsFirst plan place spec s = (lens : ℕ → Lens) → (lens spec.station).out ≡ spec.out_len → (lens spec.station).back ≡ spec.in_len → IsLead lens plan.recover (new_leads (script_for place plan.services) (spot_of place spec)) s

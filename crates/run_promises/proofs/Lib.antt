@@ -1,0 +1,4 @@
+mod Served
+mod Ups
+mod Books
+mod Rests

@@ -1,0 +1,63 @@
+-- THE PROMISE, slave by slave.
+use Rattle.std.proofs.Common.{◌≡◌, ℕ, suc, List, [], ◌∷◌, map, ap, sym, ◌∙◌, subst}
+use Rattle.frame_view.specs.View.{Lens}
+use Rattle.life_frames.specs.Shares.{Lived}
+use Rattle.life_model.specs.Lives.{Life}
+use Rattle.life_runs.specs.First.{lens_of, spot_of, script_for}
+use Rattle.life_runs.specs.Led.{Exchanged, Leads}
+use Rattle.link_mails.specs.Body.{Body}
+use Rattle.book_model.specs.Script.{life_started}
+use Rattle.master_duty.specs.Reply.{Reply}
+use Rattle.master_hand.specs.Spoken.{Asked, is_followed}
+use Rattle.plan_ring.specs.Plan.{PlanMember, FitsPlan, step, first_app}
+use Rattle.segment_model.specs.Record.{Frame}
+use Rattle.segment_plan.specs.declared.plan.Scenario.{Scenario}
+use Rattle.segment_plan.specs.declared.slave.SlaveSpec.{SlaveSpec}
+use Rattle.server_lives.specs.Real.{real_clearing}
+use Rattle.slave_server.specs.Serving.{Serving}
+use Rattle.slave_steps.specs.Node.{Node}
+use Rattle.whole_ring.specs.Members.{MemberIs, AllLived}
+use Rattle.run_lives.specs.Lives.{IsShown, AllShown, AreLived}
+use Rattle.run_lives.specs.Round.{ring_of, ring_after, all_seen}
+use Rattle.script_runs.specs.Came.{Came, AreFirst}
+use Rattle.kept_lives.specs.Epochs.{IsKeptLife}
+use Rattle.run_promises.specs.Slaves.{services_of, IsServed, AllServed}
+use Rattle.script_runs.specs.Slaves.{HasCome, AllCome}
+use Rattle.kept_lives.proofs.Epochs.{kept_life}
+
+module _ (plan : Scenario) (fs : List Exchanged) where
+  abbrev lens : ℕ → Lens
+  lens = lens_of plan.slaves
+
+  abbrev gs : List (Frame Body)
+  gs = all_seen lens fs
+
+  -- one slave
+  pub one_served : (place : ℕ) (s : SlaveSpec) (m : PlanMember) (a : Leads) → MemberIs lens step (FitsPlan plan.slaves) gs place m → IsShown plan place s m a → HasCome plan place s a → IsServed plan fs place s a m.node
+  one_served place s m a i x come =
+      let out : (lens s.station).out ≡ s.out_len =
+      ap (λ p. (lens p.station).out) (sym x.is.plan) ∙ subst (λ (l : ℕ → Lens). (l m.plan.station).out ≡ m.plan.out) i.lens_is i.whole.plan.lens_out ∙ ap (λ p. p.out) x.is.plan in
+      let life : IsKeptLife m.services is_followed m.spot m.clearing.cleared gs m.first m.life m.node = kept_life m.services m.clearing m.plan m.spot i.whole is_followed gs m.first m.life m.node i.lived in
+      let by_services = subst (λ w. IsKeptLife w is_followed m.spot m.clearing.cleared gs m.first m.life m.node) x.is.services life in
+      let by_spot = subst (λ spot. IsKeptLife (services_of plan s) is_followed spot m.clearing.cleared gs m.first m.life m.node) x.is.spot by_services in
+      let by_clearing = subst (λ c. IsKeptLife (services_of plan s) is_followed (spot_of place s) c.cleared gs m.first m.life m.node) x.is.clearing by_spot in
+      let by_first = subst (λ first. IsKeptLife (services_of plan s) is_followed (spot_of place s) real_clearing.cleared gs first m.life m.node) x.is.first by_clearing in
+      let came = subst (λ (room : ℕ). Came room (script_for place plan.services) a.number (life_started a.lived.life)) out come.came in
+      record {
+        came = came;
+        firsts = subst (λ (room : ℕ). AreFirst room (script_for place plan.services) a.number (life_started a.lived.life)) out come.firsts;
+        life = subst (λ (l : Life Body Asked Reply). IsKeptLife (services_of plan s) is_followed (spot_of place s) real_clearing.cleared gs (first_app s) l m.node) (ap (λ (l : Lived Asked Reply). l.life) x.lived) by_first;
+      }
+
+  -- all
+  all_served : (place : ℕ) (ss : List SlaveSpec) (ms : List PlanMember) (as' : List Leads) → AllLived lens step (FitsPlan plan.slaves) gs place ms → AllShown plan place ss ms as' → AllCome plan place ss as' →
+      AllServed plan fs place ss as' (map (λ (m : PlanMember). m.node) ms)
+  all_served place [] [] [] i x come = tt
+  all_served place [] [] (a ∷ as') i x come = absurd x
+  all_served place [] (m ∷ ms) as' i x come = absurd x
+  all_served place (s ∷ ss) [] as' i x come = absurd x
+  all_served place (s ∷ ss) (m ∷ ms) [] i x come = absurd x
+  all_served place (s ∷ ss) (m ∷ ms) (a ∷ as') i x come = (one_served place s m a i.0 x.0 come.0, all_served (suc place) ss ms as' i.1 x.1 come.1)
+
+  pub served : (as' : List Leads) → AreLived plan fs as' → AllCome plan 0 plan.slaves as' → AllServed plan fs 0 plan.slaves as' (ring_after (ring_of plan) fs).nodes
+  served as' x come = subst (λ (ns : List (Node Serving)). AllServed plan fs 0 plan.slaves as' ns) (sym x.lives.nodes) (all_served 0 plan.slaves x.members as' x.lives.each x.shown come)

@@ -1,0 +1,3 @@
+pub mod Slaves
+pub mod Books
+pub mod Rests

@@ -1,0 +1,42 @@
+-- NOTHING IS LEFT of a slave: all of its script came into hand and is carried out.
+use Rattle.std.specs.Prelude.{◌≡◌, ℕ, suc, true, not, None, List, [], ◌∷◌, filter, length, ⊤}
+use Rattle.book_model.specs.Script.{life_started}
+use Rattle.eoe_model.specs.Network.{Station}
+use Rattle.frame_view.specs.View.{Lens}
+use Rattle.life_model.specs.Lives.{Stand}
+use Rattle.life_runs.specs.First.{lens_of, spot_of, script_for}
+use Rattle.life_runs.specs.Led.{Exchanged, Leads, speech_at}
+use Rattle.master_hand.specs.Spoken.{is_followed}
+use Rattle.plan_ring.specs.Plan.{first_app}
+use Rattle.segment_model.specs.Laws.{WantsNothing}
+use Rattle.segment_plan.specs.declared.plan.Scenario.{Scenario}
+use Rattle.segment_plan.specs.declared.slave.SlaveSpec.{SlaveSpec}
+use Rattle.server_lives.specs.Real.{real_clearing}
+use Rattle.slave_parts.specs.Parts.{Core}
+use Rattle.slave_server.specs.Serving.{Serving, next_mail}
+use Rattle.slave_steps.specs.Node.{Node, is_settled}
+use Rattle.state_exchange.specs.Families.{InState}
+use Rattle.run_lives.specs.Round.{all_seen}
+use Rattle.script_runs.specs.Came.{AreThose, is_packet}
+use Rattle.kept_lives.specs.Epochs.{AreKept, NothingLeft, app_of}
+use Rattle.run_promises.specs.Slaves.{services_of}
+
+-- THE MASTER WANTS NOTHING of a slave: it is open, no service is in hand and none is left of its script, and both halves of its link are idle
+pub record IsIdle (lens : ℕ → Lens) (a : Leads) : Type 0 where
+  pub stand : a.lived.life.stand ≡ Stand.Open
+  pub side : WantsNothing (speech_at lens a.lived.spot) a.lived.life.era.side
+  pub hand : a.lived.life.era.account.hand ≡ None
+  pub script : a.number ≡ length a.script
+
+-- ALL IS DONE of a slave: the services of its script came into hand, all of them, and those of its newest epoch are carried out and answered
+pub record IsDone (plan : Scenario) (fs : List Exchanged) (place : ℕ) (s : SlaveSpec) (a : Leads) (n : Node Serving) : Type 0 where
+  pub all : AreThose s.out_len (script_for place plan.services) (filter (λ q. not (is_packet q)) (life_started a.lived.life))
+  pub from : InState (Station Core)
+  pub past : AreKept (services_of plan s) is_followed (spot_of place s) real_clearing.cleared (all_seen (lens_of plan.slaves) fs) (first_app s) a.lived.life.past from
+  pub newest : NothingLeft (services_of plan s) is_followed (spot_of place s) (all_seen (lens_of plan.slaves) fs) a.lived.life.era from (app_of (services_of plan s) is_followed (spot_of place s) n)
+
+-- so it is of each slave, from a place on, that is settled and of which the master wants nothing
+abbrev pub AllDoneIf : Scenario → List Exchanged → ℕ → List SlaveSpec → List Leads → List (Node Serving) → Type 0
+AllDoneIf plan fs place [] [] [] = ⊤
+AllDoneIf plan fs place (s ∷ ss) (a ∷ as') (n ∷ ns) = (IsIdle (lens_of plan.slaves) a → is_settled next_mail n ≡ true → IsDone plan fs place s a n) × AllDoneIf plan fs (suc place) ss as' ns
+AllDoneIf plan fs place _ _ _ = ⊥

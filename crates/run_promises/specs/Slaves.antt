@@ -1,0 +1,40 @@
+-- WHAT A MACHINE BUILDER MAY RELY ON of each slave of a plan, behind any frames of a run: which of its services came into hand, and what its
+-- application has carried out of them.
+use Rattle.std.specs.Prelude.{ℕ, suc, List, [], ◌∷◌, ⊤}
+use Rattle.book_model.specs.Script.{life_started}
+use Rattle.eoe_model.specs.Network.{Station}
+use Rattle.life_runs.specs.First.{lens_of, spot_of, script_for}
+use Rattle.life_runs.specs.Led.{Exchanged, Leads}
+use Rattle.master_duty.specs.Reply.{Reply}
+use Rattle.master_hand.specs.Spoken.{Asked, is_followed}
+use Rattle.plan_ring.specs.Asked.{asked}
+use Rattle.plan_ring.specs.Plan.{first_app}
+use Rattle.segment_plan.specs.declared.plan.Scenario.{Scenario}
+use Rattle.segment_plan.specs.declared.slave.SlaveSpec.{SlaveSpec}
+use Rattle.server_lives.specs.Real.{real_clearing}
+use Rattle.slave_lives.specs.Lived.{Behind}
+use Rattle.slave_parts.specs.Parts.{Core, Server}
+use Rattle.slave_server.specs.Serving.{Serving}
+use Rattle.slave_server.specs.Spec.{profile_of}
+use Rattle.slave_steps.specs.Node.{Node}
+use Rattle.state_exchange.specs.Families.{InState}
+use Rattle.run_lives.specs.Round.{all_seen}
+use Rattle.script_runs.specs.Came.{Came, AreFirst}
+use Rattle.kept_lives.specs.Epochs.{IsKeptLife}
+
+-- the services of a plan's slave, as its master asks for them
+abbrev pub services_of : Scenario → SlaveSpec → Behind Serving (InState Server) (InState (Station Core)) Asked Reply
+services_of plan s = asked (profile_of s) s.boot (lens_of plan.slaves)
+
+-- OF ONE SLAVE at its place, as its master leads it, with its node: just the first services of its script came into hand, and packets among them; and
+-- in each epoch of its life its application has carried out just the first of these, each once and in order, from the application of the plan on
+pub record IsServed (plan : Scenario) (fs : List Exchanged) (place : ℕ) (s : SlaveSpec) (a : Leads) (n : Node Serving) : Type 0 where
+  pub came : Came s.out_len (script_for place plan.services) a.number (life_started a.lived.life)
+  pub firsts : AreFirst s.out_len (script_for place plan.services) a.number (life_started a.lived.life)
+  pub life : IsKeptLife (services_of plan s) is_followed (spot_of place s) real_clearing.cleared (all_seen (lens_of plan.slaves) fs) (first_app s) a.lived.life n
+
+-- OF ALL OF THEM, from a place on
+abbrev pub AllServed : Scenario → List Exchanged → ℕ → List SlaveSpec → List Leads → List (Node Serving) → Type 0
+AllServed plan fs place [] [] [] = ⊤
+AllServed plan fs place (s ∷ ss) (a ∷ as') (n ∷ ns) = IsServed plan fs place s a n × AllServed plan fs (suc place) ss as' ns
+AllServed plan fs place _ _ _ = ⊥

@@ -1,0 +1,21 @@
+-- How many frames a session sends.
+use Rattle.std.proofs.Common.{◌≡◌, ℕ, ◌≤◌, length, nat_lt, Bool, true, false, Option, Some, None, IfSome, refl, arith, if◌then◌else◌}
+use Rattle.std.proofs.lemmas.Bool.{ltb-true}
+use Rattle.segment_plan.specs.declared.plan.Scenario.{Scenario}
+use Rattle.segment_plan.specs.Sound.{IsPlan}
+use Rattle.segment_plan.specs.Bound.{bound_of}
+use Rattle.run_book.specs.declared.book.Book.{Book}
+use Rattle.run_record.specs.Session.{budget_of, budget_or, smaller_bound}
+use Rattle.run_record.specs.Ran.{HasSent}
+
+small_by : (frames : ℕ) (less : Bool) → nat_lt frames 100000000 ≡ less → (if less then frames else 100000000) ≤ 100000000
+small_by frames true is = omega (arith, ltb-true frames 100000000 is)
+small_by frames false is = omega arith
+
+small_budget : (bound : ℕ) (budget : Option ℕ) → IfSome budget (λ frames. (1 ≤ frames) × (frames ≤ 100000000)) → budget_or budget bound ≤ 100000000
+small_budget bound (Some frames) h = h.1
+small_budget bound None h = small_by bound (nat_lt bound 100000000) refl
+
+-- no run and no serving has more than 100,000,000 frames
+pub few_sent : (plan : Scenario) (grams : ℕ) (book : Book) → IsPlan plan → HasSent plan grams book → length book.frames ≤ 100000000
+few_sent plan grams book sound sent = omega (arith, sent.few, small_budget (bound_of plan grams) plan.budget sound.laid.budget)

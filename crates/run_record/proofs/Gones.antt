@@ -1,0 +1,44 @@
+-- Where no slave of a master is live each that it leads was given up for good.
+use Rattle.std.proofs.Common.{◌≡◌, refl, ℕ, Bool, true, false, List, [], ◌∷◌}
+use Rattle.std.specs.Prelude.{◌||◌}
+use Rattle.std.specs.List.{list_any}
+use Rattle.frame_view.specs.View.{Lens}
+use Rattle.life_frames.specs.Shares.{AllBoth}
+use Rattle.life_model.specs.Lives
+use Rattle.life_model.specs.Lives.{Spot, Life}
+use Rattle.life_runs.specs.Led.{Leads}
+use Rattle.link_mails.specs.Body.{Body}
+use Rattle.master_duty.specs.Reply.{Reply}
+use Rattle.master_hand.specs.Spoken.{Asked}
+use Rattle.master_hand.specs.declared.hand.InHand.{InHand}
+use Rattle.master_node.specs.Shows.{IsLead, side_shows}
+use Rattle.master_side.specs.declared.hand.Hand.{Ghosts}
+use Rattle.master_tour.specs.Goes.{is_live}
+use Rattle.master_tour.specs.Stands.{StandShows}
+use Rattle.master_tour.specs.declared.stop.Stand.{Stand}
+use Rattle.master_tour.specs.declared.stop.Stop.{Stop}
+use Rattle.segment_model.specs.Seats.{Side}
+use Rattle.task_model.specs.Accounts.{Account}
+use Rattle.run_record.specs.Led.{AllGone}
+
+gone_stand : (shows : Side Body Asked Reply → Account Asked Reply → Type 0) (spot : Spot) (stand : Stand) (l : Life Body Asked Reply) → is_live stand ≡ false → StandShows shows spot stand l → l.stand ≡ Lives.Stand.Gone
+gone_stand shows spot (Stand.Opening up) l e x = absurd (let bad : true ≡ false = e in cc)
+gone_stand shows spot Stand.Open l e x = absurd (let bad : true ≡ false = e in cc)
+gone_stand shows spot Stand.Gone l e x = x
+
+first_false : (a b : Bool) → (a || b) ≡ false → a ≡ false
+first_false true b e = e
+first_false false b e = refl
+
+second_false : (a b : Bool) → (a || b) ≡ false → b ≡ false
+second_false true b e = absurd (let bad : true ≡ false = e in cc)
+second_false false b e = e
+
+pub all_gone : {G : Ghosts InHand} (lens : ℕ → Lens) (recover : ℕ) (as' : List Leads) (ss : List (Stop InHand G)) → AllBoth (λ a s. IsLead lens recover a s) as' ss → list_any (λ (s : Stop InHand G). is_live s.stand) ss ≡ false → AllGone as'
+all_gone lens recover [] [] x e = tt
+all_gone lens recover [] (s ∷ ss) x e = absurd x
+all_gone lens recover (a ∷ as') [] x e = absurd x
+all_gone {G} lens recover (a ∷ as') (s ∷ ss) x e = (
+  gone_stand (λ d b. side_shows lens recover s a.lived.spot d b) a.lived.spot s.stand a.lived.life (first_false (is_live s.stand) (list_any (λ (t : Stop InHand G). is_live t.stand) ss) e) x.0.lives.shown.stood,
+  all_gone lens recover as' ss x.1 (second_false (is_live s.stand) (list_any (λ (t : Stop InHand G). is_live t.stand) ss) e),
+)

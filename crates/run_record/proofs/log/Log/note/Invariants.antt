@@ -1,9 +1,0 @@
-use Rattle.std.proofs.Common.{◌+◌, length}
-use Rattle.run_record.specs.Session.{SameSlaves, SameFrames}
-use Rattle.run_record.proofs.log.Log.note.Given as goal
-
-abbrev pub invariant-loop-event : goal.invariant-loop-event
-invariant-loop-event l = record {
-  slaves : SameSlaves l.initial.self l.self;
-  frames : SameFrames (1 + length l.initial.self.ports) l.initial.book l.book;
-}

@@ -1,0 +1,24 @@
+use Rattle.std.proofs.Common.{◌≡◌, ◌<◌, ℕ, List, length, sym, ap, ◌∙◌, subst, arith}
+use Rattle.std.specs.Prelude.{Option, Some, slice_get, slice_set}
+use Rattle.run_record.specs.Notes.{stations_of}
+use Rattle.run_record.proofs.Stations.{among_stations, one_noted}
+use Rattle.run_record.proofs.standing.Log.note_slave.Goals as goal
+
+pub at_mut-requires : goal.at_mut-requires
+at_mut-requires c =
+    let log = c.args.self.now in
+    let e = c.in-Some.ensures in
+    let inside : c.args.at < length log.notes = omega arith in
+    let more = among_stations log.recover log.homes log.notes c.args.at _ (sym e) inside in
+    let same = ap length log.lit in
+    omega (arith, more, same)
+
+pub invariant_of-self : goal.invariant_of-self
+invariant_of-self c =
+    let log = c.args.self.now in
+    let e = c.in-Some.ensures in
+    record {
+      lit =
+          ap (λ (l : List (Option (ℕ × ℕ))). slice_set l c.args.at c.station_of.result) log.lit ∙ ap (slice_set (stations_of log.recover log.homes log.notes) c.args.at) c.station_of.ensures
+          ∙ one_noted log.recover log.homes log.notes c.args.at _ c.note_at-noted.new.notes (sym e);
+    }

@@ -1,0 +1,14 @@
+use Rattle.std.proofs.Common.{◌≡◌, sym, ap, ◌∙◌}
+use Rattle.run_record.specs.declared.notes.Notes.{Notes}
+use Rattle.run_record.proofs.Stations.{same_noted}
+use Rattle.run_record.proofs.standing.Log.receive.Goals as goal
+
+pub invariant_of-self : goal.invariant_of-self
+invariant_of-self c =
+    let log = c.args.self.now in
+    record {
+      lit =
+          log.lit
+          ∙ sym (same_noted log.recover log.homes log.notes c.in-Some.field-0.now c.at_mut.result.now c.received.new.self
+          (ap (λ (n : Notes). n.gave) c.received.ensures ∙ ap (λ (n : Notes). n.gave) c.at_mut.ensures.value));
+    }
