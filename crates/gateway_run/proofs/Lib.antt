@@ -1,3 +1,4 @@
+pub mod Cut
 pub mod Desks
 pub mod Ended
 pub mod Judged

@@ -5,7 +5,10 @@ use Rattle.run_record.specs.Session.{session_rows, are_at_rest}
 use Rattle.gateway_run.specs.Serving.{Told, told, Listens, Goes, IsServing, left, can_hear}
 use Rattle.ec_outside.specs.declared.port.Heard.{Heard}
 use Rattle.gateway_run.specs.Desk.{Takes}
-use Rattle.gateway_run.proofs.Turns.{took}
+use Rattle.std.specs.Prelude.{Err}
+use Rattle.std.proofs.lemmas.Result.{err_from_is_err_and}
+use Rattle.run_book.specs.declared.book.Book.{Book}
+use Rattle.gateway_run.proofs.Turns.{took, frames_of, goes_without}
 use Rattle.gateway_run.proofs.Room.{room}
 use Rattle.gateway_run.proofs.turn.Serving.take.Goals as goal
 
@@ -19,3 +22,9 @@ returns-in_ok-take-in-From-clause-goes c = λ plan count first now next h l.
     (subst (λ (x : Heard). Listens now next x c.args.self.now.gram.items) c.in-From.is l) r
     (subst (λ (o : List ℕ). Takes c.args.self.now.session.homes c.in-From.peer o c.args.book.now c.take.new.book) c.as_slice-bytes.ensures.value e.heard)
     (e.sound (omega (arith, fits, few))) e.book e.session refl refl
+
+pub returns-in_err-take-in-From-clause-goes : goal.returns-in_err-take-in-From-clause-goes
+returns-in_err-take-in-From-clause-goes c = λ plan count first now next h l.
+    let p = err_from_is_err_and c.from_residual.result c.from_residual.ensures.1 in
+    goes_without plan count first next _ c.take.new.book c.from_residual.result (p.1 ∙ ap Err p.2)
+    (frames_of plan count first now c.args.self.now c.args.book.now c.take.new.book h (ap (λ (b : Book). b.frames) c.take.ensures.book) (ap (λ (b : Book). b.switch) c.take.ensures.book))
