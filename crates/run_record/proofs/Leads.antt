@@ -41,7 +41,7 @@ module _ (m0 m1 m2 : MasterNode) (f : Exchanged) (result : Next)
     (gone : result ≡ nexts.Idle → (lens : ℕ → Lens) (recover retry missed : ℕ) (as' : List Leads) → MasterShows lens recover retry m0 missed as' → AllGone as')
     (led : result ≡ nexts.Frame → (lens : ℕ → Lens) (recover retry missed number : ℕ) (as' : List Leads) → MasterShows lens recover retry m0 missed as' → (us : List Turn) × IsLedFrame lens number f.sent as' us × MasterUnder lens recover retry m1 f.sent missed us)
     (tell : (lens : ℕ → Lens) (recover retry missed number : ℕ) (as' : List Leads) (us : List Turn) → IsLedFrame lens number f.sent as' us → MasterUnder lens recover retry m1 f.sent missed us →
-        MasterShows lens recover retry m2 (missed_behind lens recover retry f.fate missed) (map (led_behind lens recover retry (gives_up_at lens recover retry missed) number f) us)) where
+    MasterShows lens recover retry m2 (missed_behind lens recover retry f.fate missed) (map (led_behind lens recover retry (gives_up_at lens recover retry missed) number f) us)) where
   module _ (plan : Scenario) (fs : List Exchanged) (l : Leading plan m0 fs) where
     abbrev lens : ℕ → Lens
     lens = lens_of plan.slaves
@@ -75,7 +75,7 @@ module _ (m0 m1 m2 : MasterNode) (f : Exchanged) (result : Next)
     on_by : (bs : List Exchanged) → l.course.behind ≡ bs → (r : Next) → result ≡ r → Leading plan m2 (fs ++ f ∷ [])
     on_by [] none nexts.Frame e = let made = led e lens plan.recover plan.retry l.course.missed (length l.course.led) l.course.leads (l.shows none) in made_on none made.0 made.1 made.2
     on_by [] none nexts.Idle e = more_on (gone e lens plan.recover plan.retry l.course.missed l.course.leads (l.shows none))
-    on_by (b ∷ bs) some_are r e = more_on (elim l.is.gone [ | inl none ↦ absurd (not_more b bs (sym some_are ∙ none)) | inr all ↦ all ])
+    on_by (b ∷ bs) some_are r e = more_on (elim l.is.gone [ inl none ↦ absurd (not_more b bs (sym some_are ∙ none)) | inr all ↦ all ])
 
     pub leads_on : Leading plan m2 (fs ++ f ∷ [])
     leads_on = on_by l.course.behind refl result refl
