@@ -1,0 +1,16 @@
+use Rattle.std.proofs.Common.{◌≡◌, ℕ, map, refl, ap, sym, ◌∙◌, subst}
+use Rattle.life_runs.specs.Led.{led_behind, gives_up_at, missed_behind}
+use Rattle.master_node.specs.Shows.{MasterShows}
+use Rattle.segment_ring.specs.declared.wire.Fate.{Fate}
+use Rattle.segment_ring.specs.declared.wire.Fate.TheVariants as Fates
+use Rattle.run_record.proofs.session.tell.Goals as goal
+
+pub returns-in-Pass-clause-leads : goal.returns-in-Pass-clause-leads
+returns-in-Pass-clause-leads c = λ lens recover retry missed number us f fate back under returns.
+    let pass : f.fate ≡ Fates.Pass = fate ∙ c.in-Pass.is in
+    subst (λ (n : ℕ). MasterShows lens recover retry c.returned.new.self n (map (led_behind lens recover retry (gives_up_at lens recover retry missed) number f) us))
+    (sym (ap (λ (k : Fate). missed_behind lens recover retry k missed) pass)) (c.returned.ensures.leads lens recover retry missed number f.sent us f pass back under (returns c.in-Pass.is))
+
+pub returns-in-Lost-clause-leads : goal.returns-in-Lost-clause-leads
+returns-in-Lost-clause-leads c = λ lens recover retry missed number us f fate back under returns.
+    c.lost.ensures.leads lens recover retry missed number c.in-Lost.after f.sent us f (fate ∙ c.in-Lost.is) refl under
