@@ -1,5 +1,5 @@
 -- What a call that serves a plan leaves, and what it puts.
-use Rattle.std.specs.Prelude.{◌≡◌, ℕ, ◌⊎◌, ◌×◌, List, Option, Some, Ok, Err}
+use Rattle.std.specs.Prelude.{◌≡◌, ℕ, List, Option, Some, Ok, Err}
 use Rattle.ec_outside.specs.Faults.{Rose}
 use Rattle.ec_outside.specs.Files.{Table}
 use Rattle.segment_plan.specs.declared.plan.Scenario.{Scenario}
