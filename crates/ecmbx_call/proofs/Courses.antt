@@ -1,9 +1,8 @@
 -- What each step of a call adds to its course.
-use Rattle.std.proofs.Common.{◌≡◌, ◌≢◌, ℕ, ◌≤◌, List, [], ◌∷◌, length, map, get_or, codes, String, string_bytes, Bool, if◌then◌else◌, true, false, Option, Some, None, Result, Ok, Err, OnOk, is_err, ◌⊎◌, refl, sym, subst, ap, ◌∙◌, inl, inr, arith}
+use Rattle.std.proofs.Common.{◌≡◌, ◌≢◌, ℕ, ◌≤◌, List, [], ◌∷◌, length, map, get_or, codes, String, string_bytes, Bool, if◌then◌else◌, true, false, Option, Some, None, Result, Ok, Err, OnOk, is_err, ◌⊎◌, refl, sym, subst, ap, inl, inr}
 use Rattle.std.specs.declared.alloc.Global.{Global}
 use Rattle.std.specs.Str.{bytes_eq}
 use Rattle.std.proofs.lemmas.List.{append-nil}
-use Rattle.ec_outside.specs.Faults.{Rose}
 use Rattle.ec_outside.specs.Files.{Table, file_of, Loads, LoadsFile}
 use Rattle.ec_outside.specs.Sink.{Wrote}
 use Rattle.ec_outside.specs.declared.files.Loaded.TheVariants.{Found, Absent, TooLong}
@@ -19,13 +18,11 @@ use Rattle.run_book.specs.declared.book.Ending.TheVariants as endings
 use Rattle.segment_plan.specs.Sound.{IsPlan}
 use Rattle.run_book.specs.Book.{IsNew}
 use Rattle.run_record.specs.Ran.{HasFrames, EndsAs}
-use Rattle.run_report.specs.Report.{report_lines}
-use Rattle.run_report.specs.Saved.{capture_of}
 use Rattle.ecmbx_words.specs.declared.status.Status.{Status}
 use Rattle.ecmbx_words.specs.declared.status.Status.TheVariants as statuses
 use Rattle.ecmbx_words.specs.declared.form.Form.TheVariants as forms
 use Rattle.ecmbx_words.specs.Form.{form_in, name_in, saved_in}
-use Rattle.ecmbx_words.specs.Ends.{text_of, Ended, PutAll}
+use Rattle.ecmbx_words.specs.Ends.{PutAll}
 use Rattle.ecmbx_words.specs.Texts.{refusal_line, refused_line, capture_line}
 use Rattle.pcap_frames.specs.declared.capture.Capture.{Capture}
 use Rattle.pcap_frames.specs.declared.capture.PcapFault.{PcapFault}
@@ -36,7 +33,7 @@ use Rattle.ecmbx_call.specs.Files.FileCourse.{fault, absent, long, found}
 use Rattle.gateway_run.specs.Serving.{Told as PortTold}
 use Rattle.ecmbx_call.specs.Audits.{AuditCourse}
 use Rattle.ecmbx_call.specs.Serving.{ServeCourse}
-use Rattle.ecmbx_call.specs.Course.{HasRun, IsReportable, status_of, RunCourse, SavedCourse, ViewCourse, Course, IsUnread, IsUnsaved, BeganOn, BeganIn}
+use Rattle.ecmbx_call.specs.Course.{HasRun, IsReportable, RunCourse, SavedCourse, ViewCourse, Course, IsUnread, IsUnsaved, BeganOn, BeganIn}
 
 -- a text that was put, as the course says
 pub said : (course : Status → List ℕ → Type 0) (planned : Status) (text : List ℕ) (old new : Option (List ℕ)) (status : Status) → course planned text → PutAll planned text old new status → Followed course old new status

@@ -1,5 +1,5 @@
 -- What a call of the program does, from its words to its status: one case for each row of the table of answers.
-use Rattle.std.specs.Prelude.{◌≡◌, ℕ, ◌≤◌, ◌⊎◌, List, [], map, length, All, String, string_bytes, Option, Some, None, Ok, Err}
+use Rattle.std.specs.Prelude.{◌≡◌, ℕ, ◌≤◌, ◌⊎◌, List, [], map, length, All, String, string_bytes, Option, Some, Ok, Err}
 use Rattle.std.specs.declared.alloc.Global.{Global}
 use Rattle.ec_outside.specs.Faults.{Rose}
 use Rattle.ec_outside.specs.Files.{Table}
@@ -17,7 +17,6 @@ use Rattle.run_book.specs.Book.{IsNew}
 use Rattle.run_record.specs.Ran.{HasFrames, EndsAs}
 use Rattle.run_report.specs.Report.{report_lines}
 use Rattle.run_report.specs.Saved.{capture_of}
-use Rattle.ecmbx_words.specs.declared.form.Form.{Form}
 use Rattle.ecmbx_words.specs.declared.form.Form.TheVariants as forms
 use Rattle.ecmbx_words.specs.declared.status.Status.{Status}
 use Rattle.ecmbx_words.specs.declared.status.Status.TheVariants as statuses

@@ -1,4 +1,4 @@
-ghost use Rattle.std.specs.Prelude.{◌≡◌, ◌⊎◌, ◌≤◌, Ok, Some, IfOk, IfErr};
+ghost use Rattle.std.specs.Prelude.{◌≡◌, ◌⊎◌, ◌≤◌, Ok, IfOk, IfErr};
 ghost use Rattle.ec_outside.specs.Faults.{Rose};
 ghost use Rattle.segment_plan.specs.Sound.{IsPlan};
 ghost use Rattle.scenario.specs.Document.{plan_of};

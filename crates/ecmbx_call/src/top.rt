@@ -4,7 +4,7 @@ ghost use Rattle.segment_plan.specs.declared.plan.Scenario.{Scenario as Plan};
 ghost use Rattle.run_book.specs.Book.{IsNew};
 ghost use Rattle.ecmbx_words.specs.declared.form.Form.TheVariants as forms;
 ghost use Rattle.ecmbx_words.specs.declared.status.Status.TheVariants as statuses;
-ghost use Rattle.ecmbx_words.specs.Form.{form_in, name_in, saved_in};
+ghost use Rattle.ecmbx_words.specs.Form.{form_in};
 ghost use Rattle.ecmbx_call.specs.Course.{words_of, RunsFile, SavesFile, ShowsFile, AuditsFile, CarriesOut, Began, BeganIn};
 ghost use Rattle.ecmbx_call.specs.Serving.{ServesFile, ServedIn};
 ghost use Rattle.gateway_run.specs.Serving.{told};

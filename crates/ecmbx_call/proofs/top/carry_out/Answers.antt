@@ -1,4 +1,4 @@
-use Rattle.std.proofs.Common.{◌≡◌, sym, refl, ◌∙◌, []}
+use Rattle.std.proofs.Common.{sym, ◌∙◌, []}
 use Rattle.ec_outside.specs.Faults.{Rose}
 use Rattle.gateway_run.specs.Serving.{told}
 use Rattle.scenario_made.specs.Made.{text_of}
