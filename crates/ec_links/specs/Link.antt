@@ -1,4 +1,4 @@
-use Rattle.std.specs.Prelude.{◌≡◌, ℕ, ◌≤◌, ◌||◌, Bool, true, false, if◌then◌else◌, nat_lt, List, [], ◌∷◌, ◌++◌, length, take, drop, Option, Result, Ok, Err}
+use Rattle.std.specs.Prelude.{◌≡◌, ℕ, ◌≤◌, ◌||◌, Bool, true, false, not, if◌then◌else◌, nat_lt, List, [], ◌∷◌, ◌++◌, length, take, drop, Option, Result, Ok, Err}
 use Rattle.std.specs.Option.{option_map}
 use Rattle.ec_links.specs.declared.link.LinkErr.{LinkErr}
 use Rattle.ec_links.specs.declared.link.LinkErr.TheVariants.{Failed, NoMemory}
@@ -67,6 +67,12 @@ left_behind from (items.Pause ∷ rest) = items.Pause ∷ rest
 -- the items that are left, where so many items and so many octets of the next one were given
 abbrev pub left_at : ℕ → ℕ → List LinkItem → List LinkItem
 left_at at from list = left_behind from (drop at list)
+
+-- whether an item is given, and not passed over: it has octets, or is a pause at which nobody waits
+abbrev pub is_given : Bool → LinkItem → Bool
+is_given wait (items.Bytes []) = false
+is_given wait (items.Bytes (byte ∷ bytes)) = true
+is_given wait items.Pause = not wait
 
 -- the items from the first octet on; where nobody waits, from the first octet or pause on
 abbrev pub from_piece : Bool → List LinkItem → List LinkItem

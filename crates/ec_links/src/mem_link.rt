@@ -1,7 +1,7 @@
 ghost use Rattle.std.specs.Prelude.{◌≡◌, ◌<◌, ◌≤◌, ◌+◌, ◌++◌, ◌||◌, ◌↔◌, [], true, false, length, take, drop, IsErrOf, IsTrue, IfOk, OnOk, OnErr};
 ghost use Rattle.ec_outside.specs.Faults.{Rose};
 ghost use Rattle.ec_links.specs.Calls.{made, will_fail};
-ghost use Rattle.ec_links.specs.Link.{Gives, Puts, has_ended, bytes_first, given_at, left_at, from_piece, piece_first, behind_first};
+ghost use Rattle.ec_links.specs.Link.{Gives, Puts, has_ended, bytes_first, given_at, left_at, is_given, from_piece, piece_first, behind_first};
 
 use crate::calls::Calls;
 use crate::link::{Link, LinkErr, LinkItem, Piece};
@@ -26,6 +26,16 @@ pub struct MemLink {
     ghost last: { IsTrue over → at ≡ length items },
 }
 
+// Whether an item has octets or, where nobody waits, is a pause.
+fn is_given(item: &LinkItem, wait: bool) -> bool
+    ensures { result ≡ is_given wait item.now }
+{
+    match item {
+        LinkItem::Bytes(bytes) => !bytes.is_empty(),
+        LinkItem::Pause => !wait,
+    }
+}
+
 // The place of the first item from `at` on that has octets or, where nobody waits, is a pause. So
 // many octets of the item at `at` were given.
 fn next_place(items: &[LinkItem], at: usize, from: usize, wait: bool) -> usize
@@ -38,17 +48,8 @@ fn next_place(items: &[LinkItem], at: usize, from: usize, wait: bool) -> usize
     ensures inside { 0 < from → result ≡ at }
 {
     for place in at..items.len() {
-        match &items[place] {
-            LinkItem::Bytes(bytes) => {
-                if !bytes.is_empty() {
-                    return place;
-                }
-            }
-            LinkItem::Pause => {
-                if !wait {
-                    return place;
-                }
-            }
+        if is_given(&items[place], wait) {
+            return place;
         }
     }
     items.len()
