@@ -1,8 +1,8 @@
 -- A stream that goes on: what its requests become by octets that were asked for.
-use Rattle.std.proofs.Common.{◌≡◌, ◌∙◌, ap, sym, refl, ℕ, zero, suc, ◌+◌, ◌-◌, ◌≤◌, ◌<◌, inl, inr, Bool, true, false, if◌then◌else◌, List, [], ◌∷◌, ◌++◌, length, take, drop, arith}
+use Rattle.std.proofs.Common.{◌≡◌, ◌∙◌, ap, sym, refl, ℕ, zero, suc, ◌+◌, ◌-◌, ◌≤◌, inl, inr, true, false, if◌then◌else◌, List, [], ◌∷◌, ◌++◌, length, take, drop, arith}
 use Rattle.std.proofs.lemmas.List.{length-append, length-drop, take-append-le, drop-append-le}
 use Rattle.std.proofs.Math.Seq.{take-length, drop-length}
-use Rattle.gateway_stream.specs.Cutting.{Cut, whole_of, is_header, is_whole, with_first, cut_off, requests_of, behind_of}
+use Rattle.gateway_stream.specs.Cutting.{Cut, whole_of, is_header, is_whole, with_first, cut_off}
 use Rattle.gateway_stream.proofs.Whole.{either, header_same, Whole, whole_is, is_whole_when, Extends, whole_exact}
 
 -- nothing is cut off

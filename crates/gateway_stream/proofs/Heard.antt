@@ -1,5 +1,5 @@
 -- What is heard of a stream that goes on.
-use Rattle.std.proofs.Common.{◌≡◌, ◌∙◌, ap, sym, refl, ℕ, ◌≤◌, inl, inr, Bool, true, false, if◌then◌else◌, List, [], ◌∷◌, ◌++◌, length, map, Option, None, Some, Result, Ok, append-nil, subst, arith}
+use Rattle.std.proofs.Common.{◌≡◌, ◌∙◌, ap, sym, refl, ℕ, inl, inr, true, false, List, [], ◌∷◌, ◌++◌, length, map, Option, None, Some, Result, Ok, append-nil, subst, arith}
 use Rattle.std.proofs.lemmas.List.{map-append}
 use Rattle.std.proofs.lemmas.Slice.Eq.{bytes_eq-Decides}
 use Rattle.std.specs.Str.{bytes_eq}
@@ -8,7 +8,7 @@ use Rattle.ec_outside.specs.declared.port.Heard.TheVariants.{From, Quiet, Ended}
 use Rattle.ec_outside.specs.declared.port.Peer.{Peer}
 use Rattle.ec_outside.specs.declared.port.Heard.{Heard}
 use Rattle.ec_outside.specs.declared.port.PortErr.{PortErr}
-use Rattle.ec_links.specs.Link.{Gives, GivesPiece, told_more}
+use Rattle.ec_links.specs.Link.{Gives, GivesPiece}
 use Rattle.ec_links.specs.declared.link.LinkErr.{LinkErr}
 use Rattle.ec_links.specs.declared.link.Piece.{Piece}
 use Rattle.ec_links.specs.declared.link.Piece.TheVariants.{Bytes}

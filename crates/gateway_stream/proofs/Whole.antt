@@ -1,7 +1,6 @@
 -- Requests whose header and octets are there.
-use Rattle.std.proofs.Common.{◌≡◌, ◌∙◌, ap, sym, refl, ℕ, ◌+◌, ◌-◌, ◌≤◌, ◌<◌, ◌⊎◌, inl, inr, Bool, true, false, nat_lt, if◌then◌else◌, List, [], ◌∷◌, ◌++◌, length, Some, None, arith}
+use Rattle.std.proofs.Common.{◌≡◌, refl, ℕ, ◌+◌, ◌-◌, ◌≤◌, ◌<◌, ◌⊎◌, inl, inr, Bool, true, false, nat_lt, if◌then◌else◌, List, [], ◌∷◌, ◌++◌, length, Some, None, arith}
 use Rattle.std.proofs.lemmas.List.{length-append}
-use Rattle.gateway_core.specs.Framing.{type_in, length_in}
 use Rattle.gateway_stream.specs.Cutting.{whole_of, is_header, missing, is_full, is_whole}
 
 pub either : (b : Bool) → (b ≡ true) ⊎ (b ≡ false)

@@ -1,5 +1,5 @@
 -- What a port hears on a stream of octets.
-use Rattle.std.specs.Prelude.{◌≡◌, ℕ, Bool, true, false, if◌then◌else◌, List, map, Option, Some, None, Result, Ok, Err, is_none}
+use Rattle.std.specs.Prelude.{ℕ, Bool, if◌then◌else◌, List, map, Option, Some, None, Result, Ok, Err, is_none}
 use Rattle.std.specs.Str.{bytes_eq}
 use Rattle.ec_outside.specs.Port.{HeardGram}
 use Rattle.ec_outside.specs.declared.port.Heard.{Heard}

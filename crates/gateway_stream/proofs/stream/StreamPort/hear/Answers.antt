@@ -1,4 +1,4 @@
-use Rattle.std.proofs.Common.{◌≡◌, Some, rules, arith}
+use Rattle.std.proofs.Common.{rules}
 use Rattle.gateway_stream.specs.Hearing.{heard_of}
 use Rattle.gateway_stream.proofs.Heard.{turned, turned_none}
 use Rattle.gateway_stream.proofs.stream.StreamPort.hear.Goals as goal

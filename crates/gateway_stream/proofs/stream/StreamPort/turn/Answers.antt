@@ -1,4 +1,4 @@
-use Rattle.std.proofs.Common.{◌≡◌, ◌∙◌, ap, true, false, Some, Ok, Result, rules, arith}
+use Rattle.std.proofs.Common.{◌≡◌, ◌∙◌, ap, false, Some, Ok, rules}
 use Rattle.ec_links.specs.Link.{GivesPiece}
 use Rattle.ec_links.specs.declared.link.Piece.TheVariants.{Bytes}
 use Rattle.gateway_stream.specs.Cutting.{missing, is_full, is_whole}
