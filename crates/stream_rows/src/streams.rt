@@ -13,7 +13,7 @@ const PEER: Peer = Peer {
 };
 
 /// More calls than any row needs.
-const CALLS: usize = 200;
+const CALLS: usize = 2000;
 
 /// A request of 2 octets behind whose header 2,046 octets stand, the most that there may be.
 const LONGEST: [u8; 2] = [0xFE, 0x57];
