@@ -1,0 +1,41 @@
+-- What a port hears on a stream of octets.
+use Rattle.std.specs.Prelude.{ℕ, Bool, if◌then◌else◌, List, map, Option, Some, None, Result, Ok, Err, is_none}
+use Rattle.std.specs.Str.{bytes_eq}
+use Rattle.ec_outside.specs.Port.{HeardGram}
+use Rattle.ec_outside.specs.declared.port.Heard.{Heard}
+use Rattle.ec_outside.specs.declared.port.Heard.TheVariants.{Quiet}
+use Rattle.ec_outside.specs.declared.port.PortErr.{PortErr}
+use Rattle.ec_outside.specs.declared.port.PortErr.TheVariants as port_errors
+use Rattle.ec_links.specs.declared.link.LinkErr.{LinkErr}
+use Rattle.ec_links.specs.declared.link.LinkErr.TheVariants as link_errors
+use Rattle.ec_links.specs.Link.{Puts}
+use Rattle.gateway_stream.specs.Cutting.{missing, requests_of, behind_of}
+
+-- a request of the one peer of a stream, 127.0.0.1, as a port hears it
+abbrev pub heard_as : List ℕ → HeardGram
+heard_as octets = record { from = record { ip = 2130706433; port = 0 }; bytes = octets }
+
+-- what is heard of the octets given, where they are told and the octets that are kept are those behind their requests
+abbrev pub heard_of : Option (List ℕ) → List ℕ → Option (List HeardGram)
+heard_of None kept = None
+heard_of (Some octets) kept = if bytes_eq (behind_of octets) kept then Some (map heard_as (requests_of octets)) else None
+
+-- a header that is no request's stands at the front
+abbrev pub is_broken : List ℕ → Bool
+is_broken octets = is_none (missing octets)
+
+-- the error of a port over a link's
+abbrev pub error_of : LinkErr → PortErr
+error_of link_errors.Failed = port_errors.Failed
+error_of link_errors.NoMemory = port_errors.NoMemory
+
+-- what a turn answers: nothing for now where more of the next request may come
+abbrev pub answer_of : Option (Result Heard PortErr) → Result Heard PortErr
+answer_of None = Ok Quiet
+answer_of (Some answer) = answer
+
+-- what a port that sends puts into its link, where that tells what was put; after a fault a prefix was
+abbrev pub PutsBytes : Option (List ℕ) → Option (List ℕ) → List ℕ → Result (Unit {0}) PortErr → Type 0
+PutsBytes sent sent' octets (Ok done) = Puts sent sent' octets (Ok done)
+PutsBytes sent sent' octets (Err port_errors.Failed) = Puts sent sent' octets (Err link_errors.Failed)
+PutsBytes sent sent' octets (Err port_errors.NoMemory) = Puts sent sent' octets (Err link_errors.NoMemory)

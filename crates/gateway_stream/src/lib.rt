@@ -1,0 +1,8 @@
+//! The gateway over a byte stream: a port that cuts the datagrams of the mailbox gateway
+//! (ETG.8200) off the octets of a link, however those were cut into pieces.
+#![tactic(auto)]
+
+mod cutting;
+mod stream;
+
+pub use stream::StreamPort;
