@@ -1,1 +1,3 @@
+mod Around
 mod Paying
+mod Turns

@@ -2,4 +2,5 @@
 //! functions here do nothing, and their contracts state the laws.
 #![tactic(auto)]
 
+mod rounds;
 mod sums;
