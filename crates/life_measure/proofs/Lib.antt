@@ -1,3 +1,6 @@
 mod Around
+mod Halving
+mod Mending
+mod Openings
 mod Paying
 mod Turns

@@ -1,2 +1,5 @@
+pub mod Deadlines
+pub mod Gains
+pub mod Repairs
 pub mod Rounds
 pub mod Tally

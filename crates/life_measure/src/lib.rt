@@ -2,5 +2,6 @@
 //! functions here do nothing, and their contracts state the laws.
 #![tactic(auto)]
 
+mod repairs;
 mod rounds;
 mod sums;
