@@ -1,4 +1,5 @@
 mod Around
+mod Gaining
 mod Halving
 mod Mending
 mod Openings

@@ -5,3 +5,4 @@
 mod repairs;
 mod rounds;
 mod sums;
+mod won;
