@@ -1,11 +1,10 @@
 -- The inward half finds its way back.
-use Rattle.std.proofs.Common.{◌≡◌, ◌⊎◌, ℕ, zero, suc, ◌+◌, ◌*◌, ◌<◌, ◌≤◌, ◌==◌, Bool, true, false, not, Option, Some, None, List, [], ◌∷◌, refl, sym, ap, ◌∙◌, subst, arith, if◌then◌else◌, inl, inr, eq-eqb}
-use Rattle.std.specs.Prelude.{map}
+use Rattle.std.proofs.Common.{◌≡◌, ◌⊎◌, ℕ, ◌+◌, ◌*◌, ◌≤◌, ◌==◌, Bool, true, false, Option, Some, None, List, [], ◌∷◌, refl, sym, ap, ◌∙◌, subst, arith, if◌then◌else◌, inl, inr, eq-eqb}
 use Rattle.exchange_model.specs.Exchange.{Speech}
 use Rattle.link_model.specs.Mails.{differs}
-use Rattle.link_model.specs.Master.{InState, InHalf, doubt_answered, asked_answered}
+use Rattle.link_model.specs.Master.{InState, InHalf}
 use Rattle.link_model.specs.Link.{Halves}
-use Rattle.link_model.specs.Frames.{Ask, Gram, in_ask, halves_after, halves_answered, halves_without, halves_lost}
+use Rattle.link_model.specs.Frames.{Ask, Gram, halves_after, halves_answered, halves_without, halves_lost}
 use Rattle.segment_model.specs.Slaves.{Datagram, Found, grams}
 use Rattle.segment_model.specs.Record.{News}
 use Rattle.life_model.specs.Own.{own}

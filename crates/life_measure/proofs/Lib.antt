@@ -5,3 +5,5 @@ mod Mending
 mod Openings
 mod Paying
 mod Turns
+mod Twice
+mod Worked

@@ -1,9 +1,10 @@
 -- Repairs end.
-use Rattle.std.proofs.Common.{◌≡◌, ◌⊎◌, ℕ, zero, suc, ◌+◌, ◌<◌, ◌≤◌, Bool, true, false, Option, Some, None, List, [], ◌∷◌, refl, sym, ap, ◌∙◌, subst, arith, if◌then◌else◌, inl, inr}
+use Rattle.std.proofs.Common.{◌≡◌, ◌⊎◌, ℕ, suc, ◌+◌, ◌≤◌, Bool, true, false, Option, Some, None, List, [], ◌∷◌, refl, sym, ap, subst, arith, if◌then◌else◌, inl, inr}
 use Rattle.std.specs.Prelude.{nat_le}
 use Rattle.std.proofs.lemmas.Bool.{leb-true, leb-false}
 use Rattle.life_measure.specs.Repairs.{Way, whole_way}
-use Rattle.life_measure.specs.Deadlines.{Standing, is_vain, deadline, deadline_of, IsTimed, Ticks, Mends, MendsIf, AllMend, repair}
+use Rattle.life_measure.specs.Tally.{quiet}
+use Rattle.life_measure.specs.Deadlines.{Standing, is_vain, deadline, deadline_of, IsTimed, Ticks, Mends, MendsIf, AllMend, repair, patience, Lasts}
 
 -- AT MOST its accesses
 most_of : (slaves pace : ℕ) (s : Standing) (way : Option Way) → IsTimed slaves pace s → deadline_of slaves s way ≤ whole_way slaves pace way
@@ -82,3 +83,14 @@ ring_ends slaves pace (a ∷ as') (b ∷ bs) m =
     go true (inr less) r up = inr (omega (arith, less, up.0))
     go false h (inl e) up = inl e
     go false h (inr less) up = inr (omega (arith, less, up.1))
+
+-- NONE LASTS LONGER
+lasting : (slaves pace : ℕ) (a : Standing) (k : ℕ) (b : Standing) → Lasts slaves pace a k b → k + deadline slaves b ≤ deadline slaves a
+lasting slaves pace a k b Lasts.none = omega arith
+lasting slaves pace a k b (Lasts.more j c d w before e s t m) = omega (arith, lasting slaves pace a j c before, nearer_end slaves pace c b w s t e m)
+
+pub lasts : (slaves pace k : ℕ) (a b : Standing) → IsTimed slaves pace a → Lasts slaves pace a k b → k ≤ whole_way slaves pace a.way
+lasts slaves pace k a b t l = omega (arith, lasting slaves pace a k b l, most slaves pace a t)
+
+pub is_patient : (slaves pace : ℕ) → whole_way slaves pace (Some (patience slaves)) ≤ quiet slaves pace
+is_patient slaves pace = omega arith

@@ -54,3 +54,13 @@ AllMend slaves pace _ _ = ⊥
 abbrev pub repair : ℕ → List Standing → ℕ
 repair slaves [] = 0
 repair slaves (s ∷ ss) = if nat_le (repair slaves ss) (deadline slaves s) then deadline slaves s else repair slaves ss
+
+-- A SLAVE THAT HAS SOMETHING TO GAIN, with nothing to repair, waits no longer than this: its visits may be in vain until it makes a step, and then one
+-- more
+abbrev pub patience : ℕ → Way
+patience slaves = record { rest = slaves; awaits = true }
+
+-- frames that came back, one behind the other, as long as it goes on
+pub data Lasts (slaves pace : ℕ) (a : Standing) : ℕ → Standing → Type 0 where
+  none : Lasts slaves pace a 0 a
+  more : (k : ℕ) (b c : Standing) (w : Way) → Lasts slaves pace a k b → b.way ≡ Some w → IsTimed slaves pace b → IsTimed slaves pace c → Mends slaves pace b c w → Lasts slaves pace a (suc k) c

@@ -3,3 +3,4 @@ pub mod Gains
 pub mod Repairs
 pub mod Rounds
 pub mod Tally
+pub mod Visits

@@ -5,4 +5,5 @@
 mod repairs;
 mod rounds;
 mod sums;
+mod visits;
 mod won;

@@ -6,9 +6,9 @@ ghost use Rattle.segment_model.specs.Slaves.{Datagram, Found};
 ghost use Rattle.segment_model.specs.Record.{News};
 ghost use Rattle.life_model.specs.Own.{own};
 ghost use Rattle.life_model.specs.Lives.{Opening, Stand, Life, Spot, life_back, life_lost, gives_up};
-ghost use Rattle.life_measure.specs.Tally.{broken};
+ghost use Rattle.life_measure.specs.Tally.{broken, quiet};
 ghost use Rattle.life_measure.specs.Repairs.{Way, way_of, half_way, whole_way, opening_rest, IsAt, StandsAt, IsDone, IsAnswered, GoesOn};
-ghost use Rattle.life_measure.specs.Deadlines.{Standing, deadline, Mends, IsTimed, AllMend, repair};
+ghost use Rattle.life_measure.specs.Deadlines.{Standing, deadline, Mends, Lasts, IsTimed, AllMend, repair, patience};
 
 /// THE REPAIR OF A LIFE: each visit that is done takes it one access on, and what is left takes no longer than what was left behind that access. A lost
 /// frame leaves it, or breaks what takes no longer than a reopening.
@@ -28,5 +28,8 @@ pub fn repair_law<M, Q, R>()
 pub fn deadline_law()
     ensures nearer { (slaves pace : ℕ) (a b : Standing) (w : Way) → IsTimed slaves pace a → IsTimed slaves pace b → a.way ≡ Some w → Mends slaves pace a b w → suc (deadline slaves b) ≤ deadline slaves a }
     ensures most { (slaves pace : ℕ) (s : Standing) → IsTimed slaves pace s → deadline slaves s ≤ whole_way slaves pace s.way }
+    ensures lasts { (slaves pace k : ℕ) (a b : Standing) → IsTimed slaves pace a → Lasts slaves pace a k b → k ≤ whole_way slaves pace a.way }
+    // The same holds of a slave that has something to gain and nothing to repair.
+    ensures patience { (slaves pace : ℕ) → whole_way slaves pace (Some (patience slaves)) ≤ quiet slaves pace }
     ensures ring { (slaves pace : ℕ) (before behind : List Standing) → AllMend slaves pace before behind → (repair slaves behind ≡ 0) ⊎ (suc (repair slaves behind) ≤ repair slaves before) }
 {}
