@@ -200,22 +200,24 @@ carried_by size ring t cs a g v =
 
 last_is_in : (ring : List Stop) (t : Tour) (cs : List ℕ) → IsCarried ring t cs → IsIn ring (last_of t.last cs)
 last_is_in ring t cs k = elim (fills_last k.size t.members t.last (base ring t.last) cs (fills_of k.size _ cs k.carries)) [
-    inl none ↦ absurd (not_none k.size _ cs k.carries none)
-  | inr l ↦ subst (IsIn ring) (sym l.last) (sym (base_has ring t.last l.c) ∙ l.there) ]
+  | inl none ↦ absurd (not_none k.size _ cs k.carries none)
+  | inr l ↦ subst (IsIn ring) (sym l.last) (sym (base_has ring t.last l.c) ∙ l.there)
+]
 
 pub comes_nearer : (size : ℕ) (ring : List Stop) (t : Tour) (cs : List ℕ) (n : ℕ) → AreApart ring → GoesRound ring t → is_live n ring ≡ true → is_live_in n t.members ≡ true → IsVisit size t.again t.opening (round ring t.last t.members) cs →
     (is_among n cs ≡ true) ⊎ (suc (ahead ring (last_of t.last cs) n) ≤ ahead ring t.last n)
 comes_nearer size ring t cs n a g e l v =
     let k = carried_by size ring t cs a g v in
     elim (fills_passed k.size t.members n t.last (base ring t.last) cs l (base_has ring t.last n ∙ e) (fills_of k.size _ cs k.carries)) [
-      inl h ↦ inl h
-    | inr (inl none) ↦ absurd (not_none k.size _ cs k.carries none)
-    | inr (inr q) ↦ inr (
-        let there : is_live q.c ring ≡ true = sym (base_has ring t.last q.c) ∙ q.there in
-        let less : ahead ring t.last q.c < ahead ring t.last n = omega (arith, is_ahead ring t.last q.c, is_ahead ring t.last n, q.less) in
-        let near = nearer ring t.last q.c n a g.last there e less in
-        let now : ahead ring (last_of t.last cs) n ≡ ahead ring (Some q.c) n = ap (λ z. ahead ring z n) q.last in
-        omega (arith, near, now)) ]
+      | inl h ↦ inl h
+      | inr (inl none) ↦ absurd (not_none k.size _ cs k.carries none)
+      | inr (inr q) ↦ inr (
+          let there : is_live q.c ring ≡ true = sym (base_has ring t.last q.c) ∙ q.there in
+          let less : ahead ring t.last q.c < ahead ring t.last n = omega (arith, is_ahead ring t.last q.c, is_ahead ring t.last n, q.less) in
+          let near = nearer ring t.last q.c n a g.last there e less in
+          let now : ahead ring (last_of t.last cs) n ≡ ahead ring (Some q.c) n = ap (λ z. ahead ring z n) q.last in
+          omega (arith, near, now))
+    ]
 
 -- THE TOUR GOES ON ROUND
 no_opening : {M : Type 0} (back : List (Datagram M)) (opening : List Stop) → opening ≡ [] → opening_after back opening ≡ []
@@ -260,7 +262,7 @@ pub comes : {M : Type 0} (size : List (Datagram M) → ℕ) (retry : ℕ) (ring 
 comes size retry ring n t [] a g e l b v less = absurd (omega (arith, less))
 comes {M} size retry ring n t (f ∷ fs) a g e l b v less =
     go f.fate b.0 (goes_on (size f.sent) retry ring t f (carried ring f.sent) a g v.0) v.1 (comes_nearer (size f.sent) ring t (carried ring f.sent) n a g e l v.0)
-        (λ u m h w d. comes size retry ring n u fs a h e m b.1 w d)
+    (λ u m h w d. comes size retry ring n u fs a h e m b.1 w d)
   where
     go : (fate : RingFate) → fate ≡ RingFate.Back → GoesRound ring (tour_after retry t (carried ring f.sent) f fate) → Visits size retry ring (tour_after retry t (carried ring f.sent) f fate) fs →
         (is_among n (carried ring f.sent) ≡ true) ⊎ (suc (ahead ring (last_of t.last (carried ring f.sent)) n) ≤ ahead ring t.last n) →

@@ -96,9 +96,12 @@ pub lost_breaks : {M Q R : Type 0} (x : Speech M Q R) (acknowledged : Q → Bool
 lost_breaks x acknowledged more passed slaves pace spot news sent l (Stand.Opens o) e s = (s, inl refl)
 lost_breaks x acknowledged more passed slaves pace spot news sent l Stand.Gone e s = (s, inl refl)
 lost_breaks x acknowledged more passed slaves pace spot news sent l Stand.Open e s =
-    let m = life_lost x acknowledged more passed spot news sent l Stand.Open in
-    (stands_open m m.stand refl e, elim (without spot.station l.era.side.halves (grams (own spot.station sent))) [
-      inl same ↦ inl (ap (λ z. stand_way slaves pace z l.stand) same)
-    | inr doubt ↦ inr (
-        let way : way_of slaves pace m ≡ half_way slaves pace InState.Doubt = ap (λ z. stand_way slaves pace z l.stand) doubt ∙ ap (stand_way slaves pace InState.Doubt) e in
-        subst (λ z. whole_way slaves pace z ≤ broken slaves pace) (sym way) (omega arith)) ])
+    let m = life_lost x acknowledged more passed spot news sent l Stand.Open in (
+      stands_open m m.stand refl e,
+      elim (without spot.station l.era.side.halves (grams (own spot.station sent))) [
+        | inl same ↦ inl (ap (λ z. stand_way slaves pace z l.stand) same)
+        | inr doubt ↦ inr (
+            let way : way_of slaves pace m ≡ half_way slaves pace InState.Doubt = ap (λ z. stand_way slaves pace z l.stand) doubt ∙ ap (stand_way slaves pace InState.Doubt) e in
+            subst (λ z. whole_way slaves pace z ≤ broken slaves pace) (sym way) (omega arith))
+      ],
+    )

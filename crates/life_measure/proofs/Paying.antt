@@ -14,35 +14,47 @@ costs m n k l = omega (arith, one_more m k, mul-le (suc m) k n k l (omega arith)
 grows : (m n k : ℕ) → m ≤ n → m * k ≤ n * k
 grows m n k l = mul-le m k n k l (omega arith)
 
-sum_lost : (slaves pace first : ℕ) (a b : Tally) → IsPaid slaves pace first a → b.frames ≡ suc a.frames → b.lost ≡ suc a.lost → b.gains ≡ a.gains → b.repair ≤ a.repair + broken slaves pace → b.still ≡ 0 → IsPaid slaves pace first b
-sum_lost slaves pace first a b p f l g r s =
+sum_lost : (slaves pace first : ℕ) (a b : Tally) → IsPaid slaves pace first a → b.frames ≡ suc a.frames → b.lost ≡ suc a.lost → b.gains ≡ a.gains → b.reopened ≡ a.reopened → b.repair ≤ a.repair + broken slaves pace → b.still ≡ 0 → IsPaid slaves pace first b
+sum_lost slaves pace first a b p f l g o r s =
     let lost = costs a.lost b.lost (1 + broken slaves pace + quiet slaves pace) (omega (arith, l)) in
     let gains = grows a.gains b.gains (1 + quiet slaves pace) (omega (arith, g)) in
-    record { still = omega (arith, s); sum = omega (arith, p.still, p.sum, f, r, s, lost, gains) }
+    let open_again = grows a.reopened b.reopened (broken slaves pace) (omega (arith, o)) in
+    record { still = omega (arith, s); sum = omega (arith, p.still, p.sum, f, r, s, lost, gains, open_again) }
 
-sum_repairs : (slaves pace first : ℕ) (a b : Tally) → IsPaid slaves pace first a → b.frames ≡ suc a.frames → b.lost ≡ a.lost → a.gains ≤ b.gains → suc b.repair ≤ a.repair → b.still ≡ a.still → IsPaid slaves pace first b
-sum_repairs slaves pace first a b p f l g r s =
+sum_repairs : (slaves pace first : ℕ) (a b : Tally) → IsPaid slaves pace first a → b.frames ≡ suc a.frames → b.lost ≡ a.lost → a.gains ≤ b.gains → b.reopened ≡ a.reopened → suc b.repair ≤ a.repair → b.still ≡ a.still → IsPaid slaves pace first b
+sum_repairs slaves pace first a b p f l g o r s =
     let lost = grows a.lost b.lost (1 + broken slaves pace + quiet slaves pace) (omega (arith, l)) in
     let gains = grows a.gains b.gains (1 + quiet slaves pace) g in
-    record { still = omega (arith, s, p.still); sum = omega (arith, p.still, p.sum, f, r, s, lost, gains) }
+    let open_again = grows a.reopened b.reopened (broken slaves pace) (omega (arith, o)) in
+    record { still = omega (arith, s, p.still); sum = omega (arith, p.still, p.sum, f, r, s, lost, gains, open_again) }
 
-sum_gains : (slaves pace first : ℕ) (a b : Tally) → IsPaid slaves pace first a → b.frames ≡ suc a.frames → b.lost ≡ a.lost → suc a.gains ≤ b.gains → b.repair ≤ a.repair → b.still ≡ 0 → IsPaid slaves pace first b
-sum_gains slaves pace first a b p f l g r s =
+sum_gains : (slaves pace first : ℕ) (a b : Tally) → IsPaid slaves pace first a → b.frames ≡ suc a.frames → b.lost ≡ a.lost → suc a.gains ≤ b.gains → b.reopened ≡ a.reopened → b.repair ≤ a.repair → b.still ≡ 0 → IsPaid slaves pace first b
+sum_gains slaves pace first a b p f l g o r s =
     let lost = grows a.lost b.lost (1 + broken slaves pace + quiet slaves pace) (omega (arith, l)) in
     let gains = costs a.gains b.gains (1 + quiet slaves pace) g in
-    record { still = omega (arith, s); sum = omega (arith, p.still, p.sum, f, r, s, lost, gains) }
+    let open_again = grows a.reopened b.reopened (broken slaves pace) (omega (arith, o)) in
+    record { still = omega (arith, s); sum = omega (arith, p.still, p.sum, f, r, s, lost, gains, open_again) }
 
-sum_nothing : (slaves pace first : ℕ) (a b : Tally) → IsPaid slaves pace first a → b.frames ≡ suc a.frames → b.lost ≡ a.lost → b.gains ≡ a.gains → b.repair ≤ a.repair → b.still ≡ suc a.still → b.still ≤ quiet slaves pace → IsPaid slaves pace first b
-sum_nothing slaves pace first a b p f l g r s q =
+sum_reopens : (slaves pace first : ℕ) (a b : Tally) → IsPaid slaves pace first a → b.frames ≡ suc a.frames → b.lost ≡ a.lost → suc a.gains ≤ b.gains → suc a.reopened ≤ b.reopened → b.repair ≤ a.repair + broken slaves pace → b.still ≡ 0 → IsPaid slaves pace first b
+sum_reopens slaves pace first a b p f l g o r s =
+    let lost = grows a.lost b.lost (1 + broken slaves pace + quiet slaves pace) (omega (arith, l)) in
+    let gains = costs a.gains b.gains (1 + quiet slaves pace) g in
+    let open_again = costs a.reopened b.reopened (broken slaves pace) o in
+    record { still = omega (arith, s); sum = omega (arith, p.still, p.sum, f, r, s, lost, gains, open_again) }
+
+sum_nothing : (slaves pace first : ℕ) (a b : Tally) → IsPaid slaves pace first a → b.frames ≡ suc a.frames → b.lost ≡ a.lost → b.gains ≡ a.gains → b.reopened ≡ a.reopened → b.repair ≤ a.repair → b.still ≡ suc a.still → b.still ≤ quiet slaves pace → IsPaid slaves pace first b
+sum_nothing slaves pace first a b p f l g o r s q =
     let lost = grows a.lost b.lost (1 + broken slaves pace + quiet slaves pace) (omega (arith, l)) in
     let gains = grows a.gains b.gains (1 + quiet slaves pace) (omega (arith, g)) in
-    record { still = q; sum = omega (arith, p.still, p.sum, f, r, s, lost, gains) }
+    let open_again = grows a.reopened b.reopened (broken slaves pace) (omega (arith, o)) in
+    record { still = q; sum = omega (arith, p.still, p.sum, f, r, s, lost, gains, open_again) }
 
 paid_by : (slaves pace first : ℕ) (a b : Tally) → IsPaid slaves pace first a → Counts slaves pace a b → IsPaid slaves pace first b
-paid_by slaves pace first a b p (Counts.lost f l g r s) = sum_lost slaves pace first a b p f l g r s
-paid_by slaves pace first a b p (Counts.repairs f l g r s) = sum_repairs slaves pace first a b p f l g r s
-paid_by slaves pace first a b p (Counts.gains f l g r s) = sum_gains slaves pace first a b p f l g r s
-paid_by slaves pace first a b p (Counts.nothing f l g r s q) = sum_nothing slaves pace first a b p f l g r s q
+paid_by slaves pace first a b p (Counts.lost f l g o r s) = sum_lost slaves pace first a b p f l g o r s
+paid_by slaves pace first a b p (Counts.repairs f l g o r s) = sum_repairs slaves pace first a b p f l g o r s
+paid_by slaves pace first a b p (Counts.gains f l g o r s) = sum_gains slaves pace first a b p f l g o r s
+paid_by slaves pace first a b p (Counts.reopens f l g o r s) = sum_reopens slaves pace first a b p f l g o r s
+paid_by slaves pace first a b p (Counts.nothing f l g o r s q) = sum_nothing slaves pace first a b p f l g o r s q
 
 pub paid : (slaves pace first : ℕ) (t : Tally) → Counted slaves pace (new_tally first) t → IsPaid slaves pace first t
 paid slaves pace first t Counted.none = record { still = omega arith; sum = omega arith }
@@ -58,7 +70,7 @@ firsts slaves pace product first whole n p e m f w =
     let spread : slaves * (5 + pace) ≡ 5 * slaves + product = omega (arith, e) in
     omega (arith, n, p, m, f, w, more, spread)
 
-pub within : (slaves pace first work lost : ℕ) (t : Tally) → 1 ≤ slaves → 1 ≤ pace → first ≤ slaves * (5 + pace) → Counted slaves pace (new_tally first) t → t.gains ≤ work → t.lost ≤ lost →
+pub within : (slaves pace first work lost : ℕ) (t : Tally) → 1 ≤ slaves → 1 ≤ pace → first ≤ slaves * (5 + pace) → Counted slaves pace (new_tally first) t → t.gains + t.reopened ≤ work → t.lost ≤ lost →
     t.frames ≤ 16 * pace * (slaves + 1) * (work + lost + 2 * slaves)
 within slaves pace first work lost t n p f c g l =
     let product = pace * slaves in
@@ -68,7 +80,10 @@ within slaves pace first work lost t n p f c g l =
     let price = prices slaves pace product n p refl least in
     let done = paid slaves pace first t c in
     let by_lost : t.lost * (1 + broken slaves pace + quiet slaves pace) ≤ lost * whole = mul-le t.lost (1 + broken slaves pace + quiet slaves pace) lost whole l (omega (arith, is, price.0)) in
-    let by_gains : t.gains * (1 + quiet slaves pace) ≤ work * whole = mul-le t.gains (1 + quiet slaves pace) work whole g (omega (arith, is, price.1)) in
+    let by_gains : t.gains * (1 + quiet slaves pace) ≤ t.gains * whole = mul-le t.gains (1 + quiet slaves pace) t.gains whole (omega arith) (omega (arith, is, price.1)) in
+    let by_reopened : t.reopened * broken slaves pace ≤ t.reopened * whole = mul-le t.reopened (broken slaves pace) t.reopened whole (omega arith) (omega (arith, is, price.0)) in
+    let by_work : (t.gains + t.reopened) * whole ≤ work * whole = mul-le (t.gains + t.reopened) whole work whole g (omega arith) in
+    let both : (t.gains + t.reopened) * whole ≡ t.gains * whole + t.reopened * whole = omega arith in
     let by_first : first + quiet slaves pace ≤ 2 * slaves * whole = firsts slaves pace product first whole n p refl least f is in
     let sum : whole * (work + lost + 2 * slaves) ≡ work * whole + lost * whole + 2 * slaves * whole = omega arith in
-    omega (arith, done.sum, done.still, by_lost, by_gains, by_first, sum)
+    omega (arith, done.sum, done.still, by_lost, by_gains, by_reopened, by_work, both, by_first, sum)
