@@ -1,0 +1,9 @@
+mod Around
+mod Gaining
+mod Halving
+mod Mending
+mod Openings
+mod Paying
+mod Turns
+mod Twice
+mod Worked

@@ -1,0 +1,3 @@
+mod Echoes
+mod Sharing
+mod Worlds
