@@ -12,7 +12,7 @@ use Rattle.master_node.specs.Wants.{gave_of, IsCounted, AllCounted, IsIdle, IsLe
 use Rattle.master_node.specs.declared.node.MasterNode.{MasterNode}
 use Rattle.run_book.specs.declared.book.SlaveBook.{SlaveBook}
 use Rattle.run_record.specs.declared.notes.Notes.{Notes}
-use Rattle.run_record.specs.Led.{gaves_noted, gaves_in, RestsSo, AllStayed}
+use Rattle.run_record.specs.Led.{gaves_noted, gaves_in, RestsSo, DoneSo}
 use Rattle.run_record.specs.Session.{slave_row, slave_rows, is_at_rest, are_at_rest, some_given_up, has_live}
 use Rattle.run_record.proofs.Gones.{AllGone, all_gone, first_false, second_false}
 use Rattle.slave_server.specs.Serving.{next_mail}
@@ -70,13 +70,21 @@ never : (xs : List ℕ) → nat_lt 0 (length xs) ≡ false → xs ≡ []
 never [] e = refl
 never (x ∷ xs) e = absurd (let longer = ltb-false 0 (length (x ∷ xs)) e in omega (arith, longer))
 
-pub stayed : (leads : List Leads) (rows : List SlaveBook) → gaves_in rows ≡ map gave_of leads → some_given_up rows ≡ false → AllStayed leads
-stayed [] rows g e = tt
-stayed (a ∷ as') [] g e = absurd (not_none (gave_of a) (map gave_of as') g)
-stayed (a ∷ as') (row ∷ rows) g e =
+done_so : (lens : ℕ → Lens) (recover : ℕ) (a : Leads) (row : SlaveBook) → IsCounted recover a.lived.life.stand (length (gave_of a)) → gave_of a ≡ [] → RestsSo lens a row → DoneSo lens a row
+done_so lens recover a row c none (inl gone) =
+    let count : length (gave_of a) ≡ suc recover = (let P : Stand → Type 0 = λ s. IsCounted recover s (length (gave_of a)) in subst P gone c) in
+    let few = ap length none in
+    absurd (omega (arith, count, few))
+done_so lens recover a row c none (inr rests) = record { idle = rests.0; settled = rests.1; stayed = none }
+
+pub all_done : (lens : ℕ → Lens) (recover : ℕ) (leads : List Leads) (rows : List SlaveBook) → AllCounted recover leads → gaves_in rows ≡ map gave_of leads → some_given_up rows ≡ false → AllBoth (RestsSo lens) leads rows → AllBoth (DoneSo lens) leads rows
+all_done lens recover [] [] c g e r = tt
+all_done lens recover [] (row ∷ rows) c g e r = absurd r
+all_done lens recover (a ∷ as') [] c g e r = absurd r
+all_done lens recover (a ∷ as') (row ∷ rows) c g e r =
     let h : row.gave ≡ gave_of a = heads row.gave (gave_of a) (gaves_in rows) (map gave_of as') g in (
-      sym h ∙ never row.gave (first_false (nat_lt 0 (length row.gave)) (some_given_up rows) e),
-      stayed as' rows (rests row.gave (gave_of a) (gaves_in rows) (map gave_of as') g) (second_false (nat_lt 0 (length row.gave)) (some_given_up rows) e),
+      done_so lens recover a row c.0 (sym h ∙ never row.gave (first_false (nat_lt 0 (length row.gave)) (some_given_up rows) e)) r.0,
+      all_done lens recover as' rows c.1 (rests row.gave (gave_of a) (gaves_in rows) (map gave_of as') g) (second_false (nat_lt 0 (length row.gave)) (some_given_up rows) e) r.1,
     )
 
 -- WHERE NO SLAVE IS LIVE all are at rest

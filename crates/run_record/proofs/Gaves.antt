@@ -1,5 +1,5 @@
 -- What is noted of give-ups, slave by slave.
-use Rattle.std.proofs.Common.{◌≡◌, ◌≤◌, ◌<◌, ℕ, zero, suc, ◌+◌, Bool, true, false, Some, List, [], ◌∷◌, ◌++◌, map, length, length-append, refl, ap, sym, ◌∙◌, subst, arith}
+use Rattle.std.proofs.Common.{◌≡◌, ◌≤◌, ◌<◌, ℕ, zero, suc, ◌+◌, Bool, true, false, Some, List, [], ◌∷◌, ◌++◌, map, length, length-append, get_or, refl, ap, sym, ◌∙◌, subst, arith}
 use Rattle.std.specs.Prelude.{nat_lt, if◌then◌else◌, IfSome, slice_get, slice_set, slice_index_or}
 use Rattle.std.proofs.lemmas.Bool.{lt-ltb, le-ltb}
 use Rattle.life_runs.specs.Led.{Leads}
@@ -94,3 +94,27 @@ gave_after (Lost after) frame m a b c same e by =
     λ lens retry missed leads shown all.
     by lens retry missed leads (subst (λ (n : ℕ). MasterShows lens n retry m missed leads) (sym same.recover) shown) (subst (λ (n : ℕ). AllCounted n leads) (sym same.recover) all)
     ∙ ap (gaves_behind frame (map gave_of leads)) e
+
+-- the give-ups of the notes at a place
+pub gave_got : (notes : List Notes) (place : ℕ) (n : Notes) → place < length notes → n ≡ get_or notes place n → slice_get (gaves_noted notes) place ≡ Some n.gave
+gave_got [] place n l e = absurd (omega (arith, l))
+gave_got (m ∷ notes) zero n l e = ap (λ (k : Notes). Some k.gave) (sym e)
+gave_got (m ∷ notes) (suc place) n l e = gave_got notes place n (omega (arith, l)) e
+
+-- they are the same, read or lent
+pub same_there : (notes : List Notes) (place : ℕ) (n d : Notes) → place < length notes → n ≡ get_or notes place n → d ≡ slice_index_or notes place d → d.gave ≡ n.gave
+same_there [] place n d l e f = absurd (omega (arith, l))
+same_there (m ∷ notes) zero n d l e f = ap (λ (k : Notes). k.gave) (f ∙ sym e)
+same_there (m ∷ notes) (suc place) n d l e f = same_there notes place n d (omega (arith, l)) e f
+
+-- what stands at a place
+pub got : {T : Type 0} (xs : List T) (k : ℕ) (x : T) → k < length xs → x ≡ get_or xs k x → slice_get xs k ≡ Some x
+got [] k x l e = absurd (omega (arith, l))
+got (y ∷ xs) zero x l e = ap Some (sym e)
+got (y ∷ xs) (suc k) x l e = got xs k x (omega (arith, l)) e
+
+-- a master that tells of a count, of one that is the same
+pub tells_of : (recover : ℕ) (more : Bool) (times : ℕ) (old : List ℕ) (leads : List Leads) (k : ℕ) → times ≡ length old → IfSome (slice_get leads k) (λ a. IsCounted recover a.lived.life.stand (length (gave_of a)) → more ≡ nat_lt times (length (gave_of a))) →
+    IfSome (slice_get leads k) (λ a. IsCounted recover a.lived.life.stand (length (gave_of a)) → more ≡ nat_lt (length old) (length (gave_of a)))
+tells_of recover more times old leads k e x =
+    subst (λ (n : ℕ). IfSome (slice_get leads k) (λ a. IsCounted recover a.lived.life.stand (length (gave_of a)) → more ≡ nat_lt n (length (gave_of a)))) e x

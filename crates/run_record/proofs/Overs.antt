@@ -17,7 +17,7 @@ use Rattle.segment_plan.specs.declared.plan.Scenario.{Scenario}
 use Rattle.run_record.specs.Led.{exchanged, gaves_in, Leading, LeadTo, RestsSo, RestBy, LedBook}
 use Rattle.run_record.specs.Ran.{IsUnderway, EndsSo}
 use Rattle.run_record.specs.Session.{SessionState, session_rows, slave_rows, are_at_rest, some_given_up, IsLeftBy}
-use Rattle.run_record.proofs.Ends.{rest_so, stayed, gaves_of_rows}
+use Rattle.run_record.proofs.Ends.{rest_so, all_done, gaves_of_rows}
 
 not_done : endings.Done ≡ endings.NoMemory → ⊥
 not_done e = absurd (cc)
@@ -32,15 +32,17 @@ module _ (plan : Scenario) (s : SessionState) (b b' : Book) (h : IsUnderway plan
   has_gaves : b'.slaves ≡ session_rows s → gaves_in b'.slaves ≡ map gave_of l.leads
   has_gaves rows = ap gaves_in rows ∙ gaves_of_rows s.recover s.ring.nodes s.notes same ∙ l.gave
 
+  all : AllCounted s.recover l.leads
+  all = subst (λ (n : ℕ). AllCounted n l.leads) (sym h.recover) (counted lens plan plan.retry (map exchanged b.frames) l.missed l.leads l.lives)
+
   -- nothing is left
   all_rest : b'.slaves ≡ session_rows s → are_at_rest (session_rows s) ≡ true → IsLeftBy s.master → AllBoth (RestsSo lens) l.leads b'.slaves
   all_rest rows rest left =
-      let all : AllCounted s.recover l.leads = subst (λ (n : ℕ). AllCounted n l.leads) (sym h.recover) (counted lens plan plan.retry (map exchanged b.frames) l.missed l.leads l.lives) in
       let none : AllLeft lens l.leads = left lens plan.recover plan.retry l.missed l.leads l.shows (placed lens plan plan.retry (map exchanged b.frames) l.missed l.leads l.lives) in
       subst (λ (rs : List SlaveBook). AllBoth (RestsSo lens) l.leads rs) (sym rows) (rest_so lens s.recover l.leads s.ring.nodes s.notes same all l.gave rest none)
 
   rest_by : (ending : Ending) (settled : Bool) → EndsSo s ending → OnTrue settled (IsLeftBy s.master) → OnFalse settled (ending ≡ endings.BudgetSpent) → (ending ≢ endings.NoMemory → b'.slaves ≡ session_rows s) → RestBy lens ending l.leads b'.slaves
-  rest_by endings.Done true so left cut rows = let r = rows not_done in (all_rest r so.0 left, stayed l.leads b'.slaves (has_gaves r) (ap some_given_up r ∙ so.1))
+  rest_by endings.Done true so left cut rows = let r = rows not_done in all_done lens s.recover l.leads b'.slaves all (has_gaves r) (ap some_given_up r ∙ so.1) (all_rest r so.0 left)
   rest_by endings.Done false so left cut rows = absurd (let bad : endings.Done ≡ endings.BudgetSpent = cut in cc)
   rest_by endings.GivenUp true so left cut rows = all_rest (rows not_given) so.0 left
   rest_by endings.GivenUp false so left cut rows = absurd (let bad : endings.GivenUp ≡ endings.BudgetSpent = cut in cc)

@@ -53,14 +53,15 @@ pub record Leading (plan : Scenario) (m : MasterNode) (notes : List Notes) (fs :
 abbrev pub RestsSo : (ℕ → Lens) → Leads → SlaveBook → Type 0
 RestsSo lens a row = (a.lived.life.stand ≡ Stand.Gone) ⊎ (IsIdle lens a × (is_settled next_mail row.node ≡ true))
 
--- none of these was ever given up
-abbrev pub AllStayed : List Leads → Type 0
-AllStayed [] = ⊤
-AllStayed (a ∷ as') = (gave_of a ≡ []) × AllStayed as'
+-- and it was never given up: its master wants nothing of it, and it is settled
+pub record DoneSo (lens : ℕ → Lens) (a : Leads) (row : SlaveBook) : Type 0 where
+  pub idle : IsIdle lens a
+  pub settled : is_settled next_mail row.node ≡ true
+  pub stayed : gave_of a ≡ []
 
--- HOW A RUN'S LIVES END: with nothing left of any slave, and none given up where all is done; wherever the budget or memory ends
+-- HOW A RUN'S LIVES END: with nothing left of any slave, and none given up where all is done; anywhere where the budget or memory ends
 abbrev pub RestBy : (ℕ → Lens) → Ending → List Leads → List SlaveBook → Type 0
-RestBy lens endings.Done leads rows = AllBoth (RestsSo lens) leads rows × AllStayed leads
+RestBy lens endings.Done leads rows = AllBoth (DoneSo lens) leads rows
 RestBy lens endings.GivenUp leads rows = AllBoth (RestsSo lens) leads rows
 RestBy lens endings.BudgetSpent leads rows = ⊤
 RestBy lens endings.NoMemory leads rows = ⊤

@@ -302,8 +302,9 @@ impl Log {
         let Some(&slave) = self.ports.get(port - 1) else {
             return;
         };
-        if (slave as usize) < self.notes.len() {
-            self.notes.at_mut(slave as usize).received();
+        if (slave as usize) >= self.notes.len() {
+            return;
         }
+        self.notes.at_mut(slave as usize).received();
     }
 }

@@ -25,11 +25,13 @@ impl Log {
             gaves_noted self.new.notes ≡ gave_at at frame (map gave_of leads) (gaves_noted self.old.notes)) }
     {
         let place = at as usize;
-        let times = self.notes.as_slice()[place].gave.len();
+        let rows = self.notes.as_slice();
+        let times = rows[place].gave.len();
         if !master.gave_up_more(at, self.recover, times) {
             return Ok(());
         }
-        let home = self.homes.as_slice()[place];
+        let homes = self.homes.as_slice();
+        let home = homes[place];
         let notes = self.notes.at_mut(place);
         let noted = notes.given_up(frame);
         *self.stations.at_mut(place) = station_of(home, notes, self.recover);

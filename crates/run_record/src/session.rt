@@ -232,7 +232,10 @@ impl Session {
         ensures left { OnTrue result (IsLeftBy self.now.master) }
         ensures busy { OnFalse result ((are_at_rest (session_rows self.now) ≡ false) ⊎ (has_live self.now.master ≡ true)) }
     {
-        !self.master.wants() && self.are_at_rest()
+        if self.master.wants() {
+            return false;
+        }
+        self.are_at_rest()
     }
 
     // Whether each live slave has nothing left to do.
