@@ -24,8 +24,8 @@ both_true true b e = (refl, e)
 both_true false b e = absurd (let bad : false ≡ true = e in cc)
 
 second_true : (a b : Bool) → (a || b) ≡ true → a ≡ false → b ≡ true
-second_true true b e no = absurd (let bad : true ≡ false = no in cc)
-second_true false b e no = e
+second_true true b e fails = absurd (let bad : true ≡ false = fails in cc)
+second_true false b e fails = e
 
 -- the heads of equal lists, and their rests
 heads : {T : Type 0} (x y : T) (xs ys : List T) → x ∷ xs ≡ y ∷ ys → x ≡ y

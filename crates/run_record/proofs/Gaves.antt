@@ -48,26 +48,26 @@ module _ (recover frame : ℕ) (more : Bool) where
 
   pub none_more : (place : ℕ) (leads : List Leads) (olds : List (List ℕ)) (old : List ℕ) → more ≡ false → AllCounted recover leads → IfSome (slice_get leads place) (Tells old) → slice_get olds place ≡ Some old →
       olds ≡ gave_at place frame (map gave_of leads) olds
-  none_more zero [] olds old no c t e = refl
-  none_more (suc place) [] olds old no c t e = refl
-  none_more zero (a ∷ as') [] old no c t e = refl
-  none_more (suc place) (a ∷ as') [] old no c t e = refl
-  none_more zero (a ∷ as') (g ∷ gs) old no c t e =
+  none_more zero [] olds old less c t e = refl
+  none_more (suc place) [] olds old less c t e = refl
+  none_more zero (a ∷ as') [] old less c t e = refl
+  none_more (suc place) (a ∷ as') [] old less c t e = refl
+  none_more zero (a ∷ as') (g ∷ gs) old less c t e =
       let same : g ≡ old = cc in
-      let less : nat_lt (length g) (length (gave_of a)) ≡ false = ap (λ (k : List ℕ). nat_lt (length k) (length (gave_of a))) same ∙ sym (t c.0) ∙ no in
-      ap (λ (b : Bool). (if b then g ++ frame ∷ [] else g) ∷ gs) (sym less)
-  none_more (suc place) (a ∷ as') (g ∷ gs) old no c t e = ap (λ ks. g ∷ ks) (none_more place as' gs old no c.1 t e)
+      let fewer : nat_lt (length g) (length (gave_of a)) ≡ false = ap (λ (k : List ℕ). nat_lt (length k) (length (gave_of a))) same ∙ sym (t c.0) ∙ less in
+      ap (λ (b : Bool). (if b then g ++ frame ∷ [] else g) ∷ gs) (sym fewer)
+  none_more (suc place) (a ∷ as') (g ∷ gs) old less c t e = ap (λ ks. g ∷ ks) (none_more place as' gs old less c.1 t e)
 
   pub one_more : (place : ℕ) (leads : List Leads) (olds : List (List ℕ)) (old : List ℕ) → more ≡ true → place < length leads → AllCounted recover leads → IfSome (slice_get leads place) (Tells old) → slice_get olds place ≡ Some old →
       slice_set olds place (old ++ frame ∷ []) ≡ gave_at place frame (map gave_of leads) olds
-  one_more place [] olds old yes l c t e = absurd (omega (arith, l))
-  one_more zero (a ∷ as') [] old yes l c t e = absurd (cc)
-  one_more (suc place) (a ∷ as') [] old yes l c t e = absurd (cc)
-  one_more zero (a ∷ as') (g ∷ gs) old yes l c t e =
+  one_more place [] olds old more_is l c t e = absurd (omega (arith, l))
+  one_more zero (a ∷ as') [] old more_is l c t e = absurd (cc)
+  one_more (suc place) (a ∷ as') [] old more_is l c t e = absurd (cc)
+  one_more zero (a ∷ as') (g ∷ gs) old more_is l c t e =
       let same : old ≡ g = cc in
-      let less : nat_lt (length g) (length (gave_of a)) ≡ true = ap (λ (k : List ℕ). nat_lt (length k) (length (gave_of a))) (sym same) ∙ sym (t c.0) ∙ yes in
-      ap (λ (k : List ℕ). (k ++ frame ∷ []) ∷ gs) same ∙ ap (λ (b : Bool). (if b then g ++ frame ∷ [] else g) ∷ gs) (sym less)
-  one_more (suc place) (a ∷ as') (g ∷ gs) old yes l c t e = ap (λ ks. g ∷ ks) (one_more place as' gs old yes (omega (arith, l)) c.1 t e)
+      let fewer : nat_lt (length g) (length (gave_of a)) ≡ true = ap (λ (k : List ℕ). nat_lt (length k) (length (gave_of a))) (sym same) ∙ sym (t c.0) ∙ more_is in
+      ap (λ (k : List ℕ). (k ++ frame ∷ []) ∷ gs) same ∙ ap (λ (b : Bool). (if b then g ++ frame ∷ [] else g) ∷ gs) (sym fewer)
+  one_more (suc place) (a ∷ as') (g ∷ gs) old more_is l c t e = ap (λ ks. g ∷ ks) (one_more place as' gs old more_is (omega (arith, l)) c.1 t e)
 
 -- WHAT IS NOTED of one slave anew
 pub noted_at : (notes : List Notes) (place : ℕ) (n : Notes) → gaves_noted (slice_set notes place n) ≡ slice_set (gaves_noted notes) place n.gave
@@ -106,12 +106,6 @@ pub same_there : (notes : List Notes) (place : ℕ) (n d : Notes) → place < le
 same_there [] place n d l e f = absurd (omega (arith, l))
 same_there (m ∷ notes) zero n d l e f = ap (λ (k : Notes). k.gave) (f ∙ sym e)
 same_there (m ∷ notes) (suc place) n d l e f = same_there notes place n d (omega (arith, l)) e f
-
--- what stands at a place
-pub got : {T : Type 0} (xs : List T) (k : ℕ) (x : T) → k < length xs → x ≡ get_or xs k x → slice_get xs k ≡ Some x
-got [] k x l e = absurd (omega (arith, l))
-got (y ∷ xs) zero x l e = ap Some (sym e)
-got (y ∷ xs) (suc k) x l e = got xs k x (omega (arith, l)) e
 
 -- a master that tells of a count, of one that is the same
 pub tells_of : (recover : ℕ) (more : Bool) (times : ℕ) (old : List ℕ) (leads : List Leads) (k : ℕ) → times ≡ length old → IfSome (slice_get leads k) (λ a. IsCounted recover a.lived.life.stand (length (gave_of a)) → more ≡ nat_lt times (length (gave_of a))) →

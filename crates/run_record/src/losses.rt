@@ -1,4 +1,4 @@
-ghost use Rattle.std.specs.Prelude.{◌≡◌, ◌<◌, ◌≤◌, ◌+◌, ℕ, List, length, map, vec_len, OnOk};
+ghost use Rattle.std.specs.Prelude.{◌≡◌, ◌<◌, ◌≤◌, ◌+◌, ℕ, List, length, map, vec_len, OnOk, Some, slice_get};
 ghost use Rattle.frame_view.specs.View.{Lens};
 ghost use Rattle.life_runs.specs.Led.{Leads};
 ghost use Rattle.master_node.specs.Shows.{MasterShows};
@@ -13,6 +13,14 @@ use master_node::MasterNode;
 use run_book::Book;
 use segment_ring::Fate;
 use std::alloc::Global;
+
+// The station of the slave at a place and the length of its mailbox.
+fn home_at(homes: &[(u16, u16)], place: usize) -> (u16, u16)
+    requires { place < length homes.now }
+    ensures { slice_get homes.now place ≡ Some result }
+{
+    homes[place]
+}
 
 impl Log {
     // A slave that was given up with this frame, which was lost, has it among its give-ups.
@@ -30,8 +38,7 @@ impl Log {
         if !master.gave_up_more(at, self.recover, times) {
             return Ok(());
         }
-        let homes = self.homes.as_slice();
-        let home = homes[place];
+        let home = home_at(self.homes.as_slice(), place);
         let notes = self.notes.at_mut(place);
         let noted = notes.given_up(frame);
         *self.stations.at_mut(place) = station_of(home, notes, self.recover);

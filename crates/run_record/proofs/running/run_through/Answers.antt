@@ -25,13 +25,13 @@ returns-in_err-step-clause-frames c =
 
 -- some slave is live where the loop goes on
 live_so : (plan : Scenario) (s : SessionState) (b : Book) (settled : Bool) → IsUnderway plan 0 s b → Leading plan s.master s.notes (map exchanged b.frames) → settled ≡ false → OnFalse settled ((are_at_rest (session_rows s) ≡ false) ⊎ (has_live s.master ≡ true)) → has_live s.master ≡ true
-live_so plan s b true h l no busy = absurd (let bad : true ≡ false = no in cc)
-live_so plan s b false h l no busy =
+live_so plan s b true h l goes busy = absurd (let bad : true ≡ false = goes in cc)
+live_so plan s b false h l goes busy =
     let all : AllCounted s.recover l.leads = subst (λ (n : ℕ). AllCounted n l.leads) (sym h.recover) (counted (lens_of plan.slaves) plan plan.retry (map exchanged b.frames) l.missed l.leads l.lives) in
     some_live (lens_of plan.slaves) plan.recover s.recover plan.retry l.missed s.master l.leads s.ring.nodes s.notes l.shows all l.gave busy
 
 pub returns-in_err-session-clause-cut : goal.returns-in_err-session-clause-cut
-returns-in_err-session-clause-cut c = any_err c.from_residual-in_err-session.result (none_led c.args.plan.now c.args.book.now.frames c.requires.new.frames)
+returns-in_err-session-clause-cut c = any_err c.from_residual.result (none_led c.args.plan.now c.args.book.now.frames c.requires.new.frames)
 
 pub returns-in_err-step-clause-cut : goal.returns-in_err-step-clause-cut
 returns-in_err-step-clause-cut c =

@@ -86,4 +86,4 @@ returns-clause-err c =
     (λ plan fs live l.
     let live : has_live c.self.inside.master ≡ true = ap (λ (s : SessionState). has_live s.master) c.self.view_is ∙ live in
     let same : Leading plan c.self.inside.master c.self.inside.log.notes fs = subst (λ (s : SessionState). Leading plan s.master s.notes fs) (sym c.self.view_is) l in
-    led_on c.self.inside.master c.next.new.self (exchanged f) c.next.result c.next.ensures.idle c.next.ensures.led plan fs live c.self.inside.log.notes same))
+    led_on c.self.inside.master c.next.new.self c.tell.new.master (exchanged f) c.next.result c.next.ensures.idle c.next.ensures.led plan fs live c.self.inside.log.notes same))
