@@ -14,7 +14,7 @@ returns-then-not-branch-clause-goes g c = λ plan count first h. c.in_ok-turn.en
 pub loop-settled-preserved : goal.loop-settled-preserved
 loop-settled-preserved g c = record {
   goes = λ plan count first h. c.in_ok-turn.ensures.goes plan count first (c.loop-settled.invariant.goes plan count first h);
-  at_rest = c.settled-settled-in-loop-settled.ensures;
+  at_rest = c.settled-settled-in-loop-settled.ensures.rest;
 }
 
 pub returns-in_err-turn-clause-goes : goal.returns-in_err-turn-clause-goes
