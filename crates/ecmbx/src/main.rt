@@ -2,7 +2,10 @@
 //! frame by frame and prints the report.
 #![tactic(auto)]
 
-use ec_outside::{DiskFiles, StdSink};
+mod output;
+
+use crate::output::Output;
+use ec_outside::DiskFiles;
 use ecmbx_call::{Book, Status, ecmbx};
 use std::process::ExitCode;
 use std::rt::Env;
@@ -28,8 +31,11 @@ fn main(rt: HostRuntime) -> ExitCode {
         Err(_) => Vec::new(alloc),
     };
     let mut files = DiskFiles::new(&rt);
-    let mut out = StdSink::new(&rt);
+    let mut out = Output::new(alloc, &rt);
     let mut book = Book::new(alloc);
     let status = ecmbx(alloc, words.as_slice(), &mut files, &mut out, &mut book);
-    ExitCode::from(status.number())
+    match out.flush() {
+        Ok(()) => ExitCode::from(status.number()),
+        Err(_) => ExitCode::from(Status::SinkFault.number()),
+    }
 }
