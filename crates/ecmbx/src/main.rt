@@ -3,7 +3,10 @@
 //! come by UDP.
 #![tactic(auto)]
 
-use ec_outside::{DiskFiles, StdSink, UdpPort};
+mod output;
+
+use crate::output::Output;
+use ec_outside::{DiskFiles, UdpPort};
 use ecmbx_call::{Book, Status, ecmbx};
 use std::process::ExitCode;
 use std::rt::Env;
@@ -35,7 +38,7 @@ fn main(rt: HostRuntime) -> ExitCode {
         Err(_) => Vec::new(alloc),
     };
     let mut files = DiskFiles::new(&rt);
-    let mut out = StdSink::new(&rt);
+    let mut out = Output::new(alloc, &rt);
     let mut book = Book::new(alloc);
     let mut port = UdpPort::new(&rt, LOCALHOST, GATEWAY);
     let status = ecmbx(
@@ -46,5 +49,8 @@ fn main(rt: HostRuntime) -> ExitCode {
         &mut port,
         &mut book,
     );
-    ExitCode::from(status.number())
+    match out.flush() {
+        Err(_) if !matches!(status, Status::NoMemory) => ExitCode::from(Status::SinkFault.number()),
+        _ => ExitCode::from(status.number()),
+    }
 }

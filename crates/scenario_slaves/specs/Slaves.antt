@@ -9,13 +9,13 @@ use Rattle.scenario_keys.specs.declared.place.Place.{Place}
 use Rattle.scenario_keys.specs.declared.place.Place.TheVariants as places
 use Rattle.scenario_keys.specs.declared.refusal.Refusal.{Refusal}
 use Rattle.scenario_keys.specs.Reading.{◌>>=◌, each}
-use Rattle.scenario_keys.specs.Keys.{only_keys, integer_at, integer_or, pair_at, bool_at, name_at}
+use Rattle.scenario_keys.specs.Keys.{only_keys}
 use Rattle.scenario_tables.specs.Tables.{optional_tables_at}
 use Rattle.scenario_objects.specs.Objects.{objects_of}
 use Rattle.scenario_files.specs.Files.{files_of}
 use Rattle.scenario_idns.specs.Idns.{idns_of}
-use Rattle.scenario_settings.specs.Protocols.{serves_at}
-use Rattle.scenario_settings.specs.Settings.{start_at, mac_at, pace_at}
+use Rattle.scenario_settings.specs.Settings.{pace_at}
+use Rattle.scenario_settings.specs.Plain.{plain_slave_of}
 
 -- the keys of a slave behind its station and its pace
 abbrev pub keys_behind : List (List ℕ)
@@ -29,39 +29,7 @@ slave_keys version =
     if version == 2 then codes "name" ∷ codes "station" ∷ codes "pace" ∷ keys_behind
     else codes "name" ∷ codes "station" ∷ keys_behind
 
--- what a slave's plain keys say, without its lists
-unfoldable pub plain_slave_of : ℕ → Place → Members → Result SlaveSpec Refusal
-plain_slave_of version place ms = do
-  name ← name_at (codes "name") place ms
-  station ← integer_at (codes "station") 1 0xFFFF place ms
-  _ ← pace_at version place ms
-  mail ← pair_at (codes "mail") 64 1486 place ms
-  served ← serves_at place ms
-  boot ← bool_at (codes "boot") place ms
-  start ← start_at boot place ms
-  blocks ← integer_or (codes "blocks") 64 1 1024 place ms
-  mac ← mac_at served.eoe place ms
-  fixed_ip ← bool_at (codes "fixed_ip") place ms
-  Ok (record {
-    name = name;
-    station = station;
-    out_len = mail.0;
-    in_len = mail.1;
-    «coe» = served.«coe»;
-    foe = served.foe;
-    eoe = served.eoe;
-    soe = served.soe;
-    boot = boot;
-    start = start;
-    blocks = blocks;
-    mac = mac;
-    fixed_ip = fixed_ip;
-    objects = [];
-    files = [];
-    idns = [];
-  })
-
--- the same slave with its lists
+-- a slave with its lists
 abbrev pub with_lists : SlaveSpec → List ObjectSpec → List (FileSpec × List ℕ) → List IdnSpec → SlaveSpec
 with_lists s objects files idns = record {
   name = s.name;
