@@ -1,0 +1,4 @@
+mod Known
+mod Rounds
+mod Slaves
+mod Rest
