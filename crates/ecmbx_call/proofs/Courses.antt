@@ -18,6 +18,7 @@ use Rattle.run_book.specs.declared.book.Ending.{Ending}
 use Rattle.run_book.specs.declared.book.Ending.TheVariants as endings
 use Rattle.segment_plan.specs.Sound.{IsPlan}
 use Rattle.run_book.specs.Book.{IsNew}
+use Rattle.promised_run.specs.Promised.{IsPromised}
 use Rattle.run_record.specs.Ran.{HasFrames, EndsAs}
 use Rattle.run_report.specs.Report.{report_lines}
 use Rattle.run_report.specs.Saved.{capture_of}
@@ -128,8 +129,8 @@ save_unread name before table faulted book octets old new status fresh (inl memo
 save_unread name before table faulted book octets old new status fresh (inr (e, is, ended)) = inr (statuses.Refused, refused_line e, SavedCourse.refused e is fresh, ended)
 
 -- what a run left
-pub has_run : (plan : Scenario) (book : Book) (ending : Ending) → HasFrames plan book → EndsAs plan book ending → book.ending ≡ ending → HasRun plan book
-has_run plan book ending frames ends is = record { frames = frames; ending = subst (λ e. EndsAs plan book e) (sym is) ends }
+pub has_run : (plan : Scenario) (book : Book) (ending : Ending) → HasFrames plan book → IsPromised plan book → EndsAs plan book ending → book.ending ≡ ending → HasRun plan book
+has_run plan book ending frames promise ends is = record { frames = frames; promise = promise; ending = subst (λ e. EndsAs plan book e) (sym is) ends }
 
 -- a save that failed ends a run without a text
 pub save_failed : (name : List ℕ) (before table : Option Table) (faulted : Type 0) (plan : Scenario) (book : Book) (octets : List ℕ) (old : Option (List ℕ)) (status : Status) → plan_of octets ≡ Ok plan → HasRun plan book → IsUnsaved faulted status → Followed (SavedCourse name before table faulted book octets) old old status
@@ -146,9 +147,9 @@ rows_of plan book endings.PortFault ends other = absurd ends
 rows_of plan book endings.NoMemory ends other = absurd (other refl)
 
 -- what can be reported of a run that ended
-pub is_reportable : (plan : Scenario) (book : Book) (ending : Ending) → IsPlan plan → HasFrames plan book → EndsAs plan book ending → book.ending ≡ ending → ending ≢ endings.NoMemory → book.serving ≡ false → IsReportable plan book
-is_reportable plan book ending sound frames ends is other alone = record {
-  ran = has_run plan book ending frames ends is;
+pub is_reportable : (plan : Scenario) (book : Book) (ending : Ending) → IsPlan plan → HasFrames plan book → IsPromised plan book → EndsAs plan book ending → book.ending ≡ ending → ending ≢ endings.NoMemory → book.serving ≡ false → IsReportable plan book
+is_reportable plan book ending sound frames promise ends is other alone = record {
+  ran = has_run plan book ending frames promise ends is;
   few = sound.laid.few_slaves;
   many = rows_of plan book ending ends other;
   alone = alone;

@@ -15,6 +15,7 @@ use Rattle.run_book.specs.declared.book.Book.{Book}
 use Rattle.run_book.specs.declared.book.Ending.{Ending}
 use Rattle.run_book.specs.declared.book.Ending.TheVariants as endings
 use Rattle.run_book.specs.Book.{IsNew}
+use Rattle.promised_run.specs.Promised.{IsPromised}
 use Rattle.run_record.specs.Ran.{HasFrames, EndsAs}
 use Rattle.run_report.specs.Report.{report_lines}
 use Rattle.run_report.specs.Saved.{capture_of}
@@ -42,9 +43,10 @@ status_of endings.BudgetSpent = statuses.BudgetSpent
 status_of endings.PortFault = statuses.PortFault
 status_of endings.NoMemory = statuses.NoMemory
 
--- what the run of a plan left in its book: its frames, and an ending with its cause
+-- what the run of a plan left in its book: its frames, the promise for each slave, and an ending with its cause
 pub record HasRun (plan : Scenario) (book : Book) : Type 0 where
   pub frames : HasFrames plan book
+  pub promise : IsPromised plan book
   pub ending : EndsAs plan book book.ending
 
 -- a run that can be reported: it ended, each slave has its row, and nobody was served
