@@ -38,6 +38,8 @@ HasCarriedOut plan fs place s a n = IsKeptLife (services_of plan s) is_followed 
 pub record KeepsOne (plan : Scenario) (fs : List Exchanged) (place : ℕ) (s : SlaveSpec) (a : Leads) (n : Node Serving) : Type 0 where
   pub begun : HasBegun plan place s a
   pub carried_out : HasCarriedOut plan fs place s a n
+  -- it isn't gone for good unless it was given up
+  pub given : a.lived.life.stand ≡ Stand.Gone → a.lived.life.gave ≡ [] → ⊥
   -- of one that was never given up and never returned to Init, what a book tells of its rows fits its application
   pub booked : a.lived.life.stand ≡ Stand.Open → StaysUp a.lived.life → HasBook plan fs place s a n
   -- where it is settled and its master wants nothing of it, all of its script came into hand, and all of its newest epoch is carried out and answered

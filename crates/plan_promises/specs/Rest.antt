@@ -32,11 +32,10 @@ AllHaveNothingLeft plan fs place [] [] [] = ⊤
 AllHaveNothingLeft plan fs place (s ∷ ss) (a ∷ as') (n ∷ ns) = HasNothingLeft plan fs place s a n × AllHaveNothingLeft plan fs (suc place) ss as' ns
 AllHaveNothingLeft plan fs place _ _ _ = ⊥
 
--- all are settled, and their master wants nothing of them
-abbrev pub AllIdle : (ℕ → Lens) → List Leads → List (Node Serving) → Type 0
-AllIdle lens [] [] = ⊤
-AllIdle lens (a ∷ as') (n ∷ ns) = (IsIdle lens a × (is_settled next_mail n ≡ true)) × AllIdle lens as' ns
-AllIdle lens _ _ = ⊥
+-- none of these was ever given up
+abbrev pub AllStayed : List Leads → Type 0
+AllStayed [] = ⊤
+AllStayed (a ∷ as') = (a.lived.life.gave ≡ []) × AllStayed as'
 
 -- all are done, from a place on
 abbrev pub AllAreDone : Scenario → List Exchanged → ℕ → List SlaveSpec → List Leads → List (Node Serving) → Type 0
@@ -51,10 +50,6 @@ pub record IsResting (plan : Scenario) (fs : List Exchanged) (as' : List Leads) 
 -- NOTHING IS LEFT OF A RUN
 pub record NothingIsLeft (plan : Scenario) (fs : List Exchanged) (as' : List Leads) : Type 0 where
   pub each : AllHaveNothingLeft plan fs 0 plan.slaves as' (slaves_behind plan fs)
-
--- a run of whose slaves nothing is wanted, each settled
-pub record IsIdling (plan : Scenario) (fs : List Exchanged) (as' : List Leads) : Type 0 where
-  pub each : AllIdle (lens_of plan.slaves) as' (slaves_behind plan fs)
 
 -- ALL OF A RUN IS DONE: of each slave all services of its script came into hand, and those of its newest epoch are carried out, each once and in order,
 -- and answered

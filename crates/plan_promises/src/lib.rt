@@ -9,7 +9,7 @@ ghost use Rattle.segment_plan.specs.declared.plan.Scenario.{Scenario};
 ghost use Rattle.scenario.specs.Told.{IsTold};
 ghost use Rattle.run_lives.specs.Round.{ring_of, AllRound};
 ghost use Rattle.plan_promises.specs.Promise.{Keeps};
-ghost use Rattle.plan_promises.specs.Rest.{IsResting, NothingIsLeft, IsIdling, AllIsDone};
+ghost use Rattle.plan_promises.specs.Rest.{AllStayed, IsResting, NothingIsLeft, AllIsDone};
 
 /// THE PROMISE FOR A PLAN THAT WAS READ, whatever frames are lost: behind frames that its master led, with or without others behind them, that went
 /// round the ring of its new slaves, each slave has begun just the first services of its script, each once and in order, with packets between them; in
@@ -24,9 +24,9 @@ pub fn read_promise_law()
 }
 
 /// WHERE A RUN IS AT REST, each slave given up for good, or settled and nothing wanted of it by its master, nothing is left: of each slave that wasn't
-/// given up for good the whole script came into hand, and all of its newest epoch is carried out and answered. Where each is settled and nothing is
-/// wanted of it, so it is of all.
+/// given up for good the whole script came into hand, and all of its newest epoch is carried out and answered. Where none was
+/// given up at all, so it is of each.
 pub fn rest_promise_law()
     ensures rests { (plan : Scenario) (fs : List Exchanged) (as' : List Leads) → Keeps plan fs as' → IsResting plan fs as' → NothingIsLeft plan fs as' }
-    ensures done { (plan : Scenario) (fs : List Exchanged) (as' : List Leads) → Keeps plan fs as' → IsIdling plan fs as' → AllIsDone plan fs as' }
+    ensures done { (plan : Scenario) (fs : List Exchanged) (as' : List Leads) → Keeps plan fs as' → IsResting plan fs as' → AllStayed as' → AllIsDone plan fs as' }
 {}

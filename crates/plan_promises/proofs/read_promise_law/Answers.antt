@@ -1,5 +1,6 @@
 use Rattle.plan_promises.specs.Promise.{slaves_behind}
 use Rattle.run_lives.specs.Round.{ring_of}
+use Rattle.plan_promises.proofs.Gones.{givens}
 use Rattle.plan_promises.proofs.Known.{known}
 use Rattle.plan_promises.proofs.Rounds.{first_round}
 use Rattle.plan_promises.proofs.Slaves.{all_keep}
@@ -13,5 +14,6 @@ returns c = λ plan is told fs others missed as' led round.
       each = all_keep plan fs 0 plan.slaves as' (slaves_behind plan fs)
           (c.run_promise_law.ensures plan is k fs missed as' led round_first)
           (c.run_book_law.ensures plan is k fs missed as' led round_first)
-          (c.run_done_law.ensures plan is k fs missed as' led round_first);
+          (c.run_done_law.ensures plan is k fs missed as' led round_first)
+          (givens plan fs missed as' led);
     }

@@ -5,4 +5,4 @@ pub returns-clause-rests : goal.returns-clause-rests
 returns-clause-rests c = λ plan fs as' keeps rests. nothing_left plan fs as' keeps rests
 
 pub returns-clause-done : goal.returns-clause-done
-returns-clause-done c = λ plan fs as' keeps idle. all_is_done plan fs as' keeps idle
+returns-clause-done c = λ plan fs as' keeps rests stayed. all_is_done plan fs as' keeps rests stayed
