@@ -1,5 +1,5 @@
 -- WHAT A READER TELLS OF A PLAN is what a run asks to be known of it.
-use Rattle.std.proofs.Common.{◌≡◌, ℕ, Option, Some, None, List}
+use Rattle.std.proofs.Common.{ℕ, Option, Some, None, List}
 use Rattle.std.specs.Prelude.{IfSome, slice_get}
 use Rattle.std.proofs.lemmas.List.Elements.{All-weaker}
 use Rattle.run_lives.specs.Lives.{IsKnown, StateFits, RowFits}

@@ -1,5 +1,5 @@
 -- WHERE ALL ARE AT REST nothing is left, slave by slave.
-use Rattle.std.proofs.Common.{◌≡◌, ◌⊎◌, inl, inr, ℕ, suc, List, [], ◌∷◌}
+use Rattle.std.proofs.Common.{◌≡◌, inl, inr, ℕ, suc, List, [], ◌∷◌}
 use Rattle.life_runs.specs.First.{lens_of}
 use Rattle.life_runs.specs.Led.{Exchanged, Leads}
 use Rattle.plan_promises.specs.Promise.{KeepsOne, AllKeep, Keeps, slaves_behind}
