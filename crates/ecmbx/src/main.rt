@@ -1,12 +1,19 @@
 //! The mailbox half of EtherCAT as a program: `ecmbx run SCENARIO` runs the segment of a scenario
-//! frame by frame and prints the report.
+//! frame by frame and prints the report, and `ecmbx serve SCENARIO COUNT` answers mailbox requests that
+//! come by UDP.
 #![tactic(auto)]
 
-use ec_outside::{DiskFiles, StdSink};
+use ec_outside::{DiskFiles, StdSink, UdpPort};
 use ecmbx_call::{Book, Status, ecmbx};
 use std::process::ExitCode;
 use std::rt::Env;
 use std::{env, io};
+
+/// The address at which a serving hears datagrams, 127.0.0.1.
+const LOCALHOST: u32 = 0x7F00_0001;
+
+/// Its port, which the standard has for EtherCAT.
+const GATEWAY: u16 = 34980;
 
 /// The arguments behind the program's name.
 fn words<R: Env + AllocGlobal>(rt: &R) -> io::Result<Vec<String>> {
@@ -30,6 +37,14 @@ fn main(rt: HostRuntime) -> ExitCode {
     let mut files = DiskFiles::new(&rt);
     let mut out = StdSink::new(&rt);
     let mut book = Book::new(alloc);
-    let status = ecmbx(alloc, words.as_slice(), &mut files, &mut out, &mut book);
+    let mut port = UdpPort::new(&rt, LOCALHOST, GATEWAY);
+    let status = ecmbx(
+        alloc,
+        words.as_slice(),
+        &mut files,
+        &mut out,
+        &mut port,
+        &mut book,
+    );
     ExitCode::from(status.number())
 }

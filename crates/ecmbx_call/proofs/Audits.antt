@@ -1,9 +1,8 @@
 -- The lines of an audit, and how many packets a file has.
-use Rattle.std.proofs.Common.{◌≡◌, ℕ, suc, ◌+◌, ◌<◌, ◌≤◌, List, [], ◌∷◌, ◌++◌, length, map, take, get_or, Ok, Result, Err, refl, sym, ap, ◌∙◌, arith, length-append, Bool}
+use Rattle.std.proofs.Common.{◌≡◌, ℕ, ◌+◌, ◌<◌, ◌≤◌, List, [], ◌∷◌, ◌++◌, length, map, take, get_or, Ok, refl, sym, ap, ◌∙◌, arith, length-append}
 use Rattle.std.proofs.lemmas.List.{take_more}
 use Rattle.ec_fields.proofs.Cells.{AreOctets}
 use Rattle.pcap_frames.specs.declared.capture.Capture.{Capture}
-use Rattle.pcap_frames.specs.declared.capture.PacketAt.{PacketAt}
 use Rattle.pcap_frames.specs.declared.order.Order.{Order}
 use Rattle.pcap_frames.specs.declared.order.Order.TheVariants.{LowFirst, HighFirst}
 use Rattle.pcap_frames.specs.Capture.{Packet, head_text, packet_text, packets_text, places_of}

@@ -1,9 +1,8 @@
 -- What each step of a call adds to its course.
-use Rattle.std.proofs.Common.{◌≡◌, ◌≢◌, ℕ, ◌≤◌, List, [], ◌∷◌, length, map, get_or, codes, String, string_bytes, Bool, if◌then◌else◌, true, false, Option, Some, None, Result, Ok, Err, OnOk, is_err, ◌⊎◌, refl, sym, subst, ap, ◌∙◌, inl, inr, arith}
+use Rattle.std.proofs.Common.{◌≡◌, ◌≢◌, ℕ, ◌≤◌, List, [], ◌∷◌, length, map, get_or, codes, String, string_bytes, Bool, if◌then◌else◌, true, false, Option, Some, None, Result, Ok, Err, OnOk, is_err, ◌⊎◌, refl, sym, subst, ap, inl, inr}
 use Rattle.std.specs.declared.alloc.Global.{Global}
 use Rattle.std.specs.Str.{bytes_eq}
 use Rattle.std.proofs.lemmas.List.{append-nil}
-use Rattle.ec_outside.specs.Faults.{Rose}
 use Rattle.ec_outside.specs.Files.{Table, file_of, Loads, LoadsFile}
 use Rattle.ec_outside.specs.Sink.{Wrote}
 use Rattle.ec_outside.specs.declared.files.Loaded.TheVariants.{Found, Absent, TooLong}
@@ -20,13 +19,11 @@ use Rattle.segment_plan.specs.Sound.{IsPlan}
 use Rattle.run_book.specs.Book.{IsNew}
 use Rattle.promised_run.specs.Promised.{IsPromised}
 use Rattle.run_record.specs.Ran.{HasFrames, EndsAs}
-use Rattle.run_report.specs.Report.{report_lines}
-use Rattle.run_report.specs.Saved.{capture_of}
 use Rattle.ecmbx_words.specs.declared.status.Status.{Status}
 use Rattle.ecmbx_words.specs.declared.status.Status.TheVariants as statuses
 use Rattle.ecmbx_words.specs.declared.form.Form.TheVariants as forms
 use Rattle.ecmbx_words.specs.Form.{form_in, name_in, saved_in}
-use Rattle.ecmbx_words.specs.Ends.{text_of, Ended, PutAll}
+use Rattle.ecmbx_words.specs.Ends.{PutAll}
 use Rattle.ecmbx_words.specs.Texts.{refusal_line, refused_line, capture_line}
 use Rattle.pcap_frames.specs.declared.capture.Capture.{Capture}
 use Rattle.pcap_frames.specs.declared.capture.PcapFault.{PcapFault}
@@ -34,8 +31,10 @@ use Rattle.pcap_frames.specs.declared.capture.PcapFault.TheVariants as faults
 use Rattle.pcap_frames.specs.Reading.{capture_read, UnlessNoMemory}
 use Rattle.ecmbx_call.specs.Files.{limit, Holds, IsLong, FileCourse, Followed, IsLoaded, IsUnloaded}
 use Rattle.ecmbx_call.specs.Files.FileCourse.{fault, absent, long, found}
+use Rattle.gateway_run.specs.Serving.{Told as PortTold}
 use Rattle.ecmbx_call.specs.Audits.{AuditCourse}
-use Rattle.ecmbx_call.specs.Course.{HasRun, IsReportable, status_of, RunCourse, SavedCourse, ViewCourse, Course, IsUnread, IsUnsaved, BeganOn, BeganIn}
+use Rattle.ecmbx_call.specs.Serving.{ServeCourse}
+use Rattle.ecmbx_call.specs.Course.{HasRun, IsReportable, RunCourse, SavedCourse, ViewCourse, Course, IsUnread, IsUnsaved, BeganOn, BeganIn}
 
 -- a text that was put, as the course says
 pub said : (course : Status → List ℕ → Type 0) (planned : Status) (text : List ℕ) (old new : Option (List ℕ)) (status : Status) → course planned text → PutAll planned text old new status → Followed course old new status
@@ -147,12 +146,11 @@ rows_of plan book endings.PortFault ends other = absurd ends
 rows_of plan book endings.NoMemory ends other = absurd (other refl)
 
 -- what can be reported of a run that ended
-pub is_reportable : (plan : Scenario) (book : Book) (ending : Ending) → IsPlan plan → HasFrames plan book → IsPromised plan book → EndsAs plan book ending → book.ending ≡ ending → ending ≢ endings.NoMemory → book.serving ≡ false → IsReportable plan book
-is_reportable plan book ending sound frames promise ends is other alone = record {
-  ran = has_run plan book ending frames promise ends is;
+pub is_reportable : (plan : Scenario) (book : Book) (ending : Ending) → IsPlan plan → HasFrames plan book → EndsAs plan book ending → ending ≢ endings.NoMemory → IsReportable plan book
+is_reportable plan book ending sound frames ends other = record {
   few = sound.laid.few_slaves;
   many = rows_of plan book ending ends other;
-  alone = alone;
+  at_port = frames.at_port;
 }
 
 -- what an answer without an error says
@@ -173,28 +171,33 @@ capture_refused octets course turn read faults.NoMemory old new status is h put 
 
 -- ---- the words
 
-module _ (words : List (List ℕ)) (table saved : Option Table) (faulted : Type 0) (book : Book) (name : List ℕ) (old new : Option (List ℕ)) (status : Status) where
-  pub run_course : form_in words ≡ forms.Run → name ≡ name_in words → Followed (FileCourse name table faulted (IsNew book) (RunCourse book)) old new status → Followed (Course words table saved faulted book) old new status
+module _ (words : List (List ℕ)) (table saved : Option Table) (faulted : Type 0) (first last : PortTold) (book : Book) (name : List ℕ) (old new : Option (List ℕ)) (status : Status) where
+  pub run_course : form_in words ≡ forms.Run → name ≡ name_in words → Followed (FileCourse name table faulted (IsNew book) (RunCourse book)) old new status → Followed (Course words table saved faulted first last book) old new status
   run_course f is h =
-      turned (FileCourse name table faulted (IsNew book) (RunCourse book)) (Course words table saved faulted book)
+      turned (FileCourse name table faulted (IsNew book) (RunCourse book)) (Course words table saved faulted first last book)
       (λ planned text c. Course.run planned text f (subst (λ n. FileCourse n table faulted (IsNew book) (RunCourse book) planned text) is c)) old new status h
 
-  pub decode_course : form_in words ≡ forms.Decode → name ≡ name_in words → IsNew book → Followed (FileCourse name table faulted (Unit {0}) ViewCourse) old new status → Followed (Course words table saved faulted book) old new status
+  pub decode_course : form_in words ≡ forms.Decode → name ≡ name_in words → IsNew book → Followed (FileCourse name table faulted (Unit {0}) ViewCourse) old new status → Followed (Course words table saved faulted first last book) old new status
   decode_course f is fresh h =
-      turned (FileCourse name table faulted (Unit {0}) ViewCourse) (Course words table saved faulted book)
+      turned (FileCourse name table faulted (Unit {0}) ViewCourse) (Course words table saved faulted first last book)
       (λ planned text c. Course.decode planned text f fresh (subst (λ n. FileCourse n table faulted (Unit {0}) ViewCourse planned text) is c)) old new status h
 
-  pub audit_course : form_in words ≡ forms.Audit → name ≡ name_in words → IsNew book → Followed (FileCourse name table faulted (Unit {0}) AuditCourse) old new status → Followed (Course words table saved faulted book) old new status
+  pub audit_course : form_in words ≡ forms.Audit → name ≡ name_in words → IsNew book → Followed (FileCourse name table faulted (Unit {0}) AuditCourse) old new status → Followed (Course words table saved faulted first last book) old new status
   audit_course f is fresh h =
-      turned (FileCourse name table faulted (Unit {0}) AuditCourse) (Course words table saved faulted book)
+      turned (FileCourse name table faulted (Unit {0}) AuditCourse) (Course words table saved faulted first last book)
       (λ planned text c. Course.audit planned text f fresh (subst (λ n. FileCourse n table faulted (Unit {0}) AuditCourse planned text) is c)) old new status h
 
   pub saved_words : (capture : List ℕ) → form_in words ≡ forms.RunSaved → name ≡ name_in words → capture ≡ saved_in words → Followed (FileCourse name table faulted (IsNew book) (SavedCourse capture table saved faulted book)) old new status
-      → Followed (Course words table saved faulted book) old new status
+      → Followed (Course words table saved faulted first last book) old new status
   saved_words capture f is also h =
-      turned (FileCourse name table faulted (IsNew book) (SavedCourse capture table saved faulted book)) (Course words table saved faulted book)
+      turned (FileCourse name table faulted (IsNew book) (SavedCourse capture table saved faulted book)) (Course words table saved faulted first last book)
       (λ planned text c. Course.run_saved planned text f (subst (λ n. FileCourse n table faulted (IsNew book) (SavedCourse (saved_in words) table saved faulted book) planned text) is
       (subst (λ n. FileCourse name table faulted (IsNew book) (SavedCourse n table saved faulted book) planned text) also c))) old new status h
+
+  pub serve_course : (count : ℕ) → form_in words ≡ forms.Serve count → name ≡ name_in words → Followed (FileCourse name table faulted (IsNew book) (ServeCourse count first last book)) old new status → Followed (Course words table saved faulted first last book) old new status
+  serve_course count f is h =
+      turned (FileCourse name table faulted (IsNew book) (ServeCourse count first last book)) (Course words table saved faulted first last book)
+      (λ planned text c. Course.serve count planned text f (subst (λ n. FileCourse n table faulted (IsNew book) (ServeCourse count first last book) planned text) is c)) old new status h
 
 -- the word behind the first, where there is one
 pub name_at : (words : List (String Global)) (word : String Global) → word ≡ get_or words 1 word → (form_in (map string_bytes words) ≡ forms.Other → ⊥) → string_bytes word ≡ name_in (map string_bytes words)
@@ -228,3 +231,6 @@ decode_other is = absurd cc
 
 pub audit_other : forms.Other ≡ forms.Audit → ⊥
 audit_other is = absurd cc
+
+pub serve_other : (count : ℕ) → forms.Other ≡ forms.Serve count → ⊥
+serve_other count is = absurd cc

@@ -1,5 +1,5 @@
 -- When each status comes.
-use Rattle.std.specs.Prelude.{◌≡◌, ◌≢◌, ℕ, ◌<◌, ◌≤◌, ◌⊎◌, List, [], ◌∷◌, length, true, Option, Some, None, Ok, Err}
+use Rattle.std.specs.Prelude.{◌≡◌, ℕ, ◌<◌, ◌≤◌, ◌⊎◌, List, [], ◌∷◌, length, true, Option, Some, None, Ok, Err}
 use Rattle.ec_outside.specs.Faults.{Rose}
 use Rattle.ec_outside.specs.Files.{Table, file_of}
 use Rattle.ec_outside.specs.Sink.{Wrote}
@@ -14,8 +14,7 @@ use Rattle.scenario.specs.Document.{plan_of}
 use Rattle.run_book.specs.declared.book.Book.{Book}
 use Rattle.run_book.specs.declared.book.Ending.{Ending}
 use Rattle.run_book.specs.declared.book.Ending.TheVariants as endings
-use Rattle.run_book.specs.Book.{IsNew}
-use Rattle.run_record.specs.Ran.{IsOver, IsSpent}
+use Rattle.run_record.specs.Ran.{IsOver, IsCut}
 use Rattle.run_report.specs.Report.{report_lines}
 use Rattle.run_report.specs.Saved.{capture_of}
 use Rattle.ecmbx_words.specs.declared.form.Form.{Form}
@@ -28,7 +27,9 @@ use Rattle.capture_audit.specs.declared.verdict.Verdict.TheVariants.{No}
 use Rattle.capture_audit.specs.Audit.{verdict_of}
 use Rattle.ecmbx_call.specs.Audits.{verdict_status, verdict_text}
 use Rattle.ecmbx_call.specs.Files.{limit, Holds, IsLong, IsSaved}
+use Rattle.gateway_run.specs.Serving.{Told}
 use Rattle.ecmbx_call.specs.Course.{HasRun, status_of}
+use Rattle.ecmbx_call.specs.Serving.{HasServed}
 
 -- the file that a form loads
 abbrev pub loaded_by : Form → List ℕ → Option (List ℕ)
@@ -37,6 +38,7 @@ loaded_by forms.RunSaved name = Some name
 loaded_by forms.Decode name = Some name
 loaded_by forms.Audit name = Some name
 loaded_by (forms.Make seed size) name = None
+loaded_by (forms.Serve count) name = Some name
 loaded_by forms.Other name = None
 
 -- the file that the words load
@@ -89,13 +91,28 @@ RefusedCause words table status =
     × ((octets : List ℕ) → IsFound words table octets → IsRefused (form_in words) octets
     → IsAmong (statuses.Refused ∷ statuses.FileFault ∷ statuses.SinkFault ∷ statuses.NoMemory ∷ []) status)
 
+-- what a plan's run left, which heard no datagrams, or the serving that the words ask for, which hears so many
+pub data CameOf (words : List (List ℕ)) (first last : Told) (plan : Scenario) (book : Book) : ℕ → Type 0 where
+  ran : HasRun plan book → CameOf words first last plan book 0
+  served : (count : ℕ) → form_in words ≡ forms.Serve count → HasServed plan count first last book → CameOf words first last plan book count
+
 -- GivenUp comes only where nothing was left to do and a slave was given up.
-abbrev pub GivenUpCause : Book → Status → Type 0
-GivenUpCause book status = status ≡ statuses.GivenUp → (plan : Scenario) × HasRun plan book × IsOver plan book true
+abbrev pub GivenUpCause : List (List ℕ) → Told → Told → Book → Status → Type 0
+GivenUpCause words first last book status =
+    status ≡ statuses.GivenUp → (plan : Scenario) × (grams : ℕ) × CameOf words first last plan book grams × IsOver plan book true
 
 -- BudgetSpent comes only where as many frames were sent as the budget allows.
-abbrev pub SpentCause : Book → Status → Type 0
-SpentCause book status = status ≡ statuses.BudgetSpent → (plan : Scenario) × HasRun plan book × IsSpent plan book
+abbrev pub SpentCause : List (List ℕ) → Told → Told → Book → Status → Type 0
+SpentCause words first last book status =
+    status ≡ statuses.BudgetSpent → (plan : Scenario) × (grams : ℕ) × CameOf words first last plan book grams × IsCut plan grams book
+
+-- words that ask for a serving
+abbrev pub IsServing : List (List ℕ) → Type 0
+IsServing words = (count : ℕ) × (form_in words ≡ forms.Serve count)
+
+-- PortFault comes only of a serving whose port's count of faults rose.
+abbrev pub PortCause : List (List ℕ) → Told → Told → Status → Type 0
+PortCause words first last status = status ≡ statuses.PortFault → IsServing words × Rose first.faults last.faults
 
 -- a capture with a datagram that breaks a rule
 abbrev pub IsBroken : List ℕ → Type 0
@@ -113,6 +130,7 @@ BrokenCause words table status =
 abbrev pub EndingAt : Status → Ending → Type 0
 EndingAt statuses.GivenUp ending = ending ≡ endings.GivenUp
 EndingAt statuses.BudgetSpent ending = ending ≡ endings.BudgetSpent
+EndingAt statuses.PortFault ending = ending ≡ endings.PortFault
 EndingAt statuses.Done ending = (ending ≡ endings.Done) ⊎ (ending ≡ endings.Unfinished)
 EndingAt statuses.Usage ending = ending ≡ endings.Unfinished
 EndingAt statuses.Absent ending = ending ≡ endings.Unfinished
@@ -125,10 +143,6 @@ EndingAt _ ending = Unit {0}
 abbrev pub IsCalm : {F : Type 0} → (F → ℕ) → F → F → Type 0
 IsCalm faults one other = ¬ Rose (faults one) (faults other)
 
--- a status that a call ends with
-abbrev pub IsAnswer : Status → Type 0
-IsAnswer status = status ≢ statuses.PortFault
-
 -- a scenario that is found is run: the book has the run of its plan, and its report is written, or a prefix of that where the sink failed
 abbrev pub RunsTo : List (List ℕ) → Option Table → Scenario → Book → Option (List ℕ) → Option (List ℕ) → Status → Type 0
 RunsTo words table plan book old new status =
@@ -140,6 +154,13 @@ abbrev pub SavesTo : List (List ℕ) → Option Table → Option Table → Scena
 SavesTo words table saved plan book old new status =
     (octets : List ℕ) → form_in words ≡ forms.RunSaved → IsFound words table octets → plan_of octets ≡ Ok plan
     → (status ≡ statuses.NoMemory) ⊎ (HasRun plan book × IsSaved table saved (saved_in words) (capture_of book.frames) × Ended (status_of book.ending) (text_of (report_lines plan book)) old new status)
+
+-- a scenario that is found is served: the book has what the serving of its plan left, and its report is written, or a prefix of that where
+-- the sink failed
+abbrev pub ServesTo : List (List ℕ) → Option Table → Told → Told → Scenario → Book → Option (List ℕ) → Option (List ℕ) → Status → Type 0
+ServesTo words table first last plan book old new status =
+    (octets : List ℕ) (count : ℕ) → form_in words ≡ forms.Serve count → IsFound words table octets → plan_of octets ≡ Ok plan
+    → (status ≡ statuses.NoMemory) ⊎ (HasServed plan count first last book × Ended (status_of book.ending) (text_of (report_lines plan book)) old new status)
 
 -- a capture that is found is shown whole
 abbrev pub ShowsTo : List (List ℕ) → Option Table → Option (List ℕ) → Option (List ℕ) → Status → Type 0

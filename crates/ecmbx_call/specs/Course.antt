@@ -1,5 +1,5 @@
 -- What a call of the program does, from its words to its status: one case for each row of the table of answers.
-use Rattle.std.specs.Prelude.{◌≡◌, ℕ, ◌≤◌, ◌⊎◌, List, [], map, length, false, String, string_bytes, Option, Some, None, Ok, Err}
+use Rattle.std.specs.Prelude.{◌≡◌, ℕ, ◌≤◌, ◌⊎◌, List, [], map, length, All, String, string_bytes, Option, Some, Ok, Err}
 use Rattle.std.specs.declared.alloc.Global.{Global}
 use Rattle.ec_outside.specs.Faults.{Rose}
 use Rattle.ec_outside.specs.Files.{Table}
@@ -12,14 +12,12 @@ use Rattle.scenario_keys.specs.declared.refusal.Refusal.{Refusal}
 use Rattle.scenario.specs.Document.{plan_of}
 use Rattle.scenario_made.specs.Made.{text_of as made_text}
 use Rattle.run_book.specs.declared.book.Book.{Book}
-use Rattle.run_book.specs.declared.book.Ending.{Ending}
-use Rattle.run_book.specs.declared.book.Ending.TheVariants as endings
+use Rattle.run_book.specs.Ports.{ports_of, IsAtPort}
 use Rattle.run_book.specs.Book.{IsNew}
 use Rattle.promised_run.specs.Promised.{IsPromised}
 use Rattle.run_record.specs.Ran.{HasFrames, EndsAs}
 use Rattle.run_report.specs.Report.{report_lines}
 use Rattle.run_report.specs.Saved.{capture_of}
-use Rattle.ecmbx_words.specs.declared.form.Form.{Form}
 use Rattle.ecmbx_words.specs.declared.form.Form.TheVariants as forms
 use Rattle.ecmbx_words.specs.declared.status.Status.{Status}
 use Rattle.ecmbx_words.specs.declared.status.Status.TheVariants as statuses
@@ -27,21 +25,15 @@ use Rattle.ecmbx_words.specs.Form.{form_in, name_in, saved_in}
 use Rattle.ecmbx_words.specs.Ends.{text_of, Ended}
 use Rattle.ecmbx_words.specs.Texts.{usage_line, refused_line, capture_line}
 pub use Rattle.ecmbx_call.specs.Files.{Followed}
+pub use Rattle.ecmbx_call.specs.Ends.{status_of}
+use Rattle.gateway_run.specs.Serving.{Told}
 use Rattle.ecmbx_call.specs.Audits.{AuditCourse}
+use Rattle.ecmbx_call.specs.Serving.{ServeCourse, Served}
 use Rattle.ecmbx_call.specs.Files.{Holds, IsSaved, FileCourse}
 
 -- the octets of the words
 abbrev pub words_of : List (String Global) → List (List ℕ)
 words_of words = map string_bytes words
-
--- how a call ends whose run ended so
-abbrev pub status_of : Ending → Status
-status_of endings.Unfinished = statuses.NoMemory
-status_of endings.Done = statuses.Done
-status_of endings.GivenUp = statuses.GivenUp
-status_of endings.BudgetSpent = statuses.BudgetSpent
-status_of endings.PortFault = statuses.PortFault
-status_of endings.NoMemory = statuses.NoMemory
 
 -- what the run of a plan left in its book: its frames, the promise for each slave, and an ending with its cause
 pub record HasRun (plan : Scenario) (book : Book) : Type 0 where
@@ -49,12 +41,11 @@ pub record HasRun (plan : Scenario) (book : Book) : Type 0 where
   pub promise : IsPromised plan book
   pub ending : EndsAs plan book book.ending
 
--- a run that can be reported: it ended, each slave has its row, and nobody was served
+-- a run or serving that can be reported: each slave has its row, and each event is at a port of the switch
 pub record IsReportable (plan : Scenario) (book : Book) : Type 0 where
-  pub ran : HasRun plan book
   pub few : length plan.slaves ≤ 16
   pub many : length book.slaves ≡ length plan.slaves
-  pub alone : book.serving ≡ false
+  pub at_port : All (IsAtPort (ports_of plan.slaves)) book.switch
 
 -- a run: refused, or the report of what it came to
 pub data RunCourse (book : Book) (octets : List ℕ) : Status → List ℕ → Type 0 where
@@ -72,14 +63,15 @@ pub data ViewCourse (octets : List ℕ) : Status → List ℕ → Type 0 where
   refused : (fault : PcapFault) → capture_read octets ≡ Err fault → ViewCourse octets statuses.Refused (capture_line fault)
   shown : (capture : Capture) → capture_read octets ≡ Ok capture → ViewCourse octets statuses.Done (view_text octets capture)
 
--- how a call is to end, and the text to be put; `saved` are the files behind it
-pub data Course (words : List (List ℕ)) (table saved : Option Table) (faulted : Type 0) (book : Book) : Status → List ℕ → Type 0 where
-  usage : form_in words ≡ forms.Other → IsNew book → Course words table saved faulted book statuses.Usage usage_line
-  make : (seed size : ℕ) → form_in words ≡ forms.Make seed size → IsNew book → Course words table saved faulted book statuses.Done (made_text [] seed size)
-  decode : (planned : Status) (text : List ℕ) → form_in words ≡ forms.Decode → IsNew book → FileCourse (name_in words) table faulted (Unit {0}) ViewCourse planned text → Course words table saved faulted book planned text
-  audit : (planned : Status) (text : List ℕ) → form_in words ≡ forms.Audit → IsNew book → FileCourse (name_in words) table faulted (Unit {0}) AuditCourse planned text → Course words table saved faulted book planned text
-  run : (planned : Status) (text : List ℕ) → form_in words ≡ forms.Run → FileCourse (name_in words) table faulted (IsNew book) (RunCourse book) planned text → Course words table saved faulted book planned text
-  run_saved : (planned : Status) (text : List ℕ) → form_in words ≡ forms.RunSaved → FileCourse (name_in words) table faulted (IsNew book) (SavedCourse (saved_in words) table saved faulted book) planned text → Course words table saved faulted book planned text
+-- how a call is to end, and the text to be put; `saved` are the files behind it, `first` and `last` what the port told before it and behind it
+pub data Course (words : List (List ℕ)) (table saved : Option Table) (faulted : Type 0) (first last : Told) (book : Book) : Status → List ℕ → Type 0 where
+  usage : form_in words ≡ forms.Other → IsNew book → Course words table saved faulted first last book statuses.Usage usage_line
+  make : (seed size : ℕ) → form_in words ≡ forms.Make seed size → IsNew book → Course words table saved faulted first last book statuses.Done (made_text [] seed size)
+  decode : (planned : Status) (text : List ℕ) → form_in words ≡ forms.Decode → IsNew book → FileCourse (name_in words) table faulted (Unit {0}) ViewCourse planned text → Course words table saved faulted first last book planned text
+  audit : (planned : Status) (text : List ℕ) → form_in words ≡ forms.Audit → IsNew book → FileCourse (name_in words) table faulted (Unit {0}) AuditCourse planned text → Course words table saved faulted first last book planned text
+  run : (planned : Status) (text : List ℕ) → form_in words ≡ forms.Run → FileCourse (name_in words) table faulted (IsNew book) (RunCourse book) planned text → Course words table saved faulted first last book planned text
+  run_saved : (planned : Status) (text : List ℕ) → form_in words ≡ forms.RunSaved → FileCourse (name_in words) table faulted (IsNew book) (SavedCourse (saved_in words) table saved faulted book) planned text → Course words table saved faulted first last book planned text
+  serve : (count : ℕ) (planned : Status) (text : List ℕ) → form_in words ≡ forms.Serve count → FileCourse (name_in words) table faulted (IsNew book) (ServeCourse count first last book) planned text → Course words table saved faulted first last book planned text
 
 -- octets that are no scenario: the refusal's line is put, unless memory ran out
 abbrev pub IsUnread : List ℕ → Option (List ℕ) → Option (List ℕ) → Status → Type 0
@@ -97,9 +89,9 @@ BeganOn octets book = (plan : Scenario) × (plan_of octets ≡ Ok plan) × HasRu
 abbrev pub BeganIn : List ℕ → Option Table → Book → Type 0
 BeganIn name table book = (octets : List ℕ) × Holds table name (Some octets) × BeganOn octets book
 
--- the same of the file that the words name
-abbrev pub Began : List (List ℕ) → Option Table → Book → Type 0
-Began words table book = BeganIn (name_in words) table book
+-- a run or a serving of the file that the words name
+abbrev pub Began : List (List ℕ) → Option Table → Told → Told → Book → Type 0
+Began words table first last book = BeganIn (name_in words) table book ⊎ Served words table first last book
 
 -- What a call does to files and a sink: from what they are before it to what they are behind it. What is told of them comes first: the table
 -- of the files, their count of faults, and what was written.
@@ -130,6 +122,6 @@ AuditsFile table faults written name files files' out out' status =
     Followed (FileCourse name (table files) (Rose (faults files) (faults files')) (Unit {0}) AuditCourse) (written out) (written out') status
 
 -- the words are carried out
-abbrev pub CarriesOut : {F O : Type 0} → (F → Option Table) → (F → ℕ) → (O → Option (List ℕ)) → List (List ℕ) → Book → F → F → O → O → Status → Type 0
-CarriesOut table faults written words book files files' out out' status =
-    Followed (Course words (table files) (table files') (Rose (faults files) (faults files')) book) (written out) (written out') status
+abbrev pub CarriesOut : {F O : Type 0} → (F → Option Table) → (F → ℕ) → (O → Option (List ℕ)) → List (List ℕ) → Told → Told → Book → F → F → O → O → Status → Type 0
+CarriesOut table faults written words first last book files files' out out' status =
+    Followed (Course words (table files) (table files') (Rose (faults files) (faults files')) first last book) (written out) (written out') status

@@ -1,4 +1,6 @@
 pub mod Audits
+pub mod Ends
 pub mod Files
+pub mod Serving
 pub mod Course
 pub mod Causes

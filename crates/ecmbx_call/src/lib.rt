@@ -1,11 +1,12 @@
-//! The top call of `ecmbx`: words in, a report and a status out. Files and sink are objects of the
-//! caller.
+//! The top call of `ecmbx`: words in, a report and a status out. Files, sink and port are objects
+//! of the caller.
 #![tactic(auto)]
 
 mod auditing;
 mod loading;
 mod making;
 mod running;
+mod serving;
 mod top;
 mod viewing;
 

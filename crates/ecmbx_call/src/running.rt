@@ -1,4 +1,4 @@
-ghost use Rattle.std.specs.Prelude.{◌≡◌, ◌⊎◌, ◌≤◌, Ok, Some, IfOk, IfErr};
+ghost use Rattle.std.specs.Prelude.{◌≡◌, ◌⊎◌, ◌≤◌, Ok, IfOk, IfErr};
 ghost use Rattle.ec_outside.specs.Faults.{Rose};
 ghost use Rattle.segment_plan.specs.Sound.{IsPlan};
 ghost use Rattle.scenario.specs.Document.{plan_of};
@@ -35,8 +35,8 @@ fn status_of(ending: Ending) -> Status
     }
 }
 
-// The plan that octets write, which are let go; or the answer where they write none, whose line is put.
-fn plan_in<O: Sink>(alloc: Global, octets: Octets, out: &mut O) -> Result<Scenario, Status>
+/// The plan that octets write, which are let go; or the answer where they write none, whose line is put.
+pub fn plan_in<O: Sink>(alloc: Global, octets: Octets, out: &mut O) -> Result<Scenario, Status>
     ensures found { IfOk result (λ plan. plan_of octets ≡ Ok plan) }
     ensures sound { IfOk result IsPlan }
     ensures told { IfOk result IsTold }
@@ -61,8 +61,8 @@ fn refuse<O: Sink>(alloc: Global, rule: u8, place: Place, out: &mut O) -> Status
     }
 }
 
-// Puts the report of a run, and answers how the run ended.
-fn tell<O: Sink>(alloc: Global, plan: &Scenario, book: &Book, out: &mut O) -> Status
+/// Puts the report of a run or a serving, and answers how it ended.
+pub fn tell<O: Sink>(alloc: Global, plan: &Scenario, book: &Book, out: &mut O) -> Status
     requires { IsReportable plan.now book.now }
     ensures put { PutAll (status_of book.now.ending) (text_of (report_lines plan.now book.now)) (O.written out.old) (O.written out.new) result }
     ensures sink { result ≡ statuses.SinkFault → Rose (O.sink_faults out.old) (O.sink_faults out.new) }

@@ -1,18 +1,21 @@
-ghost use Rattle.std.specs.Prelude.{◌≡◌, ◌≢◌, ◌⊎◌};
+ghost use Rattle.std.specs.Prelude.{◌≡◌, ◌≢◌, ◌⊎◌, ◌<◌};
 ghost use Rattle.ec_outside.specs.Faults.{Rose};
 ghost use Rattle.segment_plan.specs.declared.plan.Scenario.{Scenario as Plan};
 ghost use Rattle.run_book.specs.Book.{IsNew};
 ghost use Rattle.ecmbx_words.specs.declared.form.Form.TheVariants as forms;
 ghost use Rattle.ecmbx_words.specs.declared.status.Status.TheVariants as statuses;
-ghost use Rattle.ecmbx_words.specs.Form.{form_in, name_in, saved_in};
+ghost use Rattle.ecmbx_words.specs.Form.{form_in};
 ghost use Rattle.ecmbx_call.specs.Course.{words_of, RunsFile, SavesFile, ShowsFile, AuditsFile, CarriesOut, Began, BeganIn};
-ghost use Rattle.ecmbx_call.specs.Causes.{UsageCause, AbsentCause, LongCause, RefusedCause, GivenUpCause, SpentCause, BrokenCause, EndingAt, IsCalm, IsAnswer, RunsTo, SavesTo, ShowsTo, AuditsTo, MakesTo};
+ghost use Rattle.ecmbx_call.specs.Serving.{ServesFile, ServedIn};
+ghost use Rattle.gateway_run.specs.Serving.{told};
+ghost use Rattle.ecmbx_call.specs.Causes.{UsageCause, AbsentCause, LongCause, RefusedCause, GivenUpCause, SpentCause, BrokenCause, EndingAt, PortCause, IsCalm, IsServing, RunsTo, SavesTo, ServesTo, ShowsTo, AuditsTo, MakesTo};
 
 use crate::loading::load;
 use crate::making::make;
 use crate::running::{run_octets, run_saved};
+use crate::serving::serve_octets;
 use crate::viewing::{audit, decode};
-use ec_outside::{Files, Sink};
+use ec_outside::{Files, Port, Sink};
 use ecmbx_words::{Form, Status, form_of, say, usage};
 use run_book::Book;
 use std::alloc::Global;
@@ -55,6 +58,28 @@ fn run_file_saved<F: Files, O: Sink>(
     }
 }
 
+fn serve_file<F: Files, O: Sink, P: Port>(
+    alloc: Global,
+    name: &str,
+    count: u32,
+    files: &mut F,
+    out: &mut O,
+    port: &mut P,
+    book: &mut Book,
+) -> Status
+    requires new { IsNew book.old }
+    requires some { 0 < count }
+    ensures course { ServesFile F.table F.file_faults O.written name.now count (told P.heard P.sent P.over P.port_faults port.old) (told P.heard P.sent P.over P.port_faults port.new) book.new files.old files.new out.old out.new result }
+    ensures sink { result ≡ statuses.SinkFault → Rose (O.sink_faults out.old) (O.sink_faults out.new) }
+    ensures book { IsNew book.new ⊎ ServedIn name.now (F.table files.old) count (told P.heard P.sent P.over P.port_faults port.old) (told P.heard P.sent P.over P.port_faults port.new) book.new }
+    ensures same { F.table files.new ≡ F.table files.old }
+{
+    match load(alloc, name, files, out) {
+        Ok(octets) => serve_octets(alloc, octets, count, out, port, book),
+        Err(status) => status,
+    }
+}
+
 fn decode_file<F: Files, O: Sink>(alloc: Global, name: &str, files: &mut F, out: &mut O) -> Status
     ensures course { ShowsFile F.table F.file_faults O.written name.now files.old files.new out.old out.new result }
     ensures sink { result ≡ statuses.SinkFault → Rose (O.sink_faults out.old) (O.sink_faults out.new) }
@@ -77,18 +102,20 @@ fn audit_file<F: Files, O: Sink>(alloc: Global, name: &str, files: &mut F, out: 
     }
 }
 
-fn carry_out<F: Files, O: Sink>(
+fn carry_out<F: Files, O: Sink, P: Port>(
     alloc: Global,
     words: &[String],
     files: &mut F,
     out: &mut O,
+    port: &mut P,
     book: &mut Book,
 ) -> Status
     requires { IsNew book.old }
-    ensures course { CarriesOut F.table F.file_faults O.written (words_of words.now) book.new files.old files.new out.old out.new result }
+    ensures course { CarriesOut F.table F.file_faults O.written (words_of words.now) (told P.heard P.sent P.over P.port_faults port.old) (told P.heard P.sent P.over P.port_faults port.new) book.new files.old files.new out.old out.new result }
     ensures sink { result ≡ statuses.SinkFault → Rose (O.sink_faults out.old) (O.sink_faults out.new) }
-    ensures book { IsNew book.new ⊎ Began (words_of words.now) (F.table files.old) book.new }
+    ensures book { IsNew book.new ⊎ Began (words_of words.now) (F.table files.old) (told P.heard P.sent P.over P.port_faults port.old) (told P.heard P.sent P.over P.port_faults port.new) book.new }
     ensures same { form_in (words_of words.now) ≢ forms.RunSaved → F.table files.new ≡ F.table files.old }
+    ensures port { ¬ IsServing (words_of words.now) → port.new ≡ port.old }
 {
     match form_of(words) {
         Form::Run => run_file(alloc, words[1].as_str(), files, out, book),
@@ -103,34 +130,41 @@ fn carry_out<F: Files, O: Sink>(
         Form::Decode => decode_file(alloc, words[1].as_str(), files, out),
         Form::Audit => audit_file(alloc, words[1].as_str(), files, out),
         Form::Make { seed, size } => make(alloc, seed, size, out),
+        Form::Serve { count } => {
+            serve_file(alloc, words[1].as_str(), count, files, out, port, book)
+        }
         Form::Other => say(out, Status::Usage, usage()),
     }
 }
 
 /// Does what the words say. `run SCENARIO` loads the scenario, runs it, and puts the report, a `put` a line; with CAPTURE behind, the
-/// frames are saved under that name before. `decode CAPTURE` puts the decoding text of a capture, `audit CAPTURE` whether it obeys the rules of
+/// frames are saved under that name before. `serve SCENARIO COUNT` serves the segment over the port instead. `decode CAPTURE` puts the decoding text of a capture, `audit CAPTURE` whether it obeys the rules of
 /// the mailboxes, `make SEED SIZE` the text of a scenario. Every other list of words is `Usage`. The book has what the run left; where no run began it stays new.
 ///
 /// `Usage` comes exactly where the words are no form, `Absent` and `TooLong` where the load said so, `Refused` where the octets are no
-/// scenario or no capture, `AuditNo` where a capture that is audited breaks a rule, `GivenUp` and `BudgetSpent` where the run ended so; `FileFault` and `SinkFault` only where that object's count
-/// of faults rose. Each yields to `SinkFault`, and all to `NoMemory`.
-pub fn ecmbx<F: Files, O: Sink>(
+/// scenario or no capture, `AuditNo` where a capture that is audited breaks a rule, `GivenUp`, `BudgetSpent` and `PortFault` where the run or serving ended so; `FileFault`,
+/// `SinkFault` and `PortFault` only where that object's count of faults rose. Each yields to `SinkFault`, and all to `NoMemory`.
+pub fn ecmbx<F: Files, O: Sink, P: Port>(
     alloc: Global,
     words: &[String],
     files: &mut F,
     out: &mut O,
+    port: &mut P,
     book: &mut Book,
 ) -> Status
     requires { IsNew book.old }
 
     // Each case of the table of answers, with the text that is put there.
-    ensures course { CarriesOut F.table F.file_faults O.written (words_of words.now) book.new files.old files.new out.old out.new result }
+    ensures course { CarriesOut F.table F.file_faults O.written (words_of words.now) (told P.heard P.sent P.over P.port_faults port.old) (told P.heard P.sent P.over P.port_faults port.new) book.new files.old files.new out.old out.new result }
 
     // A found scenario: the book has the run, and what is written is its report.
     ensures runs { (plan : Plan) → IsCalm F.file_faults files.old files.new → RunsTo (words_of words.now) (F.table files.old) plan book.new (O.written out.old) (O.written out.new) result }
 
     // The same with CAPTURE: what stands under that name is the capture of the very frames of the book.
     ensures saves { (plan : Plan) → IsCalm F.file_faults files.old files.new → SavesTo (words_of words.now) (F.table files.old) (F.table files.new) plan book.new (O.written out.old) (O.written out.new) result }
+
+    // A found scenario that is served: the book has its frames and the datagrams that the port heard and sent, and what is written is its report.
+    ensures serves { (plan : Plan) → IsCalm F.file_faults files.old files.new → ServesTo (words_of words.now) (F.table files.old) (told P.heard P.sent P.over P.port_faults port.old) (told P.heard P.sent P.over P.port_faults port.new) plan book.new (O.written out.old) (O.written out.new) result }
 
     // A found capture, and a scenario that is made: the text whole, where the sink doesn't fail.
     ensures shows { IsCalm F.file_faults files.old files.new → IsCalm O.sink_faults out.old out.new → ShowsTo (words_of words.now) (F.table files.old) (O.written out.old) (O.written out.new) result }
@@ -144,19 +178,22 @@ pub fn ecmbx<F: Files, O: Sink>(
     ensures absent { AbsentCause (words_of words.now) (F.table files.old) result }
     ensures too_long { LongCause (words_of words.now) (F.table files.old) result }
     ensures refused { RefusedCause (words_of words.now) (F.table files.old) result }
-    ensures given_up { GivenUpCause book.new result }
-    ensures budget_spent { SpentCause book.new result }
+    ensures given_up { GivenUpCause (words_of words.now) (told P.heard P.sent P.over P.port_faults port.old) (told P.heard P.sent P.over P.port_faults port.new) book.new result }
+    ensures budget_spent { SpentCause (words_of words.now) (told P.heard P.sent P.over P.port_faults port.old) (told P.heard P.sent P.over P.port_faults port.new) book.new result }
     ensures audit_no { BrokenCause (words_of words.now) (F.table files.old) result }
     ensures file_fault { result ≡ statuses.FileFault → Rose (F.file_faults files.old) (F.file_faults files.new) }
     ensures sink_fault { result ≡ statuses.SinkFault → Rose (O.sink_faults out.old) (O.sink_faults out.new) }
-    ensures answers { IsAnswer result }
+    ensures port_fault { PortCause (words_of words.now) (told P.heard P.sent P.over P.port_faults port.old) (told P.heard P.sent P.over P.port_faults port.new) result }
 
     // What the book has: nothing where no run began, else what the run left.
-    ensures book { IsNew book.new ⊎ Began (words_of words.now) (F.table files.old) book.new }
+    ensures book { IsNew book.new ⊎ Began (words_of words.now) (F.table files.old) (told P.heard P.sent P.over P.port_faults port.old) (told P.heard P.sent P.over P.port_faults port.new) book.new }
     ensures ending { EndingAt result book.new.ending }
 
     // No call but a run with CAPTURE changes a file.
     ensures same { form_in (words_of words.now) ≢ forms.RunSaved → F.table files.new ≡ F.table files.old }
+
+    // No call but a serving touches the port.
+    ensures port { ¬ IsServing (words_of words.now) → port.new ≡ port.old }
 {
-    carry_out(alloc, words, files, out, book)
+    carry_out(alloc, words, files, out, port, book)
 }

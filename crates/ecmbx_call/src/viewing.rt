@@ -1,4 +1,4 @@
-ghost use Rattle.std.specs.Prelude.{◌≡◌, ◌≢◌, ◌≤◌, length, Ok, Err};
+ghost use Rattle.std.specs.Prelude.{◌≡◌, ◌≤◌, length, Ok, Err};
 ghost use Rattle.ec_outside.specs.Faults.{Rose};
 ghost use Rattle.pcap_frames.specs.Reading.{capture_read};
 ghost use Rattle.pcap_frames.specs.declared.capture.PcapFault.TheVariants as faults;

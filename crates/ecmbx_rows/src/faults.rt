@@ -20,6 +20,14 @@ fn faults_are_told(rt: HostRuntime) -> Result<(), Fail> {
             Status::Absent,
             "absent\n",
         ),
+        (
+            &["serve", "scenario.toml", "0"],
+            SLAVE,
+            None,
+            None,
+            Status::Usage,
+            USAGE,
+        ),
         (run, SLAVE, Some(0), None, Status::FileFault, "file fault\n"),
         (
             run,

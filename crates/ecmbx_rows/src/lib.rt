@@ -1,4 +1,4 @@
-//! The worked rows: tests of the top call over files and sinks in memory. Nothing stands on this
+//! The worked rows: tests of the top call over files, sinks and ports in memory. Nothing stands on this
 //! crate.
 #![tactic(auto)]
 
@@ -14,5 +14,7 @@ mod made;
 mod refusals;
 #[cfg(test)]
 mod rows;
+#[cfg(test)]
+mod servings;
 #[cfg(test)]
 mod stage;

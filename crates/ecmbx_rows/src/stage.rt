@@ -1,5 +1,5 @@
 use ec_fields::Rows;
-use ec_outside::{MemFiles, MemSink};
+use ec_outside::{MemFiles, MemPort, MemSink};
 use ecmbx_call::{Book, Status, ecmbx};
 use std::alloc::{AllocError, Global};
 use std::test::Fail;
@@ -45,7 +45,8 @@ pub fn call(
 ) -> Result<Status, Fail> {
     let words = strings(alloc, words)?;
     let mut book = Book::new(alloc);
-    Ok(ecmbx(alloc, words.as_slice(), files, out, &mut book))
+    let mut port = MemPort::new(alloc, Rows::new(alloc), Rows::new(alloc));
+    Ok(ecmbx(alloc, words.as_slice(), files, out, &mut port, &mut book))
 }
 
 /// A scenario that is run to its end, with its capture under `a.pcap`.

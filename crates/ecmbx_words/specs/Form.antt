@@ -16,6 +16,11 @@ abbrev pub made_in : Option ℕ → Option ℕ → Form
 made_in (Some seed) (Some size) = if nat_le 1 size && nat_le size 4096 then forms.Make seed size else forms.Other
 made_in _ _ = forms.Other
 
+-- `serve`, with a count of 1 to 1,000,000
+abbrev pub served_in : Option ℕ → Form
+served_in (Some count) = if nat_le 1 count && nat_le count 1000000 then forms.Serve count else forms.Other
+served_in None = forms.Other
+
 -- two words: `run SCENARIO`, `decode CAPTURE` or `audit CAPTURE`
 abbrev pub pair_in : List ℕ → Form
 pair_in word =
@@ -23,11 +28,12 @@ pair_in word =
     else (if bytes_eq word (codes "decode") then forms.Decode
     else (if bytes_eq word (codes "audit") then forms.Audit else forms.Other))
 
--- three words: `run SCENARIO CAPTURE` or `make SEED SIZE`
+-- three words: `run SCENARIO CAPTURE`, `make SEED SIZE` or `serve SCENARIO COUNT`
 abbrev pub triple_in : List ℕ → List ℕ → List ℕ → Form
 triple_in word second third =
     if bytes_eq word (codes "run") then forms.RunSaved
-    else (if bytes_eq word (codes "make") then made_in (number_in second) (number_in third) else forms.Other)
+    else (if bytes_eq word (codes "make") then made_in (number_in second) (number_in third)
+    else (if bytes_eq word (codes "serve") then served_in (number_in third) else forms.Other))
 
 -- THE FORM of the words
 abbrev pub form_in : List (List ℕ) → Form

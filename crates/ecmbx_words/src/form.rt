@@ -1,10 +1,13 @@
 ghost use Rattle.std.specs.Prelude.{◌≡◌, ◌≤◌, string_bytes, map};
-ghost use Rattle.ecmbx_words.specs.Form.{number_in, made_in, pair_in, triple_in, form_in};
+ghost use Rattle.ecmbx_words.specs.Form.{number_in, made_in, served_in, pair_in, triple_in, form_in};
 
 use itoa::Buffer;
 
 /// The most services that a generated scenario has.
 const MOST: u32 = 4096;
+
+/// The most datagrams that a serving hears.
+const MOST_GRAMS: u32 = 1_000_000;
 
 /// What the words behind the program's name ask for. The files that a form names stand behind its first word.
 #[derive(Clone, Copy, Debug, PartialEq, Eq)]
@@ -19,6 +22,8 @@ pub enum Form {
     Audit,
     /// `make SEED SIZE`, the size 1 to 4,096.
     Make { seed: u32, size: u32 },
+    /// `serve SCENARIO COUNT`, the count 1 to 1,000,000.
+    Serve { count: u32 },
     /// Any other words.
     Other,
 }
@@ -48,6 +53,16 @@ fn made(seed: &str, size: &str) -> Form
     }
 }
 
+// The form of the words `serve SCENARIO COUNT`.
+fn served(count: &str) -> Form
+    ensures { result ≡ served_in (number_in count.now) }
+{
+    match number(count) {
+        Some(count) if count >= 1 && count <= MOST_GRAMS => Form::Serve { count },
+        _ => Form::Other,
+    }
+}
+
 // The form of two words: the name of a form, and a file.
 fn pair(word: &str) -> Form
     ensures { result ≡ pair_in word.now }
@@ -71,6 +86,8 @@ fn triple(word: &str, second: &str, third: &str) -> Form
         Form::RunSaved
     } else if word == "make" {
         made(second, third)
+    } else if word == "serve" {
+        served(third)
     } else {
         Form::Other
     }

@@ -1,0 +1,92 @@
+-- What a serving adds to the course of a call.
+use Rattle.std.proofs.Common.{◌≡◌, ◌≢◌, ℕ, ◌<◌, ◌⊎◌, List, [], ◌∷◌, length, codes, Bool, if◌then◌else◌, true, false, Option, Some, None, nat_le, ◌&&◌, refl, sym, subst, inl, inr, arith}
+use Rattle.std.specs.Str.{bytes_eq}
+use Rattle.std.proofs.lemmas.Bool.{leb-true}
+use Rattle.ec_outside.specs.Files.{Table}
+use Rattle.segment_plan.specs.declared.plan.Scenario.{Scenario}
+use Rattle.segment_plan.specs.Sound.{IsPlan}
+use Rattle.run_book.specs.declared.book.Book.{Book}
+use Rattle.run_book.specs.declared.book.Ending.{Ending}
+use Rattle.run_book.specs.declared.book.Ending.TheVariants as endings
+use Rattle.run_book.specs.Book.{IsNew}
+use Rattle.run_record.specs.Ran.{HasSent}
+use Rattle.gateway_run.specs.Serving.{Told}
+use Rattle.gateway_run.specs.Served.{IsServed}
+use Rattle.ecmbx_words.specs.declared.form.Form.TheVariants as forms
+use Rattle.ecmbx_words.specs.declared.status.Status.{Status}
+use Rattle.ecmbx_words.specs.declared.status.Status.TheVariants as statuses
+use Rattle.ecmbx_words.specs.Form.{form_in, made_in, served_in, number_in}
+use Rattle.ecmbx_words.specs.Texts.{refused_line}
+use Rattle.ecmbx_call.specs.Files.{Followed, IsLoaded}
+use Rattle.ecmbx_call.specs.Course.{IsReportable, IsUnread}
+use Rattle.ecmbx_call.specs.Serving.{HasServed, ServeCourse, ServedOn, ServedIn}
+
+-- octets that write no plan aren't served
+pub serve_unread : (count : ℕ) (first last : Told) (book : Book) (octets : List ℕ) (old new : Option (List ℕ)) (status : Status) → IsNew book → IsUnread octets old new status → Followed (ServeCourse count first last book octets) old new status
+serve_unread count first last book octets old new status fresh (inl memory) = inl memory
+serve_unread count first last book octets old new status fresh (inr (e, is, ended)) = inr (statuses.Refused, refused_line e, ServeCourse.refused e is fresh, ended)
+
+-- what a serving left
+pub has_served : (plan : Scenario) (count : ℕ) (first last : Told) (book : Book) (ending : Ending) → HasSent plan count book → IsServed plan count first last book ending → book.ending ≡ ending → HasServed plan count first last book
+has_served plan count first last book ending frames served is = record { frames = frames; served = subst (λ e. IsServed plan count first last book e) (sym is) served }
+
+-- a serving that ended has a row for each slave
+rows_of : (plan : Scenario) (count : ℕ) (first last : Told) (book : Book) (ending : Ending) → ending ≢ endings.NoMemory → IsServed plan count first last book ending → length book.slaves ≡ length plan.slaves
+rows_of plan count first last book endings.Done other s = s.0.rows.many
+rows_of plan count first last book endings.GivenUp other s = s.0.rows.many
+rows_of plan count first last book endings.BudgetSpent other s = s.0.rows.many
+rows_of plan count first last book endings.PortFault other s = s.0.many
+rows_of plan count first last book endings.NoMemory other s = absurd (other refl)
+rows_of plan count first last book endings.Unfinished other s = absurd s.0
+
+-- what can be reported of a serving that ended
+pub serving_reportable : (plan : Scenario) (count : ℕ) (first last : Told) (book : Book) (ending : Ending) → IsPlan plan → HasSent plan count book → IsServed plan count first last book ending → ending ≢ endings.NoMemory → IsReportable plan book
+serving_reportable plan count first last book ending sound frames served other = record {
+  few = sound.laid.few_slaves;
+  many = rows_of plan count first last book ending other served;
+  at_port = frames.at_port;
+}
+
+-- the book of a file that was loaded
+pub served_in_file : (name octets : List ℕ) (table : Option Table) (count : ℕ) (first last : Told) (book : Book) → IsLoaded name table octets → IsNew book ⊎ ServedOn octets count first last book → IsNew book ⊎ ServedIn name table count first last book
+served_in_file name octets table count first last book is (inl new) = inl new
+served_in_file name octets table count first last book is (inr served) = inr (octets, is.holds, served)
+
+-- ---- words that ask for a serving have a count above 0
+
+some_by : (n count : ℕ) (least most : Bool) → nat_le 1 n ≡ least → (if least && most then forms.Serve n else forms.Other) ≡ forms.Serve count → 0 < count
+some_by n count true true least is = let same : n ≡ count = cc in omega (arith, same, leb-true 1 n least)
+some_by n count true false least is = absurd cc
+some_by n count false most least is = absurd cc
+
+some_in : (n : Option ℕ) (count : ℕ) → served_in n ≡ forms.Serve count → 0 < count
+some_in (Some n) count is = some_by n count (nat_le 1 n) (nat_le n 1000000) refl is
+some_in None count is = absurd cc
+
+size_by : (seed size count : ℕ) (fits : Bool) → (if fits then forms.Make seed size else forms.Other) ≡ forms.Serve count → ⊥
+size_by seed size count true is = absurd cc
+size_by seed size count false is = absurd cc
+
+made_not : (seed size : Option ℕ) (count : ℕ) → made_in seed size ≡ forms.Serve count → ⊥
+made_not (Some seed) (Some size) count is = size_by seed size count (nat_le 1 size && nat_le size 4096) is
+made_not (Some seed) None count is = absurd cc
+made_not None size count is = absurd cc
+
+pair_not : (run decode audit : Bool) (count : ℕ) → (if run then forms.Run else (if decode then forms.Decode else (if audit then forms.Audit else forms.Other))) ≡ forms.Serve count → ⊥
+pair_not true decode audit count is = absurd cc
+pair_not false true audit count is = absurd cc
+pair_not false false true count is = absurd cc
+pair_not false false false count is = absurd cc
+
+triple_by : (run make serve : Bool) (second third : Option ℕ) (count : ℕ) → (if run then forms.RunSaved else (if make then made_in second third else (if serve then served_in third else forms.Other))) ≡ forms.Serve count → 0 < count
+triple_by true make serve second third count is = absurd cc
+triple_by false true serve second third count is = absurd (made_not second third count is)
+triple_by false false true second third count is = some_in third count is
+triple_by false false false second third count is = absurd cc
+
+pub some_served : (words : List (List ℕ)) (count : ℕ) → form_in words ≡ forms.Serve count → 0 < count
+some_served [] count is = absurd cc
+some_served (a ∷ []) count is = absurd cc
+some_served (a ∷ b ∷ []) count is = absurd (pair_not (bytes_eq a (codes "run")) (bytes_eq a (codes "decode")) (bytes_eq a (codes "audit")) count is)
+some_served (a ∷ b ∷ d ∷ []) count is = triple_by (bytes_eq a (codes "run")) (bytes_eq a (codes "make")) (bytes_eq a (codes "serve")) (number_in b) (number_in d) count is
+some_served (a ∷ b ∷ d ∷ e ∷ words) count is = absurd cc

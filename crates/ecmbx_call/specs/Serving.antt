@@ -1,0 +1,49 @@
+-- What a call that serves a plan leaves, and what it puts.
+use Rattle.std.specs.Prelude.{◌≡◌, ℕ, List, Option, Some, Ok, Err}
+use Rattle.ec_outside.specs.Faults.{Rose}
+use Rattle.ec_outside.specs.Files.{Table}
+use Rattle.segment_plan.specs.declared.plan.Scenario.{Scenario}
+use Rattle.scenario_keys.specs.declared.refusal.Refusal.{Refusal}
+use Rattle.scenario.specs.Document.{plan_of}
+use Rattle.run_book.specs.declared.book.Book.{Book}
+use Rattle.run_book.specs.Book.{IsNew}
+use Rattle.run_record.specs.Ran.{HasSent}
+use Rattle.run_report.specs.Report.{report_lines}
+use Rattle.gateway_run.specs.Serving.{Told}
+use Rattle.gateway_run.specs.Served.{IsServed}
+use Rattle.ecmbx_words.specs.declared.form.Form.TheVariants as forms
+use Rattle.ecmbx_words.specs.declared.status.Status.{Status}
+use Rattle.ecmbx_words.specs.declared.status.Status.TheVariants as statuses
+use Rattle.ecmbx_words.specs.Form.{form_in, name_in}
+use Rattle.ecmbx_words.specs.Ends.{text_of}
+use Rattle.ecmbx_words.specs.Texts.{refused_line}
+use Rattle.ecmbx_call.specs.Files.{Holds, FileCourse, Followed}
+use Rattle.ecmbx_call.specs.Ends.{status_of}
+
+-- what the serving of a plan left in its book, by what its port told before it and behind it: its frames, its datagrams, and an ending with
+-- its cause
+pub record HasServed (plan : Scenario) (count : ℕ) (first last : Told) (book : Book) : Type 0 where
+  pub frames : HasSent plan count book
+  pub served : IsServed plan count first last book book.ending
+
+-- a serving of so many datagrams: refused, or the report of what it came to
+pub data ServeCourse (count : ℕ) (first last : Told) (book : Book) (octets : List ℕ) : Status → List ℕ → Type 0 where
+  refused : (e : Refusal) → plan_of octets ≡ Err e → IsNew book → ServeCourse count first last book octets statuses.Refused (refused_line e)
+  served : (plan : Scenario) → plan_of octets ≡ Ok plan → HasServed plan count first last book → ServeCourse count first last book octets (status_of book.ending) (text_of (report_lines plan book))
+
+-- a serving of the plan that octets write, and what it left
+abbrev pub ServedOn : List ℕ → ℕ → Told → Told → Book → Type 0
+ServedOn octets count first last book = (plan : Scenario) × (plan_of octets ≡ Ok plan) × HasServed plan count first last book
+
+-- the same of the file under a name
+abbrev pub ServedIn : List ℕ → Option Table → ℕ → Told → Told → Book → Type 0
+ServedIn name table count first last book = (octets : List ℕ) × Holds table name (Some octets) × ServedOn octets count first last book
+
+-- the same of the file that the words name, with their count
+abbrev pub Served : List (List ℕ) → Option Table → Told → Told → Book → Type 0
+Served words table first last book = (count : ℕ) × (form_in words ≡ forms.Serve count) × ServedIn (name_in words) table count first last book
+
+-- the file under a name is served
+abbrev pub ServesFile : {F O : Type 0} → (F → Option Table) → (F → ℕ) → (O → Option (List ℕ)) → List ℕ → ℕ → Told → Told → Book → F → F → O → O → Status → Type 0
+ServesFile table faults written name count first last book files files' out out' status =
+    Followed (FileCourse name (table files) (Rose (faults files) (faults files')) (IsNew book) (ServeCourse count first last book)) (written out) (written out') status

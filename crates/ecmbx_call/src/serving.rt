@@ -1,0 +1,41 @@
+ghost use Rattle.std.specs.Prelude.{◌≡◌, ◌⊎◌, ◌<◌};
+ghost use Rattle.ec_outside.specs.Faults.{Rose};
+ghost use Rattle.run_book.specs.Book.{IsNew};
+ghost use Rattle.gateway_run.specs.Serving.{told};
+ghost use Rattle.ecmbx_words.specs.declared.status.Status.TheVariants as statuses;
+ghost use Rattle.ecmbx_call.specs.Files.{Followed};
+ghost use Rattle.ecmbx_call.specs.Serving.{ServeCourse, ServedOn};
+
+use crate::running::{plan_in, tell};
+use ec_fields::Octets;
+use ec_outside::{Port, Sink};
+use ecmbx_words::Status;
+use gateway_run::serve;
+use run_book::{Book, Ending};
+use std::alloc::Global;
+
+/// Serves the plan that octets write over a port, until so many datagrams were heard or the port ended, and puts the report; or why they
+/// write none. The octets are let go before, as for a run.
+pub fn serve_octets<O: Sink, P: Port>(
+    alloc: Global,
+    octets: Octets,
+    count: u32,
+    out: &mut O,
+    port: &mut P,
+    book: &mut Book,
+) -> Status
+    requires new { IsNew book.old }
+    requires some { 0 < count }
+    ensures course { Followed (ServeCourse count (told P.heard P.sent P.over P.port_faults port.old) (told P.heard P.sent P.over P.port_faults port.new) book.new octets) (O.written out.old) (O.written out.new) result }
+    ensures sink { result ≡ statuses.SinkFault → Rose (O.sink_faults out.old) (O.sink_faults out.new) }
+    ensures book { IsNew book.new ⊎ ServedOn octets count (told P.heard P.sent P.over P.port_faults port.old) (told P.heard P.sent P.over P.port_faults port.new) book.new }
+{
+    let plan = match plan_in(alloc, octets, out) {
+        Ok(plan) => plan,
+        Err(status) => return status,
+    };
+    if serve(alloc, &plan, count, port, book) == Ending::NoMemory {
+        return Status::NoMemory;
+    }
+    tell(alloc, &plan, book, out)
+}
