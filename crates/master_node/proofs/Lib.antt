@@ -13,3 +13,5 @@ pub mod Fills
 pub mod Visits
 pub mod Filleds
 pub mod Sents
+pub mod Counts
+pub mod Quiets

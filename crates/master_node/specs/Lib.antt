@@ -3,6 +3,7 @@ pub mod Lives
 pub mod Ported
 pub mod Scripts
 pub mod Shows
+pub mod Wants
 pub mod Kept
 pub mod Coming
 pub mod First

@@ -12,6 +12,7 @@ mod node;
 mod post;
 mod starting;
 mod telling;
+mod wants;
 
 pub use event::{Event, Origin};
 pub use node::{MasterNode, Next};

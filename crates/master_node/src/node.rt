@@ -8,9 +8,7 @@ use crate::post::{Post, Work};
 use datagrams::FrameBuf;
 use ec_fields::{NoMemory, Octets};
 use mailbox_mail::{Mail, ReplyKind};
-use mailbox_master::InwardHalf;
 use master_hand::InHand;
-use master_side::Side;
 use master_tour::{Stand, Tour};
 
 /// The most slaves of a segment.
@@ -42,16 +40,6 @@ pub struct MasterNode {
     pub ghost few: { vec_len posts ≤ 16 },
 }
 
-// Whether a slave's link is at rest: no mail is held, and nothing is asked again.
-fn is_at_rest(side: &Side<InHand>) -> bool {
-    side.out.is_idle() && matches!(side.inn, InwardHalf::Clear(_))
-}
-
-// Whether a slave that is open still wants frames for what it has in hand or for its script.
-fn is_wanting(side: &Side<InHand>) -> bool {
-    !side.is_free() || !is_at_rest(side) || side.hand.scripted().is_some()
-}
-
 impl MasterNode {
     ghost use Rattle.std.specs.Prelude.{◌≡◌, ◌<◌, ◌≤◌, ℕ, List, true, false, vec_len, length};
     ghost use Rattle.datagrams.specs.Datagram as Raw;
@@ -78,7 +66,7 @@ impl MasterNode {
     ghost use Rattle.master_node.specs.Filling.{IsFilling, IsEmpty, IsFilled};
 
     // Whether a slave is live.
-    fn has_live(&self) -> bool
+    pub(crate) fn has_live(&self) -> bool
         ensures { result ≡ list_any (λ s. is_live s.stand) self.now.tour.stops.items }
     {
         self.tour.stops.iter().any(|stop| stop.is_live())
@@ -362,36 +350,6 @@ impl MasterNode {
             Some(ReplyKind::Value) => self.tour.stops[place].side.hand.value(into),
             _ => Ok(()),
         }
-    }
-
-    // Whether a slave wants frames.
-    fn wants_at(&self, place: usize) -> bool
-        requires { place < vec_len self.now.posts }
-    {
-        let stop = &self.tour.stops[place];
-        match stop.stand {
-            Stand::Gone => false,
-            Stand::Opening(_) => true,
-            Stand::Open => {
-                is_wanting(&stop.side) || self.lan.waits(place) || self.posts[place].has_mail()
-            }
-        }
-    }
-
-    // Whether some slave wants frames.
-    fn has_wanting(&self) -> bool {
-        for place in 0..self.posts.len() {
-            if self.wants_at(place) {
-                return true;
-            }
-        }
-        false
-    }
-
-    /// Whether there is something left to do: a live slave is brought up or opened anew, has something in hand, a scripted service, a packet
-    /// or a mail left, or a half of its link that isn't at rest, or a packet of the host has not yet come in while a slave is live.
-    pub fn wants(&self) -> bool {
-        self.has_wanting() || (self.lan.has_host() && self.has_live())
     }
 
     /// Whether a slave was not given up for good.

@@ -8,7 +8,7 @@ ghost use Rattle.scenario.specs.Told.{IsTold};
 ghost use Rattle.segment_plan.specs.Sound.{IsPlan};
 ghost use Rattle.promised_run.specs.Promised.{IsPromised};
 
-use plan_promises::read_promise_law;
+use plan_promises::{read_promise_law, rest_promise_law};
 use run_book::{Book, Ending};
 use segment_plan::Scenario;
 use std::alloc::Global;
@@ -28,5 +28,6 @@ pub fn run(alloc: Global, plan: &Scenario, book: &mut Book) -> Ending
     ensures unsent { book.new.replies ≡ [] }
 {
     read_promise_law();
+    rest_promise_law();
     run_record::run(alloc, plan, book)
 }

@@ -1,6 +1,6 @@
 -- Where no slave of a master is live each that it leads was given up for good.
 use Rattle.std.proofs.Common.{◌≡◌, refl, ℕ, Bool, true, false, List, [], ◌∷◌}
-use Rattle.std.specs.Prelude.{◌||◌}
+use Rattle.std.specs.Prelude.{◌||◌, ⊤}
 use Rattle.std.specs.List.{list_any}
 use Rattle.frame_view.specs.View.{Lens}
 use Rattle.life_frames.specs.Shares.{AllBoth}
@@ -19,18 +19,22 @@ use Rattle.master_tour.specs.declared.stop.Stand.{Stand}
 use Rattle.master_tour.specs.declared.stop.Stop.{Stop}
 use Rattle.segment_model.specs.Seats.{Side}
 use Rattle.task_model.specs.Accounts.{Account}
-use Rattle.run_record.specs.Led.{AllGone}
+
+-- each was given up for good
+abbrev pub AllGone : List Leads → Type 0
+AllGone [] = ⊤
+AllGone (a ∷ as') = (a.lived.life.stand ≡ Lives.Stand.Gone) × AllGone as'
 
 gone_stand : (shows : Side Body Asked Reply → Account Asked Reply → Type 0) (spot : Spot) (stand : Stand) (l : Life Body Asked Reply) → is_live stand ≡ false → StandShows shows spot stand l → l.stand ≡ Lives.Stand.Gone
 gone_stand shows spot (Stand.Opening up) l e x = absurd (let bad : true ≡ false = e in cc)
 gone_stand shows spot Stand.Open l e x = absurd (let bad : true ≡ false = e in cc)
 gone_stand shows spot Stand.Gone l e x = x
 
-first_false : (a b : Bool) → (a || b) ≡ false → a ≡ false
+pub first_false : (a b : Bool) → (a || b) ≡ false → a ≡ false
 first_false true b e = e
 first_false false b e = refl
 
-second_false : (a b : Bool) → (a || b) ≡ false → b ≡ false
+pub second_false : (a b : Bool) → (a || b) ≡ false → b ≡ false
 second_false true b e = absurd (let bad : true ≡ false = e in cc)
 second_false false b e = e
 

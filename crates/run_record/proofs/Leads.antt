@@ -1,17 +1,30 @@
--- A master goes on leading its slaves, frame by frame.
-use Rattle.std.proofs.Common.{◌≡◌, ◌⊎◌, inl, inr, ℕ, Bool, true, false, List, [], ◌∷◌, ◌++◌, map, length, refl, sym, ap, ◌∙◌, subst}
-use Rattle.std.proofs.lemmas.List.{append-nil, append_assoc, map-append}
+-- A master goes on leading its slaves, frame by frame, and what is noted of their give-ups goes with it.
+use Rattle.std.proofs.Common.{◌≡◌, ℕ, suc, ◌+◌, Bool, true, false, List, [], ◌∷◌, ◌++◌, map, length, length-append, refl, sym, ap, ◌∙◌, subst, arith}
+use Rattle.std.specs.Prelude.{◌↔◌, ◌&&◌, nat_lt, if◌then◌else◌}
+use Rattle.std.proofs.lemmas.Bool.{lt-ltb, le-ltb}
+use Rattle.std.proofs.lemmas.List.{map-append}
+use Rattle.datagrams.specs.Datagram as Raw
 use Rattle.frame_view.specs.View.{Lens}
 use Rattle.frame_view.specs.Seen.{seen}
-use Rattle.life_runs.specs.First.{lens_of, first_leads}
-use Rattle.life_runs.specs.Led.{Exchanged, Leads, Turn, IsLed, IsLedFrame, led_behind, gives_up_at, missed_behind}
+use Rattle.life_frames.specs.Frames.{Share}
+use Rattle.life_frames.specs.Shares.{Lived, came_at, given_where}
+use Rattle.life_model.specs.Lives.{Life, life_lost}
+use Rattle.life_runs.specs.First.{lens_of, first_leads, leads_from}
+use Rattle.life_runs.specs.Led.{Exchanged, Leads, Turn, AllTurn, IsLed, IsLedFrame, is_passed, speech_at, life_behind, led_behind, gives_up_at, missed_behind}
+use Rattle.link_mails.specs.Body.{Body}
+use Rattle.master_duty.specs.Reply.{Reply}
+use Rattle.master_hand.specs.Spoken.{Asked, acknowledged, is_followed}
 use Rattle.master_node.specs.Shows.{MasterShows, MasterUnder}
+use Rattle.master_node.specs.Wants.{gave_of, AllCounted}
 use Rattle.master_node.specs.declared.node.MasterNode.{MasterNode}
 use Rattle.master_node.specs.declared.node.Next.{Next}
 use Rattle.master_node.specs.declared.node.Next.TheVariants as nexts
+use Rattle.master_node.proofs.Counts.{counted, turn_gave, back_gave, lost_gave}
 use Rattle.run_book.specs.declared.book.SentFrame.{SentFrame}
 use Rattle.segment_model.specs.Returned.{Returns}
 use Rattle.segment_plan.specs.declared.plan.Scenario.{Scenario}
+use Rattle.segment_plan.specs.declared.service.Service as Plan
+use Rattle.segment_plan.specs.declared.slave.SlaveSpec.{SlaveSpec}
 use Rattle.segment_ring.specs.declared.wire.Fate.{Fate}
 use Rattle.segment_ring.specs.declared.wire.Fate.TheVariants as Fates
 use Rattle.segment_ring.specs.Ring.{RingState, ring_returned}
@@ -19,66 +32,133 @@ use Rattle.segment_ring.specs.Schedule.{fate_at}
 use Rattle.slave_server.specs.declared.server.SlaveServer.{SlaveServer}
 use Rattle.slave_steps.specs.Node.{Node, node_passed}
 use Rattle.ring_returns.proofs.Returned as Returned
-use Rattle.run_record.specs.Led.{AllGone, exchanged, Course, IsCourse, Leading, AreLed, LeadsOn}
+use Rattle.run_record.specs.declared.notes.Notes.{Notes}
+use Rattle.run_record.specs.declared.standing.Log.{Log}
+use Rattle.run_record.specs.Led.{exchanged, gaves_noted, Leading, AreLed}
+use Rattle.run_record.specs.Session.{first_notes, gaves_behind, GaveBy, has_live}
+use Rattle.run_record.proofs.Gaves.{with_more}
 
--- before the first frame
-pub begins : (plan : Scenario) (m : MasterNode) → MasterShows (lens_of plan.slaves) plan.recover plan.retry m 0 (first_leads plan) → Leading plan m []
-begins plan m shown = record {
-  course = record { led = []; behind = []; missed = 0; leads = first_leads plan };
-  is = record { split = refl; lives = IsLed.start; gone = inl refl };
-  shows = λ none. shown;
+-- BEFORE THE FIRST FRAME
+first_gaves : (services : List (ℕ × Plan.Service)) (number place : ℕ) (ss : List SlaveSpec) → gaves_noted (first_notes services number ss) ≡ map gave_of (leads_from services place ss)
+first_gaves services number place [] = refl
+first_gaves services number place (s ∷ ss) = ap (λ (gs : List (List ℕ)). [] ∷ gs) (first_gaves services (number + 1) (suc place) ss)
+
+pub begins : (plan : Scenario) (m : MasterNode) (notes : List Notes) → MasterShows (lens_of plan.slaves) plan.recover plan.retry m 0 (first_leads plan) → notes ≡ first_notes plan.services 0 plan.slaves → Leading plan m notes []
+begins plan m notes shown first = record {
+  missed = 0;
+  leads = first_leads plan;
+  lives = IsLed.start;
+  shows = shown;
+  gave = ap gaves_noted first ∙ first_gaves plan.services 0 0 plan.slaves;
 }
 
-not_more : (b : Exchanged) (bs : List Exchanged) → b ∷ bs ≡ [] → ⊥
-not_more b bs e = absurd (cc)
+-- GIVE-UPS over a frame
+abbrev turned_gave : Turn → List ℕ
+turned_gave u = u.lived.life.gave
 
-some_behind : (f : Exchanged) (bs : List Exchanged) → bs ++ f ∷ [] ≡ [] → ⊥
-some_behind f [] none = not_more f [] none
-some_behind f (b ∷ bs) none = not_more b (bs ++ f ∷ []) none
+module _ (lens : ℕ → Lens) (recover retry : ℕ) (gives : Bool) (made : ℕ) (f : Exchanged) where
+  turns_gave : (ds : List Raw.Datagram) (as' : List Leads) (us : List Turn) → AllTurn lens made ds as' us → map turned_gave us ≡ map gave_of as'
+  turns_gave ds [] [] t = refl
+  turns_gave ds [] (u ∷ us) t = absurd t
+  turns_gave ds (a ∷ as') [] t = absurd t
+  turns_gave ds (a ∷ as') (u ∷ us) t =
+      ap (λ (g : List ℕ). g ∷ map turned_gave us) (turn_gave lens recover retry gives made f ds a u t.0) ∙ ap (λ gs. gave_of a ∷ gs) (turns_gave ds as' us t.1)
+
+  -- the give-ups of the lives behind it, by its fate
+  abbrev behind_gave : Fate → Turn → List ℕ
+  behind_gave fate u = (life_behind lens recover retry gives made f fate u.lived u.share).life.gave
+
+  behind_is : (us : List Turn) → map gave_of (map (led_behind lens recover retry gives made f) us) ≡ map (behind_gave f.fate) us
+  behind_is [] = refl
+  behind_is (u ∷ us) = ap (λ gs. behind_gave f.fate u ∷ gs) (behind_is us)
+
+  pass_gave : (us : List Turn) → map (behind_gave Fates.Pass) us ≡ map turned_gave us
+  pass_gave [] = refl
+  pass_gave (u ∷ us) =
+      ap (λ (g : List ℕ). g ∷ map (behind_gave Fates.Pass) us)
+      (back_gave (speech_at lens u.lived.spot) acknowledged is_followed is_passed recover u.lived.spot u.lived.life made [] (seen lens f.back) (came_at u.share.under u.share.at (seen lens f.back)) u.lived.life.stand)
+      ∙ ap (λ gs. turned_gave u ∷ gs) (pass_gave us)
+
+  -- one give-up more, or none
+  more_given : (b : Bool) (l : Lived Asked Reply) (m : Life Body Asked Reply) → m.gave ≡ l.life.gave → with_more made (given_where b recover l.spot made m).gave l.life.gave ≡ (given_where b recover l.spot made m).gave
+  more_given true l m e =
+      let longer : nat_lt (length l.life.gave) (length (m.gave ++ made ∷ [])) ≡ true =
+      (let n = length-append m.gave (made ∷ []) in let k = ap length e in lt-ltb (length l.life.gave) (length (m.gave ++ made ∷ [])) (omega (arith, n, k))) in
+      ap (λ (b : Bool). if b then l.life.gave ++ made ∷ [] else l.life.gave) longer ∙ ap (λ (g : List ℕ). g ++ made ∷ []) (sym e)
+  more_given false l m e =
+      let same : nat_lt (length l.life.gave) (length m.gave) ≡ false = (let k = ap length e in le-ltb (length l.life.gave) (length m.gave) (omega (arith, k))) in
+      ap (λ (b : Bool). if b then l.life.gave ++ made ∷ [] else l.life.gave) same ∙ sym e
+
+  lost_gaves : (after : ℕ) (us : List Turn) → gaves_behind made (map (behind_gave (Fates.Lost after)) us) (map turned_gave us) ≡ map (behind_gave (Fates.Lost after)) us
+  lost_gaves after [] = refl
+  lost_gaves after (u ∷ us) =
+      let m = life_lost (speech_at lens u.lived.spot) acknowledged is_followed is_passed u.lived.spot [] (seen lens f.sent) u.lived.life u.lived.life.stand in
+      ap (λ (g : List ℕ). g ∷ gaves_behind made (map (behind_gave (Fates.Lost after)) us) (map turned_gave us))
+      (more_given (gives && u.share.under) u.lived m (lost_gave (speech_at lens u.lived.spot) acknowledged is_followed is_passed recover u.lived.spot u.lived.life [] (seen lens f.sent) u.lived.life.stand))
+      ∙ ap (λ gs. behind_gave (Fates.Lost after) u ∷ gs) (lost_gaves after us)
 
 -- ONE FRAME: what the master says of it before, and of its return or loss
 module _ (m0 m1 m2 : MasterNode) (f : Exchanged) (result : Next)
-    (gone : result ≡ nexts.Idle → (lens : ℕ → Lens) (recover retry missed : ℕ) (as' : List Leads) → MasterShows lens recover retry m0 missed as' → AllGone as')
-    (led : result ≡ nexts.Frame → (lens : ℕ → Lens) (recover retry missed number : ℕ) (as' : List Leads) → MasterShows lens recover retry m0 missed as' → (us : List Turn) × IsLedFrame lens number f.sent as' us × MasterUnder lens recover retry m1 f.sent missed us)
-    (tell : (lens : ℕ → Lens) (recover retry missed number : ℕ) (as' : List Leads) (us : List Turn) → IsLedFrame lens number f.sent as' us → MasterUnder lens recover retry m1 f.sent missed us →
-    MasterShows lens recover retry m2 (missed_behind lens recover retry f.fate missed) (map (led_behind lens recover retry (gives_up_at lens recover retry missed) number f) us)) where
-  module _ (plan : Scenario) (fs : List Exchanged) (l : Leading plan m0 fs) where
+    (idle : (result ≡ nexts.Idle) ↔ (has_live m0 ≡ false))
+    (led : result ≡ nexts.Frame → (lens : ℕ → Lens) (recover retry missed number : ℕ) (as' : List Leads) → MasterShows lens recover retry m0 missed as' → (us : List Turn) × IsLedFrame lens number f.sent as' us × MasterUnder lens recover retry m1 f.sent missed us) where
+  -- where some slave is live there is one
+  made_by : (r : Next) → result ≡ r → has_live m0 ≡ true → result ≡ nexts.Frame
+  made_by nexts.Frame e live = e
+  made_by nexts.Idle e live = absurd (let none = idle.0 e in let bad : true ≡ false = sym live ∙ none in cc)
+
+  module _ (plan : Scenario) (fs : List Exchanged) (live : has_live m0 ≡ true) (notes : List Notes) (l : Leading plan m0 notes fs) where
     abbrev lens : ℕ → Lens
     lens = lens_of plan.slaves
 
-    made_on : l.course.behind ≡ [] → (us : List Turn) → IsLedFrame lens (length l.course.led) f.sent l.course.leads us → MasterUnder lens plan.recover plan.retry m1 f.sent l.course.missed us → Leading plan m2 (fs ++ f ∷ [])
-    made_on none us frame under =
-        let c = l.course in
-        record {
-          course = record { led = c.led ++ f ∷ []; behind = []; missed = missed_behind lens plan.recover plan.retry f.fate c.missed; leads = map (led_behind lens plan.recover plan.retry (gives_up_at lens plan.recover plan.retry c.missed) (length c.led) f) us };
-          is = record {
-            split = ap (λ (k : List Exchanged). k ++ f ∷ []) (l.is.split ∙ ap (λ (k : List Exchanged). c.led ++ k) none ∙ append-nil c.led) ∙ sym (append-nil (c.led ++ f ∷ []));
-            lives = IsLed.on c.led c.missed c.leads f us l.is.lives frame;
-            gone = inl refl;
-          };
-          shows = λ still. tell lens plan.recover plan.retry c.missed (length c.led) c.leads us frame under;
-        }
+    made : (us : List Turn) × IsLedFrame lens (length fs) f.sent l.leads us × MasterUnder lens plan.recover plan.retry m1 f.sent l.missed us
+    made = led (made_by result refl live) lens plan.recover plan.retry l.missed (length fs) l.leads l.shows
 
-    more_on : AllGone l.course.leads → Leading plan m2 (fs ++ f ∷ [])
-    more_on none_left =
-        let c = l.course in
-        record {
-          course = record { led = c.led; behind = c.behind ++ f ∷ []; missed = c.missed; leads = c.leads };
-          is = record {
-            split = ap (λ (k : List Exchanged). k ++ f ∷ []) l.is.split ∙ append_assoc c.led c.behind (f ∷ []);
-            lives = l.is.lives;
-            gone = inr none_left;
-          };
-          shows = λ none. absurd (some_behind f c.behind none);
-        }
+    abbrev gives : Bool
+    gives = gives_up_at lens plan.recover plan.retry l.missed
 
-    on_by : (bs : List Exchanged) → l.course.behind ≡ bs → (r : Next) → result ≡ r → Leading plan m2 (fs ++ f ∷ [])
-    on_by [] none nexts.Frame e = let made = led e lens plan.recover plan.retry l.course.missed (length l.course.led) l.course.leads (l.shows none) in made_on none made.0 made.1 made.2
-    on_by [] none nexts.Idle e = more_on (gone e lens plan.recover plan.retry l.course.missed l.course.leads (l.shows none))
-    on_by (b ∷ bs) some_are r e = more_on (elim l.is.gone [ inl none ↦ absurd (not_more b bs (sym some_are ∙ none)) | inr all ↦ all ])
+    abbrev leads : List Turn → List Leads
+    leads us = map (led_behind lens plan.recover plan.retry gives (length fs) f) us
 
-    pub leads_on : Leading plan m2 (fs ++ f ∷ [])
-    leads_on = on_by l.course.behind refl result refl
+    pub led_on : AreLed plan (fs ++ f ∷ [])
+    led_on = record { missed = _; leads = leads made.0; lives = IsLed.on fs l.missed l.leads f made.0 l.lives made.1 }
+
+    module _ (tell : (number : ℕ) (us : List Turn) → IsLedFrame lens number f.sent l.leads us → MasterUnder lens plan.recover plan.retry m1 f.sent l.missed us →
+        MasterShows lens plan.recover plan.retry m2 (missed_behind lens plan.recover plan.retry f.fate l.missed) (map (led_behind lens plan.recover plan.retry gives number f) us))
+        (frame : ℕ) (counts : length fs ≡ frame) (r r' : Log) (recover : r.recover ≡ plan.recover) (before : gaves_noted r.notes ≡ gaves_noted notes) (noted : GaveBy f.fate frame m2 r r') where
+      shown : MasterShows lens plan.recover plan.retry m2 (missed_behind lens plan.recover plan.retry f.fate l.missed) (leads made.0)
+      shown = tell (length fs) made.0 made.1 made.2
+
+      turned : gaves_noted r.notes ≡ map turned_gave made.0
+      turned = before ∙ l.gave ∙ sym (turns_gave lens plan.recover plan.retry gives (length fs) f made.1.datagrams l.leads made.0 made.1.each)
+
+      gave_by : (fate : Fate) → f.fate ≡ fate → gaves_noted r'.notes ≡ map gave_of (leads made.0)
+      gave_by Fates.Pass e =
+          let same : gaves_noted r'.notes ≡ gaves_noted r.notes = subst (λ (k : Fate). GaveBy k frame m2 r r') e noted in
+          same ∙ turned ∙ sym (pass_gave lens plan.recover plan.retry gives (length fs) f made.0)
+          ∙ ap (λ (k : Fate). map (behind_gave lens plan.recover plan.retry gives (length fs) f k) made.0) (sym e)
+          ∙ sym (behind_is lens plan.recover plan.retry gives (length fs) f made.0)
+      gave_by (Fates.Lost after) e =
+          let by : GaveBy (Fates.Lost after) frame m2 r r' = subst (λ (k : Fate). GaveBy k frame m2 r r') e noted in
+          let all : AllCounted plan.recover (leads made.0) = counted lens plan plan.retry (fs ++ f ∷ []) _ (leads made.0) (IsLed.on fs l.missed l.leads f made.0 l.lives made.1) in
+          let mine : gaves_noted r'.notes ≡ gaves_behind frame (map gave_of (leads made.0)) (gaves_noted r.notes) =
+          by lens plan.retry (missed_behind lens plan.recover plan.retry f.fate l.missed) (leads made.0)
+          (subst (λ (n : ℕ). MasterShows lens n plan.retry m2 (missed_behind lens plan.recover plan.retry f.fate l.missed) (leads made.0)) (sym recover) shown)
+          (subst (λ (n : ℕ). AllCounted n (leads made.0)) (sym recover) all) in
+          let is : map gave_of (leads made.0) ≡ map (behind_gave lens plan.recover plan.retry gives (length fs) f (Fates.Lost after)) made.0 =
+          behind_is lens plan.recover plan.retry gives (length fs) f made.0 ∙ ap (λ (k : Fate). map (behind_gave lens plan.recover plan.retry gives (length fs) f k) made.0) e in
+          mine ∙ ap (λ (n : ℕ). gaves_behind n (map gave_of (leads made.0)) (gaves_noted r.notes)) (sym counts)
+          ∙ ap (λ (gs : List (List ℕ)). gaves_behind (length fs) gs (gaves_noted r.notes)) is
+          ∙ ap (λ (gs : List (List ℕ)). gaves_behind (length fs) (map (behind_gave lens plan.recover plan.retry gives (length fs) f (Fates.Lost after)) made.0) gs) turned
+          ∙ lost_gaves lens plan.recover plan.retry gives (length fs) f after made.0 ∙ sym is
+
+      pub leads_on : Leading plan m2 r'.notes (fs ++ f ∷ [])
+      leads_on = record {
+        missed = missed_behind lens plan.recover plan.retry f.fate l.missed;
+        leads = leads made.0;
+        lives = IsLed.on fs l.missed l.leads f made.0 l.lives made.1;
+        shows = shown;
+        gave = gave_by f.fate refl;
+      }
 
 -- what the ring gave back of a frame of the master's is its return
 pub returned : (lens : ℕ → Lens) (ring : RingState (Node SlaveServer)) (f : Exchanged) (number : ℕ) (as' : List Leads) (us : List Turn) → f.fate ≡ fate_at ring.lose ring.number → f.back ≡ ring_returned node_passed ring f.sent → IsLedFrame lens number f.sent as' us → f.fate ≡ Fates.Pass →
@@ -86,16 +166,15 @@ pub returned : (lens : ℕ → Lens) (ring : RingState (Node SlaveServer)) (f : 
 returned lens ring f number as' us fate back frame pass = subst (λ (octets : List ℕ). Returns (seen lens f.sent) (seen lens octets)) (sym back) (Returned.ring_back lens ring f.sent _ frame.frame (sym fate ∙ pass))
 
 -- THE FRAMES of a book
-pub led_frames : (plan : Scenario) (m : MasterNode) (fs : List SentFrame) → Leading plan m (map exchanged fs) → AreLed plan fs
-led_frames plan m fs l = (l.course, l.is)
+pub one_frame_more : (plan : Scenario) (m : MasterNode) (notes : List Notes) (fs : List SentFrame) (f : SentFrame) (gs : List SentFrame) → gs ≡ fs ++ f ∷ [] → Leading plan m notes (map exchanged fs ++ exchanged f ∷ []) → Leading plan m notes (map exchanged gs)
+one_frame_more plan m notes fs f gs put l = subst (λ (k : List Exchanged). Leading plan m notes k) (sym (ap (map exchanged) put ∙ map-append exchanged fs (f ∷ []))) l
 
-pub one_frame_more : (plan : Scenario) (m : MasterNode) (fs : List SentFrame) (f : SentFrame) (gs : List SentFrame) → gs ≡ fs ++ f ∷ [] → Leading plan m (map exchanged fs ++ exchanged f ∷ []) → Leading plan m (map exchanged gs)
-one_frame_more plan m fs f gs put l = subst (λ (k : List Exchanged). Leading plan m k) (sym (ap (map exchanged) put ∙ map-append exchanged fs (f ∷ []))) l
+pub one_led_more : (plan : Scenario) (fs : List SentFrame) (f : SentFrame) (gs : List SentFrame) → gs ≡ fs ++ f ∷ [] → AreLed plan (map exchanged fs ++ exchanged f ∷ []) → AreLed plan (map exchanged gs)
+one_led_more plan fs f gs put l = subst (λ (k : List Exchanged). AreLed plan k) (sym (ap (map exchanged) put ∙ map-append exchanged fs (f ∷ []))) l
 
 -- none
-pub none_led : (plan : Scenario) (fs : List SentFrame) → fs ≡ [] → AreLed plan fs
-none_led plan fs none = subst (λ (gs : List SentFrame). AreLed plan gs) (sym none)
-    (record { led = []; behind = []; missed = 0; leads = first_leads plan }, record { split = refl; lives = IsLed.start; gone = inl refl })
+pub none_led : (plan : Scenario) (fs : List SentFrame) → fs ≡ [] → AreLed plan (map exchanged fs)
+none_led plan fs none = subst (λ (gs : List SentFrame). AreLed plan (map exchanged gs)) (sym none) (record { missed = 0; leads = first_leads plan; lives = IsLed.start })
 
-pub same_led : (plan : Scenario) (fs gs : List SentFrame) → gs ≡ fs → AreLed plan fs → AreLed plan gs
-same_led plan fs gs same led = subst (λ (hs : List SentFrame). AreLed plan hs) (sym same) led
+pub same_led : (plan : Scenario) (fs gs : List SentFrame) → gs ≡ fs → AreLed plan (map exchanged fs) → AreLed plan (map exchanged gs)
+same_led plan fs gs same led = subst (λ (hs : List SentFrame). AreLed plan (map exchanged hs)) (sym same) led

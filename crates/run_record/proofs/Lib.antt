@@ -11,3 +11,6 @@ pub mod Rows
 pub mod Stations
 pub mod Steps
 pub mod Underway
+pub mod Gaves
+pub mod Ends
+pub mod Overs

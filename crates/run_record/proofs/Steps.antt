@@ -8,10 +8,8 @@ use Rattle.run_book.specs.Book.{IsShort}
 use Rattle.run_book.specs.declared.book.Book.{Book}
 use Rattle.run_book.specs.declared.book.SentFrame.{SentFrame}
 use Rattle.run_record.specs.declared.notes.Notes.{Notes}
-use Rattle.master_node.specs.declared.node.MasterNode.{MasterNode}
-use Rattle.run_record.specs.Led.{LeadsOn}
 use Rattle.run_record.specs.Replay.{behind, IsRecorded}
-use Rattle.run_record.specs.Session.{SessionState, KeepsRest, SameFrames, Stops}
+use Rattle.run_record.specs.Session.{SessionState, KeepsRest, SameFrames, LedOn, Stops}
 use Rattle.run_record.proofs.Kept.{rest_more}
 use Rattle.run_record.proofs.Replays.{length_behind}
 
@@ -51,8 +49,8 @@ no_frame s ports b b1 b2 e h same k = record {
 
 -- memory ran out behind that
 pub one_frame : (s : SessionState) (ports : ℕ) (b b1 b2 b3 : Book) (f : SentFrame) → ports ≡ s.ports → SameFrames ports b b1 → b2.frames ≡ b1.frames ++ f ∷ [] → KeepsRest ports b1 b2 → SameFrames ports b2 b3 →
-    IsRecorded s.ring f → IsShort f → (m : MasterNode) → LeadsOn s.master m f → Stops s b b3
-one_frame s ports b b1 b2 b3 f e h put k l recorded short m leads = record {
-  frames = inr (f, l.frames ∙ put ∙ ap (λ fs. fs ++ f ∷ []) h.frames, recorded, short, (m, leads));
+    IsRecorded s.ring f → IsShort f → LedOn s f → Stops s b b3
+one_frame s ports b b1 b2 b3 f e h put k l recorded short led = record {
+  frames = inr (f, l.frames ∙ put ∙ ap (λ fs. fs ++ f ∷ []) h.frames, recorded, short, led);
   rest = subst (λ (n : ℕ). KeepsRest n b b3) e (rest_more ports h.rest (rest_more ports k l.rest));
 }

@@ -1,46 +1,78 @@
--- THE FRAMES OF A RUN ARE LED by its master: each is just what the lives of the slaves ask for, from the plan's new lives on.
-use Rattle.std.specs.Prelude.{◌≡◌, ◌⊎◌, ℕ, List, [], ◌∷◌, ◌++◌, map, ⊤}
+-- THE FRAMES OF A RUN ARE LED by its master: each is just what the lives of the slaves ask for, from the plan's new lives on; and what the book says of
+-- give-ups and of the end is what those lives have.
+use Rattle.std.specs.Prelude.{◌≡◌, ◌≢◌, ◌⊎◌, ℕ, Bool, true, List, [], ◌∷◌, ◌++◌, map, length, ⊤}
+use Rattle.std.specs.List.{list_any}
 use Rattle.frame_view.specs.View.{Lens}
+use Rattle.life_frames.specs.Shares.{AllBoth}
+use Rattle.life_model.specs.Lives.{Stand}
 use Rattle.life_runs.specs.First.{lens_of, first_leads}
 use Rattle.life_runs.specs.Led.{Exchanged, Leads, IsLed}
-use Rattle.life_model.specs.Lives.{Stand}
 use Rattle.master_node.specs.Shows.{MasterShows}
+use Rattle.master_node.specs.Wants.{gave_of, IsIdle}
 use Rattle.master_node.specs.declared.node.MasterNode.{MasterNode}
+use Rattle.run_book.specs.declared.book.Book.{Book}
+use Rattle.run_book.specs.declared.book.Ending.{Ending}
+use Rattle.run_book.specs.declared.book.Ending.TheVariants as endings
 use Rattle.run_book.specs.declared.book.SentFrame.{SentFrame}
+use Rattle.run_book.specs.declared.book.SlaveBook.{SlaveBook}
+use Rattle.run_record.specs.declared.notes.Notes.{Notes}
 use Rattle.segment_plan.specs.declared.plan.Scenario.{Scenario}
+use Rattle.slave_server.specs.Serving.{next_mail}
+use Rattle.slave_steps.specs.Node.{is_settled}
 
 -- a frame of a book
 abbrev pub exchanged : SentFrame → Exchanged
 exchanged f = record { sent = f.sent; fate = f.fate; back = f.back }
 
--- each was given up for good
-abbrev pub AllGone : List Leads → Type 0
-AllGone [] = ⊤
-AllGone (a ∷ as') = (a.lived.life.stand ≡ Stand.Gone) × AllGone as'
+-- THE FRAMES LEAD from a plan's new lives to these, with so many lost in a row last
+abbrev pub LeadTo : Scenario → List Exchanged → ℕ → List Leads → Type 0
+LeadTo plan fs missed leads = IsLed (lens_of plan.slaves) plan.recover plan.retry (first_leads plan) fs missed leads
 
--- the first frames of a run, those behind them, and what the master leads behind the first
-pub record Course : Type 0 where
-  pub led : List Exchanged
-  pub behind : List Exchanged
+-- to some lives
+pub record AreLed (plan : Scenario) (fs : List Exchanged) : Type 0 where
   pub missed : ℕ
   pub leads : List Leads
+  pub lives : LeadTo plan fs missed leads
 
--- THE FRAMES: those up to here are led, and others stand behind them only where no slave is live any more
-pub record IsCourse (lens : ℕ → Lens) (recover retry : ℕ) (first : List Leads) (fs : List Exchanged) (c : Course) : Type 0 where
-  pub split : fs ≡ c.led ++ c.behind
-  pub lives : IsLed lens recover retry first c.led c.missed c.leads
-  pub gone : (c.behind ≡ []) ⊎ AllGone c.leads
+-- the frames at which slaves were given up: by what is noted of them, by the rows of a book
+abbrev pub gaves_noted : List Notes → List (List ℕ)
+gaves_noted notes = map (λ (n : Notes). n.gave) notes
 
--- a master behind these frames of a plan's run leads its slaves
-pub record Leading (plan : Scenario) (m : MasterNode) (fs : List Exchanged) : Type 0 where
-  pub course : Course
-  pub is : IsCourse (lens_of plan.slaves) plan.recover plan.retry (first_leads plan) fs course
-  pub shows : course.behind ≡ [] → MasterShows (lens_of plan.slaves) plan.recover plan.retry m course.missed course.leads
+abbrev pub gaves_in : List SlaveBook → List (List ℕ)
+gaves_in rows = map (λ (row : SlaveBook). row.gave) rows
 
--- THE FRAMES OF A BOOK are led
-abbrev pub AreLed : Scenario → List SentFrame → Type 0
-AreLed plan frames = (c : Course) × IsCourse (lens_of plan.slaves) plan.recover plan.retry (first_leads plan) (map exchanged frames) c
+-- A MASTER BEHIND THESE FRAMES of a plan's run leads its slaves, and so often each was given up as is noted
+pub record Leading (plan : Scenario) (m : MasterNode) (notes : List Notes) (fs : List Exchanged) : Type 0 where
+  pub missed : ℕ
+  pub leads : List Leads
+  pub lives : LeadTo plan fs missed leads
+  pub shows : MasterShows (lens_of plan.slaves) plan.recover plan.retry m missed leads
+  pub gave : gaves_noted notes ≡ map gave_of leads
 
--- one frame more is led, whatever came before; a master that leads goes on so
-abbrev pub LeadsOn : MasterNode → MasterNode → SentFrame → Type 0
-LeadsOn old new f = (plan : Scenario) (fs : List Exchanged) → Leading plan old fs → Leading plan new (fs ++ exchanged f ∷ [])
+-- NOTHING IS LEFT of a slave at the end: it was given up for good; or its master wants nothing of it, and the slave is settled
+abbrev pub RestsSo : (ℕ → Lens) → Leads → SlaveBook → Type 0
+RestsSo lens a row = (a.lived.life.stand ≡ Stand.Gone) ⊎ (IsIdle lens a × (is_settled next_mail row.node ≡ true))
+
+-- and it was never given up: its master wants nothing of it, and it is settled
+pub record DoneSo (lens : ℕ → Lens) (a : Leads) (row : SlaveBook) : Type 0 where
+  pub idle : IsIdle lens a
+  pub settled : is_settled next_mail row.node ≡ true
+  pub stayed : gave_of a ≡ []
+
+-- HOW A RUN'S LIVES END: with nothing left of any slave, and none given up where all is done; anywhere where the budget or memory ends
+abbrev pub RestBy : (ℕ → Lens) → Ending → List Leads → List SlaveBook → Type 0
+RestBy lens endings.Done leads rows = AllBoth (DoneSo lens) leads rows
+RestBy lens endings.GivenUp leads rows = AllBoth (RestsSo lens) leads rows
+RestBy lens endings.BudgetSpent leads rows = ⊤
+RestBy lens endings.NoMemory leads rows = ⊤
+RestBy lens endings.PortFault leads rows = ⊤
+RestBy lens endings.Unfinished leads rows = ⊤
+
+-- THE BOOK OF A RUN and the lives that its frames lead to: each slave was given up at just the frames that the book has, and nothing is left of it where
+-- the run is over
+pub record LedBook (plan : Scenario) (book : Book) (ending : Ending) : Type 0 where
+  pub missed : ℕ
+  pub leads : List Leads
+  pub lives : LeadTo plan (map exchanged book.frames) missed leads
+  pub gave : ending ≢ endings.NoMemory → gaves_in book.slaves ≡ map gave_of leads
+  pub rests : RestBy (lens_of plan.slaves) ending leads book.slaves

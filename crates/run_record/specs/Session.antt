@@ -20,7 +20,14 @@ use Rattle.run_record.specs.declared.standing.AskedMail.{AskedMail}
 use Rattle.run_record.specs.declared.standing.Log.{Log}
 use Rattle.run_record.specs.Notes.{new_notes, ended}
 use Rattle.master_node.specs.declared.node.MasterNode.{MasterNode}
-use Rattle.run_record.specs.Led.{LeadsOn}
+use Rattle.master_node.specs.Shows.{MasterShows}
+use Rattle.master_node.specs.Wants.{gave_of, AllCounted, AllPlaced, AllLeft}
+use Rattle.master_tour.specs.Goes.{is_live}
+use Rattle.life_runs.specs.Led.{Exchanged, Leads}
+use Rattle.frame_view.specs.View.{Lens}
+use Rattle.segment_ring.specs.declared.wire.Fate.{Fate}
+use Rattle.segment_ring.specs.declared.wire.Fate.TheVariants.{Pass, Lost}
+use Rattle.run_record.specs.Led.{exchanged, gaves_noted, Leading, AreLed}
 use Rattle.run_record.specs.Replay.{first_ring, behind, IsRecorded}
 
 -- a session: the ring with its slaves, what became of each slave, their stations and the lengths of their mailboxes, the mails that are
@@ -139,6 +146,40 @@ pub record SameSlaves (r r' : Log) : Type 0 where
   pub ports : r'.ports ≡ r.ports
   pub recover : r'.recover ≡ r.recover
 
+-- the give-ups of each slave behind a frame that was lost: this frame more where it was given up more often than before
+abbrev pub gaves_behind : ℕ → List (List ℕ) → List (List ℕ) → List (List ℕ)
+gaves_behind frame (now ∷ nows) (old ∷ olds) = (if nat_lt (length old) (length now) then old ++ frame ∷ [] else old) ∷ gaves_behind frame nows olds
+gaves_behind frame _ olds = olds
+
+-- the same of the slave at a place alone
+abbrev pub gave_at : ℕ → ℕ → List (List ℕ) → List (List ℕ) → List (List ℕ)
+gave_at zero frame (now ∷ nows) (old ∷ olds) = (if nat_lt (length old) (length now) then old ++ frame ∷ [] else old) ∷ olds
+gave_at (suc place) frame (now ∷ nows) (old ∷ olds) = old ∷ gave_at place frame nows olds
+gave_at place frame _ olds = olds
+
+-- the give-ups that are noted behind a frame of this fate: those that the slaves have which this master leads
+abbrev pub GaveBy : Fate → ℕ → MasterNode → Log → Log → Type 0
+GaveBy Pass frame m r r' = gaves_noted r'.notes ≡ gaves_noted r.notes
+GaveBy (Lost after) frame m r r' = (lens : ℕ → Lens) (retry missed : ℕ) (leads : List Leads) → MasterShows lens r.recover retry m missed leads → AllCounted r.recover leads →
+    gaves_noted r'.notes ≡ gaves_behind frame (map gave_of leads) (gaves_noted r.notes)
+
+-- some slave is live
+abbrev pub has_live : MasterNode → Bool
+has_live m = list_any (λ s. is_live s.stand) m.tour.stops.items
+
+-- each slave that it leads was given up for good, or it wants nothing of it
+abbrev pub IsLeftBy : MasterNode → Type 0
+IsLeftBy m = (lens : ℕ → Lens) (recover retry missed : ℕ) (leads : List Leads) → MasterShows lens recover retry m missed leads → AllPlaced leads → AllLeft lens leads
+
+-- ONE FRAME MORE IS LED, where some slave is live: a master that leads goes on so, and what is noted of give-ups goes with it
+abbrev pub LeadsOn : SessionState → SessionState → SentFrame → Type 0
+LeadsOn s s' f = (plan : Scenario) (fs : List Exchanged) → s.recover ≡ plan.recover → length fs ≡ s.ring.number → has_live s.master ≡ true → Leading plan s.master s.notes fs →
+    Leading plan s'.master s'.notes (fs ++ exchanged f ∷ [])
+
+-- it is led, whatever is noted of it
+abbrev pub LedOn : SessionState → SentFrame → Type 0
+LedOn s f = (plan : Scenario) (fs : List Exchanged) → has_live s.master ≡ true → Leading plan s.master s.notes fs → AreLed plan (fs ++ exchanged f ∷ [])
+
 -- ONE STEP: one frame more stands in the book, as the ring before gives it, and the ring is the one behind that frame
 pub record Steps (s : SessionState) (b : Book) (s' : SessionState) (b' : Book) (f : SentFrame) : Type 0 where
   pub put : b'.frames ≡ b.frames ++ f ∷ []
@@ -152,7 +193,7 @@ pub record Steps (s : SessionState) (b : Book) (s' : SessionState) (b' : Book) (
   pub budget : s'.budget ≡ s.budget
   pub serving : s'.serving ≡ s.serving
   pub rest : KeepsRest s.ports b b'
-  pub leads : LeadsOn s.master s'.master f
+  pub leads : LeadsOn s s' f
 
 -- a mail as it is passed on, with the key of its asker
 abbrev pub asked_mail : ℕ → Mail → AskedMail
@@ -171,5 +212,5 @@ Asks slave key mail s s' false = s' ≡ record s { waiting = s'.waiting; master 
 
 -- memory ran out in a step: the book has the frame of the step, or not
 pub record Stops (s : SessionState) (b b' : Book) : Type 0 where
-  pub frames : (b'.frames ≡ b.frames) ⊎ ((f : SentFrame) × (b'.frames ≡ b.frames ++ f ∷ []) × IsRecorded s.ring f × IsShort f × ((m : MasterNode) × LeadsOn s.master m f))
+  pub frames : (b'.frames ≡ b.frames) ⊎ ((f : SentFrame) × (b'.frames ≡ b.frames ++ f ∷ []) × IsRecorded s.ring f × IsShort f × LedOn s f)
   pub rest : KeepsRest s.ports b b'

@@ -2,6 +2,7 @@
 #![tactic(auto)]
 
 mod log;
+mod losses;
 mod notes;
 mod running;
 mod session;

@@ -1,8 +1,9 @@
-ghost use Rattle.std.specs.Prelude.{◌≡◌, ◌≤◌, ◌+◌, [], Some, length, map, replicate, IfOk};
+ghost use Rattle.std.specs.Prelude.{◌≡◌, ◌≤◌, ◌+◌, [], Some, length, map, replicate, IfOk, OnOk};
 ghost use Rattle.std.specs.Bool.{OnTrue};
 ghost use Rattle.segment_plan.specs.Sound.{IsLaid};
 ghost use Rattle.run_book.specs.Ports.{ports_of, IsAtPort};
 ghost use Rattle.run_record.specs.Session.{scripted, first_notes, home_of, SameFrames, SameSlaves};
+ghost use Rattle.run_record.specs.Led.{gaves_noted};
 ghost use Rattle.run_record.specs.Notes.{station_of, stations_of};
 
 use crate::notes::Notes;
@@ -62,14 +63,16 @@ fn reply_of(
     Ok(Reply { kind, value })
 }
 
-// Notes what happened at a slave.
+// Notes what happened at a slave. That it was given up is noted by its master's count.
 fn note_at(
     alloc: Global,
     master: &MasterNode,
     moment: Moment,
     event: &Event,
     notes: &mut Notes,
-) -> Result<(), NoMemory> {
+) -> Result<(), NoMemory>
+    ensures { OnOk result (notes.new.gave ≡ notes.old.gave) }
+{
     match event {
         Event::Began { origin, .. } => notes.began(*origin, moment.frame),
         Event::Answered { slave, kind } => {
@@ -80,13 +83,13 @@ fn note_at(
             let octets = Octets::copy_of(alloc, octets.as_slice())?;
             notes.emergencies.add(octets)
         }
-        Event::GivenUp { .. } => notes.given_up(moment.frame),
         Event::Cleared { own, .. } => notes.cleared(*own, moment.frame),
         Event::Opened { .. } => {
             notes.opened(moment.frame);
             Ok(())
         }
-        Event::Host(_)
+        Event::GivenUp { .. }
+        | Event::Host(_)
         | Event::Switch(_)
         | Event::GatewayReply { .. }
         | Event::GatewayDone { .. } => Ok(()),
@@ -140,7 +143,7 @@ fn first_asked(alloc: Global, slaves: usize) -> Result<Rows<Rows<AskedMail>>, No
 }
 
 // The station of a slave and the length of its mailbox, while it is live.
-fn station_of(home: (u16, u16), notes: &Notes, recover: u32) -> Option<(u16, u16)>
+pub fn station_of(home: (u16, u16), notes: &Notes, recover: u32) -> Option<(u16, u16)>
     ensures { result ≡ station_of recover home notes.now }
 {
     match notes.given_up_for_good(recover) {
@@ -194,6 +197,7 @@ impl Log {
         book: &mut Book,
     ) -> Result<(), NoMemory>
         ensures slaves { SameSlaves self.old self.new }
+        ensures gave { OnOk result (gaves_noted self.new.notes ≡ gaves_noted self.old.notes) }
         ensures frames { SameFrames (1 + length self.old.ports) book.old book.new }
     {
         for event in master.events() {
@@ -211,20 +215,22 @@ impl Log {
         book: &mut Book,
     ) -> Result<(), NoMemory>
         ensures slaves { SameSlaves self.old self.new }
+        ensures gave { OnOk result (gaves_noted self.new.notes ≡ gaves_noted self.old.notes) }
         ensures frames { SameFrames (1 + length self.old.ports) book.old book.new }
     {
         match event {
             Event::Began { slave, .. }
             | Event::Answered { slave, .. }
             | Event::Emergency { slave, .. }
-            | Event::GivenUp { slave }
             | Event::Cleared { slave, .. }
             | Event::Opened { slave } => {
                 self.note_slave(alloc, master, moment, event, *slave as usize)
             }
             Event::Host(packet) => book.host.add(Octets::copy_of(alloc, packet.as_slice())?),
             Event::Switch(event) => self.note_switch(moment, event, book),
-            Event::GatewayReply { .. } | Event::GatewayDone { .. } => Ok(()),
+            Event::GivenUp { .. } | Event::GatewayReply { .. } | Event::GatewayDone { .. } => {
+                Ok(())
+            }
         }
     }
 
@@ -236,7 +242,8 @@ impl Log {
         event: &Event,
         at: usize,
     ) -> Result<(), NoMemory>
-        ensures { SameSlaves self.old self.new }
+        ensures slaves { SameSlaves self.old self.new }
+        ensures gave { OnOk result (gaves_noted self.new.notes ≡ gaves_noted self.old.notes) }
     {
         let Some(&home) = self.homes.get(at) else {
             return Ok(());
@@ -257,6 +264,7 @@ impl Log {
         book: &mut Book,
     ) -> Result<(), NoMemory>
         ensures slaves { SameSlaves self.old self.new }
+        ensures gave { OnOk result (gaves_noted self.new.notes ≡ gaves_noted self.old.notes) }
         ensures frames { SameFrames (1 + length self.old.ports) book.old book.new }
     {
         if !self.is_at_port(event) {
@@ -285,7 +293,8 @@ impl Log {
 
     // A packet came in at a port. That of the host, port 0, is no slave's.
     fn receive(&mut self, port: usize)
-        ensures { SameSlaves self.old self.new }
+        ensures slaves { SameSlaves self.old self.new }
+        ensures gave { gaves_noted self.new.notes ≡ gaves_noted self.old.notes }
     {
         if port == 0 {
             return;
@@ -293,8 +302,9 @@ impl Log {
         let Some(&slave) = self.ports.get(port - 1) else {
             return;
         };
-        if (slave as usize) < self.notes.len() {
-            self.notes.at_mut(slave as usize).received();
+        if (slave as usize) >= self.notes.len() {
+            return;
         }
+        self.notes.at_mut(slave as usize).received();
     }
 }

@@ -1,9 +1,10 @@
-ghost use Rattle.std.specs.Prelude.{◌≡◌, [], IfOk, true, false};
+ghost use Rattle.std.specs.Prelude.{◌≡◌, [], map, IfOk, OnErr, true, false};
 ghost use Rattle.segment_plan.specs.Sound.{IsPlan};
 ghost use Rattle.run_book.specs.Book.{IsNew};
 ghost use Rattle.std.specs.Bool.{OnTrue, OnFalse};
 ghost use Rattle.run_record.specs.Session.{session_rows, are_at_rest};
-ghost use Rattle.run_record.specs.Led.{AreLed};
+ghost use Rattle.run_book.specs.declared.book.Ending.TheVariants as endings;
+ghost use Rattle.run_record.specs.Led.{exchanged, AreLed, LedBook};
 ghost use Rattle.run_record.specs.Ran.{HasFrames, EndsSo, EndsAs};
 
 use crate::session::Session;
@@ -16,7 +17,8 @@ use std::alloc::Global;
 fn ending_of(session: &Session, settled: bool) -> Ending
     requires settled { OnTrue settled (are_at_rest (session_rows session.now) ≡ true) }
     requires spent { OnFalse settled (session.now.ring.number ≡ session.now.budget) }
-    ensures { EndsSo session.now result }
+    ensures ends { EndsSo session.now result }
+    ensures cut { OnFalse settled (result ≡ endings.BudgetSpent) }
 {
     if !settled {
         Ending::BudgetSpent
@@ -31,7 +33,8 @@ fn run_through(alloc: Global, plan: &Scenario, book: &mut Book) -> Result<Ending
     requires plan { IsPlan plan.now }
     requires new { IsNew book.old }
     ensures frames { HasFrames plan.now book.new }
-    ensures led { AreLed plan.now book.new.frames }
+    ensures led { IfOk result (LedBook plan.now book.new) }
+    ensures cut { OnErr result (AreLed plan.now (map exchanged book.new.frames)) }
     ensures ends { IfOk result (EndsAs plan.now book.new) }
     ensures ending { IfOk result (λ ending. book.new.ending ≡ ending) }
     ensures serving { book.new.serving ≡ false }
@@ -54,7 +57,7 @@ pub fn run(alloc: Global, plan: &Scenario, book: &mut Book) -> Ending
     requires plan { IsPlan plan.now }
     requires new { IsNew book.old }
     ensures frames { HasFrames plan.now book.new }
-    ensures led { AreLed plan.now book.new.frames }
+    ensures led { LedBook plan.now book.new result }
     ensures ends { EndsAs plan.now book.new result }
     ensures ending { book.new.ending ≡ result }
     ensures serving { book.new.serving ≡ false }

@@ -14,7 +14,7 @@ ghost use Rattle.segment_model.specs.Returned.{Returns};
 ghost use Rattle.segment_ring.specs.declared.wire.Fate.TheVariants as Fates;
 ghost use Rattle.run_record.specs.Led.{Leading};
 ghost use Rattle.run_record.specs.Replay.{first_ring};
-ghost use Rattle.run_record.specs.Session.{budget_of, smaller_bound, slave_row, rests_at, slave_rows, session_rows, first_session, are_at_rest, some_given_up, KeepsRest, Steps, Stops, Asks};
+ghost use Rattle.run_record.specs.Session.{budget_of, smaller_bound, slave_row, rests_at, slave_rows, session_rows, first_session, are_at_rest, some_given_up, has_live, IsLeftBy, KeepsRest, Steps, Stops, Asks};
 
 use crate::log::Moment;
 use crate::notes::Notes;
@@ -212,7 +212,7 @@ impl Session {
     pub fn begin(alloc: Global, plan: &Scenario, grams: u32) -> Result<Session, NoMemory>
         requires { IsPlan plan.now }
         ensures session { IfOk result (λ session. session ≡ first_session plan.now grams session.master) }
-        ensures leads { IfOk result (λ session. Leading plan.now session.master []) }
+        ensures leads { IfOk result (λ session. Leading plan.now session.master session.notes []) }
     {
         Ok(Session {
             master: MasterNode::new(alloc, plan)?,
@@ -228,9 +228,14 @@ impl Session {
 
     /// Whether nothing is left to do, for the master and at each live slave.
     pub fn settled(&self) -> bool
-        ensures { OnTrue result (are_at_rest (session_rows self.now) ≡ true) }
+        ensures rest { OnTrue result (are_at_rest (session_rows self.now) ≡ true) }
+        ensures left { OnTrue result (IsLeftBy self.now.master) }
+        ensures busy { OnFalse result ((are_at_rest (session_rows self.now) ≡ false) ⊎ (has_live self.now.master ≡ true)) }
     {
-        !self.master.wants() && self.are_at_rest()
+        if self.master.wants() {
+            return false;
+        }
+        self.are_at_rest()
     }
 
     // Whether each live slave has nothing left to do.
@@ -324,7 +329,8 @@ impl Session {
             frame,
             sent: frame + 1,
         };
-        self.log.note(alloc, &self.master, behind, book)
+        self.log
+            .note_behind(alloc, &self.master, behind, fate, book)
     }
 
     /// What happened in the last step.

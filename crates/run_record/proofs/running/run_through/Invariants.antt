@@ -1,6 +1,6 @@
-use Rattle.std.proofs.Common.{◌≡◌, ◌-◌, true, false, map, []}
-use Rattle.std.specs.Bool.{OnTrue}
-use Rattle.run_record.specs.Session.{session_rows, are_at_rest}
+use Rattle.std.proofs.Common.{◌≡◌, ◌⊎◌, ◌-◌, true, false, map, []}
+use Rattle.std.specs.Bool.{OnTrue, OnFalse}
+use Rattle.run_record.specs.Session.{session_rows, are_at_rest, has_live, IsLeftBy}
 use Rattle.run_record.specs.Led.{exchanged, Leading}
 use Rattle.run_record.specs.Ran.{IsUnderway}
 use Rattle.run_record.proofs.running.run_through.Given as goal
@@ -12,7 +12,9 @@ invariant-loop-settled l = record {
   grams : l.book.grams ≡ [];
   replies : l.book.replies ≡ [];
   settled : OnTrue l.settled (are_at_rest (session_rows l.session) ≡ true);
-  leading : Leading l.plan l.session.master (map exchanged l.book.frames);
+  left : OnTrue l.settled (IsLeftBy l.session.master);
+  busy : OnFalse l.settled ((are_at_rest (session_rows l.session) ≡ false) ⊎ (has_live l.session.master ≡ true));
+  leading : Leading l.plan l.session.master l.session.notes (map exchanged l.book.frames);
 }
 
 abbrev pub decreases-loop-settled : goal.decreases-loop-settled

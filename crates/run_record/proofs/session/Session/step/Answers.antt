@@ -1,16 +1,16 @@
-use Rattle.std.proofs.Common.{◌≡◌, refl, ℕ, List, ◌+◌, ◌++◌, ◌∷◌, [], length, vec_len, ap, ◌∙◌, subst, arith}
+use Rattle.std.proofs.Common.{◌≡◌, refl, sym, true, ℕ, List, ◌+◌, ◌++◌, ◌∷◌, [], length, vec_len, ap, ◌∙◌, subst, arith}
 use Rattle.segment_ring.specs.Ring.{RingState}
 use Rattle.slave_steps.specs.Node.{Node}
 use Rattle.slave_server.specs.declared.server.SlaveServer.{SlaveServer}
 use Rattle.run_book.specs.declared.book.SentFrame.{SentFrame}
-use Rattle.master_node.specs.declared.node.MasterNode.{MasterNode}
-use Rattle.run_record.specs.Led.{exchanged, LeadsOn}
-use Rattle.run_record.proofs.Gones.{all_gone}
-use Rattle.run_record.proofs.Leads.{leads_on, returned}
+use Rattle.life_runs.specs.First.{lens_of}
+use Rattle.run_record.specs.Led.{exchanged, Leading}
+use Rattle.run_record.proofs.Leads.{leads_on, led_on, returned}
 use Rattle.run_record.specs.Replay.{behind, IsRecorded}
-use Rattle.run_record.specs.Session.{SessionState, SameFrames, KeepsRest}
+use Rattle.run_record.specs.Session.{SessionState, SameFrames, KeepsRest, has_live}
 use Rattle.run_record.proofs.Kept.{rest_more}
-use Rattle.run_record.proofs.Steps.{any_ok, any_err, holds_on, no_frame, one_frame}
+use Rattle.std.proofs.lemmas.Result.{on_ok_weaker}
+use Rattle.run_record.proofs.Steps.{any_err, holds_on, no_frame, one_frame}
 use Rattle.run_record.proofs.session.Session.step.Goals as goal
 
 pub invariant_of-self-in_err-put_frame : goal.invariant_of-self-in_err-put_frame
@@ -33,8 +33,8 @@ invariant_of-self-2 c =
     let n : c.self.inside.ring.number ≡ c.args.self.now.ring.number = ap (λ (s : SessionState). s.ring.number) c.self.view_is in
     let b : c.self.inside.budget ≡ c.args.self.now.budget = ap (λ (s : SessionState). s.budget) c.self.view_is in
     let h = c.requires in
-    holds_on c.self.inside.number c.self.inside.budget c.self.inside.log.notes c.note-2.new.self.notes c.self.inside.ring c.exchange-fate.new.self c.next.new.into.items (length c.self.inside.log.homes) (length c.self.inside.log.asked) (vec_len c.self.inside.master.posts) (length c.note-2.new.self.homes) (length c.note-2.new.self.asked) (vec_len c.tell.new.master.posts)
-    c.self.invariant (omega (arith, n, b, h)) (c.note-2.ensures.slaves.notes ∙ c.note.ensures.slaves.notes) c.exchange-fate.ensures.wire (ap length (c.note-2.ensures.slaves.homes ∙ c.note.ensures.slaves.homes)) (ap length (c.note-2.ensures.slaves.asked ∙ c.note.ensures.slaves.asked)) (c.tell.ensures.posts ∙ c.next.ensures.posts)
+    holds_on c.self.inside.number c.self.inside.budget c.self.inside.log.notes c.note_behind.new.self.notes c.self.inside.ring c.exchange-fate.new.self c.next.new.into.items (length c.self.inside.log.homes) (length c.self.inside.log.asked) (vec_len c.self.inside.master.posts) (length c.note_behind.new.self.homes) (length c.note_behind.new.self.asked) (vec_len c.tell.new.master.posts)
+    c.self.invariant (omega (arith, n, b, h)) (c.note_behind.ensures.slaves.notes ∙ c.note.ensures.slaves.notes) c.exchange-fate.ensures.wire (ap length (c.note_behind.ensures.slaves.homes ∙ c.note.ensures.slaves.homes)) (ap length (c.note_behind.ensures.slaves.asked ∙ c.note.ensures.slaves.asked)) (c.tell.ensures.posts ∙ c.next.ensures.posts)
 
 pub returns-clause-ok : goal.returns-clause-ok
 returns-clause-ok c =
@@ -43,27 +43,33 @@ returns-clause-ok c =
     let before : ports ≡ c.args.self.now.ports = ap (λ (s : SessionState). s.ports) c.self.view_is in
     let ring : c.self.inside.ring ≡ c.args.self.now.ring = ap (λ (s : SessionState). s.ring) c.self.view_is in
     let same : 1 + length c.note.new.self.ports ≡ ports = ap (λ (l : List ℕ). 1 + length l) c.note.ensures.slaves.ports in
-    any_ok c.note-2.result (
+    on_ok_weaker c.note_behind.result
+    (λ gave. (
       f,
       record {
-        put = c.note-2.ensures.frames.frames ∙ c.in_ok-put_frame.ensures.ok ∙ ap (λ fs. fs ++ f ∷ []) c.note.ensures.frames.frames;
+        put = c.note_behind.ensures.frames.frames ∙ c.in_ok-put_frame.ensures.ok ∙ ap (λ fs. fs ++ f ∷ []) c.note.ensures.frames.frames;
         recorded = subst (λ r. IsRecorded r f) ring (record { fate = c.exchange-fate.ensures.fate; back = c.exchange-fate.ensures.back });
         short = record { sent = c.put_frame.ensures.sent_fits; back = c.put_frame.ensures.back_fits };
         ring = c.exchange-fate.ensures.wire ∙ ap (λ (r : RingState (Node SlaveServer)). behind r c.next.new.into.items) ring;
-        homes = c.note-2.ensures.slaves.homes ∙ c.note.ensures.slaves.homes ∙ ap (λ (s : SessionState). s.homes) c.self.view_is;
-        asked = c.note-2.ensures.slaves.asked ∙ c.note.ensures.slaves.asked ∙ ap (λ (s : SessionState). s.asked) c.self.view_is;
-        ports = ap (λ (l : List ℕ). 1 + length l) c.note-2.ensures.slaves.ports ∙ same ∙ before;
-        recover = c.note-2.ensures.slaves.recover ∙ c.note.ensures.slaves.recover ∙ ap (λ (s : SessionState). s.recover) c.self.view_is;
+        homes = c.note_behind.ensures.slaves.homes ∙ c.note.ensures.slaves.homes ∙ ap (λ (s : SessionState). s.homes) c.self.view_is;
+        asked = c.note_behind.ensures.slaves.asked ∙ c.note.ensures.slaves.asked ∙ ap (λ (s : SessionState). s.asked) c.self.view_is;
+        ports = ap (λ (l : List ℕ). 1 + length l) c.note_behind.ensures.slaves.ports ∙ same ∙ before;
+        recover = c.note_behind.ensures.slaves.recover ∙ c.note.ensures.slaves.recover ∙ ap (λ (s : SessionState). s.recover) c.self.view_is;
         budget = ap (λ (s : SessionState). s.budget) c.self.view_is;
         serving = ap (λ (s : SessionState). s.serving) c.self.view_is;
-        rest = subst (λ (n : ℕ). KeepsRest n c.args.book.now c.note-2.new.book) before
-            (rest_more ports c.note.ensures.frames.rest (rest_more ports (c.put_frame.ensures.rest ports) (subst (λ (n : ℕ). KeepsRest n c.put_frame.new.book c.note-2.new.book) same c.note-2.ensures.frames.rest)));
-        leads = subst (λ (m : MasterNode). LeadsOn m c.tell.new.master f) (ap (λ (s : SessionState). s.master) c.self.view_is)
-            (λ plan fs l. leads_on c.self.inside.master c.next.new.self c.tell.new.master (exchanged f) c.next.result (λ e lens recover retry missed as' shown. all_gone lens recover as' c.self.inside.master.tour.stops.items shown.each (c.next.ensures.idle.0 e)) c.next.ensures.led
-            (λ lens recover retry missed number as' us frame under. c.tell.ensures.leads lens recover retry missed number us (exchanged f) refl refl under
-            (λ pass. returned lens c.self.inside.ring (exchanged f) number as' us c.exchange-fate.ensures.fate c.exchange-fate.ensures.back frame pass)) plan fs l);
+        rest = subst (λ (n : ℕ). KeepsRest n c.args.book.now c.note_behind.new.book) before
+            (rest_more ports c.note.ensures.frames.rest (rest_more ports (c.put_frame.ensures.rest ports) (subst (λ (n : ℕ). KeepsRest n c.put_frame.new.book c.note_behind.new.book) same c.note_behind.ensures.frames.rest)));
+        leads = λ plan fs recover counts live l.
+            let live : has_live c.self.inside.master ≡ true = ap (λ (s : SessionState). has_live s.master) c.self.view_is ∙ live in
+            let same : Leading plan c.self.inside.master c.self.inside.log.notes fs = subst (λ (s : SessionState). Leading plan s.master s.notes fs) (sym c.self.view_is) l in
+            leads_on c.self.inside.master c.next.new.self c.tell.new.master (exchanged f) c.next.result c.next.ensures.idle c.next.ensures.led plan fs live c.self.inside.log.notes same
+            (λ number us frame under. c.tell.ensures.leads (lens_of plan.slaves) plan.recover plan.retry same.missed number us (exchanged f) refl refl under
+            (λ pass. returned (lens_of plan.slaves) c.self.inside.ring (exchanged f) number same.leads us c.exchange-fate.ensures.fate c.exchange-fate.ensures.back frame pass))
+            c.self.inside.number (counts ∙ sym (ap (λ (s : SessionState). s.ring.number) c.self.view_is) ∙ sym c.self.invariant.0) c.note.new.self c.note_behind.new.self
+            (c.note.ensures.slaves.recover ∙ ap (λ (s : SessionState). s.recover) c.self.view_is ∙ recover) c.in_ok-note.ensures.gave gave;
       },
-    )
+    ))
+    c.note_behind.ensures.gave
 
 pub returns-clause-err : goal.returns-clause-err
 returns-clause-err c =
@@ -72,13 +78,12 @@ returns-clause-err c =
     let before : ports ≡ c.args.self.now.ports = ap (λ (s : SessionState). s.ports) c.self.view_is in
     let ring : c.self.inside.ring ≡ c.args.self.now.ring = ap (λ (s : SessionState). s.ring) c.self.view_is in
     let same : 1 + length c.note.new.self.ports ≡ ports = ap (λ (l : List ℕ). 1 + length l) c.note.ensures.slaves.ports in
-    any_err c.note-2.result
-    (one_frame c.args.self.now ports c.args.book.now c.note.new.book c.put_frame.new.book c.note-2.new.book f before c.note.ensures.frames c.in_ok-put_frame.ensures.ok
-    (c.put_frame.ensures.rest ports) (subst (λ (n : ℕ). SameFrames n c.put_frame.new.book c.note-2.new.book) same c.note-2.ensures.frames)
+    any_err c.note_behind.result
+    (one_frame c.args.self.now ports c.args.book.now c.note.new.book c.put_frame.new.book c.note_behind.new.book f before c.note.ensures.frames c.in_ok-put_frame.ensures.ok
+    (c.put_frame.ensures.rest ports) (subst (λ (n : ℕ). SameFrames n c.put_frame.new.book c.note_behind.new.book) same c.note_behind.ensures.frames)
     (subst (λ r. IsRecorded r f) ring (record { fate = c.exchange-fate.ensures.fate; back = c.exchange-fate.ensures.back }))
     (record { sent = c.put_frame.ensures.sent_fits; back = c.put_frame.ensures.back_fits })
-    c.tell.new.master
-    (subst (λ (m : MasterNode). LeadsOn m c.tell.new.master f) (ap (λ (s : SessionState). s.master) c.self.view_is)
-    (λ plan fs l. leads_on c.self.inside.master c.next.new.self c.tell.new.master (exchanged f) c.next.result (λ e lens recover retry missed as' shown. all_gone lens recover as' c.self.inside.master.tour.stops.items shown.each (c.next.ensures.idle.0 e)) c.next.ensures.led
-    (λ lens recover retry missed number as' us frame under. c.tell.ensures.leads lens recover retry missed number us (exchanged f) refl refl under
-    (λ pass. returned lens c.self.inside.ring (exchanged f) number as' us c.exchange-fate.ensures.fate c.exchange-fate.ensures.back frame pass)) plan fs l)))
+    (λ plan fs live l.
+    let live : has_live c.self.inside.master ≡ true = ap (λ (s : SessionState). has_live s.master) c.self.view_is ∙ live in
+    let same : Leading plan c.self.inside.master c.self.inside.log.notes fs = subst (λ (s : SessionState). Leading plan s.master s.notes fs) (sym c.self.view_is) l in
+    led_on c.self.inside.master c.next.new.self c.tell.new.master (exchanged f) c.next.result c.next.ensures.idle c.next.ensures.led plan fs live c.self.inside.log.notes same))

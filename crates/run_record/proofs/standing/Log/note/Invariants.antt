@@ -1,9 +1,11 @@
-use Rattle.std.proofs.Common.{◌+◌, length}
+use Rattle.std.proofs.Common.{◌≡◌, ◌+◌, length}
+use Rattle.run_record.specs.Led.{gaves_noted}
 use Rattle.run_record.specs.Session.{SameSlaves, SameFrames}
 use Rattle.run_record.proofs.standing.Log.note.Given as goal
 
 abbrev pub invariant-loop-event : goal.invariant-loop-event
 invariant-loop-event l = record {
   slaves : SameSlaves l.initial.self l.self;
+  gave : gaves_noted l.self.notes ≡ gaves_noted l.initial.self.notes;
   frames : SameFrames (1 + length l.initial.self.ports) l.initial.book l.book;
 }

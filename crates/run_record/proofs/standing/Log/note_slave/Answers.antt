@@ -1,6 +1,9 @@
 use Rattle.std.proofs.Common.{◌≡◌, ◌<◌, ℕ, List, length, sym, ap, ◌∙◌, subst, arith}
 use Rattle.std.specs.Prelude.{Option, Some, slice_get, slice_set}
+use Rattle.std.proofs.lemmas.Result.{on_ok_weaker}
+use Rattle.run_record.specs.declared.notes.Notes.{Notes}
 use Rattle.run_record.specs.Notes.{stations_of}
+use Rattle.run_record.proofs.Gaves.{same_gaves}
 use Rattle.run_record.proofs.Stations.{among_stations, one_noted}
 use Rattle.run_record.proofs.standing.Log.note_slave.Goals as goal
 
@@ -22,3 +25,9 @@ invariant_of-self c =
           ap (λ (l : List (Option (ℕ × ℕ))). slice_set l c.args.at c.station_of.result) log.lit ∙ ap (slice_set (stations_of log.recover log.homes log.notes) c.args.at) c.station_of.ensures
           ∙ one_noted log.recover log.homes log.notes c.args.at _ c.note_at-noted.new.notes (sym e);
     }
+
+pub returns-clause-gave : goal.returns-clause-gave
+returns-clause-gave c =
+    on_ok_weaker c.note_at-noted.result
+    (λ same. same_gaves c.args.self.now.notes c.args.at c.at_mut-notes.result.now c.note_at-noted.new.notes (same ∙ ap (λ (n : Notes). n.gave) c.at_mut-notes.ensures.value))
+    c.note_at-noted.ensures

@@ -1,5 +1,6 @@
 use Rattle.std.proofs.Common.{◌≡◌, sym, ap, ◌∙◌}
 use Rattle.run_record.specs.declared.notes.Notes.{Notes}
+use Rattle.run_record.proofs.Gaves.{same_gaves}
 use Rattle.run_record.proofs.Stations.{same_noted}
 use Rattle.run_record.proofs.standing.Log.receive.Goals as goal
 
@@ -12,3 +13,7 @@ invariant_of-self c =
           ∙ sym (same_noted log.recover log.homes log.notes c.in-Some.field-0.now c.at_mut.result.now c.received.new.self
           (ap (λ (n : Notes). n.gave) c.received.ensures ∙ ap (λ (n : Notes). n.gave) c.at_mut.ensures.value));
     }
+
+pub returns-clause-gave : goal.returns-clause-gave
+returns-clause-gave c =
+    same_gaves c.args.self.now.notes c.in-Some.field-0.now c.at_mut.result.now c.received.new.self (ap (λ (n : Notes). n.gave) c.received.ensures ∙ ap (λ (n : Notes). n.gave) c.at_mut.ensures.value)

@@ -1,0 +1,75 @@
+-- WHAT A MASTER STILL WANTS of the slaves that it leads, and how often each was given up.
+use Rattle.std.specs.Prelude.{◌≡◌, ◌⊎◌, ◌≤◌, ℕ, suc, ◌-◌, Bool, true, nat_lt, nat_le, None, List, [], ◌∷◌, length, slice_get, ⊤}
+use Rattle.exchange_model.specs.Exchange.{Speech}
+use Rattle.frame_view.specs.View.{Lens}
+use Rattle.life_model.specs.Lives
+use Rattle.life_runs.specs.Led.{Leads, speech_at}
+use Rattle.link_mails.specs.Body.{Body}
+use Rattle.link_model.specs.Master.{InState}
+use Rattle.mailbox_master.specs.Any.{in_half_of}
+use Rattle.master_duty.specs.Reply.{Reply}
+use Rattle.master_hand.specs.Shown.{Shows}
+use Rattle.master_hand.specs.Spoken.{Asked}
+use Rattle.master_hand.specs.declared.hand.InHand.{InHand}
+use Rattle.master_side.specs.Shown.{SideShows}
+use Rattle.master_side.specs.declared.hand.Hand.{Ghosts}
+use Rattle.master_side.specs.declared.side.Side as Sides
+use Rattle.master_tour.specs.declared.stop.Stand.{Stand}
+use Rattle.segment_model.specs.Laws.{WantsNothing}
+use Rattle.segment_model.specs.Seats
+use Rattle.task_model.specs.Accounts.{Account, is_free}
+
+-- the frames at which a slave was given up
+abbrev pub gave_of : Leads → List ℕ
+gave_of a = a.lived.life.gave
+
+-- HOW OFTEN A SLAVE WAS GIVEN UP: no more often than it is opened anew, unless it was given up for good, and then once more
+abbrev pub IsCounted : ℕ → Lives.Stand → ℕ → Type 0
+IsCounted recover (Lives.Stand.Opens o) times = times ≤ recover
+IsCounted recover Lives.Stand.Open times = times ≤ recover
+IsCounted recover Lives.Stand.Gone times = times ≡ suc recover
+
+-- a slave that is opened anew so often, and still so often, was given up more often than so
+abbrev pub gave_more : Stand → ℕ → ℕ → ℕ → Bool
+gave_more (Stand.Opening up) spare recover times = nat_lt times (recover - spare)
+gave_more Stand.Open spare recover times = nat_lt times (recover - spare)
+gave_more Stand.Gone spare recover times = nat_le times recover
+
+-- each of these was given up so often
+abbrev pub AllCounted : ℕ → List Leads → Type 0
+AllCounted recover [] = ⊤
+AllCounted recover (a ∷ as') = IsCounted recover a.lived.life.stand (length (gave_of a)) × AllCounted recover as'
+
+-- no more of a script came into hand than it has
+abbrev pub AllPlaced : List Leads → Type 0
+AllPlaced [] = ⊤
+AllPlaced (a ∷ as') = (a.number ≤ length a.script) × AllPlaced as'
+
+-- THE MASTER WANTS NOTHING of a slave: it is open, no service is in hand and none is left of its script, and both halves of its link are idle
+pub record IsIdle (lens : ℕ → Lens) (a : Leads) : Type 0 where
+  pub stand : a.lived.life.stand ≡ Lives.Stand.Open
+  pub side : WantsNothing (speech_at lens a.lived.spot) a.lived.life.era.side
+  pub hand : a.lived.life.era.account.hand ≡ None
+  pub script : a.number ≡ length a.script
+
+-- a slave that was given up for good, or of which it wants nothing
+abbrev pub IsLeft : (ℕ → Lens) → Leads → Type 0
+IsLeft lens a = (a.lived.life.stand ≡ Lives.Stand.Gone) ⊎ IsIdle lens a
+
+abbrev pub AllLeft : (ℕ → Lens) → List Leads → Type 0
+AllLeft lens [] = ⊤
+AllLeft lens (a ∷ as') = IsLeft lens a × AllLeft lens as'
+
+-- A SIDE THAT IS QUIET: the service in hand is over, no mail is held and nothing is asked again, and the script is at its end
+pub record IsQuiet {G : Ghosts InHand} (s : Sides.Side InHand G) : Type 0 where
+  pub free : (x : Speech Body Asked Reply) (d : Seats.Side Body Asked Reply) (b : Account Asked Reply) → SideShows (Shows s.hand.course s.hand.which s.hand.clients x) s.out s.inn s.fresh s.duty d b →
+      (is_free x d d.now ≡ true) × (s.duty ≡ None)
+  pub out : s.out.state ≡ None
+  pub inn : (in_half_of s.inn).state ≡ InState.Clear
+  pub script : slice_get s.hand.laying.script s.hand.laying.number ≡ None
+
+-- a slave that was given up for good, or is open and quiet
+abbrev pub IsQuietBy : {G : Ghosts InHand} → Stand → Sides.Side InHand G → Type 0
+IsQuietBy (Stand.Opening up) s = ⊥
+IsQuietBy Stand.Open s = IsQuiet s
+IsQuietBy Stand.Gone s = ⊤

@@ -1,0 +1,123 @@
+//! What the master still wants of its slaves, and how often each was given up.
+
+ghost use Rattle.std.specs.Prelude.{◌≡◌, ◌<◌, None, vec_len};
+ghost use Rattle.std.specs.Bool.{OnTrue, OnFalse};
+ghost use Rattle.link_model.specs.Master.{InState};
+ghost use Rattle.mailbox_master.specs.Any.{in_half_of};
+ghost use Rattle.master_node.specs.Wants.{IsQuiet, gave_more};
+
+use crate::node::MasterNode;
+use mailbox_master::InwardHalf;
+use master_hand::InHand;
+use master_side::Side;
+use master_tour::Stand;
+
+// Whether a slave's link is at rest: no mail is held, and nothing is asked again.
+fn is_at_rest(side: &Side<InHand>) -> bool
+    ensures { OnTrue result ((side.now.out.state ≡ None) × ((in_half_of side.now.inn).state ≡ InState.Clear)) }
+{
+    side.out.is_idle() && matches!(side.inn, InwardHalf::Clear(_))
+}
+
+// Whether a slave that is open still wants frames for what it has in hand or for its script.
+fn is_wanting(side: &Side<InHand>) -> bool
+    ensures { OnFalse result (IsQuiet side.now) }
+{
+    if !side.is_free() {
+        return true;
+    }
+    if !is_at_rest(side) {
+        return true;
+    }
+    side.hand.scripted().is_some()
+}
+
+// Whether a slave that is opened anew so often, and still so often, was given up more often than so.
+fn gave_more(stand: Stand, spare: u32, recover: u32, times: usize) -> bool
+    ensures { result ≡ gave_more stand spare recover times }
+{
+    match stand {
+        Stand::Gone => times <= recover as usize,
+        Stand::Opening(_) => times < recover.saturating_sub(spare) as usize,
+        Stand::Open => times < recover.saturating_sub(spare) as usize,
+    }
+}
+
+impl MasterNode {
+    ghost use Rattle.std.specs.Prelude.{◌≡◌, ◌<◌, ℕ, List, All, IfSome, true, nat_lt, length, slice_get, vec_len};
+    ghost use Rattle.std.specs.Bool.{OnTrue, OnFalse};
+    ghost use Rattle.std.specs.List.{list_any};
+    ghost use Rattle.frame_view.specs.View.{Lens};
+    ghost use Rattle.life_runs.specs.Led.{Leads};
+    ghost use Rattle.master_tour.specs.Goes.{is_live, holds_at};
+    ghost use Rattle.master_node.specs.Shows.{MasterShows};
+    ghost use Rattle.master_node.specs.Wants.{gave_of, IsCounted, AllPlaced, AllLeft, IsQuietBy};
+
+    // Whether a packet or a mail waits for a slave.
+    fn has_waiting(&self, place: usize) -> bool
+        requires { place < vec_len self.now.posts }
+    {
+        self.lan.waits(place) || self.posts[place].has_mail()
+    }
+
+    // Whether a slave wants frames.
+    fn wants_at(&self, place: usize) -> bool
+        requires { place < vec_len self.now.posts }
+        ensures live { OnTrue result (holds_at (λ s. is_live s.stand) self.now.tour.stops.items place ≡ true) }
+        ensures quiet { OnFalse result (IfSome (slice_get self.now.tour.stops.items place) (λ s. IsQuietBy s.stand s.side)) }
+    {
+        let stop = &self.tour.stops[place];
+        match stop.stand {
+            Stand::Gone => false,
+            Stand::Opening(_) => true,
+            Stand::Open => {
+                if is_wanting(&stop.side) {
+                    return true;
+                }
+                self.has_waiting(place)
+            }
+        }
+    }
+
+    // Whether some slave wants frames.
+    fn has_wanting(&self) -> bool
+        ensures live { OnTrue result (list_any (λ s. is_live s.stand) self.now.tour.stops.items ≡ true) }
+        ensures quiet { OnFalse result (All (λ s. IsQuietBy s.stand s.side) self.now.tour.stops.items) }
+    {
+        for place in 0..self.posts.len() {
+            if self.wants_at(place) {
+                return true;
+            }
+        }
+        false
+    }
+
+    // Whether a packet of the host has not yet come in while a slave is live.
+    fn has_coming(&self) -> bool
+        ensures { OnTrue result (list_any (λ s. is_live s.stand) self.now.tour.stops.items ≡ true) }
+    {
+        self.lan.has_host() && self.has_live()
+    }
+
+    /// Whether there is something left to do: a live slave is brought up or opened anew, has something in hand, a scripted service, a packet
+    /// or a mail left, or a half of its link that isn't at rest, or a packet of the host has not yet come in while a slave is live.
+    pub fn wants(&self) -> bool
+        ensures live { OnTrue result (list_any (λ s. is_live s.stand) self.now.tour.stops.items ≡ true) }
+        ensures left { OnFalse result ((lens : ℕ → Lens) (recover retry missed : ℕ) (as' : List Leads) → MasterShows lens recover retry self.now missed as' → AllPlaced as' → AllLeft lens as') }
+    {
+        if self.has_wanting() {
+            return true;
+        }
+        self.has_coming()
+    }
+
+    /// Whether a slave that is opened anew so often was given up more often than so.
+    pub fn gave_up_more(&self, slave: u32, recover: u32, times: usize) -> bool
+        requires { slave < vec_len self.now.posts }
+        ensures { (lens : ℕ → Lens) (retry missed : ℕ) (as' : List Leads) → MasterShows lens recover retry self.now missed as' →
+            IfSome (slice_get as' slave) (λ a. IsCounted recover a.lived.life.stand (length (gave_of a)) → result ≡ nat_lt times (length (gave_of a))) }
+    {
+        let stop = &self.tour.stops[slave as usize];
+        gave_more(stop.stand, stop.spare, recover, times)
+    }
+}

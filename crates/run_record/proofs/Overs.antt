@@ -1,0 +1,65 @@
+-- THE BOOK OF A RUN that is over, and the lives that its frames lead to.
+use Rattle.std.proofs.Common.{◌≡◌, ◌⊎◌, inl, inr, ℕ, Bool, true, false, List, [], ◌∷◌, map, length, refl, ap, sym, ◌∙◌, subst}
+use Rattle.std.specs.Prelude.{◌≢◌}
+use Rattle.std.specs.Bool.{OnTrue, OnFalse}
+use Rattle.frame_view.specs.View.{Lens}
+use Rattle.life_frames.specs.Shares.{AllBoth}
+use Rattle.life_runs.specs.First.{lens_of}
+use Rattle.life_runs.specs.Led.{Leads}
+use Rattle.master_node.specs.Wants.{AllCounted, AllLeft, gave_of}
+use Rattle.master_node.proofs.Counts.{counted, placed}
+use Rattle.run_book.specs.declared.book.Book.{Book}
+use Rattle.run_book.specs.declared.book.Ending.{Ending}
+use Rattle.run_book.specs.declared.book.Ending.TheVariants as endings
+use Rattle.run_book.specs.declared.book.SentFrame.{SentFrame}
+use Rattle.run_book.specs.declared.book.SlaveBook.{SlaveBook}
+use Rattle.segment_plan.specs.declared.plan.Scenario.{Scenario}
+use Rattle.run_record.specs.Led.{exchanged, gaves_in, Leading, LeadTo, RestsSo, RestBy, LedBook}
+use Rattle.run_record.specs.Ran.{IsUnderway, EndsSo}
+use Rattle.run_record.specs.Session.{SessionState, session_rows, slave_rows, are_at_rest, some_given_up, IsLeftBy}
+use Rattle.run_record.proofs.Ends.{rest_so, all_done, gaves_of_rows}
+
+not_done : endings.Done ≡ endings.NoMemory → ⊥
+not_done e = absurd (cc)
+
+not_given : endings.GivenUp ≡ endings.NoMemory → ⊥
+not_given e = absurd (cc)
+
+module _ (plan : Scenario) (s : SessionState) (b b' : Book) (h : IsUnderway plan 0 s b) (l : Leading plan s.master s.notes (map exchanged b.frames)) (frames : b'.frames ≡ b.frames) (same : length s.notes ≡ length s.ring.nodes) where
+  abbrev lens : ℕ → Lens
+  lens = lens_of plan.slaves
+
+  has_gaves : b'.slaves ≡ session_rows s → gaves_in b'.slaves ≡ map gave_of l.leads
+  has_gaves rows = ap gaves_in rows ∙ gaves_of_rows s.recover s.ring.nodes s.notes same ∙ l.gave
+
+  all : AllCounted s.recover l.leads
+  all = subst (λ (n : ℕ). AllCounted n l.leads) (sym h.recover) (counted lens plan plan.retry (map exchanged b.frames) l.missed l.leads l.lives)
+
+  -- nothing is left
+  all_rest : b'.slaves ≡ session_rows s → are_at_rest (session_rows s) ≡ true → IsLeftBy s.master → AllBoth (RestsSo lens) l.leads b'.slaves
+  all_rest rows rest left =
+      let none : AllLeft lens l.leads = left lens plan.recover plan.retry l.missed l.leads l.shows (placed lens plan plan.retry (map exchanged b.frames) l.missed l.leads l.lives) in
+      subst (λ (rs : List SlaveBook). AllBoth (RestsSo lens) l.leads rs) (sym rows) (rest_so lens s.recover l.leads s.ring.nodes s.notes same all l.gave rest none)
+
+  rest_by : (ending : Ending) (settled : Bool) → EndsSo s ending → OnTrue settled (IsLeftBy s.master) → OnFalse settled (ending ≡ endings.BudgetSpent) → (ending ≢ endings.NoMemory → b'.slaves ≡ session_rows s) → RestBy lens ending l.leads b'.slaves
+  rest_by endings.Done true so left cut rows = let r = rows not_done in all_done lens s.recover l.leads b'.slaves all (has_gaves r) (ap some_given_up r ∙ so.1) (all_rest r so.0 left)
+  rest_by endings.Done false so left cut rows = absurd (let bad : endings.Done ≡ endings.BudgetSpent = cut in cc)
+  rest_by endings.GivenUp true so left cut rows = all_rest (rows not_given) so.0 left
+  rest_by endings.GivenUp false so left cut rows = absurd (let bad : endings.GivenUp ≡ endings.BudgetSpent = cut in cc)
+  rest_by endings.BudgetSpent settled so left cut rows = tt
+  rest_by endings.NoMemory settled so left cut rows = tt
+  rest_by endings.PortFault settled so left cut rows = tt
+  rest_by endings.Unfinished settled so left cut rows = tt
+
+  -- however it ends
+  pub led_book : (ending result : Ending) (settled : Bool) → EndsSo s ending → OnTrue settled (IsLeftBy s.master) → OnFalse settled (ending ≡ endings.BudgetSpent) → (result ≡ ending) ⊎ (result ≡ endings.NoMemory) → (result ≢ endings.NoMemory → b'.slaves ≡ session_rows s) → LedBook plan b' result
+  led_book ending result settled so left cut answers rows = record {
+    missed = l.missed;
+    leads = l.leads;
+    lives = subst (λ (fs : List SentFrame). LeadTo plan (map exchanged fs) l.missed l.leads) (sym frames) l.lives;
+    gave = λ ok. has_gaves (rows ok);
+    rests = elim answers [
+      | inl is ↦ subst (λ (e : Ending). RestBy lens e l.leads b'.slaves) (sym is) (rest_by ending settled so left cut (λ ok. rows (λ none. ok (sym is ∙ none))))
+      | inr none ↦ subst (λ (e : Ending). RestBy lens e l.leads b'.slaves) (sym none) tt
+    ];
+  }

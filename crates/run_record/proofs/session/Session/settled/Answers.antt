@@ -1,0 +1,21 @@
+use Rattle.std.proofs.Common.{◌≡◌, inl, inr, true, false, sym, ap, ◌∙◌, subst, rules}
+use Rattle.std.proofs.lemmas.Bool.{OnTrue_at, OnTrue_from, OnFalse_at, OnFalse_from}
+use Rattle.master_node.specs.declared.node.MasterNode.{MasterNode}
+use Rattle.run_record.specs.Session.{SessionState, has_live, IsLeftBy}
+use Rattle.run_record.proofs.session.Session.settled.Goals as goal
+
+pub returns-then-wants-clause-busy : goal.returns-then-wants-clause-busy
+returns-then-wants-clause-busy c =
+    let yes : c.wants.result ≡ true = search rules in
+    inr (ap (λ (s : SessionState). has_live s.master) (sym c.self.view_is) ∙ OnTrue_at yes c.wants.ensures.live)
+
+pub returns-clause-left : goal.returns-clause-left
+returns-clause-left c =
+    let no : c.wants.result ≡ false = search rules in
+    OnTrue_from c.are_at_rest.result _ (λ e. subst (λ (s : SessionState). IsLeftBy s.master) c.self.view_is (OnFalse_at no c.wants.ensures.left))
+
+pub returns-clause-rest : goal.returns-clause-rest
+returns-clause-rest c = OnTrue_from c.are_at_rest.result _ (λ e. sym c.are_at_rest.ensures ∙ e)
+
+pub returns-clause-busy : goal.returns-clause-busy
+returns-clause-busy c = OnFalse_from c.are_at_rest.result _ (λ e. inl (sym c.are_at_rest.ensures ∙ e))

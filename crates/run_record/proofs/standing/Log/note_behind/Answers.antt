@@ -1,0 +1,14 @@
+use Rattle.std.proofs.Common.{ℕ, length}
+use Rattle.std.proofs.lemmas.Result.{on_ok_weaker}
+use Rattle.run_record.proofs.Gaves.{gave_after}
+use Rattle.run_record.proofs.Kept.{slaves_more}
+use Rattle.run_record.proofs.standing.Log.note_behind.Goals as goal
+
+pub returns-clause-slaves : goal.returns-clause-slaves
+returns-clause-slaves c = slaves_more c.note.ensures.slaves c.note_fate.ensures.slaves
+
+pub returns-clause-gave : goal.returns-clause-gave
+returns-clause-gave c =
+    on_ok_weaker c.note_fate.result
+    (λ by. gave_after c.args.fate c.args.moment.frame c.args.master.now c.args.self.now c.note.new.self c.note_fate.new.self c.note.ensures.slaves c.in_ok-note.ensures.gave by)
+    c.note_fate.ensures.gave

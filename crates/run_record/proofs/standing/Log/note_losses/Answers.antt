@@ -1,0 +1,31 @@
+use Rattle.std.proofs.Common.{◌≡◌, ◌<◌, ◌+◌, ℕ, suc, List, refl, length, map, sym, ap, ◌∙◌, subst, rules, arith}
+use Rattle.std.proofs.lemmas.List.{length-map}
+use Rattle.run_record.specs.declared.notes.Notes.{Notes}
+use Rattle.master_node.specs.Shows.{MasterShows}
+use Rattle.master_node.specs.Wants.{gave_of, AllCounted}
+use Rattle.run_record.specs.Led.{gaves_noted}
+use Rattle.run_record.specs.Session.{gave_at}
+use Rattle.run_record.proofs.Gaves.{walked, walked_on, walked_all}
+use Rattle.run_record.proofs.Kept.{slaves_more}
+use Rattle.run_record.proofs.standing.Log.note_losses.Goals as goal
+
+pub loop-place-preserved : goal.loop-place-preserved
+loop-place-preserved c =
+    let first = c.args.self.now in
+    let now = c.loop-place.self in
+    let inv = c.loop-place.invariant in
+    let place = c.loop-place.place in
+    record {
+      slaves = slaves_more inv.slaves c.note_loss.ensures.slaves;
+      gave = λ lens retry missed leads shown all.
+          c.in_ok-note_loss.ensures.gave lens retry missed leads (subst (λ (n : ℕ). MasterShows lens n retry c.args.master.now missed leads) (sym inv.slaves.recover) shown) (subst (λ (n : ℕ). AllCounted n leads) (sym inv.slaves.recover) all)
+          ∙ ap (gave_at place c.args.frame (map gave_of leads)) (inv.gave lens retry missed leads shown all) ∙ walked_on place c.args.frame (map gave_of leads) (gaves_noted first.notes)
+          ∙ (let e : suc place ≡ place + 1 = omega arith in ap (λ (k : ℕ). walked k c.args.frame (map gave_of leads) (gaves_noted first.notes)) e);
+    }
+
+pub returns-clause-gave : goal.returns-clause-gave
+returns-clause-gave c = λ lens retry missed leads shown all.
+    let first = c.args.self.now in
+    let long = length-map first.notes (λ (n : Notes). n.gave) in
+    c.loop-place.invariant.gave lens retry missed leads shown all
+    ∙ walked_all c.loop-place.place c.args.frame (map gave_of leads) (gaves_noted first.notes) (omega (arith, long, c.loop-place-test.false, c.len-place-end.ensures))
