@@ -1,7 +1,7 @@
 -- HOW OFTEN EACH SLAVE WAS GIVEN UP, over a run: it goes with how its master stands to it; and no more of a script came into hand than it has.
-use Rattle.std.proofs.Common.{◌≡◌, ◌≤◌, ◌<◌, ℕ, suc, ◌+◌, Bool, true, false, Option, Some, None, List, [], ◌∷◌, ◌++◌, map, length, length-append, refl, ap, sym, ◌∙◌, subst, arith}
-use Rattle.std.specs.Prelude.{◌&&◌, nat_lt, if◌then◌else◌, slice_get}
-use Rattle.std.proofs.lemmas.Bool.{lt-ltb, le-ltb, ltb-true, ltb-false}
+use Rattle.std.proofs.Common.{◌≡◌, ◌≤◌, ℕ, suc, ◌+◌, Bool, true, false, Option, Some, None, List, [], ◌∷◌, map, length, length-append, refl, ap, sym, ◌∙◌, subst, arith}
+use Rattle.std.specs.Prelude.{◌&&◌, nat_lt, if◌then◌else◌}
+use Rattle.std.proofs.lemmas.Bool.{ltb-true, ltb-false}
 use Rattle.std.proofs.lemmas.Option.{slice_get_within}
 use Rattle.datagrams.specs.Datagram as Raw
 use Rattle.exchange_model.specs.Exchange.{Speech}
@@ -9,9 +9,9 @@ use Rattle.frame_view.specs.View.{Lens}
 use Rattle.frame_view.specs.Seen.{seen}
 use Rattle.life_frames.specs.Frames.{Share, FrameFor}
 use Rattle.life_frames.specs.Shares.{Lived, came_at, given_where}
-use Rattle.life_model.specs.Lives.{Spot, Life, Stand, Opening, life_next, life_back, life_lost, opening_back, gives_up, shows_clear, last_step, is_shown, clears, opens, steps_on, reopens, reopens_at, reopening, returns_to_init, opens_state, era_back}
+use Rattle.life_model.specs.Lives.{Spot, Life, Stand, Opening, life_next, life_back, life_lost, opening_back, shows_clear, last_step, is_shown, clears, opens, reopens, reopens_at, reopening, returns_to_init, era_back}
 use Rattle.life_runs.specs.First.{leads_from, first_leads}
-use Rattle.life_runs.specs.Led.{Exchanged, Leads, Turn, Comes, IsTurn, AllTurn, IsLed, IsLedFrame, is_passed, speech_at, life_behind, led_behind, gives_up_at}
+use Rattle.life_runs.specs.Led.{Exchanged, Leads, Turn, Comes, IsTurn, AllTurn, IsLed, is_passed, speech_at, life_behind, led_behind, gives_up_at}
 use Rattle.link_mails.specs.Body.{Body}
 use Rattle.master_duty.specs.Reply.{Reply}
 use Rattle.master_hand.specs.Spoken.{Asked, acknowledged, is_followed}

@@ -1,5 +1,5 @@
 -- WHERE A MASTER WANTS NOTHING each slave that it leads was given up for good, or is idle; and how often each was given up.
-use Rattle.std.proofs.Common.{◌≡◌, ◌≤◌, ◌<◌, ◌-◌, inl, inr, ℕ, zero, suc, ◌+◌, Bool, true, false, not, Option, Some, None, List, [], ◌∷◌, length, get_or, refl, ap, sym, ◌∙◌, subst, arith}
+use Rattle.std.proofs.Common.{◌≡◌, ◌≤◌, ◌<◌, ◌-◌, inl, inr, ℕ, zero, suc, ◌+◌, Bool, true, false, Option, Some, None, List, [], ◌∷◌, length, get_or, refl, ap, sym, ◌∙◌, subst, arith}
 use Rattle.std.specs.Prelude.{nat_lt, nat_le, All, IfSome, slice_get, option_map, is_some, ◌||◌}
 use Rattle.std.specs.List.{list_any}
 use Rattle.std.proofs.lemmas.Bool.{ltb-true, ltb-false, le-leb, lt-leb}
@@ -10,24 +10,19 @@ use Rattle.frame_view.specs.View.{Lens}
 use Rattle.life_frames.specs.Shares.{AllBoth}
 use Rattle.life_model.specs.Lives
 use Rattle.life_runs.specs.Led.{Leads, speech_at}
-use Rattle.link_model.specs.Master.{InState}
-use Rattle.mailbox_master.specs.Any.{in_half_of}
-use Rattle.link_mails.specs.Body.{Body, link_mail}
-use Rattle.master_duty.specs.Reply.{Reply}
+use Rattle.link_mails.specs.Body.{link_mail}
 use Rattle.master_duty.specs.declared.duty.Duty.{Duty}
 use Rattle.master_hand.specs.Shown.{Shows}
-use Rattle.master_hand.specs.Spoken.{Asked}
 use Rattle.master_hand.specs.declared.hand.InHand.{InHand}
 use Rattle.master_side.specs.Shown.{SideShows, DutyShows}
 use Rattle.master_side.specs.declared.hand.Hand.{Ghosts}
-use Rattle.master_side.specs.declared.side.Side as Sides
-use Rattle.master_tour.specs.Goes.{is_live, holds_at}
+use Rattle.master_tour.specs.Goes.{holds_at}
 use Rattle.master_tour.specs.declared.stop.Stand.{Stand}
 use Rattle.master_tour.specs.declared.stop.Stop.{Stop}
-use Rattle.segment_model.specs.Laws.{WantsNothing, NothingInHand}
+use Rattle.segment_model.specs.Laws.{NothingInHand}
 use Rattle.segment_model.specs.Seats
 use Rattle.task_model.specs.Accounts
-use Rattle.task_model.specs.Accounts.{Account, is_free}
+use Rattle.task_model.specs.Accounts.{is_free}
 use Rattle.master_tour.specs.Stands.{StandShows}
 use Rattle.master_node.specs.Shows.{IsLead, side_shows}
 use Rattle.master_node.specs.Wants.{gave_of, gave_more, IsCounted, AllPlaced, IsIdle, IsLeft, AllLeft, IsQuiet, IsQuietBy}

@@ -1,5 +1,5 @@
 -- HOW A RUN ENDS, slave by slave: where nothing is left to do each was given up for good, or is idle and settled.
-use Rattle.std.proofs.Common.{◌≡◌, ◌⊎◌, inl, inr, ◌≤◌, ◌<◌, ℕ, zero, suc, ◌+◌, Bool, true, false, Option, Some, None, List, [], ◌∷◌, map, length, refl, ap, sym, ◌∙◌, subst, arith}
+use Rattle.std.proofs.Common.{◌≡◌, ◌⊎◌, inl, inr, ◌≤◌, ℕ, zero, suc, Bool, true, false, None, List, [], ◌∷◌, map, length, refl, ap, sym, ◌∙◌, subst, arith}
 use Rattle.std.specs.Prelude.{◌||◌, ◌&&◌, nat_lt, slice_get, is_some}
 use Rattle.std.proofs.lemmas.Bool.{ltb-false}
 use Rattle.std.proofs.lemmas.Option.{slice_get_past}
@@ -8,7 +8,7 @@ use Rattle.life_frames.specs.Shares.{AllBoth}
 use Rattle.life_model.specs.Lives.{Stand}
 use Rattle.life_runs.specs.Led.{Leads}
 use Rattle.master_node.specs.Shows.{MasterShows}
-use Rattle.master_node.specs.Wants.{gave_of, IsCounted, AllCounted, IsIdle, IsLeft, AllLeft}
+use Rattle.master_node.specs.Wants.{gave_of, IsCounted, AllCounted, IsLeft, AllLeft}
 use Rattle.master_node.specs.declared.node.MasterNode.{MasterNode}
 use Rattle.run_book.specs.declared.book.SlaveBook.{SlaveBook}
 use Rattle.run_record.specs.declared.notes.Notes.{Notes}

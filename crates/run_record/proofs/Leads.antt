@@ -6,7 +6,6 @@ use Rattle.std.proofs.lemmas.List.{map-append}
 use Rattle.datagrams.specs.Datagram as Raw
 use Rattle.frame_view.specs.View.{Lens}
 use Rattle.frame_view.specs.Seen.{seen}
-use Rattle.life_frames.specs.Frames.{Share}
 use Rattle.life_frames.specs.Shares.{Lived, came_at, given_where}
 use Rattle.life_model.specs.Lives.{Life, life_lost}
 use Rattle.life_runs.specs.First.{lens_of, first_leads, leads_from}

@@ -1,11 +1,10 @@
 -- THE BOOK OF A RUN that is over, and the lives that its frames lead to.
-use Rattle.std.proofs.Common.{◌≡◌, ◌⊎◌, inl, inr, ℕ, Bool, true, false, List, [], ◌∷◌, map, length, refl, ap, sym, ◌∙◌, subst}
+use Rattle.std.proofs.Common.{◌≡◌, ◌⊎◌, inl, inr, ℕ, Bool, true, false, List, [], map, length, ap, sym, ◌∙◌, subst}
 use Rattle.std.specs.Prelude.{◌≢◌}
 use Rattle.std.specs.Bool.{OnTrue, OnFalse}
 use Rattle.frame_view.specs.View.{Lens}
 use Rattle.life_frames.specs.Shares.{AllBoth}
 use Rattle.life_runs.specs.First.{lens_of}
-use Rattle.life_runs.specs.Led.{Leads}
 use Rattle.master_node.specs.Wants.{AllCounted, AllLeft, gave_of}
 use Rattle.master_node.proofs.Counts.{counted, placed}
 use Rattle.run_book.specs.declared.book.Book.{Book}
@@ -16,7 +15,7 @@ use Rattle.run_book.specs.declared.book.SlaveBook.{SlaveBook}
 use Rattle.segment_plan.specs.declared.plan.Scenario.{Scenario}
 use Rattle.run_record.specs.Led.{exchanged, gaves_in, Leading, LeadTo, RestsSo, RestBy, LedBook}
 use Rattle.run_record.specs.Ran.{IsUnderway, EndsSo}
-use Rattle.run_record.specs.Session.{SessionState, session_rows, slave_rows, are_at_rest, some_given_up, IsLeftBy}
+use Rattle.run_record.specs.Session.{SessionState, session_rows, are_at_rest, some_given_up, IsLeftBy}
 use Rattle.run_record.proofs.Ends.{rest_so, all_done, gaves_of_rows}
 
 not_done : endings.Done ≡ endings.NoMemory → ⊥

@@ -1,7 +1,6 @@
 -- THE FRAMES OF A RUN ARE LED by its master: each is just what the lives of the slaves ask for, from the plan's new lives on; and what the book says of
 -- give-ups and of the end is what those lives have.
-use Rattle.std.specs.Prelude.{◌≡◌, ◌≢◌, ◌⊎◌, ℕ, Bool, true, List, [], ◌∷◌, ◌++◌, map, length, ⊤}
-use Rattle.std.specs.List.{list_any}
+use Rattle.std.specs.Prelude.{◌≡◌, ◌≢◌, ◌⊎◌, ℕ, true, List, [], map, ⊤}
 use Rattle.frame_view.specs.View.{Lens}
 use Rattle.life_frames.specs.Shares.{AllBoth}
 use Rattle.life_model.specs.Lives.{Stand}

@@ -1,10 +1,6 @@
-use Rattle.std.proofs.Common.{◌≡◌, ◌<◌, ◌≤◌, ℕ, ◌∷◌, ◌++◌, [], List, length, true, false, refl, sym, ap, ◌∙◌, subst, rules, arith}
-use Rattle.std.specs.Prelude.{Result, Ok, Err, All, map}
-use Rattle.std.specs.Bool.{OnTrue}
+use Rattle.std.proofs.Common.{◌≡◌}
+use Rattle.std.specs.Prelude.{Err}
 use Rattle.std.proofs.lemmas.Result.{err_from_is_err_and}
-use Rattle.segment_plan.specs.declared.plan.Scenario.{Scenario}
-use Rattle.run_record.specs.Session.{session_rows, are_at_rest}
-use Rattle.gateway_run.specs.Serving.{Told, told, Goes, IsServing, left, can_hear}
 use Rattle.gateway_run.proofs.Turns.{goes_so}
 use Rattle.gateway_run.proofs.serving.turns.Goals as goal
 
@@ -14,7 +10,7 @@ returns-then-not-branch-clause-goes g c = λ plan count first h. c.in_ok-turn.en
 pub loop-settled-preserved : goal.loop-settled-preserved
 loop-settled-preserved g c = record {
   goes = λ plan count first h. c.in_ok-turn.ensures.goes plan count first (c.loop-settled.invariant.goes plan count first h);
-  at_rest = c.settled-settled-in-loop-settled.ensures;
+  at_rest = c.settled-settled-in-loop-settled.ensures.rest;
 }
 
 pub returns-in_err-turn-clause-goes : goal.returns-in_err-turn-clause-goes

@@ -1,4 +1,4 @@
-use Rattle.std.proofs.Common.{◌≡◌, ◌<◌, length, arith}
+use Rattle.std.proofs.Common.{◌<◌, length, arith}
 use Rattle.master_node.proofs.Quiets.{gave_here}
 use Rattle.master_node.proofs.node.MasterNode.gave_up_more.Goals as goal
 

@@ -1,4 +1,4 @@
-use Rattle.std.proofs.Common.{◌≡◌, ◌<◌, ℕ, true, false, length, rules, arith}
+use Rattle.std.proofs.Common.{◌≡◌, true, false, rules, arith}
 use Rattle.std.proofs.lemmas.Bool.{OnTrue_at, OnFalse_at}
 use Rattle.master_tour.specs.Goes.{is_live}
 use Rattle.master_node.specs.Wants.{IsQuietBy}

@@ -1,6 +1,5 @@
 use Rattle.std.proofs.Common.{◌≡◌, false, rules}
 use Rattle.std.proofs.lemmas.Bool.{OnFalse_at, OnFalse_from}
-use Rattle.master_node.proofs.Counts.{counted}
 use Rattle.master_node.proofs.Quiets.{all_left}
 use Rattle.master_node.proofs.node.MasterNode.wants.Goals as goal
 

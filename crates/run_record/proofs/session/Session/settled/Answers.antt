@@ -1,6 +1,5 @@
 use Rattle.std.proofs.Common.{◌≡◌, inl, inr, true, false, sym, ap, ◌∙◌, subst, rules}
 use Rattle.std.proofs.lemmas.Bool.{OnTrue_at, OnTrue_from, OnFalse_at, OnFalse_from}
-use Rattle.master_node.specs.declared.node.MasterNode.{MasterNode}
 use Rattle.run_record.specs.Session.{SessionState, has_live, IsLeftBy}
 use Rattle.run_record.proofs.session.Session.settled.Goals as goal
 

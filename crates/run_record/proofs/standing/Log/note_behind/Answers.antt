@@ -1,4 +1,3 @@
-use Rattle.std.proofs.Common.{ℕ, length}
 use Rattle.std.proofs.lemmas.Result.{on_ok_weaker}
 use Rattle.run_record.proofs.Gaves.{gave_after}
 use Rattle.run_record.proofs.Kept.{slaves_more}

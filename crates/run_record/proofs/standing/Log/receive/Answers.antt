@@ -1,4 +1,4 @@
-use Rattle.std.proofs.Common.{◌≡◌, sym, ap, ◌∙◌}
+use Rattle.std.proofs.Common.{sym, ap, ◌∙◌}
 use Rattle.run_record.specs.declared.notes.Notes.{Notes}
 use Rattle.run_record.proofs.Gaves.{same_gaves}
 use Rattle.run_record.proofs.Stations.{same_noted}
