@@ -36,17 +36,28 @@ fn strings(alloc: Global, words: &[&str]) -> Result<Vec<String>, AllocError> {
     Ok(strings)
 }
 
-/// Makes a call with these words over files and a sink.
+/// Makes a call with these words over files, a sink and a port.
+pub fn call_over(
+    alloc: Global,
+    words: &[&str],
+    files: &mut MemFiles,
+    out: &mut MemSink,
+    port: &mut MemPort,
+) -> Result<Status, Fail> {
+    let words = strings(alloc, words)?;
+    let mut book = Book::new(alloc);
+    Ok(ecmbx(alloc, words.as_slice(), files, out, port, &mut book))
+}
+
+/// The same over a port that hears nothing.
 pub fn call(
     alloc: Global,
     words: &[&str],
     files: &mut MemFiles,
     out: &mut MemSink,
 ) -> Result<Status, Fail> {
-    let words = strings(alloc, words)?;
-    let mut book = Book::new(alloc);
     let mut port = MemPort::new(alloc, Rows::new(alloc), Rows::new(alloc));
-    Ok(ecmbx(alloc, words.as_slice(), files, out, &mut port, &mut book))
+    call_over(alloc, words, files, out, &mut port)
 }
 
 /// A scenario that is run to its end, with its capture under `a.pcap`.

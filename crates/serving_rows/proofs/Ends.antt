@@ -1,5 +1,5 @@
 -- What a serving that ended leaves to be told.
-use Rattle.std.proofs.Common.{◌≡◌, ℕ, length, refl}
+use Rattle.std.proofs.Common.{ℕ, refl}
 use Rattle.std.specs.Prelude.{◌≢◌}
 use Rattle.segment_plan.specs.declared.plan.Scenario.{Scenario}
 use Rattle.segment_plan.specs.Sound.{IsPlan}
