@@ -24,7 +24,7 @@ use Rattle.ecmbx_call.specs.Course.{HasRun, status_of}
 use Rattle.gateway_run.specs.Serving.{Told as PortTold}
 use Rattle.ecmbx_call.specs.Serving.{HasServed}
 use Rattle.ecmbx_call.specs.Causes.{loaded_in, IsRefused, IsFound}
-use Rattle.ecmbx_call.proofs.Told.{Told, told, held, held_long, no_file, no_made}
+use Rattle.ecmbx_call.proofs.Told.{Told, held, held_long, no_file, no_made}
 
 -- what a file that is found comes to
 pub data Found (words : List (List ℕ)) (table saved : Option Table) (first last : PortTold) (book : Book) (octets : List ℕ) (planned : Status) (text : List ℕ) : Type 0 where

@@ -2,6 +2,7 @@ ghost use Rattle.std.specs.Prelude.{◌≡◌, ◌⊎◌, ◌≤◌, Ok, IfOk, I
 ghost use Rattle.ec_outside.specs.Faults.{Rose};
 ghost use Rattle.segment_plan.specs.Sound.{IsPlan};
 ghost use Rattle.scenario.specs.Document.{plan_of};
+ghost use Rattle.scenario.specs.Told.{IsTold};
 ghost use Rattle.run_book.specs.Book.{IsNew};
 ghost use Rattle.run_report.specs.Report.{report_lines};
 ghost use Rattle.run_report.specs.Saved.{capture_of};
@@ -14,8 +15,8 @@ ghost use Rattle.ecmbx_call.specs.Course.{HasRun, IsReportable, status_of, Follo
 use ec_fields::{NoMemory, Octets, Rows};
 use ec_outside::{Files, FilesErr, Sink};
 use ecmbx_words::{Status, refusal, say, say_lines};
+use promised_run::run;
 use run_book::{Book, Ending};
-use run_record::run;
 use run_report::{report, saved};
 use scenario::{Place, ReadErr, read};
 use segment_plan::Scenario;
@@ -38,6 +39,7 @@ fn status_of(ending: Ending) -> Status
 pub fn plan_in<O: Sink>(alloc: Global, octets: Octets, out: &mut O) -> Result<Scenario, Status>
     ensures found { IfOk result (λ plan. plan_of octets ≡ Ok plan) }
     ensures sound { IfOk result IsPlan }
+    ensures told { IfOk result IsTold }
     ensures quiet { IfOk result (λ plan. out.new ≡ out.old) }
     ensures failed { IfErr result (IsUnread octets (O.written out.old) (O.written out.new)) }
     ensures sink { IfErr result (λ status. status ≡ statuses.SinkFault → Rose (O.sink_faults out.old) (O.sink_faults out.new)) }

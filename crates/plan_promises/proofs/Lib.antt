@@ -1,0 +1,5 @@
+mod Known
+mod Rounds
+mod Gones
+mod Slaves
+mod Rest

@@ -1,0 +1,88 @@
+-- WHERE A RUN IS OVER nothing is left of it.
+use Rattle.std.proofs.Common.{◌≡◌, inl, inr, ℕ, List, [], ◌∷◌, ◌++◌, map, ap, sym, ◌∙◌, subst}
+use Rattle.std.proofs.lemmas.List.{append-nil}
+use Rattle.frame_view.specs.View.{Lens}
+use Rattle.life_frames.specs.Shares.{AllBoth}
+use Rattle.life_runs.specs.First.{lens_of, first_leads}
+use Rattle.life_runs.specs.Led.{Exchanged, Leads, IsLed}
+use Rattle.plan_promises.specs.Promise.{slaves_behind, Keeps}
+use Rattle.plan_promises.specs.Rest.{IsAtRest, AllAtRest, AllStayed, IsResting, NothingIsLeft, AllIsDone}
+use Rattle.promised_run.specs.Promised.{LeavesNothing, IsPromised}
+use Rattle.promised_run.proofs.Rounds.{all_round, same_ring}
+use Rattle.run_book.specs.declared.book.Book.{Book}
+use Rattle.run_book.specs.declared.book.Ending.{Ending}
+use Rattle.run_book.specs.declared.book.Ending.TheVariants as endings
+use Rattle.run_book.specs.declared.book.SlaveBook.{SlaveBook}
+use Rattle.run_lives.specs.Round.{ring_of, AllRound}
+use Rattle.run_record.specs.Led.{exchanged, RestsSo, DoneSo, RestBy, LedBook}
+use Rattle.run_record.specs.Ran.{HasFrames, HasRows, EndsAs}
+use Rattle.run_record.specs.Replay.{first_ring, ring_after}
+use Rattle.segment_plan.specs.declared.plan.Scenario.{Scenario}
+use Rattle.segment_ring.specs.Ring.{RingState}
+use Rattle.slave_server.specs.Serving.{Serving}
+use Rattle.slave_steps.specs.Node.{Node}
+
+-- what this crate's law says, for one plan
+abbrev pub Promises : Scenario → Type 0
+Promises plan = (fs others : List Exchanged) (missed : ℕ) (as' : List Leads) → IsLed (lens_of plan.slaves) plan.recover plan.retry (first_leads plan) fs missed as' → AllRound (ring_of plan) (fs ++ others) → Keeps plan fs as'
+
+abbrev pub Rests : Scenario → Type 0
+Rests plan = (fs : List Exchanged) (as' : List Leads) → Keeps plan fs as' → IsResting plan fs as' → NothingIsLeft plan fs as'
+
+abbrev pub Finishes : Scenario → Type 0
+Finishes plan = (fs : List Exchanged) (as' : List Leads) → Keeps plan fs as' → IsResting plan fs as' → AllStayed as' → AllIsDone plan fs as'
+
+module _ (lens : ℕ → Lens) where
+  one_at_rest : (a : Leads) (row : SlaveBook) → RestsSo lens a row → IsAtRest lens a row.node
+  one_at_rest a row (inl gone) = inl gone
+  one_at_rest a row (inr rest) = inr (record { stand = rest.0.stand; side = rest.0.side; hand = rest.0.hand; script = rest.0.script }, rest.1)
+
+  all_at_rest : (as' : List Leads) (rows : List SlaveBook) → AllBoth (RestsSo lens) as' rows → AllAtRest lens as' (map (λ (row : SlaveBook). row.node) rows)
+  all_at_rest [] [] rest = tt
+  all_at_rest [] (row ∷ rows) rest = absurd rest
+  all_at_rest (a ∷ as') [] rest = absurd rest
+  all_at_rest (a ∷ as') (row ∷ rows) rest = (one_at_rest a row rest.0, all_at_rest as' rows rest.1)
+
+  -- where all is done
+  one_done : (a : Leads) (row : SlaveBook) → DoneSo lens a row → IsAtRest lens a row.node
+  one_done a row so = inr (record { stand = so.idle.stand; side = so.idle.side; hand = so.idle.hand; script = so.idle.script }, so.settled)
+
+  all_done : (as' : List Leads) (rows : List SlaveBook) → AllBoth (DoneSo lens) as' rows → AllAtRest lens as' (map (λ (row : SlaveBook). row.node) rows)
+  all_done [] [] so = tt
+  all_done [] (row ∷ rows) so = absurd so
+  all_done (a ∷ as') [] so = absurd so
+  all_done (a ∷ as') (row ∷ rows) so = (one_done a row so.0, all_done as' rows so.1)
+
+  all_stayed : (as' : List Leads) (rows : List SlaveBook) → AllBoth (DoneSo lens) as' rows → AllStayed as'
+  all_stayed [] [] so = tt
+  all_stayed [] (row ∷ rows) so = absurd so
+  all_stayed (a ∷ as') [] so = absurd so
+  all_stayed (a ∷ as') (row ∷ rows) so = (so.0.stayed, all_stayed as' rows so.1)
+
+module _ (plan : Scenario) (book : Book) where
+  same_slaves : slaves_behind plan (map exchanged book.frames) ≡ (ring_after (first_ring plan) book.frames).nodes
+  same_slaves = ap (λ (r : RingState (Node Serving)). r.nodes) (same_ring (first_ring plan) book.frames)
+
+  resting : (leads : List Leads) → HasRows plan book → AllAtRest (lens_of plan.slaves) leads (map (λ (row : SlaveBook). row.node) book.slaves) → IsResting plan (map exchanged book.frames) leads
+  resting leads rows rest = record { each = subst (λ (ns : List (Node Serving)). AllAtRest (lens_of plan.slaves) leads ns) (rows.nodes ∙ sym same_slaves) rest }
+
+  leaves_nothing : Rests plan → Finishes plan → (leads : List Leads) → Keeps plan (map exchanged book.frames) leads → (ending : Ending) → EndsAs plan book ending → RestBy (lens_of plan.slaves) ending leads book.slaves → LeavesNothing plan book leads ending
+  leaves_nothing law done leads kept endings.Done ends rest = done (map exchanged book.frames) leads kept (resting leads ends.rows (all_done (lens_of plan.slaves) leads book.slaves rest)) (all_stayed (lens_of plan.slaves) leads book.slaves rest)
+  leaves_nothing law done leads kept endings.GivenUp ends rest = law (map exchanged book.frames) leads kept (resting leads ends.rows (all_at_rest (lens_of plan.slaves) leads book.slaves rest))
+  leaves_nothing law done leads kept endings.BudgetSpent ends rest = tt
+  leaves_nothing law done leads kept endings.NoMemory ends rest = tt
+  leaves_nothing law done leads kept endings.PortFault ends rest = tt
+  leaves_nothing law done leads kept endings.Unfinished ends rest = tt
+
+  -- the promise, by the ending that the book has
+  promised_by : Promises plan → Rests plan → Finishes plan → HasFrames plan book → EndsAs plan book book.ending → LedBook plan book book.ending → IsPromised plan book
+  promised_by law rests done frames ends led =
+      let fs : List Exchanged = map exchanged book.frames in
+      let round : AllRound (ring_of plan) fs = all_round (first_ring plan) book.frames frames.recorded in
+      let kept : Keeps plan fs led.leads = law fs [] led.missed led.leads led.lives (subst (λ (gs : List Exchanged). AllRound (ring_of plan) gs) (sym (append-nil fs)) round) in
+      record { led = led; kept = kept; slaves = same_slaves; over = leaves_nothing rests done led.leads kept book.ending ends led.rests }
+
+-- THE PROMISE, by the laws for a plan that was read
+pub promised : (plan : Scenario) (book : Book) (ending : Ending) → Promises plan → Rests plan → Finishes plan → HasFrames plan book → EndsAs plan book ending → book.ending ≡ ending → LedBook plan book ending → IsPromised plan book
+promised plan book ending law rests done frames ends is led =
+    promised_by plan book law rests done frames (subst (λ (e : Ending). EndsAs plan book e) (sym is) ends) (subst (λ (e : Ending). LedBook plan book e) (sym is) led)

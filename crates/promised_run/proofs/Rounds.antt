@@ -1,0 +1,19 @@
+-- THE FRAMES OF A BOOK went round the ring of the plan's slaves.
+use Rattle.std.proofs.Common.{◌≡◌, List, [], ◌∷◌, map, refl}
+use Rattle.run_book.specs.declared.book.SentFrame.{SentFrame}
+use Rattle.run_lives.specs.Round as Round
+use Rattle.run_lives.specs.Round.{AllRound}
+use Rattle.run_record.specs.Led.{exchanged}
+use Rattle.run_record.specs.Replay.{AreRecorded, ring_after, behind}
+use Rattle.segment_ring.specs.Ring.{RingState}
+use Rattle.slave_server.specs.Serving.{Serving}
+use Rattle.slave_steps.specs.Node.{Node}
+
+pub all_round : (ring : RingState (Node Serving)) (fs : List SentFrame) → AreRecorded ring fs → AllRound ring (map exchanged fs)
+all_round ring [] recorded = tt
+all_round ring (f ∷ fs) recorded = (record { fate = recorded.0.fate; back = recorded.0.back }, all_round (behind ring f.sent) fs recorded.1)
+
+-- the ring behind them is the one that replays them
+pub same_ring : (ring : RingState (Node Serving)) (fs : List SentFrame) → Round.ring_after ring (map exchanged fs) ≡ ring_after ring fs
+same_ring ring [] = refl
+same_ring ring (f ∷ fs) = same_ring (behind ring f.sent) fs

@@ -1,0 +1,29 @@
+-- THE PROMISE OF A RUN, by the frames of its book.
+use Rattle.std.specs.Prelude.{◌≡◌, List, map, ⊤}
+use Rattle.life_runs.specs.Led.{Leads}
+use Rattle.plan_promises.specs.Promise.{slaves_behind, Keeps}
+use Rattle.plan_promises.specs.Rest.{NothingIsLeft, AllIsDone}
+use Rattle.run_book.specs.declared.book.Book.{Book}
+use Rattle.run_book.specs.declared.book.Ending.{Ending}
+use Rattle.run_book.specs.declared.book.Ending.TheVariants as endings
+use Rattle.run_record.specs.Led.{LedBook, exchanged}
+use Rattle.run_record.specs.Replay.{first_ring, ring_after}
+use Rattle.segment_plan.specs.declared.plan.Scenario.{Scenario}
+
+-- WHERE A RUN IS OVER: done, all of each slave is done; with a slave given up, nothing is left of those that weren't given up for good
+abbrev pub LeavesNothing : Scenario → Book → List Leads → Ending → Type 0
+LeavesNothing plan book leads endings.Done = AllIsDone plan (map exchanged book.frames) leads
+LeavesNothing plan book leads endings.GivenUp = NothingIsLeft plan (map exchanged book.frames) leads
+LeavesNothing plan book leads endings.BudgetSpent = ⊤
+LeavesNothing plan book leads endings.NoMemory = ⊤
+LeavesNothing plan book leads endings.PortFault = ⊤
+LeavesNothing plan book leads endings.Unfinished = ⊤
+
+-- WHATEVER FRAMES ARE LOST: the frames of the book are just those that the lives of the slaves ask for, and these were given up at just the frames that the
+-- book has; each slave has begun the first services of its script, in order, has carried out the first of these, and gave the replies; these
+-- slaves are those of the very ring that replays the frames; and where the run is over nothing is left of it
+pub record IsPromised (plan : Scenario) (book : Book) : Type 0 where
+  pub led : LedBook plan book book.ending
+  pub kept : Keeps plan (map exchanged book.frames) led.leads
+  pub slaves : slaves_behind plan (map exchanged book.frames) ≡ (ring_after (first_ring plan) book.frames).nodes
+  pub over : LeavesNothing plan book led.leads book.ending

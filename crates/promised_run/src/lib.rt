@@ -1,0 +1,33 @@
+//! A run of a plan that was read, with what it promises of each slave.
+#![tactic(auto)]
+
+ghost use Rattle.std.specs.Prelude.{◌≡◌, [], false};
+ghost use Rattle.run_book.specs.Book.{IsNew};
+ghost use Rattle.run_record.specs.Ran.{HasFrames, EndsAs};
+ghost use Rattle.scenario.specs.Told.{IsTold};
+ghost use Rattle.segment_plan.specs.Sound.{IsPlan};
+ghost use Rattle.promised_run.specs.Promised.{IsPromised};
+
+use plan_promises::{read_promise_law, rest_promise_law};
+use run_book::{Book, Ending};
+use segment_plan::Scenario;
+use std::alloc::Global;
+
+/// Runs a plan that was read, as `run_record` does. Whatever frames are lost, each slave begins just the first services of its script, each once and
+/// in order; it has carried out in each epoch just the first of these, and each reply is its application's.
+pub fn run(alloc: Global, plan: &Scenario, book: &mut Book) -> Ending
+    requires plan { IsPlan plan.now }
+    requires told { IsTold plan.now }
+    requires new { IsNew book.old }
+    ensures frames { HasFrames plan.now book.new }
+    ensures promise { IsPromised plan.now book.new }
+    ensures ends { EndsAs plan.now book.new result }
+    ensures ending { book.new.ending ≡ result }
+    ensures serving { book.new.serving ≡ false }
+    ensures unheard { book.new.grams ≡ [] }
+    ensures unsent { book.new.replies ≡ [] }
+{
+    read_promise_law();
+    rest_promise_law();
+    run_record::run(alloc, plan, book)
+}
