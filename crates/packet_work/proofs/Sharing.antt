@@ -1,14 +1,13 @@
 -- A packet goes to no port but those of the other slaves.
-use Rattle.std.proofs.Common.{◌≡◌, ◌≢◌, ◌⊎◌, ℕ, zero, suc, ◌+◌, ◌-◌, ◌*◌, ◌<◌, ◌≤◌, ◌==◌, Bool, true, false, Option, Some, None, List, [], ◌∷◌, ◌++◌, length, drop, refl, sym, ap, ◌∙◌, subst, arith, if◌then◌else◌, eqb-true, eq-eqb}
-use Rattle.std.specs.Prelude.{◌&&◌, ◌||◌, not, nat_lt, slice_get, slice_set}
-use Rattle.std.proofs.lemmas.Nat.{mul-le}
+use Rattle.std.proofs.Common.{◌≡◌, ◌≢◌, ℕ, zero, suc, ◌+◌, ◌-◌, ◌*◌, ◌<◌, ◌≤◌, ◌==◌, Bool, true, false, Some, List, [], ◌∷◌, ◌++◌, length, refl, ap, ◌∙◌, arith, if◌then◌else◌, eq-eqb}
+use Rattle.std.specs.Prelude.{◌||◌, not, nat_lt, slice_get, slice_set}
 use Rattle.arrayvec.specs.ArrayVec.{ArrayVec}
 use Rattle.eoe_switch.specs.declared.port.Offered.TheVariants.{Not, Taken, Full}
 use Rattle.eoe_switch.specs.declared.port.Port.{Port}
 use Rattle.eoe_switch.specs.declared.port.Route.{Route}
-use Rattle.eoe_switch.specs.Ports.{AtPort, is_target, is_known_target, taken_at, offered}
-use Rattle.eoe_switch.specs.Switch.{ports_behind, changed}
-use Rattle.packet_work.specs.Packets.{cuts, may_echo, waiting_work, queue_work, ports_work, flight_work}
+use Rattle.eoe_switch.specs.Ports.{AtPort, is_known_target, offered}
+use Rattle.eoe_switch.specs.Switch.{ports_behind}
+use Rattle.packet_work.specs.Packets.{waiting_work, queue_work, ports_work, flight_work}
 
 -- ONE MORE IN A QUEUE
 queue_more : (n : ℕ) (ps : List (ArrayVec ℕ)) (p : ArrayVec ℕ) → queue_work n (ps ++ p ∷ []) ≡ queue_work n ps + waiting_work n p.items

@@ -1,14 +1,13 @@
 -- Each event keeps what packets come to within their bound.
-use Rattle.std.proofs.Common.{◌≡◌, ◌⊎◌, ℕ, zero, suc, ◌+◌, ◌-◌, ◌*◌, ◌/◌, ◌<◌, ◌≤◌, ◌==◌, Bool, true, false, Option, Some, None, List, [], ◌∷◌, ◌++◌, length, drop, refl, sym, ap, ◌∙◌, subst, arith, if◌then◌else◌}
-use Rattle.std.specs.Prelude.{slice_get, slice_set, replicate}
+use Rattle.std.proofs.Common.{◌≡◌, ℕ, zero, suc, ◌+◌, ◌-◌, ◌*◌, ◌/◌, ◌≤◌, Bool, true, false, Option, Some, None, List, [], length, drop, refl, ap, ◌∙◌, arith, if◌then◌else◌}
+use Rattle.std.specs.Prelude.{slice_get, slice_set}
 use Rattle.std.proofs.lemmas.Nat.{mul-le}
 use Rattle.std.proofs.lemmas.List.{length-set}
 use Rattle.arrayvec.specs.ArrayVec.{ArrayVec}
-use Rattle.eoe_model.specs.Echo.{echo_of}
 use Rattle.eoe_switch.specs.declared.port.Port.{Port}
-use Rattle.eoe_switch.specs.Switch.{Switched, first_ports, first_port, first_switch, arrived, begun_at, downed_at, changed, route_of, learned_from}
+use Rattle.eoe_switch.specs.Switch.{Switched, first_ports, arrived, begun_at, changed, route_of, learned_from}
 use Rattle.packet_work.specs.Packets.{cuts, may_echo, waiting_work, queue_work, ports_work, flight_work}
-use Rattle.packet_work.specs.World.{World, Waits, IsUnderWay, Happens, Happened, new_world}
+use Rattle.packet_work.specs.World.{World, Waits, Happens, Happened, new_world}
 use Rattle.packet_work.proofs.Echoes.{echo_law, of_echo}
 use Rattle.packet_work.proofs.Sharing.{others, ports_shared, ports_length, others_host, others_slave, one_changed, flight_removed}
 
