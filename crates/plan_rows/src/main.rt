@@ -4,6 +4,8 @@
 ghost use Rattle.std.specs.Prelude.{◌≤◌, IfSome};
 
 #[cfg(test)]
+mod limits;
+#[cfg(test)]
 mod rows;
 
 use ec_fields::Octets;

@@ -5,12 +5,12 @@ use std::alloc::Global;
 use std::test::Fail;
 
 /// A slave `a` that serves CoE, with a station address to be written behind.
-const A: &str = "[[slave]]\nname = \"a\"\nmail = [64, 64]\nserves = [\"coe\"]\nstation = ";
+pub const A: &str = "[[slave]]\nname = \"a\"\nmail = [64, 64]\nserves = [\"coe\"]\nstation = ";
 
 /// A slave `b` of station 2.
 const B: &str = "[[slave]]\nname = \"b\"\nmail = [64, 64]\nserves = []\nstation = 2\n";
 
-fn refusal(alloc: Global, texts: &[&str]) -> Result<Option<(u8, Place)>, Fail> {
+pub fn refusal(alloc: Global, texts: &[&str]) -> Result<Option<(u8, Place)>, Fail> {
     let mut octets = Octets::new(alloc);
     for text in texts {
         octets.add(text.as_bytes())?;
