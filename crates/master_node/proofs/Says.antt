@@ -1,6 +1,6 @@
 -- WHAT A MASTER SAYS of the newest service of a slave.
 use Rattle.std.proofs.Common.{◌≡◌, ◌<◌, ℕ, zero, suc, Bool, true, false, Option, Some, None, List, [], ◌∷◌, ◌++◌, length, get_or, refl, ap, sym, ◌∙◌, subst, arith}
-use Rattle.std.specs.Prelude.{IfSome, slice_get, is_some}
+use Rattle.std.specs.Prelude.{IfSome, IfOk, Result, Ok, Err, slice_get, is_some}
 use Rattle.exchange_model.specs.Exchange.{Speech}
 use Rattle.exchange_model.specs.Rows.{Row}
 use Rattle.frame_view.specs.View.{Lens}
@@ -84,3 +84,8 @@ both_here P Q [] (t ∷ ts) k s x l e h = absurd x
 both_here P Q (a ∷ as') [] k s x l e h = absurd x
 both_here P Q (a ∷ as') (t ∷ ts) zero s x l e h = h a (subst (P a) (sym e) x.0)
 both_here P Q (a ∷ as') (t ∷ ts) (suc k) s x l e h = both_here P Q as' ts k s x.1 (omega (arith, l)) e h
+
+-- where a call came to a value
+pub if_ok_so : {T E : Type 0} {P Q : T → Type 0} (r : Result T E) → ((t : T) → P t → Q t) → IfOk r P → IfOk r Q
+if_ok_so (Ok t) h p = h t p
+if_ok_so (Err e) h p = tt
