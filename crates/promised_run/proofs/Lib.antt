@@ -1,2 +1,4 @@
+mod Unopened
+mod Reported
 mod Rounds
 mod Overs

@@ -8,7 +8,9 @@ use Rattle.life_runs.specs.Led.{Exchanged, Leads, IsLed}
 use Rattle.plan_promises.specs.Promise.{slaves_behind, Keeps}
 use Rattle.plan_promises.specs.Rest.{IsAtRest, AllAtRest, AllStayed, IsResting, NothingIsLeft, AllIsDone}
 use Rattle.promised_run.specs.Promised.{LeavesNothing, IsPromised}
+use Rattle.promised_run.proofs.Reported.{all_reported}
 use Rattle.promised_run.proofs.Rounds.{all_round, same_ring}
+use Rattle.promised_run.proofs.Unopened.{all_opened}
 use Rattle.run_book.specs.declared.book.Book.{Book}
 use Rattle.run_book.specs.declared.book.Ending.{Ending}
 use Rattle.run_book.specs.declared.book.Ending.TheVariants as endings
@@ -80,7 +82,7 @@ module _ (plan : Scenario) (book : Book) where
       let fs : List Exchanged = map exchanged book.frames in
       let round : AllRound (ring_of plan) fs = all_round (first_ring plan) book.frames frames.recorded in
       let kept : Keeps plan fs led.leads = law fs [] led.missed led.leads led.lives (subst (λ (gs : List Exchanged). AllRound (ring_of plan) gs) (sym (append-nil fs)) round) in
-      record { led = led; kept = kept; slaves = same_slaves; over = leaves_nothing rests done led.leads kept book.ending ends led.rests }
+      record { led = led; kept = kept; slaves = same_slaves; over = leaves_nothing rests done led.leads kept book.ending ends led.rests; reported = λ ok. all_reported plan fs 0 plan.slaves led.leads (slaves_behind plan fs) book.slaves kept.each (all_opened (lens_of plan.slaves) plan plan.retry fs led.missed led.leads led.lives) (led.answers ok) }
 
 -- THE PROMISE, by the laws for a plan that was read
 pub promised : (plan : Scenario) (book : Book) (ending : Ending) → Promises plan → Rests plan → Finishes plan → HasFrames plan book → EndsAs plan book ending → book.ending ≡ ending → LedBook plan book ending → IsPromised plan book

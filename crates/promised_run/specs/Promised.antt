@@ -1,8 +1,9 @@
 -- THE PROMISE OF A RUN, by the frames of its book.
-use Rattle.std.specs.Prelude.{◌≡◌, List, map, ⊤}
+use Rattle.std.specs.Prelude.{◌≡◌, ◌≢◌, List, map, ⊤}
 use Rattle.life_runs.specs.Led.{Leads}
 use Rattle.plan_promises.specs.Promise.{slaves_behind, Keeps}
 use Rattle.plan_promises.specs.Rest.{NothingIsLeft, AllIsDone}
+use Rattle.promised_run.specs.Reported.{AllReported}
 use Rattle.run_book.specs.declared.book.Book.{Book}
 use Rattle.run_book.specs.declared.book.Ending.{Ending}
 use Rattle.run_book.specs.declared.book.Ending.TheVariants as endings
@@ -27,3 +28,5 @@ pub record IsPromised (plan : Scenario) (book : Book) : Type 0 where
   pub kept : Keeps plan (map exchanged book.frames) led.leads
   pub slaves : slaves_behind plan (map exchanged book.frames) ≡ (ring_after (first_ring plan) book.frames).nodes
   pub over : LeavesNothing plan book led.leads book.ending
+  -- each reply that the book reports of a scripted service by mails is that of this application, and of the script just the services stand there that began
+  pub reported : book.ending ≢ endings.NoMemory → AllReported plan (map exchanged book.frames) 0 plan.slaves led.leads (slaves_behind plan (map exchanged book.frames)) book.slaves

@@ -53,12 +53,12 @@ pub record LastScript (begun : List Begun) (answers : List Answer) : Type 0 wher
 
 -- WHAT IS NOTED GOES WITH THE LIFE: the scripted services, each with its reply; each service but the one in hand has an answer; and where that isn't one
 -- by mails of the script, whatever answer it gets says nothing of those
-pub record IsReporting (a : Leads) (begun : List Begun) (answers : List Answer) (in_hand mails : Bool) (scripted : ℕ) (gave : List ℕ) : Type 0 where
+pub record IsReporting (a : Leads) (begun : List Begun) (answers : List Answer) (in_hand mails : Bool) (scripted : ℕ) (given : List ℕ) : Type 0 where
   pub told : IsNoted a mails scripted (noted_in begun answers)
   pub aligned : length begun ≡ length answers + unanswered in_hand
   pub last : mails ≡ true → LastScript begun answers
   pub other : in_hand ≡ true → mails ≡ false → (answer : Answer) → AllNoted (life_scripted a.lived.life) (noted_in begun (answers ++ answer ∷ []))
-  pub gave : gave ≡ gave_of a
+  pub gave : given ≡ gave_of a
 
 abbrev pub Reports : Leads → Notes → Type 0
 Reports a n = IsReporting a n.begun n.answers n.in_hand n.mails n.scripted n.gave

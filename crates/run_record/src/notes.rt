@@ -82,7 +82,8 @@ impl Notes {
 
     /// A service came into hand as a frame was about to be made.
     pub fn began(&mut self, origin: Origin, frame: u32) -> Result<(), NoMemory>
-        ensures { OnOk result (self.new ≡ the.began self.old origin frame) }
+        ensures is { OnOk result (self.new ≡ the.began self.old origin frame) }
+        ensures gave { self.new.gave ≡ self.old.gave }
     {
         self.doubt()?;
         self.begun.add(Begun { origin, frame })?;
@@ -98,7 +99,8 @@ impl Notes {
         mails: bool,
         frame: u32,
     ) -> Result<(), NoMemory>
-        ensures { OnOk result (self.new ≡ the.began_script self.old number mails frame) }
+        ensures is { OnOk result (self.new ≡ the.began_script self.old number mails frame) }
+        ensures gave { self.new.gave ≡ self.old.gave }
     {
         self.began(Origin::Script(self.scripted), frame)?;
         self.mails = mails;
@@ -108,7 +110,8 @@ impl Notes {
 
     /// The return of a frame completed the reply of the service in hand.
     pub fn replied(&mut self, reply: Reply, frame: u32) -> Result<(), NoMemory>
-        ensures { OnOk result (self.new ≡ the.answered self.old reply frame) }
+        ensures is { OnOk result (self.new ≡ the.answered self.old reply frame) }
+        ensures gave { self.new.gave ≡ self.old.gave }
     {
         self.in_hand = false;
         self.mails = false;
@@ -117,7 +120,8 @@ impl Notes {
 
     /// So it is where a service is in hand; one by mails of the script is left alone.
     pub fn answered(&mut self, reply: Reply, frame: u32) -> Result<(), NoMemory>
-        ensures { OnOk result (self.new ≡ the.answered_where self.old reply frame) }
+        ensures is { OnOk result (self.new ≡ the.answered_where self.old reply frame) }
+        ensures gave { self.new.gave ≡ self.old.gave }
     {
         if !self.in_hand || self.mails {
             return Ok(());
@@ -127,7 +131,8 @@ impl Notes {
 
     /// A service that is in hand isn't answered any more.
     pub fn doubt(&mut self) -> Result<(), NoMemory>
-        ensures { OnOk result (self.new ≡ the.doubted self.old) }
+        ensures is { OnOk result (self.new ≡ the.doubted self.old) }
+        ensures gave { self.new.gave ≡ self.old.gave }
     {
         self.mails = false;
         if !self.in_hand {

@@ -15,7 +15,8 @@ use std::alloc::Global;
 
 // What a master tells of the service in hand, which awaits its reply. One of which it says nothing isn't awaited any more.
 fn note_told(notes: &mut Notes, told: Told, value: Octets, frame: u32) -> Result<(), NoMemory>
-    ensures { OnOk result (notes.new ≡ told_noted told value frame notes.old) }
+    ensures is { OnOk result (notes.new ≡ told_noted told value frame notes.old) }
+    ensures gave { notes.new.gave ≡ notes.old.gave }
 {
     match told {
         Told::Waits => Ok(()),

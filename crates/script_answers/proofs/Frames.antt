@@ -339,6 +339,7 @@ module _ (lens : ℕ → Lens) (recover retry : ℕ) (gives : Bool) (made : ℕ)
   passes_so = record {
     waits = λ waits number ns h none. pass_waits waits number ns h none;
     told = λ number front frame reply g e h. pass_told number front frame reply g e h;
+    up = λ number ns h. (awaiting (h.waits refl)).stand;
     forgets = λ waits number ns h. behind_forgets Pass waits number ns h;
     on = λ ns h. noted_on Pass ns h;
     gave = back_gave u.lived.spot (seen lens f.back) u.lived.life (came_at u.share.under u.share.at (seen lens f.back)) u.lived.life.stand;

@@ -31,6 +31,7 @@ pub record PassesSo (made : ℕ) (a b : Leads) : Type 0 where
   pub waits : (waits : Bool) (number : ℕ) (ns : List Noted) → IsNoted a waits number ns → (waits ≡ true → newest_answer b ≡ None) → IsNoted b waits number ns
   pub told : (number : ℕ) (front : List Noted) (frame : ℕ) (reply : Reply) (g : ℕ) → newest_answer b ≡ Some (reply, g) → IsNoted a true number (front ++ record { frame = frame; reply = None } ∷ []) →
       IsNoted b false number (front ++ record { frame = frame; reply = Some (reply, made) } ∷ [])
+  pub up : (number : ℕ) (ns : List Noted) → IsNoted a true number ns → b.lived.life.stand ≡ Stand.Open
   pub forgets : (waits : Bool) (number : ℕ) (ns : List Noted) → IsNoted a waits number ns → IsNoted b false number ns
   pub on : (ns : List Noted) → AllNoted (life_scripted a.lived.life) ns → AllNoted (life_scripted b.lived.life) ns
   pub gave : gives b ≡ gives a

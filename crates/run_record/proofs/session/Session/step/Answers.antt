@@ -70,7 +70,7 @@ returns-clause-ok c =
             c.in_ok-note_before.ensures.told both.1;
       },
     ))
-    (on_ok_both c.note_behind.result c.note_behind.ensures.gave c.note_behind.ensures.told)
+    (on_ok_both _ _ c.note_behind.result c.note_behind.ensures.gave c.note_behind.ensures.told)
 
 pub returns-clause-err : goal.returns-clause-err
 returns-clause-err c =
