@@ -6,14 +6,18 @@ use Rattle.std.proofs.lemmas.List.{map-append}
 use Rattle.datagrams.specs.Datagram as Raw
 use Rattle.frame_view.specs.View.{Lens}
 use Rattle.frame_view.specs.Seen.{seen}
-use Rattle.life_frames.specs.Shares.{Lived, came_at, given_where}
+use Rattle.life_frames.specs.Shares.{AllBoth, Lived, came_at, given_where}
 use Rattle.life_model.specs.Lives.{Life, life_lost}
 use Rattle.life_runs.specs.First.{lens_of, first_leads, leads_from}
 use Rattle.life_runs.specs.Led.{Exchanged, Leads, Turn, AllTurn, IsLed, IsLedFrame, is_passed, speech_at, life_behind, led_behind, gives_up_at, missed_behind}
 use Rattle.link_mails.specs.Body.{Body}
 use Rattle.master_duty.specs.Reply.{Reply}
 use Rattle.master_hand.specs.Spoken.{Asked, acknowledged, is_followed}
-use Rattle.master_node.specs.Shows.{MasterShows, MasterUnder}
+use Rattle.life_runs.specs.Led.{new_leads}
+use Rattle.life_model.specs.Lives.{Spot}
+use Rattle.master_node.specs.Shows.{MasterShows, MasterUnder, IsLead, IsUnder}
+use Rattle.master_node.specs.Told.{HasLeads}
+use Rattle.master_node.proofs.Lists.{both_map}
 use Rattle.master_node.specs.Wants.{gave_of, AllCounted}
 use Rattle.master_node.specs.declared.node.MasterNode.{MasterNode}
 use Rattle.master_node.specs.declared.node.Next.{Next}
@@ -34,13 +38,32 @@ use Rattle.ring_returns.proofs.Returned as Returned
 use Rattle.run_record.specs.declared.notes.Notes.{Notes}
 use Rattle.run_record.specs.declared.standing.Log.{Log}
 use Rattle.run_record.specs.Led.{exchanged, gaves_noted, Leading, AreLed}
-use Rattle.run_record.specs.Session.{first_notes, gaves_behind, GaveBy, has_live}
+use Rattle.run_record.specs.Notes.{new_notes}
+use Rattle.run_record.specs.Reports.{Reports, AllReport, ReportsOn, ReportsBy, TurnsAll}
+use Rattle.run_record.specs.Session.{first_notes, scripted, gaves_behind, GaveBy, has_live}
+use Rattle.script_answers.specs.Answers.{turned as turned_lead}
+use Rattle.script_answers.specs.Steps.{TurnsSo, PassesSo, LosesSo}
+use Rattle.script_answers.proofs.Frames.{passes_so, loses_so}
+use Rattle.script_answers.proofs.Turns.{turns_so}
 use Rattle.run_record.proofs.Gaves.{with_more}
 
 -- BEFORE THE FIRST FRAME
 first_gaves : (services : List (ℕ × Plan.Service)) (number place : ℕ) (ss : List SlaveSpec) → gaves_noted (first_notes services number ss) ≡ map gave_of (leads_from services place ss)
 first_gaves services number place [] = refl
 first_gaves services number place (s ∷ ss) = ap (λ (gs : List (List ℕ)). [] ∷ gs) (first_gaves services (number + 1) (suc place) ss)
+
+new_reports : (script : List Plan.Service) (spot : Spot) (left : ℕ) → Reports (new_leads script spot) (new_notes left)
+new_reports script spot left = record {
+  told = record { many = refl; beside = refl; noted = tt; waits = λ bad. absurd (let no : false ≡ true = bad in cc) };
+  aligned = omega arith;
+  last = λ bad. absurd (let no : false ≡ true = bad in cc);
+  other = λ bad m answer. absurd (let no : false ≡ true = bad in cc);
+  gave = refl;
+}
+
+first_reports : (services : List (ℕ × Plan.Service)) (number place : ℕ) (ss : List SlaveSpec) → AllReport (leads_from services place ss) (first_notes services number ss)
+first_reports services number place [] = tt
+first_reports services number place (s ∷ ss) = (new_reports _ _ (scripted services number), first_reports services (number + 1) (suc place) ss)
 
 pub begins : (plan : Scenario) (m : MasterNode) (notes : List Notes) → MasterShows (lens_of plan.slaves) plan.recover plan.retry m 0 (first_leads plan) → notes ≡ first_notes plan.services 0 plan.slaves → Leading plan m notes []
 begins plan m notes shown first = record {
@@ -49,6 +72,7 @@ begins plan m notes shown first = record {
   lives = IsLed.start;
   shows = shown;
   gave = ap gaves_noted first ∙ first_gaves plan.services 0 0 plan.slaves;
+  told = subst (λ (ns : List Notes). AllReport (first_leads plan) ns) (sym first) (first_reports plan.services 0 0 plan.slaves);
 }
 
 -- GIVE-UPS over a frame
@@ -96,6 +120,25 @@ module _ (lens : ℕ → Lens) (recover retry : ℕ) (gives : Bool) (made : ℕ)
       (more_given (gives && u.share.under) u.lived m (lost_gave (speech_at lens u.lived.spot) acknowledged is_followed is_passed recover u.lived.spot u.lived.life [] (seen lens f.sent) u.lived.life.stand))
       ∙ ap (λ gs. behind_gave (Fates.Lost after) u ∷ gs) (lost_gaves after us)
 
+-- WHAT IS NOTED over a frame
+module _ (lens : ℕ → Lens) (recover retry : ℕ) (gives : Bool) (made : ℕ) (f : Exchanged) where
+  all_turns : (ds : List Raw.Datagram) (as' : List Leads) (us : List Turn) → AllTurn lens made ds as' us → AllBoth (λ a b. TurnsSo made a b) as' (map turned_lead us)
+  all_turns ds [] [] t = tt
+  all_turns ds [] (u ∷ us) t = absurd t
+  all_turns ds (a ∷ as') [] t = absurd t
+  all_turns ds (a ∷ as') (u ∷ us) t = (turns_so lens made ds a u t.0, all_turns ds as' us t.1)
+
+  abbrev led_by : Fate → Turn → Leads
+  led_by fate u = record { script = u.script; number = u.number; lived = life_behind lens recover retry gives made f fate u.lived u.share }
+
+  all_pass : (us : List Turn) → AllBoth (λ a b. PassesSo made a b) (map turned_lead us) (map (λ u. led_by Fates.Pass u) us)
+  all_pass [] = tt
+  all_pass (u ∷ us) = (passes_so lens recover retry gives made f u, all_pass us)
+
+  all_lose : (after : ℕ) (us : List Turn) → AllBoth (λ a b. LosesSo made a b) (map turned_lead us) (map (λ u. led_by (Fates.Lost after) u) us)
+  all_lose after [] = tt
+  all_lose after (u ∷ us) = (loses_so lens recover retry gives made f u after, all_lose after us)
+
 -- ONE FRAME: what the master says of it before, and of its return or loss
 module _ (m0 m1 m2 : MasterNode) (f : Exchanged) (result : Next)
     (idle : (result ≡ nexts.Idle) ↔ (has_live m0 ≡ false))
@@ -123,7 +166,8 @@ module _ (m0 m1 m2 : MasterNode) (f : Exchanged) (result : Next)
 
     module _ (tell : (number : ℕ) (us : List Turn) → IsLedFrame lens number f.sent l.leads us → MasterUnder lens plan.recover plan.retry m1 f.sent l.missed us →
         MasterShows lens plan.recover plan.retry m2 (missed_behind lens plan.recover plan.retry f.fate l.missed) (map (led_behind lens plan.recover plan.retry gives number f) us))
-        (frame : ℕ) (counts : length fs ≡ frame) (r r' : Log) (recover : r.recover ≡ plan.recover) (before : gaves_noted r.notes ≡ gaves_noted notes) (noted : GaveBy f.fate frame m2 r r') where
+        (frame : ℕ) (counts : length fs ≡ frame) (r r' : Log) (recover : r.recover ≡ plan.recover) (before : gaves_noted r.notes ≡ gaves_noted notes) (noted : GaveBy f.fate frame m2 r r')
+        (told_before : TurnsAll frame m1 (ReportsOn notes r.notes)) (told_behind : ReportsBy f.fate frame m2 r r') where
       shown : MasterShows lens plan.recover plan.retry m2 (missed_behind lens plan.recover plan.retry f.fate l.missed) (leads made.0)
       shown = tell (length fs) made.0 made.1 made.2
 
@@ -150,6 +194,29 @@ module _ (m0 m1 m2 : MasterNode) (f : Exchanged) (result : Next)
           ∙ ap (λ (gs : List (List ℕ)). gaves_behind (length fs) (map (behind_gave lens plan.recover plan.retry gives (length fs) f (Fates.Lost after)) made.0) gs) turned
           ∙ lost_gaves lens plan.recover plan.retry gives (length fs) f after made.0 ∙ sym is
 
+      under : HasLeads lens plan.recover m1 (map turned_lead made.0)
+      under = both_map turned_lead (λ u s. IsUnder lens plan.recover f.sent u s) (λ a s. IsLead lens plan.recover a s) (λ u s p. p.lead) made.0 m1.tour.stops.items made.2.each
+
+      turned_reports : AllReport (map turned_lead made.0) r.notes
+      turned_reports =
+          (subst (λ (k : ℕ). TurnsAll k m1 (ReportsOn notes r.notes)) (sym counts) told_before) lens plan.recover l.leads (map turned_lead made.0) under
+          (all_turns lens plan.recover plan.retry gives (length fs) f made.1.datagrams l.leads made.0 made.1.each) l.told
+
+      told_by : (fate : Fate) → f.fate ≡ fate → AllReport (leads made.0) r'.notes
+      told_by Fates.Pass e =
+          let by : ReportsBy Fates.Pass (length fs) m2 r r' = subst (λ (n : ℕ). ReportsBy Fates.Pass n m2 r r') (sym counts) (subst (λ (k : Fate). ReportsBy k frame m2 r r') e told_behind) in
+          by lens plan.recover (map turned_lead made.0) (leads made.0) shown.each
+          (subst (λ (k : Fate). AllBoth (λ a b. PassesSo (length fs) a b) (map turned_lead made.0) (map (λ u. led_by lens plan.recover plan.retry gives (length fs) f k u) made.0)) (sym e) (all_pass lens plan.recover plan.retry gives (length fs) f made.0))
+          turned_reports
+      told_by (Fates.Lost after) e =
+          let by : ReportsBy (Fates.Lost after) (length fs) m2 r r' = subst (λ (n : ℕ). ReportsBy (Fates.Lost after) n m2 r r') (sym counts) (subst (λ (k : Fate). ReportsBy k frame m2 r r') e told_behind) in
+          let all : AllCounted plan.recover (leads made.0) = counted lens plan plan.retry (fs ++ f ∷ []) _ (leads made.0) (IsLed.on fs l.missed l.leads f made.0 l.lives made.1) in
+          by lens plan.retry (missed_behind lens plan.recover plan.retry f.fate l.missed) (map turned_lead made.0) (leads made.0)
+          (subst (λ (n : ℕ). MasterShows lens n plan.retry m2 (missed_behind lens plan.recover plan.retry f.fate l.missed) (leads made.0)) (sym recover) shown)
+          (subst (λ (n : ℕ). AllCounted n (leads made.0)) (sym recover) all)
+          (subst (λ (k : Fate). AllBoth (λ a b. LosesSo (length fs) a b) (map turned_lead made.0) (map (λ u. led_by lens plan.recover plan.retry gives (length fs) f k u) made.0)) (sym e) (all_lose lens plan.recover plan.retry gives (length fs) f after made.0))
+          turned_reports
+
       pub leads_on : Leading plan m2 r'.notes (fs ++ f ∷ [])
       leads_on = record {
         missed = missed_behind lens plan.recover plan.retry f.fate l.missed;
@@ -157,6 +224,7 @@ module _ (m0 m1 m2 : MasterNode) (f : Exchanged) (result : Next)
         lives = IsLed.on fs l.missed l.leads f made.0 l.lives made.1;
         shows = shown;
         gave = gave_by f.fate refl;
+        told = told_by f.fate refl;
       }
 
 -- what the ring gave back of a frame of the master's is its return

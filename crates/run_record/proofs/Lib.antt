@@ -14,3 +14,5 @@ pub mod Underway
 pub mod Gaves
 pub mod Ends
 pub mod Overs
+pub mod Reports
+pub mod Reporting

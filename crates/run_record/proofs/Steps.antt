@@ -22,6 +22,10 @@ pub any_err : {T E P : Type 0} (r : Result T E) → P → OnErr r P
 any_err (Ok v) p = tt
 any_err (Err e) p = p
 
+pub on_ok_both : {T E : Type 0} (P Q : Type 0) (r : Result T E) → OnOk r P → OnOk r Q → OnOk r (P × Q)
+on_ok_both P Q (Ok v) p q = (p, q)
+on_ok_both P Q (Err e) p q = tt
+
 -- what a session keeps true: so many homes, lists of mails and posts as slaves
 abbrev pub Holds : ℕ → ℕ → List Notes → RingState (Node SlaveServer) → ℕ → ℕ → ℕ → Type 0
 Holds number budget notes ring homes asked posts =

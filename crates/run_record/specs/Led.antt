@@ -14,6 +14,7 @@ use Rattle.run_book.specs.declared.book.Ending.{Ending}
 use Rattle.run_book.specs.declared.book.Ending.TheVariants as endings
 use Rattle.run_book.specs.declared.book.SentFrame.{SentFrame}
 use Rattle.run_book.specs.declared.book.SlaveBook.{SlaveBook}
+use Rattle.run_record.specs.Reports.{AllReport, IsBooked}
 use Rattle.run_record.specs.declared.notes.Notes.{Notes}
 use Rattle.segment_plan.specs.declared.plan.Scenario.{Scenario}
 use Rattle.slave_server.specs.Serving.{next_mail}
@@ -40,13 +41,15 @@ gaves_noted notes = map (λ (n : Notes). n.gave) notes
 abbrev pub gaves_in : List SlaveBook → List (List ℕ)
 gaves_in rows = map (λ (row : SlaveBook). row.gave) rows
 
--- A MASTER BEHIND THESE FRAMES of a plan's run leads its slaves, and so often each was given up as is noted
+-- A MASTER BEHIND THESE FRAMES of a plan's run leads its slaves; so often each was given up as is noted, and what is noted of its services goes with its
+-- life
 pub record Leading (plan : Scenario) (m : MasterNode) (notes : List Notes) (fs : List Exchanged) : Type 0 where
   pub missed : ℕ
   pub leads : List Leads
   pub lives : LeadTo plan fs missed leads
   pub shows : MasterShows (lens_of plan.slaves) plan.recover plan.retry m missed leads
   pub gave : gaves_noted notes ≡ map gave_of leads
+  pub told : AllReport leads notes
 
 -- NOTHING IS LEFT of a slave at the end: it was given up for good; or its master wants nothing of it, and the slave is settled
 abbrev pub RestsSo : (ℕ → Lens) → Leads → SlaveBook → Type 0
@@ -67,11 +70,12 @@ RestBy lens endings.NoMemory leads rows = ⊤
 RestBy lens endings.PortFault leads rows = ⊤
 RestBy lens endings.Unfinished leads rows = ⊤
 
--- THE BOOK OF A RUN and the lives that its frames lead to: each slave was given up at just the frames that the book has, and nothing is left of it where
--- the run is over
+-- THE BOOK OF A RUN and the lives that its frames lead to: each slave was given up at just the frames that the book has; of its script just the services
+-- stand in the book that came into hand, each with its frame, and each reply is that of its row; and nothing is left of it where the run is over
 pub record LedBook (plan : Scenario) (book : Book) (ending : Ending) : Type 0 where
   pub missed : ℕ
   pub leads : List Leads
   pub lives : LeadTo plan (map exchanged book.frames) missed leads
   pub gave : ending ≢ endings.NoMemory → gaves_in book.slaves ≡ map gave_of leads
+  pub answers : ending ≢ endings.NoMemory → AllBoth IsBooked leads book.slaves
   pub rests : RestBy (lens_of plan.slaves) ending leads book.slaves

@@ -1,7 +1,8 @@
 -- What became of a slave so far, one event after the other.
-use Rattle.std.specs.Prelude.{ℕ, ◌-◌, Bool, true, false, if◌then◌else◌, nat_lt, List, [], ◌∷◌, ◌++◌, length, replicate, slice_get, slice_set, Option, Some, None, is_some}
+use Rattle.std.specs.Prelude.{ℕ, ◌-◌, ◌&&◌, not, Bool, true, false, if◌then◌else◌, nat_lt, List, [], ◌∷◌, ◌++◌, length, replicate, slice_get, slice_set, Option, Some, None, is_some}
 use Rattle.master_node.specs.declared.event.Origin.{Origin}
 use Rattle.master_node.specs.declared.event.Origin.TheVariants.{Script, Forward, Gateway}
+use Rattle.master_node.specs.declared.told.Told.{Told}
 use Rattle.run_book.specs.declared.book.Answer.{Answer}
 use Rattle.run_book.specs.declared.book.Answer.TheVariants.{Replied, InDoubt, NotSent}
 use Rattle.run_book.specs.declared.book.Epoch.{Epoch}
@@ -19,7 +20,7 @@ first_epoch = record { row = 0; cleared = None; opened = None; emergencies = 0; 
 -- nothing happened yet at a slave with so many scripted services
 abbrev pub new_notes : ℕ → Notes
 new_notes left =
-    record { begun = []; answers = []; emergencies = []; epochs = first_epoch ∷ []; gave = []; in_hand = false; packets = 0; left = left }
+    record { begun = []; answers = []; emergencies = []; epochs = first_epoch ∷ []; gave = []; in_hand = false; mails = false; scripted = 0; packets = 0; left = left }
 
 -- the scripted services that are left behind one that came into hand
 abbrev pub left_behind : Origin → ℕ → ℕ
@@ -27,25 +28,39 @@ left_behind (Script number) left = left - 1
 left_behind (Forward number) left = left
 left_behind (Gateway number) left = left
 
--- a service came into hand as a frame was about to be made
-abbrev pub began : Notes → Origin → ℕ → Notes
-began n origin frame =
-    record n { begun = n.begun ++ record { origin = origin; frame = frame } ∷ []; in_hand = true; left = left_behind origin n.left }
-
--- the return of a frame completed the reply of the service in hand
-abbrev pub answered : Notes → Reply → ℕ → Notes
-answered n reply frame = record n { answers = n.answers ++ Replied reply frame ∷ []; in_hand = false }
-
 -- the answers once a service in hand isn't awaited any more
 abbrev pub answers_doubted : Notes → List Answer
 answers_doubted n = if n.in_hand then n.answers ++ InDoubt ∷ [] else n.answers
 
+-- a service came into hand as a frame was about to be made
+abbrev pub began : Notes → Origin → ℕ → Notes
+began n origin frame =
+    record n { begun = n.begun ++ record { origin = origin; frame = frame } ∷ []; answers = answers_doubted n; in_hand = true; mails = false; left = left_behind origin n.left }
+
+-- the next service of the script did, and the one with this number follows; it goes by mails, or changes the AL state
+abbrev pub began_script : Notes → ℕ → Bool → ℕ → Notes
+began_script n number mails frame = record (began n (Script n.scripted) frame) { mails = mails; scripted = number }
+
+-- the return of a frame completed the reply of the service in hand
+abbrev pub answered : Notes → Reply → ℕ → Notes
+answered n reply frame = record n { answers = n.answers ++ Replied reply frame ∷ []; in_hand = false; mails = false }
+
+-- so the master tells of a service in hand, unless that is one by mails of the script, whose reply it is asked for
+abbrev pub answered_where : Notes → Reply → ℕ → Notes
+answered_where n reply frame = if n.in_hand && not n.mails then answered n reply frame else n
+
 abbrev pub doubted : Notes → Notes
-doubted n = record n { answers = answers_doubted n; in_hand = false }
+doubted n = record n { answers = answers_doubted n; in_hand = false; mails = false }
+
+-- what a master tells of the service in hand, which awaits its reply: nothing, the reply, or that it isn't awaited any more
+abbrev pub told_noted : Told → List ℕ → ℕ → Notes → Notes
+told_noted Told.Waits value frame n = n
+told_noted (Told.Answered kind) value frame n = answered n (record { kind = kind; value = value }) frame
+told_noted Told.Unknown value frame n = doubted n
 
 -- the slave was given up at a frame that was lost
 abbrev pub given_up : Notes → ℕ → Notes
-given_up n frame = record n { answers = answers_doubted n; in_hand = false; gave = n.gave ++ frame ∷ [] }
+given_up n frame = record (doubted n) { gave = n.gave ++ frame ∷ [] }
 
 -- the first row of an epoch: the service that caused the return to Init, or the next that begins
 abbrev pub first_row : Bool → ℕ → ℕ

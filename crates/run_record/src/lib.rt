@@ -4,7 +4,9 @@
 mod log;
 mod losses;
 mod notes;
+mod replies;
 mod running;
+mod scripts;
 mod session;
 mod standing;
 

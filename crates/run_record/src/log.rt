@@ -3,7 +3,9 @@ ghost use Rattle.std.specs.Bool.{OnTrue};
 ghost use Rattle.segment_plan.specs.Sound.{IsLaid};
 ghost use Rattle.run_book.specs.Ports.{ports_of, IsAtPort};
 ghost use Rattle.run_record.specs.Session.{scripted, first_notes, home_of, SameFrames, SameSlaves};
+ghost use Rattle.life_runs.specs.Led.{Leads};
 ghost use Rattle.run_record.specs.Led.{gaves_noted};
+ghost use Rattle.run_record.specs.Reports.{Reports, KeepsReports};
 ghost use Rattle.run_record.specs.Notes.{station_of, stations_of};
 
 use crate::notes::Notes;
@@ -11,7 +13,7 @@ use crate::standing::{AskedMail, Log};
 use ec_fields::{NoMemory, Octets, Rows, buffer_of};
 use eoe_switch::SwitchEvent;
 use mailbox_mail::ReplyKind;
-use master_node::{Event, MasterNode};
+use master_node::{Event, MasterNode, Origin};
 use run_book::{Book, Reply};
 use segment_plan::{Scenario, Service, SlaveSpec};
 use std::alloc::Global;
@@ -63,7 +65,19 @@ fn reply_of(
     Ok(Reply { kind, value })
 }
 
-// Notes what happened at a slave. That it was given up is noted by its master's count.
+// A packet or a mail that is passed on came into hand. What does by the script is noted by its master's number.
+fn note_began(notes: &mut Notes, origin: Origin, frame: u32) -> Result<(), NoMemory>
+    ensures gave { OnOk result (notes.new.gave ≡ notes.old.gave) }
+    ensures told { OnOk result ((a : Leads) → Reports a notes.old → Reports a notes.new) }
+{
+    match origin {
+        Origin::Script(_) => Ok(()),
+        Origin::Forward(number) => notes.began(Origin::Forward(number), frame),
+        Origin::Gateway(number) => notes.began(Origin::Gateway(number), frame),
+    }
+}
+
+// Notes what happened at a slave. That it was given up is noted by its master's count, and the reply of a scripted service by its hand.
 fn note_at(
     alloc: Global,
     master: &MasterNode,
@@ -71,10 +85,11 @@ fn note_at(
     event: &Event,
     notes: &mut Notes,
 ) -> Result<(), NoMemory>
-    ensures { OnOk result (notes.new.gave ≡ notes.old.gave) }
+    ensures gave { OnOk result (notes.new.gave ≡ notes.old.gave) }
+    ensures told { OnOk result ((a : Leads) → Reports a notes.old → Reports a notes.new) }
 {
     match event {
-        Event::Began { origin, .. } => notes.began(*origin, moment.frame),
+        Event::Began { origin, .. } => note_began(notes, *origin, moment.frame),
         Event::Answered { slave, kind } => {
             let reply = reply_of(alloc, master, *slave, *kind)?;
             notes.answered(reply, moment.frame)
@@ -198,6 +213,7 @@ impl Log {
     ) -> Result<(), NoMemory>
         ensures slaves { SameSlaves self.old self.new }
         ensures gave { OnOk result (gaves_noted self.new.notes ≡ gaves_noted self.old.notes) }
+        ensures told { OnOk result (KeepsReports self.old.notes self.new.notes) }
         ensures frames { SameFrames (1 + length self.old.ports) book.old book.new }
     {
         for event in master.events() {
@@ -216,6 +232,7 @@ impl Log {
     ) -> Result<(), NoMemory>
         ensures slaves { SameSlaves self.old self.new }
         ensures gave { OnOk result (gaves_noted self.new.notes ≡ gaves_noted self.old.notes) }
+        ensures told { OnOk result (KeepsReports self.old.notes self.new.notes) }
         ensures frames { SameFrames (1 + length self.old.ports) book.old book.new }
     {
         match event {
@@ -244,6 +261,7 @@ impl Log {
     ) -> Result<(), NoMemory>
         ensures slaves { SameSlaves self.old self.new }
         ensures gave { OnOk result (gaves_noted self.new.notes ≡ gaves_noted self.old.notes) }
+        ensures told { OnOk result (KeepsReports self.old.notes self.new.notes) }
     {
         let Some(&home) = self.homes.get(at) else {
             return Ok(());
@@ -265,6 +283,7 @@ impl Log {
     ) -> Result<(), NoMemory>
         ensures slaves { SameSlaves self.old self.new }
         ensures gave { OnOk result (gaves_noted self.new.notes ≡ gaves_noted self.old.notes) }
+        ensures told { OnOk result (KeepsReports self.old.notes self.new.notes) }
         ensures frames { SameFrames (1 + length self.old.ports) book.old book.new }
     {
         if !self.is_at_port(event) {
@@ -295,6 +314,7 @@ impl Log {
     fn receive(&mut self, port: usize)
         ensures slaves { SameSlaves self.old self.new }
         ensures gave { gaves_noted self.new.notes ≡ gaves_noted self.old.notes }
+        ensures told { KeepsReports self.old.notes self.new.notes }
     {
         if port == 0 {
             return;

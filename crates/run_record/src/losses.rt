@@ -1,9 +1,10 @@
-ghost use Rattle.std.specs.Prelude.{◌≡◌, ◌<◌, ◌≤◌, ◌+◌, ℕ, List, length, map, vec_len, OnOk, Some, slice_get};
+ghost use Rattle.std.specs.Prelude.{◌≡◌, ◌<◌, ◌≤◌, ◌+◌, ℕ, suc, List, length, map, vec_len, OnOk, Some, slice_get};
 ghost use Rattle.frame_view.specs.View.{Lens};
 ghost use Rattle.life_runs.specs.Led.{Leads};
 ghost use Rattle.master_node.specs.Shows.{MasterShows};
 ghost use Rattle.master_node.specs.Wants.{gave_of, AllCounted};
 ghost use Rattle.run_record.specs.Led.{gaves_noted};
+ghost use Rattle.run_record.specs.Reports.{ReportsTo, ReportsOn, ReportsBy, LosesAll};
 ghost use Rattle.run_record.specs.Session.{SameFrames, SameSlaves, gave_at, gaves_behind, GaveBy};
 
 use crate::log::{Moment, station_of};
@@ -31,6 +32,7 @@ impl Log {
         ensures slaves { SameSlaves self.old self.new }
         ensures gave { OnOk result ((lens : ℕ → Lens) (retry missed : ℕ) (leads : List Leads) → MasterShows lens self.old.recover retry master.now missed leads → AllCounted self.old.recover leads →
             gaves_noted self.new.notes ≡ gave_at at frame (map gave_of leads) (gaves_noted self.old.notes)) }
+        ensures told { OnOk result (LosesAll frame self.old.recover master.now (λ as' bs. ReportsTo at as' bs self.old.notes → ReportsTo (suc at) as' bs self.new.notes)) }
     {
         let place = at as usize;
         let rows = self.notes.as_slice();
@@ -53,6 +55,7 @@ impl Log {
         ensures slaves { SameSlaves self.old self.new }
         ensures gave { OnOk result ((lens : ℕ → Lens) (retry missed : ℕ) (leads : List Leads) → MasterShows lens self.old.recover retry master.now missed leads → AllCounted self.old.recover leads →
             gaves_noted self.new.notes ≡ gaves_behind frame (map gave_of leads) (gaves_noted self.old.notes)) }
+        ensures told { OnOk result (LosesAll frame self.old.recover master.now (ReportsOn self.old.notes self.new.notes)) }
     {
         for place in 0..self.notes.len() {
             self.note_loss(master, frame, place as u32)?;
@@ -60,16 +63,23 @@ impl Log {
         Ok(())
     }
 
-    // Notes which slaves were given up with a frame of this fate: none where it came back.
-    fn note_fate(&mut self, master: &MasterNode, fate: Fate, frame: u32) -> Result<(), NoMemory>
+    // Notes what a frame of this fate brought: replies where it came back, and which slaves were given up with it where it was lost.
+    fn note_fate(
+        &mut self,
+        alloc: Global,
+        master: &MasterNode,
+        fate: Fate,
+        frame: u32,
+    ) -> Result<(), NoMemory>
         requires few { length self.old.notes ≤ 16 }
         requires homes { length self.old.homes ≡ length self.old.notes }
         requires posts { vec_len master.now.posts ≡ length self.old.notes }
         ensures slaves { SameSlaves self.old self.new }
         ensures gave { OnOk result (GaveBy fate frame master.now self.old self.new) }
+        ensures told { OnOk result (ReportsBy fate frame master.now self.old self.new) }
     {
         match fate {
-            Fate::Pass => Ok(()),
+            Fate::Pass => self.note_replies(alloc, master, frame),
             Fate::Lost { .. } => self.note_losses(master, frame),
         }
     }
@@ -89,8 +99,9 @@ impl Log {
         ensures slaves { SameSlaves self.old self.new }
         ensures frames { SameFrames (1 + length self.old.ports) book.old book.new }
         ensures gave { OnOk result (GaveBy fate moment.frame master.now self.old self.new) }
+        ensures told { OnOk result (ReportsBy fate moment.frame master.now self.old self.new) }
     {
         self.note(alloc, master, moment, book)?;
-        self.note_fate(master, fate, moment.frame)
+        self.note_fate(alloc, master, fate, moment.frame)
     }
 }

@@ -16,6 +16,10 @@ pub struct Notes {
     pub gave: Rows<u32>,
     /// The service that came into hand last isn't answered yet.
     pub in_hand: bool,
+    /// It is one by mails of the script, and its reply is awaited.
+    pub mails: bool,
+    /// How many scripted services came into hand.
+    pub scripted: u32,
     /// How many packets were received from the slave.
     pub packets: u32,
     /// How many scripted services didn't come into hand yet.
@@ -69,6 +73,8 @@ impl Notes {
             epochs,
             gave: Rows::new(alloc),
             in_hand: false,
+            mails: false,
+            scripted: 0,
             packets: 0,
             left,
         })
@@ -76,26 +82,59 @@ impl Notes {
 
     /// A service came into hand as a frame was about to be made.
     pub fn began(&mut self, origin: Origin, frame: u32) -> Result<(), NoMemory>
-        ensures { OnOk result (self.new ≡ the.began self.old origin frame) }
+        ensures is { OnOk result (self.new ≡ the.began self.old origin frame) }
+        ensures gave { self.new.gave ≡ self.old.gave }
     {
+        self.doubt()?;
         self.begun.add(Begun { origin, frame })?;
         self.in_hand = true;
         self.left = left_behind(origin, self.left);
         Ok(())
     }
 
+    /// The next service of the script came into hand, by mails or a change of state; the one with this number follows.
+    pub fn began_script(
+        &mut self,
+        number: u32,
+        mails: bool,
+        frame: u32,
+    ) -> Result<(), NoMemory>
+        ensures is { OnOk result (self.new ≡ the.began_script self.old number mails frame) }
+        ensures gave { self.new.gave ≡ self.old.gave }
+    {
+        self.began(Origin::Script(self.scripted), frame)?;
+        self.mails = mails;
+        self.scripted = number;
+        Ok(())
+    }
+
     /// The return of a frame completed the reply of the service in hand.
-    pub fn answered(&mut self, reply: Reply, frame: u32) -> Result<(), NoMemory>
-        ensures { OnOk result (self.new ≡ the.answered self.old reply frame) }
+    pub fn replied(&mut self, reply: Reply, frame: u32) -> Result<(), NoMemory>
+        ensures is { OnOk result (self.new ≡ the.answered self.old reply frame) }
+        ensures gave { self.new.gave ≡ self.old.gave }
     {
         self.in_hand = false;
+        self.mails = false;
         self.answers.add(Answer::Replied { reply, frame })
+    }
+
+    /// So it is where a service is in hand; one by mails of the script is left alone.
+    pub fn answered(&mut self, reply: Reply, frame: u32) -> Result<(), NoMemory>
+        ensures is { OnOk result (self.new ≡ the.answered_where self.old reply frame) }
+        ensures gave { self.new.gave ≡ self.old.gave }
+    {
+        if !self.in_hand || self.mails {
+            return Ok(());
+        }
+        self.replied(reply, frame)
     }
 
     /// A service that is in hand isn't answered any more.
     pub fn doubt(&mut self) -> Result<(), NoMemory>
-        ensures { OnOk result (self.new ≡ the.doubted self.old) }
+        ensures is { OnOk result (self.new ≡ the.doubted self.old) }
+        ensures gave { self.new.gave ≡ self.old.gave }
     {
+        self.mails = false;
         if !self.in_hand {
             return Ok(());
         }
@@ -145,7 +184,7 @@ impl Notes {
 
     /// The run ended: a service in hand is in doubt, and what is left of the script was not sent.
     pub fn end(&mut self) -> Result<(), NoMemory>
-        ensures { OnOk result (self.new ≡ record self.old { answers = the.ended self.old; in_hand = false }) }
+        ensures { OnOk result (self.new ≡ record self.old { answers = the.ended self.old; in_hand = false; mails = false }) }
     {
         self.doubt()?;
         for _ in 0..self.left {

@@ -10,7 +10,7 @@ use Rattle.run_record.specs.Replay.{behind, IsRecorded}
 use Rattle.run_record.specs.Session.{SessionState, SameFrames, KeepsRest, has_live}
 use Rattle.run_record.proofs.Kept.{rest_more}
 use Rattle.std.proofs.lemmas.Result.{on_ok_weaker}
-use Rattle.run_record.proofs.Steps.{any_err, holds_on, no_frame, one_frame}
+use Rattle.run_record.proofs.Steps.{any_err, on_ok_both, holds_on, no_frame, one_frame}
 use Rattle.run_record.proofs.session.Session.step.Goals as goal
 
 pub invariant_of-self-in_err-put_frame : goal.invariant_of-self-in_err-put_frame
@@ -18,14 +18,14 @@ invariant_of-self-in_err-put_frame c =
     let n : c.self.inside.ring.number ≡ c.args.self.now.ring.number = ap (λ (s : SessionState). s.ring.number) c.self.view_is in
     let b : c.self.inside.budget ≡ c.args.self.now.budget = ap (λ (s : SessionState). s.budget) c.self.view_is in
     let h = c.requires in
-    holds_on c.self.inside.number c.self.inside.budget c.self.inside.log.notes c.note.new.self.notes c.self.inside.ring c.exchange-fate.new.self c.next.new.into.items (length c.self.inside.log.homes) (length c.self.inside.log.asked) (vec_len c.self.inside.master.posts) (length c.note.new.self.homes) (length c.note.new.self.asked) (vec_len c.next.new.self.posts)
-    c.self.invariant (omega (arith, n, b, h)) c.note.ensures.slaves.notes c.exchange-fate.ensures.wire (ap length c.note.ensures.slaves.homes) (ap length c.note.ensures.slaves.asked) c.next.ensures.posts
+    holds_on c.self.inside.number c.self.inside.budget c.self.inside.log.notes c.note_before.new.self.notes c.self.inside.ring c.exchange-fate.new.self c.next.new.into.items (length c.self.inside.log.homes) (length c.self.inside.log.asked) (vec_len c.self.inside.master.posts) (length c.note_before.new.self.homes) (length c.note_before.new.self.asked) (vec_len c.next.new.self.posts)
+    c.self.invariant (omega (arith, n, b, h)) c.note_before.ensures.slaves.notes c.exchange-fate.ensures.wire (ap length c.note_before.ensures.slaves.homes) (ap length c.note_before.ensures.slaves.asked) c.next.ensures.posts
 
 pub returns-in_err-put_frame-clause-err : goal.returns-in_err-put_frame-clause-err
 returns-in_err-put_frame-clause-err c =
     let ports : 1 + length c.self.inside.log.ports ≡ c.args.self.now.ports = ap (λ (s : SessionState). s.ports) c.self.view_is in
     any_err c.from_residual-in_err-put_frame.result
-    (no_frame c.args.self.now (1 + length c.self.inside.log.ports) c.args.book.now c.note.new.book c.put_frame.new.book ports c.note.ensures.frames
+    (no_frame c.args.self.now (1 + length c.self.inside.log.ports) c.args.book.now c.note_before.new.book c.put_frame.new.book ports c.note_before.ensures.frames
     c.in_err-put_frame.ensures.err (c.put_frame.ensures.rest (1 + length c.self.inside.log.ports)))
 
 pub invariant_of-self-2 : goal.invariant_of-self-2
@@ -34,7 +34,7 @@ invariant_of-self-2 c =
     let b : c.self.inside.budget ≡ c.args.self.now.budget = ap (λ (s : SessionState). s.budget) c.self.view_is in
     let h = c.requires in
     holds_on c.self.inside.number c.self.inside.budget c.self.inside.log.notes c.note_behind.new.self.notes c.self.inside.ring c.exchange-fate.new.self c.next.new.into.items (length c.self.inside.log.homes) (length c.self.inside.log.asked) (vec_len c.self.inside.master.posts) (length c.note_behind.new.self.homes) (length c.note_behind.new.self.asked) (vec_len c.tell.new.master.posts)
-    c.self.invariant (omega (arith, n, b, h)) (c.note_behind.ensures.slaves.notes ∙ c.note.ensures.slaves.notes) c.exchange-fate.ensures.wire (ap length (c.note_behind.ensures.slaves.homes ∙ c.note.ensures.slaves.homes)) (ap length (c.note_behind.ensures.slaves.asked ∙ c.note.ensures.slaves.asked)) (c.tell.ensures.posts ∙ c.next.ensures.posts)
+    c.self.invariant (omega (arith, n, b, h)) (c.note_behind.ensures.slaves.notes ∙ c.note_before.ensures.slaves.notes) c.exchange-fate.ensures.wire (ap length (c.note_behind.ensures.slaves.homes ∙ c.note_before.ensures.slaves.homes)) (ap length (c.note_behind.ensures.slaves.asked ∙ c.note_before.ensures.slaves.asked)) (c.tell.ensures.posts ∙ c.next.ensures.posts)
 
 pub returns-clause-ok : goal.returns-clause-ok
 returns-clause-ok c =
@@ -42,34 +42,35 @@ returns-clause-ok c =
     let ports = 1 + length c.self.inside.log.ports in
     let before : ports ≡ c.args.self.now.ports = ap (λ (s : SessionState). s.ports) c.self.view_is in
     let ring : c.self.inside.ring ≡ c.args.self.now.ring = ap (λ (s : SessionState). s.ring) c.self.view_is in
-    let same : 1 + length c.note.new.self.ports ≡ ports = ap (λ (l : List ℕ). 1 + length l) c.note.ensures.slaves.ports in
+    let same : 1 + length c.note_before.new.self.ports ≡ ports = ap (λ (l : List ℕ). 1 + length l) c.note_before.ensures.slaves.ports in
     on_ok_weaker c.note_behind.result
-    (λ gave. (
+    (λ both. (
       f,
       record {
-        put = c.note_behind.ensures.frames.frames ∙ c.in_ok-put_frame.ensures.ok ∙ ap (λ fs. fs ++ f ∷ []) c.note.ensures.frames.frames;
+        put = c.note_behind.ensures.frames.frames ∙ c.in_ok-put_frame.ensures.ok ∙ ap (λ fs. fs ++ f ∷ []) c.note_before.ensures.frames.frames;
         recorded = subst (λ r. IsRecorded r f) ring (record { fate = c.exchange-fate.ensures.fate; back = c.exchange-fate.ensures.back });
         short = record { sent = c.put_frame.ensures.sent_fits; back = c.put_frame.ensures.back_fits };
         ring = c.exchange-fate.ensures.wire ∙ ap (λ (r : RingState (Node SlaveServer)). behind r c.next.new.into.items) ring;
-        homes = c.note_behind.ensures.slaves.homes ∙ c.note.ensures.slaves.homes ∙ ap (λ (s : SessionState). s.homes) c.self.view_is;
-        asked = c.note_behind.ensures.slaves.asked ∙ c.note.ensures.slaves.asked ∙ ap (λ (s : SessionState). s.asked) c.self.view_is;
+        homes = c.note_behind.ensures.slaves.homes ∙ c.note_before.ensures.slaves.homes ∙ ap (λ (s : SessionState). s.homes) c.self.view_is;
+        asked = c.note_behind.ensures.slaves.asked ∙ c.note_before.ensures.slaves.asked ∙ ap (λ (s : SessionState). s.asked) c.self.view_is;
         ports = ap (λ (l : List ℕ). 1 + length l) c.note_behind.ensures.slaves.ports ∙ same ∙ before;
-        recover = c.note_behind.ensures.slaves.recover ∙ c.note.ensures.slaves.recover ∙ ap (λ (s : SessionState). s.recover) c.self.view_is;
+        recover = c.note_behind.ensures.slaves.recover ∙ c.note_before.ensures.slaves.recover ∙ ap (λ (s : SessionState). s.recover) c.self.view_is;
         budget = ap (λ (s : SessionState). s.budget) c.self.view_is;
         serving = ap (λ (s : SessionState). s.serving) c.self.view_is;
         rest = subst (λ (n : ℕ). KeepsRest n c.args.book.now c.note_behind.new.book) before
-            (rest_more ports c.note.ensures.frames.rest (rest_more ports (c.put_frame.ensures.rest ports) (subst (λ (n : ℕ). KeepsRest n c.put_frame.new.book c.note_behind.new.book) same c.note_behind.ensures.frames.rest)));
+            (rest_more ports c.note_before.ensures.frames.rest (rest_more ports (c.put_frame.ensures.rest ports) (subst (λ (n : ℕ). KeepsRest n c.put_frame.new.book c.note_behind.new.book) same c.note_behind.ensures.frames.rest)));
         leads = λ plan fs recover counts live l.
             let live : has_live c.self.inside.master ≡ true = ap (λ (s : SessionState). has_live s.master) c.self.view_is ∙ live in
             let same : Leading plan c.self.inside.master c.self.inside.log.notes fs = subst (λ (s : SessionState). Leading plan s.master s.notes fs) (sym c.self.view_is) l in
             leads_on c.self.inside.master c.next.new.self c.tell.new.master (exchanged f) c.next.result c.next.ensures.idle c.next.ensures.led plan fs live c.self.inside.log.notes same
             (λ number us frame under. c.tell.ensures.leads (lens_of plan.slaves) plan.recover plan.retry same.missed number us (exchanged f) refl refl under
             (λ pass. returned (lens_of plan.slaves) c.self.inside.ring (exchanged f) number same.leads us c.exchange-fate.ensures.fate c.exchange-fate.ensures.back frame pass))
-            c.self.inside.number (counts ∙ sym (ap (λ (s : SessionState). s.ring.number) c.self.view_is) ∙ sym c.self.invariant.0) c.note.new.self c.note_behind.new.self
-            (c.note.ensures.slaves.recover ∙ ap (λ (s : SessionState). s.recover) c.self.view_is ∙ recover) c.in_ok-note.ensures.gave gave;
+            c.self.inside.number (counts ∙ sym (ap (λ (s : SessionState). s.ring.number) c.self.view_is) ∙ sym c.self.invariant.0) c.note_before.new.self c.note_behind.new.self
+            (c.note_before.ensures.slaves.recover ∙ ap (λ (s : SessionState). s.recover) c.self.view_is ∙ recover) c.in_ok-note_before.ensures.gave both.0
+            c.in_ok-note_before.ensures.told both.1;
       },
     ))
-    c.note_behind.ensures.gave
+    (on_ok_both _ _ c.note_behind.result c.note_behind.ensures.gave c.note_behind.ensures.told)
 
 pub returns-clause-err : goal.returns-clause-err
 returns-clause-err c =
@@ -77,9 +78,9 @@ returns-clause-err c =
     let ports = 1 + length c.self.inside.log.ports in
     let before : ports ≡ c.args.self.now.ports = ap (λ (s : SessionState). s.ports) c.self.view_is in
     let ring : c.self.inside.ring ≡ c.args.self.now.ring = ap (λ (s : SessionState). s.ring) c.self.view_is in
-    let same : 1 + length c.note.new.self.ports ≡ ports = ap (λ (l : List ℕ). 1 + length l) c.note.ensures.slaves.ports in
+    let same : 1 + length c.note_before.new.self.ports ≡ ports = ap (λ (l : List ℕ). 1 + length l) c.note_before.ensures.slaves.ports in
     any_err c.note_behind.result
-    (one_frame c.args.self.now ports c.args.book.now c.note.new.book c.put_frame.new.book c.note_behind.new.book f before c.note.ensures.frames c.in_ok-put_frame.ensures.ok
+    (one_frame c.args.self.now ports c.args.book.now c.note_before.new.book c.put_frame.new.book c.note_behind.new.book f before c.note_before.ensures.frames c.in_ok-put_frame.ensures.ok
     (c.put_frame.ensures.rest ports) (subst (λ (n : ℕ). SameFrames n c.put_frame.new.book c.note_behind.new.book) same c.note_behind.ensures.frames)
     (subst (λ r. IsRecorded r f) ring (record { fate = c.exchange-fate.ensures.fate; back = c.exchange-fate.ensures.back }))
     (record { sent = c.put_frame.ensures.sent_fits; back = c.put_frame.ensures.back_fits })

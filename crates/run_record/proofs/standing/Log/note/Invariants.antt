@@ -1,5 +1,6 @@
 use Rattle.std.proofs.Common.{◌≡◌, ◌+◌, length}
 use Rattle.run_record.specs.Led.{gaves_noted}
+use Rattle.run_record.specs.Reports.{KeepsReports}
 use Rattle.run_record.specs.Session.{SameSlaves, SameFrames}
 use Rattle.run_record.proofs.standing.Log.note.Given as goal
 
@@ -7,5 +8,6 @@ abbrev pub invariant-loop-event : goal.invariant-loop-event
 invariant-loop-event l = record {
   slaves : SameSlaves l.initial.self l.self;
   gave : gaves_noted l.self.notes ≡ gaves_noted l.initial.self.notes;
+  told : KeepsReports l.initial.self.notes l.self.notes;
   frames : SameFrames (1 + length l.initial.self.ports) l.initial.book l.book;
 }

@@ -8,6 +8,10 @@ use Rattle.run_record.specs.Led.{gaves_noted}
 use Rattle.run_record.specs.Notes.{stations_of}
 use Rattle.run_record.proofs.Gaves.{none_more, one_more, noted_at, gave_got, same_there, tells_of}
 use Rattle.run_record.proofs.Stations.{length_stations, one_noted}
+use Rattle.run_record.specs.Notes.{given_up}
+use Rattle.run_record.specs.Reports.{Reports}
+use Rattle.run_record.proofs.Reporting.{to_next, to_same, got_there, same_whole, loss_same, loss_more}
+use Rattle.script_answers.specs.Steps.{LosesSo}
 use Rattle.run_record.proofs.standing.Log.note_loss.Goals as goal
 
 pub returns-then-not-gave_up_more-clause-gave : goal.returns-then-not-gave_up_more-clause-gave
@@ -52,4 +56,32 @@ returns-clause-gave c =
     ∙ one_more log.recover c.args.frame c.gave_up_more.result c.args.at leads (gaves_noted log.notes) old yes inside all
     (tells_of log.recover c.gave_up_more.result c.len-times.result old leads c.args.at (c.len-times.ensures ∙ ap (λ (n : Notes). length n.gave) (sym c.index-rows-place.is)) (c.gave_up_more.ensures lens retry missed leads shown))
     (gave_got log.notes c.args.at c.index-rows-place.result c.requires.notes here))
+    c.given_up-noted.ensures
+
+pub returns-then-not-gave_up_more-clause-told : goal.returns-then-not-gave_up_more-clause-told
+returns-then-not-gave_up_more-clause-told c = λ lens retry missed as' bs shown all p r.
+    let log = c.args.self.now in
+    let n = c.index-rows-place.result in
+    let no : c.gave_up_more.result ≡ false = search rules in
+    let here = subst (λ (ns : List Notes). n ≡ get_or ns c.args.at n) c.as_slice-rows.ensures c.index-rows-place.is in
+    let times : c.len-times.result ≡ length n.gave = c.len-times.ensures ∙ ap (λ (m : Notes). length m.gave) (sym c.index-rows-place.is) in
+    to_same (λ a b. LosesSo c.args.frame a b) c.args.at as' bs log.notes n p (got_there log.notes c.args.at n c.requires.notes here)
+    (λ a b e q s. loss_same log.recover c.args.frame a b n q s bs all c.args.at e c.gave_up_more.result c.len-times.result times no (c.gave_up_more.ensures lens retry missed bs shown)) r
+
+pub returns-clause-told : goal.returns-clause-told
+returns-clause-told c =
+    let log = c.args.self.now in
+    let n = c.index-rows-place.result in
+    let d = c.at_mut-notes.result.now in
+    let yes : c.gave_up_more.result ≡ true = search rules in
+    let here = subst (λ (ns : List Notes). n ≡ get_or ns c.args.at n) c.as_slice-rows.ensures c.index-rows-place.is in
+    let got = got_there log.notes c.args.at n c.requires.notes here in
+    let lent = got_there log.notes c.args.at d c.requires.notes c.at_mut-notes.ensures.value in
+    let same : d ≡ n = same_whole log.notes c.args.at n d got lent in
+    let times : c.len-times.result ≡ length n.gave = c.len-times.ensures ∙ ap (λ (m : Notes). length m.gave) (sym c.index-rows-place.is) in
+    on_ok_weaker c.given_up-noted.result
+    (λ is. λ lens retry missed as' bs shown all p r.
+    to_next (λ a b. LosesSo c.args.frame a b) c.args.at as' bs log.notes n c.given_up-noted.new.self p got
+    (λ a b e q s. subst (λ (z : Notes). Reports b z) (sym (is ∙ ap (λ (z : Notes). given_up z c.args.frame) same))
+    (loss_more log.recover c.args.frame a b n q s bs all c.args.at e c.gave_up_more.result c.len-times.result times yes (c.gave_up_more.ensures lens retry missed bs shown))) r)
     c.given_up-noted.ensures

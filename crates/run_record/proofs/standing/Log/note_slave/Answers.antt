@@ -4,6 +4,7 @@ use Rattle.std.proofs.lemmas.Result.{on_ok_weaker}
 use Rattle.run_record.specs.declared.notes.Notes.{Notes}
 use Rattle.run_record.specs.Notes.{stations_of}
 use Rattle.run_record.proofs.Gaves.{same_gaves}
+use Rattle.run_record.proofs.Reporting.{set_reports}
 use Rattle.run_record.proofs.Stations.{among_stations, one_noted}
 use Rattle.run_record.proofs.standing.Log.note_slave.Goals as goal
 
@@ -30,4 +31,8 @@ pub returns-clause-gave : goal.returns-clause-gave
 returns-clause-gave c =
     on_ok_weaker c.note_at-noted.result
     (λ same. same_gaves c.args.self.now.notes c.args.at c.at_mut-notes.result.now c.note_at-noted.new.notes (same ∙ ap (λ (n : Notes). n.gave) c.at_mut-notes.ensures.value))
-    c.note_at-noted.ensures
+    c.note_at-noted.ensures.gave
+
+pub returns-clause-told : goal.returns-clause-told
+returns-clause-told c =
+    on_ok_weaker c.note_at-noted.result (λ f. set_reports c.args.self.now.notes c.args.at c.at_mut-notes.result.now c.note_at-noted.new.notes c.at_mut-notes.ensures.value f) c.note_at-noted.ensures.told

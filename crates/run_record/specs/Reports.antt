@@ -1,0 +1,104 @@
+-- WHAT IS NOTED OF A SLAVE'S SERVICES, beside its life.
+use Rattle.std.specs.Prelude.{◌≡◌, ◌+◌, ℕ, zero, suc, Bool, true, false, if◌then◌else◌, Option, Some, None, List, [], ◌∷◌, ◌++◌, length, ⊤}
+use Rattle.frame_view.specs.View.{Lens}
+use Rattle.life_frames.specs.Shares.{AllBoth}
+use Rattle.life_runs.specs.Led.{Leads}
+use Rattle.master_duty.specs.Reply.{Reply}
+use Rattle.master_node.specs.Shows.{MasterShows}
+use Rattle.master_node.specs.Told.{HasLeads}
+use Rattle.master_node.specs.Wants.{gave_of, AllCounted}
+use Rattle.master_node.specs.declared.event.Origin.{Origin}
+use Rattle.master_node.specs.declared.event.Origin.TheVariants.{Script, Forward, Gateway}
+use Rattle.master_node.specs.declared.node.MasterNode.{MasterNode}
+use Rattle.run_book.specs.declared.book.Answer.{Answer}
+use Rattle.run_book.specs.declared.book.Answer.TheVariants.{Replied, InDoubt, NotSent}
+use Rattle.run_book.specs.declared.book.Begun.{Begun}
+use Rattle.run_book.specs.declared.book.SlaveBook.{SlaveBook}
+use Rattle.run_record.specs.declared.notes.Notes.{Notes}
+use Rattle.run_record.specs.declared.standing.Log.{Log}
+use Rattle.script_answers.specs.Answers.{Noted, AllNoted, IsNoted, life_scripted}
+use Rattle.script_answers.specs.Steps.{TurnsSo, PassesSo, LosesSo}
+use Rattle.segment_ring.specs.declared.wire.Fate.{Fate}
+use Rattle.segment_ring.specs.declared.wire.Fate.TheVariants.{Pass, Lost}
+
+-- the reply that an answer reports, where it reports one, with its frame
+abbrev pub reply_in : Answer → Option (Reply × ℕ)
+reply_in (Replied reply frame) = Some (Some (reply.kind, reply.value), frame)
+reply_in InDoubt = None
+reply_in NotSent = None
+
+-- a service of the script; others are left out
+abbrev pub noted_of : Origin → ℕ → Option (Reply × ℕ) → List Noted → List Noted
+noted_of (Script number) frame reply more = record { frame = frame; reply = reply } ∷ more
+noted_of (Forward number) frame reply more = more
+noted_of (Gateway number) frame reply more = more
+
+-- THE SCRIPTED SERVICES among those that came into hand, each with the reply that its answer reports
+abbrev pub noted_in : List Begun → List Answer → List Noted
+noted_in [] answers = []
+noted_in (b ∷ bs) [] = noted_of b.origin b.frame None (noted_in bs [])
+noted_in (b ∷ bs) (a ∷ as') = noted_of b.origin b.frame (reply_in a) (noted_in bs as')
+
+-- a service in hand isn't answered
+abbrev pub unanswered : Bool → ℕ
+unanswered in_hand = if in_hand then 1 else 0
+
+-- the newest service that came into hand is of the script, and each one before it is answered
+pub record LastScript (begun : List Begun) (answers : List Answer) : Type 0 where
+  pub front : List Begun
+  pub number : ℕ
+  pub frame : ℕ
+  pub last : begun ≡ front ++ record { origin = Script number; frame = frame } ∷ []
+  pub beside : length front ≡ length answers
+
+-- WHAT IS NOTED GOES WITH THE LIFE: the scripted services, each with its reply; each service but the one in hand has an answer; and where that isn't one
+-- by mails of the script, whatever answer it gets says nothing of those
+pub record IsReporting (a : Leads) (begun : List Begun) (answers : List Answer) (in_hand mails : Bool) (scripted : ℕ) (given : List ℕ) : Type 0 where
+  pub told : IsNoted a mails scripted (noted_in begun answers)
+  pub aligned : length begun ≡ length answers + unanswered in_hand
+  pub last : mails ≡ true → LastScript begun answers
+  pub other : in_hand ≡ true → mails ≡ false → (answer : Answer) → AllNoted (life_scripted a.lived.life) (noted_in begun (answers ++ answer ∷ []))
+  pub gave : given ≡ gave_of a
+
+abbrev pub Reports : Leads → Notes → Type 0
+Reports a n = IsReporting a n.begun n.answers n.in_hand n.mails n.scripted n.gave
+
+abbrev pub AllReport : List Leads → List Notes → Type 0
+AllReport as' notes = AllBoth (λ a n. Reports a n) as' notes
+
+-- whichever lives it goes with, it goes on with them
+abbrev pub KeepsReports : List Notes → List Notes → Type 0
+KeepsReports old new = (as' : List Leads) → AllReport as' old → AllReport as' new
+
+-- behind the first so many slaves
+abbrev pub ReportsTo : ℕ → List Leads → List Leads → List Notes → Type 0
+ReportsTo k [] [] [] = ⊤
+ReportsTo zero (a ∷ as') (b ∷ bs) (n ∷ notes) = Reports a n × ReportsTo 0 as' bs notes
+ReportsTo (suc k) (a ∷ as') (b ∷ bs) (n ∷ notes) = Reports b n × ReportsTo k as' bs notes
+ReportsTo k _ _ _ = ⊥
+
+-- BEFORE A FRAME: what came into hand of each slave is noted
+abbrev pub TurnsAll : ℕ → MasterNode → (List Leads → List Leads → Type 0) → Type 0
+TurnsAll frame m P = (lens : ℕ → Lens) (recover : ℕ) (as' bs : List Leads) → HasLeads lens recover m bs → AllBoth (λ a b. TurnsSo frame a b) as' bs → P as' bs
+
+-- BEHIND ITS RETURN: the replies that it brought are
+abbrev pub PassesAll : ℕ → MasterNode → (List Leads → List Leads → Type 0) → Type 0
+PassesAll frame m P = (lens : ℕ → Lens) (recover : ℕ) (as' bs : List Leads) → HasLeads lens recover m bs → AllBoth (λ a b. PassesSo frame a b) as' bs → P as' bs
+
+-- BEHIND ITS LOSS: what was in hand of the slaves that were given up is in doubt
+abbrev pub LosesAll : ℕ → ℕ → MasterNode → (List Leads → List Leads → Type 0) → Type 0
+LosesAll frame recover m P =
+    (lens : ℕ → Lens) (retry missed : ℕ) (as' bs : List Leads) → MasterShows lens recover retry m missed bs → AllCounted recover bs → AllBoth (λ a b. LosesSo frame a b) as' bs → P as' bs
+
+-- what was noted of all of them goes on
+abbrev pub ReportsOn : List Notes → List Notes → List Leads → List Leads → Type 0
+ReportsOn old new as' bs = AllReport as' old → AllReport bs new
+
+abbrev pub ReportsBy : Fate → ℕ → MasterNode → Log → Log → Type 0
+ReportsBy Pass frame m r r' = PassesAll frame m (ReportsOn r.notes r'.notes)
+ReportsBy (Lost after) frame m r r' = LosesAll frame r.recover m (ReportsOn r.notes r'.notes)
+
+-- EACH REPLY THAT A BOOK REPORTS of a scripted service by mails is the answer of its row, of that frame; and of the script just the services stand in the
+-- book that came into hand, each once and in order, with its frame
+abbrev pub IsBooked : Leads → SlaveBook → Type 0
+IsBooked a row = AllNoted (life_scripted a.lived.life) (noted_in row.begun row.answers)

@@ -1,0 +1,4 @@
+pub mod Lists
+pub mod Sides
+pub mod Turns
+pub mod Frames
