@@ -4,13 +4,21 @@ use service_mails::tell;
 use slave_app::{Emission, Performed, Reply};
 use std::alloc::Global;
 
+// The line of an error of FoE: a code of two octets, as all that are known, or of four.
+fn tell_foe<P: Print>(rt: &P, alloc: Global, code: u32) -> Result<()> {
+    match u16::try_from(code) {
+        Ok(short) => tell(rt, alloc, "foe", &short.to_be_bytes()),
+        Err(_) => tell(rt, alloc, "foe", &code.to_be_bytes()),
+    }
+}
+
 // The line of a reply.
 fn tell_reply<P: Print>(rt: &P, alloc: Global, reply: &Reply) -> Result<()> {
     match reply.kind {
         ReplyKind::Done => tell(rt, alloc, "done", &[]),
         ReplyKind::Value => tell(rt, alloc, "value", reply.value.bytes()),
         ReplyKind::Abort(code) => tell(rt, alloc, "abort", &code.to_be_bytes()),
-        ReplyKind::FoeError(code) => tell(rt, alloc, "foe", &code.to_be_bytes()),
+        ReplyKind::FoeError(code) => tell_foe(rt, alloc, code),
         ReplyKind::SoeError(code) => tell(rt, alloc, "soe", &code.to_be_bytes()),
         ReplyKind::EoeResult(code) => tell(rt, alloc, "eoe", &code.to_be_bytes()),
         ReplyKind::MailboxError(detail) => tell(rt, alloc, "mailbox", &detail.to_be_bytes()),

@@ -173,13 +173,14 @@ fn follow_rows<P: Print>(
     rt: &P,
     bench: &mut Bench,
     slaves: usize,
-    rows: (&[(u32, Service)], &[Packet]),
+    services: &[(u32, Service)],
+    packets: &[Packet],
 ) -> Result<()>
-    requires services { All (IsAddressed slaves) rows.0.now }
-    requires packets { All IsPacket rows.1.now }
+    requires services { All (IsAddressed slaves) services.now }
+    requires packets { All IsPacket packets.now }
 {
-    bench.services(rt, slaves, rows.0)?;
-    bench.packets(rt, rows.1)
+    bench.services(rt, slaves, services)?;
+    bench.packets(rt, packets)
 }
 
 // The same at a slave.
@@ -188,14 +189,15 @@ fn follow_slave<P: Print>(
     alloc: Global,
     spec: &SlaveSpec,
     slaves: usize,
-    rows: (&[(u32, Service)], &[Packet]),
+    services: &[(u32, Service)],
+    packets: &[Packet],
 ) -> Result<()>
     requires slave { IsSlave spec.now }
-    requires services { All (IsAddressed slaves) rows.0.now }
-    requires packets { All IsPacket rows.1.now }
+    requires services { All (IsAddressed slaves) services.now }
+    requires packets { All IsPacket packets.now }
 {
     let mut bench = bench_of(alloc, spec)?;
-    follow_rows(rt, &mut bench, slaves, rows)
+    follow_rows(rt, &mut bench, slaves, services, packets)
 }
 
 // The services of a plan at its first slave.
@@ -203,10 +205,11 @@ fn follow_plan<P: Print>(rt: &P, alloc: Global, plan: &Scenario) -> Result<()>
     requires { IsLaid plan.now }
 {
     let slaves = plan.slaves.as_slice();
-    let rows = (plan.services.as_slice(), plan.host.as_slice());
+    let services = plan.services.as_slice();
+    let packets = plan.host.as_slice();
     match first(slaves) {
         None => bail!("no slave"),
-        Some(spec) => follow_slave(rt, alloc, spec, slaves.len(), rows),
+        Some(spec) => follow_slave(rt, alloc, spec, slaves.len(), services, packets),
     }
 }
 
