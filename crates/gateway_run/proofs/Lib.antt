@@ -1,3 +1,4 @@
+pub mod Accounts
 pub mod Cut
 pub mod Desks
 pub mod Ended

@@ -14,7 +14,7 @@ ghost use Rattle.segment_model.specs.Returned.{Returns};
 ghost use Rattle.segment_ring.specs.declared.wire.Fate.TheVariants as Fates;
 ghost use Rattle.run_record.specs.Led.{Leading};
 ghost use Rattle.run_record.specs.Replay.{first_ring};
-ghost use Rattle.run_record.specs.Session.{budget_of, smaller_bound, slave_row, rests_at, slave_rows, session_rows, first_session, are_at_rest, some_given_up, has_live, IsLeftBy, KeepsRest, Steps, Stops, Asks};
+ghost use Rattle.run_record.specs.Session.{budget_of, smaller_bound, slave_row, rests_at, slave_rows, session_rows, first_session, are_at_rest, some_given_up, has_live, IsLeftBy, KeepsRest, Steps, Stops, Asks, events_of};
 
 use crate::log::Moment;
 use crate::notes::Notes;
@@ -334,7 +334,9 @@ impl Session {
     }
 
     /// What happened in the last step.
-    pub fn events(&self) -> &[Event] {
+    pub fn events(&self) -> &[Event]
+        ensures { result.now ≡ events_of self.now.master }
+    {
         self.master.step_events()
     }
 
