@@ -2,7 +2,6 @@
 //! memory that stands in for them, and the adapter to a TCP connection.
 #![tactic(auto)]
 
-mod calls;
 mod link;
 mod mem_link;
 mod tcp;

@@ -1,12 +1,11 @@
 ghost use Rattle.std.specs.Prelude.{◌≡◌, ◌<◌, ◌≤◌, ◌+◌, ◌++◌, ◌||◌, ◌↔◌, [], true, false, length, take, drop, IsErrOf, IsTrue, IfOk, OnOk, OnErr};
 ghost use Rattle.ec_outside.specs.Faults.{Rose};
-ghost use Rattle.ec_links.specs.Calls.{made, will_fail};
+ghost use Rattle.ec_outside.specs.Calls.{made, will_fail};
 ghost use Rattle.ec_links.specs.Link.{Gives, Puts, has_ended, bytes_first, given_at, left_at, is_given, from_piece, piece_first, behind_first};
 
-use crate::calls::Calls;
 use crate::link::{Link, LinkErr, LinkItem, Piece};
 use ec_fields::{Octets, Rows, append};
-use ec_outside::Gram;
+use ec_outside::{Calls, Gram};
 use std::alloc::Global;
 
 /// A link in memory that gives its items in order and keeps the octets put. Chosen calls of it

@@ -4,8 +4,9 @@ ghost use Rattle.ec_outside.specs.Faults.{Rose};
 
 use ec_fields::Rows;
 
-/// The trait calls of one object in memory: which of them are to fail, counted from 0, how many
-/// were made, and how many failed. Both counts stand still at their type's end.
+/// The trait calls of one object in memory, as a file, sink, port or link: which of them are to
+/// fail, counted from 0, how many were made, and how many failed. Both counts stand still at their
+/// type's end.
 #[derive(Debug, Drop)]
 pub struct Calls {
     /// The numbers of the calls that are to fail.
@@ -17,7 +18,8 @@ pub struct Calls {
 }
 
 impl Calls {
-    pub(crate) fn new(failing: Rows<u64>) -> Calls
+    /// No call was made; those with these numbers are to fail.
+    pub fn new(failing: Rows<u64>) -> Calls
         ensures { result ≡ record { failing = failing; count = 0; faults = 0 } }
     {
         Calls {
@@ -37,8 +39,8 @@ impl Calls {
             .any(|number| *number == count)
     }
 
-    // Counts a call, and says whether it is one that is to fail.
-    pub(crate) fn fails(&mut self) -> bool
+    /// Counts a call, and says whether it is one that is to fail.
+    pub fn fails(&mut self) -> bool
         ensures fails { result ≡ will_fail self.old }
         ensures counted { self.new ≡ made self.old }
         ensures later { self.old.faults ≤ self.new.faults }

@@ -13,6 +13,7 @@ mod sinks;
 mod standard;
 mod udp;
 
+pub use calls::Calls;
 pub use disk::DiskFiles;
 pub use files::{Files, FilesErr, Loaded, StoredFile};
 pub use mem_files::MemFiles;

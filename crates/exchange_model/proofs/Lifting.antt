@@ -16,7 +16,7 @@ each_right P (x ∷ xs) ys all = each_right P xs ys all.1
 each_begin : {M : Type 0} (P : M → Type 0) (xs ys : List M) → IsPrefixOf xs ys → EachOf P ys → EachOf P xs
 each_begin P xs ys h all = each_left P xs h.0 (subst (EachOf P) (sym h.1) all)
 
-each_filter : {M : Type 0} (P : M → Type 0) (p : M → Bool) (xs : List M) → EachOf P xs → EachOf P (filter p xs)
+pub each_filter : {M : Type 0} (P : M → Type 0) (p : M → Bool) (xs : List M) → EachOf P xs → EachOf P (filter p xs)
 each_filter P p [] all = tt
 each_filter P p (x ∷ xs) all = keep (p x) (each_filter P p xs all.1)
   where
@@ -24,22 +24,22 @@ each_filter P p (x ∷ xs) all = keep (p x) (each_filter P p xs all.1)
     keep true rest = (all.0, rest)
     keep false rest = rest
 
-map_append : {M N : Type 0} (f : M → N) (xs ys : List M) → map f (xs ++ ys) ≡ map f xs ++ map f ys
+pub map_append : {M N : Type 0} (f : M → N) (xs ys : List M) → map f (xs ++ ys) ≡ map f xs ++ map f ys
 map_append f [] ys = refl
 map_append f (x ∷ xs) ys = ap (λ l. f x ∷ l) (map_append f xs ys)
 
-map_begin : {M N : Type 0} (f : M → N) (xs ys : List M) → IsPrefixOf xs ys → IsPrefixOf (map f xs) (map f ys)
+pub map_begin : {M N : Type 0} (f : M → N) (xs ys : List M) → IsPrefixOf xs ys → IsPrefixOf (map f xs) (map f ys)
 map_begin f xs ys h = (map f h.0, sym (map_append f xs h.0) ∙ ap (map f) h.1)
 
 -- where a list that was mapped is cut, the list itself is
-record CutBefore {M N : Type 0} (f : M → N) (xs : List M) (ys zs : List N) : Type 0 where
-  front : List M
-  rest : List M
-  whole : xs ≡ front ++ rest
-  front_is : ys ≡ map f front
-  rest_is : zs ≡ map f rest
+pub record CutBefore {M N : Type 0} (f : M → N) (xs : List M) (ys zs : List N) : Type 0 where
+  pub front : List M
+  pub rest : List M
+  pub whole : xs ≡ front ++ rest
+  pub front_is : ys ≡ map f front
+  pub rest_is : zs ≡ map f rest
 
-cut_before : {M N : Type 0} (f : M → N) (xs : List M) (ys zs : List N) → map f xs ≡ ys ++ zs → CutBefore f xs ys zs
+pub cut_before : {M N : Type 0} (f : M → N) (xs : List M) (ys zs : List N) → map f xs ≡ ys ++ zs → CutBefore f xs ys zs
 cut_before f xs [] zs e = record { front = []; rest = xs; whole = refl; front_is = refl; rest_is = sym e }
 cut_before f [] (y ∷ ys) zs e = absurd (cc)
 cut_before f (x ∷ xs) (y ∷ ys) zs e =

@@ -1,3 +1,4 @@
 pub mod SumLaw
+pub mod Refusals
 pub mod RefusingLaw
 mod ToyLaw

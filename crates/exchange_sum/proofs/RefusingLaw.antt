@@ -4,97 +4,33 @@ use Rattle.std.specs.Prelude.{if◌then◌else◌}
 use Rattle.exchange_model.specs.Prefix.{IsPrefixOf}
 use Rattle.exchange_model.specs.Exchange.{Exchange, IsLawful, Before, Behind, after, given, plain, emitted}
 use Rattle.exchange_model.specs.Lifted.{EachOf}
-use Rattle.exchange_model.proofs.Words.{after-append, given-append}
-use Rattle.exchange_sum.specs.Refusing.{Refusal, refused_serve, refusing, gated, IsAsked, IsRefusal}
-
--- where a list with a last one is cut, the cut is in its front, or behind the last
-pub snoc_cut : {M : Type 0} (front : List M) (last : M) (p r : List M) → front ++ last ∷ [] ≡ p ++ r → ((rest : List M) × (front ≡ p ++ rest)) ⊎ ((p ≡ front ++ last ∷ []) × (r ≡ []))
-snoc_cut front last [] r e = inl (front, refl)
-snoc_cut [] last (h ∷ []) r e =
-    let head : last ≡ h = cc in
-    let tail : [] ≡ r = cc in
-    inr (ap (λ m. m ∷ []) (sym head), sym tail)
-snoc_cut [] last (h ∷ k ∷ p) r e = absurd (cc)
-snoc_cut (f ∷ front) last (h ∷ p) r e =
-    let head : f ≡ h = cc in
-    let tail : front ++ last ∷ [] ≡ p ++ r = cc in
-    elim (snoc_cut front last p r tail) [
-      | inl in_front ↦ inl (in_front.0, ap₂ (λ (a : _) (l : List _). a ∷ l) head in_front.1)
-      | inr whole ↦ inr (ap₂ (λ (a : _) (l : List _). a ∷ l) (sym head) whole.0, whole.1)
-    ]
-
-pub each_front : {M : Type 0} (P : M → Type 0) (xs ys : List M) → EachOf P (xs ++ ys) → EachOf P xs
-each_front P [] ys all = tt
-each_front P (x ∷ xs) ys all = (all.0, each_front P xs ys all.1)
+use Rattle.exchange_sum.specs.Refusing.{Refusal, refusing, gated, IsAsked, IsRefusal}
+use Rattle.exchange_sum.proofs.Refusals.{snoc_cut, each_front, all_taken, Quiet, heard_of, quiet_after, quiet_given, all_after, replies, none_emitted, some_mail, follows, all_planned}
 
 module _ {V A M Q R : Type 0} (x : Exchange V A M Q R) (r : Refusal V M Q R) where
   abbrev y : Exchange V A M Q R
   y = refusing x r
 
-  abbrev Quiet : List M → Type 0
-  Quiet ms = EachOf (λ m. (r.counts m ≡ false) × (r.gives m ≡ [])) ms
-
-  quiet_after : (v : V) (ms : List M) → Quiet ms → after y.serve v ms ≡ v
-  quiet_after v [] all = refl
-  quiet_after v (m ∷ ms) all = ap (λ (b : Bool). after y.serve (if b then r.counted v else v) ms) all.0.0 ∙ quiet_after v ms all.1
-
-  pub quiet_given : (v : V) (ms : List M) → Quiet ms → given y.serve v ms ≡ []
-  quiet_given v [] all = refl
-  quiet_given v (m ∷ ms) all = ap (λ (l : List M). l ++ given y.serve (y.serve v m).0 ms) all.0.1 ∙ quiet_given (y.serve v m).0 ms all.1
-
   module _ (law : IsLawful x) (is : IsRefusal x r) where
-    abbrev heard_of : Bool → List M
-    heard_of handed = if handed then [] else r.refusal ∷ []
-
-    all_after : (v : V) (handed : Bool) (ms : List M) → IsAsked r handed ms → after y.serve v ms ≡ r.counted v
-    all_after v handed ms a =
-        ap (after y.serve v) a.mails ∙ after-append y.serve v a.front (a.last ∷ [])
-        ∙ ap (λ w. after y.serve w (a.last ∷ [])) (quiet_after v a.front a.quiet)
-        ∙ ap (λ (b : Bool). if b then r.counted v else v) a.counts
-
-    append_nil : (l : List M) → l ++ [] ≡ l
-    append_nil [] = refl
-    append_nil (m ∷ l) = ap (λ k. m ∷ k) (append_nil l)
-
-    all_given : (v : V) (handed : Bool) (ms : List M) → IsAsked r handed ms → given y.serve v ms ≡ heard_of handed
-    all_given v handed ms a =
-        ap (given y.serve v) a.mails ∙ given-append y.serve v a.front (a.last ∷ [])
-        ∙ ap (λ (l : List M). l ++ given y.serve (after y.serve v a.front) (a.last ∷ [])) (quiet_given v a.front a.quiet)
-        ∙ append_nil (r.gives a.last) ∙ a.answer
-
-    heard_plain : (handed : Bool) → plain x.speech.emission (heard_of handed) ≡ heard_of handed
-    heard_plain true = refl
-    heard_plain false = ap (λ (b : Bool). cond (not b) (r.refusal ∷ []) []) is.plain
-
-    heard_emitted : (handed : Bool) → emitted x.speech.emission (heard_of handed) ≡ []
-    heard_emitted true = refl
-    heard_emitted false = ap (λ (b : Bool). cond b (r.refusal ∷ []) []) is.plain
-
-    pub replies : (v : V) (handed : Bool) (ms : List M) → IsAsked r handed ms → plain x.speech.emission (given y.serve v ms) ≡ heard_of handed
-    replies v handed ms a = ap (plain x.speech.emission) (all_given v handed ms a) ∙ heard_plain handed
-
-    none_emitted : (v : V) (handed : Bool) (ms : List M) → IsAsked r handed ms → emitted x.speech.emission (given y.serve v ms) ≡ []
-    none_emitted v handed ms a = ap (emitted x.speech.emission) (all_given v handed ms a) ∙ heard_emitted handed
-
-    before : (v : V) (ms : List M) → Quiet ms → Before y v ms
+    before : (v : V) (ms : List M) → Quiet r ms → Before y v ms
     before v ms quiet = record {
-      app = ap x.app (quiet_after v ms quiet);
-      handled = ap x.handled (quiet_after v ms quiet);
-      emitted = ap (emitted x.speech.emission) (quiet_given v ms quiet);
+      app = ap x.app (quiet_after r v ms quiet);
+      handled = ap x.handled (quiet_after r v ms quiet);
+      emitted = ap (emitted x.speech.emission) (quiet_given r v ms quiet);
     }
 
     behind : (v : V) (q : Q) (handed : Bool) (ms : List M) → IsAsked r handed ms → Behind y v q ms
     behind v q handed ms a = record {
-      app = ap x.app (all_after v handed ms a) ∙ is.app v;
-      handled = ap x.handled (all_after v handed ms a) ∙ is.handled v;
-      emitted = ([], ap (λ (l : List M). l ++ []) (none_emitted v handed ms a));
+      app = ap x.app (all_after r v handed ms a) ∙ is.app v;
+      handled = ap x.handled (all_after r v handed ms a) ∙ is.handled v;
+      emitted = ([], ap (λ (l : List M). l ++ []) (none_emitted r x.speech is.plain v handed ms a));
     }
 
     part : (v : V) (q : Q) → x.speech.valid q ≡ true → (p rest : List M) → r.asked q ≡ p ++ rest → Before y v p ⊎ Behind y v q p
     part v q valid p rest e =
         let a = is.asked q valid in
         elim (snoc_cut a.front a.last p rest (sym a.mails ∙ e)) [
-          | inl front ↦ inl (before v p (each_front _ p front.0 (subst (λ l. Quiet l) front.1 a.quiet)))
+          | inl front ↦ inl (before v p (each_front _ p front.0 (subst (Quiet r) front.1 a.quiet)))
           | inr whole ↦ inr (behind v q (x.speech.handed q) p (subst (IsAsked r (x.speech.handed q)) (a.mails ∙ sym whole.0) a))
         ]
 
@@ -103,49 +39,26 @@ module _ {V A M Q R : Type 0} (x : Exchange V A M Q R) (r : Refusal V M Q R) whe
         plain x.speech.emission (given y.serve v p) ≡ plain x.speech.emission (given y.serve v (r.asked q)) → Behind y v q p
     counted v q valid answers p rest e same =
         let a = is.asked q valid in
-        elim (snoc_cut a.front a.last p rest (sym a.mails ∙ e)) [
-          | inl front ↦
-              let none : plain x.speech.emission (given y.serve v p) ≡ [] = ap (plain x.speech.emission) (quiet_given v p (each_front _ p front.0 (subst (λ l. Quiet l) front.1 a.quiet))) in
-              let some : plain x.speech.emission (given y.serve v (r.asked q)) ≡ r.refusal ∷ [] = replies v (x.speech.handed q) (r.asked q) a ∙ ap heard_of answers in
-              let impossible : [] ≡ r.refusal ∷ [] = sym none ∙ same ∙ some in
-              absurd (cc)
-          | inr whole ↦ behind v q (x.speech.handed q) p (subst (IsAsked r (x.speech.handed q)) (a.mails ∙ sym whole.0) a)
-        ]
-
-    follows : (v : V) (q : Q) → x.speech.valid q ≡ true → (handed : Bool) → x.speech.handed q ≡ handed → (hs more : List M) → heard_of handed ≡ hs ++ more → IsPrefixOf (x.speech.planned q hs) (r.asked q)
-    follows v q valid handed h [] more e = is.begins q valid
-    follows v q valid true h (k ∷ hs) more e = absurd (cc)
-    follows v q valid false h (k ∷ []) more e =
-        let same : r.refusal ≡ k = cc in
-        ([], append_nil _ ∙ ap (λ m. x.speech.planned q (m ∷ [])) (sym same) ∙ is.sends q valid h)
-    follows v q valid false h (k ∷ l ∷ hs) more e = absurd (cc)
-
-    all_planned : (q : Q) → x.speech.valid q ≡ true → (handed : Bool) → x.speech.handed q ≡ handed → x.speech.planned q (heard_of handed) ≡ r.asked q
-    all_planned q valid true h = is.posts q valid h
-    all_planned q valid false h = is.sends q valid h
+        behind v q (x.speech.handed q) p (subst (IsAsked r (x.speech.handed q)) (sym (all_taken r x.speech is.plain v q answers a p rest e same).0) a)
 
     pub refusing_law : IsLawful y
     refusing_law = record {
-      ready = λ v q ready valid. ap x.ready (all_after v (x.speech.handed q) (r.asked q) (is.asked q valid)) ∙ is.ready v ready;
+      ready = λ v q ready valid. ap x.ready (all_after r v (x.speech.handed q) (r.asked q) (is.asked q valid)) ∙ is.ready v ready;
       whole = λ v q ready valid. behind v q (x.speech.handed q) (r.asked q) (is.asked q valid);
-      all_emitted = λ v q ready valid. none_emitted v (x.speech.handed q) (r.asked q) (is.asked q valid);
-      replied = λ v q ready valid answers. ap (x.speech.ends q) (replies v (x.speech.handed q) (r.asked q) (is.asked q valid) ∙ ap heard_of answers) ∙ is.ends q valid answers;
-      silent = λ v q ready valid posts. replies v (x.speech.handed q) (r.asked q) (is.asked q valid) ∙ ap heard_of posts;
+      all_emitted = λ v q ready valid. none_emitted r x.speech is.plain v (x.speech.handed q) (r.asked q) (is.asked q valid);
+      replied = λ v q ready valid answers. ap (x.speech.ends q) (replies r x.speech is.plain v (x.speech.handed q) (r.asked q) (is.asked q valid) ∙ ap (heard_of r) answers) ∙ is.ends q valid answers;
+      silent = λ v q ready valid posts. replies r x.speech is.plain v (x.speech.handed q) (r.asked q) (is.asked q valid) ∙ ap (heard_of r) posts;
       part = λ v q ready valid p rest e. part v q valid p rest e;
       counted = λ v q ready valid answers p rest e same. counted v q valid answers p rest e same;
       none = law.none;
       ended = law.ended;
-      follows = λ v q ready valid hs more e. follows v q valid (x.speech.handed q) refl hs more (sym (replies v (x.speech.handed q) (r.asked q) (is.asked q valid)) ∙ e);
-      all_planned = λ v q ready valid. ap (x.speech.planned q) (replies v (x.speech.handed q) (r.asked q) (is.asked q valid)) ∙ all_planned q valid (x.speech.handed q) refl;
+      follows = λ v q ready valid hs more e. follows r x.speech is.plain q (is.begins q valid) (is.sends q valid) (is.posts q valid) (x.speech.handed q) refl hs more (sym (replies r x.speech is.plain v (x.speech.handed q) (r.asked q) (is.asked q valid)) ∙ e);
+      all_planned = λ v q ready valid. ap (x.speech.planned q) (replies r x.speech is.plain v (x.speech.handed q) (r.asked q) (is.asked q valid)) ∙ all_planned r x.speech is.plain q (is.begins q valid) (is.sends q valid) (is.posts q valid) (x.speech.handed q) refl;
       unanswered = law.unanswered;
-      some = λ v q ready valid posts e. some_mail (is.asked q valid).front (is.asked q valid).last (sym (is.asked q valid).mails ∙ e);
+      some = λ v q ready valid posts e. some_mail r (is.asked q valid) e;
       grows = λ v m. grows v (r.counts m);
     }
       where
-        some_mail : (front : List M) (last : M) → front ++ last ∷ [] ≡ [] → ⊥
-        some_mail [] last e = absurd (cc)
-        some_mail (f ∷ front) last e = absurd (cc)
-
         grows : (v : V) (b : Bool) → x.handled v ≤ x.handled (if b then r.counted v else v)
         grows v true = omega (arith, is.handled v)
         grows v false = omega arith

@@ -4,47 +4,9 @@ use Rattle.exchange_model.specs.Prefix.{IsPrefixOf}
 use Rattle.exchange_model.specs.Exchange.{Exchange, after, given, plain, emitted}
 use Rattle.exchange_model.specs.Lifted.{EachOf, ReadsBack, Spells, lifted, lifted_serve}
 use Rattle.exchange_model.proofs.Words.{given_part}
-use Rattle.exchange_model.proofs.Lifting.{all_back}
+use Rattle.exchange_model.proofs.Lifting.{all_back, each_filter, map_append, map_begin, cut_before}
 use Rattle.exchange_sum.proofs.SumLaw.{each_left}
 use Rattle.serving_model.specs.Tagged.{IsServed, Untouched, Touched}
-
-each_filter : {M : Type 0} (P : M → Type 0) (p : M → Bool) (xs : List M) → EachOf P xs → EachOf P (filter p xs)
-each_filter P p [] all = tt
-each_filter P p (x ∷ xs) all = keep (p x) (each_filter P p xs all.1)
-  where
-    keep : (b : Bool) → EachOf P (filter p xs) → EachOf P (cond b (x ∷ filter p xs) (filter p xs))
-    keep true rest = (all.0, rest)
-    keep false rest = rest
-
-map_append : {M N : Type 0} (f : M → N) (xs ys : List M) → map f (xs ++ ys) ≡ map f xs ++ map f ys
-map_append f [] ys = refl
-map_append f (x ∷ xs) ys = ap (λ l. f x ∷ l) (map_append f xs ys)
-
-map_begin : {M N : Type 0} (f : M → N) (xs ys : List M) → IsPrefixOf xs ys → IsPrefixOf (map f xs) (map f ys)
-map_begin f xs ys h = (map f h.0, sym (map_append f xs h.0) ∙ ap (map f) h.1)
-
--- where a list that was mapped is cut, the list itself is
-record CutBefore {M N : Type 0} (f : M → N) (xs : List M) (ys zs : List N) : Type 0 where
-  front : List M
-  rest : List M
-  whole : xs ≡ front ++ rest
-  front_is : ys ≡ map f front
-  rest_is : zs ≡ map f rest
-
-cut_before : {M N : Type 0} (f : M → N) (xs : List M) (ys zs : List N) → map f xs ≡ ys ++ zs → CutBefore f xs ys zs
-cut_before f xs [] zs e = record { front = []; rest = xs; whole = refl; front_is = refl; rest_is = sym e }
-cut_before f [] (y ∷ ys) zs e = absurd (cc)
-cut_before f (x ∷ xs) (y ∷ ys) zs e =
-    let head : f x ≡ y = cc in
-    let tail : map f xs ≡ ys ++ zs = cc in
-    let c = cut_before f xs ys zs tail in
-    record {
-      front = x ∷ c.front;
-      rest = c.rest;
-      whole = ap (λ l. x ∷ l) c.whole;
-      front_is = ap₂ (λ (a : _) (l : List _). a ∷ l) (sym head) c.front_is;
-      rest_is = c.rest_is;
-    }
 
 module _ {V M N Q R C : Type 0} (x : Exchange V V M Q R) (core : V → C) (read : N → M) (write : M → N) where
   abbrev y : Exchange V V N Q R

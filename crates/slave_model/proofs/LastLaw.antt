@@ -9,7 +9,7 @@ use Rattle.exchange_model.proofs.Words.{plain-append, plain_given-append}
 use Rattle.exchange_sum.specs.Sides.{Slave, joined}
 use Rattle.exchange_sum.specs.Refusing.{Refusal, IsAsked, IsRefusal, refusing, gated}
 use Rattle.exchange_sum.specs.Sides.{IsSide}
-use Rattle.exchange_sum.proofs.RefusingLaw.{snoc_cut, each_front, quiet_given, replies}
+use Rattle.exchange_sum.proofs.Refusals.{all_taken}
 use Rattle.exchange_sum.proofs.SumLaw.{each_left, plain_same, told_full, told_part}
 use Rattle.exchange_model.specs.Exchange.{AnswersLast}
 use Rattle.exchange_model.proofs.Lasts.{lifted_last}
@@ -17,16 +17,7 @@ use Rattle.exchange_model.proofs.Lasts.{lifted_last}
 -- where a protocol is refused
 module _ {V A M Q R : Type 0} (x : Exchange V A M Q R) (r : Refusal V M Q R) (law : IsLawful x) (is : IsRefusal x r) (acknowledged : Q → Bool) where
   pub refusing_last : AnswersLast (refusing x r) acknowledged
-  refusing_last v q ready valid answers quiet p rest e same =
-      let a = is.asked q valid in
-      elim (snoc_cut a.front a.last p rest (sym a.mails ∙ e)) [
-        | inl front ↦
-            let none : plain x.speech.emission (given (refusing x r).serve v p) ≡ [] = ap (plain x.speech.emission) (quiet_given x r v p (each_front _ p front.0 (subst (EachOf (λ m. (r.counts m ≡ false) × (r.gives m ≡ []))) front.1 a.quiet))) in
-            let some : plain x.speech.emission (given (refusing x r).serve v (r.asked q)) ≡ r.refusal ∷ [] = replies x r law is v (x.speech.handed q) (r.asked q) a ∙ ap (λ (b : Bool). if b then [] else r.refusal ∷ []) answers in
-            let impossible : [] ≡ r.refusal ∷ [] = sym none ∙ same ∙ some in
-            absurd (cc)
-        | inr whole ↦ whole.1
-      ]
+  refusing_last v q ready valid answers quiet p rest e same = (all_taken r x.speech is.plain v q answers (is.asked q valid) p rest e same).1
 
   pub gated_last : AnswersLast x acknowledged → (b : Bool) → AnswersLast (gated b x r) acknowledged
   gated_last last true = last

@@ -6,5 +6,5 @@ pub mod Own
 pub mod Refused
 pub mod ProductLaw
 pub mod LastLaw
-pub mod ProtocolLasts
+pub mod EoeLast
 pub mod StatedLaw

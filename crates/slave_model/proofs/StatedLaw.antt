@@ -24,7 +24,9 @@ use Rattle.slave_model.proofs.Sides.{told_spells, served_law, sized, coe_spelled
 use Rattle.slave_model.proofs.Joint.{side_of}
 use Rattle.slave_model.proofs.Own.{are_own}
 use Rattle.slave_model.proofs.LastLaw.{gated_last, joined_last}
-use Rattle.slave_model.proofs.ProtocolLasts.{foe_last, soe_last, eoe_last}
+use Rattle.foe_model.proofs.Lasts.{foe_last}
+use Rattle.soe_model.proofs.Lasts.{soe_last}
+use Rattle.slave_model.proofs.EoeLast.{eoe_last}
 use Rattle.slave_model.proofs.ProductLaw.{refusals, all_protocols, one_client}
 use Rattle.slave_model.specs.Acknowledged.{acknowledges, acknowledged}
 

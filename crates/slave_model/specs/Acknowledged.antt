@@ -1,13 +1,8 @@
 -- Which services end with an acknowledgement: reads of files.
 use Rattle.std.specs.Prelude.{Bool, true, false}
-use Rattle.foe_model.specs.Meaning as FoeMeaning
+pub use Rattle.foe_model.specs.Meaning.{is_file_read}
 use Rattle.slave_model.specs.Profile.{Protocol}
 use Rattle.slave_model.specs.Server.{ServiceOf}
-
--- a service of FoE that reads
-abbrev pub is_file_read : FoeMeaning.Service → Bool
-is_file_read (FoeMeaning.read name pass) = true
-is_file_read (FoeMeaning.write name pass bytes) = false
 
 -- a client sends a mail behind the last one that is heard
 abbrev pub acknowledges : (i : Protocol) → ServiceOf i → Bool

@@ -8,11 +8,10 @@ use Rattle.exchange_model.specs.Lifted.{EachOf}
 use Rattle.exchange_model.proofs.Lasts.{lifted_last}
 use Rattle.exchange_sum.specs.Refusing.{Refusal}
 use Rattle.exchange_sum.specs.Sides.{Slave}
-use Rattle.exchange_sum.proofs.RefusingLaw.{snoc_cut, each_front}
+use Rattle.exchange_sum.proofs.Refusals.{all_taken}
 use Rattle.serving_model.specs.Tagged.{IsServed}
 use Rattle.serving_sum.specs.Whole.{refusing_whole, gated_whole, IsRefusedWhole}
 use Rattle.serving_sum.specs.Sides.{IsWholeSide, joined_whole}
-use Rattle.serving_sum.proofs.RefusedLaw.{quiet_given, replies}
 use Rattle.serving_sum.proofs.JoinedLaw.{plain_whole, mine_full, mine_part, told_full, told_part}
 use Rattle.soe_model.specs.Elements.{Elements, AreLawful}
 use Rattle.soe_model.specs.Mails.{is_emission}
@@ -33,18 +32,7 @@ module _ {S : Type 0} (o : Elements S) (lawful : AreLawful o) (areas : Areas) (s
 
 module _ {V M Q R C : Type 0} (x : Exchange V V M Q R) (core : V → C) (r : Refusal V M Q R) (law : IsServed x core) (is : IsRefusedWhole x core r) (acknowledged : Q → Bool) where
   refused_last : AnswersLast (refusing_whole x r) acknowledged
-  refused_last v q ready valid answers quiet p rest e same =
-      let a = is.asked q valid in
-      elim (snoc_cut a.front a.last p rest (sym a.mails ∙ e)) [
-        | inl front ↦
-            let none : plain x.speech.emission (given (refusing_whole x r).serve v p) ≡ [] =
-            ap (plain x.speech.emission) (quiet_given x core r law is v p (each_front _ p front.0 (subst (EachOf (λ m. (r.counts m ≡ false) × (r.gives m ≡ []))) front.1 a.quiet))) in
-            let some : plain x.speech.emission (given (refusing_whole x r).serve v (r.asked q)) ≡ r.refusal ∷ [] =
-            replies x core r law is v (x.speech.handed q) (r.asked q) a ∙ ap (λ (b : Bool). if b then [] else r.refusal ∷ []) answers in
-            let impossible : [] ≡ r.refusal ∷ [] = sym none ∙ same ∙ some in
-            absurd (cc)
-        | inr whole ↦ whole.1
-      ]
+  refused_last v q ready valid answers quiet p rest e same = (all_taken r x.speech is.plain v q answers (is.asked q valid) p rest e same).1
 
   pub gated_last : AnswersLast x acknowledged → (b : Bool) → AnswersLast (gated_whole b x r) acknowledged
   gated_last last true = last

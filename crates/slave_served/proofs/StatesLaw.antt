@@ -19,7 +19,8 @@ use Rattle.slave_model.specs.Application.{Parts, ArePartsLawful, station_valid, 
 use Rattle.slave_model.specs.Server.{Server, seat, reseated, heard_by, told_by}
 use Rattle.slave_model.specs.Product.{refusal}
 use Rattle.slave_model.proofs.CoeLast.{coe_last}
-use Rattle.slave_model.proofs.ProtocolLasts.{foe_last, eoe_last}
+use Rattle.foe_model.proofs.Lasts.{foe_last}
+use Rattle.slave_model.proofs.EoeLast.{eoe_last}
 use Rattle.slave_model.proofs.Stations.{left_of, tables_law, files_law, elements_law, network_sound}
 use Rattle.slave_model.proofs.Sides.{told_spells, sized}
 use Rattle.foe_served.specs.Served.{foe_served}

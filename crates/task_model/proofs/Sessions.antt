@@ -298,7 +298,7 @@ module _ {V A M Q R : Type 0} (x : Exchange V A M Q R) (law : IsLawful x) (s : S
           (subst (λ l. EachTask (P fs) ps l now.accounts (ring_of now.session.seats)) b.sides (subst (λ l. EachTask (P l) ps (sides_of now.session.seats) now.accounts (ring_of now.session.seats)) b.frames h)))
 
       -- a fact of each slave of which all this is kept
-      of_slaves : (P : Table → List (Frame M) → ℕ → V → Side M Q R → Account Q R → Slave V M → Type 0) →
+      pub of_slaves : (P : Table → List (Frame M) → ℕ → V → Side M Q R → Account Q R → Slave V M → Type 0) →
           ((t : Table) (begun : ℕ) (is : IsTable t begun) (fs : List (Frame M)) (seat : Seat V M Q R) (a : Account Q R) → Holds x law s stated t more begun is fs seat a → P t fs seat.station seat.start seat.side a seat.slave) →
           EachTask (λ station start d a n. P (table station) fs station start d a n) ps ds accounts ns
       of_slaves P one =

@@ -4,7 +4,7 @@ use Rattle.task_model.specs.Accounts.{Duty, Stage}
 use Rattle.task_model.specs.Promise.{services_in, mails_in}
 use Rattle.state_model.specs.States.{Phase}
 use Rattle.life_model.proofs.Eras.{session_of, of_one}
-use Rattle.session_rows.proofs.Kept.{of_slaves}
+use Rattle.task_model.proofs.Sessions.{of_slaves}
 use Rattle.session_rows.proofs.Drains
 use Rattle.session_rows.proofs.drained_law.Goals as goal
 

@@ -5,7 +5,7 @@ use Rattle.state_exchange.specs.Stated.{Service}
 use Rattle.task_model.specs.Accounts.{Started}
 use Rattle.life_model.proofs.Eras.{session_of, of_one}
 use Rattle.session_rows.specs.Newest.{IsWholeRow}
-use Rattle.session_rows.proofs.Kept.{of_slaves}
+use Rattle.task_model.proofs.Sessions.{of_slaves}
 use Rattle.session_rows.proofs.Wholes
 use Rattle.session_rows.proofs.row_law.Goals as goal
 

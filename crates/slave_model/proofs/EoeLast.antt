@@ -1,0 +1,20 @@
+-- Each mail of an EoE service brings a reply at last.
+use Rattle.std.proofs.Common.{◌≡◌, false, List, [], ◌∷◌, refl, sym, ap, ◌∙◌}
+use Rattle.exchange_model.specs.Areas.{Areas, AreMailboxes}
+use Rattle.exchange_model.specs.Exchange.{AnswersLast, plain}
+use Rattle.eoe_model.specs.Network as Network
+use Rattle.eoe_model.specs.Mails as EoeMails
+use Rattle.eoe_model.specs.Client as EoeClient
+use Rattle.eoe_model.specs.Model as EoeModel
+use Rattle.eoe_model.proofs.EoeLaw as EoeLaw
+
+module _ {S : Type 0} (o : Network.Network S) (sound : Network.IsSound o) (areas : Areas) (sized : AreMailboxes areas) where
+  pub eoe_last : AnswersLast (EoeModel.eoe_exchange o areas) (λ q. false)
+  eoe_last v q ready valid answers quiet p [] e same = refl
+  eoe_last v q ready valid answers quiet p (h ∷ r) e same =
+      let l = EoeLaw.eoe_law o sound areas sized in
+      let idle = (EoeLaw.kept o sound areas sized v q valid).late p h r e in
+      let whole = l.replied v q ready valid answers in
+      let begun = ap (EoeClient.ends q) (ap (plain EoeMails.is_emission) (sym idle.given) ∙ same) ∙ whole in
+      let none = l.none q in
+      absurd (cc)
