@@ -1,7 +1,7 @@
 -- What is owed, and which requests are left.
-use Rattle.std.proofs.Common.{◌≡◌, ℕ, zero, suc, ◌<◌, ◌≤◌, List, [], ◌∷◌, ◌++◌, length, map, Bool, true, false, refl, sym, ap, ◌∙◌, subst, append_assoc, append-nil, eq-eqb, eqb-true, arith}
-use Rattle.std.specs.Prelude.{◌≢◌, ◌==◌, ◌&&◌, not, cond, filter, find, slice_get, slice_set, slice_index_or, Option, Some, None, All}
-use Rattle.std.proofs.lemmas.List.Elements.{All-nil, All-head, All-tail, All-push, All-filter, All-cons}
+use Rattle.std.proofs.Common.{◌≡◌, ℕ, zero, suc, ◌<◌, ◌≤◌, List, [], ◌∷◌, ◌++◌, length, map, drop, ◌+◌, Bool, true, false, refl, sym, ap, ◌∙◌, subst, append_assoc, append-nil, eq-eqb, eqb-true, arith}
+use Rattle.std.specs.Prelude.{◌≢◌, ◌==◌, ◌&&◌, not, cond, filter, find, IfSome, Contains, slice_get, slice_set, slice_index_or, Option, Some, None, All}
+use Rattle.std.proofs.lemmas.List.Elements.{All-nil, All-head, All-tail, All-push, All-filter, All-cons, filter-append}
 use Rattle.slab.specs.Slab.{Slab, get}
 use Rattle.ec_outside.specs.Port.{HeardGram}
 use Rattle.mailbox_mail.specs.Mail.{error_of}
@@ -80,6 +80,12 @@ others_free key [] free = refl
 others_free key (r ∷ rs) free =
     kept (is_other key) r rs (other_of r.key key (r.key == key) refl (All-head (λ (q : Request). q.key ≢ key) r rs free))
     (others_free key rs (All-tail (λ (q : Request). q.key ≢ key) r rs free))
+
+-- a request is put and taken away
+pub others_push : (r : Request) (rs : List Request) → IsFree r.key rs → others r.key (rs ++ r ∷ []) ≡ rs
+others_push r rs free =
+    filter-append (is_other r.key) rs (r ∷ []) ∙ ap (λ (l : List Request). l ++ filter (is_other r.key) (r ∷ [])) (others_free r.key rs free)
+    ∙ ap (λ (b : Bool). rs ++ cond (not b) (r ∷ []) []) (eq-eqb r.key r.key refl) ∙ append-nil rs
 
 apart_step : (p : Request → Bool) (r : Request) (rs : List Request) (keep : Bool) → IsFree r.key rs → AreApart (filter p rs) → AreApart (cond keep (r ∷ filter p rs) (filter p rs))
 apart_step p r rs true free rest = (All-filter p (λ (q : Request). q.key ≢ r.key) rs free, rest)
@@ -204,10 +210,10 @@ waits_later : (slave : ℕ) (q : Request) (rs : List Request) (many : ℕ) → N
 waits_later slave q rs many none = λ k d less. none (suc k) d (omega (arith, less))
 
 begun_kept : (slave : ℕ) (q : Request) (rs : List Request) → waits_at slave q ≡ false → begun_first slave (q ∷ rs) ≡ q ∷ begun_first slave rs
-begun_kept slave q rs no = ap (λ (b : Bool). cond b ((record q { begun = true }) ∷ rs) (q ∷ begun_first slave rs)) no
+begun_kept slave q rs waits = ap (λ (b : Bool). cond b ((record q { begun = true }) ∷ rs) (q ∷ begun_first slave rs)) waits
 
 begun_here : (slave : ℕ) (q : Request) (rs : List Request) → waits_at slave q ≡ true → begun_first slave (q ∷ rs) ≡ (record q { begun = true }) ∷ rs
-begun_here slave q rs yes = ap (λ (b : Bool). cond b ((record q { begun = true }) ∷ rs) (q ∷ begun_first slave rs)) yes
+begun_here slave q rs waits = ap (λ (b : Bool). cond b ((record q { begun = true }) ∷ rs) (q ∷ begun_first slave rs)) waits
 
 -- the first that waits comes into hand
 pub begun_set : (slave : ℕ) (rs : List Request) (k : ℕ) (r : Request) → NoneWaits slave k rs → k < length rs → slice_index_or rs k r ≡ r → waits_at slave r ≡ true →
@@ -223,3 +229,78 @@ begun_none slave [] none = refl
 begun_none slave (q ∷ rs) none =
     begun_kept slave q rs (none 0 q (omega arith))
     ∙ ap (λ (l : List Request). q ∷ l) (begun_none slave rs (λ k d less. none (suc k) d (omega (arith, less))))
+
+filter_least : (p : Request → Bool) (r : Request) (rs : List Request) (keep : Bool) → length (filter p rs) ≤ length rs → length (cond keep (r ∷ filter p rs) (filter p rs)) ≤ suc (length rs)
+filter_least p r rs true less = omega (arith, less)
+filter_least p r rs false less = omega (arith, less)
+
+filter_less : (p : Request → Bool) (rs : List Request) → length (filter p rs) ≤ length rs
+filter_less p [] = omega arith
+filter_less p (r ∷ rs) = filter_least p r rs (p r) (filter_less p rs)
+
+fewer_step : (p : Request → Bool) (r : Request) (rs : List Request) (keep : Bool) → length (filter p rs) < length rs → length (cond keep (r ∷ filter p rs) (filter p rs)) < suc (length rs)
+fewer_step p r rs true less = omega (arith, less)
+fewer_step p r rs false less = omega (arith, less)
+
+fewer_at : (slave : ℕ) (q : Request) (rs : List Request) (r : Request) (here : Bool) → cond here (Some q) (find (is_of slave) rs) ≡ Some r → (find (is_of slave) rs ≡ Some r → length (others r.key rs) < length rs) →
+    length (others r.key (q ∷ rs)) < length (q ∷ rs)
+fewer_at slave q rs r true is later =
+    let e : q ≡ r = cc in
+    let gone : others r.key (q ∷ rs) ≡ others r.key rs = ap (λ (b : Bool). cond (not b) (q ∷ others r.key rs) (others r.key rs)) (eq-eqb q.key r.key (ap (λ (p : Request). p.key) e)) in
+    let n = ap length gone in
+    let less = filter_less (is_other r.key) rs in
+    omega (arith, n, less)
+fewer_at slave q rs r false is later = fewer_step (is_other r.key) q rs (is_other r.key q) (later is)
+
+-- a request that is dropped leaves fewer
+pub fewer_found : (slave : ℕ) (rs : List Request) (r : Request) → find (is_of slave) rs ≡ Some r → length (others r.key rs) < length rs
+fewer_found slave [] r is = absurd (cc)
+fewer_found slave (q ∷ rs) r is = fewer_at slave q rs r (q.slave == slave) is (fewer_found slave rs r)
+
+get_any : (rs : List Request) (k : ℕ) (d d' : Request) → k < length rs → slice_index_or rs k d ≡ slice_index_or rs k d'
+get_any [] k d d' inside = absurd (omega (arith, inside))
+get_any (q ∷ rs) zero d d' inside = refl
+get_any (q ∷ rs) (suc k) d d' inside = get_any rs k d d' (omega (arith, inside))
+
+waits_so : (slave : ℕ) (r : Request) → r.slave ≡ slave → not r.begun ≡ true → waits_at slave r ≡ true
+waits_so slave r here still = ap (λ (b : Bool). b && not r.begun) (eq-eqb r.slave slave here) ∙ still
+
+-- the request at a place comes into hand
+pub begun_at : (slave : ℕ) (rs : List Request) (k : ℕ) (first r : Request) → NoneWaits slave k rs → k < length rs → first ≡ slice_index_or rs k first → r ≡ slice_index_or rs k r → first.slave ≡ slave →
+    not first.begun ≡ true → begun_first slave rs ≡ slice_set rs k (record r { begun = true })
+begun_at slave rs k first r none inside is is' here still =
+    let same : first ≡ r = is ∙ get_any rs k first r inside ∙ sym is' in
+    begun_set slave rs k r none inside (sym is') (subst (λ (q : Request). waits_at slave q ≡ true) same (waits_so slave first here still))
+
+pub waits_not : (b : Bool) → not b ≡ true → b ≡ false
+waits_not true is = absurd (cc)
+waits_not false is = refl
+
+pub waits_no_more : (b : Bool) → not b ≡ false → b ≡ true
+waits_no_more true is = refl
+waits_no_more false is = absurd (cc)
+
+-- what is found is one of them
+found_at : (p : Request → Bool) (q : Request) (rs : List Request) (r : Request) (here : Bool) → cond here (Some q) (find p rs) ≡ Some r → (find p rs ≡ Some r → Contains rs r) → Contains (q ∷ rs) r
+found_at p q rs r true is later = (0, omega arith, (let e : q ≡ r = cc in e))
+found_at p q rs r false is later = let l = later is in (suc l.0, (let less = l.1 in omega (arith, less)), l.2)
+
+pub found_inside : (p : Request → Bool) (rs : List Request) (r : Request) → find p rs ≡ Some r → Contains rs r
+found_inside p [] r is = absurd (cc)
+found_inside p (q ∷ rs) r is = found_at p q rs r (p q) is (found_inside p rs r)
+
+pub all_found : (p : Request → Bool) (rs : List Request) (o : Option Request) → o ≡ find p rs → IfSome o (Contains rs)
+all_found p rs None is = tt
+all_found p rs (Some r) is = found_inside p rs r (sym is)
+
+pub next_of : {X : Type 0} (xs : List X) (k : ℕ) (x : X) → k < length xs → x ≡ slice_index_or xs k x → drop k xs ≡ x ∷ drop (k + 1) xs
+next_of [] k x inside is = absurd (omega (arith, inside))
+next_of (y ∷ xs) zero x inside is = ap (λ z. z ∷ xs) (sym is)
+next_of {X} (y ∷ xs) (suc k) x inside is =
+    next_of xs k x (omega (arith, inside)) is ∙ ap (λ (n : ℕ). x ∷ drop n (y ∷ xs)) (let e : suc (k + 1) ≡ suc k + 1 = omega arith in e)
+
+pub none_behind : {X : Type 0} (xs : List X) (k : ℕ) → length xs ≤ k → drop k xs ≡ []
+none_behind [] zero all = refl
+none_behind [] (suc k) all = refl
+none_behind (y ∷ xs) zero all = absurd (omega (arith, all))
+none_behind (y ∷ xs) (suc k) all = none_behind xs k (omega (arith, all))

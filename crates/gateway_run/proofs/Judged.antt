@@ -167,20 +167,20 @@ place_at at station (None ∷ rows) place is = stands_later at station None rows
 place_at at station (Some row ∷ rows) place is = place_here at station row rows place (row.0 == station) refl is (place_at (at + 1) station rows place)
 
 -- a mail that is to be passed on
-abbrev Passes : Slab Asker → Mail → Option (ℕ × ℕ) → ℕ → Type 0
-Passes g mail place slave = (len : ℕ) × (place ≡ Some (slave, len)) × (is_passed mail.kind ≡ true) × (6 + length mail.body.items ≤ len)
+abbrev IsPassing : Slab Asker → Mail → Option (ℕ × ℕ) → ℕ → Type 0
+IsPassing g mail place slave = (len : ℕ) × (place ≡ Some (slave, len)) × (is_passed mail.kind ≡ true) × (6 + length mail.body.items ≤ len)
 
 abbrev judged_with : ℕ → Bool → Bool → Bool → Result ℕ ℕ
 judged_with slave passed long full = if passed then (if long then Err 8 else if full then Err 7 else Ok slave) else Err 2
 
 passes_with : (g : Slab Asker) (mail : Mail) (slave : ℕ) (place : ℕ × ℕ) (passed long full : Bool) → is_passed mail.kind ≡ passed → nat_lt place.1 (6 + length mail.body.items) ≡ long →
-    judged_with place.0 passed long full ≡ Ok slave → Passes g mail (Some place) slave
+    judged_with place.0 passed long full ≡ Ok slave → IsPassing g mail (Some place) slave
 passes_with g mail slave place true false false p l is = (place.1, ap (λ (n : ℕ). Some (n, place.1)) (cc), p, ltb-false place.1 (6 + length mail.body.items) l)
 passes_with g mail slave place true false true p l is = absurd (cc)
 passes_with g mail slave place true true full p l is = absurd (cc)
 passes_with g mail slave place false long full p l is = absurd (cc)
 
-passes : (g : Slab Asker) (mail : Mail) (slave : ℕ) (place : Option (ℕ × ℕ)) → judged_at g mail place ≡ Ok slave → Passes g mail place slave
+passes : (g : Slab Asker) (mail : Mail) (slave : ℕ) (place : Option (ℕ × ℕ)) → judged_at g mail place ≡ Ok slave → IsPassing g mail place slave
 passes g mail slave None is = absurd (cc)
 passes g mail slave (Some place) is = passes_with g mail slave place (is_passed mail.kind) (nat_lt place.1 (6 + length mail.body.items)) (nat_le 64 (unfinished_at place.0 g)) refl refl is
 
@@ -205,13 +205,10 @@ pub judged_so : (homes : List (ℕ × ℕ)) (octets : List ℕ) (slave : ℕ) �
 judged_so homes octets slave on None is = tt
 judged_so homes octets slave on (Some n) is = subst (IsPassedOn homes octets) (sym is) on
 
-module _ (s : SessionState) (stations : List (Option (ℕ × ℕ))) (are : stations ≡ stations_of s.recover s.homes s.notes) (heard : List HeardGram) (g : HeardGram) (octets : List ℕ) (number : ℕ) (last : length heard ≡ number) (d : Desk) where
-  at_number : (s' : SessionState) (rs : List Request) (queued : Option ℕ) (more : List Owing) → Judges s s' d.requests.items rs number octets queued more → Judges s s' d.requests.items rs (length heard) octets queued more
-  at_number s' rs queued more j = subst (λ (n : ℕ). Judges s s' d.requests.items rs n octets queued more) (sym last) j
-
+module _ (s : SessionState) (stations : List (Option (ℕ × ℕ))) (are : stations ≡ stations_of s.recover s.homes s.notes) (heard : List HeardGram) (g : HeardGram) (octets : List ℕ) (number : ℕ) (d : Desk) where
   -- a datagram that is no request was taken
   pub taken_ignored : (d' : Desk) (fault : GatewayFault) → request_in octets ≡ Err fault → d'.requests.items ≡ d.requests.items → d'.outbox.items ≡ d.outbox.items →
-      IsTaken s s heard (heard ++ g ∷ []) octets d d' None
+      IsTaken s s number (heard ++ g ∷ []) octets d d' None
   taken_ignored d' fault request requests outbox = record {
     more = [];
     judges = is_ignored (record { fault = fault; request = request; nowhere = refl; session = refl; requests = requests; nothing = refl });
@@ -220,10 +217,10 @@ module _ (s : SessionState) (stations : List (Option (ℕ × ℕ))) (are : stati
 
   -- one that is answered by an error
   pub taken_refused : (d' : Desk) (mail : Mail) (detail : ℕ) (r : GramOut) → request_in octets ≡ Ok mail → judged d.gateway mail stations ≡ Err detail → d'.requests.items ≡ d.requests.items → d'.outbox.items ≡ d.outbox.items ++ r ∷ [] →
-      Spells (heard ++ g ∷ []) (record { gram = number; mail = error_of detail }) r → IsTaken s s heard (heard ++ g ∷ []) octets d d' None
+      Spells (heard ++ g ∷ []) (record { gram = number; mail = error_of detail }) r → IsTaken s s number (heard ++ g ∷ []) octets d d' None
   taken_refused d' mail detail r request cause requests outbox spells = record {
     more = record { gram = number; mail = error_of detail } ∷ [];
-    judges = at_number s d'.requests.items None (record { gram = number; mail = error_of detail } ∷ []) (is_refused (record {
+    judges = is_refused (record {
       mail = mail;
       detail = detail;
       unfinished = d.gateway;
@@ -233,16 +230,16 @@ module _ (s : SessionState) (stations : List (Option (ℕ × ℕ))) (are : stati
       session = refl;
       requests = requests;
       error = refl;
-    }));
+    });
     owes = owes_one (heard ++ g ∷ []) (record { gram = number; mail = error_of detail }) r d.outbox.items d'.outbox.items outbox spells;
   }
 
   -- one whose mail was passed on, or found no room
   pub taken_passed : (s' : SessionState) (gateway : Slab Asker) (d' : Desk) (mail : Mail) (key slave : ℕ) → request_in octets ≡ Ok mail → judged d.gateway mail stations ≡ Ok slave → IsFree key d.requests.items → (queued : Option ℕ) →
-      Passes s s' (heard ++ g ∷ []) (record { key = key; slave = slave; gram = number; begun = false }) mail (record d { gateway = gateway }) d' queued → IsTaken s s' heard (heard ++ g ∷ []) octets d d' queued
+      Passes s s' (heard ++ g ∷ []) (record { key = key; slave = slave; gram = number; begun = false }) mail (record d { gateway = gateway }) d' queued → IsTaken s s' number (heard ++ g ∷ []) octets d d' queued
   taken_passed s' gateway d' mail key slave request place free (Some n) p = record {
     more = [];
-    judges = at_number s' d'.requests.items (Some n) [] (queues (record {
+    judges = queues (record {
       mail = mail;
       key = key;
       slave = slave;
@@ -254,12 +251,12 @@ module _ (s : SessionState) (stations : List (Option (ℕ × ℕ))) (are : stati
       there = ap Some p.0;
       requests = p.2;
       nothing = refl;
-    }));
+    });
     owes = owes_none (heard ++ g ∷ []) d.outbox.items d'.outbox.items p.3;
   }
   taken_passed s' gateway d' mail key slave request place free None p = record {
     more = record { gram = number; mail = error_of 7 } ∷ [];
-    judges = at_number s' d'.requests.items None (record { gram = number; mail = error_of 7 } ∷ []) (too_many (record {
+    judges = too_many (record {
       mail = mail;
       key = key;
       slave = slave;
@@ -269,6 +266,6 @@ module _ (s : SessionState) (stations : List (Option (ℕ × ℕ))) (are : stati
       nowhere = refl;
       requests = p.2;
       error = refl;
-    }));
+    });
     owes = p.3;
   }

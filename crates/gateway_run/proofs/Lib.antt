@@ -4,4 +4,5 @@ pub mod Desks
 pub mod Ended
 pub mod Judged
 pub mod Room
+pub mod Told
 pub mod Turns

@@ -1,5 +1,5 @@
 -- What a serving owes its peers, by what it hears and what its session tells.
-use Rattle.std.specs.Prelude.{◌≡◌, ◌≢◌, ℕ, ◌==◌, ◌&&◌, true, false, not, if◌then◌else◌, List, [], ◌∷◌, ◌++◌, length, map, filter, find, slice_get, All, Option, Some, None, Ok, Err}
+use Rattle.std.specs.Prelude.{◌≡◌, ◌≢◌, ℕ, ◌==◌, ◌&&◌, Bool, true, false, not, if◌then◌else◌, List, [], ◌∷◌, ◌++◌, length, map, filter, find, slice_get, All, Option, Some, None, Ok, Err}
 use Rattle.slab.specs.Slab.{Slab}
 use Rattle.ec_outside.specs.Port.{HeardGram}
 use Rattle.mailbox_mail.specs.Mail.{error_of}
@@ -17,7 +17,8 @@ use Rattle.run_book.specs.declared.book.GramOut.{GramOut}
 use Rattle.run_book.specs.declared.book.SentFrame.{SentFrame}
 use Rattle.run_record.specs.Notes.{stations_of}
 use Rattle.run_record.specs.Replay.{behind, IsRecorded}
-use Rattle.run_record.specs.Session.{SessionState, Asks, events_of, first_session}
+use Rattle.gateway_run.specs.Events.{events_of}
+use Rattle.run_record.specs.Session.{SessionState, Asks, first_session}
 use Rattle.gateway_run.specs.declared.desk.Request.{Request}
 
 -- a mail that is owed to who asked by the datagram of that number

@@ -1,5 +1,5 @@
 -- What a serving still owes its peers.
-use Rattle.std.specs.Prelude.{◌≡◌, ◌<◌, ℕ, if◌then◌else◌, List, [], ◌∷◌, ◌++◌, length, map, slice_get, Option, Some, None, Ok, All}
+use Rattle.std.specs.Prelude.{◌≡◌, ◌<◌, ℕ, true, false, if◌then◌else◌, List, [], ◌∷◌, ◌++◌, length, map, slice_get, Option, Some, None, Ok, All}
 use Rattle.slab.specs.Slab.{Slab, get}
 use Rattle.ec_outside.specs.Port.{HeardGram}
 use Rattle.mailbox_mail.specs.Mail.{error_of}
@@ -85,15 +85,15 @@ abbrev pub PassesSo : SessionState → SessionState → Request → Mail → Des
 PassesSo s s' r mail d d' queued = (heard : List HeardGram) → IsOpen d.gateway heard r → IsFree r.key d.requests.items → Passes s s' heard r mail d d' queued
 
 -- a datagram was judged: what becomes of it, and what is owed by it at once
-pub record IsTaken (s s' : SessionState) (before after : List HeardGram) (octets : List ℕ) (d d' : Desk) (queued : Option ℕ) : Type 0 where
+pub record IsTaken (s s' : SessionState) (number : ℕ) (after : List HeardGram) (octets : List ℕ) (d d' : Desk) (queued : Option ℕ) : Type 0 where
   pub more : List Owing
-  pub judges : Judges s s' d.requests.items d'.requests.items (length before) octets queued more
+  pub judges : Judges s s' d.requests.items d'.requests.items number octets queued more
   pub owes : Owes after more d.outbox.items d'.outbox.items
 
 -- the same of a desk that is sound
 abbrev pub IsTakenSo : SessionState → SessionState → Peer → List ℕ → ℕ → Desk → Desk → Option ℕ → Type 0
 IsTakenSo s s' peer octets number d d' queued =
-    (heard : List HeardGram) → length heard ≡ number → IsSound heard d → IsTaken s s' heard (heard ++ record { from = peer; bytes = octets } ∷ []) octets d d' queued
+    (heard : List HeardGram) → length heard ≡ number → IsSound heard d → IsTaken s s' number (heard ++ record { from = peer; bytes = octets } ∷ []) octets d d' queued
 
 -- a datagram was heard: it stands in the book, behind those before
 pub record Takes (homes : List (ℕ × ℕ)) (peer : Peer) (octets : List ℕ) (b b' : Book) : Type 0 where
@@ -108,7 +108,7 @@ pub record TakesSo (s s' : SessionState) (d d' : Desk) (b b' : Book) : Type 0 wh
   pub gram : GramIn
   pub put : b'.grams ≡ b.grams ++ gram ∷ []
   pub frame : length b.frames < 4294967296 → gram.frame ≡ length b.frames
-  pub taken : IsTaken s s' (map heard_as b.grams) (map heard_as b'.grams) gram.bytes d d' gram.queued
+  pub taken : IsTaken s s' (length b.grams) (map heard_as b'.grams) gram.bytes d d' gram.queued
 
 -- the same of a desk that is sound
 abbrev pub TakesSoundly : SessionState → SessionState → Desk → Desk → Book → Book → Type 0

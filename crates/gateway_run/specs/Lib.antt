@@ -1,4 +1,5 @@
 pub mod Stops
+pub mod Events
 pub mod Heard
 pub mod Account
 pub mod Desk

@@ -1,6 +1,8 @@
-ghost use Rattle.std.specs.Prelude.{◌≡◌, ◌<◌, ◌≤◌, ◌+◌, ◌++◌, ◌∷◌, ◌↔◌, [], List, length, map, find, IfSome, IfOk, OnOk, Contains, IsTrue, option_to_list, vec_len};
+ghost use Rattle.std.specs.Prelude.{◌≡◌, ◌<◌, ◌≤◌, ◌+◌, ◌++◌, ◌∷◌, ◌↔◌, [], List, length, map, find, IfSome, IfNone, IfOk, OnOk, Contains, IsTrue, option_to_list, vec_len};
+ghost use Rattle.std.specs.Option.{option_copied};
 ghost use Rattle.ec_outside.specs.Port.{HeardGram};
-ghost use Rattle.run_record.specs.Session.{events_of};
+ghost use Rattle.master_node.specs.declared.event.Event.TheVariants as events;
+ghost use Rattle.gateway_run.specs.Events.{events_of};
 ghost use Rattle.gateway_run.specs.Account.{has_key, is_of, others, elsewhere, begun_first, cut_off, replied, left_by, owed_by};
 ghost use Rattle.gateway_run.specs.Heard.{heard_as, IsJudged};
 ghost use Rattle.gateway_run.specs.Desk.{IsOpen, IsSound, AsksMails, Tells, NotesAll, cut_one, Answers, PassesSoundly, PassesSo, IsTakenSo, Takes, TakesSoundly};
@@ -56,6 +58,20 @@ fn count(rows: usize) -> u32
     } else {
         u32::MAX
     }
+}
+
+// The request of a key.
+fn with_key(requests: &[Request], key: usize) -> Option<&Request>
+    ensures { option_copied result ≡ find (has_key key) requests.now }
+{
+    requests.iter().find(|request| request.key == key)
+}
+
+// The first request of a slave.
+fn at_slave(requests: &[Request], slave: u32) -> Option<&Request>
+    ensures { option_copied result ≡ find (is_of slave) requests.now }
+{
+    requests.iter().find(|request| request.slave == slave)
 }
 
 impl Desk {
@@ -123,10 +139,7 @@ impl Desk {
         ensures inside { IfSome result (Contains self.now.requests.items) }
         ensures first { result ≡ find (has_key key) self.now.requests.items }
     {
-        self.requests
-            .iter()
-            .find(|request| request.key == key)
-            .copied()
+        with_key(self.requests.as_slice(), key).copied()
     }
 
     // The first request of a slave that isn't finished.
@@ -134,10 +147,7 @@ impl Desk {
         ensures inside { IfSome result (Contains self.now.requests.items) }
         ensures first { result ≡ find (is_of slave) self.now.requests.items }
     {
-        self.requests
-            .iter()
-            .find(|request| request.slave == slave)
-            .copied()
+        at_slave(self.requests.as_slice(), slave).copied()
     }
 
     // The oldest mail that waits for a slave came into hand.
@@ -155,10 +165,21 @@ impl Desk {
         }
     }
 
+    // A service came into hand.
+    fn came(&mut self, slave: u32, origin: Origin)
+        ensures { Tells (left_by (events.Began slave origin) self.old.requests.items) [] self.old self.new }
+    {
+        match origin {
+            Origin::Gateway(_) => self.begin(slave),
+            Origin::Script(_) | Origin::Forward(_) => {}
+        }
+    }
+
     // A request of a slave that was given up gets no further answer, but for an error where its mail waited.
     fn drop_one(&mut self, alloc: Global, request: Request) -> Result<(), NoMemory>
         requires { Contains self.old.requests.items request }
-        ensures { OnOk result (Tells (others request.key self.old.requests.items) (cut_one request) self.old self.new) }
+        ensures told { OnOk result (Tells (others request.key self.old.requests.items) (cut_one request) self.old self.new) }
+        ensures requests { OnOk result (self.new.requests.items ≡ others request.key self.old.requests.items) }
     {
         if !request.begun {
             self.answer(alloc, request, &error_mail(NO_STATION))?;
@@ -192,11 +213,8 @@ impl Desk {
         ensures { OnOk result (Tells (left_by event.now self.old.requests.items) (owed_by event.now self.old.requests.items) self.old self.new) }
     {
         match event {
-            Event::Began {
-                slave,
-                origin: Origin::Gateway(_),
-            } => {
-                self.begin(*slave);
+            Event::Began { slave, origin } => {
+                self.came(*slave, *origin);
                 Ok(())
             }
             Event::GatewayReply { key, mail } => self.replied(alloc, *key, mail),
@@ -205,12 +223,8 @@ impl Desk {
                 Ok(())
             }
             Event::GivenUp { slave } => self.give_up(alloc, *slave),
-            Event::Began {
-                origin: Origin::Script(_) | Origin::Forward(_),
-                ..
-            }
-            | Event::Answered { .. }
-            | Event::Emergency { .. }
+            Event::Emergency { .. } => Ok(()),
+            Event::Answered { .. }
             | Event::Host(_)
             | Event::Switch(_)
             | Event::Cleared { .. }
@@ -315,6 +329,7 @@ impl Desk {
     /// The next datagram that is to be sent.
     pub fn next_out(&mut self) -> Option<GramOut>
         ensures first { self.old.outbox.items ≡ option_to_list result ++ self.new.outbox.items }
+        ensures none { IfNone result (self.new.outbox.items ≡ []) }
         ensures gateway { self.new.gateway ≡ self.old.gateway }
         ensures requests { self.new.requests.items ≡ self.old.requests.items }
     {

@@ -19,9 +19,7 @@ use Rattle.mailbox_mail.specs.declared.mail.Mail.{Mail}
 use Rattle.run_record.specs.declared.standing.AskedMail.{AskedMail}
 use Rattle.run_record.specs.declared.standing.Log.{Log}
 use Rattle.run_record.specs.Notes.{new_notes, ended}
-use Rattle.master_node.specs.declared.event.Event.{Event}
 use Rattle.master_node.specs.declared.node.MasterNode.{MasterNode}
-use Rattle.master_node.specs.Listed.{listed}
 use Rattle.master_node.specs.Shows.{MasterShows}
 use Rattle.master_node.specs.Wants.{gave_of, AllCounted, AllPlaced, AllLeft}
 use Rattle.master_tour.specs.Goes.{is_live}
@@ -46,10 +44,6 @@ pub record SessionState : Type 0 where
   pub recover : ℕ
   pub budget : ℕ
   pub serving : Bool
-
--- what happened in the last step of a master
-abbrev pub events_of : MasterNode → List Event
-events_of m = listed m.list.rows.items m.list.count
 
 -- the frames that a plan without a budget gets
 abbrev pub smaller_bound : ℕ → ℕ

@@ -9,12 +9,13 @@ ghost use Rattle.run_book.specs.declared.book.Ending.TheVariants as endings;
 ghost use Rattle.frame_view.specs.View.{Lens};
 ghost use Rattle.frame_view.specs.Seen.{seen};
 ghost use Rattle.life_runs.specs.Led.{Exchanged, Turn, led_behind, gives_up_at, missed_behind};
+ghost use Rattle.master_node.specs.Listed.{listed};
 ghost use Rattle.master_node.specs.Shows.{MasterShows, MasterUnder};
 ghost use Rattle.segment_model.specs.Returned.{Returns};
 ghost use Rattle.segment_ring.specs.declared.wire.Fate.TheVariants as Fates;
 ghost use Rattle.run_record.specs.Led.{Leading};
 ghost use Rattle.run_record.specs.Replay.{first_ring};
-ghost use Rattle.run_record.specs.Session.{budget_of, smaller_bound, slave_row, rests_at, slave_rows, session_rows, first_session, are_at_rest, some_given_up, has_live, IsLeftBy, KeepsRest, Steps, Stops, Asks, events_of};
+ghost use Rattle.run_record.specs.Session.{budget_of, smaller_bound, slave_row, rests_at, slave_rows, session_rows, first_session, are_at_rest, some_given_up, has_live, IsLeftBy, KeepsRest, Steps, Stops, Asks};
 
 use crate::log::Moment;
 use crate::notes::Notes;
@@ -335,7 +336,7 @@ impl Session {
 
     /// What happened in the last step.
     pub fn events(&self) -> &[Event]
-        ensures { result.now ≡ events_of self.now.master }
+        ensures { result.now ≡ listed self.now.master.list.rows.items self.now.master.list.count }
     {
         self.master.step_events()
     }

@@ -8,6 +8,7 @@ use Rattle.gateway_run.proofs.serving.turns.Given as goal
 abbrev pub invariant-loop-settled : goal.invariant-loop-settled
 invariant-loop-settled g l = record {
   goes : (plan : Scenario) (count : ℕ) (first : Told) → IsServing plan count first (told g.P.Port.heard g.P.Port.sent g.P.Port.over g.P.Port.port_faults l.fn.port) l.fn.serving l.fn.book → IsServing plan count first (told g.P.Port.heard g.P.Port.sent g.P.Port.over g.P.Port.port_faults l.port) l.serving l.book;
+  empty : l.serving.desk.outbox.items ≡ [];
   at_rest : OnTrue l.settled (are_at_rest (session_rows l.serving.session) ≡ true);
 }
 

@@ -11,7 +11,7 @@ use Rattle.gateway_run.proofs.turn.Serving.frame.Goals as goal
 
 pub returns-clause-goes : goal.returns-clause-goes
 returns-clause-goes c = λ plan count first now h.
-    stepped plan count first now c.args.self.now _ c.args.book.now c.step.new.book c.in_ok-step.ensures.ok.0 h c.if-spent.ensures.left c.in_ok-step.ensures.ok.1 (c.in_ok-note_all.ensures _ h.on.sound) refl refl
+    stepped plan count first now c.args.self.now _ c.args.book.now c.step.new.book c.in_ok-step.ensures.ok.0 h c.if-spent.ensures.left c.in_ok-step.ensures.ok.1 c.in_ok-note_all.ensures refl refl
 
 pub returns-in_err-step-clause-goes : goal.returns-in_err-step-clause-goes
 returns-in_err-step-clause-goes c = λ plan count first now h.
