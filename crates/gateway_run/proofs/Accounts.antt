@@ -5,11 +5,9 @@ use Rattle.std.proofs.lemmas.List.Elements.{All-nil, All-head, All-tail, All-pus
 use Rattle.slab.specs.Slab.{Slab, get}
 use Rattle.ec_outside.specs.Port.{HeardGram}
 use Rattle.mailbox_mail.specs.Mail.{error_of}
-use Rattle.mailbox_mail.specs.declared.mail.Mail.{Mail}
 use Rattle.gateway_core.specs.declared.asker.Asker.{Asker}
-use Rattle.master_node.specs.declared.event.Event.{Event}
 use Rattle.run_book.specs.declared.book.GramOut.{GramOut}
-use Rattle.gateway_run.specs.Account.{Owing, owing, has_key, is_other, is_of, is_elsewhere, waits_at, begun_first, others, elsewhere, cut_off, IsFree, Spells, AreSpelled}
+use Rattle.gateway_run.specs.Account.{Owing, owing, is_other, is_of, waits_at, begun_first, others, elsewhere, cut_off, IsFree, Spells, AreSpelled}
 use Rattle.gateway_run.specs.Desk.{IsOpen, AreApart, Owes, cut_one}
 use Rattle.gateway_run.specs.declared.desk.Request.{Request}
 
@@ -98,9 +96,10 @@ apart_filter p (r ∷ rs) apart = apart_step p r rs (p r) apart.0 (apart_filter 
 
 pub apart_push : (rs : List Request) (r : Request) → AreApart rs → IsFree r.key rs → AreApart (rs ++ r ∷ [])
 apart_push [] r apart free = (All-nil (λ (q : Request). q.key ≢ r.key), tt)
-apart_push (q ∷ rs) r apart free =
-    (All-push (λ (p : Request). p.key ≢ q.key) rs r apart.0 (λ same. All-head (λ (p : Request). p.key ≢ r.key) q rs free (sym same)),
-    apart_push rs r apart.1 (All-tail (λ (p : Request). p.key ≢ r.key) q rs free))
+apart_push (q ∷ rs) r apart free = (
+  All-push (λ (p : Request). p.key ≢ q.key) rs r apart.0 (λ same. All-head (λ (p : Request). p.key ≢ r.key) q rs free (sym same)),
+  apart_push rs r apart.1 (All-tail (λ (p : Request). p.key ≢ r.key) q rs free),
+)
 
 free_begun_step : (key : ℕ) (slave : ℕ) (r : Request) (rs : List Request) (here : Bool) → r.key ≢ key → IsFree key rs → IsFree key (begun_first slave rs) →
     IsFree key (cond here ((record r { begun = true }) ∷ rs) (r ∷ begun_first slave rs))

@@ -1,10 +1,9 @@
 -- A serving at its end.
-use Rattle.std.proofs.Common.{◌≡◌, ℕ, ◌<◌, ◌≤◌, ◌⊎◌, [], ◌++◌, List, length, map, Bool, true, false, not, ◌&&◌, nat_lt, refl, sym, ap, ◌∙◌, subst, inl, inr, ltb-true, ltb-false, lt-ltb, arith}
-use Rattle.std.specs.Prelude.{◌≢◌, All, Result, Ok, Err}
+use Rattle.std.proofs.Common.{◌≡◌, ℕ, ◌<◌, ◌≤◌, ◌⊎◌, [], ◌++◌, List, length, map, Bool, true, false, not, ◌&&◌, nat_lt, refl, sym, ap, ◌∙◌, subst, inl, inr, ltb-false, lt-ltb, arith}
+use Rattle.std.specs.Prelude.{◌≢◌, All, Result, Err}
 use Rattle.gateway_run.specs.declared.stop.Stop.{Stop}
 use Rattle.gateway_run.specs.declared.stop.Stop.TheVariants as stops
 use Rattle.std.proofs.lemmas.List.Elements.{All-nil}
-use Rattle.ec_outside.specs.Port.{HeardGram}
 use Rattle.segment_plan.specs.Sound.{IsPlan}
 use Rattle.segment_plan.specs.Bound.{bound_of}
 use Rattle.segment_plan.specs.declared.plan.Scenario.{Scenario}
@@ -14,15 +13,15 @@ use Rattle.run_book.specs.declared.book.Ending.{Ending}
 use Rattle.run_book.specs.declared.book.Ending.TheVariants as endings
 use Rattle.run_book.specs.declared.book.GramIn.{GramIn}
 use Rattle.run_book.specs.declared.book.GramOut.{GramOut}
-use Rattle.run_record.specs.Session.{SessionState, first_session, session_rows, home_of}
-use Rattle.run_record.specs.Ran.{HasSent, IsUnderway, EndsSo, StopsSo, StopsAs}
+use Rattle.run_record.specs.Session.{first_session, session_rows, home_of}
+use Rattle.run_record.specs.Ran.{HasSent, EndsSo, StopsSo, StopsAs}
 use Rattle.gateway_run.proofs.Room.{small_budget}
 use Rattle.run_record.proofs.Underway.{begun, has_frames, ended}
 use Rattle.gateway_run.specs.Heard.{heard_as, AreHeard, AreSent, AreSentBut, IsOwed, IsRightly}
 use Rattle.gateway_run.specs.Account.{Course.begins}
 use Rattle.gateway_run.specs.Desk.{IsOpen, AreApart}
 use Rattle.gateway_run.specs.Serving.{Told, IsOn, IsServing, IsFaulted, Goes, can_hear}
-use Rattle.gateway_run.specs.Served.{HasGrams, HasAccount, IsThrough, IsBroken, IsServed}
+use Rattle.gateway_run.specs.Served.{HasGrams, HasAccount, IsBroken, IsServed}
 use Rattle.gateway_run.specs.declared.turn.Serving.{Serving}
 use Rattle.gateway_run.proofs.Turns.{heard_none, sent_none, course_same, spelled_same}
 

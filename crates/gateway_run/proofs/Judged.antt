@@ -1,5 +1,5 @@
 -- What becomes of a datagram.
-use Rattle.std.proofs.Common.{◌≡◌, ℕ, zero, suc, ◌+◌, ◌≤◌, List, [], ◌∷◌, ◌++◌, length, Bool, true, false, refl, sym, ap, ◌∙◌, subst, arith, ltb-false, eqb-true}
+use Rattle.std.proofs.Common.{◌≡◌, ℕ, suc, ◌+◌, ◌≤◌, List, [], ◌∷◌, ◌++◌, length, Bool, true, false, refl, sym, ap, ◌∙◌, subst, arith, ltb-false, eqb-true}
 use Rattle.std.specs.Prelude.{◌==◌, nat_lt, nat_le, slice_get, Option, Some, None, Result, Ok, Err, IfSome, if◌then◌else◌}
 use Rattle.slab.specs.Slab.{Slab, Updates, get}
 use Rattle.ec_outside.specs.Port.{HeardGram}
@@ -7,7 +7,7 @@ use Rattle.ec_outside.specs.declared.port.Peer.{Peer}
 use Rattle.mailbox_mail.specs.Mail.{error_of}
 use Rattle.mailbox_mail.specs.declared.mail.Mail.{Mail}
 use Rattle.gateway_core.specs.Framing.{request_in}
-use Rattle.gateway_core.specs.Gateway.{place_from, is_passed, judged, judged_at, unfinished_at, error_text, IsAsker, Queues, AnswersMail, Answers}
+use Rattle.gateway_core.specs.Gateway.{place_from, is_passed, judged, judged_at, unfinished_at, error_text, IsAsker, AnswersMail, Answers}
 use Rattle.gateway_core.specs.declared.asker.Asked.{Asked}
 use Rattle.gateway_core.specs.declared.asker.Asked.TheVariants as asked
 use Rattle.gateway_core.specs.declared.asker.Asker.{Asker}
@@ -16,11 +16,10 @@ use Rattle.run_book.specs.declared.book.GramOut.{GramOut}
 use Rattle.run_record.specs.Notes.{stations_of}
 use Rattle.run_record.specs.Session.{SessionState}
 use Rattle.run_record.proofs.Stations.{stands_at_home}
-use Rattle.gateway_run.specs.Account.{Owing, owing, IsFree, Spells, Judges, Judges.ignored as is_ignored, Judges.refused as is_refused, Judges.too_many, Judges.queues}
+use Rattle.gateway_run.specs.Account.{IsFree, Spells, Judges.ignored as is_ignored, Judges.refused as is_refused, Judges.too_many, Judges.queues}
 use Rattle.gateway_run.specs.Heard.{IsOwed, IsPassedOn, IsJudged}
-use Rattle.gateway_run.specs.Desk.{IsOpen, Owes, Passes, IsTaken}
+use Rattle.gateway_run.specs.Desk.{IsOpen, Passes, IsTaken}
 use Rattle.gateway_run.specs.declared.desk.Desk.{Desk}
-use Rattle.gateway_run.specs.declared.desk.Request.{Request}
 use Rattle.gateway_run.proofs.Accounts.{owes_none, owes_one}
 use Rattle.gateway_run.proofs.Desks.{get_last}
 

@@ -7,7 +7,7 @@ use Rattle.mailbox_mail.specs.declared.mail.Mail.{Mail}
 use Rattle.master_node.specs.declared.event.Event.{Event}
 use Rattle.run_book.specs.declared.book.GramOut.{GramOut}
 use Rattle.gateway_run.specs.Account.{Owing, owing, has_key, is_of, others, elsewhere, cut_off, owed_to, replied, left_by, owed_by, left_by_all, owed_by_all}
-use Rattle.gateway_run.specs.Desk.{IsOpen, IsSound, Owes, IsTold, Tells, NotesAll, cut_one}
+use Rattle.gateway_run.specs.Desk.{IsSound, Owes, IsTold, Tells, cut_one}
 use Rattle.gateway_run.specs.declared.desk.Desk.{Desk}
 use Rattle.gateway_run.specs.declared.desk.Request.{Request}
 use Rattle.gateway_run.proofs.Accounts.{owes_none, owes_both, dropped, none_left}

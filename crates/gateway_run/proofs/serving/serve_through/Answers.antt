@@ -1,4 +1,4 @@
-use Rattle.std.proofs.Common.{◌≡◌, refl}
+use Rattle.std.proofs.Common.{◌≡◌}
 use Rattle.std.specs.Prelude.{Err}
 use Rattle.run_record.proofs.Underway.{has_frames}
 use Rattle.gateway_run.specs.Serving.{told}

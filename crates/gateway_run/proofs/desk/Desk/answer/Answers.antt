@@ -1,10 +1,7 @@
-use Rattle.std.proofs.Common.{◌≡◌, ℕ, ◌∷◌, ◌++◌, [], List, length, refl, sym, ap, ◌∙◌, subst, rules, arith}
-use Rattle.std.specs.Prelude.{All, map, Some, None, IfSome}
-use Rattle.std.proofs.lemmas.List.Elements.{All-push, All-filter, All-contains, All-set}
-use Rattle.ec_outside.specs.Port.{HeardGram}
-use Rattle.gateway_run.specs.Heard.{heard_as, IsOwed}
-use Rattle.gateway_run.specs.Desk.{IsOpen, IsSound}
-use Rattle.gateway_run.specs.declared.desk.Request.{Request}
+use Rattle.std.proofs.Common.{sym, ◌∙◌, subst}
+use Rattle.std.specs.Prelude.{All}
+use Rattle.std.proofs.lemmas.List.Elements.{All-push}
+use Rattle.gateway_run.specs.Heard.{IsOwed}
 use Rattle.gateway_run.specs.Account.{owing}
 use Rattle.gateway_run.proofs.Accounts.{owes_one}
 use Rattle.gateway_run.proofs.Desks.{answered, spelled_to}

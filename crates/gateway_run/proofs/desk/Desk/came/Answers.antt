@@ -1,4 +1,4 @@
-use Rattle.std.proofs.Common.{◌≡◌, [], sym, subst}
+use Rattle.std.proofs.Common.{[], sym, subst}
 use Rattle.master_node.specs.declared.event.Event.TheVariants as events
 use Rattle.master_node.specs.declared.event.Origin.{Origin}
 use Rattle.gateway_run.specs.Account.{left_by}

@@ -1,9 +1,7 @@
-use Rattle.std.proofs.Common.{◌≡◌, ℕ, ◌∷◌, ◌++◌, [], List, length, refl, sym, ap, ◌∙◌, subst, rules, arith}
-use Rattle.std.specs.Prelude.{All, filter, map, Some, None, IfSome}
-use Rattle.std.proofs.lemmas.List.Elements.{All-push, All-filter, All-contains, All-set}
-use Rattle.ec_outside.specs.Port.{HeardGram}
-use Rattle.gateway_run.specs.Heard.{heard_as, IsOwed}
-use Rattle.gateway_run.specs.Desk.{IsOpen, IsSound}
+use Rattle.std.proofs.Common.{◌≡◌, ℕ, List, sym, subst, rules}
+use Rattle.std.specs.Prelude.{All, filter}
+use Rattle.std.proofs.lemmas.List.Elements.{All-filter}
+use Rattle.gateway_run.specs.Desk.{IsOpen}
 use Rattle.gateway_run.specs.declared.desk.Request.{Request}
 use Rattle.std.proofs.lemmas.Fn.{filter_same}
 use Rattle.gateway_run.specs.Account.{is_other}

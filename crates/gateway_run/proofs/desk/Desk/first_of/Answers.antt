@@ -1,4 +1,4 @@
-use Rattle.std.proofs.Common.{◌≡◌, ap, ◌∙◌}
+use Rattle.std.proofs.Common.{ap, ◌∙◌}
 use Rattle.std.specs.Prelude.{List, find}
 use Rattle.gateway_run.specs.Account.{is_of}
 use Rattle.gateway_run.specs.declared.desk.Request.{Request}

@@ -1,4 +1,4 @@
-use Rattle.std.proofs.Common.{◌≡◌, ◌<◌, length, sym, ap, ◌∙◌, arith}
+use Rattle.std.proofs.Common.{◌<◌, length, sym, ap, ◌∙◌, arith}
 use Rattle.gateway_run.proofs.Accounts.{fewer_found}
 use Rattle.gateway_run.proofs.Told.{giving_up_on, given_up_all}
 use Rattle.gateway_run.proofs.desk.Desk.give_up.Goals as goal

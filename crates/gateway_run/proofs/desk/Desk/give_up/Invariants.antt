@@ -1,4 +1,4 @@
-use Rattle.std.proofs.Common.{◌≡◌, List, length}
+use Rattle.std.proofs.Common.{List, length}
 use Rattle.ec_outside.specs.Port.{HeardGram}
 use Rattle.gateway_run.specs.Desk.{IsSound}
 use Rattle.gateway_run.proofs.Told.{IsGivingUp}

@@ -1,19 +1,17 @@
-use Rattle.std.proofs.Common.{◌≡◌, ℕ, ◌∷◌, ◌++◌, [], List, length, refl, sym, ap, ◌∙◌, subst, rules, arith}
-use Rattle.std.specs.Prelude.{All, map, Some, None, IfSome}
-use Rattle.std.proofs.lemmas.List.Elements.{All-push, All-filter, All-contains, All-set}
+use Rattle.std.proofs.Common.{◌∷◌, ◌++◌, [], refl, sym, ◌∙◌, subst}
+use Rattle.std.specs.Prelude.{All}
+use Rattle.std.proofs.lemmas.List.Elements.{All-push}
 use Rattle.ec_outside.specs.Port.{HeardGram}
-use Rattle.gateway_run.specs.Heard.{heard_as, IsOwed, IsJudged}
+use Rattle.gateway_run.specs.Heard.{IsOwed, IsJudged}
 use Rattle.std.proofs.lemmas.Result.{on_ok_weaker, IfOk-weaker}
 use Rattle.std.specs.Prelude.{false}
-use Rattle.gateway_run.specs.Desk.{IsOpen, IsSound, IsTakenSo}
-use Rattle.gateway_run.specs.declared.desk.Request.{Request}
+use Rattle.gateway_run.specs.Desk.{IsOpen, IsTakenSo}
 use Rattle.slab.specs.Slab.{Slab}
 use Rattle.gateway_core.specs.Framing.{request_in}
 use Rattle.gateway_core.specs.Gateway.{Answers}
-use Rattle.gateway_core.specs.declared.asker.Asked.{Asked}
 use Rattle.gateway_core.specs.declared.asker.Asker.{Asker}
 use Rattle.gateway_core.specs.declared.asker.Asked.TheVariants as asked
-use Rattle.gateway_run.proofs.Desks.{sound_more, all_owed_more, queued}
+use Rattle.gateway_run.proofs.Desks.{sound_more, queued}
 use Rattle.gateway_run.proofs.Accounts.{free_of}
 use Rattle.gateway_run.proofs.Judged.{ignored, faulty, refused, caused, put, error_owed, error_spelled, put_open, passed_on, judged_so, taken_ignored, taken_refused, taken_passed}
 use Rattle.gateway_run.proofs.desk.Desk.judge.Goals as goal

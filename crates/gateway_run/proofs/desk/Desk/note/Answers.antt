@@ -1,4 +1,4 @@
-use Rattle.std.proofs.Common.{◌≡◌, [], sym, subst}
+use Rattle.std.proofs.Common.{sym, subst}
 use Rattle.std.proofs.lemmas.Result.{on_ok_weaker}
 use Rattle.master_node.specs.declared.event.Event.{Event}
 use Rattle.gateway_run.specs.Account.{left_by, owed_by}

@@ -1,4 +1,4 @@
-use Rattle.std.proofs.Common.{◌≡◌, ◌∷◌, [], ◌+◌, ◌<◌, ◌≤◌, List, length, drop, sym, ap, ◌∙◌, subst, arith}
+use Rattle.std.proofs.Common.{◌≡◌, ◌+◌, List, length, drop, ap, subst, arith}
 use Rattle.std.specs.Prelude.{slice_index_or}
 use Rattle.master_node.specs.declared.event.Event.{Event}
 use Rattle.gateway_run.specs.Events.{events_of}

@@ -1,4 +1,4 @@
-use Rattle.std.proofs.Common.{◌≡◌, List, drop}
+use Rattle.std.proofs.Common.{List, drop}
 use Rattle.ec_outside.specs.Port.{HeardGram}
 use Rattle.gateway_run.specs.Events.{events_of}
 use Rattle.gateway_run.specs.Desk.{IsSound}

@@ -1,4 +1,4 @@
-use Rattle.std.proofs.Common.{◌≡◌, ◌∷◌, ◌++◌, [], List, Bool, refl, sym, ap, ◌∙◌, subst}
+use Rattle.std.proofs.Common.{◌∷◌, [], List, Bool, sym, ap, ◌∙◌, subst}
 use Rattle.std.specs.Prelude.{All, Ok}
 use Rattle.std.proofs.lemmas.List.Elements.{All-push}
 use Rattle.mailbox_mail.specs.Mail.{error_of}
@@ -30,9 +30,10 @@ returns-clause-passes c = λ heard o free.
     let d = c.args.self.now in
     let r = c.args.request in
     let full = c.in_ok-ask.ensures.full in
-    let none = c.if-branch.false in
-    (full.0 (c.in_ok-ask.was ∙ ap Ok none),
-    subst (λ (b : Bool). Asks r.slave r.key c.args.mail.now c.args.session.now c.ask.new.self b) none c.in_ok-ask.ensures.asked,
-    c.finish.ensures.requests ∙ ap (others r.key) (c.in_ok-answer.ensures.requests ∙ c.in_ok-push.ensures.items) ∙ others_push r d.requests.items free,
-    subst (λ (out : List GramOut). Owes heard (owing (error_of 7) r ∷ []) d.outbox.items out) (sym c.finish.ensures.outbox)
-    (subst (λ (m : Mail). Owes heard (owing m r ∷ []) d.outbox.items c.answer.new.self.outbox.items) c.error_mail.ensures (c.in_ok-answer.ensures.owes heard o)))
+    let none = c.if-branch.false in (
+      full.0 (ap Ok none),
+      subst (λ (b : Bool). Asks r.slave r.key c.args.mail.now c.args.session.now c.ask.new.self b) none c.in_ok-ask.ensures.asked,
+      c.finish.ensures.requests ∙ ap (others r.key) (c.in_ok-answer.ensures.requests ∙ c.in_ok-push.ensures.items) ∙ others_push r d.requests.items free,
+      subst (λ (out : List GramOut). Owes heard (owing (error_of 7) r ∷ []) d.outbox.items out) (sym c.finish.ensures.outbox)
+          (subst (λ (m : Mail). Owes heard (owing m r ∷ []) d.outbox.items c.answer.new.self.outbox.items) c.error_mail.ensures (c.in_ok-answer.ensures.owes heard o)),
+    )

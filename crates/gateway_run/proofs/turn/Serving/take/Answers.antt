@@ -1,8 +1,5 @@
-use Rattle.std.proofs.Common.{◌≡◌, ◌<◌, ◌≤◌, ℕ, ◌∷◌, ◌++◌, [], List, length, true, refl, sym, ap, ◌∙◌, subst, rules, arith}
-use Rattle.std.specs.Bool.{OnTrue}
-use Rattle.segment_plan.specs.declared.plan.Scenario.{Scenario}
-use Rattle.run_record.specs.Session.{session_rows, are_at_rest}
-use Rattle.gateway_run.specs.Serving.{Told, told, Listens, Goes, IsServing, left, can_hear}
+use Rattle.std.proofs.Common.{ℕ, List, refl, ap, ◌∙◌, subst, arith}
+use Rattle.gateway_run.specs.Serving.{Listens}
 use Rattle.ec_outside.specs.declared.port.Heard.{Heard}
 use Rattle.gateway_run.specs.Desk.{Takes}
 use Rattle.std.specs.Prelude.{Err}
