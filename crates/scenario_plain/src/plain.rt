@@ -2,14 +2,13 @@ ghost use Rattle.std.specs.Prelude.{IfOk};
 ghost use Rattle.toml.specs.View.{table_view};
 ghost use Rattle.segment_plan.specs.Sound.{IsSlave};
 ghost use Rattle.scenario_keys.specs.Reading.{Gives};
-ghost use Rattle.scenario_settings.specs.Plain.{HasMac, plain_slave_of};
+ghost use Rattle.scenario_plain.specs.Plain.{HasMac, plain_slave_of};
 
-use crate::protocols::serves;
-use crate::settings::{mac, pace, start};
 use ec_fields::{Octets, Rows};
 use scenario_keys::{
     Place, Stop, bool_or_false, integer_or, needed_integer, needed_name, needed_pair,
 };
+use scenario_settings::{mac, pace, serves, start};
 use segment_plan::SlaveSpec;
 use std::alloc::Global;
 use toml::Table;
