@@ -1,11 +1,11 @@
-ghost use Rattle.std.specs.Prelude.{◌≡◌, ◌≤◌, ◌/◌, ◌%◌, [], length, is_ok, Ok, IfOk, IfErr, OnOk, if◌then◌else◌};
+ghost use Rattle.std.specs.Prelude.{◌≡◌, ◌≤◌, ◌*◌, ◌/◌, ◌%◌, [], length, is_ok, Ok, IfOk, IfErr, OnOk, true, if◌then◌else◌};
 ghost use Rattle.toml.specs.View.{view, table_view};
 ghost use Rattle.hex.specs.Hex.{decode_of};
 ghost use Rattle.scenario_keys.specs.declared.refusal.Rule.TheVariants as rules;
 ghost use Rattle.scenario_keys.specs.declared.refusal.Stop.TheVariants as stops;
 ghost use Rattle.scenario_keys.specs.Reading.{Gives, Fails};
 ghost use Rattle.scenario_keys.specs.Keys.{text_in};
-ghost use Rattle.scenario_octets.specs.Octets.{digits_in, octets_in, octets_at, no_octets_at};
+ghost use Rattle.scenario_octets.specs.Octets.{digits_in, is_fit, octets_in, octets_at, no_octets_at};
 
 use crate::digits::{decode_behind, decode_into, writes_octets};
 use arrayvec::ArrayVec;
@@ -70,24 +70,30 @@ fn unfit(text: &[u8], place: Place) -> Stop
     }
 }
 
-// The characters of a text that writes so many octets, where all of them are digits.
-#[tactic(auto, using(crate::proofs::Unfit::odd_refused, crate::proofs::Unfit::few_refused, crate::proofs::Unfit::many_refused))]
+fn is_fit(text: &[u8], least: usize, most: usize) -> bool
+    ensures { result ≡ is_fit least most text.now }
+{
+    text.len() % 2 == 0 && least <= text.len() / 2 && text.len() / 2 <= most
+}
+
+/// The characters of a text for so many octets.
+#[tactic(auto, using(crate::proofs::Fit::even, crate::proofs::Fit::most_half, crate::proofs::Fit::exact_twice, crate::proofs::Fit::unfit_refused))]
 fn fitting(value: &Value, least: usize, most: usize, place: Place) -> Result<&[u8], Stop>
     ensures text { IfOk result (λ t. text_in place (view value.now) ≡ Ok t.now) }
+    ensures fit { IfOk result (λ t. is_fit least most t.now ≡ true) }
     ensures even { IfOk result (λ t. length t.now % 2 ≡ 0) }
-    ensures least { IfOk result (λ t. least ≤ length t.now / 2) }
     ensures most { IfOk result (λ t. length t.now / 2 ≤ most) }
+    ensures exact { IfOk result (λ t. least ≡ most → length t.now ≡ 2 * least) }
     ensures refused { IfErr result (λ e. Fails e (octets_in least most place (view value.now))) }
 {
     let text = text(value, place)?.as_bytes();
-    let len = text.len() / 2;
-    if text.len() % 2 == 1 || len < least || most < len {
-        return Err(unfit(text, place));
+    if is_fit(text, least, most) {
+        Ok(text)
+    } else {
+        Err(unfit(text, place))
     }
-    Ok(text)
 }
 
-#[tactic(auto, using(crate::proofs::Unfit::given))]
 fn fill(value: &Value, place: Place, out: &mut [u8]) -> Result<(), Stop>
     ensures { Gives (λ _. out.new) result (octets_in (length out.old) (length out.old) place (view value.now)) }
 {
@@ -102,7 +108,6 @@ pub fn needed_in_place(table: &Table, key: &str, place: Place, out: &mut [u8]) -
     fill(needed(table, key, place)?, place, out)
 }
 
-#[tactic(auto, using(crate::proofs::Unfit::given, crate::proofs::Unfit::given_least))]
 fn fill_buffer<const CAP: usize>(
     value: &Value,
     least: usize,
