@@ -2,3 +2,4 @@ pub mod Packets
 pub mod Telling
 pub mod Walk
 pub mod Within
+pub mod Digits

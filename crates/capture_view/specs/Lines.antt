@@ -2,6 +2,7 @@
 use Rattle.std.specs.Prelude.{ℕ, Bool, if◌then◌else◌, List, ◌++◌, length, codes}
 use Rattle.std.specs.Fmt.{decimal}
 use Rattle.pcap_frames.specs.declared.capture.PacketAt.{PacketAt}
+use Rattle.pcap_frames.specs.declared.capture.Stamp.{Stamp}
 use Rattle.datagrams.specs.declared.command.Command.{Command}
 use Rattle.datagrams.specs.declared.command.Command.TheVariants as commands
 use Rattle.datagrams.specs.declared.head.Head.{Head}
@@ -11,6 +12,10 @@ use Rattle.mailbox_mail.specs.declared.mail.Kind.{Kind}
 use Rattle.mailbox_mail.specs.declared.mail.Kind.TheVariants as kinds
 use Rattle.mailbox_mail.specs.declared.mail.Mail.{Mail}
 use Rattle.capture_view.specs.Numbers.{decimal_of, hex_of}
+
+-- when a packet was captured: seconds, and a part of a second in micro- or nanoseconds
+abbrev pub stamp_text : Bool → Stamp → List ℕ
+stamp_text nanos stamp = codes " at " ++ (decimal stamp.seconds ++ (codes "." ++ decimal_of (if nanos then 9 else 6) stamp.part))
 
 -- a packet: its number, its time with the part of a second in micro- or nanoseconds, its captured length
 abbrev pub packet_line : Bool → ℕ → PacketAt → List ℕ
@@ -53,6 +58,14 @@ command_text commands.Lrw = codes "lrw"
 command_text commands.Armw = codes "armw"
 command_text commands.Frmw = codes "frmw"
 command_text (commands.Other number) = codes "command " ++ decimal number
+
+-- a datagram's index and the address that it names: ADP and ADO
+abbrev pub address_text : Head → List ℕ
+address_text h = codes " " ++ (hex_of 2 h.index ++ (codes " " ++ (hex_of 4 h.adp ++ (codes ":" ++ hex_of 4 h.ado))))
+
+-- the length of a datagram's body and its working counter
+abbrev pub counts_text : Head → List ℕ
+counts_text h = codes " length " ++ (decimal h.len ++ (codes " counter " ++ (decimal h.counter ++ codes "\n")))
 
 -- what a datagram's line has behind the command: index, ADP and ADO, the body's length, the working counter
 abbrev pub head_text : Head → List ℕ

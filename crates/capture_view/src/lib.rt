@@ -4,6 +4,7 @@
 
 mod bodies;
 mod lines;
+mod numbers;
 mod viewing;
 
 pub use viewing::{body_of, octets_of, view};

@@ -1,11 +1,34 @@
-ghost use Rattle.std.specs.Prelude.{◌≡◌, ◌++◌, codes, string_bytes, OnOk};
+ghost use Rattle.std.specs.Prelude.{◌≡◌, ◌++◌, if◌then◌else◌, codes, string_bytes, OnOk};
 ghost use Rattle.mailbox_mail.specs.View.{mail_seen};
-ghost use Rattle.capture_view.specs.Lines.{packet_line, packets_line, fault_line, no_frame_line, command_text, head_text, datagram_line, kind_text, mail_line};
+ghost use Rattle.capture_view.specs.Numbers.{decimal_of};
+ghost use Rattle.capture_view.specs.Lines.{stamp_text, packet_line, packets_line, fault_line, no_frame_line, command_text, address_text, counts_text, head_text, datagram_line, kind_text, mail_line};
 
+use crate::numbers::{add_decimal, add_octet, add_word};
 use datagrams::{Command, FrameFault, Head};
 use mailbox_mail::{Kind, MailView};
-use pcap_frames::PacketAt;
+use pcap_frames::{PacketAt, Stamp};
 use std::alloc::AllocError;
+
+// Appends the part of a second, in nano- or microseconds.
+fn add_part(line: &mut String, nanos: bool, part: u32) -> Result<(), AllocError>
+    ensures { OnOk result (string_bytes line.new ≡ string_bytes line.old ++ decimal_of (if nanos then 9 else 6) part) }
+{
+    if nanos {
+        write!(line, "{part:09}")
+    } else {
+        write!(line, "{part:06}")
+    }
+}
+
+// Appends when a packet was captured.
+fn add_stamp(line: &mut String, nanos: bool, stamp: Stamp) -> Result<(), AllocError>
+    ensures { OnOk result (string_bytes line.new ≡ string_bytes line.old ++ stamp_text nanos stamp) }
+{
+    line.push_str(" at ")?;
+    add_decimal(line, u64::from(stamp.seconds))?;
+    line.push_str(".")?;
+    add_part(line, nanos, stamp.part)
+}
 
 /// The line of a packet, by its number in the capture.
 pub fn packet_line(
@@ -16,21 +39,13 @@ pub fn packet_line(
 ) -> Result<(), AllocError>
     ensures { OnOk result (string_bytes line.new ≡ packet_line nanos number packet.now) }
 {
-    let seconds = packet.stamp.seconds;
-    let part = packet.stamp.part;
-    let len = packet.len;
     line.clear();
-    if nanos {
-        write!(
-            line,
-            "packet {number} at {seconds}.{part:09} length {len}\n"
-        )
-    } else {
-        write!(
-            line,
-            "packet {number} at {seconds}.{part:06} length {len}\n"
-        )
-    }
+    line.push_str("packet ")?;
+    add_decimal(line, number as u64)?;
+    add_stamp(line, nanos, packet.stamp)?;
+    line.push_str(" length ")?;
+    add_decimal(line, packet.len as u64)?;
+    line.push_str("\n")
 }
 
 /// The last line, which says how many packets there are.
@@ -92,22 +107,36 @@ fn add_command(line: &mut String, command: Command) -> Result<(), AllocError>
     }
 }
 
+// Appends a datagram's index and the address that it names.
+fn add_address(line: &mut String, head: &Head) -> Result<(), AllocError>
+    ensures { OnOk result (string_bytes line.new ≡ string_bytes line.old ++ address_text head.now) }
+{
+    line.push_str(" ")?;
+    add_octet(line, head.index)?;
+    line.push_str(" ")?;
+    add_word(line, head.adp)?;
+    line.push_str(":")?;
+    add_word(line, head.ado)
+}
+
+// Appends the length of a datagram's body and its working counter.
+fn add_counts(line: &mut String, head: &Head) -> Result<(), AllocError>
+    ensures { OnOk result (string_bytes line.new ≡ string_bytes line.old ++ counts_text head.now) }
+{
+    line.push_str(" length ")?;
+    add_decimal(line, u64::from(head.len))?;
+    line.push_str(" counter ")?;
+    add_decimal(line, u64::from(head.counter))?;
+    line.push_str("\n")
+}
+
 // Appends what stands behind the command.
+#[tactic(auto, using(crate::proofs::Digits::address_behind))]
 fn add_head(line: &mut String, head: &Head) -> Result<(), AllocError>
     ensures { OnOk result (string_bytes line.new ≡ string_bytes line.old ++ head_text head.now) }
 {
-    let Head {
-        index,
-        adp,
-        ado,
-        len,
-        counter,
-        ..
-    } = *head;
-    write!(
-        line,
-        " {index:02x} {adp:04x}:{ado:04x} length {len} counter {counter}\n"
-    )
+    add_address(line, head)?;
+    add_counts(line, head)
 }
 
 /// The line of a datagram.
@@ -138,9 +167,12 @@ fn kind_text(kind: Kind) -> &'static str
 pub fn mail_line(line: &mut String, mail: MailView<'_>) -> Result<(), AllocError>
     ensures { OnOk result (string_bytes line.new ≡ mail_line (mail_seen mail.entry)) }
 {
-    let kind = kind_text(mail.kind);
-    let counter = mail.counter;
-    let len = mail.body.len();
     line.clear();
-    write!(line, "mail {kind} counter {counter} length {len}\n")
+    line.push_str("mail ")?;
+    line.push_str(kind_text(mail.kind))?;
+    line.push_str(" counter ")?;
+    add_decimal(line, u64::from(mail.counter))?;
+    line.push_str(" length ")?;
+    add_decimal(line, mail.body.len() as u64)?;
+    line.push_str("\n")
 }

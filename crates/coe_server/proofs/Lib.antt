@@ -4,3 +4,4 @@ pub mod Fits
 pub mod ObjectsAnswer
 pub mod ObjectsLaw
 pub mod Exchanged
+pub mod Firsts

@@ -152,6 +152,10 @@ first_part part opcode rest =
     if nat_le (length rest) part then Information opcode false 0 (record { items = rest })
     else Information opcode true (parts_of part (length rest - part)) (record { items = take part rest })
 
+-- the answer with a value's size and its first octets
+abbrev pub first_answer : ℕ → ℕ → ℕ → List ℕ → Coe
+first_answer index sub size bytes = FirstAnswer index sub size (record { items = bytes })
+
 -- the message that goes first of what is to be told
 abbrev pub first_message : ℕ → List ℕ → List ℕ → Pending → Coe
 first_message room value told (Pending.DownloadAnswer t) = DownloadAnswer t.index t.sub

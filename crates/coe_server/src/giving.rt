@@ -1,9 +1,9 @@
 ghost use Rattle.std.specs.Prelude.{◌≡◌, ◌≢◌, ◌≤◌, ◌<◌, ◌+◌, ◌-◌, ◌↔◌, List, [], ◌∷◌, ◌++◌, true, false, length, drop, take, Some, None, IfOk, IfSome};
 ghost use Rattle.std.specs.Bool.{OnTrue, OnFalse};
-ghost use Rattle.coe_codec.specs.Writing.{HasSpelling};
+ghost use Rattle.coe_codec.specs.Writing.{HasSpelling, coe_text};
 ghost use Rattle.coe_codec.specs.View.{coe_seen, IsCapped};
 ghost use Rattle.coe_model.specs.Mails.{mail, Emergency};
-ghost use Rattle.coe_server.specs.Serving.{transfer_of, answers_of, waiting_mails, packet_of, has_message, failure_in, message_of, first_part, pending_behind, IsShort, IsWritten, GivesNext};
+ghost use Rattle.coe_server.specs.Serving.{first_answer, transfer_of, answers_of, waiting_mails, packet_of, has_message, failure_in, message_of, first_part, pending_behind, IsShort, IsWritten, GivesNext};
 
 use crate::dictionary::Target;
 use crate::server::CoeServer;
@@ -113,19 +113,28 @@ impl CoeServer {
         }
     }
 
-    // The first octets of a value, with its size.
-    fn write_first(&self, target: Target, upto: u32, body: &mut ArrayVec<u8, 1480>)
-        requires { self.now.pending ≡ Pending.First target upto }
-        ensures { IsWritten self.now.room (message_of self.now) body.new.items }
+    // What stands before the first octets of a value: its size among it.
+    fn write_front(&self, target: Target, body: &mut ArrayVec<u8, 1480>)
+        ensures text { body.new.items ≡ coe_text (first_answer target.index target.sub (length self.now.value) []) }
+        ensures length { length body.new.items ≡ 10 }
+        ensures few { length self.now.value ≤ 16384 }
     {
-        let bytes: ArrayVec<u8, 1470> = self.values.part(Slot::Value, 0, upto as usize);
         let message = CoeView::FirstAnswer {
             index: target.index,
             sub: target.sub,
             size: self.values.len(Slot::Value) as u32,
-            bytes: bytes.as_slice(),
+            bytes: &[],
         };
-        written(self.room, message, body);
+        coe_codec::write_view(message, body);
+    }
+
+    // The first octets of a value, with its size. They go from the value straight to their place.
+    fn write_first(&self, target: Target, upto: u32, body: &mut ArrayVec<u8, 1480>)
+        requires { self.now.pending ≡ Pending.First target upto }
+        ensures { IsWritten self.now.room (message_of self.now) body.new.items }
+    {
+        self.write_front(target, body);
+        self.values.append_to(Slot::Value, 0, upto as usize, body);
     }
 
     // As many octets of a value as a segment has.

@@ -2,6 +2,7 @@ ghost use Rattle.std.specs.Prelude.{◌≡◌, ℕ, ◌+◌, ◌-◌, ◌≤◌,
 ghost use Rattle.block_pool.specs.Region.{chain_of};
 ghost use Rattle.coe_values.specs.Chains.{octets_at, IsSound, AreChains, Holds};
 
+use arrayvec::ArrayVec;
 use block_pool::{ChainId, Pool};
 
 // The chain is no more; its blocks are free at once.
@@ -79,5 +80,23 @@ pub fn read_at(pool: &Pool, chain: &Option<ChainId>, at: usize, into: &mut [u8])
     match chain {
         None => 0,
         Some(id) => pool.read_at(id, at, into),
+    }
+}
+
+/// Appends to a buffer the octets of a chain from a place on, at most so many.
+pub fn append_to<const CAP: usize>(
+    pool: &Pool,
+    chain: &Option<ChainId>,
+    at: usize,
+    most: usize,
+    into: &mut ArrayVec<u8, CAP>,
+)
+    requires sound { IsSound pool.now chain.now }
+    requires fits { length into.old.items + most ≤ CAP }
+    ensures { into.new.items ≡ into.old.items ++ take most (drop at (octets_at pool.now chain.now)) }
+{
+    match chain {
+        None => {}
+        Some(id) => pool.append_to(id, at, most, into),
     }
 }

@@ -107,6 +107,23 @@ impl Values {
         buffer_of(&octets[..count])
     }
 
+    /// Appends to a buffer the octets of a value from a place on, at most so many. It costs the octets appended.
+    pub fn append_to<const CAP: usize>(
+        &self,
+        slot: Slot,
+        at: usize,
+        most: usize,
+        into: &mut ArrayVec<u8, CAP>,
+    )
+        requires { length into.old.items + most ≤ CAP }
+        ensures { into.new.items ≡ into.old.items ++ take most (drop at (octets_in slot self.now)) }
+    {
+        match slot {
+            Slot::Value => chains::append_to(&self.pool, &self.value, at, most, into),
+            Slot::Told => chains::append_to(&self.pool, &self.told, at, most, into),
+        }
+    }
+
     /// The octets of a value from a place on, all of them.
     pub fn rest<const CAP: usize>(&self, slot: Slot, at: usize) -> ArrayVec<u8, CAP>
         requires { length (octets_in slot self.now) - at ≤ CAP }

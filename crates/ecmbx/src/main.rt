@@ -10,7 +10,7 @@ use ec_outside::{DiskFiles, UdpPort};
 use ecmbx_call::{Book, Status, ecmbx};
 use std::process::ExitCode;
 use std::rt::Env;
-use std::{env, io};
+use std::{env, io, mem};
 
 /// The address at which a serving hears datagrams, 127.0.0.1.
 const LOCALHOST: u32 = 0x7F00_0001;
@@ -49,6 +49,8 @@ fn main(rt: HostRuntime) -> ExitCode {
         &mut port,
         &mut book,
     );
+    // The process ends: letting go frame by frame what it gives back whole would only cost time.
+    mem::forget(book);
     match out.flush() {
         Err(_) if !matches!(status, Status::NoMemory) => ExitCode::from(Status::SinkFault.number()),
         _ => ExitCode::from(status.number()),

@@ -1,5 +1,5 @@
 -- What keeps a desk sound.
-use Rattle.std.proofs.Common.{◌≡◌, ℕ, zero, suc, List, [], ◌∷◌, ◌++◌, length, Bool, true, false, refl, sym, ap, ◌∙◌, subst, eq-eqb}
+use Rattle.std.proofs.Common.{◌≡◌, ℕ, zero, suc, List, [], ◌∷◌, ◌++◌, length, Bool, true, refl, sym, ap, ◌∙◌, subst, eq-eqb}
 use Rattle.std.specs.Prelude.{◌≢◌, ◌==◌, not, filter, slice_get, Option, Some, None, All, IfSome}
 use Rattle.std.proofs.lemmas.List.Elements.{All-weaker, All-filter, filter_passes}
 use Rattle.slab.specs.Slab.{Slab, Updates, get}
@@ -10,6 +10,7 @@ use Rattle.gateway_core.specs.Framing.{gram_text}
 use Rattle.gateway_core.specs.Gateway.{RepliesTo}
 use Rattle.gateway_core.specs.declared.asker.Asker.{Asker}
 use Rattle.run_book.specs.declared.book.GramOut.{GramOut}
+use Rattle.gateway_run.specs.Account.{is_other, owing, Spells}
 use Rattle.gateway_run.specs.Heard.{IsOwed}
 use Rattle.gateway_run.specs.Desk.{IsOpen, IsSound}
 use Rattle.gateway_run.specs.declared.desk.Request.{Request}
@@ -55,6 +56,7 @@ open_more requests heard more r o = record {
 pub sound_more : (heard more : List HeardGram) (d : Desk) → IsSound heard d → IsSound (heard ++ more) d
 sound_more heard more d s = record {
   requests = All-weaker (IsOpen d.gateway heard) (IsOpen d.gateway (heard ++ more)) (open_more d.gateway heard more) d.requests.items s.requests;
+  apart = s.apart;
   owed = all_owed_more heard more d.outbox.items s.owed;
 }
 
@@ -71,10 +73,6 @@ open_kept old new key slot heard r update apart o = record {
   station = o.station;
   counter = o.counter;
 }
-
--- the requests of other keys
-abbrev pub is_other : ℕ → Request → Bool
-is_other key r = not (r.key == key)
 
 apart_from : (n key : ℕ) → not (n == key) ≡ true → n ≢ key
 apart_from n key other same = let e = eq-eqb n key same in absurd (cc)
@@ -102,6 +100,23 @@ answered heard g request mail peer octets bytes o replies same =
       gram = o.gram;
       asked = o.mail;
       mail = mail;
+      answers = o.answers;
+      request = o.request;
+      peer = r.0 ∙ o.peer;
+      text =
+          same ∙ r.1 ∙ ap (λ (a : ℕ). gram_text (record mail { address = a; counter = o.asker.counter })) o.station
+          ∙ ap (λ (n : ℕ). gram_text (record mail { address = o.mail.address; counter = n })) o.counter;
+    }
+
+-- the same mail, as it is sent
+pub spelled_to : (heard : List HeardGram) (g : Slab Asker) (request : Request) (mail : Mail) (peer : Peer) (octets bytes : List ℕ) → IsOpen g heard request →
+    IfSome (get g request.key) (λ asker. RepliesTo asker mail peer octets) → bytes ≡ octets → Spells heard (owing mail request) (record { peer = peer; bytes = bytes; gram = request.gram })
+spelled_to heard g request mail peer octets bytes o replies same =
+    let r : RepliesTo o.asker mail peer octets = subst (λ (a : Option Asker). IfSome a (λ asker. RepliesTo asker mail peer octets)) o.stands replies in
+    record {
+      gram = o.gram;
+      asked = o.mail;
+      number = refl;
       answers = o.answers;
       request = o.request;
       peer = r.0 ∙ o.peer;

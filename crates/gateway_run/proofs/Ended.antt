@@ -1,10 +1,11 @@
 -- A serving at its end.
-use Rattle.std.proofs.Common.{◌≡◌, ℕ, ◌<◌, ◌≤◌, ◌⊎◌, [], List, length, map, Bool, true, false, not, ◌&&◌, nat_lt, refl, sym, ap, ◌∙◌, subst, inl, inr, ltb-true, ltb-false, lt-ltb, arith}
-use Rattle.std.specs.Prelude.{◌≢◌, All, Result, Ok, Err}
+use Rattle.std.proofs.Common.{◌≡◌, ℕ, ◌<◌, ◌≤◌, ◌⊎◌, [], ◌++◌, List, length, map, Bool, true, false, not, ◌&&◌, nat_lt, refl, sym, ap, ◌∙◌, subst, inl, inr, ltb-false, lt-ltb, arith}
+use Rattle.std.specs.Prelude.{◌≢◌, All, Result, Err}
 use Rattle.gateway_run.specs.declared.stop.Stop.{Stop}
 use Rattle.gateway_run.specs.declared.stop.Stop.TheVariants as stops
 use Rattle.std.proofs.lemmas.List.Elements.{All-nil}
-use Rattle.ec_outside.specs.Port.{HeardGram}
+use Rattle.segment_plan.specs.Sound.{IsPlan}
+use Rattle.segment_plan.specs.Bound.{bound_of}
 use Rattle.segment_plan.specs.declared.plan.Scenario.{Scenario}
 use Rattle.run_book.specs.Book.{IsNew}
 use Rattle.run_book.specs.declared.book.Book.{Book}
@@ -12,31 +13,38 @@ use Rattle.run_book.specs.declared.book.Ending.{Ending}
 use Rattle.run_book.specs.declared.book.Ending.TheVariants as endings
 use Rattle.run_book.specs.declared.book.GramIn.{GramIn}
 use Rattle.run_book.specs.declared.book.GramOut.{GramOut}
-use Rattle.run_record.specs.Session.{SessionState, first_session, session_rows, home_of}
-use Rattle.run_record.specs.Ran.{HasSent, IsUnderway, EndsSo, StopsSo, StopsAs}
+use Rattle.run_record.specs.Session.{first_session, session_rows, home_of}
+use Rattle.run_record.specs.Ran.{HasSent, EndsSo, StopsSo, StopsAs}
+use Rattle.gateway_run.proofs.Room.{small_budget}
 use Rattle.run_record.proofs.Underway.{begun, has_frames, ended}
 use Rattle.gateway_run.specs.Heard.{heard_as, AreHeard, AreSent, AreSentBut, IsOwed, IsRightly}
-use Rattle.gateway_run.specs.Desk.{IsOpen}
+use Rattle.gateway_run.specs.Account.{Course.begins}
+use Rattle.gateway_run.specs.Desk.{IsOpen, AreApart}
 use Rattle.gateway_run.specs.Serving.{Told, IsOn, IsServing, IsFaulted, Goes, can_hear}
-use Rattle.gateway_run.specs.Served.{HasGrams, IsThrough, IsBroken, IsServed}
+use Rattle.gateway_run.specs.Served.{HasGrams, HasAccount, IsBroken, IsServed}
 use Rattle.gateway_run.specs.declared.turn.Serving.{Serving}
-use Rattle.gateway_run.proofs.Turns.{heard_none, sent_none}
+use Rattle.gateway_run.proofs.Turns.{heard_none, sent_none, course_same, spelled_same}
 
 -- before the first turn
-pub first_serving : (plan : Scenario) (count : ℕ) (now : Told) (v : Serving) (b : Book) → v.session ≡ first_session plan count v.session.master → v.desk.requests.items ≡ [] → v.desk.outbox.items ≡ [] → v.count ≡ count → v.over ≡ false → IsNew b → count < 4294967296 →
+pub first_serving : (plan : Scenario) (count : ℕ) (now : Told) (v : Serving) (b : Book) → v.session ≡ first_session plan count v.session.master → v.desk.requests.items ≡ [] → v.desk.outbox.items ≡ [] → v.count ≡ count → v.over ≡ false → IsNew b → count < 4294967296 → IsPlan plan →
     IsServing plan count now now v b
-first_serving plan count now v b session requests outbox counts over new fits = record {
+first_serving plan count now v b session requests outbox counts over new fits sound = record {
   on = record {
     underway = begun plan count v.session b session new;
     counts = counts;
     few = let none = ap length new.grams in omega (arith, none);
     fits = fits;
+    bounded = small_budget (bound_of plan count) plan.budget sound.laid.budget;
     sound = record {
       requests = subst (All (IsOpen v.desk.gateway (map heard_as b.grams))) (sym requests) (All-nil (IsOpen v.desk.gateway (map heard_as b.grams)));
+      apart = subst AreApart (sym requests) tt;
       owed = subst (All (IsOwed (map heard_as b.grams))) (sym outbox) (All-nil (IsOwed (map heard_as b.grams)));
     };
     answered = subst (All (IsOwed (map heard_as b.grams))) (sym new.replies) (All-nil (IsOwed (map heard_as b.grams)));
     judged = subst (All (IsRightly (map home_of plan.slaves))) (sym new.grams) (All-nil (IsRightly (map home_of plan.slaves)));
+    owed = [];
+    course = course_same plan count v.session v.session [] b.frames [] b.grams [] v.desk.requests.items [] refl new.frames new.grams requests (begins v.session session);
+    spelled = spelled_same (map heard_as b.grams) (map heard_as b.grams) [] [] (b.replies ++ v.desk.outbox.items) refl (ap (λ (l : List GramOut). l ++ v.desk.outbox.items) new.replies ∙ outbox) tt;
   };
   heard = subst (AreHeard now.heard now.heard) (sym new.grams) (heard_none now.heard);
   sent = subst (AreSent now.sent now.sent) (sym new.replies) (sent_none now.sent);
@@ -70,35 +78,47 @@ module _ (plan : Scenario) (count : ℕ) (first now : Told) (v : Serving) (b b' 
   stops_as : (ending : Ending) → b'.slaves ≡ session_rows v.session → StopsSo v.session ending → StopsAs plan count b' ending
   stops_as ending rows so = ended plan count v.session b b' on.underway frames rows many ending so
 
+  has_account : (ending : Ending) → b'.slaves ≡ session_rows v.session → (ending ≢ endings.PortFault → v.desk.outbox.items ≡ []) → HasAccount plan count b' ending
+  has_account ending rows all = record {
+    session = v.session;
+    requests = v.desk.requests.items;
+    owed = on.owed;
+    later = v.desk.outbox.items;
+    course = course_same plan count v.session v.session b.frames b'.frames b.grams b'.grams v.desk.requests.items v.desk.requests.items on.owed refl frames grams refl on.course;
+    spelled = spelled_same (map heard_as b.grams) (map heard_as b'.grams) on.owed (b.replies ++ v.desk.outbox.items) (b'.replies ++ v.desk.outbox.items) (ap (map heard_as) grams) (ap (λ (l : List GramOut). l ++ v.desk.outbox.items) replies) on.spelled;
+    rows = rows;
+    all = all;
+  }
+
   -- a serving whose port failed
   faulted_so : (result : Ending) → (result ≢ endings.NoMemory → b'.slaves ≡ session_rows v.session) → (result ≡ endings.PortFault) ⊎ (result ≡ endings.NoMemory) → IsBroken first now b' → IsServed plan count first now b' result
   faulted_so result rows (inl is) broken =
       let apart : result ≢ endings.NoMemory = λ e. absurd (cc) in
-      subst (IsServed plan count first now b') (sym is) (stops_as endings.PortFault (rows apart) tt, has_grams, broken)
+      subst (IsServed plan count first now b') (sym is) (stops_as endings.PortFault (rows apart) tt, has_grams, broken, has_account endings.PortFault (rows apart) (λ other. absurd (other refl)))
   faulted_so result rows (inr is) broken = subst (IsServed plan count first now b') (sym is) tt
 
   -- a serving that came to its end
   through_so : (ending result : Ending) → (result ≢ endings.NoMemory → b'.slaves ≡ session_rows v.session) → (result ≡ ending) ⊎ (result ≡ endings.NoMemory) → EndsSo v.session ending → (ending ≢ endings.BudgetSpent → (length b'.grams ≡ count) ⊎ (now.over ≡ true)) →
-      AreSent first.sent now.sent b'.replies → IsServed plan count first now b' result
-  through_so ending result rows (inr is) so over sent = subst (IsServed plan count first now b') (sym is) tt
-  through_so endings.Done result rows (inl is) so over sent =
+      v.desk.outbox.items ≡ [] → AreSent first.sent now.sent b'.replies → IsServed plan count first now b' result
+  through_so ending result rows (inr is) so over empty sent = subst (IsServed plan count first now b') (sym is) tt
+  through_so endings.Done result rows (inl is) so over empty sent =
       let apart : result ≢ endings.NoMemory = λ e. absurd (cc) in
-      subst (IsServed plan count first now b') (sym is) (stops_as endings.Done (rows apart) so, has_grams, record { over = over (λ e. absurd (cc)); sent = sent })
-  through_so endings.GivenUp result rows (inl is) so over sent =
+      subst (IsServed plan count first now b') (sym is) (stops_as endings.Done (rows apart) so, has_grams, record { over = over (λ e. absurd (cc)); sent = sent }, has_account endings.Done (rows apart) (λ other. empty))
+  through_so endings.GivenUp result rows (inl is) so over empty sent =
       let apart : result ≢ endings.NoMemory = λ e. absurd (cc) in
-      subst (IsServed plan count first now b') (sym is) (stops_as endings.GivenUp (rows apart) so, has_grams, record { over = over (λ e. absurd (cc)); sent = sent })
-  through_so endings.BudgetSpent result rows (inl is) so over sent =
+      subst (IsServed plan count first now b') (sym is) (stops_as endings.GivenUp (rows apart) so, has_grams, record { over = over (λ e. absurd (cc)); sent = sent }, has_account endings.GivenUp (rows apart) (λ other. empty))
+  through_so endings.BudgetSpent result rows (inl is) so over empty sent =
       let apart : result ≢ endings.NoMemory = λ e. absurd (cc) in
-      subst (IsServed plan count first now b') (sym is) (stops_as endings.BudgetSpent (rows apart) so, has_grams, sent)
-  through_so endings.PortFault result rows (inl is) so over sent = absurd so
-  through_so endings.NoMemory result rows (inl is) so over sent = absurd so
-  through_so endings.Unfinished result rows (inl is) so over sent = absurd so
+      subst (IsServed plan count first now b') (sym is) (stops_as endings.BudgetSpent (rows apart) so, has_grams, sent, has_account endings.BudgetSpent (rows apart) (λ other. empty))
+  through_so endings.PortFault result rows (inl is) so over empty sent = absurd so
+  through_so endings.NoMemory result rows (inl is) so over empty sent = absurd so
+  through_so endings.Unfinished result rows (inl is) so over empty sent = absurd so
 
 -- what a serving that ended leaves
 pub served : (plan : Scenario) (count : ℕ) (first now : Told) (v : Serving) (b b' : Book) (ending result : Ending) → 0 < count → IsServing plan count first now v b → b'.frames ≡ b.frames → b'.switch ≡ b.switch → b'.grams ≡ b.grams → b'.replies ≡ b.replies →
     b'.serving ≡ v.session.serving → length v.session.notes ≡ length v.session.ring.nodes → (result ≢ endings.NoMemory → b'.slaves ≡ session_rows v.session) → (result ≡ ending) ⊎ (result ≡ endings.NoMemory) → EndsSo v.session ending →
-    (ending ≢ endings.BudgetSpent → can_hear v b ≡ false) → IsServed plan count first now b' result
-served plan count first now v b b' ending result some h frames switch grams replies serving many rows is so whole =
+    (ending ≢ endings.BudgetSpent → can_hear v b ≡ false) → v.desk.outbox.items ≡ [] → IsServed plan count first now b' result
+served plan count first now v b b' ending result some h frames switch grams replies serving many rows is so whole empty =
     through_so plan count first now v b b' some h.on h.heard frames switch grams replies serving many ending result rows is so
     (λ apart.
     let counts = h.on.counts in
@@ -106,6 +126,7 @@ served plan count first now v b b' ending result some h frames switch grams repl
     let same = ap length grams in
     over_so (length b'.grams) count v.over now.over h.over (all_heard (length b'.grams) count v.over
     (subst (λ (n : ℕ). (not v.over && nat_lt n count) ≡ false) (sym same) (subst (λ (n : ℕ). (not v.over && nat_lt (length b.grams) n) ≡ false) counts (whole apart))) (omega (arith, same, few))))
+    empty
     (subst (AreSent first.sent now.sent) (sym replies) h.sent)
 
 -- what one leaves whose port failed

@@ -1,5 +1,5 @@
 -- What becomes of a datagram.
-use Rattle.std.proofs.Common.{◌≡◌, ℕ, zero, suc, ◌+◌, ◌≤◌, List, [], ◌∷◌, ◌++◌, length, Bool, true, false, refl, sym, ap, ◌∙◌, subst, arith, ltb-false, eqb-true}
+use Rattle.std.proofs.Common.{◌≡◌, ℕ, suc, ◌+◌, ◌≤◌, List, [], ◌∷◌, ◌++◌, length, Bool, true, false, refl, sym, ap, ◌∙◌, subst, arith, ltb-false, eqb-true}
 use Rattle.std.specs.Prelude.{◌==◌, nat_lt, nat_le, slice_get, Option, Some, None, Result, Ok, Err, IfSome, if◌then◌else◌}
 use Rattle.slab.specs.Slab.{Slab, Updates, get}
 use Rattle.ec_outside.specs.Port.{HeardGram}
@@ -7,7 +7,7 @@ use Rattle.ec_outside.specs.declared.port.Peer.{Peer}
 use Rattle.mailbox_mail.specs.Mail.{error_of}
 use Rattle.mailbox_mail.specs.declared.mail.Mail.{Mail}
 use Rattle.gateway_core.specs.Framing.{request_in}
-use Rattle.gateway_core.specs.Gateway.{place_from, is_passed, judged, judged_at, unfinished_at, error_text, IsAsker, Queues, AnswersMail, Answers}
+use Rattle.gateway_core.specs.Gateway.{place_from, is_passed, judged, judged_at, unfinished_at, error_text, IsAsker, AnswersMail, Answers}
 use Rattle.gateway_core.specs.declared.asker.Asked.{Asked}
 use Rattle.gateway_core.specs.declared.asker.Asked.TheVariants as asked
 use Rattle.gateway_core.specs.declared.asker.Asker.{Asker}
@@ -16,9 +16,11 @@ use Rattle.run_book.specs.declared.book.GramOut.{GramOut}
 use Rattle.run_record.specs.Notes.{stations_of}
 use Rattle.run_record.specs.Session.{SessionState}
 use Rattle.run_record.proofs.Stations.{stands_at_home}
+use Rattle.gateway_run.specs.Account.{IsFree, Spells, Judges.ignored as is_ignored, Judges.refused as is_refused, Judges.too_many, Judges.queues}
 use Rattle.gateway_run.specs.Heard.{IsOwed, IsPassedOn, IsJudged}
-use Rattle.gateway_run.specs.Desk.{IsOpen}
-use Rattle.gateway_run.specs.declared.desk.Request.{Request}
+use Rattle.gateway_run.specs.Desk.{IsOpen, Passes, IsTaken}
+use Rattle.gateway_run.specs.declared.desk.Desk.{Desk}
+use Rattle.gateway_run.proofs.Accounts.{owes_none, owes_one}
 use Rattle.gateway_run.proofs.Desks.{get_last}
 
 module _ (old new : Slab Asker) (peer : Peer) (stations : List (Option (ℕ × ℕ))) where
@@ -30,6 +32,15 @@ module _ (old new : Slab Asker) (peer : Peer) (stations : List (Option (ℕ × �
   pub ignored : (r : Result Mail GatewayFault) → Answers old new peer stations r asked.Ignored → new ≡ old
   ignored (Ok mail) a = mail_ignored mail (judged old mail stations) a
   ignored (Err fault) a = a.1
+
+  -- it is none by some fault
+  none_ignored : (mail : Mail) (j : Result ℕ ℕ) → AnswersMail old new peer mail j asked.Ignored → ⊥
+  none_ignored mail (Ok slave) q = let e = q.queued in absurd (cc)
+  none_ignored mail (Err detail) e = let no = e.0 in absurd (cc)
+
+  pub faulty : (r : Result Mail GatewayFault) → Answers old new peer stations r asked.Ignored → (fault : GatewayFault) × (r ≡ Err fault)
+  faulty (Ok mail) a = absurd (none_ignored mail (judged old mail stations) a)
+  faulty (Err fault) a = (fault, refl)
 
   abbrev octets_of : Asked → List ℕ
   octets_of (asked.Error gram) = gram.items
@@ -46,6 +57,16 @@ module _ (old new : Slab Asker) (peer : Peer) (stations : List (Option (ℕ × �
       (new ≡ old) × (mail : Mail) × (detail : ℕ) × (r ≡ Ok mail) × (octets ≡ error_text detail mail)
   refused (Ok mail) octets a = let e = mail_refused mail (judged old mail stations) octets a in (e.0, mail, e.1, refl, e.2)
   refused (Err fault) octets a = let e = a.0 in absurd (cc)
+
+  -- the error is the first whose cause is there
+  mail_caused : (mail : Mail) (j : Result ℕ ℕ) (octets : List ℕ) → AnswersMail old new peer mail j (asked.Error (record { items = octets })) → (detail : ℕ) × (j ≡ Err detail) × (octets ≡ error_text detail mail)
+  mail_caused mail (Ok slave) octets q = let e = q.queued in absurd (cc)
+  mail_caused mail (Err detail) octets e = (detail, refl, ap octets_of e.0)
+
+  pub caused : (r : Result Mail GatewayFault) (octets : List ℕ) → Answers old new peer stations r (asked.Error (record { items = octets })) →
+      (mail : Mail) × (detail : ℕ) × (r ≡ Ok mail) × (judged old mail stations ≡ Err detail) × (octets ≡ error_text detail mail)
+  caused (Ok mail) octets a = let e = mail_caused mail (judged old mail stations) octets a in (mail, e.0, refl, e.1, e.2)
+  caused (Err fault) octets a = let e = a.0 in absurd (cc)
 
   -- one whose mail is passed on
   pub record IsPut (r : Result Mail GatewayFault) (key slave : ℕ) (mail : Mail) : Type 0 where
@@ -96,6 +117,19 @@ error_owed heard g peer octets bytes number detail mail last from request text s
   text = same ∙ text;
 }
 
+-- the same, as it is sent
+pub error_spelled : (heard : List HeardGram) (g : HeardGram) (peer : Peer) (octets bytes : List ℕ) (number detail : ℕ) (mail : Mail) → length heard ≡ number → g.from ≡ peer →
+    request_in g.bytes ≡ Ok mail → octets ≡ error_text detail mail → bytes ≡ octets → Spells (heard ++ g ∷ []) (record { gram = number; mail = error_of detail }) (record { peer = peer; bytes = bytes; gram = number })
+error_spelled heard g peer octets bytes number detail mail last from request text same = record {
+  gram = g;
+  asked = mail;
+  number = refl;
+  answers = subst (λ (n : ℕ). slice_get (heard ++ g ∷ []) n ≡ Some g) last (get_last heard g);
+  request = request;
+  peer = sym from;
+  text = same ∙ text;
+}
+
 -- the request of a datagram, the last of those heard
 pub put_open : (old new : Slab Asker) (peer : Peer) (stations : List (Option (ℕ × ℕ))) (heard : List HeardGram) (g : HeardGram) (key slave number : ℕ) (mail : Mail) (begun : Bool) → length heard ≡ number → g.from ≡ peer →
     IsPut old new peer stations (request_in g.bytes) key slave mail → IsOpen new (heard ++ g ∷ []) (record { key = key; slave = slave; gram = number; begun = begun })
@@ -132,20 +166,20 @@ place_at at station (None ∷ rows) place is = stands_later at station None rows
 place_at at station (Some row ∷ rows) place is = place_here at station row rows place (row.0 == station) refl is (place_at (at + 1) station rows place)
 
 -- a mail that is to be passed on
-abbrev Passes : Slab Asker → Mail → Option (ℕ × ℕ) → ℕ → Type 0
-Passes g mail place slave = (len : ℕ) × (place ≡ Some (slave, len)) × (is_passed mail.kind ≡ true) × (6 + length mail.body.items ≤ len)
+abbrev IsPassing : Slab Asker → Mail → Option (ℕ × ℕ) → ℕ → Type 0
+IsPassing g mail place slave = (len : ℕ) × (place ≡ Some (slave, len)) × (is_passed mail.kind ≡ true) × (6 + length mail.body.items ≤ len)
 
 abbrev judged_with : ℕ → Bool → Bool → Bool → Result ℕ ℕ
 judged_with slave passed long full = if passed then (if long then Err 8 else if full then Err 7 else Ok slave) else Err 2
 
 passes_with : (g : Slab Asker) (mail : Mail) (slave : ℕ) (place : ℕ × ℕ) (passed long full : Bool) → is_passed mail.kind ≡ passed → nat_lt place.1 (6 + length mail.body.items) ≡ long →
-    judged_with place.0 passed long full ≡ Ok slave → Passes g mail (Some place) slave
+    judged_with place.0 passed long full ≡ Ok slave → IsPassing g mail (Some place) slave
 passes_with g mail slave place true false false p l is = (place.1, ap (λ (n : ℕ). Some (n, place.1)) (cc), p, ltb-false place.1 (6 + length mail.body.items) l)
 passes_with g mail slave place true false true p l is = absurd (cc)
 passes_with g mail slave place true true full p l is = absurd (cc)
 passes_with g mail slave place false long full p l is = absurd (cc)
 
-passes : (g : Slab Asker) (mail : Mail) (slave : ℕ) (place : Option (ℕ × ℕ)) → judged_at g mail place ≡ Ok slave → Passes g mail place slave
+passes : (g : Slab Asker) (mail : Mail) (slave : ℕ) (place : Option (ℕ × ℕ)) → judged_at g mail place ≡ Ok slave → IsPassing g mail place slave
 passes g mail slave None is = absurd (cc)
 passes g mail slave (Some place) is = passes_with g mail slave place (is_passed mail.kind) (nat_lt place.1 (6 + length mail.body.items)) (nat_le 64 (unfinished_at place.0 g)) refl refl is
 
@@ -169,3 +203,68 @@ passed_on g s stations octets mail slave are request is =
 pub judged_so : (homes : List (ℕ × ℕ)) (octets : List ℕ) (slave : ℕ) → IsPassedOn homes octets slave → (queued : Option ℕ) → IfSome queued (λ n. n ≡ slave) → IsJudged homes octets queued
 judged_so homes octets slave on None is = tt
 judged_so homes octets slave on (Some n) is = subst (IsPassedOn homes octets) (sym is) on
+
+module _ (s : SessionState) (stations : List (Option (ℕ × ℕ))) (are : stations ≡ stations_of s.recover s.homes s.notes) (heard : List HeardGram) (g : HeardGram) (octets : List ℕ) (number : ℕ) (d : Desk) where
+  -- a datagram that is no request was taken
+  pub taken_ignored : (d' : Desk) (fault : GatewayFault) → request_in octets ≡ Err fault → d'.requests.items ≡ d.requests.items → d'.outbox.items ≡ d.outbox.items →
+      IsTaken s s number (heard ++ g ∷ []) octets d d' None
+  taken_ignored d' fault request requests outbox = record {
+    more = [];
+    judges = is_ignored (record { fault = fault; request = request; nowhere = refl; session = refl; requests = requests; nothing = refl });
+    owes = owes_none (heard ++ g ∷ []) d.outbox.items d'.outbox.items outbox;
+  }
+
+  -- one that is answered by an error
+  pub taken_refused : (d' : Desk) (mail : Mail) (detail : ℕ) (r : GramOut) → request_in octets ≡ Ok mail → judged d.gateway mail stations ≡ Err detail → d'.requests.items ≡ d.requests.items → d'.outbox.items ≡ d.outbox.items ++ r ∷ [] →
+      Spells (heard ++ g ∷ []) (record { gram = number; mail = error_of detail }) r → IsTaken s s number (heard ++ g ∷ []) octets d d' None
+  taken_refused d' mail detail r request cause requests outbox spells = record {
+    more = record { gram = number; mail = error_of detail } ∷ [];
+    judges = is_refused (record {
+      mail = mail;
+      detail = detail;
+      unfinished = d.gateway;
+      request = request;
+      cause = subst (λ (l : List (Option (ℕ × ℕ))). judged d.gateway mail l ≡ Err detail) are cause;
+      nowhere = refl;
+      session = refl;
+      requests = requests;
+      error = refl;
+    });
+    owes = owes_one (heard ++ g ∷ []) (record { gram = number; mail = error_of detail }) r d.outbox.items d'.outbox.items outbox spells;
+  }
+
+  -- one whose mail was passed on, or found no room
+  pub taken_passed : (s' : SessionState) (gateway : Slab Asker) (d' : Desk) (mail : Mail) (key slave : ℕ) → request_in octets ≡ Ok mail → judged d.gateway mail stations ≡ Ok slave → IsFree key d.requests.items → (queued : Option ℕ) →
+      Passes s s' (heard ++ g ∷ []) (record { key = key; slave = slave; gram = number; begun = false }) mail (record d { gateway = gateway }) d' queued → IsTaken s s' number (heard ++ g ∷ []) octets d d' queued
+  taken_passed s' gateway d' mail key slave request place free (Some n) p = record {
+    more = [];
+    judges = queues (record {
+      mail = mail;
+      key = key;
+      slave = slave;
+      unfinished = d.gateway;
+      request = request;
+      place = subst (λ (l : List (Option (ℕ × ℕ))). judged d.gateway mail l ≡ Ok slave) are place;
+      free = free;
+      asks = p.1;
+      there = ap Some p.0;
+      requests = p.2;
+      nothing = refl;
+    });
+    owes = owes_none (heard ++ g ∷ []) d.outbox.items d'.outbox.items p.3;
+  }
+  taken_passed s' gateway d' mail key slave request place free None p = record {
+    more = record { gram = number; mail = error_of 7 } ∷ [];
+    judges = too_many (record {
+      mail = mail;
+      key = key;
+      slave = slave;
+      request = request;
+      full = p.0;
+      asks = p.1;
+      nowhere = refl;
+      requests = p.2;
+      error = refl;
+    });
+    owes = p.3;
+  }

@@ -15,18 +15,22 @@ use Rattle.run_book.specs.declared.book.Book.{Book}
 use Rattle.run_book.specs.declared.book.GramIn.{GramIn}
 use Rattle.run_book.specs.declared.book.GramOut.{GramOut}
 use Rattle.run_book.specs.declared.book.SentFrame.{SentFrame}
+use Rattle.gateway_run.specs.Events.{events_of}
 use Rattle.run_record.specs.Session.{SessionState, home_of, Steps, Stops}
 use Rattle.run_record.specs.Ran.{HasSent, IsUnderway}
 use Rattle.run_record.proofs.Underway.{same_on, has_frames, stepped_on, stopped}
 use Rattle.gateway_run.specs.Heard.{heard_as, sent_as, AreHeard, AreSent, AreSentBut, IsOwed, IsRightly}
 use Rattle.slab.specs.Slab.{Slab}
 use Rattle.gateway_core.specs.declared.asker.Asker.{Asker}
-use Rattle.gateway_run.specs.Desk.{IsOpen, IsSound, AsksMails, Takes}
+use Rattle.gateway_run.specs.Account.{Owing, Course, Course.hears, Course.steps, AreSpelled, left_by_all, owed_by_all}
+use Rattle.gateway_run.specs.Desk.{IsOpen, AreApart, IsSound, AsksMails, Owes, NotesAll, Takes, TakesSo}
+use Rattle.gateway_run.specs.declared.desk.Request.{Request}
 use Rattle.gateway_run.specs.Serving.{Told, IsOn, IsServing, IsFaulted, Listens, PutsOne, SentOne, FailedOne, SendsOne, Goes, left}
 use Rattle.gateway_run.specs.declared.desk.Desk.{Desk}
 use Rattle.gateway_run.specs.declared.stop.Stop.{Stop}
 use Rattle.gateway_run.specs.declared.stop.Stop.TheVariants as stops
 use Rattle.gateway_run.specs.declared.turn.Serving.{Serving}
+use Rattle.gateway_run.proofs.Accounts.{spelled_both, spelled_more}
 use Rattle.gateway_run.proofs.Desks.{all_owed_more}
 
 pub map_push : {A B : Type 0} (f : A → B) (xs : List A) (x : A) → map f (xs ++ x ∷ []) ≡ map f xs ++ f x ∷ []
@@ -121,6 +125,25 @@ left_kept v v' b b' session counts over grams =
     ap (λ (s : SessionState). left_of s (length b'.grams) v'.count v'.over) session ∙ ap (λ (l : List GramIn). left_of v.session (length l) v'.count v'.over) grams
     ∙ ap (λ (n : ℕ). left_of v.session (length b.grams) n v'.over) counts ∙ ap (λ (o : Bool). left_of v.session (length b.grams) v.count o) over
 
+-- the same course, and the same datagrams
+pub course_same : (plan : Scenario) (count : ℕ) (s s' : SessionState) (fs fs' : List SentFrame) (gs gs' : List GramIn) (rs rs' : List Request) (os : List Owing) → s' ≡ s → fs' ≡ fs → gs' ≡ gs → rs' ≡ rs →
+    Course plan count s fs gs rs os → Course plan count s' fs' gs' rs' os
+course_same plan count s s' fs fs' gs gs' rs rs' os session frames grams requests c =
+    subst (λ (l : List Request). Course plan count s' fs' gs' l os) (sym requests)
+    (subst (λ (l : List GramIn). Course plan count s' fs' l rs os) (sym grams)
+    (subst (λ (l : List SentFrame). Course plan count s' l gs rs os) (sym frames) (subst (λ (t : SessionState). Course plan count t fs gs rs os) (sym session) c)))
+
+pub spelled_same : (heard heard' : List HeardGram) (os : List Owing) (rs rs' : List GramOut) → heard' ≡ heard → rs' ≡ rs → AreSpelled heard os rs → AreSpelled heard' os rs'
+spelled_same heard heard' os rs rs' grams replies a =
+    subst (λ (l : List GramOut). AreSpelled heard' os l) (sym replies) (subst (λ (l : List HeardGram). AreSpelled l os rs) (sym grams) a)
+
+-- what was sent and is to be sent, with what is owed besides
+pub spelled_on : (heard : List HeardGram) (os more : List Owing) (sent sent' out out' : List GramOut) → sent' ≡ sent → AreSpelled heard os (sent ++ out) → Owes heard more out out' → AreSpelled heard (os ++ more) (sent' ++ out')
+spelled_on heard os more sent sent' out out' same a o =
+    subst (λ (l : List GramOut). AreSpelled heard (os ++ more) l)
+    (append_assoc sent out o.0 ∙ ap (λ (l : List GramOut). sent ++ l) (sym o.1) ∙ ap (λ (l : List GramOut). l ++ out') (sym same))
+    (spelled_both heard os more (sent ++ out) o.0 a o.2)
+
 module _ (plan : Scenario) (count : ℕ) (first : Told) where
   -- the buffer of what was heard last doesn't matter
   pub same_gram : (now : Told) (v v' : Serving) (b : Book) → v'.session ≡ v.session → v'.desk ≡ v.desk → v'.count ≡ v.count → v'.over ≡ v.over → IsServing plan count first now v b → IsServing plan count first now v' b
@@ -130,9 +153,13 @@ module _ (plan : Scenario) (count : ℕ) (first : Told) where
       counts = counts ∙ h.on.counts;
       few = h.on.few;
       fits = h.on.fits;
+      bounded = h.on.bounded;
       sound = subst (IsSound (map heard_as b.grams)) (sym desk) h.on.sound;
       answered = h.on.answered;
       judged = h.on.judged;
+      owed = h.on.owed;
+      course = course_same plan count v.session v'.session b.frames b.frames b.grams b.grams v.desk.requests.items v'.desk.requests.items h.on.owed session refl refl (ap (λ (d : Desk). d.requests.items) desk) h.on.course;
+      spelled = spelled_same (map heard_as b.grams) (map heard_as b.grams) h.on.owed (b.replies ++ v.desk.outbox.items) (b.replies ++ v'.desk.outbox.items) refl (ap (λ (d : Desk). b.replies ++ d.outbox.items) desk) h.on.spelled;
     };
     heard = h.heard;
     sent = h.sent;
@@ -140,14 +167,24 @@ module _ (plan : Scenario) (count : ℕ) (first : Told) where
     later = h.later;
   }
 
+  -- so many frames that they can be counted
+  pub sent_few : {v : Serving} {b : Book} → IsOn plan count v b → length b.frames < 4294967296
+  sent_few {v} {b} on =
+      let s = has_frames plan count v.session b b on.underway refl refl in
+      let few = s.few in
+      let most = on.bounded in
+      omega (arith, few, most)
+
   module _ (now next : Told) (v v' : Serving) (b b' : Book) (h : IsServing plan count first now v b) where
     -- a datagram was taken
     pub took : (peer : Peer) (octets : List ℕ) → Listens now next (heards.From peer) octets → length b.grams < v.count → Takes v.session.homes peer octets b b' →
-        (IsSound (map heard_as b.grams) v.desk → IsSound (map heard_as b'.grams) v'.desk) → b' ≡ record b { grams = b'.grams } → AsksMails v.session v'.session → v'.count ≡ v.count → v'.over ≡ v.over →
+        (IsSound (map heard_as b.grams) v.desk → IsSound (map heard_as b'.grams) v'.desk) → TakesSo v.session v'.session v.desk v'.desk b b' → b' ≡ record b { grams = b'.grams } → AsksMails v.session v'.session → v'.count ≡ v.count → v'.over ≡ v.over →
         IsServing plan count first next v' b'
-    took peer octets l room t sound same asks counts over =
+    took peer octets l room t sound so same asks counts over =
         let g = t.gram in
         let grams : map heard_as b'.grams ≡ map heard_as b.grams ++ heard_as g ∷ [] = ap (map heard_as) t.put ∙ map_push heard_as b.grams g in
+        let frames = ap (λ (x : Book). x.frames) same in
+        let sent = ap (λ (x : Book). x.replies) same in
         let homes = h.on.underway.homes in
         let told : heard_as g ≡ record { from = peer; bytes = octets } = ap (λ (p : Peer). record { from = p; bytes = g.bytes }) t.from_peer ∙ ap (λ (o : List ℕ). record { from = peer; bytes = o }) t.with_octets in
         record {
@@ -156,10 +193,16 @@ module _ (plan : Scenario) (count : ℕ) (first : Told) where
             counts = counts ∙ h.on.counts;
             few = let n = ap length t.put ∙ length-append b.grams (g ∷ []) in let c = h.on.counts in omega (arith, n, c, room);
             fits = h.on.fits;
+            bounded = h.on.bounded;
             sound = sound h.on.sound;
             answered = subst (λ (rs : List GramOut). All (IsOwed (map heard_as b'.grams)) rs) (sym (ap (λ (x : Book). x.replies) same))
                 (subst (λ (l : List HeardGram). All (IsOwed l) b.replies) (sym grams) (all_owed_more (map heard_as b.grams) (heard_as g ∷ []) b.replies h.on.answered));
             judged = subst (All (IsRightly (map home_of plan.slaves))) (sym t.put) (All-push (IsRightly (map home_of plan.slaves)) b.grams g h.on.judged (subst (λ (l : List (ℕ × ℕ)). IsRightly l g) homes t.judged));
+            owed = h.on.owed ++ so.taken.more;
+            course = course_same plan count v'.session v'.session b.frames b'.frames (b.grams ++ so.gram ∷ []) b'.grams v'.desk.requests.items v'.desk.requests.items (h.on.owed ++ so.taken.more) refl frames so.put refl
+                (hears v.session v'.session b.frames b.grams so.gram v.desk.requests.items v'.desk.requests.items h.on.owed so.taken.more h.on.course (so.frame (sent_few h.on)) so.taken.judges);
+            spelled = spelled_on (map heard_as b'.grams) h.on.owed so.taken.more b.replies b'.replies v.desk.outbox.items v'.desk.outbox.items sent
+                (subst (λ (l : List HeardGram). AreSpelled l h.on.owed (b.replies ++ v.desk.outbox.items)) (sym grams) (spelled_more (map heard_as b.grams) (heard_as g ∷ []) h.on.owed (b.replies ++ v.desk.outbox.items) h.on.spelled)) so.taken.owes;
           };
           heard = subst (AreHeard first.heard next.heard) (sym t.put) (heard_on first.heard now.heard next.heard b.grams g peer octets told h.heard l.hears);
           sent = subst (AreSent first.sent next.sent) (sym (ap (λ (x : Book). x.replies) same)) (sent_kept first.sent now.sent next.sent b.replies h.sent l.sent);
@@ -189,9 +232,13 @@ module _ (plan : Scenario) (count : ℕ) (first : Told) where
       counts = counts ∙ h.on.counts;
       few = h.on.few;
       fits = h.on.fits;
+      bounded = h.on.bounded;
       sound = subst (IsSound (map heard_as b.grams)) (sym desk) h.on.sound;
       answered = h.on.answered;
       judged = h.on.judged;
+      owed = h.on.owed;
+      course = course_same plan count v.session v'.session b.frames b.frames b.grams b.grams v.desk.requests.items v'.desk.requests.items h.on.owed session refl refl (ap (λ (d : Desk). d.requests.items) desk) h.on.course;
+      spelled = spelled_same (map heard_as b.grams) (map heard_as b.grams) h.on.owed (b.replies ++ v.desk.outbox.items) (b.replies ++ v'.desk.outbox.items) refl (ap (λ (d : Desk). b.replies ++ d.outbox.items) desk) h.on.spelled;
     };
     heard = heard_same first.heard now.heard next.heard b.grams h.heard (ended_heard now.heard next.heard octets l.hears);
     sent = sent_kept first.sent now.sent next.sent b.replies h.sent l.sent;
@@ -211,8 +258,12 @@ module _ (plan : Scenario) (count : ℕ) (first : Told) where
 
   -- a frame was sent
   pub stepped : (now : Told) (v v' : Serving) (b b' : Book) (f : SentFrame) → IsServing plan count first now v b → v.session.ring.number < v.session.budget → Steps v.session b v'.session b' f →
-      IsSound (map heard_as b.grams) v'.desk → v'.count ≡ v.count → v'.over ≡ v.over → IsServing plan count first now v' b'
-  stepped now v v' b b' f h left step sound counts over =
+      NotesAll (events_of v'.session.master) v.desk v'.desk → v'.count ≡ v.count → v'.over ≡ v.over → IsServing plan count first now v' b'
+  stepped now v v' b b' f h left step notes counts over =
+      let told = notes (map heard_as b.grams) h.on.sound in
+      let sound = told.sound in
+      let more = owed_by_all (events_of v'.session.master) v.desk.requests.items in
+      let left_now = left_by_all (events_of v'.session.master) v.desk.requests.items in
       let grams = step.rest.grams in
       let replies = step.rest.replies in
       record {
@@ -221,9 +272,16 @@ module _ (plan : Scenario) (count : ℕ) (first : Told) where
           counts = counts ∙ h.on.counts;
           few = subst (λ (l : List GramIn). length l ≤ count) (sym grams) h.on.few;
           fits = h.on.fits;
+          bounded = h.on.bounded;
           sound = subst (λ (l : List GramIn). IsSound (map heard_as l) v'.desk) (sym grams) sound;
           answered = subst (λ (l : List GramIn). All (IsOwed (map heard_as l)) b'.replies) (sym grams) (subst (All (IsOwed (map heard_as b.grams))) (sym replies) h.on.answered);
           judged = subst (All (IsRightly (map home_of plan.slaves))) (sym grams) h.on.judged;
+          owed = h.on.owed ++ more;
+          course = course_same plan count v'.session v'.session (b.frames ++ f ∷ []) b'.frames b.grams b'.grams left_now v'.desk.requests.items (h.on.owed ++ more) refl step.put grams told.requests
+              (steps v.session v'.session b.frames f b.grams v.desk.requests.items h.on.owed h.on.course
+              (record { recorded = step.recorded; ring = step.ring; homes = step.homes; asked = step.asked; recover = step.recover }));
+          spelled = subst (λ (l : List GramIn). AreSpelled (map heard_as l) (h.on.owed ++ more) (b'.replies ++ v'.desk.outbox.items)) (sym grams)
+              (spelled_on (map heard_as b.grams) h.on.owed more b.replies b'.replies v.desk.outbox.items v'.desk.outbox.items replies h.on.spelled told.owes);
         };
         heard = subst (AreHeard first.heard now.heard) (sym grams) h.heard;
         sent = subst (AreSent first.sent now.sent) (sym replies) h.sent;
@@ -246,7 +304,13 @@ module _ (plan : Scenario) (count : ℕ) (first : Told) where
         counts = counts ∙ h.counts;
         few = subst (λ (l : List GramIn). length l ≤ count) (sym grams) h.few;
         fits = h.fits;
+        bounded = h.bounded;
+        owed = h.owed;
+        course = course_same plan count v.session v'.session b.frames b'.frames b.grams b'.grams v.desk.requests.items v'.desk.requests.items h.owed session (ap (λ (x : Book). x.frames) put) grams requests h.course;
+        spelled = spelled_same (map heard_as b.grams) (map heard_as b'.grams) h.owed (b.replies ++ v.desk.outbox.items) (b'.replies ++ v'.desk.outbox.items) (ap (map heard_as) grams)
+            (ap (λ (l : List GramOut). l ++ v'.desk.outbox.items) replies ∙ append_assoc b.replies (r ∷ []) v'.desk.outbox.items ∙ ap (λ (l : List GramOut). b.replies ++ l) (sym outbox)) h.spelled;
         sound = subst (λ (l : List GramIn). IsSound (map heard_as l) v'.desk) (sym grams) (record {
+          apart = subst AreApart (sym requests) h.sound.apart;
           requests = subst (λ (g : Slab Asker). All (IsOpen g (map heard_as b.grams)) v'.desk.requests.items) (sym gateway) (subst (All (IsOpen v.desk.gateway (map heard_as b.grams))) (sym requests) h.sound.requests);
           owed = All-tail (IsOwed (map heard_as b.grams)) r v'.desk.outbox.items owed;
         });
@@ -288,7 +352,12 @@ module _ (plan : Scenario) (count : ℕ) (first : Told) where
       counts = counts ∙ h.on.counts;
       few = h.on.few;
       fits = h.on.fits;
+      bounded = h.on.bounded;
+      owed = h.on.owed;
+      course = course_same plan count v.session v'.session b.frames b.frames b.grams b.grams v.desk.requests.items v'.desk.requests.items h.on.owed session refl refl requests h.on.course;
+      spelled = spelled_same (map heard_as b.grams) (map heard_as b.grams) h.on.owed (b.replies ++ v.desk.outbox.items) (b.replies ++ v'.desk.outbox.items) refl (ap (λ (l : List GramOut). b.replies ++ l) outbox) h.on.spelled;
       sound = record {
+        apart = subst AreApart (sym requests) h.on.sound.apart;
         requests = subst (λ (g : Slab Asker). All (IsOpen g (map heard_as b.grams)) v'.desk.requests.items) (sym gateway) (subst (All (IsOpen v.desk.gateway (map heard_as b.grams))) (sym requests) h.on.sound.requests);
         owed = subst (All (IsOwed (map heard_as b.grams))) (sym outbox) h.on.sound.owed;
       };

@@ -1,15 +1,19 @@
 -- What a serving still owes its peers.
-use Rattle.std.specs.Prelude.{◌≡◌, ℕ, List, [], ◌∷◌, ◌++◌, slice_get, Some, Ok, All}
+use Rattle.std.specs.Prelude.{◌≡◌, ◌<◌, ℕ, true, false, if◌then◌else◌, List, [], ◌∷◌, ◌++◌, length, map, slice_get, Option, Some, None, Ok, All}
 use Rattle.slab.specs.Slab.{Slab, get}
 use Rattle.ec_outside.specs.Port.{HeardGram}
+use Rattle.mailbox_mail.specs.Mail.{error_of}
 use Rattle.mailbox_mail.specs.declared.mail.Mail.{Mail}
 use Rattle.gateway_core.specs.Framing.{request_in}
 use Rattle.gateway_core.specs.declared.asker.Asker.{Asker}
-use Rattle.run_record.specs.Session.{SessionState}
+use Rattle.master_node.specs.declared.event.Event.{Event}
+use Rattle.run_record.specs.Session.{SessionState, Asks}
 use Rattle.ec_outside.specs.declared.port.Peer.{Peer}
 use Rattle.run_book.specs.declared.book.Book.{Book}
 use Rattle.run_book.specs.declared.book.GramIn.{GramIn}
-use Rattle.gateway_run.specs.Heard.{IsOwed, IsRightly}
+use Rattle.run_book.specs.declared.book.GramOut.{GramOut}
+use Rattle.gateway_run.specs.Account.{Owing, Judges, AreSpelled, IsFree, owing, left_by_all, owed_by_all}
+use Rattle.gateway_run.specs.Heard.{heard_as, IsOwed, IsRightly}
 use Rattle.gateway_run.specs.declared.desk.Request.{Request}
 use Rattle.gateway_run.specs.declared.desk.Desk.{Desk}
 
@@ -25,14 +29,71 @@ pub record IsOpen (requests : Slab Asker) (heard : List HeardGram) (r : Request)
   pub station : asker.station ≡ mail.address
   pub counter : asker.counter ≡ mail.counter
 
+-- no two requests have one key
+abbrev pub AreApart : List Request → Type 0
+AreApart [] = Unit {0}
+AreApart (r ∷ rs) = IsFree r.key rs × AreApart rs
+
 -- each request and each datagram that is to be sent answers one of those heard
 pub record IsSound (heard : List HeardGram) (d : Desk) : Type 0 where
   pub requests : All (IsOpen d.gateway heard) d.requests.items
+  pub apart : AreApart d.requests.items
   pub owed : All (IsOwed heard) d.outbox.items
 
 -- a session in which mails were passed on: all else stays
 abbrev pub AsksMails : SessionState → SessionState → Type 0
 AsksMails s s' = s' ≡ record s { asked = s'.asked; waiting = s'.waiting; master = s'.master }
+
+-- behind the datagrams that are to be sent stand those for what is owed besides
+abbrev pub Owes : List HeardGram → List Owing → List GramOut → List GramOut → Type 0
+Owes heard os out out' = (more : List GramOut) × (out' ≡ out ++ more) × AreSpelled heard os more
+
+-- a desk to which something was told: these requests are left, and this is owed besides
+pub record IsTold (heard : List HeardGram) (rs : List Request) (os : List Owing) (d d' : Desk) : Type 0 where
+  pub sound : IsSound heard d'
+  pub requests : d'.requests.items ≡ rs
+  pub owes : Owes heard os d.outbox.items d'.outbox.items
+
+-- a desk stays sound where a request of it under a key of its own is passed on
+abbrev pub PassesSoundly : Request → Desk → Desk → Type 0
+PassesSoundly r d d' = (heard : List HeardGram) → IsOpen d.gateway heard r → IsFree r.key d.requests.items → IsSound heard d → IsSound heard d'
+
+-- something is told to a desk that is sound
+abbrev pub Tells : List Request → List Owing → Desk → Desk → Type 0
+Tells rs os d d' = (heard : List HeardGram) → IsSound heard d → IsTold heard rs os d d'
+
+-- the events of a step are told to it
+abbrev pub NotesAll : List Event → Desk → Desk → Type 0
+NotesAll events d d' = Tells (left_by_all events d.requests.items) (owed_by_all events d.requests.items) d d'
+
+-- the error of a request whose slave was given up, where its mail still waits
+abbrev pub cut_one : Request → List Owing
+cut_one r = if r.begun then [] else owing (error_of 5) r ∷ []
+
+-- a mail is owed besides by a request that isn't finished
+abbrev pub Answers : Request → Mail → Desk → Desk → Type 0
+Answers r mail d d' = (heard : List HeardGram) → IsOpen d.gateway heard r → Owes heard (owing mail r ∷ []) d.outbox.items d'.outbox.items
+
+-- a mail was asked of the session, or an error is owed
+abbrev pub Passes : SessionState → SessionState → List HeardGram → Request → Mail → Desk → Desk → Option ℕ → Type 0
+Passes s s' heard r mail d d' (Some slave) = (slave ≡ r.slave) × Asks r.slave r.key mail s s' true × (d'.requests.items ≡ d.requests.items ++ r ∷ []) × (d'.outbox.items ≡ d.outbox.items)
+Passes s s' heard r mail d d' None =
+    (slice_get s.waiting r.slave ≡ Some 64) × Asks r.slave r.key mail s s' false × (d'.requests.items ≡ d.requests.items) × Owes heard (owing (error_of 7) r ∷ []) d.outbox.items d'.outbox.items
+
+-- the same of a request under a key of its own
+abbrev pub PassesSo : SessionState → SessionState → Request → Mail → Desk → Desk → Option ℕ → Type 0
+PassesSo s s' r mail d d' queued = (heard : List HeardGram) → IsOpen d.gateway heard r → IsFree r.key d.requests.items → Passes s s' heard r mail d d' queued
+
+-- a datagram was judged: what becomes of it, and what is owed by it at once
+pub record IsTaken (s s' : SessionState) (number : ℕ) (after : List HeardGram) (octets : List ℕ) (d d' : Desk) (queued : Option ℕ) : Type 0 where
+  pub more : List Owing
+  pub judges : Judges s s' d.requests.items d'.requests.items number octets queued more
+  pub owes : Owes after more d.outbox.items d'.outbox.items
+
+-- the same of a desk that is sound
+abbrev pub IsTakenSo : SessionState → SessionState → Peer → List ℕ → ℕ → Desk → Desk → Option ℕ → Type 0
+IsTakenSo s s' peer octets number d d' queued =
+    (heard : List HeardGram) → length heard ≡ number → IsSound heard d → IsTaken s s' number (heard ++ record { from = peer; bytes = octets } ∷ []) octets d d' queued
 
 -- a datagram was heard: it stands in the book, behind those before
 pub record Takes (homes : List (ℕ × ℕ)) (peer : Peer) (octets : List ℕ) (b b' : Book) : Type 0 where
@@ -41,3 +102,14 @@ pub record Takes (homes : List (ℕ × ℕ)) (peer : Peer) (octets : List ℕ) (
   pub from_peer : gram.peer ≡ peer
   pub with_octets : gram.bytes ≡ octets
   pub judged : IsRightly homes gram
+
+-- the same, with the number of frames that had been sent, and what becomes of it
+pub record TakesSo (s s' : SessionState) (d d' : Desk) (b b' : Book) : Type 0 where
+  pub gram : GramIn
+  pub put : b'.grams ≡ b.grams ++ gram ∷ []
+  pub frame : length b.frames < 4294967296 → gram.frame ≡ length b.frames
+  pub taken : IsTaken s s' (length b.grams) (map heard_as b'.grams) gram.bytes d d' gram.queued
+
+-- the same of a desk that is sound
+abbrev pub TakesSoundly : SessionState → SessionState → Desk → Desk → Book → Book → Type 0
+TakesSoundly s s' d d' b b' = length b.grams < 4294967296 → IsSound (map heard_as b.grams) d → TakesSo s s' d d' b b'

@@ -1,12 +1,15 @@
 -- What a serving leaves in its book.
-use Rattle.std.specs.Prelude.{◌≡◌, ◌⊎◌, ℕ, ◌≤◌, true, length, map, All}
+use Rattle.std.specs.Prelude.{◌≡◌, ◌≢◌, ◌⊎◌, ℕ, ◌≤◌, true, List, [], ◌++◌, length, map, All}
 use Rattle.ec_outside.specs.Faults.{Rose}
 use Rattle.segment_plan.specs.declared.plan.Scenario.{Scenario}
 use Rattle.run_book.specs.declared.book.Book.{Book}
 use Rattle.run_book.specs.declared.book.Ending.{Ending}
 use Rattle.run_book.specs.declared.book.Ending.TheVariants as endings
-use Rattle.run_record.specs.Session.{home_of}
+use Rattle.run_book.specs.declared.book.GramOut.{GramOut}
+use Rattle.run_record.specs.Session.{SessionState, home_of, session_rows}
 use Rattle.run_record.specs.Ran.{StopsAs}
+use Rattle.gateway_run.specs.declared.desk.Request.{Request}
+use Rattle.gateway_run.specs.Account.{Owing, Course, AreSpelled}
 use Rattle.gateway_run.specs.Heard.{heard_as, AreHeard, AreSent, AreSentBut, IsOwed, IsRightly}
 use Rattle.gateway_run.specs.Serving.{Told}
 
@@ -29,6 +32,18 @@ pub record IsBroken (first last : Told) (book : Book) : Type 0 where
   pub rose : Rose first.faults last.faults
   pub sent : AreSentBut first.sent last.sent book.replies
 
+-- WHAT WAS SENT IS WHAT WAS OWED, in order: the datagrams of the book, and behind them those that are still owed, which are none unless the port
+-- failed, are those of a course of the plan's session over the frames and the datagrams heard of the book
+pub record HasAccount (plan : Scenario) (count : ℕ) (book : Book) (ending : Ending) : Type 0 where
+  pub session : SessionState
+  pub requests : List Request
+  pub owed : List Owing
+  pub later : List GramOut
+  pub course : Course plan count session book.frames book.grams requests owed
+  pub spelled : AreSpelled (map heard_as book.grams) owed (book.replies ++ later)
+  pub rows : book.slaves ≡ session_rows session
+  pub all : ending ≢ endings.PortFault → later ≡ []
+
 -- what goes with an ending
 abbrev pub GoesWith : ℕ → Told → Told → Book → Ending → Type 0
 GoesWith count first last book endings.Done = IsThrough count first last book
@@ -41,4 +56,5 @@ GoesWith count first last book endings.Unfinished = ⊥
 -- A SERVING: how it ended, and unless memory ran out, what it heard and sent
 abbrev pub IsServed : Scenario → ℕ → Told → Told → Book → Ending → Type 0
 IsServed plan count first last book endings.NoMemory = Unit {0}
-IsServed plan count first last book ending = StopsAs plan count book ending × HasGrams plan count first last book × GoesWith count first last book ending
+IsServed plan count first last book ending =
+    StopsAs plan count book ending × HasGrams plan count first last book × GoesWith count first last book ending × HasAccount plan count book ending

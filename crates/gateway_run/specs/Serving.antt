@@ -7,9 +7,10 @@ use Rattle.run_book.specs.declared.book.GramOut.{GramOut}
 use Rattle.ec_outside.specs.declared.port.SentGram.{SentGram}
 use Rattle.segment_plan.specs.declared.plan.Scenario.{Scenario}
 use Rattle.run_book.specs.declared.book.Book.{Book}
-use Rattle.run_record.specs.Session.{home_of}
+use Rattle.run_record.specs.Session.{home_of, budget_of}
 use Rattle.run_record.specs.Ran.{HasSent, IsUnderway}
 use Rattle.gateway_run.specs.Heard.{heard_as, AreHeard, AreSent, AreSentBut, IsOwed, IsRightly}
+use Rattle.gateway_run.specs.Account.{Owing, Course, AreSpelled}
 use Rattle.gateway_run.specs.Desk.{IsSound}
 use Rattle.gateway_run.specs.declared.stop.Stop.{Stop}
 use Rattle.gateway_run.specs.declared.stop.Stop.TheVariants as stops
@@ -25,15 +26,20 @@ pub record Told : Type 0 where
 abbrev pub told : {Q : Type 0} → (Q → Option (List HeardGram)) → (Q → Option (List SentGram)) → (Q → Bool) → (Q → ℕ) → Q → Told
 told heard sent over faults port = record { heard = heard port; sent = sent port; over = over port; faults = faults port }
 
--- a serving and its book: the session is under way, each reply goes to its own asker, and what was passed on was rightly so
+-- a serving and its book: the session is under way, each reply goes to its own asker, what was passed on was rightly so, and what was sent and
+-- is still to be sent is what was owed
 pub record IsOn (plan : Scenario) (count : ℕ) (v : Serving) (b : Book) : Type 0 where
   pub underway : IsUnderway plan count v.session b
   pub counts : v.count ≡ count
   pub few : length b.grams ≤ count
   pub fits : count < 4294967296
+  pub bounded : budget_of plan count ≤ 100000000
   pub sound : IsSound (map heard_as b.grams) v.desk
   pub answered : All (IsOwed (map heard_as b.grams)) b.replies
   pub judged : All (IsRightly (map home_of plan.slaves)) b.grams
+  pub owed : List Owing
+  pub course : Course plan count v.session b.frames b.grams v.desk.requests.items owed
+  pub spelled : AreSpelled (map heard_as b.grams) owed (b.replies ++ v.desk.outbox.items)
 
 -- a serving and its port, by what the port told first: the book has what was heard and sent since
 pub record IsServing (plan : Scenario) (count : ℕ) (first now : Told) (v : Serving) (b : Book) : Type 0 where

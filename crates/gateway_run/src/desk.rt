@@ -1,7 +1,11 @@
-ghost use Rattle.std.specs.Prelude.{◌≡◌, ◌<◌, ◌≤◌, ◌+◌, ◌++◌, ◌∷◌, ◌↔◌, [], List, length, map, IfSome, IfOk, OnOk, Contains, IsTrue, option_to_list, vec_len};
+ghost use Rattle.std.specs.Prelude.{◌≡◌, ◌<◌, ◌≤◌, ◌+◌, ◌++◌, ◌∷◌, ◌↔◌, [], List, length, map, find, IfSome, IfNone, IfOk, OnOk, Contains, IsTrue, option_to_list, vec_len};
+ghost use Rattle.std.specs.Option.{option_copied};
 ghost use Rattle.ec_outside.specs.Port.{HeardGram};
+ghost use Rattle.master_node.specs.declared.event.Event.TheVariants as events;
+ghost use Rattle.gateway_run.specs.Events.{events_of};
+ghost use Rattle.gateway_run.specs.Account.{has_key, is_of, others, elsewhere, begun_first, cut_off, replied, left_by, owed_by};
 ghost use Rattle.gateway_run.specs.Heard.{heard_as, IsJudged};
-ghost use Rattle.gateway_run.specs.Desk.{IsOpen, IsSound, AsksMails, Takes};
+ghost use Rattle.gateway_run.specs.Desk.{IsOpen, IsSound, AsksMails, Tells, NotesAll, cut_one, Answers, PassesSoundly, PassesSo, IsTakenSo, Takes, TakesSoundly};
 
 use ec_fields::{NoMemory, Octets};
 use ec_outside::{Gram, Peer};
@@ -56,6 +60,20 @@ fn count(rows: usize) -> u32
     }
 }
 
+// The request of a key.
+fn with_key(requests: &[Request], key: usize) -> Option<&Request>
+    ensures { option_copied result ≡ find (has_key key) requests.now }
+{
+    requests.iter().find(|request| request.key == key)
+}
+
+// The first request of a slave.
+fn at_slave(requests: &[Request], slave: u32) -> Option<&Request>
+    ensures { option_copied result ≡ find (is_of slave) requests.now }
+{
+    requests.iter().find(|request| request.slave == slave)
+}
+
 impl Desk {
     /// Nothing is owed.
     pub fn new(alloc: Global) -> Desk
@@ -86,6 +104,7 @@ impl Desk {
     // A mail goes to who asked by a request.
     fn answer(&mut self, alloc: Global, request: Request, mail: &Mail) -> Result<(), NoMemory>
         ensures sound { OnOk result ((heard : List HeardGram) → IsOpen self.old.gateway heard request → IsSound heard self.old → IsSound heard self.new) }
+        ensures owes { OnOk result (Answers request mail.now self.old self.new) }
         ensures gateway { self.new.gateway ≡ self.old.gateway }
         ensures requests { self.new.requests.items ≡ self.old.requests.items }
     {
@@ -105,7 +124,9 @@ impl Desk {
 
     // The request of a key gets no further answer.
     fn finish(&mut self, key: usize)
-        ensures { (heard : List HeardGram) → IsSound heard self.old → IsSound heard self.new }
+        ensures sound { (heard : List HeardGram) → IsSound heard self.old → IsSound heard self.new }
+        ensures requests { self.new.requests.items ≡ others key self.old.requests.items }
+        ensures outbox { self.new.outbox.items ≡ self.old.outbox.items }
     {
         self.requests.retain(|request| request.key != key);
         if self.gateway.is_unfinished(key) {
@@ -115,27 +136,25 @@ impl Desk {
 
     // The request of a key.
     fn request(&self, key: usize) -> Option<Request>
-        ensures { IfSome result (Contains self.now.requests.items) }
+        ensures inside { IfSome result (Contains self.now.requests.items) }
+        ensures first { result ≡ find (has_key key) self.now.requests.items }
     {
-        self.requests
-            .iter()
-            .find(|request| request.key == key)
-            .copied()
+        with_key(self.requests.as_slice(), key).copied()
     }
 
     // The first request of a slave that isn't finished.
     fn first_of(&self, slave: u32) -> Option<Request>
-        ensures { IfSome result (Contains self.now.requests.items) }
+        ensures inside { IfSome result (Contains self.now.requests.items) }
+        ensures first { result ≡ find (is_of slave) self.now.requests.items }
     {
-        self.requests
-            .iter()
-            .find(|request| request.slave == slave)
-            .copied()
+        at_slave(self.requests.as_slice(), slave).copied()
     }
 
     // The oldest mail that waits for a slave came into hand.
     fn begin(&mut self, slave: u32)
-        ensures { (heard : List HeardGram) → IsSound heard self.old → IsSound heard self.new }
+        ensures sound { (heard : List HeardGram) → IsSound heard self.old → IsSound heard self.new }
+        ensures requests { self.new.requests.items ≡ begun_first slave self.old.requests.items }
+        ensures outbox { self.new.outbox.items ≡ self.old.outbox.items }
     {
         for at in 0..self.requests.len() {
             let request = self.requests[at];
@@ -146,10 +165,21 @@ impl Desk {
         }
     }
 
+    // A service came into hand.
+    fn came(&mut self, slave: u32, origin: Origin)
+        ensures { Tells (left_by (events.Began slave origin) self.old.requests.items) [] self.old self.new }
+    {
+        match origin {
+            Origin::Gateway(_) => self.begin(slave),
+            Origin::Script(_) | Origin::Forward(_) => {}
+        }
+    }
+
     // A request of a slave that was given up gets no further answer, but for an error where its mail waited.
     fn drop_one(&mut self, alloc: Global, request: Request) -> Result<(), NoMemory>
         requires { Contains self.old.requests.items request }
-        ensures { OnOk result ((heard : List HeardGram) → IsSound heard self.old → IsSound heard self.new) }
+        ensures told { OnOk result (Tells (others request.key self.old.requests.items) (cut_one request) self.old self.new) }
+        ensures requests { OnOk result (self.new.requests.items ≡ others request.key self.old.requests.items) }
     {
         if !request.begun {
             self.answer(alloc, request, &error_mail(NO_STATION))?;
@@ -160,12 +190,9 @@ impl Desk {
 
     // A slave was given up: a mail that waited for it is answered by an error, and no request of it gets a further answer.
     fn give_up(&mut self, alloc: Global, slave: u32) -> Result<(), NoMemory>
-        ensures { OnOk result ((heard : List HeardGram) → IsSound heard self.old → IsSound heard self.new) }
+        ensures { OnOk result (Tells (elsewhere slave self.old.requests.items) (cut_off slave self.old.requests.items) self.old self.new) }
     {
-        for _ in 0..MOST {
-            let Some(request) = self.first_of(slave) else {
-                return Ok(());
-            };
+        while let Some(request) = self.first_of(slave) {
             self.drop_one(alloc, request)?;
         }
         Ok(())
@@ -173,7 +200,7 @@ impl Desk {
 
     // A request has a reply.
     fn replied(&mut self, alloc: Global, key: usize, mail: &Mail) -> Result<(), NoMemory>
-        ensures { OnOk result ((heard : List HeardGram) → IsSound heard self.old → IsSound heard self.new) }
+        ensures { OnOk result (Tells self.old.requests.items (replied mail.now key self.old.requests.items) self.old self.new) }
     {
         match self.request(key) {
             Some(request) => self.answer(alloc, request, mail),
@@ -183,14 +210,11 @@ impl Desk {
 
     // Something happened in a step.
     fn note(&mut self, alloc: Global, event: &Event) -> Result<(), NoMemory>
-        ensures { OnOk result ((heard : List HeardGram) → IsSound heard self.old → IsSound heard self.new) }
+        ensures { OnOk result (Tells (left_by event.now self.old.requests.items) (owed_by event.now self.old.requests.items) self.old self.new) }
     {
         match event {
-            Event::Began {
-                slave,
-                origin: Origin::Gateway(_),
-            } => {
-                self.begin(*slave);
+            Event::Began { slave, origin } => {
+                self.came(*slave, *origin);
                 Ok(())
             }
             Event::GatewayReply { key, mail } => self.replied(alloc, *key, mail),
@@ -199,13 +223,18 @@ impl Desk {
                 Ok(())
             }
             Event::GivenUp { slave } => self.give_up(alloc, *slave),
-            _ => Ok(()),
+            Event::Emergency { .. } => Ok(()),
+            Event::Answered { .. }
+            | Event::Host(_)
+            | Event::Switch(_)
+            | Event::Cleared { .. }
+            | Event::Opened { .. } => Ok(()),
         }
     }
 
     /// What happened in the last step of a session is told to who asked.
     pub fn note_all(&mut self, alloc: Global, session: &Session) -> Result<(), NoMemory>
-        ensures { OnOk result ((heard : List HeardGram) → IsSound heard self.old → IsSound heard self.new) }
+        ensures { OnOk result (NotesAll (events_of session.now.master) self.old self.new) }
     {
         for event in session.events() {
             self.note(alloc, event)?;
@@ -222,7 +251,8 @@ impl Desk {
         mail: &Mail,
     ) -> Result<Option<u32>, NoMemory>
         requires { request.slave < length session.old.ring.nodes }
-        ensures sound { OnOk result ((heard : List HeardGram) → IsOpen self.old.gateway heard request → IsSound heard self.old → IsSound heard self.new) }
+        ensures sound { OnOk result (PassesSoundly request self.old self.new) }
+        ensures passes { IfOk result (PassesSo session.old session.new request mail.now self.old self.new) }
         ensures slave { IfOk result (λ queued. IfSome queued (λ slave. slave ≡ request.slave)) }
         ensures session { AsksMails session.old session.new }
     {
@@ -245,6 +275,7 @@ impl Desk {
         gram: u32,
     ) -> Result<Option<u32>, NoMemory>
         ensures sound { OnOk result ((heard : List HeardGram) → length heard ≡ gram → IsSound heard self.old → IsSound (heard ++ record { from = peer; bytes = bytes.now } ∷ []) self.new) }
+        ensures taken { IfOk result (IsTakenSo session.old session.new peer bytes.now gram self.old self.new) }
         ensures judged { IfOk result (IsJudged session.old.homes bytes.now) }
         ensures session { AsksMails session.old session.new }
     {
@@ -278,6 +309,7 @@ impl Desk {
     ) -> Result<(), NoMemory>
         ensures heard { OnOk result (Takes session.old.homes peer bytes.now book.old book.new) }
         ensures sound { OnOk result (length book.old.grams < 4294967296 → IsSound (map heard_as book.old.grams) self.old → IsSound (map heard_as book.new.grams) self.new) }
+        ensures taken { OnOk result (TakesSoundly session.old session.new self.old self.new book.old book.new) }
         ensures book { book.new ≡ record book.old { grams = book.new.grams } }
         ensures session { AsksMails session.old session.new }
     {
@@ -297,6 +329,7 @@ impl Desk {
     /// The next datagram that is to be sent.
     pub fn next_out(&mut self) -> Option<GramOut>
         ensures first { self.old.outbox.items ≡ option_to_list result ++ self.new.outbox.items }
+        ensures none { IfNone result (self.new.outbox.items ≡ []) }
         ensures gateway { self.new.gateway ≡ self.old.gateway }
         ensures requests { self.new.requests.items ≡ self.old.requests.items }
     {

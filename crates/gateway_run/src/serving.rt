@@ -1,4 +1,4 @@
-ghost use Rattle.std.specs.Prelude.{◌≡◌, ◌≢◌, ◌<◌, ℕ, true, false, IfOk};
+ghost use Rattle.std.specs.Prelude.{◌≡◌, ◌≢◌, ◌<◌, ℕ, [], true, false, IfOk, OnOk};
 ghost use Rattle.segment_plan.specs.Sound.{IsPlan};
 ghost use Rattle.segment_plan.specs.declared.plan.Scenario.{Scenario as Plan};
 ghost use Rattle.run_book.specs.Book.{IsNew};
@@ -37,9 +37,11 @@ fn turns<P: Port>(
     port: &mut P,
     book: &mut Book,
 ) -> Result<Ending, Stop>
+    requires { serving.old.desk.outbox.items ≡ [] }
     ensures goes { (plan : Plan) (count : ℕ) (first : Told) → IsServing plan count first (told P.heard P.sent P.over P.port_faults port.old) serving.old book.old → Goes plan count first (told P.heard P.sent P.over P.port_faults port.new) serving.new book.new result }
     ensures ends { IfOk result (EndsSo serving.new.session) }
     ensures whole { IfOk result (λ ending. ending ≢ endings.BudgetSpent → can_hear serving.new book.new ≡ false) }
+    ensures empty { OnOk result (serving.new.desk.outbox.items ≡ []) }
 {
     let mut settled = serving.session.settled();
     while !settled || serving.can_hear(book) {

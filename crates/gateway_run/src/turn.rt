@@ -153,6 +153,7 @@ impl Serving {
         ensures goes { (plan : Plan) (count : ℕ) (first : Told) → IsServing plan count first (told P.heard P.sent P.over P.port_faults port.old) self.old book.old → Goes plan count first (told P.heard P.sent P.over P.port_faults port.new) self.new book.new result }
         ensures same { OnOk result (left self.new book.new ≡ left self.old book.old) }
         ensures session { OnOk result (self.new.session ≡ self.old.session) }
+        ensures empty { OnOk result (self.new.desk.outbox.items ≡ []) }
     {
         while let Some(reply) = self.desk.next_out() {
             send_one(reply, port, book)?;
@@ -174,6 +175,7 @@ impl Serving {
         ensures goes { (plan : Plan) (count : ℕ) (first : Told) → IsServing plan count first (told P.heard P.sent P.over P.port_faults port.old) self.old book.old → Goes plan count first (told P.heard P.sent P.over P.port_faults port.new) self.new book.new result }
         ensures less { IfOk result (λ on. OnTrue on (left self.new book.new < left self.old book.old)) }
         ensures spent { IfOk result (λ on. OnFalse on (self.new.session.ring.number ≡ self.new.session.budget)) }
+        ensures empty { OnOk result (self.new.desk.outbox.items ≡ []) }
     {
         self.hear(alloc, settled, port, book)?;
         let rests = settled && self.session.settled();

@@ -15,3 +15,4 @@ pub mod Filleds
 pub mod Sents
 pub mod Counts
 pub mod Quiets
+pub mod Says

@@ -4,6 +4,7 @@ pub mod Ported
 pub mod Scripts
 pub mod Shows
 pub mod Wants
+pub mod Told
 pub mod Kept
 pub mod Coming
 pub mod First

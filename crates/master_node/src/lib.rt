@@ -1,6 +1,6 @@
 //! The master of a segment whole: the slaves in the order of their tour, the services that come into hand of each, the switch with the
 //! packets of the host, the mails that are passed on, and the events of each step. It knows of a slave only what frames bring. No call
-//! but [`MasterNode::new`] and [`MasterNode::value`] takes memory.
+//! but [`MasterNode::new`], [`MasterNode::value`] and [`MasterNode::told`] takes memory.
 #![tactic(auto)]
 
 mod coming;
@@ -12,7 +12,9 @@ mod node;
 mod post;
 mod starting;
 mod telling;
+mod told;
 mod wants;
 
 pub use event::{Event, Origin};
 pub use node::{MasterNode, Next};
+pub use told::Told;

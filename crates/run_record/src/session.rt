@@ -9,6 +9,7 @@ ghost use Rattle.run_book.specs.declared.book.Ending.TheVariants as endings;
 ghost use Rattle.frame_view.specs.View.{Lens};
 ghost use Rattle.frame_view.specs.Seen.{seen};
 ghost use Rattle.life_runs.specs.Led.{Exchanged, Turn, led_behind, gives_up_at, missed_behind};
+ghost use Rattle.master_node.specs.Listed.{listed};
 ghost use Rattle.master_node.specs.Shows.{MasterShows, MasterUnder};
 ghost use Rattle.segment_model.specs.Returned.{Returns};
 ghost use Rattle.segment_ring.specs.declared.wire.Fate.TheVariants as Fates;
@@ -334,7 +335,9 @@ impl Session {
     }
 
     /// What happened in the last step.
-    pub fn events(&self) -> &[Event] {
+    pub fn events(&self) -> &[Event]
+        ensures { result.now ≡ listed self.now.master.list.rows.items self.now.master.list.count }
+    {
         self.master.step_events()
     }
 

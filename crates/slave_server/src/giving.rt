@@ -1,7 +1,10 @@
-ghost use Rattle.std.specs.Prelude.{◌≡◌, ◌≤◌, ◌+◌, Some, is_some, IsSome, length};
+ghost use Rattle.std.specs.Prelude.{◌≡◌, ◌≢◌, ◌≤◌, ◌+◌, true, [], Some, is_some, IsSome, length};
+ghost use Rattle.eoe_server.specs.Serving.{waiting_mails, is_roomy, GivesNext};
+ghost use Rattle.mailbox_mail.specs.Mail.{error_of};
 ghost use Rattle.slave_server.specs.Serving.{next_mail, rest};
 
 use crate::server::SlaveServer;
+use eoe_server::{Addresses, EoeServer};
 use mailbox_mail::{Mail, error_mail};
 
 impl SlaveServer {
@@ -57,7 +60,7 @@ impl SlaveServer {
         ensures fits { length into.new.body.items + 6 ≤ self.old.profile.back }
     {
         if let Some(detail) = self.failure.take() {
-            *into = error_mail(detail);
+            put_error(detail, into);
             return;
         }
         if self.sdo.waiting() {
@@ -72,6 +75,24 @@ impl SlaveServer {
             self.drive.next_into(into);
             return;
         }
-        *into = self.ether.next(&self.addresses);
+        put_ether(&mut self.ether, &self.addresses, into);
     }
+}
+
+// A mailbox error, to nobody and not yet counted. It is made apart from the other mails, which then need no place for a whole one.
+fn put_error(detail: u16, into: &mut Mail)
+    ensures { into.new ≡ error_of detail }
+{
+    *into = error_mail(detail);
+}
+
+// The next mail of the EoE server, made apart for the same reason.
+fn put_ether(ether: &mut EoeServer, addresses: &Addresses, into: &mut Mail)
+    requires left { waiting_mails ether.old addresses.now.block.items ≢ [] }
+    requires roomy { is_roomy ether.old.room addresses.now ≡ true }
+    ensures next { GivesNext ether.old addresses.now.block.items into.new ether.new }
+    ensures fits { length into.new.body.items + 6 ≤ ether.old.room }
+    ensures same { ether.new ≡ record ether.old { answer = ether.new.answer; sending = ether.new.sending } }
+{
+    *into = ether.next(addresses);
 }

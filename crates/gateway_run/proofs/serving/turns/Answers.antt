@@ -10,6 +10,7 @@ returns-then-not-branch-clause-goes g c = λ plan count first h. c.in_ok-turn.en
 pub loop-settled-preserved : goal.loop-settled-preserved
 loop-settled-preserved g c = record {
   goes = λ plan count first h. c.in_ok-turn.ensures.goes plan count first (c.loop-settled.invariant.goes plan count first h);
+  empty = c.in_ok-turn.ensures.empty;
   at_rest = c.settled-settled-in-loop-settled.ensures.rest;
 }
 

@@ -1,17 +1,22 @@
-use Rattle.std.proofs.Common.{◌≡◌, ℕ, ◌∷◌, ◌++◌, [], List, length, refl, sym, ap, ◌∙◌, subst, rules, arith}
-use Rattle.std.specs.Prelude.{All, map, Some, None, IfSome}
-use Rattle.std.proofs.lemmas.List.Elements.{All-push, All-filter, All-contains, All-set}
-use Rattle.ec_outside.specs.Port.{HeardGram}
-use Rattle.gateway_run.specs.Heard.{heard_as, IsOwed}
-use Rattle.gateway_run.specs.Desk.{IsOpen, IsSound}
-use Rattle.gateway_run.specs.declared.desk.Request.{Request}
-use Rattle.gateway_run.proofs.Desks.{answered}
+use Rattle.std.proofs.Common.{sym, ◌∙◌, subst}
+use Rattle.std.specs.Prelude.{All}
+use Rattle.std.proofs.lemmas.List.Elements.{All-push}
+use Rattle.gateway_run.specs.Heard.{IsOwed}
+use Rattle.gateway_run.specs.Account.{owing}
+use Rattle.gateway_run.proofs.Accounts.{owes_one}
+use Rattle.gateway_run.proofs.Desks.{answered, spelled_to}
 use Rattle.gateway_run.proofs.desk.Desk.answer.Goals as goal
 
 pub returns-clause-sound : goal.returns-clause-sound
 returns-clause-sound c = λ heard o s. record {
   requests = s.requests;
+  apart = s.apart;
   owed = subst (All (IsOwed heard)) (sym c.in_ok-push_back.ensures.items)
       (All-push (IsOwed heard) c.args.self.now.outbox.items _ s.owed
       (answered heard c.args.self.now.gateway c.args.request c.args.mail.now c.reply-peer.result c.reply-peer.new.into.items c.in_ok-bytes.bytes o c.reply-peer.ensures (c.in_ok-bytes.ensures ∙ c.as_slice.ensures.value)));
 }
+
+pub returns-clause-owes : goal.returns-clause-owes
+returns-clause-owes c = λ heard o.
+    owes_one heard (owing c.args.mail.now c.args.request) _ c.args.self.now.outbox.items _ c.in_ok-push_back.ensures.items
+    (spelled_to heard c.args.self.now.gateway c.args.request c.args.mail.now c.reply-peer.result c.reply-peer.new.into.items c.in_ok-bytes.bytes o c.reply-peer.ensures (c.in_ok-bytes.ensures ∙ c.as_slice.ensures.value))

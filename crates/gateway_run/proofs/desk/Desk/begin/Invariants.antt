@@ -1,7 +1,9 @@
-use Rattle.std.proofs.Common.{◌≡◌, List}
-use Rattle.ec_outside.specs.Port.{HeardGram}
-use Rattle.gateway_run.specs.Desk.{IsSound}
+use Rattle.std.proofs.Common.{◌≡◌}
+use Rattle.gateway_run.proofs.Accounts.{NoneWaits}
 use Rattle.gateway_run.proofs.desk.Desk.begin.Given as goal
 
 abbrev pub invariant-loop-at : goal.invariant-loop-at
-invariant-loop-at l = (heard : List HeardGram) → IsSound heard l.fn.self → IsSound heard l.self
+invariant-loop-at l = record {
+  same : l.self ≡ l.fn.self;
+  none : NoneWaits l.slave l.at l.self.requests.items;
+}

@@ -1,7 +1,11 @@
-use Rattle.std.proofs.Common.{◌≡◌, List}
+use Rattle.std.proofs.Common.{List, length}
 use Rattle.ec_outside.specs.Port.{HeardGram}
 use Rattle.gateway_run.specs.Desk.{IsSound}
+use Rattle.gateway_run.proofs.Told.{IsGivingUp}
 use Rattle.gateway_run.proofs.desk.Desk.give_up.Given as goal
 
-abbrev pub invariant-loop : goal.invariant-loop
-invariant-loop l = (heard : List HeardGram) → IsSound heard l.fn.self → IsSound heard l.self
+abbrev pub invariant-loop-request : goal.invariant-loop-request
+invariant-loop-request l = (heard : List HeardGram) → IsSound heard l.fn.self → IsGivingUp heard l.slave l.fn.self l.self
+
+abbrev pub decreases-loop-request : goal.decreases-loop-request
+decreases-loop-request l = length l.self.requests.items

@@ -1,20 +1,19 @@
-use Rattle.std.proofs.Common.{◌≡◌, ℕ, ◌∷◌, ◌++◌, [], List, length, refl, sym, ap, ◌∙◌, subst, rules, arith}
-use Rattle.std.specs.Prelude.{All, map, Some, None, IfSome}
-use Rattle.std.proofs.lemmas.List.Elements.{All-push, All-filter, All-contains, All-set}
+use Rattle.std.proofs.Common.{◌∷◌, ◌++◌, [], refl, sym, ◌∙◌, subst}
+use Rattle.std.specs.Prelude.{All}
+use Rattle.std.proofs.lemmas.List.Elements.{All-push}
 use Rattle.ec_outside.specs.Port.{HeardGram}
-use Rattle.gateway_run.specs.Heard.{heard_as, IsOwed, IsJudged}
+use Rattle.gateway_run.specs.Heard.{IsOwed, IsJudged}
 use Rattle.std.proofs.lemmas.Result.{on_ok_weaker, IfOk-weaker}
 use Rattle.std.specs.Prelude.{false}
-use Rattle.gateway_run.specs.Desk.{IsOpen, IsSound}
-use Rattle.gateway_run.specs.declared.desk.Request.{Request}
+use Rattle.gateway_run.specs.Desk.{IsOpen, IsTakenSo}
 use Rattle.slab.specs.Slab.{Slab}
 use Rattle.gateway_core.specs.Framing.{request_in}
 use Rattle.gateway_core.specs.Gateway.{Answers}
-use Rattle.gateway_core.specs.declared.asker.Asked.{Asked}
 use Rattle.gateway_core.specs.declared.asker.Asker.{Asker}
 use Rattle.gateway_core.specs.declared.asker.Asked.TheVariants as asked
-use Rattle.gateway_run.proofs.Desks.{sound_more, all_owed_more, queued}
-use Rattle.gateway_run.proofs.Judged.{ignored, refused, put, error_owed, put_open, passed_on, judged_so}
+use Rattle.gateway_run.proofs.Desks.{sound_more, queued}
+use Rattle.gateway_run.proofs.Accounts.{free_of}
+use Rattle.gateway_run.proofs.Judged.{ignored, faulty, refused, caused, put, error_owed, error_spelled, put_open, passed_on, judged_so, taken_ignored, taken_refused, taken_passed}
 use Rattle.gateway_run.proofs.desk.Desk.judge.Goals as goal
 
 pub returns-in-Ignored-clause-sound : goal.returns-in-Ignored-clause-sound
@@ -26,8 +25,17 @@ returns-in-Ignored-clause-sound c = λ heard many s.
     let more = sound_more heard (record { from = c.args.peer; bytes = c.args.bytes.now } ∷ []) d s in
     record {
       requests = subst (λ (g : Slab Asker). All (IsOpen g (heard ++ record { from = c.args.peer; bytes = c.args.bytes.now } ∷ [])) d.requests.items) (sym same) more.requests;
+      apart = s.apart;
       owed = more.owed;
     }
+
+pub returns-in-Ignored-clause-taken : goal.returns-in-Ignored-clause-taken
+returns-in-Ignored-clause-taken c = λ heard many s.
+    let d = c.args.self.now in
+    let r = request_in c.args.bytes.now in
+    let a : Answers d.gateway c.request.new.self c.args.peer c.stations.result.now r asked.Ignored = subst (Answers d.gateway c.request.new.self c.args.peer c.stations.result.now r) c.in-Ignored.is c.in_ok-request.ensures.ok in
+    let fault = faulty d.gateway c.request.new.self c.args.peer c.stations.result.now r a in
+    taken_ignored c.args.session.now c.stations.result.now c.stations.ensures.value heard (record { from = c.args.peer; bytes = c.args.bytes.now }) c.args.bytes.now c.args.gram d _ fault.0 fault.1 refl refl
 
 pub returns-in_ok-push_back-in-Error-clause-sound : goal.returns-in_ok-push_back-in-Error-clause-sound
 returns-in_ok-push_back-in-Error-clause-sound c = λ heard many s.
@@ -39,10 +47,35 @@ returns-in_ok-push_back-in-Error-clause-sound c = λ heard many s.
     let more = sound_more heard (g ∷ []) d s in
     record {
       requests = subst (λ (k : Slab Asker). All (IsOpen k (heard ++ g ∷ [])) d.requests.items) (sym is.0) more.requests;
+      apart = s.apart;
       owed = subst (All (IsOwed (heard ++ g ∷ []))) (sym c.in_ok-push_back-in-Error.ensures.items)
           (All-push (IsOwed (heard ++ g ∷ [])) d.outbox.items _ more.owed
           (error_owed heard g c.args.peer c.in-Error.error.items c.in_ok-bytes-in-Error.bytes c.args.gram is.2 is.1 many refl is.3 is.4 (c.in_ok-bytes-in-Error.ensures ∙ c.as_slice.ensures.value)));
     }
+
+pub returns-in_ok-push_back-in-Error-clause-taken : goal.returns-in_ok-push_back-in-Error-clause-taken
+returns-in_ok-push_back-in-Error-clause-taken c = λ heard many s.
+    let d = c.args.self.now in
+    let g : HeardGram = record { from = c.args.peer; bytes = c.args.bytes.now } in
+    let r = request_in c.args.bytes.now in
+    let a : Answers d.gateway c.request.new.self c.args.peer c.stations.result.now r (asked.Error c.in-Error.error) = subst (Answers d.gateway c.request.new.self c.args.peer c.stations.result.now r) c.in-Error.is c.in_ok-request.ensures.ok in
+    let is = caused d.gateway c.request.new.self c.args.peer c.stations.result.now r c.in-Error.error.items a in
+    taken_refused c.args.session.now c.stations.result.now c.stations.ensures.value heard g c.args.bytes.now c.args.gram d _ is.0 is.1 _ is.2 is.3 refl c.in_ok-push_back-in-Error.ensures.items
+    (error_spelled heard g c.args.peer c.in-Error.error.items c.in_ok-bytes-in-Error.bytes c.args.gram is.1 is.0 many refl is.2 is.4 (c.in_ok-bytes-in-Error.ensures ∙ c.as_slice.ensures.value))
+
+pub returns-in-Queued-clause-taken : goal.returns-in-Queued-clause-taken
+returns-in-Queued-clause-taken c =
+    let d = c.args.self.now in
+    let q = c.in-Queued in
+    let a : Answers d.gateway c.request.new.self c.args.peer c.stations.result.now (request_in c.args.bytes.now) (asked.Queued q.key q.slave q.mail) = subst (Answers d.gateway c.request.new.self c.args.peer c.stations.result.now (request_in c.args.bytes.now)) q.is c.in_ok-request.ensures.ok in
+    let is = put d.gateway c.request.new.self c.args.peer c.stations.result.now (request_in c.args.bytes.now) q.key q.slave q.mail a in
+    IfOk-weaker c.pass_on.result _ (IsTakenSo c.args.session.now c.pass_on.new.session c.args.peer c.args.bytes.now c.args.gram d c.pass_on.new.self)
+    (λ queued passes. λ heard many s.
+    let g : HeardGram = record { from = c.args.peer; bytes = c.args.bytes.now } in
+    let free = free_of d.gateway heard q.key d.requests.items is.vacant s.requests in
+    taken_passed c.args.session.now c.stations.result.now c.stations.ensures.value heard g c.args.bytes.now c.args.gram d c.pass_on.new.session c.request.new.self c.pass_on.new.self q.mail q.key q.slave is.request is.place free queued
+    (passes (heard ++ g ∷ []) (put_open d.gateway c.request.new.self c.args.peer c.stations.result.now heard g q.key q.slave c.args.gram q.mail false many refl is) free))
+    c.pass_on.ensures.passes
 
 pub returns-in-Queued-clause-sound : goal.returns-in-Queued-clause-sound
 returns-in-Queued-clause-sound c =
@@ -55,7 +88,9 @@ returns-in-Queued-clause-sound c =
     let g : HeardGram = record { from = c.args.peer; bytes = c.args.bytes.now } in
     let more = sound_more heard (g ∷ []) d s in
     kept (heard ++ g ∷ []) (put_open d.gateway c.request.new.self c.args.peer c.stations.result.now heard g q.key q.slave c.args.gram q.mail false many refl is)
+    (free_of d.gateway heard q.key d.requests.items is.vacant s.requests)
     (record {
+      apart = s.apart;
       requests = queued d.gateway c.request.new.self q.key is.asker (heard ++ g ∷ []) d.requests.items is.vacant is.updates more.requests;
       owed = more.owed;
     }))

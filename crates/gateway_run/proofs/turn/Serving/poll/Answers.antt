@@ -1,10 +1,6 @@
-use Rattle.std.proofs.Common.{◌≡◌, ◌<◌, ◌≤◌, ℕ, ◌∷◌, ◌++◌, [], List, length, true, false, refl, sym, ap, ◌∙◌, subst, rules, arith}
-use Rattle.std.specs.Prelude.{Result, Ok, Err, All, map}
-use Rattle.std.specs.Bool.{OnTrue}
+use Rattle.std.proofs.Common.{◌≡◌, refl, ap, ◌∙◌, arith}
+use Rattle.std.specs.Prelude.{Err}
 use Rattle.std.proofs.lemmas.Result.{err_from_is_err_and}
-use Rattle.segment_plan.specs.declared.plan.Scenario.{Scenario}
-use Rattle.run_record.specs.Session.{session_rows, are_at_rest}
-use Rattle.gateway_run.specs.Serving.{Told, told, Goes, IsServing, left, can_hear}
 use Rattle.gateway_run.proofs.Turns.{same_gram, goes_so, listen_failed}
 use Rattle.gateway_run.proofs.turn.Serving.poll.Goals as goal
 

@@ -1,8 +1,6 @@
-use Rattle.std.proofs.Common.{◌≡◌, ◌≤◌, ℕ, ◌∷◌, ◌++◌, [], List, length, true, refl, sym, ap, ◌∙◌, subst, rules, arith}
-use Rattle.std.specs.Bool.{OnTrue}
+use Rattle.std.proofs.Common.{◌≤◌, ℕ}
 use Rattle.segment_plan.specs.declared.plan.Scenario.{Scenario}
-use Rattle.run_record.specs.Session.{session_rows, are_at_rest}
-use Rattle.gateway_run.specs.Serving.{Told, told, Goes, IsServing, left, can_hear}
+use Rattle.gateway_run.specs.Serving.{Told, told, IsServing, left}
 use Rattle.gateway_run.proofs.turn.Serving.poll.Given as goal
 
 abbrev pub invariant-loop-self : goal.invariant-loop-self

@@ -1,8 +1,5 @@
-use Rattle.std.proofs.Common.{◌≡◌, ◌<◌, ◌≤◌, ℕ, ◌∷◌, ◌++◌, [], List, length, true, refl, sym, ap, ◌∙◌, subst, rules, arith}
-use Rattle.std.specs.Bool.{OnTrue}
-use Rattle.segment_plan.specs.declared.plan.Scenario.{Scenario}
-use Rattle.run_record.specs.Session.{session_rows, are_at_rest}
-use Rattle.gateway_run.specs.Serving.{Told, told, Listens, Goes, IsServing, left, can_hear}
+use Rattle.std.proofs.Common.{ℕ, List, refl, ap, ◌∙◌, subst, arith}
+use Rattle.gateway_run.specs.Serving.{Listens}
 use Rattle.ec_outside.specs.declared.port.Heard.{Heard}
 use Rattle.gateway_run.specs.Desk.{Takes}
 use Rattle.std.specs.Prelude.{Err}
@@ -21,7 +18,7 @@ returns-in_ok-take-in-From-clause-goes c = λ plan count first now next h l.
     took plan count first now next c.args.self.now _ c.args.book.now c.take.new.book h c.in-From.peer c.args.self.now.gram.items
     (subst (λ (x : Heard). Listens now next x c.args.self.now.gram.items) c.in-From.is l) r
     (subst (λ (o : List ℕ). Takes c.args.self.now.session.homes c.in-From.peer o c.args.book.now c.take.new.book) c.as_slice-bytes.ensures.value e.heard)
-    (e.sound (omega (arith, fits, few))) e.book e.session refl refl
+    (e.sound (omega (arith, fits, few))) (e.taken (omega (arith, fits, few)) h.on.sound) e.book e.session refl refl
 
 pub returns-in_err-take-in-From-clause-goes : goal.returns-in_err-take-in-From-clause-goes
 returns-in_err-take-in-From-clause-goes c = λ plan count first now next h l.

@@ -1,0 +1,189 @@
+-- What a serving owes its peers, by what it hears and what its session tells.
+use Rattle.std.specs.Prelude.{◌≡◌, ◌≢◌, ℕ, ◌==◌, ◌&&◌, Bool, true, false, not, if◌then◌else◌, List, [], ◌∷◌, ◌++◌, length, map, filter, find, slice_get, All, Option, Some, None, Ok, Err}
+use Rattle.slab.specs.Slab.{Slab}
+use Rattle.ec_outside.specs.Port.{HeardGram}
+use Rattle.mailbox_mail.specs.Mail.{error_of}
+use Rattle.mailbox_mail.specs.declared.mail.Mail.{Mail}
+use Rattle.gateway_core.specs.Framing.{request_in, gram_text}
+use Rattle.gateway_core.specs.Gateway.{judged}
+use Rattle.gateway_core.specs.declared.asker.Asker.{Asker}
+use Rattle.gateway_core.specs.declared.framing.GatewayFault.{GatewayFault}
+use Rattle.master_node.specs.declared.event.Event.{Event}
+use Rattle.master_node.specs.declared.event.Event.TheVariants as events
+use Rattle.master_node.specs.declared.event.Origin.TheVariants as origins
+use Rattle.segment_plan.specs.declared.plan.Scenario.{Scenario}
+use Rattle.run_book.specs.declared.book.GramIn.{GramIn}
+use Rattle.run_book.specs.declared.book.GramOut.{GramOut}
+use Rattle.run_book.specs.declared.book.SentFrame.{SentFrame}
+use Rattle.run_record.specs.Notes.{stations_of}
+use Rattle.run_record.specs.Replay.{behind, IsRecorded}
+use Rattle.gateway_run.specs.Events.{events_of}
+use Rattle.run_record.specs.Session.{SessionState, Asks, first_session}
+use Rattle.gateway_run.specs.declared.desk.Request.{Request}
+
+-- a mail that is owed to who asked by the datagram of that number
+pub record Owing : Type 0 where
+  pub gram : ℕ
+  pub mail : Mail
+
+-- a mail that is owed by a request
+abbrev pub owing : Mail → Request → Owing
+owing mail r = record { gram = r.gram; mail = mail }
+
+-- a request of that key, and one of another
+abbrev pub has_key : ℕ → Request → Bool
+has_key key r = r.key == key
+
+abbrev pub is_other : ℕ → Request → Bool
+is_other key r = not (r.key == key)
+
+-- a request of that slave, and one of another
+abbrev pub is_of : ℕ → Request → Bool
+is_of slave r = r.slave == slave
+
+abbrev pub is_elsewhere : ℕ → Request → Bool
+is_elsewhere slave r = not (r.slave == slave)
+
+-- a request whose mail waits to come into that slave's hand
+abbrev pub waits_at : ℕ → Request → Bool
+waits_at slave r = (r.slave == slave) && not r.begun
+
+-- the oldest mail that waits for a slave came into its hand
+abbrev pub begun_first : ℕ → List Request → List Request
+begun_first slave [] = []
+begun_first slave (r ∷ rs) = if waits_at slave r then (record r { begun = true }) ∷ rs else r ∷ begun_first slave rs
+
+-- those of other keys, and those of other slaves
+abbrev pub others : ℕ → List Request → List Request
+others key rs = filter (is_other key) rs
+
+abbrev pub elsewhere : ℕ → List Request → List Request
+elsewhere slave rs = filter (is_elsewhere slave) rs
+
+-- error 5 is owed to each whose mail waits for a slave
+abbrev pub cut_off : ℕ → List Request → List Owing
+cut_off slave rs = map (owing (error_of 5)) (filter (waits_at slave) rs)
+
+-- THE REQUESTS THAT AREN'T FINISHED behind an event: those of a key end where the session says so, and those of a slave where it is given up
+abbrev pub left_by : Event → List Request → List Request
+left_by (events.Began slave (origins.Gateway number)) rs = begun_first slave rs
+left_by (events.GatewayDone key) rs = others key rs
+left_by (events.GivenUp slave) rs = elsewhere slave rs
+left_by event rs = rs
+
+-- a mail is owed by a request, where there is one
+abbrev pub owed_to : Mail → Option Request → List Owing
+owed_to mail None = []
+owed_to mail (Some r) = owing mail r ∷ []
+
+-- a reply is owed by the request of its key
+abbrev pub replied : Mail → ℕ → List Request → List Owing
+replied mail key rs = owed_to mail (find (has_key key) rs)
+
+-- WHAT AN EVENT OWES: a reply to who asked under its key; where a slave is given up, error 5 to each whose mail waited for it
+abbrev pub owed_by : Event → List Request → List Owing
+owed_by (events.GatewayReply key mail) rs = replied mail key rs
+owed_by (events.GivenUp slave) rs = cut_off slave rs
+owed_by event rs = []
+
+-- the same of events one behind the other
+abbrev pub left_by_all : List Event → List Request → List Request
+left_by_all [] rs = rs
+left_by_all (event ∷ more) rs = left_by_all more (left_by event rs)
+
+abbrev pub owed_by_all : List Event → List Request → List Owing
+owed_by_all [] rs = []
+owed_by_all (event ∷ more) rs = owed_by event rs ++ owed_by_all more (left_by event rs)
+
+-- no request has that key
+abbrev pub IsFree : ℕ → List Request → Type 0
+IsFree key rs = All (λ (r : Request). r.key ≢ key) rs
+
+-- a datagram that is no request: nothing is owed by it
+pub record IsIgnored (s s' : SessionState) (rs rs' : List Request) (octets : List ℕ) (queued : Option ℕ) (more : List Owing) : Type 0 where
+  pub fault : GatewayFault
+  pub request : request_in octets ≡ Err fault
+  pub nowhere : queued ≡ None
+  pub session : s' ≡ s
+  pub requests : rs' ≡ rs
+  pub nothing : more ≡ []
+
+-- one that the gateway answers by itself: one error, the first whose cause is there
+pub record IsRefused (s s' : SessionState) (rs rs' : List Request) (number : ℕ) (octets : List ℕ) (queued : Option ℕ) (more : List Owing) : Type 0 where
+  pub mail : Mail
+  pub detail : ℕ
+  pub unfinished : Slab Asker
+  pub request : request_in octets ≡ Ok mail
+  pub cause : judged unfinished mail (stations_of s.recover s.homes s.notes) ≡ Err detail
+  pub nowhere : queued ≡ None
+  pub session : s' ≡ s
+  pub requests : rs' ≡ rs
+  pub error : more ≡ record { gram = number; mail = error_of detail } ∷ []
+
+-- one whose mail is for a slave at which as many mails wait as may: one error
+pub record IsTooMany (s s' : SessionState) (rs rs' : List Request) (number : ℕ) (octets : List ℕ) (queued : Option ℕ) (more : List Owing) : Type 0 where
+  pub mail : Mail
+  pub key : ℕ
+  pub slave : ℕ
+  pub request : request_in octets ≡ Ok mail
+  pub full : slice_get s.waiting slave ≡ Some 64
+  pub asks : Asks slave key mail s s' false
+  pub nowhere : queued ≡ None
+  pub requests : rs' ≡ rs
+  pub error : more ≡ record { gram = number; mail = error_of 7 } ∷ []
+
+-- one whose mail is asked of the session, for the slave with its station, under a key that no other request has
+pub record IsQueued (s s' : SessionState) (rs rs' : List Request) (number : ℕ) (octets : List ℕ) (queued : Option ℕ) (more : List Owing) : Type 0 where
+  pub mail : Mail
+  pub key : ℕ
+  pub slave : ℕ
+  pub unfinished : Slab Asker
+  pub request : request_in octets ≡ Ok mail
+  pub place : judged unfinished mail (stations_of s.recover s.homes s.notes) ≡ Ok slave
+  pub free : IsFree key rs
+  pub asks : Asks slave key mail s s' true
+  pub there : queued ≡ Some slave
+  pub requests : rs' ≡ rs ++ record { key = key; slave = slave; gram = number; begun = false } ∷ []
+  pub nothing : more ≡ []
+
+-- WHAT BECOMES OF A DATAGRAM: the slave at which it is queued, and what is owed by it at once
+pub data Judges (s s' : SessionState) (rs rs' : List Request) (number : ℕ) (octets : List ℕ) (queued : Option ℕ) (more : List Owing) : Type 0 where
+  ignored : IsIgnored s s' rs rs' octets queued more → Judges s s' rs rs' number octets queued more
+  refused : IsRefused s s' rs rs' number octets queued more → Judges s s' rs rs' number octets queued more
+  too_many : IsTooMany s s' rs rs' number octets queued more → Judges s s' rs rs' number octets queued more
+  queues : IsQueued s s' rs rs' number octets queued more → Judges s s' rs rs' number octets queued more
+
+-- a session behind one frame more
+pub record Moves (s s' : SessionState) (f : SentFrame) : Type 0 where
+  pub recorded : IsRecorded s.ring f
+  pub ring : s'.ring ≡ behind s.ring f.sent
+  pub homes : s'.homes ≡ s.homes
+  pub asked : s'.asked ≡ s.asked
+  pub recover : s'.recover ≡ s.recover
+
+-- THE COURSE OF A SERVING: its session, the frames sent and the datagrams heard until then, the requests that aren't finished, and all that was
+-- ever owed, in order
+pub data Course (plan : Scenario) (count : ℕ) : SessionState → List SentFrame → List GramIn → List Request → List Owing → Type 0 where
+  begins : (s : SessionState) → s ≡ first_session plan count s.master → Course plan count s [] [] [] []
+  hears :
+      (s s' : SessionState) (fs : List SentFrame) (gs : List GramIn) (g : GramIn) (rs rs' : List Request) (os more : List Owing) → Course plan count s fs gs rs os → g.frame ≡ length fs
+      → Judges s s' rs rs' (length gs) g.bytes g.queued more → Course plan count s' fs (gs ++ g ∷ []) rs' (os ++ more)
+  steps :
+      (s s' : SessionState) (fs : List SentFrame) (f : SentFrame) (gs : List GramIn) (rs : List Request) (os : List Owing) → Course plan count s fs gs rs os → Moves s s' f
+      → Course plan count s' (fs ++ f ∷ []) gs (left_by_all (events_of s'.master) rs) (os ++ owed_by_all (events_of s'.master) rs)
+
+-- A MAIL AS IT IS SENT: to the peer of the datagram that it answers, with that datagram's station and counter
+pub record Spells (heard : List HeardGram) (o : Owing) (r : GramOut) : Type 0 where
+  pub gram : HeardGram
+  pub asked : Mail
+  pub number : r.gram ≡ o.gram
+  pub answers : slice_get heard o.gram ≡ Some gram
+  pub request : request_in gram.bytes ≡ Ok asked
+  pub peer : r.peer ≡ gram.from
+  pub text : r.bytes ≡ gram_text (record o.mail { address = asked.address; counter = asked.counter })
+
+-- the datagrams for what is owed, one each, in order
+abbrev pub AreSpelled : List HeardGram → List Owing → List GramOut → Type 0
+AreSpelled heard [] [] = Unit {0}
+AreSpelled heard (o ∷ os) (r ∷ rs) = Spells heard o r × AreSpelled heard os rs
+AreSpelled heard _ _ = ⊥
