@@ -1,5 +1,5 @@
 -- Texts by their length: one that doesn't write so many octets is refused, and what one writes is read.
-use Rattle.std.proofs.Common.{◌≡◌, ℕ, ◌*◌, ◌/◌, ◌%◌, ◌≤◌, ◌==◌, ◌&&◌, nat_le, Bool, true, false, List, length, Option, Some, None, Result, Ok, Err, OnOk, refl, arith, if◌then◌else◌}
+use Rattle.std.proofs.Common.{◌≡◌, ℕ, ◌*◌, ◌/◌, ◌%◌, ◌≤◌, ◌==◌, ◌&&◌, nat_le, Bool, true, false, List, length, Some, None, Result, Ok, Err, OnOk, refl, ap, arith, if◌then◌else◌}
 use Rattle.std.specs.Prelude.{is_ok}
 use Rattle.std.specs.Result.{result_ok}
 use Rattle.std.proofs.lemmas.Bool.{and_parts, eqb-true, leb-true}
@@ -9,6 +9,7 @@ use Rattle.hex.specs.declared.error.FromHexError.{FromHexError}
 use Rattle.hex.proofs.HexLemmas.{decode_of-ok}
 use Rattle.scenario_keys.specs.declared.place.Place.{Place}
 use Rattle.scenario_keys.specs.declared.refusal.Rule.TheVariants.{OutOfRange, NotOctets}
+use Rattle.scenario_keys.specs.declared.refusal.Refusal.{Refusal}
 use Rattle.scenario_keys.specs.declared.refusal.Stop.{Stop}
 use Rattle.scenario_keys.specs.declared.refusal.Stop.TheVariants as stops
 use Rattle.scenario_keys.specs.Reading.{unless_refused, Gives, Fails}
@@ -20,17 +21,18 @@ abbrev pub fit : ℕ → ℕ → ℕ → Bool
 fit least most n = nat_le least n && nat_le n most
 
 pub even : (least most : ℕ) (text : List ℕ) → is_fit least most text ≡ true → length text % 2 ≡ 0
-even least most text h = eqb-true (length text % 2) 0 (and_parts (length text % 2 == 0) (fit least most (length text / 2)) h).0
+even least most text h =
+    let low = (and_parts (length text % 2 == 0 && nat_le least (length text / 2)) (nat_le (length text / 2) most) h).0 in
+    eqb-true (length text % 2) 0 (and_parts (length text % 2 == 0) (nat_le least (length text / 2)) low).0
 
 pub most_half : (least most : ℕ) (text : List ℕ) → is_fit least most text ≡ true → length text / 2 ≤ most
 most_half least most text h =
-    let half = (and_parts (length text % 2 == 0) (fit least most (length text / 2)) h).1 in
-    leb-true (length text / 2) most (and_parts (nat_le least (length text / 2)) (nat_le (length text / 2) most) half).1
+    leb-true (length text / 2) most (and_parts (length text % 2 == 0 && nat_le least (length text / 2)) (nat_le (length text / 2) most) h).1
 
 pub least_half : (least most : ℕ) (text : List ℕ) → is_fit least most text ≡ true → least ≤ length text / 2
 least_half least most text h =
-    let half = (and_parts (length text % 2 == 0) (fit least most (length text / 2)) h).1 in
-    leb-true least (length text / 2) (and_parts (nat_le least (length text / 2)) (nat_le (length text / 2) most) half).0
+    let low = (and_parts (length text % 2 == 0 && nat_le least (length text / 2)) (nat_le (length text / 2) most) h).0 in
+    leb-true least (length text / 2) (and_parts (length text % 2 == 0) (nat_le least (length text / 2)) low).1
 
 pub exact_twice : (least most : ℕ) (text : List ℕ) → is_fit least most text ≡ true → least ≡ most → length text ≡ 2 * least
 exact_twice least most text h same =
@@ -59,6 +61,10 @@ pub unfit_refused : (least most : ℕ) (place : Place) (d : Data) (text : List �
     → text_in place d ≡ Ok text → is_fit least most text ≡ false → Fails stop (octets_in least most place d)
 unfit_refused least most place d text stop told ht unfit = rw told (unfit_told least most place d text (decode_of text) ht refl unfit)
 
+abbrev err_or : {A : Type 0} → Refusal → Result A Refusal → Refusal
+err_or d (Ok x) = d
+err_or d (Err e) = e
+
 ok_of : (r : Result (List ℕ) FromHexError) (x : List ℕ) → result_ok r ≡ Some x → r ≡ Ok x
 ok_of (Ok y) x h = cc h
 ok_of (Err e) x h = cc h
@@ -71,7 +77,7 @@ given least most place d text out true (Ok done) ht hd fits hg =
 given least most place d text out true (Err (stops.Refused e)) ht hd fits hg = cc hg
 given least most place d text out true (Err stops.NoMemory) ht hd fits hg = tt
 given least most place d text out false (Ok done) ht hd fits hg = cc hg
-given least most place d text out false (Err (stops.Refused e)) ht hd fits hg = rw (ht, hd) hg
+given least most place d text out false (Err (stops.Refused e)) ht hd fits hg = rw (ht, hd) (ap Err (ap (err_or e) hg))
 given least most place d text out false (Err stops.NoMemory) ht hd fits hg = tt
 
 pub given_least : (least most : ℕ) (place : Place) (text out : List ℕ) (b : Bool) (r : Result (Unit {0}) Stop)

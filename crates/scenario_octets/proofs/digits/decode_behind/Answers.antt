@@ -1,6 +1,6 @@
-use Rattle.std.proofs.Common.{◌+◌, ◌*◌, ◌<◌, ◌⊎◌, inl, inr, slice_index, length, [], ◌∷◌, arith}
+use Rattle.std.proofs.Common.{◌+◌, ◌*◌, ◌<◌, ◌⊎◌, inl, inr, slice_index, [], ◌∷◌, arith}
 use Rattle.std.proofs.lemmas.List.{length-append}
-use Rattle.scenario_octets.proofs.Pairs.{pair_read, pair_bad, begun, goes_on, stops, ends}
+use Rattle.scenario_octets.proofs.Pairs.{pair_read, pair_bad, goes_on, stops, ends}
 use Rattle.scenario_octets.proofs.digits.decode_behind.Goals.{then-high-gt15-via-then-high-gt15, then-high-gt15-via-else-high-gt15+then-low-gt15}
 use Rattle.scenario_octets.proofs.digits.decode_behind.Goals as goal
 
