@@ -34,7 +34,7 @@ pub fn plain_slave(
     let boot = bool_or_false(table, "boot", place)?;
     let start = start(table, boot, place)?;
     let blocks = integer_or(table, "blocks", 64, 1, 1024, place)?;
-    let mac = mac(alloc, table, served.eoe, place)?;
+    let mac = mac(table, served.eoe, place)?;
     let fixed_ip = bool_or_false(table, "fixed_ip", place)?;
     Ok(SlaveSpec {
         name: Octets::copy_of(alloc, name.as_bytes())?,
