@@ -93,12 +93,7 @@ impl Notes {
     }
 
     /// The next service of the script came into hand, by mails or a change of state; the one with this number follows.
-    pub fn began_script(
-        &mut self,
-        number: u32,
-        mails: bool,
-        frame: u32,
-    ) -> Result<(), NoMemory>
+    pub fn began_script(&mut self, number: u32, mails: bool, frame: u32) -> Result<(), NoMemory>
         ensures is { OnOk result (self.new ≡ the.began_script self.old number mails frame) }
         ensures gave { self.new.gave ≡ self.old.gave }
     {

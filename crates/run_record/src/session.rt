@@ -321,8 +321,7 @@ impl Session {
         let frame = self.number;
         self.master.next(&mut self.sent);
         let before = Moment { frame, sent: frame };
-        self.log
-            .note_before(alloc, &self.master, before, book)?;
+        self.log.note_before(alloc, &self.master, before, book)?;
         let fate = self.ring.exchange(&self.sent, &mut self.back);
         self.number += 1;
         put_frame(alloc, &self.sent, fate, &self.back, book)?;
