@@ -166,6 +166,19 @@ IsFrame-set octets new part adp counter front d behind fits fits' is f place hea
       named = was.named;
     }) refl refl
 
+-- ADP and counter of a part written as they stand
+pub set_same : (octets : List ℕ) (part : Part) → IsPart octets part → octets_set octets part part.head.adp part.head.counter ≡ octets
+set_same octets part p =
+    let d = p.datagram in
+    let len : part.head.len ≡ length d.body = ap (λ (h : Head). h.len) p.head ∙ sym (each_at p.front p.behind d p.frame.datagrams).sized.body in
+    let parted = frame_parted octets p.front p.behind d p.frame in
+    let begins = p.place ∙ sym (length-front_of octets (p.front ++ d ∷ p.behind) p.front p.frame) in
+    ap (λ (h : Head). number_put 2 (number_put 2 octets (part.at + 2) h.adp) (part.at + (10 + part.head.len)) h.counter) p.head
+    ∙ ap (λ (n : ℕ). number_put 2 (number_put 2 octets (part.at + 2) d.head.adp) (part.at + (10 + n)) d.head.counter) len
+    ∙ ap (λ (t : List ℕ). number_put 2 (number_put 2 t (part.at + 2) d.head.adp) (part.at + (10 + length d.body)) d.head.counter) parted
+    ∙ set_here (front_of octets (p.front ++ d ∷ p.behind) p.front p.frame) d (text_of p.behind ++ p.frame.padding) part.at d.head.adp d.head.counter begins
+    ∙ sym parted
+
 body_between : (front ten old body rest : List ℕ) (at : ℕ) → length ten ≡ 10 → at ≡ length front
     → take (at + 10) (front ++ (ten ++ (old ++ rest))) ++ (body ++ drop (at + 10 + length old) (front ++ (ten ++ (old ++ rest))))
     ≡ front ++ (ten ++ (body ++ rest))

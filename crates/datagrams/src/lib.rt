@@ -14,5 +14,5 @@ pub use command::Command;
 pub use frame::{Frame, FrameBuf, FrameFault, Part};
 pub use head::Head;
 pub use passing::{Passage, pass};
-pub use reading::{fault, first, next, read};
+pub use reading::{fault, first, next, part_at, read};
 pub use writing::{Body, add, add_with, begin, finish, room, set};

@@ -1,7 +1,7 @@
 ghost use Rattle.std.specs.Prelude.{◌≡◌, ℕ, ◌+◌, ◌<◌, ◌≤◌, ◌^◌, List, ◌∷◌, ◌++◌, length, take, drop, slice_get, Some, Err, IfOk, IfSome, IfNone, All};
 ghost use Rattle.std.specs.Option.{option_to_list};
 ghost use Rattle.datagrams.specs.Datagram.{Datagram, is_cut, size_of, body_length, head_read};
-ghost use Rattle.datagrams.specs.Frame.{IsFrame, IsPart, text_of, parts_of, part_from, parts_within, frame_of, frame_read, FaultIs};
+ghost use Rattle.datagrams.specs.Frame.{IsFrame, IsPart, text_of, parts_of, part_at, part_from, parts_within, frame_of, frame_read, FaultIs};
 
 use crate::frame::{Frame, FrameFault, Part};
 use crate::head::{BESIDE_BODY, Head, body_len, head_at};
@@ -134,6 +134,17 @@ fn head_in(bytes: &[u8], at: usize) -> Head
     ensures { result ≡ head_read (drop at bytes.now) }
 {
     head_at(&bytes[at..])
+}
+
+/// The datagram at a place of a frame that reads.
+pub fn part_at(bytes: &[u8], at: usize) -> Part
+    requires { IsPart bytes.now (part_at at (drop at bytes.now)) }
+    ensures { result ≡ part_at at (drop at bytes.now) }
+{
+    Part {
+        at,
+        head: head_in(bytes, at),
+    }
 }
 
 /// The first datagram of a frame that reads.

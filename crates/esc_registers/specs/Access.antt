@@ -1,4 +1,4 @@
-use Rattle.std.specs.Prelude.{◌≡◌, ℕ, Bool, true, false, ◌+◌, ◌%◌, ◌==◌, ◌&&◌, not, if◌then◌else◌, List, [], ◌∷◌, ◌++◌, length, slice_index, Option, Some, None, is_some, unwrap_or}
+use Rattle.std.specs.Prelude.{◌≡◌, ℕ, Bool, true, false, ◌+◌, ◌%◌, ◌==◌, ◌&&◌, ◌||◌, not, if◌then◌else◌, List, [], ◌∷◌, ◌++◌, length, slice_index, Option, Some, None, is_some, unwrap_or}
 use Rattle.byteorder.specs.Endian.{little_bytes}
 use Rattle.ec_fields.specs.Fields.{number_at}
 use Rattle.datagrams.specs.declared.command.Command.{Command}
@@ -151,6 +151,10 @@ accessed r row reading writing body =
 -- the slave is meant by its place, or by its station
 abbrev pub is_meant : Registers → Head → Bool
 is_meant r h = if is_by_place h.command then h.adp == 0 else is_by_station h.command && h.adp == r.station
+
+-- the slave is meant, or counts its place: all other datagrams leave it, and it them, as they are
+abbrev pub is_concerned : Registers → Head → Bool
+is_concerned r h = is_by_place h.command || is_meant r h
 
 -- the head on its way on: every slave counts the place of commands 1 to 3
 abbrev pub moved_on : Head → Head

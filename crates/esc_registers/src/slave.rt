@@ -1,6 +1,6 @@
 ghost use Rattle.std.specs.Prelude.{◌≡◌, true, false, ◌+◌, ◌≤◌, length, if◌then◌else◌, Some, None, IfOk};
 ghost use Rattle.std.specs.Option.{option_copied};
-ghost use Rattle.esc_registers.specs.Access.{is_meant, moved_on, access, KeepsLengths};
+ghost use Rattle.esc_registers.specs.Access.{is_meant, is_concerned, moved_on, access, KeepsLengths};
 ghost use Rattle.mailbox_mail.specs.Area.{mail_area};
 ghost use Rattle.esc_registers.specs.Manager.{is_repeat_bit, is_repeat_asked};
 ghost use Rattle.esc_registers.specs.Registers.{first_manager, first_registers, are_areas_right};
@@ -76,6 +76,13 @@ impl Esc {
                 in_manager,
             },
         })
+    }
+
+    /// Whether a datagram means the slave or has its place counted by it. [`Esc::pass`] of any other changes nothing.
+    pub fn is_concerned(&self, head: &Head) -> bool
+        ensures { result ≡ is_concerned self.now head.now }
+    {
+        is_by_place(head.command) || self.registers.is_meant(head)
     }
 
     /// A datagram passes the slave (ETG.1000.4, 5.4 and 6): where it means the slave and an access of

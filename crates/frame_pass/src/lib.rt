@@ -10,8 +10,14 @@ ghost use Rattle.frame_pass.specs.Passing.{part_passed, frame_passed, replaced, 
 use datagrams::{FrameBuf, Head, Part};
 use esc_registers::Esc;
 
+// Where the first datagram of a frame stands.
+const FIRST: usize = 16;
+
 // The octets of a datagram before its body.
 const FRONT: usize = 10;
+
+// The octets of a datagram beside its body.
+const BESIDE_BODY: usize = 12;
 
 // The access of one datagram, its body in place.
 fn pass_body(esc: &mut Esc, head: &mut Head, octets: &mut [u8], from: usize)
@@ -43,8 +49,17 @@ fn body_place(frame: &FrameBuf, part: &Part) -> usize
     part.at + FRONT
 }
 
-// One datagram of a frame that reads passes.
-fn pass_part(esc: &mut Esc, frame: &mut FrameBuf, part: &Part)
+// Where the octets behind a datagram begin that lies within the frame.
+fn place_behind(frame: &FrameBuf, part: &Part) -> usize
+    requires { part.now.at + (12 + part.now.head.len) ≤ length frame.now.items }
+    ensures { result ≡ part.now.at + (12 + part.now.head.len) }
+{
+    let _octets = frame.len();
+    part.at + (BESIDE_BODY + part.head.len as usize)
+}
+
+// One datagram of a frame that reads is carried out.
+fn carry_out(esc: &mut Esc, frame: &mut FrameBuf, part: &Part)
     requires { IsPart frame.old.items part.now }
     ensures passes { PartPasses esc.old esc.new frame.old.items frame.new.items part.now }
     ensures exact { (esc.new, frame.new.items) ≡ part_passed esc.old frame.old.items part.now }
@@ -56,21 +71,35 @@ fn pass_part(esc: &mut Esc, frame: &mut FrameBuf, part: &Part)
     datagrams::set(frame, part, head.adp, head.counter);
 }
 
-// The datagrams of a frame that reads pass, in order.
+// One datagram of a frame that reads passes. Nothing of it is written where it concerns another slave.
+fn pass_part(esc: &mut Esc, frame: &mut FrameBuf, part: &Part)
+    requires { IsPart frame.old.items part.now }
+    ensures passes { PartPasses esc.old esc.new frame.old.items frame.new.items part.now }
+    ensures exact { (esc.new, frame.new.items) ≡ part_passed esc.old frame.old.items part.now }
+    ensures lengths { KeepsLengths esc.old esc.new }
+{
+    if esc.is_concerned(&part.head) {
+        carry_out(esc, frame, part);
+    }
+}
+
+// The datagrams of a frame that reads pass, in order. The walk keeps the place of a datagram alone: of one that
+// concerns another slave no more is read than says so.
 fn pass_parts(esc: &mut Esc, frame: &mut FrameBuf)
     requires { (ds : List Datagram) × IsFrame frame.old.items ds }
     ensures passes { (ds : List Datagram) → IsFrame frame.old.items ds → IsPassed esc.old esc.new frame.new.items ds }
     ensures exact { (esc.new, frame.new.items) ≡ frame_passed esc.old frame.old.items }
     ensures lengths { KeepsLengths esc.old esc.new }
 {
-    let mut part = datagrams::first(frame.as_slice());
+    let mut at = FIRST;
     'datagrams: loop {
-        let behind = datagrams::next(frame.as_slice(), &part);
+        let part = datagrams::part_at(frame.as_slice(), at);
+        let later = place_behind(frame, &part);
         pass_part(esc, frame, &part);
-        let Some(later) = behind else {
+        if !part.head.more {
             return;
-        };
-        part = later;
+        }
+        at = later;
     }
 }
 

@@ -1,6 +1,6 @@
 use Rattle.datagrams.proofs.Changing.{IsPart-inside}
 use Rattle.frame_pass.proofs.Parts.{inside, part_with, one_passed, exact_passed}
-use Rattle.frame_pass.proofs.pass_part.Goals as goal
+use Rattle.frame_pass.proofs.carry_out.Goals as goal
 
 pub body_place-from-requires : goal.body_place-from-requires
 body_place-from-requires c = IsPart-inside c.args.frame.now.items c.args.part.now c.requires
