@@ -1,4 +1,3 @@
-mod Walking
 pub mod Building
 pub mod Changing
 pub mod Drafting
@@ -7,3 +6,4 @@ pub mod Header
 pub mod Meeting
 pub mod Spelled
 pub mod Steps
+pub mod Walking

@@ -49,7 +49,7 @@ part_is old now before octets part all ds f =
     record { front = p.front; datagram = p.datagram; behind = p.behind; frame = p.frame; place = p.place; head = p.head }
 
 -- a datagram behind the slave has its size
-sized : (now : Registers) (octets new_octets : List ℕ) (front : List Datagram) (d : Datagram) (behind : List Datagram) → IsFrame octets (front ++ d ∷ behind) → IsFrame new_octets (front ++ datagram_after now d ∷ behind) → size_of (datagram_after now d) ≡ size_of d
+pub sized : (now : Registers) (octets new_octets : List ℕ) (front : List Datagram) (d : Datagram) (behind : List Datagram) → IsFrame octets (front ++ d ∷ behind) → IsFrame new_octets (front ++ datagram_after now d ∷ behind) → size_of (datagram_after now d) ≡ size_of d
 sized now octets new_octets front d behind f g =
     let e = datagram_after now d in
     let was : length d.body ≡ d.head.len = (each_at front behind d f.datagrams).sized.body in
@@ -150,10 +150,6 @@ shrinks old now new before octets new_octets part later all all_new next ds f =
 
 pub kept_twice : (a b c : Registers) → KeepsLengths a b → KeepsLengths b c → KeepsLengths a c
 kept_twice a b c x y = record { outward = y.outward ∙ x.outward; inward = y.inward ∙ x.inward }
-
--- what the call says of the octets that it was lent
-pub next_of : (octets slice : List ℕ) (part : Part) (found later : Option Part) → slice ≡ octets → found ≡ later → NextIs slice part found → NextIs octets part later
-next_of octets slice part found later same is next = subst (λ r. NextIs octets part r) is (subst (λ o. NextIs o part found) same next)
 
 -- octets with a fault are no frame
 pub unread : (octets slice : List ℕ) (r : Option FrameFault) → slice ≡ octets → IfSome r (λ fault. frame_read slice ≡ Err fault) → is_some r ≡ true → (ds : List Datagram) → IsFrame octets ds → ⊥
