@@ -53,9 +53,14 @@ fn mails_are_written_and_read(rt: HostRuntime) -> Result<(), Fail> {
         };
         let mut area = [0xEE; 64];
         write(&mail, &mut area);
-        assert!(rt; octets.len() <= 64);
+        assert!(rt; octets.len() == body.len() + 6);
         assert_eq!(rt; &area[..octets.len()], octets);
         assert!(rt; area[octets.len()..].iter().all(|octet| *octet == 0));
+        let mut in_place = [0xEE; 64];
+        in_place[6..octets.len()].copy_from_slice(body);
+        write_head(mail.head(), body.len(), &mut in_place);
+        assert_eq!(rt; &in_place[..octets.len()], octets);
+        assert!(rt; in_place[octets.len()..].iter().all(|octet| *octet == 0xEE));
         let mut kept = Ok(error_mail(1));
         read_into(&area, &mut kept);
         assert_eq!(rt; kept.as_ref(), Ok(&mail));

@@ -3,9 +3,9 @@ ghost use Rattle.byteorder.specs.Endian.{little_bytes};
 ghost use Rattle.mailbox_mail.specs.Mail.{mail_text};
 ghost use Rattle.gateway_core.specs.Framing.{request_in, request_seen, length_read, gram_text};
 
-use ec_fields::{bits, buffer_of, u16_at};
+use ec_fields::{bits, u16_at};
 use ec_outside::Gram;
-use mailbox_mail::{HEADER, Mail, MailView, view};
+use mailbox_mail::{HEADER, Mail, MailHead, MailView, view, write_head};
 
 /// The octets of the frame header in front of the mail.
 const FRAME_HEADER: usize = 2;
@@ -66,12 +66,20 @@ pub fn gateway_write(mail: &[u8], into: &mut Gram)
     requires { length mail.now ≤ 1486 }
     ensures { into.new.items ≡ little_bytes 2 (20480 + length mail.now) ++ mail.now }
 {
-    let word = (MAILBOX << 12) + mail.len() as u16;
+    begin(mail.len(), into);
+    append(into, mail);
+}
+
+// A frame header of type 5 before this many octets, and nothing else.
+fn begin(len: usize, into: &mut Gram)
+    requires { len ≤ 1486 }
+    ensures { into.new.items ≡ little_bytes 2 (20480 + len) }
+{
+    let word = (MAILBOX << 12) + len as u16;
     let [low, high] = word.to_le_bytes();
     into.clear();
     into.push(low);
     into.push(high);
-    append(into, mail);
 }
 
 // Appends octets that fit.
@@ -90,14 +98,14 @@ pub(crate) fn write_to(mail: &Mail, station: u16, counter: u8, into: &mut Gram)
     requires { counter ≤ 7 }
     ensures { into.new.items ≡ gram_text (record mail.now { address = station; counter = counter }) }
 {
-    let addressed = Mail {
+    let len = mail.body.len();
+    let head = MailHead {
         address: station,
         kind: mail.kind,
         counter,
-        body: buffer_of(mail.body.as_slice()),
     };
-    let mut octets = [0u8; 1486];
-    let area = &mut octets[..HEADER + addressed.body.len()];
-    mailbox_mail::write(&addressed, area);
-    gateway_write(area, into);
+    begin(HEADER + len, into);
+    append(into, &[0; HEADER]);
+    append(into, mail.body.as_slice());
+    write_head(head, len, &mut into.as_mut_slice()[FRAME_HEADER..]);
 }

@@ -1,8 +1,8 @@
-use Rattle.std.proofs.Common.{◌≡◌, ◌∙◌, ap, refl, ℕ, ◌+◌, ◌-◌, ◌*◌, ◌/◌, ◌%◌, ◌<◌, ◌≤◌, Bool, true, false, ◌||◌, nat_lt, if◌then◌else◌, is_none, List, ◌∷◌, ◌++◌, length, take, drop, slice_index, Option, Some, None, Ok, Err, IfOk, MatchResult, arith, length-append}
+use Rattle.std.proofs.Common.{◌≡◌, ◌∙◌, ap, sym, drop-drop, refl, ℕ, ◌+◌, ◌-◌, ◌*◌, ◌/◌, ◌%◌, ◌<◌, ◌≤◌, Bool, true, false, ◌||◌, nat_lt, if◌then◌else◌, is_none, List, ◌∷◌, ◌++◌, length, take, drop, slice_index, Option, Some, None, Ok, Err, IfOk, MatchResult, arith, length-append}
 use Rattle.std.proofs.lemmas.Bool.{le-ltb}
 use Rattle.std.proofs.lemmas.Bool.Decides.{nat_tests}
 use Rattle.std.proofs.lemmas.Grind.{common_steps}
-use Rattle.std.proofs.lemmas.List.{length-take-le, take-append-drop}
+use Rattle.std.proofs.lemmas.List.{length-take-le, length-drop, take-append-drop}
 use Rattle.std.proofs.Math.Seq.{take-append_seam}
 use Rattle.byteorder.specs.Endian.{little_bytes}
 use Rattle.ec_fields.specs.Fields.{number_at}
@@ -11,7 +11,9 @@ use Rattle.mailbox_mail.specs.Kind.{code_of, kind_of}
 use Rattle.mailbox_mail.specs.Mail.{mail_text, IsMail, type_in, is_past, fault_of, mail_in, mail_of, mail_read}
 use Rattle.mailbox_mail.specs.declared.mail.Kind.{Kind}
 use Rattle.mailbox_mail.specs.declared.mail.Kind.TheVariants.{Error, AoE, EoE, CoE, FoE, SoE, VoE}
+use Rattle.mailbox_mail.specs.Head.{head_text, mail_behind}
 use Rattle.mailbox_mail.specs.declared.mail.Mail.{Mail}
+use Rattle.mailbox_mail.specs.declared.mail.MailHead.{MailHead}
 use Rattle.mailbox_mail.specs.declared.mail.MailFault.TheVariants.{Short, LengthPastArea, UnknownKind}
 
 -- a number that stands for a protocol is that protocol's number
@@ -142,3 +144,33 @@ exact_by area false false (Some kind) = refl
 
 pub read-exact : (area : List ℕ) → MatchResult (mail_read area) (λ _. fault_of area ≡ None) (λ e. fault_of area ≡ Some e)
 read-exact area = exact_by area (nat_lt (length area) 6) (is_past area) (kind_of (type_in area))
+
+-- a header in front of a body that stands behind it makes the octets of a mail, and what is behind the body stays
+pub head-octets :
+    (head : MailHead) (len : ℕ) (area after : List ℕ) → 6 + len ≤ length area → after ≡ head_text head len ++ drop 6 area
+    → after ≡ mail_text 0 0 (mail_behind head len area) ++ drop (6 + len) area
+head-octets head len area after fits is =
+    let tail : List ℕ = drop 6 area in
+    let body : List ℕ = take len tail in
+    let inside : len ≤ length tail = omega (arith, fits, length-drop 6 area) in
+    let count : length body ≡ len = length-take-le len tail inside in
+    let split : body ++ drop (6 + len) area ≡ tail = ap (λ l. body ++ l) (sym (drop-drop len 6 area)) ∙ take-append-drop len tail in
+    let mark : ℕ = code_of head.kind + 16 * head.counter in
+    is ∙ join (len % 256) (len / 256 % 256) (head.address % 256) (head.address / 256 % 256) 0 mark (length body) head.address (mark + 128 * 0) tail body
+    (drop (6 + len) area) (ap (λ n. n % 256) count) (ap (λ n. n / 256 % 256) count) refl refl (omega arith) split
+
+-- so it is a spelling of that mail
+pub head-spelled :
+    (head : MailHead) (len : ℕ) (area after : List ℕ) → 6 + len ≤ length area → head.address < 65536 → head.counter ≤ 7 → len ≤ 1480
+    → after ≡ head_text head len ++ drop 6 area → IsMail after (mail_behind head len area)
+head-spelled head len area after fits addressed counted within is =
+    record {
+      channel = 0;
+      top = 0;
+      rest = drop (6 + len) area;
+      octets = head-octets head len area after fits is;
+      one_bit = omega arith;
+      addressed = addressed;
+      counted = counted;
+      fits = omega (arith, within, length-take-le len (drop 6 area) (omega (arith, fits, length-drop 6 area)));
+    }

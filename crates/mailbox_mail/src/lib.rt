@@ -7,7 +7,7 @@ mod outcome;
 mod reading;
 mod writing;
 
-pub use mail::{BODY, HEADER, Kind, Mail, MailFault, MailView, error_mail, next_counter};
+pub use mail::{BODY, HEADER, Kind, Mail, MailFault, MailHead, MailView, error_mail, next_counter};
 pub use outcome::{ReplyKind, Took};
 pub use reading::{mail_of, read, read_into, view};
-pub use writing::write;
+pub use writing::{write, write_head};

@@ -2,6 +2,7 @@ ghost use Rattle.std.specs.Prelude.{◌≡◌, ◌≤◌};
 ghost use Rattle.mailbox_mail.specs.Kind.{code_of, kind_of};
 ghost use Rattle.mailbox_mail.specs.Counter.{counter_behind};
 ghost use Rattle.mailbox_mail.specs.Mail.{error_of};
+ghost use Rattle.mailbox_mail.specs.Head.{head_of};
 
 use arrayvec::ArrayVec;
 
@@ -74,6 +75,30 @@ pub struct Mail {
     pub counter: u8,
     /// The octets of the service, at most 1,480.
     pub body: ArrayVec<u8, 1480>,
+}
+
+/// What a mail's header says but the length of the body (ETG.1000.4, "Mailbox header").
+#[derive(Clone, Copy, Debug, PartialEq, Eq)]
+pub struct MailHead {
+    /// The station address; 0 on the segment.
+    pub address: u16,
+    /// The protocol of the body.
+    pub kind: Kind,
+    /// 1 to 7; 0 stands for none.
+    pub counter: u8,
+}
+
+impl Mail {
+    /// The head of this mail.
+    pub fn head(&self) -> MailHead
+        ensures { result ≡ head_of self.now }
+    {
+        MailHead {
+            address: self.address,
+            kind: self.kind,
+            counter: self.counter,
+        }
+    }
 }
 
 /// One mail as it stands in an area: its header, and its body where it lies.
