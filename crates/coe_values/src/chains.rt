@@ -1,4 +1,4 @@
-ghost use Rattle.std.specs.Prelude.{◌≡◌, ℕ, ◌+◌, ◌-◌, ◌≤◌, [], ◌++◌, length, take, drop, min, Option, Some, None};
+ghost use Rattle.std.specs.Prelude.{◌≡◌, ℕ, ◌+◌, ◌≤◌, [], ◌++◌, length, take, drop, Option, Some, None};
 ghost use Rattle.block_pool.specs.Region.{chain_of};
 ghost use Rattle.coe_values.specs.Chains.{octets_at, IsSound, AreChains, Holds};
 
@@ -68,18 +68,6 @@ pub fn len(pool: &Pool, chain: &Option<ChainId>) -> usize
     match chain {
         None => 0,
         Some(id) => pool.len(id),
-    }
-}
-
-/// Copies the octets of the chain from a place on, as many as there are and fit, and says how many.
-pub fn read_at(pool: &Pool, chain: &Option<ChainId>, at: usize, into: &mut [u8]) -> usize
-    requires { IsSound pool.now chain.now }
-    ensures count { result ≡ min (length (octets_at pool.now chain.now) - at) (length into.old) }
-    ensures copied { into.new ≡ take result (drop at (octets_at pool.now chain.now)) ++ drop result into.old }
-{
-    match chain {
-        None => 0,
-        Some(id) => pool.read_at(id, at, into),
     }
 }
 

@@ -1,10 +1,10 @@
-ghost use Rattle.std.specs.Prelude.{◌≡◌, ◌+◌, ◌-◌, ◌≤◌, [], ◌++◌, length, take, drop, min, IfOk};
+ghost use Rattle.std.specs.Prelude.{◌≡◌, ◌+◌, ◌-◌, ◌≤◌, [], ◌++◌, length, take, drop, IfOk};
 ghost use Rattle.coe_values.specs.Slots.{octets_in, put};
 
 use crate::chains;
 use arrayvec::ArrayVec;
 use block_pool::{ChainId, Pool};
-use ec_fields::{NoMemory, Transfer, buffer_of};
+use ec_fields::{NoMemory, Transfer};
 use std::alloc::Global;
 use std::marker::Model;
 
@@ -86,25 +86,14 @@ impl Values {
         }
     }
 
-    // Copies the octets of a value from a place on, as many as there are and fit, and says how many.
-    fn read_at(&self, slot: Slot, at: usize, into: &mut [u8]) -> usize
-        ensures count { result ≡ min (length (octets_in slot self.now) - at) (length into.old) }
-        ensures copied { into.new ≡ take result (drop at (octets_in slot self.now)) ++ drop result into.old }
-    {
-        match slot {
-            Slot::Value => chains::read_at(&self.pool, &self.value, at, into),
-            Slot::Told => chains::read_at(&self.pool, &self.told, at, into),
-        }
-    }
-
     /// The octets of a value from a place on, at most so many. It costs the octets copied, and not the way to their place.
     pub fn part<const CAP: usize>(&self, slot: Slot, at: usize, most: usize) -> ArrayVec<u8, CAP>
         requires { most ≤ CAP }
         ensures { result.items ≡ take most (drop at (octets_in slot self.now)) }
     {
-        let mut octets = [0; CAP];
-        let count = self.read_at(slot, at, &mut octets[..most]);
-        buffer_of(&octets[..count])
+        let mut octets = ArrayVec::new();
+        self.append_to(slot, at, most, &mut octets);
+        octets
     }
 
     /// Appends to a buffer the octets of a value from a place on, at most so many. It costs the octets appended.
