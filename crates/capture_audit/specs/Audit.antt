@@ -82,6 +82,7 @@ station_of sent = sent.head.adp
 abbrev pub seat_of : ℕ → List Seat → Seat
 seat_of station seats = row_of (λ s. s.station) (new_seat station) station seats
 
+-- and that changed
 abbrev pub seat_changed : (Seat → Seat) → ℕ → List Seat → List Seat
 seat_changed f station seats = changed_at (λ s. s.station) (new_seat station) f station seats
 

@@ -21,5 +21,6 @@ pub record IsMetAs {V : Type 0} (lens : ℕ → Lens) (r : Esc.Registers) (k : K
   pub stays : IsOpen lens p.registers
   pub station : p.registers.station ≡ r.station
 
+-- so is the datagram as it meets the slave
 abbrev pub IsMet : {V : Type 0} → (ℕ → Lens) → Esc.Registers → Kept → Serving V Body → Raw.Datagram → Type 0
 IsMet lens r k v d = IsMetAs lens r k v d (passed r d)

@@ -33,6 +33,7 @@ pub record IsAnswer {M : Type 0} (d e : Datagram M) : Type 0 where
   pub ask : e.gram.ask ≡ d.gram.ask
   pub access : e.access ≡ d.access
 
+-- each of a frame, in order
 abbrev pub AreAnswers : {M : Type 0} → List (Datagram M) → List (Datagram M) → Type 0
 AreAnswers [] [] = ⊤
 AreAnswers (d ∷ ds) (e ∷ es) = IsAnswer d e × AreAnswers ds es

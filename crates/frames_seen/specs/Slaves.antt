@@ -12,6 +12,7 @@ use Rattle.link_mails.specs.Body.{Body}
 use Rattle.segment_model.specs.Slaves.{Registers, Slave, Serving}
 use Rattle.frame_view.specs.View.{Lens}
 
+-- the registers of a slave as a session sees them
 abbrev pub registers_seen : Esc.Registers → Registers
 registers_seen r = record {
   station = r.station;

@@ -40,6 +40,7 @@ judged_at g mail (Some place) =
     then (if nat_lt place.1 (6 + length mail.body.items) then Err 8 else if nat_le 64 (unfinished_at place.0 g) then Err 7 else Ok place.0)
     else Err 2
 
+-- the slave that a request is for, found by its station, or the mailbox error that it gets
 abbrev pub judged : Slab Asker → Mail → List (Option (ℕ × ℕ)) → Result ℕ ℕ
 judged g mail stations = judged_at g mail (place_from 0 mail.address stations)
 

@@ -34,6 +34,7 @@ owing mail r = record { gram = r.gram; mail = mail }
 abbrev pub has_key : ℕ → Request → Bool
 has_key key r = r.key == key
 
+-- one of another key
 abbrev pub is_other : ℕ → Request → Bool
 is_other key r = not (r.key == key)
 
@@ -41,6 +42,7 @@ is_other key r = not (r.key == key)
 abbrev pub is_of : ℕ → Request → Bool
 is_of slave r = r.slave == slave
 
+-- one of another slave
 abbrev pub is_elsewhere : ℕ → Request → Bool
 is_elsewhere slave r = not (r.slave == slave)
 
@@ -57,6 +59,7 @@ begun_first slave (r ∷ rs) = if waits_at slave r then (record r { begun = true
 abbrev pub others : ℕ → List Request → List Request
 others key rs = filter (is_other key) rs
 
+-- those of other slaves
 abbrev pub elsewhere : ℕ → List Request → List Request
 elsewhere slave rs = filter (is_elsewhere slave) rs
 
@@ -91,6 +94,7 @@ abbrev pub left_by_all : List Event → List Request → List Request
 left_by_all [] rs = rs
 left_by_all (event ∷ more) rs = left_by_all more (left_by event rs)
 
+-- what these events make owed
 abbrev pub owed_by_all : List Event → List Request → List Owing
 owed_by_all [] rs = []
 owed_by_all (event ∷ more) rs = owed_by event rs ++ owed_by_all more (left_by event rs)

@@ -55,5 +55,6 @@ abbrev pub IsJudged : List (ℕ × ℕ) → List ℕ → Option ℕ → Type 0
 IsJudged homes octets None = Unit {0}
 IsJudged homes octets (Some slave) = IsPassedOn homes octets slave
 
+-- so it is with what the book says of each datagram
 abbrev pub IsRightly : List (ℕ × ℕ) → GramIn → Type 0
 IsRightly homes g = IsJudged homes g.bytes g.queued

@@ -19,6 +19,7 @@ abbrev pub deadline_of : ℕ → Standing → Option Way → ℕ
 deadline_of slaves s None = 0
 deadline_of slaves s (Some w) = w.rest + (if is_vain w s.stepped then s.clock + slaves else suc s.ahead)
 
+-- of the repair that it is at, if any
 abbrev pub deadline : ℕ → Standing → ℕ
 deadline slaves s = deadline_of slaves s s.way
 

@@ -22,6 +22,7 @@ abbrev pub awaited_behind : Bool → ℕ → ℕ
 awaited_behind true step = (if nat_lt step 2 then 1 else 0) + (if nat_lt step 9 then 1 else 0)
 awaited_behind false step = if nat_lt step 5 then 1 else 0
 
+-- how many accesses of an opening come behind this one
 abbrev pub accesses_behind : Bool → ℕ → ℕ
 accesses_behind true step = 9 - step
 accesses_behind false step = 5 - step
@@ -30,6 +31,7 @@ accesses_behind false step = 5 - step
 abbrev pub opening_rest : ℕ → ℕ → Bool → ℕ → ℕ
 opening_rest slaves pace again step = accesses_behind again step * slaves + awaited_behind again step * pace
 
+-- the way of an opening that is left
 abbrev pub opening_way : ℕ → ℕ → Opening → Way
 opening_way slaves pace o = record { rest = opening_rest slaves pace o.again o.step; awaits = awaits_at o.again o.step }
 
@@ -61,6 +63,7 @@ pub record IsAt {M Q R : Type 0} (l : Life M Q R) (o : Opening) : Type 0 where
   pub last : o.step ≤ last_step o
   pub new : (o.again ≡ true → 3 ≤ o.step) → l.era.side.halves.inn.state ≡ InState.Clear
 
+-- how a life stands to what it has come to
 abbrev pub StandsAt : {M Q R : Type 0} → Life M Q R → Stand → Type 0
 StandsAt l (Stand.Opens o) = IsAt l o
 StandsAt l Stand.Open = Unit {0}

@@ -47,6 +47,7 @@ is_write Visit.Write = true
 is_write Visit.Read = false
 is_write Visit.Full = false
 
+-- whether it was the read of the status of mailbox 0
 abbrev pub is_full : Visit → Bool
 is_full Visit.Write = false
 is_full Visit.Read = false

@@ -17,6 +17,7 @@ abbrev pub IsElsewhere : ℕ → List SlaveSpec → Type 0
 IsElsewhere station [] = ⊤
 IsElsewhere station (s ∷ ss) = ((station == s.station) ≡ false) × IsElsewhere station ss
 
+-- of each two of these
 abbrev pub AreApart : List SlaveSpec → Type 0
 AreApart [] = ⊤
 AreApart (s ∷ ss) = IsElsewhere s.station ss × AreApart ss

@@ -31,6 +31,7 @@ ready_by Laid.Script w = asked_next w.areas.out (slice_get w.script w.number)
 ready_by Laid.Packet w = Some (net (EoeClient.packet w.packet w.frame))
 ready_by Laid.Mail w = Some (passed (mail_of w.mail))
 
+-- by what is laid ready now
 abbrev pub ready_of : Waiting → Option Asked
 ready_of w = ready_by w.laid w
 
@@ -39,6 +40,7 @@ pub record Scripted : Type 0 where
   pub script : List Service
   pub number : ℕ
 
+-- of what waits
 abbrev pub scripted : Waiting → Scripted
 scripted w = record { script = w.script; number = w.number }
 
@@ -49,5 +51,6 @@ number_behind Laid.Script n = suc n
 number_behind Laid.Packet n = n
 number_behind Laid.Mail n = n
 
+-- once what is laid ready has come into hand
 abbrev pub scripted_behind : Waiting → Scripted
 scripted_behind w = record { script = w.script; number = number_behind w.laid w.number }

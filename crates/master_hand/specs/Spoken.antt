@@ -48,24 +48,31 @@ told_by write x = Ok (write x)
 abbrev pub heard_sdo : Body → CoeMails.CoeMail
 heard_sdo b = heard_by CoeOctets.coe_mail_heard (CoeMails.other []) b
 
+-- a mail of CoE as the link is told of it
 abbrev pub told_sdo : CoeMails.CoeMail → Body
 told_sdo m = told_by CoeOctets.coe_mail_written m
 
+-- a mail of the link as FoE hears it
 abbrev pub heard_file : Body → FoeMails.FoeMail
 heard_file b = heard_by FoeOctets.foe_mail_heard (FoeMails.other []) b
 
+-- a mail of FoE as the link is told of it
 abbrev pub told_file : FoeMails.FoeMail → Body
 told_file m = told_by FoeOctets.foe_mail_written m
 
+-- a mail of the link as SoE hears it
 abbrev pub heard_drive : Body → SoeMails.SoeMail
 heard_drive b = heard_by SoeOctets.soe_mail_heard (SoeMails.other []) b
 
+-- a mail of SoE as the link is told of it
 abbrev pub told_drive : SoeMails.SoeMail → Body
 told_drive m = told_by SoeOctets.soe_mail_written m
 
+-- a mail of the link as EoE hears it
 abbrev pub heard_net : Body → EoeMails.EoeMail
 heard_net b = heard_by EoeOctets.eoe_mail_heard (EoeMails.other []) b
 
+-- a mail of EoE as the link is told of it
 abbrev pub told_net : EoeMails.EoeMail → Body
 told_net m = told_by EoeOctets.eoe_mail_written m
 
@@ -73,12 +80,15 @@ told_net m = told_by EoeOctets.eoe_mail_written m
 abbrev pub sdo_speech : Areas → Speech Body CoeMeaning.Service CoeMeaning.Reply
 sdo_speech areas = lifted_speech (CoeModel.coe_speech areas) heard_sdo told_sdo
 
+-- what the client of FoE speaks
 abbrev pub file_speech : Areas → Speech Body FoeMeaning.Service FoeMeaning.Reply
 file_speech areas = lifted_speech (FoeModel.foe_speech areas) heard_file told_file
 
+-- what the client of SoE speaks
 abbrev pub drive_speech : Areas → Speech Body SoeClient.Service SoeClient.Reply
 drive_speech areas = lifted_speech (SoeModel.soe_speech areas) heard_drive told_drive
 
+-- what the client of EoE speaks
 abbrev pub net_speech : Areas → Speech Body EoeClient.Service EoeClient.Reply
 net_speech areas = lifted_speech (EoeModel.eoe_speech areas) heard_net told_net
 
@@ -92,6 +102,7 @@ followed_by CoE body = CoeClient.is_incomplete (CoeOctets.body_heard body)
 followed_by SoE body = SoeClient.is_incomplete (SoeOctets.body_heard body)
 followed_by _ body = false
 
+-- the same of a mail of the link
 abbrev pub is_followed : Body → Bool
 is_followed (Ok m) = followed_by m.kind m.body.items
 is_followed (Err fault) = false

@@ -41,6 +41,7 @@ which_of (net EoeClient.get_ip) = Which.Address
 which_of (net (EoeClient.packet octets frame)) = Which.Packet
 which_of (passed m) = Which.Passed
 
+-- what is asked is of this kind
 abbrev pub IsOf : Which → Asked → Type 0
 IsOf which q = which_of q ≡ which
 

@@ -5,6 +5,7 @@ use Rattle.exchange_model.specs.Rows.{Row}
 use Rattle.state_exchange.specs.Stated.{Service}
 use Rattle.life_model.specs.Lives.{Life}
 
+-- of the services that the test picks, both say the same: which are valid, their mails, and how they end
 pub record Alike {M P T : Type 0} (is : P → Bool) (y z : Speech M P T) : Type 0 where
   pub emission : y.emission ≡ z.emission
   pub valid : (q : P) → is q ≡ true → y.valid q ≡ z.valid q

@@ -33,6 +33,7 @@ service_of (drive q) = (Protocol.SoE, q)
 service_of (net q) = (Protocol.EoE, q)
 service_of (passed m) = (Protocol.CoE, CoeMeaning.upload nowhere)
 
+-- the services of a script, as the master's own words name them
 abbrev pub as_asked : Naming ((i : Protocol) × ServiceOf i) Reply Asked Master.Reply
 as_asked = record { is = is_service; service = service_of; reply = λ r. Some r }
 

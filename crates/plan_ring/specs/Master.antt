@@ -40,6 +40,7 @@ pub record IsLed (m : PlanMember) : Type 0 where
   pub in_hand : InHandIs is_service m.life
   pub forgets : Forgets m.services m.clearing
 
+-- each of these
 abbrev pub AllLed : List PlanMember → Type 0
 AllLed [] = ⊤
 AllLed (m ∷ ms) = IsLed m × AllLed ms
@@ -59,6 +60,7 @@ pub record IsSame (m n : PlanMember) : Type 0 where
   pub first : n.first ≡ m.first
   pub pace : n.pace ≡ m.pace
 
+-- each of these, in order
 abbrev pub AllSame : List PlanMember → List PlanMember → Type 0
 AllSame [] [] = ⊤
 AllSame (m ∷ ms) (n ∷ ns) = IsSame m n × AllSame ms ns

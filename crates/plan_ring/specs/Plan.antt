@@ -69,6 +69,7 @@ pub record IsPlanned (lens : ℕ → Lens) (s : SlaveSpec) : Type 0 where
   pub out : (lens s.station).out ≡ s.out_len
   pub back : (lens s.station).back ≡ s.in_len
 
+-- each of these
 abbrev pub AllPlanned : (ℕ → Lens) → List SlaveSpec → Type 0
 AllPlanned lens [] = ⊤
 AllPlanned lens (s ∷ ss) = IsPlanned lens s × AllPlanned lens ss

@@ -41,5 +41,6 @@ ring_after ring (f ∷ fs) = ring_after (behind ring f.sent) fs
 abbrev pub frame_seen : (ℕ → Lens) → Exchanged → Frame Body
 frame_seen lens f = record { sent = seen lens f.sent; fate = fate_seen f.fate; back = seen lens f.back }
 
+-- frames, one behind the other
 abbrev pub all_seen : (ℕ → Lens) → List Exchanged → List (Frame Body)
 all_seen lens fs = map (frame_seen lens) fs

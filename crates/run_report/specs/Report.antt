@@ -26,6 +26,7 @@ use Rattle.run_book.specs.declared.book.SentFrame.{SentFrame}
 abbrev pub hex_of : ℕ → ℕ → List ℕ
 hex_of width n = padded_integral (format_spec 32 0 4 width (2 ^ 64 - 1)) false [] (digits 16 false n)
 
+-- a frame that the plan loses
 abbrev pub is_lost : Fate → Bool
 is_lost Pass = false
 is_lost (Lost after) = true
@@ -72,6 +73,7 @@ abbrev pub is_scripted_row : Option Begun → Bool
 is_scripted_row (Some row) = is_script row.origin
 is_scripted_row None = true
 
+-- the service at a place of those that came into hand
 abbrev pub is_scripted : List Begun → ℕ → Bool
 is_scripted begun at = is_scripted_row (slice_get begun at)
 
@@ -82,6 +84,7 @@ answer_lines begun at number (answer ∷ answers) =
     if is_scripted begun at then answer_line number answer ∷ answer_lines begun (at + 1) (number + 1) answers
     else answer_lines begun (at + 1) number answers
 
+-- a reply that tells only that a packet or mail was handed over
 abbrev pub is_handed_kind : ReplyKind → Bool
 is_handed_kind kinds.Handed = true
 is_handed_kind kinds.Done = false
@@ -105,10 +108,12 @@ is_forward (Script number) = false
 is_forward (Forward number) = true
 is_forward (Gateway number) = false
 
+-- a packet of the switch that came into hand
 abbrev pub is_packet_row : Option Begun → Bool
 is_packet_row (Some row) = is_forward row.origin
 is_packet_row None = false
 
+-- at a place of those that came into hand
 abbrev pub is_packet : List Begun → ℕ → Bool
 is_packet begun at = is_packet_row (slice_get begun at)
 
@@ -125,6 +130,7 @@ packets_handed begun answers = packets_from begun 0 answers
 abbrev pub octets_line : List ℕ → List ℕ → List ℕ
 octets_line word octets = word ++ encode_lower octets ++ codes "\n"
 
+-- a line for each
 abbrev pub octets_lines : List ℕ → List (List ℕ) → List (List ℕ)
 octets_lines word [] = []
 octets_lines word (octets ∷ rows) = octets_line word octets ∷ octets_lines word rows

@@ -72,6 +72,7 @@ valued a value = record { app = a; reply = (ReplyKind.Value, value); emission = 
 abbrev pub entry_at : ℕ → ℕ → Tables.Target
 entry_at index sub = record { index = index; sub = sub; all = false }
 
+-- all entries from this subindex on
 abbrev pub all_from : ℕ → ℕ → Tables.Target
 all_from index sub = record { index = index; sub = sub; all = true }
 

@@ -118,12 +118,15 @@ pub record RingFrame (S : Type 0) : Type 0 where
 abbrev pub fate_of : {S : Type 0} → RingFrame S → Fate
 fate_of t = fate_at t.ring.lose t.ring.number
 
+-- whether the frame meets the slave
 abbrev pub is_reached : {S : Type 0} → RingFrame S → Bool
 is_reached t = is_met_at (length t.before) (fate_of t)
 
+-- the slave behind the frame
 abbrev pub node_met : {S : Type 0} → RingFrame S → Node S
 node_met t = met (is_reached t) t.node (come_to t.before t.datagrams)
 
+-- the slave behind the step that follows
 abbrev pub node_behind : {S : Type 0} → Running S → RingFrame S → Node S
 node_behind u t = turned u t.pace t.ring.number (node_met t)
 
@@ -131,6 +134,7 @@ node_behind u t = turned u t.pace t.ring.number (node_met t)
 abbrev pub octets_back : {S : Type 0} → RingFrame S → List ℕ
 octets_back t = ring_returned node_passed t.ring t.octets
 
+-- the frame as a session sees it
 abbrev pub frame_of : {S : Type 0} → (ℕ → Lens) → RingFrame S → Frame Body
 frame_of lens t = record { sent = seen lens t.octets; fate = fate_seen (fate_of t); back = seen lens (octets_back t) }
 

@@ -23,6 +23,7 @@ pub record Plan : Type 0 where
   pub back : ℕ
   pub start : ℕ
 
+-- the state that it is opened in is one that its slave has, and all numbers fit their fields
 pub record IsPlan (boot : Bool) (lens : ℕ → Lens) (p : Plan) : Type 0 where
   pub station : p.station < 65536
   pub out : p.out < 65536

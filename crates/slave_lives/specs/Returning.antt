@@ -69,5 +69,6 @@ pub data IsTurn : ℕ → Type 0 where
   word : IsTurn 8
   status : IsTurn 9
 
+-- the access behind this one, of nine
 abbrev pub turn_behind : ℕ → ℕ
 turn_behind n = if n == 9 then 9 else suc n

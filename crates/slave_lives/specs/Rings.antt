@@ -38,6 +38,7 @@ fate_seen (Lost after) = RingFate.Lost after
 abbrev pub come_to : {S : Type 0} → List (Node S) → List Raw.Datagram → List Raw.Datagram
 come_to before ds = all_after (registers_of before) ds
 
+-- the datagrams as they come back behind all slaves
 abbrev pub come_back : {S : Type 0} → List (Node S) → Node S → List (Node S) → List Raw.Datagram → List Raw.Datagram
 come_back before n behind ds = all_after (registers_of behind) (datagrams_after n.registers (come_to before ds))
 

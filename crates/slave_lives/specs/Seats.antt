@@ -55,6 +55,7 @@ pub record SeatIs {S : Type 0} (lens : ℕ → Lens) (s : Seat S) : Type 0 where
   pub named : (0 == s.plan.station) ≡ false
   pub known : KnownAs s.services s.boot lens s.plan s.stand s.node
 
+-- each of these
 abbrev pub AllSeats : {S : Type 0} → (ℕ → Lens) → List (Seat S) → Type 0
 AllSeats lens [] = ⊤
 AllSeats lens (s ∷ ss) = SeatIs lens s × AllSeats lens ss
@@ -64,10 +65,12 @@ abbrev pub IsElsewhere : {S : Type 0} → Plan → List (Seat S) → Type 0
 IsElsewhere p [] = ⊤
 IsElsewhere p (s ∷ ss) = ((p.station == s.plan.station) ≡ false) × IsElsewhere p ss
 
+-- of each two of these
 abbrev pub AreDistinct : {S : Type 0} → List (Seat S) → Type 0
 AreDistinct [] = ⊤
 AreDistinct (s ∷ ss) = IsElsewhere s.plan ss × AreDistinct ss
 
+-- to each of these
 abbrev pub AllCome : {S : Type 0} → ℕ → ℕ → List (Seat S) → List Raw.Datagram → Type 0
 AllCome place passed [] ds = ⊤
 AllCome place passed (s ∷ ss) ds = ComesAs s.plan s.stand place passed ds × AllCome (suc place) passed ss ds
@@ -81,6 +84,7 @@ pub record MeetsOne {S : Type 0} (s : Seat S) (ds : List Raw.Datagram) : Type 0 
   pub meets : MeetsAs s.plan s.stand s.node.registers ds
   pub apart : (station : ℕ) → (0 == station) ≡ false → (s.plan.station == station) ≡ false → IsApart station s.node.registers ds
 
+-- one behind the other
 abbrev pub AllMeet : {S : Type 0} → List (Seat S) → List Raw.Datagram → Type 0
 AllMeet [] ds = ⊤
 AllMeet (s ∷ ss) ds = MeetsOne s ds × AllMeet ss (datagrams_after s.node.registers ds)

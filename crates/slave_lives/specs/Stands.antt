@@ -61,6 +61,7 @@ pub record CameBack (lens : ℕ → Lens) (p : Plan) (turn : ℕ) (r : Esc.Regis
 abbrev pub first_opening : ℕ → Opening
 first_opening state = record { again = false; step = 1; state = state; own = false }
 
+-- a reopening from its first access
 abbrev pub opening_again : ℕ → Bool → Opening
 opening_again state own = record { again = true; step = 1; state = state; own = own }
 

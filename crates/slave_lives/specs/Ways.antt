@@ -13,6 +13,7 @@ use Rattle.slave_lives.specs.Opening.{Plan, aim, IsAccess}
 abbrev pub IsNotFor : Plan → ℕ → ℕ → Raw.Datagram → Type 0
 IsNotFor p place passed d = IsElse place passed d × (is_to p.station d ≡ false) × (is_to 0 d ≡ false)
 
+-- nor is any of these
 abbrev pub AllNotFor : Plan → ℕ → ℕ → List Raw.Datagram → Type 0
 AllNotFor p place passed [] = ⊤
 AllNotFor p place passed (d ∷ ds) = IsNotFor p place passed d × AllNotFor p place passed ds

@@ -9,12 +9,15 @@ use Rattle.foe_server.specs.Stores.{store_files}
 use Rattle.slave_model.specs.Application as Application
 use Rattle.slave_model.specs.Server as Slave
 
+-- the parts of an application over its dictionary, files and IDNs
 abbrev pub Parts : Type 0
 Parts = Application.Parts Objects.Table Store.Kept Idns.Table
 
+-- what is in them
 abbrev pub Core : Type 0
 Core = Application.Core Objects.Table Store.Kept Idns.Table
 
+-- the server over them
 abbrev pub Server : Type 0
 Server = Slave.Server Objects.Table Store.Kept Idns.Table
 

@@ -60,6 +60,7 @@ pub record IsInside (s : Inside) : Type 0 where
   pub serves : Foe.Serves s.file s.store
   pub roomy : Eoe.is_roomy s.back s.addresses ≡ true
 
+-- the profile of a running server
 abbrev pub profile_of : Inside → Profile
 profile_of s = record {
   out = s.out;
@@ -72,6 +73,7 @@ profile_of s = record {
   mac = s.addresses.mac.items;
 }
 
+-- the exchange's server that it is
 abbrev pub server_in : Inside → Server
 server_in s = record {
   app = record { app = record { objects = s.objects; files = s.store.kept; idns = s.idns; block = s.addresses.block.items }; frame = s.ether.frame };
@@ -87,15 +89,19 @@ abbrev pub failures : Option ℕ → List Mail
 failures None = []
 failures (Some detail) = error_of detail ∷ []
 
+-- the mails of CoE that wait
 abbrev pub coe_mails : Inside → List Mail
 coe_mails s = map CoeOctets.coe_mail_written (Coe.waiting_mails s.sdo)
 
+-- the mails of FoE that wait
 abbrev pub foe_mails : Inside → List Mail
 foe_mails s = map FoeOctets.foe_mail_written (Foe.waiting_mails s.file s.store)
 
+-- the mails of SoE that wait
 abbrev pub soe_mails : Inside → List Mail
 soe_mails s = map SoeOctets.soe_mail_written (Soe.waiting_mails s.drive)
 
+-- the mails of EoE that wait
 abbrev pub eoe_mails : Inside → List Mail
 eoe_mails s = map EoeOctets.eoe_mail_written (Eoe.waiting_mails s.ether s.addresses.block.items)
 
@@ -103,6 +109,7 @@ eoe_mails s = map EoeOctets.eoe_mail_written (Eoe.waiting_mails s.ether s.addres
 abbrev pub waiting_of : Inside → List Mail
 waiting_of s = failures s.failure ++ (coe_mails s ++ (foe_mails s ++ (soe_mails s ++ eoe_mails s)))
 
+-- the whole of a running server
 abbrev pub view_of : Inside → Serving
 view_of s = record { profile = profile_of s; server = server_in s; waiting = waiting_of s }
 
@@ -118,17 +125,21 @@ takes s b al =
     let g = serve parts s.profile al s.server b in
     record s { server = g.0; waiting = s.waiting ++ written g.1 }
 
+-- the first mail, if there is one
 abbrev pub first_of : List Mail → Option Mail
 first_of [] = None
 first_of (m ∷ more) = Some m
 
+-- the mails behind the first
 abbrev pub behind_first : List Mail → List Mail
 behind_first [] = []
 behind_first (m ∷ more) = more
 
+-- the mail that is offered next
 abbrev pub next_mail : Serving → Option Mail
 next_mail s = first_of s.waiting
 
+-- what is left once it was offered
 abbrev pub rest : Serving → Serving
 rest s = record s { waiting = behind_first s.waiting }
 
@@ -136,6 +147,7 @@ rest s = record s { waiting = behind_first s.waiting }
 abbrev pub failed : Serving → ℕ → Serving
 failed s detail = record s { server = record s.server { handled = suc s.server.handled }; waiting = error_of detail ∷ [] }
 
+-- one service more
 abbrev pub counted : Serving → Serving
 counted s = record s { server = record s.server { handled = suc s.server.handled } }
 
@@ -143,9 +155,11 @@ counted s = record s { server = record s.server { handled = suc s.server.handled
 abbrev pub is_quiet_drive : List ℕ → Bool
 is_quiet_drive body = soe_quiet (SoeOctets.body_heard body)
 
+-- the same of a mail of EoE: no answer
 abbrev pub is_quiet_ether : List ℕ → Bool
 is_quiet_ether body = eoe_quiet (EoeOctets.heard body (eoe_read body))
 
+-- and whether it counts
 abbrev pub is_last_ether : List ℕ → Bool
 is_last_ether body = eoe_counts (EoeOctets.heard body (eoe_read body))
 

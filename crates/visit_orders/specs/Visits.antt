@@ -13,6 +13,7 @@ no_stop = record { station = 0; state = 0; area = 0 }
 abbrev pub stop_at : List Stop → ℕ → Stop
 stop_at ring p = get_or ring p no_stop
 
+-- the slaves at these places
 abbrev pub stops_at : List Stop → List ℕ → List Stop
 stops_at ring ps = map (λ p. stop_at ring p) ps
 
@@ -39,6 +40,7 @@ abbrev pub IsApart : Stop → List Stop → Type 0
 IsApart s [] = ⊤
 IsApart s (t ∷ ts) = ((s.station == t.station) ≡ false) × IsApart s ts
 
+-- no station twice among all of them
 abbrev pub AreApart : List Stop → Type 0
 AreApart [] = ⊤
 AreApart (s ∷ ss) = IsApart s ss × AreApart ss

@@ -66,6 +66,7 @@ pub record Came {S V A Q R : Type 0} (w : Behind S V A Q R) (p : Plan) (o : Open
   pub back : AccessBack w.lens (plan_to p o.state) o t access came.0 came.1
   pub ready : (let s = (node_behind w.running t).server in w.running.clear s ≡ s → w.exchange.ready (w.sees o.state s).server ≡ true)
 
+-- where an access of its came back
 abbrev pub CameAs : {S V A Q R : Type 0} → Behind S V A Q R → Plan → Opening → RingFrame S → Option (Bool × Option Found) → Type 0
 CameAs w p o t None = ⊤
 CameAs w p o t (Some came) = Came w p o t came

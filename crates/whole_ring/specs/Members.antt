@@ -50,6 +50,7 @@ abbrev pub IsElsewhere : {S V A Q R : Type 0} → ℕ → List (Member S V A Q R
 IsElsewhere station [] = ⊤
 IsElsewhere station (m ∷ ms) = ((station == m.plan.station) ≡ false) × IsElsewhere station ms
 
+-- of each of these
 abbrev pub AreDistinct : {S V A Q R : Type 0} → List (Member S V A Q R) → Type 0
 AreDistinct [] = ⊤
 AreDistinct (m ∷ ms) = IsElsewhere m.plan.station ms × AreDistinct ms
@@ -98,6 +99,7 @@ pub record IsNew {S V A Q R : Type 0} (lens : ℕ → Lens) (step : Node S → N
   pub life : m.life ≡ new_life m.spot.start
   pub node : m.node ≡ new_node m.plan.out m.plan.back m.services.boot server
 
+-- each of these, from a place on
 abbrev pub AllNew : {S V A Q R : Type 0} → (ℕ → Lens) → (Node S → Node S) → (Spot → S → Type 0) → ℕ → List (Member S V A Q R) → Type 0
 AllNew lens step fits place [] = ⊤
 AllNew lens step fits place (m ∷ ms) = IsNew lens step fits place m × AllNew lens step fits (suc place) ms

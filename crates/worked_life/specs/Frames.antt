@@ -23,6 +23,7 @@ use Rattle.life_model.specs.Lives.{Life, Spot, new_life, life_next, life_back, l
 abbrev pub spot : Spot
 spot = record { station = 5633; place = 0; start = 2 }
 
+-- its mailboxes
 abbrev pub areas : Areas
 areas = record { out = 64; back = 64 }
 
@@ -46,6 +47,7 @@ goes_on (other body) = false
 abbrev pub speech : Speech SoeMail (Asked SoeMail Client.Service) (Option Reply)
 speech = asked_speech (soe_speech areas) goes_on
 
+-- whether a service is a mail that is passed on
 abbrev pub is_passed : Asked SoeMail Client.Service → Bool
 is_passed (Asked.Script q) = false
 is_passed (Asked.Passed m answers) = true
@@ -58,6 +60,7 @@ fragment = mail (message 3 true target 2 (octets 54 0))
 abbrev pub long_write : Asked SoeMail Client.Service
 long_write = Asked.Script (Client.write target (octets 123 0))
 
+-- a write of a single octet
 abbrev pub short_write : Asked SoeMail Client.Service
 short_write = Asked.Script (Client.write target (7 ∷ []))
 
@@ -65,6 +68,7 @@ short_write = Asked.Script (Client.write target (7 ∷ []))
 abbrev pub short_mail : SoeMail
 short_mail = mail (message 3 false target 5 (7 ∷ []))
 
+-- its answer
 abbrev pub answer : SoeMail
 answer = mail (message 4 false target 5 [])
 
@@ -85,6 +89,7 @@ behind n l f =
     let met = if f.fate then life_back speech (λ q. false) goes_on is_passed n spot f.news f.sent f.came asked asked.stand else life_lost speech (λ q. false) goes_on is_passed spot f.news f.sent asked asked.stand in
     if f.given_up then gives_up 1 spot n met else met
 
+-- behind frames, one after the other
 abbrev pub lives : ℕ → Life SoeMail (Asked SoeMail Client.Service) (Option Reply) → List LifeFrame → Life SoeMail (Asked SoeMail Client.Service) (Option Reply)
 lives n l [] = l
 lives n l (f ∷ fs) = lives (suc n) (behind n l f) fs
@@ -93,9 +98,11 @@ lives n l (f ∷ fs) = lives (suc n) (behind n l f) fs
 abbrev pub life_of : List LifeFrame → Life SoeMail (Asked SoeMail Client.Service) (Option Reply)
 life_of fs = lives 0 (new_life 2) fs
 
+-- nothing is asked of it
 abbrev pub nothing : Pick (Asked SoeMail Client.Service)
 nothing = record { begin = None; hold = true }
 
+-- a service of its script is asked
 abbrev pub asks : Asked SoeMail Client.Service → Pick (Asked SoeMail Client.Service)
 asks q = record { begin = Some (Service.Mails q); hold = true }
 
@@ -103,9 +110,11 @@ asks q = record { begin = Some (Service.Mails q); hold = true }
 abbrev pub access : Option Found → LifeFrame
 access found = record { pick = nothing; came = Some (true, found); news = []; sent = []; fate = true; given_up = false }
 
+-- a status that came back
 abbrev pub status : ℕ → LifeFrame
 status al = access (Some (Found.State al None))
 
+-- a frame that was lost
 abbrev pub lost : LifeFrame
 lost = record { pick = nothing; came = None; news = []; sent = []; fate = false; given_up = false }
 
