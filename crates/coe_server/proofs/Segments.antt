@@ -1,5 +1,6 @@
 -- A segment's answer is what stands before its octets, those octets, and the unused ones of a short one.
-use Rattle.std.proofs.Common.{◌≡◌, ◌≤◌, ℕ, ◌+◌, ◌-◌, ◌*◌, Bool, List, [], ◌∷◌, ◌++◌, length, take, replicate, sym, ap, ◌∙◌, subst, arith, append_assoc}
+use Rattle.std.proofs.Common.{◌≡◌, ◌≤◌, ◌<◌, ◌&&◌, nat_lt, nat_le, true, ℕ, ◌+◌, ◌-◌, ◌*◌, Bool, List, [], ◌∷◌, ◌++◌, length, take, replicate, sym, ap, ◌∙◌, subst, arith, append_assoc}
+use Rattle.std.proofs.lemmas.Bool.Decides.{nat_tests}
 use Rattle.std.proofs.lemmas.List.{take-replicate}
 use Rattle.coe_codec.specs.Coe.{IsCoe}
 use Rattle.coe_codec.specs.Fields.{bit}
@@ -26,3 +27,11 @@ segment_written room toggle last bytes octets unused command u d e some short =
       spelled = subst (λ l. IsCoe l (segment_answer toggle last bytes)) (sym text) (write-spelled (segment_answer toggle last bytes) some tt tt);
       short = short;
     }
+
+-- a part that is to be told begins within its value
+pub part_is : (from len : ℕ) → nat_lt from len ≡ true → from < len
+part_is from len is = grind (arith, nat_tests)
+
+-- and a last part fits a mail besides
+pub last_is : (from len most : ℕ) → (nat_lt from len && nat_le (len - from) most) ≡ true → (from < len) × (len - from ≤ most)
+last_is from len most is = grind (arith, nat_tests)

@@ -150,24 +150,31 @@ impl CoeServer {
     }
 
     // How many of its 7 octets a segment from a place on doesn't use, where it is that short.
-    fn unused(&self, from: u32) -> usize
+    fn unused(&self, from: u32, most: usize) -> usize
         requires { from < length self.now.value }
-        ensures unused { result ≡ 7 - length (take (self.now.room - 9) (drop from self.now.value)) }
+        ensures unused { result ≡ 7 - length (take most (drop from self.now.value)) }
         ensures few { result ≤ 7 }
     {
-        let most = self.room as usize - 9;
         let count = (self.values.len(Slot::Value) - from as usize).min(most);
         7usize.saturating_sub(count)
     }
 
-    // A segment with the octets of a value from a place on, as many as it has room for. They go from the value straight to their place.
-    fn write_octets(&self, from: u32, toggle: bool, last: bool, body: &mut ArrayVec<u8, 1480>)
-        requires { from < length self.now.value }
-        ensures { IsWritten self.now.room (segment_answer toggle last (take (self.now.room - 9) (drop from self.now.value))) body.new.items }
+    // A segment with the octets of a value from a place on, at most so many. They go from the value straight to their place.
+    fn write_octets(
+        &self,
+        from: u32,
+        most: usize,
+        toggle: bool,
+        last: bool,
+        body: &mut ArrayVec<u8, 1480>,
+    )
+        requires within { from < length self.now.value }
+        requires some { 1 ≤ most }
+        requires fits { most ≤ self.now.room - 9 }
+        ensures { IsWritten self.now.room (segment_answer toggle last (take most (drop from self.now.value))) body.new.items }
     {
         const ZEROS: [u8; 7] = [0; 7];
-        let most = self.room as usize - 9;
-        let unused = self.unused(from);
+        let unused = self.unused(from, most);
         refill(body, &[0, 48, segment_command(toggle, last, unused)]);
         self.values
             .append_to(Slot::Value, from as usize, most, body);
@@ -179,7 +186,8 @@ impl CoeServer {
         requires { self.now.pending ≡ Pending.Part from toggle }
         ensures { IsWritten self.now.room (message_of self.now) body.new.items }
     {
-        self.write_octets(from, toggle, false, body);
+        let most = self.room as usize - 9;
+        self.write_octets(from, most, toggle, false, body);
     }
 
     // The last octets of a value.
@@ -187,7 +195,8 @@ impl CoeServer {
         requires { self.now.pending ≡ Pending.Last from toggle }
         ensures { IsWritten self.now.room (message_of self.now) body.new.items }
     {
-        self.write_octets(from, toggle, true, body);
+        let most = self.room as usize - 9;
+        self.write_octets(from, most, toggle, true, body);
     }
 
     // A part of an information answer from a place on: as many octets as it has room for. They go from the answer straight to their place.

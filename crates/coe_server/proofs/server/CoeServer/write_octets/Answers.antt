@@ -1,4 +1,4 @@
-use Rattle.std.proofs.Common.{rules, ◌≡◌, ◌≤◌, ◌<◌, ◌-◌, [], ◌∷◌, ◌++◌, length, take, drop, min, replicate, ap, ◌∙◌, arith, length-drop}
+use Rattle.std.proofs.Common.{rules, ◌≡◌, ◌-◌, [], ◌∷◌, ◌++◌, length, take, drop, min, replicate, ap, ◌∙◌, arith, length-drop}
 use Rattle.std.proofs.lemmas.List.{length-take}
 use Rattle.coe_server.proofs.Segments.{segment_written}
 use Rattle.coe_server.proofs.server.CoeServer.write_octets.Goals as goal
@@ -7,16 +7,16 @@ pub returns : goal.returns
 returns c =
     let s = c.args.self.now in
     let rest = drop c.args.from s.value in
-    let bytes = take (s.room - 9) rest in
+    let most = c.args.most in
+    let bytes = take most rest in
     let unused = c.unused-unused.result in
     let command = c.segment_command.result in
     let left : length rest ≡ length s.value - c.args.from = length-drop c.args.from s.value in
-    let len : length bytes ≡ min (s.room - 9) (length rest) = length-take (s.room - 9) rest in
-    let least : 64 ≤ s.room = search rules in
+    let len : length bytes ≡ min most (length rest) = length-take most rest in
     let front : c.refill.new.buffer.items ≡ 0 ∷ 48 ∷ command ∷ [] = search rules in
     let filled : c.append_to.new.into.items ≡ c.refill.new.buffer.items ++ bytes = search rules in
     let whole : c.append.new.buffer.items ≡ c.append_to.new.into.items ++ take unused (replicate 7 0) = search rules in
     segment_written s.room c.args.toggle c.args.last bytes c.append.new.buffer.items unused command
     c.unused-unused.ensures.unused c.segment_command.ensures
     (whole ∙ ap (λ l. l ++ take unused (replicate 7 0)) (filled ∙ ap (λ l. l ++ bytes) front))
-    (omega (arith, left, len, least, c.requires)) (omega (arith, len))
+    (omega (arith, left, len, c.requires.within, c.requires.some)) (omega (arith, len, c.requires.fits))
