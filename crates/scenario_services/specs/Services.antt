@@ -17,6 +17,7 @@ use Rattle.scenario_keys.specs.declared.refusal.Refusal.{Refusal}
 use Rattle.scenario_keys.specs.Reading.{◌>>=◌, wanted, unless_refused, each}
 use Rattle.scenario_keys.specs.Keys.{integer_at, integer_or, text_at, name_at}
 use Rattle.scenario_octets.specs.Octets.{octets_at}
+use Rattle.scenario_actions.specs.declared.actions.SdoAction.{SdoAction}
 use Rattle.scenario_actions.specs.declared.actions.Action.{Action}
 use Rattle.scenario_actions.specs.declared.actions.Action.TheVariants as actions
 use Rattle.scenario_actions.specs.Actions.{given_action, only_keys_of, action_at}
@@ -52,26 +53,54 @@ state_at slave place ms = do
   _ ← unless_refused OutOfRange place (is_target target && (slave.boot || not (target == 3)))
   Ok target
 
--- what the keys of a service say, behind its slave
-unfoldable pub body_of : Action → SlaveSpec → Place → Members → Result Service Refusal
-body_of (actions.Sdo action) slave place ms = sdo_of action place ms >>= λ service. Ok (Sdo service)
-body_of actions.ReadFile slave place ms = do
+-- a service of CoE
+abbrev pub sdo_at : SdoAction → Place → Members → Result Service Refusal
+sdo_at action place ms = sdo_of action place ms >>= λ service. Ok (Sdo service)
+
+-- the reading of a file
+abbrev pub read_file_at : Place → Members → Result Service Refusal
+read_file_at place ms = do
   name ← name_at (codes "name") place ms
   pass ← password_at place ms
   Ok (ReadFile (record { items = name }) pass)
-body_of actions.WriteFile slave place ms = do
+
+-- the writing of a file
+abbrev pub write_file_at : Place → Members → Result Service Refusal
+write_file_at place ms = do
   name ← name_at (codes "name") place ms
   pass ← password_at place ms
   bytes ← octets_at (codes "value") 0 131072 place ms
   Ok (WriteFile (record { items = name }) pass bytes)
-body_of actions.ReadIdn slave place ms = element_at place ms >>= λ e. Ok (ReadIdn e.0 e.1 e.2)
-body_of actions.WriteIdn slave place ms = do
+
+-- the reading of an element of an IDN
+abbrev pub read_idn_at : Place → Members → Result Service Refusal
+read_idn_at place ms = element_at place ms >>= λ e. Ok (ReadIdn e.0 e.1 e.2)
+
+-- the writing of an element of an IDN
+abbrev pub write_idn_at : Place → Members → Result Service Refusal
+write_idn_at place ms = do
   e ← element_at place ms
   bytes ← octets_at (codes "value") 1 4096 place ms
   Ok (WriteIdn e.0 e.1 e.2 bytes)
-body_of actions.SetIp slave place ms = block_at slave place ms >>= λ block. Ok (SetIp block)
+
+-- the setting of the address block
+abbrev pub set_ip_at : SlaveSpec → Place → Members → Result Service Refusal
+set_ip_at slave place ms = block_at slave place ms >>= λ block. Ok (SetIp block)
+
+-- a change of the AL state
+abbrev pub target_state_at : SlaveSpec → Place → Members → Result Service Refusal
+target_state_at slave place ms = state_at slave place ms >>= λ target. Ok (State target)
+
+-- what the keys of a service say, behind its slave
+unfoldable pub body_of : Action → SlaveSpec → Place → Members → Result Service Refusal
+body_of (actions.Sdo action) slave place ms = sdo_at action place ms
+body_of actions.ReadFile slave place ms = read_file_at place ms
+body_of actions.WriteFile slave place ms = write_file_at place ms
+body_of actions.ReadIdn slave place ms = read_idn_at place ms
+body_of actions.WriteIdn slave place ms = write_idn_at place ms
+body_of actions.SetIp slave place ms = set_ip_at slave place ms
 body_of actions.GetIp slave place ms = Ok GetIp
-body_of actions.State slave place ms = state_at slave place ms >>= λ target. Ok (State target)
+body_of actions.State slave place ms = target_state_at slave place ms
 
 -- the slave of a service
 abbrev pub target_at : List SlaveSpec → Place → Members → Result ℕ Refusal

@@ -1,17 +1,18 @@
-ghost use Rattle.std.specs.Prelude.{◌≡◌, ◌≤◌, ◌+◌, codes, length, IfOk, OnOk, true};
+ghost use Rattle.std.specs.Prelude.{◌≡◌, ◌≤◌, ◌+◌, codes, length, Ok, IfOk, OnOk, true};
 ghost use Rattle.toml.specs.View.{table_view};
 ghost use Rattle.eoe.specs.Address.{is_block};
 ghost use Rattle.segment_plan.specs.Bound.{smaller};
+ghost use Rattle.segment_plan.specs.declared.service.Service.TheVariants.{GetIp};
 ghost use Rattle.segment_plan.specs.Sound.{IsSlave, IsName, IsService, is_target};
 ghost use Rattle.scenario_keys.specs.Reading.{Gives};
 ghost use Rattle.scenario_keys.specs.Keys.{name_at};
 ghost use Rattle.scenario_services.specs.Reading.{Appends, Suits, sent_to};
-ghost use Rattle.scenario_services.specs.Services.{password_at, element_at, block_at, state_at, body_of};
+ghost use Rattle.scenario_services.specs.Services.{password_at, element_at, block_at, state_at, sdo_at, read_file_at, write_file_at, read_idn_at, write_idn_at, set_ip_at, target_state_at, body_of};
 
 use ec_fields::{Octets, Rows, buffer_of};
 use eoe::is_block;
 use file_store::Name;
-use scenario_actions::Action;
+use scenario_actions::{Action, SdoAction};
 use scenario_keys::{Place, Rule, Stop, integer_or, needed_integer, needed_name, put, unless};
 use scenario_octets::needed_octets;
 use scenario_sdo::{sdo_body, subindex, word};
@@ -77,7 +78,138 @@ fn state_target(table: &Table, slave: &SlaveSpec, place: Place) -> Result<u8, St
     Ok(target as u8)
 }
 
-/// Appends what the keys of a service say, with the number of its slave.
+/// Appends a service of CoE, with the number of its slave.
+fn add_sdo(
+    alloc: Global,
+    action: SdoAction,
+    table: &Table,
+    number: u32,
+    place: Place,
+    rows: &mut Rows<(u32, Service)>,
+) -> Result<(), Stop>
+    ensures gives { Appends rows.old rows.new result (sent_to number (sdo_at action place (table_view table.now))) }
+    ensures sound { OnOk result (IfOk (sdo_at action place (table_view table.now)) IsService) }
+{
+    let service = sdo_body(alloc, action, table, place)?;
+    put(rows, (number, Service::Sdo(service)))
+}
+
+/// Appends the reading of a file.
+fn add_read_file(
+    table: &Table,
+    number: u32,
+    place: Place,
+    rows: &mut Rows<(u32, Service)>,
+) -> Result<(), Stop>
+    ensures gives { Appends rows.old rows.new result (sent_to number (read_file_at place (table_view table.now))) }
+    ensures sound { OnOk result (IfOk (read_file_at place (table_view table.now)) IsService) }
+{
+    let name = file_name(table, place)?;
+    let pass = password(table, place)?;
+    put(rows, (number, Service::ReadFile { name, pass }))
+}
+
+/// Appends the writing of a file.
+fn add_write_file(
+    alloc: Global,
+    table: &Table,
+    number: u32,
+    place: Place,
+    rows: &mut Rows<(u32, Service)>,
+) -> Result<(), Stop>
+    ensures gives { Appends rows.old rows.new result (sent_to number (write_file_at place (table_view table.now))) }
+    ensures sound { OnOk result (IfOk (write_file_at place (table_view table.now)) IsService) }
+{
+    let name = file_name(table, place)?;
+    let pass = password(table, place)?;
+    let bytes = needed_octets(alloc, table, "value", 0, 131_072, place)?;
+    put(rows, (number, Service::WriteFile { name, pass, bytes }))
+}
+
+/// Appends the reading of an element of an IDN.
+fn add_read_idn(
+    table: &Table,
+    number: u32,
+    place: Place,
+    rows: &mut Rows<(u32, Service)>,
+) -> Result<(), Stop>
+    ensures gives { Appends rows.old rows.new result (sent_to number (read_idn_at place (table_view table.now))) }
+    ensures sound { OnOk result (IfOk (read_idn_at place (table_view table.now)) IsService) }
+{
+    let (drive, idn, elements) = element(table, place)?;
+    let service = Service::ReadIdn {
+        drive,
+        idn,
+        elements,
+    };
+    put(rows, (number, service))
+}
+
+/// Appends the writing of an element of an IDN.
+fn add_write_idn(
+    alloc: Global,
+    table: &Table,
+    number: u32,
+    place: Place,
+    rows: &mut Rows<(u32, Service)>,
+) -> Result<(), Stop>
+    ensures gives { Appends rows.old rows.new result (sent_to number (write_idn_at place (table_view table.now))) }
+    ensures sound { OnOk result (IfOk (write_idn_at place (table_view table.now)) IsService) }
+{
+    let (drive, idn, elements) = element(table, place)?;
+    let bytes = needed_octets(alloc, table, "value", 1, 4096, place)?;
+    let service = Service::WriteIdn {
+        drive,
+        idn,
+        elements,
+        bytes,
+    };
+    put(rows, (number, service))
+}
+
+/// Appends the setting of the address block.
+fn add_set_ip(
+    alloc: Global,
+    table: &Table,
+    number: u32,
+    slave: &SlaveSpec,
+    place: Place,
+    rows: &mut Rows<(u32, Service)>,
+) -> Result<(), Stop>
+    requires { IsSlave slave.now }
+    ensures gives { Appends rows.old rows.new result (sent_to number (set_ip_at slave.now place (table_view table.now))) }
+    ensures sound { OnOk result (IfOk (set_ip_at slave.now place (table_view table.now)) IsService) }
+    ensures fits { OnOk result (IfOk (set_ip_at slave.now place (table_view table.now)) (Suits slave.now)) }
+{
+    let block = block(alloc, table, slave, place)?;
+    put(rows, (number, Service::SetIp { block }))
+}
+
+/// Appends a change of the AL state.
+fn add_state(
+    table: &Table,
+    number: u32,
+    slave: &SlaveSpec,
+    place: Place,
+    rows: &mut Rows<(u32, Service)>,
+) -> Result<(), Stop>
+    ensures gives { Appends rows.old rows.new result (sent_to number (target_state_at slave.now place (table_view table.now))) }
+    ensures sound { OnOk result (IfOk (target_state_at slave.now place (table_view table.now)) IsService) }
+    ensures fits { OnOk result (IfOk (target_state_at slave.now place (table_view table.now)) (Suits slave.now)) }
+{
+    let target = state_target(table, slave, place)?;
+    put(rows, (number, Service::State { target }))
+}
+
+/// Appends the reading of the address block.
+fn add_get_ip(number: u32, rows: &mut Rows<(u32, Service)>) -> Result<(), Stop>
+    ensures { Appends rows.old rows.new result (sent_to number (Ok GetIp)) }
+{
+    put(rows, (number, Service::GetIp))
+}
+
+/// Appends what the keys of a service say, with the number of its slave. Each service is read by a function of its own, so that only its own
+/// room is filled.
 #[tactic(auto, unfolding(crate::specs::Services::body_of))]
 pub fn add_body(
     alloc: Global,
@@ -94,59 +226,13 @@ pub fn add_body(
     ensures fits { OnOk result (IfOk (body_of action slave.now place (table_view table.now)) (Suits slave.now)) }
 {
     match action {
-        Action::Sdo(action) => {
-            let service = sdo_body(alloc, action, table, place)?;
-            put(rows, (number, Service::Sdo(service)))
-        }
-        Action::ReadFile => {
-            let name = file_name(table, place)?;
-            let pass = password(table, place)?;
-            put(rows, (number, Service::ReadFile { name, pass }))
-        }
-        Action::WriteFile => {
-            let name = file_name(table, place)?;
-            let pass = password(table, place)?;
-            let bytes = needed_octets(alloc, table, "value", 0, 131_072, place)?;
-            put(rows, (number, Service::WriteFile { name, pass, bytes }))
-        }
-        Action::ReadIdn => {
-            let (drive, idn, elements) = element(table, place)?;
-            put(
-                rows,
-                (
-                    number,
-                    Service::ReadIdn {
-                        drive,
-                        idn,
-                        elements,
-                    },
-                ),
-            )
-        }
-        Action::WriteIdn => {
-            let (drive, idn, elements) = element(table, place)?;
-            let bytes = needed_octets(alloc, table, "value", 1, 4096, place)?;
-            put(
-                rows,
-                (
-                    number,
-                    Service::WriteIdn {
-                        drive,
-                        idn,
-                        elements,
-                        bytes,
-                    },
-                ),
-            )
-        }
-        Action::SetIp => {
-            let block = block(alloc, table, slave, place)?;
-            put(rows, (number, Service::SetIp { block }))
-        }
-        Action::GetIp => put(rows, (number, Service::GetIp)),
-        Action::State => {
-            let target = state_target(table, slave, place)?;
-            put(rows, (number, Service::State { target }))
-        }
+        Action::Sdo(action) => add_sdo(alloc, action, table, number, place, rows),
+        Action::ReadFile => add_read_file(table, number, place, rows),
+        Action::WriteFile => add_write_file(alloc, table, number, place, rows),
+        Action::ReadIdn => add_read_idn(table, number, place, rows),
+        Action::WriteIdn => add_write_idn(alloc, table, number, place, rows),
+        Action::SetIp => add_set_ip(alloc, table, number, slave, place, rows),
+        Action::GetIp => add_get_ip(number, rows),
+        Action::State => add_state(table, number, slave, place, rows),
     }
 }

@@ -2,10 +2,10 @@ use Rattle.std.proofs.lemmas.Result.{err_from_is_err_and}
 use Rattle.toml.specs.View.{table_view}
 use Rattle.scenario_keys.specs.declared.place.Place.TheVariants.{Entry}
 use Rattle.std.proofs.Common.{None}
-use Rattle.scenario_objects.specs.Objects.{kind_behind, entry_of}
+use Rattle.scenario_entries.specs.Entries.{kind_behind, entry_of}
 use Rattle.segment_plan.specs.Sound.{IsEntry}
 use Rattle.scenario_keys.proofs.Each.{goes_on, ends}
-use Rattle.scenario_objects.proofs.dictionary.entries.Goals as goal
+use Rattle.scenario_entries.proofs.entries.entries.Goals as goal
 
 pub returns-in_err-row-clause-gives : goal.returns-in_err-row-clause-gives
 returns-in_err-row-clause-gives c =

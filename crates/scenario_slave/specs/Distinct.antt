@@ -2,7 +2,7 @@
 use Rattle.std.specs.Prelude.{◌≡◌, [], true}
 use Rattle.segment_plan.specs.declared.slave.SlaveSpec.{SlaveSpec}
 use Rattle.segment_plan.specs.Sound.{IsSlave, are_new_files, are_new_idns}
-use Rattle.scenario_settings.specs.Plain.{HasMac}
+use Rattle.scenario_plain.specs.Plain.{HasMac}
 
 -- a slave none of whose files has the name of another, and none of whose IDNs the drive and number of another
 pub record IsDistinct (s : SlaveSpec) : Type 0 where

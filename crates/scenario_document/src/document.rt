@@ -2,8 +2,8 @@ ghost use Rattle.std.specs.Prelude.{IfOk};
 ghost use Rattle.toml.specs.View.{table_view};
 ghost use Rattle.segment_plan.specs.Sound.{IsLaid};
 ghost use Rattle.scenario_keys.specs.Reading.{Gives};
-ghost use Rattle.scenario.specs.Told.{IsTold};
-ghost use Rattle.scenario.specs.Document.{tables_of};
+ghost use Rattle.scenario_document.specs.Told.{IsTold};
+ghost use Rattle.scenario_document.specs.Tables.{tables_of};
 
 use scenario_keys::{Place, Stop, integer_or, needed_integer, only_known};
 use scenario_services::services;
@@ -20,7 +20,7 @@ const KEYS: &[&str] = &[
 ];
 
 /// The keys of the top, the slaves with all that stands in them, the services and the packets of the host.
-#[tactic(auto, unfolding(crate::specs::Document::tables_of))]
+#[tactic(auto, unfolding(crate::specs::Tables::tables_of))]
 pub fn tables(alloc: Global, table: &Table) -> Result<Scenario, Stop>
     ensures gives { Gives (λ s. s) result (tables_of (table_view table.now)) }
     ensures sound { IfOk result IsLaid }

@@ -2,14 +2,13 @@ ghost use Rattle.std.specs.Prelude.{IfOk};
 ghost use Rattle.toml.specs.View.{table_view};
 ghost use Rattle.segment_plan.specs.Sound.{IsSlave};
 ghost use Rattle.scenario_keys.specs.Reading.{Gives};
-ghost use Rattle.scenario_settings.specs.Plain.{HasMac, plain_slave_of};
+ghost use Rattle.scenario_plain.specs.Plain.{HasMac, plain_slave_of};
 
-use crate::protocols::serves;
-use crate::settings::{mac, pace, start};
 use ec_fields::{Octets, Rows};
 use scenario_keys::{
     Place, Stop, bool_or_false, integer_or, needed_integer, needed_name, needed_pair,
 };
+use scenario_settings::{mac, pace, serves, start};
 use segment_plan::SlaveSpec;
 use std::alloc::Global;
 use toml::Table;
@@ -34,7 +33,7 @@ pub fn plain_slave(
     let boot = bool_or_false(table, "boot", place)?;
     let start = start(table, boot, place)?;
     let blocks = integer_or(table, "blocks", 64, 1, 1024, place)?;
-    let mac = mac(alloc, table, served.eoe, place)?;
+    let mac = mac(table, served.eoe, place)?;
     let fixed_ip = bool_or_false(table, "fixed_ip", place)?;
     Ok(SlaveSpec {
         name: Octets::copy_of(alloc, name.as_bytes())?,
