@@ -210,7 +210,17 @@ fn add_get_ip(number: u32, rows: &mut Rows<(u32, Service)>) -> Result<(), Stop>
 
 /// Appends what the keys of a service say, with the number of its slave. Each service is read by a function of its own, so that only its own
 /// room is filled.
-#[tactic(auto, unfolding(crate::specs::Services::body_of))]
+#[tactic(
+    auto,
+    using(
+        crate::proofs::Suited::sdo,
+        crate::proofs::Suited::read_file,
+        crate::proofs::Suited::write_file,
+        crate::proofs::Suited::read_idn,
+        crate::proofs::Suited::write_idn
+    ),
+    unfolding(crate::specs::Services::body_of)
+)]
 pub fn add_body(
     alloc: Global,
     action: Action,
