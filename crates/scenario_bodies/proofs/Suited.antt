@@ -1,5 +1,5 @@
 -- Services that suit every slave: all but an address block and a state.
-use Rattle.std.proofs.Common.{ℕ, codes, Result, Ok, Err, IfOk, OnOk}
+use Rattle.std.proofs.Common.{codes, Result, Ok, Err, IfOk, OnOk}
 use Rattle.toml.specs.Data.{Members}
 use Rattle.segment_plan.specs.declared.slave.SlaveSpec.{SlaveSpec}
 use Rattle.segment_plan.specs.declared.service.Service.{Service}
@@ -12,8 +12,8 @@ use Rattle.scenario_keys.specs.Keys.{name_at}
 use Rattle.scenario_octets.specs.Octets.{octets_at}
 use Rattle.scenario_actions.specs.declared.actions.SdoAction.{SdoAction}
 use Rattle.scenario_sdo.specs.Sdo.{sdo_of}
-use Rattle.scenario_services.specs.Reading.{Suits}
-use Rattle.scenario_services.specs.Services.{password_at, element_at, sdo_at, read_file_at, write_file_at, read_idn_at, write_idn_at}
+use Rattle.scenario_bodies.specs.Suited.{Suits}
+use Rattle.scenario_bodies.specs.Bodies.{password_at, element_at, sdo_at, read_file_at, write_file_at, read_idn_at, write_idn_at}
 
 -- what is read suits, where all that may follow does
 next : {A : Type 0} (slave : SlaveSpec) (read : Result A Refusal) (f : A → Result Service Refusal) → ((x : A) → IfOk (f x) (Suits slave)) → IfOk (read >>= f) (Suits slave)
