@@ -1,6 +1,6 @@
 //! The bounds of a scenario's IDNs and the octets within them, read or refused.
 #![tactic(auto)]
 
-mod bounds;
+mod reading;
 
-pub use bounds::{Bounds, bounded_value, bounds};
+pub use reading::{Bounds, bounded_value, bounds};

@@ -1,6 +1,6 @@
 //! The entries of a scenario's objects, read from their tables, or refused.
 #![tactic(auto)]
 
-mod entries;
+mod reading;
 
-pub use entries::entries;
+pub use reading::entries;

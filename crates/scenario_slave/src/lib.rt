@@ -1,6 +1,6 @@
 //! One slave of a scenario with all that stands in its table, read or refused.
 #![tactic(auto)]
 
-mod slave;
+mod reading;
 
-pub use slave::slave;
+pub use reading::slave;

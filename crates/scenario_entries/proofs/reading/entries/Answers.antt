@@ -5,7 +5,7 @@ use Rattle.std.proofs.Common.{None}
 use Rattle.scenario_entries.specs.Entries.{kind_behind, entry_of}
 use Rattle.segment_plan.specs.Sound.{IsEntry}
 use Rattle.scenario_keys.proofs.Each.{goes_on, ends}
-use Rattle.scenario_entries.proofs.entries.entries.Goals as goal
+use Rattle.scenario_entries.proofs.reading.entries.Goals as goal
 
 pub returns-in_err-row-clause-gives : goal.returns-in_err-row-clause-gives
 returns-in_err-row-clause-gives c =
