@@ -4,7 +4,8 @@ use Rattle.std.specs.Prelude.{IfSome, slice_get}
 use Rattle.std.proofs.lemmas.List.Elements.{All-weaker}
 use Rattle.run_lives.specs.Lives.{IsKnown, StateFits, RowFits}
 use Rattle.scenario.specs.Told.{IsTold}
-use Rattle.scenario_services.specs.Reading.{Suits, FitsSlave}
+use Rattle.scenario_bodies.specs.Suited.{Suits}
+use Rattle.scenario_services.specs.Reading.{FitsSlave}
 use Rattle.segment_plan.specs.declared.plan.Scenario.{Scenario}
 use Rattle.segment_plan.specs.declared.service.Service as Plan
 use Rattle.segment_plan.specs.declared.slave.SlaveSpec.{SlaveSpec}

@@ -1,2 +1,2 @@
 pub mod Document
-pub mod Told
+pub use Rattle.scenario_document.specs.Told

@@ -1,7 +1,6 @@
 //! Scenarios: the plan of a segment, read from TOML. What is read is the plan of the file, or the first refusal with its place.
 #![tactic(auto)]
 
-mod document;
 mod reading;
 
 pub use reading::read;

@@ -6,10 +6,10 @@ ghost use Rattle.scenario_keys.specs.declared.place.Place.TheVariants.{Top};
 ghost use Rattle.scenario_keys.specs.declared.refusal.Rule.TheVariants.{NotToml};
 ghost use Rattle.scenario_keys.specs.Reading.{Gives, wanted};
 ghost use Rattle.scenario_keys.specs.Rules.{Answers};
-ghost use Rattle.scenario.specs.Told.{IsTold};
+ghost use Rattle.scenario_document.specs.Told.{IsTold};
 ghost use Rattle.scenario.specs.Document.{document_of, plan_of};
 
-use crate::document::tables;
+use scenario_document::tables;
 use scenario_keys::{Place, ReadErr, Rule, Stop, refused};
 use scenario_whole::whole;
 use segment_plan::Scenario;

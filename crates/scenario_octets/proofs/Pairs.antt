@@ -1,12 +1,15 @@
 -- Hexadecimal digits: their table, and octets decoded in their place.
-use Rattle.std.proofs.Common.{◌≡◌, ◌≢◌, ℕ, ◌+◌, ◌*◌, ◌%◌, ◌<◌, ◌≤◌, ◌⊎◌, inl, inr, List, length, map, take, drop, slice_index, slice_index_or, unwrap_or, Option, Some, None, Result, Ok, Err, refl, sym, ap, ◌∙◌, arith}
+use Rattle.std.proofs.Common.{◌≡◌, ◌≢◌, ℕ, ◌+◌, ◌*◌, ◌%◌, ◌<◌, ◌≤◌, nat_le, Bool, true, false, ◌⊎◌, inl, inr, List, [], ◌∷◌, ◌++◌, length, map, take, drop, slice_index, slice_index_or, unwrap_or, Option, Some, None, is_some, Result, Ok, Err, refl, sym, ap, ◌∙◌, arith}
+use Rattle.std.specs.Prelude.{is_ok}
 use Rattle.std.specs.Result.{result_ok}
-use Rattle.std.specs.List.{range_with_len}
+use Rattle.std.specs.List.{range_with_len, list_all}
+use Rattle.std.proofs.lemmas.List.{append-nil, drop_all}
+use Rattle.std.proofs.lemmas.List.Sums.{AllPass-from_list_all, list_all-from_AllPass}
 use Rattle.std.proofs.lemmas.List.FromFn.{get_or-map-range_with_len}
-use Rattle.hex.specs.Hex.{hex_digit_value, digit_or_error, value_at, pair_value, decode_pairs, decode_of}
+use Rattle.hex.specs.Hex.{hex_digit_value, is_hex_digit, digit_or_error, value_at, pair_value, decode_pairs, decode_of}
 use Rattle.hex.specs.declared.error.FromHexError.{FromHexError}
-use Rattle.hex.proofs.Pairs.{prepend, decode_err, decode_done}
-use Rattle.hex.proofs.HexLemmas.{decode_of-even}
+use Rattle.hex.proofs.Pairs.{prepend, prepend-cons_byte, cons_byte, drop-pair, decode_pairs-ok_pair, decode_pairs-err_pair, decode_start, decode_err, decode_done}
+use Rattle.hex.proofs.HexLemmas.{decode_of-even, decode_of-odd, decode_of-ok, decode_of-digits}
 
 -- the value of a character as a digit, 16 where it is none
 abbrev pub value_of : ℕ → ℕ
@@ -85,3 +88,49 @@ whole text out i fits le h =
 -- a text of an odd number of characters writes no octets
 pub odd : (text : List ℕ) → length text % 2 ≢ 0 → result_ok (decode_of text) ≡ None
 odd text h = grind (arith)
+
+-- a digit by its value
+pub digit_told : (o : Option ℕ) (v : ℕ) → v ≡ unwrap_or o 16 → ((w : ℕ) → o ≡ Some w → w < 16) → nat_le v 15 ≡ is_some o
+digit_told (Some w) v e small = let lt : w < 16 = small w refl in let same : v ≡ w = e in rw same (grind (arith))
+digit_told None v e small = let same : v ≡ 16 = e in rw same refl
+
+even_told : (text : List ℕ) (b : Bool) (r : Result (List ℕ) FromHexError) → list_all is_hex_digit text ≡ b → decode_of text ≡ r → length text % 2 ≡ 0 → b ≡ is_ok r
+even_told text true r hb hr ev = let d = decode_of-digits text ev (AllPass-from_list_all is_hex_digit text hb) in ap is_ok (sym d.1 ∙ hr)
+even_told text false (Ok bytes) hb hr ev = let all = list_all-from_AllPass is_hex_digit text (decode_of-ok text bytes hr).1 in cc (all, hb)
+even_told text false (Err e) hb hr ev = refl
+
+-- a text of an even number of characters writes octets where all of them are digits
+pub digits_told : (text : List ℕ) → length text % 2 ≡ 0 → list_all is_hex_digit text ≡ is_ok (decode_of text)
+digits_told text even = even_told text (list_all is_hex_digit text) (decode_of text) refl refl even
+
+pub odd_told : (text : List ℕ) → length text % 2 ≢ 0 → is_ok (decode_of text) ≡ false
+odd_told text h = ap is_ok (decode_of-odd text (omega (arith, h)))
+
+-- what is decoded of the first i pairs into a list of just these octets, and what of the rest
+abbrev pub Begun : List ℕ → List ℕ → ℕ → Type 0
+Begun text octets i = decode_pairs 0 text ≡ prepend octets (decode_pairs (2 * i) (drop (2 * i) text))
+
+pub begun : (text : List ℕ) → Begun text [] 0
+begun text = decode_start text []
+
+pub goes_on : (text octets : List ℕ) (i v : ℕ) → 2 * i + 1 < length text
+    → pair_value (slice_index text (2 * i)) (slice_index text (2 * i + 1)) (2 * i) ≡ Ok v
+    → Begun text octets i → Begun text (octets ++ v ∷ []) (i + 1)
+goes_on text octets i v fits ok before =
+    let rest : List ℕ = drop (2 * (i + 1)) text in
+    let two : 2 * i + 2 ≡ 2 * (i + 1) = omega arith in
+    let pair = ap (decode_pairs (2 * i)) (drop-pair text i fits) ∙ decode_pairs-ok_pair (2 * i) _ _ v rest ok
+    ∙ ap (λ (k : ℕ). cons_byte v (decode_pairs k rest)) two in
+    before ∙ ap (prepend octets) pair ∙ prepend-cons_byte octets v _
+
+pub stops : (text octets : List ℕ) (i : ℕ) (e : FromHexError) → length text % 2 ≡ 0 → 2 * i + 1 < length text
+    → pair_value (slice_index text (2 * i)) (slice_index text (2 * i + 1)) (2 * i) ≡ Err e
+    → Begun text octets i → result_ok (decode_of text) ≡ None
+stops text octets i e even fits bad before =
+    ap result_ok (decode_of-even text even ∙ before ∙ ap (prepend octets) (ap (decode_pairs (2 * i)) (drop-pair text i fits) ∙ decode_pairs-err_pair (2 * i) _ _ e _ bad))
+
+pub ends : (text octets : List ℕ) (i : ℕ) → length text % 2 ≡ 0 → length text ≤ 2 * i → Begun text octets i
+    → result_ok (decode_of text) ≡ Some octets
+unfolding decode_pairs
+ends text octets i even le before =
+    ap result_ok (decode_of-even text even ∙ before ∙ ap (prepend octets) (ap (decode_pairs (2 * i)) (drop_all (2 * i) text le)) ∙ ap Ok (append-nil octets))

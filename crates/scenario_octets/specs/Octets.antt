@@ -1,5 +1,5 @@
 -- Octets, written as a text of hexadecimal digits.
-use Rattle.std.specs.Prelude.{ℕ, ◌&&◌, nat_le, List, length, Result, Ok}
+use Rattle.std.specs.Prelude.{ℕ, ◌/◌, ◌%◌, ◌==◌, ◌&&◌, nat_le, Bool, List, length, Result, Ok}
 use Rattle.std.specs.Result.{result_ok}
 use Rattle.hex.specs.Hex.{decode_of}
 use Rattle.toml.specs.Data.{Data, Members}
@@ -12,6 +12,10 @@ use Rattle.scenario_keys.specs.Keys.{needed_at, text_in, excluded}
 -- the octets that a text of hexadecimal digits writes
 abbrev pub digits_in : Place → Data → Result (List ℕ) Refusal
 digits_in place d = text_in place d >>= λ text. wanted NotOctets place (result_ok (decode_of text))
+
+-- whether a text has as many characters as so many octets have digits
+abbrev pub is_fit : ℕ → ℕ → List ℕ → Bool
+is_fit least most text = length text % 2 == 0 && nat_le least (length text / 2) && nat_le (length text / 2) most
 
 -- so many octets
 abbrev pub octets_in : ℕ → ℕ → Place → Data → Result (List ℕ) Refusal

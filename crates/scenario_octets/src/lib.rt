@@ -4,4 +4,4 @@
 mod digits;
 mod octets;
 
-pub use octets::{needed_octets, no_octets};
+pub use octets::{needed_buffer, needed_in_place, needed_octets, no_octets};

@@ -1,7 +1,6 @@
 //! The services of a scenario: read from their tables, or refused.
 #![tactic(auto)]
 
-mod bodies;
 mod reading;
 
 pub use reading::services;

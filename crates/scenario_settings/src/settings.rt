@@ -5,8 +5,7 @@ ghost use Rattle.scenario_keys.specs.Reading.{Gives};
 ghost use Rattle.scenario_settings.specs.Settings.{start_of, start_in, start_at, own_mac_at, mac_at, pace_at};
 
 use scenario_keys::{Place, Rule, Stop, find, integer_or, refused, text, unless};
-use scenario_octets::{needed_octets, no_octets};
-use std::alloc::Global;
+use scenario_octets::{needed_in_place, no_octets};
 use toml::{Table, Value};
 
 fn start_of(boot: bool, word: &str) -> Option<u8>
@@ -43,28 +42,27 @@ pub fn start(table: &Table, boot: bool, place: Place) -> Result<u8, Stop>
     }
 }
 
-fn own_mac(alloc: Global, table: &Table, place: Place) -> Result<[u8; 6], Stop>
+fn own_mac(table: &Table, place: Place) -> Result<[u8; 6], Stop>
     ensures gives { Gives (λ m. m) result (own_mac_at place (table_view table.now)) }
     ensures within { IfOk result (λ m. slice_index m 0 % 2 ≡ 0) }
     ensures whole { IfOk result (λ m. length m ≡ 6) }
 {
-    let octets = needed_octets(alloc, table, "mac", 6, 6, place)?;
     let mut mac = [0; 6];
-    mac.copy_from_slice(octets.bytes());
+    needed_in_place(table, "mac", place, &mut mac)?;
     unless(mac[0] % 2 == 0, Rule::OutOfRange, place)?;
     Ok(mac)
 }
 
 /// The MAC address, which stands just where EoE is served.
-pub fn mac(alloc: Global, table: &Table, eoe: bool, place: Place) -> Result<[u8; 6], Stop>
+pub fn mac(table: &Table, eoe: bool, place: Place) -> Result<[u8; 6], Stop>
     ensures gives { Gives (λ m. m) result (mac_at eoe place (table_view table.now)) }
     ensures within { IfOk result (λ m. is_mac eoe m ≡ true) }
     ensures whole { IfOk result (λ m. length m ≡ 6) }
 {
     if eoe {
-        own_mac(alloc, table, place)
+        own_mac(table, place)
     } else {
-        no_octets(alloc, table, "mac", place)?;
+        no_octets(table, "mac", place)?;
         Ok([0; 6])
     }
 }

@@ -1,2 +1,2 @@
-pub mod Distinct
+pub use Rattle.scenario_slave.specs.Distinct
 pub mod Slaves

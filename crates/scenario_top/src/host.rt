@@ -1,24 +1,25 @@
-ghost use Rattle.std.specs.Prelude.{◌≡◌, ◌≤◌, map, length, IfOk, All};
+ghost use Rattle.std.specs.Prelude.{◌≡◌, ◌≤◌, [], map, length, IfOk, OnOk, All};
 ghost use Rattle.toml.specs.View.{table_view};
 ghost use Rattle.segment_plan.specs.Sound.{IsPacket};
 ghost use Rattle.scenario_keys.specs.Reading.{Gives};
 ghost use Rattle.scenario_top.specs.Top.{packet_of, packets_of};
 
-use ec_fields::{Rows, buffer_of};
+use arrayvec::ArrayVec;
+use ec_fields::Rows;
 use eoe::Packet;
 use scenario_keys::{Place, Stop, only_known, put};
-use scenario_octets::needed_octets;
+use scenario_octets::needed_buffer;
 use std::alloc::Global;
 use toml::Table;
 
-fn packet(alloc: Global, table: &Table, number: u32) -> Result<Packet, Stop>
-    ensures gives { Gives (λ p. p) result (packet_of number (table_view table.now)) }
-    ensures sound { IfOk result IsPacket }
+fn packet(table: &Table, number: u32, packet: &mut Packet) -> Result<(), Stop>
+    requires { packet.old.items ≡ [] }
+    ensures gives { Gives (λ _. packet.new) result (packet_of number (table_view table.now)) }
+    ensures sound { OnOk result (IsPacket packet.new) }
 {
     let place = Place::Host(number);
     only_known(table, &["packet"], place)?;
-    let octets = needed_octets(alloc, table, "packet", 14, 1514, place)?;
-    Ok(buffer_of(octets.bytes()))
+    needed_buffer(table, "packet", 14, place, packet)
 }
 
 /// The packets of the host in order.
@@ -30,7 +31,8 @@ pub fn packets(alloc: Global, tables: &[&Table]) -> Result<Rows<Packet>, Stop>
 {
     let mut rows = Rows::new(alloc);
     for (i, table) in tables.iter().enumerate() {
-        let row = packet(alloc, table, i as u32)?;
+        let mut row = ArrayVec::new();
+        packet(table, i as u32, &mut row)?;
         put(&mut rows, row)?;
     }
     Ok(rows)
