@@ -343,6 +343,7 @@ module _ (lens : ℕ → Lens) (recover retry : ℕ) (gives : Bool) (made : ℕ)
     forgets = λ waits number ns h. behind_forgets Pass waits number ns h;
     on = λ ns h. noted_on Pass ns h;
     gave = back_gave u.lived.spot (seen lens f.back) u.lived.life (came_at u.share.under u.share.at (seen lens f.back)) u.lived.life.stand;
+    same = record { script = refl; number = refl };
   }
 
   pub loses_so : (after : ℕ) → LosesSo made (turned u) (led (Lost after))
@@ -351,4 +352,5 @@ module _ (lens : ℕ → Lens) (recover retry : ℕ) (gives : Bool) (made : ℕ)
     forgets = λ waits number ns h. behind_forgets (Lost after) waits number ns h;
     on = λ ns h. noted_on (Lost after) ns h;
     gave = given_gave (gives && u.share.under) u.lived.spot u.lived.life _ (lost_gave u.lived.spot (seen lens f.sent) u.lived.life u.lived.life.stand);
+    same = record { script = refl; number = refl };
   }

@@ -293,5 +293,12 @@ module _ (lens : ℕ → Lens) (made : ℕ) (ds : List Raw.Datagram) (a : Leads)
       go Stand.Open = refl
       go Stand.Gone = refl
 
+  -- the script goes on by one, or by none
+  next_number : (b : Option (Service Asked)) (k : ℕ) → Comes (lens a.lived.spot.station).out a.script a.number b k → (k ≡ a.number) ⊎ (k ≡ suc a.number)
+  next_number _ _ Comes.none = inl refl
+  next_number _ _ (Comes.mails s q at asked) = inr refl
+  next_number _ _ (Comes.state target at) = inr refl
+  next_number _ _ (Comes.packet octets frame) = inl refl
+
   pub turns_so : TurnsSo made a (turned u)
-  turns_so = record { turns = λ waits number ns h. turn_noted waits number ns h; gave = turn_gave }
+  turns_so = record { turns = λ waits number ns h. turn_noted waits number ns h; gave = turn_gave; goes = record { script = y.script; number = next_number u.begun u.number y.comes } }

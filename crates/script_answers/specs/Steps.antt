@@ -1,5 +1,5 @@
 -- WHAT A FRAME LEAVES OF WHAT IS NOTED OF A SLAVE: before it, behind its return, and behind its loss.
-use Rattle.std.specs.Prelude.{◌≡◌, ◌⊎◌, ◌≤◌, ℕ, not, Bool, true, false, nat_lt, is_some, Option, Some, None, List, [], ◌∷◌, ◌++◌, length}
+use Rattle.std.specs.Prelude.{◌≡◌, ◌⊎◌, ◌≤◌, ℕ, suc, not, Bool, true, false, nat_lt, is_some, Option, Some, None, List, [], ◌∷◌, ◌++◌, length}
 use Rattle.life_model.specs.Lives.{Stand}
 use Rattle.life_runs.specs.Led.{Leads}
 use Rattle.master_duty.specs.Reply.{Reply}
@@ -21,10 +21,21 @@ pub record Turns (made : ℕ) (a b : Leads) (waits : Bool) (number : ℕ) (ns : 
   pub still : nat_lt number b.number ≡ false → life_scripted b.lived.life ≡ life_scripted a.lived.life
   pub more : nat_lt number b.number ≡ true → (state : Bool) → (b.lived.life.stand ≡ Stand.Open → state ≡ is_some b.lived.life.era.account.hand) → Begun made b ns state
 
+-- the script of a slave goes on by one service, or by none
+pub record GoesOn (a b : Leads) : Type 0 where
+  pub script : b.script ≡ a.script
+  pub number : (b.number ≡ a.number) ⊎ (b.number ≡ suc a.number)
+
 -- of whatever is noted; and no one is given up
 pub record TurnsSo (made : ℕ) (a b : Leads) : Type 0 where
   pub turns : (waits : Bool) (number : ℕ) (ns : List Noted) → IsNoted a waits number ns → Turns made a b waits number ns
   pub gave : gives b ≡ gives a
+  pub goes : GoesOn a b
+
+-- the same script, and so many of it that came into hand
+pub record SameScript (a b : Leads) : Type 0 where
+  pub script : b.script ≡ a.script
+  pub number : b.number ≡ a.number
 
 -- BEHIND A RETURN: the service that awaits its reply goes on so, or has it of this frame
 pub record PassesSo (made : ℕ) (a b : Leads) : Type 0 where
@@ -35,6 +46,7 @@ pub record PassesSo (made : ℕ) (a b : Leads) : Type 0 where
   pub forgets : (waits : Bool) (number : ℕ) (ns : List Noted) → IsNoted a waits number ns → IsNoted b false number ns
   pub on : (ns : List Noted) → AllNoted (life_scripted a.lived.life) ns → AllNoted (life_scripted b.lived.life) ns
   pub gave : gives b ≡ gives a
+  pub same : SameScript a b
 
 -- BEHIND A LOSS: it goes on so, where the slave isn't given up
 pub record LosesSo (made : ℕ) (a b : Leads) : Type 0 where
@@ -42,3 +54,4 @@ pub record LosesSo (made : ℕ) (a b : Leads) : Type 0 where
   pub forgets : (waits : Bool) (number : ℕ) (ns : List Noted) → IsNoted a waits number ns → IsNoted b false number ns
   pub on : (ns : List Noted) → AllNoted (life_scripted a.lived.life) ns → AllNoted (life_scripted b.lived.life) ns
   pub gave : (gives b ≡ gives a) ⊎ (gives b ≡ gives a ++ made ∷ [])
+  pub same : SameScript a b
