@@ -1,4 +1,5 @@
 mod Unopened
 mod Reported
 mod Rounds
+mod Unsent
 mod Overs

@@ -4,6 +4,7 @@ use Rattle.life_runs.specs.Led.{Leads}
 use Rattle.plan_promises.specs.Promise.{slaves_behind, Keeps}
 use Rattle.plan_promises.specs.Rest.{NothingIsLeft, AllIsDone}
 use Rattle.promised_run.specs.Reported.{AllReported}
+use Rattle.promised_run.specs.Unsent.{AllUnsent}
 use Rattle.run_book.specs.declared.book.Book.{Book}
 use Rattle.run_book.specs.declared.book.Ending.{Ending}
 use Rattle.run_book.specs.declared.book.Ending.TheVariants as endings
@@ -30,3 +31,5 @@ pub record IsPromised (plan : Scenario) (book : Book) : Type 0 where
   pub over : LeavesNothing plan book led.leads book.ending
   -- each reply that the book reports of a scripted service by mails is that of this application, and of the script just the services stand there that began
   pub reported : book.ending ≢ endings.NoMemory → AllReported plan (map exchanged book.frames) 0 plan.slaves led.leads (slaves_behind plan (map exchanged book.frames)) book.slaves
+  -- and of each script just the rest, behind the services that began, is reported as not sent
+  pub unsent : book.ending ≢ endings.NoMemory → AllUnsent plan 0 led.leads book.slaves

@@ -10,6 +10,7 @@ ghost use Rattle.promised_run.specs.Promised.{IsPromised};
 
 use plan_promises::{read_promise_law, rest_promise_law};
 use run_book::{Book, Ending};
+use script_runs::script_run_law;
 use segment_plan::Scenario;
 use std::alloc::Global;
 
@@ -29,5 +30,6 @@ pub fn run(alloc: Global, plan: &Scenario, book: &mut Book) -> Ending
 {
     read_promise_law();
     rest_promise_law();
+    script_run_law();
     run_record::run(alloc, plan, book)
 }

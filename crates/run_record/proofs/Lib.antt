@@ -14,5 +14,6 @@ pub mod Underway
 pub mod Gaves
 pub mod Ends
 pub mod Overs
+pub mod Unsent
 pub mod Reports
 pub mod Reporting

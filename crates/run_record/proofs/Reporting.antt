@@ -16,10 +16,11 @@ use Rattle.master_node.specs.Wants.{gave_of, IsCounted, AllCounted}
 use Rattle.master_node.specs.declared.told.Told.{Told}
 use Rattle.run_record.specs.Notes.{began_script, told_noted, given_up}
 use Rattle.run_record.specs.Session.{slave_row, slave_rows}
+use Rattle.run_record.specs.Unsent.{IsSpent}
 use Rattle.script_answers.specs.Answers.{IsNoted, now_answer}
 use Rattle.script_answers.specs.Steps.{TurnsSo, PassesSo, LosesSo}
 use Rattle.run_record.specs.declared.notes.Notes.{Notes}
-use Rattle.run_record.proofs.Reports.{turn_same, turn_more, pass_still, pass_replied, pass_doubted, lost_still, lost_given, end_noted}
+use Rattle.run_record.proofs.Reports.{turn_same, turn_more, pass_still, pass_replied, pass_doubted, lost_still, lost_given, end_noted, end_spent}
 use Rattle.slave_server.specs.declared.server.SlaveServer.{SlaveServer}
 use Rattle.slave_steps.specs.Node.{Node}
 
@@ -106,6 +107,14 @@ all_booked recover [] nodes (n ∷ notes) e r = absurd r
 all_booked recover (a ∷ as') nodes [] e r = absurd r
 all_booked recover (a ∷ as') [] (n ∷ notes) e r = absurd (omega (arith, e))
 all_booked recover (a ∷ as') (node ∷ nodes) (n ∷ notes) e r = (end_noted a n r.0, all_booked recover as' nodes notes (omega (arith, e)) r.1)
+
+pub all_spent : (recover : ℕ) (leads : List Leads) (nodes : List (Node SlaveServer)) (notes : List Notes) → length notes ≡ length nodes → AllReport leads notes → AllBoth IsSpent leads (slave_rows recover nodes notes)
+all_spent recover [] [] [] e r = tt
+all_spent recover [] (node ∷ nodes) [] e r = tt
+all_spent recover [] nodes (n ∷ notes) e r = absurd r
+all_spent recover (a ∷ as') nodes [] e r = absurd r
+all_spent recover (a ∷ as') [] (n ∷ notes) e r = absurd (omega (arith, e))
+all_spent recover (a ∷ as') (node ∷ nodes) (n ∷ notes) e r = (end_spent a recover node n r.0, all_spent recover as' nodes notes (omega (arith, e)) r.1)
 
 pub both_lengths : {A B : Type 0} (P : A → B → Type 0) (as' : List A) (bs : List B) → AllBoth P as' bs → length bs ≡ length as'
 both_lengths P [] [] h = refl

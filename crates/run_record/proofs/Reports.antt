@@ -1,5 +1,6 @@
 -- WHAT IS NOTED OF ONE SLAVE goes with its life: over events, what comes into hand, returns and losses.
-use Rattle.std.proofs.Common.{◌≡◌, ◌⊎◌, inl, inr, ℕ, zero, suc, ◌+◌, Bool, true, false, Option, Some, None, List, [], ◌∷◌, ◌++◌, map, length, length-append, refl, ap, sym, ◌∙◌, subst, arith, append_assoc, append-nil, replicate}
+use Rattle.std.proofs.Common.{◌≡◌, ◌⊎◌, inl, inr, ℕ, zero, suc, ◌+◌, ◌-◌, Bool, true, false, Option, Some, None, List, [], ◌∷◌, ◌++◌, map, length, length-append, refl, ap, sym, ◌∙◌, subst, arith, append_assoc, append-nil, replicate}
+use Rattle.std.proofs.lemmas.Bool.{ltb-true, ltb-false}
 use Rattle.std.specs.Prelude.{◌&&◌, not, nat_lt, is_some, if◌then◌else◌}
 use Rattle.life_model.specs.Lives.{Stand}
 use Rattle.life_runs.specs.Led.{Leads}
@@ -14,10 +15,15 @@ use Rattle.run_book.specs.declared.book.Begun.{Begun}
 use Rattle.run_book.specs.declared.book.Reply.{Reply as Booked}
 use Rattle.run_record.specs.Notes.{answers_doubted, doubted, began, began_script, answered, answered_where, given_up, ended}
 use Rattle.run_record.specs.Reports.{reply_in, noted_of, noted_in, unanswered, LastScript, IsReporting, Reports}
+use Rattle.run_record.specs.Session.{slave_row}
+use Rattle.run_record.specs.Unsent.{first_numbers, IsNumbered, IsSpent}
+use Rattle.run_record.proofs.Unsent.{IsOther, sent_more, other_more, script_more}
 use Rattle.run_record.specs.declared.notes.Notes.{Notes}
 use Rattle.script_answers.specs.Answers.{Noted, AllNoted, IsNoted, life_scripted, newest_answer}
-use Rattle.script_answers.specs.Steps.{TurnsSo, PassesSo, LosesSo}
+use Rattle.script_answers.specs.Steps.{GoesOn, SameScript, TurnsSo, PassesSo, LosesSo}
 use Rattle.script_answers.proofs.Frames.{forget}
+use Rattle.slave_server.specs.declared.server.SlaveServer.{SlaveServer}
+use Rattle.slave_steps.specs.Node.{Node}
 
 -- ONE ANSWER MORE, which is no reply
 of_more : (o : Origin) (frame : ℕ) (reply : Option (Reply × ℕ)) (ns ms : List Noted) → noted_of o frame reply (ns ++ ms) ≡ noted_of o frame reply ns ++ ms
@@ -53,13 +59,14 @@ module _ (a : Leads) (n : Notes) where
   pub doubt_reports : Reports a n → Reports a (doubted n)
   doubt_reports r = by n.in_hand refl
     where
-      by : (h : Bool) → n.in_hand ≡ h → IsReporting a n.begun (if h then n.answers ++ InDoubt ∷ [] else n.answers) false false n.scripted n.gave
+      by : (h : Bool) → n.in_hand ≡ h → IsReporting a n.begun (if h then n.answers ++ InDoubt ∷ [] else n.answers) false false n.scripted n.left n.gave
       by true e = record {
         told = subst (λ ns. IsNoted a false n.scripted ns) (sym (no_reply n.begun n.answers InDoubt refl)) (forget a n.mails n.scripted (noted_in n.begun n.answers) r.told);
         aligned = (let k = length-append n.answers (InDoubt ∷ []) in let m = r.aligned in let u = ap unanswered e in omega (arith, k, m, u));
         last = λ bad. no_wait bad;
         other = λ bad f answer. no_wait bad;
         gave = r.gave;
+        rest = record { numbers = r.rest.numbers; sent = sent_more n.answers InDoubt r.rest.sent tt; left = r.rest.left };
       }
       by false e = record {
         told = forget a n.mails n.scripted (noted_in n.begun n.answers) r.told;
@@ -67,6 +74,7 @@ module _ (a : Leads) (n : Notes) where
         last = λ bad. no_wait bad;
         other = λ bad f answer. no_wait bad;
         gave = r.gave;
+        rest = r.rest;
       }
 
   -- then each service has an answer
@@ -74,23 +82,26 @@ module _ (a : Leads) (n : Notes) where
   all_answered r = let m = (doubt_reports r).aligned in omega (arith, m)
 
   -- ANOTHER SERVICE came into hand, that is none of the script
-  abbrev IsOther : Origin → Type 0
-  IsOther o = (frame : ℕ) (reply : Option (Reply × ℕ)) → noted_of o frame reply [] ≡ []
+  not_noted : (o : Origin) → IsOther o → (frame : ℕ) (reply : Option (Reply × ℕ)) → noted_of o frame reply [] ≡ []
+  not_noted (Script number) other frame reply = absurd other
+  not_noted (Forward number) other frame reply = refl
+  not_noted (Gateway number) other frame reply = refl
 
   pub began_reports : (o : Origin) (frame : ℕ) → IsOther o → Reports a n → Reports a (began n o frame)
   began_reports o frame other r =
       let d = doubt_reports r in
       let all = all_answered r in
       let one : Begun = record { origin = o; frame = frame } in
-      let same : noted_in (n.begun ++ one ∷ []) (answers_doubted n) ≡ noted_in n.begun (answers_doubted n) = noted_begun n.begun (answers_doubted n) one all ∙ ap (λ ns. noted_in n.begun (answers_doubted n) ++ ns) (other frame None) ∙ append-nil (noted_in n.begun (answers_doubted n)) in
+      let same : noted_in (n.begun ++ one ∷ []) (answers_doubted n) ≡ noted_in n.begun (answers_doubted n) = noted_begun n.begun (answers_doubted n) one all ∙ ap (λ ns. noted_in n.begun (answers_doubted n) ++ ns) (not_noted o other frame None) ∙ append-nil (noted_in n.begun (answers_doubted n)) in
       record {
         told = subst (λ ns. IsNoted a false n.scripted ns) (sym same) d.told;
         aligned = (let k = length-append n.begun (one ∷ []) in omega (arith, k, all));
         last = λ bad. no_wait bad;
         other = λ h f answer.
             subst (λ ns. AllNoted (life_scripted a.lived.life) ns)
-            (sym (noted_answer n.begun (answers_doubted n) one answer all ∙ ap (λ ns. noted_in n.begun (answers_doubted n) ++ ns) (other frame (reply_in answer)) ∙ append-nil (noted_in n.begun (answers_doubted n)))) d.told.noted;
+            (sym (noted_answer n.begun (answers_doubted n) one answer all ∙ ap (λ ns. noted_in n.begun (answers_doubted n) ++ ns) (not_noted o other frame (reply_in answer)) ∙ append-nil (noted_in n.begun (answers_doubted n)))) d.told.noted;
         gave = r.gave;
+        rest = other_more (length a.script) n.begun (answers_doubted n) n.scripted n.left frame d.rest o other;
       }
 
   -- A SERVICE that is none by mails of the script is answered
@@ -101,6 +112,7 @@ module _ (a : Leads) (n : Notes) where
     last = λ bad. no_wait bad;
     other = λ bad f answer. no_wait bad;
     gave = r.gave;
+    rest = record { numbers = r.rest.numbers; sent = sent_more n.answers (Replied reply frame) r.rest.sent tt; left = r.rest.left };
   }
 
   pub answered_reports : (reply : Booked) (frame : ℕ) → Reports a n → Reports a (answered_where n reply frame)
@@ -110,6 +122,10 @@ module _ (a : Leads) (n : Notes) where
       by true false e f = answered_so reply frame e f r
       by true true e f = r
       by false m e f = r
+
+-- of the same script
+same_script : (a b : Leads) (begun : List Begun) (answers : List Answer) (count left : ℕ) → b.script ≡ a.script → IsNumbered (length a.script) begun answers count left → IsNumbered (length b.script) begun answers count left
+same_script a b begun answers count left e r = subst (λ ss. IsNumbered (length ss) begun answers count left) (sym e) r
 
 -- BEFORE A FRAME
 module _ (made : ℕ) (a b : Leads) (n : Notes) (t : TurnsSo made a b) (r : Reports a n) where
@@ -122,7 +138,16 @@ module _ (made : ℕ) (a b : Leads) (n : Notes) (t : TurnsSo made a b) (r : Repo
         last = r.last;
         other = λ h f answer. subst (λ ss. AllNoted ss (noted_in n.begun (n.answers ++ answer ∷ []))) (sym (s.still e)) (r.other h f answer);
         gave = r.gave ∙ sym t.gave;
+        rest = same_script a b n.begun n.answers n.scripted n.left t.goes.script r.rest;
       }
+
+  -- one service more
+  next_number : nat_lt n.scripted b.number ≡ true → b.number ≡ suc n.scripted
+  next_number e = by t.goes.number
+    where
+      by : (b.number ≡ a.number) ⊎ (b.number ≡ suc a.number) → b.number ≡ suc n.scripted
+      by (inl same) = absurd (let k = ltb-true n.scripted b.number e in let m = r.told.many in omega (arith, k, m, same))
+      by (inr more) = more ∙ ap suc (sym r.told.many)
 
   pub turn_more : nat_lt n.scripted b.number ≡ true → (state : Bool) → (b.lived.life.stand ≡ Stand.Open → state ≡ is_some b.lived.life.era.account.hand) → Reports b (began_script n b.number (not state) made)
   turn_more e state shown =
@@ -138,6 +163,8 @@ module _ (made : ℕ) (a b : Leads) (n : Notes) (t : TurnsSo made a b) (r : Repo
         last = λ w. record { front = n.begun; number = n.scripted; frame = made; last = refl; beside = all };
         other = λ h f answer. subst (λ ms. AllNoted (life_scripted b.lived.life) ms) (sym (noted_answer n.begun answers one answer all)) (s.any (not_not state f) (reply_in answer));
         gave = r.gave ∙ sym t.gave;
+        rest = subst (λ (k : ℕ). IsNumbered (length b.script) (n.begun ++ one ∷ []) answers k (n.left - 1)) (sym (next_number e))
+            (script_more (length b.script) n.begun answers n.scripted n.left made (same_script a b n.begun answers n.scripted n.left t.goes.script d.rest));
       }
     where
       not_not : (z : Bool) → not z ≡ false → z ≡ true
@@ -153,6 +180,7 @@ module _ (made : ℕ) (a b : Leads) (n : Notes) (p : PassesSo made a b) (r : Rep
     last = r.last;
     other = λ h f answer. p.on (noted_in n.begun (n.answers ++ answer ∷ [])) (r.other h f answer);
     gave = r.gave ∙ sym p.gave;
+    rest = same_script a b n.begun n.answers n.scripted n.left p.same.script r.rest;
   }
 
   pub pass_replied : (reply : Booked) (g : ℕ) → n.mails ≡ true → newest_answer b ≡ Some (Some (reply.kind, reply.value), g) → Reports b (answered n reply made)
@@ -170,6 +198,8 @@ module _ (made : ℕ) (a b : Leads) (n : Notes) (p : PassesSo made a b) (r : Rep
         last = λ bad. no_wait bad;
         other = λ bad f answer. no_wait bad;
         gave = r.gave ∙ sym p.gave;
+        rest = same_script a b n.begun (n.answers ++ Replied reply made ∷ []) n.scripted n.left p.same.script
+            (record { numbers = r.rest.numbers; sent = sent_more n.answers (Replied reply made) r.rest.sent tt; left = r.rest.left });
       }
 
   pub pass_doubted : Reports b (doubted n)
@@ -181,6 +211,7 @@ module _ (made : ℕ) (a b : Leads) (n : Notes) (p : PassesSo made a b) (r : Rep
         last = d.last;
         other = λ bad f answer. no_wait bad;
         gave = r.gave ∙ sym p.gave;
+        rest = same_script a b n.begun (answers_doubted n) n.scripted n.left p.same.script d.rest;
       }
 
 -- BEHIND A LOSS
@@ -192,6 +223,7 @@ module _ (made : ℕ) (a b : Leads) (n : Notes) (p : LosesSo made a b) (r : Repo
     last = r.last;
     other = λ h f answer. p.on (noted_in n.begun (n.answers ++ answer ∷ [])) (r.other h f answer);
     gave = r.gave ∙ sym same;
+    rest = same_script a b n.begun n.answers n.scripted n.left p.same.script r.rest;
   }
 
   pub lost_given : gave_of b ≡ gave_of a ++ made ∷ [] → Reports b (given_up n made)
@@ -203,6 +235,7 @@ module _ (made : ℕ) (a b : Leads) (n : Notes) (p : LosesSo made a b) (r : Repo
         last = d.last;
         other = λ bad f answer. no_wait bad;
         gave = ap (λ (g : List ℕ). g ++ made ∷ []) r.gave ∙ sym more;
+        rest = same_script a b n.begun (answers_doubted n) n.scripted n.left p.same.script d.rest;
       }
 
 -- AT THE END
@@ -212,3 +245,15 @@ no_replies bs answers (suc k) = ap (noted_in bs) (sym (append_assoc answers (Not
 
 pub end_noted : (a : Leads) (n : Notes) → Reports a n → AllNoted (life_scripted a.lived.life) (noted_in n.begun (ended n))
 end_noted a n r = subst (λ ns. AllNoted (life_scripted a.lived.life) ns) (sym (no_replies n.begun (answers_doubted n) n.left)) (doubt_reports a n r).told.noted
+
+pub end_spent : (a : Leads) (recover : ℕ) (node : Node SlaveServer) (n : Notes) → Reports a n → IsSpent a (slave_row recover node n)
+end_spent a recover node n r =
+    let d = doubt_reports a n r in
+    let many = r.told.many in
+    record {
+      numbers = d.rest.numbers ∙ ap first_numbers many;
+      answers = answers_doubted n;
+      beside = (let k = d.aligned in omega (arith, k));
+      sent = d.rest.sent;
+      whole = ap (λ (k : ℕ). answers_doubted n ++ replicate k NotSent) (r.rest.left ∙ ap (λ (k : ℕ). length a.script - k) many);
+    }

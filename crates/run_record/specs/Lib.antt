@@ -1,5 +1,6 @@
 pub mod Notes
 pub mod Replay
+pub mod Unsent
 pub mod Reports
 pub mod Led
 pub mod Session

@@ -8,8 +8,8 @@ use Rattle.run_record.proofs.log.note_began.Goals as goal
 
 pub returns-in-Forward-clause-told : goal.returns-in-Forward-clause-told
 returns-in-Forward-clause-told c =
-    on_ok_weaker c.began.result (λ is. λ a r. subst (λ (n : Notes). Reports a n) (sym is) (began_reports a c.args.notes.now (Forward c.in-Forward.number) c.args.frame (λ frame reply. refl) r)) c.began.ensures.is
+    on_ok_weaker c.began.result (λ is. λ a r. subst (λ (n : Notes). Reports a n) (sym is) (began_reports a c.args.notes.now (Forward c.in-Forward.number) c.args.frame tt r)) c.began.ensures.is
 
 pub returns-in-Gateway-clause-told : goal.returns-in-Gateway-clause-told
 returns-in-Gateway-clause-told c =
-    on_ok_weaker c.began-in-Gateway.result (λ is. λ a r. subst (λ (n : Notes). Reports a n) (sym is) (began_reports a c.args.notes.now (Gateway c.in-Gateway.number) c.args.frame (λ frame reply. refl) r)) c.began-in-Gateway.ensures.is
+    on_ok_weaker c.began-in-Gateway.result (λ is. λ a r. subst (λ (n : Notes). Reports a n) (sym is) (began_reports a c.args.notes.now (Gateway c.in-Gateway.number) c.args.frame tt r)) c.began-in-Gateway.ensures.is
