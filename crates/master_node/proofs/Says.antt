@@ -1,9 +1,12 @@
 -- WHAT A MASTER SAYS of the newest service of a slave.
 use Rattle.std.proofs.Common.{◌≡◌, ◌<◌, ℕ, zero, suc, Bool, true, false, Option, Some, None, List, [], ◌∷◌, ◌++◌, length, get_or, refl, ap, sym, ◌∙◌, subst, arith}
-use Rattle.std.specs.Prelude.{IfSome, IfOk, Result, Ok, Err, slice_get, is_some}
+use Rattle.std.specs.Prelude.{IfSome, IfOk, Result, Ok, Err, slice_get, is_some, ◌&&◌, nat_lt}
+use Rattle.al_state.specs.declared.bringing.BringStep.{BringStep}
 use Rattle.exchange_model.specs.Exchange.{Speech}
 use Rattle.exchange_model.specs.Rows.{Row}
 use Rattle.frame_view.specs.View.{Lens}
+use Rattle.life_epochs.specs.Spans.{is_leaving, is_open}
+use Rattle.life_frames.specs.Openings.{step_number}
 use Rattle.life_frames.specs.Shares.{AllBoth}
 use Rattle.life_model.specs.Lives
 use Rattle.life_runs.specs.Led.{Leads}
@@ -25,7 +28,7 @@ use Rattle.master_tour.specs.declared.stop.Stand.{Stand}
 use Rattle.master_tour.specs.declared.stop.Stop.{Stop}
 use Rattle.task_model.specs.Accounts
 use Rattle.master_node.specs.Shows.{IsLead, side_shows}
-use Rattle.master_node.specs.Told.{HasReply, Tells}
+use Rattle.master_node.specs.Told.{HasReply, Tells, is_before_init, leaves, is_up}
 use Rattle.master_node.specs.declared.told.Told.{Told}
 
 abbrev Held : Type 0
@@ -76,6 +79,39 @@ module _ {G : Ghosts InHand} (lens : ℕ → Lens) (recover : ℕ) where
 
   pub duty_open : (a : Leads) (s : Stop InHand G) → IsLead lens recover a s → a.lived.life.stand ≡ Lives.Stand.Open → is_some s.side.duty ≡ is_some a.lived.life.era.account.hand
   duty_open a s l e = duty_some s.side.duty a.lived.life.era.account.hand (lead_open a s l e).state
+
+-- BY HOW THE MASTER STANDS to a slave
+same_leaves : (again : Bool) (step : BringStep) → (again && nat_lt (step_number again step) 3) ≡ (again && is_before_init step)
+same_leaves false step = refl
+same_leaves true BringStep.Return = refl
+same_leaves true BringStep.Watch = refl
+same_leaves true BringStep.Address = refl
+same_leaves true BringStep.OutOff = refl
+same_leaves true BringStep.InOff = refl
+same_leaves true BringStep.OutManager = refl
+same_leaves true BringStep.InManager = refl
+same_leaves true BringStep.Start = refl
+same_leaves true BringStep.Await = refl
+
+module _ {G : Ghosts InHand} (lens : ℕ → Lens) (recover : ℕ) (a : Leads) (s : Stop InHand G) where
+  abbrev Stood : Stand → Type 0
+  Stood stand = StandShows (λ d b. side_shows lens recover s a.lived.spot d b) a.lived.spot stand a.lived.life
+
+  leaves_by : (stand : Stand) → Stood stand → leaves stand ≡ is_leaving a.lived.life.stand
+  leaves_by (Stand.Opening up) h = sym (ap is_leaving h.stand ∙ same_leaves up.again up.step)
+  leaves_by Stand.Open h = sym (ap is_leaving h.0)
+  leaves_by Stand.Gone h = sym (ap is_leaving h)
+
+  up_by : (stand : Stand) → Stood stand → is_up stand ≡ is_open a.lived.life.stand
+  up_by (Stand.Opening up) h = sym (ap is_open h.stand)
+  up_by Stand.Open h = sym (ap is_open h.0)
+  up_by Stand.Gone h = sym (ap is_open h)
+
+  pub lead_leaves : IsLead lens recover a s → leaves s.stand ≡ is_leaving a.lived.life.stand
+  lead_leaves l = leaves_by s.stand l.lives.shown.stood
+
+  pub lead_up : IsLead lens recover a s → is_up s.stand ≡ is_open a.lived.life.stand
+  lead_up l = up_by s.stand l.lives.shown.stood
 
 -- AT A PLACE
 pub both_here : {A S : Type 0} (P : A → S → Type 0) (Q : A → Type 0) (as' : List A) (ss : List S) (k : ℕ) (s : S) → AllBoth P as' ss → k < length ss → s ≡ get_or ss k s → ((a : A) → P a s → Q a) → IfSome (slice_get as' k) Q

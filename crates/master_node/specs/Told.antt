@@ -1,5 +1,6 @@
 -- WHAT A MASTER SAYS OF THE NEWEST SERVICE of a slave, by what it has of it.
-use Rattle.std.specs.Prelude.{◌≡◌, ℕ, Option, Some, None, List, ◌++◌, ⊤}
+use Rattle.std.specs.Prelude.{◌≡◌, ◌&&◌, ℕ, Bool, true, false, Option, Some, None, List, ◌++◌, ⊤}
+use Rattle.al_state.specs.declared.bringing.BringStep.{BringStep}
 use Rattle.exchange_model.specs.Rows.{Row}
 use Rattle.frame_view.specs.View.{Lens}
 use Rattle.life_frames.specs.Shares.{AllBoth}
@@ -11,6 +12,7 @@ use Rattle.master_hand.specs.Spoken.{Asked}
 use Rattle.master_node.specs.Shows.{IsLead}
 use Rattle.master_node.specs.declared.node.MasterNode.{MasterNode}
 use Rattle.master_node.specs.declared.told.Told.{Told}
+use Rattle.master_tour.specs.declared.stop.Stand.{Stand}
 
 -- a master has just these lives of its slaves
 abbrev pub HasLeads : (ℕ → Lens) → ℕ → MasterNode → List Leads → Type 0
@@ -28,3 +30,21 @@ abbrev pub Tells : Told → List ℕ → List ℕ → Option (Row Body Asked Rep
 Tells Told.Waits old new now = (row : Row Body Asked Reply) → now ≡ Some row → row.answer ≡ None
 Tells (Told.Answered kind) old new now = (value : List ℕ) × (new ≡ old ++ value) × HasReply now (Some (kind, value))
 Tells Told.Unknown old new now = ⊤
+
+-- an access that comes before a reopening has shown Init
+abbrev pub is_before_init : BringStep → Bool
+is_before_init BringStep.Return = true
+is_before_init BringStep.Watch = true
+is_before_init _ = false
+
+-- a slave is opened anew, and wasn't seen in Init yet
+abbrev pub leaves : Stand → Bool
+leaves (Stand.Opening up) = up.again && is_before_init up.step
+leaves Stand.Open = false
+leaves Stand.Gone = false
+
+-- a slave is open
+abbrev pub is_up : Stand → Bool
+is_up (Stand.Opening up) = false
+is_up Stand.Open = true
+is_up Stand.Gone = false

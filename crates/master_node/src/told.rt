@@ -8,12 +8,14 @@ ghost use Rattle.master_duty.specs.Reply.{Reply};
 ghost use Rattle.master_hand.specs.Shown.{Shows};
 ghost use Rattle.master_hand.specs.Spoken.{Asked};
 ghost use Rattle.master_hand.specs.declared.course.Course.{Course as Courses};
-ghost use Rattle.master_node.specs.Told.{Tells};
+ghost use Rattle.master_node.specs.Told.{Tells, leaves, is_up};
 
 use crate::node::MasterNode;
+use al_state::BringStep;
 use ec_fields::{NoMemory, Octets};
 use mailbox_mail::ReplyKind;
 use master_hand::{Course, InHand};
+use master_tour::Stand;
 
 /// What became of the newest service by mails of a slave.
 #[derive(Clone, Copy, Debug, PartialEq, Eq)]
@@ -49,9 +51,27 @@ fn told_of(hand: &InHand, into: &mut Octets) -> Result<Told, NoMemory>
     }
 }
 
+// Whether a slave is opened anew and wasn't seen in Init yet.
+fn leaves(stand: Stand) -> bool
+    ensures { result ≡ leaves stand }
+{
+    match stand {
+        Stand::Opening(up) => up.again && matches!(up.step, BringStep::Return | BringStep::Watch),
+        Stand::Open | Stand::Gone => false,
+    }
+}
+
+// Whether a slave is open.
+fn is_up(stand: Stand) -> bool
+    ensures { result ≡ is_up stand }
+{
+    matches!(stand, Stand::Open)
+}
+
 impl MasterNode {
     ghost use Rattle.std.specs.Prelude.{◌≡◌, ◌<◌, ℕ, List, IfOk, IfSome, is_some, slice_get, vec_len};
     ghost use Rattle.frame_view.specs.View.{Lens};
+    ghost use Rattle.life_epochs.specs.Spans.{is_leaving, is_open};
     ghost use Rattle.life_model.specs.Lives.{Stand};
     ghost use Rattle.life_runs.specs.Led.{Leads};
     ghost use Rattle.master_node.specs.Told.{HasLeads, Tells};
@@ -79,5 +99,21 @@ impl MasterNode {
             IfSome (slice_get as' slave) (λ a. a.lived.life.stand ≡ Stand.Open → Tells told into.old into.new a.lived.life.era.side.now)) }
     {
         told_of(&self.tour.stops[slave as usize].side.hand, into)
+    }
+
+    /// Whether a slave is to be returned to Init: it is opened anew, and wasn't seen in Init yet.
+    pub fn is_leaving(&self, slave: u32) -> bool
+        requires { slave < vec_len self.now.posts }
+        ensures { (lens : ℕ → Lens) (recover : ℕ) (as' : List Leads) → HasLeads lens recover self.now as' → IfSome (slice_get as' slave) (λ a. result ≡ is_leaving a.lived.life.stand) }
+    {
+        leaves(self.tour.stops[slave as usize].stand)
+    }
+
+    /// Whether a slave is open.
+    pub fn is_open(&self, slave: u32) -> bool
+        requires { slave < vec_len self.now.posts }
+        ensures { (lens : ℕ → Lens) (recover : ℕ) (as' : List Leads) → HasLeads lens recover self.now as' → IfSome (slice_get as' slave) (λ a. result ≡ is_open a.lived.life.stand) }
+    {
+        is_up(self.tour.stops[slave as usize].stand)
     }
 }

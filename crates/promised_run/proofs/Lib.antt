@@ -2,4 +2,5 @@ mod Unopened
 mod Reported
 mod Rounds
 mod Unsent
+mod Epochs
 mod Overs

@@ -62,6 +62,7 @@ new_reports script spot left all = record {
   other = λ bad m answer. absurd (let no : false ≡ true = bad in cc);
   gave = refl;
   rest = subst (λ (k : ℕ). IsNumbered (length script) [] [] 0 k) (sym all) (none_begun (length script));
+  marked = record { spans = refl; leaving = refl; up = refl };
 }
 
 first_reports : (services : List (ℕ × Plan.Service)) (number place : ℕ) (ss : List SlaveSpec) → number ≡ place → AllReport (leads_from services place ss) (first_notes services number ss)

@@ -15,5 +15,6 @@ pub mod Gaves
 pub mod Ends
 pub mod Overs
 pub mod Unsent
+pub mod Epochs
 pub mod Reports
 pub mod Reporting

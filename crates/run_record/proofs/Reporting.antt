@@ -14,13 +14,15 @@ use Rattle.master_hand.specs.Spoken.{Asked}
 use Rattle.master_node.specs.Told.{HasReply, Tells}
 use Rattle.master_node.specs.Wants.{gave_of, IsCounted, AllCounted}
 use Rattle.master_node.specs.declared.told.Told.{Told}
-use Rattle.run_record.specs.Notes.{began_script, told_noted, given_up}
+use Rattle.run_record.specs.Notes.{began_script, told_noted, given_up, stood}
 use Rattle.run_record.specs.Session.{slave_row, slave_rows}
+use Rattle.life_epochs.specs.Spans.{is_leaving, is_open}
+use Rattle.run_record.specs.Epochs.{HasEpochs}
 use Rattle.run_record.specs.Unsent.{IsSpent}
 use Rattle.script_answers.specs.Answers.{IsNoted, now_answer}
 use Rattle.script_answers.specs.Steps.{TurnsSo, PassesSo, LosesSo}
 use Rattle.run_record.specs.declared.notes.Notes.{Notes}
-use Rattle.run_record.proofs.Reports.{turn_same, turn_more, pass_still, pass_replied, pass_doubted, lost_still, lost_given, end_noted, end_spent}
+use Rattle.run_record.proofs.Reports.{turn_same, turn_more, pass_still, pass_replied, pass_doubted, lost_still, lost_given, end_noted, end_spent, end_epochs}
 use Rattle.slave_server.specs.declared.server.SlaveServer.{SlaveServer}
 use Rattle.slave_steps.specs.Node.{Node}
 
@@ -116,6 +118,14 @@ all_spent recover (a ∷ as') nodes [] e r = absurd r
 all_spent recover (a ∷ as') [] (n ∷ notes) e r = absurd (omega (arith, e))
 all_spent recover (a ∷ as') (node ∷ nodes) (n ∷ notes) e r = (end_spent a recover node n r.0, all_spent recover as' nodes notes (omega (arith, e)) r.1)
 
+pub all_epochs : (recover : ℕ) (leads : List Leads) (nodes : List (Node SlaveServer)) (notes : List Notes) → length notes ≡ length nodes → AllReport leads notes → AllBoth HasEpochs leads (slave_rows recover nodes notes)
+all_epochs recover [] [] [] e r = tt
+all_epochs recover [] (node ∷ nodes) [] e r = tt
+all_epochs recover [] nodes (n ∷ notes) e r = absurd r
+all_epochs recover (a ∷ as') nodes [] e r = absurd r
+all_epochs recover (a ∷ as') [] (n ∷ notes) e r = absurd (omega (arith, e))
+all_epochs recover (a ∷ as') (node ∷ nodes) (n ∷ notes) e r = (end_epochs a recover node n r.0, all_epochs recover as' nodes notes (omega (arith, e)) r.1)
+
 pub both_lengths : {A B : Type 0} (P : A → B → Type 0) (as' : List A) (bs : List B) → AllBoth P as' bs → length bs ≡ length as'
 both_lengths P [] [] h = refl
 both_lengths P [] (b ∷ bs) h = absurd h
@@ -156,11 +166,11 @@ module _ (recover frame : ℕ) (a b : Leads) (n : Notes) (q : LosesSo frame a b)
           absurd (omega (arith, over, long))
 
   pub loss_more : (bs : List Leads) → AllCounted recover bs → (k : ℕ) → slice_get bs k ≡ Some b → (more : Bool) (times : ℕ) → times ≡ length n.gave → more ≡ true →
-      IfSome (slice_get bs k) (λ a. IsCounted recover a.lived.life.stand (length (gave_of a)) → more ≡ nat_lt times (length (gave_of a))) → Reports b (given_up n frame)
-  loss_more bs all k e more times t is_so x = by q.gave
+      IfSome (slice_get bs k) (λ a. IsCounted recover a.lived.life.stand (length (gave_of a)) → more ≡ nat_lt times (length (gave_of a))) → (leaves : Bool) → IfSome (slice_get bs k) (λ a. leaves ≡ is_leaving a.lived.life.stand) → Reports b (given_up n leaves frame)
+  loss_more bs all k e more times t is_so x leaves y = by q.gave
     where
-      by : (gave_of b ≡ gave_of a) ⊎ (gave_of b ≡ gave_of a ++ frame ∷ []) → Reports b (given_up n frame)
-      by (inr one) = lost_given frame a b n q r one
+      by : (gave_of b ≡ gave_of a) ⊎ (gave_of b ≡ gave_of a ++ frame ∷ []) → Reports b (given_up n leaves frame)
+      by (inr one) = lost_given frame a b n q r leaves (known (λ d. leaves ≡ is_leaving d.lived.life.stand) bs k b e y) one
       by (inl same) =
           let m = tells k bs e all more times t x in
           let below = ltb-true (length (gave_of a)) (length (gave_of b)) (sym m ∙ is_so) in
@@ -181,27 +191,34 @@ module _ (frame : ℕ) (a b : Leads) (n : Notes) (q : TurnsSo frame a b) (r : Re
       let shown = known (λ d. d.lived.life.stand ≡ Stand.Open → state ≡ is_some d.lived.life.era.account.hand) bs k b e y in
       subst (λ (m : ℕ). Reports b (began_script n m (not state) frame)) (sym is) (turn_more frame a b n q r (lt-ltb n.scripted b.number (omega (arith, more, is))) state shown)
 
--- BEHIND A RETURN: by what it tells of the newest service
-module _ (frame : ℕ) (a b : Leads) (n : Notes) (q : PassesSo frame a b) (r : Reports a n) where
-  pub reply_none : n.mails ≡ false → Reports b n
-  reply_none is_not = pass_still frame a b n q r (λ is_so. absurd (let bad : true ≡ false = sym is_so ∙ is_not in cc))
+-- BEHIND A RETURN: by what it tells of the newest service, and by how it stands to the slave
+module _ (frame : ℕ) (a b : Leads) (n : Notes) (q : PassesSo frame a b) (r : Reports a n) (leaves opens : Bool) (bs : List Leads) (k : ℕ) (e : slice_get bs k ≡ Some b) (f : IfSome (slice_get bs k) (λ a. leaves ≡ is_leaving a.lived.life.stand))
+    (g : IfSome (slice_get bs k) (λ a. opens ≡ is_open a.lived.life.stand)) where
+  leaves_is : leaves ≡ is_leaving b.lived.life.stand
+  leaves_is = known (λ d. leaves ≡ is_leaving d.lived.life.stand) bs k b e f
+
+  opens_is : opens ≡ is_open b.lived.life.stand
+  opens_is = known (λ d. opens ≡ is_open d.lived.life.stand) bs k b e g
+
+  pub reply_none : n.mails ≡ false → Reports b (stood n leaves opens frame)
+  reply_none is_not = pass_still frame a b n q r leaves opens leaves_is opens_is (λ is_so. absurd (let bad : true ≡ false = sym is_so ∙ is_not in cc))
 
   no_row : (now : Option Held) → ((row : Held) → now ≡ Some row → row.answer ≡ None) → now_answer now ≡ None
   no_row None h = refl
   no_row (Some row) h = h row refl
 
-  module _ (is_so : n.mails ≡ true) (bs : List Leads) (k : ℕ) (e : slice_get bs k ≡ Some b) where
+  module _ (is_so : n.mails ≡ true) where
     stands : b.lived.life.stand ≡ Stand.Open
     stands = q.up n.scripted (noted_in n.begun n.answers) (subst (λ (z : Bool). IsNoted a z n.scripted (noted_in n.begun n.answers)) is_so r.told)
 
     said : (told : Told) (value : List ℕ) → IfSome (slice_get bs k) (λ a. a.lived.life.stand ≡ Stand.Open → Tells told [] value a.lived.life.era.side.now) → Tells told [] value b.lived.life.era.side.now
     said told value x = known (λ d. d.lived.life.stand ≡ Stand.Open → Tells told [] value d.lived.life.era.side.now) bs k b e x stands
 
-    pub reply_told : (told : Told) (value : List ℕ) → IfSome (slice_get bs k) (λ a. a.lived.life.stand ≡ Stand.Open → Tells told [] value a.lived.life.era.side.now) → Reports b (told_noted told value frame n)
-    reply_told Told.Waits value x = pass_still frame a b n q r (λ w. no_row b.lived.life.era.side.now (said Told.Waits value x))
-    reply_told Told.Unknown value x = pass_doubted frame a b n q r
+    pub reply_told : (told : Told) (value : List ℕ) → IfSome (slice_get bs k) (λ a. a.lived.life.stand ≡ Stand.Open → Tells told [] value a.lived.life.era.side.now) → Reports b (stood (told_noted told value frame n) leaves opens frame)
+    reply_told Told.Waits value x = pass_still frame a b n q r leaves opens leaves_is opens_is (λ w. no_row b.lived.life.era.side.now (said Told.Waits value x))
+    reply_told Told.Unknown value x = pass_doubted frame a b n q r leaves opens leaves_is opens_is
     reply_told (Told.Answered kind) value x =
         let s = said (Told.Answered kind) value x in
         let has = s.2 in
         let same : Some (Some (kind, s.0), has.frame) ≡ Some (Some (kind, value), has.frame) = ap (λ (v : List ℕ). Some (Some (kind, v), has.frame)) (sym s.1) in
-        pass_replied frame a b n q r (record { kind = kind; value = value }) has.frame is_so (ap now_answer has.is ∙ has.answer ∙ same)
+        pass_replied frame a b n q r leaves opens leaves_is opens_is (record { kind = kind; value = value }) has.frame is_so (ap now_answer has.is ∙ has.answer ∙ same)

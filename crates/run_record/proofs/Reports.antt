@@ -13,9 +13,12 @@ use Rattle.run_book.specs.declared.book.Answer.{Answer}
 use Rattle.run_book.specs.declared.book.Answer.TheVariants.{Replied, InDoubt, NotSent}
 use Rattle.run_book.specs.declared.book.Begun.{Begun}
 use Rattle.run_book.specs.declared.book.Reply.{Reply as Booked}
-use Rattle.run_record.specs.Notes.{answers_doubted, doubted, began, began_script, answered, answered_where, given_up, ended}
+use Rattle.run_record.specs.Notes.{answers_doubted, doubted, began, began_script, answered, answered_where, given_up, epochs_stood, stood, ended}
 use Rattle.run_record.specs.Reports.{reply_in, noted_of, noted_in, unanswered, LastScript, IsReporting, Reports}
 use Rattle.run_record.specs.Session.{slave_row}
+use Rattle.life_epochs.specs.Spans.{is_leaving, is_open}
+use Rattle.run_record.specs.Epochs.{IsMarked, HasEpochs}
+use Rattle.run_record.proofs.Epochs.{marked_turn, marked_back, marked_lost, marked_given}
 use Rattle.run_record.specs.Unsent.{first_numbers, IsNumbered, IsSpent}
 use Rattle.run_record.proofs.Unsent.{IsOther, sent_more, other_more, script_more}
 use Rattle.run_record.specs.declared.notes.Notes.{Notes}
@@ -59,7 +62,7 @@ module _ (a : Leads) (n : Notes) where
   pub doubt_reports : Reports a n → Reports a (doubted n)
   doubt_reports r = by n.in_hand refl
     where
-      by : (h : Bool) → n.in_hand ≡ h → IsReporting a n.begun (if h then n.answers ++ InDoubt ∷ [] else n.answers) false false n.scripted n.left n.gave
+      by : (h : Bool) → n.in_hand ≡ h → IsReporting a n.begun (if h then n.answers ++ InDoubt ∷ [] else n.answers) false false n.scripted n.left n.gave n.epochs n.leaving n.up
       by true e = record {
         told = subst (λ ns. IsNoted a false n.scripted ns) (sym (no_reply n.begun n.answers InDoubt refl)) (forget a n.mails n.scripted (noted_in n.begun n.answers) r.told);
         aligned = (let k = length-append n.answers (InDoubt ∷ []) in let m = r.aligned in let u = ap unanswered e in omega (arith, k, m, u));
@@ -67,6 +70,7 @@ module _ (a : Leads) (n : Notes) where
         other = λ bad f answer. no_wait bad;
         gave = r.gave;
         rest = record { numbers = r.rest.numbers; sent = sent_more n.answers InDoubt r.rest.sent tt; left = r.rest.left };
+        marked = r.marked;
       }
       by false e = record {
         told = forget a n.mails n.scripted (noted_in n.begun n.answers) r.told;
@@ -75,6 +79,7 @@ module _ (a : Leads) (n : Notes) where
         other = λ bad f answer. no_wait bad;
         gave = r.gave;
         rest = r.rest;
+        marked = r.marked;
       }
 
   -- then each service has an answer
@@ -102,6 +107,7 @@ module _ (a : Leads) (n : Notes) where
             (sym (noted_answer n.begun (answers_doubted n) one answer all ∙ ap (λ ns. noted_in n.begun (answers_doubted n) ++ ns) (not_noted o other frame (reply_in answer)) ∙ append-nil (noted_in n.begun (answers_doubted n)))) d.told.noted;
         gave = r.gave;
         rest = other_more (length a.script) n.begun (answers_doubted n) n.scripted n.left frame d.rest o other;
+        marked = r.marked;
       }
 
   -- A SERVICE that is none by mails of the script is answered
@@ -113,6 +119,7 @@ module _ (a : Leads) (n : Notes) where
     other = λ bad f answer. no_wait bad;
     gave = r.gave;
     rest = record { numbers = r.rest.numbers; sent = sent_more n.answers (Replied reply frame) r.rest.sent tt; left = r.rest.left };
+    marked = r.marked;
   }
 
   pub answered_reports : (reply : Booked) (frame : ℕ) → Reports a n → Reports a (answered_where n reply frame)
@@ -139,6 +146,7 @@ module _ (made : ℕ) (a b : Leads) (n : Notes) (t : TurnsSo made a b) (r : Repo
         other = λ h f answer. subst (λ ss. AllNoted ss (noted_in n.begun (n.answers ++ answer ∷ []))) (sym (s.still e)) (r.other h f answer);
         gave = r.gave ∙ sym t.gave;
         rest = same_script a b n.begun n.answers n.scripted n.left t.goes.script r.rest;
+        marked = marked_turn a b n r.marked t.epochs;
       }
 
   -- one service more
@@ -165,6 +173,7 @@ module _ (made : ℕ) (a b : Leads) (n : Notes) (t : TurnsSo made a b) (r : Repo
         gave = r.gave ∙ sym t.gave;
         rest = subst (λ (k : ℕ). IsNumbered (length b.script) (n.begun ++ one ∷ []) answers k (n.left - 1)) (sym (next_number e))
             (script_more (length b.script) n.begun answers n.scripted n.left made (same_script a b n.begun answers n.scripted n.left t.goes.script d.rest));
+        marked = marked_turn a b n r.marked t.epochs;
       }
     where
       not_not : (z : Bool) → not z ≡ false → z ≡ true
@@ -172,8 +181,11 @@ module _ (made : ℕ) (a b : Leads) (n : Notes) (t : TurnsSo made a b) (r : Repo
       not_not false f = absurd (let bad : true ≡ false = f in cc)
 
 -- BEHIND A RETURN
-module _ (made : ℕ) (a b : Leads) (n : Notes) (p : PassesSo made a b) (r : Reports a n) where
-  pub pass_still : (n.mails ≡ true → newest_answer b ≡ None) → Reports b n
+module _ (made : ℕ) (a b : Leads) (n : Notes) (p : PassesSo made a b) (r : Reports a n) (leaves opens : Bool) (leaves_is : leaves ≡ is_leaving b.lived.life.stand) (opens_is : opens ≡ is_open b.lived.life.stand) where
+  now_marked : IsMarked b (epochs_stood n leaves opens made) leaves opens
+  now_marked = marked_back a b n r.marked made leaves opens p.epochs leaves_is opens_is
+
+  pub pass_still : (n.mails ≡ true → newest_answer b ≡ None) → Reports b (stood n leaves opens made)
   pass_still none = record {
     told = p.waits n.mails n.scripted (noted_in n.begun n.answers) r.told none;
     aligned = r.aligned;
@@ -181,9 +193,10 @@ module _ (made : ℕ) (a b : Leads) (n : Notes) (p : PassesSo made a b) (r : Rep
     other = λ h f answer. p.on (noted_in n.begun (n.answers ++ answer ∷ [])) (r.other h f answer);
     gave = r.gave ∙ sym p.gave;
     rest = same_script a b n.begun n.answers n.scripted n.left p.same.script r.rest;
+    marked = now_marked;
   }
 
-  pub pass_replied : (reply : Booked) (g : ℕ) → n.mails ≡ true → newest_answer b ≡ Some (Some (reply.kind, reply.value), g) → Reports b (answered n reply made)
+  pub pass_replied : (reply : Booked) (g : ℕ) → n.mails ≡ true → newest_answer b ≡ Some (Some (reply.kind, reply.value), g) → Reports b (stood (answered n reply made) leaves opens made)
   pass_replied reply g w e =
       let l = r.last w in
       let front = noted_in l.front n.answers in
@@ -200,9 +213,10 @@ module _ (made : ℕ) (a b : Leads) (n : Notes) (p : PassesSo made a b) (r : Rep
         gave = r.gave ∙ sym p.gave;
         rest = same_script a b n.begun (n.answers ++ Replied reply made ∷ []) n.scripted n.left p.same.script
             (record { numbers = r.rest.numbers; sent = sent_more n.answers (Replied reply made) r.rest.sent tt; left = r.rest.left });
+        marked = now_marked;
       }
 
-  pub pass_doubted : Reports b (doubted n)
+  pub pass_doubted : Reports b (stood (doubted n) leaves opens made)
   pass_doubted =
       let d = doubt_reports a n r in
       record {
@@ -212,6 +226,7 @@ module _ (made : ℕ) (a b : Leads) (n : Notes) (p : PassesSo made a b) (r : Rep
         other = λ bad f answer. no_wait bad;
         gave = r.gave ∙ sym p.gave;
         rest = same_script a b n.begun (answers_doubted n) n.scripted n.left p.same.script d.rest;
+        marked = now_marked;
       }
 
 -- BEHIND A LOSS
@@ -224,10 +239,14 @@ module _ (made : ℕ) (a b : Leads) (n : Notes) (p : LosesSo made a b) (r : Repo
     other = λ h f answer. p.on (noted_in n.begun (n.answers ++ answer ∷ [])) (r.other h f answer);
     gave = r.gave ∙ sym same;
     rest = same_script a b n.begun n.answers n.scripted n.left p.same.script r.rest;
+    marked = marked_lost a b n r.marked p.epochs same;
   }
 
-  pub lost_given : gave_of b ≡ gave_of a ++ made ∷ [] → Reports b (given_up n made)
-  lost_given more =
+  not_longer : (g : List ℕ) (frame : ℕ) → g ++ frame ∷ [] ≡ g → ⊥
+  not_longer g frame e = absurd (let k = ap length e in let m = length-append g (frame ∷ []) in omega (arith, k, m))
+
+  pub lost_given : (leaves : Bool) → leaves ≡ is_leaving b.lived.life.stand → gave_of b ≡ gave_of a ++ made ∷ [] → Reports b (given_up n leaves made)
+  lost_given leaves leaves_is more =
       let d = doubt_reports a n r in
       record {
         told = p.forgets false n.scripted (noted_in n.begun (answers_doubted n)) d.told;
@@ -236,6 +255,7 @@ module _ (made : ℕ) (a b : Leads) (n : Notes) (p : LosesSo made a b) (r : Repo
         other = λ bad f answer. no_wait bad;
         gave = ap (λ (g : List ℕ). g ++ made ∷ []) r.gave ∙ sym more;
         rest = same_script a b n.begun (answers_doubted n) n.scripted n.left p.same.script d.rest;
+        marked = marked_given a b n r.marked leaves p.epochs (λ same. not_longer (gave_of a) made (sym more ∙ same)) leaves_is;
       }
 
 -- AT THE END
@@ -257,3 +277,6 @@ end_spent a recover node n r =
       sent = d.rest.sent;
       whole = ap (λ (k : ℕ). answers_doubted n ++ replicate k NotSent) (r.rest.left ∙ ap (λ (k : ℕ). length a.script - k) many);
     }
+
+pub end_epochs : (a : Leads) (recover : ℕ) (node : Node SlaveServer) (n : Notes) → Reports a n → HasEpochs a (slave_row recover node n)
+end_epochs a recover node n r = r.marked.spans

@@ -20,7 +20,7 @@ first_epoch = record { row = 0; cleared = None; opened = None; emergencies = 0; 
 -- nothing happened yet at a slave with so many scripted services
 abbrev pub new_notes : ℕ → Notes
 new_notes left =
-    record { begun = []; answers = []; emergencies = []; epochs = first_epoch ∷ []; gave = []; in_hand = false; mails = false; scripted = 0; packets = 0; left = left }
+    record { begun = []; answers = []; emergencies = []; epochs = first_epoch ∷ []; gave = []; in_hand = false; mails = false; scripted = 0; packets = 0; left = left; leaving = false; up = false; own = false }
 
 -- the scripted services that are left behind one that came into hand
 abbrev pub left_behind : Origin → ℕ → ℕ
@@ -58,20 +58,20 @@ told_noted Told.Waits value frame n = n
 told_noted (Told.Answered kind) value frame n = answered n (record { kind = kind; value = value }) frame
 told_noted Told.Unknown value frame n = doubted n
 
--- the slave was given up at a frame that was lost
-abbrev pub given_up : Notes → ℕ → Notes
-given_up n frame = record (doubted n) { gave = n.gave ++ frame ∷ [] }
+-- the slave was given up at a frame that was lost; it is to be returned to Init, or is gone for good
+abbrev pub given_up : Notes → Bool → ℕ → Notes
+given_up n leaves frame = record (doubted n) { gave = n.gave ++ frame ∷ []; leaving = leaves; up = false }
 
 -- the first row of an epoch: the service that caused the return to Init, or the next that begins
 abbrev pub first_row : Bool → ℕ → ℕ
 first_row own begun = if own then begun - 1 else begun
 
 -- the return of a frame showed the slave in Init: an epoch begins
-abbrev pub cleared : Notes → Bool → ℕ → Notes
-cleared n own frame =
-    let row = count (first_row own (length n.begun)) in
+abbrev pub epochs_cleared : Notes → ℕ → List Epoch
+epochs_cleared n frame =
+    let row = count (first_row n.own (length n.begun)) in
     let emergencies = count (length n.emergencies) in
-    record n { epochs = n.epochs ++ record { row = row; cleared = Some frame; opened = None; emergencies = emergencies; packets = n.packets } ∷ [] }
+    n.epochs ++ record { row = row; cleared = Some frame; opened = None; emergencies = emergencies; packets = n.packets } ∷ []
 
 -- the last epoch is opened
 abbrev pub last_opened : List Epoch → ℕ → Option Epoch → List Epoch
@@ -79,8 +79,15 @@ last_opened epochs frame None = epochs
 last_opened epochs frame (Some epoch) = slice_set epochs (length epochs - 1) (record epoch { opened = Some frame })
 
 -- the return of a frame showed the slave in the state that was opened
-abbrev pub opened : Notes → ℕ → Notes
-opened n frame = record n { epochs = last_opened n.epochs frame (slice_get n.epochs (length n.epochs - 1)) }
+abbrev pub epochs_opened : Notes → ℕ → List Epoch
+epochs_opened n frame = last_opened n.epochs frame (slice_get n.epochs (length n.epochs - 1))
+
+-- what a frame that came back made of the epochs, by how the master stood to the slave and stands now
+abbrev pub epochs_stood : Notes → Bool → Bool → ℕ → List Epoch
+epochs_stood n leaves opens frame = if n.leaving && not leaves then epochs_cleared n frame else if not n.up && opens then epochs_opened n frame else n.epochs
+
+abbrev pub stood : Notes → Bool → Bool → ℕ → Notes
+stood n leaves opens frame = record n { epochs = epochs_stood n leaves opens frame; leaving = leaves; up = opens }
 
 -- the run ended: a service in hand is in doubt, and what is left of the script was not sent
 abbrev pub ended : Notes → List Answer

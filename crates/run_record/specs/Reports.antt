@@ -13,9 +13,11 @@ use Rattle.master_node.specs.declared.node.MasterNode.{MasterNode}
 use Rattle.run_book.specs.declared.book.Answer.{Answer}
 use Rattle.run_book.specs.declared.book.Answer.TheVariants.{Replied, InDoubt, NotSent}
 use Rattle.run_book.specs.declared.book.Begun.{Begun}
+use Rattle.run_book.specs.declared.book.Epoch.{Epoch}
 use Rattle.run_book.specs.declared.book.SlaveBook.{SlaveBook}
 use Rattle.run_record.specs.declared.notes.Notes.{Notes}
 use Rattle.run_record.specs.declared.standing.Log.{Log}
+use Rattle.run_record.specs.Epochs.{IsMarked}
 use Rattle.run_record.specs.Unsent.{IsNumbered}
 use Rattle.script_answers.specs.Answers.{Noted, AllNoted, IsNoted, life_scripted}
 use Rattle.script_answers.specs.Steps.{TurnsSo, PassesSo, LosesSo}
@@ -53,17 +55,18 @@ pub record LastScript (begun : List Begun) (answers : List Answer) : Type 0 wher
   pub beside : length front ≡ length answers
 
 -- WHAT IS NOTED GOES WITH THE LIFE: the scripted services, each with its reply; each service but the one in hand has an answer; and where that isn't one
--- by mails of the script, whatever answer it gets says nothing of those; what did not come into hand of the script is left
-pub record IsReporting (a : Leads) (begun : List Begun) (answers : List Answer) (in_hand mails : Bool) (scripted left : ℕ) (given : List ℕ) : Type 0 where
+-- by mails of the script, whatever answer it gets says nothing of those; what did not come into hand of the script is left, and the epochs are noted
+pub record IsReporting (a : Leads) (begun : List Begun) (answers : List Answer) (in_hand mails : Bool) (scripted left : ℕ) (given : List ℕ) (epochs : List Epoch) (leaving up : Bool) : Type 0 where
   pub told : IsNoted a mails scripted (noted_in begun answers)
   pub aligned : length begun ≡ length answers + unanswered in_hand
   pub last : mails ≡ true → LastScript begun answers
   pub other : in_hand ≡ true → mails ≡ false → (answer : Answer) → AllNoted (life_scripted a.lived.life) (noted_in begun (answers ++ answer ∷ []))
   pub gave : given ≡ gave_of a
   pub rest : IsNumbered (length a.script) begun answers scripted left
+  pub marked : IsMarked a epochs leaving up
 
 abbrev pub Reports : Leads → Notes → Type 0
-Reports a n = IsReporting a n.begun n.answers n.in_hand n.mails n.scripted n.left n.gave
+Reports a n = IsReporting a n.begun n.answers n.in_hand n.mails n.scripted n.left n.gave n.epochs n.leaving n.up
 
 abbrev pub AllReport : List Leads → List Notes → Type 0
 AllReport as' notes = AllBoth (λ a n. Reports a n) as' notes

@@ -24,6 +24,12 @@ pub struct Notes {
     pub packets: u32,
     /// How many scripted services didn't come into hand yet.
     pub left: u32,
+    /// The slave is to be returned to Init.
+    pub leaving: bool,
+    /// It is open.
+    pub up: bool,
+    /// The last return to Init was caused by a service.
+    pub own: bool,
 }
 
 // A number of rows; it stands still at its type's end.
@@ -77,6 +83,9 @@ impl Notes {
             scripted: 0,
             packets: 0,
             left,
+            leaving: false,
+            up: false,
+            own: false,
         })
     }
 
@@ -137,19 +146,22 @@ impl Notes {
         self.answers.add(Answer::InDoubt)
     }
 
-    /// The slave was given up at a frame that was lost.
-    pub fn given_up(&mut self, frame: u32) -> Result<(), NoMemory>
-        ensures { OnOk result (self.new ≡ the.given_up self.old frame) }
+    /// The slave was given up at a frame that was lost; it is to be returned to Init, or is gone for good.
+    pub fn given_up(&mut self, leaves: bool, frame: u32) -> Result<(), NoMemory>
+        ensures { OnOk result (self.new ≡ the.given_up self.old leaves frame) }
     {
         self.doubt()?;
+        self.leaving = leaves;
+        self.up = false;
         self.gave.add(frame)
     }
 
-    /// The return of a frame showed the slave in Init: an epoch begins. Where a service caused it, that is its first.
-    pub fn cleared(&mut self, own: bool, frame: u32) -> Result<(), NoMemory>
-        ensures { OnOk result (self.new ≡ the.cleared self.old own frame) }
+    // The return of a frame showed the slave in Init: an epoch begins. Where a service caused it, that is its first.
+    fn cleared(&mut self, frame: u32) -> Result<(), NoMemory>
+        ensures is { OnOk result (self.new ≡ record self.old { epochs = the.epochs_cleared self.old frame }) }
+        ensures gave { self.new.gave ≡ self.old.gave }
     {
-        let row = count(first_row(own, self.begun.len()));
+        let row = count(first_row(self.own, self.begun.len()));
         let emergencies = count(self.emergencies.len());
         self.epochs.add(Epoch {
             row,
@@ -160,14 +172,39 @@ impl Notes {
         })
     }
 
-    /// The return of a frame showed the slave in the state that was opened.
-    pub fn opened(&mut self, frame: u32)
-        ensures { self.new ≡ the.opened self.old frame }
+    // The return of a frame showed the slave in the state that was opened.
+    fn opened(&mut self, frame: u32)
+        ensures { self.new ≡ record self.old { epochs = the.epochs_opened self.old frame } }
     {
         let many = self.epochs.len();
         if many > 0 {
             self.epochs.at_mut(many - 1).opened = Some(frame);
         }
+    }
+
+    // What a frame that came back made of its epochs, by how its master stood to it before and stands now.
+    fn turned(&mut self, leaves: bool, opens: bool, frame: u32) -> Result<(), NoMemory>
+        ensures is { OnOk result (self.new ≡ record self.old { epochs = the.epochs_stood self.old leaves opens frame }) }
+        ensures gave { self.new.gave ≡ self.old.gave }
+    {
+        if self.leaving && !leaves {
+            return self.cleared(frame);
+        }
+        if !self.up && opens {
+            self.opened(frame);
+        }
+        Ok(())
+    }
+
+    /// So its master stands to it behind a frame that came back.
+    pub fn stands(&mut self, leaves: bool, opens: bool, frame: u32) -> Result<(), NoMemory>
+        ensures is { OnOk result (self.new ≡ the.stood self.old leaves opens frame) }
+        ensures gave { self.new.gave ≡ self.old.gave }
+    {
+        self.turned(leaves, opens, frame)?;
+        self.leaving = leaves;
+        self.up = opens;
+        Ok(())
     }
 
     /// A packet was received from the slave.

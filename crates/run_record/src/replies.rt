@@ -1,8 +1,8 @@
-//! What the service in hand of each slave was answered by a frame that came back, as its master has it.
+//! What a frame that came back brought of each slave, as its master has it: the reply of the service in hand, a return to Init, and an opening.
 
 ghost use Rattle.std.specs.Prelude.{◌≡◌, ◌<◌, ◌≤◌, suc, length, vec_len, OnOk};
 ghost use Rattle.run_record.specs.Led.{gaves_noted};
-ghost use Rattle.run_record.specs.Notes.{told_noted};
+ghost use Rattle.run_record.specs.Notes.{told_noted, stood};
 ghost use Rattle.run_record.specs.Reports.{ReportsTo, ReportsOn, PassesAll};
 ghost use Rattle.run_record.specs.Session.{SameSlaves};
 
@@ -25,8 +25,24 @@ fn note_told(notes: &mut Notes, told: Told, value: Octets, frame: u32) -> Result
     }
 }
 
+// So it is noted, and how the master stands to the slave behind the frame.
+fn note_back(
+    notes: &mut Notes,
+    told: Told,
+    value: Octets,
+    leaves: bool,
+    opens: bool,
+    frame: u32,
+) -> Result<(), NoMemory>
+    ensures is { OnOk result (notes.new ≡ stood (told_noted told value frame notes.old) leaves opens frame) }
+    ensures gave { notes.new.gave ≡ notes.old.gave }
+{
+    note_told(notes, told, value, frame)?;
+    notes.stands(leaves, opens, frame)
+}
+
 impl Log {
-    // The reply of the service in hand of the slave at a place, where it has got it.
+    // The reply of the service in hand of the slave at a place, where it has got it, and its epochs.
     fn note_reply(
         &mut self,
         alloc: Global,
@@ -41,13 +57,15 @@ impl Log {
         ensures told { OnOk result (PassesAll frame master.now (λ as' bs. ReportsTo at as' bs self.old.notes → ReportsTo (suc at) as' bs self.new.notes)) }
     {
         let place = at as usize;
+        let leaves = master.is_leaving(at);
+        let opens = master.is_open(at);
         let rows = self.notes.as_slice();
         if !rows[place].mails {
-            return Ok(());
+            return self.notes.at_mut(place).stands(leaves, opens, frame);
         }
         let mut value = Octets::new(alloc);
         let told = master.told(at, &mut value)?;
-        note_told(self.notes.at_mut(place), told, value, frame)
+        note_back(self.notes.at_mut(place), told, value, leaves, opens, frame)
     }
 
     // So it is of each slave.

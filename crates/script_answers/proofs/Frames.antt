@@ -6,6 +6,7 @@ use Rattle.exchange_model.specs.Exchange.{Speech}
 use Rattle.exchange_model.specs.Rows.{Row, answer_after, row_heard}
 use Rattle.frame_view.specs.View.{Lens}
 use Rattle.frame_view.specs.Seen.{seen}
+use Rattle.life_epochs.proofs.Spans as Spans
 use Rattle.life_frames.specs.Frames.{Share}
 use Rattle.life_frames.specs.Shares.{AllBoth, Lived, came_at, given_where}
 use Rattle.life_model.specs.Lives.{Spot, Era, Life, Stand, Opening, life_back, life_lost, era_back, opening_back, shows_clear, is_shown, last_step, clears, opens, steps_on, reopens, reopens_at, reopening, opens_state, returns_to_init}
@@ -344,6 +345,7 @@ module _ (lens : ℕ → Lens) (recover retry : ℕ) (gives : Bool) (made : ℕ)
     on = λ ns h. noted_on Pass ns h;
     gave = back_gave u.lived.spot (seen lens f.back) u.lived.life (came_at u.share.under u.share.at (seen lens f.back)) u.lived.life.stand;
     same = record { script = refl; number = refl };
+    epochs = Spans.passes_so lens recover retry made gives f u.lived u.share;
   }
 
   pub loses_so : (after : ℕ) → LosesSo made (turned u) (led (Lost after))
@@ -353,4 +355,5 @@ module _ (lens : ℕ → Lens) (recover retry : ℕ) (gives : Bool) (made : ℕ)
     on = λ ns h. noted_on (Lost after) ns h;
     gave = given_gave (gives && u.share.under) u.lived.spot u.lived.life _ (lost_gave u.lived.spot (seen lens f.sent) u.lived.life u.lived.life.stand);
     same = record { script = refl; number = refl };
+    epochs = Spans.loses_so lens recover retry made gives f u.lived u.share after;
   }

@@ -9,6 +9,7 @@ use Rattle.exchange_model.specs.Areas.{Areas}
 use Rattle.exchange_model.specs.Exchange.{Speech}
 use Rattle.exchange_model.specs.Rows.{Row}
 use Rattle.frame_view.specs.View.{Lens}
+use Rattle.life_epochs.proofs.Spans as Spans
 use Rattle.life_model.specs.Lives.{Era, Life, Stand, granted, life_next}
 use Rattle.life_runs.specs.Led.{Leads, Turn, Comes, Took, IsTurn, is_passed, speech_at}
 use Rattle.link_mails.specs.Body.{Body}
@@ -301,4 +302,4 @@ module _ (lens : ℕ → Lens) (made : ℕ) (ds : List Raw.Datagram) (a : Leads)
   next_number _ _ (Comes.packet octets frame) = inl refl
 
   pub turns_so : TurnsSo made a (turned u)
-  turns_so = record { turns = λ waits number ns h. turn_noted waits number ns h; gave = turn_gave; goes = record { script = y.script; number = next_number u.begun u.number y.comes } }
+  turns_so = record { turns = λ waits number ns h. turn_noted waits number ns h; gave = turn_gave; goes = record { script = y.script; number = next_number u.begun u.number y.comes }; epochs = Spans.turns_so lens made ds a u y }

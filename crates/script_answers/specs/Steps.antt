@@ -1,5 +1,6 @@
 -- WHAT A FRAME LEAVES OF WHAT IS NOTED OF A SLAVE: before it, behind its return, and behind its loss.
 use Rattle.std.specs.Prelude.{◌≡◌, ◌⊎◌, ◌≤◌, ℕ, suc, not, Bool, true, false, nat_lt, is_some, Option, Some, None, List, [], ◌∷◌, ◌++◌, length}
+use Rattle.life_epochs.specs.Spans.{SameEpochs, EpochsBack, EpochsLost}
 use Rattle.life_model.specs.Lives.{Stand}
 use Rattle.life_runs.specs.Led.{Leads}
 use Rattle.master_duty.specs.Reply.{Reply}
@@ -31,6 +32,7 @@ pub record TurnsSo (made : ℕ) (a b : Leads) : Type 0 where
   pub turns : (waits : Bool) (number : ℕ) (ns : List Noted) → IsNoted a waits number ns → Turns made a b waits number ns
   pub gave : gives b ≡ gives a
   pub goes : GoesOn a b
+  pub epochs : SameEpochs a.lived.life b.lived.life
 
 -- the same script, and so many of it that came into hand
 pub record SameScript (a b : Leads) : Type 0 where
@@ -47,6 +49,7 @@ pub record PassesSo (made : ℕ) (a b : Leads) : Type 0 where
   pub on : (ns : List Noted) → AllNoted (life_scripted a.lived.life) ns → AllNoted (life_scripted b.lived.life) ns
   pub gave : gives b ≡ gives a
   pub same : SameScript a b
+  pub epochs : EpochsBack made a.lived.life b.lived.life
 
 -- BEHIND A LOSS: it goes on so, where the slave isn't given up
 pub record LosesSo (made : ℕ) (a b : Leads) : Type 0 where
@@ -55,3 +58,4 @@ pub record LosesSo (made : ℕ) (a b : Leads) : Type 0 where
   pub on : (ns : List Noted) → AllNoted (life_scripted a.lived.life) ns → AllNoted (life_scripted b.lived.life) ns
   pub gave : (gives b ≡ gives a) ⊎ (gives b ≡ gives a ++ made ∷ [])
   pub same : SameScript a b
+  pub epochs : EpochsLost a.lived.life b.lived.life
