@@ -2,7 +2,7 @@
 use Rattle.std.specs.Prelude.{◌≡◌, ◌≤◌, ◌⊎◌, ℕ, Bool, true, false, List, [], ◌∷◌, length, Option, Some, None}
 use Rattle.ec_outside.specs.Faults.{Rose}
 use Rattle.ec_outside.specs.Port.{HeardGram}
-use Rattle.gateway_tool.specs.declared.standin.Reply.{Reply}
+use Rattle.gateway_tool.specs.declared.reply.Reply.{Reply}
 use Rattle.gateway_tool.specs.Rule.{Call, Standing, at_first, said, replied, is_spent, hears_all, are_awaited, grams_of}
 use Rattle.gateway_tool.specs.Told.{Told, Adds}
 use Rattle.gateway_tool.specs.declared.asking.ToolEnd.{ToolEnd}

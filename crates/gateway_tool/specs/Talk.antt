@@ -47,6 +47,11 @@ abbrev pub taken_behind : Took → ℕ → ℕ
 taken_behind Took.Foreign n = n
 taken_behind _ n = n + 1
 
+-- whether a mail completed the reply
+abbrev pub is_done : Took → Bool
+is_done Took.Done = true
+is_done _ = false
+
 -- a call under way, by what its port told first and tells now: what was heard, each datagram awaited, and what was sent
 pub record Goes (c : Call) (first now : Told) (t : Talk) : Type 0 where
   pub grams : List HeardGram
@@ -91,6 +96,12 @@ WaitsSo c first now t (Ok true) = HasHeard c first now t
 WaitsSo c first now t (Ok false) = Goes c first now t
 WaitsSo c first now t (Err PortErr.Failed) = Goes c first now t × Rose first.faults now.faults
 WaitsSo c first now t (Err PortErr.NoMemory) = Goes c first now t
+
+-- the last acknowledgement: a fault of the port is passed by
+abbrev pub forgiven : Result (Unit {0}) PortErr → Result (Unit {0}) PortErr
+forgiven (Ok done) = Ok done
+forgiven (Err PortErr.Failed) = Ok tt
+forgiven (Err PortErr.NoMemory) = Err PortErr.NoMemory
 
 -- a call behind the last acknowledgement: the reply stands where the port failed
 abbrev pub EndsSo : Call → Told → Told → Talk → Result (Unit {0}) PortErr → Type 0

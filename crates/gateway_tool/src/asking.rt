@@ -3,7 +3,7 @@ ghost use Rattle.gateway_tool.specs.Rule.{IsForm};
 ghost use Rattle.gateway_tool.specs.Told.{told};
 ghost use Rattle.gateway_tool.specs.Ended.{HasEnded, IsKept};
 
-use crate::standin::Reply;
+use crate::reply::Reply;
 use crate::talk::Talk;
 use ec_outside::{Peer, Port, PortErr};
 use segment_plan::Service;

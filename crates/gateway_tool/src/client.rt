@@ -13,7 +13,7 @@ use foe_client::FoeClient;
 use mailbox_mail::{Kind, Mail, Took};
 use object_dictionary::SdoService;
 use segment_plan::Service;
-use crate::standin::Reply;
+use crate::reply::Reply;
 use std::alloc::Global;
 
 /// A service at the client of its protocol.

@@ -14,7 +14,7 @@ impl Talk {
     /// Mails go and datagrams are heard until the reply is complete; `false` where it doesn't come.
     pub fn go_on<P: Port>(&mut self, port: &mut P) -> Result<bool, PortErr>
         requires few { length (left self.old.client []) ≤ 1 }
-        requires open { awaits self.old.client [] ≡ None }
+        requires waits { awaits self.old.client [] ≡ None }
         requires fresh { self.old.passed ≡ 0 }
         ensures goes { (c : Call) (first : Told) → Goes c first (told P.heard P.sent P.over P.port_faults port.old) self.old → GoesSo c first (told P.heard P.sent P.over P.port_faults port.new) self.new result }
         ensures few { length (left self.new.client []) ≤ 1 }

@@ -14,9 +14,10 @@ pub fn write_gram(mail: &Mail, into: &mut Gram)
     requires { mail.now.counter ≤ 7 }
     ensures { into.new.items ≡ gram_text mail.now }
 {
+    let len = HEADER + mail.body.len();
     let mut area = [0; 1486];
     write(mail, &mut area);
-    gateway_write(&area[..HEADER + mail.body.len()], into);
+    gateway_write(&area[..len], into);
 }
 
 /// The mail of a datagram that reads.

@@ -3,12 +3,22 @@ ghost use Rattle.std.specs.Bool.{OnTrue, OnFalse};
 ghost use Rattle.gateway_tool.specs.Rule.{Call};
 ghost use Rattle.gateway_tool.specs.Told.{Told, told};
 ghost use Rattle.gateway_tool.specs.Client.{left, awaits};
-ghost use Rattle.gateway_tool.specs.Talk.{heard_by, HearsMail, passed_behind, taken_behind, Goes, HasHeard, WaitsSo, most_left};
+ghost use Rattle.gateway_tool.specs.Talk.{heard_by, HearsMail, passed_behind, taken_behind, is_done, Goes, HasHeard, WaitsSo, most_left};
 
 use crate::gram::mail_in;
 use crate::talk::Talk;
 use ec_outside::{Heard, Port, PortErr};
 use mailbox_mail::{Mail, Took};
+
+// Whether a mail completed the reply.
+fn is_done(took: Took) -> bool
+    ensures { result ≡ is_done took }
+{
+    match took {
+        Took::Done => true,
+        Took::More | Took::Foreign => false,
+    }
+}
 
 impl Talk {
     // The mail that was heard, where it is one of the station and has the counter of the last mail sent.
@@ -54,7 +64,7 @@ impl Talk {
     /// Takes the datagram that was heard, or passes it over; whether the reply is complete.
     pub fn take(&mut self) -> bool
         requires none { left self.old.client [] ≡ [] }
-        requires open { awaits self.old.client [] ≡ None }
+        requires waits { awaits self.old.client [] ≡ None }
         requires passed { self.old.passed < 65536 }
         requires taken { self.old.taken < 65536 }
         ensures goes { (c : Call) (first now : Told) → HasHeard c first now self.old → Goes c first now self.new }
@@ -65,7 +75,7 @@ impl Talk {
     {
         let took = self.hear();
         self.count(took);
-        matches!(took, Took::Done)
+        is_done(took)
     }
 
     /// Waits for a datagram; `false` where none will come any more.

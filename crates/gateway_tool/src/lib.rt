@@ -6,9 +6,9 @@ mod client;
 mod course;
 mod gram;
 mod hearing;
+mod reply;
 mod sending;
-mod standin;
 mod talk;
 
 pub use asking::{ToolEnd, ask};
-pub use standin::Reply;
+pub use reply::Reply;

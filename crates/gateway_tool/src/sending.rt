@@ -3,7 +3,7 @@ ghost use Rattle.mailbox_mail.specs.declared.mail.Mail.{Mail as AMail};
 ghost use Rattle.gateway_tool.specs.Rule.{IsForm, Call, Standing, at_first};
 ghost use Rattle.gateway_tool.specs.Told.{Told, told};
 ghost use Rattle.gateway_tool.specs.Client.{left, awaits};
-ghost use Rattle.gateway_tool.specs.Talk.{Stands, Lays, Goes, SendsSo, EndsSo};
+ghost use Rattle.gateway_tool.specs.Talk.{Stands, Lays, Goes, SendsSo, EndsSo, forgiven};
 
 use crate::client::Client;
 use crate::gram::write_gram;
@@ -14,6 +14,17 @@ use ec_outside::{Gram, Peer, Port, PortErr};
 use mailbox_mail::{Mail, next_counter};
 use segment_plan::Service;
 use std::alloc::Global;
+
+// A fault of the port is passed by, and want of memory isn't.
+fn forgiven(sent: Result<(), PortErr>) -> Result<(), PortErr>
+    ensures { result ≡ forgiven sent }
+{
+    match sent {
+        Ok(()) => Ok(()),
+        Err(PortErr::Failed) => Ok(()),
+        Err(PortErr::NoMemory) => Err(PortErr::NoMemory),
+    }
+}
 
 impl Talk {
     /// The service begins: nothing was sent yet.
@@ -32,7 +43,7 @@ impl Talk {
         requires form { IsForm service.now }
         ensures stands { IfOk result (Stands (record { areas = record { out = out_len; back = in_len }; service = service.now; station = station; to = to }) at_first []) }
         ensures few { IfOk result (λ t. length (left t.client []) ≤ 1) }
-        ensures open { IfOk result (λ t. awaits t.client [] ≡ None) }
+        ensures waits { IfOk result (λ t. awaits t.client [] ≡ None) }
         ensures fresh { IfOk result (λ t. t.passed ≡ 0) }
     {
         Ok(Talk {
@@ -92,9 +103,7 @@ impl Talk {
         ensures over { P.over port.new ≡ P.over port.old }
         ensures memory { result ≡ Err PortErr.Failed → ⊥ }
     {
-        match self.send(port) {
-            Ok(()) | Err(PortErr::Failed) => Ok(()),
-            Err(PortErr::NoMemory) => Err(PortErr::NoMemory),
-        }
+        let sent = self.send(port);
+        forgiven(sent)
     }
 }

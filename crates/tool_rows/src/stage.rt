@@ -1,14 +1,14 @@
-ghost use Rattle.std.specs.Prelude.{◌≡◌, ◌≤◌, IfOk};
+ghost use Rattle.std.specs.Prelude.{◌≤◌, length, IfOk};
+ghost use Rattle.segment_plan.specs.Sound.{IsName};
 ghost use Rattle.gateway_tool.specs.Rule.{IsForm};
 
 use ec_fields::{Octets, Rows, buffer_of};
 use ec_outside::{MemPort, Peer, PortItem};
 use file_store::Name;
-use gateway_tool::{ToolEnd, ask};
+use gateway_tool::{Reply, ToolEnd, ask};
 use mailbox_mail::ReplyKind;
 use object_dictionary::SdoService;
 use segment_plan::Service;
-use slave_app::Reply;
 use std::alloc::Global;
 use std::test::Fail;
 
@@ -41,37 +41,47 @@ pub struct Case<'a> {
     pub value: &'a [u8],
 }
 
-fn name_of(octets: &[u8]) -> Result<Name, Fail> {
+fn name_of(octets: &[u8]) -> Result<Name, Fail>
+    ensures { IfOk result (λ name. IsName name) }
+{
     if octets.is_empty() || octets.len() > 32 {
         return Err(Fail::new(format_args!("no name")));
     }
     Ok(buffer_of(octets))
 }
 
-fn octets_of(alloc: Global, octets: &[u8]) -> Result<Octets, Fail> {
-    if octets.len() > 8000 {
-        return Err(Fail::new(format_args!("too many octets")));
+fn octets_of(alloc: Global, octets: &[u8], least: usize) -> Result<Octets, Fail>
+    ensures { IfOk result (λ o. (least ≤ length o) × (length o ≤ 8000)) }
+{
+    if octets.len() < least || octets.len() > 8000 {
+        return Err(Fail::new(format_args!("no octets, or too many")));
     }
     Ok(Octets::copy_of(alloc, octets)?)
 }
 
-fn service_of(alloc: Global, asked: Asked<'_>) -> Result<Service, Fail> {
-    Ok(match asked {
-        Asked::Upload(index, sub) => Service::Sdo(SdoService::Upload { index, sub }),
+fn service_of(alloc: Global, asked: Asked<'_>) -> Result<Service, Fail>
+    ensures { IfOk result IsForm }
+{
+    match asked {
+        Asked::Upload(index, sub) => Ok(Service::Sdo(SdoService::Upload { index, sub })),
         Asked::Download(index, sub, bytes) => {
-            let bytes = octets_of(alloc, bytes)?;
-            Service::Sdo(SdoService::Download { index, sub, bytes })
+            let bytes = octets_of(alloc, bytes, 1)?;
+            Ok(Service::Sdo(SdoService::Download { index, sub, bytes }))
         }
-        Asked::Read(name) => Service::ReadFile {
-            name: name_of(name)?,
-            pass: 0,
-        },
-        Asked::Write(name, bytes) => Service::WriteFile {
-            name: name_of(name)?,
-            pass: 0,
-            bytes: octets_of(alloc, bytes)?,
-        },
-    })
+        Asked::Read(name) => {
+            let name = name_of(name)?;
+            Ok(Service::ReadFile { name, pass: 0 })
+        }
+        Asked::Write(name, bytes) => {
+            let name = name_of(name)?;
+            let bytes = octets_of(alloc, bytes, 0)?;
+            Ok(Service::WriteFile {
+                name,
+                pass: 0,
+                bytes,
+            })
+        }
+    }
 }
 
 fn port_of(alloc: Global, case: &Case<'_>) -> Result<MemPort, Fail> {
