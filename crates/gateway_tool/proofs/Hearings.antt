@@ -135,7 +135,7 @@ hears_gram c first now old new took h e n p t heard k =
     let s : Standing = hears_all c at_first h.grams in
     let counted : old.counter ≡ counter_of (length (said c s)) = h.stands.counter ∙ ap (λ (ms : List Mail). counter_of (length ms)) (all_said c s h.told old h.stands e) in
     let same : hears_mail c s (heard_by old) ≡ hears c s old.gram.items =
-      (λ i. hears_mail c s (mail_to (h.stands.station i) (counted i) (mail_in (request_in old.gram.items)))) in
+    (λ i. hears_mail c s (mail_to (h.stands.station i) (counted i) (mail_in (request_in old.gram.items)))) in
     let stands = subst (λ (z : Standing). Stands c z h.told new) same (hears_so (heard_by old) took c s h.told old new h.stands heard k) in
     let open_so = is_open_so c s (sym (so_replied c s h.told old h.stands) ∙ n) (not_spent s h.told c old h.stands p t) in
     record {

@@ -151,7 +151,7 @@ sent_by c first now next old new (Ok done) g m s h l cause e =
     sent_laid c first now next old new g m s h (adds_more first.sent now.sent next.sent (grams_of c g.told) (gram_of c (length g.told + 1) m ∷ []) g.sent (sends_one now.sent next.sent c.to (gram_of c (length g.told + 1) m).bytes done e)) l
 sent_by c first now next old new (Err PortErr.Failed) g m s h l cause e = (
   elim (sends_some first.sent now.sent next.sent c.to (gram_of c (length g.told + 1) m).bytes (grams_of c g.told) e g.sent) [
-    inl same ↦ inr (lacks_laid c first now next old new g m s h same l)
+    | inl same ↦ inr (lacks_laid c first now next old new g m s h same l)
     | inr more ↦ inl (sent_laid c first now next old new g m s h more l)
   ],
   rose_later first.faults now.faults next.faults g.later l (cause refl),

@@ -5,6 +5,7 @@ ghost use Rattle.segment_plan.specs.declared.service.Service.TheVariants as serv
 ghost use Rattle.gateway_tool.specs.Rule.{IsForm};
 ghost use Rattle.gateway_tool.specs.Client.{left, awaits, kind_of, Begins, SendsNext, Takes};
 
+use crate::reply::Reply;
 use arrayvec::ArrayVec;
 use coe_client::CoeClient;
 use ec_fields::NoMemory;
@@ -13,7 +14,6 @@ use foe_client::FoeClient;
 use mailbox_mail::{Kind, Mail, Took};
 use object_dictionary::SdoService;
 use segment_plan::Service;
-use crate::reply::Reply;
 use std::alloc::Global;
 
 /// A service at the client of its protocol.
