@@ -1,9 +1,10 @@
 -- A frame with one of its datagrams changed in place.
 use Rattle.std.proofs.Common.{◌≡◌, ℕ, zero, suc, get_or, ◌+◌, ◌*◌, ◌^◌, ◌<◌, ◌≤◌, List, [], ◌∷◌, ◌++◌, length, take, drop, refl, ap, sym, ◌∙◌, subst, arith, append_assoc, length-append}
 use Rattle.std.specs.Prelude.{All, Result, Ok, Err, IfOk}
-use Rattle.std.proofs.lemmas.List.{drop_at, take_at}
+use Rattle.std.proofs.lemmas.List.{drop_at, take_at, take-append-drop}
 use Rattle.byteorder.specs.Endian.{little_bytes}
-use Rattle.ec_fields.specs.Fields.{number_put}
+use Rattle.ec_fields.specs.Fields.{number_at, number_put}
+use Rattle.ec_fields.proofs.Cells.{AreOctets, two_here}
 use Rattle.datagrams.specs.declared.frame.Frame.{Frame}
 use Rattle.datagrams.specs.declared.frame.FrameFault.{FrameFault}
 use Rattle.datagrams.specs.declared.frame.Part.{Part}
@@ -165,6 +166,11 @@ IsFrame-set octets new part adp counter front d behind fits fits' is f place hea
       };
       named = was.named;
     }) refl refl
+
+-- a number written where it stands
+pub put_same : (octets : List ℕ) (at value : ℕ) → AreOctets octets → at + 2 ≤ length octets → number_at 2 octets at ≡ value → octets ≡ number_put 2 octets at value
+put_same octets at value o fits is =
+    sym (ap (λ (t : List ℕ). take at octets ++ t) (ap (λ (n : ℕ). little_bytes 2 n ++ drop (at + 2) octets) (sym is) ∙ sym (two_here octets at o fits)) ∙ take-append-drop at octets)
 
 -- ADP and counter of a part written as they stand
 pub set_same : (octets : List ℕ) (part : Part) → IsPart octets part → octets_set octets part part.head.adp part.head.counter ≡ octets

@@ -227,12 +227,22 @@ pub fn finish(frame: &mut FrameBuf)
     finish_plain(frame);
 }
 
-// The same call, by the octets.
+// Writes a number where it does not stand already.
+fn put_changed(bytes: &mut [u8], at: usize, value: u16)
+    requires { at + 2 ≤ length bytes.old }
+    ensures { bytes.new ≡ number_put 2 bytes.old at value }
+{
+    if u16_at(bytes, at) != value {
+        put_u16(bytes, at, value);
+    }
+}
+
+// The same call, by the octets. Most commands leave ADP as it is.
 fn set_plain(frame: &mut FrameBuf, part: &Part, adp: u16, counter: u16)
     requires { part.now.at + (12 + part.now.head.len) ≤ length frame.old.items }
     ensures { frame.new.items ≡ octets_set frame.old.items part.now adp counter }
 {
-    put_u16(frame.as_mut_slice(), part.at + 2, adp);
+    put_changed(frame.as_mut_slice(), part.at + 2, adp);
     let behind = part.at + (FRONT + part.head.len as usize);
     put_u16(frame.as_mut_slice(), behind, counter);
 }
