@@ -9,7 +9,7 @@ use Rattle.scenario_keys.specs.declared.refusal.Refusal.{Refusal}
 use Rattle.scenario_keys.specs.Rules.{number_of}
 
 abbrev pub usage_line : List ℕ
-usage_line = codes "usage: ecmbx run SCENARIO [CAPTURE] | decode CAPTURE | serve SCENARIO COUNT | make SEED SIZE | audit CAPTURE\n"
+usage_line = codes "usage: ecmbx run SCENARIO [CAPTURE] | decode CAPTURE | serve SCENARIO COUNT | make SEED SIZE | stream SCENARIO COUNT | audit CAPTURE\n"
 
 abbrev pub absent_line : List ℕ
 absent_line = codes "absent\n"

@@ -6,7 +6,7 @@ mod lines;
 mod status;
 mod texts;
 
-pub use form::{Form, form_of};
+pub use form::{Form, form_of, stream_of};
 pub use lines::{say, say_lines, say_text};
 pub use status::Status;
 pub use texts::{
