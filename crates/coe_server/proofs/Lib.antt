@@ -5,3 +5,4 @@ pub mod ObjectsAnswer
 pub mod ObjectsLaw
 pub mod Exchanged
 pub mod Firsts
+pub mod Segments

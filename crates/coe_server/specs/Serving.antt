@@ -156,6 +156,14 @@ first_part part opcode rest =
 abbrev pub first_answer : ℕ → ℕ → ℕ → List ℕ → Coe
 first_answer index sub size bytes = FirstAnswer index sub size (record { items = bytes })
 
+-- the answer with a segment of a value
+abbrev pub segment_answer : Bool → Bool → List ℕ → Coe
+segment_answer toggle last bytes = UploadSegmentAnswer toggle last (record { items = bytes })
+
+-- a part of an information answer
+abbrev pub fragment : ℕ → Bool → ℕ → List ℕ → Coe
+fragment opcode incomplete left bytes = Information opcode incomplete left (record { items = bytes })
+
 -- the message that goes first of what is to be told
 abbrev pub first_message : ℕ → List ℕ → List ℕ → Pending → Coe
 first_message room value told (Pending.DownloadAnswer t) = DownloadAnswer t.index t.sub

@@ -1,9 +1,11 @@
-ghost use Rattle.std.specs.Prelude.{◌≡◌, ◌≢◌, ◌≤◌, ◌<◌, ◌+◌, ◌-◌, ◌↔◌, List, [], ◌∷◌, ◌++◌, true, false, length, drop, take, Some, None, IfOk, IfSome};
+ghost use Rattle.std.specs.Prelude.{◌≡◌, ◌≢◌, ◌≤◌, ◌<◌, ◌+◌, ◌-◌, ◌*◌, ◌↔◌, List, [], ◌∷◌, ◌++◌, true, false, length, drop, take, Some, None, IfOk, IfSome};
 ghost use Rattle.std.specs.Bool.{OnTrue, OnFalse};
+ghost use Rattle.coe_codec.specs.Fields.{bit};
+ghost use Rattle.coe_codec.specs.Reading.{is_information};
 ghost use Rattle.coe_codec.specs.Writing.{HasSpelling, coe_text};
 ghost use Rattle.coe_codec.specs.View.{coe_seen, IsCapped};
 ghost use Rattle.coe_model.specs.Mails.{mail, Emergency};
-ghost use Rattle.coe_server.specs.Serving.{first_answer, transfer_of, answers_of, waiting_mails, packet_of, has_message, failure_in, message_of, first_part, pending_behind, IsShort, IsWritten, GivesNext};
+ghost use Rattle.coe_server.specs.Serving.{first_answer, segment_answer, fragment, transfer_of, answers_of, waiting_mails, packet_of, has_message, failure_in, message_of, first_part, pending_behind, IsShort, IsWritten, GivesNext};
 
 use crate::dictionary::Target;
 use crate::server::CoeServer;
@@ -11,7 +13,7 @@ use crate::state::{Emitted, Pending};
 use arrayvec::ArrayVec;
 use coe_codec::CoeView;
 use coe_values::Slot;
-use ec_fields::refill;
+use ec_fields::{append, refill};
 use mailbox_mail::{Kind, Mail};
 
 // Writes a message that is short enough for the mailbox.
@@ -22,6 +24,16 @@ fn written(room: u16, message: CoeView<'_>, body: &mut ArrayVec<u8, 1480>)
     ensures { IsWritten room (coe_seen message.entry) body.new.items }
 {
     coe_codec::write_view(message, body);
+}
+
+// The command of a segment's answer. It tells how many of a short one's 7 octets are unused.
+fn segment_command(toggle: bool, last: bool, unused: usize) -> u8
+    requires { unused ≤ 7 }
+    ensures { result ≡ bit last + 2 * unused + 16 * bit toggle }
+{
+    let mark = if last { 1 } else { 0 };
+    let turn = if toggle { 16 } else { 0 };
+    mark + 2 * unused as u8 + turn
 }
 
 impl CoeServer {
@@ -137,19 +149,45 @@ impl CoeServer {
         self.values.append_to(Slot::Value, 0, upto as usize, body);
     }
 
+    // How many of its 7 octets a segment from a place on doesn't use, where it is that short.
+    fn unused(&self, from: u32, most: usize) -> usize
+        requires { from < length self.now.value }
+        ensures unused { result ≡ 7 - length (take most (drop from self.now.value)) }
+        ensures few { result ≤ 7 }
+    {
+        let count = (self.values.len(Slot::Value) - from as usize).min(most);
+        7usize.saturating_sub(count)
+    }
+
+    // A segment with the octets of a value from a place on, at most so many. They go from the value straight to their place.
+    fn write_octets(
+        &self,
+        from: u32,
+        most: usize,
+        toggle: bool,
+        last: bool,
+        body: &mut ArrayVec<u8, 1480>,
+    )
+        requires within { from < length self.now.value }
+        requires some { 1 ≤ most }
+        requires fits { most ≤ self.now.room - 9 }
+        ensures { IsWritten self.now.room (segment_answer toggle last (take most (drop from self.now.value))) body.new.items }
+    {
+        const ZEROS: [u8; 7] = [0; 7];
+        let unused = self.unused(from, most);
+        refill(body, &[0, 48, segment_command(toggle, last, unused)]);
+        self.values
+            .append_to(Slot::Value, from as usize, most, body);
+        append(body, &ZEROS[..unused]);
+    }
+
     // As many octets of a value as a segment has.
     fn write_segment(&self, from: u32, toggle: bool, body: &mut ArrayVec<u8, 1480>)
         requires { self.now.pending ≡ Pending.Part from toggle }
         ensures { IsWritten self.now.room (message_of self.now) body.new.items }
     {
         let most = self.room as usize - 9;
-        let bytes: ArrayVec<u8, 1477> = self.values.part(Slot::Value, from as usize, most);
-        let message = CoeView::UploadSegmentAnswer {
-            toggle,
-            last: false,
-            bytes: bytes.as_slice(),
-        };
-        written(self.room, message, body);
+        self.write_octets(from, most, toggle, false, body);
     }
 
     // The last octets of a value.
@@ -157,13 +195,31 @@ impl CoeServer {
         requires { self.now.pending ≡ Pending.Last from toggle }
         ensures { IsWritten self.now.room (message_of self.now) body.new.items }
     {
-        let bytes: ArrayVec<u8, 1477> = self.values.rest(Slot::Value, from as usize);
-        let message = CoeView::UploadSegmentAnswer {
-            toggle,
-            last: true,
-            bytes: bytes.as_slice(),
+        let most = self.room as usize - 9;
+        self.write_octets(from, most, toggle, true, body);
+    }
+
+    // A part of an information answer from a place on: as many octets as it has room for. They go from the answer straight to their place.
+    fn write_fragment(
+        &self,
+        opcode: u8,
+        incomplete: bool,
+        left: u16,
+        from: u32,
+        body: &mut ArrayVec<u8, 1480>,
+    )
+        requires { is_information opcode ≡ true }
+        ensures { IsWritten self.now.room (fragment opcode incomplete left (take (self.now.room - 12) (drop from self.now.told))) body.new.items }
+    {
+        let part = self.room as usize - 12;
+        let front = CoeView::Information {
+            opcode,
+            incomplete,
+            left,
+            bytes: &[],
         };
-        written(self.room, message, body);
+        coe_codec::write_view(front, body);
+        self.values.append_to(Slot::Told, from as usize, part, body);
     }
 
     // The next part of an information answer, with the number of those behind it.
@@ -179,14 +235,7 @@ impl CoeServer {
         } else {
             0
         };
-        let bytes: ArrayVec<u8, 1474> = self.values.part(Slot::Told, from as usize, part);
-        let message = CoeView::Information {
-            opcode,
-            incomplete,
-            left,
-            bytes: bytes.as_slice(),
-        };
-        written(self.room, message, body);
+        self.write_fragment(opcode, incomplete, left, from, body);
     }
 
     // A value of 1 to 4 octets.

@@ -121,7 +121,7 @@ impl Values {
         self.part(slot, at, CAP)
     }
 
-    /// Copies a whole value into a list, in place of what it has.
+    /// Copies a whole value into a list, in place of what it has, a block of the pool at a time.
     pub fn copy_to(&self, slot: Slot, into: &mut Transfer)
         requires { 16384 ≤ into.old.limit }
         ensures octets { into.new.octets ≡ octets_in slot self.now }
@@ -131,7 +131,7 @@ impl Values {
         let len = self.len(slot);
         let mut done = 0;
         while done < len {
-            let piece: ArrayVec<u8, 1024> = self.part(slot, done, 1024);
+            let piece: ArrayVec<u8, 128> = self.part(slot, done, 128);
             let _fits = into.add(piece.as_slice());
             done += piece.len();
         }
