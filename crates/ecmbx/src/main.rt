@@ -1,16 +1,18 @@
 //! The mailbox half of EtherCAT as a program: `ecmbx run SCENARIO` runs the segment of a scenario
 //! frame by frame and prints the report, and `ecmbx serve SCENARIO COUNT` answers mailbox requests that
-//! come by UDP.
+//! come by UDP, `ecmbx stream SCENARIO COUNT` those that come on a TCP connection.
 #![tactic(auto)]
 
 mod output;
 
 use crate::output::Output;
+use ec_links::TcpLink;
 use ec_outside::{DiskFiles, UdpPort};
-use ecmbx_call::{Book, Status, ecmbx};
+use ecmbx_call::{Book, Status};
 use std::process::ExitCode;
 use std::rt::Env;
 use std::{env, io, mem};
+use stream_call::program;
 
 /// The address at which a serving hears datagrams, 127.0.0.1.
 const LOCALHOST: u32 = 0x7F00_0001;
@@ -41,12 +43,13 @@ fn main(rt: HostRuntime) -> ExitCode {
     let mut out = Output::new(alloc, &rt);
     let mut book = Book::new(alloc);
     let mut port = UdpPort::new(&rt, LOCALHOST, GATEWAY);
-    let status = ecmbx(
+    let (status, _) = program(
         alloc,
         words.as_slice(),
         &mut files,
         &mut out,
         &mut port,
+        TcpLink::new(&rt),
         &mut book,
     );
     // The process ends: letting go frame by frame what it gives back whole would only cost time.

@@ -58,7 +58,9 @@ fn run_file_saved<F: Files, O: Sink>(
     }
 }
 
-fn serve_file<F: Files, O: Sink, P: Port>(
+/// Serves the scenario under a name over a port, until so many datagrams were heard or the port ended, and puts the report; or the line of a
+/// file that can't be had or is no scenario. The book has what the serving left; where none began it stays new.
+pub fn serve_file<F: Files, O: Sink, P: Port>(
     alloc: Global,
     name: &str,
     count: u32,

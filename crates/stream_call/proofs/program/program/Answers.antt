@@ -1,0 +1,87 @@
+use Rattle.ec_outside.specs.Faults.{Rose}
+use Rattle.gateway_run.specs.Serving.{told}
+use Rattle.ecmbx_call.specs.Course.{words_of}
+use Rattle.ecmbx_call.proofs.Causes.{usage_cause, absent_cause, long_cause, refused_cause, broken_cause, given_up_cause, spent_cause, file_fault_cause, port_cause, ending_is, runs_to, saves_to, serves_to, shows_to, audits_to, makes_to}
+use Rattle.stream_call.specs.Linked.{told_first, told_last}
+use Rattle.stream_call.specs.Called.{called, told_by}
+use Rattle.stream_call.proofs.program.program.Goals as goal
+
+pub returns-clause-runs : goal.returns-clause-runs
+returns-clause-runs g c =
+    λ plan calm. runs_to (called (words_of c.args.words.now)) (g.F.Files.table c.args.files.now) (g.F.Files.table c.carry_out.new.files) (Rose (g.F.Files.file_faults c.args.files.now) (g.F.Files.file_faults c.carry_out.new.files)) (told_by (words_of c.args.words.now) (told_first g.L.Link.given g.L.Link.sent g.L.Link.over g.L.Link.link_faults c.args.link) (told g.P.Port.heard g.P.Port.sent g.P.Port.over g.P.Port.port_faults c.args.port.now)) (told_by (words_of c.args.words.now) (told_last g.L.Link.given g.L.Link.sent g.L.Link.over g.L.Link.link_faults c.args.link c.carry_out.result.1) (told g.P.Port.heard g.P.Port.sent g.P.Port.over g.P.Port.port_faults c.carry_out.new.port)) c.carry_out.new.book
+    (g.O.Sink.written c.args.out.now) (g.O.Sink.written c.carry_out.new.out) c.carry_out.result.0 c.carry_out.ensures.course calm plan
+
+pub returns-clause-saves : goal.returns-clause-saves
+returns-clause-saves g c =
+    λ plan calm. saves_to (called (words_of c.args.words.now)) (g.F.Files.table c.args.files.now) (g.F.Files.table c.carry_out.new.files) (Rose (g.F.Files.file_faults c.args.files.now) (g.F.Files.file_faults c.carry_out.new.files)) (told_by (words_of c.args.words.now) (told_first g.L.Link.given g.L.Link.sent g.L.Link.over g.L.Link.link_faults c.args.link) (told g.P.Port.heard g.P.Port.sent g.P.Port.over g.P.Port.port_faults c.args.port.now)) (told_by (words_of c.args.words.now) (told_last g.L.Link.given g.L.Link.sent g.L.Link.over g.L.Link.link_faults c.args.link c.carry_out.result.1) (told g.P.Port.heard g.P.Port.sent g.P.Port.over g.P.Port.port_faults c.carry_out.new.port)) c.carry_out.new.book
+    (g.O.Sink.written c.args.out.now) (g.O.Sink.written c.carry_out.new.out) c.carry_out.result.0 c.carry_out.ensures.course calm plan
+
+pub returns-clause-serves : goal.returns-clause-serves
+returns-clause-serves g c =
+    λ plan calm. serves_to (called (words_of c.args.words.now)) (g.F.Files.table c.args.files.now) (g.F.Files.table c.carry_out.new.files) (Rose (g.F.Files.file_faults c.args.files.now) (g.F.Files.file_faults c.carry_out.new.files)) (told_by (words_of c.args.words.now) (told_first g.L.Link.given g.L.Link.sent g.L.Link.over g.L.Link.link_faults c.args.link) (told g.P.Port.heard g.P.Port.sent g.P.Port.over g.P.Port.port_faults c.args.port.now)) (told_by (words_of c.args.words.now) (told_last g.L.Link.given g.L.Link.sent g.L.Link.over g.L.Link.link_faults c.args.link c.carry_out.result.1) (told g.P.Port.heard g.P.Port.sent g.P.Port.over g.P.Port.port_faults c.carry_out.new.port)) c.carry_out.new.book
+    (g.O.Sink.written c.args.out.now) (g.O.Sink.written c.carry_out.new.out) c.carry_out.result.0 c.carry_out.ensures.course calm plan
+
+pub returns-clause-shows : goal.returns-clause-shows
+returns-clause-shows g c =
+    λ calm quiet. shows_to (called (words_of c.args.words.now)) (g.F.Files.table c.args.files.now) (g.F.Files.table c.carry_out.new.files) (Rose (g.F.Files.file_faults c.args.files.now) (g.F.Files.file_faults c.carry_out.new.files)) (told_by (words_of c.args.words.now) (told_first g.L.Link.given g.L.Link.sent g.L.Link.over g.L.Link.link_faults c.args.link) (told g.P.Port.heard g.P.Port.sent g.P.Port.over g.P.Port.port_faults c.args.port.now)) (told_by (words_of c.args.words.now) (told_last g.L.Link.given g.L.Link.sent g.L.Link.over g.L.Link.link_faults c.args.link c.carry_out.result.1) (told g.P.Port.heard g.P.Port.sent g.P.Port.over g.P.Port.port_faults c.carry_out.new.port)) c.carry_out.new.book
+    (g.O.Sink.written c.args.out.now) (g.O.Sink.written c.carry_out.new.out) c.carry_out.result.0 (Rose (g.O.Sink.sink_faults c.args.out.now) (g.O.Sink.sink_faults c.carry_out.new.out)) c.carry_out.ensures.sink quiet calm c.carry_out.ensures.course
+
+pub returns-clause-audits : goal.returns-clause-audits
+returns-clause-audits g c =
+    λ calm quiet. audits_to (called (words_of c.args.words.now)) (g.F.Files.table c.args.files.now) (g.F.Files.table c.carry_out.new.files) (Rose (g.F.Files.file_faults c.args.files.now) (g.F.Files.file_faults c.carry_out.new.files)) (told_by (words_of c.args.words.now) (told_first g.L.Link.given g.L.Link.sent g.L.Link.over g.L.Link.link_faults c.args.link) (told g.P.Port.heard g.P.Port.sent g.P.Port.over g.P.Port.port_faults c.args.port.now)) (told_by (words_of c.args.words.now) (told_last g.L.Link.given g.L.Link.sent g.L.Link.over g.L.Link.link_faults c.args.link c.carry_out.result.1) (told g.P.Port.heard g.P.Port.sent g.P.Port.over g.P.Port.port_faults c.carry_out.new.port)) c.carry_out.new.book
+    (g.O.Sink.written c.args.out.now) (g.O.Sink.written c.carry_out.new.out) c.carry_out.result.0 (Rose (g.O.Sink.sink_faults c.args.out.now) (g.O.Sink.sink_faults c.carry_out.new.out)) c.carry_out.ensures.sink quiet calm c.carry_out.ensures.course
+
+pub returns-clause-makes : goal.returns-clause-makes
+returns-clause-makes g c =
+    λ quiet. makes_to (called (words_of c.args.words.now)) (g.F.Files.table c.args.files.now) (g.F.Files.table c.carry_out.new.files) (Rose (g.F.Files.file_faults c.args.files.now) (g.F.Files.file_faults c.carry_out.new.files)) (told_by (words_of c.args.words.now) (told_first g.L.Link.given g.L.Link.sent g.L.Link.over g.L.Link.link_faults c.args.link) (told g.P.Port.heard g.P.Port.sent g.P.Port.over g.P.Port.port_faults c.args.port.now)) (told_by (words_of c.args.words.now) (told_last g.L.Link.given g.L.Link.sent g.L.Link.over g.L.Link.link_faults c.args.link c.carry_out.result.1) (told g.P.Port.heard g.P.Port.sent g.P.Port.over g.P.Port.port_faults c.carry_out.new.port)) c.carry_out.new.book
+    (g.O.Sink.written c.args.out.now) (g.O.Sink.written c.carry_out.new.out) c.carry_out.result.0 (Rose (g.O.Sink.sink_faults c.args.out.now) (g.O.Sink.sink_faults c.carry_out.new.out)) c.carry_out.ensures.sink quiet c.carry_out.ensures.course
+
+pub returns-clause-usage : goal.returns-clause-usage
+returns-clause-usage g c =
+    usage_cause (called (words_of c.args.words.now)) (g.F.Files.table c.args.files.now) (g.F.Files.table c.carry_out.new.files) (Rose (g.F.Files.file_faults c.args.files.now) (g.F.Files.file_faults c.carry_out.new.files)) (told_by (words_of c.args.words.now) (told_first g.L.Link.given g.L.Link.sent g.L.Link.over g.L.Link.link_faults c.args.link) (told g.P.Port.heard g.P.Port.sent g.P.Port.over g.P.Port.port_faults c.args.port.now)) (told_by (words_of c.args.words.now) (told_last g.L.Link.given g.L.Link.sent g.L.Link.over g.L.Link.link_faults c.args.link c.carry_out.result.1) (told g.P.Port.heard g.P.Port.sent g.P.Port.over g.P.Port.port_faults c.carry_out.new.port)) c.carry_out.new.book
+    (g.O.Sink.written c.args.out.now) (g.O.Sink.written c.carry_out.new.out) c.carry_out.result.0 c.carry_out.ensures.course
+
+pub returns-clause-absent : goal.returns-clause-absent
+returns-clause-absent g c =
+    absent_cause (called (words_of c.args.words.now)) (g.F.Files.table c.args.files.now) (g.F.Files.table c.carry_out.new.files) (Rose (g.F.Files.file_faults c.args.files.now) (g.F.Files.file_faults c.carry_out.new.files)) (told_by (words_of c.args.words.now) (told_first g.L.Link.given g.L.Link.sent g.L.Link.over g.L.Link.link_faults c.args.link) (told g.P.Port.heard g.P.Port.sent g.P.Port.over g.P.Port.port_faults c.args.port.now)) (told_by (words_of c.args.words.now) (told_last g.L.Link.given g.L.Link.sent g.L.Link.over g.L.Link.link_faults c.args.link c.carry_out.result.1) (told g.P.Port.heard g.P.Port.sent g.P.Port.over g.P.Port.port_faults c.carry_out.new.port)) c.carry_out.new.book
+    (g.O.Sink.written c.args.out.now) (g.O.Sink.written c.carry_out.new.out) c.carry_out.result.0 c.carry_out.ensures.course
+
+pub returns-clause-too_long : goal.returns-clause-too_long
+returns-clause-too_long g c =
+    long_cause (called (words_of c.args.words.now)) (g.F.Files.table c.args.files.now) (g.F.Files.table c.carry_out.new.files) (Rose (g.F.Files.file_faults c.args.files.now) (g.F.Files.file_faults c.carry_out.new.files)) (told_by (words_of c.args.words.now) (told_first g.L.Link.given g.L.Link.sent g.L.Link.over g.L.Link.link_faults c.args.link) (told g.P.Port.heard g.P.Port.sent g.P.Port.over g.P.Port.port_faults c.args.port.now)) (told_by (words_of c.args.words.now) (told_last g.L.Link.given g.L.Link.sent g.L.Link.over g.L.Link.link_faults c.args.link c.carry_out.result.1) (told g.P.Port.heard g.P.Port.sent g.P.Port.over g.P.Port.port_faults c.carry_out.new.port)) c.carry_out.new.book
+    (g.O.Sink.written c.args.out.now) (g.O.Sink.written c.carry_out.new.out) c.carry_out.result.0 c.carry_out.ensures.course
+
+pub returns-clause-refused : goal.returns-clause-refused
+returns-clause-refused g c =
+    refused_cause (called (words_of c.args.words.now)) (g.F.Files.table c.args.files.now) (g.F.Files.table c.carry_out.new.files) (Rose (g.F.Files.file_faults c.args.files.now) (g.F.Files.file_faults c.carry_out.new.files)) (told_by (words_of c.args.words.now) (told_first g.L.Link.given g.L.Link.sent g.L.Link.over g.L.Link.link_faults c.args.link) (told g.P.Port.heard g.P.Port.sent g.P.Port.over g.P.Port.port_faults c.args.port.now)) (told_by (words_of c.args.words.now) (told_last g.L.Link.given g.L.Link.sent g.L.Link.over g.L.Link.link_faults c.args.link c.carry_out.result.1) (told g.P.Port.heard g.P.Port.sent g.P.Port.over g.P.Port.port_faults c.carry_out.new.port)) c.carry_out.new.book
+    (g.O.Sink.written c.args.out.now) (g.O.Sink.written c.carry_out.new.out) c.carry_out.result.0 c.carry_out.ensures.course
+
+pub returns-clause-given_up : goal.returns-clause-given_up
+returns-clause-given_up g c =
+    given_up_cause (called (words_of c.args.words.now)) (g.F.Files.table c.args.files.now) (g.F.Files.table c.carry_out.new.files) (Rose (g.F.Files.file_faults c.args.files.now) (g.F.Files.file_faults c.carry_out.new.files)) (told_by (words_of c.args.words.now) (told_first g.L.Link.given g.L.Link.sent g.L.Link.over g.L.Link.link_faults c.args.link) (told g.P.Port.heard g.P.Port.sent g.P.Port.over g.P.Port.port_faults c.args.port.now)) (told_by (words_of c.args.words.now) (told_last g.L.Link.given g.L.Link.sent g.L.Link.over g.L.Link.link_faults c.args.link c.carry_out.result.1) (told g.P.Port.heard g.P.Port.sent g.P.Port.over g.P.Port.port_faults c.carry_out.new.port)) c.carry_out.new.book
+    (g.O.Sink.written c.args.out.now) (g.O.Sink.written c.carry_out.new.out) c.carry_out.result.0 c.carry_out.ensures.course
+
+pub returns-clause-budget_spent : goal.returns-clause-budget_spent
+returns-clause-budget_spent g c =
+    spent_cause (called (words_of c.args.words.now)) (g.F.Files.table c.args.files.now) (g.F.Files.table c.carry_out.new.files) (Rose (g.F.Files.file_faults c.args.files.now) (g.F.Files.file_faults c.carry_out.new.files)) (told_by (words_of c.args.words.now) (told_first g.L.Link.given g.L.Link.sent g.L.Link.over g.L.Link.link_faults c.args.link) (told g.P.Port.heard g.P.Port.sent g.P.Port.over g.P.Port.port_faults c.args.port.now)) (told_by (words_of c.args.words.now) (told_last g.L.Link.given g.L.Link.sent g.L.Link.over g.L.Link.link_faults c.args.link c.carry_out.result.1) (told g.P.Port.heard g.P.Port.sent g.P.Port.over g.P.Port.port_faults c.carry_out.new.port)) c.carry_out.new.book
+    (g.O.Sink.written c.args.out.now) (g.O.Sink.written c.carry_out.new.out) c.carry_out.result.0 c.carry_out.ensures.course
+
+pub returns-clause-audit_no : goal.returns-clause-audit_no
+returns-clause-audit_no g c =
+    broken_cause (called (words_of c.args.words.now)) (g.F.Files.table c.args.files.now) (g.F.Files.table c.carry_out.new.files) (Rose (g.F.Files.file_faults c.args.files.now) (g.F.Files.file_faults c.carry_out.new.files)) (told_by (words_of c.args.words.now) (told_first g.L.Link.given g.L.Link.sent g.L.Link.over g.L.Link.link_faults c.args.link) (told g.P.Port.heard g.P.Port.sent g.P.Port.over g.P.Port.port_faults c.args.port.now)) (told_by (words_of c.args.words.now) (told_last g.L.Link.given g.L.Link.sent g.L.Link.over g.L.Link.link_faults c.args.link c.carry_out.result.1) (told g.P.Port.heard g.P.Port.sent g.P.Port.over g.P.Port.port_faults c.carry_out.new.port)) c.carry_out.new.book
+    (g.O.Sink.written c.args.out.now) (g.O.Sink.written c.carry_out.new.out) c.carry_out.result.0 c.carry_out.ensures.course
+
+pub returns-clause-file_fault : goal.returns-clause-file_fault
+returns-clause-file_fault g c =
+    file_fault_cause (called (words_of c.args.words.now)) (g.F.Files.table c.args.files.now) (g.F.Files.table c.carry_out.new.files) (Rose (g.F.Files.file_faults c.args.files.now) (g.F.Files.file_faults c.carry_out.new.files)) (told_by (words_of c.args.words.now) (told_first g.L.Link.given g.L.Link.sent g.L.Link.over g.L.Link.link_faults c.args.link) (told g.P.Port.heard g.P.Port.sent g.P.Port.over g.P.Port.port_faults c.args.port.now)) (told_by (words_of c.args.words.now) (told_last g.L.Link.given g.L.Link.sent g.L.Link.over g.L.Link.link_faults c.args.link c.carry_out.result.1) (told g.P.Port.heard g.P.Port.sent g.P.Port.over g.P.Port.port_faults c.carry_out.new.port)) c.carry_out.new.book
+    (g.O.Sink.written c.args.out.now) (g.O.Sink.written c.carry_out.new.out) c.carry_out.result.0 c.carry_out.ensures.course
+
+pub returns-clause-port_fault : goal.returns-clause-port_fault
+returns-clause-port_fault g c =
+    port_cause (called (words_of c.args.words.now)) (g.F.Files.table c.args.files.now) (g.F.Files.table c.carry_out.new.files) (Rose (g.F.Files.file_faults c.args.files.now) (g.F.Files.file_faults c.carry_out.new.files)) (told_by (words_of c.args.words.now) (told_first g.L.Link.given g.L.Link.sent g.L.Link.over g.L.Link.link_faults c.args.link) (told g.P.Port.heard g.P.Port.sent g.P.Port.over g.P.Port.port_faults c.args.port.now)) (told_by (words_of c.args.words.now) (told_last g.L.Link.given g.L.Link.sent g.L.Link.over g.L.Link.link_faults c.args.link c.carry_out.result.1) (told g.P.Port.heard g.P.Port.sent g.P.Port.over g.P.Port.port_faults c.carry_out.new.port)) c.carry_out.new.book
+    (g.O.Sink.written c.args.out.now) (g.O.Sink.written c.carry_out.new.out) c.carry_out.result.0 c.carry_out.ensures.course
+
+pub returns-clause-ending : goal.returns-clause-ending
+returns-clause-ending g c =
+    ending_is (called (words_of c.args.words.now)) (g.F.Files.table c.args.files.now) (g.F.Files.table c.carry_out.new.files) (Rose (g.F.Files.file_faults c.args.files.now) (g.F.Files.file_faults c.carry_out.new.files)) (told_by (words_of c.args.words.now) (told_first g.L.Link.given g.L.Link.sent g.L.Link.over g.L.Link.link_faults c.args.link) (told g.P.Port.heard g.P.Port.sent g.P.Port.over g.P.Port.port_faults c.args.port.now)) (told_by (words_of c.args.words.now) (told_last g.L.Link.given g.L.Link.sent g.L.Link.over g.L.Link.link_faults c.args.link c.carry_out.result.1) (told g.P.Port.heard g.P.Port.sent g.P.Port.over g.P.Port.port_faults c.carry_out.new.port)) c.carry_out.new.book
+    (g.O.Sink.written c.args.out.now) (g.O.Sink.written c.carry_out.new.out) c.carry_out.result.0 c.carry_out.ensures.course
