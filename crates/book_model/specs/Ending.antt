@@ -38,6 +38,7 @@ abbrev pub AreClosing : {M : Type 0} → Registers → List (Datagram M) → Typ
 AreClosing r [] = ⊤
 AreClosing r (d ∷ ds) = IsClosing r d × AreClosing r ds
 
+-- one frame of the rest of the return: it can be read, has nothing for the slave's station, and is of such datagrams alone
 pub record FrameCloses {M : Type 0} (station : ℕ) (r : Registers) (ds : List (Datagram M)) : Type 0 where
   pub seen : AreSeen ds
   pub none : own station ds ≡ []

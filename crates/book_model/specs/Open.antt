@@ -130,16 +130,19 @@ IsIdle w b l = WantsNoMore w.exchange w.lawful w.states w.stated w.processor w.t
 abbrev pub HadDrained : {V A M Q R : Type 0} → (w : Setting V A M Q R) (b : SlaveBook A M Q R) → IsOpenLife w b → Type 0
 HadDrained w b l = AllDrained w.exchange w.lawful w.states w.stated w.processor w.table w.cleared w.more w.spot w.frames b.gave (return_of l.last.cleared) l.carry l.left [] b.first l.past l.before
 
--- the book fits epoch by epoch; it fits; nothing is left; all is done: each service by mails counts one
+-- the book fits epoch by epoch: here and below each service by mails counts one
 abbrev pub EpochsFit : {V A M Q R : Type 0} → Setting V A M Q R → SlaveBook A M Q R → Type 0
 EpochsFit w b = FitsFrom w.exchange w.states (w.table w.spot.station) w.cleared (λ a q. 1) b b.first b.epochs
 
+-- the book fits
 abbrev pub BookFits : {V A M Q R : Type 0} → Setting V A M Q R → SlaveBook A M Q R → Type 0
 BookFits w b = Fits w.exchange w.states (w.table w.spot.station) w.cleared (λ a q. 1) b
 
+-- nothing is left of it
 abbrev pub BookRests : {V A M Q R : Type 0} → Setting V A M Q R → SlaveBook A M Q R → Type 0
 BookRests w b = Rest w.exchange w.states (w.table w.spot.station) w.cleared (λ a q. 1) b
 
+-- all is done
 abbrev pub BookDone : {V A M Q R : Type 0} → Setting V A M Q R → SlaveBook A M Q R → Type 0
 BookDone w b = AllDone w.exchange w.states (w.table w.spot.station) w.cleared (λ a q. 1) b
 

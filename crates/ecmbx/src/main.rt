@@ -1,21 +1,24 @@
 //! The mailbox half of EtherCAT as a program: `ecmbx run SCENARIO` runs the segment of a scenario
 //! frame by frame and prints the report, and `ecmbx serve SCENARIO COUNT` answers mailbox requests that
-//! come by UDP.
+//! come by UDP, `ecmbx stream SCENARIO COUNT` those that come on a TCP connection, and `ecmbx ask STATION OUT IN DO ARGS` sends some by UDP.
 #![tactic(auto)]
 
 mod output;
 
 use crate::output::Output;
+use ec_links::TcpLink;
 use ec_outside::{DiskFiles, UdpPort};
-use ecmbx_call::{Book, Status, ecmbx};
+use ecmbx_call::{Book, Status};
+use program_call::program;
 use std::process::ExitCode;
 use std::rt::Env;
 use std::{env, io, mem};
+use tool_call::is_ask;
 
-/// The address at which a serving hears datagrams, 127.0.0.1.
+/// The address at which datagrams are heard, 127.0.0.1.
 const LOCALHOST: u32 = 0x7F00_0001;
 
-/// Its port, which the standard has for EtherCAT.
+/// The port of a gateway, which the standard has for EtherCAT.
 const GATEWAY: u16 = 34980;
 
 /// The arguments behind the program's name.
@@ -25,6 +28,11 @@ fn words<R: Env + AllocGlobal>(rt: &R) -> io::Result<Vec<String>> {
         words.push(word)?;
     }
     Ok(words)
+}
+
+/// The port of our own: who asks takes any that is free, who serves the gateway's.
+fn port_for(words: &[String]) -> u16 {
+    if is_ask(words) { 0 } else { GATEWAY }
 }
 
 fn main(rt: HostRuntime) -> ExitCode {
@@ -40,13 +48,14 @@ fn main(rt: HostRuntime) -> ExitCode {
     let mut files = DiskFiles::new(&rt);
     let mut out = Output::new(alloc, &rt);
     let mut book = Book::new(alloc);
-    let mut port = UdpPort::new(&rt, LOCALHOST, GATEWAY);
-    let status = ecmbx(
+    let mut port = UdpPort::new(&rt, LOCALHOST, port_for(words.as_slice()));
+    let (status, _) = program(
         alloc,
         words.as_slice(),
         &mut files,
         &mut out,
         &mut port,
+        TcpLink::new(&rt),
         &mut book,
     );
     // The process ends: letting go frame by frame what it gives back whole would only cost time.

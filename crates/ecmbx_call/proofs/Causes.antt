@@ -11,7 +11,8 @@ use Rattle.ecmbx_words.specs.declared.status.Status.TheVariants as statuses
 use Rattle.ecmbx_words.specs.Form.{form_in, name_in}
 use Rattle.ecmbx_words.specs.Ends.{Ended}
 use Rattle.ecmbx_call.specs.Audits.{verdict_status}
-use Rattle.ecmbx_call.specs.Files.{limit, Holds, IsLong, Followed}
+use Rattle.ecmbx_words.specs.Files.{Holds, IsLong, Followed}
+use Rattle.ecmbx_call.specs.Files.{limit}
 use Rattle.ecmbx_call.specs.Course.{Course}
 use Rattle.run_record.specs.Ran.{EndsAs, IsOver, IsCut}
 use Rattle.gateway_run.specs.Serving.{Told as PortTold}
@@ -55,7 +56,7 @@ module _ (words : List (List ℕ)) (table saved : Option Table) (faulted : Type 
       let same : other ≡ name = cc in
       rw (← same) (held other None files table there h)
 
-  told_much : (name other : List ℕ) (files : Table) → loaded_in words ≡ Some name → loaded_in words ≡ Some other → table ≡ Some files → IsLong table other → (octets : List ℕ) × (file_of name files ≡ Some octets) × (limit < length octets)
+  told_much : (name other : List ℕ) (files : Table) → loaded_in words ≡ Some name → loaded_in words ≡ Some other → table ≡ Some files → IsLong limit table other → (octets : List ℕ) × (file_of name files ≡ Some octets) × (limit < length octets)
   told_much name other files said also there h =
       let same : other ≡ name = cc in
       rw (← same) (held_long other files table there h)

@@ -1,11 +1,8 @@
 -- What each step of a call adds to its course.
-use Rattle.std.proofs.Common.{◌≡◌, ◌≢◌, ℕ, ◌≤◌, List, [], ◌∷◌, length, map, get_or, codes, String, string_bytes, Bool, if◌then◌else◌, true, false, Option, Some, None, Result, Ok, Err, OnOk, is_err, ◌⊎◌, refl, sym, subst, ap, inl, inr}
+use Rattle.std.proofs.Common.{◌≡◌, ◌≢◌, ℕ, List, [], ◌∷◌, length, map, get_or, codes, String, string_bytes, Bool, if◌then◌else◌, true, false, Option, Result, Ok, Err, OnOk, is_err, ◌⊎◌, refl, sym, subst, ap, inl, inr}
 use Rattle.std.specs.declared.alloc.Global.{Global}
 use Rattle.std.specs.Str.{bytes_eq}
-use Rattle.std.proofs.lemmas.List.{append-nil}
-use Rattle.ec_outside.specs.Files.{Table, file_of, Loads, LoadsFile}
-use Rattle.ec_outside.specs.Sink.{Wrote}
-use Rattle.ec_outside.specs.declared.files.Loaded.TheVariants.{Found, Absent, TooLong}
+use Rattle.ec_outside.specs.Files.{Table}
 use Rattle.segment_plan.specs.declared.plan.Scenario.{Scenario}
 use Rattle.scenario_keys.specs.declared.place.Place.{Place}
 use Rattle.scenario_keys.specs.declared.refusal.Refusal.{Refusal}
@@ -29,72 +26,16 @@ use Rattle.pcap_frames.specs.declared.capture.Capture.{Capture}
 use Rattle.pcap_frames.specs.declared.capture.PcapFault.{PcapFault}
 use Rattle.pcap_frames.specs.declared.capture.PcapFault.TheVariants as faults
 use Rattle.pcap_frames.specs.Reading.{capture_read, UnlessNoMemory}
-use Rattle.ecmbx_call.specs.Files.{limit, Holds, IsLong, FileCourse, Followed, IsLoaded, IsUnloaded}
-use Rattle.ecmbx_call.specs.Files.FileCourse.{fault, absent, long, found}
+use Rattle.ecmbx_words.proofs.Loads.{said, turned, nothing_put}
+use Rattle.ecmbx_words.specs.Files.{FileCourse, Followed, IsLoaded}
+use Rattle.ecmbx_call.specs.Files.{limit}
 use Rattle.gateway_run.specs.Serving.{Told as PortTold}
 use Rattle.ecmbx_call.specs.Audits.{AuditCourse}
 use Rattle.ecmbx_call.specs.Serving.{ServeCourse}
 use Rattle.ecmbx_call.specs.Course.{HasRun, IsReportable, RunCourse, SavedCourse, ViewCourse, Course, IsUnread, IsUnsaved, BeganOn, BeganIn}
 
--- a text that was put, as the course says
-pub said : (course : Status → List ℕ → Type 0) (planned : Status) (text : List ℕ) (old new : Option (List ℕ)) (status : Status) → course planned text → PutAll planned text old new status → Followed course old new status
-said course planned text old new status c (inl memory) = inl memory
-said course planned text old new status c (inr ended) = inr (planned, text, c, ended)
-
--- the same text by another course
-pub turned : (one other : Status → List ℕ → Type 0) → ((planned : Status) (text : List ℕ) → one planned text → other planned text) → (old new : Option (List ℕ)) (status : Status) → Followed one old new status → Followed other old new status
-turned one other turn old new status (inl memory) = inl memory
-turned one other turn old new status (inr (planned, text, c, ended)) = inr (planned, text, turn planned text c, ended)
-
--- nothing put is the empty text put
-pub nothing_put : (old : Option (List ℕ)) → Wrote old old []
-nothing_put None = tt
-nothing_put (Some old) = ap Some (sym (append-nil old))
-
--- ---- files
-
--- what a load that found the file says
-found_in : (octets : List ℕ) (file : Option (List ℕ)) → LoadsFile file limit octets Found → (file ≡ Some octets) × (length octets ≤ limit)
-found_in octets None h = absurd h
-found_in octets (Some held) h = (rw h.0 refl, rw h.0 h.1)
-
-pub is_loaded : (name octets : List ℕ) (table : Option Table) → Loads table name limit octets (Ok Found) → IsLoaded name table octets
-is_loaded name octets None h = record { holds = tt; fits = h }
-is_loaded name octets (Some files) h = let both = found_in octets (file_of name files) h in record { holds = both.0; fits = both.1 }
-
-absent_in : (into : List ℕ) (file : Option (List ℕ)) → LoadsFile file limit into Absent → file ≡ None
-absent_in into None h = refl
-absent_in into (Some held) h = absurd h
-
-pub holds_absent : (name into : List ℕ) (table : Option Table) → Loads table name limit into (Ok Absent) → Holds table name None
-holds_absent name into None h = tt
-holds_absent name into (Some files) h = absent_in into (file_of name files) h
-
-long_in : (name into : List ℕ) (files : Table) (file : Option (List ℕ)) → file_of name files ≡ file → LoadsFile file limit into TooLong → IsLong (Some files) name
-long_in name into files None is h = absurd h
-long_in name into files (Some held) is h = (held, is, h.1)
-
-pub holds_long : (name into : List ℕ) (table : Option Table) → Loads table name limit into (Ok TooLong) → IsLong table name
-holds_long name into None h = tt
-holds_long name into (Some files) h = long_in name into files (file_of name files) refl h
-
-module _ (name : List ℕ) (table : Option Table) (faulted nw : Type 0) (course : List ℕ → Status → List ℕ → Type 0) where
-  unloaded_course : nw → (planned : Status) (text : List ℕ) → FileCourse name table faulted (Unit {0}) (λ octets planned text. ⊥) planned text → FileCourse name table faulted nw course planned text
-  unloaded_course fresh _ _ (fault rose u) = fault rose fresh
-  unloaded_course fresh _ _ (absent holds u) = absent holds fresh
-  unloaded_course fresh _ _ (long is u) = long is fresh
-  unloaded_course fresh _ _ (found octets planned text holds fits never) = absurd never
-
-  -- a file that couldn't be had
-  pub unloaded : (old new : Option (List ℕ)) (status : Status) → nw → IsUnloaded name table faulted old new status → Followed (FileCourse name table faulted nw course) old new status
-  unloaded old new status fresh h = turned (FileCourse name table faulted (Unit {0}) (λ octets planned text. ⊥)) (FileCourse name table faulted nw course) (unloaded_course fresh) old new status h
-
-  -- a file that was loaded
-  pub loaded : (octets : List ℕ) (old new : Option (List ℕ)) (status : Status) → IsLoaded name table octets → Followed (course octets) old new status → Followed (FileCourse name table faulted nw course) old new status
-  loaded octets old new status is h = turned (course octets) (FileCourse name table faulted nw course) (λ planned text c. found octets planned text is.holds is.fits c) old new status h
-
 -- the book of a file that was loaded
-pub began_in : (name octets : List ℕ) (table : Option Table) (book : Book) → IsLoaded name table octets → IsNew book ⊎ BeganOn octets book → IsNew book ⊎ BeganIn name table book
+pub began_in : (name octets : List ℕ) (table : Option Table) (book : Book) → IsLoaded limit name table octets → IsNew book ⊎ BeganOn octets book → IsNew book ⊎ BeganIn name table book
 began_in name octets table book is (inl new) = inl new
 began_in name octets table book is (inr began) = inr (octets, is.holds, began)
 
@@ -172,32 +113,32 @@ capture_refused octets course turn read faults.NoMemory old new status is h put 
 -- ---- the words
 
 module _ (words : List (List ℕ)) (table saved : Option Table) (faulted : Type 0) (first last : PortTold) (book : Book) (name : List ℕ) (old new : Option (List ℕ)) (status : Status) where
-  pub run_course : form_in words ≡ forms.Run → name ≡ name_in words → Followed (FileCourse name table faulted (IsNew book) (RunCourse book)) old new status → Followed (Course words table saved faulted first last book) old new status
+  pub run_course : form_in words ≡ forms.Run → name ≡ name_in words → Followed (FileCourse limit name table faulted (IsNew book) (RunCourse book)) old new status → Followed (Course words table saved faulted first last book) old new status
   run_course f is h =
-      turned (FileCourse name table faulted (IsNew book) (RunCourse book)) (Course words table saved faulted first last book)
-      (λ planned text c. Course.run planned text f (subst (λ n. FileCourse n table faulted (IsNew book) (RunCourse book) planned text) is c)) old new status h
+      turned (FileCourse limit name table faulted (IsNew book) (RunCourse book)) (Course words table saved faulted first last book)
+      (λ planned text c. Course.run planned text f (subst (λ n. FileCourse limit n table faulted (IsNew book) (RunCourse book) planned text) is c)) old new status h
 
-  pub decode_course : form_in words ≡ forms.Decode → name ≡ name_in words → IsNew book → Followed (FileCourse name table faulted (Unit {0}) ViewCourse) old new status → Followed (Course words table saved faulted first last book) old new status
+  pub decode_course : form_in words ≡ forms.Decode → name ≡ name_in words → IsNew book → Followed (FileCourse limit name table faulted (Unit {0}) ViewCourse) old new status → Followed (Course words table saved faulted first last book) old new status
   decode_course f is fresh h =
-      turned (FileCourse name table faulted (Unit {0}) ViewCourse) (Course words table saved faulted first last book)
-      (λ planned text c. Course.decode planned text f fresh (subst (λ n. FileCourse n table faulted (Unit {0}) ViewCourse planned text) is c)) old new status h
+      turned (FileCourse limit name table faulted (Unit {0}) ViewCourse) (Course words table saved faulted first last book)
+      (λ planned text c. Course.decode planned text f fresh (subst (λ n. FileCourse limit n table faulted (Unit {0}) ViewCourse planned text) is c)) old new status h
 
-  pub audit_course : form_in words ≡ forms.Audit → name ≡ name_in words → IsNew book → Followed (FileCourse name table faulted (Unit {0}) AuditCourse) old new status → Followed (Course words table saved faulted first last book) old new status
+  pub audit_course : form_in words ≡ forms.Audit → name ≡ name_in words → IsNew book → Followed (FileCourse limit name table faulted (Unit {0}) AuditCourse) old new status → Followed (Course words table saved faulted first last book) old new status
   audit_course f is fresh h =
-      turned (FileCourse name table faulted (Unit {0}) AuditCourse) (Course words table saved faulted first last book)
-      (λ planned text c. Course.audit planned text f fresh (subst (λ n. FileCourse n table faulted (Unit {0}) AuditCourse planned text) is c)) old new status h
+      turned (FileCourse limit name table faulted (Unit {0}) AuditCourse) (Course words table saved faulted first last book)
+      (λ planned text c. Course.audit planned text f fresh (subst (λ n. FileCourse limit n table faulted (Unit {0}) AuditCourse planned text) is c)) old new status h
 
-  pub saved_words : (capture : List ℕ) → form_in words ≡ forms.RunSaved → name ≡ name_in words → capture ≡ saved_in words → Followed (FileCourse name table faulted (IsNew book) (SavedCourse capture table saved faulted book)) old new status
+  pub saved_words : (capture : List ℕ) → form_in words ≡ forms.RunSaved → name ≡ name_in words → capture ≡ saved_in words → Followed (FileCourse limit name table faulted (IsNew book) (SavedCourse capture table saved faulted book)) old new status
       → Followed (Course words table saved faulted first last book) old new status
   saved_words capture f is also h =
-      turned (FileCourse name table faulted (IsNew book) (SavedCourse capture table saved faulted book)) (Course words table saved faulted first last book)
-      (λ planned text c. Course.run_saved planned text f (subst (λ n. FileCourse n table faulted (IsNew book) (SavedCourse (saved_in words) table saved faulted book) planned text) is
-      (subst (λ n. FileCourse name table faulted (IsNew book) (SavedCourse n table saved faulted book) planned text) also c))) old new status h
+      turned (FileCourse limit name table faulted (IsNew book) (SavedCourse capture table saved faulted book)) (Course words table saved faulted first last book)
+      (λ planned text c. Course.run_saved planned text f (subst (λ n. FileCourse limit n table faulted (IsNew book) (SavedCourse (saved_in words) table saved faulted book) planned text) is
+      (subst (λ n. FileCourse limit name table faulted (IsNew book) (SavedCourse n table saved faulted book) planned text) also c))) old new status h
 
-  pub serve_course : (count : ℕ) → form_in words ≡ forms.Serve count → name ≡ name_in words → Followed (FileCourse name table faulted (IsNew book) (ServeCourse count first last book)) old new status → Followed (Course words table saved faulted first last book) old new status
+  pub serve_course : (count : ℕ) → form_in words ≡ forms.Serve count → name ≡ name_in words → Followed (FileCourse limit name table faulted (IsNew book) (ServeCourse count first last book)) old new status → Followed (Course words table saved faulted first last book) old new status
   serve_course count f is h =
-      turned (FileCourse name table faulted (IsNew book) (ServeCourse count first last book)) (Course words table saved faulted first last book)
-      (λ planned text c. Course.serve count planned text f (subst (λ n. FileCourse n table faulted (IsNew book) (ServeCourse count first last book) planned text) is c)) old new status h
+      turned (FileCourse limit name table faulted (IsNew book) (ServeCourse count first last book)) (Course words table saved faulted first last book)
+      (λ planned text c. Course.serve count planned text f (subst (λ n. FileCourse limit n table faulted (IsNew book) (ServeCourse count first last book) planned text) is c)) old new status h
 
 -- the word behind the first, where there is one
 pub name_at : (words : List (String Global)) (word : String Global) → word ≡ get_or words 1 word → (form_in (map string_bytes words) ≡ forms.Other → ⊥) → string_bytes word ≡ name_in (map string_bytes words)

@@ -19,7 +19,8 @@ use Rattle.ecmbx_words.specs.Ends.{text_of}
 use Rattle.capture_audit.specs.declared.verdict.Verdict.TheVariants.{Yes, No}
 use Rattle.capture_audit.specs.Audit.{verdict_of}
 use Rattle.ecmbx_call.specs.Audits.{verdict_text, verdict_status}
-use Rattle.ecmbx_call.specs.Files.{Holds, IsLong, IsSaved}
+use Rattle.ecmbx_words.specs.Files.{Holds, IsLong}
+use Rattle.ecmbx_call.specs.Files.{limit, IsSaved}
 use Rattle.ecmbx_call.specs.Course.{HasRun, status_of}
 use Rattle.gateway_run.specs.Serving.{Told as PortTold}
 use Rattle.ecmbx_call.specs.Serving.{HasServed}
@@ -50,7 +51,7 @@ module _ (words : List (List ℕ)) (table saved : Option Table) (faulted : Type 
       let none : file_of found.name found.files ≡ None = rw (← same) (held name None found.files table found.told holds) in
       absurd cc
 
-  pub not_long : IsFound words table octets → (name : List ℕ) → loaded_in words ≡ Some name → IsLong table name → ⊥
+  pub not_long : IsFound words table octets → (name : List ℕ) → loaded_in words ≡ Some name → IsLong limit table name → ⊥
   not_long found name said is =
       let same : name ≡ found.name = cc in
       let big = held_long name found.files table found.told is in

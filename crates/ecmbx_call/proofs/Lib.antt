@@ -1,8 +1,9 @@
 mod Audits
-mod Courses
-mod Servings
+pub mod Courses
+pub mod Servings
 mod Told
 mod Found
 mod Endings
-mod Causes
+pub mod Causes
 mod Frames
+pub mod Calls

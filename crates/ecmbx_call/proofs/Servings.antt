@@ -17,7 +17,8 @@ use Rattle.ecmbx_words.specs.declared.status.Status.{Status}
 use Rattle.ecmbx_words.specs.declared.status.Status.TheVariants as statuses
 use Rattle.ecmbx_words.specs.Form.{form_in, made_in, served_in, number_in}
 use Rattle.ecmbx_words.specs.Texts.{refused_line}
-use Rattle.ecmbx_call.specs.Files.{Followed, IsLoaded}
+use Rattle.ecmbx_words.specs.Files.{Followed, IsLoaded}
+use Rattle.ecmbx_call.specs.Files.{limit}
 use Rattle.ecmbx_call.specs.Course.{IsReportable, IsUnread}
 use Rattle.ecmbx_call.specs.Serving.{HasServed, ServeCourse, ServedOn, ServedIn}
 
@@ -48,7 +49,7 @@ serving_reportable plan count first last book ending sound frames served other =
 }
 
 -- the book of a file that was loaded
-pub served_in_file : (name octets : List ℕ) (table : Option Table) (count : ℕ) (first last : Told) (book : Book) → IsLoaded name table octets → IsNew book ⊎ ServedOn octets count first last book → IsNew book ⊎ ServedIn name table count first last book
+pub served_in_file : (name octets : List ℕ) (table : Option Table) (count : ℕ) (first last : Told) (book : Book) → IsLoaded limit name table octets → IsNew book ⊎ ServedOn octets count first last book → IsNew book ⊎ ServedIn name table count first last book
 served_in_file name octets table count first last book is (inl new) = inl new
 served_in_file name octets table count first last book is (inr served) = inr (octets, is.holds, served)
 

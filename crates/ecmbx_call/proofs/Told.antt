@@ -18,17 +18,18 @@ use Rattle.ecmbx_words.specs.declared.form.Form.TheVariants as forms
 use Rattle.ecmbx_words.specs.declared.status.Status.{Status}
 use Rattle.ecmbx_words.specs.declared.status.Status.TheVariants as statuses
 use Rattle.ecmbx_words.specs.Form.{form_in, name_in, saved_in}
-use Rattle.ecmbx_words.specs.Ends.{text_of, Ended}
+use Rattle.ecmbx_words.specs.Ends.{text_of, Ended, IsAmong}
 use Rattle.capture_audit.specs.declared.station.StationAudit.{StationAudit}
 use Rattle.capture_audit.specs.declared.verdict.Verdict.{Verdict}
 use Rattle.capture_audit.specs.declared.verdict.Verdict.TheVariants.{Yes, No}
 use Rattle.capture_audit.specs.Audit.{verdict_of}
 use Rattle.ecmbx_call.specs.Audits.{verdict_text, verdict_status, AuditCourse}
-use Rattle.ecmbx_call.specs.Files.{limit, Holds, IsLong, IsSaved, FileCourse}
+use Rattle.ecmbx_words.specs.Files.{Holds, IsLong, FileCourse}
+use Rattle.ecmbx_call.specs.Files.{limit, IsSaved}
 use Rattle.ecmbx_call.specs.Course.{HasRun, status_of, RunCourse, SavedCourse, ViewCourse, Course}
 use Rattle.gateway_run.specs.Serving.{Told as PortTold}
 use Rattle.ecmbx_call.specs.Serving.{HasServed, ServeCourse}
-use Rattle.ecmbx_call.specs.Causes.{loaded_by, loaded_in, IsRefused, IsAmong, CameOf, IsBroken}
+use Rattle.ecmbx_call.specs.Causes.{loaded_by, loaded_in, IsRefused, CameOf, IsBroken}
 
 -- ---- what a planned status says
 
@@ -37,7 +38,7 @@ pub data Told (words : List (List ℕ)) (table saved : Option Table) (faulted : 
   usage : form_in words ≡ forms.Other → IsNew book → planned ≡ statuses.Usage → Told words table saved faulted first last book planned text
   fault : (name : List ℕ) → loaded_in words ≡ Some name → faulted → planned ≡ statuses.FileFault → Told words table saved faulted first last book planned text
   absent : (name : List ℕ) → loaded_in words ≡ Some name → Holds table name None → IsNew book → planned ≡ statuses.Absent → Told words table saved faulted first last book planned text
-  long : (name : List ℕ) → loaded_in words ≡ Some name → IsLong table name → IsNew book → planned ≡ statuses.TooLong → Told words table saved faulted first last book planned text
+  long : (name : List ℕ) → loaded_in words ≡ Some name → IsLong limit table name → IsNew book → planned ≡ statuses.TooLong → Told words table saved faulted first last book planned text
   refused : (name octets : List ℕ) → loaded_in words ≡ Some name → Holds table name (Some octets) → length octets ≤ limit → IsRefused (form_in words) octets → IsNew book → planned ≡ statuses.Refused → Told words table saved faulted first last book planned text
   made : (seed size : ℕ) → form_in words ≡ forms.Make seed size → IsNew book → planned ≡ statuses.Done → text ≡ made_text [] seed size → Told words table saved faulted first last book planned text
   shown : (name octets : List ℕ) (capture : Capture) → form_in words ≡ forms.Decode → loaded_in words ≡ Some name → Holds table name (Some octets) → length octets ≤ limit → capture_read octets ≡ Ok capture → IsNew book → planned ≡ statuses.Done → text ≡ view_text octets capture → Told words table saved faulted first last book planned text
@@ -55,7 +56,7 @@ module _ (words : List (List ℕ)) (table saved : Option Table) (faulted : Type 
   told_octets octets _ _ f fresh holds fits (ViewCourse.refused flaw is) = Told.refused (name_in words) octets (rw f refl) holds fits (rw f (flaw, is)) fresh refl
   told_octets octets _ _ f fresh holds fits (ViewCourse.shown capture is) = Told.shown (name_in words) octets capture f (rw f refl) holds fits is fresh refl refl
 
-  pub told_view : (planned : Status) (text : List ℕ) → form_in words ≡ forms.Decode → IsNew book → FileCourse (name_in words) table faulted (Unit {0}) ViewCourse planned text → Told words table saved faulted first last book planned text
+  pub told_view : (planned : Status) (text : List ℕ) → form_in words ≡ forms.Decode → IsNew book → FileCourse limit (name_in words) table faulted (Unit {0}) ViewCourse planned text → Told words table saved faulted first last book planned text
   told_view _ _ f fresh (FileCourse.fault rose u) = Told.fault (name_in words) (rw f refl) rose refl
   told_view _ _ f fresh (FileCourse.absent holds u) = Told.absent (name_in words) (rw f refl) holds fresh refl
   told_view _ _ f fresh (FileCourse.long is u) = Told.long (name_in words) (rw f refl) is fresh refl
@@ -70,20 +71,20 @@ module _ (words : List (List ℕ)) (table saved : Option Table) (faulted : Type 
   told_audited octets _ _ f fresh holds fits (AuditCourse.refused flaw is) = Told.refused (name_in words) octets (rw f refl) holds fits (rw f (flaw, is)) fresh refl
   told_audited octets _ _ f fresh holds fits (AuditCourse.audited capture is) = told_verdict octets capture _ _ (verdict_of octets capture) f fresh holds fits is refl refl refl
 
-  pub told_audit : (planned : Status) (text : List ℕ) → form_in words ≡ forms.Audit → IsNew book → FileCourse (name_in words) table faulted (Unit {0}) AuditCourse planned text → Told words table saved faulted first last book planned text
+  pub told_audit : (planned : Status) (text : List ℕ) → form_in words ≡ forms.Audit → IsNew book → FileCourse limit (name_in words) table faulted (Unit {0}) AuditCourse planned text → Told words table saved faulted first last book planned text
   told_audit _ _ f fresh (FileCourse.fault rose u) = Told.fault (name_in words) (rw f refl) rose refl
   told_audit _ _ f fresh (FileCourse.absent holds u) = Told.absent (name_in words) (rw f refl) holds fresh refl
   told_audit _ _ f fresh (FileCourse.long is u) = Told.long (name_in words) (rw f refl) is fresh refl
   told_audit _ _ f fresh (FileCourse.found octets planned text holds fits course) = told_audited octets planned text f fresh holds fits course
 
-  pub told_run : (planned : Status) (text : List ℕ) → form_in words ≡ forms.Run → FileCourse (name_in words) table faulted (IsNew book) (RunCourse book) planned text → Told words table saved faulted first last book planned text
+  pub told_run : (planned : Status) (text : List ℕ) → form_in words ≡ forms.Run → FileCourse limit (name_in words) table faulted (IsNew book) (RunCourse book) planned text → Told words table saved faulted first last book planned text
   told_run _ _ f (FileCourse.fault rose fresh) = Told.fault (name_in words) (rw f refl) rose refl
   told_run _ _ f (FileCourse.absent holds fresh) = Told.absent (name_in words) (rw f refl) holds fresh refl
   told_run _ _ f (FileCourse.long is fresh) = Told.long (name_in words) (rw f refl) is fresh refl
   told_run _ _ f (FileCourse.found octets _ _ holds fits (RunCourse.refused e is fresh)) = Told.refused (name_in words) octets (rw f refl) holds fits (rw f (e, is)) fresh refl
   told_run _ _ f (FileCourse.found octets _ _ holds fits (RunCourse.ran plan is run)) = Told.ran (name_in words) octets plan f (rw f refl) holds fits is run refl refl
 
-  pub told_saved : (planned : Status) (text : List ℕ) → form_in words ≡ forms.RunSaved → FileCourse (name_in words) table faulted (IsNew book) (SavedCourse (saved_in words) table saved faulted book) planned text → Told words table saved faulted first last book planned text
+  pub told_saved : (planned : Status) (text : List ℕ) → form_in words ≡ forms.RunSaved → FileCourse limit (name_in words) table faulted (IsNew book) (SavedCourse (saved_in words) table saved faulted book) planned text → Told words table saved faulted first last book planned text
   told_saved _ _ f (FileCourse.fault rose fresh) = Told.fault (name_in words) (rw f refl) rose refl
   told_saved _ _ f (FileCourse.absent holds fresh) = Told.absent (name_in words) (rw f refl) holds fresh refl
   told_saved _ _ f (FileCourse.long is fresh) = Told.long (name_in words) (rw f refl) is fresh refl
@@ -91,7 +92,7 @@ module _ (words : List (List ℕ)) (table saved : Option Table) (faulted : Type 
   told_saved _ _ f (FileCourse.found octets _ _ holds fits (SavedCourse.unsaved plan is run rose)) = Told.fault (name_in words) (rw f refl) rose refl
   told_saved _ _ f (FileCourse.found octets _ _ holds fits (SavedCourse.ran plan is run stored)) = Told.kept (name_in words) octets plan f (rw f refl) holds fits is run stored refl refl
 
-  pub told_serve : (count : ℕ) (planned : Status) (text : List ℕ) → form_in words ≡ forms.Serve count → FileCourse (name_in words) table faulted (IsNew book) (ServeCourse count first last book) planned text → Told words table saved faulted first last book planned text
+  pub told_serve : (count : ℕ) (planned : Status) (text : List ℕ) → form_in words ≡ forms.Serve count → FileCourse limit (name_in words) table faulted (IsNew book) (ServeCourse count first last book) planned text → Told words table saved faulted first last book planned text
   told_serve count _ _ f (FileCourse.fault rose fresh) = Told.fault (name_in words) (rw f refl) rose refl
   told_serve count _ _ f (FileCourse.absent holds fresh) = Told.absent (name_in words) (rw f refl) holds fresh refl
   told_serve count _ _ f (FileCourse.long is fresh) = Told.long (name_in words) (rw f refl) is fresh refl
@@ -136,15 +137,15 @@ is_run statuses.GivenUp = true
 is_run statuses.BudgetSpent = true
 is_run _ = false
 
-pub run_not : (answer planned : Status) (ending : Ending) → is_run answer ≡ false → planned ≡ answer → planned ≡ status_of ending → is_run (status_of ending) ≡ true → ⊥
-run_not answer planned ending not is end own =
-    let same : is_run answer ≡ true = ap is_run (sym is ∙ end) ∙ own in
+pub run_not : (wanted planned : Status) (ending : Ending) → is_run wanted ≡ false → planned ≡ wanted → planned ≡ status_of ending → is_run (status_of ending) ≡ true → ⊥
+run_not wanted planned ending not is end own =
+    let same : is_run wanted ≡ true = ap is_run (sym is ∙ end) ∙ own in
     absurd cc
 
 -- a status that neither the sink nor memory gives is the planned one
-pub planned_is : (answer planned : Status) (text : List ℕ) (old new : Option (List ℕ)) (status : Status) → (answer ≡ statuses.SinkFault → ⊥) → Ended planned text old new status → status ≡ answer → planned ≡ answer
-planned_is answer planned text old new status other (inl e) is = sym e.0 ∙ is
-planned_is answer planned text old new status other (inr e) is = absurd (other (sym is ∙ e.0))
+pub planned_is : (wanted planned : Status) (text : List ℕ) (old new : Option (List ℕ)) (status : Status) → (wanted ≡ statuses.SinkFault → ⊥) → Ended planned text old new status → status ≡ wanted → planned ≡ wanted
+planned_is wanted planned text old new status other (inl e) is = sym e.0 ∙ is
+planned_is wanted planned text old new status other (inr e) is = absurd (other (sym is ∙ e.0))
 
 pub settle_one : (one planned : Status) (text : List ℕ) (old new : Option (List ℕ)) (status : Status) → planned ≡ one → Ended planned text old new status → IsAmong (one ∷ statuses.SinkFault ∷ statuses.NoMemory ∷ []) status
 settle_one one planned text old new status is (inl e) = inl (e.0 ∙ is)
@@ -160,7 +161,7 @@ pub held : (name : List ℕ) (file : Option (List ℕ)) (files : Table) (table :
 held name file files None is h = absurd cc
 held name file files (Some others) is h = let same : others ≡ files = cc in rw (← same) h
 
-pub held_long : (name : List ℕ) (files : Table) (table : Option Table) → table ≡ Some files → IsLong table name → (octets : List ℕ) × (file_of name files ≡ Some octets) × (limit < length octets)
+pub held_long : (name : List ℕ) (files : Table) (table : Option Table) → table ≡ Some files → IsLong limit table name → (octets : List ℕ) × (file_of name files ≡ Some octets) × (limit < length octets)
 held_long name files None is h = absurd cc
 held_long name files (Some others) is h = let same : others ≡ files = cc in rw (← same) h
 
@@ -214,7 +215,7 @@ module _ (words : List (List ℕ)) (table saved : Option Table) (faulted : Type 
   told_absent (Told.kept name octets plan f said holds fits read run file is text) e = absurd (ends_not statuses.Absent planned book.ending refl is e)
   told_absent (Told.served name octets plan count f said holds fits read run is text) e = absurd (ends_not statuses.Absent planned book.ending refl is e)
 
-  pub told_long : Told words table saved faulted first last book planned text → planned ≡ statuses.TooLong → (name : List ℕ) × (loaded_in words ≡ Some name) × IsLong table name
+  pub told_long : Told words table saved faulted first last book planned text → planned ≡ statuses.TooLong → (name : List ℕ) × (loaded_in words ≡ Some name) × IsLong limit table name
   told_long (Told.usage f fresh is) e = absurd cc
   told_long (Told.fault name said rose is) e = absurd cc
   told_long (Told.absent name said holds fresh is) e = absurd cc

@@ -22,11 +22,12 @@ use Rattle.ecmbx_words.specs.declared.form.Form.TheVariants as forms
 use Rattle.ecmbx_words.specs.declared.status.Status.{Status}
 use Rattle.ecmbx_words.specs.declared.status.Status.TheVariants as statuses
 use Rattle.ecmbx_words.specs.Form.{form_in, name_in, saved_in}
-use Rattle.ecmbx_words.specs.Ends.{text_of, Ended}
+use Rattle.ecmbx_words.specs.Ends.{text_of, Ended, IsAmong}
 use Rattle.capture_audit.specs.declared.verdict.Verdict.TheVariants.{No}
 use Rattle.capture_audit.specs.Audit.{verdict_of}
 use Rattle.ecmbx_call.specs.Audits.{verdict_status, verdict_text}
-use Rattle.ecmbx_call.specs.Files.{limit, Holds, IsLong, IsSaved}
+use Rattle.ecmbx_words.specs.Files.{Holds, IsLong}
+use Rattle.ecmbx_call.specs.Files.{limit, IsSaved}
 use Rattle.gateway_run.specs.Serving.{Told}
 use Rattle.ecmbx_call.specs.Course.{HasRun, status_of}
 use Rattle.ecmbx_call.specs.Serving.{HasServed}
@@ -50,11 +51,6 @@ abbrev pub IsRefused : Form → List ℕ → Type 0
 IsRefused forms.Decode octets = (fault : PcapFault) × (capture_read octets ≡ Err fault)
 IsRefused forms.Audit octets = (fault : PcapFault) × (capture_read octets ≡ Err fault)
 IsRefused _ octets = (e : Refusal) × (plan_of octets ≡ Err e)
-
--- a status out of some
-abbrev pub IsAmong : List Status → Status → Type 0
-IsAmong [] status = ⊥
-IsAmong (one ∷ others) status = (status ≡ one) ⊎ IsAmong others status
 
 -- a file that the words load and that is found whole
 pub record IsFound (words : List (List ℕ)) (table : Option Table) (octets : List ℕ) : Type 0 where
@@ -80,7 +76,7 @@ AbsentCause words table status =
 -- TooLong comes exactly where the file is too long, but for a fault.
 abbrev pub LongCause : List (List ℕ) → Option Table → Status → Type 0
 LongCause words table status =
-    (status ≡ statuses.TooLong → (name : List ℕ) × (loaded_in words ≡ Some name) × IsLong table name)
+    (status ≡ statuses.TooLong → (name : List ℕ) × (loaded_in words ≡ Some name) × IsLong limit table name)
     × ((name octets : List ℕ) (files : Table) → loaded_in words ≡ Some name → table ≡ Some files → file_of name files ≡ Some octets → limit < length octets
     → IsAmong (statuses.TooLong ∷ statuses.FileFault ∷ statuses.SinkFault ∷ statuses.NoMemory ∷ []) status)
 
@@ -137,6 +133,7 @@ EndingAt statuses.Absent ending = ending ≡ endings.Unfinished
 EndingAt statuses.TooLong ending = ending ≡ endings.Unfinished
 EndingAt statuses.Refused ending = ending ≡ endings.Unfinished
 EndingAt statuses.AuditNo ending = ending ≡ endings.Unfinished
+EndingAt statuses.NoAnswer ending = ending ≡ endings.Unfinished
 EndingAt _ ending = Unit {0}
 
 -- no fault came in a call, by the count of faults before it and behind it

@@ -24,12 +24,13 @@ use Rattle.ecmbx_words.specs.declared.status.Status.TheVariants as statuses
 use Rattle.ecmbx_words.specs.Form.{form_in, name_in, saved_in}
 use Rattle.ecmbx_words.specs.Ends.{text_of, Ended}
 use Rattle.ecmbx_words.specs.Texts.{usage_line, refused_line, capture_line}
-pub use Rattle.ecmbx_call.specs.Files.{Followed}
+pub use Rattle.ecmbx_words.specs.Files.{Followed}
 pub use Rattle.ecmbx_call.specs.Ends.{status_of}
 use Rattle.gateway_run.specs.Serving.{Told}
 use Rattle.ecmbx_call.specs.Audits.{AuditCourse}
 use Rattle.ecmbx_call.specs.Serving.{ServeCourse, Served}
-use Rattle.ecmbx_call.specs.Files.{Holds, IsSaved, FileCourse}
+use Rattle.ecmbx_words.specs.Files.{Holds, FileCourse}
+use Rattle.ecmbx_call.specs.Files.{limit, IsSaved}
 
 -- the octets of the words
 abbrev pub words_of : List (String Global) → List (List ℕ)
@@ -67,11 +68,11 @@ pub data ViewCourse (octets : List ℕ) : Status → List ℕ → Type 0 where
 pub data Course (words : List (List ℕ)) (table saved : Option Table) (faulted : Type 0) (first last : Told) (book : Book) : Status → List ℕ → Type 0 where
   usage : form_in words ≡ forms.Other → IsNew book → Course words table saved faulted first last book statuses.Usage usage_line
   make : (seed size : ℕ) → form_in words ≡ forms.Make seed size → IsNew book → Course words table saved faulted first last book statuses.Done (made_text [] seed size)
-  decode : (planned : Status) (text : List ℕ) → form_in words ≡ forms.Decode → IsNew book → FileCourse (name_in words) table faulted (Unit {0}) ViewCourse planned text → Course words table saved faulted first last book planned text
-  audit : (planned : Status) (text : List ℕ) → form_in words ≡ forms.Audit → IsNew book → FileCourse (name_in words) table faulted (Unit {0}) AuditCourse planned text → Course words table saved faulted first last book planned text
-  run : (planned : Status) (text : List ℕ) → form_in words ≡ forms.Run → FileCourse (name_in words) table faulted (IsNew book) (RunCourse book) planned text → Course words table saved faulted first last book planned text
-  run_saved : (planned : Status) (text : List ℕ) → form_in words ≡ forms.RunSaved → FileCourse (name_in words) table faulted (IsNew book) (SavedCourse (saved_in words) table saved faulted book) planned text → Course words table saved faulted first last book planned text
-  serve : (count : ℕ) (planned : Status) (text : List ℕ) → form_in words ≡ forms.Serve count → FileCourse (name_in words) table faulted (IsNew book) (ServeCourse count first last book) planned text → Course words table saved faulted first last book planned text
+  decode : (planned : Status) (text : List ℕ) → form_in words ≡ forms.Decode → IsNew book → FileCourse limit (name_in words) table faulted (Unit {0}) ViewCourse planned text → Course words table saved faulted first last book planned text
+  audit : (planned : Status) (text : List ℕ) → form_in words ≡ forms.Audit → IsNew book → FileCourse limit (name_in words) table faulted (Unit {0}) AuditCourse planned text → Course words table saved faulted first last book planned text
+  run : (planned : Status) (text : List ℕ) → form_in words ≡ forms.Run → FileCourse limit (name_in words) table faulted (IsNew book) (RunCourse book) planned text → Course words table saved faulted first last book planned text
+  run_saved : (planned : Status) (text : List ℕ) → form_in words ≡ forms.RunSaved → FileCourse limit (name_in words) table faulted (IsNew book) (SavedCourse (saved_in words) table saved faulted book) planned text → Course words table saved faulted first last book planned text
+  serve : (count : ℕ) (planned : Status) (text : List ℕ) → form_in words ≡ forms.Serve count → FileCourse limit (name_in words) table faulted (IsNew book) (ServeCourse count first last book) planned text → Course words table saved faulted first last book planned text
 
 -- octets that are no scenario: the refusal's line is put, unless memory ran out
 abbrev pub IsUnread : List ℕ → Option (List ℕ) → Option (List ℕ) → Status → Type 0
@@ -104,22 +105,22 @@ SavesRun table faults written octets name book files files' out out' status =
 -- the file under a name is run
 abbrev pub RunsFile : {F O : Type 0} → (F → Option Table) → (F → ℕ) → (O → Option (List ℕ)) → List ℕ → Book → F → F → O → O → Status → Type 0
 RunsFile table faults written name book files files' out out' status =
-    Followed (FileCourse name (table files) (Rose (faults files) (faults files')) (IsNew book) (RunCourse book)) (written out) (written out') status
+    Followed (FileCourse limit name (table files) (Rose (faults files) (faults files')) (IsNew book) (RunCourse book)) (written out) (written out') status
 
 -- the same, and the frames are saved under another name
 abbrev pub SavesFile : {F O : Type 0} → (F → Option Table) → (F → ℕ) → (O → Option (List ℕ)) → List ℕ → List ℕ → Book → F → F → O → O → Status → Type 0
 SavesFile table faults written name capture book files files' out out' status =
-    Followed (FileCourse name (table files) (Rose (faults files) (faults files')) (IsNew book) (SavedCourse capture (table files) (table files') (Rose (faults files) (faults files')) book)) (written out) (written out') status
+    Followed (FileCourse limit name (table files) (Rose (faults files) (faults files')) (IsNew book) (SavedCourse capture (table files) (table files') (Rose (faults files) (faults files')) book)) (written out) (written out') status
 
 -- the capture under a name is shown
 abbrev pub ShowsFile : {F O : Type 0} → (F → Option Table) → (F → ℕ) → (O → Option (List ℕ)) → List ℕ → F → F → O → O → Status → Type 0
 ShowsFile table faults written name files files' out out' status =
-    Followed (FileCourse name (table files) (Rose (faults files) (faults files')) (Unit {0}) ViewCourse) (written out) (written out') status
+    Followed (FileCourse limit name (table files) (Rose (faults files) (faults files')) (Unit {0}) ViewCourse) (written out) (written out') status
 
 -- the capture under a name is audited
 abbrev pub AuditsFile : {F O : Type 0} → (F → Option Table) → (F → ℕ) → (O → Option (List ℕ)) → List ℕ → F → F → O → O → Status → Type 0
 AuditsFile table faults written name files files' out out' status =
-    Followed (FileCourse name (table files) (Rose (faults files) (faults files')) (Unit {0}) AuditCourse) (written out) (written out') status
+    Followed (FileCourse limit name (table files) (Rose (faults files) (faults files')) (Unit {0}) AuditCourse) (written out) (written out') status
 
 -- the words are carried out
 abbrev pub CarriesOut : {F O : Type 0} → (F → Option Table) → (F → ℕ) → (O → Option (List ℕ)) → List (List ℕ) → Told → Told → Book → F → F → O → O → Status → Type 0

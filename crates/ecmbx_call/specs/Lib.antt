@@ -4,3 +4,4 @@ pub mod Files
 pub mod Serving
 pub mod Course
 pub mod Causes
+pub mod Calls

@@ -17,7 +17,8 @@ use Rattle.ecmbx_words.specs.declared.status.Status.TheVariants as statuses
 use Rattle.ecmbx_words.specs.Form.{form_in, name_in}
 use Rattle.ecmbx_words.specs.Ends.{text_of}
 use Rattle.ecmbx_words.specs.Texts.{refused_line}
-use Rattle.ecmbx_call.specs.Files.{Holds, FileCourse, Followed}
+use Rattle.ecmbx_words.specs.Files.{Holds, FileCourse, Followed}
+use Rattle.ecmbx_call.specs.Files.{limit}
 use Rattle.ecmbx_call.specs.Ends.{status_of}
 
 -- what the serving of a plan left in its book, by what its port told before it and behind it: its frames, its datagrams, and an ending with
@@ -46,4 +47,4 @@ Served words table first last book = (count : ℕ) × (form_in words ≡ forms.S
 -- the file under a name is served
 abbrev pub ServesFile : {F O : Type 0} → (F → Option Table) → (F → ℕ) → (O → Option (List ℕ)) → List ℕ → ℕ → Told → Told → Book → F → F → O → O → Status → Type 0
 ServesFile table faults written name count first last book files files' out out' status =
-    Followed (FileCourse name (table files) (Rose (faults files) (faults files')) (IsNew book) (ServeCourse count first last book)) (written out) (written out') status
+    Followed (FileCourse limit name (table files) (Rose (faults files) (faults files')) (IsNew book) (ServeCourse count first last book)) (written out) (written out') status

@@ -3,7 +3,6 @@
 #![tactic(auto)]
 
 mod auditing;
-mod loading;
 mod making;
 mod running;
 mod serving;
@@ -12,4 +11,4 @@ mod viewing;
 
 pub use ecmbx_words::Status;
 pub use run_book::{Answer, Begun, Book, Ending, Epoch, Reply, SentFrame, SlaveBook};
-pub use top::ecmbx;
+pub use top::{ecmbx, serve_file};

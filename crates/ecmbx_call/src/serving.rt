@@ -3,7 +3,7 @@ ghost use Rattle.ec_outside.specs.Faults.{Rose};
 ghost use Rattle.run_book.specs.Book.{IsNew};
 ghost use Rattle.gateway_run.specs.Serving.{told};
 ghost use Rattle.ecmbx_words.specs.declared.status.Status.TheVariants as statuses;
-ghost use Rattle.ecmbx_call.specs.Files.{Followed};
+ghost use Rattle.ecmbx_words.specs.Files.{Followed};
 ghost use Rattle.ecmbx_call.specs.Serving.{ServeCourse, ServedOn};
 
 use crate::running::{plan_in, tell};

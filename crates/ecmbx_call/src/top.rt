@@ -10,15 +10,17 @@ ghost use Rattle.ecmbx_call.specs.Serving.{ServesFile, ServedIn};
 ghost use Rattle.gateway_run.specs.Serving.{told};
 ghost use Rattle.ecmbx_call.specs.Causes.{UsageCause, AbsentCause, LongCause, RefusedCause, GivenUpCause, SpentCause, BrokenCause, EndingAt, PortCause, IsCalm, IsServing, RunsTo, SavesTo, ServesTo, ShowsTo, AuditsTo, MakesTo};
 
-use crate::loading::load;
 use crate::making::make;
 use crate::running::{run_octets, run_saved};
 use crate::serving::serve_octets;
 use crate::viewing::{audit, decode};
 use ec_outside::{Files, Port, Sink};
-use ecmbx_words::{Form, Status, form_of, say, usage};
+use ecmbx_words::{Form, Status, form_of, load, say, usage};
 use run_book::Book;
 use std::alloc::Global;
+
+/// The most octets that a file may have.
+const LIMIT: usize = 16_777_216;
 
 fn run_file<F: Files, O: Sink>(
     alloc: Global,
@@ -33,7 +35,7 @@ fn run_file<F: Files, O: Sink>(
     ensures book { IsNew book.new ⊎ BeganIn name.now (F.table files.old) book.new }
     ensures same { F.table files.new ≡ F.table files.old }
 {
-    match load(alloc, name, files, out) {
+    match load(alloc, name, LIMIT, files, out) {
         Ok(octets) => run_octets(alloc, octets, out, book),
         Err(status) => status,
     }
@@ -52,13 +54,15 @@ fn run_file_saved<F: Files, O: Sink>(
     ensures sink { result ≡ statuses.SinkFault → Rose (O.sink_faults out.old) (O.sink_faults out.new) }
     ensures book { IsNew book.new ⊎ BeganIn name.now (F.table files.old) book.new }
 {
-    match load(alloc, name, files, out) {
+    match load(alloc, name, LIMIT, files, out) {
         Ok(octets) => run_saved(alloc, octets, capture, files, out, book),
         Err(status) => status,
     }
 }
 
-fn serve_file<F: Files, O: Sink, P: Port>(
+/// Serves the scenario under a name over a port, until so many datagrams were heard or the port ended, and puts the report; or the line of a
+/// file that can't be had or is no scenario. The book has what the serving left; where none began it stays new.
+pub fn serve_file<F: Files, O: Sink, P: Port>(
     alloc: Global,
     name: &str,
     count: u32,
@@ -74,7 +78,7 @@ fn serve_file<F: Files, O: Sink, P: Port>(
     ensures book { IsNew book.new ⊎ ServedIn name.now (F.table files.old) count (told P.heard P.sent P.over P.port_faults port.old) (told P.heard P.sent P.over P.port_faults port.new) book.new }
     ensures same { F.table files.new ≡ F.table files.old }
 {
-    match load(alloc, name, files, out) {
+    match load(alloc, name, LIMIT, files, out) {
         Ok(octets) => serve_octets(alloc, octets, count, out, port, book),
         Err(status) => status,
     }
@@ -85,7 +89,7 @@ fn decode_file<F: Files, O: Sink>(alloc: Global, name: &str, files: &mut F, out:
     ensures sink { result ≡ statuses.SinkFault → Rose (O.sink_faults out.old) (O.sink_faults out.new) }
     ensures same { F.table files.new ≡ F.table files.old }
 {
-    match load(alloc, name, files, out) {
+    match load(alloc, name, LIMIT, files, out) {
         Ok(octets) => decode(alloc, octets.bytes(), out),
         Err(status) => status,
     }
@@ -96,7 +100,7 @@ fn audit_file<F: Files, O: Sink>(alloc: Global, name: &str, files: &mut F, out: 
     ensures sink { result ≡ statuses.SinkFault → Rose (O.sink_faults out.old) (O.sink_faults out.new) }
     ensures same { F.table files.new ≡ F.table files.old }
 {
-    match load(alloc, name, files, out) {
+    match load(alloc, name, LIMIT, files, out) {
         Ok(octets) => audit(alloc, octets.bytes(), out),
         Err(status) => status,
     }

@@ -3,7 +3,7 @@ use ecmbx_call::Status;
 use std::test::Fail;
 
 const USAGE: &str =
-    "usage: ecmbx run SCENARIO [CAPTURE] | decode CAPTURE | serve SCENARIO COUNT | make SEED SIZE | audit CAPTURE\n";
+    "usage: ecmbx run SCENARIO [CAPTURE] | decode CAPTURE | serve SCENARIO COUNT | make SEED SIZE | stream SCENARIO COUNT | audit CAPTURE | ask STATION OUT IN DO ARGS\n";
 
 /// Words that are no form, a file that isn't there, one that can't be loaded, one that is no
 /// document, one with a number out of range, and a sink that fails at its second line.

@@ -122,6 +122,12 @@ fn segments_run(rt: HostRuntime) -> Result<(), Fail> {
             Status::GivenUp,
             "frames 20 lost 4\nslave 0 plc station 1001 state 2 handled 2 packets 0\nepoch 1 row 1\nanswer 0 in doubt\nanswer 1 value 01020304\ndropped 0\nstatus 7 given up\n",
         ),
+        // A give-up between two data packets of a file: the old version stands, whole, and is read behind the reopening.
+        (
+            "version = 1\nretry = 3\nrecover = 1\nlose = [[9, 1], [10, 1], [11, 1], [12, 1]]\n\n[[slave]]\nname = \"all\"\nstation = 5633\nmail = [64, 64]\nserves = [\"coe\", \"foe\", \"eoe\", \"soe\"]\nmac = \"0200000000a1\"\nboot = true\n\n[[slave.object]]\nindex = 8192\nkind = \"array\"\nname = \"Setpoints\"\n\n[[slave.object.entry]]\ntype = 7\naccess = 63\nvalue = \"00000000\"\n\n[[slave.object]]\nindex = 8194\nkind = \"array\"\nname = \"Blob\"\n\n[[slave.object.entry]]\ntype = 10\naccess = 63\nsize = [1, 300]\nvalue = \"00\"\n\n[[slave.file]]\nname = \"f\"\nrights = \"rw\"\nvalue = \"6f6c64\"\n\n[[slave.idn]]\nnumber = 5\ndrive = 0\nsize = [1, 300]\nwritable = true\nvalue = \"01\"\n\n[[service]]\nslave = \"all\"\ndo = \"write_file\"\nname = \"f\"\nvalue = \"00070e151c232a31383f464d545b626970777e858c939aa1a8afb6bdc4cbd2d9e0e7eef5fc030a11181f262d343b424950575e656c737a81888f969da4abb2b9c0c7ced5dce3eaf1f8ff060d141b222930373e454c535a61686f767d848b9299a0a7aeb5bcc3cad1d8dfe6edf4fb020910171e252c333a41\"\n\n[[service]]\nslave = \"all\"\ndo = \"read_file\"\nname = \"f\"\n",
+            Status::GivenUp,
+            "frames 25 lost 4\nslave 0 all station 1601 state 2 handled 1 packets 0\nepoch 1 row 1\nanswer 0 in doubt\nanswer 1 value 6f6c64\ndropped 0\nstatus 7 given up\n",
+        ),
         // A slow slave.
         (
             "version = 2\nretry = 3\n\n[[slave]]\nname = \"plc\"\nstation = 4097\npace = 3\nmail = [64, 64]\nserves = [\"coe\"]\n\n[[slave.object]]\nindex = 8192\nkind = \"array\"\nname = \"Setpoints\"\n\n[[slave.object.entry]]\ntype = 7\naccess = 63\nvalue = \"00000000\"\n\n[[service]]\nslave = \"plc\"\ndo = \"download\"\nindex = 8192\nsub = 1\nvalue = \"01020304\"\n\n[[service]]\nslave = \"plc\"\ndo = \"upload\"\nindex = 8192\nsub = 1\n",

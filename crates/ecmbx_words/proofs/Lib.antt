@@ -1,3 +1,4 @@
 pub mod Put
 pub mod Numbers
 pub mod Words
+pub mod Loads

@@ -1,5 +1,5 @@
 -- The words of the command line.
-use Rattle.std.proofs.Common.{◌≡◌, ℕ, ◌<◌, ◌≤◌, List, [], ◌∷◌, length, map, get_or, String, string_bytes, ap, arith}
+use Rattle.std.proofs.Common.{◌≡◌, ◌<◌, ◌≤◌, List, [], ◌∷◌, length, map, get_or, String, string_bytes, ap, arith}
 use Rattle.std.specs.declared.alloc.Global.{Global}
 use Rattle.ecmbx_words.specs.Form.{pair_in, form_in}
 

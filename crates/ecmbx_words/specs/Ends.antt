@@ -16,3 +16,8 @@ Ended planned text old new status = ((status ≡ planned) × Wrote old new text)
 -- the same, unless memory ran out
 abbrev pub PutAll : Status → List ℕ → Option (List ℕ) → Option (List ℕ) → Status → Type 0
 PutAll planned text old new status = (status ≡ statuses.NoMemory) ⊎ Ended planned text old new status
+
+-- a status out of some
+abbrev pub IsAmong : List Status → Status → Type 0
+IsAmong [] status = ⊥
+IsAmong (one ∷ others) status = (status ≡ one) ⊎ IsAmong others status

@@ -41,6 +41,16 @@ form_in (word ∷ _ ∷ []) = pair_in word
 form_in (word ∷ second ∷ third ∷ []) = triple_in word second third
 form_in _ = forms.Other
 
+-- the form of words that ask for a serving with a count, or for none
+abbrev pub serving : Option ℕ → Form
+serving (Some count) = forms.Serve count
+serving None = forms.Other
+
+-- `stream SCENARIO COUNT` as `serve SCENARIO COUNT`; no word for other words
+abbrev pub as_serve : List (List ℕ) → List (List ℕ)
+as_serve (word ∷ words) = if bytes_eq word (codes "stream") then codes "serve" ∷ words else []
+as_serve [] = []
+
 -- the file that a form of the words loads
 abbrev pub name_in : List (List ℕ) → List ℕ
 name_in (_ ∷ name ∷ _) = name

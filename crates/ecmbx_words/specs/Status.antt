@@ -17,3 +17,4 @@ number_of statuses.BudgetSpent = 8
 number_of statuses.PortFault = 9
 number_of statuses.NoMemory = 10
 number_of statuses.AuditNo = 11
+number_of statuses.NoAnswer = 12

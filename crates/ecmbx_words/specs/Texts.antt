@@ -8,15 +8,19 @@ use Rattle.scenario_keys.specs.declared.place.Place.TheVariants as places
 use Rattle.scenario_keys.specs.declared.refusal.Refusal.{Refusal}
 use Rattle.scenario_keys.specs.Rules.{number_of}
 
+-- the forms of the command line
 abbrev pub usage_line : List ℕ
-usage_line = codes "usage: ecmbx run SCENARIO [CAPTURE] | decode CAPTURE | serve SCENARIO COUNT | make SEED SIZE | audit CAPTURE\n"
+usage_line = codes "usage: ecmbx run SCENARIO [CAPTURE] | decode CAPTURE | serve SCENARIO COUNT | make SEED SIZE | stream SCENARIO COUNT | audit CAPTURE | ask STATION OUT IN DO ARGS\n"
 
+-- a file that isn't there
 abbrev pub absent_line : List ℕ
 absent_line = codes "absent\n"
 
+-- a file that is longer than may be
 abbrev pub long_line : List ℕ
 long_line = codes "too long\n"
 
+-- a file that can't be read or written
 abbrev pub fault_line : List ℕ
 fault_line = codes "file fault\n"
 
@@ -35,13 +39,15 @@ place_text (places.Host i) = codes "host " ++ decimal i
 abbrev pub refusal_line : ℕ → Place → List ℕ
 refusal_line rule place = (codes "refused S" ++ (decimal rule ++ codes " at ")) ++ place_text place ++ codes "\n"
 
+-- a refusal of a scenario, by its rule's number
 abbrev pub refused_line : Refusal → List ℕ
 refused_line e = refusal_line (number_of e.rule) e.place
 
--- a fault of a capture without a place, and one with its place
+-- a fault of a capture without a place
 abbrev pub numbered : ℕ → List ℕ
 numbered number = codes "refused P" ++ (decimal number ++ codes "\n")
 
+-- a fault of a capture, with its place
 abbrev pub faulted_at : ℕ → ℕ → List ℕ
 faulted_at number at = codes "refused P" ++ (decimal number ++ (codes " at " ++ (decimal at ++ codes "\n")))
 
@@ -54,6 +60,7 @@ abbrev pub station_line : ℕ → ℕ → ℕ → List ℕ
 station_line station sent accepted =
     codes "station " ++ (four_digits station ++ (codes " sent " ++ (decimal sent ++ (codes " accepted " ++ (decimal accepted ++ codes "\n")))))
 
+-- a capture that obeys the rules
 abbrev pub yes_line : List ℕ
 yes_line = codes "audit yes\n"
 

@@ -1,5 +1,5 @@
 ghost use Rattle.std.specs.Prelude.{◌≡◌, ◌≤◌, string_bytes, map};
-ghost use Rattle.ecmbx_words.specs.Form.{number_in, made_in, served_in, pair_in, triple_in, form_in};
+ghost use Rattle.ecmbx_words.specs.Form.{number_in, made_in, served_in, pair_in, triple_in, form_in, serving, as_serve};
 
 use itoa::Buffer;
 
@@ -28,8 +28,8 @@ pub enum Form {
     Other,
 }
 
-// A number in decimal digits without sign and without a leading zero, where it is below 2 to the power 32.
-fn number(word: &str) -> Option<u32>
+/// A number in decimal digits without sign and without a leading zero, where it is below 2 to the power 32.
+pub fn number(word: &str) -> Option<u32>
     ensures { result ≡ number_in word.now }
 {
     let Ok(number) = word.parse::<u32>() else {
@@ -53,13 +53,23 @@ fn made(seed: &str, size: &str) -> Form
     }
 }
 
+// A count of datagrams, 1 to 1,000,000.
+fn counted(word: &str) -> Option<u32>
+    ensures { served_in (number_in word.now) ≡ serving result }
+{
+    match number(word) {
+        Some(count) if count >= 1 && count <= MOST_GRAMS => Some(count),
+        _ => None,
+    }
+}
+
 // The form of the words `serve SCENARIO COUNT`.
 fn served(count: &str) -> Form
     ensures { result ≡ served_in (number_in count.now) }
 {
-    match number(count) {
-        Some(count) if count >= 1 && count <= MOST_GRAMS => Form::Serve { count },
-        _ => Form::Other,
+    match counted(count) {
+        Some(count) => Form::Serve { count },
+        None => Form::Other,
     }
 }
 
@@ -101,5 +111,15 @@ pub fn form_of(words: &[String]) -> Form
         [word, _] => pair(word.as_str()),
         [word, second, third] => triple(word.as_str(), second.as_str(), third.as_str()),
         _ => Form::Other,
+    }
+}
+
+/// The count of the words `stream SCENARIO COUNT`, 1 to 1,000,000; none where the words are others.
+pub fn stream_of(words: &[String]) -> Option<u32>
+    ensures { form_in (as_serve (map string_bytes words.now)) ≡ serving result }
+{
+    match words {
+        [word, _, count] if word.as_str() == "stream" => counted(count.as_str()),
+        _ => None,
     }
 }

@@ -3,11 +3,13 @@
 
 mod form;
 mod lines;
+mod loading;
 mod status;
 mod texts;
 
-pub use form::{Form, form_of};
+pub use form::{Form, form_of, number, stream_of};
 pub use lines::{say, say_lines, say_text};
+pub use loading::load;
 pub use status::Status;
 pub use texts::{
     absent, audit_no, audit_yes, capture_refusal, file_fault, refusal, station_text, too_long,

@@ -28,10 +28,12 @@ pub enum Status {
     NoMemory,
     /// 11: a capture breaks a rule of the mailboxes.
     AuditNo,
+    /// 12: a service over a gateway got no answer.
+    NoAnswer,
 }
 
 impl Status {
-    /// The number, 0 to 11.
+    /// The number, 0 to 12.
     pub fn number(self) -> u8
         ensures { result ≡ number_of self }
     {
@@ -48,6 +50,7 @@ impl Status {
             Status::PortFault => 9,
             Status::NoMemory => 10,
             Status::AuditNo => 11,
+            Status::NoAnswer => 12,
         }
     }
 }

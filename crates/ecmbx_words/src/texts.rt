@@ -12,7 +12,7 @@ use std::alloc::Global;
 pub fn usage() -> &'static [u8]
     ensures { result.now ≡ usage_line }
 {
-    b"usage: ecmbx run SCENARIO [CAPTURE] | decode CAPTURE | serve SCENARIO COUNT | make SEED SIZE | audit CAPTURE\n"
+    b"usage: ecmbx run SCENARIO [CAPTURE] | decode CAPTURE | serve SCENARIO COUNT | make SEED SIZE | stream SCENARIO COUNT | audit CAPTURE | ask STATION OUT IN DO ARGS\n"
 }
 
 pub fn absent() -> &'static [u8]

@@ -23,6 +23,7 @@ abbrev pub hear_set : Talking → Awaits → ℕ → Heard
 hear_set c Awaits.SetAnswer code = if code == 0 then closed c ReplyKind.Done [] else closed c (ReplyKind.EoeResult code) []
 hear_set c _ code = foreign c
 
+-- the same with the address block that was asked for, which is the value
 abbrev pub hear_get : Talking → Awaits → ℕ → List ℕ → Heard
 hear_get c Awaits.GetAnswer code block = if code == 0 then closed c ReplyKind.Value block else closed c (ReplyKind.EoeResult code) []
 hear_get c _ code block = foreign c

@@ -24,6 +24,7 @@ unsent_mails block Unsent.Nothing = []
 unsent_mails block Unsent.Set = mail (SetIp (record { items = block })) ∷ []
 unsent_mails block Unsent.Get = mail GetIp ∷ []
 
+-- the same of a client
 abbrev pub left : Talking → List EoeMail
 left c = unsent_mails c.block c.unsent
 

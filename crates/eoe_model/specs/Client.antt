@@ -56,12 +56,13 @@ meaning_of o room station get_ip = record { station = station; reply = (ReplyKin
 abbrev pub by_result : ℕ → Reply → Reply
 by_result result_code success = if result_code == 0 then success else (ReplyKind.EoeResult result_code, [])
 
--- the reply to set IP, and to get IP, that one mail is
+-- the reply to set IP that one mail is
 abbrev pub set_reply : EoeMail → Option Reply
 set_reply (mail (SetIpAnswer result_code)) = Some (by_result result_code (ReplyKind.Done, []))
 set_reply (failed detail) = Some (ReplyKind.MailboxError detail, [])
 set_reply _ = None
 
+-- the reply to get IP: the address block
 abbrev pub get_reply : EoeMail → Option Reply
 get_reply (mail (GetIpAnswer result_code block)) = Some (by_result result_code (ReplyKind.Value, block.items))
 get_reply (failed detail) = Some (ReplyKind.MailboxError detail, [])

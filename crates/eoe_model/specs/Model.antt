@@ -11,6 +11,7 @@ use Rattle.eoe_model.specs.Client.{Service, is_service, is_handed, mails_of, Rep
 abbrev pub eoe_speech : Areas → Speech EoeMail Service Reply
 eoe_speech areas = record { emission = is_emission; valid = is_service; planned = λ q hs. mails_of areas.out q; ends = ends; handed = is_handed }
 
+-- THE EXCHANGE: the server of a network at mailboxes of these lengths, and what its client speaks
 abbrev pub eoe_exchange : {S : Type 0} → Network S → Areas → Exchange (Server S) (Station S) EoeMail Service Reply
 eoe_exchange o areas = record {
   serve = serve o areas.back;

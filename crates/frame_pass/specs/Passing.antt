@@ -8,18 +8,20 @@ use Rattle.datagrams.specs.Frame.{IsFrame, text_of, parts_of, frame_read, octets
 use Rattle.esc_registers.specs.declared.registers.Registers.{Registers}
 use Rattle.esc_registers.specs.Access.{Passed, access}
 
--- the registers behind a datagram, and the datagram behind the slave
+-- a datagram at the slave: the registers behind it, and what becomes of it
 abbrev pub passed : Registers → Datagram → Passed
 passed r d = access r d.head d.body
 
+-- the datagram behind the slave: its counter, its ADP and its octets as the registers leave them
 abbrev pub datagram_after : Registers → Datagram → Datagram
 datagram_after r d = record d { head = (passed r d).head; body = (passed r d).body }
 
--- the registers behind a frame's datagrams, and these behind the slave
+-- the registers behind a frame's datagrams
 abbrev pub registers_after : Registers → List Datagram → Registers
 registers_after r [] = r
 registers_after r (d ∷ ds) = registers_after (passed r d).registers ds
 
+-- the frame's datagrams behind the slave, each by the registers that the ones before it left
 abbrev pub datagrams_after : Registers → List Datagram → List Datagram
 datagrams_after r [] = []
 datagrams_after r (d ∷ ds) = datagram_after r d ∷ datagrams_after (passed r d).registers ds

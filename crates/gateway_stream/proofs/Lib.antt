@@ -1,3 +1,4 @@
 pub mod Whole
 pub mod Cuts
 pub mod Heard
+pub mod Sent

@@ -24,6 +24,10 @@ is_full None = false
 abbrev pub is_whole : List ℕ → Bool
 is_whole octets = is_full (missing octets)
 
+-- one request, with nothing behind it
+abbrev pub is_request : List ℕ → Bool
+is_request octets = if nat_lt (length octets) 2 then false else (is_header octets && (length octets == whole_of octets))
+
 -- requests that are cut off the front, and the octets behind them
 pub record Cut : Type 0 where
   pub requests : List (List ℕ)

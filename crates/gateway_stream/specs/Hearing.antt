@@ -24,6 +24,11 @@ heard_of (Some octets) kept = if bytes_eq (behind_of octets) kept then Some (map
 abbrev pub is_broken : List ℕ → Bool
 is_broken octets = is_none (missing octets)
 
+-- the requests in the octets given, where those are told
+abbrev pub heard_in : Option (List ℕ) → Option (List HeardGram)
+heard_in None = None
+heard_in (Some octets) = Some (map heard_as (requests_of octets))
+
 -- the error of a port over a link's
 abbrev pub error_of : LinkErr → PortErr
 error_of link_errors.Failed = port_errors.Failed

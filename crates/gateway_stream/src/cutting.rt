@@ -1,5 +1,5 @@
 ghost use Rattle.std.specs.Prelude.{◌≡◌, ◌≤◌, ◌+◌, length, IfSome};
-ghost use Rattle.gateway_stream.specs.Cutting.{missing};
+ghost use Rattle.gateway_stream.specs.Cutting.{missing, is_request};
 
 use ec_fields::{bits, u16_at};
 
@@ -28,4 +28,17 @@ pub(crate) fn missing(octets: &[u8]) -> Option<usize>
         return None;
     }
     Some((FRAME_HEADER + behind as usize).saturating_sub(len))
+}
+
+/// Whether octets are one request, with nothing behind it.
+pub(crate) fn is_request(octets: &[u8]) -> bool
+    ensures { result ≡ is_request octets.now }
+{
+    let len = octets.len();
+    if len < FRAME_HEADER {
+        return false;
+    }
+    let word = u16_at(octets, 0);
+    let behind = bits(word, 0, 11);
+    bits(word, 12, 4) == MAILBOX && behind <= MOST && len == FRAME_HEADER + behind as usize
 }

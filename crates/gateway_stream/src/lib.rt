@@ -4,5 +4,7 @@
 
 mod cutting;
 mod stream;
+mod whole_port;
 
 pub use stream::StreamPort;
+pub use whole_port::WholePort;

@@ -10,7 +10,7 @@ use ec_links::{Link, LinkErr, Piece};
 use ec_outside::{Gram, Heard, Peer, Port, PortErr};
 
 /// The peer of a stream, whose address is the loopback's, 127.0.0.1.
-const PEER: Peer = Peer {
+pub(crate) const PEER: Peer = Peer {
     ip: 0x7F00_0001,
     port: 0,
 };
@@ -92,7 +92,7 @@ impl<L: Link> StreamPort<L> {
     }
 
     // Hears the next request; where it isn't to wait, nothing as soon as the link has none for now.
-    fn hear(&mut self, into: &mut Gram, wait: bool) -> Result<Heard, PortErr>
+    pub(crate) fn hear(&mut self, into: &mut Gram, wait: bool) -> Result<Heard, PortErr>
         ensures hears { Hears (heard_of (L.given self.old.link) self.old.kept.items) (heard_of (L.given self.new.link) self.new.kept.items) into.new.items result }
         ensures blank { IsBlank result into.new.items }
         ensures waits { wait ≡ true → result ≡ Ok Heard.Quiet → ⊥ }

@@ -77,7 +77,7 @@ module _ {S V A Q R : Type 0} (w : Behind S V A Q R) (c : Clearing V A) (p : Pla
           count = t.count;
           carried = subst (λ (b : A). IsCarriedOut w more spot b to t.count e.account.started) begins (record { prefix = t.prefix; behind = t.behind; app = sym leaves ∙ t.app });
           answered = subst (λ (b : A). IsAnswered w more spot gs b t.count e.account.started) begins (record { replies = t.replied; done = t.in_done; ended = t.in_doubt; emissions = t.emissions });
-          told = record { mails = u.mails; answers = u.answers; states = u.states; over = u.over };
+          told = record { mails = u.mails; answers = u.answers; states = u.states; over = u.over; hand = u.hand };
         }
 
   -- ONE THAT IS LIVED by its node yet

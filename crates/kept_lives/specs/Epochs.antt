@@ -13,7 +13,7 @@ use Rattle.slave_lives.specs.Lived.{Behind, table_of, node_seen}
 use Rattle.slave_steps.specs.Node.{Node, is_settled}
 use Rattle.state_exchange.specs.Stated.{Service, with_states, mails}
 use Rattle.task_model.specs.Accounts.{Started}
-use Rattle.task_model.specs.Promise.{services_in, mails_started, rows_started, states_started, changes_in, duty_in, AllReplied, AllDone, AllFound, AllEnded, but_last}
+use Rattle.task_model.specs.Promise.{services_in, mails_started, rows_started, states_started, changes_in, duty_in, AllReplied, AllDone, AllFound, IsOpenYet, AllEnded, but_last}
 
 module _ {S V A Q R : Type 0} (w : Behind S V A Q R) (more : Body → Bool) (spot : Spot) where
   -- the application behind these services, from one on, and what they emit
@@ -39,12 +39,13 @@ module _ {S V A Q R : Type 0} (w : Behind S V A Q R) (more : Body → Bool) (spo
     pub emissions : IsPrefixOf (emitted w.exchange.speech.emission (heard spot.station gs)) (emitted_by from (take count (services_in started)))
 
   -- THE MASTER HAS THESE ANSWERS: its rows are the services by mails that came into hand, and its changes the state services, each with the answer
-  -- that the frames give
+  -- that the frames give; and for the one in hand they give none
   pub record IsTold (gs : List (Frame Body)) (e : Era Body Q R) : Type 0 where
     pub mails : mails_started e.account.started ≡ rows_started (rows_of e.side)
     pub answers : AllAnswered w.exchange.speech more spot.station gs (rows_of e.side)
     pub states : states_started e.account.started ≡ changes_in e.account.over ++ duty_in e.account.hand
     pub over : AllFound w.exchange.speech more spot.station gs e.account.over
+    pub hand : IsOpenYet w.exchange.speech more spot.station gs e.account.hand
 
   -- AN EPOCH from the frame that opened it to another: its slave began with this application, told the AL state that was opened, in the first epoch
   -- the plan's

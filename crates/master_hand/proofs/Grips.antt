@@ -5,7 +5,7 @@ use Rattle.exchange_model.specs.Exchange.{Speech, plain}
 use Rattle.exchange_model.specs.Rows.{Row, begun, answer_after, row_heard, row_told, left}
 use Rattle.exchange_model.proofs.Words.{plain-append}
 use Rattle.segment_model.specs.Seats.{next_mail, first_left}
-use Rattle.master_hand.specs.Grips.{Talks, Going}
+use Rattle.master_hand.specs.Grips.{Talks, Going, Hearing, HasIt}
 
 -- a service comes into hand
 pub talks_begun : {M Q R : Type 0} (x : Speech M Q R) (later : List M → List M) (awaits : List M → Option R) (q : Q) (frame : ℕ) →
@@ -128,3 +128,60 @@ going_heard x Kind later new awaits answers b now frame ms ps p l a some g =
       quiet = λ n. none_is (answers []) (sym opened ∙ not_some _ n);
       kept = λ b e. sym ended ∙ opened_is frame g.row.answer (x.ends g.row.service (plain x.emission (g.row.heard ++ ms))) b g.answer e;
     }
+
+-- THE REPLIES ALONE
+pub hears_of : {M Q R : Type 0} (x : Speech M Q R) (Kind : Q → Type 0) (later : List M → List M) (awaits : List M → Option R) (b : Bool) (now : Option (Row M Q R)) → Going x Kind later awaits b now → Hearing x Kind awaits b now
+hears_of x Kind later awaits b now g = record { row = g.row; is = g.is; kind = g.kind; goes = g.talks.goes; answer = g.answer; quiet = g.quiet; kept = g.kept }
+
+hearing_goes : {M Q R : Type 0} (x : Speech M Q R) (awaits answers : List M → Option R) (r : Row M Q R) (ms ps : List M) → plain x.emission ms ≡ ps → ((hs : List M) → answers hs ≡ awaits (ps ++ hs)) →
+    ((hs : List M) → x.ends r.service (plain x.emission r.heard ++ hs) ≡ awaits hs) → (hs : List M) → x.ends r.service (plain x.emission (r.heard ++ ms) ++ hs) ≡ answers hs
+hearing_goes {M = M} x awaits answers r ms ps p a g hs =
+    let e : plain x.emission (r.heard ++ ms) ≡ plain x.emission r.heard ++ ps = plain-append x.emission r.heard ms ∙ ap (λ z. plain x.emission r.heard ++ z) p in
+    ap (λ (z : List M). x.ends r.service (z ++ hs)) e ∙ ap (x.ends r.service) (append_assoc (plain x.emission r.heard) ps hs) ∙ g (ps ++ hs) ∙ sym (a hs)
+
+goes_ended : {M Q R : Type 0} (x : Speech M Q R) (awaits : List M → Option R) (q : Q) (hs : List M) → ((ms : List M) → x.ends q (hs ++ ms) ≡ awaits ms) → x.ends q hs ≡ awaits []
+goes_ended x awaits q hs g = ap (x.ends q) (sym (append-nil hs)) ∙ g []
+
+-- mails that reply to nothing
+pub hearing_emission : {M Q R : Type 0} (x : Speech M Q R) (Kind : Q → Type 0) (awaits : List M → Option R) (b : Bool) (now : Option (Row M Q R)) (frame : ℕ) (ms : List M) →
+    plain x.emission ms ≡ [] → Hearing x Kind awaits b now → Hearing x Kind awaits b (option_map (λ r. row_heard x frame ms r) now)
+hearing_emission x Kind awaits b now frame ms p g =
+    let t = hearing_goes x awaits awaits g.row ms [] p (λ hs. refl) g.goes in
+    let s = stays frame g.row.answer (x.ends g.row.service (plain x.emission (g.row.heard ++ ms))) (λ n. goes_ended x awaits g.row.service (plain x.emission (g.row.heard ++ ms)) t ∙ g.quiet n) in
+    record {
+      row = row_heard x frame ms g.row;
+      is = ap (option_map (λ r. row_heard x frame ms r)) g.is;
+      kind = g.kind;
+      goes = t;
+      answer = ap is_some s ∙ g.answer;
+      quiet = λ n. g.quiet (sym s ∙ n);
+      kept = λ a e. g.kept a (sym s ∙ e);
+    }
+
+-- mails that reply, while no reply is complete
+pub hearing_heard : {M Q R : Type 0} (x : Speech M Q R) (Kind : Q → Type 0) (awaits answers : List M → Option R) (b : Bool) (now : Option (Row M Q R)) (frame : ℕ) (ms ps : List M) →
+    plain x.emission ms ≡ ps → ((hs : List M) → answers hs ≡ awaits (ps ++ hs)) → is_some (answers []) ≡ b →
+    Hearing x Kind awaits false now → Hearing x Kind answers b (option_map (λ r. row_heard x frame ms r) now)
+hearing_heard x Kind awaits answers b now frame ms ps p a some g =
+    let t = hearing_goes x awaits answers g.row ms ps p a g.goes in
+    let ended = goes_ended x answers g.row.service (plain x.emission (g.row.heard ++ ms)) t in
+    let opened = open_answer frame g.row.answer (x.ends g.row.service (plain x.emission (g.row.heard ++ ms))) g.answer ∙ ap is_some ended in
+    record {
+      row = row_heard x frame ms g.row;
+      is = ap (option_map (λ r. row_heard x frame ms r)) g.is;
+      kind = g.kind;
+      goes = t;
+      answer = opened ∙ some;
+      quiet = λ n. none_is (answers []) (sym opened ∙ not_some _ n);
+      kept = λ b e. sym ended ∙ opened_is frame g.row.answer (x.ends g.row.service (plain x.emission (g.row.heard ++ ms))) b g.answer e;
+    }
+
+some_of : {T : Type 0} (o : Option T) → is_some o ≡ true → (x : T) × (o ≡ Some x)
+some_of None e = absurd (cc)
+some_of (Some x) e = (x, refl)
+
+-- the reply is there
+pub has_of : {M Q R : Type 0} (x : Speech M Q R) (Kind : Q → Type 0) (awaits : List M → Option R) (now : Option (Row M Q R)) → Hearing x Kind awaits true now → HasIt Kind (awaits []) now
+has_of x Kind awaits now g =
+    let a = some_of g.row.answer g.answer in
+    record { row = g.row; answer = a.0; is = g.is; kind = g.kind; answered = a.1; kept = g.kept a.0 a.1 }

@@ -20,11 +20,13 @@ use Rattle.master_hand.specs.Spoken.{Asked, sdo, file, drive, net, passed, emiss
 use Rattle.master_hand.specs.Passed.{mail_of}
 use Rattle.master_hand.specs.Grips.{Going}
 use Rattle.master_hand.specs.Talk.{Talking, which_of, IsOf, is_handed, is_read, client_later, client_awaits, Starts, Begins, SendsNext, IsSent, Follows, ClientTook, is_askable}
-use Rattle.master_hand.specs.Shown.{HandShows, Shows}
+use Rattle.master_hand.specs.Grips.{Hearing}
+use Rattle.master_hand.specs.Quiet.{has_stays}
+use Rattle.master_hand.specs.Shown.{HandShows, Shows, is_awaiting, is_answered, course_behind}
 use Rattle.master_hand.specs.declared.course.Course.{Course}
 use Rattle.master_hand.specs.declared.clients.Which.{Which}
 use Rattle.master_hand.specs.declared.passed.Content.{Content}
-use Rattle.master_hand.proofs.Grips.{going_begun, going_told, going_next, going_emission, going_heard, talks_left}
+use Rattle.master_hand.proofs.Grips.{going_begun, going_told, going_next, going_emission, going_heard, talks_left, hears_of, hearing_emission, hearing_heard, has_of}
 
 abbrev pub Rows : Type 0
 Rows = Option (Row Body Asked Reply)
@@ -38,7 +40,9 @@ pub unmoved : (course : Course) (which : Which) (c : Talking) (ms : List Body) (
 unmoved Course.Nothing which c ms frame now e h = none_row (λ r. row_heard (hand_speech c.areas) frame ms r) now h
 unmoved Course.Goes which c ms frame now e h = going_emission (hand_speech c.areas) (IsOf which) (client_later which c) (client_awaits which c) false now frame ms e h
 unmoved Course.Answered which c ms frame now e h = going_emission (hand_speech c.areas) (IsOf which) (client_later which c) (client_awaits which c) true now frame ms e h
-unmoved Course.Astray which c ms frame now e h = tt
+unmoved Course.Mute which c ms frame now e h = hearing_emission (hand_speech c.areas) (IsOf which) (client_awaits which c) false now frame ms e h
+unmoved Course.Closed which c ms frame now e h = has_stays (hand_speech c.areas) (IsOf which) (client_awaits which c []) now frame ms h
+unmoved Course.Astray which c ms frame now e h = hearing_emission (hand_speech c.areas) (IsOf which) (λ hs. None) false now frame ms e h
 
 -- no reply without a mail
 none_ends : (areas : Areas) (q : Asked) → ends areas q [] ≡ None
@@ -114,38 +118,76 @@ pub emission_shown : (course : Course) (which : Which) (c : Talking) (b : Body) 
 emission_shown course which c b x frame now e s =
     (s.0, subst (λ (y : Speech Body Asked Reply). HandShows course which c (option_map (λ r. row_heard y frame (b ∷ []) r) now)) (sym s.0) (unmoved course which c (b ∷ []) frame now (plain_emission b e) s.1))
 
--- with no service in hand, and behind a foreign mail, a mail changes nothing
-pub idle_shown : (course : Course) (which : Which) (c : Talking) (b : Body) (x : Speech Body Asked Reply) (frame : ℕ) (now : Rows) → (course ≡ Course.Nothing) ⊎ (course ≡ Course.Astray) → Shows course which c x now →
-    Shows course which c x (option_map (λ r. row_heard x frame (b ∷ []) r) now)
-idle_shown course which c b x frame now (inl w) s = (
+-- how far a service has come behind a mail that it doesn't await any more
+abbrev pub course_beyond : Course → Course
+course_beyond Course.Answered = Course.Closed
+course_beyond course = course
+
+beyond : (course : Course) (which : Which) (c : Talking) (b : Body) (frame : ℕ) (now : Rows) → is_awaiting course ≡ false → HandShows course which c now →
+    HandShows (course_beyond course) which c (option_map (λ r. row_heard (hand_speech c.areas) frame (b ∷ []) r) now)
+beyond Course.Nothing which c b frame now n h = none_row (λ r. row_heard (hand_speech c.areas) frame (b ∷ []) r) now h
+beyond Course.Goes which c b frame now n h = absurd (cc)
+beyond Course.Answered which c b frame now n h =
+    has_stays (hand_speech c.areas) (IsOf which) (client_awaits which c []) now frame (b ∷ []) (has_of (hand_speech c.areas) (IsOf which) (client_awaits which c) now (hears_of (hand_speech c.areas) (IsOf which) (client_later which c) (client_awaits which c) true now h))
+beyond Course.Mute which c b frame now n h = absurd (cc)
+beyond Course.Closed which c b frame now n h = has_stays (hand_speech c.areas) (IsOf which) (client_awaits which c []) now frame (b ∷ []) h
+beyond Course.Astray which c b frame now n h = hearing_heard (hand_speech c.areas) (IsOf which) (λ hs. None) (λ hs. None) false now frame (b ∷ []) (plain emission (b ∷ [])) refl (λ hs. refl) refl h
+
+-- with no service in hand, behind a complete reply and behind a foreign mail
+pub beyond_shown : (course behind : Course) (which : Which) (c : Talking) (b : Body) (x : Speech Body Asked Reply) (frame : ℕ) (now : Rows) → is_awaiting course ≡ false → behind ≡ course_beyond course → Shows course which c x now →
+    Shows behind which c x (option_map (λ r. row_heard x frame (b ∷ []) r) now)
+beyond_shown course behind which c b x frame now n w s = (
   s.0,
   subst (λ (z : Course). HandShows z which c (option_map (λ r. row_heard x frame (b ∷ []) r) now)) (sym w)
-      (none_row (λ r. row_heard x frame (b ∷ []) r) now (subst (λ (z : Course). HandShows z which c now) w s.1)),
+      (subst (λ (y : Speech Body Asked Reply). HandShows (course_beyond course) which c (option_map (λ r. row_heard y frame (b ∷ []) r) now)) (sym s.0) (beyond course which c b frame now n s.1)),
 )
-idle_shown course which c b x frame now (inr w) s = (s.0, subst (λ (z : Course). HandShows z which c (option_map (λ r. row_heard x frame (b ∷ []) r) now)) (sym w) tt)
-
--- a foreign mail
-pub stray_shown : (course : Course) (which : Which) (old c : Talking) (x : Speech Body Asked Reply) (now : Rows) → course ≡ Course.Astray → c.areas ≡ old.areas → x ≡ hand_speech old.areas → Shows course which c x now
-stray_shown course which old c x now w a e = (e ∙ ap hand_speech (sym a), subst (λ (z : Course). HandShows z which c now) (sym w) tt)
 
 -- a mail that the client awaits
-went : (which : Which) (old new : Talking) (b : Body) (answered : Bool) (frame : ℕ) (now : Rows) → Follows which old b new → new.areas ≡ old.areas → is_some (client_awaits which new []) ≡ answered → emission b ≡ false → Goes false which old now →
+went : (which : Which) (old new : Talking) (b : Body) (answered : Bool) (frame : ℕ) (now : Rows) → Follows which old b new → client_later which old [] ≡ [] → new.areas ≡ old.areas → is_some (client_awaits which new []) ≡ answered → emission b ≡ false → Goes false which old now →
     Goes answered which new (option_map (λ r. row_heard (hand_speech old.areas) frame (b ∷ []) r) now)
-went which old new b answered frame now f a s e g =
+went which old new b answered frame now f l a s e g =
     subst (λ (z : Areas). Going (hand_speech z) (IsOf which) (client_later which new) (client_awaits which new) answered (option_map (λ r. row_heard (hand_speech old.areas) frame (b ∷ []) r) now)) (sym a)
-    (going_heard (hand_speech old.areas) (IsOf which) (client_later which old) (client_later which new) (client_awaits which old) (client_awaits which new) answered now frame (b ∷ []) (b ∷ []) (plain_reply b e) f.mails f.replies s g)
+    (going_heard (hand_speech old.areas) (IsOf which) (client_later which old) (client_later which new) (client_awaits which old) (client_awaits which new) answered now frame (b ∷ []) (b ∷ []) (plain_reply b e) (f.mails l) f.replies s g)
 
-pub more_shown : (was course : Course) (which : Which) (old new : Talking) (b : Body) (frame : ℕ) (now : Rows) → ClientTook Took.More which old b new → new.areas ≡ old.areas → was ≡ Course.Goes → course ≡ Course.Goes → emission b ≡ false → HandShows was which old now →
-    HandShows course which new (option_map (λ r. row_heard (hand_speech old.areas) frame (b ∷ []) r) now)
-more_shown was course which old new b frame now t a w k e h =
-    subst (λ (z : Course). HandShows z which new (option_map (λ r. row_heard (hand_speech old.areas) frame (b ∷ []) r) now)) (sym k)
-    (went which old new b false frame now t.0 a (ap is_some t.1) e (subst (λ (z : Course). HandShows z which old now) w h))
+-- as long as a reply may come, the hand tells of the replies
+hears : (course : Course) (which : Which) (c : Talking) (now : Rows) → is_awaiting course ≡ true → HandShows course which c now → Hearing (hand_speech c.areas) (IsOf which) (client_awaits which c) false now
+hears Course.Nothing which c now w h = absurd (cc)
+hears Course.Goes which c now w h = hears_of (hand_speech c.areas) (IsOf which) (client_later which c) (client_awaits which c) false now h
+hears Course.Answered which c now w h = absurd (cc)
+hears Course.Mute which c now w h = h
+hears Course.Closed which c now w h = absurd (cc)
+hears Course.Astray which c now w h = absurd (cc)
 
-pub done_shown : (was course : Course) (which : Which) (old new : Talking) (b : Body) (frame : ℕ) (now : Rows) → ClientTook Took.Done which old b new → new.areas ≡ old.areas → was ≡ Course.Goes → course ≡ Course.Answered → emission b ≡ false → HandShows was which old now →
-    HandShows course which new (option_map (λ r. row_heard (hand_speech old.areas) frame (b ∷ []) r) now)
-done_shown was course which old new b frame now t a w k e h =
-    subst (λ (z : Course). HandShows z which new (option_map (λ r. row_heard (hand_speech old.areas) frame (b ∷ []) r) now)) (sym k)
-    (went which old new b true frame now t.0 a t.1 e (subst (λ (z : Course). HandShows z which old now) w h))
+-- what is heard of the replies, by another client of the same speech
+heard_on : (which : Which) (old new : Talking) (awaits : List Body → Option Reply) (b : Body) (answered : Bool) (frame : ℕ) (now : Rows) → ((hs : List Body) → awaits hs ≡ client_awaits which old (b ∷ hs)) → new.areas ≡ old.areas → is_some (awaits []) ≡ answered → emission b ≡ false →
+    Hearing (hand_speech old.areas) (IsOf which) (client_awaits which old) false now → Hearing (hand_speech new.areas) (IsOf which) awaits answered (option_map (λ r. row_heard (hand_speech old.areas) frame (b ∷ []) r) now)
+heard_on which old new awaits b answered frame now f a s e g =
+    subst (λ (z : Areas). Hearing (hand_speech z) (IsOf which) awaits answered (option_map (λ r. row_heard (hand_speech old.areas) frame (b ∷ []) r) now)) (sym a)
+    (hearing_heard (hand_speech old.areas) (IsOf which) (client_awaits which old) awaits answered now frame (b ∷ []) (b ∷ []) (plain_reply b e) f s g)
+
+-- A MAIL THAT REPLIES, by what it is to the client, and by whether mails were left
+pub took_shown : (left : Bool) (took : Took) (was : Course) (which : Which) (old new : Talking) (b : Body) (frame : ℕ) (now : Rows) → ClientTook took which old b new → (left ≡ false → (was ≡ Course.Goes) × (client_later which old [] ≡ [])) → new.areas ≡ old.areas → is_awaiting was ≡ true →
+    emission b ≡ false → HandShows was which old now → HandShows (course_behind left took) which new (option_map (λ r. row_heard (hand_speech old.areas) frame (b ∷ []) r) now)
+took_shown false Took.More was which old new b frame now t l a w e h =
+    let k = l refl in
+    went which old new b false frame now t.0 k.1 a (ap is_some t.1) e (subst (λ (z : Course). HandShows z which old now) k.0 h)
+took_shown false Took.Done was which old new b frame now t l a w e h =
+    let k = l refl in
+    went which old new b true frame now t.0 k.1 a t.1 e (subst (λ (z : Course). HandShows z which old now) k.0 h)
+took_shown true Took.More was which old new b frame now t l a w e h = heard_on which old new (client_awaits which new) b false frame now t.0.replies a (ap is_some t.1) e (hears was which old now w h)
+took_shown true Took.Done was which old new b frame now t l a w e h =
+    has_of (hand_speech new.areas) (IsOf which) (client_awaits which new) _ (heard_on which old new (client_awaits which new) b true frame now t.0.replies a t.1 e (hears was which old now w h))
+took_shown false Took.Foreign was which old new b frame now t l a w e h = heard_on which old new (λ hs. None) b false frame now (λ hs. sym (t.0 hs)) a refl e (hears was which old now w h)
+took_shown true Took.Foreign was which old new b frame now t l a w e h = heard_on which old new (λ hs. None) b false frame now (λ hs. sym (t.0 hs)) a refl e (hears was which old now w h)
+
+-- and the reply is there where the course says so
+pub took_answered : (left : Bool) (took : Took) (which : Which) (old new : Talking) (b : Body) → ClientTook took which old b new → is_answered (course_behind left took) which new ≡ true
+took_answered false Took.More which old new b t = refl
+took_answered false Took.Done which old new b t = t.1
+took_answered true Took.More which old new b t = refl
+took_answered true Took.Done which old new b t = t.1
+took_answered false Took.Foreign which old new b t = refl
+took_answered true Took.Foreign which old new b t = refl
 
 -- packets and mails that are passed on end with their last write, and no other service does
 handed_of : (areas : Areas) (q : Asked) → handed areas q ≡ is_handed (which_of q)

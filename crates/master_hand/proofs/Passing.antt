@@ -35,9 +35,9 @@ abbrev left_by : Bool → Content → List Body
 left_by unsent c = if unsent then Ok (mail_of c) ∷ [] else []
 
 pub passed_took : (took : Took) (old : Talking) (p : PassedMail) (b : Body) → PassedTook took old.passed b p → (p.content ≡ old.passed.content) × (p.unsent ≡ old.passed.unsent) → ClientTook took Which.Passed old b (record old { passed = p })
-passed_took Took.More old p b t k = (record { mails = λ hs. (λ i. left_by (k.1 i) (k.0 i)); replies = t.0 }, t.1)
-passed_took Took.Done old p b t k = (record { mails = λ hs. (λ i. left_by (k.1 i) (k.0 i)); replies = t.0 }, t.1)
-passed_took Took.Foreign old p b t k = tt
+passed_took Took.More old p b t k = (record { mails = λ e hs. (λ i. left_by (k.1 i) (k.0 i)); replies = t.0 }, t.1)
+passed_took Took.Done old p b t k = (record { mails = λ e hs. (λ i. left_by (k.1 i) (k.0 i)); replies = t.0 }, t.1)
+passed_took Took.Foreign old p b t k = (t.0, ap (λ (z : PassedMail). record old { passed = z }) t.1)
 
 pub passed_sent : (b : Bool) (old : Talking) (p : PassedMail) (held : Content) → OnTrue b (passed_left old.passed ≡ Ok (mail_of held) ∷ passed_left p) → OnTrue b (held.body.items ≡ old.passed.content.body.items) → OnFalse b (p ≡ old.passed) → p.over ≡ old.passed.over →
     6 + length old.passed.content.body.items ≤ old.areas.out → IsSent b Which.Passed old held (record old { passed = p })

@@ -94,14 +94,14 @@ sdo_over c CoeAwaits.Awaits.FirstAnswer e o = absurd (cc)
 sdo_over c (CoeAwaits.Awaits.Parts size toggle) e o = absurd (cc)
 sdo_over c (CoeAwaits.Awaits.Information opcode) e o = absurd (cc)
 
-pub sdo_took : (took : Took) (old : Talking) (c : CoeTalk.Talking) (m : Mail) → CoeHear.TookIs took old.sdo (CoeOctets.coe_mail_heard m) c → client_later Which.Coe old [] ≡ [] → ClientTook took Which.Coe old (body_of m) (record old { sdo = c })
-sdo_took Took.More old c m t e =
-    (record { mails = λ hs. ap (map told_sdo) (t.0.mails (map heard_sdo hs)); replies = λ hs. ap replied (t.0.replies (map heard_sdo hs)) }, ap replied t.1.yet)
-sdo_took Took.Done old c m t e = (
-  record { mails = λ hs. ap (map told_sdo) (t.mails (none_mapped told_sdo (CoeTalk.later old.sdo []) e) (map heard_sdo hs)); replies = λ hs. ap replied (t.replies (map heard_sdo hs)) },
+pub sdo_took : (took : Took) (old : Talking) (c : CoeTalk.Talking) (m : Mail) → CoeHear.TookIs took old.sdo (CoeOctets.coe_mail_heard m) c → ClientTook took Which.Coe old (body_of m) (record old { sdo = c })
+sdo_took Took.More old c m t =
+    (record { mails = λ e hs. ap (map told_sdo) (t.0.mails (map heard_sdo hs)); replies = λ hs. ap replied (t.0.replies (map heard_sdo hs)) }, ap replied t.1.yet)
+sdo_took Took.Done old c m t = (
+  record { mails = λ e hs. ap (map told_sdo) (t.mails (none_mapped told_sdo (CoeTalk.later old.sdo []) e) (map heard_sdo hs)); replies = λ hs. ap replied (t.replies (map heard_sdo hs)) },
   some_replied (CoeTalk.awaited c []) (sdo_over c c.awaits refl t.over),
 )
-sdo_took Took.Foreign old c m t e = tt
+sdo_took Took.Foreign old c m t = ((λ hs. ap replied (t.0 (map heard_sdo hs))), ap (λ (z : CoeTalk.Talking). record old { sdo = z }) t.1)
 
 -- FoE
 
@@ -141,15 +141,14 @@ file_over c FoeAwaits.Awaits.Nothing e o = absurd (cc)
 file_over c (FoeAwaits.Awaits.Packet number) e o = absurd (cc)
 file_over c (FoeAwaits.Awaits.Ack left number) e o = absurd (cc)
 
-pub file_took : (took : Took) (old : Talking) (c : FoeTalk.Talking) (m : Mail) → FoeHear.TookIs took old.file (FoeOctets.foe_mail_heard m) c → client_later Which.ReadFile old [] ≡ [] → ClientTook took Which.ReadFile old (body_of m) (record old { file = c })
-file_took Took.More old c m t e =
-    let q = none_may_go old.file (none_mapped told_file (FoeTalk.later old.file []) e) in
-    (record { mails = λ hs. ap (map told_file) (t.0.mails q (map heard_file hs)); replies = λ hs. ap replied (t.0.replies (map heard_file hs)) }, ap replied t.1.yet)
-file_took Took.Done old c m t e = (
-  record { mails = λ hs. ap (map told_file) (t.mails (none_mapped told_file (FoeTalk.later old.file []) e) (map heard_file hs)); replies = λ hs. ap replied (t.replies (map heard_file hs)) },
+pub file_took : (took : Took) (old : Talking) (c : FoeTalk.Talking) (m : Mail) → FoeHear.TookIs took old.file (FoeOctets.foe_mail_heard m) c → ClientTook took Which.ReadFile old (body_of m) (record old { file = c })
+file_took Took.More old c m t =
+    (record { mails = λ e hs. ap (map told_file) (t.0.mails (none_may_go old.file (none_mapped told_file (FoeTalk.later old.file []) e)) (map heard_file hs)); replies = λ hs. ap replied (t.0.replies (map heard_file hs)) }, ap replied t.1.yet)
+file_took Took.Done old c m t = (
+  record { mails = λ e hs. ap (map told_file) (t.mails (none_mapped told_file (FoeTalk.later old.file []) e) (map heard_file hs)); replies = λ hs. ap replied (t.replies (map heard_file hs)) },
   some_replied (FoeTalk.awaited c []) (file_over c c.awaits refl t.over),
 )
-file_took Took.Foreign old c m t e = tt
+file_took Took.Foreign old c m t = ((λ hs. ap replied (t.0 (map heard_file hs))), ap (λ (z : FoeTalk.Talking). record old { file = z }) t.1)
 
 pub file_done : (c : FoeTalk.Talking) (a : FoeAwaits.Awaits) → c.awaits ≡ a → is_some (replied (FoeTalk.awaited (record c { awaits = a }) [])) ≡ true → FoeTalk.awaits_nothing a ≡ true
 file_done c (FoeAwaits.Awaits.Over kind) e o = refl
@@ -176,13 +175,13 @@ drive_over c SoeAwaits.Awaits.Nothing e o = absurd (cc)
 drive_over c SoeAwaits.Awaits.Parts e o = absurd (cc)
 drive_over c SoeAwaits.Awaits.Answer e o = absurd (cc)
 
-pub drive_took : (took : Took) (old : Talking) (c : SoeTalk.Talking) (m : Mail) → SoeHear.TookIs took old.drive (SoeOctets.soe_mail_heard m) c → client_later Which.Soe old [] ≡ [] → ClientTook took Which.Soe old (body_of m) (record old { drive = c })
-drive_took Took.More old c m t e = (record { mails = λ hs. ap (map told_drive) t.2; replies = λ hs. ap replied (t.0.replies (map heard_drive hs)) }, ap replied t.1.yet)
-drive_took Took.Done old c m t e = (
-  record { mails = λ hs. ap (map told_drive) (t.2 ∙ sym (none_mapped told_drive (SoeTalk.left old.drive) e)); replies = λ hs. ap replied (t.0.replies (map heard_drive hs)) },
+pub drive_took : (took : Took) (old : Talking) (c : SoeTalk.Talking) (m : Mail) → SoeHear.TookIs took old.drive (SoeOctets.soe_mail_heard m) c → ClientTook took Which.Soe old (body_of m) (record old { drive = c })
+drive_took Took.More old c m t = (record { mails = λ e hs. ap (map told_drive) t.2; replies = λ hs. ap replied (t.0.replies (map heard_drive hs)) }, ap replied t.1.yet)
+drive_took Took.Done old c m t = (
+  record { mails = λ e hs. ap (map told_drive) (t.2 ∙ sym (none_mapped told_drive (SoeTalk.left old.drive) e)); replies = λ hs. ap replied (t.0.replies (map heard_drive hs)) },
   some_replied (SoeTalk.awaited c []) (drive_over c c.awaits refl t.1),
 )
-drive_took Took.Foreign old c m t e = tt
+drive_took Took.Foreign old c m t = ((λ hs. ap replied (t.0 (map heard_drive hs))), ap (λ (z : SoeTalk.Talking). record old { drive = z }) t.1)
 
 pub drive_done : (c : SoeTalk.Talking) (a : SoeAwaits.Awaits) → c.awaits ≡ a → is_some (replied (SoeTalk.awaited (record c { awaits = a }) [])) ≡ true → SoeTalk.awaits_nothing a ≡ true
 drive_done c (SoeAwaits.Awaits.Over kind) e o = refl
@@ -211,8 +210,8 @@ address_over c EoeAwaits.Awaits.GetAnswer e o = absurd (cc)
 pub address_took : (took : Took) (old : Talking) (c : EoeTalk.Talking) (m : Mail) → EoeHear.TookIs took old.address (EoeOctets.eoe_mail_heard m) c → ClientTook took Which.Address old (body_of m) (record old { address = c })
 address_took Took.More old c m t = absurd t
 address_took Took.Done old c m t =
-    (record { mails = λ hs. ap (map told_net) t.0.mails; replies = λ hs. ap replied (t.0.replies (map heard_net hs)) }, some_replied (EoeTalk.awaited c []) (address_over c c.awaits refl t.1))
-address_took Took.Foreign old c m t = tt
+    (record { mails = λ e hs. ap (map told_net) t.0.mails; replies = λ hs. ap replied (t.0.replies (map heard_net hs)) }, some_replied (EoeTalk.awaited c []) (address_over c c.awaits refl t.1))
+address_took Took.Foreign old c m t = ((λ hs. ap replied (t.0 (map heard_net hs))), ap (λ (z : EoeTalk.Talking). record old { address = z }) t.1)
 
 pub address_done : (c : EoeTalk.Talking) (a : EoeAwaits.Awaits) → c.awaits ≡ a → is_some (replied (EoeTalk.awaited (record c { awaits = a }) [])) ≡ true → EoeTalk.awaits_nothing a ≡ true
 address_done c (EoeAwaits.Awaits.Over kind) e o = refl
@@ -240,7 +239,7 @@ write_sent false old held new s = s
 pub write_took : (took : Took) (old : Talking) (b : Body) (new : Talking) → ClientTook took Which.ReadFile old b new → ClientTook took Which.WriteFile old b new
 write_took Took.More old b new t = (record { mails = t.0.mails; replies = t.0.replies }, t.1)
 write_took Took.Done old b new t = (record { mails = t.0.mails; replies = t.0.replies }, t.1)
-write_took Took.Foreign old b new t = tt
+write_took Took.Foreign old b new t = (t.0, t.1)
 
 -- services begin
 

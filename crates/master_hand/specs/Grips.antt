@@ -17,3 +17,22 @@ pub record Going {M Q R : Type 0} (x : Speech M Q R) (Kind : Q → Type 0) (late
   pub answer : is_some row.answer ≡ answered
   pub quiet : row.answer ≡ None → awaits [] ≡ None
   pub kept : (a : R × ℕ) → row.answer ≡ Some a → awaits [] ≡ Some a.0
+
+-- of the newest service the replies alone: by what it will hear, it replies as this says; of its mails nothing is said
+pub record Hearing {M Q R : Type 0} (x : Speech M Q R) (Kind : Q → Type 0) (awaits : List M → Option R) (answered : Bool) (now : Option (Row M Q R)) : Type 0 where
+  pub row : Row M Q R
+  pub is : now ≡ Some row
+  pub kind : Kind row.service
+  pub goes : (hs : List M) → x.ends row.service (plain x.emission row.heard ++ hs) ≡ awaits hs
+  pub answer : is_some row.answer ≡ answered
+  pub quiet : row.answer ≡ None → awaits [] ≡ None
+  pub kept : (a : R × ℕ) → row.answer ≡ Some a → awaits [] ≡ Some a.0
+
+-- it has this reply, whatever else is heard
+pub record HasIt {M Q R : Type 0} (Kind : Q → Type 0) (reply : Option R) (now : Option (Row M Q R)) : Type 0 where
+  pub row : Row M Q R
+  pub answer : R × ℕ
+  pub is : now ≡ Some row
+  pub kind : Kind row.service
+  pub answered : row.answer ≡ Some answer
+  pub kept : reply ≡ Some answer.0

@@ -1,5 +1,5 @@
 -- A mail that is passed on as it is.
-use Rattle.std.specs.Prelude.{◌≡◌, true, is_some, List, [], ◌∷◌, Option, Some, None, Ok, ⊤, if◌then◌else◌}
+use Rattle.std.specs.Prelude.{◌≡◌, true, is_some, List, [], ◌∷◌, Option, Some, None, Ok, if◌then◌else◌}
 use Rattle.mailbox_mail.specs.declared.mail.Mail.{Mail}
 use Rattle.mailbox_mail.specs.declared.outcome.Took.{Took}
 use Rattle.link_mails.specs.Body.{Body, uncounted}
@@ -29,8 +29,8 @@ at_end (m ∷ ms) = None
 abbrev pub passed_awaits : PassedMail → List Body → Option Reply
 passed_awaits p hs = if p.over then at_end hs else passed_ends hs
 
--- a mail was taken: others follow it, it is the last reply, or it is none
+-- a mail was taken: others follow it, it is the last reply, or it is none, and no reply follows it
 abbrev pub PassedTook : Took → PassedMail → Body → PassedMail → Type 0
 PassedTook Took.More old b new = ((hs : List Body) → passed_awaits new hs ≡ passed_awaits old (b ∷ hs)) × (passed_awaits new [] ≡ None)
 PassedTook Took.Done old b new = ((hs : List Body) → passed_awaits new hs ≡ passed_awaits old (b ∷ hs)) × (is_some (passed_awaits new []) ≡ true)
-PassedTook Took.Foreign old b new = ⊤
+PassedTook Took.Foreign old b new = ((hs : List Body) → passed_awaits old (b ∷ hs) ≡ None) × (new ≡ old)

@@ -6,7 +6,7 @@ use Rattle.exchange_model.specs.Rows.{Row, row_heard, answer_after}
 use Rattle.link_mails.specs.Body.{Body}
 use Rattle.master_duty.specs.Reply.{Reply}
 use Rattle.master_hand.specs.Spoken.{Asked, hand_speech}
-use Rattle.master_hand.specs.Grips.{Going}
+use Rattle.master_hand.specs.Grips.{Going, Hearing, HasIt}
 use Rattle.master_hand.specs.Talk.{Talking, IsOf, client_later, client_awaits}
 use Rattle.master_hand.specs.Shown.{HandShows, Shows}
 use Rattle.master_hand.specs.declared.course.Course.{Course}
@@ -31,13 +31,40 @@ going_stays : {M Q R : Type 0} (x : Speech M Q R) (Kind : Q → Type 0) (later :
 going_stays x Kind later awaits b now frame g =
     ap (option_map (λ r. row_heard x frame [] r)) g.is ∙ ap Some (row_stays x Kind later awaits b now frame g) ∙ sym g.is
 
+-- of a row of which the replies alone are told
+hearing_stays : {M Q R : Type 0} (x : Speech M Q R) (Kind : Q → Type 0) (awaits : List M → Option R) (b : Bool) (now : Option (Row M Q R)) (frame : ℕ) → Hearing x Kind awaits b now →
+    option_map (λ r. row_heard x frame [] r) now ≡ now
+hearing_stays x Kind awaits b now frame g =
+    let same = ap (λ hs. x.ends g.row.service (plain x.emission hs)) (append-nil g.row.heard) in
+    let ended = ap (x.ends g.row.service) (sym (append-nil (plain x.emission g.row.heard))) ∙ g.goes [] in
+    let s = stays frame g.row.answer (x.ends g.row.service (plain x.emission (g.row.heard ++ []))) (λ n. same ∙ ended ∙ g.quiet n) in
+    ap (option_map (λ r. row_heard x frame [] r)) g.is ∙ (λ i. Some (record g.row { heard = append-nil g.row.heard i; answer = s i })) ∙ sym g.is
+
+-- one that has its reply keeps it
+answer_kept : {R : Type 0} (frame : ℕ) (answer : Option (R × ℕ)) (a : R × ℕ) (o : Option R) → answer ≡ Some a → answer_after frame answer o ≡ Some a
+answer_kept frame answer a o e = ap (λ z. answer_after frame z o) e
+
+pub has_stays : {M Q R : Type 0} (x : Speech M Q R) (Kind : Q → Type 0) (reply : Option R) (now : Option (Row M Q R)) (frame : ℕ) (ms : List M) → HasIt Kind reply now → HasIt Kind reply (option_map (λ r. row_heard x frame ms r) now)
+has_stays x Kind reply now frame ms g = record {
+  row = row_heard x frame ms g.row;
+  answer = g.answer;
+  is = ap (option_map (λ r. row_heard x frame ms r)) g.is;
+  kind = g.kind;
+  answered = answer_kept frame g.row.answer g.answer (x.ends g.row.service (plain x.emission (g.row.heard ++ ms))) g.answered;
+  kept = g.kept;
+}
+
 quiet_by : (course : Course) (which : Which) (c : Talking) (frame : ℕ) (now : Option (Row Body Asked Reply)) → HandShows course which c now → HandShows course which c (option_map (λ r. row_heard (hand_speech c.areas) frame [] r) now)
 quiet_by Course.Nothing which c frame now h = ap (option_map (λ r. row_heard (hand_speech c.areas) frame [] r)) h
 quiet_by Course.Goes which c frame now h =
     subst (λ n. HandShows Course.Goes which c n) (sym (going_stays (hand_speech c.areas) (IsOf which) (client_later which c) (client_awaits which c) false now frame h)) h
 quiet_by Course.Answered which c frame now h =
     subst (λ n. HandShows Course.Answered which c n) (sym (going_stays (hand_speech c.areas) (IsOf which) (client_later which c) (client_awaits which c) true now frame h)) h
-quiet_by Course.Astray which c frame now h = tt
+quiet_by Course.Mute which c frame now h =
+    subst (λ n. HandShows Course.Mute which c n) (sym (hearing_stays (hand_speech c.areas) (IsOf which) (client_awaits which c) false now frame h)) h
+quiet_by Course.Closed which c frame now h = has_stays (hand_speech c.areas) (IsOf which) (client_awaits which c []) now frame [] h
+quiet_by Course.Astray which c frame now h =
+    subst (λ n. HandShows Course.Astray which c n) (sym (hearing_stays (hand_speech c.areas) (IsOf which) (λ hs. None) false now frame h)) h
 
 -- what a hand shows stays
 pub quiet_shown : (course : Course) (which : Which) (c : Talking) (x : Speech Body Asked Reply) (frame : ℕ) (now : Option (Row Body Asked Reply)) → Shows course which c x now → Shows course which c x (option_map (λ r. row_heard x frame [] r) now)

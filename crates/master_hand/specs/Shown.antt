@@ -1,11 +1,12 @@
 -- What the master's hand shows of the newest row of a slave.
-use Rattle.std.specs.Prelude.{◌≡◌, Bool, true, false, is_some, [], Option, None, ⊤}
+use Rattle.std.specs.Prelude.{◌≡◌, Bool, true, false, is_some, [], Option, None}
 use Rattle.exchange_model.specs.Exchange.{Speech}
 use Rattle.exchange_model.specs.Rows.{Row}
 use Rattle.link_mails.specs.Body.{Body}
+use Rattle.mailbox_mail.specs.declared.outcome.Took.{Took}
 use Rattle.master_duty.specs.Reply.{Reply}
 use Rattle.master_hand.specs.Spoken.{Asked, hand_speech}
-use Rattle.master_hand.specs.Grips.{Going}
+use Rattle.master_hand.specs.Grips.{Going, Hearing, HasIt}
 use Rattle.master_hand.specs.Talk.{Talking, IsOf, is_mail, client_later, client_awaits}
 use Rattle.master_hand.specs.declared.course.Course.{Course}
 use Rattle.master_hand.specs.declared.clients.Which.{Which}
@@ -15,7 +16,9 @@ abbrev pub HandShows : Course → Which → Talking → Option (Row Body Asked R
 HandShows Course.Nothing which c now = now ≡ None
 HandShows Course.Goes which c now = Going (hand_speech c.areas) (IsOf which) (client_later which c) (client_awaits which c) false now
 HandShows Course.Answered which c now = Going (hand_speech c.areas) (IsOf which) (client_later which c) (client_awaits which c) true now
-HandShows Course.Astray which c now = ⊤
+HandShows Course.Mute which c now = Hearing (hand_speech c.areas) (IsOf which) (client_awaits which c) false now
+HandShows Course.Closed which c now = HasIt (IsOf which) (client_awaits which c []) now
+HandShows Course.Astray which c now = Hearing (hand_speech c.areas) (IsOf which) (λ hs. None) false now
 
 -- WHAT A HAND SHOWS, of the speech of its slave
 abbrev pub Shows : Course → Which → Talking → Speech Body Asked Reply → Option (Row Body Asked Reply) → Type 0
@@ -26,12 +29,35 @@ abbrev pub is_passing : Course → Which → Bool
 is_passing Course.Nothing which = false
 is_passing Course.Goes which = is_mail which
 is_passing Course.Answered which = is_mail which
+is_passing Course.Mute which = is_mail which
+is_passing Course.Closed which = is_mail which
 is_passing Course.Astray which = is_mail which
 
 -- the reply of a service that is answered is there
 abbrev pub is_answered : Course → Which → Talking → Bool
 is_answered Course.Answered which c = is_some (client_awaits which c [])
+is_answered Course.Closed which c = is_some (client_awaits which c [])
 is_answered _ which c = true
+
+-- how far the newest service has come behind a mail that replies, by whether mails of its own were left
+abbrev pub course_behind : Bool → Took → Course
+course_behind false Took.More = Course.Goes
+course_behind false Took.Done = Course.Answered
+course_behind true Took.More = Course.Mute
+course_behind true Took.Done = Course.Closed
+course_behind left Took.Foreign = Course.Astray
+
+-- the reply of the newest service is there
+abbrev pub has_reply : Course → Bool
+has_reply Course.Answered = true
+has_reply Course.Closed = true
+has_reply _ = false
+
+-- a reply of the newest service may still come
+abbrev pub is_awaiting : Course → Bool
+is_awaiting Course.Goes = true
+is_awaiting Course.Mute = true
+is_awaiting _ = false
 
 -- the same service in hand
 pub record SameHand (course : Course) (which : Which) (c : Talking) (course' : Course) (which' : Which) (c' : Talking) : Type 0 where

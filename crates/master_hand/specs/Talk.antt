@@ -1,5 +1,5 @@
 -- What the clients of a slave have to say and to hear, by the one whose service is the newest.
-use Rattle.std.specs.Prelude.{◌≡◌, ℕ, Bool, true, false, is_some, List, [], ◌∷◌, map, Option, Some, None, Ok, ⊤, if◌then◌else◌, length, ◌+◌, ◌≤◌, nat_lt}
+use Rattle.std.specs.Prelude.{◌≡◌, ℕ, Bool, true, false, is_some, List, [], ◌∷◌, map, Option, Some, None, Ok, if◌then◌else◌, length, ◌+◌, ◌≤◌, nat_lt}
 use Rattle.mailbox_mail.specs.declared.outcome.Took.{Took}
 use Rattle.master_hand.specs.declared.passed.Content.{Content}
 use Rattle.exchange_model.specs.Areas.{Areas}
@@ -103,16 +103,16 @@ abbrev pub IsSent : Bool → Which → Talking → Content → Talking → Type 
 IsSent true which old held new = SendsNext which old held new
 IsSent false which old held new = new ≡ old
 
--- the client goes on behind a mail as it would have with that mail ahead of the others
+-- the client goes on behind a mail as it would have with that mail ahead of the others; of the mails that it sends so where none was left
 pub record Follows (which : Which) (old : Talking) (b : Body) (new : Talking) : Type 0 where
-  pub mails : (hs : List Body) → client_later which new hs ≡ client_later which old (b ∷ hs)
+  pub mails : client_later which old [] ≡ [] → (hs : List Body) → client_later which new hs ≡ client_later which old (b ∷ hs)
   pub replies : (hs : List Body) → client_awaits which new hs ≡ client_awaits which old (b ∷ hs)
 
--- WHAT A MAIL IS TO THE CLIENT: more is awaited, it completes the reply, or it is none that may come
+-- WHAT A MAIL IS TO THE CLIENT: more is awaited, it completes the reply, or it is none that may come, and no reply follows it
 abbrev pub ClientTook : Took → Which → Talking → Body → Talking → Type 0
 ClientTook Took.More which old b new = Follows which old b new × (client_awaits which new [] ≡ None)
 ClientTook Took.Done which old b new = Follows which old b new × (is_some (client_awaits which new []) ≡ true)
-ClientTook Took.Foreign which old b new = ⊤
+ClientTook Took.Foreign which old b new = ((hs : List Body) → client_awaits which old (b ∷ hs) ≡ None) × (new ≡ old)
 
 -- an address block is set where the mailbox has room for it
 abbrev pub asked_set : ℕ → List ℕ → Option Asked

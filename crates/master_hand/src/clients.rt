@@ -9,7 +9,7 @@ ghost use Rattle.eoe_model.specs.Client as EoeClient;
 ghost use Rattle.segment_plan.specs.Sound.{IsService, IsSdo, IsName};
 ghost use Rattle.master_hand.specs.Spoken.{sdo, file, drive, net, passed, valid};
 ghost use Rattle.master_hand.specs.Passed.{body_of, mail_of};
-ghost use Rattle.master_hand.specs.Talk.{client_later, client_awaits, value_of, asked_of, asked_set, octets_of, is_askable, ClientTook, Begins, Starts, IsSent};
+ghost use Rattle.master_hand.specs.Talk.{client_later, client_awaits, value_of, asked_of, asked_set, octets_of, is_askable, is_mail, ClientTook, Begins, Starts, IsSent};
 ghost use Rattle.master_hand.specs.declared.clients.Which.{Which};
 
 use crate::passed::{Content, PassedMail};
@@ -318,9 +318,8 @@ impl Clients {
         }
     }
 
-    // A mail comes to a client of CoE that has none left to send.
+    // A mail comes to the client of CoE.
     fn take_sdo(&mut self, mail: &Mail) -> Took
-        requires { client_later Which.Coe self.old [] ≡ [] }
         ensures took { ClientTook result Which.Coe self.old (body_of mail.now) self.new }
         ensures areas { self.new.areas ≡ self.old.areas }
     {
@@ -329,7 +328,6 @@ impl Clients {
 
     // The same of FoE.
     fn take_file(&mut self, mail: &Mail) -> Took
-        requires { client_later Which.ReadFile self.old [] ≡ [] }
         ensures took { ClientTook result Which.ReadFile self.old (body_of mail.now) self.new }
         ensures areas { self.new.areas ≡ self.old.areas }
     {
@@ -338,7 +336,6 @@ impl Clients {
 
     // The same of SoE.
     fn take_drive(&mut self, mail: &Mail) -> Took
-        requires { client_later Which.Soe self.old [] ≡ [] }
         ensures took { ClientTook result Which.Soe self.old (body_of mail.now) self.new }
         ensures areas { self.new.areas ≡ self.old.areas }
     {
@@ -361,9 +358,8 @@ impl Clients {
         self.passed.take(mail)
     }
 
-    // A mail comes to the client in hand, which has none left to send; a packet has no reply.
-    fn take_any(&mut self, which: Which, mail: &Mail) -> Took
-        requires { client_later which self.old [] ≡ [] }
+    /// Takes a mail that replies; a packet has no reply.
+    pub fn take(&mut self, which: Which, mail: &Mail) -> Took
         ensures took { ClientTook result which self.old (body_of mail.now) self.new }
         ensures areas { self.new.areas ≡ self.old.areas }
     {
@@ -378,20 +374,11 @@ impl Clients {
         }
     }
 
-    /// Takes a mail that replies. One that comes while mails are left to send is foreign: each reply follows the mail that it answers.
-    pub fn take(&mut self, which: Which, mail: &Mail) -> Took
-        ensures took { ClientTook result which self.old (body_of mail.now) self.new }
-        ensures areas { self.new.areas ≡ self.old.areas }
-    {
-        if self.has_next(which) {
-            return Took::Foreign;
-        }
-        self.take_any(which, mail)
-    }
-
     // The reply of CoE that is complete.
     fn sdo_reply(&self) -> Option<ReplyKind>
-        ensures { IfSome result (λ kind. client_awaits Which.Coe self.now [] ≡ Some (Some (kind, value_of Which.Coe self.now))) }
+        requires { is_some (client_awaits Which.Coe self.now []) ≡ true }
+        ensures reply { IfSome result (λ kind. client_awaits Which.Coe self.now [] ≡ Some (Some (kind, value_of Which.Coe self.now))) }
+        ensures some { is_some result ≡ true }
     {
         if !self.sdo.is_done() {
             return None;
@@ -414,7 +401,8 @@ impl Clients {
     /// The kind of the reply that is complete; packets and mails that are passed on have none.
     pub fn reply(&self, which: Which) -> Option<ReplyKind>
         requires { is_some (client_awaits which self.now []) ≡ true }
-        ensures { IfSome result (λ kind. client_awaits which self.now [] ≡ Some (Some (kind, value_of which self.now))) }
+        ensures reply { IfSome result (λ kind. client_awaits which self.now [] ≡ Some (Some (kind, value_of which self.now))) }
+        ensures none { result ≡ None → is_mail which ≡ true }
     {
         match which {
             Which::Coe => self.sdo_reply(),

@@ -7,6 +7,10 @@ pub enum Course {
     Goes,
     /// Its reply is there.
     Answered,
-    /// A mail came that its client does not await: nothing more is sent for it, and nothing is known of it.
+    /// A part of its reply came while mails of its own were left: these are not sent any more, but its reply is still awaited.
+    Mute,
+    /// Its reply is there, but mails of its own were left then, or a mail followed that it does not await: nothing more is sent for it.
+    Closed,
+    /// A mail came that it does not await, behind which it can have no reply: nothing more is sent for it.
     Astray,
 }

@@ -1,17 +1,18 @@
-ghost use Rattle.std.specs.Prelude.{◌≡◌, ◌≤◌, true, false, length};
+ghost use Rattle.std.specs.Prelude.{◌≡◌, ◌≤◌, length, None};
 ghost use Rattle.mailbox_mail.specs.View.{mail_seen};
 ghost use Rattle.coe_codec.specs.View.{coe_seen, IsCapped};
 ghost use Rattle.coe_model.specs.Mails.{is_emission, mail as sdo_mail};
 ghost use Rattle.coe_model.specs.Octets.{body_heard, is_fragment};
 ghost use Rattle.master_hand.specs.Spoken.{emission};
 ghost use Rattle.master_hand.specs.Passed.{body_of};
+ghost use Rattle.master_hand.specs.Brings.{emergency_of, emergency_kept, Brings};
 
 use crate::clients::Which;
 use arrayvec::ArrayVec;
 use coe_codec::CoeView;
 use ec_fields::refill;
 use eoe::{Came, EoeView, Packet, Reassembler};
-use mailbox_mail::{BODY, Kind, Mail, MailView, Took};
+use mailbox_mail::{Kind, Mail, MailView, Took};
 
 /// What the mail heard last brought besides a reply to a service of the master's own.
 #[derive(Clone, Copy, Debug, PartialEq, Eq)]
@@ -72,7 +73,8 @@ impl Found {
     // An emergency is kept.
     fn hear_message(&mut self, message: CoeView<'_>) -> bool
         requires { IsCapped message }
-        ensures { result ≡ is_emission (sdo_mail (coe_seen message.entry)) }
+        ensures emits { result ≡ is_emission (sdo_mail (coe_seen message.entry)) }
+        ensures brings { emergency_kept self.old ≡ None → emergency_kept self.new ≡ emergency_of (sdo_mail (coe_seen message.entry)) }
     {
         match message {
             CoeView::Emergency { octets } => {
@@ -87,7 +89,8 @@ impl Found {
     // A CoE body: the message in it, if it is one.
     fn hear_coe(&mut self, body: &[u8]) -> bool
         requires { length body.now ≤ 1480 }
-        ensures { result ≡ is_emission (body_heard body.now) }
+        ensures emits { result ≡ is_emission (body_heard body.now) }
+        ensures brings { emergency_kept self.old ≡ None → emergency_kept self.new ≡ emergency_of (body_heard body.now) }
     {
         match coe_codec::view(body) {
             Ok(message) => self.hear_message(message),
@@ -98,6 +101,7 @@ impl Found {
     // A fragment is joined to those that came before it; one that doesn't read is none of a packet.
     fn join(&mut self, body: &[u8])
         requires { length body.now ≤ 1480 }
+        ensures { emergency_kept self.old ≡ None → emergency_kept self.new ≡ None }
     {
         if let Ok(EoeView::Fragment(fragment)) = eoe::view(body) {
             if self.join.take_into(fragment, &mut self.packet) == Came::Whole {
@@ -109,7 +113,8 @@ impl Found {
     // An EoE body: a fragment is joined.
     fn hear_eoe(&mut self, body: &[u8]) -> bool
         requires { length body.now ≤ 1480 }
-        ensures { result ≡ is_fragment body.now }
+        ensures emits { result ≡ is_fragment body.now }
+        ensures brings { emergency_kept self.old ≡ None → emergency_kept self.new ≡ None }
     {
         if !is_fragment(body) {
             return false;
@@ -120,13 +125,11 @@ impl Found {
 
     /// Whether a mail replies to nothing. What it brings is kept in place of what the one before brought.
     pub fn hear(&mut self, mail: &MailView) -> bool
-        ensures emits { result ≡ true → emission (body_of (mail_seen mail.now)) ≡ true }
-        ensures replies { result ≡ false → length mail.now.body.now ≤ 1480 → emission (body_of (mail_seen mail.now)) ≡ false }
+        requires { length mail.now.body.now ≤ 1480 }
+        ensures emits { result ≡ emission (body_of (mail_seen mail.now)) }
+        ensures brings { Brings self.new (body_of (mail_seen mail.now)) }
     {
         self.brought = Brought::Nothing;
-        if mail.body.len() > BODY {
-            return false;
-        }
         match mail.kind {
             Kind::CoE => self.hear_coe(mail.body),
             Kind::EoE => self.hear_eoe(mail.body),
@@ -136,7 +139,8 @@ impl Found {
 
     /// The mail that is kept was this to its client: a reply of a mail that is passed on is handed on.
     pub fn reply(&mut self, which: Which, took: Took)
-        ensures { self.new.mail ≡ self.old.mail }
+        ensures mail { self.new.mail ≡ self.old.mail }
+        ensures brings { emergency_kept self.old ≡ None → emergency_kept self.new ≡ None }
     {
         if which == Which::Passed && took != Took::Foreign {
             self.brought = Brought::Reply;
@@ -146,7 +150,8 @@ impl Found {
     /// Keeps a mail that replies.
     pub fn keep(&mut self, mail: &MailView)
         requires { length mail.now.body.now ≤ 1480 }
-        ensures { self.new.mail ≡ mail_seen mail.now }
+        ensures mail { self.new.mail ≡ mail_seen mail.now }
+        ensures brings { emergency_kept self.new ≡ emergency_kept self.old }
     {
         self.mail.address = mail.address;
         self.mail.kind = mail.kind;

@@ -1,5 +1,5 @@
 ghost use Rattle.std.specs.Prelude.{◌≡◌, true};
-ghost use Rattle.master_hand.specs.Shown.{is_answered};
+ghost use Rattle.master_hand.specs.Shown.{is_answered, course_behind};
 
 use crate::clients::{Clients, Which};
 use crate::course::Course;
@@ -7,7 +7,7 @@ use crate::found::{Brought, Found};
 use crate::laying::Laying;
 use crate::passed::Content;
 use ec_fields::{NoMemory, Rows};
-use mailbox_mail::{BODY, Kind, MailView, Took};
+use mailbox_mail::{Kind, MailView, Took};
 use master_side::{Hand, Heard};
 use segment_plan::Service;
 use std::alloc::Global;
@@ -40,7 +40,8 @@ impl InHand {
     ghost use Rattle.master_hand.specs.Spoken.{Asked, emission, hand_speech};
     ghost use Rattle.master_hand.specs.Passed.{body_of};
     ghost use Rattle.master_hand.specs.Talk.{client_later, is_handed};
-    ghost use Rattle.master_hand.specs.Shown.{Shows, HandShows};
+    ghost use Rattle.master_hand.specs.Brings.{emergency_kept};
+    ghost use Rattle.master_hand.specs.Shown.{Shows, HandShows, is_awaiting};
     ghost use Rattle.master_hand.specs.declared.course.Course.{Course};
     ghost use Rattle.master_hand.specs.declared.laying.Laid.{Laid};
 
@@ -72,36 +73,33 @@ impl InHand {
         })
     }
 
-    // A mail that its client does not await, or one behind the last reply.
-    fn stray(&mut self) -> Heard
-        ensures course { self.new.course ≡ Course.Astray }
-        ensures areas { self.new.clients.areas ≡ self.old.clients.areas }
-        ensures laying { self.new.laying ≡ self.old.laying }
+    // Whether mails of the newest service are left, or were when a part of its reply came.
+    fn is_left(&self) -> bool
+        requires { is_awaiting self.now.course ≡ true }
+        ensures { result ≡ false → (self.now.course ≡ Course.Goes) × (client_later self.now.which self.now.clients [] ≡ []) }
     {
-        self.course = Course::Astray;
-        Heard::Foreign
+        match self.course {
+            Course::Goes => self.clients.has_next(self.which),
+            _ => true,
+        }
     }
 
     // A mail that replies comes while the reply isn't complete.
     fn hear_reply(&mut self, mail: &MailView) -> Heard
-        requires goes { self.old.course ≡ Course.Goes }
+        requires awaits { is_awaiting self.old.course ≡ true }
         requires short { length mail.now.body.now ≤ 1480 }
         ensures shown { (frame : ℕ) (now : Option (Row Body Asked Reply)) → emission (body_of (mail_seen mail.now)) ≡ false → HandShows self.old.course self.old.which self.old.clients now →
             HandShows self.new.course self.new.which self.new.clients (option_map (λ r. row_heard (hand_speech self.old.clients.areas) frame (body_of (mail_seen mail.now) ∷ []) r) now) }
         ensures areas { self.new.clients.areas ≡ self.old.clients.areas }
         ensures laying { self.new.laying ≡ self.old.laying }
+        ensures found { emergency_kept self.old.found ≡ None → emergency_kept self.new.found ≡ None }
     {
+        let left = self.is_left();
         self.found.keep(mail);
         let took = self.clients.take(self.which, &self.found.mail);
         self.found.reply(self.which, took);
-        match took {
-            Took::More => Heard::More,
-            Took::Done => {
-                self.course = Course::Answered;
-                Heard::Last
-            }
-            Took::Foreign => self.stray(),
-        }
+        self.course = course_behind(left, took);
+        heard_of(took)
     }
 
     // Whether the newest service is over, where its reply is there or not.
@@ -121,10 +119,33 @@ impl InHand {
     }
 }
 
+// How far the newest service has come behind a mail that replies, by whether mails of its own were left.
+fn course_behind(left: bool, took: Took) -> Course
+    ensures { result ≡ course_behind left took }
+{
+    match (left, took) {
+        (false, Took::More) => Course::Goes,
+        (false, Took::Done) => Course::Answered,
+        (true, Took::More) => Course::Mute,
+        (true, Took::Done) => Course::Closed,
+        (_, Took::Foreign) => Course::Astray,
+    }
+}
+
+// What such a mail is to the service.
+fn heard_of(took: Took) -> Heard {
+    match took {
+        Took::More => Heard::More,
+        Took::Done => Heard::Last,
+        Took::Foreign => Heard::Foreign,
+    }
+}
+
 impl Hand for InHand {
     ghost use Rattle.master_hand.specs.Spoken.{Asked, acknowledged, is_passed};
     ghost use Rattle.master_hand.specs.Passed.{mail_of};
     ghost use Rattle.master_hand.specs.Laying.{ready_of, Scripted, scripted, scripted_behind};
+    ghost use Rattle.master_hand.specs.Brings.{Brings};
     ghost use Rattle.master_hand.specs.Shown.{Shows, is_passing};
     ghost use Rattle.master_hand.specs.Quiet.{quiet_shown};
 
@@ -150,6 +171,8 @@ impl Hand for InHand {
 
     ghost passes = { λ h. is_passing h.course h.which };
 
+    ghost brings = { λ h b. Brings h.found b };
+
     ghost quiet = { λ h x frame now s. quiet_shown h.course h.which h.clients x frame now s };
 
     fn begin(&mut self) -> bool {
@@ -165,7 +188,7 @@ impl Hand for InHand {
 
     fn take_next(&mut self) -> bool {
         match self.course {
-            Course::Nothing | Course::Astray => false,
+            Course::Nothing | Course::Mute | Course::Closed | Course::Astray => false,
             Course::Goes | Course::Answered => self.clients.next_mail(self.which, &mut self.held),
         }
     }
@@ -183,9 +206,12 @@ impl Hand for InHand {
             return Heard::Emission;
         }
         match self.course {
-            Course::Nothing | Course::Astray => Heard::Foreign,
-            Course::Goes if mail.body.len() <= BODY => self.hear_reply(mail),
-            Course::Goes | Course::Answered => self.stray(),
+            Course::Nothing | Course::Closed | Course::Astray => Heard::Foreign,
+            Course::Goes | Course::Mute => self.hear_reply(mail),
+            Course::Answered => {
+                self.course = Course::Closed;
+                Heard::Foreign
+            }
         }
     }
 
@@ -194,7 +220,7 @@ impl Hand for InHand {
             Course::Nothing => true,
             Course::Goes => self.is_sent(false, fresh, idle),
             Course::Answered => self.is_sent(true, fresh, idle),
-            Course::Astray => false,
+            Course::Mute | Course::Closed | Course::Astray => false,
         }
     }
 
@@ -202,7 +228,7 @@ impl Hand for InHand {
         match self.course {
             Course::Nothing => true,
             Course::Goes | Course::Answered => self.which != Which::ReadFile || idle,
-            Course::Astray => idle,
+            Course::Mute | Course::Closed | Course::Astray => idle,
         }
     }
 

@@ -1,14 +1,14 @@
-ghost use Rattle.std.specs.Prelude.{◌≡◌, ◌≤◌, ◌<◌, ◌+◌, ◌++◌, ℕ, suc, [], length, slice_get, IfSome, Option, Some, OnOk, OnErr};
+ghost use Rattle.std.specs.Prelude.{◌≡◌, ◌≤◌, ◌<◌, ◌+◌, ◌++◌, ℕ, suc, [], length, slice_get, IfSome, Option, None, Some, option_map, true, OnOk, OnErr};
 ghost use Rattle.std.specs.Option.{option_copied};
-ghost use Rattle.master_hand.specs.Talk.{client_awaits, value_of};
+ghost use Rattle.master_hand.specs.Talk.{client_awaits, value_of, is_mail};
 ghost use Rattle.exchange_model.specs.Exchange.{Speech};
 ghost use Rattle.exchange_model.specs.Rows.{Row};
 ghost use Rattle.link_mails.specs.Body.{Body};
 ghost use Rattle.master_duty.specs.Reply.{Reply};
 ghost use Rattle.master_hand.specs.Spoken.{Asked};
-ghost use Rattle.master_hand.specs.Shown.{Shows, SameHand};
+ghost use Rattle.master_hand.specs.Brings.{emergency_kept};
+ghost use Rattle.master_hand.specs.Shown.{Shows, SameHand, has_reply};
 ghost use Rattle.master_hand.specs.declared.laying.Laid.{Laid};
-ghost use Rattle.master_hand.specs.declared.course.Course.{Course};
 
 use crate::clients::Which;
 use crate::course::Course;
@@ -38,6 +38,7 @@ impl InHand {
     /// The next scripted service is a change of state, which another has in hand: the one behind it comes next.
     pub fn pass_by(&mut self)
         ensures kept { SameHand self.old.course self.old.which self.old.clients self.new.course self.new.which self.new.clients }
+        ensures found { self.new.found ≡ self.old.found }
         ensures next { self.old.laying.number < length self.old.laying.script → self.new.laying ≡ record self.old.laying { number = suc self.old.laying.number } }
     {
         self.laying.pass_by();
@@ -46,6 +47,7 @@ impl InHand {
     /// The next scripted service, one by mails, is laid ready: `begin` then starts its client and counts it.
     pub fn lay_script(&mut self)
         ensures kept { SameHand self.old.course self.old.which self.old.clients self.new.course self.new.which self.new.clients }
+        ensures found { self.new.found ≡ self.old.found }
         ensures laid { self.new.laying ≡ record self.old.laying { laid = Laid.Script } }
     {
         self.laying.lay_script();
@@ -55,6 +57,7 @@ impl InHand {
     pub fn lay_packet(&mut self, packet: &Packet)
         requires { 14 ≤ length packet.now.items }
         ensures kept { SameHand self.old.course self.old.which self.old.clients self.new.course self.new.which self.new.clients }
+        ensures found { self.new.found ≡ self.old.found }
         ensures laid { self.new.laying ≡ record self.old.laying { laid = Laid.Packet; packet = packet.now.items } }
     {
         self.laying.lay_packet(packet);
@@ -64,6 +67,7 @@ impl InHand {
     pub fn lay_mail(&mut self, mail: &Mail)
         requires { 6 + length mail.now.body.items ≤ self.old.clients.areas.out }
         ensures kept { SameHand self.old.course self.old.which self.old.clients self.new.course self.new.which self.new.clients }
+        ensures found { self.new.found ≡ self.old.found }
         ensures laid { self.new.laying ≡ record self.old.laying { laid = Laid.Mail; mail = record { kind = mail.now.kind; body = mail.now.body } } }
     {
         self.laying.lay_mail(mail.kind, mail.body.as_slice());
@@ -74,13 +78,21 @@ impl InHand {
         self.course != Course::Nothing && self.which == Which::Packet
     }
 
+    /// Whether the reply of the newest service is there.
+    pub fn is_answered(&self) -> bool
+        ensures { result ≡ has_reply self.now.course }
+    {
+        matches!(self.course, Course::Answered | Course::Closed)
+    }
+
     /// The kind of the reply of the newest service, once its last mail was accepted; packets and mails that are passed on have none.
     pub fn answer(&self) -> Option<ReplyKind>
         ensures reply { IfSome result (λ kind. client_awaits self.now.which self.now.clients [] ≡ Some (Some (kind, value_of self.now.which self.now.clients))) }
         ensures told { IfSome result (λ kind. (x : Speech Body Asked Reply) (now : Option (Row Body Asked Reply)) (row : Row Body Asked Reply) (a : Reply × ℕ) → Shows self.now.course self.now.which self.now.clients x now → now ≡ Some row → row.answer ≡ Some a →
             a.0 ≡ Some (kind, value_of self.now.which self.now.clients)) }
+        ensures none { result ≡ None → has_reply self.now.course ≡ true → is_mail self.now.which ≡ true }
     {
-        if self.course != Course::Answered {
+        if !self.is_answered() {
             return None;
         }
         self.clients.reply(self.which)
@@ -88,17 +100,19 @@ impl InHand {
 
     /// Appends the value of that reply; it is empty where the reply has none. After `NoMemory` the list is as before.
     pub fn value(&self, into: &mut Octets) -> Result<(), NoMemory>
-        ensures ok { OnOk result (self.now.course ≡ Course.Answered → into.new ≡ into.old ++ value_of self.now.which self.now.clients) }
+        ensures ok { OnOk result (has_reply self.now.course ≡ true → into.new ≡ into.old ++ value_of self.now.which self.now.clients) }
         ensures err { OnErr result (into.new ≡ into.old) }
     {
-        if self.course != Course::Answered {
+        if !self.is_answered() {
             return Ok(());
         }
         self.clients.value(self.which, into)
     }
 
     /// The mail heard last, where it was an emergency: its octets.
-    pub fn emergency(&self) -> Option<&ArrayVec<u8, 8>> {
+    pub fn emergency(&self) -> Option<&ArrayVec<u8, 8>>
+        ensures { option_map (λ octets. octets.now.items) result ≡ emergency_kept self.now.found }
+    {
         match self.found.brought {
             Brought::Emergency => Some(&self.found.emergency),
             Brought::Nothing | Brought::Packet | Brought::Reply => None,

@@ -1,13 +1,11 @@
 -- What a master shows of its slaves behind a frame.
 use Rattle.std.proofs.Common.{◌≡◌, ℕ, ◌+◌, ◌≤◌, Bool, true, false, List, [], ◌∷◌, None, refl, sym, ap, ◌∙◌, subst, length}
 use Rattle.std.specs.Prelude.{map, All, not, nat_lt, if◌then◌else◌}
-use Rattle.exchange_model.specs.Exchange.{Speech}
 use Rattle.frame_view.specs.View.{Lens}
 use Rattle.frame_view.specs.Seen.{seen}
 use Rattle.life_frames.specs.Frames.{Share, AreApart}
 use Rattle.life_frames.specs.Shares.{Lived, AllBoth, AllThree, IsElsewhere, AreDistinct, lived_back, lived_lost}
-use Rattle.life_model.specs.Lives
-use Rattle.life_model.specs.Lives.{Life, Spot}
+use Rattle.life_model.specs.Lives.{Spot}
 use Rattle.life_runs.specs.Led.{Leads, Turn, Exchanged, speech_at, life_behind, led_behind, missed_behind}
 use Rattle.master_duty.specs.Reply.{Reply}
 use Rattle.master_hand.specs.Laying.{scripted}

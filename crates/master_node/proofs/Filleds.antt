@@ -1,10 +1,10 @@
 -- THE VISITS OF A FRAME, one after the other.
 use Rattle.std.proofs.Common.{◌≡◌, ◌⊎◌, inl, inr, ◌<◌, ◌≤◌, ◌+◌, ◌%◌, ℕ, zero, suc, Bool, true, false, Option, Some, None, List, [], ◌∷◌, ◌++◌, refl, sym, ap, ◌∙◌, subst, arith, length}
-use Rattle.std.specs.Prelude.{nat_lt, map, All, if◌then◌else◌}
+use Rattle.std.specs.Prelude.{nat_lt, map, All}
 use Rattle.std.specs.List.{list_any}
 use Rattle.std.proofs.lemmas.Bool.{lt-ltb, le-ltb}
 use Rattle.frame_view.specs.View.{Lens}
-use Rattle.life_frames.specs.Shares.{AllFrom, AreDistinct}
+use Rattle.life_frames.specs.Shares.{AllFrom}
 use Rattle.life_runs.specs.Led.{Leads}
 use Rattle.master_tour.specs.Goes.{is_live, holds_at, Passes, BeginsLive}
 use Rattle.master_tour.specs.Made.{FrameMade, is_in}

@@ -1,5 +1,5 @@
 -- While a frame is made: what stays of each slave, and what came into hand.
-use Rattle.std.proofs.Common.{◌≡◌, ◌<◌, ◌≤◌, ◌==◌, ◌+◌, ℕ, zero, suc, Bool, true, false, Option, None, List, [], ◌∷◌, refl, sym, ap, ◌∙◌, subst, arith, length}
+use Rattle.std.proofs.Common.{◌≡◌, ◌==◌, ◌+◌, ℕ, zero, suc, Bool, true, false, Option, List, [], ◌∷◌, refl, sym, ap, ◌∙◌, subst, arith}
 use Rattle.std.specs.Prelude.{is_some, map, if◌then◌else◌}
 use Rattle.std.proofs.lemmas.Bool.{eq-eqb, eqb-true}
 use Rattle.datagrams.specs.Datagram as Raw
@@ -16,7 +16,7 @@ use Rattle.master_tour.specs.Walks.{EachPair, StepsAt}
 use Rattle.master_tour.specs.declared.stop.Stop.{Stop}
 use Rattle.state_exchange.specs.Stated.{Service}
 use Rattle.master_node.specs.Filling.{IsAmong, StopFills}
-use Rattle.master_node.specs.Kept.{StopKept, StopStays}
+use Rattle.master_node.specs.Kept.{StopKept}
 use Rattle.master_node.specs.Shows.{lived_of}
 use Rattle.master_node.proofs.Kepts.{lives_kept}
 

@@ -1,5 +1,5 @@
 -- A slave before its bring-up.
-use Rattle.std.proofs.Common.{◌≡◌, ◌≤◌, ℕ, zero, suc, ◌+◌, ◌<◌, ◌-◌, ◌%◌, Bool, true, false, None, List, [], ◌∷◌, ◌++◌, refl, sym, ap, ◌∙◌, subst, arith, length, take}
+use Rattle.std.proofs.Common.{◌≡◌, ◌≤◌, ℕ, zero, suc, ◌+◌, ◌<◌, ◌-◌, ◌%◌, Bool, true, false, List, [], ◌∷◌, ◌++◌, refl, sym, ap, ◌∙◌, subst, arith, length}
 use Rattle.std.specs.Prelude.{nat_lt, ◌==◌, ◌||◌, ◌&&◌}
 use Rattle.std.proofs.lemmas.Bool.{eqb-true}
 use Rattle.segment_plan.specs.Sound.{is_start}
@@ -10,7 +10,6 @@ use Rattle.life_frames.specs.Openings.{has_step, opening_of}
 use Rattle.life_frames.specs.Shares.{AllFrom, AllBoth}
 use Rattle.life_model.specs.Lives
 use Rattle.life_model.specs.Lives.{new_life}
-use Rattle.life_runs.specs.Led.{Leads, new_leads}
 use Rattle.life_runs.specs.First.{spot_of, script_for, leads_from, HaveLens}
 use Rattle.mailbox_master.specs.Any.{in_area_len}
 use Rattle.master_hand.specs.Shown.{Shows}

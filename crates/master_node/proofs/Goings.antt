@@ -1,25 +1,23 @@
 -- Where a tour goes on behind a frame.
-use Rattle.std.proofs.Common.{◌≡◌, ℕ, zero, suc, ◌+◌, ◌<◌, ◌≤◌, Bool, true, false, List, [], ◌∷◌, refl, sym, ap, ◌∙◌, subst, arith, length, None}
+use Rattle.std.proofs.Common.{◌≡◌, ℕ, zero, suc, ◌+◌, ◌<◌, ◌≤◌, Bool, true, false, List, [], ◌∷◌, refl, sym, ap, ◌∙◌, subst, arith, length}
 use Rattle.std.specs.Prelude.{map, ◌&&◌, not, nat_lt, if◌then◌else◌}
 use Rattle.std.proofs.lemmas.Bool.{ltb-true, ltb-false}
-use Rattle.exchange_model.specs.Exchange.{Speech}
 use Rattle.frame_view.specs.View.{Lens}
 use Rattle.frame_view.specs.Seen.{seen}
 use Rattle.life_frames.specs.Frames.{Share}
-use Rattle.life_frames.specs.Shares.{Lived, AllBoth, came_at, given_where, lived_back, lived_lost}
+use Rattle.life_frames.specs.Shares.{Lived, came_at, given_where}
 use Rattle.life_model.specs.Lives
 use Rattle.life_model.specs.Lives.{Life, Spot, life_back, life_lost}
-use Rattle.life_runs.specs.Led.{Leads, Turn, Exchanged, speech_at, life_behind, led_behind}
+use Rattle.life_runs.specs.Led.{Turn, Exchanged, speech_at, life_behind, led_behind}
 use Rattle.link_mails.specs.Body.{Body}
 use Rattle.master_duty.specs.Reply.{Reply}
 use Rattle.master_hand.specs.Spoken.{Asked, acknowledged, is_followed, is_passed}
 use Rattle.master_tour.specs.Goes.{holds_at, opened_behind}
 use Rattle.master_tour.specs.Stands.{is_opening}
-use Rattle.segment_model.specs.Record.{News}
-use Rattle.segment_model.specs.Slaves.{Datagram, Found}
+use Rattle.segment_model.specs.Slaves.{Datagram}
 use Rattle.segment_ring.specs.declared.wire.Fate.{Fate}
 use Rattle.segment_ring.specs.declared.wire.Fate.TheVariants.{Pass, Lost}
-use Rattle.master_node.specs.Shows.{is_led, is_live_lead, is_opening_lead, is_live_turn, is_opening_turn, is_carried, HoldsFirst, IsAlone, ComeAgain, GoesOn, GoesUnder}
+use Rattle.master_node.specs.Shows.{is_led, is_live_lead, is_opening_lead, is_live_turn, is_opening_turn, is_carried, HoldsFirst, ComeAgain, GoesUnder}
 
 -- a test that each place keeps
 pub kept_at : {A B : Type 0} (f : A → B) (t : A → Bool) (r : B → Bool) → ((a : A) → t a ≡ true → r (f a) ≡ true) → (as' : List A) (k : ℕ) → holds_at t as' k ≡ true → holds_at r (map f as') k ≡ true

@@ -1,7 +1,6 @@
 -- What stays of a master.
-use Rattle.std.proofs.Common.{◌≡◌, ℕ, List, refl, sym, ap, ◌∙◌, subst}
+use Rattle.std.proofs.Common.{◌≡◌, ℕ, refl, sym, ap, ◌∙◌, subst}
 use Rattle.std.specs.Prelude.{All}
-use Rattle.exchange_model.specs.Exchange.{Speech}
 use Rattle.frame_view.specs.View.{Lens}
 use Rattle.life_frames.specs.Shares.{Lived}
 use Rattle.life_model.specs.Lives.{Spot}
@@ -11,7 +10,6 @@ use Rattle.master_duty.specs.Reply.{Reply}
 use Rattle.master_hand.specs.Shown.{Shows, SameHand}
 use Rattle.master_hand.specs.Spoken.{Asked}
 use Rattle.master_hand.specs.declared.hand.InHand.{InHand}
-use Rattle.master_side.specs.Sent.{SameSide}
 use Rattle.master_side.specs.Shown.{SideShows}
 use Rattle.master_side.specs.declared.hand.Hand.{Ghosts}
 use Rattle.master_side.specs.declared.side.Side.{Side}
@@ -36,6 +34,8 @@ side_same s = record {
   station = refl;
   passing = refl;
   carried = refl;
+  heard = refl;
+  found = refl;
 }
 
 pub stop_same : {G : Ghosts InHand} (s : Stop InHand G) → StopStays s s
@@ -56,6 +56,8 @@ stop_on n m s t u a b = record {
     station = b.side.station ∙ a.side.station;
     passing = b.side.passing ∙ a.side.passing;
     carried = b.side.carried ∙ a.side.carried;
+    heard = b.side.heard ∙ a.side.heard;
+    found = b.side.found ∙ a.side.found;
   };
   stand = b.stand ∙ a.stand;
   place = b.place ∙ a.place;

@@ -1,9 +1,9 @@
 -- The visits of a frame that are still to come, and the places that it carries.
-use Rattle.std.proofs.Common.{◌≡◌, ℕ, zero, suc, ◌+◌, ◌<◌, ◌≤◌, ◌==◌, Bool, true, false, Option, List, [], ◌∷◌, ◌++◌, refl, sym, ap, ◌∙◌, subst, arith, length, drop}
-use Rattle.std.specs.Prelude.{nat_lt, if◌then◌else◌, ⊤}
+use Rattle.std.proofs.Common.{◌≡◌, ℕ, zero, suc, ◌<◌, ◌==◌, Bool, true, false, Option, List, [], ◌∷◌, ◌++◌, refl, sym, ap, ◌∙◌, subst, arith, drop}
+use Rattle.std.specs.Prelude.{nat_lt, if◌then◌else◌}
 use Rattle.std.proofs.lemmas.Bool.{eqb-true, eq-eqb, lt-ltb, ltb-true, ltb-false}
 use Rattle.master_tour.specs.Made.{is_in}
-use Rattle.master_tour.specs.Orders.{round_left, start_of, visits_left, AreOnce, IsNextOf}
+use Rattle.master_tour.specs.Orders.{round_left, start_of, visits_left, AreOnce}
 
 -- all but one place
 abbrev pub without : ℕ → List ℕ → List ℕ

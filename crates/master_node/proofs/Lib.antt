@@ -8,6 +8,7 @@ pub mod Firsts
 pub mod Lefts
 pub mod Cames
 pub mod Behinds
+pub mod Broughts
 pub mod Tells
 pub mod Fills
 pub mod Visits
@@ -16,3 +17,4 @@ pub mod Sents
 pub mod Counts
 pub mod Quiets
 pub mod Says
+pub mod Stoods

@@ -14,6 +14,7 @@ use Rattle.link_mails.specs.Body.{link_mail}
 use Rattle.master_duty.specs.declared.duty.Duty.{Duty}
 use Rattle.master_hand.specs.Shown.{Shows}
 use Rattle.master_hand.specs.declared.hand.InHand.{InHand}
+use Rattle.master_side.specs.Carried.{in_hand}
 use Rattle.master_side.specs.Shown.{SideShows, DutyShows}
 use Rattle.master_side.specs.declared.hand.Hand.{Ghosts}
 use Rattle.master_tour.specs.Goes.{holds_at}
@@ -58,7 +59,7 @@ module _ {G : Ghosts InHand} (lens : ℕ → Lens) (recover : ℕ) where
           clear = ap (λ h. h.inn.state) shown.1.halves ∙ q.inn;
           nothing = nothing_in_hand (speech_at lens a.lived.spot) a.lived.life.era.side a.lived.life.era.side.now free.0;
         };
-        hand = no_duty s.side.duty a.lived.life.era.account.hand free.1 shown.1.state;
+        hand = no_duty (in_hand s.side.duty) a.lived.life.era.account.hand free.1 shown.1.state;
         script = at_end a.script a.number end few;
       }
 

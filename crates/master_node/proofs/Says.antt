@@ -1,5 +1,5 @@
 -- WHAT A MASTER SAYS of the newest service of a slave.
-use Rattle.std.proofs.Common.{◌≡◌, ◌<◌, ℕ, zero, suc, Bool, true, false, Option, Some, None, List, [], ◌∷◌, ◌++◌, length, get_or, refl, ap, sym, ◌∙◌, subst, arith}
+use Rattle.std.proofs.Common.{◌≡◌, ◌<◌, ℕ, zero, suc, true, false, Option, Some, None, List, [], ◌∷◌, ◌++◌, length, get_or, refl, ap, sym, ◌∙◌, subst, arith}
 use Rattle.std.specs.Prelude.{IfSome, IfOk, Result, Ok, Err, slice_get, is_some}
 use Rattle.exchange_model.specs.Exchange.{Speech}
 use Rattle.exchange_model.specs.Rows.{Row}
@@ -11,13 +11,16 @@ use Rattle.link_mails.specs.Body.{Body}
 use Rattle.mailbox_mail.specs.declared.outcome.ReplyKind.{ReplyKind}
 use Rattle.master_duty.specs.Reply.{Reply}
 use Rattle.master_duty.specs.declared.duty.Duty.{Duty}
-use Rattle.master_hand.specs.Grips.{Going}
-use Rattle.master_hand.specs.Shown.{Shows, HandShows}
-use Rattle.master_hand.specs.Spoken.{Asked, hand_speech}
-use Rattle.master_hand.specs.Talk.{Talking, IsOf, client_later, client_awaits, value_of}
+use Rattle.eoe_model.specs.Client as EoeClient
+use Rattle.foe_model.specs.Meaning as FoeMeaning
+use Rattle.master_hand.specs.Grips.{HasIt}
+use Rattle.master_hand.specs.Shown.{Shows, has_reply}
+use Rattle.master_hand.specs.Spoken.{Asked, sdo, file, drive, net, passed, is_passed}
+use Rattle.master_hand.specs.Talk.{Talking, IsOf, is_mail, which_of, client_awaits, value_of}
 use Rattle.master_hand.specs.declared.clients.Which.{Which}
 use Rattle.master_hand.specs.declared.course.Course.{Course}
 use Rattle.master_hand.specs.declared.hand.InHand.{InHand}
+use Rattle.master_side.specs.Carried.{in_hand}
 use Rattle.master_side.specs.Shown.{DutyShows}
 use Rattle.master_side.specs.declared.hand.Hand.{Ghosts}
 use Rattle.master_tour.specs.Stands.{StandShows}
@@ -25,7 +28,7 @@ use Rattle.master_tour.specs.declared.stop.Stand.{Stand}
 use Rattle.master_tour.specs.declared.stop.Stop.{Stop}
 use Rattle.task_model.specs.Accounts
 use Rattle.master_node.specs.Shows.{IsLead, side_shows}
-use Rattle.master_node.specs.Told.{HasReply, Tells}
+use Rattle.master_node.specs.Told.{Tells}
 use Rattle.master_node.specs.declared.told.Told.{Told}
 
 abbrev Held : Type 0
@@ -40,24 +43,51 @@ none_of : {T : Type 0} (o : Option T) → is_some o ≡ false → o ≡ None
 none_of None e = refl
 none_of (Some x) e = absurd (let bad : true ≡ false = e in cc)
 
-pub waits_none : (which : Which) (c : Talking) (x : Speech Body Asked Reply) (now : Option Held) → Shows Course.Nothing which c x now → (row : Held) → now ≡ Some row → row.answer ≡ None
-waits_none which c x now h row e = absurd (let bad : None ≡ Some row = sym h.1 ∙ e in cc)
+same_row : (now : Option Held) (r row : Held) → now ≡ Some r → now ≡ Some row → r ≡ row
+same_row now r row e f = let same : Some r ≡ Some row = sym e ∙ f in cc
 
-pub waits_goes : (which : Which) (c : Talking) (x : Speech Body Asked Reply) (now : Option Held) → Shows Course.Goes which c x now → (row : Held) → now ≡ Some row → row.answer ≡ None
-waits_goes which c x now h row e =
-    let g = h.1 in
-    let same : Some g.row ≡ Some row = sym g.is ∙ e in
-    let is : g.row ≡ row = cc in
-    ap (λ (r : Held). r.answer) (sym is) ∙ none_of g.row.answer g.answer
+-- no reply is there
+pub waits_by : (course : Course) (which : Which) (c : Talking) (x : Speech Body Asked Reply) (now : Option Held) → has_reply course ≡ false → Shows course which c x now → (row : Held) → now ≡ Some row → row.answer ≡ None
+waits_by Course.Nothing which c x now n h row e = absurd (let bad : None ≡ Some row = sym h.1 ∙ e in cc)
+waits_by Course.Goes which c x now n h row e = let g = h.1 in ap (λ (r : Held). r.answer) (sym (same_row now g.row row g.is e)) ∙ none_of g.row.answer g.answer
+waits_by Course.Answered which c x now n h row e = absurd (let bad : true ≡ false = n in cc)
+waits_by Course.Mute which c x now n h row e = let g = h.1 in ap (λ (r : Held). r.answer) (sym (same_row now g.row row g.is e)) ∙ none_of g.row.answer g.answer
+waits_by Course.Closed which c x now n h row e = absurd (let bad : true ≡ false = n in cc)
+waits_by Course.Astray which c x now n h row e = let g = h.1 in ap (λ (r : Held). r.answer) (sym (same_row now g.row row g.is e)) ∙ none_of g.row.answer g.answer
 
-pub told_answer : (which : Which) (c : Talking) (kind : ReplyKind) (old new : List ℕ) → new ≡ old ++ value_of which c →
-    ((x : Speech Body Asked Reply) (now : Option Held) (row : Held) (a : Reply × ℕ) → Shows Course.Answered which c x now → now ≡ Some row → row.answer ≡ Some a → a.0 ≡ Some (kind, value_of which c)) →
-    (x : Speech Body Asked Reply) (now : Option Held) → Shows Course.Answered which c x now → Tells (Told.Answered kind) old new now
-told_answer which c kind old new e told x now h =
+-- one is
+pub has_it : (course : Course) (which : Which) (c : Talking) (x : Speech Body Asked Reply) (now : Option Held) → has_reply course ≡ true → Shows course which c x now → HasIt (IsOf which) (client_awaits which c []) now
+has_it Course.Nothing which c x now n h = absurd (let bad : false ≡ true = n in cc)
+has_it Course.Goes which c x now n h = absurd (let bad : false ≡ true = n in cc)
+has_it Course.Answered which c x now n h =
     let g = h.1 in
     let a = some_of g.row.answer g.answer in
-    let reply = told x now g.row a.0 h g.is a.1 in
-    (value_of which c, e, record { row = g.row; frame = a.0.1; is = g.is; answer = a.1 ∙ ap (λ (z : Reply). Some (z, a.0.1)) reply })
+    record { row = g.row; answer = a.0; is = g.is; kind = g.kind; answered = a.1; kept = g.kept a.0 a.1 }
+has_it Course.Mute which c x now n h = absurd (let bad : false ≡ true = n in cc)
+has_it Course.Closed which c x now n h = h.1
+has_it Course.Astray which c x now n h = absurd (let bad : false ≡ true = n in cc)
+
+pub told_answer : (course : Course) (which : Which) (c : Talking) (kind : ReplyKind) (old new : List ℕ) → has_reply course ≡ true → new ≡ old ++ value_of which c →
+    ((x : Speech Body Asked Reply) (now : Option Held) (row : Held) (a : Reply × ℕ) → Shows course which c x now → now ≡ Some row → row.answer ≡ Some a → a.0 ≡ Some (kind, value_of which c)) →
+    (x : Speech Body Asked Reply) (now : Option Held) → Shows course which c x now → Tells (Told.Answered kind) old new now
+told_answer course which c kind old new n e told x now h =
+    let g = has_it course which c x now n h in
+    (value_of which c, e, record { row = g.row; frame = g.answer.1; is = g.is; answer = g.answered ∙ ap (λ (z : Reply). Some (z, g.answer.1)) (told x now g.row g.answer h g.is g.answered) })
+
+mail_passed : (q : Asked) → is_mail (which_of q) ≡ is_passed q
+mail_passed (sdo q) = refl
+mail_passed (file (FoeMeaning.read name pass)) = refl
+mail_passed (file (FoeMeaning.write name pass bytes)) = refl
+mail_passed (drive q) = refl
+mail_passed (net (EoeClient.set_ip block)) = refl
+mail_passed (net EoeClient.get_ip) = refl
+mail_passed (net (EoeClient.packet octets frame)) = refl
+mail_passed (passed m) = refl
+
+pub told_passed : (course : Course) (which : Which) (c : Talking) (x : Speech Body Asked Reply) (now : Option Held) → has_reply course ≡ true → is_mail which ≡ true → Shows course which c x now → (row : Held) → now ≡ Some row → is_passed row.service ≡ true
+told_passed course which c x now n p h row e =
+    let g = has_it course which c x now n h in
+    ap (λ (r : Held). is_passed r.service) (sym (same_row now g.row row g.is e)) ∙ sym (mail_passed g.row.service) ∙ ap is_mail g.kind ∙ p
 
 -- BY THE STOP
 duty_some : (duty : Option Duty) (hand : Option Accounts.Duty) → DutyShows duty hand → is_some duty ≡ is_some hand
@@ -74,8 +104,8 @@ module _ {G : Ghosts InHand} (lens : ℕ → Lens) (recover : ℕ) where
   pub lead_open : (a : Leads) (s : Stop InHand G) → IsLead lens recover a s → a.lived.life.stand ≡ Lives.Stand.Open → side_shows lens recover s a.lived.spot a.lived.life.era.side a.lived.life.era.account
   lead_open a s l e = open_shows a s s.stand l.lives.shown.stood e
 
-  pub duty_open : (a : Leads) (s : Stop InHand G) → IsLead lens recover a s → a.lived.life.stand ≡ Lives.Stand.Open → is_some s.side.duty ≡ is_some a.lived.life.era.account.hand
-  duty_open a s l e = duty_some s.side.duty a.lived.life.era.account.hand (lead_open a s l e).state
+  pub duty_open : (a : Leads) (s : Stop InHand G) → IsLead lens recover a s → a.lived.life.stand ≡ Lives.Stand.Open → is_some (in_hand s.side.duty) ≡ is_some a.lived.life.era.account.hand
+  duty_open a s l e = duty_some (in_hand s.side.duty) a.lived.life.era.account.hand (lead_open a s l e).state
 
 -- AT A PLACE
 pub both_here : {A S : Type 0} (P : A → S → Type 0) (Q : A → Type 0) (as' : List A) (ss : List S) (k : ℕ) (s : S) → AllBoth P as' ss → k < length ss → s ≡ get_or ss k s → ((a : A) → P a s → Q a) → IfSome (slice_get as' k) Q

@@ -1,6 +1,6 @@
 -- THE FRAME IS MADE: before its first visit, and behind its last.
 use Rattle.std.proofs.Common.{◌≡◌, ◌<◌, ◌≤◌, ◌+◌, ℕ, zero, suc, Bool, true, false, Option, Some, None, List, [], ◌∷◌, ◌++◌, refl, sym, ap, ◌∙◌, subst, arith, length}
-use Rattle.std.specs.Prelude.{map, All, is_some, not, ◌==◌, ◌||◌, ⊤}
+use Rattle.std.specs.Prelude.{map, All, not, ◌==◌, ◌||◌}
 use Rattle.std.proofs.lemmas.Bool.{ne_eqb}
 use Rattle.std.specs.List.{list_any}
 use Rattle.datagrams.specs.Datagram as Raw
@@ -10,20 +10,19 @@ use Rattle.frame_view.specs.View.{Lens, datagram_seen}
 use Rattle.frame_view.specs.Seen.{seen, datagrams_seen}
 use Rattle.frame_view.proofs.Octets.{seen_is, seen_chained}
 use Rattle.life_frames.specs.Frames.{AreApart}
-use Rattle.life_frames.specs.Shares.{Lived, AllFrom, AllBoth, AllThree, IsElsewhere, AreDistinct, IsNext}
+use Rattle.life_frames.specs.Shares.{Lived, AllFrom, AllBoth, AllThree, IsElsewhere, AreDistinct}
 use Rattle.life_model.specs.Lives
 use Rattle.life_model.specs.Lives.{Life, Spot, life_next}
 use Rattle.life_runs.specs.Led.{Leads, Turn, Comes, Took, IsTurn, AllTurn, speech_at}
 use Rattle.link_mails.specs.Body.{Body}
 use Rattle.master_duty.specs.Reply.{Reply}
 use Rattle.master_hand.specs.Spoken.{Asked, net, acknowledged, is_followed, is_passed}
-use Rattle.master_hand.specs.Talk.{asked_of}
 use Rattle.master_hand.specs.declared.hand.InHand.{InHand}
 use Rattle.master_side.specs.Shown.{started_by}
 use Rattle.master_side.specs.declared.hand.Hand.{Ghosts}
 use Rattle.master_tour.specs.Goes.{is_live, holds_at, BeginsLive}
 use Rattle.master_tour.specs.Made.{StopLives, StopSent, is_in}
-use Rattle.master_tour.specs.Stands.{StandShows, StandUnder, Counts}
+use Rattle.master_tour.specs.Stands.{StandShows, StandUnder}
 use Rattle.master_tour.specs.Walks.{EachPair}
 use Rattle.master_tour.specs.declared.stop.Stand.{Stand}
 use Rattle.master_tour.specs.declared.stop.Stop.{Stop}
@@ -33,9 +32,9 @@ use Rattle.eoe_model.specs.Client as EoeClient
 use Rattle.segment_plan.specs.declared.service.Service as Plan
 use Rattle.state_exchange.specs.Stated.{Service}
 use Rattle.task_model.specs.Accounts.{Account, Pick}
-use Rattle.master_node.specs.Filling.{IsAmong, StopFills}
+use Rattle.master_node.specs.Filling.{IsAmong}
 use Rattle.master_node.specs.declared.node.MasterNode.{MasterNode}
-use Rattle.master_node.specs.Shows.{MasterShows, WaitsNone, is_led, lived_of, turned_of, lead_of, is_live_lead, is_opening_lead, is_live_turn, is_opening_turn, is_carried, side_shows, HoldsFirst, IsAlone, ComeAgain, GoesOn, GoesUnder, IsLived, IsLead, IsUnder}
+use Rattle.master_node.specs.Shows.{MasterShows, WaitsNone, is_led, lived_of, turned_of, is_live_lead, is_opening_lead, is_live_turn, is_opening_turn, is_carried, side_shows, HoldsFirst, ComeAgain, GoesOn, GoesUnder, IsLived, IsLead, IsUnder}
 use Rattle.master_tour.specs.Stands.{is_opening}
 use Rattle.master_node.proofs.Cames.{asked_unpassed}
 use Rattle.master_node.proofs.Lists.{both_holds, both_length}

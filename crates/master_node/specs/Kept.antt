@@ -1,5 +1,5 @@
 -- WHAT STAYS of a master where it only tells what happened, or lays a service ready.
-use Rattle.std.specs.Prelude.{◌≡◌, ℕ, List, All}
+use Rattle.std.specs.Prelude.{◌≡◌, ℕ, All}
 use Rattle.master_hand.specs.Shown.{SameHand}
 use Rattle.master_hand.specs.declared.hand.InHand.{InHand}
 use Rattle.master_side.specs.Sent.{SameSide}
@@ -10,7 +10,7 @@ use Rattle.master_tour.specs.declared.stop.Stop.{Stop}
 use Rattle.master_node.specs.declared.node.MasterNode.{MasterNode}
 use Rattle.master_node.specs.Shows.{WaitsNone}
 
--- a slave's side has the same service in hand, the same halves and the same script, of which this number is next
+-- a slave's side has the same service in hand, the same halves and the same script, of which this number is next; and what the last frame brought
 pub record SideKept {G : Ghosts InHand} (n : ℕ) (s t : Side InHand G) : Type 0 where
   pub hand : SameHand s.hand.course s.hand.which s.hand.clients t.hand.course t.hand.which t.hand.clients
   pub script : t.hand.laying.script ≡ s.hand.laying.script
@@ -19,6 +19,8 @@ pub record SideKept {G : Ghosts InHand} (n : ℕ) (s t : Side InHand G) : Type 0
   pub station : t.station ≡ s.station
   pub passing : t.passing ≡ s.passing
   pub carried : t.carried ≡ s.carried
+  pub heard : t.heard ≡ s.heard
+  pub found : t.hand.found ≡ s.hand.found
 
 -- and so has its place in the tour
 pub record StopKept {G : Ghosts InHand} (n : ℕ) (s t : Stop InHand G) : Type 0 where

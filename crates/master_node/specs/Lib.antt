@@ -5,6 +5,9 @@ pub mod Scripts
 pub mod Shows
 pub mod Wants
 pub mod Told
+pub mod Changed
+pub mod Brought
+pub mod Standing
 pub mod Kept
 pub mod Coming
 pub mod First

@@ -1,6 +1,5 @@
 -- A MASTER LEADS THE LIVES OF ITS SLAVES: what it has of each, before a frame and while one is under way.
-use Rattle.std.specs.Prelude.{◌≡◌, ◌≤◌, ◌<◌, ℕ, Bool, true, false, None, List, [], ◌∷◌, map, length, All, ⊤}
-use Rattle.exchange_model.specs.Exchange.{Speech}
+use Rattle.std.specs.Prelude.{◌≡◌, ◌≤◌, ◌<◌, ℕ, Bool, true, false, None, List, [], ◌∷◌, map, length, All}
 use Rattle.frame_view.specs.View.{Lens}
 use Rattle.frame_view.specs.Seen.{seen}
 use Rattle.life_frames.specs.Shares.{Lived, AllBoth, AreDistinct}

@@ -1,13 +1,12 @@
 -- WHAT A MASTER SAYS OF THE NEWEST SERVICE of a slave, by what it has of it.
-use Rattle.std.specs.Prelude.{◌≡◌, ℕ, Option, Some, None, List, ◌++◌, ⊤}
+use Rattle.std.specs.Prelude.{◌≡◌, ℕ, true, Option, Some, None, List, ◌++◌}
 use Rattle.exchange_model.specs.Rows.{Row}
 use Rattle.frame_view.specs.View.{Lens}
 use Rattle.life_frames.specs.Shares.{AllBoth}
 use Rattle.life_runs.specs.Led.{Leads}
 use Rattle.link_mails.specs.Body.{Body}
-use Rattle.mailbox_mail.specs.declared.outcome.ReplyKind.{ReplyKind}
 use Rattle.master_duty.specs.Reply.{Reply}
-use Rattle.master_hand.specs.Spoken.{Asked}
+use Rattle.master_hand.specs.Spoken.{Asked, is_passed}
 use Rattle.master_node.specs.Shows.{IsLead}
 use Rattle.master_node.specs.declared.node.MasterNode.{MasterNode}
 use Rattle.master_node.specs.declared.told.Told.{Told}
@@ -23,8 +22,8 @@ pub record HasReply (now : Option (Row Body Asked Reply)) (reply : Reply) : Type
   pub is : now ≡ Some row
   pub answer : row.answer ≡ Some (reply, frame)
 
--- THE NEWEST SERVICE BY MAILS, by its row: it has no answer yet; it has one of this kind, whose value stands behind these octets; or nothing is said
+-- THE NEWEST SERVICE BY MAILS, by its row: it has no answer; it has one of this kind, whose value stands behind these octets; or it passes a mail on
 abbrev pub Tells : Told → List ℕ → List ℕ → Option (Row Body Asked Reply) → Type 0
 Tells Told.Waits old new now = (row : Row Body Asked Reply) → now ≡ Some row → row.answer ≡ None
 Tells (Told.Answered kind) old new now = (value : List ℕ) × (new ≡ old ++ value) × HasReply now (Some (kind, value))
-Tells Told.Unknown old new now = ⊤
+Tells Told.Unknown old new now = (row : Row Body Asked Reply) → now ≡ Some row → is_passed row.service ≡ true

@@ -11,6 +11,7 @@ use Rattle.master_duty.specs.Reply.{Reply}
 use Rattle.master_hand.specs.Shown.{Shows}
 use Rattle.master_hand.specs.Spoken.{Asked}
 use Rattle.master_hand.specs.declared.hand.InHand.{InHand}
+use Rattle.master_side.specs.Carried.{in_hand}
 use Rattle.master_side.specs.Shown.{SideShows}
 use Rattle.master_side.specs.declared.hand.Hand.{Ghosts}
 use Rattle.master_side.specs.declared.side.Side as Sides
@@ -63,7 +64,7 @@ AllLeft lens (a ∷ as') = IsLeft lens a × AllLeft lens as'
 -- A SIDE THAT IS QUIET: the service in hand is over, no mail is held and nothing is asked again, and the script is at its end
 pub record IsQuiet {G : Ghosts InHand} (s : Sides.Side InHand G) : Type 0 where
   pub free : (x : Speech Body Asked Reply) (d : Seats.Side Body Asked Reply) (b : Account Asked Reply) → SideShows (Shows s.hand.course s.hand.which s.hand.clients x) s.out s.inn s.fresh s.duty d b →
-      (is_free x d d.now ≡ true) × (s.duty ≡ None)
+      (is_free x d d.now ≡ true) × (in_hand s.duty ≡ None)
   pub out : s.out.state ≡ None
   pub inn : (in_half_of s.inn).state ≡ InState.Clear
   pub script : slice_get s.hand.laying.script s.hand.laying.number ≡ None

@@ -1,4 +1,4 @@
-//! Services that are laid ready in the hand of a slave's side, and what its side has to tell.
+//! Services that are laid ready in the hand of a slave's side.
 
 ghost use Rattle.std.specs.Prelude.{◌≡◌, ◌≤◌, ◌<◌, suc, length};
 ghost use Rattle.master_hand.specs.declared.laying.Laid.{Laid};
@@ -6,9 +6,8 @@ ghost use Rattle.master_node.specs.Kept.{SideKept};
 
 use eoe::Packet;
 use mailbox_mail::Mail;
-use master_duty::Met;
 use master_hand::InHand;
-use master_side::{Heard, Side};
+use master_side::Side;
 
 /// A packet is laid ready.
 pub fn lay_packet(side: &mut Side<InHand>, packet: &Packet)
@@ -50,22 +49,4 @@ pub fn pass_by(side: &mut Side<InHand>)
     ensures station { side.new.station ≡ side.old.station }
 {
     side.hand.pass_by();
-}
-
-/// What the mail was that the last returned frame brought, told once.
-pub fn heard_once(side: &mut Side<InHand>) -> Option<Heard>
-    ensures { SideKept side.old.hand.laying.number side.old side.new }
-{
-    let heard = side.heard;
-    side.heard = None;
-    heard
-}
-
-/// How the last returned frame ended a state service, told once.
-pub fn met_once(side: &mut Side<InHand>) -> Option<Met>
-    ensures { SideKept side.old.hand.laying.number side.old side.new }
-{
-    let met = side.met;
-    side.met = None;
-    met
 }

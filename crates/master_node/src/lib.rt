@@ -3,6 +3,8 @@
 //! but [`MasterNode::new`], [`MasterNode::value`] and [`MasterNode::told`] takes memory.
 #![tactic(auto)]
 
+mod brought;
+mod changed;
 mod coming;
 mod copies;
 mod event;
@@ -10,11 +12,13 @@ mod lan;
 mod laying;
 mod node;
 mod post;
+mod standing;
 mod starting;
 mod telling;
 mod told;
 mod wants;
 
+pub use changed::Changed;
 pub use event::{Event, Origin};
 pub use node::{MasterNode, Next};
 pub use told::Told;

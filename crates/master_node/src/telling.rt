@@ -3,7 +3,6 @@
 ghost use Rattle.std.specs.Prelude.{◌≡◌, ◌<◌, vec_len};
 
 use crate::event::Event;
-use crate::laying::{heard_once, met_once};
 use crate::node::MasterNode;
 use crate::post::{Work, bare};
 use datagrams::FrameBuf;
@@ -20,6 +19,7 @@ impl MasterNode {
     ghost use Rattle.segment_model.specs.Returned.{Returns};
     ghost use Rattle.segment_ring.specs.declared.wire.Fate.{Fate};
     ghost use Rattle.life_runs.specs.Led.{Turn, Exchanged, led_behind, gives_up_at, missed_behind};
+    ghost use Rattle.master_node.specs.Brought.{HasBrought};
     ghost use Rattle.master_node.specs.Kept.{NodeKept};
     ghost use Rattle.master_node.specs.Shows.{MasterShows, MasterUnder};
 
@@ -121,22 +121,13 @@ impl MasterNode {
         }
     }
 
-    // How the last returned frame ended the state service in hand, told once.
-    fn met_of(&mut self, place: usize) -> Option<Met>
-        requires { place < vec_len self.old.posts }
-        ensures posts { vec_len self.new.posts ≡ vec_len self.old.posts }
-        ensures kept { NodeKept self.old self.new }
-    {
-        met_once(&mut self.tour.stops[place].side)
-    }
-
     // A state service is over once it has met its target or a refusal.
     fn met(&mut self, place: usize)
         requires { place < vec_len self.old.posts }
         ensures posts { vec_len self.new.posts ≡ vec_len self.old.posts }
         ensures kept { NodeKept self.old self.new }
     {
-        match self.met_of(place) {
+        match self.tour.stops[place].side.duty {
             Some(Met::Reached) => self.answered(place, ReplyKind::Done),
             Some(Met::Refused(code)) => self.answered(place, ReplyKind::StateRefused(code)),
             Some(Met::On(_)) | None => {}
@@ -184,15 +175,6 @@ impl MasterNode {
         }
     }
 
-    // What the mail was that the last returned frame brought, told once.
-    fn heard_of(&mut self, place: usize) -> Option<Heard>
-        requires { place < vec_len self.old.posts }
-        ensures posts { vec_len self.new.posts ≡ vec_len self.old.posts }
-        ensures kept { NodeKept self.old self.new }
-    {
-        heard_once(&mut self.tour.stops[place].side)
-    }
-
     // A mail was accepted, or none was.
     fn heard_where(&mut self, place: usize, what: Option<Heard>)
         requires { place < vec_len self.old.posts }
@@ -210,7 +192,7 @@ impl MasterNode {
         ensures posts { vec_len self.new.posts ≡ vec_len self.old.posts }
         ensures kept { NodeKept self.old self.new }
     {
-        let what = self.heard_of(place);
+        let what = self.tour.stops[place].side.heard;
         self.heard_where(place, what);
         self.over(place);
         self.turned(place);
@@ -242,6 +224,7 @@ impl MasterNode {
         ensures posts { vec_len self.new.posts ≡ vec_len self.old.posts }
         ensures leads { (lens : ℕ → Lens) (recover retry missed number : ℕ) (octets : List ℕ) (us : List Turn) (f : Exchanged) → f.fate ≡ Fate.Pass → f.back ≡ frame.now.items → MasterUnder lens recover retry self.old octets missed us → Returns (seen lens octets) (seen lens frame.now.items) →
             MasterShows lens recover retry self.new 0 (map (led_behind lens recover retry (gives_up_at lens recover retry missed) number f) us) }
+        ensures brought { (lens : ℕ → Lens) (recover retry missed : ℕ) (octets : List ℕ) (us : List Turn) → MasterUnder lens recover retry self.old octets missed us → Returns (seen lens octets) (seen lens frame.now.items) → HasBrought self.new us (seen lens frame.now.items) }
     {
         self.list.ends();
         self.tour.returned(frame, self.made.wrapping_sub(1));

@@ -1,34 +1,33 @@
 //! What a master says of the newest service of a slave, by what it has of it.
 
-ghost use Rattle.std.specs.Prelude.{◌≡◌, ℕ, Option, IfOk};
+ghost use Rattle.std.specs.Prelude.{◌≡◌, true, ℕ, Option, IfOk};
 ghost use Rattle.exchange_model.specs.Exchange.{Speech};
 ghost use Rattle.exchange_model.specs.Rows.{Row};
 ghost use Rattle.link_mails.specs.Body.{Body};
 ghost use Rattle.master_duty.specs.Reply.{Reply};
-ghost use Rattle.master_hand.specs.Shown.{Shows};
+ghost use Rattle.master_hand.specs.Shown.{Shows, has_reply};
 ghost use Rattle.master_hand.specs.Spoken.{Asked};
-ghost use Rattle.master_hand.specs.declared.course.Course.{Course as Courses};
 ghost use Rattle.master_node.specs.Told.{Tells};
 
 use crate::node::MasterNode;
 use ec_fields::{NoMemory, Octets};
 use mailbox_mail::ReplyKind;
-use master_hand::{Course, InHand};
+use master_hand::InHand;
 
 /// What became of the newest service by mails of a slave.
 #[derive(Clone, Copy, Debug, PartialEq, Eq)]
 pub enum Told {
-    /// It has no answer yet, or there is none.
+    /// It has no answer, or none came into hand.
     Waits,
     /// It was answered.
     Answered(ReplyKind),
-    /// A mail came that it does not await, or it has no reply: nothing is said.
+    /// It passes a mail on, whose replies are handed on one by one: its answer has no value.
     Unknown,
 }
 
 // The answer of a service that is answered, with its value.
 fn answer_of(hand: &InHand, into: &mut Octets) -> Result<Told, NoMemory>
-    requires { hand.now.course ≡ Courses.Answered }
+    requires { has_reply hand.now.course ≡ true }
     ensures { IfOk result (λ told. (x : Speech Body Asked Reply) (now : Option (Row Body Asked Reply)) → Shows hand.now.course hand.now.which hand.now.clients x now → Tells told into.old into.new now) }
 {
     let Some(kind) = hand.answer() else {
@@ -42,11 +41,10 @@ fn answer_of(hand: &InHand, into: &mut Octets) -> Result<Told, NoMemory>
 fn told_of(hand: &InHand, into: &mut Octets) -> Result<Told, NoMemory>
     ensures { IfOk result (λ told. (x : Speech Body Asked Reply) (now : Option (Row Body Asked Reply)) → Shows hand.now.course hand.now.which hand.now.clients x now → Tells told into.old into.new now) }
 {
-    match hand.course {
-        Course::Nothing | Course::Goes => Ok(Told::Waits),
-        Course::Answered => answer_of(hand, into),
-        Course::Astray => Ok(Told::Unknown),
+    if !hand.is_answered() {
+        return Ok(Told::Waits);
     }
+    answer_of(hand, into)
 }
 
 impl MasterNode {
@@ -69,7 +67,10 @@ impl MasterNode {
         requires { slave < vec_len self.now.posts }
         ensures { (lens : ℕ → Lens) (recover : ℕ) (as' : List Leads) → HasLeads lens recover self.now as' → IfSome (slice_get as' slave) (λ a. a.lived.life.stand ≡ Stand.Open → result ≡ is_some a.lived.life.era.account.hand) }
     {
-        self.tour.stops[slave as usize].side.duty.is_some()
+        self.tour.stops[slave as usize]
+            .side
+            .state_in_hand()
+            .is_some()
     }
 
     /// What became of the newest service by mails of a slave that is open. The value of its answer is appended.

@@ -1,18 +1,25 @@
 -- A slave's own datagram, lost or back.
 use Rattle.std.proofs.lemmas.Bool.{eqb-true}
-use Rattle.std.proofs.Common.{◌≡◌, ◌≢◌, ℕ, ◌==◌, List, [], ◌++◌, Bool, true, false, Option, Some, None, refl, sym, ap, ◌∙◌, subst, append-nil, eq-eqb}
-use Rattle.std.specs.Prelude.{◌&&◌, ◌||◌, not, if◌then◌else◌, option_map, ◌⊎◌, Result, Ok, Err}
+use Rattle.std.proofs.lemmas.List.{length-take}
+use Rattle.std.proofs.Common.{◌≡◌, ◌≢◌, ◌≤◌, ◌-◌, ℕ, ◌==◌, List, [], ◌++◌, Bool, true, false, Option, Some, None, refl, sym, ap, ◌∙◌, subst, append-nil, eq-eqb, take, drop, length, arith}
+use Rattle.std.specs.Prelude.{◌&&◌, ◌||◌, not, if◌then◌else◌, option_map, ◌⊎◌, Result, Ok, Err, IfSome, nat_lt, ⊤}
 use Rattle.std.proofs.Common.{inl, inr}
 use Rattle.mailbox_mail.specs.declared.mail.Mail.{Mail}
 use Rattle.mailbox_mail.specs.declared.mail.MailFault.{MailFault}
-use Rattle.mailbox_mail.specs.Mail.{mail_read}
+use Rattle.mailbox_mail.specs.declared.mail.MailFault.TheVariants.{Short, LengthPastArea}
+use Rattle.mailbox_mail.specs.declared.mail.MailView.{MailView}
+use Rattle.mailbox_mail.specs.declared.mail.Kind.{Kind}
+use Rattle.mailbox_mail.specs.Kind.{kind_of}
+use Rattle.mailbox_mail.specs.Mail.{mail_read, mail_of, is_past, type_in}
+use Rattle.ec_fields.specs.Fields.{number_at}
 use Rattle.exchange_model.specs.Rows.{Row, row_heard}
 use Rattle.link_mails.specs.Body.{Body, link_mail, mail_brought}
 use Rattle.link_model.specs.Mails.{LinkMail, news}
-use Rattle.link_model.specs.Master.{InState, in_lost, out_answered}
+use Rattle.link_model.specs.Counters.{repeats}
+use Rattle.link_model.specs.Master.{InHalf, InState, in_lost, out_answered}
 use Rattle.link_model.specs.Link.{Halves}
-use Rattle.link_model.specs.Frames.{Ask, Gram, in_ask, halves_answered, halves_accept, halves_lost}
-use Rattle.segment_model.specs.Slaves.{Datagram}
+use Rattle.link_model.specs.Frames.{Ask, Gram, in_ask, halves_answered, halves_accept, halves_lost, all_accepted}
+use Rattle.segment_model.specs.Slaves.{Datagram, grams}
 use Rattle.segment_model.specs.Seats.{Side, is_write, side_lost, side_back}
 use Rattle.task_model.specs.Accounts.{Account}
 use Rattle.mailbox_master.specs.Links.{OutLink}
@@ -24,19 +31,21 @@ use Rattle.master_duty.specs.declared.duty.Duty.{Duty}
 use Rattle.master_side.specs.declared.carried.Carried.{Carried}
 use Rattle.exchange_model.specs.Exchange.{Speech}
 use Rattle.master_duty.specs.Reply.{Reply}
-use Rattle.master_side.specs.Shown.{SideShows, DutyShows}
-use Rattle.master_side.specs.Carried.{Asks, Meant, IsBack, one, is_errand, duty_left}
+use Rattle.master_side.specs.Shown.{SideShows, DutyShows, OverShows}
+use Rattle.master_side.specs.Carried.{Asks, Meant, IsBack, one, is_errand, duty_left, in_hand}
 use Rattle.frame_view.specs.View.{link_counter, register_counter, link_mail_in, acknowledge_in, found_of}
 use Rattle.master_duty.specs.declared.stage.Met.{Met}
 use Rattle.master_duty.specs.Stages.{stage_of}
 use Rattle.master_duty.specs.Mets.{progress_of, KeepsTarget}
 use Rattle.segment_model.specs.Slaves.{Address, Access, Found}
+use Rattle.segment_model.specs.Ends.{Outcome}
 use Rattle.segment_model.specs.Record.{is_for}
 use Rattle.task_model.specs.Accounts as Tasks
 use Rattle.task_model.specs.Accounts.{account_back, account_met, account_by, access_done, duty_access}
 use Rattle.master_side.specs.Heard.{view_in, heard_of}
 use Rattle.mailbox_master.specs.Any.{in_returned, in_got}
-use Rattle.mailbox_master.specs.Next.{got_by, accepted_by}
+use Rattle.mailbox_master.specs.Next.{got_by, got_of, accepted_by}
+use Rattle.mailbox_master.specs.declared.inward.Got.TheVariants.{Mail as GotMail, Repeat, Empty}
 use Rattle.mailbox_master.specs.declared.inward.Got.{Got}
 use Rattle.mailbox_master.proofs.Agreement.{got_by-accepts}
 use Rattle.link_model.specs.Master.{read_answered, doubt_answered, asked_answered}
@@ -129,13 +138,14 @@ in_accept_is h InState.Asked bit counter octets g got b e = sym (heard_nothing g
 in_accept_is h InState.Refetch bit counter octets g got b e = ap (news h.inn.last) (back_is counter octets g b) ∙ sym (got_by-accepts h.inn.last counter (mail_read octets)) ∙ sym (heard_got got (got_by h.inn.last counter (mail_read octets)) e)
 
 -- the same side, by its parts
-pub kept_side : {Q : Type 0} (shows : Rows Q → Type 0) (out out' : OutLink (Option Mail)) (inn inn' : InwardHalf) (fresh fresh' : Bool) (duty duty' : Option Duty) (d : Side Body Q Reply) (a : Account Q Reply) →
+pub kept_side : {Q : Type 0} (shows : Rows Q → Type 0) (out out' : OutLink (Option Mail)) (inn inn' : InwardHalf) (fresh fresh' : Bool) (duty duty' : Option Met) (d : Side Body Q Reply) (a : Account Q Reply) →
     (out' ≡ out) × (inn' ≡ inn) × (fresh' ≡ fresh) × (duty' ≡ duty) → SideShows shows out inn fresh duty d a → SideShows shows out' inn' fresh' duty' d a
 kept_side shows out out' inn inn' fresh fresh' duty duty' d a (o, i, f, t) s = record {
   halves = s.halves ∙ (λ j. record { out = seat_half ((sym o) j); inn = in_half_of ((sym i) j) });
   unsent = s.unsent ∙ sym f;
   row = s.row;
-  state = subst (λ (z : Option Duty). DutyShows z a.hand) (sym t) s.state;
+  state = subst (λ (z : Option Met). DutyShows (in_hand z) a.hand) (sym t) s.state;
+  over = subst (λ (z : Option Met). OverShows z a.over) (sym t) s.over;
 }
 
 pub not_equal : (a b : ℕ) → a ≢ b → (a == b) ≡ false
@@ -196,6 +206,13 @@ left_shown made a duty frame (Met.On next) k = (frame, λ i. Some (record { targ
 left_shown made a duty frame Met.Reached k = refl
 left_shown made a duty frame (Met.Refused code) k = refl
 
+left_over : {Q : Type 0} (made : ℕ) (a : Account Q Reply) (duty : Duty) (frame : ℕ) (met : Met) →
+    OverShows (Some met) (account_by {R = Reply} made a (record { target = duty.target; frame = frame; stage = stage_of duty.stage }) (progress_of met)).over
+left_over made a duty frame (Met.On next) = tt
+left_over made a duty frame Met.Reached = record { front = a.over; change = record { target = duty.target; frame = frame; answer = Outcome.Reached; completed = made }; is = refl; answered = refl }
+left_over made a duty frame (Met.Refused code) =
+    record { front = a.over; change = record { target = duty.target; frame = frame; answer = Outcome.Refused code; completed = made }; is = refl; answered = refl }
+
 -- an access that counts
 counts_back : (x : Access) (counter : ℕ) → (x ≡ Access.ReadFull) ⊎ ((x ≡ Access.ReadState) ⊎ ((t : ℕ) × (k : Bool) × (x ≡ Access.SetControl t k))) → register_counter x counter ≡ counter
 counts_back x counter (inl e) = ap (λ z. register_counter z counter) e
@@ -212,7 +229,7 @@ errand_asks Carried.Full h due ask x e w = (w.0, inl w.1)
 errand_asks Carried.Control h due ask x e (t, k, o, d, w) = (o, inr (inr (t, k, w)))
 errand_asks Carried.Status h due ask x e (o, d, w) = (o, inr (inl w))
 
-module _ {Q : Type 0} (sp : Speech Body Q Reply) (shows : Rows Q → Type 0) (out : OutLink (Option Mail)) (inn : InwardHalf) (fresh : Bool) (duty : Option Duty) (d : Side Body Q Reply) (a : Account Q Reply) (station : ℕ) (b : Datagram Body) where
+module _ {Q : Type 0} (sp : Speech Body Q Reply) (shows : Rows Q → Type 0) (out : OutLink (Option Mail)) (inn : InwardHalf) (fresh : Bool) (duty : Option Met) (d : Side Body Q Reply) (a : Account Q Reply) (station : ℕ) (b : Datagram Body) where
   -- the write was lost: the half stays, and the mail is no longer unsent
   pub lost_write : SideShows shows out inn fresh duty d a → Meant station Carried.Write d.halves (duty_access a.hand) b → SideShows shows out inn false duty (side_lost station (one b) d) a
   lost_write s w = let (m, e, k, x) = w.asks in record {
@@ -220,6 +237,7 @@ module _ {Q : Type 0} (sp : Speech Body Q Reply) (shows : Rows Q → Type 0) (ou
     unsent = ap (λ z. d.fresh && not z) (mine station b (is_write b.gram.ask || false) false w.station_is ∙ ap (λ z. is_write z || false) e) ∙ and_false d.fresh;
     row = s.row;
     state = s.state;
+    over = s.over;
   }
 
   -- the inward half's datagram was lost
@@ -230,6 +248,7 @@ module _ {Q : Type 0} (sp : Speech Body Q Reply) (shows : Rows Q → Type 0) (ou
     unsent = ap (λ z. d.fresh && not z) (mine station b (is_write b.gram.ask || false) false w.station_is ∙ ap (λ z. is_write z || false) e ∙ ap (λ z. z || false) (in_no_write d.halves.inn.state d.halves.inn.bit)) ∙ and_true d.fresh ∙ s.unsent;
     row = s.row;
     state = s.state;
+    over = s.over;
   }
 
   -- an errand was lost
@@ -239,6 +258,7 @@ module _ {Q : Type 0} (sp : Speech Body Q Reply) (shows : Rows Q → Type 0) (ou
     unsent = ap (λ z. d.fresh && not z) (mine station b (is_write b.gram.ask || false) false k ∙ ap (λ z. is_write z || false) e) ∙ and_true d.fresh ∙ s.unsent;
     row = s.row;
     state = s.state;
+    over = s.over;
   }
 
   pub lost_rest : (k : Carried) → (k ≡ Carried.Nothing) ⊎ ((k ≡ Carried.Full) ⊎ ((k ≡ Carried.Control) ⊎ (k ≡ Carried.Status))) → SideShows shows out inn fresh duty d a → Meant station k d.halves (duty_access a.hand) b → SideShows shows out inn fresh duty (side_lost station (one b) d) a
@@ -257,7 +277,8 @@ module _ {Q : Type 0} (sp : Speech Body Q Reply) (shows : Rows Q → Type 0) (ou
         ∙ ap (λ z. record { out = z; inn = in_half_of inn }) (ap (λ (z : Option (LinkMail Body)). out_returned (seat_half out) z counter) (sym k ∙ ap (λ (h : Halves Body). h.out.holding) s.halves) ∙ sym n);
     unsent = ap (λ z. d.fresh && not z) (mine station b (is_write b.gram.ask || false) false w.station_is ∙ ap (λ z. is_write z || false) e) ∙ and_false d.fresh;
     row = subst (λ ms. shows (option_map (λ r. row_heard sp made ms r) d.now)) (sym (ap (λ ms. ms ++ []) (mine station b (halves_accept d.halves b.gram.ask b.gram) [] w.station_is ∙ ap (λ z. halves_accept d.halves z b.gram) e))) (quiet d.now s.row);
-    state = subst (λ (z : Account Q Reply). DutyShows duty z.hand) (sym (quiet_back station made counter octets a b i x)) s.state;
+    state = subst (λ (z : Account Q Reply). DutyShows (in_hand duty) z.hand) (sym (quiet_back station made counter octets a b i x)) s.state;
+    over = subst (λ (z : Account Q Reply). OverShows duty z.over) (sym (quiet_back station made counter octets a b i x)) s.over;
   }
 
   -- the inward half's datagram came back
@@ -272,31 +293,98 @@ module _ {Q : Type 0} (sp : Speech Body Q Reply) (shows : Rows Q → Type 0) (ou
         (sym (ap (λ ms. ms ++ []) (mine station b (halves_accept d.halves b.gram.ask b.gram) [] w.station_is ∙ ap (λ z. halves_accept d.halves z b.gram) e) ∙ append-nil (halves_accept d.halves (in_ask d.halves.inn.state d.halves.inn.bit) b.gram)
         ∙ in_accept_is d.halves d.halves.inn.state d.halves.inn.bit counter octets b.gram got t (k ∙ sym (ap (λ (h : Halves Body). in_got h.inn h.inn.state counter octets) s.halves))))
         (heard made d.now s.row);
-    state = subst (λ (z : Account Q Reply). DutyShows duty z.hand) (sym (quiet_back station made counter octets a b i x)) s.state;
+    state = subst (λ (z : Account Q Reply). DutyShows (in_hand duty) z.hand) (sym (quiet_back station made counter octets a b i x)) s.state;
+    over = subst (λ (z : Account Q Reply). OverShows duty z.over) (sym (quiet_back station made counter octets a b i x)) s.over;
   }
 
+  -- what the inward half accepts by it
+  pub inward_accepts : (counter : ℕ) (octets : List ℕ) (got : Option GotView) → option_map got_seen got ≡ in_got (in_half_of inn) (in_half_of inn).state counter octets →
+      SideShows shows out inn fresh duty d a → Meant station Carried.Inward d.halves (duty_access a.hand) b → IsBack counter octets b → all_accepted station d.halves (grams (one b)) ≡ heard_of (view_in got)
+  inward_accepts counter octets got k s w i = let (e, x) = w.asks in let t = gram_back counter octets b (in_ask d.halves.inn.state d.halves.inn.bit) i e (in_counter d.halves.inn.state d.halves.inn.bit counter) in
+      ap (λ ms. ms ++ []) (mine station b (halves_accept d.halves b.gram.ask b.gram) [] w.station_is ∙ ap (λ z. halves_accept d.halves z b.gram) e) ∙ append-nil (halves_accept d.halves (in_ask d.halves.inn.state d.halves.inn.bit) b.gram)
+      ∙ in_accept_is d.halves d.halves.inn.state d.halves.inn.bit counter octets b.gram got t (k ∙ sym (ap (λ (h : Halves Body). in_got h.inn h.inn.state counter octets) s.halves))
+
   -- an errand came back: the link stays
-  pub errand_back : (made : ℕ) (duty' : Option Duty) (a' : Account Q Reply) → ((h : Rows Q) → shows h → shows (option_map (λ r. row_heard sp made [] r) h)) → b.gram.station ≡ station → b.gram.ask ≡ Ask.Other → DutyShows duty' a'.hand →
+  pub errand_back : (made : ℕ) (duty' : Option Met) (a' : Account Q Reply) → ((h : Rows Q) → shows h → shows (option_map (λ r. row_heard sp made [] r) h)) → b.gram.station ≡ station → b.gram.ask ≡ Ask.Other → DutyShows (in_hand duty') a'.hand × OverShows duty' a'.over →
       SideShows shows out inn fresh duty d a → SideShows shows out inn fresh duty' (side_back sp made station (one b) d) a'
   errand_back made duty' a' quiet k e t s = record {
     halves = mine station b (halves_answered d.halves b.gram.ask b.gram) d.halves k ∙ ap (λ z. halves_answered d.halves z b.gram) e ∙ s.halves;
     unsent = ap (λ z. d.fresh && not z) (mine station b (is_write b.gram.ask || false) false k ∙ ap (λ z. is_write z || false) e) ∙ and_true d.fresh ∙ s.unsent;
     row = subst (λ ms. shows (option_map (λ r. row_heard sp made ms r) d.now)) (sym (ap (λ ms. ms ++ []) (mine station b (halves_accept d.halves b.gram.ask b.gram) [] k ∙ ap (λ z. halves_accept d.halves z b.gram) e))) (quiet d.now s.row);
-    state = t;
+    state = t.0;
+    over = t.1;
   }
+
+-- A MAIL THAT WAS READ has at most 1,480 octets in its body
+abbrev IsShort : Result Mail MailFault → Type 0
+IsShort (Ok m) = length m.body.items ≤ 1480
+IsShort (Err fault) = ⊤
+
+or_right : (a b : Bool) → a || b ≡ false → b ≡ false
+or_right true b e = absurd (cc)
+or_right false b e = e
+
+not_past : (n : ℕ) → nat_lt 1480 n ≡ false → n ≤ 1480
+not_past n e = grind (arith, e)
+
+short_take : (n : ℕ) (xs : List ℕ) → n ≤ 1480 → length (take n xs) ≤ 1480
+short_take n xs l = let t = length-take n xs in omega (arith, t, l)
+
+read_short : (octets : List ℕ) → IsShort (mail_read octets)
+read_short octets = go (nat_lt (length octets) 6) (is_past octets) refl (kind_of (type_in octets))
+  where
+    go : (a p : Bool) → is_past octets ≡ p → (k : Option Kind) → IsShort (if a then Err Short else if p then Err LengthPastArea else mail_of octets k)
+    go true p e k = tt
+    go false true e k = tt
+    go false false e None = tt
+    go false false e (Some kind) = short_take (number_at 2 octets 0) (drop 6 octets) (not_past (number_at 2 octets 0) (or_right (nat_lt (length octets - 6) (number_at 2 octets 0)) (nat_lt 1480 (number_at 2 octets 0)) e))
+
+abbrev GotShort : Option Got → Type 0
+GotShort (Some (GotMail m)) = length m.body.items ≤ 1480
+GotShort _ = ⊤
+
+got_short_by : (last counter : ℕ) (r : Result Mail MailFault) → IsShort r → GotShort (Some (got_by last counter r))
+got_short_by last counter r s = go (counter == 0) r s
+  where
+    repeated : (z : Bool) (m : Mail) → length m.body.items ≤ 1480 → GotShort (Some (if z then Repeat else GotMail m))
+    repeated true m l = tt
+    repeated false m l = l
+
+    go : (z : Bool) (q : Result Mail MailFault) → IsShort q → GotShort (Some (if z then Empty else got_of last q))
+    go true q t = tt
+    go false (Err fault) t = tt
+    go false (Ok m) t = repeated (repeats last m.counter) m t
+
+in_got_short : (h : InHalf) (s : InState) (counter : ℕ) (octets : List ℕ) → GotShort (in_got h s counter octets)
+in_got_short h InState.Clear counter octets = got_short_by h.last counter (mail_read octets) (read_short octets)
+in_got_short h InState.Doubt counter octets = tt
+in_got_short h InState.Asked counter octets = tt
+in_got_short h InState.Refetch counter octets = got_short_by h.last counter (mail_read octets) (read_short octets)
+
+pub view_short : (got : Option GotView) (view : Option MailView) (h : InHalf) (s : InState) (counter : ℕ) (octets : List ℕ) → option_map got_seen got ≡ in_got h s counter octets → view ≡ view_in got → IfSome view (λ v. length v.body.now ≤ 1480)
+view_short got view h s counter octets e v = subst (λ (o : Option MailView). IfSome o (λ m. length m.body.now ≤ 1480)) (sym v) (go got (subst GotShort (sym e) (in_got_short h s counter octets)))
+  where
+    go : (g : Option GotView) → GotShort (option_map got_seen g) → IfSome (view_in g) (λ m. length m.body.now ≤ 1480)
+    go None t = tt
+    go (Some (GotView.Mail m)) t = t
+    go (Some GotView.Repeat) t = tt
+    go (Some GotView.Empty) t = tt
+    go (Some (GotView.Bad fault)) t = tt
 
 -- the state service behind an errand that was done
 pub errand_done : {Q : Type 0} (station made counter : ℕ) (octets : List ℕ) (carried : Carried) (h : Halves Body) (due : Option Access) (a : Account Q Reply) (duty : Duty) (met : Met) (b : Datagram Body) → is_errand carried ≡ true → Meant station carried h due b → IsBack counter octets b → (counter == 0) ≡ false →
-    DutyShows (Some duty) a.hand → progress_of {R = Reply} met ≡ access_done duty.target (stage_of duty.stage) b.access (found_of b.access counter octets) → KeepsTarget duty.target met → DutyShows (duty_left met) (account_back station made a (one b)).hand
+    DutyShows (Some duty) a.hand → progress_of {R = Reply} met ≡ access_done duty.target (stage_of duty.stage) b.access (found_of b.access counter octets) → KeepsTarget duty.target met →
+    DutyShows (duty_left met) (account_back station made a (one b)).hand × OverShows (Some met) (account_back station made a (one b)).over
 errand_done {Q = Q} station made counter octets carried h due a duty met b is w i some (frame, s) p k =
-    subst (λ (z : Account Q Reply). DutyShows (duty_left met) z.hand)
+    subst (λ (z : Account Q Reply). DutyShows (duty_left met) z.hand × OverShows (Some met) z.over)
     (sym (ap (λ (h : Option Tasks.Duty). account_met station made a h b) s
     ∙ met_done station made counter a (record { target = duty.target; frame = frame; stage = stage_of duty.stage }) b w.address (i.registers ∙ counts_back b.access counter (errand_asks carried h due b.gram.ask b.access is w.asks).1) some
     ∙ ap (λ (f : Option Found). account_by made a (record { target = duty.target; frame = frame; stage = stage_of duty.stage }) (access_done duty.target (stage_of duty.stage) b.access f)) i.found
     ∙ ap (account_by made a (record { target = duty.target; frame = frame; stage = stage_of duty.stage })) (sym p)))
-    (left_shown made a duty frame met k)
+    (left_shown made a duty frame met k, left_over made a duty frame met)
 
 -- the state service where nothing was done
-pub errand_undone : {Q : Type 0} (station made counter : ℕ) (octets : List ℕ) (a : Account Q Reply) (duty : Option Duty) (b : Datagram Body) → IsBack counter octets b → (counter ≡ 0) ⊎ (duty ≡ None) → DutyShows duty a.hand → DutyShows duty (account_back station made a (one b)).hand
-errand_undone {Q = Q} station made counter octets a duty b i (inl e) s = subst (λ (z : Account Q Reply). DutyShows duty z.hand) (sym (undone_back station made counter octets a b i e)) s
-errand_undone {Q = Q} station made counter octets a duty b i (inr e) s = subst (λ (z : Account Q Reply). DutyShows duty z.hand) (sym (free_back station made a b (subst (λ (o : Option Duty). DutyShows o a.hand) e s))) s
+pub errand_undone : {Q : Type 0} (station made counter : ℕ) (octets : List ℕ) (a : Account Q Reply) (duty : Option Met) (b : Datagram Body) → IsBack counter octets b → (counter ≡ 0) ⊎ (in_hand duty ≡ None) → DutyShows (in_hand duty) a.hand × OverShows duty a.over →
+    DutyShows (in_hand duty) (account_back station made a (one b)).hand × OverShows duty (account_back station made a (one b)).over
+errand_undone {Q = Q} station made counter octets a duty b i (inl e) s = subst (λ (z : Account Q Reply). DutyShows (in_hand duty) z.hand × OverShows duty z.over) (sym (undone_back station made counter octets a b i e)) s
+errand_undone {Q = Q} station made counter octets a duty b i (inr e) s = subst (λ (z : Account Q Reply). DutyShows (in_hand duty) z.hand × OverShows duty z.over) (sym (free_back station made a b (subst (λ (o : Option Duty). DutyShows o a.hand) e s.0))) s

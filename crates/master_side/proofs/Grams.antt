@@ -26,9 +26,10 @@ use Rattle.mailbox_master.specs.Access.{access_head, write_access}
 use Rattle.mailbox_master.specs.Seat.{ReadsAs}
 use Rattle.master_duty.specs.declared.duty.Duty.{Duty}
 use Rattle.master_duty.specs.declared.stage.Errand.{Errand}
+use Rattle.master_duty.specs.declared.stage.Met.{Met}
 use Rattle.master_duty.specs.Stages.{stage_of, errand_of, access_of, errand_access}
 use Rattle.master_side.specs.declared.carried.Carried.{Carried}
-use Rattle.master_side.specs.Carried.{Meant, errand_carried}
+use Rattle.master_side.specs.Carried.{Meant, errand_carried, in_hand}
 use Rattle.master_side.specs.Sent.{IsSent, IsWord, write_gram, inward_gram, errand_gram, duty_gram, visit_gram, full_head}
 use Rattle.datagrams.specs.Frame.{datagram_of}
 use Rattle.master_side.specs.Shown.{DutyShows}
@@ -151,14 +152,14 @@ held_meant lens index out station h due q l some r k = go out.state refl some
     go (Some m) e s = write_meant lens index out m station h due q l e (r m e) k
 
 -- that of a state service
-pub errand_visit : (lens : ℕ → Lens) (station index : ℕ) (out : OutLink (Option Mail)) (inn : InwardHalf) (duty : Option Duty) (d : Duty) (o : Option Errand) (e : Errand) (carried : Carried) (h : Halves Body) (hand : Option Accounts.Duty) →
-    duty ≡ Some d → o ≡ Some e → o ≡ errand_of d.stage → errand_access o ≡ stage_access d.target (stage_of d.stage) → carried ≡ errand_carried e → IsWord e → DutyShows duty hand →
+pub errand_visit : (lens : ℕ → Lens) (station index : ℕ) (out : OutLink (Option Mail)) (inn : InwardHalf) (duty : Option Met) (d : Duty) (o : Option Errand) (e : Errand) (carried : Carried) (h : Halves Body) (hand : Option Accounts.Duty) →
+    in_hand duty ≡ Some d → o ≡ Some e → o ≡ errand_of d.stage → errand_access o ≡ stage_access d.target (stage_of d.stage) → carried ≡ errand_carried e → IsWord e → DutyShows (in_hand duty) hand →
     Meant station carried h (duty_access hand) (datagram_seen lens (visit_gram station index out inn duty carried))
 errand_visit lens station index out inn duty d o e carried h hand is some of a c w s =
     subst (λ (k : Carried). Meant station k h (duty_access hand) (datagram_seen lens (visit_gram station index out inn duty k))) (sym c)
     (subst (λ (r : Raw.Datagram). Meant station (errand_carried e) h (duty_access hand) (datagram_seen lens r)) (sym (kind e ∙ ap (duty_gram station index) is ∙ ap (errand_gram station index) (sym of ∙ some)))
-    (errand_meant lens station index e h (duty_access hand) w (due_is duty d hand o e is s some a)))
+    (errand_meant lens station index e h (duty_access hand) w (due_is (in_hand duty) d hand o e is s some a)))
   where
-    kind : (z : Errand) → visit_gram station index out inn duty (errand_carried z) ≡ duty_gram station index duty
+    kind : (z : Errand) → visit_gram station index out inn duty (errand_carried z) ≡ duty_gram station index (in_hand duty)
     kind (Errand.Write word) = refl
     kind Errand.ReadStatus = refl

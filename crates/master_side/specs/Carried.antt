@@ -75,10 +75,25 @@ abbrev pub mails_choice : Option Passing → InState → Bool → Bool → Optio
 mails_choice (Some Passing.Boxed) s turn paused held = drain_choice s turn
 mails_choice _ s turn paused held = link_choice s paused held
 
--- with one or without
-abbrev pub choice_of : Option Duty → Option Passing → InState → Bool → Bool → Option Mail → Carried
-choice_of None passing s turn paused held = mails_choice passing s turn paused held
-choice_of (Some duty) passing s turn paused held = errand_choice (errand_of duty.stage) s turn
+-- what is left of a state service
+abbrev pub duty_left : Met → Option Duty
+duty_left (Met.On duty) = Some duty
+duty_left Met.Reached = None
+duty_left (Met.Refused code) = None
+
+-- the newest state service, while it is in hand
+abbrev pub in_hand : Option Met → Option Duty
+in_hand None = None
+in_hand (Some met) = duty_left met
+
+-- with one in hand or without
+abbrev pub duty_choice : Option Duty → Option Passing → InState → Bool → Bool → Option Mail → Carried
+duty_choice None passing s turn paused held = mails_choice passing s turn paused held
+duty_choice (Some duty) passing s turn paused held = errand_choice (errand_of duty.stage) s turn
+
+-- by the newest state service, which is in hand or over
+abbrev pub choice_of : Option Met → Option Passing → InState → Bool → Bool → Option Mail → Carried
+choice_of duty passing s turn paused held = duty_choice (in_hand duty) passing s turn paused held
 
 -- it is an access of a state service, or the status that ends its drain
 abbrev pub is_errand : Carried → Bool
@@ -88,12 +103,6 @@ is_errand Carried.Inward = false
 is_errand Carried.Full = true
 is_errand Carried.Control = true
 is_errand Carried.Status = true
-
--- what is left of a state service
-abbrev pub duty_left : Met → Option Duty
-duty_left (Met.On duty) = Some duty
-duty_left Met.Reached = None
-duty_left (Met.Refused code) = None
 
 -- the inward half reads mailbox 1
 abbrev pub is_read : InState → Bool

@@ -1,9 +1,10 @@
--- The bodies accepted by what the inward half's datagram gave.
-use Rattle.std.specs.Prelude.{List, [], ◌∷◌, Option, Some, None, Ok}
+-- The bodies accepted by what the inward half's datagram gave, and what a hand tells of them.
+use Rattle.std.specs.Prelude.{◌≡◌, List, [], ◌∷◌, Option, Some, None, Ok}
 use Rattle.mailbox_mail.specs.declared.mail.MailView.{MailView}
 use Rattle.mailbox_mail.specs.View.{mail_seen}
 use Rattle.link_mails.specs.Body.{Body, uncounted}
 use Rattle.mailbox_master.specs.declared.seat.GotView.{GotView}
+use Rattle.master_side.specs.declared.hand.Heard.{Heard}
 
 -- the mail that was accepted
 abbrev pub view_in : Option GotView → Option MailView
@@ -14,3 +15,8 @@ view_in _ = None
 abbrev pub heard_of : Option MailView → List Body
 heard_of None = []
 heard_of (Some v) = Ok (uncounted (mail_seen v)) ∷ []
+
+-- WHAT A RETURNED FRAME BROUGHT: no mail was accepted, or this one, of which the hand tells what it brought
+abbrev pub Brought : (Body → Type 0) → Option Heard → List Body → Type 0
+Brought brings None ms = ms ≡ []
+Brought brings (Some what) ms = (b : Body) × (ms ≡ b ∷ []) × brings b

@@ -15,8 +15,10 @@ use Rattle.mailbox_master.specs.Any.{in_station, in_area_len, in_access_of}
 use Rattle.mailbox_master.specs.Access.{access_head, write_access}
 use Rattle.master_duty.specs.declared.duty.Duty.{Duty}
 use Rattle.master_duty.specs.declared.stage.Errand.{Errand}
+use Rattle.master_duty.specs.declared.stage.Met.{Met}
 use Rattle.master_duty.specs.Stages.{errand_of}
 use Rattle.master_side.specs.declared.carried.Carried.{Carried}
+use Rattle.master_side.specs.Carried.{in_hand}
 
 -- a datagram that is sent to a slave whose larger mailbox has this length
 pub record IsSent (area : ℕ) (d : Datagram) : Type 0 where
@@ -69,13 +71,13 @@ duty_gram station index None = no_gram
 duty_gram station index (Some duty) = errand_gram station index (errand_of duty.stage)
 
 -- THE DATAGRAM OF A VISIT
-abbrev pub visit_gram : ℕ → ℕ → OutLink (Option Mail) → InwardHalf → Option Duty → Carried → Datagram
+abbrev pub visit_gram : ℕ → ℕ → OutLink (Option Mail) → InwardHalf → Option Met → Carried → Datagram
 visit_gram station index out inn duty Carried.Nothing = no_gram
 visit_gram station index out inn duty Carried.Write = write_gram index out out.state
 visit_gram station index out inn duty Carried.Inward = inward_gram index inn
 visit_gram station index out inn duty Carried.Full = datagram_of (full_head station index) (0 ∷ [])
-visit_gram station index out inn duty Carried.Control = duty_gram station index duty
-visit_gram station index out inn duty Carried.Status = duty_gram station index duty
+visit_gram station index out inn duty Carried.Control = duty_gram station index (in_hand duty)
+visit_gram station index out inn duty Carried.Status = duty_gram station index (in_hand duty)
 
 -- how many octets it has
 abbrev pub gram_len : OutLink (Option Mail) → InwardHalf → Carried → ℕ
@@ -94,7 +96,7 @@ pub record SameLink (out : OutLink (Option Mail)) (inn : InwardHalf) (station ar
   pub area_is : area' ≡ area
 
 -- the same halves and state service
-pub record SameSide (out : OutLink (Option Mail)) (inn : InwardHalf) (fresh : Bool) (duty : Option Duty) (out' : OutLink (Option Mail)) (inn' : InwardHalf) (fresh' : Bool) (duty' : Option Duty) : Type 0 where
+pub record SameSide (out : OutLink (Option Mail)) (inn : InwardHalf) (fresh : Bool) (duty : Option Met) (out' : OutLink (Option Mail)) (inn' : InwardHalf) (fresh' : Bool) (duty' : Option Met) : Type 0 where
   pub out_is : out' ≡ out
   pub in_is : inn' ≡ inn
   pub fresh_is : fresh' ≡ fresh

@@ -5,6 +5,7 @@ use Rattle.link_mails.specs.Body.{Body}
 use Rattle.link_model.specs.Link.{new_link}
 use Rattle.exchange_model.specs.Exchange.{Speech}
 use Rattle.exchange_model.specs.Rows.{Row}
+use Rattle.segment_model.specs.Ends.{Outcome}
 use Rattle.segment_model.specs.Seats
 use Rattle.segment_model.specs.Seats.{Side, next_mail, side_holds, side_next}
 use Rattle.state_exchange.specs.Stated.{Service}
@@ -15,8 +16,10 @@ use Rattle.mailbox_master.specs.Links.{OutLink}
 use Rattle.mailbox_master.specs.Any.{in_half_of}
 use Rattle.mailbox_master.specs.Seat.{seat_half}
 use Rattle.master_duty.specs.declared.duty.Duty.{Duty}
+use Rattle.master_duty.specs.declared.stage.Met.{Met}
 use Rattle.master_duty.specs.Stages.{stage_of}
 use Rattle.master_duty.specs.Reply.{Reply}
+use Rattle.master_side.specs.Carried.{in_hand}
 use Rattle.master_side.specs.declared.carried.Wish.{Wish}
 
 -- a state service in hand: its target and its stage; the frame at which it began is stored nowhere
@@ -24,14 +27,29 @@ abbrev pub DutyShows : Option Duty → Option Accounts.Duty → Type 0
 DutyShows None hand = hand ≡ None
 DutyShows (Some duty) hand = (frame : ℕ) × (hand ≡ Some (record { target = duty.target; frame = frame; stage = stage_of duty.stage }))
 
--- THE SIDE: halves and whether the mail held was not yet sent, as they are; the newest row as the hand shows it; the state service in hand.
--- Of the rows that are over and of the services that began nothing is stored, and nothing is said
-pub record SideShows {Q : Type 0} (hand : Option (Row Body Q Reply) → Type 0) (out : OutLink (Option Mail)) (inn : InwardHalf) (fresh : Bool) (duty : Option Duty)
+-- the change that got over last has this answer
+pub record HasOver {R : Type 0} (over : List (Accounts.Change R)) (answer : Outcome R) : Type 0 where
+  pub front : List (Accounts.Change R)
+  pub change : Accounts.Change R
+  pub is : over ≡ front ++ change ∷ []
+  pub answered : change.answer ≡ answer
+
+-- the newest state service, where it is over: none came into hand, one is in hand, or it has this answer
+abbrev pub OverShows : {R : Type 0} → Option Met → List (Accounts.Change R) → Type 0
+OverShows None over = over ≡ []
+OverShows (Some (Met.On duty)) over = ⊤
+OverShows (Some Met.Reached) over = HasOver over Outcome.Reached
+OverShows (Some (Met.Refused code)) over = HasOver over (Outcome.Refused code)
+
+-- THE SIDE: halves and whether the mail held was not yet sent, as they are; the newest row as the hand shows it; the newest state service, in hand
+-- or over. Of the rows that are over and of the services that began nothing is stored, and nothing is said
+pub record SideShows {Q : Type 0} (hand : Option (Row Body Q Reply) → Type 0) (out : OutLink (Option Mail)) (inn : InwardHalf) (fresh : Bool) (duty : Option Met)
     (d : Side Body Q Reply) (a : Account Q Reply) : Type 0 where
   pub halves : d.halves ≡ record { out = seat_half out; inn = in_half_of inn }
   pub unsent : d.fresh ≡ fresh
   pub row : hand d.now
-  pub state : DutyShows duty a.hand
+  pub state : DutyShows (in_hand duty) a.hand
+  pub over : OverShows duty a.over
 
 -- the side of a slave at the end of its bring-up
 abbrev pub new_side : {Q : Type 0} → Side Body Q Reply

@@ -55,6 +55,9 @@ pub trait Hand {
 
     ghost passes: { Self → Bool };
 
+    // What the mail that was heard last brought beside a reply of the service in hand.
+    ghost brings: { Self → Body → Type 0 };
+
     /// The service that was laid ready comes into hand in place of the one before: whether there was one.
     fn begin(&mut self) -> bool
         ensures did { result ≡ is_some (ready self.old) }
@@ -81,9 +84,11 @@ pub trait Hand {
     fn body(&self) -> &[u8]
         ensures { result.now ≡ (taken self.now).body.items };
 
-    /// A mail was accepted.
+    /// A mail was accepted; a body has at most 1,480 octets.
     fn hear(&mut self, mail: &MailView) -> Heard
+        requires { length mail.now.body.now ≤ 1480 }
         ensures shown { (x : Speech Body Asked Reply) (frame : ℕ) (now : Option (Row Body Asked Reply)) → shows self.old x now → shows self.new x (option_map (λ r. row_heard x frame (Ok (uncounted (mail_seen mail.now)) ∷ []) r) now) }
+        ensures brings { brings self.new (Ok (uncounted (mail_seen mail.now))) }
         ensures script { script self.new ≡ script self.old }
         ensures room { room self.new ≡ room self.old };
 

@@ -108,7 +108,7 @@ impl<H: Hand> Side<H> {
         ensures meant { (x : Speech Body H.Asked Reply) (lens : ℕ → Lens) (d : Seats.Side Body H.Asked Reply) (a : Account H.Asked Reply) → (lens self.now.station).out ≡ self.now.out.len → (lens self.now.station).back ≡ in_area_len self.now.inn → SideShows (H.shows self.now.hand x) self.now.out self.now.inn self.now.fresh self.now.duty d a →
             Meant self.now.station result d.halves (duty_access a.hand) (datagram_seen lens (visit_gram self.now.station index self.now.out self.now.inn self.now.duty result)) }
     {
-        match &self.duty {
+        match self.state_in_hand() {
             None => match self.passing {
                 Some(Passing::Boxed) => self.add_drain(index, frame),
                 _ => self.add_link(index, frame),
@@ -146,7 +146,7 @@ impl<H: Hand> Side<H> {
     fn choice(&self) -> Carried
         ensures { result ≡ choice_of self.now.duty self.now.passing (in_half_of self.now.inn).state self.now.turn self.now.paused self.now.out.state }
     {
-        match &self.duty {
+        match self.state_in_hand() {
             None => match self.passing {
                 Some(Passing::Boxed) => self.drain_turn(),
                 _ => self.link_turn(),
@@ -220,7 +220,6 @@ impl<H: Hand> Side<H> {
         ensures link { (self.new.station ≡ self.old.station) × (self.new.area ≡ self.old.area) }
     {
         self.heard = None;
-        self.met = None;
         if self.len_of(self.choice()) > datagrams::room(frame) {
             return false;
         }

@@ -43,8 +43,8 @@ pub struct Side<H: Hand> {
     pub paused: bool,
     /// The service by mails in hand.
     pub hand: H,
-    /// The state service in hand.
-    pub duty: Option<Duty>,
+    /// The newest state service since the slave was opened: in hand, or how it ended.
+    pub duty: Option<Met>,
     /// Where mailboxes are read in turn, mailbox 1 is next, and not the status of mailbox 0.
     pub turn: bool,
     /// How far the mail in hand that is passed on has come.
@@ -57,8 +57,6 @@ pub struct Side<H: Hand> {
     pub carried: Carried,
     /// What the mail that the last returned frame brought is to the service in hand.
     pub heard: Option<Heard>,
-    /// How the last returned frame ended the state service in hand.
-    pub met: Option<Met>,
     pub ghost room: { out.len ≡ H.room hand },
     pub ghost out_len_is: { out.len ≡ out_len },
     pub ghost in_len_is: { in_area_len inn ≡ in_len },
@@ -73,10 +71,11 @@ pub struct Side<H: Hand> {
 }
 
 impl<H: Hand> Side<H> {
-    ghost use Rattle.std.specs.Prelude.{◌≡◌, ℕ, Bool, true, false, List, [], ◌∷◌, Option, Some, None, is_none, is_some, option_map, length, if◌then◌else◌};
+    ghost use Rattle.std.specs.Prelude.{◌≡◌, ℕ, Bool, true, false, List, [], ◌∷◌, Option, Some, None, IfSome, is_none, is_some, option_map, length, if◌then◌else◌};
     ghost use Rattle.exchange_model.specs.Exchange.{Speech};
     ghost use Rattle.exchange_model.specs.Rows.{Row, row_heard};
-    ghost use Rattle.segment_model.specs.Slaves.{Datagram};
+    ghost use Rattle.segment_model.specs.Slaves.{Datagram, grams};
+    ghost use Rattle.link_model.specs.Frames.{all_accepted};
     ghost use Rattle.segment_model.specs.Seats as Seats;
     ghost use Rattle.link_mails.specs.Body.{Body};
     ghost use Rattle.task_model.specs.Accounts.{Account, new_account, duty_access, account_back, is_free, is_acknowledged};
@@ -86,9 +85,9 @@ impl<H: Hand> Side<H> {
     ghost use Rattle.master_duty.specs.Reply.{Reply};
     ghost use Rattle.master_duty.specs.declared.duty.Duty.{Duty};
     ghost use Rattle.master_duty.specs.declared.stage.Stage.{Stage};
-    ghost use Rattle.master_side.specs.Carried.{Meant, IsBack, is_errand, paused_after, turn_after, one};
+    ghost use Rattle.master_side.specs.Carried.{Meant, IsBack, in_hand, is_errand, paused_after, turn_after, one};
     ghost use Rattle.master_side.specs.Sent.{SameLink};
-    ghost use Rattle.master_side.specs.Heard.{heard_of};
+    ghost use Rattle.master_side.specs.Heard.{heard_of, Brought};
     ghost use Rattle.master_side.specs.Shown.{SideShows, Holds, Begins, Picked, new_side, wish_begun, takes_ready};
     ghost use Rattle.master_side.specs.declared.carried.Carried.{Carried};
     ghost use Rattle.master_side.specs.declared.carried.Wish.{Wish};
@@ -123,7 +122,6 @@ impl<H: Hand> Side<H> {
             pace,
             carried: Carried::Nothing,
             heard: None,
-            met: None,
         }
     }
 
@@ -134,6 +132,7 @@ impl<H: Hand> Side<H> {
         ensures link { SameLink self.old.out self.old.inn self.old.station self.old.area self.new.out self.new.inn self.new.station self.new.area }
         ensures script { H.script self.new.hand ≡ H.script self.old.hand }
         ensures passing { self.new.passing ≡ None }
+        ensures heard { self.new.heard ≡ self.old.heard }
     {
         self.out = OutwardSeat::new(self.station, self.out_len);
         self.inn = InwardHalf::Clear(new_inward(self.station, self.in_len));
@@ -164,13 +163,23 @@ impl<H: Hand> Side<H> {
         }
     }
 
+    /// The state service in hand.
+    pub fn state_in_hand(&self) -> Option<Duty>
+        ensures { result ≡ in_hand self.now.duty }
+    {
+        match self.duty {
+            Some(met) => duty_left(met),
+            None => None,
+        }
+    }
+
     /// Whether a service may come into hand: the newest is over, and the write of a last acknowledgement is done.
     pub fn is_free(&self) -> bool
-        ensures free { (x : Speech Body H.Asked Reply) (d : Seats.Side Body H.Asked Reply) (a : Account H.Asked Reply) → SideShows (H.shows self.now.hand x) self.now.out self.now.inn self.now.fresh self.now.duty d a → result ≡ true → (is_free x d d.now ≡ true) × (is_acknowledged H.acknowledged d d.now ≡ true) × (self.now.duty ≡ None) }
+        ensures free { (x : Speech Body H.Asked Reply) (d : Seats.Side Body H.Asked Reply) (a : Account H.Asked Reply) → SideShows (H.shows self.now.hand x) self.now.out self.now.inn self.now.fresh self.now.duty d a → result ≡ true → (is_free x d d.now ≡ true) × (is_acknowledged H.acknowledged d d.now ≡ true) × (in_hand self.now.duty ≡ None) }
         ensures waits { is_some self.now.passing ≡ true → result ≡ false }
     {
         let idle = self.out.is_idle();
-        if self.duty.is_some() || self.passing.is_some() {
+        if self.state_in_hand().is_some() || self.passing.is_some() {
             return false;
         }
         self.hand.is_over(self.fresh, idle) && self.hand.is_acknowledged(idle)
@@ -178,7 +187,7 @@ impl<H: Hand> Side<H> {
 
     // The service by mails that was laid ready comes into hand: whether there was one.
     fn begin_mails(&mut self) -> bool
-        ensures picked { (x : Speech Body H.Asked Reply) (made : ℕ) (d : Seats.Side Body H.Asked Reply) (a : Account H.Asked Reply) → SideShows (H.shows self.old.hand x) self.old.out self.old.inn self.old.fresh self.old.duty d a → is_free x d d.now ≡ true → self.old.duty ≡ None →
+        ensures picked { (x : Speech Body H.Asked Reply) (made : ℕ) (d : Seats.Side Body H.Asked Reply) (a : Account H.Asked Reply) → SideShows (H.shows self.old.hand x) self.old.out self.old.inn self.old.fresh self.old.duty d a → is_free x d d.now ≡ true → in_hand self.old.duty ≡ None →
             Begins x H.acknowledged made d a (wish_begun result (Some Wish.Mails) (H.ready self.old.hand)) (λ e b. SideShows (H.shows self.new.hand x) self.new.out self.new.inn self.new.fresh self.new.duty e b) }
         ensures link { SameLink self.old.out self.old.inn self.old.station self.old.area self.new.out self.new.inn self.new.station self.new.area }
         ensures did { result ≡ is_some (H.ready self.old.hand) }
@@ -195,13 +204,13 @@ impl<H: Hand> Side<H> {
 
     // A state service comes into hand, and drains.
     fn begin_state(&mut self, target: Target)
-        ensures picked { (x : Speech Body H.Asked Reply) (made : ℕ) (d : Seats.Side Body H.Asked Reply) (a : Account H.Asked Reply) → SideShows (H.shows self.old.hand x) self.old.out self.old.inn self.old.fresh self.old.duty d a → is_free x d d.now ≡ true → is_acknowledged H.acknowledged d d.now ≡ true → self.old.duty ≡ None →
+        ensures picked { (x : Speech Body H.Asked Reply) (made : ℕ) (d : Seats.Side Body H.Asked Reply) (a : Account H.Asked Reply) → SideShows (H.shows self.old.hand x) self.old.out self.old.inn self.old.fresh self.old.duty d a → is_free x d d.now ≡ true → is_acknowledged H.acknowledged d d.now ≡ true → in_hand self.old.duty ≡ None →
             Begins x H.acknowledged made d a (Some (Service.State target.state)) (λ e b. SideShows (H.shows self.new.hand x) self.new.out self.new.inn self.new.fresh self.new.duty e b) }
         ensures link { SameLink self.old.out self.old.inn self.old.station self.old.area self.new.out self.new.inn self.new.station self.new.area }
         ensures kept { (self.new.hand ≡ self.old.hand) × (self.new.passing ≡ self.old.passing) }
     {
         let duty = Duty::new(target.state);
-        self.duty = Some(duty);
+        self.duty = Some(Met::On(duty));
         self.turn = false;
     }
 
@@ -286,6 +295,9 @@ impl<H: Hand> Side<H> {
         ensures turn { self.new.turn ≡ turn_after self.old.carried (in_half_of self.old.inn).state counter self.old.turn }
         ensures script { H.script self.new.hand ≡ H.script self.old.hand }
         ensures unpassed { self.old.passing ≡ None → self.new.passing ≡ None }
+        ensures brought { self.old.heard ≡ None → (x : Speech Body H.Asked Reply) (octets : List ℕ) (b : Datagram Body) (d : Seats.Side Body H.Asked Reply) (a : Account H.Asked Reply) → SideShows (H.shows self.old.hand x) self.old.out self.old.inn self.old.fresh self.old.duty d a →
+            Meant self.old.station self.old.carried d.halves (duty_access a.hand) b → IsBack counter octets b →
+            Brought (H.brings self.new.hand) self.new.heard (all_accepted self.old.station d.halves (grams (one b))) }
     {
         let passing = written(told(self.passing, self.fresh), counter);
         self.passing = passing;
@@ -296,12 +308,14 @@ impl<H: Hand> Side<H> {
 
     // A mail was accepted, or none was.
     fn hear(&mut self, mail: Option<MailView>)
+        requires { IfSome mail (λ v. length v.body.now ≤ 1480) }
         ensures shown { (x : Speech Body H.Asked Reply) (made : ℕ) (now : Option (Row Body H.Asked Reply)) → H.shows self.old.hand x now → H.shows self.new.hand x (option_map (λ r. row_heard x made (heard_of mail.entry) r) now) }
         ensures kept { (self.new.out ≡ self.old.out) × (self.new.inn ≡ self.old.inn) × (self.new.fresh ≡ self.old.fresh) × (self.new.duty ≡ self.old.duty) }
         ensures link { SameLink self.old.out self.old.inn self.old.station self.old.area self.new.out self.new.inn self.new.station self.new.area }
         ensures pace { (self.new.paused ≡ self.old.paused) × (self.new.turn ≡ self.old.turn) }
         ensures script { H.script self.new.hand ≡ H.script self.old.hand }
         ensures unpassed { self.old.passing ≡ None → self.new.passing ≡ None }
+        ensures brought { self.old.heard ≡ None → Brought (H.brings self.new.hand) self.new.heard (heard_of mail.entry) }
     {
         if let Some(mail) = mail {
             let what = self.hand.hear(&mail);
@@ -314,7 +328,7 @@ impl<H: Hand> Side<H> {
     // A read of mailbox 1 came back, in the frame with this number: an empty one counts for a mail that is passed on only where the slave's
     // processor made a step since the last done read.
     fn read_done(&mut self, was_read: bool, counter: u16, made: u32)
-        ensures kept { (self.new.out ≡ self.old.out) × (self.new.inn ≡ self.old.inn) × (self.new.fresh ≡ self.old.fresh) × (self.new.duty ≡ self.old.duty) × (self.new.hand ≡ self.old.hand) }
+        ensures kept { (self.new.out ≡ self.old.out) × (self.new.inn ≡ self.old.inn) × (self.new.fresh ≡ self.old.fresh) × (self.new.duty ≡ self.old.duty) × (self.new.hand ≡ self.old.hand) × (self.new.heard ≡ self.old.heard) }
         ensures link { SameLink self.old.out self.old.inn self.old.station self.old.area self.new.out self.new.inn self.new.station self.new.area }
         ensures pace { (self.new.paused ≡ self.old.paused) × (self.new.turn ≡ self.old.turn) }
         ensures unpassed { self.old.passing ≡ None → self.new.passing ≡ None }
@@ -347,6 +361,9 @@ impl<H: Hand> Side<H> {
         ensures turn { self.new.turn ≡ turn_after self.old.carried (in_half_of self.old.inn).state counter self.old.turn }
         ensures script { H.script self.new.hand ≡ H.script self.old.hand }
         ensures unpassed { self.old.passing ≡ None → self.new.passing ≡ None }
+        ensures brought { self.old.heard ≡ None → (x : Speech Body H.Asked Reply) (b : Datagram Body) (d : Seats.Side Body H.Asked Reply) (a : Account H.Asked Reply) → SideShows (H.shows self.old.hand x) self.old.out self.old.inn self.old.fresh self.old.duty d a →
+            Meant self.old.station self.old.carried d.halves (duty_access a.hand) b → IsBack counter octets.now b →
+            Brought (H.brings self.new.hand) self.new.heard (all_accepted self.old.station d.halves (grams (one b))) }
     {
         let got = self.inn.returned(counter, octets);
         let was_read = got.is_some();
@@ -369,6 +386,9 @@ impl<H: Hand> Side<H> {
         ensures turn { self.new.turn ≡ turn_after self.old.carried (in_half_of self.old.inn).state counter self.old.turn }
         ensures script { H.script self.new.hand ≡ H.script self.old.hand }
         ensures unpassed { self.old.passing ≡ None → self.new.passing ≡ None }
+        ensures brought { self.old.heard ≡ None → (x : Speech Body H.Asked Reply) (b : Datagram Body) (d : Seats.Side Body H.Asked Reply) (a : Account H.Asked Reply) → SideShows (H.shows self.old.hand x) self.old.out self.old.inn self.old.fresh self.old.duty d a →
+            Meant self.old.station self.old.carried d.halves (duty_access a.hand) b → IsBack counter octets.now b →
+            Brought (H.brings self.new.hand) self.new.heard (all_accepted self.old.station d.halves (grams (one b))) }
     {
         if counter == 0 {
             return;
@@ -376,10 +396,9 @@ impl<H: Hand> Side<H> {
         let passing = status_passed(self.passing, self.carried, octets);
         self.passing = passing;
         self.turn = true;
-        if let Some(duty) = self.duty {
+        if let Some(duty) = self.state_in_hand() {
             let met = duty_met(duty, self.carried, octets);
-            self.met = Some(met);
-            self.duty = duty_left(met);
+            self.duty = Some(met);
         }
     }
 
@@ -394,6 +413,9 @@ impl<H: Hand> Side<H> {
         ensures turn { self.new.turn ≡ turn_after self.old.carried (in_half_of self.old.inn).state counter self.old.turn }
         ensures script { H.script self.new.hand ≡ H.script self.old.hand }
         ensures unpassed { self.old.passing ≡ None → self.new.passing ≡ None }
+        ensures brought { self.old.heard ≡ None → (x : Speech Body H.Asked Reply) (b : Datagram Body) (d : Seats.Side Body H.Asked Reply) (a : Account H.Asked Reply) → SideShows (H.shows self.old.hand x) self.old.out self.old.inn self.old.fresh self.old.duty d a →
+            Meant self.old.station self.old.carried d.halves (duty_access a.hand) b → IsBack counter octets.now b →
+            Brought (H.brings self.new.hand) self.new.heard (all_accepted self.old.station d.halves (grams (one b))) }
     {
         match self.carried {
             Carried::Nothing => {}

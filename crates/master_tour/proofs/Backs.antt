@@ -8,8 +8,10 @@ use Rattle.al_state.specs.declared.bringing.BringStep.TheVariants.{Return, Watch
 use Rattle.al_state.specs.declared.bringing.BringUp.{BringUp}
 use Rattle.al_state.specs.BringUp.{head_of, octets_of}
 use Rattle.link_mails.specs.Body.{Body}
+use Rattle.link_model.specs.Frames.{all_accepted}
+use Rattle.link_model.specs.Link.{Halves}
 use Rattle.exchange_model.specs.Exchange.{Speech}
-use Rattle.segment_model.specs.Slaves.{Datagram, Access, Found}
+use Rattle.segment_model.specs.Slaves.{Datagram, Access, Found, grams}
 use Rattle.segment_model.specs.Returned.{Returns}
 use Rattle.segment_model.specs.Seats.{Side, side_back, side_lost}
 use Rattle.task_model.specs.Accounts
@@ -34,7 +36,7 @@ use Rattle.master_tour.specs.Under.{Grams, mine, IsAt}
 use Rattle.master_tour.specs.Stands.{OpensUnder, IsMet, is_reading, came_at, came_of, turned, turned_by, is_opening, is_open, is_still, opening_of, IsOpeningOf, ShowsSome, EraShows, StopShows, FollowShows}
 use Rattle.master_tour.specs.declared.stop.Stand.{Stand}
 use Rattle.master_tour.specs.declared.stop.Turned.{Turned}
-use Rattle.master_tour.proofs.Unders.{SameAim, aims, at_answer, at_map, at_short, status_whole, back_as, lost_as, account_as}
+use Rattle.master_tour.proofs.Unders.{SameAim, aims, at_answer, at_map, at_short, status_whole, back_as, lost_as, account_as, accepted_as}
 use Rattle.master_tour.proofs.Openings.{turned_is, lt_self, lt_more}
 
 -- an opening's status reads are seen as such
@@ -133,6 +135,10 @@ own_back x R made station ds d a aim h =
     let m = mine_own station ds aim in
     subst (λ z. R z (account_back station made a (Own.own station ds))) (sym (back_as x made station (Own.own station ds) ds d m))
     (subst (λ z. R (side_back x made station ds d) z) (sym (account_as x station made a (Own.own station ds) ds (aims_own station ds aim) aim m)) h)
+
+-- and the same mails
+pub own_accepted : (P : List Body → Type 0) (station : ℕ) (ds : Grams) (h : Halves Body) → SameAim station ds → P (all_accepted station h (grams ds)) → P (all_accepted station h (grams (Own.own station ds)))
+own_accepted P station ds h aim a = subst P (sym (accepted_as station (Own.own station ds) ds h (mine_own station ds aim))) a
 
 pub own_lost : {Q : Type 0} (x : Speech Body Q Reply) (R : Side Body Q Reply → Type 0) (station : ℕ) (ds : Grams) (d : Side Body Q Reply) → SameAim station ds → R (side_lost station ds d) → R (side_lost station (Own.own station ds) d)
 own_lost x R station ds d aim h = subst R (sym (lost_as x station (Own.own station ds) ds d (mine_own station ds aim))) h

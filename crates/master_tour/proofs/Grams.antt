@@ -15,12 +15,13 @@ use Rattle.segment_model.specs.Slaves.{Access}
 use Rattle.segment_model.specs.Seats.{Side}
 use Rattle.task_model.specs.Accounts.{Account, duty_access}
 use Rattle.master_duty.specs.declared.duty.Duty.{Duty}
+use Rattle.master_duty.specs.declared.stage.Met.{Met}
 use Rattle.master_duty.specs.declared.stage.Errand.{Errand}
 use Rattle.master_duty.specs.Stages.{errand_of}
 use Rattle.master_duty.specs.Reply.{Reply}
 use Rattle.master_side.specs.declared.carried.Carried.{Carried}
 use Rattle.master_side.specs.declared.passing.Passing.{Passing}
-use Rattle.master_side.specs.Carried.{Meant, is_clear, link_choice, drain_choice, errand_choice, mails_choice, choice_of}
+use Rattle.master_side.specs.Carried.{Meant, is_clear, link_choice, drain_choice, errand_choice, mails_choice, choice_of, duty_choice, in_hand}
 use Rattle.master_side.specs.Sent.{write_gram, inward_gram, errand_gram, duty_gram, visit_gram}
 use Rattle.life_model.specs.Lives.{Life, Spot}
 use Rattle.life_frames.specs.Frames.{IsOpenGram, IsRequest, GramFor}
@@ -55,9 +56,12 @@ errand_clear None s turn e = drain_clear s turn e
 errand_clear (Some (Errand.Write word)) s turn e = absurd (cc)
 errand_clear (Some Errand.ReadStatus) s turn e = absurd (cc)
 
-pub choice_clear : (duty : Option Duty) (passing : Option Passing) (s : InState) (turn paused : Bool) (held : Option Mail) → choice_of duty passing s turn paused held ≡ Carried.Full → s ≡ InState.Clear
-choice_clear None passing s turn paused held e = mails_clear passing s turn paused held e
-choice_clear (Some duty) passing s turn paused held e = errand_clear (errand_of duty.stage) s turn e
+choice_clear_by : (duty : Option Duty) (passing : Option Passing) (s : InState) (turn paused : Bool) (held : Option Mail) → duty_choice duty passing s turn paused held ≡ Carried.Full → s ≡ InState.Clear
+choice_clear_by None passing s turn paused held e = mails_clear passing s turn paused held e
+choice_clear_by (Some duty) passing s turn paused held e = errand_clear (errand_of duty.stage) s turn e
+
+pub choice_clear : (duty : Option Met) (passing : Option Passing) (s : InState) (turn paused : Bool) (held : Option Mail) → choice_of duty passing s turn paused held ≡ Carried.Full → s ≡ InState.Clear
+choice_clear duty passing s turn paused held e = choice_clear_by (in_hand duty) passing s turn paused held e
 
 -- A DATAGRAM OF AN OPEN SLAVE
 request_is : (b : Bool) → IsRequest ((1 + 2 * bit_number b) ∷ [])
@@ -93,17 +97,17 @@ module _ (lens : ℕ → Lens) (station index : ℕ) (h : Halves Body) (due : Op
   duty_status None m = status_open None m
   duty_status (Some duty) m = status_open (errand_of duty.stage) m
 
-  pub visit_open : (out : OutLink (Option Mail)) (inn : InwardHalf) (duty : Option Duty) (carried : Carried) → out.station ≡ station → in_station inn ≡ station →
+  pub visit_open : (out : OutLink (Option Mail)) (inn : InwardHalf) (duty : Option Met) (carried : Carried) → out.station ≡ station → in_station inn ≡ station →
       Meant station carried h due (datagram_seen lens (visit_gram station index out inn duty carried)) → IsOpenGram station (visit_gram station index out inn duty carried)
   visit_open out inn duty Carried.Nothing o i m = absurd m.asks
   visit_open out inn duty Carried.Write o i m = write_open out out.state o m
   visit_open out inn duty Carried.Inward o i m = inward_open inn i
   visit_open out inn duty Carried.Full o i m = record { counter = refl; to = record { command = inl refl; adp = refl }; writes = λ e. absurd (cc) }
-  visit_open out inn duty Carried.Control o i m = duty_control duty m
-  visit_open out inn duty Carried.Status o i m = duty_status duty m
+  visit_open out inn duty Carried.Control o i m = duty_control (in_hand duty) m
+  visit_open out inn duty Carried.Status o i m = duty_status (in_hand duty) m
 
 -- THE DATAGRAM OF A VISIT is one of its slave, by how the master stands to it
-pub gram_for : {Q : Type 0} (lens : ℕ → Lens) (recover index : ℕ) (shows : Side Body Q Reply → Account Q Reply → Type 0) (station place start : ℕ) (stand : Stand) (spare : ℕ) (out : OutLink (Option Mail)) (inn : InwardHalf) (duty : Option Duty) (carried : Carried) (spot : Spot) (l : Life Body Q Reply) →
+pub gram_for : {Q : Type 0} (lens : ℕ → Lens) (recover index : ℕ) (shows : Side Body Q Reply → Account Q Reply → Type 0) (station place start : ℕ) (stand : Stand) (spare : ℕ) (out : OutLink (Option Mail)) (inn : InwardHalf) (duty : Option Met) (carried : Carried) (spot : Spot) (l : Life Body Q Reply) →
     StopLives lens recover shows station place start stand spare out.len (in_area_len inn) (record { spot = spot; life = l }) → out.station ≡ station → in_station inn ≡ station →
     StandMeant lens station index carried stand l (datagram_seen lens (stand_gram station index stand out inn duty carried)) → GramFor lens spot l.stand (stand_gram station index stand out inn duty carried)
 gram_for lens recover index shows station place start (Stand.Opening up) spare out inn duty carried spot l v o i m =

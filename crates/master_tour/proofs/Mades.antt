@@ -14,7 +14,7 @@ use Rattle.mailbox_master.specs.Any.{in_station, in_area_len}
 use Rattle.segment_model.specs.Ends.{Passing}
 use Rattle.segment_model.specs.Seats.{Side}
 use Rattle.task_model.specs.Accounts.{Account, Pick}
-use Rattle.master_duty.specs.declared.duty.Duty.{Duty}
+use Rattle.master_duty.specs.declared.stage.Met.{Met}
 use Rattle.master_duty.specs.Reply.{Reply}
 use Rattle.master_side.specs.declared.carried.Carried.{Carried}
 use Rattle.master_side.specs.declared.passing.Passing as Side
@@ -73,7 +73,7 @@ module _ {Q : Type 0} (x : Speech Body Q Reply) (acknowledged : Q → Bool) (mor
           by_passing c o d k (Some q) = refl
 
 -- the frame grows by another's datagram or by none
-pub has_more : {Q : Type 0} (lens : ℕ → Lens) (index : ℕ) (spot other : Spot) (station : ℕ) (stand : Stand) (out : OutLink (Option Mail)) (inn : InwardHalf) (duty : Option Duty) (carried : Carried) (under : Bool) (at : ℕ) (ds es : List Raw.Datagram) (l : Life Body Q Reply) →
+pub has_more : {Q : Type 0} (lens : ℕ → Lens) (index : ℕ) (spot other : Spot) (station : ℕ) (stand : Stand) (out : OutLink (Option Mail)) (inn : InwardHalf) (duty : Option Met) (carried : Carried) (under : Bool) (at : ℕ) (ds es : List Raw.Datagram) (l : Life Body Q Reply) →
     Hits lens other es → AreApart other spot → StopHas lens index spot station stand out inn duty carried under at ds l → StopHas lens index spot station stand out inn duty carried under at (ds ++ es) l
 has_more lens index spot other station stand out inn duty carried under at ds es l Hits.nothing a h = subst (λ z. StopHas lens index spot station stand out inn duty carried under at z l) (sym (nothing_more ds)) h
 has_more lens index spot other station stand out inn duty carried under at ds es l (Hits.gram s d g n w) a h = go (hits_apart lens spot other (d ∷ []) (Hits.gram s d g n w) a).0 h
@@ -93,7 +93,7 @@ planned_on lens spot station station' place place' start start' stand stand' out
 }
 
 -- the frame has none of a slave that it doesn't carry
-none_yet : {Q : Type 0} (lens : ℕ → Lens) (index : ℕ) (spot : Spot) (station : ℕ) (stand : Stand) (out : OutLink (Option Mail)) (inn : InwardHalf) (duty : Option Duty) (carried : Carried) (under : Bool) (at : ℕ) (ds : List Raw.Datagram) (l : Life Body Q Reply) →
+none_yet : {Q : Type 0} (lens : ℕ → Lens) (index : ℕ) (spot : Spot) (station : ℕ) (stand : Stand) (out : OutLink (Option Mail)) (inn : InwardHalf) (duty : Option Met) (carried : Carried) (under : Bool) (at : ℕ) (ds : List Raw.Datagram) (l : Life Body Q Reply) →
     under ≡ false → StopHas lens index spot station stand out inn duty carried under at ds l → AllNotFor spot ds
 none_yet lens index spot station stand out inn duty carried under at ds l u (StopHas.none w n) = n
 none_yet lens index spot station stand out inn duty carried under at ds l u (StopHas.one w h m c) = absurd (let t = sym u ∙ w in cc)
@@ -108,7 +108,7 @@ pub record Visited (lens : ℕ → Lens) (P : List Raw.Datagram → Type 0) (spo
 
 module _ {Q : Type 0} (x : Speech Body Q Reply) (acknowledged : Q → Bool) (more : Body → Bool) (passed : Q → Bool) (made : ℕ) (lens : ℕ → Lens) (recover index : ℕ) where
   -- ANOTHER SLAVE stays as it is
-  pub made_other : (shows : Side Body Q Reply → Account Q Reply → Type 0) (station place start : ℕ) (stand : Stand) (spare : ℕ) (out : OutLink (Option Mail)) (inn : InwardHalf) (duty : Option Duty) (carried : Carried) (passing : Option Side.Passing) (under : Bool) (at : ℕ) (left next : List ℕ) (begun now : ℕ → Option (Service Q)) (ds es : List Raw.Datagram) (i : ℕ) (a : Lived Q Reply) (other : Spot) →
+  pub made_other : (shows : Side Body Q Reply → Account Q Reply → Type 0) (station place start : ℕ) (stand : Stand) (spare : ℕ) (out : OutLink (Option Mail)) (inn : InwardHalf) (duty : Option Met) (carried : Carried) (passing : Option Side.Passing) (under : Bool) (at : ℕ) (left next : List ℕ) (begun now : ℕ → Option (Service Q)) (ds es : List Raw.Datagram) (i : ℕ) (a : Lived Q Reply) (other : Spot) →
       now a.spot.place ≡ begun a.spot.place → ((k : ℕ) → is_in k next ≡ true → is_in k left ≡ true) → Hits lens other es → AreApart other a.spot →
       StopMade x acknowledged more passed made begun lens recover index shows station place start stand spare out inn duty carried passing under at left ds i a →
       StopMade x acknowledged more passed made now lens recover index shows station place start stand spare out inn duty carried passing under at next (ds ++ es) i a
@@ -126,7 +126,7 @@ module _ {Q : Type 0} (x : Speech Body Q Reply) (acknowledged : Q → Bool) (mor
   }
 
   -- ITS DATAGRAM IS LOOKED AT AHEAD: the next mail may be taken up, and nothing begins
-  pub made_ahead : (shows shows' : Side Body Q Reply → Account Q Reply → Type 0) (station station' place place' start start' : ℕ) (stand stand' : Stand) (spare spare' : ℕ) (out out' : OutLink (Option Mail)) (inn inn' : InwardHalf) (duty duty' : Option Duty) (carried carried' : Carried) (passing passing' : Option Side.Passing) (under under' : Bool) (at at' : ℕ)
+  pub made_ahead : (shows shows' : Side Body Q Reply → Account Q Reply → Type 0) (station station' place place' start start' : ℕ) (stand stand' : Stand) (spare spare' : ℕ) (out out' : OutLink (Option Mail)) (inn inn' : InwardHalf) (duty duty' : Option Met) (carried carried' : Carried) (passing passing' : Option Side.Passing) (under under' : Bool) (at at' : ℕ)
       (left : List ℕ) (begun : ℕ → Option (Service Q)) (ds : List Raw.Datagram) (i : ℕ) (a : Lived Q Reply) → station' ≡ station → place' ≡ place → start' ≡ start → stand' ≡ stand → out'.len ≡ out.len → in_area_len inn' ≡ in_area_len inn → passing' ≡ passing → under' ≡ under → is_in i left ≡ true →
       (m : StopMade x acknowledged more passed made begun lens recover index shows station place start stand spare out inn duty carried passing under at left ds i a) → HoldShows x acknowledged more passed made m.life (StopShows shows' recover a.spot stand' spare') →
       StopMade x acknowledged more passed made begun lens recover index shows' station' place' start' stand' spare' out' inn' duty' carried' passing' under' at' left ds i a
@@ -147,7 +147,7 @@ module _ {Q : Type 0} (x : Speech Body Q Reply) (acknowledged : Q → Bool) (mor
       }
 
   -- IT IS VISITED: a service comes into hand, where one may, and its datagram stands next, if there is room for it
-  pub made_visit : (shows shows' : Side Body Q Reply → Account Q Reply → Type 0) (station station' place place' start start' : ℕ) (stand stand' : Stand) (spare spare' : ℕ) (out out' : OutLink (Option Mail)) (inn inn' : InwardHalf) (duty duty' : Option Duty) (carried carried' : Carried) (passing passing' : Option Side.Passing) (under under' : Bool) (at at' : ℕ)
+  pub made_visit : (shows shows' : Side Body Q Reply → Account Q Reply → Type 0) (station station' place place' start start' : ℕ) (stand stand' : Stand) (spare spare' : ℕ) (out out' : OutLink (Option Mail)) (inn inn' : InwardHalf) (duty duty' : Option Met) (carried carried' : Carried) (passing passing' : Option Side.Passing) (under under' : Bool) (at at' : ℕ)
       (left next : List ℕ) (begun now : ℕ → Option (Service Q)) (begin : Option (Service Q)) (ds : List Raw.Datagram) (i : ℕ) (a : Lived Q Reply) → ComesAt begun now place begin → station' ≡ station → place' ≡ place → start' ≡ start → stand' ≡ stand → out'.len ≡ out.len → in_area_len inn' ≡ in_area_len inn → out'.station ≡ station' → in_station inn' ≡ station' → nat_le 1 station' ≡ true → nat_lt place' 16 ≡ true →
       (under' ≡ true → at' ≡ length ds) → (under' ≡ true → IsClearFor stand' carried' inn') → is_in i left ≡ true → is_in i next ≡ false →
       (m : StopMade x acknowledged more passed made begun lens recover index shows station place start stand spare out inn duty carried passing under at left ds i a) →
@@ -210,7 +210,7 @@ module _ {Q : Type 0} (x : Speech Body Q Reply) (acknowledged : Q → Bool) (mor
           }
 
 -- BEFORE ANY VISIT of a frame a slave has no datagram in it
-pub made_first : {Q : Type 0} (x : Speech Body Q Reply) (acknowledged : Q → Bool) (more : Body → Bool) (passed : Q → Bool) (made : ℕ) (lens : ℕ → Lens) (recover index : ℕ) (shows : Side Body Q Reply → Account Q Reply → Type 0) (station place start : ℕ) (stand : Stand) (spare : ℕ) (out : OutLink (Option Mail)) (inn : InwardHalf) (duty : Option Duty) (carried : Carried) (passing : Option Side.Passing) (under : Bool) (at : ℕ) (left : List ℕ) (begun : ℕ → Option (Service Q)) (i : ℕ) (a : Lived Q Reply) →
+pub made_first : {Q : Type 0} (x : Speech Body Q Reply) (acknowledged : Q → Bool) (more : Body → Bool) (passed : Q → Bool) (made : ℕ) (lens : ℕ → Lens) (recover index : ℕ) (shows : Side Body Q Reply → Account Q Reply → Type 0) (station place start : ℕ) (stand : Stand) (spare : ℕ) (out : OutLink (Option Mail)) (inn : InwardHalf) (duty : Option Met) (carried : Carried) (passing : Option Side.Passing) (under : Bool) (at : ℕ) (left : List ℕ) (begun : ℕ → Option (Service Q)) (i : ℕ) (a : Lived Q Reply) →
     ((k : ℕ) → begun k ≡ None) → under ≡ false → is_some a.life.era.passing ≡ is_some passing → StopLives lens recover shows station place start stand spare out.len (in_area_len inn) a → StopMade x acknowledged more passed made begun lens recover index shows station place start stand spare out inn duty carried passing under at left [] i a
 made_first x acknowledged more passed made lens recover index shows station place start stand spare out inn duty carried passing under at left begun i a n u w v = record {
   life = a.life;

@@ -21,7 +21,7 @@ use Rattle.segment_model.specs.Record.{is_for}
 use Rattle.segment_model.specs.Seats.{Side}
 use Rattle.state_exchange.specs.Stated.{Service}
 use Rattle.task_model.specs.Accounts.{Account, IsServed, is_quiet, duty_access}
-use Rattle.master_duty.specs.declared.duty.Duty.{Duty}
+use Rattle.master_duty.specs.declared.stage.Met.{Met}
 use Rattle.master_duty.specs.Reply.{Reply}
 use Rattle.master_side.specs.declared.carried.Carried.{Carried}
 use Rattle.master_side.specs.declared.passing.Passing.{Passing}
@@ -122,7 +122,7 @@ at_one : (lens : ℕ → Lens) (spot : Spot) (at : ℕ) (d : Raw.Datagram) (ds :
 at_one lens spot at d ds h =
     subst (λ n. IsAt n (datagrams_seen lens ds) (datagram_seen lens d)) h.place (subst (λ z. IsAt (length h.front) (datagrams_seen lens z) (datagram_seen lens d)) (sym h.split) (at_front lens h.front h.behind d))
 
-pub way_of : {Q : Type 0} (lens : ℕ → Lens) (index : ℕ) (spot : Spot) (station : ℕ) (stand : Stand) (out : OutLink (Option Mail)) (inn : InwardHalf) (duty : Option Duty) (carried : Carried) (under : Bool) (at : ℕ) (ds : List Raw.Datagram) (l : Life Body Q Reply) →
+pub way_of : {Q : Type 0} (lens : ℕ → Lens) (index : ℕ) (spot : Spot) (station : ℕ) (stand : Stand) (out : OutLink (Option Mail)) (inn : InwardHalf) (duty : Option Met) (carried : Carried) (under : Bool) (at : ℕ) (ds : List Raw.Datagram) (l : Life Body Q Reply) →
     station ≡ spot.station → (0 == spot.station) ≡ false → StopHas lens index spot station stand out inn duty carried under at ds l → StandUnder lens station at under carried stand l (datagrams_seen lens ds)
 way_of lens index spot station (Stand.Opening up) out inn duty carried under at ds l e z (StopHas.none u n) = OpensUnder.none u
 way_of lens index spot station (Stand.Opening up) out inn duty carried under at ds l e z (StopHas.one u h m c) = OpensUnder.has index _ u (at_one lens spot at _ ds h) m
@@ -155,7 +155,7 @@ seen_counter lens d e = counter_zero (datagram_seen lens d).gram.ask d.head.coun
 seen_found : (lens : ℕ → Lens) (d : Raw.Datagram) → d.head.counter ≡ 0 → (datagram_seen lens d).found ≡ None
 seen_found lens d e = found_none (datagram_seen lens d).access d.head.counter d.body e
 
-module _ {Q : Type 0} (lens : ℕ → Lens) (recover index : ℕ) (shows : Side Body Q Reply → Account Q Reply → Type 0) (station place start : ℕ) (spare : ℕ) (out : OutLink (Option Mail)) (inn : InwardHalf) (duty : Option Duty) (carried : Carried) (under : Bool) (at : ℕ) (ds : List Raw.Datagram) (spot : Spot) (l : Life Body Q Reply)
+module _ {Q : Type 0} (lens : ℕ → Lens) (recover index : ℕ) (shows : Side Body Q Reply → Account Q Reply → Type 0) (station place start : ℕ) (spare : ℕ) (out : OutLink (Option Mail)) (inn : InwardHalf) (duty : Option Met) (carried : Carried) (under : Bool) (at : ℕ) (ds : List Raw.Datagram) (spot : Spot) (l : Life Body Q Reply)
     (same : (d : Side Body Q Reply) (k : Account Q Reply) → shows d k → d.halves.inn ≡ in_half_of inn) (os : out.station ≡ station) (is : in_station inn ≡ station) where
   asks_of : (stand : Stand) → StopLives lens recover shows station place start stand spare out.len (in_area_len inn) (record { spot = spot; life = l }) → StopHas lens index spot station stand out inn duty carried under at ds l → l.stand ≡ Lives.Stand.Open → AsksOpen spot.station l.era (datagrams_seen lens ds)
   asks_of (Stand.Opening up) v h o = absurd (let t = sym v.shown.stood.stand ∙ o in cc)
@@ -175,7 +175,7 @@ module _ {Q : Type 0} (lens : ℕ → Lens) (recover index : ℕ) (shows : Side 
   frame_of stand v (StopHas.one u h m c) = FrameFor.one u (stand_gram station index stand out inn duty carried) h (gram_for lens recover index shows station place start stand spare out inn duty carried spot l v os is m)
 
 -- THE SLAVE, once the frame is made
-pub stop_sent : {Q : Type 0} (x : Speech Body Q Reply) (acknowledged : Q → Bool) (more : Body → Bool) (passed : Q → Bool) (made : ℕ) (lens : ℕ → Lens) (recover index : ℕ) (shows : Side Body Q Reply → Account Q Reply → Type 0) (station place start : ℕ) (stand : Stand) (spare : ℕ) (out : OutLink (Option Mail)) (inn : InwardHalf) (duty : Option Duty) (carried : Carried) (passing : Option Passing) (under : Bool) (at : ℕ) (left : List ℕ) (begun : ℕ → Option (Service Q)) (ds : List Raw.Datagram) (i : ℕ) (a : Lived Q Reply) →
+pub stop_sent : {Q : Type 0} (x : Speech Body Q Reply) (acknowledged : Q → Bool) (more : Body → Bool) (passed : Q → Bool) (made : ℕ) (lens : ℕ → Lens) (recover index : ℕ) (shows : Side Body Q Reply → Account Q Reply → Type 0) (station place start : ℕ) (stand : Stand) (spare : ℕ) (out : OutLink (Option Mail)) (inn : InwardHalf) (duty : Option Met) (carried : Carried) (passing : Option Passing) (under : Bool) (at : ℕ) (left : List ℕ) (begun : ℕ → Option (Service Q)) (ds : List Raw.Datagram) (i : ℕ) (a : Lived Q Reply) →
     ((d : Side Body Q Reply) (k : Account Q Reply) → shows d k → d.halves.inn ≡ in_half_of inn) → out.station ≡ station → in_station inn ≡ station → nat_le 1 station ≡ true → StopMade x acknowledged more passed made begun lens recover index shows station place start stand spare out inn duty carried passing under at left ds i a →
     (b : Lived Q Reply) × StopSent x acknowledged more passed made begun lens recover shows station place start stand spare out.len (in_area_len inn) carried under at ds a b
 stop_sent x acknowledged more passed made lens recover index shows station place start stand spare out inn duty carried passing under at left begun ds i a same os is named m =

@@ -27,7 +27,7 @@ use Rattle.master_side.specs.Shown.{SideShows}
 use Rattle.mailbox_mail.specs.declared.mail.Mail.{Mail}
 use Rattle.mailbox_master.specs.Links.{OutLink}
 use Rattle.mailbox_master.specs.declared.halves.InwardHalf.{InwardHalf}
-use Rattle.master_duty.specs.declared.duty.Duty.{Duty}
+use Rattle.master_duty.specs.declared.stage.Met.{Met}
 use Rattle.segment_model.specs.Returned.{Returns, IsReturn}
 use Rattle.master_tour.specs.Under.{Grams, mine, IsAt, Under}
 
@@ -285,6 +285,21 @@ status_whole lens Armw ado octets e = absurd (cc)
 status_whole lens Frmw ado octets e = absurd (cc)
 status_whole lens (Other n) ado octets e = absurd (cc)
 
+-- frames with the same datagrams of a slave bring it the same mails
+pub accepted_as : (station : ℕ) (ds es : Grams) (h : Halves Body) → mine station ds ≡ mine station es → all_accepted station h (grams ds) ≡ all_accepted station h (grams es)
+accepted_as station ds es h e = accepted_own station h (grams ds) ∙ ap (accept_all h) (own_as station ds es e) ∙ sym (accepted_own station h (grams es))
+
+-- what its datagram brought that came back
+pub has_accepted : (P : List Body → Type 0) (station at : ℕ) (under : Bool) (carried : Carried) (due : Option Access) (lens : ℕ → Lens) (octets body : List ℕ) (ps : List Part) (p z : Part) (back : Grams) (h : Halves Body) →
+    under ≡ true → p ≡ get_or ps at z → body ≡ take p.head.len (drop (p.at + 10) octets) → back ≡ map (part_seen lens octets) ps → Under station at under carried h due back →
+    ((b : Datagram Body) → Meant station carried h due b → IsBack p.head.counter body b → P (all_accepted station h (grams (one b)))) → P (all_accepted station h (grams back))
+has_accepted P station at under carried due lens octets body ps p z back h is g o e (Under.none k n) f = absurd (let t = sym k ∙ is in cc)
+has_accepted P station at under carried due lens octets body ps p z back h is g o e (Under.has b u i n m) f =
+    let same : b ≡ part_seen lens octets p = at_map (part_seen lens octets) at ps z b (subst (λ z. IsAt at z b) e i) ∙ ap (part_seen lens octets) (sym g) in
+    let came : IsBack p.head.counter (take p.head.len (drop (p.at + 10) octets)) (part_seen lens octets p) = record { counted = refl; mail = refl; acknowledge = refl; registers = refl; found = refl; whole = status_whole (lens (station_of p.head.command p.head.adp)) p.head.command p.head.ado (take p.head.len (drop (p.at + 10) octets)) } in
+    subst P (sym (accepted_as station back (one b) h (n ∙ sym (one_mine station b m.station_is))))
+    (f b m (subst (λ z. IsBack p.head.counter z b) (sym o) (subst (λ (z : Datagram Body). IsBack p.head.counter (take p.head.len (drop (p.at + 10) octets)) z) (sym same) came)))
+
 module _ {Q : Type 0} (sp : Speech Body Q Reply) where
   abbrev pub Rows : Type 0
   Rows = Option (Row Body Q Reply)
@@ -321,12 +336,12 @@ module _ {Q : Type 0} (sp : Speech Body Q Reply) where
   account_as station made a ds es b c e = account_mine station made a ds b ∙ ap (account_back station made a) e ∙ sym (account_mine station made a es c)
 
   -- nothing of a slave came back
-  pub none_back : (shows : Rows → Type 0) (out : OutLink (Option Mail)) (inn : InwardHalf) (fresh : Bool) (duty : Option Duty) (d : Side Body Q Reply) (a : Account Q Reply) (made station : ℕ) (back : Grams) → SameAim station back →
+  pub none_back : (shows : Rows → Type 0) (out : OutLink (Option Mail)) (inn : InwardHalf) (fresh : Bool) (duty : Option Met) (d : Side Body Q Reply) (a : Account Q Reply) (made station : ℕ) (back : Grams) → SameAim station back →
       ((h : Rows) → shows h → shows (option_map (λ r. row_heard sp made [] r) h)) → mine station back ≡ [] → SideShows shows out inn fresh duty d a → SideShows shows out inn fresh duty (side_back sp made station back d) (account_back station made a back)
   none_back shows out inn fresh duty d a made station back b quiet e s =
       subst (λ (z : Side Body Q Reply). SideShows shows out inn fresh duty z (account_back station made a back)) (sym (back_as made station back [] d e))
       (subst (λ (z : Account Q Reply). SideShows shows out inn fresh duty (side_back sp made station [] d) z) (sym (account_as station made a back [] b tt e))
-      (record { halves = s.halves; unsent = still d.fresh ∙ s.unsent; row = quiet d.now s.row; state = s.state }))
+      (record { halves = s.halves; unsent = still d.fresh ∙ s.unsent; row = quiet d.now s.row; state = s.state; over = s.over }))
     where
       still : (f : Bool) → f && true ≡ f
       still true = refl
@@ -347,11 +362,11 @@ module _ {Q : Type 0} (sp : Speech Body Q Reply) where
       (f b m (subst (λ z. IsBack p.head.counter z b) (sym o) (subst (λ (z : Datagram Body). IsBack p.head.counter (take p.head.len (drop (p.at + 10) octets)) z) (sym same) came))))
 
   -- nothing of it was lost
-  pub none_lost : (shows : Rows → Type 0) (out : OutLink (Option Mail)) (inn : InwardHalf) (fresh : Bool) (duty : Option Duty) (d : Side Body Q Reply) (a : Account Q Reply) (station : ℕ) (sent : Grams) → mine station sent ≡ [] →
+  pub none_lost : (shows : Rows → Type 0) (out : OutLink (Option Mail)) (inn : InwardHalf) (fresh : Bool) (duty : Option Met) (d : Side Body Q Reply) (a : Account Q Reply) (station : ℕ) (sent : Grams) → mine station sent ≡ [] →
       SideShows shows out inn fresh duty d a → SideShows shows out inn fresh duty (side_lost station sent d) a
   none_lost shows out inn fresh duty d a station sent e s =
       subst (λ (z : Side Body Q Reply). SideShows shows out inn fresh duty z a) (sym (lost_as station sent [] d e))
-      (record { halves = s.halves; unsent = still d.fresh ∙ s.unsent; row = s.row; state = s.state })
+      (record { halves = s.halves; unsent = still d.fresh ∙ s.unsent; row = s.row; state = s.state; over = s.over })
     where
       still : (f : Bool) → f && true ≡ f
       still true = refl

@@ -13,12 +13,12 @@ use Rattle.mailbox_master.specs.declared.halves.InwardHalf.{InwardHalf}
 use Rattle.mailbox_master.specs.Links.{OutLink}
 use Rattle.mailbox_master.specs.Any.{in_half_of}
 use Rattle.mailbox_master.specs.Seat.{seat_half}
-use Rattle.master_duty.specs.declared.duty.Duty.{Duty}
+use Rattle.master_duty.specs.declared.stage.Met.{Met}
 use Rattle.master_duty.specs.Reply.{Reply}
 use Rattle.master_side.specs.declared.carried.Carried.{Carried}
-use Rattle.master_side.specs.Carried.{Meant}
+use Rattle.master_side.specs.Carried.{Meant, in_hand}
 use Rattle.master_side.specs.Sent.{SameSide, visit_gram}
-use Rattle.master_side.specs.Shown.{SideShows, DutyShows, Picked, Holds}
+use Rattle.master_side.specs.Shown.{SideShows, DutyShows, OverShows, Picked, Holds}
 use Rattle.std.specs.Prelude.{Some, None, true, false, is_some}
 use Rattle.std.proofs.Common.{ap, refl}
 use Rattle.segment_model.specs.Seats.{side_next}
@@ -34,16 +34,17 @@ pub picked_map : {Q : Type 0} (x : Speech Body Q Reply) (acknowledged : Q → Bo
     Picked x acknowledged made d a begin X → ((e : Side Body Q Reply) (b : Account Q Reply) → X e b → Y e b) → Picked x acknowledged made d a begin Y
 picked_map x acknowledged made d a begin X Y p h = record { hold = p.hold; shown = h _ _ p.shown; took = p.took }
 
-pub same_shown : {Q : Type 0} (shows new : Option (Row Body Q Reply) → Type 0) (out out' : OutLink (Option Mail)) (inn inn' : InwardHalf) (fresh fresh' : Bool) (duty duty' : Option Duty) (d : Side Body Q Reply) (a : Account Q Reply) →
+pub same_shown : {Q : Type 0} (shows new : Option (Row Body Q Reply) → Type 0) (out out' : OutLink (Option Mail)) (inn inn' : InwardHalf) (fresh fresh' : Bool) (duty duty' : Option Met) (d : Side Body Q Reply) (a : Account Q Reply) →
     SameSide out inn fresh duty out' inn' fresh' duty' → ((now : Option (Row Body Q Reply)) → shows now → new now) → SideShows shows out inn fresh duty d a → SideShows new out' inn' fresh' duty' d a
 same_shown shows new out out' inn inn' fresh fresh' duty duty' d a k h s = record {
   halves = s.halves ∙ (λ j. record { out = seat_half ((sym k.out_is) j); inn = in_half_of ((sym k.in_is) j) });
   unsent = s.unsent ∙ sym k.fresh_is;
   row = h d.now s.row;
-  state = subst (λ (z : Option Duty). DutyShows z a.hand) (sym k.duty_is) s.state;
+  state = subst (λ (z : Option Met). DutyShows (in_hand z) a.hand) (sym k.duty_is) s.state;
+  over = subst (λ (z : Option Met). OverShows z a.over) (sym k.duty_is) s.over;
 }
 
-pub same_meant : (lens : ℕ → Lens) (index : ℕ) (out out' : OutLink (Option Mail)) (inn inn' : InwardHalf) (fresh fresh' : Bool) (duty duty' : Option Duty) (station station' first : ℕ) (carried : Carried) (h : Halves Body) (due : Option Access) →
+pub same_meant : (lens : ℕ → Lens) (index : ℕ) (out out' : OutLink (Option Mail)) (inn inn' : InwardHalf) (fresh fresh' : Bool) (duty duty' : Option Met) (station station' first : ℕ) (carried : Carried) (h : Halves Body) (due : Option Access) →
     SameSide out inn fresh duty out' inn' fresh' duty' → station' ≡ station → station ≡ first → Meant station carried h due (datagram_seen lens (visit_gram station index out inn duty carried)) → Meant first carried h due (datagram_seen lens (visit_gram station' index out' inn' duty' carried))
 same_meant lens index out out' inn inn' fresh fresh' duty duty' station station' first carried h due k s t m =
     subst (λ n. Meant n carried h due (datagram_seen lens (visit_gram station' index out' inn' duty' carried))) t

@@ -3,5 +3,6 @@ pub mod Walks
 pub mod Cursor
 pub mod Stands
 pub mod Made
+pub mod Brings
 pub mod Orders
 pub mod Goes

@@ -15,7 +15,7 @@ use Rattle.mailbox_mail.specs.declared.mail.Mail.{Mail}
 use Rattle.mailbox_master.specs.declared.halves.InwardHalf.{InwardHalf}
 use Rattle.mailbox_master.specs.Links.{OutLink}
 use Rattle.mailbox_master.specs.Any.{in_half_of, in_area_len}
-use Rattle.master_duty.specs.declared.duty.Duty.{Duty}
+use Rattle.master_duty.specs.declared.stage.Met.{Met}
 use Rattle.master_duty.specs.Reply.{Reply}
 use Rattle.master_side.specs.declared.carried.Carried.{Carried}
 use Rattle.master_side.specs.declared.passing.Passing.{Passing}
@@ -49,7 +49,7 @@ abbrev pub IsClearFor : Stand → Carried → InwardHalf → Type 0
 IsClearFor stand carried inn = stand ≡ Stand.Open → carried ≡ Carried.Full → (in_half_of inn).state ≡ InState.Clear
 
 -- what a frame that is made has of a slave so far: nothing, or the datagram of its visit, at this place
-pub data StopHas {Q : Type 0} (lens : ℕ → Lens) (index : ℕ) (spot : Spot) (station : ℕ) (stand : Stand) (out : OutLink (Option Mail)) (inn : InwardHalf) (duty : Option Duty) (carried : Carried) (under : Bool) (at : ℕ) (ds : List Raw.Datagram) (l : Life Body Q Reply) : Type 0 where
+pub data StopHas {Q : Type 0} (lens : ℕ → Lens) (index : ℕ) (spot : Spot) (station : ℕ) (stand : Stand) (out : OutLink (Option Mail)) (inn : InwardHalf) (duty : Option Met) (carried : Carried) (under : Bool) (at : ℕ) (ds : List Raw.Datagram) (l : Life Body Q Reply) : Type 0 where
   none : under ≡ false → AllNotFor spot ds → StopHas lens index spot station stand out inn duty carried under at ds l
   one : under ≡ true → HasOne spot at (stand_gram station index stand out inn duty carried) ds → StandMeant lens station index carried stand l (datagram_seen lens (stand_gram station index stand out inn duty carried)) →
       IsClearFor stand carried inn → StopHas lens index spot station stand out inn duty carried under at ds l
@@ -67,7 +67,7 @@ pub record ComesAt {Q : Type 0} (old new : ℕ → Option (Service Q)) (place : 
 -- THE SLAVE WHILE A FRAME IS MADE, at its place: its life before the frame, by a choice. As long as its visit is still to come no service begins
 -- by that, and the frame has none of it; `left` are the places whose visit is, and `begun` says what came into hand, by places
 pub record StopMade {Q : Type 0} (x : Speech Body Q Reply) (acknowledged : Q → Bool) (more : Body → Bool) (passed : Q → Bool) (made : ℕ) (begun : ℕ → Option (Service Q)) (lens : ℕ → Lens) (recover index : ℕ) (shows : Side Body Q Reply → Account Q Reply → Type 0)
-    (station place start : ℕ) (stand : Stand) (spare : ℕ) (out : OutLink (Option Mail)) (inn : InwardHalf) (duty : Option Duty) (carried : Carried) (passing : Option Passing) (under : Bool) (at : ℕ) (left : List ℕ) (ds : List Raw.Datagram) (i : ℕ) (a : Lived Q Reply) : Type 0 where
+    (station place start : ℕ) (stand : Stand) (spare : ℕ) (out : OutLink (Option Mail)) (inn : InwardHalf) (duty : Option Met) (carried : Carried) (passing : Option Passing) (under : Bool) (at : ℕ) (left : List ℕ) (ds : List Raw.Datagram) (i : ℕ) (a : Lived Q Reply) : Type 0 where
   pub life : Life Body Q Reply
   pub pick : Pick Q
   pub next : life ≡ life_next x acknowledged more passed made a.life a.life.stand pick

@@ -15,7 +15,7 @@ use Rattle.datagrams.specs.Datagram as Raw
 use Rattle.mailbox_mail.specs.declared.mail.Mail.{Mail}
 use Rattle.mailbox_master.specs.declared.halves.InwardHalf.{InwardHalf}
 use Rattle.mailbox_master.specs.Links.{OutLink}
-use Rattle.master_duty.specs.declared.duty.Duty.{Duty}
+use Rattle.master_duty.specs.declared.stage.Met.{Met}
 use Rattle.master_side.specs.Carried.{Meant}
 use Rattle.master_side.specs.Sent.{visit_gram, no_gram}
 use Rattle.master_side.specs.Shown.{started_by}
@@ -131,7 +131,7 @@ pub record IsMet (up : BringUp) (counter : ℕ) (body : List ℕ) (came : Bool �
   pub whole : is_reading up.step ≡ true → length body ≡ 6
 
 -- the datagram of a slave's visit, by its stand
-abbrev pub stand_gram : ℕ → ℕ → Stand → OutLink (Option Mail) → InwardHalf → Option Duty → Carried → Raw.Datagram
+abbrev pub stand_gram : ℕ → ℕ → Stand → OutLink (Option Mail) → InwardHalf → Option Met → Carried → Raw.Datagram
 stand_gram station index (Stand.Opening up) out inn duty carried = datagram_of (head_of up index) (octets_of up)
 stand_gram station index Stand.Open out inn duty carried = visit_gram station index out inn duty carried
 stand_gram station index Stand.Gone out inn duty carried = no_gram

@@ -115,7 +115,10 @@ impl<H: Hand> Stop<H> {
     ghost use Rattle.datagrams.specs.Frame.{IsPart, IsBegun, IsFrame};
     ghost use Rattle.exchange_model.specs.Exchange.{Speech};
     ghost use Rattle.link_mails.specs.Body.{Body};
-    ghost use Rattle.segment_model.specs.Slaves.{Datagram};
+    ghost use Rattle.segment_model.specs.Slaves.{Datagram, grams};
+    ghost use Rattle.link_model.specs.Frames.{all_accepted};
+    ghost use Rattle.master_side.specs.Heard.{Brought};
+    ghost use Rattle.master_tour.specs.Brings.{accepted_in};
     ghost use Rattle.segment_model.specs.Seats as Seats;
     ghost use Rattle.task_model.specs.Accounts.{Account, duty_access, account_back};
     ghost use Rattle.frame_view.specs.View.{Lens, datagram_seen};
@@ -174,6 +177,10 @@ impl<H: Hand> Stop<H> {
         ensures stand { self.new.stand ≡ self.old.stand }
         ensures script { H.script self.new.side.hand ≡ H.script self.old.side.hand }
         ensures unpassed { self.old.side.passing ≡ None → self.new.side.passing ≡ None }
+        ensures brought { self.old.side.heard ≡ None → (x : Speech Body H.Asked Reply) (lens : ℕ → Lens) (back : List (Datagram Body)) (d : Seats.Side Body H.Asked Reply) (a : Account H.Asked Reply) → back ≡ seen lens octets.now →
+            SideShows (H.shows self.old.side.hand x) self.old.side.out self.old.side.inn self.old.side.fresh self.old.side.duty d a →
+            Under self.old.side.station self.old.at self.old.under self.old.side.carried d.halves (duty_access a.hand) back →
+            Brought (H.brings self.new.side.hand) self.new.side.heard (all_accepted self.old.side.station d.halves (grams back)) }
     {
         if !self.under {
             return;
@@ -214,6 +221,7 @@ impl<H: Hand> Stop<H> {
         ensures link { SameLink self.old.side.out self.old.side.inn self.old.side.station self.old.side.area self.new.side.out self.new.side.inn self.new.side.station self.new.side.area }
         ensures script { H.script self.new.side.hand ≡ H.script self.old.side.hand }
         ensures unpassed { self.old.side.passing ≡ None → self.new.side.passing ≡ None }
+        ensures heard { self.new.side.heard ≡ self.old.side.heard }
     {
         if is_cleared {
             self.side.renew();
@@ -231,6 +239,7 @@ impl<H: Hand> Stop<H> {
         ensures sized { IsSized (Stand.Opening up) self.old.side.out.len (in_area_len self.old.side.inn) → IsSized self.new.stand self.new.side.out.len (in_area_len self.new.side.inn) }
         ensures script { H.script self.new.side.hand ≡ H.script self.old.side.hand }
         ensures unpassed { self.old.side.passing ≡ None → self.new.side.passing ≡ None }
+        ensures heard { self.new.side.heard ≡ self.old.side.heard }
     {
         let mut next = up;
         let is_up = came_back(&mut next, counter, body);
@@ -254,6 +263,7 @@ impl<H: Hand> Stop<H> {
         ensures sized { self.old.stand ≡ Stand.Opening up → IsSized self.old.stand self.old.side.out.len (in_area_len self.old.side.inn) → IsSized self.new.stand self.new.side.out.len (in_area_len self.new.side.inn) }
         ensures script { H.script self.new.side.hand ≡ H.script self.old.side.hand }
         ensures unpassed { self.old.side.passing ≡ None → self.new.side.passing ≡ None }
+        ensures heard { self.new.side.heard ≡ self.old.side.heard }
     {
         if !self.under {
             return;
@@ -272,7 +282,7 @@ impl<H: Hand> Stop<H> {
         ensures kept { (self.new.place ≡ self.old.place) × (self.new.start ≡ self.old.start) × (self.new.spare ≡ self.old.spare) × (self.new.news ≡ self.old.news) }
         ensures sized { IsSized self.old.stand self.old.side.out.len (in_area_len self.old.side.inn) → IsSized self.new.stand self.new.side.out.len (in_area_len self.new.side.inn) }
     {
-        let Some(duty) = self.side.duty else {
+        let Some(duty) = self.side.state_in_hand() else {
             return;
         };
         if let Some(state) = duty.reopens() {
@@ -308,6 +318,9 @@ impl<H: Hand> Stop<H> {
         ensures sized { IsSized self.old.stand self.old.side.out.len (in_area_len self.old.side.inn) → IsSized self.new.stand self.new.side.out.len (in_area_len self.new.side.inn) }
         ensures script { H.script self.new.side.hand ≡ H.script self.old.side.hand }
         ensures unpassed { self.old.side.passing ≡ None → self.new.side.passing ≡ None }
+        ensures brought { self.old.stand ≡ Stand.Open → self.old.side.heard ≡ None → (x : Speech Body H.Asked Reply) (recover : ℕ) (spot : Spot) (lens : ℕ → Lens) (sent : List (Datagram Body)) (l : Life Body H.Asked Reply) →
+            IsSpot spot self.old.side.station self.old.place self.old.start → Returns sent (seen lens octets.now) → StandUnder lens self.old.side.station self.old.at self.old.under self.old.side.carried self.old.stand l sent → StopShows (λ d a. SideShows (H.shows self.old.side.hand x) self.old.side.out self.old.side.inn self.old.side.fresh self.old.side.duty d a) recover spot self.old.stand self.old.spare l →
+            Brought (H.brings self.new.side.hand) self.new.side.heard (accepted_in spot l (seen lens octets.now)) }
     {
         self.open_back(cursor, octets, made);
         self.reopen();
@@ -327,8 +340,12 @@ impl<H: Hand> Stop<H> {
         ensures sized { IsSized self.old.stand self.old.side.out.len (in_area_len self.old.side.inn) → IsSized self.new.stand self.new.side.out.len (in_area_len self.new.side.inn) }
         ensures script { H.script self.new.side.hand ≡ H.script self.old.side.hand }
         ensures unpassed { self.old.side.passing ≡ None → self.new.side.passing ≡ None }
+        ensures brought { (x : Speech Body H.Asked Reply) (recover : ℕ) (spot : Spot) (lens : ℕ → Lens) (sent : List (Datagram Body)) (l : Life Body H.Asked Reply) →
+            IsSpot spot self.old.side.station self.old.place self.old.start → Returns sent (seen lens octets.now) → StandUnder lens self.old.side.station self.old.at self.old.under self.old.side.carried self.old.stand l sent → StopShows (λ d a. SideShows (H.shows self.old.side.hand x) self.old.side.out self.old.side.inn self.old.side.fresh self.old.side.duty d a) recover spot self.old.stand self.old.spare l →
+            Brought (H.brings self.new.side.hand) self.new.side.heard (accepted_in spot l (seen lens octets.now)) }
     {
         self.news = None;
+        self.side.heard = None;
         match self.stand {
             Stand::Gone => {}
             Stand::Opening(up) => self.opening_back(up, cursor, octets),

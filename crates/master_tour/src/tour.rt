@@ -54,6 +54,8 @@ impl<H: Hand> Tour<H> {
     ghost use Rattle.master_tour.specs.Orders.{start_of, place_in, round_left, visits_left, AreOnce, IsNextOf, IsCarried};
     ghost use Rattle.life_frames.specs.Shares.{Lived, AllBoth, AllThree, AreDistinct, lived_back, lived_lost};
     ghost use Rattle.master_side.specs.Sent.{SameLink};
+    ghost use Rattle.master_side.specs.Heard.{Brought};
+    ghost use Rattle.master_tour.specs.Brings.{accepted_in};
     ghost use Rattle.master_tour.specs.Made.{StopLives, StopMade, StopSent, FrameMade, FrameSent, ComesAt, IsClearFor, IsSized, is_in};
     ghost use Rattle.life_model.specs.Lives.{Life, Spot, life_back, life_lost};
     ghost use Rattle.segment_model.specs.Record.{News};
@@ -73,6 +75,9 @@ impl<H: Hand> Tour<H> {
         ensures kept { EachPair (λ s t. SameLink s.side.out s.side.inn s.side.station s.side.area t.side.out t.side.inn t.side.station t.side.area × (IsSized s.stand s.side.out.len (in_area_len s.side.inn) → IsSized t.stand t.side.out.len (in_area_len t.side.inn))) self.old.stops.items self.new.stops.items }
         ensures tour { (self.new.again ≡ self.old.again) × (self.new.visit ≡ self.old.visit) × (self.new.opened ≡ self.old.opened) × (self.new.last ≡ self.old.last) × (self.new.missed ≡ self.old.missed) × (self.new.retry ≡ self.old.retry) }
         ensures stays { EachPair (λ s t. (H.script t.side.hand ≡ H.script s.side.hand) × (s.side.passing ≡ None → t.side.passing ≡ None)) self.old.stops.items self.new.stops.items }
+        ensures brought { EachPair (λ s t. (lens : ℕ → Lens) (sent : List (Datagram Body)) → Returns sent (seen lens octets.now) → (x : Speech Body H.Asked Reply) (recover : ℕ) (spot : Spot) (l : Life Body H.Asked Reply) →
+            IsSpot spot s.side.station s.place s.start → StandUnder lens s.side.station s.at s.under s.side.carried s.stand l sent → StopShows (λ d a. SideShows (H.shows s.side.hand x) s.side.out s.side.inn s.side.fresh s.side.duty d a) recover spot s.stand s.spare l →
+            Brought (H.brings t.side.hand) t.side.heard (accepted_in spot l (seen lens octets.now))) self.old.stops.items self.new.stops.items }
     {
         let mut cursor = Cursor::new(octets);
         for i in 0..self.stops.len() {
@@ -382,6 +387,9 @@ impl<H: Hand> Tour<H> {
         ensures kept { EachPair (λ s t. SameLink s.side.out s.side.inn s.side.station s.side.area t.side.out t.side.inn t.side.station t.side.area × (IsSized s.stand s.side.out.len (in_area_len s.side.inn) → IsSized t.stand t.side.out.len (in_area_len t.side.inn))) self.old.stops.items self.new.stops.items }
         ensures tour { (self.new.again ≡ self.old.again) × (self.new.visit ≡ self.old.visit) × (self.new.opened ≡ self.old.opened) × (self.new.last ≡ self.old.last) × (self.new.missed ≡ self.old.missed) × (self.new.retry ≡ self.old.retry) }
         ensures stays { EachPair (λ s t. (H.script t.side.hand ≡ H.script s.side.hand) × (s.side.passing ≡ None → t.side.passing ≡ None)) self.old.stops.items self.new.stops.items }
+        ensures brought { (lens : ℕ → Lens) (sent : List (Datagram Body)) → Returns sent (seen lens frame.now.items) → 1 ≤ length sent → EachPair (λ s t. (x : Speech Body H.Asked Reply) (recover : ℕ) (spot : Spot) (l : Life Body H.Asked Reply) →
+            IsSpot spot s.side.station s.place s.start → StandUnder lens s.side.station s.at s.under s.side.carried s.stand l sent → StopShows (λ d a. SideShows (H.shows s.side.hand x) s.side.out s.side.inn s.side.fresh s.side.duty d a) recover spot s.stand s.spare l →
+            Brought (H.brings t.side.hand) t.side.heard (accepted_in spot l (seen lens frame.now.items))) self.old.stops.items self.new.stops.items }
     {
         let octets = frame.as_slice();
         if datagrams::fault(octets).is_none() {
@@ -402,6 +410,9 @@ impl<H: Hand> Tour<H> {
         ensures tour { (self.new.visit ≡ self.old.visit) × (self.new.again ≡ false) × (self.new.missed ≡ 0) × (self.new.retry ≡ self.old.retry) }
         ensures opened { self.new.opened ≡ opened_behind (λ s. is_opened s.stand) self.old.opened self.new.stops.items }
         ensures stays { EachPair (λ s t. (H.script t.side.hand ≡ H.script s.side.hand) × (s.side.passing ≡ None → t.side.passing ≡ None)) self.old.stops.items self.new.stops.items }
+        ensures brought { (lens : ℕ → Lens) (sent : List (Datagram Body)) → Returns sent (seen lens frame.now.items) → 1 ≤ length sent → EachPair (λ s t. (x : Speech Body H.Asked Reply) (recover : ℕ) (spot : Spot) (l : Life Body H.Asked Reply) →
+            IsSpot spot s.side.station s.place s.start → StandUnder lens s.side.station s.at s.under s.side.carried s.stand l sent → StopShows (λ d a. SideShows (H.shows s.side.hand x) s.side.out s.side.inn s.side.fresh s.side.duty d a) recover spot s.stand s.spare l →
+            Brought (H.brings t.side.hand) t.side.heard (accepted_in spot l (seen lens frame.now.items))) self.old.stops.items self.new.stops.items }
     {
         self.hear(frame, made);
         let last = self.last_behind();

@@ -1,4 +1,6 @@
 mod Unopened
 mod Reported
 mod Rounds
+mod Unsent
+mod Epochs
 mod Overs

@@ -2,15 +2,18 @@
 use Rattle.std.proofs.Common.{◌≡◌, inl, inr, ℕ, List, [], ◌∷◌, ◌++◌, map, ap, sym, ◌∙◌, subst}
 use Rattle.std.proofs.lemmas.List.{append-nil}
 use Rattle.frame_view.specs.View.{Lens}
+use Rattle.life_epochs.specs.Causes.{AllHaveCause}
 use Rattle.life_frames.specs.Shares.{AllBoth}
 use Rattle.life_runs.specs.First.{lens_of, first_leads}
 use Rattle.life_runs.specs.Led.{Exchanged, Leads, IsLed}
 use Rattle.plan_promises.specs.Promise.{slaves_behind, Keeps}
 use Rattle.plan_promises.specs.Rest.{IsAtRest, AllAtRest, AllStayed, IsResting, NothingIsLeft, AllIsDone}
 use Rattle.promised_run.specs.Promised.{LeavesNothing, IsPromised}
+use Rattle.promised_run.proofs.Epochs.{all_caused}
 use Rattle.promised_run.proofs.Reported.{all_reported}
 use Rattle.promised_run.proofs.Rounds.{all_round, same_ring}
 use Rattle.promised_run.proofs.Unopened.{all_opened}
+use Rattle.promised_run.proofs.Unsent.{all_unsent}
 use Rattle.run_book.specs.declared.book.Book.{Book}
 use Rattle.run_book.specs.declared.book.Ending.{Ending}
 use Rattle.run_book.specs.declared.book.Ending.TheVariants as endings
@@ -19,6 +22,7 @@ use Rattle.run_lives.specs.Round.{ring_of, AllRound}
 use Rattle.run_record.specs.Led.{exchanged, RestsSo, DoneSo, RestBy, LedBook}
 use Rattle.run_record.specs.Ran.{HasFrames, HasRows, EndsAs}
 use Rattle.run_record.specs.Replay.{first_ring, ring_after}
+use Rattle.script_runs.specs.Slaves.{AllCome}
 use Rattle.segment_plan.specs.declared.plan.Scenario.{Scenario}
 use Rattle.segment_ring.specs.Ring.{RingState}
 use Rattle.slave_server.specs.Serving.{Serving}
@@ -27,6 +31,12 @@ use Rattle.slave_steps.specs.Node.{Node}
 -- what this crate's law says, for one plan
 abbrev pub Promises : Scenario → Type 0
 Promises plan = (fs others : List Exchanged) (missed : ℕ) (as' : List Leads) → IsLed (lens_of plan.slaves) plan.recover plan.retry (first_leads plan) fs missed as' → AllRound (ring_of plan) (fs ++ others) → Keeps plan fs as'
+
+abbrev pub Comes : Scenario → Type 0
+Comes plan = (fs : List Exchanged) (missed : ℕ) (as' : List Leads) → IsLed (lens_of plan.slaves) plan.recover plan.retry (first_leads plan) fs missed as' → AllCome plan 0 plan.slaves as'
+
+abbrev pub Causes : Scenario → Type 0
+Causes plan = (fs : List Exchanged) (missed : ℕ) (as' : List Leads) → IsLed (lens_of plan.slaves) plan.recover plan.retry (first_leads plan) fs missed as' → AllHaveCause as'
 
 abbrev pub Rests : Scenario → Type 0
 Rests plan = (fs : List Exchanged) (as' : List Leads) → Keeps plan fs as' → IsResting plan fs as' → NothingIsLeft plan fs as'
@@ -77,14 +87,14 @@ module _ (plan : Scenario) (book : Book) where
   leaves_nothing law done leads kept endings.Unfinished ends rest = tt
 
   -- the promise, by the ending that the book has
-  promised_by : Promises plan → Rests plan → Finishes plan → HasFrames plan book → EndsAs plan book book.ending → LedBook plan book book.ending → IsPromised plan book
-  promised_by law rests done frames ends led =
+  promised_by : Promises plan → Comes plan → Causes plan → Rests plan → Finishes plan → HasFrames plan book → EndsAs plan book book.ending → LedBook plan book book.ending → IsPromised plan book
+  promised_by law comes causes rests done frames ends led =
       let fs : List Exchanged = map exchanged book.frames in
       let round : AllRound (ring_of plan) fs = all_round (first_ring plan) book.frames frames.recorded in
       let kept : Keeps plan fs led.leads = law fs [] led.missed led.leads led.lives (subst (λ (gs : List Exchanged). AllRound (ring_of plan) gs) (sym (append-nil fs)) round) in
-      record { led = led; kept = kept; slaves = same_slaves; over = leaves_nothing rests done led.leads kept book.ending ends led.rests; reported = λ ok. all_reported plan fs 0 plan.slaves led.leads (slaves_behind plan fs) book.slaves kept.each (all_opened (lens_of plan.slaves) plan plan.retry fs led.missed led.leads led.lives) (led.answers ok) }
+      record { led = led; kept = kept; slaves = same_slaves; over = leaves_nothing rests done led.leads kept book.ending ends led.rests; reported = λ ok. all_reported plan fs 0 plan.slaves led.leads (slaves_behind plan fs) book.slaves kept.each (all_opened (lens_of plan.slaves) plan plan.retry fs led.missed led.leads led.lives) (led.answers ok); unsent = λ ok. all_unsent plan 0 plan.slaves led.leads book.slaves (comes fs led.missed led.leads led.lives) (led.unsent ok); epochs = λ ok. all_caused led.leads book.slaves (led.epochs ok) (led.gave ok) (causes fs led.missed led.leads led.lives) }
 
 -- THE PROMISE, by the laws for a plan that was read
-pub promised : (plan : Scenario) (book : Book) (ending : Ending) → Promises plan → Rests plan → Finishes plan → HasFrames plan book → EndsAs plan book ending → book.ending ≡ ending → LedBook plan book ending → IsPromised plan book
-promised plan book ending law rests done frames ends is led =
-    promised_by plan book law rests done frames (subst (λ (e : Ending). EndsAs plan book e) (sym is) ends) (subst (λ (e : Ending). LedBook plan book e) (sym is) led)
+pub promised : (plan : Scenario) (book : Book) (ending : Ending) → Promises plan → Comes plan → Causes plan → Rests plan → Finishes plan → HasFrames plan book → EndsAs plan book ending → book.ending ≡ ending → LedBook plan book ending → IsPromised plan book
+promised plan book ending law comes causes rests done frames ends is led =
+    promised_by plan book law comes causes rests done frames (subst (λ (e : Ending). EndsAs plan book e) (sym is) ends) (subst (λ (e : Ending). LedBook plan book e) (sym is) led)

@@ -1,10 +1,12 @@
--- WHAT A BOOK REPORTS IS WHAT THE APPLICATION REPLIED: the reply of a row, which is the one that the frames give.
+-- WHAT A BOOK REPORTS IS WHAT THE FRAMES GIVE, and what the application replied.
+use Rattle.std.specs.Prelude.{◌==◌, not, if◌then◌else◌}
 use Rattle.std.proofs.Common.{◌≡◌, ℕ, suc, Bool, true, false, Option, Some, None, List, [], ◌∷◌, ◌++◌, map, length, refl, ap, sym, ◌∙◌, subst, append_assoc, append-nil}
 use Rattle.exchange_model.specs.Exchange.{Exchange}
 use Rattle.exchange_model.specs.Rows.{Row}
 use Rattle.kept_lives.specs.Epochs.{IsKept, AreKept, IsNewest, IsKeptLife, app_of}
 use Rattle.life_frames.specs.Shares.{AllBoth}
-use Rattle.life_model.specs.Lives.{Spot, Era, Life}
+use Rattle.life_model.specs.Eras.{era_frames}
+use Rattle.life_model.specs.Lives.{Spot, Era, Life, returns_to_init}
 use Rattle.life_runs.specs.First.{lens_of, spot_of}
 use Rattle.life_runs.specs.Led.{Exchanged, Leads}
 use Rattle.link_mails.specs.Body.{Body}
@@ -12,18 +14,20 @@ use Rattle.master_duty.specs.Reply.{Reply}
 use Rattle.master_hand.specs.Spoken.{Asked, is_followed}
 use Rattle.plan_promises.specs.Promise.{AllKeep}
 use Rattle.plan_ring.specs.Plan.{first_app}
-use Rattle.promised_run.specs.Reported.{IsReplyOf, RepliesBy, AreReplies, EraReplies, PastReplies, NewestReplies, LifeReplies, IsReported, AllReported}
+use Rattle.promised_run.specs.Reported.{IsReportedBy, RepliesBy, AreReplies, EraReplies, PastReplies, NewestReplies, LifeReplies, IsReported, AllReported}
 use Rattle.promised_run.proofs.Unopened.{NothingBefore, AllNothing, Opened, AllOpened}
 use Rattle.run_book.specs.declared.book.SlaveBook.{SlaveBook}
 use Rattle.run_lives.specs.Round.{all_seen}
 use Rattle.run_promises.specs.Slaves.{services_of}
 use Rattle.run_record.specs.Reports.{noted_in, IsBooked}
-use Rattle.script_answers.specs.Answers.{Came, Scripted, Noted, AllNoted, answers_in, side_answers, scripted_in, scripted_mails, era_scripted, eras_scripted, life_scripted}
+use Rattle.script_answers.specs.Answers as Noting
+use Rattle.script_answers.specs.Answers.{Came, Scripted, Noted, AllNoted, answers_in, side_answers, first_change, changes_behind, change_came, scripted_by, scripted_in, scripted_mails, era_scripted, eras_scripted, life_scripted, reply_by, outcome_reply}
 use Rattle.script_answers.proofs.Lists.{eras_more}
 use Rattle.script_runs.specs.Came.{is_packet}
-use Rattle.segment_model.specs.Ends.{Outcome}
+use Rattle.link_model.specs.Mails.{first_of}
+use Rattle.segment_model.specs.Ends.{Outcome, state_ends}
 use Rattle.segment_model.specs.Laws.{IsAnswered, AllAnswered, as_outcome}
-use Rattle.segment_model.specs.Record.{Frame}
+use Rattle.segment_model.specs.Record.{Frame, News, first_end, or_later, news_from}
 use Rattle.segment_model.specs.Seats.{rows_of}
 use Rattle.segment_plan.specs.declared.plan.Scenario.{Scenario}
 use Rattle.segment_plan.specs.declared.slave.SlaveSpec.{SlaveSpec}
@@ -33,8 +37,8 @@ use Rattle.slave_server.specs.Serving.{Serving}
 use Rattle.slave_steps.specs.Node.{Node}
 use Rattle.state_exchange.specs.Stated.{Stated, Service, with_states}
 use Rattle.state_model.specs.States.{Table}
-use Rattle.task_model.specs.Accounts.{Started}
-use Rattle.task_model.specs.Promise.{AllReplied, IsReply, mail_of, mails_started, rows_started, outcome_of}
+use Rattle.task_model.specs.Accounts.{Started, Duty, Change}
+use Rattle.task_model.specs.Promise.{AllReplied, AllFound, IsOpenYet, IsReply, mail_of, state_of, mails_started, states_started, rows_started, changes_in, duty_in, outcome_of}
 
 abbrev Held : Type 0
 Held = Row Body Asked Reply
@@ -58,63 +62,160 @@ none_noted [] h = refl
 none_noted (n ∷ ns) h = absurd h
 
 -- ONE EPOCH
+not_true : (b : Bool) → not b ≡ true → b ≡ false
+not_true true e = absurd (let bad : false ≡ true = e in cc)
+not_true false e = refl
+
+outcome_back : (answer : Option (Reply × ℕ)) → outcome_reply (as_outcome answer) ≡ answer
+outcome_back None = refl
+outcome_back (Some a) = refl
+
+-- AN OUTCOME OF A CHANGE OF STATE is a reply
+ends_reply : (target : ℕ) (refusal : Option ℕ) (ns : List (News Body)) (o : Outcome Reply) → state_ends target refusal ns ≡ Some o → IsReply o
+ends_reply target refusal [] o e = absurd (cc)
+ends_reply target None (News.Status state None ∷ ns) o e = by (state == target) e (λ f. ends_reply target None ns o f)
+  where
+    by : (b : Bool) → (if b then Some Outcome.Reached else state_ends target None ns) ≡ Some o → (state_ends target None ns ≡ Some o → IsReply o) → IsReply o
+    by true f more = let same : Outcome.Reached ≡ o = cc in subst (λ (z : Outcome Reply). IsReply z) same tt
+    by false f more = more f
+ends_reply target (Some code) (News.Status state None ∷ ns) o e = let same : Outcome.Refused code ≡ o = cc in subst (λ (z : Outcome Reply). IsReply z) same tt
+ends_reply target refusal (News.Status state (Some code) ∷ ns) o e = ends_reply target (first_of refusal (Some code)) ns o e
+ends_reply target refusal (News.Told m ∷ ns) o e = ends_reply target refusal ns o e
+ends_reply target refusal (News.Written ∷ ns) o e = ends_reply target refusal ns o e
+ends_reply target refusal (News.Heard m ∷ ns) o e = ends_reply target refusal ns o e
+ends_reply target refusal (News.NothingRead ∷ ns) o e = ends_reply target refusal ns o e
+ends_reply target refusal (News.BoxFull full ∷ ns) o e = ends_reply target refusal ns o e
+
+first_reply : (target frame : ℕ) (before : List (News Body)) (nss : List (List (News Body))) (w : Outcome Reply × ℕ) → first_end (λ ns. state_ends target None ns) frame before nss ≡ Some w → IsReply w.0
+first_reply target frame before [] w e = absurd (cc)
+first_reply target frame before (ns ∷ nss) w e = by (state_ends target None (before ++ ns)) refl e (λ g. first_reply target (suc frame) (before ++ ns) nss w g)
+  where
+    outcome_or : Outcome Reply → Option (Outcome Reply × ℕ) → Outcome Reply
+    outcome_or o None = o
+    outcome_or o (Some k) = k.0
+
+    by : (o : Option (Outcome Reply)) → state_ends target None (before ++ ns) ≡ o → or_later o frame (first_end (λ ns. state_ends target None ns) (suc frame) (before ++ ns) nss) ≡ Some w →
+        (first_end (λ ns. state_ends target None ns) (suc frame) (before ++ ns) nss ≡ Some w → IsReply w.0) → IsReply w.0
+    by None f g more = more g
+    by (Some o) f g more = let same : o ≡ w.0 = ap (outcome_or o) g in subst (λ (z : Outcome Reply). IsReply z) same (ends_reply target None (before ++ ns) o f)
+
 module _ {V A : Type 0} (x : Exchange V A Body Asked Reply) (s : Stated V A Asked) (table : Table) (station : ℕ) (gs : List (Frame Body)) where
   abbrev exec : A × ℕ → Service Asked → A × ℕ
   exec a q = (with_states x s table).exec a q
 
-  -- the answer of a row is the reply of its service
-  row_replies : (a : A × ℕ) (q : Asked) (frame : ℕ) (r : Held) (rest : List (Started Asked)) → r.service ≡ q → r.frame ≡ frame → IsAnswered x.speech is_followed station gs r →
-      AllReplied x s table is_followed station gs a (record { service = Service.Mails q; frame = frame } ∷ rest) → (reply : Reply) (g : ℕ) → r.answer ≡ Some (reply, g) → Outcome.Replied reply ≡ (with_states x s table).reply a (Service.Mails q)
-  row_replies a q frame r rest sq sf answered replied reply g e = by (x.speech.handed r.service) refl
-    where
-      by : (h : Bool) → x.speech.handed r.service ≡ h → Outcome.Replied reply ≡ (with_states x s table).reply a (Service.Mails q)
-      by true h = absurd (let bad : None ≡ Some (reply, g) = sym (answered.handed h) ∙ e in cc)
-      by false h =
-          replied.0 (Outcome.Replied reply, g)
-          ((λ i. outcome_of x.speech is_followed station gs (record { service = Service.Mails (sym sq i); frame = sym sf i })) ∙ sym (answered.replied h) ∙ ap as_outcome e) tt
+  abbrev replies : A × ℕ → Service Asked → Outcome Reply
+  replies a q = (with_states x s table).reply a q
+
+  abbrev found : Service Asked → ℕ → Option (Outcome Reply × ℕ)
+  found q frame = outcome_of x.speech is_followed station gs (record { service = q; frame = frame })
+
+  abbrev Replied : A × ℕ → Service Asked → ℕ → Type 0
+  Replied a q frame = (o : Outcome Reply × ℕ) → found q frame ≡ Some o → IsReply o.0 → o.0 ≡ replies a q
+
+  -- BY MAILS: the answer of a row is what the frames give, the reply of its service
+  row_found : (q : Asked) (frame : ℕ) (r : Held) → r.service ≡ q → r.frame ≡ frame → IsAnswered x.speech is_followed station gs r → x.speech.handed q ≡ false → as_outcome r.answer ≡ found (Service.Mails q) frame
+  row_found q frame r sq sf answered h = answered.replied (ap x.speech.handed sq ∙ h) ∙ (λ i. outcome_of x.speech is_followed station gs (record { service = Service.Mails (sq i); frame = sf i }))
+
+  mails_reported : (a : A × ℕ) (q : Asked) (frame : ℕ) (r : Held) (n : Noted) → r.service ≡ q → r.frame ≡ frame → IsAnswered x.speech is_followed station gs r → Replied a (Service.Mails q) frame → n.frame ≡ frame → n.reply ≡ r.answer → IsReportedBy x s table station gs a (Service.Mails q) frame n
+  mails_reported a q frame r n sq sf answered replied at is = record {
+    at = at;
+    given = λ h. is ∙ sym (outcome_back r.answer) ∙ ap outcome_reply (row_found q frame r sq sf answered (not_true (x.speech.handed q) h));
+    own = λ h z g e. replied (Outcome.Replied z, g) (sym (row_found q frame r sq sf answered (not_true (x.speech.handed q) h)) ∙ ap as_outcome (sym is ∙ e)) tt;
+  }
 
   first_row : (q : Asked) (frame : ℕ) (r : Held) (ms : List (Asked × ℕ)) (rs : List Held) → (q, frame) ∷ ms ≡ rows_started (r ∷ rs) → (r.service ≡ q) × (r.frame ≡ frame) × (ms ≡ rows_started rs)
   first_row q frame r ms rs e = let head : (q, frame) ≡ (r.service, r.frame) = cc in let tail : ms ≡ rows_started rs = cc in (sym (ap (λ (p : Asked × ℕ). p.0) head), sym (ap (λ (p : Asked × ℕ). p.1) head), tail)
 
-  reported_is : (a : A × ℕ) (q : Asked) (answer reply : Option (Reply × ℕ)) → Rattle.script_answers.specs.Answers.IsReported (Came.mails answer) reply → ((r : Reply) (g : ℕ) → answer ≡ Some (r, g) → Outcome.Replied r ≡ (with_states x s table).reply a (Service.Mails q)) →
-      IsReplyOf x s table a (Service.Mails q) reply
-  reported_is a q answer None h k r g e = absurd (let bad : None ≡ Some (r, g) = e in cc)
-  reported_is a q answer (Some reply) h k r g e = k r g (h ∙ e)
+  -- A CHANGE OF STATE
+  came_is : (b : Bool) (outcome : Option (Outcome Reply × ℕ)) (reply : Option (Reply × ℕ)) → b ≡ false → Noting.IsReported (change_came b outcome) reply → reply ≡ outcome_reply outcome
+  came_is true outcome reply e h = absurd (let bad : true ≡ false = e in cc)
+  came_is false outcome reply e h = h
 
-  pub are_replies : (a : A × ℕ) (ss : List (Started Asked)) (rs : List Held) (ns : List Noted) → mails_started ss ≡ rows_started rs → AllAnswered x.speech is_followed station gs rs → AllReplied x s table is_followed station gs a ss →
-      AllNoted (scripted_in ss (answers_in rs)) ns → AreReplies x s table a ss ns
-  are_replies a [] rs ns m y p h = none_noted ns h
-  are_replies a (r ∷ ss) rs ns m y p h = go r.service rs m y p h (λ b rs ns m y p h. are_replies b ss rs ns m y p h)
+  outcome_own : (a : A × ℕ) (target frame : ℕ) (o : Option (Outcome Reply × ℕ)) → found (Service.State target) frame ≡ o → Replied a (Service.State target) frame → (r : Reply) (g : ℕ) → outcome_reply o ≡ Some (r, g) → r ≡ reply_by (replies a (Service.State target))
+  outcome_own a target frame None f replied r g e = absurd (let bad : None ≡ Some (r, g) = e in cc)
+  outcome_own a target frame (Some w) f replied r g e =
+      let same : reply_by w.0 ≡ r = ap (reply_or r) e in
+      sym same ∙ ap reply_by (replied w f (first_reply target frame [] (news_from station frame gs) w f))
     where
-      noted_by : (b : Bool) (q : Asked) (answer : Option (Reply × ℕ)) (ts : List Scripted) (ns : List Noted) → AllNoted (scripted_mails b r.frame answer ts) ns → ((z : Reply) (g : ℕ) → answer ≡ Some (z, g) → Outcome.Replied z ≡ (with_states x s table).reply a (Service.Mails q)) →
-          ((ms : List Noted) → AllNoted ts ms → AreReplies x s table (exec a (Service.Mails q)) ss ms) → RepliesBy x s table b r.frame a (Service.Mails q) ns (λ more. AreReplies x s table (exec a (Service.Mails q)) ss more)
-      noted_by true q answer ts ns h k more = more ns h
-      noted_by false q answer ts [] h k more = absurd h
-      noted_by false q answer ts (n ∷ ns) h k more = (h.0.0, reported_is a q answer n.reply h.0.1 k, more ns h.1)
+      reply_or : Reply → Option (Reply × ℕ) → Reply
+      reply_or y None = y
+      reply_or y (Some k) = k.0
 
-      go : (z : Service Asked) (rs : List Held) → mail_of z r.frame ++ mails_started ss ≡ rows_started rs → AllAnswered x.speech is_followed station gs rs →
-          AllReplied x s table is_followed station gs a (record { service = z; frame = r.frame } ∷ ss) → AllNoted (Rattle.script_answers.specs.Answers.scripted_by z r.frame (answers_in rs) (λ more. scripted_in ss more)) ns →
-          ((b : A × ℕ) (rs : List Held) (ns : List Noted) → mails_started ss ≡ rows_started rs → AllAnswered x.speech is_followed station gs rs → AllReplied x s table is_followed station gs b ss → AllNoted (scripted_in ss (answers_in rs)) ns → AreReplies x s table b ss ns) →
-          RepliesBy x s table (is_packet z) r.frame a z ns (λ more. AreReplies x s table (exec a z) ss more)
-      go (Service.State target) rs m y p h more = state_by ns h
+  state_reported : (a : A × ℕ) (target frame : ℕ) (outcome : Option (Outcome Reply × ℕ)) (n : Noted) → found (Service.State target) frame ≡ outcome → Replied a (Service.State target) frame → n.frame ≡ frame → Noting.IsReported (change_came (returns_to_init target) outcome) n.reply →
+      IsReportedBy x s table station gs a (Service.State target) frame n
+  state_reported a target frame outcome n is replied at h = record {
+    at = at;
+    given = λ e. came_is (returns_to_init target) outcome n.reply (not_true (returns_to_init target) e) h ∙ ap outcome_reply (sym is);
+    own = λ e r g f. outcome_own a target frame outcome is replied r g (sym (came_is (returns_to_init target) outcome n.reply (not_true (returns_to_init target) e) h) ∙ f);
+  }
+
+  -- the changes of state that are over, and the one in hand, have what the frames give
+  pub record Found (ms : List (ℕ × ℕ)) (cs : List (Change Reply)) : Type 0 where
+    pub hand : Option Duty
+    pub whole : ms ≡ changes_in cs ++ duty_in hand
+    pub over : AllFound x.speech is_followed station gs cs
+    pub none : IsOpenYet x.speech is_followed station gs hand
+
+  -- the first of them
+  pub record FoundFirst (target frame : ℕ) (ms : List (ℕ × ℕ)) (cs : List (Change Reply)) : Type 0 where
+    pub is : found (Service.State target) frame ≡ first_change cs
+    pub rest : Found ms (changes_behind cs)
+
+  heads : (p q : ℕ × ℕ) (ps qs : List (ℕ × ℕ)) → p ∷ ps ≡ q ∷ qs → (p ≡ q) × (ps ≡ qs)
+  heads p q ps qs e = (cc, cc)
+
+  found_at : (p q : ℕ × ℕ) → p ≡ q → found (Service.State p.0) p.1 ≡ found (Service.State q.0) q.1
+  found_at p q e = λ i. found (Service.State (e i).0) (e i).1
+
+  found_first : (target frame : ℕ) (ms : List (ℕ × ℕ)) (cs : List (Change Reply)) → Found ((target, frame) ∷ ms) cs → FoundFirst target frame ms cs
+  found_first target frame ms (c ∷ cs) h =
+      let e = heads (target, frame) (c.target, c.frame) ms (changes_in cs ++ duty_in h.hand) h.whole in
+      record { is = found_at (target, frame) (c.target, c.frame) e.0 ∙ h.over.0; rest = record { hand = h.hand; whole = e.1; over = h.over.1; none = h.none } }
+  found_first target frame ms [] h = by h.hand h.whole h.none
+    where
+      by : (hand : Option Duty) → (target, frame) ∷ ms ≡ duty_in hand → IsOpenYet x.speech is_followed station gs hand → FoundFirst target frame ms []
+      by None e o = absurd (let bad : (target, frame) ∷ ms ≡ [] = e in cc)
+      by (Some duty) e o =
+          let k = heads (target, frame) (duty.target, duty.frame) ms [] e in record { is = found_at (target, frame) (duty.target, duty.frame) k.0 ∙ o; rest = record { hand = None; whole = k.1; over = tt; none = tt } }
+
+  pub are_replies : (a : A × ℕ) (ss : List (Started Asked)) (rs : List Held) (cs : List (Change Reply)) (ns : List Noted) → mails_started ss ≡ rows_started rs → AllAnswered x.speech is_followed station gs rs → Found (states_started ss) cs →
+      AllReplied x s table is_followed station gs a ss → AllNoted (scripted_in ss (answers_in rs) cs) ns → AreReplies x s table station gs a ss ns
+  are_replies a [] rs cs ns m y f p h = none_noted ns h
+  are_replies a (r ∷ ss) rs cs ns m y f p h = go r.service rs m y f p.0 h (λ rs ds ms m y f h. are_replies (exec a r.service) ss rs ds ms m y f p.1 h)
+    where
+      noted_by : (b : Bool) (q : Asked) (t : Held) (ts : List Scripted) (ns : List Noted) → AllNoted (scripted_mails b r.frame t.answer ts) ns → t.service ≡ q → t.frame ≡ r.frame → IsAnswered x.speech is_followed station gs t → Replied a (Service.Mails q) r.frame →
+          (more : List Noted → Type 0) → ((ms : List Noted) → AllNoted ts ms → more ms) → RepliesBy x s table station gs b r.frame a (Service.Mails q) ns more
+      noted_by true q t ts ns h sq sf y p more k = k ns h
+      noted_by false q t ts [] h sq sf y p more k = absurd h
+      noted_by false q t ts (n ∷ ns) h sq sf y p more k = (mails_reported a q r.frame t n sq sf y p h.0.0 h.0.1, k ns h.1)
+
+      go : (z : Service Asked) (rs : List Held) → mail_of z r.frame ++ mails_started ss ≡ rows_started rs → AllAnswered x.speech is_followed station gs rs → Found (state_of z r.frame ++ states_started ss) cs → Replied a z r.frame →
+          AllNoted (scripted_by z r.frame (answers_in rs) cs (λ more others. scripted_in ss more others)) ns →
+          ((rs : List Held) (ds : List (Change Reply)) (ms : List Noted) → mails_started ss ≡ rows_started rs → AllAnswered x.speech is_followed station gs rs → Found (states_started ss) ds → AllNoted (scripted_in ss (answers_in rs) ds) ms → AreReplies x s table station gs (exec a r.service) ss ms) →
+          RepliesBy x s table station gs (is_packet z) r.frame a z ns (λ more. AreReplies x s table station gs (exec a r.service) ss more)
+      go (Service.State target) rs m y f p h more = state_by ns h
         where
-          state_by : (ns : List Noted) → AllNoted (record { frame = r.frame; came = Came.state } ∷ scripted_in ss (answers_in rs)) ns → RepliesBy x s table false r.frame a (Service.State target) ns (λ ms. AreReplies x s table (exec a (Service.State target)) ss ms)
+          first : FoundFirst target r.frame (states_started ss) cs
+          first = found_first target r.frame (states_started ss) cs f
+
+          state_by : (ns : List Noted) → AllNoted (record { frame = r.frame; came = change_came (returns_to_init target) (first_change cs) } ∷ scripted_in ss (answers_in rs) (changes_behind cs)) ns →
+              RepliesBy x s table station gs false r.frame a (Service.State target) ns (λ ms. AreReplies x s table station gs (exec a r.service) ss ms)
           state_by [] h = absurd h
-          state_by (n ∷ ns) h = (h.0.0, tt, more (exec a (Service.State target)) rs ns m y p.1 h.1)
-      go (Service.Mails q) [] m y p h more = absurd (let bad : (q, r.frame) ∷ mails_started ss ≡ [] = m in cc)
-      go (Service.Mails q) (t ∷ rs) m y p h more =
-          let f = first_row q r.frame t (mails_started ss) rs m in
-          noted_by (is_packet (Service.Mails q)) q t.answer (scripted_in ss (answers_in rs)) ns h (row_replies a q r.frame t ss f.0 f.1 y.0 p)
-          (λ ms k. more (exec a (Service.Mails q)) rs ms f.2 y.1 p.1 k)
+          state_by (n ∷ ns) h = (state_reported a target r.frame (first_change cs) n first.is p h.0.0 h.0.1, more rs (changes_behind cs) ns m y first.rest h.1)
+      go (Service.Mails q) [] m y f p h more = absurd (let bad : (q, r.frame) ∷ mails_started ss ≡ [] = m in cc)
+      go (Service.Mails q) (t ∷ rs) m y f p h more =
+          let e = first_row q r.frame t (mails_started ss) rs m in
+          noted_by (is_packet (Service.Mails q)) q t (scripted_in ss (answers_in rs) cs) ns h e.0 e.1 y.0 p (λ ms. AreReplies x s table station gs (exec a r.service) ss ms) (λ ms k. more rs cs ms e.2 y.1 f k)
 
 -- ALL EPOCHS
 module _ {S V A : Type 0} (w : Behind S V A Asked Reply) (spot : Spot) (fs : List (Frame Body)) where
   kept_replies : (e : Era Body Asked Reply) (from to : A) (until : ℕ) (k : IsKept w is_followed spot fs e from to until) (ns : List Noted) → AllNoted (era_scripted e) ns → EraReplies w spot fs k ns
   kept_replies e from to until k ns h =
-      are_replies w.exchange w.states (table_of w spot.station) spot.station _ (w.states.told k.state from, 0) e.account.started (rows_of e.side) ns k.told.mails k.told.answers k.answered.replies h
+      are_replies w.exchange w.states (table_of w spot.station) spot.station (era_frames spot k.opened until fs) (w.states.told k.state from, 0) e.account.started (rows_of e.side) e.account.over ns k.told.mails k.told.answers
+      (record { hand = e.account.hand; whole = k.told.states; over = k.told.over; none = k.told.hand }) k.answered.replies h
 
   unopened_none : (e : Era Body Asked Reply) → e.account.started ≡ [] → era_scripted e ≡ []
-  unopened_none e none = ap (λ ss. scripted_in ss (side_answers e.side)) none
+  unopened_none e none = ap (λ ss. scripted_in ss (side_answers e.side) e.account.over) none
 
   nothing_last : (es : List (Era Body Asked Reply)) (e : Era Body Asked Reply) → AllNothing (es ++ e ∷ []) → AllNothing es × NothingBefore e
   nothing_last [] e a = (tt, a.0)

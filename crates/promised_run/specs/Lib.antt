@@ -1,2 +1,4 @@
 pub mod Reported
+pub mod Unsent
+pub mod Epochs
 pub mod Promised

@@ -3,7 +3,9 @@ use Rattle.std.specs.Prelude.{◌≡◌, ◌≢◌, List, map, ⊤}
 use Rattle.life_runs.specs.Led.{Leads}
 use Rattle.plan_promises.specs.Promise.{slaves_behind, Keeps}
 use Rattle.plan_promises.specs.Rest.{NothingIsLeft, AllIsDone}
+use Rattle.promised_run.specs.Epochs.{AllCaused}
 use Rattle.promised_run.specs.Reported.{AllReported}
+use Rattle.promised_run.specs.Unsent.{AllUnsent}
 use Rattle.run_book.specs.declared.book.Book.{Book}
 use Rattle.run_book.specs.declared.book.Ending.{Ending}
 use Rattle.run_book.specs.declared.book.Ending.TheVariants as endings
@@ -28,5 +30,9 @@ pub record IsPromised (plan : Scenario) (book : Book) : Type 0 where
   pub kept : Keeps plan (map exchanged book.frames) led.leads
   pub slaves : slaves_behind plan (map exchanged book.frames) ≡ (ring_after (first_ring plan) book.frames).nodes
   pub over : LeavesNothing plan book led.leads book.ending
-  -- each reply that the book reports of a scripted service by mails is that of this application, and of the script just the services stand there that began
+  -- of the script just the services stand there that began, each reported with just what the frames give for it, the reply of this application, or in doubt
   pub reported : book.ending ≢ endings.NoMemory → AllReported plan (map exchanged book.frames) 0 plan.slaves led.leads (slaves_behind plan (map exchanged book.frames)) book.slaves
+  -- and of each script just the rest, behind the services that began, is reported as not sent
+  pub unsent : book.ending ≢ endings.NoMemory → AllUnsent plan 0 led.leads book.slaves
+  -- and the epochs of the book are those of the lives, each with its cause
+  pub epochs : book.ending ≢ endings.NoMemory → AllCaused led.leads book.slaves

@@ -1,8 +1,9 @@
--- EACH REPLY THAT A BOOK REPORTS is that of its application.
-use Rattle.std.specs.Prelude.{◌≡◌, ℕ, suc, Bool, true, false, Option, Some, None, List, [], ◌∷◌, ◌++◌, length, ⊤}
-use Rattle.exchange_model.specs.Exchange.{Exchange}
+-- EACH SERVICE OF A SCRIPT IS REPORTED with just what the frames give for it, and each reply is that of its application.
+use Rattle.std.specs.Prelude.{◌≡◌, ℕ, suc, not, Bool, true, false, Option, Some, None, List, [], ◌∷◌, ◌++◌, length, ⊤}
+use Rattle.exchange_model.specs.Exchange.{Exchange, Speech}
 use Rattle.kept_lives.specs.Epochs.{IsKept, app_of}
-use Rattle.life_model.specs.Lives.{Spot, Era, Life}
+use Rattle.life_model.specs.Eras.{era_frames}
+use Rattle.life_model.specs.Lives.{Spot, Era, Life, returns_to_init}
 use Rattle.life_runs.specs.First.{lens_of, spot_of}
 use Rattle.life_runs.specs.Led.{Exchanged, Leads}
 use Rattle.link_mails.specs.Body.{Body}
@@ -13,7 +14,7 @@ use Rattle.run_book.specs.declared.book.SlaveBook.{SlaveBook}
 use Rattle.run_lives.specs.Round.{all_seen}
 use Rattle.run_promises.specs.Slaves.{services_of}
 use Rattle.run_record.specs.Reports.{noted_in}
-use Rattle.script_answers.specs.Answers.{Noted}
+use Rattle.script_answers.specs.Answers.{Noted, reply_by, outcome_reply}
 use Rattle.script_runs.specs.Came.{is_packet}
 use Rattle.segment_model.specs.Ends.{Outcome}
 use Rattle.segment_model.specs.Record.{Frame}
@@ -26,19 +27,32 @@ use Rattle.slave_steps.specs.Node.{Node}
 use Rattle.state_exchange.specs.Stated.{Stated, Service, with_states}
 use Rattle.state_model.specs.States.{Table}
 use Rattle.task_model.specs.Accounts.{Started}
+use Rattle.task_model.specs.Promise.{outcome_of}
 
-module _ {V A : Type 0} (x : Exchange V A Body Asked Reply) (s : Stated V A Asked) (table : Table) where
-  -- A REPLY THAT IS REPORTED of a service by mails is that of the application, with its AL state, behind the services before it; of a state service
-  -- nothing is said
-  abbrev pub IsReplyOf : A × ℕ → Service Asked → Option (Reply × ℕ) → Type 0
-  IsReplyOf a (Service.Mails q) reply = (r : Reply) (frame : ℕ) → reply ≡ Some (r, frame) → Outcome.Replied r ≡ (with_states x s table).reply a (Service.Mails q)
-  IsReplyOf a (Service.State target) reply = ⊤
+-- a service has a reply of its own, by mails or as a change of state that stays in its epoch: no packet, no mail that is passed on
+abbrev pub has_reply : {M R : Type 0} → Speech M Asked R → Service Asked → Bool
+has_reply x (Service.Mails q) = not (x.handed q)
+has_reply x (Service.State target) = not (returns_to_init target)
 
-  -- of a service that came into hand before this frame, and of those behind it; packets aren't of the script
+-- a reply of a service by mails, or the outcome of a change of state, is that of the application
+abbrev pub IsReplyBy : Service Asked → Reply → Outcome Reply → Type 0
+IsReplyBy (Service.Mails q) r outcome = Outcome.Replied r ≡ outcome
+IsReplyBy (Service.State target) r outcome = r ≡ reply_by outcome
+
+module _ {V A : Type 0} (x : Exchange V A Body Asked Reply) (s : Stated V A Asked) (table : Table) (station : ℕ) (gs : List (Frame Body)) where
+  -- WHAT IS REPORTED OF A SERVICE, with the frame before which it came into hand: just the reply that these frames give from there on, of the frame that
+  -- completed it, and none where they give none; and each reply is that of the application, with its AL state, behind the services before it. Of a change of
+  -- state that returns its slave to Init nothing more is said
+  pub record IsReportedBy (a : A × ℕ) (q : Service Asked) (frame : ℕ) (n : Noted) : Type 0 where
+    pub at : n.frame ≡ frame
+    pub given : has_reply x.speech q ≡ true → n.reply ≡ outcome_reply (outcome_of x.speech is_followed station gs (record { service = q; frame = frame }))
+    pub own : has_reply x.speech q ≡ true → (r : Reply) (g : ℕ) → n.reply ≡ Some (r, g) → IsReplyBy q r ((with_states x s table).reply a q)
+
+  -- of a service and of those behind it; packets aren't of the script
   abbrev pub RepliesBy : Bool → ℕ → A × ℕ → Service Asked → List Noted → (List Noted → Type 0) → Type 0
   RepliesBy true frame a q ns more = more ns
   RepliesBy false frame a q [] more = ⊥
-  RepliesBy false frame a q (n ∷ ns) more = (n.frame ≡ frame) × IsReplyOf a q n.reply × more ns
+  RepliesBy false frame a q (n ∷ ns) more = IsReportedBy a q frame n × more ns
 
   -- OF THE SERVICES OF AN EPOCH, one after the other, from an application on
   abbrev pub AreReplies : A × ℕ → List (Started Asked) → List Noted → Type 0
@@ -48,7 +62,7 @@ module _ {V A : Type 0} (x : Exchange V A Body Asked Reply) (s : Stated V A Aske
 module _ {S V A : Type 0} (w : Behind S V A Asked Reply) (spot : Spot) (fs : List (Frame Body)) where
   -- of an epoch as it is kept
   abbrev pub EraReplies : {e : Era Body Asked Reply} {from to : A} {until : ℕ} → IsKept w is_followed spot fs e from to until → List Noted → Type 0
-  EraReplies {e} {from} k ns = AreReplies w.exchange w.states (table_of w spot.station) (w.states.told k.state from, 0) e.account.started ns
+  EraReplies {e} {from} {to} {until} k ns = AreReplies w.exchange w.states (table_of w spot.station) spot.station (era_frames spot k.opened until fs) (w.states.told k.state from, 0) e.account.started ns
 
   -- OF ALL EPOCHS THAT ARE OVER, each from what the one before left, cleared; one that was not opened has none
   pub data PastReplies (cleared : A → A) (first : A) : List (Era Body Asked Reply) → A → List Noted → Type 0 where
@@ -72,7 +86,8 @@ module _ {S V A : Type 0} (w : Behind S V A Asked Reply) (spot : Spot) (fs : Lis
     pub past : PastReplies cleared first l.past from front
     pub newest : NewestReplies l.era from n behind
 
--- OF ONE SLAVE of a plan at its place: each reply that its row of the book reports of a service by mails of its script is that of its application
+-- OF ONE SLAVE of a plan at its place: each service of its script that came into hand is reported in its row of the book with just what the frames of its
+-- epoch give for it, and each reply is that of its application
 abbrev pub IsReported : Scenario → List Exchanged → ℕ → SlaveSpec → Leads → Node Serving → SlaveBook → Type 0
 IsReported plan fs place s a n row =
     LifeReplies (services_of plan s) (spot_of place s) (all_seen (lens_of plan.slaves) fs) real_clearing.cleared (first_app s) a.lived.life n (noted_in row.begun row.answers)

@@ -8,8 +8,10 @@ ghost use Rattle.scenario.specs.Told.{IsTold};
 ghost use Rattle.segment_plan.specs.Sound.{IsPlan};
 ghost use Rattle.promised_run.specs.Promised.{IsPromised};
 
+use life_epochs::epochs_law;
 use plan_promises::{read_promise_law, rest_promise_law};
 use run_book::{Book, Ending};
+use script_runs::script_run_law;
 use segment_plan::Scenario;
 use std::alloc::Global;
 
@@ -29,5 +31,7 @@ pub fn run(alloc: Global, plan: &Scenario, book: &mut Book) -> Ending
 {
     read_promise_law();
     rest_promise_law();
+    script_run_law();
+    epochs_law();
     run_record::run(alloc, plan, book)
 }

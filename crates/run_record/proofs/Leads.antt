@@ -8,7 +8,7 @@ use Rattle.frame_view.specs.View.{Lens}
 use Rattle.frame_view.specs.Seen.{seen}
 use Rattle.life_frames.specs.Shares.{AllBoth, Lived, came_at, given_where}
 use Rattle.life_model.specs.Lives.{Life, life_lost}
-use Rattle.life_runs.specs.First.{lens_of, first_leads, leads_from}
+use Rattle.life_runs.specs.First.{lens_of, script_for, first_leads, leads_from}
 use Rattle.life_runs.specs.Led.{Exchanged, Leads, Turn, AllTurn, IsLed, IsLedFrame, is_passed, speech_at, life_behind, led_behind, gives_up_at, missed_behind}
 use Rattle.link_mails.specs.Body.{Body}
 use Rattle.master_duty.specs.Reply.{Reply}
@@ -40,10 +40,12 @@ use Rattle.run_record.specs.declared.standing.Log.{Log}
 use Rattle.run_record.specs.Led.{exchanged, gaves_noted, Leading, AreLed}
 use Rattle.run_record.specs.Notes.{new_notes}
 use Rattle.run_record.specs.Reports.{Reports, AllReport, ReportsOn, ReportsBy, TurnsAll}
+use Rattle.run_record.specs.Unsent.{IsNumbered}
+use Rattle.run_record.proofs.Unsent.{none_begun, all_left}
 use Rattle.run_record.specs.Session.{first_notes, scripted, gaves_behind, GaveBy, has_live}
 use Rattle.script_answers.specs.Answers.{turned as turned_lead}
 use Rattle.script_answers.specs.Steps.{TurnsSo, PassesSo, LosesSo}
-use Rattle.script_answers.proofs.Frames.{passes_so, loses_so}
+use Rattle.script_answers.proofs.Losses.{passes_so, loses_so}
 use Rattle.script_answers.proofs.Turns.{turns_so}
 use Rattle.run_record.proofs.Gaves.{with_more}
 
@@ -52,18 +54,23 @@ first_gaves : (services : List (ℕ × Plan.Service)) (number place : ℕ) (ss :
 first_gaves services number place [] = refl
 first_gaves services number place (s ∷ ss) = ap (λ (gs : List (List ℕ)). [] ∷ gs) (first_gaves services (number + 1) (suc place) ss)
 
-new_reports : (script : List Plan.Service) (spot : Spot) (left : ℕ) → Reports (new_leads script spot) (new_notes left)
-new_reports script spot left = record {
-  told = record { many = refl; beside = refl; noted = tt; waits = λ bad. absurd (let no : false ≡ true = bad in cc) };
+new_reports : (script : List Plan.Service) (spot : Spot) (left : ℕ) → left ≡ length script → Reports (new_leads script spot) (new_notes left)
+new_reports script spot left all = record {
+  told = record { many = refl; beside = refl; noted = tt; fresh = λ e. (refl, refl); stands = λ e. absurd (cc) };
   aligned = omega arith;
-  last = λ bad. absurd (let no : false ≡ true = bad in cc);
+  last = λ bad. absurd (let no : true ≡ false = bad in cc);
   other = λ bad m answer. absurd (let no : false ≡ true = bad in cc);
   gave = refl;
+  rest = subst (λ (k : ℕ). IsNumbered (length script) [] [] 0 k) (sym all) (none_begun (length script));
+  marked = record { spans = refl; leaving = refl; up = refl };
 }
 
-first_reports : (services : List (ℕ × Plan.Service)) (number place : ℕ) (ss : List SlaveSpec) → AllReport (leads_from services place ss) (first_notes services number ss)
-first_reports services number place [] = tt
-first_reports services number place (s ∷ ss) = (new_reports _ _ (scripted services number), first_reports services (number + 1) (suc place) ss)
+first_reports : (services : List (ℕ × Plan.Service)) (number place : ℕ) (ss : List SlaveSpec) → number ≡ place → AllReport (leads_from services place ss) (first_notes services number ss)
+first_reports services number place [] e = tt
+first_reports services number place (s ∷ ss) e = (
+  new_reports _ _ (scripted services number) (all_left services number ∙ ap (λ (k : ℕ). length (script_for k services)) e),
+  first_reports services (number + 1) (suc place) ss (omega (arith, e)),
+)
 
 pub begins : (plan : Scenario) (m : MasterNode) (notes : List Notes) → MasterShows (lens_of plan.slaves) plan.recover plan.retry m 0 (first_leads plan) → notes ≡ first_notes plan.services 0 plan.slaves → Leading plan m notes []
 begins plan m notes shown first = record {
@@ -72,7 +79,7 @@ begins plan m notes shown first = record {
   lives = IsLed.start;
   shows = shown;
   gave = ap gaves_noted first ∙ first_gaves plan.services 0 0 plan.slaves;
-  told = subst (λ (ns : List Notes). AllReport (first_leads plan) ns) (sym first) (first_reports plan.services 0 0 plan.slaves);
+  told = subst (λ (ns : List Notes). AllReport (first_leads plan) ns) (sym first) (first_reports plan.services 0 0 plan.slaves refl);
 }
 
 -- GIVE-UPS over a frame

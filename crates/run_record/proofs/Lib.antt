@@ -14,5 +14,7 @@ pub mod Underway
 pub mod Gaves
 pub mod Ends
 pub mod Overs
+pub mod Unsent
+pub mod Epochs
 pub mod Reports
 pub mod Reporting

@@ -17,7 +17,9 @@ use Rattle.run_record.specs.Led.{exchanged, gaves_in, Leading, LeadTo, RestsSo, 
 use Rattle.run_record.specs.Ran.{IsUnderway, EndsSo}
 use Rattle.run_record.specs.Session.{SessionState, session_rows, are_at_rest, some_given_up, IsLeftBy}
 use Rattle.run_record.specs.Reports.{IsBooked}
-use Rattle.run_record.proofs.Reporting.{all_booked}
+use Rattle.run_record.specs.Epochs.{HasEpochs}
+use Rattle.run_record.specs.Unsent.{IsSpent}
+use Rattle.run_record.proofs.Reporting.{all_booked, all_spent, all_epochs}
 use Rattle.run_record.proofs.Ends.{rest_so, all_done, gaves_of_rows}
 
 not_done : endings.Done ≡ endings.NoMemory → ⊥
@@ -60,6 +62,8 @@ module _ (plan : Scenario) (s : SessionState) (b b' : Book) (h : IsUnderway plan
     lives = subst (λ (fs : List SentFrame). LeadTo plan (map exchanged fs) l.missed l.leads) (sym frames) l.lives;
     gave = λ ok. has_gaves (rows ok);
     answers = λ ok. subst (λ (rs : List SlaveBook). AllBoth IsBooked l.leads rs) (sym (rows ok)) (all_booked s.recover l.leads s.ring.nodes s.notes same l.told);
+    unsent = λ ok. subst (λ (rs : List SlaveBook). AllBoth IsSpent l.leads rs) (sym (rows ok)) (all_spent s.recover l.leads s.ring.nodes s.notes same l.told);
+    epochs = λ ok. subst (λ (rs : List SlaveBook). AllBoth HasEpochs l.leads rs) (sym (rows ok)) (all_epochs s.recover l.leads s.ring.nodes s.notes same l.told);
     rests = elim answers [
       | inl is ↦ subst (λ (e : Ending). RestBy lens e l.leads b'.slaves) (sym is) (rest_by ending settled so left cut (λ ok. rows (λ none. ok (sym is ∙ none))))
       | inr none ↦ subst (λ (e : Ending). RestBy lens e l.leads b'.slaves) (sym none) tt

@@ -1,25 +1,35 @@
 -- WHAT IS NOTED OF ALL SLAVES, one after the other.
 use Rattle.std.proofs.Common.{◌≡◌, ◌⊎◌, inl, inr, ◌<◌, ◌≤◌, ℕ, zero, suc, ◌+◌, Bool, true, false, Option, Some, None, List, [], ◌∷◌, ◌++◌, map, length, length-append, get_or, refl, ap, sym, ◌∙◌, subst, arith}
-use Rattle.std.specs.Prelude.{IfSome, slice_get, slice_set, slice_index_or, nat_lt, not, is_some}
+use Rattle.std.specs.Prelude.{IfSome, slice_get, slice_set, slice_index_or, nat_lt, is_some, if◌then◌else◌}
 use Rattle.std.proofs.lemmas.Bool.{ltb-true, ltb-false, lt-ltb, le-ltb}
 use Rattle.exchange_model.specs.Rows.{Row}
 use Rattle.life_frames.specs.Shares.{AllBoth}
 use Rattle.life_model.specs.Lives.{Stand}
 use Rattle.life_runs.specs.Led.{Leads}
 use Rattle.run_book.specs.declared.book.SlaveBook.{SlaveBook}
-use Rattle.run_record.specs.Reports.{noted_in, Reports, AllReport, KeepsReports, ReportsTo, IsBooked}
+use Rattle.run_record.specs.Reports.{noted_in, waits_of, Reports, AllReport, KeepsReports, ReportsTo, IsBooked}
 use Rattle.link_mails.specs.Body.{Body}
 use Rattle.master_duty.specs.Reply.{Reply}
-use Rattle.master_hand.specs.Spoken.{Asked}
+use Rattle.mailbox_mail.specs.declared.outcome.ReplyKind.{ReplyKind}
+use Rattle.master_hand.specs.Spoken.{Asked, is_passed}
+use Rattle.master_node.specs.Changed.{TellsChange}
 use Rattle.master_node.specs.Told.{HasReply, Tells}
 use Rattle.master_node.specs.Wants.{gave_of, IsCounted, AllCounted}
+use Rattle.master_node.specs.declared.changed.Changed.{Changed}
 use Rattle.master_node.specs.declared.told.Told.{Told}
-use Rattle.run_record.specs.Notes.{began_script, told_noted, given_up}
+use Rattle.master_side.specs.Shown.{HasOver}
+use Rattle.run_record.specs.Notes.{began_script, answered, told_noted, changed_noted, change_noted, given_up, stood}
 use Rattle.run_record.specs.Session.{slave_row, slave_rows}
-use Rattle.script_answers.specs.Answers.{IsNoted, now_answer}
-use Rattle.script_answers.specs.Steps.{TurnsSo, PassesSo, LosesSo}
+use Rattle.life_epochs.specs.Spans.{is_leaving, is_open}
+use Rattle.run_record.specs.Epochs.{HasEpochs}
+use Rattle.run_record.specs.Unsent.{IsSpent}
+use Rattle.script_answers.specs.Answers.{IsNoted, Waits, now_answer}
+use Rattle.script_answers.specs.Steps.{EndedSo, TurnsSo, PassesSo, LosesSo}
+use Rattle.segment_model.specs.Ends.{Outcome}
+use Rattle.task_model.specs.Accounts.{Account, Change, Duty}
+use Rattle.run_record.specs.declared.notes.Awaited.{Awaited}
 use Rattle.run_record.specs.declared.notes.Notes.{Notes}
-use Rattle.run_record.proofs.Reports.{turn_same, turn_more, pass_still, pass_replied, pass_doubted, lost_still, lost_given, end_noted}
+use Rattle.run_record.proofs.Reports.{turn_same, turn_more, pass_still, pass_waits, pass_goes, pass_replied, pass_changed, pass_some, pass_anew, lost_still, lost_given, end_noted, end_spent, end_epochs}
 use Rattle.slave_server.specs.declared.server.SlaveServer.{SlaveServer}
 use Rattle.slave_steps.specs.Node.{Node}
 
@@ -107,11 +117,34 @@ all_booked recover (a ∷ as') nodes [] e r = absurd r
 all_booked recover (a ∷ as') [] (n ∷ notes) e r = absurd (omega (arith, e))
 all_booked recover (a ∷ as') (node ∷ nodes) (n ∷ notes) e r = (end_noted a n r.0, all_booked recover as' nodes notes (omega (arith, e)) r.1)
 
+pub all_spent : (recover : ℕ) (leads : List Leads) (nodes : List (Node SlaveServer)) (notes : List Notes) → length notes ≡ length nodes → AllReport leads notes → AllBoth IsSpent leads (slave_rows recover nodes notes)
+all_spent recover [] [] [] e r = tt
+all_spent recover [] (node ∷ nodes) [] e r = tt
+all_spent recover [] nodes (n ∷ notes) e r = absurd r
+all_spent recover (a ∷ as') nodes [] e r = absurd r
+all_spent recover (a ∷ as') [] (n ∷ notes) e r = absurd (omega (arith, e))
+all_spent recover (a ∷ as') (node ∷ nodes) (n ∷ notes) e r = (end_spent a recover node n r.0, all_spent recover as' nodes notes (omega (arith, e)) r.1)
+
+pub all_epochs : (recover : ℕ) (leads : List Leads) (nodes : List (Node SlaveServer)) (notes : List Notes) → length notes ≡ length nodes → AllReport leads notes → AllBoth HasEpochs leads (slave_rows recover nodes notes)
+all_epochs recover [] [] [] e r = tt
+all_epochs recover [] (node ∷ nodes) [] e r = tt
+all_epochs recover [] nodes (n ∷ notes) e r = absurd r
+all_epochs recover (a ∷ as') nodes [] e r = absurd r
+all_epochs recover (a ∷ as') [] (n ∷ notes) e r = absurd (omega (arith, e))
+all_epochs recover (a ∷ as') (node ∷ nodes) (n ∷ notes) e r = (end_epochs a recover node n r.0, all_epochs recover as' nodes notes (omega (arith, e)) r.1)
+
 pub both_lengths : {A B : Type 0} (P : A → B → Type 0) (as' : List A) (bs : List B) → AllBoth P as' bs → length bs ≡ length as'
 both_lengths P [] [] h = refl
 both_lengths P [] (b ∷ bs) h = absurd h
 both_lengths P (a ∷ as') [] h = absurd h
 both_lengths P (a ∷ as') (b ∷ bs) h = let more = both_lengths P as' bs h.1 in omega (arith, more)
+
+-- what is awaited at a place
+pub awaited_at : (w : Awaited) (notes : List Notes) (k : ℕ) (n : Notes) → slice_get notes k ≡ Some n → IfSome (slice_get notes k) (λ (m : Notes). m.awaited ≡ w) → n.awaited ≡ w
+awaited_at w notes k n e h = subst (λ (o : Option Notes). IfSome o (λ (m : Notes). m.awaited ≡ w)) e h
+
+pub awaited_there : (w : Awaited) (notes : List Notes) (k : ℕ) (n : Notes) → slice_get notes k ≡ Some n → n.awaited ≡ w → IfSome (slice_get notes k) (λ (m : Notes). m.awaited ≡ w)
+awaited_there w notes k n e h = subst (λ (o : Option Notes). IfSome o (λ (m : Notes). m.awaited ≡ w)) (sym e) h
 
 -- the same stands there, read twice
 pub same_whole : (notes : List Notes) (k : ℕ) (n d : Notes) → slice_get notes k ≡ Some n → slice_get notes k ≡ Some d → d ≡ n
@@ -147,11 +180,11 @@ module _ (recover frame : ℕ) (a b : Leads) (n : Notes) (q : LosesSo frame a b)
           absurd (omega (arith, over, long))
 
   pub loss_more : (bs : List Leads) → AllCounted recover bs → (k : ℕ) → slice_get bs k ≡ Some b → (more : Bool) (times : ℕ) → times ≡ length n.gave → more ≡ true →
-      IfSome (slice_get bs k) (λ a. IsCounted recover a.lived.life.stand (length (gave_of a)) → more ≡ nat_lt times (length (gave_of a))) → Reports b (given_up n frame)
-  loss_more bs all k e more times t is_so x = by q.gave
+      IfSome (slice_get bs k) (λ a. IsCounted recover a.lived.life.stand (length (gave_of a)) → more ≡ nat_lt times (length (gave_of a))) → (leaves : Bool) → IfSome (slice_get bs k) (λ a. leaves ≡ is_leaving a.lived.life.stand) → Reports b (given_up n leaves frame)
+  loss_more bs all k e more times t is_so x leaves y = by q.gave
     where
-      by : (gave_of b ≡ gave_of a) ⊎ (gave_of b ≡ gave_of a ++ frame ∷ []) → Reports b (given_up n frame)
-      by (inr one) = lost_given frame a b n q r one
+      by : (gave_of b ≡ gave_of a) ⊎ (gave_of b ≡ gave_of a ++ frame ∷ []) → Reports b (given_up n leaves frame)
+      by (inr one) = lost_given frame a b n q r leaves (known (λ d. leaves ≡ is_leaving d.lived.life.stand) bs k b e y) one
       by (inl same) =
           let m = tells k bs e all more times t x in
           let below = ltb-true (length (gave_of a)) (length (gave_of b)) (sym m ∙ is_so) in
@@ -166,33 +199,75 @@ module _ (frame : ℕ) (a b : Leads) (n : Notes) (q : TurnsSo frame a b) (r : Re
       turn_same frame a b n q r (le-ltb n.scripted b.number (omega (arith, few, is)))
 
   pub script_more : (bs : List Leads) (k : ℕ) → slice_get bs k ≡ Some b → (number : ℕ) → n.scripted < number → IfSome (slice_get bs k) (λ a. number ≡ a.number) → (state : Bool) →
-      IfSome (slice_get bs k) (λ a. a.lived.life.stand ≡ Stand.Open → state ≡ is_some a.lived.life.era.account.hand) → Reports b (began_script n number (not state) frame)
+      IfSome (slice_get bs k) (λ a. a.lived.life.stand ≡ Stand.Open → state ≡ is_some a.lived.life.era.account.hand) → Reports b (began_script n number state frame)
   script_more bs k e number more x state y =
       let is = known (λ d. number ≡ d.number) bs k b e x in
       let shown = known (λ d. d.lived.life.stand ≡ Stand.Open → state ≡ is_some d.lived.life.era.account.hand) bs k b e y in
-      subst (λ (m : ℕ). Reports b (began_script n m (not state) frame)) (sym is) (turn_more frame a b n q r (lt-ltb n.scripted b.number (omega (arith, more, is))) state shown)
+      subst (λ (m : ℕ). Reports b (began_script n m state frame)) (sym is) (turn_more frame a b n q r (lt-ltb n.scripted b.number (omega (arith, more, is))) state shown)
 
--- BEHIND A RETURN: by what it tells of the newest service
-module _ (frame : ℕ) (a b : Leads) (n : Notes) (q : PassesSo frame a b) (r : Reports a n) where
-  pub reply_none : n.mails ≡ false → Reports b n
-  reply_none is_not = pass_still frame a b n q r (λ is_so. absurd (let bad : true ≡ false = sym is_so ∙ is_not in cc))
+-- BEHIND A RETURN: by what it tells of the newest service, and by how it stands to the slave
+module _ (frame : ℕ) (a b : Leads) (n : Notes) (q : PassesSo frame a b) (r : Reports a n) (leaves opens : Bool) (bs : List Leads) (k : ℕ) (e : slice_get bs k ≡ Some b) (f : IfSome (slice_get bs k) (λ a. leaves ≡ is_leaving a.lived.life.stand))
+    (g : IfSome (slice_get bs k) (λ a. opens ≡ is_open a.lived.life.stand)) where
+  leaves_is : leaves ≡ is_leaving b.lived.life.stand
+  leaves_is = known (λ d. leaves ≡ is_leaving d.lived.life.stand) bs k b e f
+
+  opens_is : opens ≡ is_open b.lived.life.stand
+  opens_is = known (λ d. opens ≡ is_open d.lived.life.stand) bs k b e g
+
+  pub reply_none : n.awaited ≡ Awaited.Nothing → Reports b (stood n leaves opens frame)
+  reply_none is = pass_still frame a b n q r leaves opens leaves_is opens_is is
 
   no_row : (now : Option Held) → ((row : Held) → now ≡ Some row → row.answer ≡ None) → now_answer now ≡ None
   no_row None h = refl
   no_row (Some row) h = h row refl
 
-  module _ (is_so : n.mails ≡ true) (bs : List Leads) (k : ℕ) (e : slice_get bs k ≡ Some b) where
+  module _ (is_so : n.awaited ≡ Awaited.Reply) where
+    awaits : IsNoted a Waits.reply n.scripted (noted_in n.begun n.answers)
+    awaits = subst (λ (z : Awaited). IsNoted a (waits_of z) n.scripted (noted_in n.begun n.answers)) is_so r.told
+
     stands : b.lived.life.stand ≡ Stand.Open
-    stands = q.up n.scripted (noted_in n.begun n.answers) (subst (λ (z : Bool). IsNoted a z n.scripted (noted_in n.begun n.answers)) is_so r.told)
+    stands = q.reply.up n.scripted (noted_in n.begun n.answers) awaits
 
     said : (told : Told) (value : List ℕ) → IfSome (slice_get bs k) (λ a. a.lived.life.stand ≡ Stand.Open → Tells told [] value a.lived.life.era.side.now) → Tells told [] value b.lived.life.era.side.now
     said told value x = known (λ d. d.lived.life.stand ≡ Stand.Open → Tells told [] value d.lived.life.era.side.now) bs k b e x stands
 
-    pub reply_told : (told : Told) (value : List ℕ) → IfSome (slice_get bs k) (λ a. a.lived.life.stand ≡ Stand.Open → Tells told [] value a.lived.life.era.side.now) → Reports b (told_noted told value frame n)
-    reply_told Told.Waits value x = pass_still frame a b n q r (λ w. no_row b.lived.life.era.side.now (said Told.Waits value x))
-    reply_told Told.Unknown value x = pass_doubted frame a b n q r
+    -- no mail is passed on by a service of the script
+    none_passed : (now : Option Held) → b.lived.life.era.side.now ≡ now → ((row : Held) → now ≡ Some row → is_passed row.service ≡ true) → now_answer now ≡ None
+    none_passed None f h = refl
+    none_passed (Some row) f h = absurd (q.reply.own n.scripted (noted_in n.begun n.answers) row awaits f (h row refl))
+
+    pub reply_told : (told : Told) (value : List ℕ) → IfSome (slice_get bs k) (λ a. a.lived.life.stand ≡ Stand.Open → Tells told [] value a.lived.life.era.side.now) → Reports b (stood (told_noted told value frame n) leaves opens frame)
+    reply_told Told.Waits value x = pass_waits frame a b n q r leaves opens leaves_is opens_is is_so (no_row b.lived.life.era.side.now (said Told.Waits value x))
+    reply_told Told.Unknown value x = pass_waits frame a b n q r leaves opens leaves_is opens_is is_so (none_passed b.lived.life.era.side.now refl (said Told.Unknown value x))
     reply_told (Told.Answered kind) value x =
         let s = said (Told.Answered kind) value x in
         let has = s.2 in
         let same : Some (Some (kind, s.0), has.frame) ≡ Some (Some (kind, value), has.frame) = ap (λ (v : List ℕ). Some (Some (kind, v), has.frame)) (sym s.1) in
-        pass_replied frame a b n q r (record { kind = kind; value = value }) has.frame is_so (ap now_answer has.is ∙ has.answer ∙ same)
+        pass_replied frame a b n q r leaves opens leaves_is opens_is (record { kind = kind; value = value }) has.frame is_so (ap now_answer has.is ∙ has.answer ∙ same)
+
+  open_stand : (stand : Stand) → is_open stand ≡ true → stand ≡ Stand.Open
+  open_stand (Stand.Opens o) h = absurd (let bad : false ≡ true = h in cc)
+  open_stand Stand.Open h = refl
+  open_stand Stand.Gone h = absurd (let bad : false ≡ true = h in cc)
+
+  ended : (over : List (Change Reply)) (outcome : Outcome Reply) → HasOver over outcome → EndedSo over outcome
+  ended over outcome h = record { front = h.front; change = h.change; whole = h.is; is = h.answered }
+
+  module _ (is_so : n.awaited ≡ Awaited.Change) where
+    abbrev account : Account Asked Reply
+    account = b.lived.life.era.account
+
+    -- by what is told of a slave that was open and is
+    by_change : (changed : Changed) → n.up ≡ true → opens ≡ true → TellsChange changed account → Reports b (stood (changed_noted changed frame n) leaves opens frame)
+    by_change Changed.Nothing up o t = pass_some frame a b n q r leaves opens leaves_is opens_is is_so up o t.0 t.1
+    by_change Changed.Going up o t = pass_goes frame a b n q r leaves opens leaves_is opens_is is_so (λ h. (up, ap is_some t.1))
+    by_change Changed.Reached up o t = pass_changed frame a b n q r leaves opens leaves_is opens_is (record { kind = ReplyKind.Done; value = [] }) Outcome.Reached refl is_so up o t.0 (ended account.over Outcome.Reached t.1)
+    by_change (Changed.Refused code) up o t = pass_changed frame a b n q r leaves opens leaves_is opens_is (record { kind = ReplyKind.StateRefused code; value = [] }) (Outcome.Refused code) refl is_so up o t.0 (ended account.over (Outcome.Refused code) t.1)
+
+    pub reply_changed : (changed : Changed) → IfSome (slice_get bs k) (λ a. a.lived.life.stand ≡ Stand.Open → TellsChange changed a.lived.life.era.account) → Reports b (stood (change_noted opens changed frame n) leaves opens frame)
+    reply_changed changed x = by opens n.up refl refl
+      where
+        by : (o u : Bool) → opens ≡ o → n.up ≡ u → Reports b (stood (if o then (if u then changed_noted changed frame n else answered n (record { kind = ReplyKind.Done; value = [] }) frame) else n) leaves opens frame)
+        by true true o u = by_change changed u o (known (λ d. d.lived.life.stand ≡ Stand.Open → TellsChange changed d.lived.life.era.account) bs k b e x (open_stand b.lived.life.stand (sym opens_is ∙ o)))
+        by true false o u = pass_anew frame a b n q r leaves opens leaves_is opens_is (record { kind = ReplyKind.Done; value = [] }) is_so u o
+        by false u o f = pass_goes frame a b n q r leaves opens leaves_is opens_is is_so (λ h. absurd (let bad : true ≡ false = sym h ∙ o in cc))

@@ -15,6 +15,8 @@ use Rattle.run_book.specs.declared.book.Ending.TheVariants as endings
 use Rattle.run_book.specs.declared.book.SentFrame.{SentFrame}
 use Rattle.run_book.specs.declared.book.SlaveBook.{SlaveBook}
 use Rattle.run_record.specs.Reports.{AllReport, IsBooked}
+use Rattle.run_record.specs.Epochs.{HasEpochs}
+use Rattle.run_record.specs.Unsent.{IsSpent}
 use Rattle.run_record.specs.declared.notes.Notes.{Notes}
 use Rattle.segment_plan.specs.declared.plan.Scenario.{Scenario}
 use Rattle.slave_server.specs.Serving.{next_mail}
@@ -78,4 +80,6 @@ pub record LedBook (plan : Scenario) (book : Book) (ending : Ending) : Type 0 wh
   pub lives : LeadTo plan (map exchanged book.frames) missed leads
   pub gave : ending ≢ endings.NoMemory → gaves_in book.slaves ≡ map gave_of leads
   pub answers : ending ≢ endings.NoMemory → AllBoth IsBooked leads book.slaves
+  pub unsent : ending ≢ endings.NoMemory → AllBoth IsSpent leads book.slaves
+  pub epochs : ending ≢ endings.NoMemory → AllBoth HasEpochs leads book.slaves
   pub rests : RestBy (lens_of plan.slaves) ending leads book.slaves

@@ -13,10 +13,15 @@ use Rattle.master_node.specs.declared.node.MasterNode.{MasterNode}
 use Rattle.run_book.specs.declared.book.Answer.{Answer}
 use Rattle.run_book.specs.declared.book.Answer.TheVariants.{Replied, InDoubt, NotSent}
 use Rattle.run_book.specs.declared.book.Begun.{Begun}
+use Rattle.run_book.specs.declared.book.Epoch.{Epoch}
 use Rattle.run_book.specs.declared.book.SlaveBook.{SlaveBook}
+use Rattle.run_record.specs.declared.notes.Awaited.{Awaited}
 use Rattle.run_record.specs.declared.notes.Notes.{Notes}
+use Rattle.run_record.specs.Notes.{awaits_nothing}
 use Rattle.run_record.specs.declared.standing.Log.{Log}
-use Rattle.script_answers.specs.Answers.{Noted, AllNoted, IsNoted, life_scripted}
+use Rattle.run_record.specs.Epochs.{IsMarked}
+use Rattle.run_record.specs.Unsent.{IsNumbered}
+use Rattle.script_answers.specs.Answers.{Noted, AllNoted, IsNoted, Waits, life_scripted}
 use Rattle.script_answers.specs.Steps.{TurnsSo, PassesSo, LosesSo}
 use Rattle.segment_ring.specs.declared.wire.Fate.{Fate}
 use Rattle.segment_ring.specs.declared.wire.Fate.TheVariants.{Pass, Lost}
@@ -39,6 +44,12 @@ noted_in [] answers = []
 noted_in (b ∷ bs) [] = noted_of b.origin b.frame None (noted_in bs [])
 noted_in (b ∷ bs) (a ∷ as') = noted_of b.origin b.frame (reply_in a) (noted_in bs as')
 
+-- what is awaited of the newest service, as a life has it
+abbrev pub waits_of : Awaited → Waits
+waits_of Awaited.Nothing = Waits.nothing
+waits_of Awaited.Reply = Waits.reply
+waits_of Awaited.Change = Waits.change
+
 -- a service in hand isn't answered
 abbrev pub unanswered : Bool → ℕ
 unanswered in_hand = if in_hand then 1 else 0
@@ -51,17 +62,19 @@ pub record LastScript (begun : List Begun) (answers : List Answer) : Type 0 wher
   pub last : begun ≡ front ++ record { origin = Script number; frame = frame } ∷ []
   pub beside : length front ≡ length answers
 
--- WHAT IS NOTED GOES WITH THE LIFE: the scripted services, each with its reply; each service but the one in hand has an answer; and where that isn't one
--- by mails of the script, whatever answer it gets says nothing of those
-pub record IsReporting (a : Leads) (begun : List Begun) (answers : List Answer) (in_hand mails : Bool) (scripted : ℕ) (given : List ℕ) : Type 0 where
-  pub told : IsNoted a mails scripted (noted_in begun answers)
+-- WHAT IS NOTED GOES WITH THE LIFE: the scripted services, each with just what it was answered; each service but the one in hand has an answer; and where
+-- none of the script is awaited, whatever answer that gets says nothing of those; what did not come into hand of the script is left, and the epochs are noted
+pub record IsReporting (a : Leads) (begun : List Begun) (answers : List Answer) (in_hand : Bool) (awaited : Awaited) (scripted left : ℕ) (given : List ℕ) (epochs : List Epoch) (leaving up : Bool) : Type 0 where
+  pub told : IsNoted a (waits_of awaited) scripted (noted_in begun answers)
   pub aligned : length begun ≡ length answers + unanswered in_hand
-  pub last : mails ≡ true → LastScript begun answers
-  pub other : in_hand ≡ true → mails ≡ false → (answer : Answer) → AllNoted (life_scripted a.lived.life) (noted_in begun (answers ++ answer ∷ []))
+  pub last : awaits_nothing awaited ≡ false → LastScript begun answers
+  pub other : in_hand ≡ true → awaits_nothing awaited ≡ true → (answer : Answer) → noted_in begun (answers ++ answer ∷ []) ≡ noted_in begun answers
   pub gave : given ≡ gave_of a
+  pub rest : IsNumbered (length a.script) begun answers scripted left
+  pub marked : IsMarked a epochs leaving up
 
 abbrev pub Reports : Leads → Notes → Type 0
-Reports a n = IsReporting a n.begun n.answers n.in_hand n.mails n.scripted n.gave
+Reports a n = IsReporting a n.begun n.answers n.in_hand n.awaited n.scripted n.left n.gave n.epochs n.leaving n.up
 
 abbrev pub AllReport : List Leads → List Notes → Type 0
 AllReport as' notes = AllBoth (λ a n. Reports a n) as' notes
@@ -98,7 +111,7 @@ abbrev pub ReportsBy : Fate → ℕ → MasterNode → Log → Log → Type 0
 ReportsBy Pass frame m r r' = PassesAll frame m (ReportsOn r.notes r'.notes)
 ReportsBy (Lost after) frame m r r' = LosesAll frame r.recover m (ReportsOn r.notes r'.notes)
 
--- EACH REPLY THAT A BOOK REPORTS of a scripted service by mails is the answer of its row, of that frame; and of the script just the services stand in the
--- book that came into hand, each once and in order, with its frame
+-- OF THE SCRIPT JUST THE SERVICES STAND IN THE BOOK that came into hand, each once and in order, with its frame; and each is reported with just what it
+-- came to: the answer of its row, or the outcome of its change of state, of that frame, or none where it has none
 abbrev pub IsBooked : Leads → SlaveBook → Type 0
 IsBooked a row = AllNoted (life_scripted a.lived.life) (noted_in row.begun row.answers)

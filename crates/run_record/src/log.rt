@@ -72,12 +72,13 @@ fn note_began(notes: &mut Notes, origin: Origin, frame: u32) -> Result<(), NoMem
 {
     match origin {
         Origin::Script(_) => Ok(()),
-        Origin::Forward(number) => notes.began(Origin::Forward(number), frame),
-        Origin::Gateway(number) => notes.began(Origin::Gateway(number), frame),
+        Origin::Forward(number) => notes.began_other(Origin::Forward(number), frame),
+        Origin::Gateway(number) => notes.began_other(Origin::Gateway(number), frame),
     }
 }
 
-// Notes what happened at a slave. That it was given up is noted by its master's count, and the reply of a scripted service by its hand.
+// Notes what happened at a slave. That it was given up is noted by its master's count, the answer of a scripted service by its hand and by how it changed
+// the state, and its epochs by how its master stands to it.
 fn note_at(
     alloc: Global,
     master: &MasterNode,
@@ -98,12 +99,12 @@ fn note_at(
             let octets = Octets::copy_of(alloc, octets.as_slice())?;
             notes.emergencies.add(octets)
         }
-        Event::Cleared { own, .. } => notes.cleared(*own, moment.frame),
-        Event::Opened { .. } => {
-            notes.opened(moment.frame);
+        Event::Cleared { own, .. } => {
+            notes.own = *own;
             Ok(())
         }
-        Event::GivenUp { .. }
+        Event::Opened { .. }
+        | Event::GivenUp { .. }
         | Event::Host(_)
         | Event::Switch(_)
         | Event::GatewayReply { .. }

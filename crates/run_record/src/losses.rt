@@ -41,8 +41,9 @@ impl Log {
             return Ok(());
         }
         let home = home_at(self.homes.as_slice(), place);
+        let leaves = master.is_leaving(at);
         let notes = self.notes.at_mut(place);
-        let noted = notes.given_up(frame);
+        let noted = notes.given_up(leaves, frame);
         *self.stations.at_mut(place) = station_of(home, notes, self.recover);
         noted
     }

@@ -1,10 +1,22 @@
 ghost use Rattle.std.specs.Prelude.{◌≡◌, ◌++◌, ◌∷◌, [], IfOk, OnOk, false, slice_get};
 ghost use Rattle.run_record.specs.Notes as the;
+ghost use Rattle.run_record.specs.declared.notes.Awaited.TheVariants as Awaits;
 
 use ec_fields::{NoMemory, Octets, Rows};
 use master_node::Origin;
 use run_book::{Answer, Begun, Epoch, Reply};
 use std::alloc::Global;
+
+/// What is awaited of the service that came into hand last.
+#[derive(Clone, Copy, Debug, PartialEq, Eq)]
+pub enum Awaited {
+    /// Nothing of a service of the script: it has its answer or gets none, or it is another service.
+    Nothing,
+    /// The reply of one by mails of the script.
+    Reply,
+    /// The outcome of a change of state of the script.
+    Change,
+}
 
 /// What became of a slave so far, but for the slave itself.
 #[derive(Debug, Drop)]
@@ -16,14 +28,20 @@ pub struct Notes {
     pub gave: Rows<u32>,
     /// The service that came into hand last isn't answered yet.
     pub in_hand: bool,
-    /// It is one by mails of the script, and its reply is awaited.
-    pub mails: bool,
+    /// What is awaited of it.
+    pub awaited: Awaited,
     /// How many scripted services came into hand.
     pub scripted: u32,
     /// How many packets were received from the slave.
     pub packets: u32,
     /// How many scripted services didn't come into hand yet.
     pub left: u32,
+    /// The slave is to be returned to Init.
+    pub leaving: bool,
+    /// It is open.
+    pub up: bool,
+    /// The last return to Init was caused by a service.
+    pub own: bool,
 }
 
 // A number of rows; it stands still at its type's end.
@@ -42,6 +60,17 @@ fn first_row(own: bool, begun: usize) -> usize
     ensures { result ≡ the.first_row own begun }
 {
     if own { begun.saturating_sub(1) } else { begun }
+}
+
+// What is awaited of a service of the script that comes into hand.
+fn awaited_by(state: bool) -> Awaited
+    ensures { result ≡ the.awaited_by state }
+{
+    if state {
+        Awaited::Change
+    } else {
+        Awaited::Reply
+    }
 }
 
 fn left_behind(origin: Origin, left: u32) -> u32
@@ -73,10 +102,13 @@ impl Notes {
             epochs,
             gave: Rows::new(alloc),
             in_hand: false,
-            mails: false,
+            awaited: Awaited::Nothing,
             scripted: 0,
             packets: 0,
             left,
+            leaving: false,
+            up: false,
+            own: false,
         })
     }
 
@@ -92,13 +124,24 @@ impl Notes {
         Ok(())
     }
 
-    /// The next service of the script came into hand, by mails or a change of state; the one with this number follows.
-    pub fn began_script(&mut self, number: u32, mails: bool, frame: u32) -> Result<(), NoMemory>
-        ensures is { OnOk result (self.new ≡ the.began_script self.old number mails frame) }
+    /// The same of a service that is none of the script. While an answer is awaited of one that is, none other comes into hand.
+    pub fn began_other(&mut self, origin: Origin, frame: u32) -> Result<(), NoMemory>
+        ensures is { OnOk result (self.new ≡ the.began_where self.old origin frame) }
+        ensures gave { self.new.gave ≡ self.old.gave }
+    {
+        match self.awaited {
+            Awaited::Nothing => self.began(origin, frame),
+            Awaited::Reply | Awaited::Change => Ok(()),
+        }
+    }
+
+    /// The next service of the script came into hand, a change of state or one by mails; the one with this number follows.
+    pub fn began_script(&mut self, number: u32, state: bool, frame: u32) -> Result<(), NoMemory>
+        ensures is { OnOk result (self.new ≡ the.began_script self.old number state frame) }
         ensures gave { self.new.gave ≡ self.old.gave }
     {
         self.began(Origin::Script(self.scripted), frame)?;
-        self.mails = mails;
+        self.awaited = awaited_by(state);
         self.scripted = number;
         Ok(())
     }
@@ -109,19 +152,22 @@ impl Notes {
         ensures gave { self.new.gave ≡ self.old.gave }
     {
         self.in_hand = false;
-        self.mails = false;
+        self.awaited = Awaited::Nothing;
         self.answers.add(Answer::Replied { reply, frame })
     }
 
-    /// So it is where a service is in hand; one by mails of the script is left alone.
+    /// So it is where a service is in hand; one of the script whose answer is awaited is left alone.
     pub fn answered(&mut self, reply: Reply, frame: u32) -> Result<(), NoMemory>
         ensures is { OnOk result (self.new ≡ the.answered_where self.old reply frame) }
         ensures gave { self.new.gave ≡ self.old.gave }
     {
-        if !self.in_hand || self.mails {
+        if !self.in_hand {
             return Ok(());
         }
-        self.replied(reply, frame)
+        match self.awaited {
+            Awaited::Nothing => self.replied(reply, frame),
+            Awaited::Reply | Awaited::Change => Ok(()),
+        }
     }
 
     /// A service that is in hand isn't answered any more.
@@ -129,7 +175,7 @@ impl Notes {
         ensures is { OnOk result (self.new ≡ the.doubted self.old) }
         ensures gave { self.new.gave ≡ self.old.gave }
     {
-        self.mails = false;
+        self.awaited = Awaited::Nothing;
         if !self.in_hand {
             return Ok(());
         }
@@ -137,19 +183,22 @@ impl Notes {
         self.answers.add(Answer::InDoubt)
     }
 
-    /// The slave was given up at a frame that was lost.
-    pub fn given_up(&mut self, frame: u32) -> Result<(), NoMemory>
-        ensures { OnOk result (self.new ≡ the.given_up self.old frame) }
+    /// The slave was given up at a frame that was lost; it is to be returned to Init, or is gone for good.
+    pub fn given_up(&mut self, leaves: bool, frame: u32) -> Result<(), NoMemory>
+        ensures { OnOk result (self.new ≡ the.given_up self.old leaves frame) }
     {
         self.doubt()?;
+        self.leaving = leaves;
+        self.up = false;
         self.gave.add(frame)
     }
 
-    /// The return of a frame showed the slave in Init: an epoch begins. Where a service caused it, that is its first.
-    pub fn cleared(&mut self, own: bool, frame: u32) -> Result<(), NoMemory>
-        ensures { OnOk result (self.new ≡ the.cleared self.old own frame) }
+    // The return of a frame showed the slave in Init: an epoch begins. Where a service caused it, that is its first.
+    fn cleared(&mut self, frame: u32) -> Result<(), NoMemory>
+        ensures is { OnOk result (self.new ≡ record self.old { epochs = the.epochs_cleared self.old frame }) }
+        ensures gave { self.new.gave ≡ self.old.gave }
     {
-        let row = count(first_row(own, self.begun.len()));
+        let row = count(first_row(self.own, self.begun.len()));
         let emergencies = count(self.emergencies.len());
         self.epochs.add(Epoch {
             row,
@@ -160,14 +209,39 @@ impl Notes {
         })
     }
 
-    /// The return of a frame showed the slave in the state that was opened.
-    pub fn opened(&mut self, frame: u32)
-        ensures { self.new ≡ the.opened self.old frame }
+    // The return of a frame showed the slave in the state that was opened.
+    fn opened(&mut self, frame: u32)
+        ensures { self.new ≡ record self.old { epochs = the.epochs_opened self.old frame } }
     {
         let many = self.epochs.len();
         if many > 0 {
             self.epochs.at_mut(many - 1).opened = Some(frame);
         }
+    }
+
+    // What a frame that came back made of its epochs, by how its master stood to it before and stands now.
+    fn turned(&mut self, leaves: bool, opens: bool, frame: u32) -> Result<(), NoMemory>
+        ensures is { OnOk result (self.new ≡ record self.old { epochs = the.epochs_stood self.old leaves opens frame }) }
+        ensures gave { self.new.gave ≡ self.old.gave }
+    {
+        if self.leaving && !leaves {
+            return self.cleared(frame);
+        }
+        if !self.up && opens {
+            self.opened(frame);
+        }
+        Ok(())
+    }
+
+    /// So its master stands to it behind a frame that came back.
+    pub fn stands(&mut self, leaves: bool, opens: bool, frame: u32) -> Result<(), NoMemory>
+        ensures is { OnOk result (self.new ≡ the.stood self.old leaves opens frame) }
+        ensures gave { self.new.gave ≡ self.old.gave }
+    {
+        self.turned(leaves, opens, frame)?;
+        self.leaving = leaves;
+        self.up = opens;
+        Ok(())
     }
 
     /// A packet was received from the slave.
@@ -179,7 +253,7 @@ impl Notes {
 
     /// The run ended: a service in hand is in doubt, and what is left of the script was not sent.
     pub fn end(&mut self) -> Result<(), NoMemory>
-        ensures { OnOk result (self.new ≡ record self.old { answers = the.ended self.old; in_hand = false; mails = false }) }
+        ensures { OnOk result (self.new ≡ record self.old { answers = the.ended self.old; in_hand = false; awaited = Awaits.Nothing }) }
     {
         self.doubt()?;
         for _ in 0..self.left {

@@ -27,8 +27,8 @@ impl Log {
         if number <= rows[place].scripted {
             return Ok(());
         }
-        let mails = !master.changes_state(at);
-        self.notes.at_mut(place).began_script(number, mails, frame)
+        let state = master.changes_state(at);
+        self.notes.at_mut(place).began_script(number, state, frame)
     }
 
     // So it is of each slave.

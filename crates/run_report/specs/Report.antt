@@ -1,9 +1,10 @@
 -- The report of a run, line by line.
-use Rattle.std.specs.Prelude.{◌≡◌, ℕ, ◌+◌, ◌-◌, ◌^◌, ◌==◌, ◌&&◌, List, [], ◌∷◌, ◌++◌, length, codes, Bool, true, false, if◌then◌else◌, count_by, slice_get, Option, Some, None}
-use Rattle.std.specs.Fmt.{decimal, digits, format_spec, padded_integral}
+use Rattle.std.specs.Prelude.{◌≡◌, ℕ, ◌+◌, ◌==◌, ◌&&◌, List, [], ◌∷◌, ◌++◌, length, codes, Bool, true, false, if◌then◌else◌, count_by, slice_get, Option, Some, None}
+use Rattle.std.specs.Fmt.{decimal, digits}
 use Rattle.hex.specs.Hex.{encode_lower}
 use Rattle.mailbox_mail.specs.declared.outcome.ReplyKind.{ReplyKind}
 use Rattle.mailbox_mail.specs.declared.outcome.ReplyKind.TheVariants as kinds
+use Rattle.reply_text.specs.Reply.{hex_of, kind_text}
 use Rattle.segment_plan.specs.declared.slave.SlaveSpec.{SlaveSpec}
 use Rattle.segment_plan.specs.declared.plan.Scenario.{Scenario}
 use Rattle.segment_ring.specs.declared.wire.Fate.{Fate}
@@ -22,10 +23,6 @@ use Rattle.run_book.specs.declared.book.Ending.{Ending}
 use Rattle.run_book.specs.declared.book.Ending.TheVariants as endings
 use Rattle.run_book.specs.declared.book.SentFrame.{SentFrame}
 
--- a number in hexadecimal digits, with zeros in front up to this width
-abbrev pub hex_of : ℕ → ℕ → List ℕ
-hex_of width n = padded_integral (format_spec 32 0 4 width (2 ^ 64 - 1)) false [] (digits 16 false n)
-
 -- a frame that the plan loses
 abbrev pub is_lost : Fate → Bool
 is_lost Pass = false
@@ -35,22 +32,6 @@ is_lost (Lost after) = true
 abbrev pub frames_line : List SentFrame → List ℕ
 frames_line frames =
     codes "frames " ++ (decimal (length frames) ++ (codes " lost " ++ (decimal (count_by (λ (f : SentFrame). is_lost f.fate) frames) ++ codes "\n")))
-
--- a value, or the bare word where it is empty
-abbrev pub value_text : List ℕ → List ℕ
-value_text bytes = if length bytes == 0 then codes "value" else codes "value " ++ encode_lower bytes
-
--- what a service came to
-abbrev pub kind_text : ReplyKind → List ℕ → List ℕ
-kind_text kinds.Done value = codes "done"
-kind_text kinds.Value value = value_text value
-kind_text (kinds.Abort code) value = codes "abort " ++ hex_of 8 code
-kind_text (kinds.FoeError code) value = codes "foe " ++ hex_of 4 code
-kind_text (kinds.SoeError code) value = codes "soe " ++ hex_of 4 code
-kind_text (kinds.EoeResult code) value = codes "eoe " ++ hex_of 4 code
-kind_text (kinds.MailboxError detail) value = codes "mailbox " ++ hex_of 4 detail
-kind_text (kinds.StateRefused code) value = codes "refused " ++ hex_of 4 code
-kind_text kinds.Handed value = codes "handed"
 
 -- what became of a service
 abbrev pub answer_text : Answer → List ℕ

@@ -1,61 +1,18 @@
-ghost use Rattle.std.specs.Prelude.{◌≡◌, ◌++◌, length, codes, IfOk, OnOk, OnErr};
-ghost use Rattle.run_report.specs.Report.{hex_of, value_text, kind_text, answer_text, answer_line, answer_lines, is_scripted, is_packet, is_handed, is_handed_kind, packets_handed, Extends};
+ghost use Rattle.std.specs.Prelude.{◌≡◌, ◌++◌, length, IfOk, OnOk, OnErr};
+ghost use Rattle.run_report.specs.Report.{answer_text, answer_line, answer_lines, is_scripted, is_packet, is_handed, is_handed_kind, packets_handed, Extends};
 
 use ec_fields::{NoMemory, Octets, Rows};
 use mailbox_mail::ReplyKind;
 use master_node::Origin;
-use run_book::{Answer, Begun, Reply};
+use reply_text::reply_text;
+use run_book::{Answer, Begun};
 use std::alloc::Global;
-
-fn text_of_value(alloc: Global, value: &[u8]) -> Result<Octets, NoMemory>
-    ensures { IfOk result (λ text. text ≡ value_text value.now) }
-{
-    if value.is_empty() {
-        return Octets::copy_of(alloc, b"value");
-    }
-    let digits = hex::encode(alloc, value)?;
-    let mut text = Octets::copy_of(alloc, b"value ")?;
-    text.add(digits.as_bytes())?;
-    Ok(text)
-}
-
-fn coded(alloc: Global, word: &str, code: u32) -> Result<Octets, NoMemory>
-    ensures { IfOk result (λ text. text ≡ word.now ++ hex_of 4 code) }
-{
-    let digits = format!(in alloc; "{code:04x}")?;
-    let mut text = Octets::copy_of(alloc, word.as_bytes())?;
-    text.add(digits.as_bytes())?;
-    Ok(text)
-}
-
-fn text_of_abort(alloc: Global, code: u32) -> Result<Octets, NoMemory>
-    ensures { IfOk result (λ text. text ≡ codes "abort " ++ hex_of 8 code) }
-{
-    let text = format!(in alloc; "abort {code:08x}")?;
-    Octets::copy_of(alloc, text.as_bytes())
-}
-
-fn text_of_reply(alloc: Global, reply: &Reply) -> Result<Octets, NoMemory>
-    ensures { IfOk result (λ text. text ≡ kind_text reply.now.kind reply.now.value) }
-{
-    match reply.kind {
-        ReplyKind::Done => Octets::copy_of(alloc, b"done"),
-        ReplyKind::Value => text_of_value(alloc, reply.value.bytes()),
-        ReplyKind::Abort(code) => text_of_abort(alloc, code),
-        ReplyKind::FoeError(code) => coded(alloc, "foe ", code),
-        ReplyKind::SoeError(code) => coded(alloc, "soe ", u32::from(code)),
-        ReplyKind::EoeResult(code) => coded(alloc, "eoe ", u32::from(code)),
-        ReplyKind::MailboxError(detail) => coded(alloc, "mailbox ", u32::from(detail)),
-        ReplyKind::StateRefused(code) => coded(alloc, "refused ", u32::from(code)),
-        ReplyKind::Handed => Octets::copy_of(alloc, b"handed"),
-    }
-}
 
 fn text_of_answer(alloc: Global, answer: &Answer) -> Result<Octets, NoMemory>
     ensures { IfOk result (λ text. text ≡ answer_text answer.now) }
 {
     match answer {
-        Answer::Replied { reply, .. } => text_of_reply(alloc, reply),
+        Answer::Replied { reply, .. } => reply_text(alloc, reply.kind, reply.value.bytes()),
         Answer::InDoubt => Octets::copy_of(alloc, b"in doubt"),
         Answer::NotSent => Octets::copy_of(alloc, b"not sent"),
     }

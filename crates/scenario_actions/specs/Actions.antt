@@ -75,5 +75,6 @@ abbrev pub only_keys_of : Option Action → Place → Members → Result (Unit {
 only_keys_of None place ms = Ok tt
 only_keys_of (Some action) place ms = only_keys (keys_of action) place ms
 
+-- what a service does, by its key `do`
 abbrev pub action_at : Place → Members → Result Action Refusal
 action_at place ms = text_at (codes "do") place ms >>= λ word. wanted OutOfRange place (action_of word)

@@ -25,6 +25,7 @@ are_idn_bounds None max = true
 are_idn_bounds (Some least) None = true
 are_idn_bounds (Some least) (Some most) = nat_le least most
 
+-- the bounds of an element: both within its size, the least not above the greatest
 abbrev pub idn_bounds_at : ℕ × ℕ → Place → Members → Result (Option ℕ × Option ℕ) Refusal
 idn_bounds_at sizes place ms = do
   min ← idn_bound_if (is_integer sizes.0 sizes.1) (codes "min") sizes.1 place ms
@@ -37,6 +38,7 @@ abbrev pub is_least : Option ℕ → ℕ → Bool
 is_least None number = true
 is_least (Some least) number = nat_le least number
 
+-- nor is the greatest
 abbrev pub is_most : Option ℕ → ℕ → Bool
 is_most None number = true
 is_most (Some most) number = nat_le number most

@@ -17,6 +17,7 @@ abbrev pub is_wanted : Option ℕ → ℕ → Bool
 is_wanted None kind = true
 is_wanted (Some before) kind = kind == before
 
+-- the type of an entry
 abbrev pub kind_at : Option ℕ → Place → Members → Result ℕ Refusal
 kind_at before place ms = do
   kind ← integer_at (codes "type") 0 0xFFFF place ms
@@ -31,6 +32,7 @@ string_sizes_at place ms = sizes_at (codes "size") 1 8000 place ms
 abbrev pub number_sizes_at : ℕ → Place → Members → Result (ℕ × ℕ) Refusal
 number_sizes_at kind place ms = no_pair_at (codes "size") place ms >>= λ _. Ok (size_of_kind kind, size_of_kind kind)
 
+-- the sizes of an entry, by its type
 abbrev pub entry_sizes_at : ℕ → Place → Members → Result (ℕ × ℕ) Refusal
 entry_sizes_at kind place ms = if is_text kind then string_sizes_at place ms else number_sizes_at kind place ms
 
@@ -38,6 +40,7 @@ entry_sizes_at kind place ms = if is_text kind then string_sizes_at place ms els
 abbrev pub no_bound_at : List ℕ → Place → Members → Result (Option ℤ) Refusal
 no_bound_at key place ms = no_number_at key place ms >>= λ _. Ok None
 
+-- a bound of an entry, by its type
 abbrev pub bound_at : List ℕ → ℕ → Place → Members → Result (Option ℤ) Refusal
 bound_at key kind place ms = if is_text kind then no_bound_at key place ms else optional_number_at key place ms
 
@@ -47,6 +50,7 @@ are_bounds None max = true
 are_bounds (Some least) None = true
 are_bounds (Some least) (Some most) = int_le least most
 
+-- both bounds, the least not above the greatest
 abbrev pub bounds_at : ℕ → Place → Members → Result (Option ℤ × Option ℤ) Refusal
 bounds_at kind place ms = do
   min ← bound_at (codes "min") kind place ms

@@ -22,6 +22,7 @@ rights_of word =
     else if bytes_eq word (codes "rw") then Some (true, true)
     else None
 
+-- the rights of a file, by their word
 abbrev pub rights_at : Place → Members → Result (Bool × Bool) Refusal
 rights_at place ms = text_at (codes "rights") place ms >>= λ word. wanted OutOfRange place (rights_of word)
 

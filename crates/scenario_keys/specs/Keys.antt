@@ -38,6 +38,7 @@ abbrev pub in_range : ℕ → ℕ → Place → ℤ → Result ℕ Refusal
 in_range low high place (pos n) = if nat_le low n && nat_le n high then Ok n else refuse OutOfRange place
 in_range low high place (negsuc n) = refuse OutOfRange place
 
+-- a number of this range, of a value
 abbrev pub integer_in : ℕ → ℕ → Place → Data → Result ℕ Refusal
 integer_in low high place d = number_in place d >>= in_range low high place
 
@@ -45,6 +46,7 @@ integer_in low high place d = number_in place d >>= in_range low high place
 abbrev pub integer_or : List ℕ → ℕ → ℕ → ℕ → Place → Members → Result ℕ Refusal
 integer_or key default low high place ms = optional (integer_in low high place) (get_member key ms) >>= λ n. Ok (unwrap_or n default)
 
+-- the same of a key that has to be there
 abbrev pub integer_at : List ℕ → ℕ → ℕ → Place → Members → Result ℕ Refusal
 integer_at key low high place ms = needed_at key place ms >>= integer_in low high place
 
@@ -57,9 +59,11 @@ two_numbers _ = None
 abbrev pub as_pair : Data → Option (ℤ × ℤ)
 as_pair d = option_and_then two_numbers (as_array d)
 
+-- the same, or the wrong kind
 abbrev pub two_numbers_in : Place → Data → Result (ℤ × ℤ) Refusal
 two_numbers_in place d = wanted WrongKind place (as_pair d)
 
+-- two numbers, each of this range
 abbrev pub pair_in : ℕ → ℕ → Place → Data → Result (ℕ × ℕ) Refusal
 pair_in low high place d = do
   p ← two_numbers_in place d
@@ -67,6 +71,7 @@ pair_in low high place d = do
   y ← in_range low high place p.1
   Ok (x, y)
 
+-- the same of a key that has to be there
 abbrev pub pair_at : List ℕ → ℕ → ℕ → Place → Members → Result (ℕ × ℕ) Refusal
 pair_at key low high place ms = needed_at key place ms >>= pair_in low high place
 
@@ -89,10 +94,11 @@ no_number_at key place ms = excluded number_in key place ms
 abbrev pub no_pair_at : List ℕ → Place → Members → Result (Unit {0}) Refusal
 no_pair_at key place ms = excluded two_numbers_in key place ms
 
--- a truth value, false where its key is left out
+-- a truth value
 abbrev pub bool_in : Place → Data → Result Bool Refusal
 bool_in place d = wanted WrongKind place (as_bool d)
 
+-- a truth value, false where its key is left out
 abbrev pub bool_at : List ℕ → Place → Members → Result Bool Refusal
 bool_at key place ms = optional (bool_in place) (get_member key ms) >>= λ o. Ok (unwrap_or o false)
 
@@ -100,6 +106,7 @@ bool_at key place ms = optional (bool_in place) (get_member key ms) >>= λ o. Ok
 abbrev pub text_in : Place → Data → Result (List ℕ) Refusal
 text_in place d = wanted WrongKind place (as_str d)
 
+-- the text of a key that has to be there
 abbrev pub text_at : List ℕ → Place → Members → Result (List ℕ) Refusal
 text_at key place ms = needed_at key place ms >>= text_in place
 
@@ -115,12 +122,14 @@ is_name text = (nat_le 1 (length text) && nat_le (length text) 32) && is_printed
 abbrev pub is_label : List ℕ → Bool
 is_label text = nat_le (length text) 40 && is_printed 0x20 text
 
+-- the name of a key that has to be there
 abbrev pub name_at : List ℕ → Place → Members → Result (List ℕ) Refusal
 name_at key place ms = do
   text ← text_at key place ms
   _ ← unless_refused OutOfRange place (is_name text)
   Ok text
 
+-- a label, of a value
 abbrev pub label_in : Place → Data → Result (List ℕ) Refusal
 label_in place d = do
   text ← text_in place d

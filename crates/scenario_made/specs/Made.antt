@@ -94,6 +94,7 @@ action_head k =
 abbrev pub valued : ℕ → Made → Made
 valued k m = if k == 0 then value 1 200 m else if k == 2 then value 0 300 m else m
 
+-- what a service does, with its value
 abbrev pub action : ℕ → Made → Made
 action k m = valued k (said (action_head k) m)
 

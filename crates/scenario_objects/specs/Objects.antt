@@ -21,6 +21,7 @@ code_of kind =
     else if bytes_eq kind (codes "record") then Some 9
     else None
 
+-- the object code, by the word of its kind
 abbrev pub code_at : Place → Members → Result ℕ Refusal
 code_at place ms = text_at (codes "kind") place ms >>= λ kind. wanted OutOfRange place (code_of kind)
 
@@ -28,6 +29,7 @@ code_at place ms = text_at (codes "kind") place ms >>= λ kind. wanted OutOfRang
 abbrev pub is_index : ℕ → ℕ → Bool
 is_index before index = nat_lt before index && not (index == 0x2F00 || index == 0x2F01)
 
+-- the index of an object, above the one before
 abbrev pub index_at : ℕ → Place → Members → Result ℕ Refusal
 index_at before place ms = do
   index ← integer_at (codes "index") 1 0xFFFF place ms

@@ -24,6 +24,7 @@ octets_in least most place d = do
   _ ← unless_refused OutOfRange place (nat_le least (length octets) && nat_le (length octets) most)
   Ok octets
 
+-- the same of a key that has to be there
 abbrev pub octets_at : List ℕ → ℕ → ℕ → Place → Members → Result (List ℕ) Refusal
 octets_at key least most place ms = needed_at key place ms >>= octets_in least most place
 

@@ -36,5 +36,6 @@ service_of slaves service ms = do
   body ← addressed_body action slaves slave (places.Service service) ms
   Ok (slave, body)
 
+-- all services, in order
 abbrev pub services_of : List SlaveSpec → List Members → Result (List (ℕ × Service)) Refusal
 services_of slaves tables = each (service_of slaves) 0 tables

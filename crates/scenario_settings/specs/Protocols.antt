@@ -35,5 +35,6 @@ serves_of place items = each (λ _ word. text_in place word) 0 (list_of items) >
 abbrev pub serves_in : Place → Data → Result Served Refusal
 serves_in place d = wanted WrongKind place (as_array d) >>= serves_of place
 
+-- the same of their key, which has to be there
 abbrev pub serves_at : Place → Members → Result Served Refusal
 serves_at place ms = needed_at (codes "serves") place ms >>= serves_in place

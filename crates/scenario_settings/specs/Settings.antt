@@ -16,6 +16,7 @@ start_of boot word =
     else if boot && bytes_eq word (codes "boot") then Some 3
     else None
 
+-- the AL state in which a slave starts, of a value
 abbrev pub start_in : Bool → Place → Data → Result ℕ Refusal
 start_in boot place d = text_in place d >>= λ word. wanted OutOfRange place (start_of boot word)
 

@@ -18,6 +18,7 @@ tables_of most place ds = do
 abbrev pub tables_in : ℕ → Place → Data → Result (List Members) Refusal
 tables_in most place d = wanted WrongKind place (as_array d) >>= tables_of most place
 
+-- the same of a key that has to be there
 abbrev pub tables_at : List ℕ → ℕ → Place → Members → Result (List Members) Refusal
 tables_at key most place ms = needed_at key place ms >>= tables_in most place
 

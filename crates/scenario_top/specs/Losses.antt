@@ -25,8 +25,10 @@ lose_of items = do
   _ ← unless_refused TooMany places.Top (nat_le (length pairs) 4096)
   each (λ _ x. lost_in x) 0 (list_of items)
 
+-- the lost frames of a value
 abbrev pub lose_in : Data → Result (List (ℕ × ℕ)) Refusal
 lose_in d = wanted WrongKind places.Top (as_array d) >>= lose_of
 
+-- none where the key is left out
 abbrev pub lose_at : Members → Result (List (ℕ × ℕ)) Refusal
 lose_at ms = optional lose_in (get_member (codes "lose") ms) >>= λ o. Ok (unwrap_or o [])

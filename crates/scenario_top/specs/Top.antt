@@ -40,5 +40,6 @@ packet_of host ms = do
   octets ← octets_at (codes "packet") 14 1514 (places.Host host) ms
   Ok (record { items = octets })
 
+-- all packets of the host, in order
 abbrev pub packets_of : List Members → Result (List (ArrayVec ℕ)) Refusal
 packets_of tables = each packet_of 0 tables

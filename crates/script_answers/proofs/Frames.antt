@@ -1,354 +1,267 @@
--- WHAT IS NOTED BEHIND A FRAME: the reply that its return brought, or nothing.
-use Rattle.std.proofs.Common.{◌≡◌, ◌⊎◌, inl, inr, ℕ, ◌+◌, Bool, true, false, Option, Some, None, List, [], ◌∷◌, ◌++◌, map, length, length-append, refl, ap, sym, ◌∙◌, subst, arith, append_assoc, append-nil}
-use Rattle.std.specs.Prelude.{◌==◌, ◌&&◌, option_map, if◌then◌else◌}
+-- WHAT IS NOTED BEHIND A FRAME: the answer that its return brought, or nothing.
+use Rattle.std.proofs.Common.{◌≡◌, ◌⊎◌, inl, inr, ℕ, suc, ◌+◌, Bool, true, false, Option, Some, None, List, [], ◌∷◌, ◌++◌, map, length, length-append, refl, ap, sym, ◌∙◌, subst, arith, append_assoc, append-nil}
+use Rattle.std.specs.Prelude.{◌==◌, ◌&&◌, option_map, is_some, nat_lt, if◌then◌else◌}
 use Rattle.std.proofs.lemmas.List.{map-append}
-use Rattle.exchange_model.specs.Exchange.{Speech}
+use Rattle.exchange_model.specs.Areas.{Areas}
+use Rattle.exchange_model.specs.Exchange.{Speech, plain}
 use Rattle.exchange_model.specs.Rows.{Row, answer_after, row_heard}
 use Rattle.frame_view.specs.View.{Lens}
 use Rattle.frame_view.specs.Seen.{seen}
-use Rattle.life_frames.specs.Frames.{Share}
-use Rattle.life_frames.specs.Shares.{AllBoth, Lived, came_at, given_where}
-use Rattle.life_model.specs.Lives.{Spot, Era, Life, Stand, Opening, life_back, life_lost, era_back, opening_back, shows_clear, is_shown, last_step, clears, opens, steps_on, reopens, reopens_at, reopening, opens_state, returns_to_init}
+use Rattle.life_epochs.proofs.Spans as Spans
+use Rattle.life_epochs.proofs.Spans.{cleared_stays, last_stays, steps_stay}
+use Rattle.life_epochs.specs.Spans.{is_leaving, is_open}
+use Rattle.life_frames.specs.Shares.{Lived, came_at, given_where}
+use Rattle.life_model.specs.Lives.{Spot, Era, Life, Stand, Opening, life_back, life_lost, era_back, era_lost, opening_back, shows_clear, is_shown, last_step, clears, opens, steps_on, reopens, reopens_at, reopening, opens_state, returns_to_init, gives_up, new_side}
 use Rattle.life_model.specs.Own.{own}
 use Rattle.life_runs.specs.Led.{Exchanged, Leads, Turn, is_passed, speech_at, life_behind}
 use Rattle.link_mails.specs.Body.{Body}
 use Rattle.link_model.specs.Frames.{all_accepted}
 use Rattle.master_duty.specs.Reply.{Reply}
-use Rattle.master_hand.specs.Spoken.{Asked, acknowledged, is_followed}
-use Rattle.script_runs.specs.Came.{is_packet}
+use Rattle.master_hand.specs.Spoken.{Asked, sdo, file, drive, net, passed, acknowledged, is_followed, ends, handed, hand_speech}
+use Rattle.segment_model.specs.Ends.{Outcome}
 use Rattle.segment_model.specs.Record.{News}
 use Rattle.segment_model.specs.Seats.{Side, newest, rows_of, side_back}
 use Rattle.segment_model.specs.Slaves.{Datagram, Found, grams}
 use Rattle.segment_ring.specs.declared.wire.Fate.{Fate}
 use Rattle.segment_ring.specs.declared.wire.Fate.TheVariants.{Pass, Lost}
 use Rattle.state_exchange.specs.Stated.{Service}
-use Rattle.task_model.specs.Accounts.{Account, Duty, Stage, account_met, account_back}
+use Rattle.task_model.specs.Accounts.{Account, Duty, Stage, Change, Started, new_account, account_met, account_back}
 use Rattle.task_model.specs.Promise.{services_in, mails_in}
 use Rattle.task_model.proofs.Completed.{started_back}
-use Rattle.script_answers.specs.Answers.{Came, Scripted, Noted, IsReported, AllNoted, Awaits, IsAwaiting, IsNoted, answers_in, side_answers, now_answer, newest_answer, scripted_in, scripted_mails, era_scripted, eras_scripted, life_scripted, turned}
-use Rattle.script_answers.specs.Steps.{PassesSo, LosesSo}
-use Rattle.script_answers.proofs.Lists.{Answer, AnswerStays, Stays, noted_stays, noted_more, noted_front, scripted_one, scripted_stays, stays_behind, eras_more, came_same}
+use Rattle.script_answers.specs.Answers.{Scripted, Noted, AllNoted, RowRests, RestsSo, Awaits, Changes, ComesAnew, IsAwaiting, IsGoing, Waits, StandsBy, FreshBy, IsNoted, answers_in, side_answers, now_answer, newest_answer, states_in, scripted_in, era_scripted, eras_scripted, life_scripted, turned}
+use Rattle.script_answers.specs.Steps.{EndedSo, ReplyPasses, ChangePasses, PassesSo, LosesSo, account_of, opened, with_begun, with_reply}
+use Rattle.script_answers.proofs.Backs.{Held, Went, AwaitsBack, front_scripted, changes_front, awaits_scripted, changes_scripted, change_with, change_reported, hand_back, no_hand, answers_rest, rests_heard, many_answers, after_none, last_change, is_away}
+use Rattle.script_answers.proofs.Lists.{Answer, noted_more, noted_front, eras_more, changes_more}
 use Rattle.script_answers.proofs.Sides.{longer}
-use Rattle.script_answers.proofs.Turns.{awaits_on}
+use Rattle.script_answers.proofs.Turns.{awaits_on, changes_on, rests_on, fresh_open}
 
-abbrev Held : Type 0
-Held = Row Body Asked Reply
+abbrev LifeOf : Type 0
+LifeOf = Life Body Asked Reply
 
-abbrev answer_of : Held → Answer
-answer_of r = r.answer
-
--- NOTHING MORE IS AWAITED
-pub forget : (a : Leads) (waits : Bool) (number : ℕ) (ns : List Noted) → IsNoted a waits number ns → IsNoted a false number ns
-forget a waits number ns h = record { many = h.many; beside = h.beside; noted = h.noted; waits = λ bad. absurd (let no : false ≡ true = bad in cc) }
-
--- THE NEWEST of what is noted is the service that awaits its reply
-abbrev front_scripted : (l : Life Body Asked Reply) → Awaits l.era → List Scripted
-front_scripted l w = eras_scripted l.past ++ scripted_in w.front (answers_in l.era.side.past)
-
-awaits_answers : (e : Era Body Asked Reply) (w : Awaits e) → side_answers e.side ≡ answers_in e.side.past ++ now_answer e.side.now ∷ []
-awaits_answers e w =
-    ap (λ (z : Option Held). answers_in (e.side.past ++ newest z)) w.now ∙ map-append answer_of e.side.past (w.row ∷ [])
-    ∙ ap (λ (z : Option Held). answers_in e.side.past ++ now_answer z ∷ []) (sym w.now)
-
-awaits_scripted : (l : Life Body Asked Reply) (w : Awaits l.era) → life_scripted l ≡ front_scripted l w ++ record { frame = w.frame; came = Came.mails (now_answer l.era.side.now) } ∷ []
-awaits_scripted l w =
-    (λ i. eras_scripted l.past ++ scripted_in (w.started i) (awaits_answers l.era w i))
-    ∙ ap (λ ss. eras_scripted l.past ++ ss) (scripted_one w.front (answers_in l.era.side.past) w.asked w.frame (now_answer l.era.side.now) w.beside
-    ∙ ap (λ z. scripted_in w.front (answers_in l.era.side.past) ++ scripted_mails z w.frame (now_answer l.era.side.now) []) w.script)
-    ∙ sym (append_assoc (eras_scripted l.past) (scripted_in w.front (answers_in l.era.side.past)) (record { frame = w.frame; came = Came.mails (now_answer l.era.side.now) } ∷ []))
-
--- WHERE ITS REPLY IS THERE it may be noted
-told_now : (l : Life Body Asked Reply) (w : Awaits l.era) (front : List Noted) (frame : ℕ) (x : Reply × ℕ) → now_answer l.era.side.now ≡ Some x → AllNoted (life_scripted l) (front ++ record { frame = frame; reply = None } ∷ []) →
-    AllNoted (life_scripted l) (front ++ record { frame = frame; reply = Some x } ∷ [])
-told_now l w front frame x e h =
-    let last : Scripted = record { frame = w.frame; came = Came.mails (now_answer l.era.side.now) } in
-    let parts = noted_front (front_scripted l w) front last (record { frame = frame; reply = None }) (subst (λ z. AllNoted z (front ++ record { frame = frame; reply = None } ∷ [])) (awaits_scripted l w) h) in
-    subst (λ z. AllNoted z (front ++ record { frame = frame; reply = Some x } ∷ [])) (sym (awaits_scripted l w))
-    (noted_more (front_scripted l w) front last (record { frame = frame; reply = Some x }) parts.0 parts.1 e)
-
--- A FRAME COMES BACK to an account, and to a side
-module _ (station frame : ℕ) where
-  no_hand : (a : Account Asked Reply) (ds : List (Datagram Body)) → a.hand ≡ None → account_back station frame a ds ≡ a
-  no_hand a [] e = refl
-  no_hand a (d ∷ ds) e = ap (λ (h : Option Duty). account_back station frame (account_met station frame a h d) ds) e ∙ no_hand a ds e
-
-  after_stays : (old : Answer) (found : Option Reply) → AnswerStays old (answer_after frame old found)
-  after_stays None found x e = absurd (let bad : None ≡ Some x = e in cc)
-  after_stays (Some answer) found x e = e
-
-  abbrev of_frame : Answer → ℕ
-  of_frame None = 0
-  of_frame (Some answer) = answer.1
-
-  after_none : (old : Answer) (found : Option Reply) → old ≡ None → (x : Reply) (g : ℕ) → answer_after frame old found ≡ Some (x, g) → g ≡ frame
-  after_none (Some answer) found e x g h = absurd (cc)
-  after_none None None e x g h = absurd (let bad : None ≡ Some (x, g) = h in cc)
-  after_none None (Some reply) e x g h = sym (ap of_frame h)
-
-past_stay : (rs : List Held) (now now' : List Held) → AllBoth AnswerStays (answers_in now) (answers_in now') → AllBoth AnswerStays (answers_in (rs ++ now)) (answers_in (rs ++ now'))
-past_stay [] now now' h = h
-past_stay (r ∷ rs) now now' h = ((λ x e. e), past_stay rs now now' h)
-
-module _ (x : Speech Body Asked Reply) (frame : ℕ) (ms : List Body) where
-  now_stays : (now : Option Held) → AllBoth AnswerStays (answers_in (newest now)) (answers_in (newest (option_map (λ r. row_heard x frame ms r) now)))
-  now_stays None = tt
-  now_stays (Some r) = (after_stays 0 frame r.answer _, tt)
-
-both_length : (as' bs : List Answer) → AllBoth AnswerStays as' bs → length bs ≡ length as'
-both_length [] [] h = refl
-both_length [] (b ∷ bs) h = absurd h
-both_length (a ∷ as') [] h = absurd h
-both_length (a ∷ as') (b ∷ bs) h = let more = both_length as' bs h.1 in omega (arith, more)
-
--- A LIFE BEHIND A FRAME THAT CAME BACK
-abbrev LifeStays : Life Body Asked Reply → Life Body Asked Reply → Type 0
-LifeStays l m = AllBoth Stays (life_scripted l) (life_scripted m)
-
-abbrev Beside : Life Body Asked Reply → Type 0
+abbrev Beside : LifeOf → Type 0
 Beside l = mails_in (services_in l.era.account.started) ≡ length (side_answers l.era.side)
 
-pub record Stayed (l m : Life Body Asked Reply) : Type 0 where
-  pub scripted : LifeStays l m
+-- WHAT STAYS of a life behind a frame, whatever is awaited: as many answers as services by mails, and an epoch that is new until its slave is open
+pub record Stays (l m : LifeOf) : Type 0 where
   pub beside : Beside l → Beside m
+  pub fresh : FreshBy l.stand l.era → FreshBy m.stand m.era
 
-stays_same : (ss ts : List Scripted) → ts ≡ ss → AllBoth Stays ss ts
-stays_same ss ts e = subst (λ z. AllBoth Stays ss z) (sym e) (go ss)
-  where
-    go : (ss : List Scripted) → AllBoth Stays ss ss
-    go [] = tt
-    go (s ∷ ss) = (record { frame = refl; came = came_same s.came }, go ss)
+-- A NEW EPOCH rests
+rests_new : (e : Era Body Asked Reply) → e.side ≡ new_side → e.account ≡ new_account → RestsSo e
+rests_new e s a = record {
+  hand = ap (λ (z : Account Asked Reply). z.hand) a;
+  states = subst (λ (z : Account Asked Reply). states_in (services_in z.started) ≡ length z.over) (sym a) refl;
+  row = subst (λ (z : Side Body Asked Reply). RowRests z.now) (sym s) tt;
+}
 
-stayed_same : (l : Life Body Asked Reply) → Stayed l l
-stayed_same l = record { scripted = stays_same (life_scripted l) (life_scripted l) refl; beside = λ b. b }
+-- AN OPENING
+module _ (frame : ℕ) (l : LifeOf) (o : Opening) (done : Bool) (found : Option Found) where
+  abbrev behind_opening : Bool → Bool → Bool → Bool → LifeOf
+  behind_opening shows seen last there = if shows then (if seen then clears frame l o else l) else if last then (if there then opens frame l else l) else steps_on l o
 
-stayed_cleared : (frame : ℕ) (l : Life Body Asked Reply) (o : Opening) → Stayed l (clears frame l o)
-stayed_cleared frame l o = record { scripted = stays_same (life_scripted l) (life_scripted (clears frame l o)) (append-nil (eras_scripted (l.past ++ l.era ∷ [])) ∙ eras_more l.past l.era); beside = λ b. refl }
+  -- by its tests, what is known of them, and what it makes of the life
+  opening_by : (P : LifeOf → Type 0) → (shows_clear o ≡ true → P (clears frame l o)) → P l → ((o.step == last_step o) ≡ true → P (opens frame l)) → (shows_clear o ≡ false → P (steps_on l o)) → P (opening_back frame l o done found)
+  opening_by P clear same open' step = go (shows_clear o) (done && is_shown 1 found) (o.step == last_step o) (done && is_shown o.state found) refl refl
+    where
+      go : (shows seen last there : Bool) → shows_clear o ≡ shows → (o.step == last_step o) ≡ last → P (behind_opening shows seen last there)
+      go true true last there e f = clear e
+      go true false last there e f = same
+      go false seen true true e f = open' f
+      go false seen true false e f = same
+      go false seen false there e f = step e
 
-stayed_opening : (frame : ℕ) (l : Life Body Asked Reply) (o : Opening) (done : Bool) (found : Option Found) → Stayed l (opening_back frame l o done found)
-stayed_opening frame l o done found = go (shows_clear o) (done && is_shown 1 found) (o.step == last_step o) (done && is_shown o.state found)
-  where
-    go : (shows seen last there : Bool) → Stayed l (if shows then (if seen then clears frame l o else l) else if last then (if there then opens frame l else l) else steps_on l o)
-    go true true last there = stayed_cleared frame l o
-    go true false last there = stayed_same l
-    go false seen true true = record { scripted = (stayed_same l).scripted; beside = λ b. b }
-    go false seen true false = stayed_same l
-    go false seen false there = record { scripted = (stayed_same l).scripted; beside = λ b. b }
+  clear_scripted : life_scripted (clears frame l o) ≡ life_scripted l
+  clear_scripted = append-nil (eras_scripted (l.past ++ l.era ∷ [])) ∙ eras_more l.past l.era
 
--- a reopening leaves them
-stayed_reopens : (k l : Life Body Asked Reply) (hand : Option Duty) → Stayed k l → Stayed k (reopens l hand)
-stayed_reopens k l None h = h
-stayed_reopens k l (Some duty) h = go duty.stage
-  where
-    by : (b : Bool) → Stayed k (if b then record l { stand = reopening (opens_state duty.target) true } else l)
-    by true = record { scripted = h.scripted; beside = h.beside }
-    by false = h
+  pub opening_scripted : life_scripted (opening_back frame l o done found) ≡ life_scripted l
+  opening_scripted = opening_by (λ m. life_scripted m ≡ life_scripted l) (λ e. clear_scripted) refl (λ e. refl) (λ e. refl)
 
-    go : (stage : Stage) → Stayed k (reopens_at l duty.target stage)
-    go Stage.Drains = h
-    go (Stage.Goes phase) = by (returns_to_init duty.target)
+  stays_opens : (e : Era Body Asked Reply) → FreshBy (Stand.Opens o) e → shows_clear o ≡ false → FreshBy (Stand.Opens (record o { step = suc o.step })) e
+  stays_opens e h c = λ n. h (sym (steps_stay o.again o.step c) ∙ n)
 
-reopens_none : (l : Life Body Asked Reply) (hand : Option Duty) → hand ≡ None → reopens l hand ≡ l
-reopens_none l None e = refl
-reopens_none l (Some duty) e = absurd (cc)
+  pub opening_stays : l.stand ≡ Stand.Opens o → Stays l (opening_back frame l o done found)
+  opening_stays s = opening_by (λ m. Stays l m)
+      (λ e. record { beside = λ b. refl; fresh = λ f n. (refl, refl) })
+      (record { beside = λ b. b; fresh = λ f. f })
+      (λ e. record { beside = λ b. b; fresh = λ f. tt })
+      (λ e. record { beside = λ b. b; fresh = λ f. stays_opens l.era (subst (λ (z : Stand). FreshBy z l.era) s f) e })
 
-module _ (x : Speech Body Asked Reply) (frame : ℕ) (spot : Spot) (news : List (News Body)) (back : List (Datagram Body)) (l : Life Body Asked Reply) where
+  -- an epoch that it opens is new
+  pub opening_rests : l.stand ≡ Stand.Opens o → FreshBy l.stand l.era → (opening_back frame l o done found).stand ≡ Stand.Open → RestsSo (opening_back frame l o done found).era
+  opening_rests s f = opening_by (λ m. m.stand ≡ Stand.Open → RestsSo m.era)
+      (λ e t. absurd (cc))
+      (λ t. absurd (let bad = sym s ∙ t in cc))
+      (λ e t. let k = subst (λ (z : Stand). FreshBy z l.era) s f (last_stays o e) in let r = rests_new l.era k.0 k.1 in record { hand = r.hand; states = r.states; row = r.row })
+      (λ e t. absurd (cc))
+
+-- A LIFE BEHIND A FRAME THAT CAME BACK
+module _ (areas : Areas) (frame : ℕ) (spot : Spot) (news : List (News Body)) (back : List (Datagram Body)) (l : LifeOf) where
+  abbrev x : Speech Body Asked Reply
+  x = hand_speech areas
+
   abbrev era : Era Body Asked Reply
   era = era_back x acknowledged is_followed is_passed spot.station frame news back l.era
+
+  abbrev came_back : LifeOf
+  came_back = record l { era = era }
 
   abbrev heard : List Body
   heard = all_accepted spot.station l.era.side.halves (grams (own spot.station back))
 
-  abbrev behind : Option (Bool × Option Found) → Stand → Life Body Asked Reply
+  abbrev behind : Option (Bool × Option Found) → Stand → LifeOf
   behind came stand = life_back x acknowledged is_followed is_passed frame spot news back came l stand
 
-  era_answers : AllBoth AnswerStays (side_answers l.era.side) (side_answers era.side)
-  era_answers = past_stay l.era.side.past (newest l.era.side.now) (newest era.side.now) (now_stays x frame heard l.era.side.now)
+  -- a reopening changes how the master stands to the slave, and nothing else
+  reopens_by : (P : LifeOf → Type 0) (m : LifeOf) (hand : Option Duty) → P m → ((state : ℕ) → P (record m { stand = reopening state true })) → P (reopens m hand)
+  reopens_by P m None same goes = same
+  reopens_by P m (Some duty) same goes = go duty.stage
+    where
+      by : (b : Bool) → P (if b then record m { stand = reopening (opens_state duty.target) true } else m)
+      by true = goes (opens_state duty.target)
+      by false = same
+
+      go : (stage : Stage) → P (reopens_at m duty.target stage)
+      go Stage.Drains = same
+      go (Stage.Goes phase) = by (returns_to_init duty.target)
+
+  reopens_none : (m : LifeOf) (hand : Option Duty) → hand ≡ None → reopens m hand ≡ m
+  reopens_none m None e = refl
+  reopens_none m (Some duty) e = absurd (cc)
 
   era_started : era.account.started ≡ l.era.account.started
   era_started = started_back spot.station frame l.era.account (own spot.station back)
 
-  stayed_open : Stayed l (record l { era = era })
-  stayed_open = record {
-    scripted = stays_behind (eras_scripted l.past) (era_scripted l.era) (era_scripted era)
-        (subst (λ ss. AllBoth Stays (era_scripted l.era) (scripted_in ss (side_answers era.side))) (sym era_started) (scripted_stays l.era.account.started (side_answers l.era.side) (side_answers era.side) era_answers));
-    beside = λ b. ap (λ ss. mails_in (services_in ss)) era_started ∙ b ∙ sym (both_length (side_answers l.era.side) (side_answers era.side) era_answers);
-  }
+  era_beside : Beside l → Beside came_back
+  era_beside b = ap (λ ss. mails_in (services_in ss)) era_started ∙ b ∙ sym (many_answers x frame heard l.era.side.past l.era.side.now)
 
-  pub stayed_back : (came : Option (Bool × Option Found)) (stand : Stand) → Stayed l (behind came stand)
-  stayed_back None (Stand.Opens o) = stayed_same l
-  stayed_back (Some came) (Stand.Opens o) = stayed_opening frame l o came.0 came.1
-  stayed_back came Stand.Open = stayed_reopens l (record l { era = era }) era.account.hand stayed_open
-  stayed_back came Stand.Gone = stayed_same l
+  open_stays : l.stand ≡ Stand.Open → Stays l (reopens came_back era.account.hand)
+  open_stays s = reopens_by (λ m. Stays l m) came_back era.account.hand
+      (record { beside = era_beside; fresh = λ f. fresh_open l.stand era s })
+      (λ state. record { beside = era_beside; fresh = λ f n. absurd (let bad : true ≡ false = n in cc) })
 
-  -- one that awaits its reply goes on awaiting it, or has it of this frame
-  pub record AwaitsBack (m : Life Body Asked Reply) : Type 0 where
-    pub stand : m.stand ≡ Stand.Open
-    pub era : Awaits m.era
-    pub fresh : (reply : Reply) (g : ℕ) → now_answer m.era.side.now ≡ Some (reply, g) → g ≡ frame
+  pub back_stays : (came : Option (Bool × Option Found)) (stand : Stand) → l.stand ≡ stand → Stays l (behind came stand)
+  back_stays None (Stand.Opens o) s = record { beside = λ b. b; fresh = λ f. f }
+  back_stays (Some came) (Stand.Opens o) s = opening_stays frame l o came.0 came.1 s
+  back_stays came Stand.Open s = open_stays s
+  back_stays came Stand.Gone s = record { beside = λ b. b; fresh = λ f. f }
 
-  awaits_open : l.stand ≡ Stand.Open → (w : Awaits l.era) → now_answer l.era.side.now ≡ None → AwaitsBack (reopens (record l { era = era }) era.account.hand)
+  -- OF A SLAVE THAT ISN'T OPEN no service comes to more
+  pub away_scripted : (came : Option (Bool × Option Found)) (stand : Stand) → is_open stand ≡ false → life_scripted (behind came stand) ≡ life_scripted l
+  away_scripted None (Stand.Opens o) e = refl
+  away_scripted (Some came) (Stand.Opens o) e = opening_scripted frame l o came.0 came.1
+  away_scripted came Stand.Open e = absurd (let bad : true ≡ false = e in cc)
+  away_scripted came Stand.Gone e = refl
+
+  pub away_rests : (came : Option (Bool × Option Found)) (stand : Stand) → l.stand ≡ stand → is_open stand ≡ false → FreshBy l.stand l.era → (behind came stand).stand ≡ Stand.Open → RestsSo (behind came stand).era
+  away_rests None (Stand.Opens o) s e f t = absurd (let bad = sym s ∙ t in cc)
+  away_rests (Some came) (Stand.Opens o) s e f t = opening_rests frame l o came.0 came.1 s f t
+  away_rests came Stand.Open s e f t = absurd (let bad : true ≡ false = e in cc)
+  away_rests came Stand.Gone s e f t = absurd (let bad = sym s ∙ t in cc)
+
+  -- WHERE NOTHING IS IN HAND
+  same_account : l.era.account.hand ≡ None → era.account ≡ l.era.account
+  same_account e = no_hand spot.station frame l.era.account (own spot.station back) e
+
+  era_answers : RowRests l.era.side.now → side_answers era.side ≡ side_answers l.era.side
+  era_answers r = answers_rest areas frame heard l.era.side.past l.era.side.now r
+
+  era_row : RowRests l.era.side.now → RowRests era.side.now
+  era_row r = rests_heard areas frame heard l.era.side.now r
+
+  rests_back : RestsSo l.era → RestsSo era
+  rests_back r = let same = same_account r.hand in rests_on l.era era r (ap (λ (z : Account Asked Reply). z.started) same) (ap (λ (z : Account Asked Reply). z.over) same) (ap (λ (z : Account Asked Reply). z.hand) same) (era_row r.row)
+
+  rests_scripted : RestsSo l.era → life_scripted came_back ≡ life_scripted l
+  rests_scripted r = λ i. eras_scripted l.past ++ scripted_in (same_account r.hand i).started (era_answers r.row i) (same_account r.hand i).over
+
+  pub record RestsBack (m : LifeOf) : Type 0 where
+    pub scripted : life_scripted m ≡ life_scripted l
+    pub rests : m.stand ≡ Stand.Open → RestsSo m.era
+
+  pub still_back : (came : Option (Bool × Option Found)) (stand : Stand) → l.stand ≡ stand → FreshBy l.stand l.era → (l.stand ≡ Stand.Open → RestsSo l.era) → RestsBack (behind came stand)
+  still_back came Stand.Open s f h =
+      let r = h s in
+      let none : era.account.hand ≡ None = ap (λ (z : Account Asked Reply). z.hand) (same_account r.hand) ∙ r.hand in
+      subst (λ z. RestsBack z) (sym (reopens_none came_back era.account.hand none)) (record { scripted = rests_scripted r; rests = λ t. rests_back r })
+  still_back None (Stand.Opens o) s f h = record { scripted = refl; rests = h }
+  still_back (Some came) (Stand.Opens o) s f h = record { scripted = opening_scripted frame l o came.0 came.1; rests = opening_rests frame l o came.0 came.1 s f }
+  still_back came Stand.Gone s f h = record { scripted = refl; rests = h }
+
+  -- A SERVICE BY MAILS goes on awaiting its reply, or has it of this frame
+  awaits_open : l.stand ≡ Stand.Open → (w : Awaits l.era) → now_answer l.era.side.now ≡ None → AwaitsBack areas frame l w (reopens came_back era.account.hand)
   awaits_open s w none =
-      let same : era.account ≡ l.era.account = no_hand spot.station frame l.era.account (own spot.station back) w.hand in
+      let same = same_account w.hand in
       let no : era.account.hand ≡ None = ap (λ (z : Account Asked Reply). z.hand) same ∙ w.hand in
       let row : Held = row_heard x frame heard w.row in
       let now : era.side.now ≡ Some row = ap (option_map (λ r. row_heard x frame heard r)) w.now in
-      subst (λ z. AwaitsBack z) (sym (reopens_none (record l { era = era }) era.account.hand no)) (record {
+      let over = ap (λ (z : Account Asked Reply). z.over) same in
+      subst (λ z. AwaitsBack areas frame l w z) (sym (reopens_none came_back era.account.hand no)) (record {
         stand = s;
-        era = awaits_on l.era era w row (ap (λ (z : Account Asked Reply). z.started) same) refl no now refl;
-        fresh = λ reply g e. after_none spot.station frame w.row.answer _ (sym (ap now_answer w.now) ∙ none) reply g (sym (ap now_answer now) ∙ e);
+        era = awaits_on l.era era w row (ap (λ (z : Account Asked Reply). z.started) same) over refl no now refl;
+        front = ap (λ (z : List (Change Reply)). eras_scripted l.past ++ scripted_in w.front (answers_in l.era.side.past) z) over;
+        at = refl;
+        heard = plain x.emission (w.row.heard ++ heard);
+        answer = ap now_answer now ∙ ap (λ (z : Answer). answer_after frame z (ends areas w.row.service (plain x.emission (w.row.heard ++ heard)))) (sym (ap now_answer w.now) ∙ none);
       })
 
-  pub awaits_back : (came : Option (Bool × Option Found)) (stand : Stand) → l.stand ≡ stand → l.stand ≡ Stand.Open → (w : Awaits l.era) → now_answer l.era.side.now ≡ None → AwaitsBack (behind came stand)
-  awaits_back came (Stand.Opens o) s t w none = absurd (cc)
+  pub awaits_back : (came : Option (Bool × Option Found)) (stand : Stand) → l.stand ≡ stand → l.stand ≡ Stand.Open → (w : Awaits l.era) → now_answer l.era.side.now ≡ None → AwaitsBack areas frame l w (behind came stand)
+  awaits_back came (Stand.Opens o) s t w none = absurd (let bad = sym s ∙ t in cc)
   awaits_back came Stand.Open s t w none = awaits_open s w none
-  awaits_back came Stand.Gone s t w none = absurd (cc)
+  awaits_back came Stand.Gone s t w none = absurd (let bad = sym s ∙ t in cc)
 
--- A LIFE BEHIND A LOST FRAME
-module _ (x : Speech Body Asked Reply) (recover frame : ℕ) (spot : Spot) (news : List (News Body)) (sent : List (Datagram Body)) (l : Life Body Asked Reply) where
-  abbrev without : Stand → Life Body Asked Reply
-  without stand = life_lost x acknowledged is_followed is_passed spot news sent l stand
+  -- A CHANGE OF STATE goes on, returns its slave to Init, or ends with this frame
+  pub data ChangeBack (w : Changes l.era) (m : LifeOf) : Type 0 where
+    goes : m.stand ≡ Stand.Open → Changes m.era → life_scripted m ≡ life_scripted l → is_some m.era.account.hand ≡ true → ChangeBack w m
+    leaves : ComesAnew m → life_scripted m ≡ life_scripted l → ChangeBack w m
+    over : (c : Change Reply) → m.stand ≡ Stand.Open → m.era.account.hand ≡ None → m.era.account.over ≡ l.era.account.over ++ c ∷ [] → c.completed ≡ frame → life_scripted m ≡ changes_front l w ++ record { frame = w.frame; came = change_reported w.duty.target c } ∷ [] → RestsSo m.era → ChangeBack w m
 
-  pub stayed_lost : (stand : Stand) → Stayed l (without stand)
-  stayed_lost (Stand.Opens o) = stayed_same l
-  stayed_lost Stand.Open = record { scripted = (stayed_same l).scripted; beside = λ b. b }
-  stayed_lost Stand.Gone = stayed_same l
+  module _ (s : l.stand ≡ Stand.Open) (w : Changes l.era) where
+    abbrev goes_on : (duty : Duty) → era.account.hand ≡ Some duty → duty.target ≡ w.duty.target → era.account.over ≡ l.era.account.over → Changes era
+    goes_on duty hand target kept = changes_on l.era era w duty era_started kept hand target (era_row w.row)
 
-  pub stayed_given : (b : Bool) (m : Life Body Asked Reply) → Stayed l m → Stayed l (given_where b recover spot frame m)
-  stayed_given true m h = record { scripted = h.scripted; beside = h.beside }
-  stayed_given false m h = h
+    goes_scripted : era.account.over ≡ l.era.account.over → life_scripted came_back ≡ life_scripted l
+    goes_scripted kept = λ i. eras_scripted l.past ++ scripted_in (era_started i) (era_answers w.row i) (kept i)
 
-  pub record AwaitsLost (m : Life Body Asked Reply) : Type 0 where
-    pub stand : m.stand ≡ Stand.Open
-    pub era : Awaits m.era
-    pub none : now_answer m.era.side.now ≡ None
-    pub gave : m.gave ≡ l.gave
+    comes_anew : (k : Changes era) (state : ℕ) → returns_to_init k.duty.target ≡ true → ComesAnew (record came_back { stand = reopening state true })
+    comes_anew k state e = record { front = changes_front came_back k; frame = k.frame; whole = changes_scripted came_back k ∙ ap (λ (b : Bool). changes_front came_back k ++ record { frame = k.frame; came = is_away b } ∷ []) e; away = refl }
 
-  awaits_lost : (stand : Stand) → l.stand ≡ stand → l.stand ≡ Stand.Open → Awaits l.era → now_answer l.era.side.now ≡ None → AwaitsLost (without stand)
-  awaits_lost (Stand.Opens o) s t w none = absurd (cc)
-  awaits_lost Stand.Open s t w none = record { stand = t; era = awaits_on l.era _ w w.row refl refl w.hand w.now refl; none = none; gave = refl }
-  awaits_lost Stand.Gone s t w none = absurd (cc)
+    change_goes : (duty : Duty) → era.account.hand ≡ Some duty → duty.target ≡ w.duty.target → era.account.over ≡ l.era.account.over → ChangeBack w (reopens came_back era.account.hand)
+    change_goes duty hand target same = subst (λ (z : Option Duty). ChangeBack w (reopens came_back z)) (sym hand) (go duty.stage)
+      where
+        kept : ChangeBack w came_back
+        kept = ChangeBack.goes s (goes_on duty hand target same) (goes_scripted same) (ap is_some hand)
 
-  pub not_given : (b : Bool) (m : Life Body Asked Reply) → AwaitsLost m → (given_where b recover spot frame m).gave ≡ l.gave → AwaitsLost (given_where b recover spot frame m)
-  not_given true m h e = absurd (longer l.gave frame (sym e ∙ ap (λ (g : List ℕ). g ++ frame ∷ []) h.gave))
-  not_given false m h e = h
+        by : (b : Bool) → returns_to_init duty.target ≡ b → ChangeBack w (if b then record came_back { stand = reopening (opens_state duty.target) true } else came_back)
+        by true e = ChangeBack.leaves (comes_anew (goes_on duty hand target same) (opens_state duty.target) e) (goes_scripted same)
+        by false e = kept
 
-  pub lost_awaits : (b : Bool) → l.stand ≡ Stand.Open → Awaits l.era → now_answer l.era.side.now ≡ None → (given_where b recover spot frame (without l.stand)).gave ≡ l.gave → AwaitsLost (given_where b recover spot frame (without l.stand))
-  lost_awaits b s w none e = not_given b (without l.stand) (awaits_lost l.stand refl s w none) e
+        go : (stage : Stage) → ChangeBack w (reopens_at came_back duty.target stage)
+        go Stage.Drains = kept
+        go (Stage.Goes phase) = by (returns_to_init duty.target) refl
 
--- BEHIND A FRAME OF THIS FATE
-module _ (lens : ℕ → Lens) (recover retry : ℕ) (gives : Bool) (made : ℕ) (f : Exchanged) (u : Turn) where
-  abbrev pub led : Fate → Leads
-  led fate = record { script = u.script; number = u.number; lived = life_behind lens recover retry gives made f fate u.lived u.share }
+    change_over : (c : Change Reply) → era.account.hand ≡ None → era.account.over ≡ l.era.account.over ++ c ∷ [] → c.completed ≡ frame → ChangeBack w (reopens came_back era.account.hand)
+    change_over c none more at = subst (λ (z : LifeOf). ChangeBack w z) (sym (reopens_none came_back era.account.hand none))
+        (ChangeBack.over c s none more at
+        ((λ i. eras_scripted l.past ++ scripted_in ((era_started ∙ w.started) i) (era_answers w.row i) (more i)) ∙ change_with l w c)
+        (record {
+          hand = none;
+          states =
+              (let n = ap (λ ss. states_in (services_in ss)) (era_started ∙ w.started) in
+              let k = changes_more w.front w.duty.target w.frame in
+              let m = length-append l.era.account.over (c ∷ []) in
+              let o = ap length more in
+              omega (arith, n, k, w.beside, m, o));
+          row = era_row w.row;
+        }))
 
-  abbrev x : Speech Body Asked Reply
-  x = speech_at lens u.lived.spot
+    change_open : ChangeBack w (reopens came_back era.account.hand)
+    change_open = by (hand_back spot.station frame l.era.account (own spot.station back) w.duty w.hand)
+      where
+        by : Went frame l.era.account.over era.account w.duty.target → ChangeBack w (reopens came_back era.account.hand)
+        by (Went.on duty hand target same) = change_goes duty hand target same
+        by (Went.over c none more at) = change_over c none more at
 
-  stayed : (fate : Fate) → Stayed u.lived.life (led fate).lived.life
-  stayed Pass = stayed_back x made u.lived.spot [] (seen lens f.back) u.lived.life (came_at u.share.under u.share.at (seen lens f.back)) u.lived.life.stand
-  stayed (Lost after) = stayed_given x recover made u.lived.spot [] (seen lens f.sent) u.lived.life (gives && u.share.under) _ (stayed_lost x recover made u.lived.spot [] (seen lens f.sent) u.lived.life u.lived.life.stand)
-
-  -- what may be noted may be noted on
-  pub noted_on : (fate : Fate) (ns : List Noted) → AllNoted (life_scripted u.lived.life) ns → AllNoted (life_scripted (led fate).lived.life) ns
-  noted_on fate ns h = noted_stays (life_scripted u.lived.life) (life_scripted (led fate).lived.life) ns (stayed fate).scripted h
-
-  -- WITH NO REPLY AWAITED
-  pub behind_forgets : (fate : Fate) (waits : Bool) (number : ℕ) (ns : List Noted) → IsNoted (turned u) waits number ns → IsNoted (led fate) false number ns
-  behind_forgets fate waits number ns h = record {
-    many = h.many;
-    beside = (stayed fate).beside h.beside;
-    noted = noted_on fate ns h.noted;
-    waits = λ bad. absurd (let no : false ≡ true = bad in cc);
-  }
-
-  awaiting : IsAwaiting (turned u) → AwaitsBack x made u.lived.spot [] (seen lens f.back) u.lived.life (led Pass).lived.life
-  awaiting w = awaits_back x made u.lived.spot [] (seen lens f.back) u.lived.life (came_at u.share.under u.share.at (seen lens f.back)) u.lived.life.stand refl w.stand w.era w.unanswered
-
-  -- A RETURN without the reply
-  pub pass_waits : (waits : Bool) (number : ℕ) (ns : List Noted) → IsNoted (turned u) waits number ns → (waits ≡ true → newest_answer (led Pass) ≡ None) → IsNoted (led Pass) waits number ns
-  pass_waits waits number ns h none = record {
-    many = h.many;
-    beside = (stayed Pass).beside h.beside;
-    noted = noted_on Pass ns h.noted;
-    waits = λ e. let w = awaiting (h.waits e) in record { stand = w.stand; era = w.era; unanswered = none e };
-  }
-
-  -- and with it
-  pub pass_told : (number : ℕ) (front : List Noted) (frame : ℕ) (reply : Reply) (g : ℕ) → newest_answer (led Pass) ≡ Some (reply, g) → IsNoted (turned u) true number (front ++ record { frame = frame; reply = None } ∷ []) →
-      IsNoted (led Pass) false number (front ++ record { frame = frame; reply = Some (reply, made) } ∷ [])
-  pass_told number front frame reply g e h =
-      let w = awaiting (h.waits refl) in
-      let is : newest_answer (led Pass) ≡ Some (reply, made) = e ∙ ap (λ (k : ℕ). Some (reply, k)) (w.fresh reply g e) in
-      record {
-        many = h.many;
-        beside = (stayed Pass).beside h.beside;
-        noted = told_now (led Pass).lived.life w.era front frame (reply, made) is (noted_on Pass (front ++ record { frame = frame; reply = None } ∷ []) h.noted);
-        waits = λ bad. absurd (let no : false ≡ true = bad in cc);
-      }
-
-  -- A LOSS by which the slave isn't given up
-  pub lost_waits : (after : ℕ) (waits : Bool) (number : ℕ) (ns : List Noted) → IsNoted (turned u) waits number ns → (led (Lost after)).lived.life.gave ≡ u.lived.life.gave → IsNoted (led (Lost after)) waits number ns
-  lost_waits after waits number ns h same = record {
-    many = h.many;
-    beside = (stayed (Lost after)).beside h.beside;
-    noted = noted_on (Lost after) ns h.noted;
-    waits = λ e.
-        let w = h.waits e in
-        let k = lost_awaits x recover made u.lived.spot [] (seen lens f.sent) u.lived.life (gives && u.share.under) w.stand w.era w.unanswered same in
-        record { stand = k.stand; era = k.era; unanswered = k.none };
-  }
-
-  -- GIVE-UPS
-  opening_gave : (l : Life Body Asked Reply) (o : Opening) (done : Bool) (found : Option Found) → (opening_back made l o done found).gave ≡ l.gave
-  opening_gave l o done found = go (shows_clear o) (done && is_shown 1 found) (o.step == last_step o) (done && is_shown o.state found)
-    where
-      go : (shows seen last there : Bool) → (if shows then (if seen then clears made l o else l) else if last then (if there then opens made l else l) else steps_on l o).gave ≡ l.gave
-      go true true last there = refl
-      go true false last there = refl
-      go false seen true true = refl
-      go false seen true false = refl
-      go false seen false there = refl
-
-  reopens_gave : (l : Life Body Asked Reply) (hand : Option Duty) → (reopens l hand).gave ≡ l.gave
-  reopens_gave l None = refl
-  reopens_gave l (Some duty) = go duty.stage
-    where
-      by : (b : Bool) → (if b then record l { stand = reopening (opens_state duty.target) true } else l).gave ≡ l.gave
-      by true = refl
-      by false = refl
-
-      go : (stage : Stage) → (reopens_at l duty.target stage).gave ≡ l.gave
-      go Stage.Drains = refl
-      go (Stage.Goes phase) = by (returns_to_init duty.target)
-
-  back_gave : (spot : Spot) (back : List (Datagram Body)) (l : Life Body Asked Reply) (came : Option (Bool × Option Found)) (stand : Stand) → (life_back x acknowledged is_followed is_passed made spot [] back came l stand).gave ≡ l.gave
-  back_gave spot back l None (Stand.Opens o) = refl
-  back_gave spot back l (Some came) (Stand.Opens o) = opening_gave l o came.0 came.1
-  back_gave spot back l came Stand.Open = let e = era_back x acknowledged is_followed is_passed spot.station made [] back l.era in reopens_gave (record l { era = e }) e.account.hand
-  back_gave spot back l came Stand.Gone = refl
-
-  lost_gave : (spot : Spot) (sent : List (Datagram Body)) (l : Life Body Asked Reply) (stand : Stand) → (life_lost x acknowledged is_followed is_passed spot [] sent l stand).gave ≡ l.gave
-  lost_gave spot sent l (Stand.Opens o) = refl
-  lost_gave spot sent l Stand.Open = refl
-  lost_gave spot sent l Stand.Gone = refl
-
-  given_gave : (b : Bool) (spot : Spot) (l m : Life Body Asked Reply) → m.gave ≡ l.gave → ((given_where b recover spot made m).gave ≡ l.gave) ⊎ ((given_where b recover spot made m).gave ≡ l.gave ++ made ∷ [])
-  given_gave true spot l m e = inr (ap (λ (g : List ℕ). g ++ made ∷ []) e)
-  given_gave false spot l m e = inl e
-
-  pub passes_so : PassesSo made (turned u) (led Pass)
-  passes_so = record {
-    waits = λ waits number ns h none. pass_waits waits number ns h none;
-    told = λ number front frame reply g e h. pass_told number front frame reply g e h;
-    up = λ number ns h. (awaiting (h.waits refl)).stand;
-    forgets = λ waits number ns h. behind_forgets Pass waits number ns h;
-    on = λ ns h. noted_on Pass ns h;
-    gave = back_gave u.lived.spot (seen lens f.back) u.lived.life (came_at u.share.under u.share.at (seen lens f.back)) u.lived.life.stand;
-  }
-
-  pub loses_so : (after : ℕ) → LosesSo made (turned u) (led (Lost after))
-  loses_so after = record {
-    waits = λ waits number ns h same. lost_waits after waits number ns h same;
-    forgets = λ waits number ns h. behind_forgets (Lost after) waits number ns h;
-    on = λ ns h. noted_on (Lost after) ns h;
-    gave = given_gave (gives && u.share.under) u.lived.spot u.lived.life _ (lost_gave u.lived.spot (seen lens f.sent) u.lived.life u.lived.life.stand);
-  }
+    pub change_back : (came : Option (Bool × Option Found)) (stand : Stand) → l.stand ≡ stand → ChangeBack w (behind came stand)
+    change_back came (Stand.Opens o) t = absurd (let bad = sym s ∙ t in cc)
+    change_back came Stand.Open t = change_open
+    change_back came Stand.Gone t = absurd (let bad = sym s ∙ t in cc)

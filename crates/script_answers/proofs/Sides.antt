@@ -9,8 +9,8 @@ use Rattle.master_duty.specs.Reply.{Reply}
 use Rattle.master_hand.specs.Spoken.{Asked}
 use Rattle.segment_model.specs.Seats.{Side, newest, rows_of, is_none_left, is_over, next_mail, side_begins, side_holds}
 use Rattle.state_exchange.specs.Stated.{Service}
-use Rattle.task_model.specs.Accounts.{Account, Duty, Started, mails_begin, is_free, is_acknowledged, starts, state_begins, account_begins}
-use Rattle.script_answers.specs.Answers.{answers_in, side_answers, now_answer}
+use Rattle.task_model.specs.Accounts.{Account, Duty, Stage, Started, mails_begin, is_free, is_acknowledged, starts, state_begins, account_begins}
+use Rattle.script_answers.specs.Answers.{RowRests, answers_in, side_answers, now_answer}
 use Rattle.script_answers.proofs.Lists.{Answer}
 
 abbrev Held : Type 0
@@ -45,6 +45,14 @@ pub record RowStays (r : Held) (now : Option Held) : Type 0 where
 pub holds_row : (d : Side Body Asked Reply) (ms : List Body) (r : Held) → d.now ≡ Some r → RowStays r (side_holds d ms).now
 holds_row d [] r e = record { row = r; is = e; service = refl; answer = refl }
 holds_row d (m ∷ ms) r e = record { row = row_told m r; is = ap (option_map (λ r. row_told m r)) e; service = refl; answer = refl }
+
+pub holds_rests : (d : Side Body Asked Reply) (ms : List Body) → RowRests d.now → RowRests (side_holds d ms).now
+holds_rests d [] h = h
+holds_rests d (m ∷ ms) h = go d.now h
+  where
+    go : (now : Option Held) → RowRests now → RowRests (option_map (λ r. row_told m r) now)
+    go None h = tt
+    go (Some r) h = h
 
 -- A SERVICE BY MAILS comes into hand
 pub record SideMails (d d' : Side Body Asked Reply) (q : Asked) : Type 0 where
@@ -91,20 +99,38 @@ module _ (x : Speech Body Asked Reply) (ack : Asked → Bool) (frame : ℕ) (d :
     pub answers : side_answers d' ≡ side_answers d
     pub past : d'.past ≡ d.past
     pub row : (r : Held) → d.now ≡ Some r → RowStays r d'.now
+    pub over : a'.over ≡ a.over
+    pub rests : RowRests d.now → RowRests d'.now
 
   -- a service by mails does
   pub record Mails (q : Asked) (a' : Account Asked Reply) (d' : Side Body Asked Reply) : Type 0 where
     pub started : a'.started ≡ starts a (Service.Mails q) frame
     pub hand : a'.hand ≡ None
+    pub old : a.hand ≡ None
+    pub over : a'.over ≡ a.over
     pub side : SideMails d d' q
     pub free : is_free x d d.now ≡ true
 
   -- a state service does
   pub record State (target : ℕ) (a' : Account Asked Reply) (d' : Side Body Asked Reply) : Type 0 where
     pub started : a'.started ≡ starts a (Service.State target) frame
-    pub hand : is_some a'.hand ≡ true
+    pub hand : a'.hand ≡ Some (record { target = target; frame = frame; stage = Stage.Drains })
+    pub old : a.hand ≡ None
+    pub over : a'.over ≡ a.over
     pub answers : side_answers d' ≡ side_answers d
+    pub rests : RowRests d.now → RowRests d'.now
     pub free : is_free x d d.now ≡ true
+
+  -- nothing that comes into hand ends a change of state
+  either : (b : Bool) (c : Account Asked Reply) → c.over ≡ a.over → (if b then c else a).over ≡ a.over
+  either true c e = e
+  either false c e = refl
+
+  over_begins : (hand : Option Duty) (b : Option (Service Asked)) → (account_begins x ack frame d a hand b).over ≡ a.over
+  over_begins hand None = refl
+  over_begins (Some duty) (Some wish) = refl
+  over_begins None (Some (Service.Mails q)) = either (x.valid q && is_free x d d.now) (record a { started = starts a (Service.Mails q) frame }) refl
+  over_begins None (Some (Service.State target)) = either (is_free x d d.now && is_acknowledged ack d d.now) (state_begins a target frame) refl
 
   same_account : (hand : Option Duty) → account_begins x ack frame d a hand None ≡ a
   same_account None = refl
@@ -124,6 +150,8 @@ module _ (x : Speech Body Asked Reply) (ack : Asked → Bool) (frame : ℕ) (d :
         answers = holds_answers (begun_side None) ms ∙ ap side_answers same;
         past = holds_past (begun_side None) ms ∙ ap (λ (z : Side Body Asked Reply). z.past) same;
         row = λ r e. holds_row (begun_side None) ms r (ap (λ (z : Side Body Asked Reply). z.now) same ∙ e);
+        over = over_begins a.hand None;
+        rests = λ h. holds_rests (begun_side None) ms (subst (λ (z : Side Body Asked Reply). RowRests z.now) (sym same) h);
       }
 
   pub rests : (b : Option (Service Asked)) (hold : Bool) → b ≡ None → Rests (next_account b) (next_side b hold)
@@ -162,6 +190,8 @@ module _ (x : Speech Body Asked Reply) (ack : Asked → Bool) (frame : ℕ) (d :
       record {
         started = e;
         hand = mails_hand q a.hand ∙ may.0;
+        old = may.0;
+        over = over_begins a.hand (Some (Service.Mails q));
         side = held_mails d b (next_mail x b.now b.halves.out.holding hold) q begins;
         free = second (x.valid q) (is_free x d d.now) may.1;
       }
@@ -171,11 +201,12 @@ module _ (x : Speech Body Asked Reply) (ack : Asked → Bool) (frame : ℕ) (d :
 
   -- a state service
   may_state : (target : ℕ) (hand : Option Duty) → (account_begins x ack frame d a hand (Some (Service.State target))).started ≡ starts a (Service.State target) frame →
-      (is_some (account_begins x ack frame d a hand (Some (Service.State target))).hand ≡ true) × (is_free x d d.now ≡ true)
+      ((account_begins x ack frame d a hand (Some (Service.State target))).hand ≡ Some (record { target = target; frame = frame; stage = Stage.Drains })) × (is_free x d d.now ≡ true) × (hand ≡ None)
   may_state target (Some duty) e = absurd (longer a.started _ e)
-  may_state target None e = go (is_free x d d.now) (is_acknowledged ack d d.now) e
+  may_state target None e = let g = go (is_free x d d.now) (is_acknowledged ack d d.now) e in (g.0, g.1, refl)
     where
-      go : (f g : Bool) → (if f && g then state_begins a target frame else a).started ≡ starts a (Service.State target) frame → (is_some (if f && g then state_begins a target frame else a).hand ≡ true) × (f ≡ true)
+      go : (f g : Bool) → (if f && g then state_begins a target frame else a).started ≡ starts a (Service.State target) frame →
+          ((if f && g then state_begins a target frame else a).hand ≡ Some (record { target = target; frame = frame; stage = Stage.Drains })) × (f ≡ true)
       go true true h = (refl, refl)
       go true false h = absurd (longer a.started _ h)
       go false g h = absurd (longer a.started _ h)
@@ -192,7 +223,10 @@ module _ (x : Speech Body Asked Reply) (ack : Asked → Bool) (frame : ℕ) (d :
       record {
         started = e;
         hand = may.0;
+        old = may.2;
+        over = over_begins a.hand (Some (Service.State target));
         answers = holds_answers b (next_mail x b.now b.halves.out.holding hold) ∙ ap side_answers same;
+        rests = λ h. holds_rests b (next_mail x b.now b.halves.out.holding hold) (subst (λ (z : Side Body Asked Reply). RowRests z.now) (sym same) h);
         free = may.1;
       }
 

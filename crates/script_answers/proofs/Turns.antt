@@ -1,6 +1,6 @@
 -- WHAT IS NOTED BEFORE A FRAME: what came into hand of a slave.
 use Rattle.std.proofs.Common.{◌≡◌, ◌⊎◌, inl, inr, ℕ, suc, ◌+◌, ◌<◌, ◌≤◌, Bool, true, false, Option, Some, None, List, [], ◌∷◌, ◌++◌, map, length, length-append, refl, ap, sym, ◌∙◌, subst, arith, append_assoc, append-nil}
-use Rattle.std.specs.Prelude.{not, nat_lt, is_some, if◌then◌else◌}
+use Rattle.std.specs.Prelude.{nat_lt, is_some, if◌then◌else◌}
 use Rattle.std.proofs.lemmas.Bool.{ltb-true, ltb-false}
 use Rattle.std.proofs.lemmas.List.{map-append}
 use Rattle.datagrams.specs.Datagram as Raw
@@ -9,22 +9,24 @@ use Rattle.exchange_model.specs.Areas.{Areas}
 use Rattle.exchange_model.specs.Exchange.{Speech}
 use Rattle.exchange_model.specs.Rows.{Row}
 use Rattle.frame_view.specs.View.{Lens}
-use Rattle.life_model.specs.Lives.{Era, Life, Stand, granted, life_next}
+use Rattle.life_epochs.proofs.Spans as Spans
+use Rattle.life_epochs.specs.Spans.{is_open}
+use Rattle.life_model.specs.Lives.{Era, Life, Stand, Opening, granted, life_next, returns_to_init}
 use Rattle.life_runs.specs.Led.{Leads, Turn, Comes, Took, IsTurn, is_passed, speech_at}
 use Rattle.link_mails.specs.Body.{Body}
 use Rattle.master_duty.specs.Reply.{Reply}
-use Rattle.master_hand.specs.Spoken.{Asked, sdo, file, drive, net, handed, acknowledged, is_followed}
+use Rattle.master_hand.specs.Spoken.{Asked, sdo, file, drive, net, handed, ends, acknowledged, is_followed}
 use Rattle.master_hand.specs.Talk.{asked_of}
 use Rattle.script_runs.specs.Came.{is_packet}
 use Rattle.segment_model.specs.Ends.{Passing}
 use Rattle.segment_model.specs.Seats.{Side, newest, rows_of}
 use Rattle.segment_plan.specs.declared.service.Service as Plan
 use Rattle.state_exchange.specs.Stated.{Service}
-use Rattle.task_model.specs.Accounts.{Account, Duty, Started, Pick, is_free, starts}
+use Rattle.task_model.specs.Accounts.{Account, Duty, Stage, Started, Pick, is_free, starts}
 use Rattle.task_model.specs.Promise.{services_in, mails_in}
-use Rattle.script_answers.specs.Answers.{Came, Scripted, Noted, IsReported, AllNoted, Awaits, IsAwaiting, IsNoted, answers_in, side_answers, now_answer, scripted_in, scripted_mails, era_scripted, eras_scripted, life_scripted, turned}
-use Rattle.script_answers.specs.Steps.{Begun, Turns, TurnsSo}
-use Rattle.script_answers.proofs.Lists.{Answer, scripted_state, scripted_one, mails_more, states_more, noted_more}
+use Rattle.script_answers.specs.Answers.{Came, Scripted, Noted, IsReported, AllNoted, RowRests, RestsSo, Awaits, Changes, ComesAnew, IsAwaiting, IsGoing, Waits, StandsBy, FreshBy, IsNoted, answers_in, side_answers, states_in, change_came, now_answer, scripted_in, scripted_mails, era_scripted, eras_scripted, life_scripted, turned}
+use Rattle.script_answers.specs.Steps.{awaited, with_begun, Turns, TurnsSo}
+use Rattle.script_answers.proofs.Lists.{Answer, scripted_state, scripted_one, mails_more, states_more, changes_more, changes_same, noted_more}
 use Rattle.script_answers.proofs.Sides.{Rests, Mails, State, RowStays, SideMails, longer, rests, mails, state, not_free}
 
 -- NO SERVICE OF A SCRIPT is a packet, and each has a reply
@@ -54,6 +56,21 @@ not_packet room s q e = ap (among (λ q. is_packet (Service.Mails q))) (sym e) �
 pub has_reply : (areas : Areas) (room : ℕ) (s : Plan.Service) (q : Asked) → asked_of room s ≡ Some q → handed areas q ≡ false
 has_reply areas room s q e = ap (among (handed areas)) (sym e) ∙ none_of (handed areas) (λ q. refl) (λ q. refl) (λ q. refl) (λ b. refl) refl room s
 
+-- a packet never has a reply
+packet_never : (areas : Areas) (octets : List ℕ) (frame : ℕ) (hs : List Body) → ends areas (net (EoeClient.packet octets frame)) hs ≡ None
+packet_never areas octets frame hs = refl
+
+-- WHERE A SLAVE STANDS as before, its epoch is as new as before
+pub fresh_same : (stand : Stand) (e e' : Era Body Asked Reply) → ((o : Opening) → stand ≡ Stand.Opens o → e' ≡ e) → FreshBy stand e → FreshBy stand e'
+fresh_same (Stand.Opens o) e e' same h = λ stays. subst (λ (z : Era Body Asked Reply). FreshBy (Stand.Opens o) z) (sym (same o refl)) h stays
+fresh_same Stand.Open e e' same h = tt
+fresh_same Stand.Gone e e' same h = tt
+
+pub fresh_open : (stand : Stand) (e : Era Body Asked Reply) → stand ≡ Stand.Open → FreshBy stand e
+fresh_open (Stand.Opens o) e s = absurd (cc)
+fresh_open Stand.Open e s = tt
+fresh_open Stand.Gone e s = tt
+
 -- A LIFE BEFORE A FRAME
 not_granted : {Q : Type 0} (passing : Option Passing) (p : Pick Q) → p.begin ≡ None → (granted passing p).begin ≡ None
 not_granted None p e = e
@@ -71,27 +88,30 @@ module _ (x : Speech Body Asked Reply) (made : ℕ) (l : Life Body Asked Reply) 
     pub past : m.past ≡ l.past
     pub stand : m.stand ≡ l.stand
     pub era : Rests x acknowledged made l.era.side l.era.account m.era.account m.era.side
+    pub still : (o : Opening) → l.stand ≡ Stand.Opens o → m.era ≡ l.era
 
   pub record LifeMails (q : Asked) (m : Life Body Asked Reply) : Type 0 where
     pub past : m.past ≡ l.past
     pub stand : m.stand ≡ Stand.Open
+    pub was : l.stand ≡ Stand.Open
     pub era : Mails x acknowledged made l.era.side l.era.account q m.era.account m.era.side
 
   pub record LifeState (target : ℕ) (m : Life Body Asked Reply) : Type 0 where
     pub past : m.past ≡ l.past
     pub stand : m.stand ≡ Stand.Open
+    pub was : l.stand ≡ Stand.Open
     pub era : State x acknowledged made l.era.side l.era.account target m.era.account m.era.side
 
   same_era : Rests x acknowledged made l.era.side l.era.account l.era.account l.era.side
-  same_era = record { started = refl; hand = refl; answers = refl; past = refl; row = λ r e. record { row = r; is = e; service = refl; answer = refl } }
+  same_era = record { started = refl; hand = refl; answers = refl; past = refl; row = λ r e. record { row = r; is = e; service = refl; answer = refl }; over = refl; rests = λ h. h }
 
   abbrev granted_pick : Pick Asked
   granted_pick = granted l.era.passing pick
 
-  pub life_rests : (stand : Stand) → pick.begin ≡ None → LifeRests (next stand)
-  life_rests (Stand.Opens o) e = record { past = refl; stand = refl; era = same_era }
-  life_rests Stand.Open e = record { past = refl; stand = refl; era = rests x acknowledged made l.era.side l.era.account granted_pick.begin granted_pick.hold (not_granted l.era.passing pick e) }
-  life_rests Stand.Gone e = record { past = refl; stand = refl; era = same_era }
+  pub life_rests : (stand : Stand) → l.stand ≡ stand → pick.begin ≡ None → LifeRests (next stand)
+  life_rests (Stand.Opens o) s e = record { past = refl; stand = refl; era = same_era; still = λ p t. refl }
+  life_rests Stand.Open s e = record { past = refl; stand = refl; era = rests x acknowledged made l.era.side l.era.account granted_pick.begin granted_pick.hold (not_granted l.era.passing pick e); still = λ p t. absurd (cc) }
+  life_rests Stand.Gone s e = record { past = refl; stand = refl; era = same_era; still = λ p t. refl }
 
   pub life_mails : (stand : Stand) → l.stand ≡ stand → (q : Asked) → pick.begin ≡ Some (Service.Mails q) → (next stand).era.account.started ≡ starts l.era.account (Service.Mails q) made → LifeMails q (next stand)
   life_mails (Stand.Opens o) s q e grew = absurd (longer l.era.account.started _ grew)
@@ -99,7 +119,7 @@ module _ (x : Speech Body Asked Reply) (made : ℕ) (l : Life Body Asked Reply) 
   life_mails Stand.Open s q e grew = by (as_wished l.era.passing pick (Service.Mails q) e)
     where
       by : (granted_pick.begin ≡ Some (Service.Mails q)) ⊎ (granted_pick.begin ≡ None) → LifeMails q (next Stand.Open)
-      by (inl is) = record { past = refl; stand = s; era = mails x acknowledged made l.era.side l.era.account granted_pick.begin granted_pick.hold q is grew }
+      by (inl is) = record { past = refl; stand = s; was = s; era = mails x acknowledged made l.era.side l.era.account granted_pick.begin granted_pick.hold q is grew }
       by (inr none) = absurd (longer l.era.account.started _ (sym (rests x acknowledged made l.era.side l.era.account granted_pick.begin granted_pick.hold none).started ∙ grew))
 
   pub life_state : (stand : Stand) → l.stand ≡ stand → (target : ℕ) → pick.begin ≡ Some (Service.State target) → (next stand).era.account.started ≡ starts l.era.account (Service.State target) made → LifeState target (next stand)
@@ -108,12 +128,12 @@ module _ (x : Speech Body Asked Reply) (made : ℕ) (l : Life Body Asked Reply) 
   life_state Stand.Open s target e grew = by (as_wished l.era.passing pick (Service.State target) e)
     where
       by : (granted_pick.begin ≡ Some (Service.State target)) ⊎ (granted_pick.begin ≡ None) → LifeState target (next Stand.Open)
-      by (inl is) = record { past = refl; stand = s; era = state x acknowledged made l.era.side l.era.account granted_pick.begin granted_pick.hold target is grew }
+      by (inl is) = record { past = refl; stand = s; was = s; era = state x acknowledged made l.era.side l.era.account granted_pick.begin granted_pick.hold target is grew }
       by (inr none) = absurd (longer l.era.account.started _ (sym (rests x acknowledged made l.era.side l.era.account granted_pick.begin granted_pick.hold none).started ∙ grew))
 
   -- what that makes of the scripted services
   pub rests_scripted : (m : Life Body Asked Reply) → LifeRests m → life_scripted m ≡ life_scripted l
-  rests_scripted m r = λ i. eras_scripted (r.past i) ++ scripted_in (r.era.started i) (r.era.answers i)
+  rests_scripted m r = λ i. eras_scripted (r.past i) ++ scripted_in (r.era.started i) (r.era.answers i) (r.era.over i)
 
   mails_answers : (m : Life Body Asked Reply) (q : Asked) → LifeMails q m → side_answers m.era.side ≡ side_answers l.era.side ++ None ∷ []
   mails_answers m q r =
@@ -123,8 +143,8 @@ module _ (x : Speech Body Asked Reply) (made : ℕ) (l : Life Body Asked Reply) 
   pub mails_scripted : (m : Life Body Asked Reply) (q : Asked) → LifeMails q m → mails_in (services_in l.era.account.started) ≡ length (side_answers l.era.side) →
       life_scripted m ≡ life_scripted l ++ scripted_mails (is_packet (Service.Mails q)) made None []
   mails_scripted m q r b =
-      (λ i. eras_scripted (r.past i) ++ scripted_in (r.era.started i) (mails_answers m q r i))
-      ∙ ap (λ ss. eras_scripted l.past ++ ss) (scripted_one l.era.account.started (side_answers l.era.side) q made None b)
+      (λ i. eras_scripted (r.past i) ++ scripted_in (r.era.started i) (mails_answers m q r i) (r.era.over i))
+      ∙ ap (λ ss. eras_scripted l.past ++ ss) (scripted_one l.era.account.started (side_answers l.era.side) l.era.account.over q made None b)
       ∙ sym (append_assoc (eras_scripted l.past) (era_scripted l.era) (scripted_mails (is_packet (Service.Mails q)) made None []))
 
   pub mails_beside : (m : Life Body Asked Reply) (q : Asked) → LifeMails q m → mails_in (services_in l.era.account.started) ≡ length (side_answers l.era.side) → mails_in (services_in m.era.account.started) ≡ length (side_answers m.era.side)
@@ -133,18 +153,19 @@ module _ (x : Speech Body Asked Reply) (made : ℕ) (l : Life Body Asked Reply) 
       let k = ap length (mails_answers m q r) ∙ length-append (side_answers l.era.side) (None ∷ []) in
       omega (arith, n, k, b)
 
-  pub state_scripted : (m : Life Body Asked Reply) (target : ℕ) → LifeState target m → life_scripted m ≡ life_scripted l ++ record { frame = made; came = Came.state } ∷ []
-  state_scripted m target r =
-      (λ i. eras_scripted (r.past i) ++ scripted_in (r.era.started i) (r.era.answers i))
-      ∙ ap (λ ss. eras_scripted l.past ++ ss) (scripted_state l.era.account.started (side_answers l.era.side) target made)
-      ∙ sym (append_assoc (eras_scripted l.past) (era_scripted l.era) (record { frame = made; came = Came.state } ∷ []))
+  pub state_scripted : (m : Life Body Asked Reply) (target : ℕ) → LifeState target m → states_in (services_in l.era.account.started) ≡ length l.era.account.over →
+      life_scripted m ≡ life_scripted l ++ record { frame = made; came = change_came (returns_to_init target) None } ∷ []
+  state_scripted m target r e =
+      (λ i. eras_scripted (r.past i) ++ scripted_in (r.era.started i) (r.era.answers i) ((r.era.over ∙ sym (append-nil l.era.account.over)) i))
+      ∙ ap (λ ss. eras_scripted l.past ++ ss) (scripted_state l.era.account.started (side_answers l.era.side) l.era.account.over [] target made e)
+      ∙ sym (append_assoc (eras_scripted l.past) (era_scripted l.era) (record { frame = made; came = change_came (returns_to_init target) None } ∷ []))
 
   pub state_beside : (m : Life Body Asked Reply) (target : ℕ) → LifeState target m → mails_in (services_in l.era.account.started) ≡ length (side_answers l.era.side) → mails_in (services_in m.era.account.started) ≡ length (side_answers m.era.side)
   state_beside m target r b = ap (λ ss. mails_in (services_in ss)) r.era.started ∙ states_more l.era.account.started target made ∙ b ∙ ap length (sym r.era.answers)
 
 -- it goes on awaiting its reply
-pub awaits_on : (e e' : Era Body Asked Reply) (w : Awaits e) (row : Row Body Asked Reply) → e'.account.started ≡ e.account.started → e'.side.past ≡ e.side.past → e'.account.hand ≡ None → e'.side.now ≡ Some row → row.service ≡ w.row.service → Awaits e'
-awaits_on e e' w row started past hand now service = record {
+abbrev pub awaits_on : (e e' : Era Body Asked Reply) (w : Awaits e) (row : Row Body Asked Reply) → e'.account.started ≡ e.account.started → e'.account.over ≡ e.account.over → e'.side.past ≡ e.side.past → e'.account.hand ≡ None → e'.side.now ≡ Some row → row.service ≡ w.row.service → Awaits e'
+awaits_on e e' w row started over past hand now service = record {
   front = w.front;
   asked = w.asked;
   frame = w.frame;
@@ -155,49 +176,95 @@ awaits_on e e' w row started past hand now service = record {
   now = now;
   replies = λ areas. ap (handed areas) service ∙ w.replies areas;
   hand = hand;
+  states = ap (λ ss. states_in (services_in ss)) started ∙ w.states ∙ ap length (sym over);
 }
+
+-- a change of state goes on
+abbrev pub changes_on : (e e' : Era Body Asked Reply) (w : Changes e) (duty : Duty) → e'.account.started ≡ e.account.started → e'.account.over ≡ e.account.over → e'.account.hand ≡ Some duty → duty.target ≡ w.duty.target → RowRests e'.side.now → Changes e'
+changes_on e e' w duty started over hand target row = record {
+  front = w.front;
+  frame = w.frame;
+  duty = duty;
+  started = started ∙ w.started ∙ ap (λ (k : ℕ). w.front ++ record { service = Service.State k; frame = w.frame } ∷ []) (sym target);
+  beside = w.beside ∙ ap length (sym over);
+  hand = hand;
+  row = row;
+}
+
+-- nothing comes into hand
+abbrev pub rests_on : (e e' : Era Body Asked Reply) → RestsSo e → e'.account.started ≡ e.account.started → e'.account.over ≡ e.account.over → e'.account.hand ≡ e.account.hand → RowRests e'.side.now → RestsSo e'
+rests_on e e' r started over hand row = record { hand = hand ∙ r.hand; states = ap (λ ss. states_in (services_in ss)) started ∙ r.states ∙ ap length (sym over); row = row }
 
 -- A TURN of a slave of which this is noted
 module _ (lens : ℕ → Lens) (made : ℕ) (ds : List Raw.Datagram) (a : Leads) (u : Turn) (y : IsTurn lens made ds a u) where
   abbrev x : Speech Body Asked Reply
   x = speech_at lens a.lived.spot
 
-  module _ (waits : Bool) (number : ℕ) (ns : List Noted) (h : IsNoted a waits number ns) where
-    -- nothing comes into hand while a reply is awaited
-    not_waiting : is_free x a.lived.life.era.side a.lived.life.era.side.now ≡ true → waits ≡ true → ⊥
-    not_waiting free e =
-        let w = h.waits e in
-        let row = w.era.row in
-        let no = not_free x acknowledged made a.lived.life.era.side a.lived.life.era.account row w.era.now (w.era.replies (record { out = (lens a.lived.spot.station).out; back = (lens a.lived.spot.station).back })) (sym (ap now_answer w.era.now) ∙ w.unanswered) in
-        absurd (let bad : true ≡ false = sym free ∙ no in cc)
+  abbrev old : Era Body Asked Reply
+  old = a.lived.life.era
 
-    rested : (m : Life Body Asked Reply) → m ≡ u.lived.life → LifeRests x made a.lived.life y.next.pick m → waits ≡ true → IsAwaiting (turned u)
-    rested m is r e =
-        let w = h.waits e in
-        let s = r.era.row w.era.row w.era.now in
-        record {
-          stand = ap (λ (z : Life Body Asked Reply). z.stand) (sym is) ∙ r.stand ∙ w.stand;
-          era = subst (λ (z : Life Body Asked Reply). Awaits z.era) is (awaits_on a.lived.life.era m.era w.era s.row r.era.started r.era.past (r.era.hand ∙ w.era.hand) s.is s.service);
-          unanswered = ap (λ (z : Life Body Asked Reply). now_answer z.era.side.now) (sym is) ∙ ap now_answer s.is ∙ s.answer ∙ sym (ap now_answer w.era.now) ∙ w.unanswered;
-        }
+  abbrev new : Era Body Asked Reply
+  new = u.lived.life.era
 
-    turn_rests : u.begun ≡ None → u.number ≡ a.number → Turns made a (turned u) waits number ns
+  abbrev Nothing : Type 0
+  Nothing = LifeRests x made a.lived.life y.next.pick u.lived.life
+
+  -- WHERE SOMETHING COMES INTO HAND nothing is awaited
+  not_waiting : IsAwaiting a → is_free x old.side old.side.now ≡ true → ⊥
+  not_waiting w free =
+      let row = w.era.row in
+      let no = not_free x acknowledged made old.side old.account row w.era.now (w.era.replies (record { out = (lens a.lived.spot.station).out; back = (lens a.lived.spot.station).back })) (sym (ap now_answer w.era.now) ∙ w.unanswered) in
+      absurd (let bad : true ≡ false = sym free ∙ no in cc)
+
+  pub record Free (w : Waits) : Type 0 where
+    pub nothing : w ≡ Waits.nothing
+    pub rests : RestsSo old
+
+  free_by : (w : Waits) → StandsBy w a → a.lived.life.stand ≡ Stand.Open → is_free x old.side old.side.now ≡ true → old.account.hand ≡ None → Free w
+  free_by Waits.nothing h s free none = record { nothing = refl; rests = h s }
+  free_by Waits.reply h s free none = absurd (not_waiting h free)
+  free_by Waits.change (inl g) s free none = absurd (let bad = sym g.era.hand ∙ none in cc)
+  free_by Waits.change (inr c) s free none = absurd (let bad : true ≡ false = sym (ap is_open s) ∙ c.away in cc)
+
+  -- WHERE NOTHING DOES it is awaited as before
+  rests_waiting : Nothing → IsAwaiting a → IsAwaiting (turned u)
+  rests_waiting r w =
+      let s = r.era.row w.era.row w.era.now in
+      record {
+        stand = r.stand ∙ w.stand;
+        era = awaits_on old new w.era s.row r.era.started r.era.over r.era.past (r.era.hand ∙ w.era.hand) s.is s.service;
+        unanswered = ap now_answer s.is ∙ s.answer ∙ sym (ap now_answer w.era.now) ∙ w.unanswered;
+      }
+
+  rests_by : Nothing → (w : Waits) → StandsBy w a → StandsBy w (turned u)
+  rests_by r Waits.nothing h = λ s. let k = h (sym r.stand ∙ s) in rests_on old new k r.era.started r.era.over r.era.hand (r.era.rests k.row)
+  rests_by r Waits.reply h = rests_waiting r h
+  rests_by r Waits.change (inl g) = inl (record { stand = r.stand ∙ g.stand; era = changes_on old new g.era g.era.duty r.era.started r.era.over (r.era.hand ∙ g.era.hand) refl (r.era.rests g.era.row) })
+  rests_by r Waits.change (inr c) = inr (record { front = c.front; frame = c.frame; whole = rests_scripted x made a.lived.life y.next.pick u.lived.life r ∙ c.whole; away = ap is_open r.stand ∙ c.away })
+
+  module _ (waits : Waits) (number : ℕ) (ns : List Noted) (h : IsNoted a waits number ns) where
+    same_number : {P : Type 0} → u.number ≡ a.number → nat_lt number u.number ≡ true → P
+    same_number k e = absurd (let t = ltb-true number u.number e in let m = h.many in omega (arith, t, m, k))
+
+    more_number : {P : Type 0} → u.number ≡ suc a.number → nat_lt number u.number ≡ false → P
+    more_number k e = absurd (let t = ltb-false number u.number e in let m = h.many in omega (arith, t, m, k))
+
+    turn_rests : u.begun ≡ None → u.number ≡ a.number → Turns made (turned u) waits number ns
     turn_rests b k =
-        let r = subst (λ z. LifeRests x made a.lived.life y.next.pick z) (sym y.next.life) (life_rests x made a.lived.life y.next.pick a.lived.life.stand (y.begun ∙ b)) in
-        let scripted = rests_scripted x made a.lived.life y.next.pick u.lived.life r in
+        let r = subst (λ z. LifeRests x made a.lived.life y.next.pick z) (sym y.next.life) (life_rests x made a.lived.life y.next.pick a.lived.life.stand refl (y.begun ∙ b)) in
         record {
           same = λ e. record {
             many = h.many ∙ sym k;
             beside = ap (λ ss. mails_in (services_in ss)) r.era.started ∙ h.beside ∙ ap length (sym r.era.answers);
-            noted = subst (λ z. AllNoted z ns) (sym scripted) h.noted;
-            waits = rested u.lived.life refl r;
+            noted = subst (λ z. AllNoted z ns) (sym (rests_scripted x made a.lived.life y.next.pick u.lived.life r)) h.noted;
+            fresh = subst (λ (s : Stand). FreshBy s new) (sym r.stand) (fresh_same a.lived.life.stand old new r.still h.fresh);
+            stands = rests_by r waits h.stands;
           };
-          still = λ e. scripted;
-          more = λ e. absurd (let t = ltb-true number u.number e in let m = h.many in omega (arith, t, m, k));
+          more = λ e. same_number k e;
         }
 
-    took : (s : Service Asked) → u.begun ≡ Some s → (life_next x acknowledged is_followed is_passed made a.lived.life a.lived.life.stand y.next.pick).era.account.started ≡ starts a.lived.life.era.account s made
-    took s b = ap (λ (z : Life Body Asked Reply). z.era.account.started) (sym y.next.life) ∙ subst (λ z. Took made a.lived.life.era.account u.lived.life.era.account z) b y.took
+    took : (s : Service Asked) → u.begun ≡ Some s → (life_next x acknowledged is_followed is_passed made a.lived.life a.lived.life.stand y.next.pick).era.account.started ≡ starts old.account s made
+    took s b = ap (λ (z : Life Body Asked Reply). z.era.account.started) (sym y.next.life) ∙ subst (λ z. Took made old.account u.lived.life.era.account z) b y.took
 
     came_mails : (q : Asked) → u.begun ≡ Some (Service.Mails q) → LifeMails x made a.lived.life y.next.pick q u.lived.life
     came_mails q b = subst (λ z. LifeMails x made a.lived.life y.next.pick q z) (sym y.next.life) (life_mails x made a.lived.life y.next.pick a.lived.life.stand refl q (y.begun ∙ b) (took (Service.Mails q) b))
@@ -205,83 +272,100 @@ module _ (lens : ℕ → Lens) (made : ℕ) (ds : List Raw.Datagram) (a : Leads)
     came_state : (target : ℕ) → u.begun ≡ Some (Service.State target) → LifeState x made a.lived.life y.next.pick target u.lived.life
     came_state target b = subst (λ z. LifeState x made a.lived.life y.next.pick target z) (sym y.next.life) (life_state x made a.lived.life y.next.pick a.lived.life.stand refl target (y.begun ∙ b) (took (Service.State target) b))
 
-    turn_packet : (q : Asked) → u.begun ≡ Some (Service.Mails q) → is_packet (Service.Mails q) ≡ true → u.number ≡ a.number → Turns made a (turned u) waits number ns
-    turn_packet q b p k =
+    -- as many changes of state as before
+    mails_states : (q : Asked) → LifeMails x made a.lived.life y.next.pick q u.lived.life → RestsSo old → states_in (services_in new.account.started) ≡ length new.account.over
+    mails_states q r k = ap (λ ss. states_in (services_in ss)) r.era.started ∙ changes_same old.account.started q made ∙ k.states ∙ ap length (sym r.era.over)
+
+    turn_packet : (q : Asked) → u.begun ≡ Some (Service.Mails q) → is_packet (Service.Mails q) ≡ true → ((areas : Areas) (hs : List Body) → ends areas q hs ≡ None) → u.number ≡ a.number → Turns made (turned u) waits number ns
+    turn_packet q b p never k =
         let r = came_mails q b in
+        let free = free_by waits h.stands r.was r.era.free r.era.old in
         let scripted = mails_scripted x made a.lived.life y.next.pick u.lived.life q r h.beside ∙ ap (λ z. life_scripted a.lived.life ++ scripted_mails z made None []) p ∙ append-nil (life_scripted a.lived.life) in
+        let row : RowRests new.side.now = subst (λ (z : Option (Row Body Asked Reply)). RowRests z) (sym r.era.side.now) (inr (λ areas hs. ap (λ (z : Asked). ends areas z hs) r.era.side.service ∙ never areas hs)) in
         record {
           same = λ e. record {
             many = h.many ∙ sym k;
             beside = mails_beside x made a.lived.life y.next.pick u.lived.life q r h.beside;
             noted = subst (λ z. AllNoted z ns) (sym scripted) h.noted;
-            waits = λ e. absurd (not_waiting r.era.free e);
+            fresh = fresh_open u.lived.life.stand new r.stand;
+            stands = subst (λ (w : Waits). StandsBy w (turned u)) (sym free.nothing) (λ s. record { hand = r.era.hand; states = mails_states q r free.rests; row = row });
           };
-          still = λ e. scripted;
-          more = λ e. absurd (let t = ltb-true number u.number e in let m = h.many in omega (arith, t, m, k));
+          more = λ e. same_number k e;
         }
 
-    turn_mails : (q : Asked) → u.begun ≡ Some (Service.Mails q) → is_packet (Service.Mails q) ≡ false → ((areas : Areas) → handed areas q ≡ false) → u.number ≡ suc a.number → Turns made a (turned u) waits number ns
+    turn_mails : (q : Asked) → u.begun ≡ Some (Service.Mails q) → is_packet (Service.Mails q) ≡ false → ((areas : Areas) → handed areas q ≡ false) → u.number ≡ suc a.number → Turns made (turned u) waits number ns
     turn_mails q b p replies k =
         let r = came_mails q b in
+        let free = free_by waits h.stands r.was r.era.free r.era.old in
         let scripted = mails_scripted x made a.lived.life y.next.pick u.lived.life q r h.beside ∙ ap (λ z. life_scripted a.lived.life ++ scripted_mails z made None []) p in
+        let waits_now : IsAwaiting (turned u) = record {
+          stand = r.stand;
+          era = record {
+            front = old.account.started;
+            asked = q;
+            frame = made;
+            row = r.era.side.row;
+            started = r.era.started;
+            script = p;
+            beside = h.beside ∙ ap (λ rs. length (answers_in rs)) (sym r.era.side.past);
+            now = r.era.side.now;
+            replies = λ areas. ap (handed areas) r.era.side.service ∙ replies areas;
+            hand = r.era.hand;
+            states = mails_states q r free.rests;
+          };
+          unanswered = ap now_answer r.era.side.now ∙ r.era.side.answer;
+        } in
         record {
-          same = λ e. absurd (let t = ltb-false number u.number e in let m = h.many in omega (arith, t, m, k));
-          still = λ e. absurd (let t = ltb-false number u.number e in let m = h.many in omega (arith, t, m, k));
-          more = λ e state shown. subst (λ z. Begun made (turned u) ns z) (sym (shown r.stand ∙ ap is_some r.era.hand)) (record {
-            noted = record {
-              many = refl;
-              beside = mails_beside x made a.lived.life y.next.pick u.lived.life q r h.beside;
-              noted = subst (λ z. AllNoted z (ns ++ record { frame = made; reply = None } ∷ [])) (sym scripted)
-                  (noted_more (life_scripted a.lived.life) ns (record { frame = made; came = Came.mails None }) (record { frame = made; reply = None }) h.noted refl tt);
-              waits = λ e. record {
-                stand = r.stand;
-                era = record {
-                  front = a.lived.life.era.account.started;
-                  asked = q;
-                  frame = made;
-                  row = r.era.side.row;
-                  started = r.era.started;
-                  script = p;
-                  beside = h.beside ∙ ap (λ rs. length (answers_in rs)) (sym r.era.side.past);
-                  now = r.era.side.now;
-                  replies = λ areas. ap (handed areas) r.era.side.service ∙ replies areas;
-                  hand = r.era.hand;
-                };
-                unanswered = ap now_answer r.era.side.now ∙ r.era.side.answer;
-              };
-            };
-            any = λ bad. absurd (let no : false ≡ true = bad in cc);
+          same = λ e. more_number k e;
+          more = λ e state shown. subst (λ z. IsNoted (turned u) (awaited z) u.number (with_begun made ns)) (sym (shown r.stand ∙ ap is_some r.era.hand)) (record {
+            many = refl;
+            beside = mails_beside x made a.lived.life y.next.pick u.lived.life q r h.beside;
+            noted = subst (λ z. AllNoted z (with_begun made ns)) (sym scripted)
+                (noted_more (life_scripted a.lived.life) ns (record { frame = made; came = Came.mails None }) (record { frame = made; reply = None }) h.noted refl refl);
+            fresh = fresh_open u.lived.life.stand new r.stand;
+            stands = waits_now;
           });
         }
 
-    turn_state : (target : ℕ) → u.begun ≡ Some (Service.State target) → u.number ≡ suc a.number → Turns made a (turned u) waits number ns
+    nothing_came : (b : Bool) → IsReported (change_came b None) None
+    nothing_came true = tt
+    nothing_came false = refl
+
+    turn_state : (target : ℕ) → u.begun ≡ Some (Service.State target) → u.number ≡ suc a.number → Turns made (turned u) waits number ns
     turn_state target b k =
         let r = came_state target b in
-        let scripted = state_scripted x made a.lived.life y.next.pick u.lived.life target r in
-        let any : (reply : Answer) → AllNoted (life_scripted u.lived.life) (ns ++ record { frame = made; reply = reply } ∷ []) =
-        λ reply. subst (λ z. AllNoted z (ns ++ record { frame = made; reply = reply } ∷ [])) (sym scripted)
-        (noted_more (life_scripted a.lived.life) ns (record { frame = made; came = Came.state }) (record { frame = made; reply = reply }) h.noted refl tt) in
+        let free = free_by waits h.stands r.was r.era.free r.era.old in
+        let scripted = state_scripted x made a.lived.life y.next.pick u.lived.life target r free.rests.states in
         record {
-          same = λ e. absurd (let t = ltb-false number u.number e in let m = h.many in omega (arith, t, m, k));
-          still = λ e. absurd (let t = ltb-false number u.number e in let m = h.many in omega (arith, t, m, k));
-          more = λ e state shown. subst (λ z. Begun made (turned u) ns z) (sym (shown r.stand ∙ r.era.hand)) (record {
-            noted = record {
-              many = refl;
-              beside = state_beside x made a.lived.life y.next.pick u.lived.life target r h.beside;
-              noted = any None;
-              waits = λ bad. absurd (let no : false ≡ true = bad in cc);
-            };
-            any = λ e. any;
+          same = λ e. more_number k e;
+          more = λ e state shown. subst (λ z. IsNoted (turned u) (awaited z) u.number (with_begun made ns)) (sym (shown r.stand ∙ ap is_some r.era.hand)) (record {
+            many = refl;
+            beside = state_beside x made a.lived.life y.next.pick u.lived.life target r h.beside;
+            noted = subst (λ z. AllNoted z (with_begun made ns)) (sym scripted)
+                (noted_more (life_scripted a.lived.life) ns (record { frame = made; came = change_came (returns_to_init target) None }) (record { frame = made; reply = None }) h.noted refl (nothing_came (returns_to_init target)));
+            fresh = fresh_open u.lived.life.stand new r.stand;
+            stands = inl (record {
+              stand = r.stand;
+              era = record {
+                front = old.account.started;
+                frame = made;
+                duty = record { target = target; frame = made; stage = Stage.Drains };
+                started = r.era.started;
+                beside = free.rests.states ∙ ap length (sym r.era.over);
+                hand = r.era.hand;
+                row = r.era.rests free.rests.row;
+              };
+            });
           });
         }
 
-    by_comes : (b : Option (Service Asked)) (k : ℕ) → Comes (lens a.lived.spot.station).out a.script a.number b k → u.begun ≡ b → u.number ≡ k → Turns made a (turned u) waits number ns
+    by_comes : (b : Option (Service Asked)) (k : ℕ) → Comes (lens a.lived.spot.station).out a.script a.number b k → u.begun ≡ b → u.number ≡ k → Turns made (turned u) waits number ns
     by_comes _ _ Comes.none b k = turn_rests b k
     by_comes _ _ (Comes.mails s q at asked) b k = turn_mails q b (not_packet _ s q asked) (λ areas. has_reply areas _ s q asked) k
     by_comes _ _ (Comes.state target at) b k = turn_state _ b k
-    by_comes _ _ (Comes.packet octets frame) b k = turn_packet _ b refl k
+    by_comes _ _ (Comes.packet octets frame) b k = turn_packet _ b refl (λ areas hs. packet_never areas octets frame hs) k
 
-    pub turn_noted : Turns made a (turned u) waits number ns
+    pub turn_noted : Turns made (turned u) waits number ns
     turn_noted = by_comes u.begun u.number y.comes refl refl
 
   -- whatever is noted
@@ -293,5 +377,12 @@ module _ (lens : ℕ → Lens) (made : ℕ) (ds : List Raw.Datagram) (a : Leads)
       go Stand.Open = refl
       go Stand.Gone = refl
 
+  -- the script goes on by one, or by none
+  next_number : (b : Option (Service Asked)) (k : ℕ) → Comes (lens a.lived.spot.station).out a.script a.number b k → (k ≡ a.number) ⊎ (k ≡ suc a.number)
+  next_number _ _ Comes.none = inl refl
+  next_number _ _ (Comes.mails s q at asked) = inr refl
+  next_number _ _ (Comes.state target at) = inr refl
+  next_number _ _ (Comes.packet octets frame) = inl refl
+
   pub turns_so : TurnsSo made a (turned u)
-  turns_so = record { turns = λ waits number ns h. turn_noted waits number ns h; gave = turn_gave }
+  turns_so = record { turns = λ waits number ns h. turn_noted waits number ns h; gave = turn_gave; goes = record { script = y.script; number = next_number u.begun u.number y.comes }; epochs = Spans.turns_so lens made ds a u y }

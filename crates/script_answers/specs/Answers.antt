@@ -1,22 +1,26 @@
 -- WHAT BECAME OF THE SCRIPTED SERVICES OF A SLAVE: as its life has it, and as it is noted.
-use Rattle.std.specs.Prelude.{◌≡◌, ℕ, Bool, true, false, Option, Some, None, List, [], ◌∷◌, ◌++◌, map, length, ⊤}
+use Rattle.std.specs.Prelude.{◌≡◌, ◌⊎◌, ℕ, suc, Bool, true, false, is_some, Option, Some, None, List, [], ◌∷◌, ◌++◌, map, length, ⊤}
 use Rattle.exchange_model.specs.Areas.{Areas}
 use Rattle.exchange_model.specs.Rows.{Row}
-use Rattle.life_model.specs.Lives.{Era, Life, Stand}
+use Rattle.life_epochs.specs.Spans.{is_leaving, is_open}
+use Rattle.life_model.specs.Lives.{Era, Life, Stand, returns_to_init, new_side}
 use Rattle.life_runs.specs.Led.{Leads, Turn}
 use Rattle.link_mails.specs.Body.{Body}
+use Rattle.mailbox_mail.specs.declared.outcome.ReplyKind.{ReplyKind}
 use Rattle.master_duty.specs.Reply.{Reply}
-use Rattle.master_hand.specs.Spoken.{Asked, handed}
+use Rattle.master_hand.specs.Spoken.{Asked, handed, ends}
 use Rattle.script_runs.specs.Came.{is_packet}
+use Rattle.segment_model.specs.Ends.{Outcome}
 use Rattle.segment_model.specs.Seats.{Side, rows_of}
 use Rattle.state_exchange.specs.Stated.{Service}
-use Rattle.task_model.specs.Accounts.{Account, Started}
+use Rattle.task_model.specs.Accounts.{Account, Started, Duty, Change, new_account}
 use Rattle.task_model.specs.Promise.{services_in, mails_in}
 
--- what a scripted service has come to: one that goes by mails, the answer of its row, with the number of the frame that brought it; of a state service
--- nothing is said
+-- what a scripted service has come to: one that goes by mails, the answer of its row, with the number of the frame that brought it; a change of state
+-- that stays in its epoch, its outcome, with that number; of one that returns its slave to Init nothing is said
 pub data Came : Type 0 where
-  state : Came
+  anew : Came
+  state : Option (Outcome Reply × ℕ) → Came
   mails : Option (Reply × ℕ) → Came
 
 -- a scripted service that came into hand: the number of the frame before which it did, and what it has come to
@@ -31,25 +35,40 @@ answers_in rs = map (λ r. r.answer) rs
 abbrev pub side_answers : Side Body Asked Reply → List (Option (Reply × ℕ))
 side_answers d = answers_in (rows_of d)
 
+-- the first of the changes of state that are over, and those behind it
+abbrev pub first_change : List (Change Reply) → Option (Outcome Reply × ℕ)
+first_change [] = None
+first_change (c ∷ cs) = Some (c.answer, c.completed)
+
+abbrev pub changes_behind : List (Change Reply) → List (Change Reply)
+changes_behind [] = []
+changes_behind (c ∷ cs) = cs
+
 -- a service by mails, where it is no packet
 abbrev pub scripted_mails : Bool → ℕ → Option (Reply × ℕ) → List Scripted → List Scripted
 scripted_mails true frame answer more = more
 scripted_mails false frame answer more = record { frame = frame; came = Came.mails answer } ∷ more
 
--- a service and those behind it, with the answers of those that go by mails
-abbrev pub scripted_by : Service Asked → ℕ → List (Option (Reply × ℕ)) → (List (Option (Reply × ℕ)) → List Scripted) → List Scripted
-scripted_by (Service.State target) frame answers more = record { frame = frame; came = Came.state } ∷ more answers
-scripted_by (Service.Mails q) frame [] more = scripted_mails (is_packet (Service.Mails q)) frame None (more [])
-scripted_by (Service.Mails q) frame (answer ∷ answers) more = scripted_mails (is_packet (Service.Mails q)) frame answer (more answers)
+-- a change of state, by whether it returns its slave to Init
+abbrev pub change_came : Bool → Option (Outcome Reply × ℕ) → Came
+change_came true outcome = Came.anew
+change_came false outcome = Came.state outcome
 
--- THE SCRIPTED SERVICES among those that came into hand, each that goes by mails with the answer of its row; packets are left out
-abbrev pub scripted_in : List (Started Asked) → List (Option (Reply × ℕ)) → List Scripted
-scripted_in [] answers = []
-scripted_in (s ∷ ss) answers = scripted_by s.service s.frame answers (λ more. scripted_in ss more)
+-- a service and those behind it, with the answers of those that go by mails, and the changes of state that are over
+abbrev pub scripted_by : Service Asked → ℕ → List (Option (Reply × ℕ)) → List (Change Reply) → (List (Option (Reply × ℕ)) → List (Change Reply) → List Scripted) → List Scripted
+scripted_by (Service.State target) frame answers changes more = record { frame = frame; came = change_came (returns_to_init target) (first_change changes) } ∷ more answers (changes_behind changes)
+scripted_by (Service.Mails q) frame [] changes more = scripted_mails (is_packet (Service.Mails q)) frame None (more [] changes)
+scripted_by (Service.Mails q) frame (answer ∷ answers) changes more = scripted_mails (is_packet (Service.Mails q)) frame answer (more answers changes)
+
+-- THE SCRIPTED SERVICES among those that came into hand, each that goes by mails with the answer of its row, and each change of state with its outcome;
+-- packets are left out
+abbrev pub scripted_in : List (Started Asked) → List (Option (Reply × ℕ)) → List (Change Reply) → List Scripted
+scripted_in [] answers changes = []
+scripted_in (s ∷ ss) answers changes = scripted_by s.service s.frame answers changes (λ more others. scripted_in ss more others)
 
 -- of an epoch, of several, and over a whole life
 abbrev pub era_scripted : Era Body Asked Reply → List Scripted
-era_scripted e = scripted_in e.account.started (side_answers e.side)
+era_scripted e = scripted_in e.account.started (side_answers e.side) e.account.over
 
 abbrev pub eras_scripted : List (Era Body Asked Reply) → List Scripted
 eras_scripted [] = []
@@ -63,13 +82,24 @@ pub record Noted : Type 0 where
   pub frame : ℕ
   pub reply : Option (Reply × ℕ)
 
--- a reply that is reported is the answer of its row, of that frame
-abbrev pub IsReported : Came → Option (Reply × ℕ) → Type 0
-IsReported Came.state reply = ⊤
-IsReported (Came.mails answer) None = ⊤
-IsReported (Came.mails answer) (Some reply) = answer ≡ Some reply
+-- the reply that an outcome is reported by: a state that was reached is done, one that was refused has its code
+abbrev pub reply_by : Outcome Reply → Reply
+reply_by (Outcome.Replied reply) = reply
+reply_by Outcome.Handed = Some (ReplyKind.Handed, [])
+reply_by Outcome.Reached = Some (ReplyKind.Done, [])
+reply_by (Outcome.Refused code) = Some (ReplyKind.StateRefused code, [])
 
--- JUST THE SCRIPTED SERVICES THAT CAME INTO HAND ARE NOTED, each once and in order, with its frame; and each reply is that of its row
+abbrev pub outcome_reply : Option (Outcome Reply × ℕ) → Option (Reply × ℕ)
+outcome_reply None = None
+outcome_reply (Some o) = Some (reply_by o.0, o.1)
+
+-- JUST WHAT A SERVICE HAS COME TO is reported: its reply, with its frame, or none where it has none
+abbrev pub IsReported : Came → Option (Reply × ℕ) → Type 0
+IsReported Came.anew reply = ⊤
+IsReported (Came.state outcome) reply = reply ≡ outcome_reply outcome
+IsReported (Came.mails answer) reply = reply ≡ answer
+
+-- JUST THE SCRIPTED SERVICES THAT CAME INTO HAND ARE NOTED, each once and in order, with its frame; and each with just what it has come to
 abbrev pub AllNoted : List Scripted → List Noted → Type 0
 AllNoted [] [] = ⊤
 AllNoted (s ∷ ss) (n ∷ ns) = ((n.frame ≡ s.frame) × IsReported s.came n.reply) × AllNoted ss ns
@@ -83,6 +113,23 @@ now_answer (Some r) = r.answer
 abbrev pub newest_answer : Leads → Option (Reply × ℕ)
 newest_answer a = now_answer a.lived.life.era.side.now
 
+-- how many of these are changes of state
+abbrev pub states_in : List (Service Asked) → ℕ
+states_in [] = 0
+states_in (Service.State target ∷ ss) = suc (states_in ss)
+states_in (Service.Mails q ∷ ss) = states_in ss
+
+-- a row whose answer stays: it is answered, or never will be
+abbrev pub RowRests : Option (Row Body Asked Reply) → Type 0
+RowRests None = ⊤
+RowRests (Some r) = (is_some r.answer ≡ true) ⊎ ((areas : Areas) (hs : List Body) → ends areas r.service hs ≡ None)
+
+-- NOTHING IS IN HAND of an epoch that awaits an answer
+pub record RestsSo (e : Era Body Asked Reply) : Type 0 where
+  pub hand : e.account.hand ≡ None
+  pub states : states_in (services_in e.account.started) ≡ length e.account.over
+  pub row : RowRests e.side.now
+
 -- THE NEWEST SERVICE OF AN EPOCH IS A SCRIPTED ONE BY MAILS, which awaits its reply
 pub record Awaits (e : Era Body Asked Reply) : Type 0 where
   pub front : List (Started Asked)
@@ -95,6 +142,24 @@ pub record Awaits (e : Era Body Asked Reply) : Type 0 where
   pub now : e.side.now ≡ Some row
   pub replies : (areas : Areas) → handed areas row.service ≡ false
   pub hand : e.account.hand ≡ None
+  pub states : states_in (services_in e.account.started) ≡ length e.account.over
+
+-- IT IS A CHANGE OF STATE, which awaits its outcome
+pub record Changes (e : Era Body Asked Reply) : Type 0 where
+  pub front : List (Started Asked)
+  pub frame : ℕ
+  pub duty : Duty
+  pub started : e.account.started ≡ front ++ record { service = Service.State duty.target; frame = frame } ∷ []
+  pub beside : states_in (services_in front) ≡ length e.account.over
+  pub hand : e.account.hand ≡ Some duty
+  pub row : RowRests e.side.now
+
+-- THE NEWEST SERVICE RETURNS ITS SLAVE TO INIT, which isn't open yet again
+pub record ComesAnew (l : Life Body Asked Reply) : Type 0 where
+  pub front : List Scripted
+  pub frame : ℕ
+  pub whole : life_scripted l ≡ front ++ record { frame = frame; came = Came.anew } ∷ []
+  pub away : is_open l.stand ≡ false
 
 -- of a slave that is open
 pub record IsAwaiting (a : Leads) : Type 0 where
@@ -102,13 +167,34 @@ pub record IsAwaiting (a : Leads) : Type 0 where
   pub era : Awaits a.lived.life.era
   pub unanswered : newest_answer a ≡ None
 
--- WHAT IS NOTED OF A SLAVE: how many scripted services came into hand, which, and what was replied; and, where its note says so, the newest awaits its
--- reply
-pub record IsNoted (a : Leads) (awaits : Bool) (number : ℕ) (ns : List Noted) : Type 0 where
+pub record IsGoing (l : Life Body Asked Reply) : Type 0 where
+  pub stand : l.stand ≡ Stand.Open
+  pub era : Changes l.era
+
+-- what is awaited of the newest service: nothing, the reply of one by mails of the script, or the outcome of a change of state
+pub data Waits : Type 0 where
+  nothing : Waits
+  reply : Waits
+  change : Waits
+
+abbrev pub StandsBy : Waits → Leads → Type 0
+StandsBy Waits.nothing a = a.lived.life.stand ≡ Stand.Open → RestsSo a.lived.life.era
+StandsBy Waits.reply a = IsAwaiting a
+StandsBy Waits.change a = IsGoing a.lived.life ⊎ ComesAnew a.lived.life
+
+-- an epoch is new until its slave is open
+abbrev pub FreshBy : Stand → Era Body Asked Reply → Type 0
+FreshBy (Stand.Opens o) e = is_leaving (Stand.Opens o) ≡ false → (e.side ≡ new_side) × (e.account ≡ new_account)
+FreshBy Stand.Open e = ⊤
+FreshBy Stand.Gone e = ⊤
+
+-- WHAT IS NOTED OF A SLAVE: how many scripted services came into hand, which, and what each was answered; and what is awaited of the newest
+pub record IsNoted (a : Leads) (waits : Waits) (number : ℕ) (ns : List Noted) : Type 0 where
   pub many : number ≡ a.number
   pub beside : mails_in (services_in a.lived.life.era.account.started) ≡ length (side_answers a.lived.life.era.side)
   pub noted : AllNoted (life_scripted a.lived.life) ns
-  pub waits : awaits ≡ true → IsAwaiting a
+  pub fresh : FreshBy a.lived.life.stand a.lived.life.era
+  pub stands : StandsBy waits a
 
 -- the slave behind what came into hand before a frame
 abbrev pub turned : Turn → Leads

@@ -219,10 +219,11 @@ is_same_name s other = bytes_eq other.name s.name
 abbrev pub is_same_station : SlaveSpec → SlaveSpec → Bool
 is_same_station s other = other.station == s.station
 
--- the second slave of a name, and of a station address
+-- the second slave of a name
 abbrev pub repeated_name : List SlaveSpec → Option ℕ
 repeated_name slaves = repeated_from is_same_name [] 0 slaves
 
+-- the second slave of a station address
 abbrev pub repeated_station : List SlaveSpec → Option ℕ
 repeated_station slaves = repeated_from is_same_station [] 0 slaves
 
@@ -251,6 +252,7 @@ abbrev pub is_bounded_by : Option ℕ → ℕ → Bool
 is_bounded_by (Some budget) bound = true
 is_bounded_by None bound = nat_le bound 100000000
 
+-- the same of a plan, with no datagrams heard
 abbrev pub is_bounded : Scenario → Bool
 is_bounded s = is_bounded_by s.budget (bound_of s 0)
 

@@ -1,4 +1,4 @@
-use Rattle.script_answers.proofs.Frames.{passes_so, loses_so}
+use Rattle.script_answers.proofs.Losses.{passes_so, loses_so}
 use Rattle.script_answers.proofs.Turns.{turns_so}
 use Rattle.script_answers.proofs.answers_law.Goals as goal
 

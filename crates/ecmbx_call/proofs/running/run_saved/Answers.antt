@@ -3,7 +3,8 @@ use Rattle.run_report.specs.Report.{report_lines}
 use Rattle.ecmbx_words.specs.Ends.{text_of}
 use Rattle.ecmbx_call.specs.Course.{status_of, SavedCourse}
 use Rattle.ecmbx_call.specs.Course.SavedCourse.{ran}
-use Rattle.ecmbx_call.proofs.Courses.{said, save_unread, save_failed, has_run}
+use Rattle.ecmbx_words.proofs.Loads.{said}
+use Rattle.ecmbx_call.proofs.Courses.{save_unread, save_failed, has_run}
 use Rattle.ecmbx_call.proofs.running.run_saved.Goals as goal
 
 pub returns-in-Err-clause-course : goal.returns-in-Err-clause-course

@@ -4,7 +4,7 @@ use Rattle.ecmbx_words.specs.Ends.{text_of}
 use Rattle.ecmbx_call.specs.Course.{status_of}
 use Rattle.ecmbx_call.specs.Serving.{ServeCourse}
 use Rattle.ecmbx_call.specs.Serving.ServeCourse.{served}
-use Rattle.ecmbx_call.proofs.Courses.{said}
+use Rattle.ecmbx_words.proofs.Loads.{said}
 use Rattle.ecmbx_call.proofs.Servings.{serve_unread, has_served}
 use Rattle.ecmbx_call.proofs.serving.serve_octets.Goals as goal
 

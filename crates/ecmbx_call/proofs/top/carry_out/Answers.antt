@@ -5,7 +5,8 @@ use Rattle.scenario_made.specs.Made.{text_of}
 use Rattle.ecmbx_words.specs.declared.status.Status.TheVariants as statuses
 use Rattle.ecmbx_words.specs.Texts.{usage_line}
 use Rattle.ecmbx_call.specs.Course.{words_of, Course}
-use Rattle.ecmbx_call.proofs.Courses.{said, run_course, decode_course, audit_course, serve_course, saved_words, name_at, saved_at, run_other, saved_other, decode_other, audit_other, serve_other}
+use Rattle.ecmbx_words.proofs.Loads.{said}
+use Rattle.ecmbx_call.proofs.Courses.{run_course, decode_course, audit_course, serve_course, saved_words, name_at, saved_at, run_other, saved_other, decode_other, audit_other, serve_other}
 use Rattle.ecmbx_call.proofs.Servings.{some_served}
 use Rattle.ecmbx_call.proofs.top.carry_out.Goals as goal
 

@@ -1,15 +1,16 @@
 use Rattle.ec_outside.specs.Faults.{Rose}
 use Rattle.ecmbx_call.specs.Course.{ViewCourse}
-use Rattle.ecmbx_call.proofs.Courses.{loaded, unloaded}
+use Rattle.ecmbx_words.proofs.Loads.{loaded, unloaded}
+use Rattle.ecmbx_call.specs.Files.{limit}
 use Rattle.ecmbx_call.proofs.top.decode_file.Goals as goal
 
 pub returns-in-Ok-clause-course : goal.returns-in-Ok-clause-course
 returns-in-Ok-clause-course g c =
     let course = rw (c.bytes.ensures, c.in-Ok.ensures.quiet) at c.decode.ensures.course in
-    loaded c.args.name.now (g.F.Files.table c.args.files.now) (Rose (g.F.Files.file_faults c.args.files.now) (g.F.Files.file_faults c.load.new.files)) (Unit {0}) ViewCourse c.in-Ok.octets
+    loaded limit c.args.name.now (g.F.Files.table c.args.files.now) (Rose (g.F.Files.file_faults c.args.files.now) (g.F.Files.file_faults c.load.new.files)) (Unit {0}) ViewCourse c.in-Ok.octets
     (g.O.Sink.written c.args.out.now) (g.O.Sink.written c.decode.new.out) c.decode.result c.in-Ok.ensures.found course
 
 pub returns-in-Err-clause-course : goal.returns-in-Err-clause-course
 returns-in-Err-clause-course g c =
-    unloaded c.args.name.now (g.F.Files.table c.args.files.now) (Rose (g.F.Files.file_faults c.args.files.now) (g.F.Files.file_faults c.load.new.files)) (Unit {0}) ViewCourse
+    unloaded limit c.args.name.now (g.F.Files.table c.args.files.now) (Rose (g.F.Files.file_faults c.args.files.now) (g.F.Files.file_faults c.load.new.files)) (Unit {0}) ViewCourse
     (g.O.Sink.written c.args.out.now) (g.O.Sink.written c.load.new.out) c.in-Err.status tt c.in-Err.ensures.failed

@@ -1,9 +1,11 @@
 use Rattle.ec_outside.specs.Faults.{Rose}
 use Rattle.run_book.specs.Book.{IsNew}
 use Rattle.ecmbx_words.proofs.Put.{rose_from}
-use Rattle.ecmbx_call.specs.Files.{Followed}
+use Rattle.ecmbx_words.specs.Files.{Followed}
 use Rattle.ecmbx_call.specs.Course.{SavedCourse}
-use Rattle.ecmbx_call.proofs.Courses.{loaded, unloaded, saved_later}
+use Rattle.ecmbx_words.proofs.Loads.{loaded, unloaded}
+use Rattle.ecmbx_call.specs.Files.{limit}
+use Rattle.ecmbx_call.proofs.Courses.{saved_later}
 use Rattle.ecmbx_call.proofs.top.run_file_saved.Goals as goal
 
 pub returns-in-Ok-clause-course : goal.returns-in-Ok-clause-course
@@ -15,12 +17,12 @@ returns-in-Ok-clause-course g c =
     (Rose (g.F.Files.file_faults c.args.files.now) (g.F.Files.file_faults c.run_saved.new.files))
     (rose_from (g.F.Files.file_faults c.args.files.now) (g.F.Files.file_faults c.load.new.files) (g.F.Files.file_faults c.run_saved.new.files) c.load.ensures.later c.run_saved.ensures.later) c.run_saved.new.book c.in-Ok.octets
     (g.O.Sink.written c.args.out.now) (g.O.Sink.written c.run_saved.new.out) c.run_saved.result course in
-    loaded c.args.name.now (g.F.Files.table c.args.files.now) (Rose (g.F.Files.file_faults c.args.files.now) (g.F.Files.file_faults c.run_saved.new.files)) (IsNew c.run_saved.new.book)
+    loaded limit c.args.name.now (g.F.Files.table c.args.files.now) (Rose (g.F.Files.file_faults c.args.files.now) (g.F.Files.file_faults c.run_saved.new.files)) (IsNew c.run_saved.new.book)
     (SavedCourse c.args.capture.now (g.F.Files.table c.args.files.now) (g.F.Files.table c.run_saved.new.files) (Rose (g.F.Files.file_faults c.args.files.now) (g.F.Files.file_faults c.run_saved.new.files)) c.run_saved.new.book) c.in-Ok.octets
     (g.O.Sink.written c.args.out.now) (g.O.Sink.written c.run_saved.new.out) c.run_saved.result c.in-Ok.ensures.found later
 
 pub returns-in-Err-clause-course : goal.returns-in-Err-clause-course
 returns-in-Err-clause-course g c =
-    unloaded c.args.name.now (g.F.Files.table c.args.files.now) (Rose (g.F.Files.file_faults c.args.files.now) (g.F.Files.file_faults c.load.new.files)) (IsNew c.args.book.now)
+    unloaded limit c.args.name.now (g.F.Files.table c.args.files.now) (Rose (g.F.Files.file_faults c.args.files.now) (g.F.Files.file_faults c.load.new.files)) (IsNew c.args.book.now)
     (SavedCourse c.args.capture.now (g.F.Files.table c.args.files.now) (g.F.Files.table c.load.new.files) (Rose (g.F.Files.file_faults c.args.files.now) (g.F.Files.file_faults c.load.new.files)) c.args.book.now)
     (g.O.Sink.written c.args.out.now) (g.O.Sink.written c.load.new.out) c.in-Err.status c.requires c.in-Err.ensures.failed

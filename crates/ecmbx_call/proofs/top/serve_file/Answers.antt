@@ -2,14 +2,15 @@ use Rattle.ec_outside.specs.Faults.{Rose}
 use Rattle.run_book.specs.Book.{IsNew}
 use Rattle.gateway_run.specs.Serving.{told}
 use Rattle.ecmbx_call.specs.Serving.{ServeCourse}
-use Rattle.ecmbx_call.proofs.Courses.{loaded, unloaded}
+use Rattle.ecmbx_words.proofs.Loads.{loaded, unloaded}
+use Rattle.ecmbx_call.specs.Files.{limit}
 use Rattle.ecmbx_call.proofs.Servings.{served_in_file}
 use Rattle.ecmbx_call.proofs.top.serve_file.Goals as goal
 
 pub returns-in-Ok-clause-course : goal.returns-in-Ok-clause-course
 returns-in-Ok-clause-course g c =
     let course = rw c.in-Ok.ensures.quiet at c.serve_octets.ensures.course in
-    loaded c.args.name.now (g.F.Files.table c.args.files.now) (Rose (g.F.Files.file_faults c.args.files.now) (g.F.Files.file_faults c.load.new.files)) (IsNew c.serve_octets.new.book)
+    loaded limit c.args.name.now (g.F.Files.table c.args.files.now) (Rose (g.F.Files.file_faults c.args.files.now) (g.F.Files.file_faults c.load.new.files)) (IsNew c.serve_octets.new.book)
     (ServeCourse c.args.count (told g.P.Port.heard g.P.Port.sent g.P.Port.over g.P.Port.port_faults c.args.port.now) (told g.P.Port.heard g.P.Port.sent g.P.Port.over g.P.Port.port_faults c.serve_octets.new.port) c.serve_octets.new.book) c.in-Ok.octets
     (g.O.Sink.written c.args.out.now) (g.O.Sink.written c.serve_octets.new.out) c.serve_octets.result c.in-Ok.ensures.found course
 
@@ -19,5 +20,5 @@ returns-in-Ok-clause-book g c =
 
 pub returns-in-Err-clause-course : goal.returns-in-Err-clause-course
 returns-in-Err-clause-course g c =
-    unloaded c.args.name.now (g.F.Files.table c.args.files.now) (Rose (g.F.Files.file_faults c.args.files.now) (g.F.Files.file_faults c.load.new.files)) (IsNew c.args.book.now) (ServeCourse c.args.count (told g.P.Port.heard g.P.Port.sent g.P.Port.over g.P.Port.port_faults c.args.port.now) (told g.P.Port.heard g.P.Port.sent g.P.Port.over g.P.Port.port_faults c.args.port.now) c.args.book.now)
+    unloaded limit c.args.name.now (g.F.Files.table c.args.files.now) (Rose (g.F.Files.file_faults c.args.files.now) (g.F.Files.file_faults c.load.new.files)) (IsNew c.args.book.now) (ServeCourse c.args.count (told g.P.Port.heard g.P.Port.sent g.P.Port.over g.P.Port.port_faults c.args.port.now) (told g.P.Port.heard g.P.Port.sent g.P.Port.over g.P.Port.port_faults c.args.port.now) c.args.book.now)
     (g.O.Sink.written c.args.out.now) (g.O.Sink.written c.load.new.out) c.in-Err.status c.requires.new c.in-Err.ensures.failed

@@ -3,7 +3,8 @@ use Rattle.capture_view.specs.View.{view_text}
 use Rattle.ecmbx_words.specs.declared.status.Status.TheVariants as statuses
 use Rattle.ecmbx_call.specs.Course.{ViewCourse}
 use Rattle.ecmbx_call.specs.Course.ViewCourse.{shown, refused}
-use Rattle.ecmbx_call.proofs.Courses.{said, capture_refused}
+use Rattle.ecmbx_words.proofs.Loads.{said}
+use Rattle.ecmbx_call.proofs.Courses.{capture_refused}
 use Rattle.ecmbx_call.proofs.viewing.decode.Goals as goal
 
 pub returns-in-Ok-clause-course : goal.returns-in-Ok-clause-course

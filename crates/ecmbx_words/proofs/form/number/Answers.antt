@@ -1,5 +1,4 @@
-use Rattle.std.proofs.Common.{◌≡◌, refl, sym, ◌∙◌, true, ap}
-use Rattle.std.specs.Fmt.{decimal}
+use Rattle.std.proofs.Common.{sym, ◌∙◌}
 use Rattle.std.proofs.lemmas.Slice.Eq.{bytes_eq-Decides}
 use Rattle.ecmbx_words.proofs.Numbers.{number_is, parsed_fits, none_parsed, none_spelled}
 use Rattle.ecmbx_words.proofs.form.number.Goals as goal

@@ -1,4 +1,4 @@
-use Rattle.std.proofs.Common.{length, ◌-◌, ◌≤◌, take}
+use Rattle.std.proofs.Common.{length, ◌-◌}
 use Rattle.ecmbx_words.proofs.Put.{HasTold}
 use Rattle.ecmbx_words.proofs.lines.say_text.Given as goal
 

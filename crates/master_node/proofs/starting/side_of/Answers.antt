@@ -1,4 +1,4 @@
-use Rattle.std.proofs.Common.{ap, ◌∙◌, ◌≤◌, length, arith}
+use Rattle.std.proofs.Common.{ap, ◌∙◌, length, arith}
 use Rattle.std.proofs.lemmas.List.Elements.{All-same}
 use Rattle.segment_plan.specs.Sound.{IsService}
 use Rattle.master_node.specs.Scripts.{script_for}

@@ -1,4 +1,4 @@
-use Rattle.std.proofs.Common.{◌≤◌, refl, length, arith}
+use Rattle.std.proofs.Common.{refl, arith}
 use Rattle.master_node.proofs.Firsts.{first_shown, start_small}
 use Rattle.master_node.proofs.Script.{script_few}
 use Rattle.master_node.proofs.starting.stop_of.Goals as goal

@@ -1,4 +1,4 @@
-use Rattle.std.proofs.Common.{◌≡◌, ◌<◌, ◌∙◌, ◌+◌, ◌++◌, ◌∷◌, [], sym, ap, subst, arith, length, take, get_or}
+use Rattle.std.proofs.Common.{◌∙◌, ◌+◌, ◌++◌, ◌∷◌, [], sym, ap, subst, arith, take}
 use Rattle.std.proofs.lemmas.List.{take_more}
 use Rattle.life_frames.specs.Shares.{AllFrom}
 use Rattle.master_node.specs.First.{IsFirst}

@@ -1,4 +1,4 @@
-use Rattle.std.proofs.Common.{refl, sym, subst}
+use Rattle.std.proofs.Common.{sym, subst}
 use Rattle.std.proofs.lemmas.Result.{on_ok_weaker}
 use Rattle.master_node.specs.declared.event.Origin.TheVariants.{Forward, Gateway}
 use Rattle.run_record.specs.Reports.{Reports}
@@ -8,8 +8,8 @@ use Rattle.run_record.proofs.log.note_began.Goals as goal
 
 pub returns-in-Forward-clause-told : goal.returns-in-Forward-clause-told
 returns-in-Forward-clause-told c =
-    on_ok_weaker c.began.result (λ is. λ a r. subst (λ (n : Notes). Reports a n) (sym is) (began_reports a c.args.notes.now (Forward c.in-Forward.number) c.args.frame (λ frame reply. refl) r)) c.began.ensures.is
+    on_ok_weaker c.began_other.result (λ is. λ a r. subst (λ (n : Notes). Reports a n) (sym is) (began_reports a c.args.notes.now r (Forward c.in-Forward.number) c.args.frame tt)) c.began_other.ensures.is
 
 pub returns-in-Gateway-clause-told : goal.returns-in-Gateway-clause-told
 returns-in-Gateway-clause-told c =
-    on_ok_weaker c.began-in-Gateway.result (λ is. λ a r. subst (λ (n : Notes). Reports a n) (sym is) (began_reports a c.args.notes.now (Gateway c.in-Gateway.number) c.args.frame (λ frame reply. refl) r)) c.began-in-Gateway.ensures.is
+    on_ok_weaker c.began_other-in-Gateway.result (λ is. λ a r. subst (λ (n : Notes). Reports a n) (sym is) (began_reports a c.args.notes.now r (Gateway c.in-Gateway.number) c.args.frame tt)) c.began_other-in-Gateway.ensures.is

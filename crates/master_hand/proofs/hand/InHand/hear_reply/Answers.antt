@@ -1,18 +1,21 @@
-use Rattle.std.proofs.Common.{refl, subst}
+use Rattle.std.proofs.Common.{[], ◌∷◌, sym, subst}
+use Rattle.std.specs.Prelude.{option_map}
+use Rattle.exchange_model.specs.Rows.{row_heard}
 use Rattle.mailbox_mail.specs.declared.mail.Mail.{Mail}
-use Rattle.mailbox_mail.specs.declared.outcome.Took.{Took}
 use Rattle.mailbox_mail.specs.View.{mail_seen}
 use Rattle.master_hand.specs.Passed.{body_of}
+use Rattle.master_hand.specs.Shown.{HandShows}
+use Rattle.master_hand.specs.Spoken.{hand_speech}
 use Rattle.master_hand.specs.Talk.{ClientTook}
-use Rattle.master_hand.proofs.Hands.{more_shown, done_shown}
+use Rattle.master_hand.specs.declared.course.Course.{Course}
+use Rattle.master_hand.proofs.Hands.{took_shown}
 use Rattle.master_hand.proofs.hand.InHand.hear_reply.Goals as goal
 
-pub returns-in-More-clause-shown : goal.returns-in-More-clause-shown
-returns-in-More-clause-shown c = λ frame now e h.
-    more_shown c.args.self.now.course c.args.self.now.course c.args.self.now.which c.args.self.now.clients c.take-took.new.self (body_of (mail_seen c.args.mail.now)) frame now
-    (subst (λ (m : Mail). ClientTook Took.More c.args.self.now.which c.args.self.now.clients (body_of m) c.take-took.new.self) c.keep.ensures c.in-More.ensures.took) c.take-took.ensures.areas c.requires.goes c.requires.goes e h
-
-pub returns-in-Done-clause-shown : goal.returns-in-Done-clause-shown
-returns-in-Done-clause-shown c = λ frame now e h.
-    done_shown c.args.self.now.course _ c.args.self.now.which c.args.self.now.clients c.take-took.new.self (body_of (mail_seen c.args.mail.now)) frame now
-    (subst (λ (m : Mail). ClientTook Took.Done c.args.self.now.which c.args.self.now.clients (body_of m) c.take-took.new.self) c.keep.ensures c.in-Done.ensures.took) c.take-took.ensures.areas c.requires.goes refl e h
+pub returns-clause-shown : goal.returns-clause-shown
+returns-clause-shown c = λ frame now e h.
+    let old = c.args.self.now in
+    let new = c.take-took.new.self in
+    let b = body_of (mail_seen c.args.mail.now) in
+    let took = subst (λ (m : Mail). ClientTook c.take-took.result old.which old.clients (body_of m) new) c.keep.ensures.mail c.take-took.ensures.took in
+    subst (λ (k : Course). HandShows k old.which new (option_map (λ r. row_heard (hand_speech old.clients.areas) frame (b ∷ []) r) now)) (sym c.course_behind-self.ensures)
+    (took_shown c.is_left-left.result c.take-took.result old.course old.which old.clients new b frame now took c.is_left-left.ensures c.take-took.ensures.areas c.requires.awaits e h)

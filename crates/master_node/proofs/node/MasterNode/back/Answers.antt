@@ -2,4 +2,4 @@ use Rattle.master_node.proofs.Tells.{node_then}
 use Rattle.master_node.proofs.node.MasterNode.back.Goals as goal
 
 pub returns-clause-kept : goal.returns-clause-kept
-returns-clause-kept c = node_then _ _ _ c.turned.ensures.kept (node_then _ _ _ c.over.ensures.kept (node_then _ _ _ c.heard_where.ensures.kept c.heard_of-what.ensures.kept))
+returns-clause-kept c = node_then _ _ _ c.turned.ensures.kept (node_then _ _ _ c.over.ensures.kept c.heard_where.ensures.kept)

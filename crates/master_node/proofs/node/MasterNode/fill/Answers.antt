@@ -1,9 +1,8 @@
-use Rattle.std.proofs.Common.{◌≡◌, ◌<◌, ◌≤◌, ◌∙◌, ◌+◌, ℕ, true, false, Bool, None, Some, refl, sym, ap, subst, arith}
+use Rattle.std.proofs.Common.{◌≡◌, ◌∙◌, true, false, Bool, None, Some, refl, sym, subst, arith}
 use Rattle.std.specs.Prelude.{if◌then◌else◌}
 use Rattle.master_tour.specs.Goes.{is_live, holds_at}
 use Rattle.master_node.specs.Filling.{IsFilling}
-use Rattle.master_node.specs.Kept.{TourOn}
-use Rattle.master_node.proofs.Filleds.{SameTour, fills_first, fills_last, fills_same, fills_more, fills_still, on_same, on_on, passes_some, passes_at, some_count}
+use Rattle.master_node.proofs.Filleds.{fills_first, fills_last, fills_same, fills_more, fills_still, on_same, on_on, passes_some, passes_at, some_count}
 use Rattle.master_node.proofs.node.MasterNode.fill.Goals as goal
 
 pub returns-in_default-clause-on : goal.returns-in_default-clause-on

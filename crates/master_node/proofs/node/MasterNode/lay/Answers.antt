@@ -1,12 +1,9 @@
-use Rattle.std.proofs.Common.{◌≡◌, ◌<◌, ◌∙◌, inl, inr, refl, sym, ap, subst, arith, length, Some, None, true, false}
-use Rattle.std.specs.Prelude.{⊤}
+use Rattle.std.proofs.Common.{◌<◌, sym, subst, arith, length}
 use Rattle.master_tour.specs.Walks.{StepsAt}
-use Rattle.master_tour.proofs.Walks.{steps_set}
 use Rattle.master_node.specs.Coming.{IsLaid}
 use Rattle.master_node.specs.Kept.{StopStays}
-use Rattle.master_node.specs.declared.coming.Coming.{Coming}
-use Rattle.master_node.proofs.Kepts.{stop_same, tour_same}
-use Rattle.master_node.proofs.Lists.{steps_same, steps_map}
+use Rattle.master_node.proofs.Kepts.{stop_same}
+use Rattle.master_node.proofs.Lists.{steps_same}
 use Rattle.master_node.proofs.node.MasterNode.lay.Goals as goal
 
 pub returns-in-None-clause-laid : goal.returns-in-None-clause-laid

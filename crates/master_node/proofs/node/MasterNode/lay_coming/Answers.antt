@@ -1,10 +1,8 @@
-use Rattle.std.proofs.Common.{◌≡◌, ◌<◌, ◌∙◌, inl, inr, refl, sym, ap, subst, arith, length, Some, None, true, false}
+use Rattle.std.proofs.Common.{◌<◌, sym, subst, arith, length, Some}
 use Rattle.std.specs.Prelude.{⊤}
 use Rattle.master_tour.specs.Walks.{StepsAt}
-use Rattle.master_tour.proofs.Walks.{steps_set}
 use Rattle.master_node.specs.Coming.{IsLaid}
 use Rattle.master_node.specs.Kept.{StopStays}
-use Rattle.master_node.specs.declared.coming.Coming.{Coming}
 use Rattle.master_node.proofs.Kepts.{stop_same, tour_same}
 use Rattle.master_node.proofs.Lists.{steps_same, steps_map}
 use Rattle.master_node.proofs.node.MasterNode.lay_coming.Goals as goal

@@ -1,7 +1,5 @@
-use Rattle.std.proofs.Common.{◌≡◌, ◌<◌, ◌∙◌, inl, inr, refl, sym, ap, subst, arith, length, Some, None, true, false}
-use Rattle.master_tour.specs.Walks.{StepsAt}
+use Rattle.std.proofs.Common.{◌<◌, refl, arith, length}
 use Rattle.master_tour.proofs.Walks.{steps_set}
-use Rattle.master_node.specs.Kept.{StopStays}
 use Rattle.master_node.proofs.Kepts.{stop_side, stop_same}
 use Rattle.master_node.proofs.Lists.{steps_same}
 use Rattle.master_node.proofs.node.MasterNode.lay_mail.Goals as goal

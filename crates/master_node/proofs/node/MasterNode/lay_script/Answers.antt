@@ -1,5 +1,4 @@
-use Rattle.std.proofs.Common.{◌≡◌, ◌<◌, ◌∙◌, inl, inr, refl, sym, ap, subst, arith, length, Some, None, true, false}
-use Rattle.master_tour.specs.Walks.{StepsAt}
+use Rattle.std.proofs.Common.{◌<◌, refl, arith, length}
 use Rattle.master_tour.proofs.Walks.{steps_set}
 use Rattle.master_node.proofs.Kepts.{stop_side}
 use Rattle.master_node.proofs.node.MasterNode.lay_script.Goals as goal

@@ -1,6 +1,5 @@
-use Rattle.std.proofs.Common.{◌≡◌, ℕ, Bool, List, [], sym, ap, ◌∙◌}
+use Rattle.std.proofs.Common.{◌≡◌, Bool, [], sym, ap, ◌∙◌}
 use Rattle.std.specs.Prelude.{map, not, nat_lt, if◌then◌else◌}
-use Rattle.frame_view.specs.Seen.{seen}
 use Rattle.life_runs.specs.Led.{speech_at}
 use Rattle.master_hand.specs.Spoken.{is_followed, is_passed}
 use Rattle.master_tour.specs.Goes.{is_opened, opened_behind}

@@ -5,7 +5,7 @@ use Rattle.master_hand.specs.Spoken.{Asked, is_followed, is_passed}
 use Rattle.master_tour.specs.Goes.{is_live, holds_at}
 use Rattle.master_tour.specs.Made.{FrameMade, is_in}
 use Rattle.state_exchange.specs.Stated.{Service}
-use Rattle.master_node.specs.Filling.{IsAmong, StopFills, IsEmpty}
+use Rattle.master_node.specs.Filling.{IsAmong, StopFills}
 use Rattle.master_node.specs.Shows.{IsLead, GoesOn, lived_of, is_live_lead}
 use Rattle.master_node.proofs.Fills.{from_map}
 use Rattle.master_node.proofs.Lists.{both_map, both_holds, both_length}

@@ -1,8 +1,8 @@
-use Rattle.master_node.proofs.Tells.{node_then}
+use Rattle.master_node.proofs.Tells.{node_refl}
 use Rattle.master_node.proofs.node.MasterNode.met.Goals as goal
 
-pub returns-in-Some-Reached-clause-kept : goal.returns-in-Some-Reached-clause-kept
-returns-in-Some-Reached-clause-kept c = node_then _ _ _ c.answered.ensures.kept c.met_of.ensures.kept
+pub returns-clause-kept : goal.returns-clause-kept
+returns-clause-kept c = node_refl _
 
-pub returns-in-Some-Refused-clause-kept : goal.returns-in-Some-Refused-clause-kept
-returns-in-Some-Refused-clause-kept c = node_then _ _ _ c.answered-in-Some-Refused.ensures.kept c.met_of.ensures.kept
+pub returns-2-clause-kept : goal.returns-2-clause-kept
+returns-2-clause-kept c = node_refl _

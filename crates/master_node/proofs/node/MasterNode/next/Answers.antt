@@ -1,4 +1,4 @@
-use Rattle.std.proofs.Common.{◌≡◌, ◌∙◌, true, refl, sym, ap, subst}
+use Rattle.std.proofs.Common.{◌≡◌, ◌∙◌, true, sym, subst}
 use Rattle.std.specs.List.{list_any}
 use Rattle.master_tour.specs.Goes.{is_live}
 use Rattle.master_node.proofs.Sents.{shows_same}

@@ -1,8 +1,7 @@
-use Rattle.std.proofs.Common.{◌≡◌, ◌<◌, ◌∙◌, inl, inr, refl, sym, ap, subst, arith, length, Some, None, true, false}
+use Rattle.std.proofs.Common.{◌<◌, refl, sym, subst, arith, length, Some}
 use Rattle.master_tour.specs.Walks.{StepsAt}
 use Rattle.master_tour.proofs.Walks.{steps_set}
 use Rattle.master_node.specs.Coming.{PassesBy}
-use Rattle.master_node.specs.declared.coming.Coming.{Coming}
 use Rattle.master_node.proofs.Kepts.{stop_side, stop_same}
 use Rattle.master_node.proofs.Lists.{steps_same}
 use Rattle.master_node.proofs.Visits.{state_passes}

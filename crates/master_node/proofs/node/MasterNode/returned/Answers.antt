@@ -1,10 +1,13 @@
-use Rattle.std.proofs.Common.{List, [], ◌∙◌}
+use Rattle.std.proofs.Common.{[], ◌∙◌}
 use Rattle.std.specs.Prelude.{map}
 use Rattle.frame_view.specs.Seen.{seen}
 use Rattle.life_runs.specs.Led.{speech_at, gives_up_at}
 use Rattle.master_hand.specs.Spoken.{is_followed, is_passed}
-use Rattle.master_node.specs.Shows.{turned_of}
-use Rattle.master_node.proofs.Lists.{both_map}
+use Rattle.master_node.specs.Brought.{StopBrought}
+use Rattle.master_node.specs.Kept.{StopStays}
+use Rattle.master_node.specs.Shows.{IsUnder, turned_of}
+use Rattle.master_node.proofs.Broughts.{brought_kept}
+use Rattle.master_node.proofs.Lists.{both_each, both_map}
 use Rattle.master_node.proofs.Behinds.{life_back_is, lead_behind, all_led, goes_behind, behind_shows}
 use Rattle.master_node.proofs.node.MasterNode.returned.Goals as goal
 
@@ -20,3 +23,13 @@ returns-clause-leads c = λ lens recover retry missed number octets us f p b u r
     behind_shows lens recover retry gives number f _ _ 0 us c.all_back.ensures.kept leads u.distinct u.quiet
     (goes_behind lens recover retry gives number f c.returned.new.self.again m.tour.visit.items c.returned.new.self.visit.items m.tour.opened c.returned.new.self.opened us ts c.returned.ensures.tour.1 c.returned.ensures.opened leads u.goes)
     c.returned.ensures.tour.2 (c.returned.ensures.tour.3 ∙ u.retry_is)
+
+pub returns-clause-brought : goal.returns-clause-brought
+returns-clause-brought c = λ lens recover retry missed octets us u r.
+    let m = c.args.self.now in
+    let back = seen lens c.args.frame.now.items in
+    both_each (λ v s. StopBrought back v s) (λ s t. StopStays s t) (λ v t. StopBrought back v t) (λ v s t b k. brought_kept back v s t b k) us c.returned.new.self.stops.items c.all_back.new.self.tour.stops.items
+    (both_each (λ v s. IsUnder lens recover octets v s) _ (λ v t. StopBrought back v t)
+    (λ v s t i p. p (speech_at lens v.lived.spot) recover v.lived.spot v.lived.life i.lead.lives.planned.stands i.way i.lead.lives.shown)
+    us m.tour.stops.items c.returned.new.self.stops.items u.each (c.returned.ensures.brought lens (seen lens octets) r u.sent))
+    c.all_back.ensures.kept.each

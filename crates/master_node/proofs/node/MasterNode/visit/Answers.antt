@@ -1,4 +1,4 @@
-use Rattle.std.proofs.Common.{◌⊎◌, inl, inr, ◌≡◌, ◌∙◌, ◌+◌, ◌%◌, refl, sym, ap, subst}
+use Rattle.std.proofs.Common.{◌⊎◌, inl, ◌≡◌, ◌∙◌, ◌+◌, ◌%◌, refl, sym, ap, subst}
 use Rattle.std.specs.Prelude.{map, IfSome, slice_get}
 use Rattle.master_hand.specs.Laying.{ready_of}
 use Rattle.master_hand.specs.contracts.hand.InHandHand.TheImpl as Impl

@@ -1,4 +1,4 @@
-use Rattle.std.proofs.Common.{sym, subst, inl, inr, Option}
+use Rattle.std.proofs.Common.{sym, subst, inl, inr, ◌∙◌, Option, Some}
 use Rattle.task_model.specs.Accounts.{duty_access, account_back}
 use Rattle.master_duty.specs.declared.duty.Duty.{Duty}
 use Rattle.master_side.specs.Carried.{one}
@@ -11,21 +11,20 @@ returns-then-counter-eq0-clause-shown g c = λ x made b d a s w i.
     let args = c.args.self.now in
     errand_back x (g.H.Hand.shows args.hand x) args.out args.inn args.fresh args.duty d a args.station b made args.duty (account_back args.station made a (one b)) (g.met.H.Hand.quiet args.hand x made) w.station_is
     (errand_asks args.carried d.halves (duty_access a.hand) b.gram.ask b.access c.requires w.asks).0
-    (errand_undone args.station made c.args.counter c.args.octets.now a args.duty b i (inl c.if-counter-eq0.true) s.state) s
+    (errand_undone args.station made c.args.counter c.args.octets.now a args.duty b i (inl c.if-counter-eq0.true) (s.state, s.over)) s
 
 pub returns-in_default-clause-shown : goal.returns-in_default-clause-shown
 returns-in_default-clause-shown g c = λ x made b d a s w i.
     let args = c.args.self.now in
     errand_back x (g.H.Hand.shows args.hand x) args.out args.inn args.fresh args.duty d a args.station b made args.duty (account_back args.station made a (one b)) (g.met.H.Hand.quiet args.hand x made) w.station_is
     (errand_asks args.carried d.halves (duty_access a.hand) b.gram.ask b.access c.requires w.asks).0
-    (errand_undone args.station made c.args.counter c.args.octets.now a args.duty b i (inr c.in_default.is) s.state) s
+    (errand_undone args.station made c.args.counter c.args.octets.now a args.duty b i (inr (sym c.state_in_hand.ensures ∙ c.in_default.is)) (s.state, s.over)) s
 
 pub returns-in-Some-clause-shown : goal.returns-in-Some-clause-shown
 returns-in-Some-clause-shown g c = λ x made b d a s w i.
     let args = c.args.self.now in
     let some = not_equal c.args.counter 0 c.if-counter-eq0.false in
-    errand_back x (g.H.Hand.shows args.hand x) args.out args.inn args.fresh args.duty d a args.station b made c.duty_left-self.result (account_back args.station made a (one b)) (g.met.H.Hand.quiet args.hand x made) w.station_is
+    errand_back x (g.H.Hand.shows args.hand x) args.out args.inn args.fresh args.duty d a args.station b made (Some c.duty_met-met.result) (account_back args.station made a (one b)) (g.met.H.Hand.quiet args.hand x made) w.station_is
     (errand_asks args.carried d.halves (duty_access a.hand) b.gram.ask b.access c.requires w.asks).0
-    (subst (λ (z : Option Duty). DutyShows z (account_back args.station made a (one b)).hand) (sym c.duty_left-self.ensures)
     (errand_done args.station made c.args.counter c.args.octets.now args.carried d.halves (duty_access a.hand) a c.in-Some.duty c.duty_met-met.result b c.requires w i some
-    (subst (λ (z : Option Duty). DutyShows z a.hand) c.in-Some.is s.state) (c.duty_met-met.ensures.done d.halves (duty_access a.hand) b.gram.ask b.access c.args.counter w.asks some i.whole) c.duty_met-met.ensures.kept)) s
+    (subst (λ (z : Option Duty). DutyShows z a.hand) (sym c.state_in_hand.ensures ∙ c.in-Some.is) s.state) (c.duty_met-met.ensures.done d.halves (duty_access a.hand) b.gram.ask b.access c.args.counter w.asks some i.whole) c.duty_met-met.ensures.kept) s

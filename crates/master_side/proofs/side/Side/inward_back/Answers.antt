@@ -1,4 +1,4 @@
-use Rattle.std.proofs.Common.{subst, sym, ◌∙◌, Option}
+use Rattle.std.proofs.Common.{subst, sym, ap, ◌∙◌, List, Option}
 use Rattle.std.specs.Prelude.{option_map}
 use Rattle.exchange_model.specs.Rows.{row_heard}
 use Rattle.segment_model.specs.Seats.{side_back}
@@ -6,8 +6,10 @@ use Rattle.mailbox_mail.specs.declared.mail.MailView.{MailView}
 use Rattle.master_side.specs.declared.carried.Carried.{Carried}
 use Rattle.task_model.specs.Accounts.{duty_access, account_back}
 use Rattle.master_side.specs.Carried.{Meant, one}
-use Rattle.master_side.specs.Heard.{heard_of}
-use Rattle.master_side.proofs.Backs.{inward_back, kept_side}
+use Rattle.link_mails.specs.Body.{Body}
+use Rattle.mailbox_master.specs.Any.{in_half_of}
+use Rattle.master_side.specs.Heard.{heard_of, Brought}
+use Rattle.master_side.proofs.Backs.{inward_back, inward_accepts, kept_side, view_short}
 use Rattle.master_side.proofs.side.Side.inward_back.Goals as goal
 
 pub returns-clause-shown : goal.returns-clause-shown
@@ -20,3 +22,16 @@ returns-clause-shown g c = λ x frame b d a s w i.
     (inward_back x (g.H.Hand.shows args.hand x) args.out args.inn args.fresh args.duty d a args.station b frame c.args.counter c.args.octets.now c.returned-got.new.self next c.returned-got.result c.returned-got.ensures.half c.returned-got.ensures.got
     (λ n now t. subst (λ (o : Option MailView). next (option_map (λ r. row_heard x n (heard_of o) r) now)) c.view_in.ensures (c.hear.ensures.shown x n now (subst (λ z. g.H.Hand.shows z x now) (sym k.4) t)))
     s (subst (λ (k : Carried). Meant args.station k d.halves (duty_access a.hand) b) c.requires w) i)
+
+pub hear-requires : goal.hear-requires
+hear-requires g c =
+    let half = in_half_of c.args.self.now.inn in
+    view_short c.returned-got.result c.view_in.result half half.state c.args.counter c.args.octets.now c.returned-got.ensures.got c.view_in.ensures
+
+pub returns-clause-brought : goal.returns-clause-brought
+returns-clause-brought g c = λ n x b d a s w i.
+    let args = c.args.self.now in
+    let new = c.hear.new.self in
+    let accepts = inward_accepts x (g.H.Hand.shows args.hand x) args.out args.inn args.fresh args.duty d a args.station b c.args.counter c.args.octets.now c.returned-got.result c.returned-got.ensures.got s
+    (subst (λ (k : Carried). Meant args.station k d.halves (duty_access a.hand) b) c.requires w) i in
+    subst (λ (ms : List Body). Brought (g.H.Hand.brings new.hand) new.heard ms) (ap heard_of c.view_in.ensures ∙ sym accepts) (c.hear.ensures.brought (c.read_done.ensures.kept.5 ∙ n))

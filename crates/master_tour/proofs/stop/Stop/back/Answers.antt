@@ -1,6 +1,10 @@
-use Rattle.std.proofs.Common.{subst, refl}
+use Rattle.std.proofs.Common.{◌≡◌, [], Option, sym, subst, refl}
 use Rattle.frame_view.specs.Seen.{seen}
+use Rattle.life_model.specs.Lives as Lives
+use Rattle.master_side.specs.Heard.{Brought}
 use Rattle.master_side.specs.Shown.{SideShows}
+use Rattle.master_side.specs.declared.hand.Heard.{Heard}
+use Rattle.master_tour.specs.Brings.{accepted_at, accepted_in}
 use Rattle.master_tour.specs.Stands.{StopShows, came_at}
 use Rattle.master_tour.proofs.Backs.{gone_follows}
 use Rattle.master_tour.proofs.stop.Stop.back.Goals as goal
@@ -18,3 +22,23 @@ returns-in-Opening-clause-lives g c = λ x more passed number recover spot lens 
 
 pub returns-in-Open-clause-lives : goal.returns-in-Open-clause-lives
 returns-in-Open-clause-lives g c = λ x more passed number recover spot lens ns sent l sp r u sh. c.open_met.ensures.lives c.in-Open.is refl x more passed number recover spot lens ns sent l sp r u sh
+
+pub returns-in-Gone-clause-brought : goal.returns-in-Gone-clause-brought
+returns-in-Gone-clause-brought g c = λ x recover spot lens sent l sp r u sh.
+    let t = c.args.self.now in
+    let w = c.args.self.now.side in
+    let back = seen lens c.args.octets.now in
+    let stood = (subst (λ z. StopShows (λ d a. SideShows (g.H.Hand.shows w.hand x) w.out w.inn w.fresh w.duty d a) recover spot z t.spare l) c.in-Gone.is sh).stood in
+    subst (λ (z : Lives.Stand). accepted_at spot.station l.era.side.halves back z ≡ []) (sym stood) refl
+
+pub returns-in-Opening-clause-brought : goal.returns-in-Opening-clause-brought
+returns-in-Opening-clause-brought g c = λ x recover spot lens sent l sp r u sh.
+    let t = c.args.self.now in
+    let w = c.args.self.now.side in
+    let back = seen lens c.args.octets.now in
+    let stood = (subst (λ z. StopShows (λ d a. SideShows (g.H.Hand.shows w.hand x) w.out w.inn w.fresh w.duty d a) recover spot z t.spare l) c.in-Opening.is sh).stood in
+    subst (λ (o : Option Heard). Brought (g.H.Hand.brings c.opening_back.new.self.side.hand) o (accepted_in spot l back)) (sym c.opening_back.ensures.heard)
+    (subst (λ (z : Lives.Stand). accepted_at spot.station l.era.side.halves back z ≡ []) (sym stood.stand) refl)
+
+pub returns-in-Open-clause-brought : goal.returns-in-Open-clause-brought
+returns-in-Open-clause-brought g c = λ x recover spot lens sent l sp r u sh. c.open_met.ensures.brought c.in-Open.is refl x recover spot lens sent l sp r u sh

@@ -1,10 +1,14 @@
-use Rattle.std.proofs.Common.{sym, subst, ◌∙◌, ap, ◌≤◌, get_or}
+use Rattle.std.proofs.Common.{sym, subst, ◌∙◌, ap, ◌≤◌, get_or, Option, []}
 use Rattle.datagrams.specs.Frame.{parts_of}
 use Rattle.frame_view.specs.Seen.{part_seen}
+use Rattle.link_model.specs.Frames.{all_accepted}
+use Rattle.segment_model.specs.Slaves.{grams}
 use Rattle.task_model.specs.Accounts.{duty_access}
+use Rattle.master_side.specs.Heard.{Brought}
+use Rattle.master_side.specs.declared.hand.Heard.{Heard}
 use Rattle.master_side.specs.Shown.{SideShows}
 use Rattle.master_tour.specs.Under.{no_part}
-use Rattle.master_tour.proofs.Unders.{SameAim, aims, none_back, nothing_under, short_under, has_back}
+use Rattle.master_tour.proofs.Unders.{SameAim, aims, none_back, nothing_under, short_under, has_back, accepted_as, has_accepted}
 use Rattle.master_tour.proofs.Cursors.{stands_part, stands_in, parts_length, seen_parts}
 use Rattle.master_tour.proofs.stop.Stop.open_back.Goals as goal
 
@@ -35,3 +39,28 @@ returns-then-seek-clause-shown g c = λ x frame lens back d a e s u.
     let here = stands_in ds c.seek.new.self.number c.seek.new.self.part no_part (c.seek.ensures.stands ds c.requires.frame.1) ∙ ap (λ n. get_or (parts_of 16 ds) n no_part) (c.seek.ensures.at c.if-seek.true) in
     has_back x (λ f k. SideShows (g.H.Hand.shows y.hand x) y.out y.inn y.fresh y.duty f k) frame w.station c.args.self.now.at c.args.self.now.under w.carried (duty_access a.hand) lens c.args.octets.now c.body_of-body.result.now (parts_of 16 ds) _ no_part back d a c.if-not-self.false here c.body_of-body.ensures is (subst (SameAim w.station) (sym is) (aims lens c.args.octets.now w.station (parts_of 16 ds) c.args.self.now.named)) u
     (λ b m i. c.returned.ensures.shown x frame b d a s m i)
+
+pub returns-then-not-self-clause-brought : goal.returns-then-not-self-clause-brought
+returns-then-not-self-clause-brought g c = λ n x lens back d a e s u.
+    let w = c.args.self.now.side in
+    subst (λ (o : Option Heard). Brought (g.H.Hand.brings w.hand) o (all_accepted w.station d.halves (grams back))) (sym n)
+    (accepted_as w.station back [] d.halves (nothing_under w.station c.args.self.now.at c.args.self.now.under w.carried d.halves (duty_access a.hand) back c.if-not-self.true u))
+
+pub returns-else-seek-clause-brought : goal.returns-else-seek-clause-brought
+returns-else-seek-clause-brought g c = λ n x lens back d a e s u.
+    let w = c.args.self.now.side in
+    let ds = c.requires.frame.0 in
+    let is = e ∙ seen_parts lens c.args.octets.now ds c.requires.frame.1 in
+    let short = subst (λ n. n ≤ c.args.self.now.at) (sym (parts_length 16 ds)) (c.seek.ensures.none c.if-seek.false ds c.requires.frame.1) in
+    subst (λ (o : Option Heard). Brought (g.H.Hand.brings w.hand) o (all_accepted w.station d.halves (grams back))) (sym n)
+    (accepted_as w.station back [] d.halves (short_under w.station c.args.self.now.at c.args.self.now.under w.carried d.halves (duty_access a.hand) (part_seen lens c.args.octets.now) (parts_of 16 ds) back is short u))
+
+pub returns-then-seek-clause-brought : goal.returns-then-seek-clause-brought
+returns-then-seek-clause-brought g c = λ n x lens back d a e s u.
+    let w = c.args.self.now.side in
+    let y = c.returned.new.self in
+    let ds = c.requires.frame.0 in
+    let is = e ∙ seen_parts lens c.args.octets.now ds c.requires.frame.1 in
+    let here = stands_in ds c.seek.new.self.number c.seek.new.self.part no_part (c.seek.ensures.stands ds c.requires.frame.1) ∙ ap (λ n. get_or (parts_of 16 ds) n no_part) (c.seek.ensures.at c.if-seek.true) in
+    has_accepted (λ ms. Brought (g.H.Hand.brings y.hand) y.heard ms) w.station c.args.self.now.at c.args.self.now.under w.carried (duty_access a.hand) lens c.args.octets.now c.body_of-body.result.now (parts_of 16 ds) _ no_part back d.halves c.if-not-self.false here c.body_of-body.ensures is u
+    (λ b m i. c.returned.ensures.brought n x b d a s m i)

@@ -10,6 +10,8 @@ use Rattle.segment_model.specs.Slaves.{Datagram}
 use Rattle.frame_view.specs.Seen.{seen}
 use Rattle.frame_view.specs.View.{Lens}
 use Rattle.master_duty.specs.Reply.{Reply}
+use Rattle.master_side.specs.Heard.{Brought}
+use Rattle.master_tour.specs.Brings.{accepted_in}
 use Rattle.master_side.specs.Shown.{SideShows}
 use Rattle.master_tour.proofs.Walks.{walk_on, walk_over, walked_length}
 use Rattle.mailbox_master.specs.Any.{in_area_len}
@@ -36,6 +38,10 @@ loop-i-preserved g c =
       c.loop-i.invariant.7,
       c.loop-i.invariant.8,
       c.loop-i.invariant.9,
+      walk_on (λ s t. (lens : ℕ → Lens) (sent : List (Datagram Body)) → Returns sent (seen lens c.args.octets.now) → (x : Speech Body g.H.Hand.Asked Reply) (recover : ℕ) (spot : Spot) (k : Life Body g.H.Hand.Asked Reply) →
+          IsSpot spot s.side.station s.place s.start → StandUnder lens s.side.station s.at s.under s.side.carried s.stand k sent → StopShows (λ d a. SideShows (g.H.Hand.shows s.side.hand x) s.side.out s.side.inn s.side.fresh s.side.duty d a) recover spot s.stand s.spare k →
+          Brought (g.H.Hand.brings t.side.hand) t.side.heard (accepted_in spot k (seen lens c.args.octets.now)))
+          c.loop-i.i (c.loop-i.i + 1) c.args.self.now.stops.items c.loop-i.self.stops.items c.index_mut.result.now c.back.new.self (add-one c.loop-i.i) c.loop-i.invariant.10 (let e = len ∙ c.args.self.now.stops.ok.0 in omega (arith, test, e)) c.index_mut.ensures.value (λ lens sent r x recover spot k p u h. c.back.ensures.brought x recover spot lens sent k p r u h),
     )
 
 pub returns : goal.returns
@@ -49,5 +55,8 @@ returns g c =
           FollowShows (λ d a. SideShows (g.H.Hand.shows t.side.hand x) t.side.out t.side.inn t.side.fresh t.side.duty d a) recover spot t.stand t.spare t.news k (life_back x g.H.Hand.acknowledged more passed number spot ns (seen lens c.args.octets.now) (came_at s.under s.at (seen lens c.args.octets.now)) k k.stand)) × (t.place ≡ s.place) × (t.start ≡ s.start)) c.loop-i.i c.args.self.now.stops.items c.loop-i.self.stops.items (let e = len ∙ c.args.self.now.stops.ok.0 in omega (arith, test, e)) c.loop-i.invariant.2;
       kept = walk_over (λ s t. SameLink s.side.out s.side.inn s.side.station s.side.area t.side.out t.side.inn t.side.station t.side.area × (IsSized s.stand s.side.out.len (in_area_len s.side.inn) → IsSized t.stand t.side.out.len (in_area_len t.side.inn))) c.loop-i.i c.args.self.now.stops.items c.loop-i.self.stops.items (let e = len ∙ c.args.self.now.stops.ok.0 in omega (arith, test, e)) c.loop-i.invariant.3;
       tour = (c.loop-i.invariant.4, c.loop-i.invariant.5, c.loop-i.invariant.6, c.loop-i.invariant.7, c.loop-i.invariant.8, c.loop-i.invariant.9);
+      brought = walk_over (λ s t. (lens : ℕ → Lens) (sent : List (Datagram Body)) → Returns sent (seen lens c.args.octets.now) → (x : Speech Body g.H.Hand.Asked Reply) (recover : ℕ) (spot : Spot) (k : Life Body g.H.Hand.Asked Reply) →
+          IsSpot spot s.side.station s.place s.start → StandUnder lens s.side.station s.at s.under s.side.carried s.stand k sent → StopShows (λ d a. SideShows (g.H.Hand.shows s.side.hand x) s.side.out s.side.inn s.side.fresh s.side.duty d a) recover spot s.stand s.spare k →
+          Brought (g.H.Hand.brings t.side.hand) t.side.heard (accepted_in spot k (seen lens c.args.octets.now))) c.loop-i.i c.args.self.now.stops.items c.loop-i.self.stops.items (let e = len ∙ c.args.self.now.stops.ok.0 in omega (arith, test, e)) c.loop-i.invariant.10;
       long = sym (walked_length _ c.loop-i.i c.args.self.now.stops.items c.loop-i.self.stops.items c.loop-i.invariant.1);
     }

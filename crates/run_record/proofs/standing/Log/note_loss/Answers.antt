@@ -82,6 +82,6 @@ returns-clause-told c =
     on_ok_weaker c.given_up-noted.result
     (λ is. λ lens retry missed as' bs shown all p r.
     to_next (λ a b. LosesSo c.args.frame a b) c.args.at as' bs log.notes n c.given_up-noted.new.self p got
-    (λ a b e q s. subst (λ (z : Notes). Reports b z) (sym (is ∙ ap (λ (z : Notes). given_up z c.args.frame) same))
-    (loss_more log.recover c.args.frame a b n q s bs all c.args.at e c.gave_up_more.result c.len-times.result times yes (c.gave_up_more.ensures lens retry missed bs shown))) r)
+    (λ a b e q s. subst (λ (z : Notes). Reports b z) (sym (is ∙ ap (λ (z : Notes). given_up z c.is_leaving-leaves.result c.args.frame) same))
+    (loss_more log.recover c.args.frame a b n q s bs all c.args.at e c.gave_up_more.result c.len-times.result times yes (c.gave_up_more.ensures lens retry missed bs shown) c.is_leaving-leaves.result (c.is_leaving-leaves.ensures lens log.recover bs shown.each))) r)
     c.given_up-noted.ensures

@@ -1,5 +1,5 @@
 use Rattle.std.proofs.Common.{◌≡◌, ◌<◌, ◌≤◌, ℕ, List, [], true, false, length, get_or, sym, ap, ◌∙◌, subst, rules, arith}
-use Rattle.std.specs.Prelude.{IfSome, slice_get, not}
+use Rattle.std.specs.Prelude.{IfSome, slice_get}
 use Rattle.std.proofs.lemmas.Result.{on_ok_weaker}
 use Rattle.life_model.specs.Lives.{Stand}
 use Rattle.master_node.specs.Told.{Tells}
@@ -47,6 +47,6 @@ returns-clause-told c =
     on_ok_weaker c.began_script.result
     (λ is. λ lens recover as' bs x p r.
     to_next (λ a b. TurnsSo c.args.frame a b) c.args.at as' bs log.notes n c.began_script.new.self p got
-    (λ a b e q s. subst (λ (z : Notes). Reports b z) (sym (is ∙ ap (λ (z : Notes). began_script z c.scripted-number.result (not c.changes_state-mails.result) c.args.frame) same))
-    (script_more c.args.frame a b n q s bs c.args.at e c.scripted-number.result more (c.scripted-number.ensures lens recover bs x) c.changes_state-mails.result (c.changes_state-mails.ensures lens recover bs x))) r)
+    (λ a b e q s. subst (λ (z : Notes). Reports b z) (sym (is ∙ ap (λ (z : Notes). began_script z c.scripted-number.result c.changes_state-state.result c.args.frame) same))
+    (script_more c.args.frame a b n q s bs c.args.at e c.scripted-number.result more (c.scripted-number.ensures lens recover bs x) c.changes_state-state.result (c.changes_state-state.ensures lens recover bs x))) r)
     c.began_script.ensures.is

@@ -1,0 +1,6 @@
+pub mod Clients
+pub mod Grams
+pub mod Talks
+pub mod Hearings
+pub mod Courses
+pub mod Endings

@@ -1,0 +1,5 @@
+pub mod Rule
+pub mod Told
+pub mod Client
+pub mod Talk
+pub mod Ended

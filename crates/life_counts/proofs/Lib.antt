@@ -1,0 +1,3 @@
+mod Epoch
+pub mod Unopened
+pub mod Whole

@@ -1,0 +1,21 @@
+-- WHAT A FRAME THAT CAME BACK BROUGHT of the slaves, by their lives, as a master has it.
+use Rattle.std.specs.Prelude.{List}
+use Rattle.life_frames.specs.Shares.{AllBoth}
+use Rattle.life_runs.specs.Led.{Turn}
+use Rattle.link_mails.specs.Body.{Body}
+use Rattle.master_hand.specs.Brings.{Brings}
+use Rattle.master_hand.specs.declared.hand.InHand.{InHand}
+use Rattle.master_side.specs.Heard.{Brought}
+use Rattle.master_side.specs.declared.hand.Hand.{Ghosts}
+use Rattle.master_tour.specs.Brings.{accepted_in}
+use Rattle.master_tour.specs.declared.stop.Stop.{Stop}
+use Rattle.segment_model.specs.Slaves.{Datagram}
+use Rattle.master_node.specs.declared.node.MasterNode.{MasterNode}
+
+-- a slave's hand tells of the mails that its life accepted
+abbrev pub StopBrought : {G : Ghosts InHand} → List (Datagram Body) → Turn → Stop InHand G → Type 0
+StopBrought back u s = Brought (Brings s.side.hand.found) s.side.heard (accepted_in u.lived.spot u.lived.life back)
+
+-- all slaves, behind a frame that came back so, by their lives before it
+abbrev pub HasBrought : MasterNode → List Turn → List (Datagram Body) → Type 0
+HasBrought m us back = AllBoth (λ u s. StopBrought back u s) us m.tour.stops.items

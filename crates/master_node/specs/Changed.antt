@@ -1,0 +1,15 @@
+-- WHAT A MASTER SAYS OF THE NEWEST CHANGE OF STATE of a slave, by what it has of it.
+use Rattle.std.specs.Prelude.{◌≡◌, Some, None, []}
+use Rattle.master_duty.specs.Reply.{Reply}
+use Rattle.master_hand.specs.Spoken.{Asked}
+use Rattle.master_side.specs.Shown.{HasOver}
+use Rattle.segment_model.specs.Ends.{Outcome}
+use Rattle.task_model.specs.Accounts.{Account, Duty}
+use Rattle.master_node.specs.declared.changed.Changed.{Changed}
+
+-- by the account: none came into hand since the slave was opened; one is in hand; or the newest is over, and has this answer
+abbrev pub TellsChange : Changed → Account Asked Reply → Type 0
+TellsChange Changed.Nothing b = (b.hand ≡ None) × (b.over ≡ [])
+TellsChange Changed.Going b = (d : Duty) × (b.hand ≡ Some d)
+TellsChange Changed.Reached b = (b.hand ≡ None) × HasOver b.over Outcome.Reached
+TellsChange (Changed.Refused code) b = (b.hand ≡ None) × HasOver b.over (Outcome.Refused code)

@@ -1,0 +1,40 @@
+//! What a frame that came back brought of a slave besides replies.
+
+ghost use Rattle.std.specs.Prelude.{◌≡◌, List, option_map};
+ghost use Rattle.link_mails.specs.Body.{Body};
+ghost use Rattle.master_hand.specs.Brings.{Brings, as_list, emergencies_in};
+ghost use Rattle.master_side.specs.Heard.{Brought};
+
+use crate::node::MasterNode;
+use arrayvec::ArrayVec;
+use master_hand::InHand;
+use master_side::Side;
+
+// The emergency that the last returned frame brought.
+fn emergency_of(side: &Side<InHand>) -> Option<&ArrayVec<u8, 8>>
+    ensures { (ms : List Body) → Brought (Brings side.now.hand.found) side.now.heard ms → as_list (option_map (λ octets. octets.now.items) result) ≡ emergencies_in ms }
+{
+    match side.heard {
+        None => None,
+        Some(_) => side.hand.emergency(),
+    }
+}
+
+impl MasterNode {
+    ghost use Rattle.std.specs.Prelude.{◌≡◌, ◌<◌, ℕ, List, IfSome, slice_get, vec_len, option_map};
+    ghost use Rattle.life_runs.specs.Led.{Turn};
+    ghost use Rattle.link_mails.specs.Body.{Body};
+    ghost use Rattle.segment_model.specs.Slaves.{Datagram};
+    ghost use Rattle.master_hand.specs.Brings.{as_list, emergencies_in};
+    ghost use Rattle.master_tour.specs.Brings.{accepted_in};
+    ghost use Rattle.master_node.specs.Brought.{HasBrought};
+
+    /// The octets of the emergency that the last returned frame brought of a slave.
+    pub fn emergency(&self, slave: u32) -> Option<&ArrayVec<u8, 8>>
+        requires { slave < vec_len self.now.posts }
+        ensures { (us : List Turn) (back : List (Datagram Body)) → HasBrought self.now us back →
+            IfSome (slice_get us slave) (λ u. as_list (option_map (λ octets. octets.now.items) result) ≡ emergencies_in (accepted_in u.lived.spot u.lived.life back)) }
+    {
+        emergency_of(&self.tour.stops[slave as usize].side)
+    }
+}

@@ -1,0 +1,55 @@
+//! What a master says of the newest change of state of a slave.
+
+ghost use Rattle.std.specs.Prelude.{◌≡◌, Option};
+ghost use Rattle.master_duty.specs.Reply.{Reply};
+ghost use Rattle.master_hand.specs.Spoken.{Asked};
+ghost use Rattle.master_side.specs.Carried.{in_hand};
+ghost use Rattle.master_side.specs.Shown.{DutyShows, OverShows};
+ghost use Rattle.task_model.specs.Accounts.{Account};
+ghost use Rattle.master_node.specs.Changed.{TellsChange};
+
+use crate::node::MasterNode;
+use master_duty::Met;
+
+/// What became of the newest change of state since a slave was opened.
+#[derive(Clone, Copy, Debug, PartialEq, Eq)]
+pub enum Changed {
+    /// None came into hand.
+    Nothing,
+    /// It is in hand.
+    Going,
+    /// The slave reached the state.
+    Reached,
+    /// The slave refused it, with this AL status code.
+    Refused(u16),
+}
+
+// By what a side has of it.
+fn changed_by(duty: Option<Met>) -> Changed
+    ensures { (b : Account Asked Reply) → DutyShows (in_hand duty) b.hand → OverShows duty b.over → TellsChange result b }
+{
+    match duty {
+        None => Changed::Nothing,
+        Some(Met::On(_)) => Changed::Going,
+        Some(Met::Reached) => Changed::Reached,
+        Some(Met::Refused(code)) => Changed::Refused(code),
+    }
+}
+
+impl MasterNode {
+    ghost use Rattle.std.specs.Prelude.{◌≡◌, ◌<◌, ℕ, List, IfSome, slice_get, vec_len};
+    ghost use Rattle.frame_view.specs.View.{Lens};
+    ghost use Rattle.life_model.specs.Lives.{Stand};
+    ghost use Rattle.life_runs.specs.Led.{Leads};
+    ghost use Rattle.master_node.specs.Told.{HasLeads};
+
+    /// What became of the newest change of state of a slave that is open. It stays until the next comes into hand, or the slave is opened
+    /// anew.
+    pub fn changed(&self, slave: u32) -> Changed
+        requires { slave < vec_len self.now.posts }
+        ensures { (lens : ℕ → Lens) (recover : ℕ) (as' : List Leads) → HasLeads lens recover self.now as' →
+            IfSome (slice_get as' slave) (λ a. a.lived.life.stand ≡ Stand.Open → TellsChange result a.lived.life.era.account) }
+    {
+        changed_by(self.tour.stops[slave as usize].side.duty)
+    }
+}

@@ -1,0 +1,20 @@
+-- THE MAILS THAT A SLAVE'S MASTER ACCEPTED of a frame that came back, by its life.
+use Rattle.std.specs.Prelude.{ℕ, List, []}
+use Rattle.life_model.specs.Lives
+use Rattle.life_model.specs.Lives.{Life, Spot}
+use Rattle.life_model.specs.Own
+use Rattle.link_mails.specs.Body.{Body}
+use Rattle.link_model.specs.Frames.{all_accepted}
+use Rattle.link_model.specs.Link.{Halves}
+use Rattle.master_duty.specs.Reply.{Reply}
+use Rattle.segment_model.specs.Slaves.{Datagram, grams}
+
+-- by its stand: while it is open those that its halves accept, of its own datagrams
+abbrev pub accepted_at : ℕ → Halves Body → List (Datagram Body) → Lives.Stand → List Body
+accepted_at station h back (Lives.Stand.Opens o) = []
+accepted_at station h back Lives.Stand.Open = all_accepted station h (grams (Own.own station back))
+accepted_at station h back Lives.Stand.Gone = []
+
+-- THE MAILS ACCEPTED
+abbrev pub accepted_in : {Q : Type 0} → Spot → Life Body Q Reply → List (Datagram Body) → List Body
+accepted_in spot l back = accepted_at spot.station l.era.side.halves back l.stand

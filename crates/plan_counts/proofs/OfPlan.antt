@@ -1,0 +1,126 @@
+-- What the frame bound counts for a service of a plan.
+use Rattle.std.proofs.Common.{◌≡◌, ℕ, ◌+◌, ◌-◌, ◌*◌, ◌/◌, ◌≤◌, ◌&&◌, ◌||◌, ◌==◌, nat_lt, nat_le, Bool, true, false, not, List, [], length, Some, None, refl, subst, arith, if◌then◌else◌}
+use Rattle.std.proofs.Math.Nat.{div-eq-sub-div}
+use Rattle.eoe.specs.Cutting.{blocks_of}
+use Rattle.exchange_model.specs.Areas.{AreMailboxes}
+use Rattle.object_dictionary.specs.declared.service.SdoService.{SdoService}
+use Rattle.object_dictionary.specs.declared.service.SdoService.TheVariants.{Download, Upload, DownloadAll, UploadAll, List as ObjectList, ObjectInfo, EntryInfo}
+use Rattle.coe_model.specs.Server.{emergency, packet}
+use Rattle.coe_client.specs.Talk.{service_view}
+use Rattle.foe_model.specs.Meaning as FoeMeaning
+use Rattle.soe_model.specs.Client as SoeClient
+use Rattle.soe_model.specs.Elements.{target}
+use Rattle.eoe_model.specs.Client as EoeClient
+use Rattle.master_hand.specs.Spoken.{Asked, sdo, file, drive, net}
+use Rattle.master_hand.specs.Talk.{asked_of}
+use Rattle.segment_plan.specs.declared.slave.SlaveSpec.{SlaveSpec}
+use Rattle.segment_plan.specs.declared.service.Service as Plan
+use Rattle.segment_plan.specs.declared.service.Service.TheVariants.{Sdo, ReadFile, WriteFile, ReadIdn, WriteIdn, SetIp, GetIp, State, Forward}
+use Rattle.segment_plan.specs.Bound.{spread, mails_of, entry_most, work_of}
+use Rattle.segment_plan.specs.Sound.{IsSlave, IsService}
+use Rattle.slave_model.specs.Profile.{areas_of}
+use Rattle.slave_server.specs.Spec.{files_of, core_of, profile_of}
+use Rattle.mail_counts.specs.Counts.{third, mails_within}
+use Rattle.mail_counts.proofs.Thirds.{fits}
+use Rattle.service_counts.specs.Shapes.{Shape, shape_of, emission_mails}
+use Rattle.service_counts.proofs.OfShape.{mails_less}
+use Rattle.plan_counts.specs.Asked.{asked_most}
+use Rattle.plan_counts.proofs.Entries.{plan_entry}
+use Rattle.plan_counts.proofs.Filed.{files_blocks, plan_file_busy}
+
+some_same : (a b : Asked) → Some a ≡ Some b → a ≡ b
+some_same a b e = cc
+
+module _ (n : ℕ) (s : SlaveSpec) (is : IsSlave s) where
+  abbrev k : Shape
+  k = shape_of (core_of s)
+
+  sized : AreMailboxes (areas_of (profile_of s))
+  sized = record { out_least = is.out_least; out_most = is.out_most; back_least = is.in_least; back_most = is.in_most }
+
+  -- the bound has four mails to spare
+  enough : (a b : ℕ) → a ≤ b → mails_within (areas_of (profile_of s)) a + 4 ≤ mails_of s b
+  enough a b less = omega (arith, mails_less (areas_of (profile_of s)) sized a b less)
+
+  -- also for the number of entries ahead of a whole object
+  whole_enough : mails_within (areas_of (profile_of s)) 16002 ≤ mails_of s 16000
+  whole_enough =
+      let f = fits (areas_of (profile_of s)) sized in
+      let w = third (areas_of (profile_of s)) in
+      let wide : w ≤ 16002 = omega (arith, f.out, is.out_most) in
+      let one : 16002 / w ≡ (16002 - w) / w + 1 = div-eq-sub-div f.some wide in
+      let two : 2 ≤ w = omega (arith, least (nat_le s.out_len s.in_len)) in
+      let less = mails_less (areas_of (profile_of s)) sized (16002 - w) 16000 (omega arith) in
+      omega (arith, one, less)
+    where
+      least : (b : Bool) → 64 ≤ (if b then s.out_len else s.in_len)
+      least true = is.out_least
+      least false = is.in_least
+
+  -- a packet counts at least its own fragments
+  own_spread : (octets : ℕ) → blocks_of octets ≤ spread n octets
+  own_spread octets =
+      let all : blocks_of octets * ((n + 1) * (n + 1)) ≡ blocks_of octets + blocks_of octets * (n * n + 2 * n) = omega arith in
+      omega (arith, all)
+
+  download_within : (index sub : ℕ) (bytes : List ℕ) → asked_most (profile_of s) k (sdo (service_view (Download index sub bytes))) ≤ work_of n s (Sdo (Download index sub bytes))
+  download_within index sub bytes = omega (arith, enough (length bytes) (length bytes) (omega arith), by (sub == 1) (index == 0x2F00) s.eoe (index == 0x2F01) own)
+    where
+      own : blocks_of (length bytes) ≤ spread n (length bytes)
+      own = own_spread (length bytes)
+
+      by : (a b c d : Bool) → blocks_of (length bytes) ≤ spread n (length bytes) →
+          emission_mails (if false || not a then None else if b then Some (emergency bytes) else if c && d then Some (packet bytes) else None) ≤ 4 + (if d && a then spread n (length bytes) else 0)
+      by false b c d own = omega arith
+      by true true c d own = omega arith
+      by true false true true own = omega (arith, own)
+      by true false true false own = omega arith
+      by true false false d own = omega arith
+
+  upload_within : (index sub : ℕ) → asked_most (profile_of s) k (sdo (service_view (Upload index sub))) ≤ work_of n s (Sdo (Upload index sub))
+  upload_within index sub = by s.«coe» refl
+    where
+      by : (b : Bool) → s.«coe» ≡ b → mails_within (areas_of (profile_of s)) (if b then k.entry index sub else 0) + 0 ≤ mails_of s (entry_most s index sub) + 0
+      by true e = omega (arith, enough (k.entry index sub) (entry_most s index sub) (plan_entry s is e index sub))
+      by false e = omega (arith, enough 0 (entry_most s index sub) (omega arith))
+
+  whole_within : (index from : ℕ) → asked_most (profile_of s) k (sdo (service_view (UploadAll index from))) ≤ work_of n s (Sdo (UploadAll index from))
+  whole_within index from = by s.«coe»
+    where
+      by : (b : Bool) → mails_within (areas_of (profile_of s)) (if b then 16002 else 0) + 0 ≤ mails_of s 16000 + 0
+      by true = omega (arith, whole_enough)
+      by false = omega (arith, enough 0 16000 (omega arith))
+
+  sdo_within : (q : SdoService) → asked_most (profile_of s) k (sdo (service_view q)) ≤ work_of n s (Sdo q)
+  sdo_within (Download index sub bytes) = download_within index sub bytes
+  sdo_within (Upload index sub) = upload_within index sub
+  sdo_within (DownloadAll index from bytes) = omega (arith, enough (length bytes) (length bytes) (omega arith))
+  sdo_within (UploadAll index from) = whole_within index from
+  sdo_within (ObjectList kind) = omega (arith, enough 1024 1024 (omega arith))
+  sdo_within (ObjectInfo index) = omega (arith, enough 64 64 (omega arith))
+  sdo_within (EntryInfo index sub info) = omega (arith, enough 64 64 (omega arith))
+
+pub plan_within : (n room : ℕ) (s : SlaveSpec) (service : Plan.Service) (q : Asked) → IsSlave s → IsService service → asked_of room service ≡ Some q → asked_most (profile_of s) (shape_of (core_of s)) q ≤ work_of n s service
+plan_within n room s (Sdo service) q is sound e =
+    subst (λ a. asked_most (profile_of s) (shape_of (core_of s)) a ≤ work_of n s (Sdo service)) (some_same (sdo (service_view service)) q e) (sdo_within n s is service)
+plan_within n room s (ReadFile name pass) q is sound e =
+    subst (λ a. asked_most (profile_of s) (shape_of (core_of s)) a ≤ work_of n s (ReadFile name pass)) (some_same (file (FoeMeaning.read name.items pass)) q e)
+    (let blocks : (files_of s).blocks ≡ s.blocks = files_blocks s.files (record { files = []; blocks = s.blocks }) in
+    omega (arith, enough n s is (128 * (files_of s).blocks) (128 * s.blocks) (omega (arith, blocks))))
+plan_within n room s (WriteFile name pass bytes) q is sound e =
+    subst (λ a. asked_most (profile_of s) (shape_of (core_of s)) a ≤ work_of n s (WriteFile name pass bytes)) (some_same (file (FoeMeaning.write name.items pass bytes)) q e)
+    (omega (arith, enough n s is (length bytes) (length bytes) (omega arith), plan_file_busy s name.items))
+plan_within n room s (ReadIdn number idn elements) q is sound e =
+    subst (λ a. asked_most (profile_of s) (shape_of (core_of s)) a ≤ work_of n s (ReadIdn number idn elements)) (some_same (drive (SoeClient.read (target number idn elements))) q e) (omega (arith, enough n s is 4096 4096 (omega arith)))
+plan_within n room s (WriteIdn number idn elements bytes) q is sound e =
+    subst (λ a. asked_most (profile_of s) (shape_of (core_of s)) a ≤ work_of n s (WriteIdn number idn elements bytes)) (some_same (drive (SoeClient.write (target number idn elements) bytes)) q e)
+    (omega (arith, enough n s is (length bytes) (length bytes) (omega arith)))
+plan_within n room s (SetIp block) q is sound e = by (nat_lt room (length block + 10)) e
+  where
+    by : (b : Bool) → (if b then None else Some (net (EoeClient.set_ip block))) ≡ Some q → asked_most (profile_of s) (shape_of (core_of s)) q ≤ mails_of s 64
+    by true e = absurd (cc)
+    by false e = subst (λ a. asked_most (profile_of s) (shape_of (core_of s)) a ≤ mails_of s 64) (some_same (net (EoeClient.set_ip block)) q e) (omega arith)
+plan_within n room s GetIp q is sound e =
+    subst (λ a. asked_most (profile_of s) (shape_of (core_of s)) a ≤ work_of n s GetIp) (some_same (net EoeClient.get_ip) q e) (omega arith)
+plan_within n room s (State to) q is sound e = absurd (cc)
+plan_within n room s (Forward p) q is sound e = absurd sound

@@ -1,0 +1,26 @@
+-- THE EPOCHS OF A BOOK have their causes, by the give-ups of the book.
+use Rattle.std.proofs.Common.{◌≡◌, ℕ, List, [], ◌∷◌, map, sym, subst}
+use Rattle.life_epochs.specs.Causes.{AllEndBy, AllHaveCause}
+use Rattle.life_frames.specs.Shares.{AllBoth}
+use Rattle.life_runs.specs.Led.{Leads}
+use Rattle.master_node.specs.Wants.{gave_of}
+use Rattle.promised_run.specs.Epochs.{AllCaused}
+use Rattle.run_book.specs.declared.book.SlaveBook.{SlaveBook}
+use Rattle.run_record.specs.Epochs.{HasEpochs}
+use Rattle.run_record.specs.Led.{gaves_in}
+
+heads : (x y : List ℕ) (xs ys : List (List ℕ)) → x ∷ xs ≡ y ∷ ys → x ≡ y
+heads x y xs ys e = cc
+
+rests : (x y : List ℕ) (xs ys : List (List ℕ)) → x ∷ xs ≡ y ∷ ys → xs ≡ ys
+rests x y xs ys e = cc
+
+pub all_caused : (as' : List Leads) (rows : List SlaveBook) → AllBoth HasEpochs as' rows → gaves_in rows ≡ map gave_of as' → AllHaveCause as' → AllCaused as' rows
+all_caused [] [] h g c = tt
+all_caused [] (row ∷ rows) h g c = absurd h
+all_caused (a ∷ as') [] h g c = absurd h
+all_caused (a ∷ as') (row ∷ rows) h g c =
+    let same : row.gave ≡ gave_of a = heads row.gave (gave_of a) (gaves_in rows) (map gave_of as') g in (
+      record { epochs = h.0; causes = subst (λ (gave : List ℕ). AllEndBy gave a.lived.life.past a.lived.life.era.cleared) (sym same) c.0 },
+      all_caused as' rows h.1 (rests row.gave (gave_of a) (gaves_in rows) (map gave_of as') g) c.1,
+    )

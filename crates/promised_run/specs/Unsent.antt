@@ -1,0 +1,18 @@
+-- WHAT OF A SCRIPT WASN'T SENT, as a book has it.
+use Rattle.std.specs.Prelude.{◌≡◌, ℕ, suc, List, [], ◌∷◌, ⊤}
+use Rattle.life_runs.specs.First.{script_for}
+use Rattle.life_runs.specs.Led.{Leads}
+use Rattle.run_book.specs.declared.book.SlaveBook.{SlaveBook}
+use Rattle.run_record.specs.Unsent.{IsSpent}
+use Rattle.segment_plan.specs.declared.plan.Scenario.{Scenario}
+
+-- OF ONE SLAVE of a plan at its place: just the rest of the plan's script for it, behind the services that came into hand, wasn't sent
+pub record IsUnsent (plan : Scenario) (place : ℕ) (a : Leads) (row : SlaveBook) : Type 0 where
+  pub script : a.script ≡ script_for place plan.services
+  pub rest : IsSpent a row
+
+-- of all of them, from a place on
+abbrev pub AllUnsent : Scenario → ℕ → List Leads → List SlaveBook → Type 0
+AllUnsent plan place [] [] = ⊤
+AllUnsent plan place (a ∷ as') (row ∷ rows) = IsUnsent plan place a row × AllUnsent plan (suc place) as' rows
+AllUnsent plan place _ _ = ⊥

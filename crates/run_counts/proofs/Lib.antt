@@ -1,0 +1,3 @@
+mod Shaped
+mod Opened
+mod Runs

@@ -1,0 +1,37 @@
+//! What the lives of a run gain is no more than what the services and packets count that came into hand of its slaves. Definitions and laws, no running
+//! code: the functions here do nothing, and their contracts state the laws.
+#![tactic(auto)]
+
+ghost use Rattle.std.specs.Prelude.{◌≡◌, ℕ, Bool, List};
+ghost use Rattle.frame_view.specs.View.{Lens};
+ghost use Rattle.life_counts.specs.Begun.{KeepsShape};
+ghost use Rattle.life_runs.specs.First.{lens_of, first_leads};
+ghost use Rattle.life_runs.specs.Led.{Exchanged, Leads, IsLed};
+ghost use Rattle.plan_counts.specs.Asked.{asked_most};
+ghost use Rattle.plan_ring.specs.Asked.{asked};
+ghost use Rattle.run_lives.specs.Lives.{IsKnown};
+ghost use Rattle.run_lives.specs.Round.{ring_of, AllRound};
+ghost use Rattle.segment_plan.specs.Sound.{IsPlan};
+ghost use Rattle.segment_plan.specs.declared.plan.Scenario.{Scenario};
+ghost use Rattle.server_lives.specs.Real.{real_clearing};
+ghost use Rattle.slave_model.specs.Profile.{Profile, IsProfile};
+ghost use Rattle.run_counts.specs.Gained.{app_shape, AllGain};
+
+/// THE SHAPE OF A PLAN'S SLAVE STAYS, whatever services it carries out, whatever its AL state and whenever it is returned to Init; and each service that
+/// its master asks for takes at most as many mails as its shape says.
+pub fn shape_law()
+    ensures { (p : Profile) → IsProfile p → (boot : Bool) (lens : ℕ → Lens) → KeepsShape (asked p boot lens) real_clearing app_shape (asked_most p) }
+{
+    slave_parts::parts_are_lawful();
+    service_counts::shape_counts();
+}
+
+/// THE GAINS OF A RUN: of each slave of a plan what its life has gained is no more than what the services and packets count that came into hand of it,
+/// in all its epochs, whatever frames are lost and whoever is given up.
+pub fn run_counts()
+    ensures { (plan : Scenario) → IsPlan plan → IsKnown plan → (fs : List Exchanged) (missed : ℕ) (leads : List Leads) →
+        IsLed (lens_of plan.slaves) plan.recover plan.retry (first_leads plan) fs missed leads → AllRound (ring_of plan) fs → AllGain plan.slaves leads }
+{
+    run_lives::run_lives_law();
+    shape_law();
+}

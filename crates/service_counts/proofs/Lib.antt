@@ -1,0 +1,5 @@
+mod Layers
+mod OfSlave
+mod Sizes
+pub mod Stays
+pub mod OfShape

@@ -1,0 +1,4 @@
+mod Seating
+mod Both
+mod Keeping
+pub mod OfTasks

@@ -1,0 +1,11 @@
+mod Framed
+mod Dialogues
+mod Stamps
+mod Walk
+mod Concluding
+mod Speaking
+mod Answering
+mod Sdo
+mod Files
+mod Slaves
+mod Calls

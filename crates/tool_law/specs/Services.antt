@@ -1,0 +1,20 @@
+-- The services that a client over a gateway carries out, as their protocols have them.
+use Rattle.std.specs.Prelude.{◌≡◌, ◌≢◌, ℕ, true, List}
+use Rattle.arrayvec.specs.ArrayVec.{ArrayVec}
+use Rattle.object_dictionary.specs.declared.service.SdoService.{SdoService}
+use Rattle.segment_plan.specs.declared.service.Service.{Service as Asked}
+use Rattle.coe_client.specs.Talk.{service_view}
+use Rattle.coe_model.specs.Tables.{Ask}
+use Rattle.coe_model.specs.Meaning.{information}
+use Rattle.coe_model.specs.Model.{is_service}
+use Rattle.foe_model.specs.Meaning.{Service, read, write}
+
+-- a download or an upload, with its numbers and octets within their fields
+pub record IsEntry (s : SdoService) : Type 0 where
+  pub valid : is_service (service_view s) ≡ true
+  pub sdo : (a : Ask) → service_view s ≢ information a
+
+-- a file that is read or written
+pub data IsFile : Asked → Service → Type 0 where
+  reads : (name : ArrayVec ℕ) (pass : ℕ) → IsFile (Asked.ReadFile name pass) (read name.items pass)
+  writes : (name : ArrayVec ℕ) (pass : ℕ) (bytes : List ℕ) → IsFile (Asked.WriteFile name pass bytes) (write name.items pass bytes)
