@@ -1,2 +1,4 @@
 pub mod Led
 pub mod First
+pub mod Spans
+pub mod Causes

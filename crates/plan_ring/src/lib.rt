@@ -1,5 +1,5 @@
-//! The ring of a plan's slaves, with their services as the master asks for them. No running code: each function here does nothing, and its
-//! contract states a law.
+//! The ring of a plan's slaves, with their services as the master asks for them, and a run of it: the lives that its master leads are lived by the nodes
+//! of its slaves. No running code: each function here does nothing, and its contract states a law.
 #![tactic(auto)]
 
 ghost use Rattle.std.specs.Prelude.{◌≡◌, ◌<◌, ◌∷◌, ◌++◌, ℕ, suc, Bool, List, [], map, length};
@@ -33,6 +33,11 @@ ghost use Rattle.plan_ring.specs.Asked.{is_service, asked};
 ghost use Rattle.plan_ring.specs.Master.{Under, IsLed, AllLed, AllUnder, AllBehind, GoesOn};
 ghost use Rattle.plan_ring.specs.First.{AllFirst, AllStay, AllOpen, AllBooks, AllAtRest, runs_of, RunEnds};
 ghost use Rattle.plan_ring.specs.Plan.{PlanMember, FitsPlan, AllMacs, lens_of, members_of, step};
+ghost use Rattle.life_runs.specs.First.{lens_of, first_leads};
+ghost use Rattle.life_runs.specs.Led.{Exchanged, Leads, IsLed};
+ghost use Rattle.segment_plan.specs.Sound.{IsPlan};
+ghost use Rattle.plan_ring.specs.Round.{ring_of, AllRound};
+ghost use Rattle.plan_ring.specs.Lives.{IsKnown, AreLived};
 
 /// The services of a slave of a plan, as the master asks for them, are such as the laws of whole lives speak of; and the master speaks of them as
 /// their own client does, but for mails that are passed on.
@@ -85,3 +90,13 @@ pub fn first_run_law<P>()
     ensures ends { (lens : ℕ → Lens) (ss : List SlaveSpec) (more : Body → Bool) (fs : List (Frame Body)) (ring : RingState (Node Serving)) (ms : List PlanMember) → (lives : IsRing lens step (FitsPlan ss) fs ring ms) → (led : AllLed ms) → (books : AllBooks lens ss more fs 0 ms lives.each led) →
         (as' : List (Addressed Asked)) (host arrived : List P) → AllAtRest lens ss more fs ms as' → (AnyLive (runs_of lens ss more fs 0 ms lives.each led books as') → arrived ≡ host) → RunEnds lens ss more fs 0 ms lives.each led books as' host arrived }
 {}
+
+/// A MASTER THAT LEADS THE LIVES of a plan's slaves, by frames that went round their ring, leads lives that the nodes of the ring live: whatever
+/// frames are lost, and where slaves are given up, taken up again or returned to Init.
+pub fn run_lives_law()
+    ensures { (plan : Scenario) → IsPlan plan → IsKnown plan → (fs : List Exchanged) (missed : ℕ) (as' : List Leads) →
+        IsLed (lens_of plan.slaves) plan.recover plan.retry (first_leads plan) fs missed as' → AllRound (ring_of plan) fs → AreLived plan fs as' }
+{
+    plan_ring_law();
+    master_ring_law();
+}

@@ -1,2 +1,3 @@
 pub mod First
 pub mod Asks
+pub mod Linked

@@ -5,17 +5,17 @@ ghost use Rattle.ecmbx_words.specs.Form.{as_serve};
 ghost use Rattle.ecmbx_call.specs.Course.{words_of};
 ghost use Rattle.ecmbx_call.specs.Causes.{IsServing};
 ghost use Rattle.ecmbx_call.specs.Calls.{Calls};
-ghost use Rattle.stream_call.specs.Linked.{told_first, told_last};
+ghost use Rattle.program_call.specs.Linked.{told_first, told_last};
 ghost use Rattle.gateway_tool.specs.Told.{told as asked};
 ghost use Rattle.tool_call.specs.Asked.{is_ask, asked_in};
 ghost use Rattle.program_call.specs.First.{is_stream};
 ghost use Rattle.program_call.specs.Asks.{Asks};
 
+use crate::by_stream::stream_call;
 use ec_links::Link;
 use ec_outside::{Files, Port, Sink};
 use ecmbx_call::{Book, Status, ecmbx};
 use std::alloc::Global;
-use stream_call::stream_call;
 use tool_call::{ask_call, is_ask};
 
 // Whether the first word is `stream`.

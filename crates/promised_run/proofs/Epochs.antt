@@ -1,6 +1,6 @@
 -- THE EPOCHS OF A BOOK have their causes, by the give-ups of the book.
 use Rattle.std.proofs.Common.{◌≡◌, ℕ, List, [], ◌∷◌, map, sym, subst}
-use Rattle.life_epochs.specs.Causes.{AllEndBy, AllHaveCause}
+use Rattle.life_runs.specs.Causes.{AllEndBy, AllHaveCause}
 use Rattle.life_frames.specs.Shares.{AllBoth}
 use Rattle.life_runs.specs.Led.{Leads}
 use Rattle.master_node.specs.Wants.{gave_of}

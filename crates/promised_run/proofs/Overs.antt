@@ -2,12 +2,12 @@
 use Rattle.std.proofs.Common.{◌≡◌, inl, inr, ℕ, List, [], ◌∷◌, ◌++◌, map, ap, sym, ◌∙◌, subst}
 use Rattle.std.proofs.lemmas.List.{append-nil}
 use Rattle.frame_view.specs.View.{Lens}
-use Rattle.life_epochs.specs.Causes.{AllHaveCause}
+use Rattle.life_runs.specs.Causes.{AllHaveCause}
 use Rattle.life_frames.specs.Shares.{AllBoth}
 use Rattle.life_runs.specs.First.{lens_of, first_leads}
 use Rattle.life_runs.specs.Led.{Exchanged, Leads, IsLed}
-use Rattle.plan_promises.specs.Promise.{slaves_behind, Keeps}
-use Rattle.plan_promises.specs.Rest.{IsAtRest, AllAtRest, AllStayed, IsResting, NothingIsLeft, AllIsDone}
+use Rattle.run_promises.specs.Promise.{slaves_behind, Keeps}
+use Rattle.run_promises.specs.Rest.{IsAtRest, AllAtRest, AllStayed, IsResting, NothingIsLeft, AllIsDone}
 use Rattle.promised_run.specs.Promised.{LeavesNothing, IsPromised}
 use Rattle.promised_run.proofs.Epochs.{all_caused}
 use Rattle.promised_run.proofs.Reported.{all_reported}
@@ -18,7 +18,7 @@ use Rattle.run_book.specs.declared.book.Book.{Book}
 use Rattle.run_book.specs.declared.book.Ending.{Ending}
 use Rattle.run_book.specs.declared.book.Ending.TheVariants as endings
 use Rattle.run_book.specs.declared.book.SlaveBook.{SlaveBook}
-use Rattle.run_lives.specs.Round.{ring_of, AllRound}
+use Rattle.plan_ring.specs.Round.{ring_of, AllRound}
 use Rattle.run_record.specs.Led.{exchanged, RestsSo, DoneSo, RestBy, LedBook}
 use Rattle.run_record.specs.Ran.{HasFrames, HasRows, EndsAs}
 use Rattle.run_record.specs.Replay.{first_ring, ring_after}

@@ -1,6 +1,6 @@
 -- THE EPOCHS OF A SLAVE, as a book has them.
 use Rattle.std.specs.Prelude.{List, [], ◌∷◌, ⊤}
-use Rattle.life_epochs.specs.Causes.{AllEndBy}
+use Rattle.life_runs.specs.Causes.{AllEndBy}
 use Rattle.life_runs.specs.Led.{Leads}
 use Rattle.run_book.specs.declared.book.SlaveBook.{SlaveBook}
 use Rattle.run_record.specs.Epochs.{HasEpochs}

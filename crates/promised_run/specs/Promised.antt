@@ -1,8 +1,8 @@
 -- THE PROMISE OF A RUN, by the frames of its book.
 use Rattle.std.specs.Prelude.{◌≡◌, ◌≢◌, List, map, ⊤}
 use Rattle.life_runs.specs.Led.{Leads}
-use Rattle.plan_promises.specs.Promise.{slaves_behind, Keeps}
-use Rattle.plan_promises.specs.Rest.{NothingIsLeft, AllIsDone}
+use Rattle.run_promises.specs.Promise.{slaves_behind, Keeps}
+use Rattle.run_promises.specs.Rest.{NothingIsLeft, AllIsDone}
 use Rattle.promised_run.specs.Epochs.{AllCaused}
 use Rattle.promised_run.specs.Reported.{AllReported}
 use Rattle.promised_run.specs.Unsent.{AllUnsent}

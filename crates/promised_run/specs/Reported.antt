@@ -11,7 +11,7 @@ use Rattle.master_duty.specs.Reply.{Reply}
 use Rattle.master_hand.specs.Spoken.{Asked, is_followed}
 use Rattle.plan_ring.specs.Plan.{first_app}
 use Rattle.run_book.specs.declared.book.SlaveBook.{SlaveBook}
-use Rattle.run_lives.specs.Round.{all_seen}
+use Rattle.plan_ring.specs.Round.{all_seen}
 use Rattle.run_promises.specs.Slaves.{services_of}
 use Rattle.run_record.specs.Reports.{noted_in}
 use Rattle.script_answers.specs.Answers.{Noted, reply_by, outcome_reply}

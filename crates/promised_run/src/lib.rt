@@ -8,9 +8,9 @@ ghost use Rattle.scenario.specs.Told.{IsTold};
 ghost use Rattle.segment_plan.specs.Sound.{IsPlan};
 ghost use Rattle.promised_run.specs.Promised.{IsPromised};
 
-use life_epochs::epochs_law;
-use plan_promises::{read_promise_law, rest_promise_law};
+use life_runs::epochs_law;
 use run_book::{Book, Ending};
+use run_promises::{read_promise_law, rest_promise_law};
 use script_runs::script_run_law;
 use segment_plan::Scenario;
 use std::alloc::Global;

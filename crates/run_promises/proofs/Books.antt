@@ -31,8 +31,8 @@ use Rattle.segment_model.specs.Laws.{IsSettled}
 use Rattle.state_exchange.specs.Families.{InState}
 use Rattle.whole_lives.specs.Whole.{IsWhole, StandsAs}
 use Rattle.whole_ring.specs.Members.{MemberIs, AllLived}
-use Rattle.run_lives.specs.Lives.{IsShown, AllShown, AreLived}
-use Rattle.run_lives.specs.Round.{ring_of, ring_after, frame_seen, all_seen}
+use Rattle.plan_ring.specs.Lives.{IsShown, AllShown, AreLived}
+use Rattle.plan_ring.specs.Round.{ring_of, ring_after, frame_seen, all_seen}
 use Rattle.run_promises.specs.Books.{StaysUp, HasBook, AllHaveBooks}
 use Rattle.run_promises.specs.Slaves.{services_of}
 use Rattle.kept_lives.proofs.Settled.{settled_seen}

@@ -2,3 +2,8 @@ mod Served
 mod Ups
 mod Books
 mod Rests
+mod Known
+mod Rounds
+mod Gones
+mod Slaves
+mod Rest

@@ -32,8 +32,8 @@ use Rattle.slave_steps.specs.Node.{Node, is_settled}
 use Rattle.state_exchange.specs.Families.{InState}
 use Rattle.whole_lives.specs.Whole.{StandsAs, LivesOpen}
 use Rattle.whole_ring.specs.Members.{MemberIs, AllLived}
-use Rattle.run_lives.specs.Lives.{IsShown, AllShown, AreLived}
-use Rattle.run_lives.specs.Round.{ring_of, ring_after, all_seen}
+use Rattle.plan_ring.specs.Lives.{IsShown, AllShown, AreLived}
+use Rattle.plan_ring.specs.Round.{ring_of, ring_after, all_seen}
 use Rattle.script_runs.specs.Came.{AreThose, is_packet}
 use Rattle.kept_lives.specs.Epochs.{AreKept, NothingLeft, app_of}
 use Rattle.run_promises.specs.Rests.{IsIdle, IsDone, AllDoneIf}

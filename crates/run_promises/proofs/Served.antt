@@ -17,8 +17,8 @@ use Rattle.server_lives.specs.Real.{real_clearing}
 use Rattle.slave_server.specs.Serving.{Serving}
 use Rattle.slave_steps.specs.Node.{Node}
 use Rattle.whole_ring.specs.Members.{MemberIs, AllLived}
-use Rattle.run_lives.specs.Lives.{IsShown, AllShown, AreLived}
-use Rattle.run_lives.specs.Round.{ring_of, ring_after, all_seen}
+use Rattle.plan_ring.specs.Lives.{IsShown, AllShown, AreLived}
+use Rattle.plan_ring.specs.Round.{ring_of, ring_after, all_seen}
 use Rattle.script_runs.specs.Came.{Came, AreFirst}
 use Rattle.kept_lives.specs.Epochs.{IsKeptLife}
 use Rattle.run_promises.specs.Slaves.{services_of, IsServed, AllServed}

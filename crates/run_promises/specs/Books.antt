@@ -16,7 +16,7 @@ use Rattle.slave_lives.specs.Lived.{node_seen}
 use Rattle.slave_server.specs.Serving.{Serving, next_mail}
 use Rattle.slave_steps.specs.Node.{Node, is_settled}
 use Rattle.whole_lives.specs.Whole.{IsWhole}
-use Rattle.run_lives.specs.Round.{all_seen}
+use Rattle.plan_ring.specs.Round.{all_seen}
 use Rattle.run_promises.specs.Slaves.{services_of}
 
 -- a slave that was never given up or returned to Init, and none of whose services asks for that

@@ -1,3 +1,5 @@
 pub mod Slaves
 pub mod Books
 pub mod Rests
+pub mod Promise
+pub mod Rest

@@ -16,7 +16,7 @@ use Rattle.slave_parts.specs.Parts.{Core}
 use Rattle.slave_server.specs.Serving.{Serving, next_mail}
 use Rattle.slave_steps.specs.Node.{Node, is_settled}
 use Rattle.state_exchange.specs.Families.{InState}
-use Rattle.run_lives.specs.Round.{all_seen}
+use Rattle.plan_ring.specs.Round.{all_seen}
 use Rattle.script_runs.specs.Came.{AreThose, is_packet}
 use Rattle.kept_lives.specs.Epochs.{AreKept, NothingLeft, app_of}
 use Rattle.run_promises.specs.Slaves.{services_of}

@@ -18,7 +18,7 @@ use Rattle.slave_server.specs.Serving.{Serving}
 use Rattle.slave_server.specs.Spec.{profile_of}
 use Rattle.slave_steps.specs.Node.{Node}
 use Rattle.state_exchange.specs.Families.{InState}
-use Rattle.run_lives.specs.Round.{all_seen}
+use Rattle.plan_ring.specs.Round.{all_seen}
 use Rattle.script_runs.specs.Came.{Came, AreFirst}
 use Rattle.kept_lives.specs.Epochs.{IsKeptLife}
 

@@ -1,16 +1,20 @@
-//! What a run of a plan's ring promises of each slave. No running code: the function here does nothing, and its contract states a law.
+//! What a run of a plan's ring promises of each slave, and of each where the plan was read. No running code: each function here does nothing, and its
+//! contract states a law.
 #![tactic(auto)]
 
-ghost use Rattle.std.specs.Prelude.{ℕ, List};
+ghost use Rattle.std.specs.Prelude.{ℕ, List, ◌++◌};
 ghost use Rattle.life_runs.specs.First.{lens_of, first_leads};
 ghost use Rattle.life_runs.specs.Led.{Exchanged, Leads, IsLed};
 ghost use Rattle.segment_plan.specs.Sound.{IsPlan};
 ghost use Rattle.segment_plan.specs.declared.plan.Scenario.{Scenario};
-ghost use Rattle.run_lives.specs.Lives.{IsKnown};
-ghost use Rattle.run_lives.specs.Round.{ring_of, AllRound, ring_after};
+ghost use Rattle.plan_ring.specs.Lives.{IsKnown};
+ghost use Rattle.plan_ring.specs.Round.{ring_of, AllRound, ring_after};
 ghost use Rattle.run_promises.specs.Books.{AllHaveBooks};
 ghost use Rattle.run_promises.specs.Rests.{AllDoneIf};
 ghost use Rattle.run_promises.specs.Slaves.{AllServed};
+ghost use Rattle.scenario.specs.Told.{IsTold};
+ghost use Rattle.run_promises.specs.Promise.{Keeps};
+ghost use Rattle.run_promises.specs.Rest.{AllStayed, IsResting, NothingIsLeft, AllIsDone};
 
 /// THE PROMISE OF A RUN, whatever frames are lost: of each slave just the first services of its script came into hand, with the packets of its port
 /// among them, and its application, which is that of the ring's node behind the frames, has carried out in each epoch just the first of these, each
@@ -19,7 +23,7 @@ pub fn run_promise_law()
     ensures { (plan : Scenario) → IsPlan plan → IsKnown plan → (fs : List Exchanged) (missed : ℕ) (as' : List Leads) →
         IsLed (lens_of plan.slaves) plan.recover plan.retry (first_leads plan) fs missed as' → AllRound (ring_of plan) fs → AllServed plan fs 0 plan.slaves as' (ring_after (ring_of plan) fs).nodes }
 {
-    run_lives::run_lives_law();
+    plan_ring::run_lives_law();
     script_runs::script_run_law();
 }
 
@@ -29,7 +33,7 @@ pub fn run_book_law()
     ensures { (plan : Scenario) → IsPlan plan → IsKnown plan → (fs : List Exchanged) (missed : ℕ) (as' : List Leads) →
         IsLed (lens_of plan.slaves) plan.recover plan.retry (first_leads plan) fs missed as' → AllRound (ring_of plan) fs → AllHaveBooks plan fs 0 plan.slaves as' (ring_after (ring_of plan) fs).nodes }
 {
-    run_lives::run_lives_law();
+    plan_ring::run_lives_law();
 }
 
 /// WHERE NOTHING IS LEFT: of each slave that is settled and of which its master wants nothing, all services of the script came into hand, and those of
@@ -38,6 +42,26 @@ pub fn run_done_law()
     ensures { (plan : Scenario) → IsPlan plan → IsKnown plan → (fs : List Exchanged) (missed : ℕ) (as' : List Leads) →
         IsLed (lens_of plan.slaves) plan.recover plan.retry (first_leads plan) fs missed as' → AllRound (ring_of plan) fs → AllDoneIf plan fs 0 plan.slaves as' (ring_after (ring_of plan) fs).nodes }
 {
-    run_lives::run_lives_law();
+    plan_ring::run_lives_law();
     script_runs::script_run_law();
 }
+
+/// THE PROMISE FOR A PLAN THAT WAS READ, whatever frames are lost: behind frames that its master led, with or without others behind them, that went
+/// round the ring of its new slaves, each slave has begun just the first services of its script, each once and in order, with packets between them; in
+/// each epoch it has carried out just the first of these, and each reply is its application's; and where nothing is left of it, all is done.
+pub fn read_promise_law()
+    ensures { (plan : Scenario) → IsPlan plan → IsTold plan → (fs others : List Exchanged) (missed : ℕ) (as' : List Leads) →
+        IsLed (lens_of plan.slaves) plan.recover plan.retry (first_leads plan) fs missed as' → AllRound (ring_of plan) (fs ++ others) → Keeps plan fs as' }
+{
+    run_promise_law();
+    run_book_law();
+    run_done_law();
+}
+
+/// WHERE A RUN IS AT REST, each slave given up for good, or settled and nothing wanted of it by its master, nothing is left: of each slave that wasn't
+/// given up for good the whole script came into hand, and all of its newest epoch is carried out and answered. Where none was
+/// given up at all, so it is of each.
+pub fn rest_promise_law()
+    ensures rests { (plan : Scenario) (fs : List Exchanged) (as' : List Leads) → Keeps plan fs as' → IsResting plan fs as' → NothingIsLeft plan fs as' }
+    ensures done { (plan : Scenario) (fs : List Exchanged) (as' : List Leads) → Keeps plan fs as' → IsResting plan fs as' → AllStayed as' → AllIsDone plan fs as' }
+{}

@@ -20,7 +20,7 @@ use Rattle.master_node.specs.declared.told.Told.{Told}
 use Rattle.master_side.specs.Shown.{HasOver}
 use Rattle.run_record.specs.Notes.{began_script, answered, told_noted, changed_noted, change_noted, given_up, stood}
 use Rattle.run_record.specs.Session.{slave_row, slave_rows}
-use Rattle.life_epochs.specs.Spans.{is_leaving, is_open}
+use Rattle.life_runs.specs.Spans.{is_leaving, is_open}
 use Rattle.run_record.specs.Epochs.{HasEpochs}
 use Rattle.run_record.specs.Unsent.{IsSpent}
 use Rattle.script_answers.specs.Answers.{IsNoted, Waits, now_answer}

@@ -16,7 +16,7 @@ use Rattle.run_book.specs.declared.book.Reply.{Reply as Booked}
 use Rattle.run_record.specs.Notes.{answers_doubted, doubted, awaits_nothing, awaited_by, began, began_where, began_script, answered, answered_where, given_up, epochs_stood, stood, ended}
 use Rattle.run_record.specs.Reports.{reply_in, noted_of, noted_in, waits_of, unanswered, LastScript, IsReporting, Reports}
 use Rattle.run_record.specs.Session.{slave_row}
-use Rattle.life_epochs.specs.Spans.{is_leaving, is_open}
+use Rattle.life_runs.specs.Spans.{is_leaving, is_open}
 use Rattle.run_record.specs.Epochs.{IsMarked, HasEpochs}
 use Rattle.run_record.proofs.Epochs.{marked_turn, marked_back, marked_lost, marked_given}
 use Rattle.run_record.specs.Unsent.{first_numbers, IsNumbered, IsSpent}

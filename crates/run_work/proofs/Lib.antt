@@ -1,2 +1,5 @@
 mod Sums
 mod Together
+mod Shaped
+mod Opened
+mod Runs

@@ -11,7 +11,7 @@ use Rattle.life_runs.specs.Led.{Leads}
 use Rattle.master_hand.specs.Spoken.{Asked}
 use Rattle.master_hand.specs.Talk.{asked_of}
 use Rattle.plan_counts.specs.Asked.{asked_most}
-use Rattle.run_counts.specs.Gained.{AllGain}
+use Rattle.run_work.specs.Gained.{AllGain}
 use Rattle.script_runs.specs.Came.{handed_over, AreThose, is_packet}
 use Rattle.script_runs.specs.Slaves.{HasCome, AllCome}
 use Rattle.script_work.specs.Begun.{work_begun}

@@ -1,16 +1,42 @@
-//! What all lives of a run gain together is no more than what the plan counts for its services, and its packets. A law and its definitions, no running
-//! code: the function here does nothing, and its contract states the law.
+//! What the lives of a run gain is no more than what the services and packets count that came into hand of its slaves, and together no more than what the
+//! plan counts for its services, and its packets. Definitions and laws, no running code: each function here does nothing, and its contract states the law.
 #![tactic(auto)]
 
-ghost use Rattle.std.specs.Prelude.{◌≤◌, ◌+◌, ℕ, List, length};
+ghost use Rattle.std.specs.Prelude.{◌≡◌, ℕ, Bool, List, ◌≤◌, ◌+◌, length};
+ghost use Rattle.frame_view.specs.View.{Lens};
+ghost use Rattle.life_counts.specs.Begun.{KeepsShape};
 ghost use Rattle.life_runs.specs.First.{lens_of, first_leads};
 ghost use Rattle.life_runs.specs.Led.{Exchanged, Leads, IsLed};
-ghost use Rattle.run_lives.specs.Lives.{IsKnown};
-ghost use Rattle.run_lives.specs.Round.{ring_of, AllRound};
-ghost use Rattle.segment_plan.specs.Bound.{services_work};
+ghost use Rattle.plan_counts.specs.Asked.{asked_most};
+ghost use Rattle.plan_ring.specs.Asked.{asked};
+ghost use Rattle.plan_ring.specs.Lives.{IsKnown};
+ghost use Rattle.plan_ring.specs.Round.{ring_of, AllRound};
 ghost use Rattle.segment_plan.specs.Sound.{IsPlan};
 ghost use Rattle.segment_plan.specs.declared.plan.Scenario.{Scenario};
+ghost use Rattle.server_lives.specs.Real.{real_clearing};
+ghost use Rattle.slave_model.specs.Profile.{Profile, IsProfile};
+ghost use Rattle.run_work.specs.Gained.{app_shape, AllGain};
+ghost use Rattle.segment_plan.specs.Bound.{services_work};
 ghost use Rattle.run_work.specs.Together.{all_gains, packets_begun};
+
+/// THE SHAPE OF A PLAN'S SLAVE STAYS, whatever services it carries out, whatever its AL state and whenever it is returned to Init; and each service that
+/// its master asks for takes at most as many mails as its shape says.
+pub fn shape_law()
+    ensures { (p : Profile) → IsProfile p → (boot : Bool) (lens : ℕ → Lens) → KeepsShape (asked p boot lens) real_clearing app_shape (asked_most p) }
+{
+    slave_parts::parts_are_lawful();
+    service_counts::shape_counts();
+}
+
+/// THE GAINS OF A RUN: of each slave of a plan what its life has gained is no more than what the services and packets count that came into hand of it,
+/// in all its epochs, whatever frames are lost and whoever is given up.
+pub fn run_counts()
+    ensures { (plan : Scenario) → IsPlan plan → IsKnown plan → (fs : List Exchanged) (missed : ℕ) (leads : List Leads) →
+        IsLed (lens_of plan.slaves) plan.recover plan.retry (first_leads plan) fs missed leads → AllRound (ring_of plan) fs → AllGain plan.slaves leads }
+{
+    plan_ring::run_lives_law();
+    shape_law();
+}
 
 /// THE LIVES OF A RUN TOGETHER have gained no more than all services of the plan count, what the packets take that came into hand, and one for each slave:
 /// whatever frames are lost and whoever is given up.
@@ -19,7 +45,7 @@ pub fn run_work()
         IsLed (lens_of plan.slaves) plan.recover plan.retry (first_leads plan) fs missed leads → AllRound (ring_of plan) fs →
         all_gains leads ≤ length plan.slaves + services_work plan.slaves plan.services + packets_begun plan.slaves leads }
 {
-    run_counts::run_counts();
+    run_counts();
     plan_counts::plan_counts();
     script_runs::script_run_law();
     script_work::script_law();

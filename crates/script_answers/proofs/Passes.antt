@@ -5,8 +5,8 @@ use Rattle.exchange_model.specs.Areas.{Areas}
 use Rattle.exchange_model.specs.Exchange.{Speech}
 use Rattle.frame_view.specs.View.{Lens}
 use Rattle.frame_view.specs.Seen.{seen}
-use Rattle.life_epochs.proofs.Spans as Spans
-use Rattle.life_epochs.specs.Spans.{is_open}
+use Rattle.life_runs.proofs.Spans as Spans
+use Rattle.life_runs.specs.Spans.{is_open}
 use Rattle.life_frames.specs.Shares.{Lived, came_at, given_where}
 use Rattle.life_model.specs.Lives.{Spot, Era, Life, Stand, Opening, life_back, life_lost, era_back, opening_back, shows_clear, is_shown, last_step, clears, opens, steps_on, reopens, reopens_at, reopening, opens_state, returns_to_init, gives_up}
 use Rattle.life_runs.specs.Led.{Exchanged, Leads, Turn, is_passed, speech_at, life_behind}

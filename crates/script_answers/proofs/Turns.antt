@@ -9,8 +9,8 @@ use Rattle.exchange_model.specs.Areas.{Areas}
 use Rattle.exchange_model.specs.Exchange.{Speech}
 use Rattle.exchange_model.specs.Rows.{Row}
 use Rattle.frame_view.specs.View.{Lens}
-use Rattle.life_epochs.proofs.Spans as Spans
-use Rattle.life_epochs.specs.Spans.{is_open}
+use Rattle.life_runs.proofs.Spans as Spans
+use Rattle.life_runs.specs.Spans.{is_open}
 use Rattle.life_model.specs.Lives.{Era, Life, Stand, Opening, granted, life_next, returns_to_init}
 use Rattle.life_runs.specs.Led.{Leads, Turn, Comes, Took, IsTurn, is_passed, speech_at}
 use Rattle.link_mails.specs.Body.{Body}

@@ -2,7 +2,7 @@
 use Rattle.std.specs.Prelude.{◌≡◌, ◌⊎◌, ℕ, suc, Bool, true, false, is_some, Option, Some, None, List, [], ◌∷◌, ◌++◌, map, length, ⊤}
 use Rattle.exchange_model.specs.Areas.{Areas}
 use Rattle.exchange_model.specs.Rows.{Row}
-use Rattle.life_epochs.specs.Spans.{is_leaving, is_open}
+use Rattle.life_runs.specs.Spans.{is_leaving, is_open}
 use Rattle.life_model.specs.Lives.{Era, Life, Stand, returns_to_init, new_side}
 use Rattle.life_runs.specs.Led.{Leads, Turn}
 use Rattle.link_mails.specs.Body.{Body}

@@ -1,6 +1,6 @@
 -- WHAT A FRAME LEAVES OF WHAT IS NOTED OF A SLAVE: before it, behind its return, and behind its loss.
 use Rattle.std.specs.Prelude.{◌≡◌, ◌⊎◌, ◌≤◌, ℕ, suc, not, Bool, true, false, nat_lt, is_some, if◌then◌else◌, Option, Some, None, List, [], ◌∷◌, ◌++◌, length}
-use Rattle.life_epochs.specs.Spans.{is_open, SameEpochs, EpochsBack, EpochsLost}
+use Rattle.life_runs.specs.Spans.{is_open, SameEpochs, EpochsBack, EpochsLost}
 use Rattle.life_model.specs.Lives.{Stand}
 use Rattle.life_runs.specs.Led.{Leads}
 use Rattle.master_duty.specs.Reply.{Reply}

@@ -1,5 +1,5 @@
 use Rattle.std.proofs.Common.{◌≡◌, ◌<◌, ◌∙◌, length, arith}
-use Rattle.life_epochs.specs.Spans.{is_leaving}
+use Rattle.life_runs.specs.Spans.{is_leaving}
 use Rattle.master_node.specs.Shows.{IsLead}
 use Rattle.master_node.proofs.Says.{both_here}
 use Rattle.master_node.proofs.Stoods.{lead_leaves}

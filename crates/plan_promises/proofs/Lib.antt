@@ -1,5 +1,0 @@
-mod Known
-mod Rounds
-mod Gones
-mod Slaves
-mod Rest

@@ -1,3 +1,0 @@
-mod Shaped
-mod Opened
-mod Runs

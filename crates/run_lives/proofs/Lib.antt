@@ -1,3 +1,0 @@
-mod Known
-mod Turns
-mod Lives

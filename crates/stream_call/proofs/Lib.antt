@@ -1,2 +1,0 @@
-mod Retold
-mod Calls
