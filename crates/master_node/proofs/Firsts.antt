@@ -51,26 +51,29 @@ module _ {G : Ghosts InHand} (plan : Scenario) (place : ℕ) (spec : SlaveSpec) 
     }
 
   pub first_shown : s.place ≡ place → s.start ≡ spec.start → s.spare ≡ plan.recover → length (script_for place plan.services) ≤ 4096 → IsFirst plan place spec s
-  first_shown p t sp few = (λ lens o b. record {
-    lives = record {
-      planned = record {
-        stands = record { station_is = n.station; place_is = p; start_is = t; small = subst (λ z. nat_lt z 16 ≡ true) (sym t) small };
-        out_is = ap (λ z. (lens z).out) n.station ∙ o ∙ sym n.out;
-        back_is = ap (λ z. (lens z).back) n.station ∙ b ∙ sym n.back;
-        sized = subst (λ z. IsSized z s.side.out.len (in_area_len s.side.inn)) (sym st) (ap (λ z. z.out_len) u ∙ sym n.out, ap (λ z. z.in_len) u ∙ sym n.back);
+  first_shown p t sp few = (
+    λ lens o b. record {
+      lives = record {
+        planned = record {
+          stands = record { station_is = n.station; place_is = p; start_is = t; small = subst (λ z. nat_lt z 16 ≡ true) (sym t) small };
+          out_is = ap (λ z. (lens z).out) n.station ∙ o ∙ sym n.out;
+          back_is = ap (λ z. (lens z).back) n.station ∙ b ∙ sym n.back;
+          sized = subst (λ z. IsSized z s.side.out.len (in_area_len s.side.inn)) (sym st) (ap (λ z. z.out_len) u ∙ sym n.out, ap (λ z. z.in_len) u ∙ sym n.back);
+        };
+        shown = record {
+          stood = subst (λ z. StandShows (side_shows lens plan.recover s (spot_of place spec)) (spot_of place spec) z (new_life spec.start)) (sym st) (opening lens o b);
+          spared = sp ∙ (let e : plan.recover ≡ plan.recover - 0 = omega arith in e);
+          over = λ e. absurd (let v = sym st ∙ e in cc);
+        };
       };
-      shown = record {
-        stood = subst (λ z. StandShows (side_shows lens plan.recover s (spot_of place spec)) (spot_of place spec) z (new_life spec.start)) (sym st) (opening lens o b);
-        spared = sp ∙ (let e : plan.recover ≡ plan.recover - 0 = omega arith in e);
-        over = λ e. absurd (let v = sym st ∙ e in cc);
-      };
-    };
-    script = n.script;
-    number = n.number;
-    short = few;
-    unpassed = n.unpassed;
-    own = refl;
-  }, n.unfinished)
+      script = n.script;
+      number = n.number;
+      short = few;
+      unpassed = n.unpassed;
+      own = refl;
+    },
+    n.unfinished,
+  )
 
 -- one slave more
 pub from_more : {A S : Type 0} (P : ℕ → A → S → Type 0) (i n : ℕ) (xs : List A) (ss : List S) (x : A) (s : S) → AllFrom P i xs ss → n ≡ i + length xs → P n x s → AllFrom P i (xs ++ x ∷ []) (ss ++ s ∷ [])

@@ -65,8 +65,7 @@ returns-clause-joined c = λ lens recover retry missed number octets us befores 
           (back_unfinished (speech_at lens spot) acknowledged is_followed is_passed number spot [] back (came_at s.under s.at back) l l.stand t.news t.side.hand.found.join s.side.hand.found.join j ms refl refl w joins.join follows.told),
     ))
     us befores ss ts u.each (three_of stand_under (λ z j s. IsUnfinished z s.side.hand.found.join j) us befores ss h) (pair_both _ _ ss ts (e.lives lens (seen lens octets) r u.sent) (e.joined lens (seen lens octets) r u.sent)) in
-    let kept = three_kept _ _ (λ v j s t x k. completed_kept back v j s t (join_at None unfinished_behind (stand_under v) j (mails_back back v)) (stand_before (led_behind lens recover retry gives number f v)) x k) us befores ts zs there c.all_back.ensures.kept.each in
-    (
+    let kept = three_kept _ _ (λ v j s t x k. completed_kept back v j s t (join_at None unfinished_behind (stand_under v) j (mails_back back v)) (stand_before (led_behind lens recover retry gives number f v)) x k) us befores ts zs there c.all_back.ensures.kept.each in (
       three_map _ _ (λ v j s x. x.0) us befores zs kept,
       three_after stand_before (led_behind lens recover retry gives number f) (mails_back back) (λ z j s. IsUnfinished z s.side.hand.found.join j) us befores zs (three_map _ _ (λ v j s x. x.1) us befores zs kept),
     )
