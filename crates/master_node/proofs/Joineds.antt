@@ -21,7 +21,7 @@ use Rattle.master_tour.specs.Joins.{join_behind, join_at}
 use Rattle.master_tour.specs.Stands.{turned, is_opening, is_open}
 use Rattle.master_tour.specs.Walks.{EachPair}
 use Rattle.master_tour.specs.declared.stop.Turned.{Turned}
-use Rattle.master_tour.proofs.Backs.{turned_same, not_both}
+use Rattle.master_tour.proofs.Backs.{turned_same}
 use Rattle.master_tour.proofs.Openings.{turned_is, lt_self, lt_more}
 use Rattle.segment_model.specs.Record.{News}
 use Rattle.segment_model.specs.Slaves as Slaves

@@ -9,8 +9,7 @@ use Rattle.master_node.specs.Shows.{IsUnder, turned_of}
 use Rattle.master_node.proofs.Broughts.{brought_kept}
 use Rattle.master_node.proofs.Lists.{both_each, both_map}
 use Rattle.master_node.proofs.Behinds.{life_back_is, lead_behind, all_led, goes_behind, behind_shows}
-use Rattle.std.proofs.Common.{ap, sym, subst, Option, None}
-use Rattle.eoe.specs.declared.joining.Unfinished.{Unfinished}
+use Rattle.std.proofs.Common.{subst, None}
 use Rattle.life_frames.specs.Shares.{Lived}
 use Rattle.master_duty.specs.Reply.{Reply}
 use Rattle.master_hand.specs.Joins.{unfinished_behind}
