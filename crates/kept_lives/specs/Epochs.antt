@@ -48,7 +48,7 @@ module _ {S V A Q R : Type 0} (w : Behind S V A Q R) (more : Body → Bool) (spo
     pub emissions : IsPrefixOf (emitted w.exchange.speech.emission (heard spot.station gs)) (emitted_by from (take count (services_in started)))
 
   -- NO MAIL IS FOREIGN: by these frames all that was heard is what the slave sends of itself, or the next of what a server with this application replies
-  -- to the services that came into hand; so none is foreign, dropped or ill-formed
+  -- to the services that came into hand
   pub record IsOwn (gs : List (Frame Body)) (from : A) (started : List (Started Q)) : Type 0 where
     pub server : V
     pub app : w.exchange.app server ≡ from
