@@ -1,5 +1,5 @@
 -- EACH EPOCH of a life that is lived keeps what the model's law of an epoch promises.
-use Rattle.std.proofs.Common.{◌≡◌, ◌⊎◌, ℕ, ◌<◌, ◌≤◌, Bool, false, None, List, [], ◌∷◌, ◌++◌, length, refl, ap, sym, ◌∙◌, subst, arith}
+use Rattle.std.proofs.Common.{◌≡◌, ℕ, ◌<◌, ◌≤◌, Bool, false, None, List, length, refl, ap, sym, ◌∙◌, subst, arith}
 use Rattle.link_mails.specs.Body.{Body}
 use Rattle.life_model.specs.Eras.{Clearing, EraIs, OpenEra, era_frames}
 use Rattle.life_model.specs.Lives.{Spot, Era, Life, Opening, Stand}
@@ -20,7 +20,7 @@ use Rattle.task_model.proofs.Sessions.{of_slaves, tasks_promised, tasks_rest, ta
 use Rattle.whole_lives.specs.Whole.{IsWhole, OpensAs, StandsAs, IsLived}
 use Rattle.kept_lives.proofs.Owns.{owned}
 use Rattle.kept_lives.proofs.Settled.{settled_seen}
-use Rattle.kept_lives.specs.Epochs.{IsCarriedOut, IsAnswered, IsTold, IsOwn, replies_all, IsKept, AreKept, NothingLeft, RestsIf, IsNewest, IsKeptLife, app_of, app_behind, emitted_by}
+use Rattle.kept_lives.specs.Epochs.{IsCarriedOut, IsAnswered, replies_all, IsKept, AreKept, RestsIf, IsNewest, IsKeptLife, app_of, app_behind, emitted_by}
 
 module _ {S V A Q R : Type 0} (w : Behind S V A Q R) (c : Clearing V A) (p : Plan) (spot : Spot) (whole : IsWhole w c p spot) (more : Body → Bool) (fs : List (Frame Body)) where
   -- an epoch as the model has it

@@ -1,5 +1,5 @@
 -- WHAT A SLAVE DID, epoch by epoch, of the services that came into hand of it.
-use Rattle.std.specs.Prelude.{◌≡◌, ℕ, ◌+◌, ◌<◌, ◌≤◌, Bool, true, Option, Some, None, List, [], ◌∷◌, ◌++◌, map, take, length}
+use Rattle.std.specs.Prelude.{◌≡◌, ℕ, ◌+◌, ◌<◌, ◌≤◌, Bool, true, Some, None, List, [], ◌∷◌, ◌++◌, take, length}
 use Rattle.exchange_model.specs.Exchange.{Exchange, after, given, plain, emitted}
 use Rattle.exchange_model.specs.Prefix.{IsPrefixOf}
 use Rattle.exchange_model.specs.Rows.{exec_all, emits_all}
