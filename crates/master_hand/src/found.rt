@@ -1,11 +1,14 @@
-ghost use Rattle.std.specs.Prelude.{◌≡◌, ◌≤◌, length, None};
+ghost use Rattle.std.specs.Prelude.{◌≡◌, ◌≤◌, false, length, None};
 ghost use Rattle.mailbox_mail.specs.View.{mail_seen};
 ghost use Rattle.coe_codec.specs.View.{coe_seen, IsCapped};
 ghost use Rattle.coe_model.specs.Mails.{is_emission, mail as sdo_mail};
 ghost use Rattle.coe_model.specs.Octets.{body_heard, is_fragment};
 ghost use Rattle.master_hand.specs.Spoken.{emission};
 ghost use Rattle.master_hand.specs.Passed.{body_of};
+ghost use Rattle.eoe.specs.Message.{eoe_read};
+ghost use Rattle.eoe_model.specs.Octets.{heard};
 ghost use Rattle.master_hand.specs.Brings.{emergency_of, emergency_kept, Brings};
+ghost use Rattle.master_hand.specs.Joins.{fragment_of, unfinished_by, completed_by, unfinished_behind, packet_kept, Completes};
 
 use crate::clients::Which;
 use arrayvec::ArrayVec;
@@ -54,7 +57,9 @@ fn empty_mail() -> Mail {
 
 impl Found {
     /// No mail was heard yet.
-    pub fn new() -> Found {
+    pub fn new() -> Found
+        ensures { result.join ≡ None }
+    {
         Found {
             brought: Brought::Nothing,
             emergency: ArrayVec::new(),
@@ -65,7 +70,9 @@ impl Found {
     }
 
     /// A slave is opened anew: its unfinished packet is forgotten.
-    pub fn renew(&mut self) {
+    pub fn renew(&mut self)
+        ensures { self.new.join ≡ None }
+    {
         self.brought = Brought::Nothing;
         self.join = Reassembler::new();
     }
@@ -75,6 +82,8 @@ impl Found {
         requires { IsCapped message }
         ensures emits { result ≡ is_emission (sdo_mail (coe_seen message.entry)) }
         ensures brings { emergency_kept self.old ≡ None → emergency_kept self.new ≡ emergency_of (sdo_mail (coe_seen message.entry)) }
+        ensures join { self.new.join ≡ self.old.join }
+        ensures packet { packet_kept self.old ≡ None → packet_kept self.new ≡ None }
     {
         match message {
             CoeView::Emergency { octets } => {
@@ -91,6 +100,8 @@ impl Found {
         requires { length body.now ≤ 1480 }
         ensures emits { result ≡ is_emission (body_heard body.now) }
         ensures brings { emergency_kept self.old ≡ None → emergency_kept self.new ≡ emergency_of (body_heard body.now) }
+        ensures join { self.new.join ≡ self.old.join }
+        ensures packet { packet_kept self.old ≡ None → packet_kept self.new ≡ None }
     {
         match coe_codec::view(body) {
             Ok(message) => self.hear_message(message),
@@ -101,7 +112,9 @@ impl Found {
     // A fragment is joined to those that came before it; one that doesn't read is none of a packet.
     fn join(&mut self, body: &[u8])
         requires { length body.now ≤ 1480 }
-        ensures { emergency_kept self.old ≡ None → emergency_kept self.new ≡ None }
+        ensures brings { emergency_kept self.old ≡ None → emergency_kept self.new ≡ None }
+        ensures joins { self.new.join ≡ unfinished_by self.old.join (fragment_of (heard body.now (eoe_read body.now))) }
+        ensures completes { packet_kept self.old ≡ None → packet_kept self.new ≡ completed_by self.old.join (fragment_of (heard body.now (eoe_read body.now))) }
     {
         if let Ok(EoeView::Fragment(fragment)) = eoe::view(body) {
             if self.join.take_into(fragment, &mut self.packet) == Came::Whole {
@@ -115,6 +128,9 @@ impl Found {
         requires { length body.now ≤ 1480 }
         ensures emits { result ≡ is_fragment body.now }
         ensures brings { emergency_kept self.old ≡ None → emergency_kept self.new ≡ None }
+        ensures joins { self.new.join ≡ unfinished_by self.old.join (fragment_of (heard body.now (eoe_read body.now))) }
+        ensures completes { packet_kept self.old ≡ None → packet_kept self.new ≡ completed_by self.old.join (fragment_of (heard body.now (eoe_read body.now))) }
+        ensures none { result ≡ false → packet_kept self.old ≡ None → packet_kept self.new ≡ None }
     {
         if !is_fragment(body) {
             return false;
@@ -128,6 +144,9 @@ impl Found {
         requires { length mail.now.body.now ≤ 1480 }
         ensures emits { result ≡ emission (body_of (mail_seen mail.now)) }
         ensures brings { Brings self.new (body_of (mail_seen mail.now)) }
+        ensures joins { self.new.join ≡ unfinished_behind self.old.join (body_of (mail_seen mail.now)) }
+        ensures completes { Completes self.new self.old.join (body_of (mail_seen mail.now)) }
+        ensures none { result ≡ false → packet_kept self.new ≡ None }
     {
         self.brought = Brought::Nothing;
         match mail.kind {
@@ -141,6 +160,8 @@ impl Found {
     pub fn reply(&mut self, which: Which, took: Took)
         ensures mail { self.new.mail ≡ self.old.mail }
         ensures brings { emergency_kept self.old ≡ None → emergency_kept self.new ≡ None }
+        ensures join { self.new.join ≡ self.old.join }
+        ensures packet { packet_kept self.old ≡ None → packet_kept self.new ≡ None }
     {
         if which == Which::Passed && took != Took::Foreign {
             self.brought = Brought::Reply;
@@ -152,6 +173,8 @@ impl Found {
         requires { length mail.now.body.now ≤ 1480 }
         ensures mail { self.new.mail ≡ mail_seen mail.now }
         ensures brings { emergency_kept self.new ≡ emergency_kept self.old }
+        ensures join { self.new.join ≡ self.old.join }
+        ensures packet { packet_kept self.new ≡ packet_kept self.old }
     {
         self.mail.address = mail.address;
         self.mail.kind = mail.kind;

@@ -41,6 +41,7 @@ impl InHand {
     ghost use Rattle.master_hand.specs.Passed.{body_of};
     ghost use Rattle.master_hand.specs.Talk.{client_later, is_handed};
     ghost use Rattle.master_hand.specs.Brings.{emergency_kept};
+    ghost use Rattle.master_hand.specs.Joins.{packet_kept};
     ghost use Rattle.master_hand.specs.Shown.{Shows, HandShows, is_awaiting};
     ghost use Rattle.master_hand.specs.declared.course.Course.{Course};
     ghost use Rattle.master_hand.specs.declared.laying.Laid.{Laid};
@@ -62,6 +63,7 @@ impl InHand {
         ensures shown { IfOk result (λ h. Shows h.course h.which h.clients (hand_speech (record { out = out_len; back = in_len })) None) }
         ensures script { IfOk result (λ h. (h.laying.script ≡ script) × (h.laying.number ≡ 0)) }
         ensures laid { IfOk result (λ h. h.laying.laid ≡ Laid.Nothing) }
+        ensures join { IfOk result (λ h. h.found.join ≡ None) }
     {
         Ok(InHand {
             clients: Clients::new(alloc, out_len, in_len)?,
@@ -93,6 +95,8 @@ impl InHand {
         ensures areas { self.new.clients.areas ≡ self.old.clients.areas }
         ensures laying { self.new.laying ≡ self.old.laying }
         ensures found { emergency_kept self.old.found ≡ None → emergency_kept self.new.found ≡ None }
+        ensures join { self.new.found.join ≡ self.old.found.join }
+        ensures packet { packet_kept self.old.found ≡ None → packet_kept self.new.found ≡ None }
     {
         let left = self.is_left();
         self.found.keep(mail);
@@ -145,7 +149,10 @@ impl Hand for InHand {
     ghost use Rattle.master_hand.specs.Spoken.{Asked, acknowledged, is_passed};
     ghost use Rattle.master_hand.specs.Passed.{mail_of};
     ghost use Rattle.master_hand.specs.Laying.{ready_of, Scripted, scripted, scripted_behind};
+    ghost use Rattle.std.specs.Prelude.{Option, None};
+    ghost use Rattle.eoe.specs.declared.joining.Unfinished.{Unfinished};
     ghost use Rattle.master_hand.specs.Brings.{Brings};
+    ghost use Rattle.master_hand.specs.Joins.{unfinished_behind, Completes};
     ghost use Rattle.master_hand.specs.Shown.{Shows, is_passing};
     ghost use Rattle.master_hand.specs.Quiet.{quiet_shown};
 
@@ -172,6 +179,16 @@ impl Hand for InHand {
     ghost passes = { λ h. is_passing h.course h.which };
 
     ghost brings = { λ h b. Brings h.found b };
+
+    ghost Join = { Option Unfinished };
+
+    ghost join = { λ h. h.found.join };
+
+    ghost unjoined = { None };
+
+    ghost joined = { unfinished_behind };
+
+    ghost completed = { λ h before b. Completes h.found before b };
 
     ghost quiet = { λ h x frame now s. quiet_shown h.course h.which h.clients x frame now s };
 

@@ -7,6 +7,7 @@ ghost use Rattle.link_mails.specs.Body.{Body};
 ghost use Rattle.master_duty.specs.Reply.{Reply};
 ghost use Rattle.master_hand.specs.Spoken.{Asked};
 ghost use Rattle.master_hand.specs.Brings.{emergency_kept};
+ghost use Rattle.master_hand.specs.Joins.{packet_kept};
 ghost use Rattle.master_hand.specs.Shown.{Shows, SameHand, has_reply};
 ghost use Rattle.master_hand.specs.declared.laying.Laid.{Laid};
 
@@ -120,7 +121,9 @@ impl InHand {
     }
 
     /// The packet that the fragment heard last has completed.
-    pub fn packet(&self) -> Option<&Packet> {
+    pub fn packet(&self) -> Option<&Packet>
+        ensures { option_map (λ packet. packet.now.items) result ≡ packet_kept self.now.found }
+    {
         match self.found.brought {
             Brought::Packet => Some(&self.found.packet),
             Brought::Nothing | Brought::Emergency | Brought::Reply => None,

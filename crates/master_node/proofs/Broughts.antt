@@ -2,7 +2,9 @@
 use Rattle.std.proofs.Common.{◌≡◌, ℕ, Option, Some, None, List, [], ap, sym, ◌∙◌, subst, append-nil}
 use Rattle.link_mails.specs.Body.{Body}
 use Rattle.life_runs.specs.Led.{Turn}
+use Rattle.eoe.specs.declared.joining.Unfinished.{Unfinished}
 use Rattle.master_hand.specs.Brings.{Brings, as_list, emergency_in, emergencies_in, emergency_kept}
+use Rattle.master_hand.specs.Joins.{Completes, packet_in, packet_kept, packets_in}
 use Rattle.master_hand.specs.declared.found.Found.{Found}
 use Rattle.master_hand.specs.declared.hand.InHand.{InHand}
 use Rattle.master_side.specs.Heard.{Brought}
@@ -34,3 +36,13 @@ pub brought_kept : {G : Ghosts InHand} (back : List (Datagram Body)) (u : Turn) 
 brought_kept back u s t b k =
     subst (λ (h : Option Heard). Brought (Brings t.side.hand.found) h (accepted_in u.lived.spot u.lived.life back)) (sym k.side.heard)
     (subst (λ (f : Found). Brought (Brings f) s.side.heard (accepted_in u.lived.spot u.lived.life back)) (sym k.side.found) b)
+
+-- THE PACKET that it completed
+pub completed_by : (f : Found) (o : Option (List ℕ)) (heard : Option Heard) (what : Heard) (before : Option Unfinished) (ms : List Body) → heard ≡ Some what → o ≡ packet_kept f → Brought (Completes f before) heard ms → as_list o ≡ packets_in before ms
+completed_by f o heard what before ms is e b = one (subst (λ (h : Option Heard). Brought (Completes f before) h ms) is b)
+  where
+    one : Brought (Completes f before) (Some what) ms → as_list o ≡ packets_in before ms
+    one (body, it, k) = ap as_list (e ∙ k) ∙ sym (append-nil (as_list (packet_in before body))) ∙ sym (ap (packets_in before) it)
+
+pub completed_not : (f : Found) (heard : Option Heard) (before : Option Unfinished) (ms : List Body) → heard ≡ None → Brought (Completes f before) heard ms → as_list {T = List ℕ} None ≡ packets_in before ms
+completed_not f heard before ms is b = sym (ap (packets_in before) (subst (λ (h : Option Heard). Brought (Completes f before) h ms) is b))

@@ -1,13 +1,13 @@
 -- A slave before its bring-up.
 use Rattle.std.proofs.Common.{◌≡◌, ◌≤◌, ℕ, zero, suc, ◌+◌, ◌<◌, ◌-◌, ◌%◌, Bool, true, false, List, [], ◌∷◌, ◌++◌, refl, sym, ap, ◌∙◌, subst, arith, length}
-use Rattle.std.specs.Prelude.{nat_lt, ◌==◌, ◌||◌, ◌&&◌}
+use Rattle.std.specs.Prelude.{map, None, nat_lt, ◌==◌, ◌||◌, ◌&&◌}
 use Rattle.std.proofs.lemmas.Bool.{eqb-true}
 use Rattle.segment_plan.specs.Sound.{is_start}
 use Rattle.al_state.specs.declared.bringing.BringStep.{BringStep}
 use Rattle.al_state.specs.declared.bringing.BringUp.{BringUp}
 use Rattle.frame_view.specs.View.{Lens}
 use Rattle.life_frames.specs.Openings.{has_step, opening_of}
-use Rattle.life_frames.specs.Shares.{AllFrom, AllBoth}
+use Rattle.life_frames.specs.Shares.{AllFrom, AllBoth, AllThree}
 use Rattle.life_model.specs.Lives
 use Rattle.life_model.specs.Lives.{new_life}
 use Rattle.life_runs.specs.First.{spot_of, script_for, leads_from, HaveLens}
@@ -26,6 +26,7 @@ use Rattle.segment_plan.specs.declared.slave.SlaveSpec.{SlaveSpec}
 use Rattle.task_model.specs.Accounts.{new_account}
 use Rattle.master_node.specs.Shows.{side_shows, IsLead, is_opening_lead}
 use Rattle.master_node.specs.First.{IsNewSide, IsFirst}
+use Rattle.master_node.specs.Joined.{IsUnfinished, stand_before}
 use Rattle.master_tour.specs.Goes.{holds_at}
 
 module _ {G : Ghosts InHand} (plan : Scenario) (place : ℕ) (spec : SlaveSpec) (s : Stop InHand G) (up : BringUp) (n : IsNewSide plan.services place spec s.side) (st : s.stand ≡ Stand.Opening up)
@@ -50,26 +51,29 @@ module _ {G : Ghosts InHand} (plan : Scenario) (place : ℕ) (spec : SlaveSpec) 
     }
 
   pub first_shown : s.place ≡ place → s.start ≡ spec.start → s.spare ≡ plan.recover → length (script_for place plan.services) ≤ 4096 → IsFirst plan place spec s
-  first_shown p t sp few = λ lens o b. record {
-    lives = record {
-      planned = record {
-        stands = record { station_is = n.station; place_is = p; start_is = t; small = subst (λ z. nat_lt z 16 ≡ true) (sym t) small };
-        out_is = ap (λ z. (lens z).out) n.station ∙ o ∙ sym n.out;
-        back_is = ap (λ z. (lens z).back) n.station ∙ b ∙ sym n.back;
-        sized = subst (λ z. IsSized z s.side.out.len (in_area_len s.side.inn)) (sym st) (ap (λ z. z.out_len) u ∙ sym n.out, ap (λ z. z.in_len) u ∙ sym n.back);
+  first_shown p t sp few = (
+    λ lens o b. record {
+      lives = record {
+        planned = record {
+          stands = record { station_is = n.station; place_is = p; start_is = t; small = subst (λ z. nat_lt z 16 ≡ true) (sym t) small };
+          out_is = ap (λ z. (lens z).out) n.station ∙ o ∙ sym n.out;
+          back_is = ap (λ z. (lens z).back) n.station ∙ b ∙ sym n.back;
+          sized = subst (λ z. IsSized z s.side.out.len (in_area_len s.side.inn)) (sym st) (ap (λ z. z.out_len) u ∙ sym n.out, ap (λ z. z.in_len) u ∙ sym n.back);
+        };
+        shown = record {
+          stood = subst (λ z. StandShows (side_shows lens plan.recover s (spot_of place spec)) (spot_of place spec) z (new_life spec.start)) (sym st) (opening lens o b);
+          spared = sp ∙ (let e : plan.recover ≡ plan.recover - 0 = omega arith in e);
+          over = λ e. absurd (let v = sym st ∙ e in cc);
+        };
       };
-      shown = record {
-        stood = subst (λ z. StandShows (side_shows lens plan.recover s (spot_of place spec)) (spot_of place spec) z (new_life spec.start)) (sym st) (opening lens o b);
-        spared = sp ∙ (let e : plan.recover ≡ plan.recover - 0 = omega arith in e);
-        over = λ e. absurd (let v = sym st ∙ e in cc);
-      };
-    };
-    script = n.script;
-    number = n.number;
-    short = few;
-    unpassed = n.unpassed;
-    own = refl;
-  }
+      script = n.script;
+      number = n.number;
+      short = few;
+      unpassed = n.unpassed;
+      own = refl;
+    },
+    n.unfinished,
+  )
 
 -- one slave more
 pub from_more : {A S : Type 0} (P : ℕ → A → S → Type 0) (i n : ℕ) (xs : List A) (ss : List S) (x : A) (s : S) → AllFrom P i xs ss → n ≡ i + length xs → P n x s → AllFrom P i (xs ++ x ∷ []) (ss ++ s ∷ [])
@@ -84,7 +88,15 @@ pub all_leads : {G : Ghosts InHand} (plan : Scenario) (lens : ℕ → Lens) (pla
 all_leads plan lens place [] [] h a = tt
 all_leads plan lens place [] (s ∷ ss) h a = absurd a
 all_leads plan lens place (spec ∷ specs) [] h a = absurd a
-all_leads plan lens place (spec ∷ specs) (s ∷ ss) h a = (a.0 lens h.0.0 h.0.1, all_leads plan lens (suc place) specs ss h.1 a.1)
+all_leads plan lens place (spec ∷ specs) (s ∷ ss) h a = (a.0.0 lens h.0.0 h.0.1, all_leads plan lens (suc place) specs ss h.1 a.1)
+
+-- and nothing is unfinished of any
+pub all_unfinished : {G : Ghosts InHand} (plan : Scenario) (place : ℕ) (specs : List SlaveSpec) (ss : List (Stop InHand G)) → AllFrom (λ i spec s. IsFirst plan i spec s) place specs ss →
+    AllThree (λ l j s. IsUnfinished l s.side.hand.found.join j) (map stand_before (leads_from plan.services place specs)) (map (λ spec. None) specs) ss
+all_unfinished plan place [] [] a = tt
+all_unfinished plan place [] (s ∷ ss) a = absurd a
+all_unfinished plan place (spec ∷ specs) [] a = absurd a
+all_unfinished plan place (spec ∷ specs) (s ∷ ss) a = (λ v. a.0.1, all_unfinished plan (suc place) specs ss a.1)
 
 pub all_open : (plan : Scenario) (place : ℕ) (specs : List SlaveSpec) (k : ℕ) → k < length (leads_from plan.services place specs) → holds_at is_opening_lead (leads_from plan.services place specs) k ≡ true
 all_open plan place [] k l = absurd (omega (arith, l))

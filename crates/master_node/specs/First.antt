@@ -26,7 +26,9 @@ pub record IsNewSide {G : Ghosts InHand} (rows : List (ℕ × Service)) (place :
   pub script : s.hand.laying.script ≡ script_for place rows
   pub number : s.hand.laying.number ≡ 0
   pub unpassed : s.passing ≡ None
+  pub unfinished : s.hand.found.join ≡ None
 
--- A SLAVE at this place before its bring-up: where these are the lengths of its mailboxes its master leads it from the start of its life
+-- A SLAVE at this place before its bring-up: where these are the lengths of its mailboxes its master leads it from the start of its life, and no
+-- packet of it is unfinished
 abbrev pub IsFirst : {G : Ghosts InHand} → Scenario → ℕ → SlaveSpec → Stop InHand G → Type 0
-IsFirst plan place spec s = (lens : ℕ → Lens) → (lens spec.station).out ≡ spec.out_len → (lens spec.station).back ≡ spec.in_len → IsLead lens plan.recover (new_leads (script_for place plan.services) (spot_of place spec)) s
+IsFirst plan place spec s = ((lens : ℕ → Lens) → (lens spec.station).out ≡ spec.out_len → (lens spec.station).back ≡ spec.in_len → IsLead lens plan.recover (new_leads (script_for place plan.services) (spot_of place spec)) s) × (s.side.hand.found.join ≡ None)

@@ -1,12 +1,15 @@
 //! What a frame that came back brought of a slave besides replies.
 
-ghost use Rattle.std.specs.Prelude.{◌≡◌, List, option_map};
+ghost use Rattle.std.specs.Prelude.{◌≡◌, List, Option, option_map};
+ghost use Rattle.eoe.specs.declared.joining.Unfinished.{Unfinished};
 ghost use Rattle.link_mails.specs.Body.{Body};
 ghost use Rattle.master_hand.specs.Brings.{Brings, as_list, emergencies_in};
+ghost use Rattle.master_hand.specs.Joins.{Completes, packets_in};
 ghost use Rattle.master_side.specs.Heard.{Brought};
 
 use crate::node::MasterNode;
 use arrayvec::ArrayVec;
+use eoe::Packet;
 use master_hand::InHand;
 use master_side::Side;
 
@@ -20,14 +23,27 @@ fn emergency_of(side: &Side<InHand>) -> Option<&ArrayVec<u8, 8>>
     }
 }
 
+// The packet that it completed.
+fn packet_of(side: &Side<InHand>) -> Option<&Packet>
+    ensures { (before : Option Unfinished) (ms : List Body) → Brought (Completes side.now.hand.found before) side.now.heard ms → as_list (option_map (λ packet. packet.now.items) result) ≡ packets_in before ms }
+{
+    match side.heard {
+        None => None,
+        Some(_) => side.hand.packet(),
+    }
+}
+
 impl MasterNode {
-    ghost use Rattle.std.specs.Prelude.{◌≡◌, ◌<◌, ℕ, List, IfSome, slice_get, vec_len, option_map};
+    ghost use Rattle.std.specs.Prelude.{◌≡◌, ◌<◌, ℕ, List, Option, IfSome, slice_get, vec_len, option_map};
+    ghost use Rattle.eoe.specs.declared.joining.Unfinished.{Unfinished};
     ghost use Rattle.life_runs.specs.Led.{Turn};
     ghost use Rattle.link_mails.specs.Body.{Body};
     ghost use Rattle.segment_model.specs.Slaves.{Datagram};
     ghost use Rattle.master_hand.specs.Brings.{as_list, emergencies_in};
     ghost use Rattle.master_tour.specs.Brings.{accepted_in};
     ghost use Rattle.master_node.specs.Brought.{HasBrought};
+    ghost use Rattle.master_hand.specs.Joins.{packets_in};
+    ghost use Rattle.master_node.specs.Joined.{HasCompleted, mails_back};
 
     /// The octets of the emergency that the last returned frame brought of a slave.
     pub fn emergency(&self, slave: u32) -> Option<&ArrayVec<u8, 8>>
@@ -36,5 +52,14 @@ impl MasterNode {
             IfSome (slice_get us slave) (λ u. as_list (option_map (λ octets. octets.now.items) result) ≡ emergencies_in (accepted_in u.lived.spot u.lived.life back)) }
     {
         emergency_of(&self.tour.stops[slave as usize].side)
+    }
+
+    /// The octets of the packet that the last returned frame completed, by its fragments of a slave.
+    pub fn packet(&self, slave: u32) -> Option<&Packet>
+        requires { slave < vec_len self.now.posts }
+        ensures { (us : List Turn) (befores : List (Option Unfinished)) (back : List (Datagram Body)) → HasCompleted self.now us befores back →
+            IfSome (slice_get us slave) (λ u. IfSome (slice_get befores slave) (λ before. as_list (option_map (λ packet. packet.now.items) result) ≡ packets_in before (mails_back back u))) }
+    {
+        packet_of(&self.tour.stops[slave as usize].side)
     }
 }

@@ -47,6 +47,7 @@ pub fn lay_script(side: &mut Side<InHand>)
 pub fn pass_by(side: &mut Side<InHand>)
     ensures kept { side.old.hand.laying.number < length side.old.hand.laying.script → SideKept (suc side.old.hand.laying.number) side.old side.new }
     ensures station { side.new.station ≡ side.old.station }
+    ensures found { side.new.hand.found ≡ side.old.hand.found }
 {
     side.hand.pass_by();
 }

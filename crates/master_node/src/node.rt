@@ -64,6 +64,7 @@ impl MasterNode {
     ghost use Rattle.master_tour.specs.Orders.{IsCarried};
     ghost use Rattle.master_node.specs.Shows.{lived_of, MasterShows, MasterUnder};
     ghost use Rattle.master_node.specs.Filling.{IsFilling, IsEmpty, IsFilled};
+    ghost use Rattle.master_node.specs.Joined.{JoinsKept};
 
     // Whether a slave is live.
     pub(crate) fn has_live(&self) -> bool
@@ -194,6 +195,7 @@ impl MasterNode {
         ensures posts { vec_len self.new.posts ≡ vec_len self.old.posts }
         ensures laid { StepsAt (λ s t. StopStays s t × IsLaid coming t.side.hand.laying.laid) place self.old.tour.stops.items self.new.tour.stops.items }
         ensures kept { TourKept self.old self.new × (All WaitsNone self.old.posts.items → All WaitsNone self.new.posts.items) }
+        ensures joins { JoinsKept self.old self.new }
     {
         match coming {
             None => {}
@@ -207,6 +209,7 @@ impl MasterNode {
         ensures begun { StepsAt (λ s t. PassesBy (Some coming) s t) place self.old.tour.stops.items self.new.tour.stops.items }
         ensures tour { TourKept self.old self.new }
         ensures posts { self.new.posts ≡ self.old.posts }
+        ensures joins { JoinsKept self.old self.new }
     {
         match coming {
             Coming::State(_) => pass_by(&mut self.tour.stops[place].side),
@@ -222,6 +225,7 @@ impl MasterNode {
         ensures posts { vec_len self.new.posts ≡ vec_len self.old.posts }
         ensures begun { StepsAt (λ s t. PassesBy coming s t) place self.old.tour.stops.items self.new.tour.stops.items }
         ensures kept { TourKept self.old self.new × (All WaitsNone self.old.posts.items → All WaitsNone self.new.posts.items) }
+        ensures joins { JoinsKept self.old self.new }
     {
         let post = &mut self.posts[place];
         post.work = post.next;
@@ -243,6 +247,7 @@ impl MasterNode {
         ensures posts { vec_len self.new.posts ≡ vec_len self.old.posts }
         ensures came { StepsAt (λ s t. CameBy began coming s t) place self.old.tour.stops.items self.new.tour.stops.items }
         ensures kept { TourKept self.old self.new × (All WaitsNone self.old.posts.items → All WaitsNone self.new.posts.items) }
+        ensures joins { JoinsKept self.old self.new }
     {
         if began {
             self.begun(place, coming);
@@ -264,6 +269,7 @@ impl MasterNode {
         ensures first { length into.old.items ≡ 16 → holds_at (λ s. is_live s.stand) self.old.tour.stops.items place ≡ true → (result ≡ true) × (self.new.tour.count ≡ self.old.tour.count + 1) }
         ensures led { (lens : ℕ → Lens) (recover made : ℕ) (left next : List ℕ) (as' : List Leads) → All WaitsNone self.old.posts.items → AreDistinct (map lived_of as') → is_in place left ≡ true → is_in place next ≡ false → ((k : ℕ) → is_in k next ≡ true → is_in k left ≡ true) →
             IsFilling lens recover made left self.old into.old.items as' → IsFilling lens recover made (if result then next else left) self.new into.new.items as' }
+        ensures joins { JoinsKept self.old self.new }
     {
         let index = (self.made % 256) as u8;
         let coming = self.coming(place);
@@ -284,6 +290,7 @@ impl MasterNode {
         ensures posts { vec_len self.new.posts ≡ vec_len self.old.posts }
         ensures on { TourOn self.old self.new }
         ensures filled { (lens : ℕ → Lens) (recover made : ℕ) (as' : List Leads) → AreDistinct (map lived_of as') → IsEmpty lens recover made self.old into.old.items as' → IsFilled lens recover made self.new into.new.items as' }
+        ensures joins { JoinsKept self.old self.new }
     {
         for _ in 0..SLAVES {
             let Some(place) = self.tour.due() else {
@@ -300,6 +307,7 @@ impl MasterNode {
         ensures posts { vec_len self.new.posts ≡ vec_len self.old.posts }
         ensures led { (lens : ℕ → Lens) (recover retry missed number : ℕ) (as' : List Leads) → list_any (λ s. is_live s.stand) self.old.tour.stops.items ≡ true → MasterShows lens recover retry self.old missed as' →
             (us : List Turn) × IsLedFrame lens number into.new.items as' us × MasterUnder lens recover retry self.new into.new.items missed us }
+        ensures joins { JoinsKept self.old self.new }
     {
         self.tour.begin(into);
         self.fill(into);
@@ -313,6 +321,7 @@ impl MasterNode {
         ensures posts { vec_len self.new.posts ≡ vec_len self.old.posts }
         ensures led { result ≡ Next.Frame → (lens : ℕ → Lens) (recover retry missed number : ℕ) (as' : List Leads) → MasterShows lens recover retry self.old missed as' →
             (us : List Turn) × IsLedFrame lens number into.new.items as' us × MasterUnder lens recover retry self.new into.new.items missed us }
+        ensures joins { JoinsKept self.old self.new }
     {
         self.list.clear();
         if !self.has_live() {

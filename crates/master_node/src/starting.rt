@@ -122,6 +122,8 @@ impl MasterNode {
     ghost use Rattle.segment_plan.specs.Sound.{IsPlan};
     ghost use Rattle.life_runs.specs.First.{lens_of, first_leads};
     ghost use Rattle.master_node.specs.Shows.{MasterShows};
+    ghost use Rattle.std.specs.Prelude.{None};
+    ghost use Rattle.master_node.specs.Joined.{HasUnfinished, stand_before};
 
     /// The master of a segment before its first frame: no slave is brought up, and no packet of the host has come in.
     pub fn new(alloc: Global, plan: &Scenario) -> Result<MasterNode, NoMemory>
@@ -129,6 +131,7 @@ impl MasterNode {
         ensures posts { IfOk result (λ master. vec_len master.posts ≡ length plan.now.slaves) }
         ensures waiting { IfOk result (λ master. map waiting_of master.posts.items ≡ replicate (length plan.now.slaves) 0) }
         ensures leads { IfOk result (λ master. MasterShows (lens_of plan.now.slaves) plan.now.recover plan.now.retry master 0 (first_leads plan.now)) }
+        ensures joined { IfOk result (λ master. HasUnfinished master (map stand_before (first_leads plan.now)) (map (λ spec. None) plan.now.slaves)) }
     {
         let tour = tour_of(alloc, plan)?;
         let posts = posts_of(alloc, plan.slaves.len())?;

@@ -13,13 +13,15 @@ use master_side::Heard;
 use master_tour::Turned;
 
 impl MasterNode {
-    ghost use Rattle.std.specs.Prelude.{◌≡◌, ℕ, List, map};
+    ghost use Rattle.std.specs.Prelude.{◌≡◌, ℕ, Option, List, map};
+    ghost use Rattle.eoe.specs.declared.joining.Unfinished.{Unfinished};
     ghost use Rattle.frame_view.specs.View.{Lens};
     ghost use Rattle.frame_view.specs.Seen.{seen};
     ghost use Rattle.segment_model.specs.Returned.{Returns};
     ghost use Rattle.segment_ring.specs.declared.wire.Fate.{Fate};
     ghost use Rattle.life_runs.specs.Led.{Turn, Exchanged, led_behind, gives_up_at, missed_behind};
     ghost use Rattle.master_node.specs.Brought.{HasBrought};
+    ghost use Rattle.master_node.specs.Joined.{HasUnfinished, HasCompleted, stand_before, stand_under, unfinished_after, mails_back, mails_lost};
     ghost use Rattle.master_node.specs.Kept.{NodeKept};
     ghost use Rattle.master_node.specs.Shows.{MasterShows, MasterUnder};
 
@@ -225,6 +227,8 @@ impl MasterNode {
         ensures leads { (lens : ℕ → Lens) (recover retry missed number : ℕ) (octets : List ℕ) (us : List Turn) (f : Exchanged) → f.fate ≡ Fate.Pass → f.back ≡ frame.now.items → MasterUnder lens recover retry self.old octets missed us → Returns (seen lens octets) (seen lens frame.now.items) →
             MasterShows lens recover retry self.new 0 (map (led_behind lens recover retry (gives_up_at lens recover retry missed) number f) us) }
         ensures brought { (lens : ℕ → Lens) (recover retry missed : ℕ) (octets : List ℕ) (us : List Turn) → MasterUnder lens recover retry self.old octets missed us → Returns (seen lens octets) (seen lens frame.now.items) → HasBrought self.new us (seen lens frame.now.items) }
+        ensures joined { (lens : ℕ → Lens) (recover retry missed number : ℕ) (octets : List ℕ) (us : List Turn) (befores : List (Option Unfinished)) (f : Exchanged) → f.fate ≡ Fate.Pass → f.back ≡ frame.now.items → MasterUnder lens recover retry self.old octets missed us → Returns (seen lens octets) (seen lens frame.now.items) →
+            HasUnfinished self.old (map stand_under us) befores → HasCompleted self.new us befores (seen lens frame.now.items) × HasUnfinished self.new (map stand_before (map (led_behind lens recover retry (gives_up_at lens recover retry missed) number f) us)) (unfinished_after (mails_back (seen lens frame.now.items)) us befores) }
     {
         self.list.ends();
         self.tour.returned(frame, self.made.wrapping_sub(1));
@@ -293,6 +297,8 @@ impl MasterNode {
         ensures posts { vec_len self.new.posts ≡ vec_len self.old.posts }
         ensures leads { (lens : ℕ → Lens) (recover retry missed number after : ℕ) (octets : List ℕ) (us : List Turn) (f : Exchanged) → f.fate ≡ Fate.Lost after → f.sent ≡ octets → MasterUnder lens recover retry self.old octets missed us →
             MasterShows lens recover retry self.new (missed_behind lens recover retry f.fate missed) (map (led_behind lens recover retry (gives_up_at lens recover retry missed) number f) us) }
+        ensures joined { (lens : ℕ → Lens) (recover retry missed number after : ℕ) (octets : List ℕ) (us : List Turn) (befores : List (Option Unfinished)) (f : Exchanged) → f.fate ≡ Fate.Lost after → f.sent ≡ octets → MasterUnder lens recover retry self.old octets missed us →
+            HasUnfinished self.old (map stand_under us) befores → HasUnfinished self.new (map stand_before (map (led_behind lens recover retry (gives_up_at lens recover retry missed) number f) us)) (unfinished_after mails_lost us befores) }
     {
         self.list.ends();
         self.tour.lost();

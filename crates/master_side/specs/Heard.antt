@@ -20,3 +20,12 @@ heard_of (Some v) = Ok (uncounted (mail_seen v)) ∷ []
 abbrev pub Brought : (Body → Type 0) → Option Heard → List Body → Type 0
 Brought brings None ms = ms ≡ []
 Brought brings (Some what) ms = (b : Body) × (ms ≡ b ∷ []) × brings b
+
+-- what of a packet is under way behind mails
+abbrev pub joined_by : {J : Type 0} → (J → Body → J) → J → List Body → J
+joined_by step j [] = j
+joined_by step j (b ∷ bs) = joined_by step (step j b) bs
+
+-- WHAT THE MAILS OF A RETURNED FRAME JOIN: what is under way behind them, and what the one that was accepted completed
+abbrev pub HasJoined : {J : Type 0} → (J → Body → J) → (J → Body → Type 0) → J → J → Option Heard → List Body → Type 0
+HasJoined step completed old new heard ms = (new ≡ joined_by step old ms) × Brought (completed old) heard ms

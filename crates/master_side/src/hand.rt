@@ -58,6 +58,18 @@ pub trait Hand {
     // What the mail that was heard last brought beside a reply of the service in hand.
     ghost brings: { Self → Body → Type 0 };
 
+    // What of a packet is under way: in a hand, before all mails, and behind a mail.
+    ghost Join: { Type 0 };
+
+    ghost join: { Self → Join };
+
+    ghost unjoined: { Join };
+
+    ghost joined: { Join → Body → Join };
+
+    // What the mail that was heard last has completed of it.
+    ghost completed: { Self → Join → Body → Type 0 };
+
     /// The service that was laid ready comes into hand in place of the one before: whether there was one.
     fn begin(&mut self) -> bool
         ensures did { result ≡ is_some (ready self.old) }
@@ -65,6 +77,7 @@ pub trait Hand {
         ensures none { (x : Speech Body Asked Reply) (now : Option (Row Body Asked Reply)) → shows self.old x now → ready self.old ≡ None → shows self.new x now }
         ensures script { script self.new ≡ (if result then behind self.old else script self.old) }
         ensures passes { (q : Asked) → ready self.old ≡ Some q → passes self.new ≡ passed q }
+        ensures join { join self.new ≡ join self.old }
         ensures room { room self.new ≡ room self.old };
 
     /// The mail that goes next, if there is one, is taken to be held; `kind` and `body` are its parts. Its address is 0, as
@@ -74,6 +87,7 @@ pub trait Hand {
         ensures fits { result ≡ true → 6 + length (taken self.new).body.items ≤ room self.old }
         ensures held { (x : Speech Body Asked Reply) (now : Option (Row Body Asked Reply)) → shows self.old x now → Tells result (taken self.new) x now (shows self.new x) }
         ensures script { script self.new ≡ script self.old }
+        ensures join { join self.new ≡ join self.old }
         ensures room { room self.new ≡ room self.old };
 
     /// The kind of the mail that was taken last.
@@ -89,6 +103,8 @@ pub trait Hand {
         requires { length mail.now.body.now ≤ 1480 }
         ensures shown { (x : Speech Body Asked Reply) (frame : ℕ) (now : Option (Row Body Asked Reply)) → shows self.old x now → shows self.new x (option_map (λ r. row_heard x frame (Ok (uncounted (mail_seen mail.now)) ∷ []) r) now) }
         ensures brings { brings self.new (Ok (uncounted (mail_seen mail.now))) }
+        ensures join { join self.new ≡ joined (join self.old) (Ok (uncounted (mail_seen mail.now))) }
+        ensures completed { completed self.new (join self.old) (Ok (uncounted (mail_seen mail.now))) }
         ensures script { script self.new ≡ script self.old }
         ensures room { room self.new ≡ room self.old };
 
@@ -104,6 +120,7 @@ pub trait Hand {
     fn renew(&mut self)
         ensures shown { (x : Speech Body Asked Reply) (now : Option (Row Body Asked Reply)) → shows self.old x now → shows self.new x None }
         ensures script { script self.new ≡ script self.old }
+        ensures join { join self.new ≡ unjoined }
         ensures room { room self.new ≡ room self.old };
 
     /// Whether the newest service is a mail that is passed on as it is.

@@ -1,9 +1,12 @@
 //! How far a mail that is passed on has come.
 
-ghost use Rattle.std.specs.Prelude.{◌≡◌};
-ghost use Rattle.master_side.specs.Passes.{told_by, written_by, full_by, heard_by, empty_by};
+ghost use Rattle.std.specs.Prelude.{◌≡◌, ◌==◌, slice_index};
+ghost use Rattle.ec_fields.specs.Fields.{bits_of};
+ghost use Rattle.master_side.specs.Passes.{told_by, written_by, full_by, heard_by, empty_by, status_by};
 
+use crate::carried::Carried;
 use crate::hand::Heard;
+use ec_fields::bits;
 
 /// How far a mail that is passed on has come.
 #[derive(Clone, Copy, Debug, PartialEq, Eq)]
@@ -70,5 +73,22 @@ pub fn empty(passing: Option<Passing>) -> Option<Passing>
     match passing {
         Some(Passing::Served) => None,
         other => other,
+    }
+}
+
+/// Whether a status octet says that the mailbox is full.
+pub fn is_full(octets: &[u8]) -> bool
+    ensures { result ≡ (bits_of (slice_index octets.now 0) 3 1 == 1) }
+{
+    bits(octets.first().copied().unwrap_or(0) as u16, 3, 1) == 1
+}
+
+/// What a status of mailbox 0 makes of a mail that is passed on; another access leaves it.
+pub fn status_passed(passing: Option<Passing>, carried: Carried, octets: &[u8]) -> Option<Passing>
+    ensures { result ≡ status_by passing carried (bits_of (slice_index octets.now 0) 3 1 == 1) }
+{
+    match carried {
+        Carried::Full => full_seen(passing, is_full(octets)),
+        _ => passing,
     }
 }

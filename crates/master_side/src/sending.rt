@@ -195,6 +195,7 @@ impl<H: Hand> Side<H> {
         ensures script { H.script self.new.hand ≡ H.script self.old.hand }
         ensures passing { self.new.passing ≡ self.old.passing }
         ensures most { result ≤ 1486 }
+        ensures join { H.join self.new.hand ≡ H.join self.old.hand }
     {
         match wish {
             Some(wish) if self.is_free() => self.first_len(wish),

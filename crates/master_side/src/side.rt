@@ -1,6 +1,6 @@
 ghost use Rattle.std.specs.Prelude.{◌≡◌, ◌∷◌, [], true, length, nat_le, Some, None, ℕ, Option};
-ghost use Rattle.std.specs.Prelude.{◌==◌, false, slice_index};
-ghost use Rattle.ec_fields.specs.Fields.{number_at, bits_of};
+ghost use Rattle.std.specs.Prelude.{◌==◌, false};
+ghost use Rattle.ec_fields.specs.Fields.{number_at};
 ghost use Rattle.mailbox_master.specs.Any.{in_station, in_area_len, in_half_of};
 ghost use Rattle.link_mails.specs.Body.{Body};
 ghost use Rattle.link_model.specs.Link.{Halves};
@@ -13,12 +13,11 @@ ghost use Rattle.master_duty.specs.Mets.{progress_of, KeepsTarget};
 ghost use Rattle.master_duty.specs.Reply.{Reply};
 ghost use Rattle.master_side.specs.Carried.{Asks, is_errand, duty_left};
 ghost use Rattle.master_side.specs.Heard.{view_in};
-ghost use Rattle.master_side.specs.Passes.{status_by};
 
 use crate::carried::{Carried, Target, Wish};
 use crate::hand::{Hand, Heard};
-use crate::passing::{Passing, empty, full_seen, heard, told, written};
-use ec_fields::{bits, u16_at};
+use crate::passing::{Passing, empty, heard, is_full, status_passed, told, written};
+use ec_fields::u16_at;
 use mailbox_mail::MailView;
 use mailbox_master::{GotView, InwardHalf, OutwardSeat, new_inward};
 use master_duty::{Duty, Met};
@@ -87,7 +86,7 @@ impl<H: Hand> Side<H> {
     ghost use Rattle.master_duty.specs.declared.stage.Stage.{Stage};
     ghost use Rattle.master_side.specs.Carried.{Meant, IsBack, in_hand, is_errand, paused_after, turn_after, one};
     ghost use Rattle.master_side.specs.Sent.{SameLink};
-    ghost use Rattle.master_side.specs.Heard.{heard_of, Brought};
+    ghost use Rattle.master_side.specs.Heard.{heard_of, Brought, HasJoined};
     ghost use Rattle.master_side.specs.Shown.{SideShows, Holds, Begins, Picked, new_side, wish_begun, takes_ready};
     ghost use Rattle.master_side.specs.declared.carried.Carried.{Carried};
     ghost use Rattle.master_side.specs.declared.carried.Wish.{Wish};
@@ -133,6 +132,7 @@ impl<H: Hand> Side<H> {
         ensures script { H.script self.new.hand ≡ H.script self.old.hand }
         ensures passing { self.new.passing ≡ None }
         ensures heard { self.new.heard ≡ self.old.heard }
+        ensures join { H.join self.new.hand ≡ H.unjoined }
     {
         self.out = OutwardSeat::new(self.station, self.out_len);
         self.inn = InwardHalf::Clear(new_inward(self.station, self.in_len));
@@ -153,6 +153,7 @@ impl<H: Hand> Side<H> {
         ensures link { SameLink self.old.out self.old.inn self.old.station self.old.area self.new.out self.new.inn self.new.station self.new.area }
         ensures script { H.script self.new.hand ≡ H.script self.old.hand }
         ensures passing { self.new.passing ≡ self.old.passing }
+        ensures join { H.join self.new.hand ≡ H.join self.old.hand }
     {
         if !self.out.is_idle() {
             return;
@@ -193,6 +194,7 @@ impl<H: Hand> Side<H> {
         ensures did { result ≡ is_some (H.ready self.old.hand) }
         ensures script { H.script self.new.hand ≡ (if result then H.behind self.old.hand else H.script self.old.hand) }
         ensures unpassed { (result ≡ true → (q : H.Asked) → H.ready self.old.hand ≡ Some q → H.passed q ≡ false) → self.new.passing ≡ None }
+        ensures join { H.join self.new.hand ≡ H.join self.old.hand }
     {
         let began = self.hand.begin();
         let passed = began && self.hand.is_passed();
@@ -223,6 +225,7 @@ impl<H: Hand> Side<H> {
         ensures ready { takes_ready result wish ≡ true → is_some (H.ready self.old.hand) ≡ true }
         ensures script { H.script self.new.hand ≡ (if takes_ready result wish then H.behind self.old.hand else H.script self.old.hand) }
         ensures unpassed { self.old.passing ≡ None → (takes_ready result wish ≡ true → (q : H.Asked) → H.ready self.old.hand ≡ Some q → H.passed q ≡ false) → self.new.passing ≡ None }
+        ensures join { H.join self.new.hand ≡ H.join self.old.hand }
     {
         if !self.is_free() {
             return false;
@@ -251,6 +254,7 @@ impl<H: Hand> Side<H> {
         ensures ready { takes_ready result wish ≡ true → is_some (H.ready self.old.hand) ≡ true }
         ensures script { H.script self.new.hand ≡ (if takes_ready result wish then H.behind self.old.hand else H.script self.old.hand) }
         ensures unpassed { self.old.passing ≡ None → (takes_ready result wish ≡ true → (q : H.Asked) → H.ready self.old.hand ≡ Some q → H.passed q ≡ false) → self.new.passing ≡ None }
+        ensures join { H.join self.new.hand ≡ H.join self.old.hand }
     {
         let began = self.begin(wish);
         self.hold_next();
@@ -265,6 +269,7 @@ impl<H: Hand> Side<H> {
         ensures carried { self.new.carried ≡ self.old.carried }
         ensures script { H.script self.new.hand ≡ H.script self.old.hand }
         ensures unpassed { self.old.passing ≡ None → self.new.passing ≡ None }
+        ensures join { H.join self.new.hand ≡ H.join self.old.hand }
     {
         match self.carried {
             Carried::Write => self.write_lost(),
@@ -298,6 +303,9 @@ impl<H: Hand> Side<H> {
         ensures brought { self.old.heard ≡ None → (x : Speech Body H.Asked Reply) (octets : List ℕ) (b : Datagram Body) (d : Seats.Side Body H.Asked Reply) (a : Account H.Asked Reply) → SideShows (H.shows self.old.hand x) self.old.out self.old.inn self.old.fresh self.old.duty d a →
             Meant self.old.station self.old.carried d.halves (duty_access a.hand) b → IsBack counter octets b →
             Brought (H.brings self.new.hand) self.new.heard (all_accepted self.old.station d.halves (grams (one b))) }
+        ensures joined { self.old.heard ≡ None → (x : Speech Body H.Asked Reply) (octets : List ℕ) (b : Datagram Body) (d : Seats.Side Body H.Asked Reply) (a : Account H.Asked Reply) → SideShows (H.shows self.old.hand x) self.old.out self.old.inn self.old.fresh self.old.duty d a →
+            Meant self.old.station self.old.carried d.halves (duty_access a.hand) b → IsBack counter octets b →
+            HasJoined H.joined (H.completed self.new.hand) (H.join self.old.hand) (H.join self.new.hand) self.new.heard (all_accepted self.old.station d.halves (grams (one b))) }
     {
         let passing = written(told(self.passing, self.fresh), counter);
         self.passing = passing;
@@ -316,6 +324,7 @@ impl<H: Hand> Side<H> {
         ensures script { H.script self.new.hand ≡ H.script self.old.hand }
         ensures unpassed { self.old.passing ≡ None → self.new.passing ≡ None }
         ensures brought { self.old.heard ≡ None → Brought (H.brings self.new.hand) self.new.heard (heard_of mail.entry) }
+        ensures joined { self.old.heard ≡ None → HasJoined H.joined (H.completed self.new.hand) (H.join self.old.hand) (H.join self.new.hand) self.new.heard (heard_of mail.entry) }
     {
         if let Some(mail) = mail {
             let what = self.hand.hear(&mail);
@@ -364,6 +373,9 @@ impl<H: Hand> Side<H> {
         ensures brought { self.old.heard ≡ None → (x : Speech Body H.Asked Reply) (b : Datagram Body) (d : Seats.Side Body H.Asked Reply) (a : Account H.Asked Reply) → SideShows (H.shows self.old.hand x) self.old.out self.old.inn self.old.fresh self.old.duty d a →
             Meant self.old.station self.old.carried d.halves (duty_access a.hand) b → IsBack counter octets.now b →
             Brought (H.brings self.new.hand) self.new.heard (all_accepted self.old.station d.halves (grams (one b))) }
+        ensures joined { self.old.heard ≡ None → (x : Speech Body H.Asked Reply) (b : Datagram Body) (d : Seats.Side Body H.Asked Reply) (a : Account H.Asked Reply) → SideShows (H.shows self.old.hand x) self.old.out self.old.inn self.old.fresh self.old.duty d a →
+            Meant self.old.station self.old.carried d.halves (duty_access a.hand) b → IsBack counter octets.now b →
+            HasJoined H.joined (H.completed self.new.hand) (H.join self.old.hand) (H.join self.new.hand) self.new.heard (all_accepted self.old.station d.halves (grams (one b))) }
     {
         let got = self.inn.returned(counter, octets);
         let was_read = got.is_some();
@@ -389,6 +401,9 @@ impl<H: Hand> Side<H> {
         ensures brought { self.old.heard ≡ None → (x : Speech Body H.Asked Reply) (b : Datagram Body) (d : Seats.Side Body H.Asked Reply) (a : Account H.Asked Reply) → SideShows (H.shows self.old.hand x) self.old.out self.old.inn self.old.fresh self.old.duty d a →
             Meant self.old.station self.old.carried d.halves (duty_access a.hand) b → IsBack counter octets.now b →
             Brought (H.brings self.new.hand) self.new.heard (all_accepted self.old.station d.halves (grams (one b))) }
+        ensures joined { self.old.heard ≡ None → (x : Speech Body H.Asked Reply) (b : Datagram Body) (d : Seats.Side Body H.Asked Reply) (a : Account H.Asked Reply) → SideShows (H.shows self.old.hand x) self.old.out self.old.inn self.old.fresh self.old.duty d a →
+            Meant self.old.station self.old.carried d.halves (duty_access a.hand) b → IsBack counter octets.now b →
+            HasJoined H.joined (H.completed self.new.hand) (H.join self.old.hand) (H.join self.new.hand) self.new.heard (all_accepted self.old.station d.halves (grams (one b))) }
     {
         if counter == 0 {
             return;
@@ -416,6 +431,9 @@ impl<H: Hand> Side<H> {
         ensures brought { self.old.heard ≡ None → (x : Speech Body H.Asked Reply) (b : Datagram Body) (d : Seats.Side Body H.Asked Reply) (a : Account H.Asked Reply) → SideShows (H.shows self.old.hand x) self.old.out self.old.inn self.old.fresh self.old.duty d a →
             Meant self.old.station self.old.carried d.halves (duty_access a.hand) b → IsBack counter octets.now b →
             Brought (H.brings self.new.hand) self.new.heard (all_accepted self.old.station d.halves (grams (one b))) }
+        ensures joined { self.old.heard ≡ None → (x : Speech Body H.Asked Reply) (b : Datagram Body) (d : Seats.Side Body H.Asked Reply) (a : Account H.Asked Reply) → SideShows (H.shows self.old.hand x) self.old.out self.old.inn self.old.fresh self.old.duty d a →
+            Meant self.old.station self.old.carried d.halves (duty_access a.hand) b → IsBack counter octets.now b →
+            HasJoined H.joined (H.completed self.new.hand) (H.join self.old.hand) (H.join self.new.hand) self.new.heard (all_accepted self.old.station d.halves (grams (one b))) }
     {
         match self.carried {
             Carried::Nothing => {}
@@ -443,23 +461,6 @@ fn duty_left(met: Met) -> Option<Duty>
     match met {
         Met::On(duty) => Some(duty),
         Met::Reached | Met::Refused(_) => None,
-    }
-}
-
-// Whether a status octet says that the mailbox is full.
-fn is_full(octets: &[u8]) -> bool
-    ensures { result ≡ (bits_of (slice_index octets.now 0) 3 1 == 1) }
-{
-    bits(octets.first().copied().unwrap_or(0) as u16, 3, 1) == 1
-}
-
-// What a status of mailbox 0 makes of a mail that is passed on; another access leaves it.
-fn status_passed(passing: Option<Passing>, carried: Carried, octets: &[u8]) -> Option<Passing>
-    ensures { result ≡ status_by passing carried (bits_of (slice_index octets.now 0) 3 1 == 1) }
-{
-    match carried {
-        Carried::Full => full_seen(passing, is_full(octets)),
-        _ => passing,
     }
 }
 

@@ -13,3 +13,4 @@ pub mod Orders
 pub mod Counts
 pub mod Unpassed
 pub mod Goes
+pub mod Joins

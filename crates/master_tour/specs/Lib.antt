@@ -4,5 +4,6 @@ pub mod Cursor
 pub mod Stands
 pub mod Made
 pub mod Brings
+pub mod Joins
 pub mod Orders
 pub mod Goes

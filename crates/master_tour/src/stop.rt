@@ -117,8 +117,9 @@ impl<H: Hand> Stop<H> {
     ghost use Rattle.link_mails.specs.Body.{Body};
     ghost use Rattle.segment_model.specs.Slaves.{Datagram, grams};
     ghost use Rattle.link_model.specs.Frames.{all_accepted};
-    ghost use Rattle.master_side.specs.Heard.{Brought};
+    ghost use Rattle.master_side.specs.Heard.{Brought, HasJoined};
     ghost use Rattle.master_tour.specs.Brings.{accepted_in};
+    ghost use Rattle.master_tour.specs.Joins.{Joins, join_behind};
     ghost use Rattle.segment_model.specs.Seats as Seats;
     ghost use Rattle.task_model.specs.Accounts.{Account, duty_access, account_back};
     ghost use Rattle.frame_view.specs.View.{Lens, datagram_seen};
@@ -181,6 +182,10 @@ impl<H: Hand> Stop<H> {
             SideShows (H.shows self.old.side.hand x) self.old.side.out self.old.side.inn self.old.side.fresh self.old.side.duty d a →
             Under self.old.side.station self.old.at self.old.under self.old.side.carried d.halves (duty_access a.hand) back →
             Brought (H.brings self.new.side.hand) self.new.side.heard (all_accepted self.old.side.station d.halves (grams back)) }
+        ensures joined { self.old.side.heard ≡ None → (x : Speech Body H.Asked Reply) (lens : ℕ → Lens) (back : List (Datagram Body)) (d : Seats.Side Body H.Asked Reply) (a : Account H.Asked Reply) → back ≡ seen lens octets.now →
+            SideShows (H.shows self.old.side.hand x) self.old.side.out self.old.side.inn self.old.side.fresh self.old.side.duty d a →
+            Under self.old.side.station self.old.at self.old.under self.old.side.carried d.halves (duty_access a.hand) back →
+            HasJoined H.joined (H.completed self.new.side.hand) (H.join self.old.side.hand) (H.join self.new.side.hand) self.new.side.heard (all_accepted self.old.side.station d.halves (grams back)) }
     {
         if !self.under {
             return;
@@ -204,6 +209,7 @@ impl<H: Hand> Stop<H> {
         ensures stand { self.new.stand ≡ self.old.stand }
         ensures script { H.script self.new.side.hand ≡ H.script self.old.side.hand }
         ensures unpassed { self.old.side.passing ≡ None → self.new.side.passing ≡ None }
+        ensures join { H.join self.new.side.hand ≡ H.join self.old.side.hand }
     {
         if self.under {
             self.side.lost();
@@ -222,6 +228,7 @@ impl<H: Hand> Stop<H> {
         ensures script { H.script self.new.side.hand ≡ H.script self.old.side.hand }
         ensures unpassed { self.old.side.passing ≡ None → self.new.side.passing ≡ None }
         ensures heard { self.new.side.heard ≡ self.old.side.heard }
+        ensures join { H.join self.new.side.hand ≡ (if is_cleared then H.unjoined else H.join self.old.side.hand) }
     {
         if is_cleared {
             self.side.renew();
@@ -240,6 +247,7 @@ impl<H: Hand> Stop<H> {
         ensures script { H.script self.new.side.hand ≡ H.script self.old.side.hand }
         ensures unpassed { self.old.side.passing ≡ None → self.new.side.passing ≡ None }
         ensures heard { self.new.side.heard ≡ self.old.side.heard }
+        ensures join { H.join self.new.side.hand ≡ join_behind H.unjoined self.new.news (H.join self.old.side.hand) }
     {
         let mut next = up;
         let is_up = came_back(&mut next, counter, body);
@@ -264,6 +272,7 @@ impl<H: Hand> Stop<H> {
         ensures script { H.script self.new.side.hand ≡ H.script self.old.side.hand }
         ensures unpassed { self.old.side.passing ≡ None → self.new.side.passing ≡ None }
         ensures heard { self.new.side.heard ≡ self.old.side.heard }
+        ensures join { self.old.news ≡ None → H.join self.new.side.hand ≡ join_behind H.unjoined self.new.news (H.join self.old.side.hand) }
     {
         if !self.under {
             return;
@@ -321,6 +330,9 @@ impl<H: Hand> Stop<H> {
         ensures brought { self.old.stand ≡ Stand.Open → self.old.side.heard ≡ None → (x : Speech Body H.Asked Reply) (recover : ℕ) (spot : Spot) (lens : ℕ → Lens) (sent : List (Datagram Body)) (l : Life Body H.Asked Reply) →
             IsSpot spot self.old.side.station self.old.place self.old.start → Returns sent (seen lens octets.now) → StandUnder lens self.old.side.station self.old.at self.old.under self.old.side.carried self.old.stand l sent → StopShows (λ d a. SideShows (H.shows self.old.side.hand x) self.old.side.out self.old.side.inn self.old.side.fresh self.old.side.duty d a) recover spot self.old.stand self.old.spare l →
             Brought (H.brings self.new.side.hand) self.new.side.heard (accepted_in spot l (seen lens octets.now)) }
+        ensures joined { self.old.stand ≡ Stand.Open → self.old.news ≡ None → self.old.side.heard ≡ None → (x : Speech Body H.Asked Reply) (recover : ℕ) (spot : Spot) (lens : ℕ → Lens) (sent : List (Datagram Body)) (l : Life Body H.Asked Reply) →
+            IsSpot spot self.old.side.station self.old.place self.old.start → Returns sent (seen lens octets.now) → StandUnder lens self.old.side.station self.old.at self.old.under self.old.side.carried self.old.stand l sent → StopShows (λ d a. SideShows (H.shows self.old.side.hand x) self.old.side.out self.old.side.inn self.old.side.fresh self.old.side.duty d a) recover spot self.old.stand self.old.spare l →
+            Joins H.unjoined H.joined (H.completed self.new.side.hand) self.new.news self.new.side.heard (H.join self.old.side.hand) (H.join self.new.side.hand) (accepted_in spot l (seen lens octets.now)) }
     {
         self.open_back(cursor, octets, made);
         self.reopen();
@@ -343,6 +355,9 @@ impl<H: Hand> Stop<H> {
         ensures brought { (x : Speech Body H.Asked Reply) (recover : ℕ) (spot : Spot) (lens : ℕ → Lens) (sent : List (Datagram Body)) (l : Life Body H.Asked Reply) →
             IsSpot spot self.old.side.station self.old.place self.old.start → Returns sent (seen lens octets.now) → StandUnder lens self.old.side.station self.old.at self.old.under self.old.side.carried self.old.stand l sent → StopShows (λ d a. SideShows (H.shows self.old.side.hand x) self.old.side.out self.old.side.inn self.old.side.fresh self.old.side.duty d a) recover spot self.old.stand self.old.spare l →
             Brought (H.brings self.new.side.hand) self.new.side.heard (accepted_in spot l (seen lens octets.now)) }
+        ensures joined { (x : Speech Body H.Asked Reply) (recover : ℕ) (spot : Spot) (lens : ℕ → Lens) (sent : List (Datagram Body)) (l : Life Body H.Asked Reply) →
+            IsSpot spot self.old.side.station self.old.place self.old.start → Returns sent (seen lens octets.now) → StandUnder lens self.old.side.station self.old.at self.old.under self.old.side.carried self.old.stand l sent → StopShows (λ d a. SideShows (H.shows self.old.side.hand x) self.old.side.out self.old.side.inn self.old.side.fresh self.old.side.duty d a) recover spot self.old.stand self.old.spare l →
+            Joins H.unjoined H.joined (H.completed self.new.side.hand) self.new.news self.new.side.heard (H.join self.old.side.hand) (H.join self.new.side.hand) (accepted_in spot l (seen lens octets.now)) }
     {
         self.news = None;
         self.side.heard = None;
@@ -365,6 +380,7 @@ impl<H: Hand> Stop<H> {
         ensures sized { IsSized self.old.stand self.old.side.out.len (in_area_len self.old.side.inn) → IsSized self.new.stand self.new.side.out.len (in_area_len self.new.side.inn) }
         ensures script { H.script self.new.side.hand ≡ H.script self.old.side.hand }
         ensures unpassed { self.old.side.passing ≡ None → self.new.side.passing ≡ None }
+        ensures join { H.join self.new.side.hand ≡ H.join self.old.side.hand }
     {
         self.news = None;
         match self.stand {
@@ -407,6 +423,7 @@ impl<H: Hand> Stop<H> {
         ensures sized { IsSized self.old.stand self.old.side.out.len (in_area_len self.old.side.inn) → IsSized self.new.stand self.new.side.out.len (in_area_len self.new.side.inn) }
         ensures script { H.script self.new.side.hand ≡ H.script self.old.side.hand }
         ensures unpassed { self.old.side.passing ≡ None → self.new.side.passing ≡ None }
+        ensures join { (gives && self.old.under) ≡ false → H.join self.new.side.hand ≡ H.join self.old.side.hand }
     {
         self.lost();
         if !gives {
@@ -427,6 +444,7 @@ impl<H: Hand> Stop<H> {
         ensures passing { self.new.side.passing ≡ self.old.side.passing }
         ensures most { result ≤ 1486 }
         ensures script { H.script self.new.side.hand ≡ H.script self.old.side.hand }
+        ensures join { H.join self.new.side.hand ≡ H.join self.old.side.hand }
     {
         match self.stand {
             Stand::Gone => 0,
@@ -467,6 +485,7 @@ impl<H: Hand> Stop<H> {
         ensures ready { takes_ready result wish ≡ true → is_some (H.ready self.old.side.hand) ≡ true }
         ensures script { H.script self.new.side.hand ≡ (if takes_ready result wish then H.behind self.old.side.hand else H.script self.old.side.hand) }
         ensures unpassed { self.old.side.passing ≡ None → (takes_ready result wish ≡ true → (q : H.Asked) → H.ready self.old.side.hand ≡ Some q → H.passed q ≡ false) → self.new.side.passing ≡ None }
+        ensures join { H.join self.new.side.hand ≡ H.join self.old.side.hand }
     {
         let began = self.side.choose(wish);
         let placed = self.side.add_datagram(index, frame);
@@ -515,6 +534,7 @@ impl<H: Hand> Stop<H> {
         ensures ready { takes_ready result wish ≡ true → is_some (H.ready self.old.side.hand) ≡ true }
         ensures script { H.script self.new.side.hand ≡ (if takes_ready result wish then H.behind self.old.side.hand else H.script self.old.side.hand) }
         ensures unpassed { self.old.side.passing ≡ None → (takes_ready result wish ≡ true → (q : H.Asked) → H.ready self.old.side.hand ≡ Some q → H.passed q ≡ false) → self.new.side.passing ≡ None }
+        ensures join { H.join self.new.side.hand ≡ H.join self.old.side.hand }
     {
         self.under = false;
         match self.stand {

@@ -56,6 +56,7 @@ impl<H: Hand> Tour<H> {
     ghost use Rattle.master_side.specs.Sent.{SameLink};
     ghost use Rattle.master_side.specs.Heard.{Brought};
     ghost use Rattle.master_tour.specs.Brings.{accepted_in};
+    ghost use Rattle.master_tour.specs.Joins.{Joins};
     ghost use Rattle.master_tour.specs.Made.{StopLives, StopMade, StopSent, FrameMade, FrameSent, ComesAt, IsClearFor, IsSized, is_in};
     ghost use Rattle.life_model.specs.Lives.{Life, Spot, life_back, life_lost};
     ghost use Rattle.segment_model.specs.Record.{News};
@@ -78,6 +79,9 @@ impl<H: Hand> Tour<H> {
         ensures brought { EachPair (λ s t. (lens : ℕ → Lens) (sent : List (Datagram Body)) → Returns sent (seen lens octets.now) → (x : Speech Body H.Asked Reply) (recover : ℕ) (spot : Spot) (l : Life Body H.Asked Reply) →
             IsSpot spot s.side.station s.place s.start → StandUnder lens s.side.station s.at s.under s.side.carried s.stand l sent → StopShows (λ d a. SideShows (H.shows s.side.hand x) s.side.out s.side.inn s.side.fresh s.side.duty d a) recover spot s.stand s.spare l →
             Brought (H.brings t.side.hand) t.side.heard (accepted_in spot l (seen lens octets.now))) self.old.stops.items self.new.stops.items }
+        ensures joined { EachPair (λ s t. (lens : ℕ → Lens) (sent : List (Datagram Body)) → Returns sent (seen lens octets.now) → (x : Speech Body H.Asked Reply) (recover : ℕ) (spot : Spot) (l : Life Body H.Asked Reply) →
+            IsSpot spot s.side.station s.place s.start → StandUnder lens s.side.station s.at s.under s.side.carried s.stand l sent → StopShows (λ d a. SideShows (H.shows s.side.hand x) s.side.out s.side.inn s.side.fresh s.side.duty d a) recover spot s.stand s.spare l →
+            Joins H.unjoined H.joined (H.completed t.side.hand) t.news t.side.heard (H.join s.side.hand) (H.join t.side.hand) (accepted_in spot l (seen lens octets.now))) self.old.stops.items self.new.stops.items }
     {
         let mut cursor = Cursor::new(octets);
         for i in 0..self.stops.len() {
@@ -94,6 +98,7 @@ impl<H: Hand> Tour<H> {
         ensures kept { EachPair (λ s t. SameLink s.side.out s.side.inn s.side.station s.side.area t.side.out t.side.inn t.side.station t.side.area × (IsSized s.stand s.side.out.len (in_area_len s.side.inn) → IsSized t.stand t.side.out.len (in_area_len t.side.inn))) self.old.stops.items self.new.stops.items }
         ensures tour { (self.new.again ≡ self.old.again) × (self.new.visit ≡ self.old.visit) × (self.new.opened ≡ self.old.opened) × (self.new.last ≡ self.old.last) × (self.new.missed ≡ self.old.missed) × (self.new.retry ≡ self.old.retry) }
         ensures stays { EachPair (λ s t. (H.script t.side.hand ≡ H.script s.side.hand) × (s.side.passing ≡ None → t.side.passing ≡ None)) self.old.stops.items self.new.stops.items }
+        ensures join { EachPair (λ s t. (gives && s.under) ≡ false → H.join t.side.hand ≡ H.join s.side.hand) self.old.stops.items self.new.stops.items }
     {
         for i in 0..self.stops.len() {
             self.stops[i].lost_for(gives);
@@ -272,6 +277,7 @@ impl<H: Hand> Tour<H> {
             FrameMade (λ ds i a s. StopMade (x a.spot) H.acknowledged more passed made begun lens recover index (λ d b. SideShows (H.shows s.side.hand (x a.spot)) s.side.out s.side.inn s.side.fresh s.side.duty d b) s.side.station s.place s.start s.stand s.spare s.side.out s.side.inn s.side.duty s.side.carried s.side.passing s.under s.at left ds i a) octets count lives self.new.stops.items }
         ensures tour { (self.new.again ≡ self.old.again) × (self.new.visit ≡ self.old.visit) × (self.new.opened ≡ self.old.opened) × (self.new.last ≡ self.old.last) × (self.new.missed ≡ self.old.missed) × (self.new.retry ≡ self.old.retry) × (self.new.passed ≡ self.old.passed) }
         ensures first { length frame.now.items ≡ 16 → result ≡ true }
+        ensures join { StepsAt (λ s t. H.join t.side.hand ≡ H.join s.side.hand) place self.old.stops.items self.new.stops.items }
     {
         self.stops[place].ahead(wish) <= datagrams::room(frame)
     }
@@ -303,6 +309,7 @@ impl<H: Hand> Tour<H> {
         ensures first { length frame.old.items ≡ 16 → holds_at (λ s. is_live s.stand) self.old.stops.items place ≡ true → self.new.count ≡ self.old.count + 1 }
         ensures began { StepsAt (λ s t. (takes_ready result wish ≡ true → is_some (H.ready s.side.hand) ≡ true) × (H.script t.side.hand ≡ (if takes_ready result wish then H.behind s.side.hand else H.script s.side.hand)) ×
             (s.side.passing ≡ None → (takes_ready result wish ≡ true → (q : H.Asked) → H.ready s.side.hand ≡ Some q → H.passed q ≡ false) → t.side.passing ≡ None)) place self.old.stops.items self.new.stops.items }
+        ensures join { StepsAt (λ s t. H.join t.side.hand ≡ H.join s.side.hand) place self.old.stops.items self.new.stops.items }
     {
         let at = self.count;
         let began = self.stops[place].visit(wish, at, index, frame);
@@ -390,6 +397,9 @@ impl<H: Hand> Tour<H> {
         ensures brought { (lens : ℕ → Lens) (sent : List (Datagram Body)) → Returns sent (seen lens frame.now.items) → 1 ≤ length sent → EachPair (λ s t. (x : Speech Body H.Asked Reply) (recover : ℕ) (spot : Spot) (l : Life Body H.Asked Reply) →
             IsSpot spot s.side.station s.place s.start → StandUnder lens s.side.station s.at s.under s.side.carried s.stand l sent → StopShows (λ d a. SideShows (H.shows s.side.hand x) s.side.out s.side.inn s.side.fresh s.side.duty d a) recover spot s.stand s.spare l →
             Brought (H.brings t.side.hand) t.side.heard (accepted_in spot l (seen lens frame.now.items))) self.old.stops.items self.new.stops.items }
+        ensures joined { (lens : ℕ → Lens) (sent : List (Datagram Body)) → Returns sent (seen lens frame.now.items) → 1 ≤ length sent → EachPair (λ s t. (x : Speech Body H.Asked Reply) (recover : ℕ) (spot : Spot) (l : Life Body H.Asked Reply) →
+            IsSpot spot s.side.station s.place s.start → StandUnder lens s.side.station s.at s.under s.side.carried s.stand l sent → StopShows (λ d a. SideShows (H.shows s.side.hand x) s.side.out s.side.inn s.side.fresh s.side.duty d a) recover spot s.stand s.spare l →
+            Joins H.unjoined H.joined (H.completed t.side.hand) t.news t.side.heard (H.join s.side.hand) (H.join t.side.hand) (accepted_in spot l (seen lens frame.now.items))) self.old.stops.items self.new.stops.items }
     {
         let octets = frame.as_slice();
         if datagrams::fault(octets).is_none() {
@@ -413,6 +423,9 @@ impl<H: Hand> Tour<H> {
         ensures brought { (lens : ℕ → Lens) (sent : List (Datagram Body)) → Returns sent (seen lens frame.now.items) → 1 ≤ length sent → EachPair (λ s t. (x : Speech Body H.Asked Reply) (recover : ℕ) (spot : Spot) (l : Life Body H.Asked Reply) →
             IsSpot spot s.side.station s.place s.start → StandUnder lens s.side.station s.at s.under s.side.carried s.stand l sent → StopShows (λ d a. SideShows (H.shows s.side.hand x) s.side.out s.side.inn s.side.fresh s.side.duty d a) recover spot s.stand s.spare l →
             Brought (H.brings t.side.hand) t.side.heard (accepted_in spot l (seen lens frame.now.items))) self.old.stops.items self.new.stops.items }
+        ensures joined { (lens : ℕ → Lens) (sent : List (Datagram Body)) → Returns sent (seen lens frame.now.items) → 1 ≤ length sent → EachPair (λ s t. (x : Speech Body H.Asked Reply) (recover : ℕ) (spot : Spot) (l : Life Body H.Asked Reply) →
+            IsSpot spot s.side.station s.place s.start → StandUnder lens s.side.station s.at s.under s.side.carried s.stand l sent → StopShows (λ d a. SideShows (H.shows s.side.hand x) s.side.out s.side.inn s.side.fresh s.side.duty d a) recover spot s.stand s.spare l →
+            Joins H.unjoined H.joined (H.completed t.side.hand) t.news t.side.heard (H.join s.side.hand) (H.join t.side.hand) (accepted_in spot l (seen lens frame.now.items))) self.old.stops.items self.new.stops.items }
     {
         self.hear(frame, made);
         let last = self.last_behind();
@@ -436,6 +449,7 @@ impl<H: Hand> Tour<H> {
         ensures tour { (self.new.visit ≡ self.old.visit) × (self.new.again ≡ nat_lt self.old.missed self.old.retry) × (self.new.missed ≡ (if nat_lt self.old.missed self.old.retry then self.old.missed + 1 else 0)) × (self.new.retry ≡ self.old.retry) }
         ensures opened { self.new.opened ≡ (if nat_lt self.old.missed self.old.retry then self.old.opened else opened_behind (λ s. is_opened s.stand) self.old.opened self.new.stops.items) }
         ensures stays { EachPair (λ s t. (H.script t.side.hand ≡ H.script s.side.hand) × (s.side.passing ≡ None → t.side.passing ≡ None)) self.old.stops.items self.new.stops.items }
+        ensures join { EachPair (λ s t. (not (nat_lt self.old.missed self.old.retry) && s.under) ≡ false → H.join t.side.hand ≡ H.join s.side.hand) self.old.stops.items self.new.stops.items }
     {
         let missed = self.missed;
         let comes_again = missed < self.retry;

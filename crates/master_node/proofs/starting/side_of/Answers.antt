@@ -31,4 +31,5 @@ returns c =
       script = ap (λ z. z.laying.script) h ∙ c.in_ok-hand.ensures.script.0 ∙ script;
       number = ap (λ z. z.laying.number) h ∙ c.in_ok-hand.ensures.script.1;
       unpassed = c.new-2.ensures.hand.1;
+      unfinished = ap (λ z. z.found.join) h ∙ c.in_ok-hand.ensures.join;
     }

@@ -3,6 +3,8 @@ use Rattle.master_tour.specs.Walks.{StepsAt}
 use Rattle.master_node.specs.Coming.{PassesBy}
 use Rattle.master_node.proofs.Kepts.{stop_same}
 use Rattle.master_node.proofs.Lists.{steps_same}
+use Rattle.std.proofs.Common.{refl}
+use Rattle.master_tour.proofs.Walks.{each_same}
 use Rattle.master_node.proofs.node.MasterNode.begun.Goals as goal
 
 pub returns-in-None-clause-begun : goal.returns-in-None-clause-begun
@@ -14,3 +16,9 @@ returns-in-None-clause-begun c =
 pub returns-in-Some-clause-begun : goal.returns-in-Some-clause-begun
 returns-in-Some-clause-begun c =
     subst (λ z. StepsAt (λ s t. PassesBy z s t) c.args.place c.args.self.now.tour.stops.items c.pass_by.new.self.tour.stops.items) (sym c.in-Some.is) c.pass_by.ensures.begun
+
+pub returns-in-None-clause-joins : goal.returns-in-None-clause-joins
+returns-in-None-clause-joins c = each_same _ c.args.self.now.tour.stops.items (λ s. refl)
+
+pub returns-in-Some-clause-joins : goal.returns-in-Some-clause-joins
+returns-in-Some-clause-joins c = c.pass_by.ensures.joins

@@ -3,6 +3,8 @@ use Rattle.master_tour.specs.Walks.{StepsAt}
 use Rattle.master_node.specs.Coming.{CameBy}
 use Rattle.master_node.proofs.Kepts.{stop_same}
 use Rattle.master_node.proofs.Lists.{steps_same}
+use Rattle.std.proofs.Common.{refl}
+use Rattle.master_tour.proofs.Walks.{each_same}
 use Rattle.master_node.proofs.node.MasterNode.came.Goals as goal
 
 pub returns-then-began-clause-came : goal.returns-then-began-clause-came
@@ -14,3 +16,9 @@ returns-else-began-clause-came c =
     let m = c.args.self.now in
     let l : c.args.place < length m.tour.stops.items = omega (arith, c.requires, m.paired, m.tour.stops.ok.0) in
     subst (λ z. StepsAt (λ s t. CameBy z c.args.coming s t) c.args.place m.tour.stops.items m.tour.stops.items) (sym c.if-began.false) (steps_same _ c.args.place m.tour.stops.items l (λ s. stop_same s))
+
+pub returns-then-began-clause-joins : goal.returns-then-began-clause-joins
+returns-then-began-clause-joins c = c.begun.ensures.joins
+
+pub returns-else-began-clause-joins : goal.returns-else-began-clause-joins
+returns-else-began-clause-joins c = each_same _ c.args.self.now.tour.stops.items (λ s. refl)

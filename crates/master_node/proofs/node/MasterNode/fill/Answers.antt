@@ -3,6 +3,9 @@ use Rattle.std.specs.Prelude.{if◌then◌else◌}
 use Rattle.master_tour.specs.Goes.{is_live, holds_at}
 use Rattle.master_node.specs.Filling.{IsFilling}
 use Rattle.master_node.proofs.Filleds.{fills_first, fills_last, fills_same, fills_more, fills_still, on_same, on_on, passes_some, passes_at, some_count}
+use Rattle.master_tour.specs.Walks.{EachPair}
+use Rattle.master_tour.proofs.Walks.{each_same}
+use Rattle.master_node.proofs.Lists.{each_trans}
 use Rattle.master_node.proofs.node.MasterNode.fill.Goals as goal
 
 pub returns-in_default-clause-on : goal.returns-in_default-clause-on
@@ -49,7 +52,7 @@ returns-clause-filled c = λ lens recover made as' d x.
     fills_last lens recover made as' c.loop.counter c.loop.self c.loop.into.items (let t = c.loop-test.false in omega (arith, t)) (c.loop.invariant.3 lens recover made as' d x)
 
 pub loop-init : goal.loop-init
-loop-init c = (c.requires, refl, on_same c.args.self.now, λ lens recover made as' d x. fills_first lens recover made as' c.args.self.now c.args.into.now.items x)
+loop-init c = (c.requires, refl, on_same c.args.self.now, λ lens recover made as' d x. fills_first lens recover made as' c.args.self.now c.args.into.now.items x, each_same _ c.args.self.now.tour.stops.items (λ s. refl))
 
 pub loop-preserved : goal.loop-preserved
 loop-preserved c = (
@@ -70,4 +73,17 @@ loop-preserved c = (
       (λ a. e.left p is a) (λ a b g h. passes_at (λ s. is_live s.stand) c.loop.self.tour.stops.items c.due.result p is (e.first a b g h))
       (c.in-Some.ensures.few) v.on.0 v.on.1 v.quiet v.visits v.counts (λ a b. (v.first a b).1)
       (λ left other q a o s g. subst (λ (z : Bool). IsFilling lens recover made (if z then other else left) c.visit.new.self c.visit.new.into.items as') yes (v.led lens recover made left other as' q d a o s g)),
+  each_trans (λ s t. t.side.hand.found.join ≡ s.side.hand.found.join) c.args.self.now.tour.stops.items c.loop.self.tour.stops.items c.visit.new.self.tour.stops.items (λ x y z a b. b ∙ a) c.loop.invariant.4
+      (subst (λ z. EachPair (λ s t. t.side.hand.found.join ≡ s.side.hand.found.join) z.items c.visit.new.self.tour.stops.items) c.due.ensures.stops c.visit.ensures.joins),
 )
+
+pub returns-in_default-clause-joins : goal.returns-in_default-clause-joins
+returns-in_default-clause-joins c = subst (λ z. EachPair (λ s t. t.side.hand.found.join ≡ s.side.hand.found.join) c.args.self.now.tour.stops.items z.items) (sym c.due.ensures.stops) c.loop.invariant.4
+
+pub returns-then-not-visit-clause-joins : goal.returns-then-not-visit-clause-joins
+returns-then-not-visit-clause-joins c =
+    each_trans (λ s t. t.side.hand.found.join ≡ s.side.hand.found.join) c.args.self.now.tour.stops.items c.loop.self.tour.stops.items c.visit.new.self.tour.stops.items (λ x y z a b. b ∙ a) c.loop.invariant.4
+    (subst (λ z. EachPair (λ s t. t.side.hand.found.join ≡ s.side.hand.found.join) z.items c.visit.new.self.tour.stops.items) c.due.ensures.stops c.visit.ensures.joins)
+
+pub returns-clause-joins : goal.returns-clause-joins
+returns-clause-joins c = c.loop.invariant.4

@@ -4,6 +4,9 @@ use Rattle.master_node.specs.Coming.{IsLaid}
 use Rattle.master_node.specs.Kept.{StopStays}
 use Rattle.master_node.proofs.Kepts.{stop_same}
 use Rattle.master_node.proofs.Lists.{steps_same}
+use Rattle.std.proofs.Common.{ap, refl}
+use Rattle.master_tour.proofs.Walks.{each_same}
+use Rattle.master_node.proofs.Lists.{steps_each}
 use Rattle.master_node.proofs.node.MasterNode.lay.Goals as goal
 
 pub returns-in-None-clause-laid : goal.returns-in-None-clause-laid
@@ -16,3 +19,9 @@ returns-in-None-clause-laid c =
 pub returns-in-Some-clause-laid : goal.returns-in-Some-clause-laid
 returns-in-Some-clause-laid c =
     subst (λ z. StepsAt (λ s t. StopStays s t × IsLaid z t.side.hand.laying.laid) c.args.place c.args.self.now.tour.stops.items c.lay_coming.new.self.tour.stops.items) (sym c.in-Some.is) c.lay_coming.ensures.laid
+
+pub returns-in-None-clause-joins : goal.returns-in-None-clause-joins
+returns-in-None-clause-joins c = each_same _ c.args.self.now.tour.stops.items (λ s. refl)
+
+pub returns-in-Some-clause-joins : goal.returns-in-Some-clause-joins
+returns-in-Some-clause-joins c = steps_each _ _ c.args.place c.args.self.now.tour.stops.items c.lay_coming.new.self.tour.stops.items (λ s. refl) (λ s t p. ap (λ z. z.join) p.0.side.found) c.lay_coming.ensures.laid

@@ -1,11 +1,21 @@
 use Rattle.std.proofs.Common.{◌≡◌, Bool, [], sym, ap, ◌∙◌}
 use Rattle.std.specs.Prelude.{map, not, nat_lt, if◌then◌else◌}
-use Rattle.life_runs.specs.Led.{speech_at}
-use Rattle.master_hand.specs.Spoken.{is_followed, is_passed}
+use Rattle.life_runs.specs.Led.{speech_at, led_behind}
+use Rattle.master_hand.specs.Spoken.{Asked, acknowledged, is_followed, is_passed}
 use Rattle.master_tour.specs.Goes.{is_opened, opened_behind}
 use Rattle.master_node.specs.Shows.{turned_of}
 use Rattle.master_node.proofs.Lists.{both_map}
 use Rattle.master_node.proofs.Behinds.{life_lost_is, lead_behind, all_led, goes_lost, behind_shows, missed_is}
+use Rattle.std.proofs.Common.{subst, None}
+use Rattle.std.specs.Prelude.{◌&&◌}
+use Rattle.frame_view.specs.Seen.{seen}
+use Rattle.life_frames.specs.Shares.{Lived}
+use Rattle.master_duty.specs.Reply.{Reply}
+use Rattle.master_hand.specs.Joins.{unfinished_behind}
+use Rattle.master_tour.specs.Joins.{join_at}
+use Rattle.master_node.specs.Shows.{IsUnder}
+use Rattle.master_node.specs.Joined.{IsUnfinished, stand_before, stand_under, mails_lost}
+use Rattle.master_node.proofs.Joineds.{lost_unfinished, three_on, three_kept, three_of, three_after, unfinished_kept}
 use Rattle.master_node.proofs.node.MasterNode.lost.Goals as goal
 
 pub returns-clause-leads : goal.returns-clause-leads
@@ -22,3 +32,23 @@ returns-clause-leads c = λ lens recover retry missed number after octets us f p
     (goes_lost lens recover retry number f after (nat_lt missed retry) t.again m.tour.visit.items t.visit.items m.tour.opened t.opened us t.stops.items p (c.lost.ensures.tour.1 ∙ comes) (ap (λ z. z.items) c.lost.ensures.tour.0)
     (c.lost.ensures.opened ∙ ap (λ (z : Bool). if z then m.tour.opened else opened_behind (λ s. is_opened s.stand) m.tour.opened t.stops.items) comes) leads u.goes)
     (c.lost.ensures.tour.2 ∙ missed_is lens recover retry f after missed m.tour.missed m.tour.retry p u.missed_is u.retry_is) (c.lost.ensures.tour.3 ∙ u.retry_is)
+
+pub returns-clause-joined : goal.returns-clause-joined
+returns-clause-joined c = λ lens recover retry missed number after octets us befores f p b u h.
+    let m = c.args.self.now in
+    let ss = m.tour.stops.items in
+    let ts = c.lost.new.self.stops.items in
+    let zs = c.all_given_up.new.self.tour.stops.items in
+    let gives = not (nat_lt missed retry) in
+    let given = not (nat_lt m.tour.missed m.tour.retry) in
+    let comes : nat_lt m.tour.missed m.tour.retry ≡ nat_lt missed retry = λ i. nat_lt (u.missed_is i) (u.retry_is i) in
+    let there = three_on (λ v s. IsUnder lens recover octets v s) (λ v j s. IsUnfinished (stand_under v) s.side.hand.found.join j) _
+    (λ v j t. IsUnfinished (stand_before (led_behind lens recover retry gives number f v)) t.side.hand.found.join (join_at None unfinished_behind (stand_under v) j []))
+    (λ v j s t i w q.
+    let l = v.lived.life in
+    let spot = v.lived.spot in
+    subst (λ (a : Lived Asked Reply). IsUnfinished a.life.stand t.side.hand.found.join (join_at None unfinished_behind l.stand j [])) (life_lost_is lens recover retry gives given number f octets after v s p b (ap not (sym comes)) i)
+    (lost_unfinished (speech_at lens spot) acknowledged is_followed is_passed recover number spot [] (seen lens octets) (given && s.under) l t.side.hand.found.join s.side.hand.found.join j w q))
+    us befores ss ts u.each (three_of stand_under (λ z j s. IsUnfinished z s.side.hand.found.join j) us befores ss h) c.lost.ensures.join in
+    three_after stand_before (led_behind lens recover retry gives number f) mails_lost (λ z j s. IsUnfinished z s.side.hand.found.join j) us befores zs
+    (three_kept _ _ (λ v j s t x k. unfinished_kept (stand_before (led_behind lens recover retry gives number f v)) (join_at None unfinished_behind (stand_under v) j []) s t x k) us befores ts zs there c.all_given_up.ensures.kept.each)

@@ -11,6 +11,8 @@ use Rattle.master_node.proofs.Fills.{from_map}
 use Rattle.master_node.proofs.Lists.{both_map, both_holds, both_length}
 use Rattle.master_node.proofs.Sents.{stand_lives, each_holds, each_any, begins_live, both_from, lead_among, turns, turns_all, under_all, same_all, distinct_same, goes_under, sent_is, sent_some, goes_begun, some_not}
 use Rattle.master_tour.proofs.Steps as Steps
+use Rattle.master_tour.proofs.Walks.{each_map}
+use Rattle.master_node.proofs.Lists.{each_trans}
 use Rattle.master_node.proofs.node.MasterNode.make.Goals as goal
 
 pub returns-clause-led : goal.returns-clause-led
@@ -66,3 +68,9 @@ returns-clause-led c = λ lens recover retry missed number as' some x.
         sent = sent_some lens octets z.datagrams z.frame;
       },
     )
+
+pub returns-clause-joins : goal.returns-clause-joins
+returns-clause-joins c =
+    let s0 = c.args.self.now.tour.stops.items in
+    let s1 = c.begin.new.self.stops.items in
+    each_trans (λ s t. t.side.hand.found.join ≡ s.side.hand.found.join) s0 s1 c.fill.new.self.tour.stops.items (λ x y z a b. b ∙ a) (each_map _ _ s0 s1 (λ s t p. ap (λ z. z.hand.found.join) p.0) c.begin.ensures.each) c.fill.ensures.joins

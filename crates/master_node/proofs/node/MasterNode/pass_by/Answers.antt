@@ -1,10 +1,13 @@
-use Rattle.std.proofs.Common.{◌<◌, refl, sym, subst, arith, length, Some}
+use Rattle.std.proofs.Common.{◌≡◌, ◌<◌, refl, sym, subst, arith, length, Some}
 use Rattle.master_tour.specs.Walks.{StepsAt}
 use Rattle.master_tour.proofs.Walks.{steps_set}
 use Rattle.master_node.specs.Coming.{PassesBy}
 use Rattle.master_node.proofs.Kepts.{stop_side, stop_same}
 use Rattle.master_node.proofs.Lists.{steps_same}
 use Rattle.master_node.proofs.Visits.{state_passes}
+use Rattle.std.proofs.Common.{ap}
+use Rattle.master_tour.proofs.Walks.{each_same}
+use Rattle.master_node.proofs.Lists.{steps_each}
 use Rattle.master_node.proofs.node.MasterNode.pass_by.Goals as goal
 
 pub returns-in-State-clause-begun : goal.returns-in-State-clause-begun
@@ -33,3 +36,19 @@ returns-in-Script-clause-begun c =
     let l : c.args.place < length m.tour.stops.items = omega (arith, c.requires, m.paired, m.tour.stops.ok.0) in
     let e = c.in-Script.is in
     subst (λ z. StepsAt (λ s t. PassesBy (Some z) s t) c.args.place m.tour.stops.items m.tour.stops.items) (sym e) (steps_same _ c.args.place m.tour.stops.items l (λ s. stop_same s))
+
+pub returns-in-State-clause-joins : goal.returns-in-State-clause-joins
+returns-in-State-clause-joins c =
+    let m = c.args.self.now in
+    let l : c.args.place < length m.tour.stops.items = omega (arith, c.requires, m.paired, m.tour.stops.ok.0) in
+    steps_each (λ s t. t.side.hand.found.join ≡ s.side.hand.found.join) (λ s t. t.side.hand.found.join ≡ s.side.hand.found.join) c.args.place m.tour.stops.items _ (λ s. refl) (λ s t p. p)
+    (steps_set (λ s t. t.side.hand.found.join ≡ s.side.hand.found.join) c.args.place m.tour.stops.items c.index_mut.result.now _ l c.index_mut.ensures.value (ap (λ z. z.join) c.pass_by.ensures.found))
+
+pub returns-in-Packet-clause-joins : goal.returns-in-Packet-clause-joins
+returns-in-Packet-clause-joins c = each_same _ c.args.self.now.tour.stops.items (λ s. refl)
+
+pub returns-in-Mail-clause-joins : goal.returns-in-Mail-clause-joins
+returns-in-Mail-clause-joins c = each_same _ c.args.self.now.tour.stops.items (λ s. refl)
+
+pub returns-in-Script-clause-joins : goal.returns-in-Script-clause-joins
+returns-in-Script-clause-joins c = each_same _ c.args.self.now.tour.stops.items (λ s. refl)

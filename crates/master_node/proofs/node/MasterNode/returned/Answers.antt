@@ -1,14 +1,23 @@
-use Rattle.std.proofs.Common.{[], ◌∙◌}
+use Rattle.std.proofs.Common.{[], refl, ◌∙◌}
 use Rattle.std.specs.Prelude.{map}
 use Rattle.frame_view.specs.Seen.{seen}
-use Rattle.life_runs.specs.Led.{speech_at, gives_up_at}
-use Rattle.master_hand.specs.Spoken.{is_followed, is_passed}
+use Rattle.life_runs.specs.Led.{speech_at, gives_up_at, led_behind}
+use Rattle.master_hand.specs.Spoken.{Asked, acknowledged, is_followed, is_passed}
 use Rattle.master_node.specs.Brought.{StopBrought}
 use Rattle.master_node.specs.Kept.{StopStays}
 use Rattle.master_node.specs.Shows.{IsUnder, turned_of}
 use Rattle.master_node.proofs.Broughts.{brought_kept}
 use Rattle.master_node.proofs.Lists.{both_each, both_map}
 use Rattle.master_node.proofs.Behinds.{life_back_is, lead_behind, all_led, goes_behind, behind_shows}
+use Rattle.std.proofs.Common.{ap, sym, subst, Option, None}
+use Rattle.eoe.specs.declared.joining.Unfinished.{Unfinished}
+use Rattle.life_frames.specs.Shares.{Lived}
+use Rattle.master_duty.specs.Reply.{Reply}
+use Rattle.master_hand.specs.Joins.{unfinished_behind}
+use Rattle.master_tour.specs.Joins.{join_at}
+use Rattle.master_tour.specs.Stands.{came_at}
+use Rattle.master_node.specs.Joined.{IsUnfinished, StopCompleted, stand_before, stand_under, mails_back}
+use Rattle.master_node.proofs.Joineds.{back_unfinished, completed_at, three_on, three_kept, three_map, three_of, three_after, pair_both, completed_kept}
 use Rattle.master_node.proofs.node.MasterNode.returned.Goals as goal
 
 pub returns-clause-leads : goal.returns-clause-leads
@@ -33,3 +42,30 @@ returns-clause-brought c = λ lens recover retry missed octets us u r.
     (λ v s t i p. p (speech_at lens v.lived.spot) recover v.lived.spot v.lived.life i.lead.lives.planned.stands i.way i.lead.lives.shown)
     us m.tour.stops.items c.returned.new.self.stops.items u.each (c.returned.ensures.brought lens (seen lens octets) r u.sent))
     c.all_back.ensures.kept.each
+
+pub returns-clause-joined : goal.returns-clause-joined
+returns-clause-joined c = λ lens recover retry missed number octets us befores f p b u r h.
+    let m = c.args.self.now in
+    let ss = m.tour.stops.items in
+    let ts = c.returned.new.self.stops.items in
+    let zs = c.all_back.new.self.tour.stops.items in
+    let back = seen lens c.args.frame.now.items in
+    let gives = gives_up_at lens recover retry missed in
+    let e = c.returned.ensures in
+    let there = three_on (λ v s. IsUnder lens recover octets v s) (λ v j s. IsUnfinished (stand_under v) s.side.hand.found.join j) _
+    (λ v j t. StopCompleted back v j t × IsUnfinished (stand_before (led_behind lens recover retry gives number f v)) t.side.hand.found.join (join_at None unfinished_behind (stand_under v) j (mails_back back v)))
+    (λ v j s t i w q.
+    let l = v.lived.life in
+    let spot = v.lived.spot in
+    let ms = mails_back back v in
+    let joins = q.1 (speech_at lens spot) recover spot l i.lead.lives.planned.stands i.way i.lead.lives.shown in
+    let follows = q.0.0 (speech_at lens spot) is_followed is_passed number recover spot [] l i.lead.lives.planned.stands i.way i.lead.lives.shown in (
+      completed_at t.side.hand.found t.side.heard spot.station l.era.side.halves back l.stand s.side.hand.found.join j ms refl w joins.completes,
+      subst (λ (a : Lived Asked Reply). IsUnfinished a.life.stand t.side.hand.found.join (join_at None unfinished_behind l.stand j ms)) (life_back_is lens recover retry gives number f octets c.args.frame.now.items v s p b i)
+          (back_unfinished (speech_at lens spot) acknowledged is_followed is_passed number spot [] back (came_at s.under s.at back) l l.stand t.news t.side.hand.found.join s.side.hand.found.join j ms refl refl w joins.join follows.told),
+    ))
+    us befores ss ts u.each (three_of stand_under (λ z j s. IsUnfinished z s.side.hand.found.join j) us befores ss h) (pair_both _ _ ss ts (e.lives lens (seen lens octets) r u.sent) (e.joined lens (seen lens octets) r u.sent)) in
+    let kept = three_kept _ _ (λ v j s t x k. completed_kept back v j s t (join_at None unfinished_behind (stand_under v) j (mails_back back v)) (stand_before (led_behind lens recover retry gives number f v)) x k) us befores ts zs there c.all_back.ensures.kept.each in (
+      three_map _ _ (λ v j s x. x.0) us befores zs kept,
+      three_after stand_before (led_behind lens recover retry gives number f) (mails_back back) (λ z j s. IsUnfinished z s.side.hand.found.join j) us befores zs (three_map _ _ (λ v j s x. x.1) us befores zs kept),
+    )

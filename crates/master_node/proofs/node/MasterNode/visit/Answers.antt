@@ -13,9 +13,11 @@ use Rattle.master_tour.specs.Walks.{StepsAt}
 use Rattle.master_tour.proofs.Walks.{steps_both}
 use Rattle.master_node.specs.Filling.{StopFills}
 use Rattle.master_node.specs.Shows.{lived_of}
-use Rattle.master_node.proofs.Lists.{steps_map, steps_holds}
+use Rattle.master_node.proofs.Lists.{steps_map, steps_holds, steps_each, each_trans}
 use Rattle.master_node.proofs.Filleds.{count_behind}
 use Rattle.master_node.proofs.Visits.{Fitted, Began, now, comes, frame, among, among_fitted}
+use Rattle.std.proofs.Common.{◌∙◌}
+use Rattle.master_node.proofs.Lists.{steps_each, each_trans}
 use Rattle.master_node.proofs.node.MasterNode.visit.Goals as goal
 
 pub returns-then-not-fits-clause-led : goal.returns-then-not-fits-clause-led
@@ -85,3 +87,17 @@ returns-clause-counts c =
     subst (λ z. (z ≡ c.args.self.now.tour.count) ⊎ (z ≡ c.args.self.now.tour.count + 1)) (sym behind)
     (subst (λ z. (c.visit-began.new.self.count ≡ z) ⊎ (c.visit-began.new.self.count ≡ z + 1)) same
     (count_behind _ (λ t. t.under) c.lay.new.self.tour.count c.visit-began.new.self.count c.args.place c.lay.new.self.tour.stops.items c.visit-began.new.self.stops.items (λ s t p. (p.3, p.4)) c.visit-began.ensures.step))
+
+pub returns-then-not-fits-clause-joins : goal.returns-then-not-fits-clause-joins
+returns-then-not-fits-clause-joins c = steps_each _ _ c.args.place c.args.self.now.tour.stops.items c.fits.new.self.stops.items (λ s. refl) (λ s t p. p) c.fits.ensures.join
+
+pub returns-clause-joins : goal.returns-clause-joins
+returns-clause-joins c =
+    let s0 = c.args.self.now.tour.stops.items in
+    let s1 = c.fits.new.self.stops.items in
+    let s2 = c.lay.new.self.tour.stops.items in
+    let s3 = c.visit-began.new.self.stops.items in
+    let s4 = c.came.new.self.tour.stops.items in
+    each_trans (λ s t. t.side.hand.found.join ≡ s.side.hand.found.join) s0 s1 s4 (λ x y z a b. b ∙ a) (steps_each _ _ c.args.place s0 s1 (λ s. refl) (λ s t p. p) c.fits.ensures.join)
+    (each_trans (λ s t. t.side.hand.found.join ≡ s.side.hand.found.join) s1 s2 s4 (λ x y z a b. b ∙ a) c.lay.ensures.joins
+    (each_trans (λ s t. t.side.hand.found.join ≡ s.side.hand.found.join) s2 s3 s4 (λ x y z a b. b ∙ a) (steps_each _ _ c.args.place s2 s3 (λ s. refl) (λ s t p. p) c.visit-began.ensures.join) c.came.ensures.joins))

@@ -8,7 +8,7 @@ use Rattle.task_model.specs.Accounts.{duty_access, account_back}
 use Rattle.master_side.specs.Carried.{Meant, one}
 use Rattle.link_mails.specs.Body.{Body}
 use Rattle.mailbox_master.specs.Any.{in_half_of}
-use Rattle.master_side.specs.Heard.{heard_of, Brought}
+use Rattle.master_side.specs.Heard.{heard_of, Brought, HasJoined}
 use Rattle.master_side.proofs.Backs.{inward_back, inward_accepts, kept_side, view_short}
 use Rattle.master_side.proofs.side.Side.inward_back.Goals as goal
 
@@ -35,3 +35,13 @@ returns-clause-brought g c = λ n x b d a s w i.
     let accepts = inward_accepts x (g.H.Hand.shows args.hand x) args.out args.inn args.fresh args.duty d a args.station b c.args.counter c.args.octets.now c.returned-got.result c.returned-got.ensures.got s
     (subst (λ (k : Carried). Meant args.station k d.halves (duty_access a.hand) b) c.requires w) i in
     subst (λ (ms : List Body). Brought (g.H.Hand.brings new.hand) new.heard ms) (ap heard_of c.view_in.ensures ∙ sym accepts) (c.hear.ensures.brought (c.read_done.ensures.kept.5 ∙ n))
+
+pub returns-clause-joined : goal.returns-clause-joined
+returns-clause-joined g c = λ n x b d a s w i.
+    let args = c.args.self.now in
+    let new = c.hear.new.self in
+    let accepts = inward_accepts x (g.H.Hand.shows args.hand x) args.out args.inn args.fresh args.duty d a args.station b c.args.counter c.args.octets.now c.returned-got.result c.returned-got.ensures.got s
+    (subst (λ (k : Carried). Meant args.station k d.halves (duty_access a.hand) b) c.requires w) i in
+    subst (λ (ms : List Body). HasJoined g.H.Hand.joined (g.H.Hand.completed new.hand) (g.H.Hand.join args.hand) (g.H.Hand.join new.hand) new.heard ms) (ap heard_of c.view_in.ensures ∙ sym accepts)
+    (subst (λ z. HasJoined g.H.Hand.joined (g.H.Hand.completed new.hand) (g.H.Hand.join z) (g.H.Hand.join new.hand) new.heard (heard_of c.view_in.result)) c.read_done.ensures.kept.4
+    (c.hear.ensures.joined (c.read_done.ensures.kept.5 ∙ n)))

@@ -7,6 +7,7 @@ use Rattle.master_side.specs.declared.hand.Heard.{Heard}
 use Rattle.master_tour.specs.Brings.{accepted_at, accepted_in}
 use Rattle.master_tour.specs.Stands.{StopShows, came_at}
 use Rattle.master_tour.proofs.Backs.{gone_follows}
+use Rattle.master_tour.proofs.Joins.{turned_joins}
 use Rattle.master_tour.proofs.stop.Stop.back.Goals as goal
 
 pub returns-in-Gone-clause-lives : goal.returns-in-Gone-clause-lives
@@ -42,3 +43,22 @@ returns-in-Opening-clause-brought g c = λ x recover spot lens sent l sp r u sh.
 
 pub returns-in-Open-clause-brought : goal.returns-in-Open-clause-brought
 returns-in-Open-clause-brought g c = λ x recover spot lens sent l sp r u sh. c.open_met.ensures.brought c.in-Open.is refl x recover spot lens sent l sp r u sh
+
+pub returns-in-Gone-clause-joined : goal.returns-in-Gone-clause-joined
+returns-in-Gone-clause-joined g c = λ x recover spot lens sent l sp r u sh.
+    let t = c.args.self.now in
+    let w = c.args.self.now.side in
+    let back = seen lens c.args.octets.now in
+    let stood = (subst (λ z. StopShows (λ d a. SideShows (g.H.Hand.shows w.hand x) w.out w.inn w.fresh w.duty d a) recover spot z t.spare l) c.in-Gone.is sh).stood in
+    turned_joins g.H.Hand.unjoined g.H.Hand.joined _ _ _ _ _ (accepted_in spot l back) refl refl (subst (λ (z : Lives.Stand). accepted_at spot.station l.era.side.halves back z ≡ []) (sym stood) refl)
+
+pub returns-in-Opening-clause-joined : goal.returns-in-Opening-clause-joined
+returns-in-Opening-clause-joined g c = λ x recover spot lens sent l sp r u sh.
+    let t = c.args.self.now in
+    let w = c.args.self.now.side in
+    let back = seen lens c.args.octets.now in
+    let stood = (subst (λ z. StopShows (λ d a. SideShows (g.H.Hand.shows w.hand x) w.out w.inn w.fresh w.duty d a) recover spot z t.spare l) c.in-Opening.is sh).stood in
+    turned_joins g.H.Hand.unjoined g.H.Hand.joined _ _ _ _ _ (accepted_in spot l back) (c.opening_back.ensures.join refl) c.opening_back.ensures.heard (subst (λ (z : Lives.Stand). accepted_at spot.station l.era.side.halves back z ≡ []) (sym stood.stand) refl)
+
+pub returns-in-Open-clause-joined : goal.returns-in-Open-clause-joined
+returns-in-Open-clause-joined g c = λ x recover spot lens sent l sp r u sh. c.open_met.ensures.joined c.in-Open.is refl refl x recover spot lens sent l sp r u sh

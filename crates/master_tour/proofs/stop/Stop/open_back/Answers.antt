@@ -4,12 +4,13 @@ use Rattle.frame_view.specs.Seen.{part_seen}
 use Rattle.link_model.specs.Frames.{all_accepted}
 use Rattle.segment_model.specs.Slaves.{grams}
 use Rattle.task_model.specs.Accounts.{duty_access}
-use Rattle.master_side.specs.Heard.{Brought}
+use Rattle.master_side.specs.Heard.{Brought, HasJoined}
 use Rattle.master_side.specs.declared.hand.Heard.{Heard}
 use Rattle.master_side.specs.Shown.{SideShows}
 use Rattle.master_tour.specs.Under.{no_part}
 use Rattle.master_tour.proofs.Unders.{SameAim, aims, none_back, nothing_under, short_under, has_back, accepted_as, has_accepted}
 use Rattle.master_tour.proofs.Cursors.{stands_part, stands_in, parts_length, seen_parts}
+use Rattle.master_tour.proofs.Joins.{nothing_joined}
 use Rattle.master_tour.proofs.stop.Stop.open_back.Goals as goal
 
 pub body_of-body-requires : goal.body_of-body-requires
@@ -64,3 +65,28 @@ returns-then-seek-clause-brought g c = λ n x lens back d a e s u.
     let here = stands_in ds c.seek.new.self.number c.seek.new.self.part no_part (c.seek.ensures.stands ds c.requires.frame.1) ∙ ap (λ n. get_or (parts_of 16 ds) n no_part) (c.seek.ensures.at c.if-seek.true) in
     has_accepted (λ ms. Brought (g.H.Hand.brings y.hand) y.heard ms) w.station c.args.self.now.at c.args.self.now.under w.carried (duty_access a.hand) lens c.args.octets.now c.body_of-body.result.now (parts_of 16 ds) _ no_part back d.halves c.if-not-self.false here c.body_of-body.ensures is u
     (λ b m i. c.returned.ensures.brought n x b d a s m i)
+
+pub returns-then-not-self-clause-joined : goal.returns-then-not-self-clause-joined
+returns-then-not-self-clause-joined g c = λ n x lens back d a e s u.
+    let w = c.args.self.now.side in
+    nothing_joined g.H.Hand.joined (g.H.Hand.completed w.hand) (g.H.Hand.join w.hand) w.heard (all_accepted w.station d.halves (grams back)) n
+    (accepted_as w.station back [] d.halves (nothing_under w.station c.args.self.now.at c.args.self.now.under w.carried d.halves (duty_access a.hand) back c.if-not-self.true u))
+
+pub returns-else-seek-clause-joined : goal.returns-else-seek-clause-joined
+returns-else-seek-clause-joined g c = λ n x lens back d a e s u.
+    let w = c.args.self.now.side in
+    let ds = c.requires.frame.0 in
+    let is = e ∙ seen_parts lens c.args.octets.now ds c.requires.frame.1 in
+    let short = subst (λ n. n ≤ c.args.self.now.at) (sym (parts_length 16 ds)) (c.seek.ensures.none c.if-seek.false ds c.requires.frame.1) in
+    nothing_joined g.H.Hand.joined (g.H.Hand.completed w.hand) (g.H.Hand.join w.hand) w.heard (all_accepted w.station d.halves (grams back)) n
+    (accepted_as w.station back [] d.halves (short_under w.station c.args.self.now.at c.args.self.now.under w.carried d.halves (duty_access a.hand) (part_seen lens c.args.octets.now) (parts_of 16 ds) back is short u))
+
+pub returns-then-seek-clause-joined : goal.returns-then-seek-clause-joined
+returns-then-seek-clause-joined g c = λ n x lens back d a e s u.
+    let w = c.args.self.now.side in
+    let y = c.returned.new.self in
+    let ds = c.requires.frame.0 in
+    let is = e ∙ seen_parts lens c.args.octets.now ds c.requires.frame.1 in
+    let here = stands_in ds c.seek.new.self.number c.seek.new.self.part no_part (c.seek.ensures.stands ds c.requires.frame.1) ∙ ap (λ n. get_or (parts_of 16 ds) n no_part) (c.seek.ensures.at c.if-seek.true) in
+    has_accepted (λ ms. HasJoined g.H.Hand.joined (g.H.Hand.completed y.hand) (g.H.Hand.join w.hand) (g.H.Hand.join y.hand) y.heard ms) w.station c.args.self.now.at c.args.self.now.under w.carried (duty_access a.hand) lens c.args.octets.now c.body_of-body.result.now (parts_of 16 ds) _ no_part back d.halves c.if-not-self.false here c.body_of-body.ensures is u
+    (λ b m i. c.returned.ensures.joined n x b d a s m i)

@@ -9,13 +9,14 @@ use Rattle.life_model.specs.Lives.{era_back}
 use Rattle.life_model.specs.Own
 use Rattle.link_model.specs.Frames.{all_accepted}
 use Rattle.segment_model.specs.Slaves.{grams}
-use Rattle.master_side.specs.Heard.{Brought}
+use Rattle.master_side.specs.Heard.{Brought, HasJoined}
 use Rattle.master_side.specs.Shown.{SideShows}
 use Rattle.master_tour.specs.Stands.{StopShows, StandUnder, StandShows, IsSpot, came_at}
 use Rattle.master_tour.proofs.Cursors.{seen_parts}
 use Rattle.master_tour.proofs.Unders.{SameAim, aims, under_back}
 use Rattle.master_tour.specs.Brings.{accepted_at, accepted_in}
 use Rattle.master_tour.proofs.Backs.{own_back, own_accepted, open_follows}
+use Rattle.master_tour.proofs.Joins.{still_joins}
 use Rattle.master_tour.proofs.stop.Stop.open_met.Goals as goal
 
 pub returns-clause-lives : goal.returns-clause-lives
@@ -65,3 +66,20 @@ returns-clause-brought g c = λ o n x recover spot lens sent l sp r u sh.
     let there = subst (λ (z : ℕ). Brought (g.H.Hand.brings m.hand) m.heard (all_accepted z h (grams (Own.own z back)))) sp.station_is own in
     subst (λ z. Brought (g.H.Hand.brings z.hand) z.heard (accepted_in spot l back)) (sym c.reopen.ensures.side)
     (subst (λ (z : Lives.Stand). Brought (g.H.Hand.brings m.hand) m.heard (accepted_at spot.station h back z)) (sym stood.0) there)
+
+pub returns-clause-joined : goal.returns-clause-joined
+returns-clause-joined g c = λ o q n x recover spot lens sent l sp r u sh.
+    let t = c.args.self.now in
+    let w = c.args.self.now.side in
+    let m = c.open_back.new.self.side in
+    let back = seen lens c.args.octets.now in
+    let h = l.era.side.halves in
+    let ds = c.requires.frame.0 in
+    let aim = subst (SameAim w.station) (sym (seen_parts lens c.args.octets.now ds c.requires.frame.1)) (aims lens c.args.octets.now w.station (parts_of 16 ds) t.named) in
+    let stood = (subst (λ z. StopShows (λ d a. SideShows (g.H.Hand.shows w.hand x) w.out w.inn w.fresh w.duty d a) recover spot z t.spare l) o sh).stood in
+    let under = under_back w.station t.at t.under w.carried h (duty_access l.era.account.hand) sent back r (subst (λ z. StandUnder lens w.station t.at t.under w.carried z l sent) o u) in
+    let own = own_accepted (λ ms. HasJoined g.H.Hand.joined (g.H.Hand.completed m.hand) (g.H.Hand.join w.hand) (g.H.Hand.join m.hand) m.heard ms) w.station back h aim (c.open_back.ensures.joined n x lens back l.era.side l.era.account refl stood.1 under) in
+    let there = subst (λ (z : ℕ). HasJoined g.H.Hand.joined (g.H.Hand.completed m.hand) (g.H.Hand.join w.hand) (g.H.Hand.join m.hand) m.heard (all_accepted z h (grams (Own.own z back)))) sp.station_is own in
+    let there_now = subst (λ (z : Lives.Stand). HasJoined g.H.Hand.joined (g.H.Hand.completed m.hand) (g.H.Hand.join w.hand) (g.H.Hand.join m.hand) m.heard (accepted_at spot.station h back z)) (sym stood.0) there in
+    let kept = subst (λ z. HasJoined g.H.Hand.joined (g.H.Hand.completed z.hand) (g.H.Hand.join w.hand) (g.H.Hand.join z.hand) z.heard (accepted_in spot l back)) (sym c.reopen.ensures.side) there_now in
+    still_joins g.H.Hand.unjoined g.H.Hand.joined _ c.reopen.new.self.news _ _ _ _ (c.reopen.ensures.kept.3 ∙ c.open_back.ensures.kept.3 ∙ q) kept

@@ -4,6 +4,9 @@ use Rattle.master_tour.specs.Stands.{StopShows, FollowShows}
 use Rattle.life_model.specs.Lives.{life_back}
 use Rattle.std.specs.Prelude.{Some}
 use Rattle.master_tour.proofs.Openings.{opening_follows}
+use Rattle.std.proofs.Common.{ap}
+use Rattle.master_tour.specs.Joins.{join_behind}
+use Rattle.master_tour.proofs.Joins.{cleared_join}
 use Rattle.master_tour.proofs.stop.Stop.opening_met.Goals as goal
 
 pub returns-clause-lives : goal.returns-clause-lives
@@ -18,3 +21,9 @@ returns-clause-lives g c = λ o x more passed frame recover spot news back came 
     (subst (λ z. StopShows (λ d a. SideShows (g.H.Hand.shows w.hand x) w.out w.inn w.fresh w.duty d a) recover spot z c.args.self.now.spare l) o sh)
     (λ e d a s. subst (λ z. SideShows (g.H.Hand.shows z.hand x) z.out z.inn z.fresh z.duty d a) (sym (c.renew_where.ensures.still e)) s)
     (λ e d a s. c.renew_where.ensures.cleared e x d a s))
+
+pub returns-clause-join : goal.returns-clause-join
+returns-clause-join g c =
+    let none = g.H.Hand.unjoined in
+    let old = g.H.Hand.join c.args.self.now.side.hand in
+    c.renew_where.ensures.join ∙ cleared_join none old c.clears-is_cleared.result c.came_back-is_up.result ∙ sym (ap (λ t. join_behind none t old) (c.renew_where.ensures.kept.2 ∙ c.news_of-self.ensures))

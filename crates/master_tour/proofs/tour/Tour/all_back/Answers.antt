@@ -12,6 +12,7 @@ use Rattle.frame_view.specs.View.{Lens}
 use Rattle.master_duty.specs.Reply.{Reply}
 use Rattle.master_side.specs.Heard.{Brought}
 use Rattle.master_tour.specs.Brings.{accepted_in}
+use Rattle.master_tour.specs.Joins.{Joins}
 use Rattle.master_side.specs.Shown.{SideShows}
 use Rattle.master_tour.proofs.Walks.{walk_on, walk_over, walked_length}
 use Rattle.mailbox_master.specs.Any.{in_area_len}
@@ -42,6 +43,10 @@ loop-i-preserved g c =
           IsSpot spot s.side.station s.place s.start → StandUnder lens s.side.station s.at s.under s.side.carried s.stand k sent → StopShows (λ d a. SideShows (g.H.Hand.shows s.side.hand x) s.side.out s.side.inn s.side.fresh s.side.duty d a) recover spot s.stand s.spare k →
           Brought (g.H.Hand.brings t.side.hand) t.side.heard (accepted_in spot k (seen lens c.args.octets.now)))
           c.loop-i.i (c.loop-i.i + 1) c.args.self.now.stops.items c.loop-i.self.stops.items c.index_mut.result.now c.back.new.self (add-one c.loop-i.i) c.loop-i.invariant.10 (let e = len ∙ c.args.self.now.stops.ok.0 in omega (arith, test, e)) c.index_mut.ensures.value (λ lens sent r x recover spot k p u h. c.back.ensures.brought x recover spot lens sent k p r u h),
+      walk_on (λ s t. (lens : ℕ → Lens) (sent : List (Datagram Body)) → Returns sent (seen lens c.args.octets.now) → (x : Speech Body g.H.Hand.Asked Reply) (recover : ℕ) (spot : Spot) (k : Life Body g.H.Hand.Asked Reply) →
+          IsSpot spot s.side.station s.place s.start → StandUnder lens s.side.station s.at s.under s.side.carried s.stand k sent → StopShows (λ d a. SideShows (g.H.Hand.shows s.side.hand x) s.side.out s.side.inn s.side.fresh s.side.duty d a) recover spot s.stand s.spare k →
+          Joins g.H.Hand.unjoined g.H.Hand.joined (g.H.Hand.completed t.side.hand) t.news t.side.heard (g.H.Hand.join s.side.hand) (g.H.Hand.join t.side.hand) (accepted_in spot k (seen lens c.args.octets.now)))
+          c.loop-i.i (c.loop-i.i + 1) c.args.self.now.stops.items c.loop-i.self.stops.items c.index_mut.result.now c.back.new.self (add-one c.loop-i.i) c.loop-i.invariant.11 (let e = len ∙ c.args.self.now.stops.ok.0 in omega (arith, test, e)) c.index_mut.ensures.value (λ lens sent r x recover spot k p u h. c.back.ensures.joined x recover spot lens sent k p r u h),
     )
 
 pub returns : goal.returns
@@ -58,5 +63,8 @@ returns g c =
       brought = walk_over (λ s t. (lens : ℕ → Lens) (sent : List (Datagram Body)) → Returns sent (seen lens c.args.octets.now) → (x : Speech Body g.H.Hand.Asked Reply) (recover : ℕ) (spot : Spot) (k : Life Body g.H.Hand.Asked Reply) →
           IsSpot spot s.side.station s.place s.start → StandUnder lens s.side.station s.at s.under s.side.carried s.stand k sent → StopShows (λ d a. SideShows (g.H.Hand.shows s.side.hand x) s.side.out s.side.inn s.side.fresh s.side.duty d a) recover spot s.stand s.spare k →
           Brought (g.H.Hand.brings t.side.hand) t.side.heard (accepted_in spot k (seen lens c.args.octets.now))) c.loop-i.i c.args.self.now.stops.items c.loop-i.self.stops.items (let e = len ∙ c.args.self.now.stops.ok.0 in omega (arith, test, e)) c.loop-i.invariant.10;
+      joined = walk_over (λ s t. (lens : ℕ → Lens) (sent : List (Datagram Body)) → Returns sent (seen lens c.args.octets.now) → (x : Speech Body g.H.Hand.Asked Reply) (recover : ℕ) (spot : Spot) (k : Life Body g.H.Hand.Asked Reply) →
+          IsSpot spot s.side.station s.place s.start → StandUnder lens s.side.station s.at s.under s.side.carried s.stand k sent → StopShows (λ d a. SideShows (g.H.Hand.shows s.side.hand x) s.side.out s.side.inn s.side.fresh s.side.duty d a) recover spot s.stand s.spare k →
+          Joins g.H.Hand.unjoined g.H.Hand.joined (g.H.Hand.completed t.side.hand) t.news t.side.heard (g.H.Hand.join s.side.hand) (g.H.Hand.join t.side.hand) (accepted_in spot k (seen lens c.args.octets.now))) c.loop-i.i c.args.self.now.stops.items c.loop-i.self.stops.items (let e = len ∙ c.args.self.now.stops.ok.0 in omega (arith, test, e)) c.loop-i.invariant.11;
       long = sym (walked_length _ c.loop-i.i c.args.self.now.stops.items c.loop-i.self.stops.items c.loop-i.invariant.1);
     }

@@ -12,6 +12,7 @@ use Rattle.frame_view.specs.View.{Lens}
 use Rattle.master_duty.specs.Reply.{Reply}
 use Rattle.master_side.specs.Heard.{Brought}
 use Rattle.master_tour.specs.Brings.{accepted_in}
+use Rattle.master_tour.specs.Joins.{Joins}
 use Rattle.master_side.specs.Shown.{SideShows}
 use Rattle.master_tour.specs.Cursor.{IsAtOne}
 use Rattle.master_tour.specs.Walks.{Walked}
@@ -25,4 +26,6 @@ invariant-loop-i g l = IsAtOne l.octets l.cursor.number l.cursor.part × Walked 
     IsSpot spot s.side.station s.place s.start → StandUnder lens s.side.station s.at s.under s.side.carried s.stand k sent → StopShows (λ d a. SideShows (g.H.Hand.shows s.side.hand x) s.side.out s.side.inn s.side.fresh s.side.duty d a) recover spot s.stand s.spare k →
     FollowShows (λ d a. SideShows (g.H.Hand.shows t.side.hand x) t.side.out t.side.inn t.side.fresh t.side.duty d a) recover spot t.stand t.spare t.news k (life_back x g.H.Hand.acknowledged more passed number spot ns (seen lens l.octets) (came_at s.under s.at (seen lens l.octets)) k k.stand)) × (t.place ≡ s.place) × (t.start ≡ s.start)) l.i l.initial.self.stops.items l.self.stops.items × Walked (λ s t. SameLink s.side.out s.side.inn s.side.station s.side.area t.side.out t.side.inn t.side.station t.side.area × (IsSized s.stand s.side.out.len (in_area_len s.side.inn) → IsSized t.stand t.side.out.len (in_area_len t.side.inn))) l.i l.initial.self.stops.items l.self.stops.items × (l.self.again ≡ l.initial.self.again) × (l.self.visit ≡ l.initial.self.visit) × (l.self.opened ≡ l.initial.self.opened) × (l.self.last ≡ l.initial.self.last) × (l.self.missed ≡ l.initial.self.missed) × (l.self.retry ≡ l.initial.self.retry) × Walked (λ s t. (lens : ℕ → Lens) (sent : List (Datagram Body)) → Returns sent (seen lens l.octets) → (x : Speech Body g.H.Hand.Asked Reply) (recover : ℕ) (spot : Spot) (k : Life Body g.H.Hand.Asked Reply) →
     IsSpot spot s.side.station s.place s.start → StandUnder lens s.side.station s.at s.under s.side.carried s.stand k sent → StopShows (λ d a. SideShows (g.H.Hand.shows s.side.hand x) s.side.out s.side.inn s.side.fresh s.side.duty d a) recover spot s.stand s.spare k →
-    Brought (g.H.Hand.brings t.side.hand) t.side.heard (accepted_in spot k (seen lens l.octets))) l.i l.initial.self.stops.items l.self.stops.items
+    Brought (g.H.Hand.brings t.side.hand) t.side.heard (accepted_in spot k (seen lens l.octets))) l.i l.initial.self.stops.items l.self.stops.items × Walked (λ s t. (lens : ℕ → Lens) (sent : List (Datagram Body)) → Returns sent (seen lens l.octets) → (x : Speech Body g.H.Hand.Asked Reply) (recover : ℕ) (spot : Spot) (k : Life Body g.H.Hand.Asked Reply) →
+    IsSpot spot s.side.station s.place s.start → StandUnder lens s.side.station s.at s.under s.side.carried s.stand k sent → StopShows (λ d a. SideShows (g.H.Hand.shows s.side.hand x) s.side.out s.side.inn s.side.fresh s.side.duty d a) recover spot s.stand s.spare k →
+    Joins g.H.Hand.unjoined g.H.Hand.joined (g.H.Hand.completed t.side.hand) t.news t.side.heard (g.H.Hand.join s.side.hand) (g.H.Hand.join t.side.hand) (accepted_in spot k (seen lens l.octets))) l.i l.initial.self.stops.items l.self.stops.items

@@ -1,5 +1,5 @@
 use Rattle.std.proofs.Common.{◌≡◌, ◌+◌, List, ℕ, sym, ◌∙◌, arith, add-one}
-use Rattle.std.specs.Prelude.{◌&&◌, Bool, None}
+use Rattle.std.specs.Prelude.{◌&&◌, Bool, false, None}
 use Rattle.segment_model.specs.Record.{News}
 use Rattle.life_model.specs.Lives.{Life, Spot, life_lost}
 use Rattle.master_tour.specs.Stands.{StopShows, FollowShows, IsSpot, StandUnder, given_where}
@@ -33,6 +33,8 @@ loop-i-preserved g c =
       c.loop-i.invariant.6,
       c.loop-i.invariant.7,
       c.loop-i.invariant.8,
+      walk_on (λ s t. (c.args.gives && s.under) ≡ false → g.H.Hand.join t.side.hand ≡ g.H.Hand.join s.side.hand)
+          c.loop-i.i (c.loop-i.i + 1) c.args.self.now.stops.items c.loop-i.self.stops.items c.index_mut.result.now c.lost_for.new.self (add-one c.loop-i.i) c.loop-i.invariant.9 (let e = len ∙ c.args.self.now.stops.ok.0 in omega (arith, test, e)) c.index_mut.ensures.value c.lost_for.ensures.join,
     )
 
 pub returns : goal.returns
@@ -46,5 +48,6 @@ returns g c =
           FollowShows (λ d a. SideShows (g.H.Hand.shows t.side.hand x) t.side.out t.side.inn t.side.fresh t.side.duty d a) recover spot t.stand t.spare t.news k (given_where (c.args.gives && s.under) recover spot number (life_lost x g.H.Hand.acknowledged more passed spot ns (seen lens octets) k k.stand))) × (t.place ≡ s.place) × (t.start ≡ s.start)) c.loop-i.i c.args.self.now.stops.items c.loop-i.self.stops.items (let e = len ∙ c.args.self.now.stops.ok.0 in omega (arith, test, e)) c.loop-i.invariant.1;
       kept = walk_over (λ s t. SameLink s.side.out s.side.inn s.side.station s.side.area t.side.out t.side.inn t.side.station t.side.area × (IsSized s.stand s.side.out.len (in_area_len s.side.inn) → IsSized t.stand t.side.out.len (in_area_len t.side.inn))) c.loop-i.i c.args.self.now.stops.items c.loop-i.self.stops.items (let e = len ∙ c.args.self.now.stops.ok.0 in omega (arith, test, e)) c.loop-i.invariant.2;
       tour = (c.loop-i.invariant.3, c.loop-i.invariant.4, c.loop-i.invariant.5, c.loop-i.invariant.6, c.loop-i.invariant.7, c.loop-i.invariant.8);
+      join = walk_over (λ s t. (c.args.gives && s.under) ≡ false → g.H.Hand.join t.side.hand ≡ g.H.Hand.join s.side.hand) c.loop-i.i c.args.self.now.stops.items c.loop-i.self.stops.items (let e = len ∙ c.args.self.now.stops.ok.0 in omega (arith, test, e)) c.loop-i.invariant.9;
       long = sym (walked_length _ c.loop-i.i c.args.self.now.stops.items c.loop-i.self.stops.items c.loop-i.invariant.0);
     }

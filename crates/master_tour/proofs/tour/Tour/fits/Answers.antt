@@ -24,3 +24,6 @@ returns-clause-made g c = λ x more passed made recover index count lens left li
     v.side.station w.side.station v.place w.place v.start w.start v.stand w.stand v.spare w.spare v.side.out w.side.out v.side.inn w.side.inn v.side.duty w.side.duty v.side.carried w.side.carried v.side.passing w.side.passing v.under w.under v.at w.at left begun ds c.args.place b
     e.link.station_is e.kept.0 e.kept.1 e.stand e.link.out_is e.link.in_is e.passing e.kept.3 k m (e.lives (x b.spot) more passed made recover b.spot m.life m.lives.shown)))
     f
+
+pub returns-clause-join : goal.returns-clause-join
+returns-clause-join g c = steps_set _ c.args.place c.args.self.now.stops.items c.index_mut.result.now c.ahead.new.self c.requires.inside c.index_mut.ensures.value c.ahead.ensures.join

@@ -26,3 +26,9 @@ returns-clause-shown g c = λ lens octets x more passed number recover lives h.
       shown = (r.0 lens octets (x a.spot) more passed number recover a.spot ns a.life p.0.planned.stands p.1 p.0.shown).shown;
     })
     lives c.args.self.now.stops.items c.all_lost.new.self.stops.items h c.all_lost.ensures.lives c.all_lost.ensures.kept
+
+pub returns-then-comes_again-clause-join : goal.returns-then-comes_again-clause-join
+returns-then-comes_again-clause-join g c = each_map _ _ c.args.self.now.stops.items c.all_lost.new.self.stops.items (λ s t p. p) c.all_lost.ensures.join
+
+pub returns-clause-join : goal.returns-clause-join
+returns-clause-join g c = each_map _ _ c.args.self.now.stops.items c.all_lost.new.self.stops.items (λ s t p. p) c.all_lost.ensures.join

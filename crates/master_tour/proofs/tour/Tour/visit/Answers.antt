@@ -83,3 +83,8 @@ returns-clause-first g c = λ e live.
     let same = c.index.ensures ∙ get_or-set_same s.stops.items c.args.place c.visit-began.new.self c.index.result.now c.requires.inside in
     let here = holds_here (λ t. is_live t.stand) s.stops.items c.args.place c.index_mut.result.now c.requires.inside c.index_mut.ensures.value in
     c.carry_where.ensures.carried (ap (λ z. z.under) same ∙ c.visit-began.ensures.first e (here ∙ live))
+
+pub returns-clause-join : goal.returns-clause-join
+returns-clause-join g c =
+    subst (λ z. StepsAt (λ s t. g.H.Hand.join t.side.hand ≡ g.H.Hand.join s.side.hand) c.args.place c.args.self.now.stops.items z.items) (sym c.carry_where.ensures.stops)
+    (steps_set (λ s t. g.H.Hand.join t.side.hand ≡ g.H.Hand.join s.side.hand) c.args.place c.args.self.now.stops.items c.index_mut.result.now c.visit-began.new.self c.requires.inside c.index_mut.ensures.value c.visit-began.ensures.join)
