@@ -18,3 +18,4 @@ pub mod Counts
 pub mod Quiets
 pub mod Says
 pub mod Stoods
+pub mod Toureds

@@ -12,3 +12,4 @@ pub mod Kept
 pub mod Coming
 pub mod First
 pub mod Filling
+pub mod Toured

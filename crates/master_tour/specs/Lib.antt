@@ -6,3 +6,4 @@ pub mod Made
 pub mod Brings
 pub mod Orders
 pub mod Goes
+pub mod Toured
