@@ -1,4 +1,4 @@
-use Rattle.std.proofs.Common.{◌<◌, sym, subst, arith, length}
+use Rattle.std.proofs.Common.{◌<◌, refl, sym, subst, arith, length}
 use Rattle.master_tour.specs.Walks.{StepsAt}
 use Rattle.master_node.specs.Coming.{CameBy}
 use Rattle.master_node.proofs.Kepts.{stop_same}
@@ -14,3 +14,9 @@ returns-else-began-clause-came c =
     let m = c.args.self.now in
     let l : c.args.place < length m.tour.stops.items = omega (arith, c.requires, m.paired, m.tour.stops.ok.0) in
     subst (λ z. StepsAt (λ s t. CameBy z c.args.coming s t) c.args.place m.tour.stops.items m.tour.stops.items) (sym c.if-began.false) (steps_same _ c.args.place m.tour.stops.items l (λ s. stop_same s))
+
+pub returns-else-began-clause-put : goal.returns-else-began-clause-put
+returns-else-began-clause-put c =
+    let m = c.args.self.now in
+    let l : c.args.place < length m.tour.stops.items = omega (arith, c.requires, m.paired, m.tour.stops.ok.0) in
+    steps_same _ c.args.place m.tour.stops.items l (λ s. (refl, refl, refl))

@@ -11,6 +11,7 @@ use Rattle.master_node.proofs.Fills.{from_map}
 use Rattle.master_node.proofs.Lists.{both_map, both_holds, both_length}
 use Rattle.master_node.proofs.Sents.{stand_lives, each_holds, each_any, begins_live, both_from, lead_among, turns, turns_all, under_all, same_all, distinct_same, goes_under, sent_is, sent_some, goes_begun, some_not}
 use Rattle.master_tour.proofs.Steps as Steps
+use Rattle.master_node.proofs.Toureds.{each_none, tour_same, of_tour}
 use Rattle.master_node.proofs.node.MasterNode.make.Goals as goal
 
 pub returns-clause-led : goal.returns-clause-led
@@ -46,6 +47,14 @@ returns-clause-led c = λ lens recover retry missed number as' some x.
       many = many;
     }) in
     let on = c.fill.ensures.on in
+    let visits = λ (a : m.tour.again ≡ true). ap (λ z. z.items) (e.again a) in
+    let v = c.fill.ensures.visited (record {
+      count = e.count;
+      passed = e.tour.5;
+      under = each_none _ (λ s. s.under) (λ s t p. p.5) ss ts e.each;
+      again = λ a. (goes.comes a).once;
+      anew = λ a. e.anew (sym e.tour.0 ∙ a);
+    }) in
     let t2 = c.fill.new.self.tour in
     let yes = c.finish-some.ensures.some ∙ some_not t2.count f.some in
     let z = c.finish-some.ensures.made yes (speech_at lens) is_followed is_passed number recover (c.fill.new.self.made % 256) lens f.left lives f.filling.begun f.filling.frame in
@@ -65,4 +74,6 @@ returns-clause-led c = λ lens recover retry missed number as' some x.
         retry_is = on.retry ∙ e.tour.4 ∙ x.retry_is;
         sent = sent_some lens octets z.datagrams z.frame;
       },
+      tour_same m _ c.fill.new.self v e.tour.0 visits e.tour.1 e.tour.2 e.tour.3 on,
+      of_tour m _ c.fill.new.self v e.tour.0 visits e.tour.1 e.tour.2 e.tour.3 on (λ k. holds_at is_live_lead as' k) alive f.some,
     )

@@ -1,7 +1,11 @@
-use Rattle.std.proofs.Common.{◌≡◌, ◌∙◌, true, sym, subst}
+use Rattle.std.proofs.Common.{◌≡◌, ◌∙◌, true, refl, sym, subst}
 use Rattle.std.specs.List.{list_any}
-use Rattle.master_tour.specs.Goes.{is_live}
+use Rattle.master_tour.specs.Goes.{is_live, holds_at}
 use Rattle.master_node.proofs.Sents.{shows_same}
+use Rattle.master_node.proofs.Toureds.{turns_tour, tour_by}
+use Rattle.master_node.specs.Shows.{is_live_lead}
+use Rattle.master_node.specs.Toured.{stop_share, tour_of}
+use Rattle.master_tour.specs.Toured.{IsOfTour}
 use Rattle.master_node.proofs.node.MasterNode.next.Goals as goal
 
 pub returns-clause-led : goal.returns-clause-led
@@ -9,3 +13,15 @@ returns-clause-led c = λ h lens recover retry missed number as' x.
     let live : c.has_live.result ≡ true = cc in
     let w = c.make.ensures.led lens recover retry missed number as' (subst (λ z. list_any (λ s. is_live s.stand) z.stops.items ≡ true) (sym c.admit.ensures.same.1) (sym c.has_live.ensures ∙ live)) (shows_same lens recover retry missed as' _ c.admit.new.self c.admit.ensures.same.1 c.admit.ensures.same.0 x) in
     (w.0, w.1, record { each = w.2.each; distinct = w.2.distinct; quiet = w.2.quiet; goes = w.2.goes; missed_is = w.2.missed_is; retry_is = w.2.retry_is; sent = w.2.sent })
+
+pub returns-clause-toured : goal.returns-clause-toured
+returns-clause-toured c = λ h lens recover retry missed as' us x y.
+    let m = c.args.self.now in
+    let n = c.admit.new.self in
+    let live : c.has_live.result ≡ true = cc in
+    let w = c.make.ensures.led lens recover retry missed 0 as' (subst (λ z. list_any (λ s. is_live s.stand) z.stops.items ≡ true) (sym c.admit.ensures.same.1) (sym c.has_live.ensures ∙ live)) (shows_same lens recover retry missed as' _ n c.admit.ensures.same.1 c.admit.ensures.same.0 x) in
+    let same : tour_of n ≡ tour_of m = tour_by m n m.tour refl c.admit.ensures.same.1 in (
+      w.3 ∙ same,
+      turns_tour lens recover c.make.new.into.items (λ k. holds_at is_live_lead as' k) (tour_of m) us c.make.new.self.tour.stops.items c.make.new.self.tour.visit.items y.each
+          (subst (λ z. IsOfTour (λ s. stop_share s) (λ k. holds_at is_live_lead as' k) z c.make.new.self.tour.stops.items c.make.new.self.tour.visit.items) same w.4),
+    )

@@ -1,0 +1,47 @@
+-- A toured run is a led one, and its visits are those of the tour by stations.
+use Rattle.std.proofs.Common.{◌≡◌, ◌<◌, ◌≤◌, ◌+◌, ℕ, Bool, true, false, Option, Some, None, List, [], ◌∷◌, ◌++◌, refl, sym, ap, ◌∙◌, subst, arith, length}
+use Rattle.std.specs.Prelude.{nat_lt, cond, filter, map, drop, if◌then◌else◌}
+use Rattle.std.proofs.lemmas.Bool.{lt-ltb, le-ltb}
+use Rattle.frame_view.specs.View.{Lens}
+use Rattle.life_model.specs.Tours.{Member, is_live_in, round}
+use Rattle.life_runs.specs.Led.{Leads, Exchanged, IsLed, missed_behind}
+use Rattle.master_tour.specs.Orders.{start_of, round_left}
+use Rattle.master_tour.specs.Toured.{Tour, visit_of}
+use Rattle.segment_model.specs.Visits.{Stop}
+use Rattle.segment_ring.specs.declared.wire.Fate.{Fate}
+use Rattle.segment_ring.specs.declared.wire.Fate.TheVariants.{Pass, Lost}
+use Rattle.visit_orders.specs.Toured.{IsToured, tour_behind, visit_stations}
+use Rattle.visit_orders.specs.Visits.{AreOf, AreApart, IsPlace, stop_at, stops_at, stations_at, last_station}
+use Rattle.visit_orders.proofs.Orders.{round_as, drop_here}
+
+-- as many frames are lost in a row
+missed_same : (lens : ℕ → Lens) (recover retry : ℕ) (fate : Fate) (as' : List Leads) (t : Tour) (visit : List ℕ) → missed_behind lens recover retry fate t.missed ≡ (tour_behind retry fate as' t visit).missed
+missed_same lens recover retry Pass as' t visit = refl
+missed_same lens recover retry (Lost after) as' t visit = go (nat_lt t.missed retry)
+  where
+    go : (z : Bool) → (if z then t.missed + 1 else 0) ≡ Tour.missed (if z then record t { again = Some visit; missed = t.missed + 1 } else tour_behind retry Pass as' t visit)
+    go true = refl
+    go false = refl
+
+pub toured_led : (lens : ℕ → Lens) (recover retry : ℕ) (first : List Leads) (fs : List Exchanged) (t : Tour) (as' : List Leads) → IsToured lens recover retry first fs t as' → IsLed lens recover retry first fs t.missed as'
+toured_led lens recover retry first fs t as' IsToured.start = IsLed.start
+toured_led lens recover retry first fs t as' (IsToured.on gs s bs f us visit r l o) =
+    subst (λ z. IsLed lens recover retry first fs z as') (missed_same lens recover retry f.fate as' s visit) (IsLed.on gs s.missed bs f us (toured_led lens recover retry first gs s bs r) l)
+
+-- BY STATIONS
+stations_are : (ring : List Stop) (ps : List ℕ) → stations_at ring ps ≡ map (λ s. s.station) (stops_at ring ps)
+stations_are ring [] = refl
+stations_are ring (p ∷ ps) = ap (λ z. (stop_at ring p).station ∷ z) (stations_are ring ps)
+
+filtered_same : (ring : List Stop) (members : List Member) (live : ℕ → Bool) (ps : List ℕ) → ((k : ℕ) → live k ≡ is_live_in (stop_at ring k).station members) → filter (λ s. is_live_in s.station members) (stops_at ring ps) ≡ stops_at ring (filter live ps)
+filtered_same ring members live [] h = refl
+filtered_same ring members live (p ∷ ps) h =
+    ap (λ (z : Bool). cond z (stop_at ring p ∷ filter (λ s. is_live_in s.station members) (stops_at ring ps)) (filter (λ s. is_live_in s.station members) (stops_at ring ps))) (sym (h p)) ∙ go (live p)
+  where
+    go : (z : Bool) → cond z (stop_at ring p ∷ filter (λ s. is_live_in s.station members) (stops_at ring ps)) (filter (λ s. is_live_in s.station members) (stops_at ring ps)) ≡ stops_at ring (cond z (p ∷ filter live ps) (filter live ps))
+    go true = ap (λ z. stop_at ring p ∷ z) (filtered_same ring members live ps h)
+    go false = filtered_same ring members live ps h
+
+pub again_stations : (ring : List Stop) → Option (List ℕ) → Option (List ℕ)
+again_stations ring None = None
+again_stations ring (Some ps) = Some (stations_at ring ps)
