@@ -1,3 +1,4 @@
 pub mod Orders
 pub mod Onces
+pub mod Toured
 mod Worked

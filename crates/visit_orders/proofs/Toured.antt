@@ -1,16 +1,16 @@
 -- A toured run is a led one, and its visits are those of the tour by stations.
-use Rattle.std.proofs.Common.{◌≡◌, ◌<◌, ◌≤◌, ◌+◌, ℕ, Bool, true, false, Option, Some, None, List, [], ◌∷◌, ◌++◌, refl, sym, ap, ◌∙◌, subst, arith, length}
+use Rattle.std.proofs.Common.{◌≡◌, ◌<◌, ◌≤◌, ◌+◌, ℕ, zero, suc, Bool, true, false, Option, Some, None, List, [], ◌∷◌, refl, sym, ap, ◌∙◌, subst, arith, length}
 use Rattle.std.specs.Prelude.{nat_lt, cond, filter, map, drop, if◌then◌else◌}
-use Rattle.std.proofs.lemmas.Bool.{lt-ltb, le-ltb}
+use Rattle.std.proofs.lemmas.Bool.{ltb-true, ltb-false}
 use Rattle.frame_view.specs.View.{Lens}
 use Rattle.life_model.specs.Tours.{Member, is_live_in, round}
 use Rattle.life_runs.specs.Led.{Leads, Exchanged, IsLed, missed_behind}
-use Rattle.master_tour.specs.Orders.{start_of, round_left}
+use Rattle.master_tour.specs.Orders.{start_of, round_left, visited_of}
 use Rattle.master_tour.specs.Toured.{Tour, visit_of}
 use Rattle.segment_model.specs.Visits.{Stop}
 use Rattle.segment_ring.specs.declared.wire.Fate.{Fate}
 use Rattle.segment_ring.specs.declared.wire.Fate.TheVariants.{Pass, Lost}
-use Rattle.visit_orders.specs.Toured.{IsToured, tour_behind, visit_stations}
+use Rattle.visit_orders.specs.Toured.{IsToured, tour_behind, stations_of, visit_stations}
 use Rattle.visit_orders.specs.Visits.{AreOf, AreApart, IsPlace, stop_at, stops_at, stations_at, last_station}
 use Rattle.visit_orders.proofs.Orders.{round_as, drop_here}
 
@@ -36,12 +36,37 @@ stations_are ring (p ∷ ps) = ap (λ z. (stop_at ring p).station ∷ z) (statio
 filtered_same : (ring : List Stop) (members : List Member) (live : ℕ → Bool) (ps : List ℕ) → ((k : ℕ) → live k ≡ is_live_in (stop_at ring k).station members) → filter (λ s. is_live_in s.station members) (stops_at ring ps) ≡ stops_at ring (filter live ps)
 filtered_same ring members live [] h = refl
 filtered_same ring members live (p ∷ ps) h =
-    ap (λ (z : Bool). cond z (stop_at ring p ∷ filter (λ s. is_live_in s.station members) (stops_at ring ps)) (filter (λ s. is_live_in s.station members) (stops_at ring ps))) (sym (h p)) ∙ go (live p)
+    ap (λ (z : Bool). cond z (stop_at ring p ∷ filter (λ s. is_live_in s.station members) (stops_at ring ps)) (filter (λ s. is_live_in s.station members) (stops_at ring ps))) (sym (h p)) ∙ go (live p) (filtered_same ring members live ps h)
   where
-    go : (z : Bool) → cond z (stop_at ring p ∷ filter (λ s. is_live_in s.station members) (stops_at ring ps)) (filter (λ s. is_live_in s.station members) (stops_at ring ps)) ≡ stops_at ring (cond z (p ∷ filter live ps) (filter live ps))
-    go true = ap (λ z. stop_at ring p ∷ z) (filtered_same ring members live ps h)
-    go false = filtered_same ring members live ps h
+    go : (z : Bool) → filter (λ s. is_live_in s.station members) (stops_at ring ps) ≡ stops_at ring (filter live ps) →
+        cond z (stop_at ring p ∷ filter (λ s. is_live_in s.station members) (stops_at ring ps)) (filter (λ s. is_live_in s.station members) (stops_at ring ps)) ≡ stops_at ring (cond z (p ∷ filter live ps) (filter live ps))
+    go true e = ap (λ z. stop_at ring p ∷ z) e
+    go false e = e
 
-pub again_stations : (ring : List Stop) → Option (List ℕ) → Option (List ℕ)
-again_stations ring None = None
-again_stations ring (Some ps) = Some (stations_at ring ps)
+-- the slaves in the order of the ring from a place on
+opened_here : (ring : List Stop) (opened : ℕ) → opened < length ring → drop opened ring ≡ stop_at ring opened ∷ drop (opened + 1) ring
+opened_here ring opened l = let e : suc opened ≡ opened + 1 = omega arith in drop_here ring opened l ∙ ap (λ z. stop_at ring opened ∷ drop z ring) e
+
+none_open : (opened : ℕ) (ring : List Stop) → length ring ≤ opened → drop opened ring ≡ []
+none_open zero [] l = refl
+none_open zero (s ∷ ss) l = absurd (omega (arith, l))
+none_open (suc n) [] l = refl
+none_open (suc n) (s ∷ ss) l = none_open n ss (omega (arith, l))
+
+pub visit_by_stations : (ring : List Stop) (members : List Member) (live : ℕ → Bool) (again : Option (List ℕ)) (opened : ℕ) (last : Option ℕ) → AreOf ring members → AreApart ring → IsPlace ring last → ((k : ℕ) → live k ≡ is_live_in (stop_at ring k).station members) →
+    stations_at ring (visit_of live (length ring) again opened last) ≡ visit_stations (stations_of ring again) (drop opened ring) (round ring (last_station ring last) members)
+visit_by_stations ring members live (Some same) opened last a d p h = refl
+visit_by_stations ring members live None opened last a d p h = go (nat_lt opened (length ring)) refl
+  where
+    first : opened < length ring → visit_stations None (drop opened ring) (round ring (last_station ring last) members) ≡ (stop_at ring opened).station ∷ []
+    first l = ap (λ z. visit_stations None z (round ring (last_station ring last) members)) (opened_here ring opened l)
+
+    later : length ring ≤ opened → visit_stations None (drop opened ring) (round ring (last_station ring last) members) ≡ map (λ s. s.station) (round ring (last_station ring last) members)
+    later l = ap (λ z. visit_stations None z (round ring (last_station ring last) members)) (none_open opened ring l)
+
+    go : (z : Bool) → nat_lt opened (length ring) ≡ z → stations_at ring (visited_of z live (if z then drop 0 (opened ∷ []) else round_left (start_of (length ring) last) (length ring) 0)) ≡ visit_stations None (drop opened ring) (round ring (last_station ring last) members)
+    go true e = sym (first (ltb-true opened (length ring) e))
+    go false e =
+        stations_are ring (filter live (round_left (start_of (length ring) last) (length ring) 0))
+        ∙ ap (map (λ s. s.station)) (sym (filtered_same ring members live (round_left (start_of (length ring) last) (length ring) 0) h) ∙ round_as ring members last a d p)
+        ∙ sym (later (ltb-false opened (length ring) e))

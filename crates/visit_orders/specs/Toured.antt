@@ -1,5 +1,5 @@
 -- A RUN WHOSE FRAMES ARE VISITS OF ONE TOUR.
-use Rattle.std.specs.Prelude.{ℕ, Option, Some, None, List, [], ◌∷◌, ◌++◌, length, map, drop}
+use Rattle.std.specs.Prelude.{ℕ, Option, Some, None, List, [], ◌∷◌, ◌++◌, length, map}
 use Rattle.frame_view.specs.View.{Lens}
 use Rattle.life_runs.specs.Led.{Exchanged, Leads, Turn, IsLedFrame, led_behind, gives_up_at}
 use Rattle.master_node.specs.Shows.{is_live_lead, is_opening_lead}
@@ -9,6 +9,7 @@ use Rattle.master_tour.specs.Toured.{Tour, IsOfTour, new_tour, goes_on, lost_on}
 use Rattle.segment_model.specs.Visits.{Stop}
 use Rattle.segment_ring.specs.declared.wire.Fate.{Fate}
 use Rattle.segment_ring.specs.declared.wire.Fate.TheVariants.{Pass, Lost}
+use Rattle.visit_orders.specs.Visits.{stations_at}
 
 -- where a tour stands behind a frame, by its fate and the lives behind it
 abbrev pub tour_behind : ℕ → Fate → List Leads → Tour → List ℕ → Tour
@@ -26,7 +27,12 @@ module _ (lens : ℕ → Lens) (recover retry : ℕ) where
     on : (fs : List Exchanged) (t : Tour) (as' : List Leads) (f : Exchanged) (us : List Turn) (visit : List ℕ) → IsToured first fs t as' → IsLedFrame lens (length fs) f.sent as' us → IsOfTour (λ u. turn_share u) (λ k. holds_at is_live_lead as' k) t us visit →
         IsToured first (fs ++ f ∷ []) (tour_behind retry f.fate (lives_behind t.missed (length fs) f us) t visit) (lives_behind t.missed (length fs) f us)
 
--- the stations of a visit: those of the lost frame; else the one that is brought up; else those of a round
+-- those of a lost frame, by their stations
+abbrev pub stations_of : List Stop → Option (List ℕ) → Option (List ℕ)
+stations_of ring None = None
+stations_of ring (Some places) = Some (stations_at ring places)
+
+-- THE STATIONS OF A VISIT: those of the lost frame; else the one that is brought up; else those of a round
 abbrev pub visit_stations : Option (List ℕ) → List Stop → List Stop → List ℕ
 visit_stations (Some same) opening round = same
 visit_stations None (s ∷ opening) round = s.station ∷ []
