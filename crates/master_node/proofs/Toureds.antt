@@ -326,9 +326,10 @@ module _ (m m1 m2 : MasterNode) (h : HasVisited m1 m2) (again : m1.tour.again �
   pub tour_same : tour_of m2 ≡ tour_of m
   tour_same = λ i. record { again = again_same i; opened = (on.opened ∙ opened) i; last = (on.last ∙ last) i; missed = (on.missed ∙ missed) i }
 
-  pub of_tour : (live : ℕ → Bool) → ((k : ℕ) → holds_at (λ s. is_live s.stand) m1.tour.stops.items k ≡ live k) → 1 ≤ m2.tour.count → IsOfTour (λ s. stop_share s) live (tour_of m) m2.tour.stops.items m2.tour.visit.items
-  of_tour live alive some = record {
+  pub of_tour : (live : ℕ → Bool) → ((k : ℕ) → holds_at (λ s. is_live s.stand) m1.tour.stops.items k ≡ live k) → (many : ℕ) → many ≡ m2.tour.count → 1 ≤ m2.tour.count → IsOfTour (λ s. stop_share s) live (tour_of m) m2.tour.stops.items many m2.tour.visit.items
+  of_tour live alive many is some = record {
     places = h.places;
+    whole = h.count ∙ sym is;
     carries = h.carries;
     first = record {
       rest = h.rest;
@@ -339,9 +340,10 @@ module _ (m m1 m2 : MasterNode) (h : HasVisited m1 m2) (again : m1.tour.again �
   }
 
 -- and by the lives of the slaves
-pub turns_tour : {G : Ghosts InHand} (lens : ℕ → Lens) (recover : ℕ) (octets : List ℕ) (live : ℕ → Bool) (t : Tour) (us : List Turn) (ss : List (Stop InHand G)) (visit : List ℕ) → AllBoth (λ u s. IsUnder lens recover octets u s) us ss → IsOfTour (λ s. stop_share s) live t ss visit → IsOfTour (λ u. turn_share u) live t us visit
-turns_tour lens recover octets live t us ss visit e o = record {
+pub turns_tour : {G : Ghosts InHand} (lens : ℕ → Lens) (recover : ℕ) (octets : List ℕ) (live : ℕ → Bool) (t : Tour) (us : List Turn) (ss : List (Stop InHand G)) (many : ℕ) (visit : List ℕ) → AllBoth (λ u s. IsUnder lens recover octets u s) us ss → IsOfTour (λ s. stop_share s) live t ss many visit → IsOfTour (λ u. turn_share u) live t us many visit
+turns_tour lens recover octets live t us ss many visit e o = record {
   places = o.places;
+  whole = o.whole;
   carries = carries_same (λ s. stop_share s) (λ u. turn_share u) ss us o.places
       (λ test p. sym (both_holds (λ u s. IsUnder lens recover octets u s) (λ u. test (turn_share u)) (λ s. test (stop_share s)) (λ u s i. ap test (λ j. record { under = sym i.under j; at = sym i.at j })) us ss e p)) o.carries;
   first = subst (λ z. AreFirst o.places (visit_of live z t.again t.opened t.last)) (sym (both_length (λ u s. IsUnder lens recover octets u s) us ss e)) o.first;

@@ -58,6 +58,7 @@ impl MasterNode {
     ghost use Rattle.master_node.specs.Coming.{next_of, IsComing, IsLaid, PassesBy, CameBy};
     ghost use Rattle.std.specs.Prelude.{◌⊎◌, ◌+◌, ◌∷◌, [], nat_lt, map, if◌then◌else◌};
     ghost use Rattle.frame_view.specs.View.{Lens};
+    ghost use Rattle.frame_view.specs.Seen.{seen};
     ghost use Rattle.life_frames.specs.Shares.{AreDistinct};
     ghost use Rattle.life_runs.specs.Led.{Leads, Turn, IsLedFrame};
     ghost use Rattle.master_tour.specs.Made.{is_in};
@@ -312,7 +313,7 @@ impl MasterNode {
         ensures posts { vec_len self.new.posts ≡ vec_len self.old.posts }
         ensures led { (lens : ℕ → Lens) (recover retry missed number : ℕ) (as' : List Leads) → list_any (λ s. is_live s.stand) self.old.tour.stops.items ≡ true → MasterShows lens recover retry self.old missed as' →
             (us : List Turn) × IsLedFrame lens number into.new.items as' us × MasterUnder lens recover retry self.new into.new.items missed us × (tour_of self.new ≡ tour_of self.old) ×
-            IsOfTour (λ s. stop_share s) (λ k. holds_at is_live_lead as' k) (tour_of self.old) self.new.tour.stops.items self.new.tour.visit.items }
+            IsOfTour (λ s. stop_share s) (λ k. holds_at is_live_lead as' k) (tour_of self.old) self.new.tour.stops.items (length (seen lens into.new.items)) self.new.tour.visit.items }
     {
         self.tour.begin(into);
         self.fill(into);
@@ -327,7 +328,7 @@ impl MasterNode {
         ensures led { result ≡ Next.Frame → (lens : ℕ → Lens) (recover retry missed number : ℕ) (as' : List Leads) → MasterShows lens recover retry self.old missed as' →
             (us : List Turn) × IsLedFrame lens number into.new.items as' us × MasterUnder lens recover retry self.new into.new.items missed us }
         ensures toured { result ≡ Next.Frame → (lens : ℕ → Lens) (recover retry missed : ℕ) (as' : List Leads) (us : List Turn) → MasterShows lens recover retry self.old missed as' → MasterUnder lens recover retry self.new into.new.items missed us →
-            (tour_of self.new ≡ tour_of self.old) × IsOfTour (λ u. turn_share u) (λ k. holds_at is_live_lead as' k) (tour_of self.old) us self.new.tour.visit.items }
+            (tour_of self.new ≡ tour_of self.old) × IsOfTour (λ u. turn_share u) (λ k. holds_at is_live_lead as' k) (tour_of self.old) us (length (seen lens into.new.items)) self.new.tour.visit.items }
     {
         self.list.clear();
         if !self.has_live() {

@@ -47,9 +47,10 @@ abbrev pub visit_on : Option (List ℕ) → List ℕ → List ℕ
 visit_on (Some same) cs = same
 visit_on None cs = cs
 
--- A FRAME IS OF THE TOUR: it carries the first slaves of its visit
-pub record IsOfTour {S : Type 0} (share : S → Share) (live : ℕ → Bool) (t : Tour) (ss : List S) (visit : List ℕ) : Type 0 where
+-- A FRAME OF SO MANY DATAGRAMS IS OF THE TOUR: it carries the first slaves of its visit
+pub record IsOfTour {S : Type 0} (share : S → Share) (live : ℕ → Bool) (t : Tour) (ss : List S) (many : ℕ) (visit : List ℕ) : Type 0 where
   pub places : List ℕ
+  pub whole : length places ≡ many
   pub carries : Carries share ss places
   pub first : AreFirst places (visit_of live (length ss) t.again t.opened t.last)
   pub comes : visit ≡ visit_on t.again places

@@ -32,7 +32,8 @@ pub struct Tour<H: Hand> {
 impl<H: Hand> Tour<H> {
     ghost use Rattle.std.specs.Prelude.{◌≡◌, ◌≤◌, ◌<◌, ◌-◌, ℕ, List, IfSome, map, All, length, [], ◌∷◌};
     ghost use Rattle.datagrams.specs.Datagram as Raw;
-    ghost use Rattle.datagrams.specs.Frame.{IsBegun, IsFrame};
+    ghost use Rattle.datagrams.specs.Command.{IsNamed};
+    ghost use Rattle.datagrams.specs.Frame.{IsBegun, IsFrame, Each, chained};
     ghost use Rattle.exchange_model.specs.Exchange.{Speech};
     ghost use Rattle.link_mails.specs.Body.{Body};
     ghost use Rattle.segment_model.specs.Slaves.{Datagram};
@@ -355,6 +356,7 @@ impl<H: Hand> Tour<H> {
     pub fn finish(&self, frame: &mut FrameBuf) -> bool
         requires { (ds : List Raw.Datagram) × IsBegun frame.old.items ds }
         ensures some { result ≡ not (self.now.count == 0) }
+        ensures reads { result ≡ true → (ds : List Raw.Datagram) → IsBegun frame.old.items ds → length ds ≡ self.now.count → Each (λ d. IsNamed d.head.command) ds → IsFrame frame.new.items (chained ds) }
         ensures made { result ≡ true → (x : Spot → Speech Body H.Asked Reply) (more : Body → Bool) (passed : H.Asked → Bool) (made recover index : ℕ) (lens : ℕ → Lens) (left : List ℕ) (lives : List (Lived H.Asked Reply)) (begun : ℕ → Option (Service H.Asked)) →
             FrameMade (λ ds i a s. StopMade (x a.spot) H.acknowledged more passed made begun lens recover index (λ d b. SideShows (H.shows s.side.hand (x a.spot)) s.side.out s.side.inn s.side.fresh s.side.duty d b) s.side.station s.place s.start s.stand s.spare s.side.out s.side.inn s.side.duty s.side.carried s.side.passing s.under s.at left ds i a) frame.old.items self.now.count lives self.now.stops.items →
             FrameSent (λ ds a b s. StopSent (x a.spot) H.acknowledged more passed made begun lens recover (λ d k. SideShows (H.shows s.side.hand (x a.spot)) s.side.out s.side.inn s.side.fresh s.side.duty d k) s.side.station s.place s.start s.stand s.spare s.side.out.len (in_area_len s.side.inn) s.side.carried s.under s.at ds a b) frame.new.items lives self.now.stops.items }

@@ -55,7 +55,7 @@ second_part start count k a (suc n) e =
     let here : place_in start count k ≡ a = ap (λ (z : Bool). if z then start + k else k - (count - start)) (le-ltb k (count - start) (omega (arith, e))) ∙ (omega (arith, e)) in
     (λ i. here i ∷ second_part start count (suc k) (suc a) n (omega (arith, e)) i)
 
-map_append : {X Y : Type 0} (f : X → Y) (xs ys : List X) → map f (xs ++ ys) ≡ map f xs ++ map f ys
+pub map_append : {X Y : Type 0} (f : X → Y) (xs ys : List X) → map f (xs ++ ys) ≡ map f xs ++ map f ys
 map_append f [] ys = refl
 map_append f (x ∷ xs) ys = ap (λ z. f x ∷ z) (map_append f xs ys)
 

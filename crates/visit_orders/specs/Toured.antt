@@ -1,12 +1,13 @@
 -- A RUN WHOSE FRAMES ARE VISITS OF ONE TOUR.
-use Rattle.std.specs.Prelude.{ℕ, Option, Some, None, List, [], ◌∷◌, ◌++◌, length, map}
+use Rattle.std.specs.Prelude.{◌≡◌, ℕ, suc, ⊤, Option, Some, None, List, [], ◌∷◌, ◌++◌, length, map}
 use Rattle.frame_view.specs.View.{Lens}
+use Rattle.frame_view.specs.Seen.{seen}
 use Rattle.life_runs.specs.Led.{Exchanged, Leads, Turn, IsLedFrame, led_behind, gives_up_at}
 use Rattle.master_node.specs.Shows.{is_live_lead, is_opening_lead}
 use Rattle.master_node.specs.Toured.{turn_share}
 use Rattle.master_tour.specs.Goes.{holds_at}
 use Rattle.master_tour.specs.Toured.{Tour, IsOfTour, new_tour, goes_on, lost_on}
-use Rattle.segment_model.specs.Visits.{Stop}
+use Rattle.segment_model.specs.Visits.{Stop, station_at}
 use Rattle.segment_ring.specs.declared.wire.Fate.{Fate}
 use Rattle.segment_ring.specs.declared.wire.Fate.TheVariants.{Pass, Lost}
 use Rattle.visit_orders.specs.Visits.{stations_at}
@@ -24,8 +25,13 @@ module _ (lens : ℕ → Lens) (recover retry : ℕ) where
   -- THE FRAMES OF A RUN, one after the other, the tour and the lives behind them: each frame carries the first slaves of its visit
   pub data IsToured (first : List Leads) : List Exchanged → Tour → List Leads → Type 0 where
     start : IsToured first [] new_tour first
-    on : (fs : List Exchanged) (t : Tour) (as' : List Leads) (f : Exchanged) (us : List Turn) (visit : List ℕ) → IsToured first fs t as' → IsLedFrame lens (length fs) f.sent as' us → IsOfTour (λ u. turn_share u) (λ k. holds_at is_live_lead as' k) t us visit →
+    on : (fs : List Exchanged) (t : Tour) (as' : List Leads) (f : Exchanged) (us : List Turn) (visit : List ℕ) → IsToured first fs t as' → IsLedFrame lens (length fs) f.sent as' us → IsOfTour (λ u. turn_share u) (λ k. holds_at is_live_lead as' k) t us (length (seen lens f.sent)) visit →
         IsToured first (fs ++ f ∷ []) (tour_behind retry f.fate (lives_behind t.missed (length fs) f us) t visit) (lives_behind t.missed (length fs) f us)
+
+-- the slaves stand at their places of the ring, from this one on
+abbrev pub AreAt : List Stop → ℕ → List Turn → Type 0
+AreAt ring p [] = ⊤
+AreAt ring p (u ∷ us) = (u.lived.spot.place ≡ p) × (station_at ring p ≡ u.lived.spot.station ∷ []) × AreAt ring (suc p) us
 
 -- those of a lost frame, by their stations
 abbrev pub stations_of : List Stop → Option (List ℕ) → Option (List ℕ)

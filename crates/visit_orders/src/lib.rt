@@ -12,7 +12,12 @@ ghost use Rattle.frame_view.specs.View.{Lens};
 ghost use Rattle.life_model.specs.Tours.{is_live_in};
 ghost use Rattle.life_runs.specs.Led.{Exchanged, Leads, IsLed};
 ghost use Rattle.master_tour.specs.Toured.{Tour, visit_of};
-ghost use Rattle.visit_orders.specs.Toured.{IsToured, stations_of, visit_stations};
+ghost use Rattle.frame_view.specs.Seen.{seen};
+ghost use Rattle.life_runs.specs.Led.{Turn, IsLedFrame};
+ghost use Rattle.master_node.specs.Toured.{turn_share};
+ghost use Rattle.master_tour.specs.Toured.{AreFirst, IsOfTour};
+ghost use Rattle.segment_model.specs.Visits.{carried};
+ghost use Rattle.visit_orders.specs.Toured.{IsToured, AreAt, stations_of, visit_stations};
 
 /// BEHIND THE FIRST BRING-UP a frame is a visit of the tour where the master goes through the places of its round as it does: it carries the live
 /// slaves one behind the other, at least one, and ends before the first that may not fit.
@@ -36,4 +41,11 @@ pub fn toured_law()
     ensures led { (lens : ℕ → Lens) (recover retry : ℕ) (first : List Leads) (fs : List Exchanged) (t : Tour) (as' : List Leads) → IsToured lens recover retry first fs t as' → IsLed lens recover retry first fs t.missed as' }
     ensures stations { (ring : List Stop) (members : List Member) (live : ℕ → Bool) (again : Option (List ℕ)) (opened : ℕ) (last : Option ℕ) → AreOf ring members → AreApart ring → IsPlace ring last → ((k : ℕ) → live k ≡ is_live_in (stop_at ring k).station members) →
         stations_at ring (visit_of live (length ring) again opened last) ≡ visit_stations (stations_of ring again) (drop opened ring) (round ring (last_station ring last) members) }
+{}
+
+/// THE STATIONS THAT A FRAME OF SUCH A RUN IS ADDRESSED TO, datagram by datagram, are the first of its visit's, and it has no other datagram.
+pub fn stations_law()
+    ensures { (lens : ℕ → Lens) (ring : List Stop) (members : List Member) (made : ℕ) (octets : List ℕ) (as' : List Leads) (us : List Turn) (live : ℕ → Bool) (t : Tour) (visit : List ℕ) → length ring ≤ 16 → length us ≡ length ring → AreAt ring 0 us → AreOf ring members → AreApart ring → IsPlace ring t.last →
+        ((k : ℕ) → live k ≡ is_live_in (stop_at ring k).station members) → IsLedFrame lens made octets as' us → IsOfTour (λ u. turn_share u) live t us (length (seen lens octets)) visit →
+        AreFirst (carried ring (seen lens octets)) (visit_stations (stations_of ring t.again) (drop t.opened ring) (round ring (last_station ring t.last) members)) }
 {}
