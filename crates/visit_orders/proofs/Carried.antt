@@ -1,17 +1,15 @@
 -- The stations that a frame is addressed to, datagram by datagram.
-use Rattle.std.proofs.Common.{◌≡◌, ◌⊎◌, inl, inr, ◌<◌, ◌≤◌, ◌+◌, ◌-◌, ◌%◌, ◌==◌, ℕ, zero, suc, Bool, true, false, Option, Some, None, List, [], ◌∷◌, ◌++◌, refl, sym, ap, ◌∙◌, subst, arith, length, append_assoc}
-use Rattle.std.specs.Prelude.{◌&&◌, map, nat_le, slice_get, if◌then◌else◌}
+use Rattle.std.proofs.Common.{◌≡◌, ◌⊎◌, inl, inr, ◌<◌, ◌≤◌, ◌+◌, ◌-◌, ◌%◌, ◌==◌, ℕ, zero, suc, Bool, true, false, Some, List, [], ◌∷◌, ◌++◌, refl, sym, ap, ◌∙◌, subst, arith, length, append_assoc}
+use Rattle.std.specs.Prelude.{◌&&◌, nat_le, slice_get, if◌then◌else◌}
 use Rattle.std.proofs.lemmas.Bool.{eqb-true, ne_eqb, le-leb}
-use Rattle.al_state.specs.BringUp.{head_of, head_at, octets_of}
+use Rattle.al_state.specs.BringUp.{head_at}
 use Rattle.al_state.specs.declared.bringing.BringStep.{BringStep}
 use Rattle.al_state.specs.declared.bringing.BringUp.{BringUp}
-use Rattle.datagrams.specs.Command.{IsNamed}
 use Rattle.datagrams.specs.Datagram as Raw
-use Rattle.datagrams.specs.Frame.{chained}
 use Rattle.datagrams.specs.declared.command.Command.{Command}
 use Rattle.frame_view.specs.Seen.{seen, datagrams_seen}
 use Rattle.frame_view.specs.View.{Lens, datagram_seen, place_of, address_of}
-use Rattle.life_frames.specs.Frames.{Share, HasOne, FrameFor, GramFor, IsByStation}
+use Rattle.life_frames.specs.Frames.{Share, FrameFor, GramFor}
 use Rattle.life_model.specs.Lives.{Stand}
 use Rattle.life_runs.specs.Led.{Leads, Turn, AllTurn, IsLedFrame}
 use Rattle.master_node.specs.Toured.{turn_share}
@@ -129,7 +127,7 @@ module _ (lens : ℕ → Lens) (ring : List Stop) where
       carried ring (seen lens octets) ≡ stations_at ring o.places
   carried_are made octets as' us live t visit l r f o =
       ap (carried ring) (sent_is lens octets f.datagrams f.frame)
-      ∙ all_to [] f.datagrams us o.places (λ k p h. find made f.datagrams 0 p as' us k p f.each r h refl l) (o.whole ∙ sent_many lens octets f.datagrams f.frame) o.carries.each
+      ∙ all_to [] f.datagrams us o.places (λ k p h. find made f.datagrams 0 p as' us k p f.each r h (omega arith) (omega (arith, l))) (o.whole ∙ sent_many lens octets f.datagrams f.frame) o.carries.each
 
 -- they are the first of the visit's stations
 pub first_are : (ring : List Stop) (cs ps ss : List ℕ) (places : List ℕ) → cs ≡ stations_at ring places → stations_at ring ps ≡ ss → AreFirst places ps → AreFirst cs ss
