@@ -1,5 +1,5 @@
 pub mod Counts
-mod Carries
+pub mod Carries
 mod WriteLaw
 mod ReadLaw
 pub mod Speaks

@@ -1,10 +1,11 @@
 -- EACH EPOCH of a life that is lived keeps what the model's law of an epoch promises.
-use Rattle.std.proofs.Common.{◌≡◌, ◌⊎◌, ℕ, ◌<◌, ◌≤◌, Bool, false, None, List, [], ◌∷◌, ◌++◌, length, refl, ap, sym, ◌∙◌, subst, arith}
+use Rattle.std.proofs.Common.{◌≡◌, ℕ, ◌<◌, ◌≤◌, Bool, false, None, List, length, refl, ap, sym, ◌∙◌, subst, arith}
 use Rattle.link_mails.specs.Body.{Body}
 use Rattle.life_model.specs.Eras.{Clearing, EraIs, OpenEra, era_frames}
 use Rattle.life_model.specs.Lives.{Spot, Era, Life, Opening, Stand}
 use Rattle.life_model.proofs.Eras.{session_of, of_one}
-use Rattle.exchange_model.specs.Exchange.{emitted}
+use Rattle.exchange_model.specs.Exchange.{emitted, plain}
+use Rattle.exchange_model.specs.Prefix.{IsPrefixOf}
 use Rattle.segment_model.specs.Record.{Frame, heard}
 use Rattle.segment_model.specs.Slaves.{Registers, Slave}
 use Rattle.slave_lives.specs.Ends.{LeftEra, LeftEras}
@@ -13,11 +14,13 @@ use Rattle.slave_lives.specs.Opening.{Plan}
 use Rattle.slave_lives.specs.Stands.{opening_again}
 use Rattle.slave_lives.proofs.EraEnds as Ends
 use Rattle.slave_steps.specs.Node.{Node}
+use Rattle.state_exchange.specs.Stated.{mails, with_states}
 use Rattle.task_model.specs.Promise.{TasksPromised, TasksAnswered, TasksRestIf, services_in}
-use Rattle.task_model.proofs.Sessions.{tasks_promised, tasks_rest, tasks_answered}
+use Rattle.task_model.proofs.Sessions.{of_slaves, tasks_promised, tasks_rest, tasks_answered}
 use Rattle.whole_lives.specs.Whole.{IsWhole, OpensAs, StandsAs, IsLived}
+use Rattle.kept_lives.proofs.Owns.{owned}
 use Rattle.kept_lives.proofs.Settled.{settled_seen}
-use Rattle.kept_lives.specs.Epochs.{IsCarriedOut, IsAnswered, IsTold, IsKept, AreKept, NothingLeft, RestsIf, IsNewest, IsKeptLife, app_of, app_behind, emitted_by}
+use Rattle.kept_lives.specs.Epochs.{IsCarriedOut, IsAnswered, replies_all, IsKept, AreKept, RestsIf, IsNewest, IsKeptLife, app_of, app_behind, emitted_by}
 
 module _ {S V A Q R : Type 0} (w : Behind S V A Q R) (c : Clearing V A) (p : Plan) (spot : Spot) (whole : IsWhole w c p spot) (more : Body → Bool) (fs : List (Frame Body)) where
   -- an epoch as the model has it
@@ -57,6 +60,14 @@ module _ {S V A Q R : Type 0} (w : Behind S V A Q R) (c : Clearing V A) (p : Pla
         of_one open_era (λ station start d a s. TasksAnswered w.exchange w.states (table_of w station) more gs station start d a s)
         (tasks_answered q.exchange q.lawful q.states q.stated q.processor q.table more q.planned.tells q.plan q.planned q.sides q.accounts q.ring q.frames q.tasked)
 
+    replies : IsPrefixOf (plain w.exchange.speech.emission (heard spot.station gs)) (mails (replies_all (with_states w.exchange w.states (table_of w spot.station)) (record { server = server; words = 0 }) (services_in e.account.started)))
+    replies =
+        let q = session_of open_era in
+        of_one open_era (λ station start d a s. IsPrefixOf (plain w.exchange.speech.emission (heard station gs)) (mails (replies_all (with_states w.exchange w.states (table_of w station)) (record { server = start; words = 0 }) (services_in a.started))))
+        (of_slaves q.exchange q.lawful q.states q.stated q.processor q.table more q.planned.tells q.plan q.planned q.sides q.accounts q.ring q.frames q.tasked
+        (λ t fs station start d a n. IsPrefixOf (plain q.exchange.speech.emission (heard station fs)) (mails (replies_all (with_states q.exchange q.states t) (record { server = start; words = 0 }) (services_in a.started))))
+        (λ t begun is fs seat a h. owned q.exchange q.lawful q.states q.stated t more begun is fs seat a h))
+
     rests : TasksRestIf w.exchange w.states (table_of w spot.station) more gs spot.station server e.side e.account slave
     rests =
         let q = session_of open_era in
@@ -77,6 +88,7 @@ module _ {S V A Q R : Type 0} (w : Behind S V A Q R) (c : Clearing V A) (p : Pla
           count = t.count;
           carried = subst (λ (b : A). IsCarriedOut w more spot b to t.count e.account.started) begins (record { prefix = t.prefix; behind = t.behind; app = sym leaves ∙ t.app });
           answered = subst (λ (b : A). IsAnswered w more spot gs b t.count e.account.started) begins (record { replies = t.replied; done = t.in_done; ended = t.in_doubt; emissions = t.emissions });
+          own = record { server = server; app = begins; replies = replies };
           told = record { mails = u.mails; answers = u.answers; states = u.states; over = u.over; hand = u.hand };
         }
 

@@ -1,2 +1,3 @@
 pub mod Settled
+mod Owns
 pub mod Epochs

@@ -1,5 +1,5 @@
 -- A NODE THAT IS SETTLED is so as it is seen.
-use Rattle.std.proofs.Common.{◌≡◌, ℕ, ◌&&◌, Bool, true, false, Option, Some, None, List, [], ◌∷◌, refl, ap, sym, ◌∙◌, subst}
+use Rattle.std.proofs.Common.{◌≡◌, ◌&&◌, Bool, true, false, Option, Some, None, List, [], ◌∷◌, refl, ap, sym, ◌∙◌}
 use Rattle.std.specs.Prelude.{not, is_none, option_map, if◌then◌else◌, Ok}
 use Rattle.frames_seen.specs.Slaves.{registers_seen}
 use Rattle.link_mails.specs.Body.{Body, link_read, link_mail, uncounted}
@@ -8,7 +8,7 @@ use Rattle.mailbox_mail.specs.Mail.{mail_read}
 use Rattle.mailbox_mail.specs.declared.mail.Mail.{Mail}
 use Rattle.mailbox_slave.specs.Kept.{offered, is_at_rest}
 use Rattle.mailbox_slave.specs.Node.{in_side}
-use Rattle.mailbox_slave.specs.Registers.{out_box, in_box}
+use Rattle.mailbox_slave.specs.Registers.{in_box}
 use Rattle.segment_model.specs.Laws.{IsSettled}
 use Rattle.segment_model.specs.Slaves.{first_waiting}
 use Rattle.slave_lives.specs.Lived.{Behind, IsBehind, node_seen}

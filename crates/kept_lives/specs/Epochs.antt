@@ -1,6 +1,6 @@
 -- WHAT A SLAVE DID, epoch by epoch, of the services that came into hand of it.
-use Rattle.std.specs.Prelude.{◌≡◌, ℕ, ◌+◌, ◌<◌, ◌≤◌, Bool, true, Option, Some, None, List, [], ◌∷◌, ◌++◌, map, take, length}
-use Rattle.exchange_model.specs.Exchange.{emitted}
+use Rattle.std.specs.Prelude.{◌≡◌, ℕ, ◌+◌, ◌<◌, ◌≤◌, Bool, true, Some, None, List, [], ◌∷◌, ◌++◌, take, length}
+use Rattle.exchange_model.specs.Exchange.{Exchange, after, given, plain, emitted}
 use Rattle.exchange_model.specs.Prefix.{IsPrefixOf}
 use Rattle.exchange_model.specs.Rows.{exec_all, emits_all}
 use Rattle.life_model.specs.Eras.{era_frames}
@@ -15,6 +15,11 @@ use Rattle.state_exchange.specs.Stated.{Service, with_states, mails}
 use Rattle.task_model.specs.Accounts.{Started}
 use Rattle.task_model.specs.Promise.{services_in, mails_started, rows_started, states_started, changes_in, duty_in, AllReplied, AllDone, AllFound, IsOpenYet, AllEnded, but_last}
 
+-- ALL THAT A SERVER REPLIES to these services, one after the other, each by all its mails; what it sends of itself isn't among it
+abbrev pub replies_all : {V A M Q R : Type 0} → Exchange V A M Q R → V → List Q → List M
+replies_all x v [] = []
+replies_all x v (q ∷ qs) = plain x.speech.emission (given x.serve v (x.full v q)) ++ replies_all x (after x.serve v (x.full v q)) qs
+
 module _ {S V A Q R : Type 0} (w : Behind S V A Q R) (more : Body → Bool) (spot : Spot) where
   -- the application behind these services, from one on, and what they emit
   abbrev pub app_behind : A → List (Service Q) → A
@@ -22,6 +27,10 @@ module _ {S V A Q R : Type 0} (w : Behind S V A Q R) (more : Body → Bool) (spo
 
   abbrev pub emitted_by : A → List (Service Q) → List Body
   emitted_by from qs = mails (emits_all (with_states w.exchange w.states (table_of w spot.station)) (from, 0) qs)
+
+  -- what a server replies to these services by mails, with AL states between them
+  abbrev pub replied_by : V → List (Service Q) → List Body
+  replied_by server qs = mails (replies_all (with_states w.exchange w.states (table_of w spot.station)) (record { server = server; words = 0 }) qs)
 
   -- CARRIED OUT: from one application to another just the first so many of the services that came into hand, each once and in order; at most the
   -- two newest are not among them
@@ -37,6 +46,13 @@ module _ {S V A Q R : Type 0} (w : Behind S V A Q R) (more : Body → Bool) (spo
     pub done : AllDone w.exchange.speech more spot.station gs count 0 started
     pub ended : AllEnded w.exchange.speech more spot.station gs (but_last started)
     pub emissions : IsPrefixOf (emitted w.exchange.speech.emission (heard spot.station gs)) (emitted_by from (take count (services_in started)))
+
+  -- NO MAIL IS FOREIGN: by these frames all that was heard is what the slave sends of itself, or the next of what a server with this application replies
+  -- to the services that came into hand
+  pub record IsOwn (gs : List (Frame Body)) (from : A) (started : List (Started Q)) : Type 0 where
+    pub server : V
+    pub app : w.exchange.app server ≡ from
+    pub replies : IsPrefixOf (plain w.exchange.speech.emission (heard spot.station gs)) (replied_by server (services_in started))
 
   -- THE MASTER HAS THESE ANSWERS: its rows are the services by mails that came into hand, and its changes the state services, each with the answer
   -- that the frames give; and for the one in hand they give none
@@ -60,6 +76,7 @@ module _ {S V A Q R : Type 0} (w : Behind S V A Q R) (more : Body → Bool) (spo
     pub carried : IsCarriedOut (w.states.told state from) to count e.account.started
     pub answered : IsAnswered (era_frames spot opened until fs) (w.states.told state from) count e.account.started
     pub told : IsTold (era_frames spot opened until fs) e
+    pub own : IsOwn (era_frames spot opened until fs) (w.states.told state from) e.account.started
 
   -- ALL EPOCHS THAT ARE OVER, from the application of the plan on: each begins with what the one before left, cleared by the return to Init
   pub data AreKept (cleared : A → A) (fs : List (Frame Body)) (first : A) : List (Era Body Q R) → A → Type 0 where

@@ -1,6 +1,5 @@
 pub mod Thirds
 pub mod OfCoe
-mod FoeTalk
 pub mod OfFoe
 pub mod OfSoe
 pub mod OfEoe

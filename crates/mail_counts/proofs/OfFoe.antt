@@ -9,7 +9,7 @@ use Rattle.foe_model.specs.Server.{idle, reading, writing, closing, Server, ende
 use Rattle.foe_model.specs.Meaning.{Service, read, write}
 use Rattle.foe_model.specs.Client.{decide, acks, packets, turn_behind, write_turn}
 use Rattle.foe_model.specs.Model.{read_length, full, foe_exchange}
-use Rattle.mail_counts.proofs.FoeTalk.{step, foe_takes, talk, talk_onward, talk_again, talk_over, talk_waits}
+use Rattle.foe_model.proofs.Carries.{step, foe_takes, talk, talk_onward, talk_again, talk_over, talk_waits}
 use Rattle.foe_model.proofs.Speaks.{replies_few}
 use Rattle.mail_counts.specs.Counts.{third, mails_between, mails_within, foe_octets, foe_busy}
 use Rattle.mail_counts.proofs.Thirds.{Fits, fits, one_less}

@@ -25,7 +25,9 @@ use Rattle.master_node.specs.Kept.{StopStays, NodeKept}
 use Rattle.master_node.specs.Shows.{WaitsNone, lived_of, turned_of, is_live_lead, is_opening_lead, side_shows, IsLived, IsLead, IsUnder, ComeAgain, GoesOn, GoesUnder, MasterShows}
 use Rattle.master_node.proofs.Goings.{map_length, ahead_behind, ahead_again, comes_again}
 use Rattle.master_node.proofs.Kepts.{lives_kept}
-use Rattle.master_node.proofs.Lists.{both_each, both_holds, both_length}
+use Rattle.master_node.proofs.Lists.{each_length, both_each, both_holds, both_length}
+use Rattle.master_node.proofs.Sents.{each_holds}
+use Rattle.master_node.proofs.Toureds.{opened_same}
 
 module _ (lens : ℕ → Lens) (recover retry : ℕ) where
   -- a slave stays what it is where its master only tells
@@ -47,6 +49,15 @@ module _ (lens : ℕ → Lens) (recover retry : ℕ) where
       go (Stand.Opening up) s = sym (ap is_opening s.stand)
       go Stand.Open s = sym (ap is_opening s.0)
       go Stand.Gone s = sym (ap is_opening s)
+
+  -- how many have ended their first bring-up, by their lives
+  pub opens_behind : {G : Ghosts InHand} (leads : List Leads) (opened : ℕ) (ts rs : List (Stop InHand G)) → EachPair (λ s t. StopStays s t) ts rs → AllBoth (λ a t. IsLead lens recover a t) leads rs → opened_behind (λ s. is_opened s.stand) opened ts ≡ opened_behind is_opening_lead opened leads
+  opens_behind leads opened ts rs e l =
+      opened_same (λ s. is_opened s.stand) is_opening_lead opened ts leads (each_length (λ s t. StopStays s t) ts rs e ∙ sym (both_length (λ a t. IsLead lens recover a t) leads rs l))
+      (λ k. sym (each_holds (λ s t. StopStays s t) (λ s. is_opened s.stand) (λ s t p. ap is_opened p.stand) ts rs e k) ∙ both_holds (λ a t. IsLead lens recover a t) is_opening_lead (λ s. is_opened s.stand) (λ a s v. stand_opens a.lived s v.lives) leads rs l k)
+
+  pub behind_long : {G : Ghosts InHand} (octets : List ℕ) (on : Turn → Leads) (us : List Turn) (ss : List (Stop InHand G)) → AllBoth (λ u s. IsUnder lens recover octets u s) us ss → length ss ≡ length (map on us)
+  behind_long octets on us ss e = sym (both_length (λ u s. IsUnder lens recover octets u s) us ss e) ∙ sym (map_length on us)
 
   -- behind a frame it is where it was in the ring, and no mail is passed on to it
   behind_spot : (gives : Bool) (made : ℕ) (f : Exchanged) (fate : Fate) (l : Lived Asked Reply) (share : Share) → (life_behind lens recover retry gives made f fate l share).spot ≡ l.spot

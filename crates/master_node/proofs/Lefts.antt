@@ -19,10 +19,10 @@ pub true_false : (z : Bool) → z ≡ true → z ≡ false → ⊥
 true_false true e f = cc
 true_false false e f = cc
 
-in_here : (k q : ℕ) (qs : List ℕ) → (k == q) ≡ true → is_in k (q ∷ qs) ≡ true
+pub in_here : (k q : ℕ) (qs : List ℕ) → (k == q) ≡ true → is_in k (q ∷ qs) ≡ true
 in_here k q qs e = ap (λ (z : Bool). if z then true else is_in k qs) e
 
-in_there : (k q : ℕ) (qs : List ℕ) → is_in k qs ≡ true → is_in k (q ∷ qs) ≡ true
+pub in_there : (k q : ℕ) (qs : List ℕ) → is_in k qs ≡ true → is_in k (q ∷ qs) ≡ true
 in_there k q qs e = go (k == q)
   where
     go : (z : Bool) → (if z then true else is_in k qs) ≡ true

@@ -247,6 +247,9 @@ map_long f (x ∷ xs) = ap suc (map_long f xs)
 pub sent_is : (lens : ℕ → Lens) (octets : List ℕ) (ds : List Raw.Datagram) → IsFrame octets (chained ds) → seen lens octets ≡ datagrams_seen lens ds
 sent_is lens octets ds f = seen_is lens octets (chained ds) f ∙ seen_chained lens ds
 
+pub sent_many : (lens : ℕ → Lens) (octets : List ℕ) (ds : List Raw.Datagram) → IsFrame octets (chained ds) → length (seen lens octets) ≡ length ds
+sent_many lens octets ds f = ap length (sent_is lens octets ds f) ∙ map_long (datagram_seen lens) ds
+
 pub sent_some : (lens : ℕ → Lens) (octets : List ℕ) (ds : List Raw.Datagram) → IsFrame octets (chained ds) → 1 ≤ length (seen lens octets)
 sent_some lens octets ds f =
     let n = ap length (sent_is lens octets ds f) ∙ map_long (datagram_seen lens) ds in

@@ -58,6 +58,7 @@ impl MasterNode {
     ghost use Rattle.master_node.specs.Coming.{next_of, IsComing, IsLaid, PassesBy, CameBy};
     ghost use Rattle.std.specs.Prelude.{◌⊎◌, ◌+◌, ◌∷◌, [], nat_lt, map, if◌then◌else◌};
     ghost use Rattle.frame_view.specs.View.{Lens};
+    ghost use Rattle.frame_view.specs.Seen.{seen};
     ghost use Rattle.life_frames.specs.Shares.{AreDistinct};
     ghost use Rattle.life_runs.specs.Led.{Leads, Turn, IsLedFrame};
     ghost use Rattle.master_tour.specs.Made.{is_in};
@@ -65,6 +66,9 @@ impl MasterNode {
     ghost use Rattle.master_node.specs.Shows.{lived_of, MasterShows, MasterUnder};
     ghost use Rattle.master_node.specs.Filling.{IsFilling, IsEmpty, IsFilled};
     ghost use Rattle.master_node.specs.Joined.{JoinsKept};
+    ghost use Rattle.master_tour.specs.Toured.{IsOfTour};
+    ghost use Rattle.master_node.specs.Shows.{is_live_lead};
+    ghost use Rattle.master_node.specs.Toured.{StaysPut, TakesPart, IsBare, HasVisited, stop_share, turn_share, tour_of};
 
     // Whether a slave is live.
     pub(crate) fn has_live(&self) -> bool
@@ -207,6 +211,7 @@ impl MasterNode {
     fn pass_by(&mut self, place: usize, coming: Coming)
         requires { place < vec_len self.old.posts }
         ensures begun { StepsAt (λ s t. PassesBy (Some coming) s t) place self.old.tour.stops.items self.new.tour.stops.items }
+        ensures put { StepsAt (λ s t. StaysPut s t) place self.old.tour.stops.items self.new.tour.stops.items }
         ensures tour { TourKept self.old self.new }
         ensures posts { self.new.posts ≡ self.old.posts }
         ensures joins { JoinsKept self.old self.new }
@@ -224,6 +229,7 @@ impl MasterNode {
         requires { place < vec_len self.old.posts }
         ensures posts { vec_len self.new.posts ≡ vec_len self.old.posts }
         ensures begun { StepsAt (λ s t. PassesBy coming s t) place self.old.tour.stops.items self.new.tour.stops.items }
+        ensures put { StepsAt (λ s t. StaysPut s t) place self.old.tour.stops.items self.new.tour.stops.items }
         ensures kept { TourKept self.old self.new × (All WaitsNone self.old.posts.items → All WaitsNone self.new.posts.items) }
         ensures joins { JoinsKept self.old self.new }
     {
@@ -246,6 +252,7 @@ impl MasterNode {
         requires { place < vec_len self.old.posts }
         ensures posts { vec_len self.new.posts ≡ vec_len self.old.posts }
         ensures came { StepsAt (λ s t. CameBy began coming s t) place self.old.tour.stops.items self.new.tour.stops.items }
+        ensures put { StepsAt (λ s t. StaysPut s t) place self.old.tour.stops.items self.new.tour.stops.items }
         ensures kept { TourKept self.old self.new × (All WaitsNone self.old.posts.items → All WaitsNone self.new.posts.items) }
         ensures joins { JoinsKept self.old self.new }
     {
@@ -264,6 +271,7 @@ impl MasterNode {
         ensures on { TourOn self.old self.new × (self.new.tour.passed ≡ self.old.tour.passed) }
         ensures quiet { All WaitsNone self.old.posts.items → All WaitsNone self.new.posts.items }
         ensures visits { (self.old.tour.again ≡ false → length self.old.tour.visit.items < 16) → IsCarried (nat_lt self.old.tour.count self.new.tour.count) self.old.tour.again place self.old.tour.visit.items self.new.tour.visit.items }
+        ensures shares { StepsAt (λ s t. TakesPart (nat_lt self.old.tour.count self.new.tour.count) self.old.tour.count s t) place self.old.tour.stops.items self.new.tour.stops.items }
         ensures counts { (self.new.tour.count ≡ self.old.tour.count) ⊎ (self.new.tour.count ≡ self.old.tour.count + 1) }
         ensures still { result ≡ false → (self.new.tour.count ≡ self.old.tour.count) × (self.new.tour.visit ≡ self.old.tour.visit) }
         ensures first { length into.old.items ≡ 16 → holds_at (λ s. is_live s.stand) self.old.tour.stops.items place ≡ true → (result ≡ true) × (self.new.tour.count ≡ self.old.tour.count + 1) }
@@ -283,12 +291,13 @@ impl MasterNode {
         true
     }
 
-    // The slaves that the frame carries are visited.
+    // The slaves that the frame carries are visited, up to the first that has no datagram in it.
     fn fill(&mut self, into: &mut FrameBuf)
         requires { (ds : List Raw.Datagram) × IsBegun into.old.items ds }
         ensures begun { (ds : List Raw.Datagram) × IsBegun into.new.items ds }
         ensures posts { vec_len self.new.posts ≡ vec_len self.old.posts }
         ensures on { TourOn self.old self.new }
+        ensures visited { IsBare self.old → HasVisited self.old self.new }
         ensures filled { (lens : ℕ → Lens) (recover made : ℕ) (as' : List Leads) → AreDistinct (map lived_of as') → IsEmpty lens recover made self.old into.old.items as' → IsFilled lens recover made self.new into.new.items as' }
         ensures joins { JoinsKept self.old self.new }
     {
@@ -296,7 +305,11 @@ impl MasterNode {
             let Some(place) = self.tour.due() else {
                 return;
             };
+            let count = self.tour.count;
             if !self.visit(place, into) {
+                return;
+            }
+            if self.tour.count == count {
                 return;
             }
         }
@@ -306,7 +319,8 @@ impl MasterNode {
     fn make(&mut self, into: &mut FrameBuf)
         ensures posts { vec_len self.new.posts ≡ vec_len self.old.posts }
         ensures led { (lens : ℕ → Lens) (recover retry missed number : ℕ) (as' : List Leads) → list_any (λ s. is_live s.stand) self.old.tour.stops.items ≡ true → MasterShows lens recover retry self.old missed as' →
-            (us : List Turn) × IsLedFrame lens number into.new.items as' us × MasterUnder lens recover retry self.new into.new.items missed us }
+            (us : List Turn) × IsLedFrame lens number into.new.items as' us × MasterUnder lens recover retry self.new into.new.items missed us × (tour_of self.new ≡ tour_of self.old) ×
+            IsOfTour (λ s. stop_share s) (λ k. holds_at is_live_lead as' k) (tour_of self.old) self.new.tour.stops.items (length (seen lens into.new.items)) self.new.tour.visit.items }
         ensures joins { JoinsKept self.old self.new }
     {
         self.tour.begin(into);
@@ -315,12 +329,14 @@ impl MasterNode {
     }
 
     /// Makes the next frame; `Idle` exactly where no slave is live. The frame has just the datagrams that the lives of the slaves ask for, and
-    /// what came into hand of each is next of its script, or a packet.
+    /// what came into hand of each is next of its script, or a packet. It carries the first slaves of its visit of the tour, in this order.
     pub fn next(&mut self, into: &mut FrameBuf) -> Next
         ensures idle { (result ≡ Next.Idle) ↔ (list_any (λ s. is_live s.stand) self.old.tour.stops.items ≡ false) }
         ensures posts { vec_len self.new.posts ≡ vec_len self.old.posts }
         ensures led { result ≡ Next.Frame → (lens : ℕ → Lens) (recover retry missed number : ℕ) (as' : List Leads) → MasterShows lens recover retry self.old missed as' →
             (us : List Turn) × IsLedFrame lens number into.new.items as' us × MasterUnder lens recover retry self.new into.new.items missed us }
+        ensures toured { result ≡ Next.Frame → (lens : ℕ → Lens) (recover retry missed : ℕ) (as' : List Leads) (us : List Turn) → MasterShows lens recover retry self.old missed as' → MasterUnder lens recover retry self.new into.new.items missed us →
+            (tour_of self.new ≡ tour_of self.old) × IsOfTour (λ u. turn_share u) (λ k. holds_at is_live_lead as' k) (tour_of self.old) us (length (seen lens into.new.items)) self.new.tour.visit.items }
         ensures joins { JoinsKept self.old self.new }
     {
         self.list.clear();

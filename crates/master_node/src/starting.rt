@@ -1,6 +1,6 @@
 //! A master before its first frame.
 
-ghost use Rattle.std.specs.Prelude.{◌≡◌, ◌≤◌, ◌<◌, length, map, replicate, vec_len, false, All, IfOk};
+ghost use Rattle.std.specs.Prelude.{◌≡◌, ◌≤◌, ◌<◌, length, map, replicate, vec_len, false, All, IfOk, None};
 ghost use Rattle.life_frames.specs.Shares.{AllFrom};
 ghost use Rattle.master_node.specs.Lives.{waiting_of};
 ghost use Rattle.segment_plan.specs.Sound.{IsPlan, IsSlave, IsPace};
@@ -101,6 +101,7 @@ fn tour_of(alloc: Global, plan: &Scenario) -> Result<Tour<InHand>, NoMemory>
     ensures many { IfOk result (λ tour. vec_len tour.stops ≡ length plan.now.slaves) }
     ensures first { IfOk result (λ tour. AllFrom (λ place spec s. IsFirst plan.now place spec s) 0 plan.now.slaves tour.stops.items) }
     ensures begins { IfOk result (λ tour. (tour.opened ≡ 0) × (tour.again ≡ false) × (tour.missed ≡ 0) × (tour.retry ≡ plan.now.retry)) }
+    ensures last { IfOk result (λ tour. tour.last ≡ None) }
 {
     let stops = stops_of(alloc, plan)?;
     Ok(Tour {
@@ -124,12 +125,15 @@ impl MasterNode {
     ghost use Rattle.master_node.specs.Shows.{MasterShows};
     ghost use Rattle.std.specs.Prelude.{None};
     ghost use Rattle.master_node.specs.Joined.{HasUnfinished, stand_before};
+    ghost use Rattle.master_tour.specs.Toured.{new_tour};
+    ghost use Rattle.master_node.specs.Toured.{tour_of};
 
     /// The master of a segment before its first frame: no slave is brought up, and no packet of the host has come in.
     pub fn new(alloc: Global, plan: &Scenario) -> Result<MasterNode, NoMemory>
         requires { IsPlan plan.now }
         ensures posts { IfOk result (λ master. vec_len master.posts ≡ length plan.now.slaves) }
         ensures waiting { IfOk result (λ master. map waiting_of master.posts.items ≡ replicate (length plan.now.slaves) 0) }
+        ensures tour { IfOk result (λ master. tour_of master ≡ new_tour) }
         ensures leads { IfOk result (λ master. MasterShows (lens_of plan.now.slaves) plan.now.recover plan.now.retry master 0 (first_leads plan.now)) }
         ensures joined { IfOk result (λ master. HasUnfinished master (map stand_before (first_leads plan.now)) (map (λ spec. None) plan.now.slaves)) }
     {

@@ -10,6 +10,7 @@ pub mod Steps
 pub mod Mades
 pub mod Sents
 pub mod Orders
+pub mod Firsts
 pub mod Counts
 pub mod Unpassed
 pub mod Goes

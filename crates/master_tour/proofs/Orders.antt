@@ -21,7 +21,7 @@ first_next p ps n = record {
   fewer = λ k e. in_behind k p ps e;
 }
 
-drop_at : (xs : List ℕ) (i d : ℕ) → i < length xs → drop i xs ≡ get_or xs i d ∷ drop (suc i) xs
+pub drop_at : (xs : List ℕ) (i d : ℕ) → i < length xs → drop i xs ≡ get_or xs i d ∷ drop (suc i) xs
 drop_at [] i d l = absurd (omega (arith, l))
 drop_at (x ∷ xs) zero d l = refl
 drop_at (x ∷ xs) (suc i) d l = drop_at xs i d (omega (arith, l))
@@ -52,7 +52,7 @@ place_differs start count j k s a b n = go (nat_lt j (count - start)) refl (nat_
     go false e true f = let x = ltb-false j (count - start) e in let y = ltb-true k (count - start) f in differ (j - (count - start)) (start + k) (λ q. omega (arith, q, x, y, a, b, s))
     go false e false f = let x = ltb-false j (count - start) e in let y = ltb-false k (count - start) f in differ (j - (count - start)) (k - (count - start)) (λ q. n (omega (arith, q, x, y)))
 
-place_over : (start count k j n : ℕ) → start ≤ count → k < j → j + n ≤ count → is_in (place_in start count k) (places_from start count j n) ≡ false
+pub place_over : (start count k j n : ℕ) → start ≤ count → k < j → j + n ≤ count → is_in (place_in start count k) (places_from start count j n) ≡ false
 place_over start count k j zero s a b = refl
 place_over start count k j (suc n) s a b =
     ap (λ (z : Bool). if z then true else is_in (place_in start count k) (places_from start count (suc j) n)) (place_differs start count k j s (omega (arith, a, b)) (omega (arith, b)) (λ q. omega (arith, q, a)))
@@ -77,7 +77,7 @@ round_later start count q j k a b e =
     subst (λ z. is_in q (places_from start count j z) ≡ true) g
     (later_in start count q j (k - j) (count - k) (subst (λ z. is_in q (places_from start count z (count - k)) ≡ true) f e))
 
-round_here : (start count k : ℕ) → k < count → round_left start count k ≡ place_in start count k ∷ round_left start count (suc k)
+pub round_here : (start count k : ℕ) → k < count → round_left start count k ≡ place_in start count k ∷ round_left start count (suc k)
 round_here start count k l = let e : count - k ≡ suc (count - suc k) = omega (arith, l) in ap (places_from start count k) e
 
 pub round_next : (start count i j k p : ℕ) → start ≤ count → i ≤ k → k < count → j ≡ k + 1 → p ≡ place_in start count k → IsNextOf p (round_left start count i) (round_left start count j)

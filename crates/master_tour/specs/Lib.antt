@@ -7,3 +7,4 @@ pub mod Brings
 pub mod Joins
 pub mod Orders
 pub mod Goes
+pub mod Toured

@@ -1,5 +1,5 @@
 -- THE ORDER OF A FRAME'S VISITS, by places in the ring.
-use Rattle.std.specs.Prelude.{◌≡◌, ℕ, zero, suc, ◌+◌, ◌-◌, nat_lt, Bool, true, false, if◌then◌else◌, Option, Some, None, List, [], ◌∷◌, ◌++◌, drop, ⊤}
+use Rattle.std.specs.Prelude.{◌≡◌, ℕ, zero, suc, ◌+◌, ◌-◌, ◌||◌, nat_lt, Bool, true, false, if◌then◌else◌, Option, Some, None, List, [], ◌∷◌, ◌++◌, drop, filter, ⊤}
 use Rattle.master_tour.specs.Made.{is_in}
 
 -- a round begins behind the slave that was carried last
@@ -42,3 +42,22 @@ abbrev pub IsCarried : Bool → Bool → ℕ → List ℕ → List ℕ → Type 
 IsCarried true false place old new = new ≡ old ++ place ∷ []
 IsCarried true true place old new = new ≡ old
 IsCarried false again place old new = new ≡ old
+
+-- a round passes the slaves that aren't live; behind a lost frame, and in the first bring-up, none is passed
+abbrev pub visited_of : Bool → (ℕ → Bool) → List ℕ → List ℕ
+visited_of true live ps = ps
+visited_of false live ps = filter live ps
+
+-- a lost frame's slaves come again, or one is brought up
+abbrev pub is_fixed : Bool → ℕ → ℕ → Bool
+is_fixed again opened count = again || nat_lt opened count
+
+-- the slave whose place stands last
+abbrev pub last_place : ℕ → List ℕ → ℕ
+last_place p [] = p
+last_place p (q ∷ ps) = last_place q ps
+
+-- THE SLAVE CARRIED LAST, behind a frame that carried these: a first bring-up leaves none
+abbrev pub last_behind : ℕ → ℕ → Option ℕ → List ℕ → Option ℕ
+last_behind opened count last [] = last
+last_behind opened count last (p ∷ ps) = if nat_lt opened count then None else Some (last_place p ps)

@@ -32,7 +32,8 @@ pub struct Tour<H: Hand> {
 impl<H: Hand> Tour<H> {
     ghost use Rattle.std.specs.Prelude.{◌≡◌, ◌≤◌, ◌<◌, ◌-◌, ℕ, List, IfSome, map, All, length, [], ◌∷◌};
     ghost use Rattle.datagrams.specs.Datagram as Raw;
-    ghost use Rattle.datagrams.specs.Frame.{IsBegun, IsFrame};
+    ghost use Rattle.datagrams.specs.Command.{IsNamed};
+    ghost use Rattle.datagrams.specs.Frame.{IsBegun, IsFrame, Each, chained};
     ghost use Rattle.exchange_model.specs.Exchange.{Speech};
     ghost use Rattle.link_mails.specs.Body.{Body};
     ghost use Rattle.segment_model.specs.Slaves.{Datagram};
@@ -51,7 +52,7 @@ impl<H: Hand> Tour<H> {
     ghost use Rattle.mailbox_master.specs.Any.{in_area_len};
     ghost use Rattle.std.specs.Prelude.{is_some, true, ◌++◌, ◌+◌, ◌==◌};
     ghost use Rattle.std.specs.Prelude.{Option, Some, drop, slice_get};
-    ghost use Rattle.master_tour.specs.Orders.{start_of, place_in, round_left, visits_left, AreOnce, IsNextOf, IsCarried};
+    ghost use Rattle.master_tour.specs.Orders.{start_of, place_in, round_left, visits_left, visited_of, is_fixed, last_behind, AreOnce, IsNextOf, IsCarried};
     ghost use Rattle.life_frames.specs.Shares.{Lived, AllBoth, AllThree, AreDistinct, lived_back, lived_lost};
     ghost use Rattle.master_side.specs.Sent.{SameLink};
     ghost use Rattle.master_side.specs.Heard.{Brought};
@@ -64,7 +65,7 @@ impl<H: Hand> Tour<H> {
     ghost use Rattle.master_tour.specs.declared.stop.Stand.{Stand};
     ghost use Rattle.master_tour.specs.Goes.{is_live, is_opened, holds_at, Passes, BeginsLive, opened_behind};
     ghost use Rattle.std.specs.List.{list_any};
-    ghost use Rattle.std.specs.Prelude.{None};
+    ghost use Rattle.std.specs.Prelude.{None, filter};
 
     // Each slave hears what came back.
     fn all_back(&mut self, octets: &[u8], made: u32)
@@ -172,6 +173,7 @@ impl<H: Hand> Tour<H> {
         ensures inside { IfSome result (λ k. k < length self.now.stops.items) }
         ensures later { IfSome result (λ k. self.now.passed ≤ k) }
         ensures live { IfSome result (λ k. holds_at (λ s. is_live s.stand) self.now.stops.items (place_in (start_of (length self.now.stops.items) self.now.last) (length self.now.stops.items) k) ≡ true) }
+        ensures passes { IfSome result (λ k. (j : ℕ) → self.now.passed ≤ j → j < k → holds_at (λ s. is_live s.stand) self.now.stops.items (place_in (start_of (length self.now.stops.items) self.now.last) (length self.now.stops.items) j) ≡ false) }
         ensures none { result ≡ None → (k : ℕ) → self.now.passed ≤ k → k < length self.now.stops.items → holds_at (λ s. is_live s.stand) self.now.stops.items (place_in (start_of (length self.now.stops.items) self.now.last) (length self.now.stops.items) k) ≡ false }
     {
         for k in self.passed..self.stops.len() {
@@ -188,6 +190,7 @@ impl<H: Hand> Tour<H> {
         ensures rest { (self.new.missed ≡ self.old.missed) × (self.new.retry ≡ self.old.retry) }
         ensures inside { IfSome result (λ p. p < length self.new.stops.items) }
         ensures left { (p : ℕ) → result ≡ Some p → AreOnce self.old.visit.items → IsNextOf p (drop self.old.passed self.old.visit.items) (drop self.new.passed self.old.visit.items) }
+        ensures order { (p : ℕ) → result ≡ Some p → (self.new.passed ≡ self.old.passed + 1) × (drop self.old.passed self.old.visit.items ≡ p ∷ drop self.new.passed self.old.visit.items) }
         ensures first { self.old.passed ≡ 0 → BeginsLive (λ s. is_live s.stand) true self.old.visit.items self.old.opened self.old.stops.items → Passes (λ s. is_live s.stand) self.old.stops.items result }
     {
         let place = *self.visit.get(self.passed)?;
@@ -206,6 +209,8 @@ impl<H: Hand> Tour<H> {
         ensures rest { (self.new.missed ≡ self.old.missed) × (self.new.retry ≡ self.old.retry) }
         ensures inside { IfSome result (λ p. p < length self.new.stops.items) }
         ensures left { (p : ℕ) → result ≡ Some p → IsNextOf p (drop self.old.passed (self.old.opened ∷ [])) (drop self.new.passed (self.old.opened ∷ [])) }
+        ensures order { (p : ℕ) → result ≡ Some p → (self.new.passed ≡ self.old.passed + 1) × (drop self.old.passed (self.old.opened ∷ []) ≡ p ∷ drop self.new.passed (self.old.opened ∷ [])) }
+        ensures none { result ≡ None → 1 ≤ self.old.passed }
         ensures first { self.old.passed ≡ 0 → result ≡ Some self.old.opened }
     {
         if self.passed > 0 {
@@ -221,6 +226,8 @@ impl<H: Hand> Tour<H> {
         ensures rest { (self.new.missed ≡ self.old.missed) × (self.new.retry ≡ self.old.retry) }
         ensures inside { IfSome result (λ p. p < length self.new.stops.items) }
         ensures left { (p : ℕ) → result ≡ Some p → IsNextOf p (round_left (start_of (length self.old.stops.items) self.old.last) (length self.old.stops.items) self.old.passed) (round_left (start_of (length self.old.stops.items) self.old.last) (length self.old.stops.items) self.new.passed) }
+        ensures order { (p : ℕ) → result ≡ Some p → (self.old.passed < self.new.passed) × (filter (λ k. holds_at (λ s. is_live s.stand) self.old.stops.items k) (round_left (start_of (length self.old.stops.items) self.old.last) (length self.old.stops.items) self.old.passed) ≡ p ∷ filter (λ k. holds_at (λ s. is_live s.stand) self.old.stops.items k) (round_left (start_of (length self.old.stops.items) self.old.last) (length self.old.stops.items) self.new.passed)) }
+        ensures none { result ≡ None → filter (λ k. holds_at (λ s. is_live s.stand) self.old.stops.items k) (round_left (start_of (length self.old.stops.items) self.old.last) (length self.old.stops.items) self.old.passed) ≡ [] }
         ensures first { self.old.passed ≡ 0 → list_any (λ s. is_live s.stand) self.old.stops.items ≡ true → Passes (λ s. is_live s.stand) self.old.stops.items result }
     {
         let k = self.next_live()?;
@@ -236,6 +243,9 @@ impl<H: Hand> Tour<H> {
         ensures inside { IfSome result (λ p. p < length self.new.stops.items) }
         ensures left { (p : ℕ) → result ≡ Some p → (self.old.again ≡ true → AreOnce self.old.visit.items) →
             IsNextOf p (visits_left self.old.again self.old.visit.items self.old.opened (length self.old.stops.items) self.old.last self.old.passed) (visits_left self.old.again self.old.visit.items self.old.opened (length self.old.stops.items) self.old.last self.new.passed) }
+        ensures order { (p : ℕ) → result ≡ Some p → (self.old.passed < self.new.passed) × (visited_of (is_fixed self.old.again self.old.opened (length self.old.stops.items)) (λ k. holds_at (λ s. is_live s.stand) self.old.stops.items k) (visits_left self.old.again self.old.visit.items self.old.opened (length self.old.stops.items) self.old.last self.old.passed) ≡ p ∷ visited_of (is_fixed self.old.again self.old.opened (length self.old.stops.items)) (λ k. holds_at (λ s. is_live s.stand) self.old.stops.items k) (visits_left self.old.again self.old.visit.items self.old.opened (length self.old.stops.items) self.old.last self.new.passed)) }
+        ensures fixed { (p : ℕ) → result ≡ Some p → self.old.again ≡ true → self.new.passed ≡ self.old.passed + 1 }
+        ensures none { result ≡ None → self.old.again ≡ false → visited_of (is_fixed self.old.again self.old.opened (length self.old.stops.items)) (λ k. holds_at (λ s. is_live s.stand) self.old.stops.items k) (visits_left self.old.again self.old.visit.items self.old.opened (length self.old.stops.items) self.old.last self.old.passed) ≡ [] }
         ensures first { self.old.passed ≡ 0 → BeginsLive (λ s. is_live s.stand) self.old.again self.old.visit.items self.old.opened self.old.stops.items → list_any (λ s. is_live s.stand) self.old.stops.items ≡ true → Passes (λ s. is_live s.stand) self.old.stops.items result }
     {
         if self.again {
@@ -256,6 +266,9 @@ impl<H: Hand> Tour<H> {
         ensures rest { (self.new.missed ≡ self.old.missed) × (self.new.retry ≡ self.old.retry) }
         ensures left { (p : ℕ) → result ≡ Some p → (self.old.again ≡ true → AreOnce self.old.visit.items) →
             IsNextOf p (visits_left self.old.again self.old.visit.items self.old.opened (length self.old.stops.items) self.old.last self.old.passed) (visits_left self.old.again self.old.visit.items self.old.opened (length self.old.stops.items) self.old.last self.new.passed) }
+        ensures order { (p : ℕ) → result ≡ Some p → (self.old.passed < self.new.passed) × (visited_of (is_fixed self.old.again self.old.opened (length self.old.stops.items)) (λ k. holds_at (λ s. is_live s.stand) self.old.stops.items k) (visits_left self.old.again self.old.visit.items self.old.opened (length self.old.stops.items) self.old.last self.old.passed) ≡ p ∷ visited_of (is_fixed self.old.again self.old.opened (length self.old.stops.items)) (λ k. holds_at (λ s. is_live s.stand) self.old.stops.items k) (visits_left self.old.again self.old.visit.items self.old.opened (length self.old.stops.items) self.old.last self.new.passed)) }
+        ensures fixed { (p : ℕ) → result ≡ Some p → self.old.again ≡ true → self.new.passed ≡ self.old.passed + 1 }
+        ensures none { result ≡ None → self.old.count < 16 → self.old.again ≡ false → visited_of (is_fixed self.old.again self.old.opened (length self.old.stops.items)) (λ k. holds_at (λ s. is_live s.stand) self.old.stops.items k) (visits_left self.old.again self.old.visit.items self.old.opened (length self.old.stops.items) self.old.last self.old.passed) ≡ [] }
         ensures first { self.old.count ≡ 0 → self.old.passed ≡ 0 → BeginsLive (λ s. is_live s.stand) self.old.again self.old.visit.items self.old.opened self.old.stops.items → list_any (λ s. is_live s.stand) self.old.stops.items ≡ true → Passes (λ s. is_live s.stand) self.old.stops.items result }
     {
         if self.count >= 16 {
@@ -350,6 +363,7 @@ impl<H: Hand> Tour<H> {
     pub fn finish(&self, frame: &mut FrameBuf) -> bool
         requires { (ds : List Raw.Datagram) × IsBegun frame.old.items ds }
         ensures some { result ≡ not (self.now.count == 0) }
+        ensures reads { result ≡ true → (ds : List Raw.Datagram) → IsBegun frame.old.items ds → length ds ≡ self.now.count → Each (λ d. IsNamed d.head.command) ds → IsFrame frame.new.items (chained ds) }
         ensures made { result ≡ true → (x : Spot → Speech Body H.Asked Reply) (more : Body → Bool) (passed : H.Asked → Bool) (made recover index : ℕ) (lens : ℕ → Lens) (left : List ℕ) (lives : List (Lived H.Asked Reply)) (begun : ℕ → Option (Service H.Asked)) →
             FrameMade (λ ds i a s. StopMade (x a.spot) H.acknowledged more passed made begun lens recover index (λ d b. SideShows (H.shows s.side.hand (x a.spot)) s.side.out s.side.inn s.side.fresh s.side.duty d b) s.side.station s.place s.start s.stand s.spare s.side.out s.side.inn s.side.duty s.side.carried s.side.passing s.under s.at left ds i a) frame.old.items self.now.count lives self.now.stops.items →
             FrameSent (λ ds a b s. StopSent (x a.spot) H.acknowledged more passed made begun lens recover (λ d k. SideShows (H.shows s.side.hand (x a.spot)) s.side.out s.side.inn s.side.fresh s.side.duty d k) s.side.station s.place s.start s.stand s.spare s.side.out.len (in_area_len s.side.inn) s.side.carried s.under s.at ds a b) frame.new.items lives self.now.stops.items }
@@ -362,7 +376,9 @@ impl<H: Hand> Tour<H> {
     }
 
     // The place carried last, as the tour goes on from it: a first bring-up leaves none.
-    fn last_behind(&self) -> Option<usize> {
+    fn last_behind(&self) -> Option<usize>
+        ensures { result ≡ last_behind self.now.opened (length self.now.stops.items) self.now.last self.now.visit.items }
+    {
         match self.visit.last() {
             Some(place) if self.opened >= self.stops.len() => Some(*place),
             Some(_) => None,
@@ -419,6 +435,7 @@ impl<H: Hand> Tour<H> {
             AllThree (λ a s t. (ns : List (News Body)) → StopLives lens recover (λ d b. SideShows (H.shows t.side.hand (x a.spot)) t.side.out t.side.inn t.side.fresh t.side.duty d b) t.side.station t.place t.start t.stand t.spare t.side.out.len (in_area_len t.side.inn) (lived_back (x a.spot) H.acknowledged more passed number (seen lens frame.now.items) a (record { under = s.under; at = s.at }) ns)) lives self.old.stops.items self.new.stops.items }
         ensures tour { (self.new.visit ≡ self.old.visit) × (self.new.again ≡ false) × (self.new.missed ≡ 0) × (self.new.retry ≡ self.old.retry) }
         ensures opened { self.new.opened ≡ opened_behind (λ s. is_opened s.stand) self.old.opened self.new.stops.items }
+        ensures last { self.new.last ≡ last_behind self.old.opened (length self.old.stops.items) self.old.last self.old.visit.items }
         ensures stays { EachPair (λ s t. (H.script t.side.hand ≡ H.script s.side.hand) × (s.side.passing ≡ None → t.side.passing ≡ None)) self.old.stops.items self.new.stops.items }
         ensures brought { (lens : ℕ → Lens) (sent : List (Datagram Body)) → Returns sent (seen lens frame.now.items) → 1 ≤ length sent → EachPair (λ s t. (x : Speech Body H.Asked Reply) (recover : ℕ) (spot : Spot) (l : Life Body H.Asked Reply) →
             IsSpot spot s.side.station s.place s.start → StandUnder lens s.side.station s.at s.under s.side.carried s.stand l sent → StopShows (λ d a. SideShows (H.shows s.side.hand x) s.side.out s.side.inn s.side.fresh s.side.duty d a) recover spot s.stand s.spare l →
@@ -448,6 +465,7 @@ impl<H: Hand> Tour<H> {
             AllThree (λ a s t. (ns : List (News Body)) → StopLives lens recover (λ d b. SideShows (H.shows t.side.hand (x a.spot)) t.side.out t.side.inn t.side.fresh t.side.duty d b) t.side.station t.place t.start t.stand t.spare t.side.out.len (in_area_len t.side.inn) (lived_lost (x a.spot) H.acknowledged more passed (not (nat_lt self.old.missed self.old.retry)) recover number (seen lens octets) a (record { under = s.under; at = s.at }) ns)) lives self.old.stops.items self.new.stops.items }
         ensures tour { (self.new.visit ≡ self.old.visit) × (self.new.again ≡ nat_lt self.old.missed self.old.retry) × (self.new.missed ≡ (if nat_lt self.old.missed self.old.retry then self.old.missed + 1 else 0)) × (self.new.retry ≡ self.old.retry) }
         ensures opened { self.new.opened ≡ (if nat_lt self.old.missed self.old.retry then self.old.opened else opened_behind (λ s. is_opened s.stand) self.old.opened self.new.stops.items) }
+        ensures last { self.new.last ≡ (if nat_lt self.old.missed self.old.retry then self.old.last else last_behind self.old.opened (length self.old.stops.items) self.old.last self.old.visit.items) }
         ensures stays { EachPair (λ s t. (H.script t.side.hand ≡ H.script s.side.hand) × (s.side.passing ≡ None → t.side.passing ≡ None)) self.old.stops.items self.new.stops.items }
         ensures join { EachPair (λ s t. (not (nat_lt self.old.missed self.old.retry) && s.under) ≡ false → H.join t.side.hand ≡ H.join s.side.hand) self.old.stops.items self.new.stops.items }
     {

@@ -14,14 +14,14 @@ use Rattle.object_dictionary.specs.Dictionary.{Table}
 use Rattle.object_dictionary.specs.Sound.{placed, own_table, is_table, is_rising, is_row, is_object, is_emitter, are_sized}
 use Rattle.object_dictionary.proofs.Placed.{table_placed}
 use Rattle.segment_plan.specs.declared.slave.ObjectSpec.{ObjectSpec}
-use Rattle.segment_plan.specs.declared.slave.IdnSpec.{IdnSpec}
+use Rattle.idn_table.specs.declared.spec.IdnSpec.{IdnSpec}
 use Rattle.segment_plan.specs.declared.slave.SlaveSpec.{SlaveSpec}
 use Rattle.segment_plan.specs.Sound as Plan
 use Rattle.segment_plan.specs.Sound.{kept, IsObject, IsFile, IsIdn, IsSlave, indexes, taken}
 use Rattle.slave_model.specs.Application.{station_valid}
 use Rattle.slave_model.proofs.Stations.{both}
 use Rattle.slave_parts.specs.Parts.{parts}
-use Rattle.slave_server.specs.Spec.{with_objects, objects_of, with_files, files_of, idn_of, with_idn, with_idns, idns_of, core_of}
+use Rattle.slave_server.specs.Spec.{with_objects, objects_of, with_files, files_of, with_idn, with_idns, idns_of, core_of}
 use Rattle.slave_server.proofs.Objects as Taken
 
 -- an item of a list, whatever stands for none
@@ -103,9 +103,9 @@ text_is : (t : Option (List ℕ)) → IfSome t (λ text. length text ≤ 40) →
 text_is None few = refl
 text_is (Some octets) few = le-leb (length octets) 40 few
 
-idn_is : (i : IdnSpec) → IsIdn i → Idns.is_idn (Idns.idn_of (idn_of i)) ≡ true
+idn_is : (i : IdnSpec) → IsIdn i → Idns.is_idn (Idns.idn_of i) ≡ true
 idn_is i is =
-    let k = Idns.idn_of (idn_of i) in
+    let k = Idns.idn_of i in
     both (Idns.is_text k.label && Idns.is_text k.unit && Idns.is_sized k && Idns.is_bound k k.min) (Idns.is_bound k k.max)
     (both (Idns.is_text k.label && Idns.is_text k.unit && Idns.is_sized k) (Idns.is_bound k k.min)
     (both (Idns.is_text k.label && Idns.is_text k.unit) (Idns.is_sized k) (both (Idns.is_text k.label) (Idns.is_text k.unit) (text_is i.label is.label) (text_is i.unit is.unit)) sized)
@@ -117,7 +117,7 @@ idn_is i is =
         (both (nat_le 1 i.least && nat_le i.most 4096) (nat_le i.least (length i.value)) (both (nat_le 1 i.least) (nat_le i.most 4096) (le-leb 1 i.least is.some_size) (le-leb i.most 4096 is.size_fits)) (le-leb i.least (length i.value) is.value_least))
         (le-leb (length i.value) i.most is.value_most)
 
-    bound : (b : Option ℕ) → Plan.is_bound i.least i.most b ≡ true → Idns.is_bound (Idns.idn_of (idn_of i)) b ≡ true
+    bound : (b : Option ℕ) → Plan.is_bound i.least i.most b ≡ true → Idns.is_bound (Idns.idn_of i) b ≡ true
     bound None e = refl
     bound (Some x) e = e
 
@@ -126,9 +126,9 @@ idns_on [] table valid all = valid
 idns_on (i ∷ is_) table valid all = go (Idns.idn_at table (Idns.target i.drive i.number 0)) refl (λ t ok. idns_on is_ t ok (All-tail IsIdn i is_ all))
   where
     go : (found : Option Idns.Kept) → Idns.idn_at table (Idns.target i.drive i.number 0) ≡ found → ((t : Idns.Table) → Idns.are_idns t ≡ true → Idns.are_idns (with_idns is_ t) ≡ true) → Idns.are_idns (with_idns is_ (with_idn i table)) ≡ true
-    go (Some k) e next = subst (λ (b : Bool). Idns.are_idns (with_idns is_ (if b then table else Idns.placed (i.drive, i.number) (Idns.idn_of (idn_of i)) table)) ≡ true) (sym (ap is_some e)) (next table valid)
-    go None e next = subst (λ (b : Bool). Idns.are_idns (with_idns is_ (if b then table else Idns.placed (i.drive, i.number) (Idns.idn_of (idn_of i)) table)) ≡ true) (sym (ap is_some e))
-        (next (Idns.placed (i.drive, i.number) (Idns.idn_of (idn_of i)) table) (idns_placed (i.drive, i.number) (Idns.idn_of (idn_of i)) table valid e (idn_is i (All-head IsIdn i is_ all))))
+    go (Some k) e next = subst (λ (b : Bool). Idns.are_idns (with_idns is_ (if b then table else Idns.placed (i.drive, i.number) (Idns.idn_of i) table)) ≡ true) (sym (ap is_some e)) (next table valid)
+    go None e next = subst (λ (b : Bool). Idns.are_idns (with_idns is_ (if b then table else Idns.placed (i.drive, i.number) (Idns.idn_of i) table)) ≡ true) (sym (ap is_some e))
+        (next (Idns.placed (i.drive, i.number) (Idns.idn_of i) table) (idns_placed (i.drive, i.number) (Idns.idn_of i) table valid e (idn_is i (All-head IsIdn i is_ all))))
 
 -- ---- ALL OF IT
 pub core_is_valid : (s : SlaveSpec) → IsSlave s → station_valid parts (record { app = core_of s; frame = 0 }) ≡ true

@@ -2,7 +2,7 @@
 use Rattle.std.proofs.Common.{◌≡◌, List, [], ◌∷◌, ◌++◌, true, refl, append_assoc}
 use Rattle.std.proofs.lemmas.Bool.{and_parts}
 use Rattle.std.proofs.lemmas.List.{append-nil}
-use Rattle.segment_plan.specs.declared.slave.IdnSpec.{IdnSpec}
+use Rattle.idn_table.specs.declared.spec.IdnSpec.{IdnSpec}
 use Rattle.segment_plan.specs.Sound.{is_new_idn, are_new_idns}
 
 -- one more IDN, whose drive and number none before it has

@@ -1,7 +1,7 @@
 -- The IDNs of a slave, or their first refusal.
 use Rattle.std.specs.Prelude.{ℕ, List, [], ◌∷◌, codes, Result, Ok}
 use Rattle.toml.specs.Data.{Members}
-use Rattle.segment_plan.specs.declared.slave.IdnSpec.{IdnSpec}
+use Rattle.idn_table.specs.declared.spec.IdnSpec.{IdnSpec}
 use Rattle.segment_plan.specs.Sound.{is_new_idn}
 use Rattle.scenario_keys.specs.declared.place.Place.{Place}
 use Rattle.scenario_keys.specs.declared.place.Place.TheVariants as places

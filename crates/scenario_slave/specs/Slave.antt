@@ -3,7 +3,7 @@ use Rattle.std.specs.Prelude.{ℕ, ◌==◌, List, [], ◌∷◌, codes, Result,
 use Rattle.toml.specs.Data.{Members}
 use Rattle.file_store.specs.declared.file.FileSpec.{FileSpec}
 use Rattle.segment_plan.specs.declared.slave.ObjectSpec.{ObjectSpec}
-use Rattle.segment_plan.specs.declared.slave.IdnSpec.{IdnSpec}
+use Rattle.idn_table.specs.declared.spec.IdnSpec.{IdnSpec}
 use Rattle.segment_plan.specs.declared.slave.SlaveSpec.{SlaveSpec}
 use Rattle.scenario_keys.specs.declared.place.Place.{Place}
 use Rattle.scenario_keys.specs.declared.place.Place.TheVariants as places

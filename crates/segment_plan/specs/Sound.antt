@@ -14,7 +14,7 @@ use Rattle.object_dictionary.specs.declared.object.Object.{Object}
 use Rattle.object_dictionary.specs.Entries.{is_entry, bound_refusal}
 use Rattle.object_dictionary.specs.Sound.{is_object, is_rising}
 use Rattle.segment_plan.specs.declared.slave.ObjectSpec.{ObjectSpec}
-use Rattle.segment_plan.specs.declared.slave.IdnSpec.{IdnSpec}
+use Rattle.idn_table.specs.declared.spec.IdnSpec.{IdnSpec}
 use Rattle.segment_plan.specs.declared.slave.SlaveSpec.{SlaveSpec}
 use Rattle.segment_plan.specs.declared.service.Service.{Service}
 use Rattle.segment_plan.specs.declared.service.Service.TheVariants.{Sdo, ReadFile, WriteFile, ReadIdn, WriteIdn, SetIp, GetIp, State, Forward}

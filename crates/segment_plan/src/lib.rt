@@ -10,4 +10,4 @@ mod slave;
 pub use counts::{bound, smaller};
 pub use plan::Scenario;
 pub use service::Service;
-pub use slave::{IdnSpec, ObjectSpec, SlaveSpec};
+pub use slave::{ObjectSpec, SlaveSpec};

@@ -9,5 +9,6 @@ mod performed;
 mod sdo;
 
 pub use app::App;
+pub use idn_table::IdnSpec;
 pub use performed::{Emission, Performed, Reply};
-pub use segment_plan::{IdnSpec, ObjectSpec, Service, SlaveSpec};
+pub use segment_plan::{ObjectSpec, Service, SlaveSpec};

@@ -5,10 +5,9 @@ use Rattle.object_dictionary.specs.Sound.{placed, own_table}
 use Rattle.file_store.specs.Files.{Kept, file_of}
 use Rattle.file_store.specs.declared.file.FileSpec.{FileSpec}
 use Rattle.idn_table.specs.Idns as Idns
-use Rattle.idn_table.specs.declared.spec.IdnSpec as Table
 use Rattle.eoe_server.specs.declared.Addresses.{Addresses}
 use Rattle.segment_plan.specs.declared.slave.ObjectSpec.{ObjectSpec}
-use Rattle.segment_plan.specs.declared.slave.IdnSpec.{IdnSpec}
+use Rattle.idn_table.specs.declared.spec.IdnSpec.{IdnSpec}
 use Rattle.segment_plan.specs.declared.slave.SlaveSpec.{SlaveSpec}
 use Rattle.segment_plan.specs.Sound.{kept}
 use Rattle.slave_model.specs.Profile.{Profile}
@@ -38,25 +37,9 @@ with_files (f ∷ fs) files = with_files fs (with_file f files)
 abbrev pub files_of : SlaveSpec → Kept
 files_of s = with_files s.files (record { files = []; blocks = s.blocks })
 
--- an IDN as a table takes it
-abbrev pub idn_of : IdnSpec → Table.IdnSpec
-idn_of i = record {
-  drive = i.drive;
-  number = i.number;
-  attribute = i.attribute;
-  label = i.label;
-  unit = i.unit;
-  least = i.least;
-  most = i.most;
-  min = i.min;
-  max = i.max;
-  writable = i.writable;
-  value = i.value;
-}
-
 -- one IDN more at its place among drives and numbers, where none has its own
 abbrev pub with_idn : IdnSpec → Idns.Table → Idns.Table
-with_idn i idns = if is_some (Idns.idn_at idns (Idns.target i.drive i.number 0)) then idns else Idns.placed (i.drive, i.number) (Idns.idn_of (idn_of i)) idns
+with_idn i idns = if is_some (Idns.idn_at idns (Idns.target i.drive i.number 0)) then idns else Idns.placed (i.drive, i.number) (Idns.idn_of i) idns
 
 -- more IDNs
 abbrev pub with_idns : List IdnSpec → Idns.Table → Idns.Table

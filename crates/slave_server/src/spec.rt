@@ -3,15 +3,15 @@ ghost use Rattle.block_pool.specs.Region.{blocks_for};
 ghost use Rattle.file_store.specs.Files.{file_of};
 ghost use Rattle.file_store.specs.Stored.{free_now};
 ghost use Rattle.segment_plan.specs.Sound.{IsSlave, IsIdn};
-ghost use Rattle.slave_server.specs.Spec.{with_file, with_idn, idn_of, objects_of, files_of, idns_of, addresses_of, server_of, node_of};
+ghost use Rattle.slave_server.specs.Spec.{with_file, with_idn, objects_of, files_of, idns_of, addresses_of, server_of, node_of};
 
 use crate::server::{Lengths, Protocols, SlaveServer};
 use ec_fields::{NoMemory, Octets, Rows, buffer_of};
 use eoe_server::Addresses;
 use file_store::{FileSpec, NOT_FOUND, Store};
-use idn_table::IdnTable;
+use idn_table::{IdnSpec, IdnTable};
 use object_dictionary::{EntrySpec, Objects};
-use segment_plan::{IdnSpec, ObjectSpec, SlaveSpec};
+use segment_plan::{ObjectSpec, SlaveSpec};
 use slave_node::SlaveNode;
 use std::alloc::Global;
 
@@ -115,47 +115,15 @@ pub fn store_of(alloc: Global, spec: &SlaveSpec) -> Result<Store, NoMemory>
     Ok(store)
 }
 
-fn copy_of_text(alloc: Global, text: &Option<Octets>) -> Result<Option<Octets>, NoMemory>
-    ensures { IfOk result (λ copy. copy ≡ text.now) }
-{
-    match text {
-        Some(octets) => Ok(Some(Octets::copy_of(alloc, octets.bytes())?)),
-        None => Ok(None),
-    }
-}
-
-// An IDN as a table takes it.
-fn idn_of(alloc: Global, idn: &IdnSpec) -> Result<idn_table::IdnSpec, NoMemory>
-    ensures { IfOk result (λ copy. copy ≡ idn_of idn.now) }
-{
-    let label = copy_of_text(alloc, &idn.label)?;
-    let unit = copy_of_text(alloc, &idn.unit)?;
-    let value = Octets::copy_of(alloc, idn.value.bytes())?;
-    Ok(idn_table::IdnSpec {
-        drive: idn.drive,
-        number: idn.number,
-        attribute: idn.attribute,
-        label,
-        unit,
-        least: idn.least,
-        most: idn.most,
-        min: idn.min,
-        max: idn.max,
-        writable: idn.writable,
-        value,
-    })
-}
-
 // One IDN more, where none has its drive and number.
-fn add_idn(alloc: Global, idns: &mut IdnTable, idn: &IdnSpec) -> Result<(), NoMemory>
+fn add_idn(idns: &mut IdnTable, idn: &IdnSpec) -> Result<(), NoMemory>
     requires { IsIdn idn.now }
     ensures { OnOk result (idns.new ≡ with_idn idn.now idns.old) }
 {
     if idns.has(idn.drive, idn.number) {
         return Ok(());
     }
-    let copy = idn_of(alloc, idn)?;
-    idns.insert(&copy)
+    idns.insert(idn)
 }
 
 /// The IDNs of a slave of a plan; of IDNs of one drive and number the first. It takes the memory of the greatest value of each.
@@ -165,7 +133,7 @@ pub fn idns_of(alloc: Global, spec: &SlaveSpec) -> Result<IdnTable, NoMemory>
 {
     let mut idns = IdnTable::new(alloc)?;
     for idn in spec.idns.as_slice() {
-        add_idn(alloc, &mut idns, idn)?;
+        add_idn(&mut idns, idn)?;
     }
     Ok(idns)
 }

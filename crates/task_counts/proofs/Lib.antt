@@ -1,4 +1,3 @@
 mod Seating
 mod Both
-mod Keeping
 pub mod OfTasks

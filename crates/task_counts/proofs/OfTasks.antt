@@ -25,7 +25,7 @@ use Rattle.mail_counts.proofs.OfRows.{rows_within}
 use Rattle.task_counts.specs.Services.{service_count, services_count}
 use Rattle.task_counts.proofs.Seating.{Within, turn_within, new_within}
 use Rattle.task_counts.proofs.Both.{both_counted}
-use Rattle.task_counts.proofs.Keeping.{Whole, holds, session_keeps}
+use Rattle.task_model.proofs.Sessions.{Whole, holds, session_keeps}
 
 mails_few : {M : Type 0} (as' : List (Act M)) → length (mails as') ≤ length as'
 mails_few [] = omega arith

@@ -286,7 +286,7 @@ module _ {V A M Q R : Type 0} (x : Exchange V A M Q R) (law : IsLawful x) (s : S
 
   -- EVERY SESSION of a plan
   module _ (ps : List (Planned V)) (plan : IsTaskPlan x s processor table ps) where
-    session_keeps : (opening : List (Frame M)) → IsOpening opening → (ts : List (TaskTurn M Q)) → MayRun x s.acknowledged processor (new_tasks {Q = Q} {R = R} opening ps) ts → Keeps ps (run x s.acknowledged processor (new_tasks opening ps) ts)
+    pub session_keeps : (opening : List (Frame M)) → IsOpening opening → (ts : List (TaskTurn M Q)) → MayRun x s.acknowledged processor (new_tasks {Q = Q} {R = R} opening ps) ts → Keeps ps (run x s.acknowledged processor (new_tasks opening ps) ts)
     session_keeps opening quiet ts may = run_keeps ps (new_tasks opening ps) ts (all_apart [] ps plan.apart) may (new_keeps opening quiet ps plan)
 
     module _ (ds : List (ℕ × Side M Q R)) (accounts : List (Account Q R)) (ns : Ring V M) (fs : List (Frame M)) (b : IsTasked x s.acknowledged processor ps ds accounts ns fs) where

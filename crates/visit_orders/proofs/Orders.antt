@@ -55,11 +55,11 @@ second_part start count k a (suc n) e =
     let here : place_in start count k ≡ a = ap (λ (z : Bool). if z then start + k else k - (count - start)) (le-ltb k (count - start) (omega (arith, e))) ∙ (omega (arith, e)) in
     (λ i. here i ∷ second_part start count (suc k) (suc a) n (omega (arith, e)) i)
 
-map_append : {X Y : Type 0} (f : X → Y) (xs ys : List X) → map f (xs ++ ys) ≡ map f xs ++ map f ys
+pub map_append : {X Y : Type 0} (f : X → Y) (xs ys : List X) → map f (xs ++ ys) ≡ map f xs ++ map f ys
 map_append f [] ys = refl
 map_append f (x ∷ xs) ys = ap (λ z. f x ∷ z) (map_append f xs ys)
 
-drop_here : (ring : List Stop) (a : ℕ) → a < length ring → drop a ring ≡ stop_at ring a ∷ drop (suc a) ring
+pub drop_here : (ring : List Stop) (a : ℕ) → a < length ring → drop a ring ≡ stop_at ring a ∷ drop (suc a) ring
 drop_here [] a l = absurd (omega (arith, l))
 drop_here (s ∷ ss) zero l = refl
 drop_here (s ∷ ss) (suc a) l = drop_here ss a (omega (arith, l))
@@ -127,7 +127,7 @@ all_live (m ∷ ms) a =
     go false e = e
 
 -- A ROUND BY PLACES IS A ROUND BY STATIONS
-round_as : (ring : List Stop) (members : List Member) (last : Option ℕ) → AreOf ring members → AreApart ring → IsPlace ring last →
+pub round_as : (ring : List Stop) (members : List Member) (last : Option ℕ) → AreOf ring members → AreApart ring → IsPlace ring last →
     filter (λ s. is_live_in s.station members) (stops_at ring (round_left (start_of (length ring) last) (length ring) 0)) ≡ round ring (last_station ring last) members
 round_as ring members None a d l =
     ap (filter (λ s. is_live_in s.station members)) (round_stops ring 0 (omega arith) ∙ whole ring ∙ sym a) ∙ sym (all_live members (subst AreApart (sym a) d))

@@ -7,6 +7,17 @@ ghost use Rattle.segment_model.specs.Visits.{Stop, IsVisit};
 ghost use Rattle.life_model.specs.Tours.{Member, round};
 ghost use Rattle.master_tour.specs.Orders.{visits_left, IsNextOf, IsCarried};
 ghost use Rattle.visit_orders.specs.Visits.{AreOf, AreApart, IsPlace, GoesThrough, last_station, stations_at, stop_at, Carried};
+ghost use Rattle.std.specs.Prelude.{drop};
+ghost use Rattle.frame_view.specs.View.{Lens};
+ghost use Rattle.life_model.specs.Tours.{is_live_in};
+ghost use Rattle.life_runs.specs.Led.{Exchanged, Leads, IsLed};
+ghost use Rattle.master_tour.specs.Toured.{Tour, visit_of};
+ghost use Rattle.frame_view.specs.Seen.{seen};
+ghost use Rattle.life_runs.specs.Led.{Turn, IsLedFrame};
+ghost use Rattle.master_node.specs.Toured.{turn_share};
+ghost use Rattle.master_tour.specs.Toured.{AreFirst, IsOfTour};
+ghost use Rattle.segment_model.specs.Visits.{carried};
+ghost use Rattle.visit_orders.specs.Toured.{IsToured, AreAt, stations_of, visit_stations};
 
 /// BEHIND THE FIRST BRING-UP a frame is a visit of the tour where the master goes through the places of its round as it does: it carries the live
 /// slaves one behind the other, at least one, and ends before the first that may not fit.
@@ -22,4 +33,19 @@ pub fn round_law()
 /// among those left, unless the slaves of a lost frame come again.
 pub fn once_law()
     ensures { (again under : Bool) (place : ℕ) (left next old new : List ℕ) → Carried again left old → IsNextOf place left next → IsCarried under again place old new → Carried again next new }
+{}
+
+/// A RUN WHOSE FRAMES ARE VISITS of one tour is one of frames and lives, with as many lost in a row; and a visit by places is the tour's by stations:
+/// the slaves of the lost frame before it, else the one that is brought up, else those of a round.
+pub fn toured_law()
+    ensures led { (lens : ℕ → Lens) (recover retry : ℕ) (first : List Leads) (fs : List Exchanged) (t : Tour) (as' : List Leads) → IsToured lens recover retry first fs t as' → IsLed lens recover retry first fs t.missed as' }
+    ensures stations { (ring : List Stop) (members : List Member) (live : ℕ → Bool) (again : Option (List ℕ)) (opened : ℕ) (last : Option ℕ) → AreOf ring members → AreApart ring → IsPlace ring last → ((k : ℕ) → live k ≡ is_live_in (stop_at ring k).station members) →
+        stations_at ring (visit_of live (length ring) again opened last) ≡ visit_stations (stations_of ring again) (drop opened ring) (round ring (last_station ring last) members) }
+{}
+
+/// THE STATIONS THAT A FRAME OF SUCH A RUN IS ADDRESSED TO, datagram by datagram, are the first of its visit's, and it has no other datagram.
+pub fn stations_law()
+    ensures { (lens : ℕ → Lens) (ring : List Stop) (members : List Member) (made : ℕ) (octets : List ℕ) (as' : List Leads) (us : List Turn) (live : ℕ → Bool) (t : Tour) (visit : List ℕ) → length ring ≤ 16 → length us ≡ length ring → AreAt ring 0 us → AreOf ring members → AreApart ring → IsPlace ring t.last →
+        ((k : ℕ) → live k ≡ is_live_in (stop_at ring k).station members) → IsLedFrame lens made octets as' us → IsOfTour (λ u. turn_share u) live t us (length (seen lens octets)) visit →
+        AreFirst (carried ring (seen lens octets)) (visit_stations (stations_of ring t.again) (drop t.opened ring) (round ring (last_station ring t.last) members)) }
 {}

@@ -1,7 +1,7 @@
 use Rattle.std.proofs.Common.{List, ◌+◌, [], ◌∷◌, ◌++◌, map, sym, subst}
 use Rattle.std.proofs.lemmas.Result.{err_from_is_err_and}
 use Rattle.toml.specs.View.{table_view}
-use Rattle.segment_plan.specs.declared.slave.IdnSpec.{IdnSpec}
+use Rattle.idn_table.specs.declared.spec.IdnSpec.{IdnSpec}
 use Rattle.scenario_keys.specs.declared.place.Place.TheVariants.{Idn}
 use Rattle.segment_plan.specs.Sound.{IsIdn}
 use Rattle.scenario_idns.specs.Idns.{idn_of}

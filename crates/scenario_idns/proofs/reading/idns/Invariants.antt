@@ -1,6 +1,6 @@
 use Rattle.std.proofs.Common.{◌≡◌, true, [], ◌∷◌, ◌++◌, map}
 use Rattle.toml.specs.View.{table_view}
-use Rattle.segment_plan.specs.declared.slave.IdnSpec.{IdnSpec}
+use Rattle.idn_table.specs.declared.spec.IdnSpec.{IdnSpec}
 use Rattle.scenario_keys.specs.declared.place.Place.TheVariants.{Idn}
 use Rattle.segment_plan.specs.Sound.{IsIdn, are_new_idns}
 use Rattle.scenario_idns.specs.Idns.{idn_of}

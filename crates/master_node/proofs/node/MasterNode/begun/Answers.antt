@@ -1,4 +1,4 @@
-use Rattle.std.proofs.Common.{◌<◌, sym, subst, arith, length}
+use Rattle.std.proofs.Common.{◌<◌, refl, sym, subst, arith, length}
 use Rattle.master_tour.specs.Walks.{StepsAt}
 use Rattle.master_node.specs.Coming.{PassesBy}
 use Rattle.master_node.proofs.Kepts.{stop_same}
@@ -22,3 +22,9 @@ returns-in-None-clause-joins c = each_same _ c.args.self.now.tour.stops.items (�
 
 pub returns-in-Some-clause-joins : goal.returns-in-Some-clause-joins
 returns-in-Some-clause-joins c = c.pass_by.ensures.joins
+
+pub returns-in-None-clause-put : goal.returns-in-None-clause-put
+returns-in-None-clause-put c =
+    let m = c.args.self.now in
+    let l : c.args.place < length m.tour.stops.items = omega (arith, c.requires, m.paired, m.tour.stops.ok.0) in
+    steps_same _ c.args.place m.tour.stops.items l (λ s. (refl, refl, refl))

@@ -1,4 +1,4 @@
-use Rattle.std.proofs.Common.{◌≡◌, ◌∙◌, true, false, Bool, None, Some, refl, sym, subst, arith}
+use Rattle.std.proofs.Common.{◌≡◌, ◌∙◌, ◌+◌, true, false, Bool, None, Some, refl, sym, subst, arith}
 use Rattle.std.specs.Prelude.{if◌then◌else◌}
 use Rattle.master_tour.specs.Goes.{is_live, holds_at}
 use Rattle.master_node.specs.Filling.{IsFilling}
@@ -6,6 +6,7 @@ use Rattle.master_node.proofs.Filleds.{fills_first, fills_last, fills_same, fill
 use Rattle.master_tour.specs.Walks.{EachPair}
 use Rattle.master_tour.proofs.Walks.{each_same}
 use Rattle.master_node.proofs.Lists.{each_trans}
+use Rattle.master_node.proofs.Toureds.{counts_more, visiting_first, visiting_more, visiting_still, visiting_same, visiting_last}
 use Rattle.master_node.proofs.node.MasterNode.fill.Goals as goal
 
 pub returns-in_default-clause-on : goal.returns-in_default-clause-on
@@ -52,7 +53,7 @@ returns-clause-filled c = λ lens recover made as' d x.
     fills_last lens recover made as' c.loop.counter c.loop.self c.loop.into.items (let t = c.loop-test.false in omega (arith, t)) (c.loop.invariant.3 lens recover made as' d x)
 
 pub loop-init : goal.loop-init
-loop-init c = (c.requires, refl, on_same c.args.self.now, λ lens recover made as' d x. fills_first lens recover made as' c.args.self.now c.args.into.now.items x, each_same _ c.args.self.now.tour.stops.items (λ s. refl))
+loop-init c = (c.requires, refl, on_same c.args.self.now, (λ lens recover made as' d x. fills_first lens recover made as' c.args.self.now c.args.into.now.items x), each_same _ c.args.self.now.tour.stops.items (λ s. refl), λ b. visiting_first c.args.self.now b)
 
 pub loop-preserved : goal.loop-preserved
 loop-preserved c = (
@@ -61,7 +62,7 @@ loop-preserved c = (
   (let e = c.due.ensures in
       on_on c.args.self.now c.loop.self c.visit.new.self c.loop.invariant.2
       (record { again = c.visit.ensures.on.0.again ∙ e.kept.1; opened = c.visit.ensures.on.0.opened ∙ e.kept.3; last = c.visit.ensures.on.0.last ∙ e.kept.4; missed = c.visit.ensures.on.0.missed ∙ e.rest.0; retry = c.visit.ensures.on.0.retry ∙ e.rest.1; made = c.visit.ensures.on.0.made })),
-  λ lens recover made as' d x.
+  (λ lens recover made as' d x.
       let e = c.due.ensures in
       let v = c.visit.ensures in
       let f = c.loop.invariant.3 lens recover made as' d x in
@@ -75,6 +76,14 @@ loop-preserved c = (
       (λ left other q a o s g. subst (λ (z : Bool). IsFilling lens recover made (if z then other else left) c.visit.new.self c.visit.new.into.items as') yes (v.led lens recover made left other as' q d a o s g)),
   each_trans (λ s t. t.side.hand.found.join ≡ s.side.hand.found.join) c.args.self.now.tour.stops.items c.loop.self.tour.stops.items c.visit.new.self.tour.stops.items (λ x y z a b. b ∙ a) c.loop.invariant.4
       (subst (λ z. EachPair (λ s t. t.side.hand.found.join ≡ s.side.hand.found.join) z.items c.visit.new.self.tour.stops.items) c.due.ensures.stops c.visit.ensures.joins),
+  λ b.
+      let e = c.due.ensures in
+      let v = c.visit.ensures in
+      let p = c.in-Some.place in
+      let is : c.due.result ≡ Some p = cc in
+      visiting_more c.args.self.now c.loop.self c.visit.new.self c.due.new.self p (c.loop.invariant.5 b) c.loop.invariant.2
+      (record { stops = e.stops; count = e.kept.0; again = e.kept.1; visit = e.kept.2 })
+      (e.order p is).1 (c.in-Some.ensures.few) v.on.1 v.visits v.shares (counts_more _ _ v.counts (let t = c.if-self-count.false in λ q. omega (arith, t, q))),
 )
 
 pub returns-in_default-clause-joins : goal.returns-in_default-clause-joins
@@ -85,5 +94,54 @@ returns-then-not-visit-clause-joins c =
     each_trans (λ s t. t.side.hand.found.join ≡ s.side.hand.found.join) c.args.self.now.tour.stops.items c.loop.self.tour.stops.items c.visit.new.self.tour.stops.items (λ x y z a b. b ∙ a) c.loop.invariant.4
     (subst (λ z. EachPair (λ s t. t.side.hand.found.join ≡ s.side.hand.found.join) z.items c.visit.new.self.tour.stops.items) c.due.ensures.stops c.visit.ensures.joins)
 
+pub returns-then-self-count-clause-joins : goal.returns-then-self-count-clause-joins
+returns-then-self-count-clause-joins c =
+    each_trans (λ s t. t.side.hand.found.join ≡ s.side.hand.found.join) c.args.self.now.tour.stops.items c.loop.self.tour.stops.items c.visit.new.self.tour.stops.items (λ x y z a b. b ∙ a) c.loop.invariant.4
+    (subst (λ z. EachPair (λ s t. t.side.hand.found.join ≡ s.side.hand.found.join) z.items c.visit.new.self.tour.stops.items) c.due.ensures.stops c.visit.ensures.joins)
+
 pub returns-clause-joins : goal.returns-clause-joins
 returns-clause-joins c = c.loop.invariant.4
+
+pub returns-in_default-clause-visited : goal.returns-in_default-clause-visited
+returns-in_default-clause-visited c = λ b.
+    let e = c.due.ensures in
+    visiting_same c.args.self.now c.loop.self _ (record { stops = e.stops; count = e.kept.0; again = e.kept.1; visit = e.kept.2; opened = e.kept.3; last = e.kept.4; made = refl; posts = refl }) (c.loop.invariant.5 b)
+
+pub returns-then-not-visit-clause-visited : goal.returns-then-not-visit-clause-visited
+returns-then-not-visit-clause-visited c = λ b.
+    let e = c.due.ensures in
+    let v = c.visit.ensures in
+    let p = c.in-Some.place in
+    let is : c.due.result ≡ Some p = cc in
+    let no : c.visit.result ≡ false = cc in
+    visiting_still c.args.self.now c.loop.self c.visit.new.self c.due.new.self p (c.loop.invariant.5 b) c.loop.invariant.2
+    (record { stops = e.stops; count = e.kept.0; again = e.kept.1; visit = e.kept.2 })
+    (e.order p is).1 (c.in-Some.ensures.few) v.on.1 v.visits v.shares (v.still no).0
+
+pub returns-clause-visited : goal.returns-clause-visited
+returns-clause-visited c = λ b. visiting_last c.args.self.now c.loop.self (c.loop.invariant.5 b)
+
+pub returns-then-self-count-clause-visited : goal.returns-then-self-count-clause-visited
+returns-then-self-count-clause-visited c = λ b.
+    let e = c.due.ensures in
+    let v = c.visit.ensures in
+    let p = c.in-Some.place in
+    let is : c.due.result ≡ Some p = cc in
+    let same = c.if-self-count.true in
+    visiting_still c.args.self.now c.loop.self c.visit.new.self c.due.new.self p (c.loop.invariant.5 b) c.loop.invariant.2 (record { stops = e.stops; count = e.kept.0; again = e.kept.1; visit = e.kept.2 })
+    (e.order p is).1 (c.in-Some.ensures.few) v.on.1 v.visits v.shares (omega (arith, same))
+
+pub returns-then-self-count-clause-filled : goal.returns-then-self-count-clause-filled
+returns-then-self-count-clause-filled c = λ lens recover made as' d x.
+    let e = c.due.ensures in
+    let v = c.visit.ensures in
+    let f = c.loop.invariant.3 lens recover made as' d x in
+    let p = c.in-Some.place in
+    let is : c.due.result ≡ Some p = cc in
+    let yes : c.visit.result ≡ true = cc in
+    fills_last lens recover made as' (c.loop.counter + 1) c.visit.new.self c.visit.new.into.items (omega arith)
+    (fills_more lens recover made as' c.loop.counter c.loop.self _ c.visit.new.self c.loop.into.items c.visit.new.into.items p f
+    (record { stops = e.stops; count = e.kept.0; again = e.kept.1; visit = e.kept.2; opened = e.kept.3; last = e.kept.4; made = refl; posts = refl })
+    (λ a. e.left p is a) (λ a b g h. passes_at (λ s. is_live s.stand) c.loop.self.tour.stops.items c.due.result p is (e.first a b g h))
+    (c.in-Some.ensures.few) v.on.0 v.on.1 v.quiet v.visits v.counts (λ a b. (v.first a b).1)
+    (λ left other q a o s g. subst (λ (z : Bool). IsFilling lens recover made (if z then other else left) c.visit.new.self c.visit.new.into.items as') yes (v.led lens recover made left other as' q d a o s g)))

@@ -10,6 +10,8 @@ use Rattle.master_node.specs.Kept.{TourOn}
 use Rattle.master_node.specs.Joined.{JoinsKept}
 use Rattle.master_node.specs.Shows.{lived_of}
 use Rattle.master_node.proofs.Filleds.{Fills}
+use Rattle.master_node.specs.Toured.{IsBare}
+use Rattle.master_node.proofs.Toureds.{Visiting}
 use Rattle.master_node.proofs.node.MasterNode.fill.Given as goal
 
 abbrev pub invariant-loop : goal.invariant-loop
@@ -17,3 +19,4 @@ invariant-loop l =
     ((ds : List Raw.Datagram) × IsBegun l.into.items ds) × (vec_len l.self.posts ≡ vec_len l.initial.self.posts) × TourOn l.initial.self l.self
     × ((lens : ℕ → Lens) (recover made : ℕ) (as' : List Leads) → AreDistinct (map lived_of as') → IsEmpty lens recover made l.initial.self l.initial.into.items as' → Fills lens recover made as' l.counter l.self l.into.items)
     × JoinsKept l.initial.self l.self
+    × (IsBare l.initial.self → Visiting l.initial.self l.self)

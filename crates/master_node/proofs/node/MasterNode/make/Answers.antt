@@ -1,5 +1,6 @@
 use Rattle.std.proofs.Common.{◌≡◌, ◌∙◌, ◌%◌, ℕ, Option, None, true, false, refl, sym, ap, subst, length}
 use Rattle.std.specs.Prelude.{map, is_some}
+use Rattle.frame_view.specs.Seen.{seen}
 use Rattle.life_runs.specs.Led.{speech_at}
 use Rattle.master_hand.specs.Spoken.{Asked, is_followed, is_passed}
 use Rattle.master_tour.specs.Goes.{is_live, holds_at}
@@ -9,10 +10,11 @@ use Rattle.master_node.specs.Filling.{IsAmong, StopFills}
 use Rattle.master_node.specs.Shows.{IsLead, GoesOn, lived_of, is_live_lead}
 use Rattle.master_node.proofs.Fills.{from_map}
 use Rattle.master_node.proofs.Lists.{both_map, both_holds, both_length}
-use Rattle.master_node.proofs.Sents.{stand_lives, each_holds, each_any, begins_live, both_from, lead_among, turns, turns_all, under_all, same_all, distinct_same, goes_under, sent_is, sent_some, goes_begun, some_not}
+use Rattle.master_node.proofs.Sents.{stand_lives, each_holds, each_any, begins_live, both_from, lead_among, turns, turns_all, under_all, same_all, distinct_same, goes_under, sent_is, sent_some, sent_many, goes_begun, some_not}
 use Rattle.master_tour.proofs.Steps as Steps
 use Rattle.master_tour.proofs.Walks.{each_map}
 use Rattle.master_node.proofs.Lists.{each_trans}
+use Rattle.master_node.proofs.Toureds.{each_none, tour_same, of_tour}
 use Rattle.master_node.proofs.node.MasterNode.make.Goals as goal
 
 pub returns-clause-led : goal.returns-clause-led
@@ -48,6 +50,14 @@ returns-clause-led c = λ lens recover retry missed number as' some x.
       many = many;
     }) in
     let on = c.fill.ensures.on in
+    let visits = λ (a : m.tour.again ≡ true). ap (λ z. z.items) (e.again a) in
+    let v = c.fill.ensures.visited (record {
+      count = e.count;
+      passed = e.tour.5;
+      under = each_none _ (λ s. s.under) (λ s t p. p.5) ss ts e.each;
+      again = λ a. (goes.comes a).once;
+      anew = λ a. e.anew (sym e.tour.0 ∙ a);
+    }) in
     let t2 = c.fill.new.self.tour in
     let yes = c.finish-some.ensures.some ∙ some_not t2.count f.some in
     let z = c.finish-some.ensures.made yes (speech_at lens) is_followed is_passed number recover (c.fill.new.self.made % 256) lens f.left lives f.filling.begun f.filling.frame in
@@ -67,6 +77,8 @@ returns-clause-led c = λ lens recover retry missed number as' some x.
         retry_is = on.retry ∙ e.tour.4 ∙ x.retry_is;
         sent = sent_some lens octets z.datagrams z.frame;
       },
+      tour_same m _ c.fill.new.self v e.tour.0 visits e.tour.1 e.tour.2 e.tour.3 on,
+      of_tour m _ c.fill.new.self v e.tour.0 visits e.tour.1 e.tour.2 e.tour.3 on (λ k. holds_at is_live_lead as' k) alive (length (seen lens octets)) (sent_many lens octets f.filling.frame.datagrams (c.finish-some.ensures.reads yes f.filling.frame.datagrams f.filling.frame.begun f.filling.frame.long f.filling.frame.named) ∙ f.filling.frame.long) f.some,
     )
 
 pub returns-clause-joins : goal.returns-clause-joins

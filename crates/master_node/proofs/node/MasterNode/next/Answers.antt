@@ -1,10 +1,14 @@
-use Rattle.std.proofs.Common.{◌≡◌, ◌∙◌, true, sym, subst}
+use Rattle.std.proofs.Common.{◌≡◌, ◌∙◌, true, refl, sym, subst, length}
+use Rattle.frame_view.specs.Seen.{seen}
 use Rattle.std.specs.List.{list_any}
-use Rattle.master_tour.specs.Goes.{is_live}
+use Rattle.master_tour.specs.Goes.{is_live, holds_at}
 use Rattle.master_node.proofs.Sents.{shows_same}
-use Rattle.std.proofs.Common.{refl}
 use Rattle.master_tour.specs.Walks.{EachPair}
 use Rattle.master_tour.proofs.Walks.{each_same}
+use Rattle.master_node.proofs.Toureds.{turns_tour, tour_by}
+use Rattle.master_node.specs.Shows.{is_live_lead}
+use Rattle.master_node.specs.Toured.{stop_share, tour_of}
+use Rattle.master_tour.specs.Toured.{IsOfTour}
 use Rattle.master_node.proofs.node.MasterNode.next.Goals as goal
 
 pub returns-clause-led : goal.returns-clause-led
@@ -18,3 +22,15 @@ returns-then-not-has_live-clause-joins c = each_same _ c.args.self.now.tour.stop
 
 pub returns-clause-joins : goal.returns-clause-joins
 returns-clause-joins c = subst (λ z. EachPair (λ s t. t.side.hand.found.join ≡ s.side.hand.found.join) z.stops.items c.make.new.self.tour.stops.items) c.admit.ensures.same.1 c.make.ensures.joins
+
+pub returns-clause-toured : goal.returns-clause-toured
+returns-clause-toured c = λ h lens recover retry missed as' us x y.
+    let m = c.args.self.now in
+    let n = c.admit.new.self in
+    let live : c.has_live.result ≡ true = cc in
+    let w = c.make.ensures.led lens recover retry missed 0 as' (subst (λ z. list_any (λ s. is_live s.stand) z.stops.items ≡ true) (sym c.admit.ensures.same.1) (sym c.has_live.ensures ∙ live)) (shows_same lens recover retry missed as' _ n c.admit.ensures.same.1 c.admit.ensures.same.0 x) in
+    let same : tour_of n ≡ tour_of m = tour_by m n m.tour refl c.admit.ensures.same.1 in (
+      w.3 ∙ same,
+      turns_tour lens recover c.make.new.into.items (λ k. holds_at is_live_lead as' k) (tour_of m) us c.make.new.self.tour.stops.items (length (seen lens c.make.new.into.items)) c.make.new.self.tour.visit.items y.each
+          (subst (λ z. IsOfTour (λ s. stop_share s) (λ k. holds_at is_live_lead as' k) z c.make.new.self.tour.stops.items (length (seen lens c.make.new.into.items)) c.make.new.self.tour.visit.items) same w.4),
+    )

@@ -52,3 +52,27 @@ returns-in-Mail-clause-joins c = each_same _ c.args.self.now.tour.stops.items (�
 
 pub returns-in-Script-clause-joins : goal.returns-in-Script-clause-joins
 returns-in-Script-clause-joins c = each_same _ c.args.self.now.tour.stops.items (λ s. refl)
+
+pub returns-in-State-clause-put : goal.returns-in-State-clause-put
+returns-in-State-clause-put c =
+    let m = c.args.self.now in
+    let l : c.args.place < length m.tour.stops.items = omega (arith, c.requires, m.paired, m.tour.stops.ok.0) in
+    steps_set _ c.args.place m.tour.stops.items c.index_mut.result.now _ l c.index_mut.ensures.value (refl, refl, refl)
+
+pub returns-in-Packet-clause-put : goal.returns-in-Packet-clause-put
+returns-in-Packet-clause-put c =
+    let m = c.args.self.now in
+    let l : c.args.place < length m.tour.stops.items = omega (arith, c.requires, m.paired, m.tour.stops.ok.0) in
+    steps_same _ c.args.place m.tour.stops.items l (λ s. (refl, refl, refl))
+
+pub returns-in-Mail-clause-put : goal.returns-in-Mail-clause-put
+returns-in-Mail-clause-put c =
+    let m = c.args.self.now in
+    let l : c.args.place < length m.tour.stops.items = omega (arith, c.requires, m.paired, m.tour.stops.ok.0) in
+    steps_same _ c.args.place m.tour.stops.items l (λ s. (refl, refl, refl))
+
+pub returns-in-Script-clause-put : goal.returns-in-Script-clause-put
+returns-in-Script-clause-put c =
+    let m = c.args.self.now in
+    let l : c.args.place < length m.tour.stops.items = omega (arith, c.requires, m.paired, m.tour.stops.ok.0) in
+    steps_same _ c.args.place m.tour.stops.items l (λ s. (refl, refl, refl))

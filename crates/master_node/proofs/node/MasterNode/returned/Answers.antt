@@ -1,7 +1,11 @@
-use Rattle.std.proofs.Common.{[], refl, ◌∙◌}
+use Rattle.std.proofs.Common.{[], refl, ap, ◌∙◌}
 use Rattle.std.specs.Prelude.{map}
 use Rattle.frame_view.specs.Seen.{seen}
 use Rattle.life_runs.specs.Led.{speech_at, gives_up_at, led_behind}
+use Rattle.master_tour.specs.Orders.{last_behind}
+use Rattle.master_node.specs.Shows.{is_opening_lead}
+use Rattle.master_node.proofs.Toureds.{goes_same}
+use Rattle.master_node.proofs.Behinds.{opens_behind, behind_long}
 use Rattle.master_hand.specs.Spoken.{Asked, acknowledged, is_followed, is_passed}
 use Rattle.master_node.specs.Brought.{StopBrought}
 use Rattle.master_node.specs.Kept.{StopStays}
@@ -68,3 +72,14 @@ returns-clause-joined c = λ lens recover retry missed number octets us befores 
       three_map _ _ (λ v j s x. x.0) us befores zs kept,
       three_after stand_before (led_behind lens recover retry gives number f) (mails_back back) (λ z j s. IsUnfinished z s.side.hand.found.join j) us befores zs (three_map _ _ (λ v j s x. x.1) us befores zs kept),
     )
+
+pub returns-clause-toured : goal.returns-clause-toured
+returns-clause-toured c = λ lens recover retry missed number octets us f p b u r.
+    let m = c.args.self.now in
+    let n = c.all_back.new.self in
+    let k = c.all_back.ensures.kept in
+    let e = c.returned.ensures in
+    let leads = map (led_behind lens recover retry (gives_up_at lens recover retry missed) number f) us in
+    let x = returns-clause-leads c lens recover retry missed number octets us f p b u r in
+    goes_same is_opening_lead leads m n (k.tour.again ∙ e.tour.1) (k.tour.opened ∙ e.opened ∙ opens_behind lens recover retry leads m.tour.opened c.returned.new.self.stops.items n.tour.stops.items k.each x.each)
+    (k.tour.last ∙ e.last ∙ ap (λ z. last_behind m.tour.opened z m.tour.last m.tour.visit.items) (behind_long lens recover retry octets (led_behind lens recover retry (gives_up_at lens recover retry missed) number f) us m.tour.stops.items u.each)) (k.tour.missed ∙ e.tour.2)

@@ -1,5 +1,8 @@
-use Rattle.std.proofs.Common.{◌⊎◌, inl, ◌≡◌, ◌∙◌, ◌+◌, ◌%◌, refl, sym, ap, subst}
-use Rattle.std.specs.Prelude.{map, IfSome, slice_get}
+use Rattle.std.proofs.Common.{◌⊎◌, inl, ◌≡◌, ◌∙◌, ◌+◌, ◌%◌, refl, sym, ap, subst, arith}
+use Rattle.std.specs.Prelude.{map, false, nat_lt, IfSome, slice_get}
+use Rattle.std.proofs.lemmas.Bool.{le-ltb}
+use Rattle.master_node.specs.Toured.{StaysPut, TakesPart}
+use Rattle.master_node.proofs.Toureds.{takes_part, part_steps}
 use Rattle.master_hand.specs.Laying.{ready_of}
 use Rattle.master_hand.specs.contracts.hand.InHandHand.TheImpl as Impl
 use Rattle.master_hand.specs.declared.hand.InHand.{InHand}
@@ -101,3 +104,32 @@ returns-clause-joins c =
     each_trans (λ s t. t.side.hand.found.join ≡ s.side.hand.found.join) s0 s1 s4 (λ x y z a b. b ∙ a) (steps_each _ _ c.args.place s0 s1 (λ s. refl) (λ s t p. p) c.fits.ensures.join)
     (each_trans (λ s t. t.side.hand.found.join ≡ s.side.hand.found.join) s1 s2 s4 (λ x y z a b. b ∙ a) c.lay.ensures.joins
     (each_trans (λ s t. t.side.hand.found.join ≡ s.side.hand.found.join) s2 s3 s4 (λ x y z a b. b ∙ a) (steps_each _ _ c.args.place s2 s3 (λ s. refl) (λ s t p. p) c.visit-began.ensures.join) c.came.ensures.joins))
+
+pub returns-then-not-fits-clause-shares : goal.returns-then-not-fits-clause-shares
+returns-then-not-fits-clause-shares c =
+    let m = c.args.self.now in
+    let e = c.fits.ensures in
+    let n = e.count in
+    subst (λ z. StepsAt (λ s t. TakesPart z m.tour.count s t) c.args.place m.tour.stops.items c.fits.new.self.stops.items) (sym (le-ltb m.tour.count c.fits.new.self.count (omega (arith, n))))
+    (steps_map _ (λ s t. TakesPart false m.tour.count s t) c.args.place m.tour.stops.items c.fits.new.self.stops.items (λ s t p. (p.1.1, λ u. sym p.0.3 ∙ u)) (steps_both _ _ c.args.place m.tour.stops.items c.fits.new.self.stops.items e.lives e.step))
+
+pub returns-clause-shares : goal.returns-clause-shares
+returns-clause-shares c =
+    let m = c.args.self.now in
+    let e = c.fits.ensures in
+    let v = c.visit-began.ensures in
+    let place = c.args.place in
+    let s0 = m.tour.stops.items in
+    let s1 = c.fits.new.self.stops.items in
+    let s2 = c.lay.new.self.tour.stops.items in
+    let s3 = c.visit-began.new.self.stops.items in
+    let s4 = c.came.new.self.tour.stops.items in
+    let before = c.lay.ensures.kept.0.count ∙ e.count in
+    let behind = c.came.ensures.kept.0.count in
+    let first = steps_map _ (λ s t. StaysPut s t) place s0 s1 (λ s t p. (p.1.1, p.0.3, p.0.4)) (steps_both _ _ place s0 s1 e.lives e.step) in
+    let second = steps_map _ (λ s t. StaysPut s t) place s1 s2 (λ s t p. (p.0.stand, p.0.under, p.0.at)) c.lay.ensures.laid in
+    let third = steps_map _ (λ s t. TakesPart (nat_lt c.lay.new.self.tour.count c.visit-began.new.self.count) c.lay.new.self.tour.count s t) place s2 s3
+    (λ s t p. takes_part s t c.lay.new.self.tour.count c.visit-began.new.self.count p.1.1 p.0.3 p.1.3 p.1.4) (steps_both _ _ place s2 s3 v.lives v.step) in
+    subst (λ z. StepsAt (λ s t. TakesPart (nat_lt z c.came.new.self.tour.count) z s t) place s0 s4) before
+    (subst (λ z. StepsAt (λ s t. TakesPart (nat_lt c.lay.new.self.tour.count z) c.lay.new.self.tour.count s t) place s0 s4) (sym behind)
+    (part_steps c.lay.new.self.tour.count (nat_lt c.lay.new.self.tour.count c.visit-began.new.self.count) place s0 s1 s2 s3 s4 first second third c.came.ensures.put))

@@ -15,3 +15,6 @@ returns-clause-made g c = λ r x more passed made recover index lens left lives 
       lives = all.0;
       each = all.1;
     }
+
+pub returns-clause-reads : goal.returns-clause-reads
+returns-clause-reads g c = λ r ds b l n. c.finish.ensures.reads ds b (some_more c.args.self.now.count (length ds) l c.if-self-eq0.false) n
