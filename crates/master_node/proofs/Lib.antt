@@ -19,3 +19,4 @@ pub mod Quiets
 pub mod Says
 pub mod Stoods
 pub mod Joineds
+pub mod Forwards

@@ -13,3 +13,4 @@ pub mod Coming
 pub mod First
 pub mod Filling
 pub mod Joined
+pub mod Forwards
