@@ -20,3 +20,4 @@ pub mod Says
 pub mod Stoods
 pub mod Joineds
 pub mod Toureds
+pub mod Forwards

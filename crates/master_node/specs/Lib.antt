@@ -14,3 +14,4 @@ pub mod First
 pub mod Filling
 pub mod Joined
 pub mod Toured
+pub mod Forwards

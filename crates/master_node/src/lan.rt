@@ -1,6 +1,7 @@
-ghost use Rattle.std.specs.Prelude.{◌≡◌, ◌≤◌, ◌<◌, ◌+◌, length, true, IfOk, IfSome};
+ghost use Rattle.std.specs.Prelude.{◌≡◌, ◌≤◌, ◌<◌, ◌+◌, length, nat_lt, true, IfOk, IfSome, Some, slice_get, drop};
 ghost use Rattle.segment_plan.specs.Sound.{IsPlan};
 ghost use Rattle.master_node.specs.Ported.{are_ports};
+ghost use Rattle.master_node.specs.Forwards.{port_by, forwarded};
 
 use crate::event::{Event, EventList};
 use arrayvec::ArrayVec;
@@ -105,6 +106,7 @@ impl Lan {
     /// The port of a slave.
     pub fn port(&self, slave: usize) -> Option<u32>
         ensures inside { IfSome result (λ p. p < length self.now.switch.ports) }
+        ensures is { result ≡ port_by (slice_get self.now.ports.items slave) }
     {
         if slave >= self.ports.len() {
             return None;
@@ -113,7 +115,9 @@ impl Lan {
     }
 
     /// Whether a packet waits at a slave's port.
-    pub fn waits(&self, slave: usize) -> bool {
+    pub fn waits(&self, slave: usize) -> bool
+        ensures { result ≡ nat_lt 0 (length (forwarded self.now.switch self.now.ports.items slave)) }
+    {
         match self.port(slave) {
             Some(port) => self.switch.waiting(port) > 0,
             None => false,
@@ -170,7 +174,9 @@ impl Lan {
 
     /// The oldest packet that waits at a slave's port.
     pub fn begin(&mut self, slave: usize, list: &mut EventList) -> Option<Packet>
-        ensures { IfSome result (λ p. 14 ≤ length p.items) }
+        ensures long { IfSome result (λ p. 14 ≤ length p.items) }
+        ensures oldest { IfSome result (λ p. slice_get (forwarded self.old.switch self.old.ports.items slave) 0 ≡ Some p) }
+        ensures goes_on { forwarded self.new.switch self.new.ports.items slave ≡ drop 1 (forwarded self.old.switch self.old.ports.items slave) }
     {
         let port = self.port(slave)?;
         let packet = self.switch.begun(port)?;

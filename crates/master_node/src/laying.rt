@@ -14,6 +14,7 @@ pub fn lay_packet(side: &mut Side<InHand>, packet: &Packet)
     requires { 14 ≤ length packet.now.items }
     ensures kept { SideKept side.old.hand.laying.number side.old side.new }
     ensures laid { side.new.hand.laying.laid ≡ Laid.Packet }
+    ensures packet { side.new.hand.laying.packet ≡ packet.now.items }
 {
     side.hand.lay_packet(packet);
 }

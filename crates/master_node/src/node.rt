@@ -69,6 +69,9 @@ impl MasterNode {
     ghost use Rattle.master_tour.specs.Toured.{IsOfTour};
     ghost use Rattle.master_node.specs.Shows.{is_live_lead};
     ghost use Rattle.master_node.specs.Toured.{StaysPut, TakesPart, IsBare, HasVisited, stop_share, turn_share, tour_of};
+    ghost use Rattle.std.specs.Prelude.{drop};
+    ghost use Rattle.master_hand.specs.declared.laying.Laid.{Laid};
+    ghost use Rattle.master_node.specs.Forwards.{forwarded};
 
     // Whether a slave is live.
     pub(crate) fn has_live(&self) -> bool
@@ -124,6 +127,8 @@ impl MasterNode {
         ensures posts { vec_len self.new.posts ≡ vec_len self.old.posts }
         ensures laid { StepsAt (λ s t. StopStays s t × IsLaid (Some Coming.Packet) t.side.hand.laying.laid) place self.old.tour.stops.items self.new.tour.stops.items }
         ensures kept { TourKept self.old self.new × (All WaitsNone self.old.posts.items → All WaitsNone self.new.posts.items) }
+        ensures oldest { StepsAt (λ s t. t.side.hand.laying.laid ≡ Laid.Packet → slice_get (forwarded self.old.lan.switch self.old.lan.ports.items place) 0 ≡ Some (record { items = t.side.hand.laying.packet })) place self.old.tour.stops.items self.new.tour.stops.items }
+        ensures goes_on { forwarded self.new.lan.switch self.new.lan.ports.items place ≡ drop 1 (forwarded self.old.lan.switch self.old.lan.ports.items place) }
     {
         let post = &mut self.posts[place];
         post.next = Work::Packet;
