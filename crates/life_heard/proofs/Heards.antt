@@ -1,5 +1,5 @@
 -- The emergencies among accepted mails, part by part and slave by slave.
-use Rattle.std.proofs.Common.{◌≡◌, ◌<◌, ◌≤◌, ◌+◌, ℕ, zero, suc, Option, Some, None, List, [], ◌∷◌, ◌++◌, map, length, refl, ap, sym, ◌∙◌, subst, append_assoc, append-nil, arith}
+use Rattle.std.proofs.Common.{◌≡◌, ◌<◌, ◌≤◌, ℕ, zero, suc, Option, Some, List, [], ◌∷◌, ◌++◌, map, length, refl, ap, sym, ◌∙◌, subst, append_assoc, append-nil, arith}
 use Rattle.std.specs.Prelude.{IfSome, slice_get, slice_set}
 use Rattle.frame_view.specs.View.{Lens}
 use Rattle.life_heard.specs.Heard.{Accepted, AllNoted, accepted_with, brought_of, brought_by, emergencies_of, emergencies_with, heard_on, heard_to}
