@@ -1,8 +1,8 @@
 -- What is noted of emergencies, slave by slave.
-use Rattle.std.proofs.Common.{◌≡◌, ◌<◌, ◌+◌, ℕ, zero, suc, Option, Some, None, List, [], ◌∷◌, ◌++◌, map, length, vec_len, refl, ap, sym, ◌∙◌, subst, arith}
+use Rattle.std.proofs.Common.{◌≡◌, ◌<◌, ◌+◌, ℕ, zero, suc, Option, Some, None, List, [], ◌∷◌, ◌++◌, length, vec_len, refl, ap, sym, ◌∙◌, subst, arith}
 use Rattle.std.specs.Prelude.{IfSome, slice_get, slice_set, slice_index_or}
 use Rattle.life_heard.proofs.Heards as Heards
-use Rattle.life_heard.specs.Heard.{Accepted, AllNoted, brought_of, emergencies_of, emergencies_with, heard_none, heard_to}
+use Rattle.life_heard.specs.Heard.{AllNoted, brought_of, emergencies_of, heard_none, heard_to}
 use Rattle.life_runs.specs.First.{leads_from}
 use Rattle.life_runs.specs.Led.{Turn}
 use Rattle.link_mails.specs.Body.{Body}

@@ -8,7 +8,7 @@ use Rattle.frame_view.specs.View.{Lens}
 use Rattle.frame_view.specs.Seen.{seen}
 use Rattle.life_frames.specs.Shares.{AllBoth, Lived, came_at, given_where}
 use Rattle.life_heard.proofs.Heards.{loses}
-use Rattle.life_heard.specs.Heard.{AllNoted, brought_of, brought_by, heard_in, heard_on}
+use Rattle.life_heard.specs.Heard.{AllNoted, brought_by, heard_in, heard_on}
 use Rattle.life_model.specs.Lives.{Life, life_lost}
 use Rattle.life_runs.specs.First.{lens_of, script_for, first_leads, leads_from}
 use Rattle.life_runs.specs.Led.{Exchanged, Leads, Turn, AllTurn, IsLed, IsLedFrame, is_passed, speech_at, life_behind, led_behind, gives_up_at, missed_behind}

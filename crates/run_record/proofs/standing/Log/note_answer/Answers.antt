@@ -1,9 +1,8 @@
-use Rattle.std.proofs.Common.{◌≡◌, ◌<◌, ℕ, List, [], true, false, length, get_or, sym, ap, ◌∙◌, subst, rules, arith}
-use Rattle.std.specs.Prelude.{IfSome, Option, slice_get}
+use Rattle.std.proofs.Common.{◌≡◌, ℕ, List, sym, ap, ◌∙◌, subst}
+use Rattle.std.specs.Prelude.{IfSome, slice_get}
 use Rattle.std.proofs.lemmas.Result.{on_ok_weaker}
 use Rattle.run_record.specs.declared.notes.Awaited.{Awaited}
 use Rattle.run_record.specs.declared.notes.Notes.{Notes}
-use Rattle.run_record.specs.Notes.{told_noted, stood}
 use Rattle.run_record.specs.Reports.{Reports}
 use Rattle.run_record.proofs.Gaves.{same_gaves}
 use Rattle.run_record.proofs.Heard.{same_heard}

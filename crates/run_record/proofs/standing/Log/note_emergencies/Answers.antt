@@ -1,11 +1,10 @@
-use Rattle.std.proofs.Common.{◌≡◌, ◌+◌, ℕ, suc, length, refl, sym, ap, ◌∙◌, subst, arith}
+use Rattle.std.proofs.Common.{◌≡◌, ◌+◌, ℕ, suc, refl, ◌∙◌, subst, arith}
 use Rattle.std.proofs.lemmas.List.{length-map}
 use Rattle.life_heard.proofs.Heards as Heards
 use Rattle.life_heard.specs.Heard.{AllNoted, brought_of, heard_to}
 use Rattle.run_record.specs.Heard.{emergencies_noted}
 use Rattle.run_record.specs.declared.notes.Notes.{Notes}
 use Rattle.run_record.proofs.Kept.{slaves_more}
-use Rattle.run_record.proofs.Reporting.{keeps_more}
 use Rattle.run_record.proofs.standing.Log.note_emergencies.Goals as goal
 
 pub loop-place-init : goal.loop-place-init

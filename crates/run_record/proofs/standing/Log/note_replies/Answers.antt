@@ -1,4 +1,4 @@
-use Rattle.std.proofs.Common.{◌≡◌, ◌+◌, ℕ, suc, refl, sym, ap, ◌∙◌, subst, arith}
+use Rattle.std.proofs.Common.{◌≡◌, ◌+◌, ℕ, suc, refl, ◌∙◌, subst, arith}
 use Rattle.run_record.proofs.Kept.{slaves_more}
 use Rattle.run_record.specs.Reports.{ReportsTo}
 use Rattle.run_record.proofs.Reporting.{to_first, to_last, both_lengths}

@@ -1,6 +1,5 @@
 use Rattle.std.proofs.Common.{◌∙◌}
 use Rattle.std.proofs.lemmas.Result.{on_ok_weaker}
-use Rattle.run_record.proofs.Kept.{slaves_more}
 use Rattle.run_record.proofs.standing.Log.note_returned.Goals as goal
 
 pub returns-clause-heard : goal.returns-clause-heard

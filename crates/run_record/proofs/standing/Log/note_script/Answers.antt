@@ -1,17 +1,14 @@
-use Rattle.std.proofs.Common.{◌≡◌, ◌<◌, ◌≤◌, ℕ, List, [], true, false, length, get_or, sym, ap, ◌∙◌, subst, rules, arith}
-use Rattle.std.specs.Prelude.{IfSome, slice_get}
+use Rattle.std.proofs.Common.{◌≡◌, ◌<◌, ◌≤◌, List, get_or, sym, ap, ◌∙◌, subst, arith}
 use Rattle.std.proofs.lemmas.Result.{on_ok_weaker}
-use Rattle.life_model.specs.Lives.{Stand}
-use Rattle.master_node.specs.Told.{Tells}
 use Rattle.run_record.specs.declared.notes.Notes.{Notes}
-use Rattle.run_record.specs.Notes.{began_script, told_noted}
+use Rattle.run_record.specs.Notes.{began_script}
 use Rattle.run_record.specs.Reports.{Reports}
 use Rattle.run_record.proofs.Gaves.{same_gaves}
 use Rattle.run_record.proofs.Heard.{same_heard}
-use Rattle.run_record.proofs.Reporting.{to_next, to_same, got_there, same_whole, script_same, script_more, reply_none, reply_told}
+use Rattle.run_record.proofs.Reporting.{to_next, to_same, got_there, same_whole, script_same, script_more}
 use Rattle.run_record.proofs.Stations.{same_noted}
 use Rattle.run_record.proofs.Steps.{any_ok}
-use Rattle.script_answers.specs.Steps.{TurnsSo, PassesSo}
+use Rattle.script_answers.specs.Steps.{TurnsSo}
 use Rattle.run_record.proofs.standing.Log.note_script.Goals as goal
 
 pub returns-then-number-rows-clause-told : goal.returns-then-number-rows-clause-told
