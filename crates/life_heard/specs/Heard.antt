@@ -1,43 +1,68 @@
 -- THE MAILS THAT A MASTER ACCEPTS of its slaves over the frames of a run, and the emergencies among them.
-use Rattle.std.specs.Prelude.{◌≡◌, ℕ, List, [], ◌∷◌, ◌++◌, map}
+use Rattle.std.specs.Prelude.{◌≡◌, ℕ, zero, suc, List, [], ◌∷◌, ◌++◌, map, length}
 use Rattle.frame_view.specs.View.{Lens}
 use Rattle.frame_view.specs.Seen.{seen}
-use Rattle.life_frames.specs.Shares.{AllBoth, AllThree}
 use Rattle.life_runs.specs.Led.{Exchanged, Leads, Turn, IsLed}
 use Rattle.link_mails.specs.Body.{Body}
-use Rattle.master_hand.specs.Brings.{emergencies_in}
+use Rattle.master_hand.specs.Brings.{as_list, emergency_in}
 use Rattle.master_tour.specs.Brings.{accepted_in}
+use Rattle.run_book.specs.declared.book.Emergency.{Emergency}
+use Rattle.segment_model.specs.Slaves.{Datagram}
 use Rattle.segment_ring.specs.declared.wire.Fate.{Fate}
 use Rattle.segment_ring.specs.declared.wire.Fate.TheVariants.{Pass, Lost}
 
--- the mails accepted of a slave by a frame of this fate: a lost one brings none
-abbrev pub accepted_by : (ℕ → Lens) → Exchanged → Fate → Turn → List Body
-accepted_by lens f Pass u = accepted_in u.lived.spot u.lived.life (seen lens f.back)
-accepted_by lens f (Lost after) u = []
+-- a mail accepted of a slave, with the number of the frame whose return brought it
+pub record Accepted : Type 0 where
+  pub frame : ℕ
+  pub mail : Body
+
+-- each of these mails, with this frame
+abbrev pub accepted_with : ℕ → List Body → List Accepted
+accepted_with frame [] = []
+accepted_with frame (mail ∷ mails) = record { frame = frame; mail = mail } ∷ accepted_with frame mails
+
+-- the mails that the return of a frame brought of a slave, by its life before it
+abbrev pub brought_of : ℕ → List (Datagram Body) → Turn → List Accepted
+brought_of frame back u = accepted_with frame (accepted_in u.lived.spot u.lived.life back)
+
+-- those that a frame of this fate brought: a lost one brings none
+abbrev pub brought_by : (ℕ → Lens) → ℕ → Exchanged → Fate → Turn → List Accepted
+brought_by lens frame f Pass u = brought_of frame (seen lens f.back) u
+brought_by lens frame f (Lost after) u = []
 
 -- of each slave, behind those accepted before
-abbrev pub heard_on : (ℕ → Lens) → Exchanged → List (List Body) → List Turn → List (List Body)
-heard_on lens f [] us = []
-heard_on lens f (hs ∷ hss) [] = hs ∷ hss
-heard_on lens f (hs ∷ hss) (u ∷ us) = (hs ++ accepted_by lens f f.fate u) ∷ heard_on lens f hss us
+abbrev pub heard_on : (Turn → List Accepted) → List (List Accepted) → List Turn → List (List Accepted)
+heard_on more [] us = []
+heard_on more (hs ∷ hss) [] = hs ∷ hss
+heard_on more (hs ∷ hss) (u ∷ us) = (hs ++ more u) ∷ heard_on more hss us
 
 -- before the first frame none was
-abbrev pub heard_none : List Leads → List (List Body)
-heard_none as' = map (λ a. []) as'
+abbrev pub heard_none : List Leads → List (List Accepted)
+heard_none [] = []
+heard_none (a ∷ as') = [] ∷ heard_none as'
 
--- THE MAILS ACCEPTED OVER A RUN, slave by slave, in order
-abbrev pub heard_in : {lens : ℕ → Lens} {recover retry : ℕ} {first : List Leads} {fs : List Exchanged} {missed : ℕ} {as' : List Leads} → IsLed lens recover retry first fs missed as' → List (List Body)
+-- THE MAILS ACCEPTED OVER A RUN, slave by slave, in order, each with the frame that brought it
+abbrev pub heard_in : {lens : ℕ → Lens} {recover retry : ℕ} {first : List Leads} {fs : List Exchanged} {missed : ℕ} {as' : List Leads} → IsLed lens recover retry first fs missed as' → List (List Accepted)
 heard_in {first = first} IsLed.start = heard_none first
-heard_in {lens = lens} (IsLed.on fs missed as' f us led frame) = heard_on lens f (heard_in led) us
+heard_in {lens = lens} (IsLed.on fs missed as' f us led frame) = heard_on (λ u. brought_by lens (length fs) f f.fate u) (heard_in led) us
 
--- THE EMERGENCIES THAT ARE NOTED OF A SLAVE are just those among the mails accepted of it, in order, each with its octets
-abbrev pub AreNoted : List Body → List (List ℕ) → Type 0
-AreNoted hs octets = octets ≡ emergencies_in hs
+-- these octets, each with this frame
+abbrev pub emergencies_with : ℕ → List (List ℕ) → List Emergency
+emergencies_with frame [] = []
+emergencies_with frame (octets ∷ rows) = record { octets = octets; frame = frame } ∷ emergencies_with frame rows
 
--- of all slaves
-abbrev pub AllNoted : List (List Body) → List (List (List ℕ)) → Type 0
-AllNoted hss notes = AllBoth AreNoted hss notes
+-- THE EMERGENCIES AMONG MAILS that were accepted, in order, each whole and with its frame
+abbrev pub emergencies_of : List Accepted → List Emergency
+emergencies_of [] = []
+emergencies_of (h ∷ hs) = emergencies_with h.frame (as_list (emergency_in h.mail)) ++ emergencies_of hs
 
--- BEHIND A RETURN what is noted of each slave has the emergencies more that the frame brought of it
-abbrev pub AllMore : (ℕ → Lens) → Exchanged → List Turn → List (List (List ℕ)) → List (List (List ℕ)) → Type 0
-AllMore lens f us notes behind = AllThree (λ u ns ms. ms ≡ ns ++ emergencies_in (accepted_in u.lived.spot u.lived.life (seen lens f.back))) us notes behind
+-- JUST THESE ARE NOTED of each slave
+abbrev pub AllNoted : List (List Accepted) → List (List Emergency) → Type 0
+AllNoted hss notes = notes ≡ map emergencies_of hss
+
+-- the mails accepted once the return of a frame is noted of so many slaves, the first ones
+abbrev pub heard_to : (Turn → List Accepted) → ℕ → List (List Accepted) → List Turn → List (List Accepted)
+heard_to more zero hss us = hss
+heard_to more (suc k) [] us = []
+heard_to more (suc k) (hs ∷ hss) [] = hs ∷ hss
+heard_to more (suc k) (hs ∷ hss) (u ∷ us) = (hs ++ more u) ∷ heard_to more k hss us

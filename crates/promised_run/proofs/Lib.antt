@@ -3,4 +3,5 @@ mod Reported
 mod Rounds
 mod Unsent
 mod Epochs
+mod Emergencies
 mod Overs

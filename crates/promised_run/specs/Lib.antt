@@ -1,4 +1,5 @@
 pub mod Reported
 pub mod Unsent
 pub mod Epochs
+pub mod Emergencies
 pub mod Promised

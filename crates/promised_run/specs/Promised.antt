@@ -1,8 +1,10 @@
 -- THE PROMISE OF A RUN, by the frames of its book.
 use Rattle.std.specs.Prelude.{◌≡◌, ◌≢◌, List, map, ⊤}
+use Rattle.life_heard.specs.Heard.{heard_in}
 use Rattle.life_runs.specs.Led.{Leads}
 use Rattle.run_promises.specs.Promise.{slaves_behind, Keeps}
 use Rattle.run_promises.specs.Rest.{NothingIsLeft, AllIsDone}
+use Rattle.promised_run.specs.Emergencies.{AllHaveEmergencies}
 use Rattle.promised_run.specs.Epochs.{AllCaused}
 use Rattle.promised_run.specs.Reported.{AllReported}
 use Rattle.promised_run.specs.Unsent.{AllUnsent}
@@ -36,3 +38,5 @@ pub record IsPromised (plan : Scenario) (book : Book) : Type 0 where
   pub unsent : book.ending ≢ endings.NoMemory → AllUnsent plan 0 led.leads book.slaves
   -- and the epochs of the book are those of the lives, each with its cause
   pub epochs : book.ending ≢ endings.NoMemory → AllCaused led.leads book.slaves
+  -- and of each slave just the emergencies among the mails that its life accepted over these frames are reported, each with the frame that brought it
+  pub emergencies : book.ending ≢ endings.NoMemory → AllHaveEmergencies (heard_in led.lives) book.slaves

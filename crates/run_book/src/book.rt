@@ -58,6 +58,15 @@ pub struct Epoch {
     pub packets: u32,
 }
 
+/// An emergency that was received.
+#[derive(Debug, Drop)]
+pub struct Emergency {
+    /// Its 8 octets.
+    pub octets: Octets,
+    /// The frame whose return brought it.
+    pub frame: u32,
+}
+
 /// What became of one slave and its services.
 #[derive(Drop)]
 pub struct SlaveBook {
@@ -67,8 +76,8 @@ pub struct SlaveBook {
     pub begun: Rows<Begun>,
     /// Their answers in the same order, and those of the scripted services that never came into hand.
     pub answers: Rows<Answer>,
-    /// The emergencies received from the slave, in order; 8 octets each.
-    pub emergencies: Rows<Octets>,
+    /// The emergencies received from the slave, in order.
+    pub emergencies: Rows<Emergency>,
     /// Its epochs, in order.
     pub epochs: Rows<Epoch>,
     /// The frames at which it was given up, in order.

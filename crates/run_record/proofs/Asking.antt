@@ -1,6 +1,6 @@
 -- The mails that are passed on.
-use Rattle.std.proofs.Common.{◌≡◌, ℕ, zero, suc, ◌+◌, ◌<◌, List, [], ◌∷◌, ◌++◌, length, map, Bool, true, false, refl, sym, ap, ◌∙◌, subst, arith}
-use Rattle.std.specs.Prelude.{MatchOption, slice_get, slice_set, slice_index_or, Option, Some, None, Result, Ok, Err, ◌↔◌}
+use Rattle.std.proofs.Common.{◌≡◌, ℕ, zero, suc, ◌<◌, List, [], ◌∷◌, ◌++◌, length, map, Bool, false, refl, sym, ap, ◌∙◌, arith}
+use Rattle.std.specs.Prelude.{MatchOption, slice_get, slice_set, slice_index_or, Option, Some, None, ◌↔◌}
 use Rattle.master_node.specs.Lives.{waiting_at, waiting_of}
 use Rattle.master_node.specs.declared.post.Post.{Post}
 use Rattle.run_record.specs.declared.standing.AskedMail.{AskedMail}

@@ -5,7 +5,7 @@ use Rattle.segment_plan.specs.declared.plan.Scenario.{Scenario}
 use Rattle.segment_plan.specs.Sound.{IsPlan}
 use Rattle.segment_plan.specs.Bound.{bound_of}
 use Rattle.run_book.specs.declared.book.Book.{Book}
-use Rattle.run_record.specs.Session.{budget_of, budget_or, smaller_bound}
+use Rattle.run_record.specs.Session.{budget_or}
 use Rattle.run_record.specs.Ran.{HasSent}
 
 small_by : (frames : ℕ) (less : Bool) → nat_lt frames 100000000 ≡ less → (if less then frames else 100000000) ≤ 100000000

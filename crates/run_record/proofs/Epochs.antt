@@ -1,8 +1,8 @@
 -- WHAT IS NOTED OF EPOCHS goes with the life, over what comes into hand, returns and losses.
-use Rattle.std.proofs.Common.{◌≡◌, ℕ, zero, suc, ◌+◌, ◌-◌, ◌<◌, Bool, true, false, Option, Some, None, List, [], ◌∷◌, ◌++◌, map, length, refl, ap, sym, ◌∙◌, subst, arith}
+use Rattle.std.proofs.Common.{◌≡◌, ℕ, zero, suc, ◌-◌, Bool, true, false, Option, Some, None, List, [], ◌∷◌, map, length, refl, ap, sym, ◌∙◌, arith}
 use Rattle.std.specs.Prelude.{◌&&◌, not, slice_get, slice_set, if◌then◌else◌}
 use Rattle.std.proofs.lemmas.List.{map-append}
-use Rattle.life_runs.specs.Spans.{Span, spans_of, is_leaving, is_open, cleared_at, opened_at, spans_behind, SameEpochs, EpochsBack, EpochsLost}
+use Rattle.life_runs.specs.Spans.{Span, is_leaving, is_open, opened_at, spans_behind, SameEpochs, EpochsBack, EpochsLost}
 use Rattle.life_runs.specs.Led.{Leads}
 use Rattle.run_book.specs.declared.book.Epoch.{Epoch}
 use Rattle.run_record.specs.Epochs.{span_in, IsMarked}

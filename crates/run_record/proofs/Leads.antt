@@ -7,6 +7,8 @@ use Rattle.datagrams.specs.Datagram as Raw
 use Rattle.frame_view.specs.View.{Lens}
 use Rattle.frame_view.specs.Seen.{seen}
 use Rattle.life_frames.specs.Shares.{AllBoth, Lived, came_at, given_where}
+use Rattle.life_heard.proofs.Heards.{loses}
+use Rattle.life_heard.specs.Heard.{AllNoted, brought_by, heard_in, heard_on}
 use Rattle.life_model.specs.Lives.{Life, life_lost}
 use Rattle.life_runs.specs.First.{lens_of, script_for, first_leads, leads_from}
 use Rattle.life_runs.specs.Led.{Exchanged, Leads, Turn, AllTurn, IsLed, IsLedFrame, is_passed, speech_at, life_behind, led_behind, gives_up_at, missed_behind}
@@ -15,6 +17,7 @@ use Rattle.master_duty.specs.Reply.{Reply}
 use Rattle.master_hand.specs.Spoken.{Asked, acknowledged, is_followed}
 use Rattle.life_runs.specs.Led.{new_leads}
 use Rattle.life_model.specs.Lives.{Spot}
+use Rattle.master_node.specs.Brought.{HasBrought}
 use Rattle.master_node.specs.Shows.{MasterShows, MasterUnder, IsLead, IsUnder}
 use Rattle.master_node.specs.Told.{HasLeads}
 use Rattle.master_node.proofs.Lists.{both_map}
@@ -38,6 +41,7 @@ use Rattle.ring_returns.proofs.Returned as Returned
 use Rattle.run_record.specs.declared.notes.Notes.{Notes}
 use Rattle.run_record.specs.declared.standing.Log.{Log}
 use Rattle.run_record.specs.Led.{exchanged, gaves_noted, Leading, AreLed}
+use Rattle.run_record.specs.Heard.{emergencies_noted, HeardBy}
 use Rattle.run_record.specs.Notes.{new_notes}
 use Rattle.run_record.specs.Reports.{Reports, AllReport, ReportsOn, ReportsBy, TurnsAll}
 use Rattle.run_record.specs.Unsent.{IsNumbered}
@@ -48,6 +52,7 @@ use Rattle.script_answers.specs.Steps.{TurnsSo, PassesSo, LosesSo}
 use Rattle.script_answers.proofs.Losses.{passes_so, loses_so}
 use Rattle.script_answers.proofs.Turns.{turns_so}
 use Rattle.run_record.proofs.Gaves.{with_more}
+use Rattle.run_record.proofs.Heard.{first_heard}
 
 -- BEFORE THE FIRST FRAME
 first_gaves : (services : List (ℕ × Plan.Service)) (number place : ℕ) (ss : List SlaveSpec) → gaves_noted (first_notes services number ss) ≡ map gave_of (leads_from services place ss)
@@ -80,6 +85,7 @@ begins plan m notes shown first = record {
   shows = shown;
   gave = ap gaves_noted first ∙ first_gaves plan.services 0 0 plan.slaves;
   told = subst (λ (ns : List Notes). AllReport (first_leads plan) ns) (sym first) (first_reports plan.services 0 0 plan.slaves refl);
+  heard = ap emergencies_noted first ∙ first_heard plan.services 0 0 plan.slaves;
 }
 
 -- GIVE-UPS over a frame
@@ -174,7 +180,9 @@ module _ (m0 m1 m2 : MasterNode) (f : Exchanged) (result : Next)
     module _ (tell : (number : ℕ) (us : List Turn) → IsLedFrame lens number f.sent l.leads us → MasterUnder lens plan.recover plan.retry m1 f.sent l.missed us →
         MasterShows lens plan.recover plan.retry m2 (missed_behind lens plan.recover plan.retry f.fate l.missed) (map (led_behind lens plan.recover plan.retry gives number f) us))
         (frame : ℕ) (counts : length fs ≡ frame) (r r' : Log) (recover : r.recover ≡ plan.recover) (before : gaves_noted r.notes ≡ gaves_noted notes) (noted : GaveBy f.fate frame m2 r r')
-        (told_before : TurnsAll frame m1 (ReportsOn notes r.notes)) (told_behind : ReportsBy f.fate frame m2 r r') where
+        (told_before : TurnsAll frame m1 (ReportsOn notes r.notes)) (told_behind : ReportsBy f.fate frame m2 r r')
+        (brings : f.fate ≡ Fates.Pass → (us : List Turn) → IsLedFrame lens (length fs) f.sent l.leads us → MasterUnder lens plan.recover plan.retry m1 f.sent l.missed us → HasBrought m2 us (seen lens f.back))
+        (heard_before : emergencies_noted r.notes ≡ emergencies_noted notes) (heard_behind : HeardBy f.fate frame m2 r r') where
       shown : MasterShows lens plan.recover plan.retry m2 (missed_behind lens plan.recover plan.retry f.fate l.missed) (leads made.0)
       shown = tell (length fs) made.0 made.1 made.2
 
@@ -224,6 +232,14 @@ module _ (m0 m1 m2 : MasterNode) (f : Exchanged) (result : Next)
           (subst (λ (k : Fate). AllBoth (λ a b. LosesSo (length fs) a b) (map turned_lead made.0) (map (λ u. led_by lens plan.recover plan.retry gives (length fs) f k u) made.0)) (sym e) (all_lose lens plan.recover plan.retry gives (length fs) f after made.0))
           turned_reports
 
+      heard_by : (fate : Fate) → f.fate ≡ fate → AllNoted (heard_on (λ u. brought_by lens (length fs) f fate u) (heard_in l.lives) made.0) (emergencies_noted r'.notes)
+      heard_by Fates.Pass e =
+          let by : HeardBy Fates.Pass (length fs) m2 r r' = subst (λ (n : ℕ). HeardBy Fates.Pass n m2 r r') (sym counts) (subst (λ (k : Fate). HeardBy k frame m2 r r') e heard_behind) in
+          by made.0 (seen lens f.back) (heard_in l.lives) (brings e made.0 made.1 made.2) (heard_before ∙ l.heard)
+      heard_by (Fates.Lost after) e =
+          let same : emergencies_noted r'.notes ≡ emergencies_noted r.notes = subst (λ (k : Fate). HeardBy k frame m2 r r') e heard_behind in
+          loses lens (length fs) after f (heard_in l.lives) made.0 (emergencies_noted r'.notes) (same ∙ heard_before ∙ l.heard)
+
       pub leads_on : Leading plan m2 r'.notes (fs ++ f ∷ [])
       leads_on = record {
         missed = missed_behind lens plan.recover plan.retry f.fate l.missed;
@@ -232,6 +248,7 @@ module _ (m0 m1 m2 : MasterNode) (f : Exchanged) (result : Next)
         shows = shown;
         gave = gave_by f.fate refl;
         told = told_by f.fate refl;
+        heard = heard_by f.fate refl;
       }
 
 -- what the ring gave back of a frame of the master's is its return

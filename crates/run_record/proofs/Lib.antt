@@ -2,6 +2,7 @@ pub mod Asking
 pub mod Budgets
 pub mod Firsts
 pub mod Gones
+pub mod Heard
 pub mod Kept
 pub mod Leads
 pub mod Lists

@@ -1,13 +1,16 @@
 -- THE BOOK OF A RUN that is over, and the lives that its frames lead to.
-use Rattle.std.proofs.Common.{◌≡◌, ◌⊎◌, inl, inr, ℕ, Bool, true, false, List, [], map, length, ap, sym, ◌∙◌, subst}
+use Rattle.std.proofs.Common.{◌≡◌, ◌⊎◌, inl, inr, ℕ, Bool, true, false, List, map, length, ap, sym, ◌∙◌, subst}
 use Rattle.std.specs.Prelude.{◌≢◌}
 use Rattle.std.specs.Bool.{OnTrue, OnFalse}
 use Rattle.frame_view.specs.View.{Lens}
 use Rattle.life_frames.specs.Shares.{AllBoth}
+use Rattle.life_heard.specs.Heard.{AllNoted, heard_in}
 use Rattle.life_runs.specs.First.{lens_of}
+use Rattle.life_runs.specs.Led.{Leads}
 use Rattle.master_node.specs.Wants.{AllCounted, AllLeft, gave_of}
 use Rattle.master_node.proofs.Counts.{counted, placed}
 use Rattle.run_book.specs.declared.book.Book.{Book}
+use Rattle.run_book.specs.declared.book.Emergency.{Emergency}
 use Rattle.run_book.specs.declared.book.Ending.{Ending}
 use Rattle.run_book.specs.declared.book.Ending.TheVariants as endings
 use Rattle.run_book.specs.declared.book.SentFrame.{SentFrame}
@@ -18,9 +21,15 @@ use Rattle.run_record.specs.Ran.{IsUnderway, EndsSo}
 use Rattle.run_record.specs.Session.{SessionState, session_rows, are_at_rest, some_given_up, IsLeftBy}
 use Rattle.run_record.specs.Reports.{IsBooked}
 use Rattle.run_record.specs.Epochs.{HasEpochs}
+use Rattle.run_record.specs.Heard.{emergencies_noted, emergencies_in}
 use Rattle.run_record.specs.Unsent.{IsSpent}
 use Rattle.run_record.proofs.Reporting.{all_booked, all_spent, all_epochs}
 use Rattle.run_record.proofs.Ends.{rest_so, all_done, gaves_of_rows}
+use Rattle.run_record.proofs.Heard.{heard_of_rows}
+
+-- the lives that frames lead to, with the emergencies that are noted of them
+abbrev HeardLives : Scenario → ℕ → List Leads → List (List Emergency) → List SentFrame → Type 0
+HeardLives plan missed leads notes frames = (lives : LeadTo plan (map exchanged frames) missed leads) × AllNoted (heard_in lives) notes
 
 not_done : endings.Done ≡ endings.NoMemory → ⊥
 not_done e = absurd (cc)
@@ -54,16 +63,21 @@ module _ (plan : Scenario) (s : SessionState) (b b' : Book) (h : IsUnderway plan
   rest_by endings.PortFault settled so left cut rows = tt
   rest_by endings.Unfinished settled so left cut rows = tt
 
+  -- the lives, by the frames of the book
+  both : HeardLives plan l.missed l.leads (emergencies_noted s.notes) b'.frames
+  both = subst (λ (fs : List SentFrame). HeardLives plan l.missed l.leads (emergencies_noted s.notes) fs) (sym frames) (l.lives, l.heard)
+
   -- however it ends
   pub led_book : (ending result : Ending) (settled : Bool) → EndsSo s ending → OnTrue settled (IsLeftBy s.master) → OnFalse settled (ending ≡ endings.BudgetSpent) → (result ≡ ending) ⊎ (result ≡ endings.NoMemory) → (result ≢ endings.NoMemory → b'.slaves ≡ session_rows s) → LedBook plan b' result
   led_book ending result settled so left cut answers rows = record {
     missed = l.missed;
     leads = l.leads;
-    lives = subst (λ (fs : List SentFrame). LeadTo plan (map exchanged fs) l.missed l.leads) (sym frames) l.lives;
+    lives = both.0;
     gave = λ ok. has_gaves (rows ok);
     answers = λ ok. subst (λ (rs : List SlaveBook). AllBoth IsBooked l.leads rs) (sym (rows ok)) (all_booked s.recover l.leads s.ring.nodes s.notes same l.told);
     unsent = λ ok. subst (λ (rs : List SlaveBook). AllBoth IsSpent l.leads rs) (sym (rows ok)) (all_spent s.recover l.leads s.ring.nodes s.notes same l.told);
     epochs = λ ok. subst (λ (rs : List SlaveBook). AllBoth HasEpochs l.leads rs) (sym (rows ok)) (all_epochs s.recover l.leads s.ring.nodes s.notes same l.told);
+    heard = λ ok. ap emergencies_in (rows ok) ∙ heard_of_rows s.recover s.ring.nodes s.notes same ∙ both.1;
     rests = elim answers [
       | inl is ↦ subst (λ (e : Ending). RestBy lens e l.leads b'.slaves) (sym is) (rest_by ending settled so left cut (λ ok. rows (λ none. ok (sym is ∙ none))))
       | inr none ↦ subst (λ (e : Ending). RestBy lens e l.leads b'.slaves) (sym none) tt

@@ -16,7 +16,7 @@ use Rattle.run_book.specs.declared.book.Ending.TheVariants as endings
 use Rattle.run_book.specs.declared.book.SentFrame.{SentFrame}
 use Rattle.run_book.specs.declared.book.SlaveBook.{SlaveBook}
 use Rattle.run_record.specs.Replay.{first_ring, behind, ring_after, IsRecorded, AreRecorded}
-use Rattle.run_record.specs.Session.{SessionState, first_session, session_rows, budget_of, are_at_rest, some_given_up, Steps, Stops}
+use Rattle.run_record.specs.Session.{SessionState, first_session, session_rows, are_at_rest, some_given_up, Steps, Stops}
 use Rattle.run_record.specs.Ran.{HasSent, IsUnderway, IsGivenUp, HasRows, EndsSo, EndsAs, StopsSo, StopsAs}
 use Rattle.run_record.proofs.Replays.{after_more, recorded_more, number_after, length_after}
 use Rattle.run_record.proofs.Rows.{nodes_of_rows, rows_given_up}

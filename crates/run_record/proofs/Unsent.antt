@@ -1,5 +1,5 @@
 -- WHAT IS LEFT OF A SCRIPT, over answers, what comes into hand, and at the end.
-use Rattle.std.proofs.Common.{◌≡◌, ℕ, zero, suc, ◌+◌, ◌-◌, Bool, true, false, List, [], ◌∷◌, ◌++◌, length, refl, ap, sym, ◌∙◌, arith, append-nil}
+use Rattle.std.proofs.Common.{◌≡◌, ℕ, suc, ◌+◌, ◌-◌, Bool, true, false, List, [], ◌∷◌, ◌++◌, length, refl, ap, sym, ◌∙◌, arith, append-nil}
 use Rattle.std.specs.Prelude.{◌==◌, if◌then◌else◌, ⊤}
 use Rattle.std.proofs.lemmas.List.Recursion.{is_count_by}
 use Rattle.life_runs.specs.First.{script_for}
@@ -9,7 +9,7 @@ use Rattle.run_book.specs.declared.book.Answer.{Answer}
 use Rattle.run_book.specs.declared.book.Begun.{Begun}
 use Rattle.run_record.specs.Notes.{left_behind}
 use Rattle.run_record.specs.Session.{scripted}
-use Rattle.run_record.specs.Unsent.{first_numbers, with_number, numbers_in, WasSent, AllSent, IsNumbered}
+use Rattle.run_record.specs.Unsent.{with_number, numbers_in, WasSent, AllSent, IsNumbered}
 use Rattle.segment_plan.specs.declared.service.Service as Plan
 
 -- ONE ANSWER MORE

@@ -3,6 +3,7 @@
 use Rattle.std.specs.Prelude.{◌≡◌, ◌≢◌, ◌⊎◌, ℕ, true, List, [], map, ⊤}
 use Rattle.frame_view.specs.View.{Lens}
 use Rattle.life_frames.specs.Shares.{AllBoth}
+use Rattle.life_heard.specs.Heard.{AllNoted, heard_in}
 use Rattle.life_model.specs.Lives.{Stand}
 use Rattle.life_runs.specs.First.{lens_of, first_leads}
 use Rattle.life_runs.specs.Led.{Exchanged, Leads, IsLed}
@@ -16,6 +17,7 @@ use Rattle.run_book.specs.declared.book.SentFrame.{SentFrame}
 use Rattle.run_book.specs.declared.book.SlaveBook.{SlaveBook}
 use Rattle.run_record.specs.Reports.{AllReport, IsBooked}
 use Rattle.run_record.specs.Epochs.{HasEpochs}
+use Rattle.run_record.specs.Heard.{emergencies_noted, emergencies_in}
 use Rattle.run_record.specs.Unsent.{IsSpent}
 use Rattle.run_record.specs.declared.notes.Notes.{Notes}
 use Rattle.segment_plan.specs.declared.plan.Scenario.{Scenario}
@@ -44,7 +46,7 @@ abbrev pub gaves_in : List SlaveBook → List (List ℕ)
 gaves_in rows = map (λ (row : SlaveBook). row.gave) rows
 
 -- A MASTER BEHIND THESE FRAMES of a plan's run leads its slaves; so often each was given up as is noted, and what is noted of its services goes with its
--- life
+-- life; and just the emergencies among the mails that its life accepted are noted, each with the frame that brought it
 pub record Leading (plan : Scenario) (m : MasterNode) (notes : List Notes) (fs : List Exchanged) : Type 0 where
   pub missed : ℕ
   pub leads : List Leads
@@ -52,6 +54,7 @@ pub record Leading (plan : Scenario) (m : MasterNode) (notes : List Notes) (fs :
   pub shows : MasterShows (lens_of plan.slaves) plan.recover plan.retry m missed leads
   pub gave : gaves_noted notes ≡ map gave_of leads
   pub told : AllReport leads notes
+  pub heard : AllNoted (heard_in lives) (emergencies_noted notes)
 
 -- NOTHING IS LEFT of a slave at the end: it was given up for good; or its master wants nothing of it, and the slave is settled
 abbrev pub RestsSo : (ℕ → Lens) → Leads → SlaveBook → Type 0
@@ -73,7 +76,8 @@ RestBy lens endings.PortFault leads rows = ⊤
 RestBy lens endings.Unfinished leads rows = ⊤
 
 -- THE BOOK OF A RUN and the lives that its frames lead to: each slave was given up at just the frames that the book has; of its script just the services
--- stand in the book that came into hand, each with its frame, and each reply is that of its row; and nothing is left of it where the run is over
+-- stand in the book that came into hand, each with its frame, and each reply is that of its row; of the mails that its life accepted just the emergencies
+-- stand there, each with the frame that brought it; and nothing is left of it where the run is over
 pub record LedBook (plan : Scenario) (book : Book) (ending : Ending) : Type 0 where
   pub missed : ℕ
   pub leads : List Leads
@@ -82,4 +86,5 @@ pub record LedBook (plan : Scenario) (book : Book) (ending : Ending) : Type 0 wh
   pub answers : ending ≢ endings.NoMemory → AllBoth IsBooked leads book.slaves
   pub unsent : ending ≢ endings.NoMemory → AllBoth IsSpent leads book.slaves
   pub epochs : ending ≢ endings.NoMemory → AllBoth HasEpochs leads book.slaves
+  pub heard : ending ≢ endings.NoMemory → AllNoted (heard_in lives) (emergencies_in book.slaves)
   pub rests : RestBy (lens_of plan.slaves) ending leads book.slaves

@@ -2,6 +2,7 @@ pub mod Notes
 pub mod Replay
 pub mod Unsent
 pub mod Epochs
+pub mod Heard
 pub mod Reports
 pub mod Led
 pub mod Session

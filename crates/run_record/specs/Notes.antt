@@ -67,6 +67,10 @@ answered n reply frame = record n { answers = n.answers ++ Replied reply frame �
 abbrev pub answered_where : Notes → Reply → ℕ → Notes
 answered_where n reply frame = if n.in_hand && awaits_nothing n.awaited then answered n reply frame else n
 
+-- the return of a frame brought an emergency
+abbrev pub alarmed : Notes → List ℕ → ℕ → Notes
+alarmed n octets frame = record n { emergencies = n.emergencies ++ record { octets = octets; frame = frame } ∷ [] }
+
 abbrev pub doubted : Notes → Notes
 doubted n = record n { answers = answers_doubted n; in_hand = false; awaited = Awaited.Nothing }
 

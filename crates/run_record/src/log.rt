@@ -4,6 +4,7 @@ ghost use Rattle.segment_plan.specs.Sound.{IsLaid};
 ghost use Rattle.run_book.specs.Ports.{ports_of, IsAtPort};
 ghost use Rattle.run_record.specs.Session.{scripted, first_notes, home_of, SameFrames, SameSlaves};
 ghost use Rattle.life_runs.specs.Led.{Leads};
+ghost use Rattle.run_record.specs.Heard.{emergencies_noted};
 ghost use Rattle.run_record.specs.Led.{gaves_noted};
 ghost use Rattle.run_record.specs.Reports.{Reports, KeepsReports};
 ghost use Rattle.run_record.specs.Notes.{station_of, stations_of};
@@ -68,6 +69,7 @@ fn reply_of(
 // A packet or a mail that is passed on came into hand. What does by the script is noted by its master's number.
 fn note_began(notes: &mut Notes, origin: Origin, frame: u32) -> Result<(), NoMemory>
     ensures gave { OnOk result (notes.new.gave ≡ notes.old.gave) }
+    ensures heard { OnOk result (notes.new.emergencies ≡ notes.old.emergencies) }
     ensures told { OnOk result ((a : Leads) → Reports a notes.old → Reports a notes.new) }
 {
     match origin {
@@ -78,7 +80,7 @@ fn note_began(notes: &mut Notes, origin: Origin, frame: u32) -> Result<(), NoMem
 }
 
 // Notes what happened at a slave. That it was given up is noted by its master's count, the answer of a scripted service by its hand and by how it changed
-// the state, and its epochs by how its master stands to it.
+// the state, its epochs by how its master stands to it, and its emergencies by what its master has of the returned frame.
 fn note_at(
     alloc: Global,
     master: &MasterNode,
@@ -87,6 +89,7 @@ fn note_at(
     notes: &mut Notes,
 ) -> Result<(), NoMemory>
     ensures gave { OnOk result (notes.new.gave ≡ notes.old.gave) }
+    ensures heard { OnOk result (notes.new.emergencies ≡ notes.old.emergencies) }
     ensures told { OnOk result ((a : Leads) → Reports a notes.old → Reports a notes.new) }
 {
     match event {
@@ -95,15 +98,12 @@ fn note_at(
             let reply = reply_of(alloc, master, *slave, *kind)?;
             notes.answered(reply, moment.frame)
         }
-        Event::Emergency { octets, .. } => {
-            let octets = Octets::copy_of(alloc, octets.as_slice())?;
-            notes.emergencies.add(octets)
-        }
         Event::Cleared { own, .. } => {
             notes.own = *own;
             Ok(())
         }
         Event::Opened { .. }
+        | Event::Emergency { .. }
         | Event::GivenUp { .. }
         | Event::Host(_)
         | Event::Switch(_)
@@ -214,6 +214,7 @@ impl Log {
     ) -> Result<(), NoMemory>
         ensures slaves { SameSlaves self.old self.new }
         ensures gave { OnOk result (gaves_noted self.new.notes ≡ gaves_noted self.old.notes) }
+        ensures heard { OnOk result (emergencies_noted self.new.notes ≡ emergencies_noted self.old.notes) }
         ensures told { OnOk result (KeepsReports self.old.notes self.new.notes) }
         ensures frames { SameFrames (1 + length self.old.ports) book.old book.new }
     {
@@ -233,22 +234,23 @@ impl Log {
     ) -> Result<(), NoMemory>
         ensures slaves { SameSlaves self.old self.new }
         ensures gave { OnOk result (gaves_noted self.new.notes ≡ gaves_noted self.old.notes) }
+        ensures heard { OnOk result (emergencies_noted self.new.notes ≡ emergencies_noted self.old.notes) }
         ensures told { OnOk result (KeepsReports self.old.notes self.new.notes) }
         ensures frames { SameFrames (1 + length self.old.ports) book.old book.new }
     {
         match event {
             Event::Began { slave, .. }
             | Event::Answered { slave, .. }
-            | Event::Emergency { slave, .. }
             | Event::Cleared { slave, .. }
             | Event::Opened { slave } => {
                 self.note_slave(alloc, master, moment, event, *slave as usize)
             }
             Event::Host(packet) => book.host.add(Octets::copy_of(alloc, packet.as_slice())?),
             Event::Switch(event) => self.note_switch(moment, event, book),
-            Event::GivenUp { .. } | Event::GatewayReply { .. } | Event::GatewayDone { .. } => {
-                Ok(())
-            }
+            Event::Emergency { .. }
+            | Event::GivenUp { .. }
+            | Event::GatewayReply { .. }
+            | Event::GatewayDone { .. } => Ok(()),
         }
     }
 
@@ -262,6 +264,7 @@ impl Log {
     ) -> Result<(), NoMemory>
         ensures slaves { SameSlaves self.old self.new }
         ensures gave { OnOk result (gaves_noted self.new.notes ≡ gaves_noted self.old.notes) }
+        ensures heard { OnOk result (emergencies_noted self.new.notes ≡ emergencies_noted self.old.notes) }
         ensures told { OnOk result (KeepsReports self.old.notes self.new.notes) }
     {
         let Some(&home) = self.homes.get(at) else {
@@ -284,6 +287,7 @@ impl Log {
     ) -> Result<(), NoMemory>
         ensures slaves { SameSlaves self.old self.new }
         ensures gave { OnOk result (gaves_noted self.new.notes ≡ gaves_noted self.old.notes) }
+        ensures heard { OnOk result (emergencies_noted self.new.notes ≡ emergencies_noted self.old.notes) }
         ensures told { OnOk result (KeepsReports self.old.notes self.new.notes) }
         ensures frames { SameFrames (1 + length self.old.ports) book.old book.new }
     {
@@ -315,6 +319,7 @@ impl Log {
     fn receive(&mut self, port: usize)
         ensures slaves { SameSlaves self.old self.new }
         ensures gave { gaves_noted self.new.notes ≡ gaves_noted self.old.notes }
+        ensures heard { emergencies_noted self.new.notes ≡ emergencies_noted self.old.notes }
         ensures told { KeepsReports self.old.notes self.new.notes }
     {
         if port == 0 {

@@ -3,6 +3,7 @@ ghost use Rattle.frame_view.specs.View.{Lens};
 ghost use Rattle.life_runs.specs.Led.{Leads};
 ghost use Rattle.master_node.specs.Shows.{MasterShows};
 ghost use Rattle.master_node.specs.Wants.{gave_of, AllCounted};
+ghost use Rattle.run_record.specs.Heard.{emergencies_noted, HeardBy};
 ghost use Rattle.run_record.specs.Led.{gaves_noted};
 ghost use Rattle.run_record.specs.Reports.{ReportsTo, ReportsOn, ReportsBy, LosesAll};
 ghost use Rattle.run_record.specs.Session.{SameFrames, SameSlaves, gave_at, gaves_behind, GaveBy};
@@ -32,6 +33,7 @@ impl Log {
         ensures slaves { SameSlaves self.old self.new }
         ensures gave { OnOk result ((lens : ℕ → Lens) (retry missed : ℕ) (leads : List Leads) → MasterShows lens self.old.recover retry master.now missed leads → AllCounted self.old.recover leads →
             gaves_noted self.new.notes ≡ gave_at at frame (map gave_of leads) (gaves_noted self.old.notes)) }
+        ensures heard { OnOk result (emergencies_noted self.new.notes ≡ emergencies_noted self.old.notes) }
         ensures told { OnOk result (LosesAll frame self.old.recover master.now (λ as' bs. ReportsTo at as' bs self.old.notes → ReportsTo (suc at) as' bs self.new.notes)) }
     {
         let place = at as usize;
@@ -56,6 +58,7 @@ impl Log {
         ensures slaves { SameSlaves self.old self.new }
         ensures gave { OnOk result ((lens : ℕ → Lens) (retry missed : ℕ) (leads : List Leads) → MasterShows lens self.old.recover retry master.now missed leads → AllCounted self.old.recover leads →
             gaves_noted self.new.notes ≡ gaves_behind frame (map gave_of leads) (gaves_noted self.old.notes)) }
+        ensures heard { OnOk result (emergencies_noted self.new.notes ≡ emergencies_noted self.old.notes) }
         ensures told { OnOk result (LosesAll frame self.old.recover master.now (ReportsOn self.old.notes self.new.notes)) }
     {
         for place in 0..self.notes.len() {
@@ -64,7 +67,7 @@ impl Log {
         Ok(())
     }
 
-    // Notes what a frame of this fate brought: replies where it came back, and which slaves were given up with it where it was lost.
+    // Notes what a frame of this fate brought: emergencies and replies where it came back, and which slaves were given up with it where it was lost.
     fn note_fate(
         &mut self,
         alloc: Global,
@@ -77,10 +80,11 @@ impl Log {
         requires posts { vec_len master.now.posts ≡ length self.old.notes }
         ensures slaves { SameSlaves self.old self.new }
         ensures gave { OnOk result (GaveBy fate frame master.now self.old self.new) }
+        ensures heard { OnOk result (HeardBy fate frame master.now self.old self.new) }
         ensures told { OnOk result (ReportsBy fate frame master.now self.old self.new) }
     {
         match fate {
-            Fate::Pass => self.note_replies(alloc, master, frame),
+            Fate::Pass => self.note_returned(alloc, master, frame),
             Fate::Lost { .. } => self.note_losses(master, frame),
         }
     }
@@ -100,6 +104,7 @@ impl Log {
         ensures slaves { SameSlaves self.old self.new }
         ensures frames { SameFrames (1 + length self.old.ports) book.old book.new }
         ensures gave { OnOk result (GaveBy fate moment.frame master.now self.old self.new) }
+        ensures heard { OnOk result (HeardBy fate moment.frame master.now self.old self.new) }
         ensures told { OnOk result (ReportsBy fate moment.frame master.now self.old self.new) }
     {
         self.note(alloc, master, moment, book)?;

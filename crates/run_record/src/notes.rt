@@ -4,7 +4,7 @@ ghost use Rattle.run_record.specs.declared.notes.Awaited.TheVariants as Awaits;
 
 use ec_fields::{NoMemory, Octets, Rows};
 use master_node::Origin;
-use run_book::{Answer, Begun, Epoch, Reply};
+use run_book::{Answer, Begun, Emergency, Epoch, Reply};
 use std::alloc::Global;
 
 /// What is awaited of the service that came into hand last.
@@ -23,7 +23,7 @@ pub enum Awaited {
 pub struct Notes {
     pub begun: Rows<Begun>,
     pub answers: Rows<Answer>,
-    pub emergencies: Rows<Octets>,
+    pub emergencies: Rows<Emergency>,
     pub epochs: Rows<Epoch>,
     pub gave: Rows<u32>,
     /// The service that came into hand last isn't answered yet.
@@ -116,6 +116,7 @@ impl Notes {
     pub fn began(&mut self, origin: Origin, frame: u32) -> Result<(), NoMemory>
         ensures is { OnOk result (self.new ≡ the.began self.old origin frame) }
         ensures gave { self.new.gave ≡ self.old.gave }
+        ensures heard { self.new.emergencies ≡ self.old.emergencies }
     {
         self.doubt()?;
         self.begun.add(Begun { origin, frame })?;
@@ -128,6 +129,7 @@ impl Notes {
     pub fn began_other(&mut self, origin: Origin, frame: u32) -> Result<(), NoMemory>
         ensures is { OnOk result (self.new ≡ the.began_where self.old origin frame) }
         ensures gave { self.new.gave ≡ self.old.gave }
+        ensures heard { self.new.emergencies ≡ self.old.emergencies }
     {
         match self.awaited {
             Awaited::Nothing => self.began(origin, frame),
@@ -139,6 +141,7 @@ impl Notes {
     pub fn began_script(&mut self, number: u32, state: bool, frame: u32) -> Result<(), NoMemory>
         ensures is { OnOk result (self.new ≡ the.began_script self.old number state frame) }
         ensures gave { self.new.gave ≡ self.old.gave }
+        ensures heard { self.new.emergencies ≡ self.old.emergencies }
     {
         self.began(Origin::Script(self.scripted), frame)?;
         self.awaited = awaited_by(state);
@@ -150,6 +153,7 @@ impl Notes {
     pub fn replied(&mut self, reply: Reply, frame: u32) -> Result<(), NoMemory>
         ensures is { OnOk result (self.new ≡ the.answered self.old reply frame) }
         ensures gave { self.new.gave ≡ self.old.gave }
+        ensures heard { self.new.emergencies ≡ self.old.emergencies }
     {
         self.in_hand = false;
         self.awaited = Awaited::Nothing;
@@ -160,6 +164,7 @@ impl Notes {
     pub fn answered(&mut self, reply: Reply, frame: u32) -> Result<(), NoMemory>
         ensures is { OnOk result (self.new ≡ the.answered_where self.old reply frame) }
         ensures gave { self.new.gave ≡ self.old.gave }
+        ensures heard { self.new.emergencies ≡ self.old.emergencies }
     {
         if !self.in_hand {
             return Ok(());
@@ -174,6 +179,7 @@ impl Notes {
     pub fn doubt(&mut self) -> Result<(), NoMemory>
         ensures is { OnOk result (self.new ≡ the.doubted self.old) }
         ensures gave { self.new.gave ≡ self.old.gave }
+        ensures heard { self.new.emergencies ≡ self.old.emergencies }
     {
         self.awaited = Awaited::Nothing;
         if !self.in_hand {
@@ -185,7 +191,8 @@ impl Notes {
 
     /// The slave was given up at a frame that was lost; it is to be returned to Init, or is gone for good.
     pub fn given_up(&mut self, leaves: bool, frame: u32) -> Result<(), NoMemory>
-        ensures { OnOk result (self.new ≡ the.given_up self.old leaves frame) }
+        ensures is { OnOk result (self.new ≡ the.given_up self.old leaves frame) }
+        ensures heard { self.new.emergencies ≡ self.old.emergencies }
     {
         self.doubt()?;
         self.leaving = leaves;
@@ -197,6 +204,7 @@ impl Notes {
     fn cleared(&mut self, frame: u32) -> Result<(), NoMemory>
         ensures is { OnOk result (self.new ≡ record self.old { epochs = the.epochs_cleared self.old frame }) }
         ensures gave { self.new.gave ≡ self.old.gave }
+        ensures heard { self.new.emergencies ≡ self.old.emergencies }
     {
         let row = count(first_row(self.own, self.begun.len()));
         let emergencies = count(self.emergencies.len());
@@ -223,6 +231,7 @@ impl Notes {
     fn turned(&mut self, leaves: bool, opens: bool, frame: u32) -> Result<(), NoMemory>
         ensures is { OnOk result (self.new ≡ record self.old { epochs = the.epochs_stood self.old leaves opens frame }) }
         ensures gave { self.new.gave ≡ self.old.gave }
+        ensures heard { self.new.emergencies ≡ self.old.emergencies }
     {
         if self.leaving && !leaves {
             return self.cleared(frame);
@@ -237,11 +246,20 @@ impl Notes {
     pub fn stands(&mut self, leaves: bool, opens: bool, frame: u32) -> Result<(), NoMemory>
         ensures is { OnOk result (self.new ≡ the.stood self.old leaves opens frame) }
         ensures gave { self.new.gave ≡ self.old.gave }
+        ensures heard { self.new.emergencies ≡ self.old.emergencies }
     {
         self.turned(leaves, opens, frame)?;
         self.leaving = leaves;
         self.up = opens;
         Ok(())
+    }
+
+    /// The return of a frame brought an emergency of the slave.
+    pub fn alarmed(&mut self, octets: Octets, frame: u32) -> Result<(), NoMemory>
+        ensures is { OnOk result (self.new ≡ the.alarmed self.old octets frame) }
+        ensures gave { self.new.gave ≡ self.old.gave }
+    {
+        self.emergencies.add(Emergency { octets, frame })
     }
 
     /// A packet was received from the slave.

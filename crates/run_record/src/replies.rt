@@ -1,6 +1,7 @@
 //! What a frame that came back brought of each slave, as its master has it: the answer of the service in hand, a return to Init, and an opening.
 
 ghost use Rattle.std.specs.Prelude.{◌≡◌, ◌<◌, ◌≤◌, suc, [], length, vec_len, OnOk, IfSome, slice_get};
+ghost use Rattle.run_record.specs.Heard.{emergencies_noted};
 ghost use Rattle.run_record.specs.Led.{gaves_noted};
 ghost use Rattle.run_record.specs.Notes.{answered, told_noted, changed_noted, change_noted, stood};
 ghost use Rattle.run_record.specs.Reports.{ReportsTo, ReportsOn, PassesAll};
@@ -19,6 +20,7 @@ use std::alloc::Global;
 fn note_told(notes: &mut Notes, told: Told, value: Octets, frame: u32) -> Result<(), NoMemory>
     ensures is { OnOk result (notes.new ≡ told_noted told value frame notes.old) }
     ensures gave { notes.new.gave ≡ notes.old.gave }
+    ensures heard { notes.new.emergencies ≡ notes.old.emergencies }
 {
     match told {
         Told::Waits | Told::Unknown => Ok(()),
@@ -37,6 +39,7 @@ fn note_back(
 ) -> Result<(), NoMemory>
     ensures is { OnOk result (notes.new ≡ stood (told_noted told value frame notes.old) leaves opens frame) }
     ensures gave { notes.new.gave ≡ notes.old.gave }
+    ensures heard { notes.new.emergencies ≡ notes.old.emergencies }
 {
     note_told(notes, told, value, frame)?;
     notes.stands(leaves, opens, frame)
@@ -46,6 +49,7 @@ fn note_back(
 fn note_kind(alloc: Global, notes: &mut Notes, kind: ReplyKind, frame: u32) -> Result<(), NoMemory>
     ensures is { OnOk result (notes.new ≡ answered notes.old (record { kind = kind; value = [] }) frame) }
     ensures gave { notes.new.gave ≡ notes.old.gave }
+    ensures heard { notes.new.emergencies ≡ notes.old.emergencies }
 {
     let value = Octets::new(alloc);
     notes.replied(Reply { kind, value }, frame)
@@ -60,6 +64,7 @@ fn note_changed(
 ) -> Result<(), NoMemory>
     ensures is { OnOk result (notes.new ≡ changed_noted changed frame notes.old) }
     ensures gave { notes.new.gave ≡ notes.old.gave }
+    ensures heard { notes.new.emergencies ≡ notes.old.emergencies }
 {
     match changed {
         Changed::Nothing | Changed::Going => Ok(()),
@@ -78,6 +83,7 @@ fn note_change(
 ) -> Result<(), NoMemory>
     ensures is { OnOk result (notes.new ≡ change_noted opens changed frame notes.old) }
     ensures gave { notes.new.gave ≡ notes.old.gave }
+    ensures heard { notes.new.emergencies ≡ notes.old.emergencies }
 {
     if !opens {
         return Ok(());
@@ -100,6 +106,7 @@ fn note_turned(
 ) -> Result<(), NoMemory>
     ensures is { OnOk result (notes.new ≡ stood (change_noted opens changed frame notes.old) leaves opens frame) }
     ensures gave { notes.new.gave ≡ notes.old.gave }
+    ensures heard { notes.new.emergencies ≡ notes.old.emergencies }
 {
     note_change(alloc, notes, changed, opens, frame)?;
     notes.stands(leaves, opens, frame)
@@ -113,6 +120,7 @@ impl Log {
         requires awaited { IfSome (slice_get self.old.notes at) (λ n. n.awaited ≡ Awaits.Nothing) }
         ensures slaves { SameSlaves self.old self.new }
         ensures gave { OnOk result (gaves_noted self.new.notes ≡ gaves_noted self.old.notes) }
+        ensures heard { OnOk result (emergencies_noted self.new.notes ≡ emergencies_noted self.old.notes) }
         ensures told { OnOk result (PassesAll frame master.now (λ as' bs. ReportsTo at as' bs self.old.notes → ReportsTo (suc at) as' bs self.new.notes)) }
     {
         let leaves = master.is_leaving(at);
@@ -134,6 +142,7 @@ impl Log {
         requires awaited { IfSome (slice_get self.old.notes at) (λ n. n.awaited ≡ Awaits.Change) }
         ensures slaves { SameSlaves self.old self.new }
         ensures gave { OnOk result (gaves_noted self.new.notes ≡ gaves_noted self.old.notes) }
+        ensures heard { OnOk result (emergencies_noted self.new.notes ≡ emergencies_noted self.old.notes) }
         ensures told { OnOk result (PassesAll frame master.now (λ as' bs. ReportsTo at as' bs self.old.notes → ReportsTo (suc at) as' bs self.new.notes)) }
     {
         let leaves = master.is_leaving(at);
@@ -156,6 +165,7 @@ impl Log {
         requires awaited { IfSome (slice_get self.old.notes at) (λ n. n.awaited ≡ Awaits.Reply) }
         ensures slaves { SameSlaves self.old self.new }
         ensures gave { OnOk result (gaves_noted self.new.notes ≡ gaves_noted self.old.notes) }
+        ensures heard { OnOk result (emergencies_noted self.new.notes ≡ emergencies_noted self.old.notes) }
         ensures told { OnOk result (PassesAll frame master.now (λ as' bs. ReportsTo at as' bs self.old.notes → ReportsTo (suc at) as' bs self.new.notes)) }
     {
         let leaves = master.is_leaving(at);
@@ -178,6 +188,7 @@ impl Log {
         requires posts { vec_len master.now.posts ≡ length self.old.notes }
         ensures slaves { SameSlaves self.old self.new }
         ensures gave { OnOk result (gaves_noted self.new.notes ≡ gaves_noted self.old.notes) }
+        ensures heard { OnOk result (emergencies_noted self.new.notes ≡ emergencies_noted self.old.notes) }
         ensures told { OnOk result (PassesAll frame master.now (λ as' bs. ReportsTo at as' bs self.old.notes → ReportsTo (suc at) as' bs self.new.notes)) }
     {
         let rows = self.notes.as_slice();
@@ -200,6 +211,7 @@ impl Log {
         requires posts { vec_len master.now.posts ≡ length self.old.notes }
         ensures slaves { SameSlaves self.old self.new }
         ensures gave { OnOk result (gaves_noted self.new.notes ≡ gaves_noted self.old.notes) }
+        ensures heard { OnOk result (emergencies_noted self.new.notes ≡ emergencies_noted self.old.notes) }
         ensures told { OnOk result (PassesAll frame master.now (ReportsOn self.old.notes self.new.notes)) }
     {
         for place in 0..self.notes.len() {

@@ -1,6 +1,7 @@
 //! What came into hand of the slaves by their scripts, as their master has it.
 
 ghost use Rattle.std.specs.Prelude.{◌≡◌, ◌<◌, ◌≤◌, ◌+◌, suc, length, vec_len, OnOk};
+ghost use Rattle.run_record.specs.Heard.{emergencies_noted};
 ghost use Rattle.run_record.specs.Led.{gaves_noted};
 ghost use Rattle.run_record.specs.Reports.{ReportsTo, ReportsOn, TurnsAll};
 ghost use Rattle.run_record.specs.Session.{SameFrames, SameSlaves};
@@ -19,6 +20,7 @@ impl Log {
         requires posts { vec_len master.now.posts ≡ length self.old.notes }
         ensures slaves { SameSlaves self.old self.new }
         ensures gave { OnOk result (gaves_noted self.new.notes ≡ gaves_noted self.old.notes) }
+        ensures heard { OnOk result (emergencies_noted self.new.notes ≡ emergencies_noted self.old.notes) }
         ensures told { OnOk result (TurnsAll frame master.now (λ as' bs. ReportsTo at as' bs self.old.notes → ReportsTo (suc at) as' bs self.new.notes)) }
     {
         let place = at as usize;
@@ -37,6 +39,7 @@ impl Log {
         requires posts { vec_len master.now.posts ≡ length self.old.notes }
         ensures slaves { SameSlaves self.old self.new }
         ensures gave { OnOk result (gaves_noted self.new.notes ≡ gaves_noted self.old.notes) }
+        ensures heard { OnOk result (emergencies_noted self.new.notes ≡ emergencies_noted self.old.notes) }
         ensures told { OnOk result (TurnsAll frame master.now (ReportsOn self.old.notes self.new.notes)) }
     {
         for place in 0..self.notes.len() {
@@ -57,6 +60,7 @@ impl Log {
         requires posts { vec_len master.now.posts ≡ length self.old.notes }
         ensures slaves { SameSlaves self.old self.new }
         ensures gave { OnOk result (gaves_noted self.new.notes ≡ gaves_noted self.old.notes) }
+        ensures heard { OnOk result (emergencies_noted self.new.notes ≡ emergencies_noted self.old.notes) }
         ensures frames { SameFrames (1 + length self.old.ports) book.old book.new }
         ensures told { OnOk result (TurnsAll moment.frame master.now (ReportsOn self.old.notes self.new.notes)) }
     {

@@ -9,6 +9,7 @@ ghost use Rattle.run_book.specs.declared.book.Ending.TheVariants as endings;
 ghost use Rattle.frame_view.specs.View.{Lens};
 ghost use Rattle.frame_view.specs.Seen.{seen};
 ghost use Rattle.life_runs.specs.Led.{Exchanged, Turn, led_behind, gives_up_at, missed_behind};
+ghost use Rattle.master_node.specs.Brought.{HasBrought};
 ghost use Rattle.master_node.specs.Listed.{listed};
 ghost use Rattle.master_node.specs.Shows.{MasterShows, MasterUnder};
 ghost use Rattle.segment_model.specs.Returned.{Returns};
@@ -201,6 +202,8 @@ fn tell(master: &mut MasterNode, fate: Fate, back: &FrameBuf)
     ensures posts { vec_len master.new.posts ≡ vec_len master.old.posts }
     ensures leads { (lens : ℕ → Lens) (recover retry missed number : ℕ) (us : List Turn) (f : Exchanged) → f.fate ≡ fate → f.back ≡ back.now.items → MasterUnder lens recover retry master.old f.sent missed us →
         (fate ≡ Fates.Pass → Returns (seen lens f.sent) (seen lens back.now.items)) → MasterShows lens recover retry master.new (missed_behind lens recover retry f.fate missed) (map (led_behind lens recover retry (gives_up_at lens recover retry missed) number f) us) }
+    ensures brought { fate ≡ Fates.Pass → (lens : ℕ → Lens) (recover retry missed : ℕ) (octets : List ℕ) (us : List Turn) → MasterUnder lens recover retry master.old octets missed us → Returns (seen lens octets) (seen lens back.now.items) →
+        HasBrought master.new us (seen lens back.now.items) }
 {
     match fate {
         Fate::Pass => master.returned(back),

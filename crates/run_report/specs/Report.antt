@@ -16,6 +16,7 @@ use Rattle.run_book.specs.Ports.{ports_of}
 use Rattle.run_book.specs.declared.book.Book.{Book}
 use Rattle.run_book.specs.declared.book.SlaveBook.{SlaveBook}
 use Rattle.run_book.specs.declared.book.Begun.{Begun}
+use Rattle.run_book.specs.declared.book.Emergency.{Emergency}
 use Rattle.run_book.specs.declared.book.Epoch.{Epoch}
 use Rattle.run_book.specs.declared.book.Answer.{Answer}
 use Rattle.run_book.specs.declared.book.Answer.TheVariants.{Replied, InDoubt, NotSent}
@@ -116,6 +117,11 @@ abbrev pub octets_lines : List ℕ → List (List ℕ) → List (List ℕ)
 octets_lines word [] = []
 octets_lines word (octets ∷ rows) = octets_line word octets ∷ octets_lines word rows
 
+-- a line for each emergency: its octets
+abbrev pub emergency_lines : List Emergency → List (List ℕ)
+emergency_lines [] = []
+emergency_lines (row ∷ rows) = octets_line (codes "emergency ") row.octets ∷ emergency_lines rows
+
 -- a slave's station in four digits and its AL state in one
 abbrev pub station_text : ℕ → ℕ → List ℕ
 station_text station state = codes " station " ++ (hex_of 4 station ++ (codes " state " ++ digits 16 false state))
@@ -144,7 +150,7 @@ slave_line number spec row =
 abbrev pub lines_of_slave : ℕ → SlaveSpec → SlaveBook → List (List ℕ)
 lines_of_slave number spec row =
     slave_line number spec row
-    ∷ (epoch_lines 0 row.epochs ++ (answer_lines row.begun 0 0 row.answers ++ octets_lines (codes "emergency ") row.emergencies))
+    ∷ (epoch_lines 0 row.epochs ++ (answer_lines row.begun 0 0 row.answers ++ emergency_lines row.emergencies))
 
 -- the slaves from a number on
 abbrev pub slave_lines : ℕ → List SlaveSpec → List SlaveBook → List (List ℕ)

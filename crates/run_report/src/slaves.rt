@@ -1,9 +1,9 @@
 ghost use Rattle.std.specs.Prelude.{◌≡◌, ◌++◌, length, IfOk, OnOk, OnErr};
-ghost use Rattle.run_report.specs.Report.{station_text, handled_text, slave_line, epoch_line, epoch_lines, octets_line, octets_lines, lines_of_slave, slave_lines, Extends};
+ghost use Rattle.run_report.specs.Report.{station_text, handled_text, slave_line, epoch_line, epoch_lines, octets_line, octets_lines, emergency_lines, lines_of_slave, slave_lines, Extends};
 
 use crate::answers::{packets_handed, push_answers};
 use ec_fields::{NoMemory, Octets, Rows};
-use run_book::{Epoch, SlaveBook};
+use run_book::{Emergency, Epoch, SlaveBook};
 use segment_plan::SlaveSpec;
 use std::alloc::Global;
 
@@ -87,6 +87,21 @@ pub fn push_octets(
     Ok(())
 }
 
+/// Appends a line for each emergency.
+fn push_emergencies(
+    alloc: Global,
+    rows: &[Emergency],
+    into: &mut Rows<Octets>,
+) -> Result<(), NoMemory>
+    ensures ok { OnOk result (into.new ≡ into.old ++ emergency_lines rows.now) }
+    ensures err { OnErr result (Extends into.old into.new) }
+{
+    for row in rows {
+        into.add(line_of_octets(alloc, "emergency ", row.octets.bytes())?)?;
+    }
+    Ok(())
+}
+
 fn push_slave(
     alloc: Global,
     number: usize,
@@ -100,7 +115,7 @@ fn push_slave(
     into.add(line_of_slave(alloc, number, spec, row)?)?;
     push_epochs(alloc, row.epochs.as_slice(), into)?;
     push_answers(alloc, row.begun.as_slice(), row.answers.as_slice(), into)?;
-    push_octets(alloc, "emergency ", row.emergencies.as_slice(), into)
+    push_emergencies(alloc, row.emergencies.as_slice(), into)
 }
 
 /// Appends the lines of all slaves.

@@ -14,3 +14,6 @@ returns-in-Pass-clause-leads c = λ lens recover retry missed number us f fate b
 pub returns-in-Lost-clause-leads : goal.returns-in-Lost-clause-leads
 returns-in-Lost-clause-leads c = λ lens recover retry missed number us f fate back under returns.
     c.lost.ensures.leads lens recover retry missed number c.in-Lost.after f.sent us f (fate ∙ c.in-Lost.is) refl under
+
+pub returns-in-Lost-clause-brought : goal.returns-in-Lost-clause-brought
+returns-in-Lost-clause-brought c = λ pass. absurd (let bad : Fates.Lost c.in-Lost.after ≡ Fates.Pass = sym c.in-Lost.is ∙ pass in cc)

@@ -67,10 +67,13 @@ returns-clause-ok c =
             (λ pass. returned (lens_of plan.slaves) c.self.inside.ring (exchanged f) number same.leads us c.exchange-fate.ensures.fate c.exchange-fate.ensures.back frame pass))
             c.self.inside.number (counts ∙ sym (ap (λ (s : SessionState). s.ring.number) c.self.view_is) ∙ sym c.self.invariant.0) c.note_before.new.self c.note_behind.new.self
             (c.note_before.ensures.slaves.recover ∙ ap (λ (s : SessionState). s.recover) c.self.view_is ∙ recover) c.in_ok-note_before.ensures.gave both.0
-            c.in_ok-note_before.ensures.told both.1;
+            c.in_ok-note_before.ensures.told both.1.0
+            (λ pass us frame under. c.tell.ensures.brought pass (lens_of plan.slaves) plan.recover plan.retry same.missed c.next.new.into.items us under
+            (returned (lens_of plan.slaves) c.self.inside.ring (exchanged f) (length fs) same.leads us c.exchange-fate.ensures.fate c.exchange-fate.ensures.back frame pass))
+            c.in_ok-note_before.ensures.heard both.1.1;
       },
     ))
-    (on_ok_both _ _ c.note_behind.result c.note_behind.ensures.gave c.note_behind.ensures.told)
+    (on_ok_both _ _ c.note_behind.result c.note_behind.ensures.gave (on_ok_both _ _ c.note_behind.result c.note_behind.ensures.told c.note_behind.ensures.heard))
 
 pub returns-clause-err : goal.returns-clause-err
 returns-clause-err c =

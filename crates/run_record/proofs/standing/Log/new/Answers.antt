@@ -1,6 +1,6 @@
-use Rattle.std.proofs.Common.{◌≡◌, List, ℕ, map, ap, ◌∙◌}
+use Rattle.std.proofs.Common.{◌≡◌, map, ap, ◌∙◌}
 use Rattle.std.specs.Prelude.{Some}
-use Rattle.run_record.specs.Session.{home_of, first_notes}
+use Rattle.run_record.specs.Session.{home_of}
 use Rattle.run_record.proofs.Stations.{first_lit}
 use Rattle.run_record.proofs.standing.Log.new.Goals as goal
 

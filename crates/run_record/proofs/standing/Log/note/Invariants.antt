@@ -1,4 +1,5 @@
 use Rattle.std.proofs.Common.{◌≡◌, ◌+◌, length}
+use Rattle.run_record.specs.Heard.{emergencies_noted}
 use Rattle.run_record.specs.Led.{gaves_noted}
 use Rattle.run_record.specs.Reports.{KeepsReports}
 use Rattle.run_record.specs.Session.{SameSlaves, SameFrames}
@@ -8,6 +9,7 @@ abbrev pub invariant-loop-event : goal.invariant-loop-event
 invariant-loop-event l = record {
   slaves : SameSlaves l.initial.self l.self;
   gave : gaves_noted l.self.notes ≡ gaves_noted l.initial.self.notes;
+  heard : emergencies_noted l.self.notes ≡ emergencies_noted l.initial.self.notes;
   told : KeepsReports l.initial.self.notes l.self.notes;
   frames : SameFrames (1 + length l.initial.self.ports) l.initial.book l.book;
 }

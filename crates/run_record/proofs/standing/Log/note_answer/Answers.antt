@@ -1,11 +1,11 @@
-use Rattle.std.proofs.Common.{◌≡◌, ◌<◌, ℕ, List, [], true, false, length, get_or, sym, ap, ◌∙◌, subst, rules, arith}
-use Rattle.std.specs.Prelude.{IfSome, Option, slice_get}
+use Rattle.std.proofs.Common.{◌≡◌, ℕ, List, sym, ap, ◌∙◌, subst}
+use Rattle.std.specs.Prelude.{IfSome, slice_get}
 use Rattle.std.proofs.lemmas.Result.{on_ok_weaker}
 use Rattle.run_record.specs.declared.notes.Awaited.{Awaited}
 use Rattle.run_record.specs.declared.notes.Notes.{Notes}
-use Rattle.run_record.specs.Notes.{told_noted, stood}
 use Rattle.run_record.specs.Reports.{Reports}
 use Rattle.run_record.proofs.Gaves.{same_gaves}
+use Rattle.run_record.proofs.Heard.{same_heard}
 use Rattle.run_record.proofs.Reporting.{to_next, got_there, awaited_at, reply_told}
 use Rattle.run_record.proofs.Stations.{same_noted}
 use Rattle.run_record.proofs.Steps.{any_ok}
@@ -38,3 +38,7 @@ returns-clause-told c =
     (reply_told c.args.frame a b n q s leaves.result opens.result bs c.args.at e (leaves.ensures lens recover bs x) (opens.ensures lens recover bs x) is_so c.in_ok-told.told c.told.new.into
     (subst (λ (old : List ℕ). IfSome (slice_get bs c.args.at) (λ a. a.lived.life.stand ≡ Stand.Open → Tells c.in_ok-told.told old c.told.new.into a.lived.life.era.side.now)) c.new-value.ensures (c.in_ok-told.ensures lens recover bs x)))) r)
     c.note_back.ensures.is
+
+pub returns-clause-heard : goal.returns-clause-heard
+returns-clause-heard c =
+    any_ok c.note_back.result (same_heard c.args.self.now.notes c.args.at c.at_mut-notes.result.now c.note_back.new.notes (c.note_back.ensures.heard ∙ ap (λ (n : Notes). n.emergencies) c.at_mut-notes.ensures.value))

@@ -1,5 +1,6 @@
 use Rattle.std.proofs.lemmas.Result.{on_ok_weaker}
 use Rattle.run_record.proofs.Gaves.{gave_after}
+use Rattle.run_record.proofs.Heard.{heard_after}
 use Rattle.run_record.proofs.Kept.{slaves_more}
 use Rattle.run_record.proofs.standing.Log.note_behind.Goals as goal
 
@@ -11,3 +12,9 @@ returns-clause-gave c =
     on_ok_weaker c.note_fate.result
     (λ by. gave_after c.args.fate c.args.moment.frame c.args.master.now c.args.self.now c.note.new.self c.note_fate.new.self c.note.ensures.slaves c.in_ok-note.ensures.gave by)
     c.note_fate.ensures.gave
+
+pub returns-clause-heard : goal.returns-clause-heard
+returns-clause-heard c =
+    on_ok_weaker c.note_fate.result
+    (λ by. heard_after c.args.fate c.args.moment.frame c.args.master.now c.args.self.now c.note.new.self c.note_fate.new.self c.in_ok-note.ensures.heard by)
+    c.note_fate.ensures.heard

@@ -10,6 +10,8 @@ use Rattle.run_record.proofs.Gaves.{none_more, one_more, noted_at, gave_got, sam
 use Rattle.run_record.proofs.Stations.{length_stations, one_noted}
 use Rattle.run_record.specs.Notes.{given_up}
 use Rattle.run_record.specs.Reports.{Reports}
+use Rattle.run_record.proofs.Heard.{same_heard}
+use Rattle.run_record.proofs.Steps.{any_ok}
 use Rattle.run_record.proofs.Reporting.{to_next, to_same, got_there, same_whole, loss_same, loss_more}
 use Rattle.script_answers.specs.Steps.{LosesSo}
 use Rattle.run_record.proofs.standing.Log.note_loss.Goals as goal
@@ -56,7 +58,7 @@ returns-clause-gave c =
     ∙ one_more log.recover c.args.frame c.gave_up_more.result c.args.at leads (gaves_noted log.notes) old yes inside all
     (tells_of log.recover c.gave_up_more.result c.len-times.result old leads c.args.at (c.len-times.ensures ∙ ap (λ (n : Notes). length n.gave) (sym c.index-rows-place.is)) (c.gave_up_more.ensures lens retry missed leads shown))
     (gave_got log.notes c.args.at c.index-rows-place.result c.requires.notes here))
-    c.given_up-noted.ensures
+    c.given_up-noted.ensures.is
 
 pub returns-then-not-gave_up_more-clause-told : goal.returns-then-not-gave_up_more-clause-told
 returns-then-not-gave_up_more-clause-told c = λ lens retry missed as' bs shown all p r.
@@ -84,4 +86,8 @@ returns-clause-told c =
     to_next (λ a b. LosesSo c.args.frame a b) c.args.at as' bs log.notes n c.given_up-noted.new.self p got
     (λ a b e q s. subst (λ (z : Notes). Reports b z) (sym (is ∙ ap (λ (z : Notes). given_up z c.is_leaving-leaves.result c.args.frame) same))
     (loss_more log.recover c.args.frame a b n q s bs all c.args.at e c.gave_up_more.result c.len-times.result times yes (c.gave_up_more.ensures lens retry missed bs shown) c.is_leaving-leaves.result (c.is_leaving-leaves.ensures lens log.recover bs shown.each))) r)
-    c.given_up-noted.ensures
+    c.given_up-noted.ensures.is
+
+pub returns-clause-heard : goal.returns-clause-heard
+returns-clause-heard c =
+    any_ok c.given_up-noted.result (same_heard c.args.self.now.notes c.args.at c.at_mut-notes.result.now c.given_up-noted.new.self (c.given_up-noted.ensures.heard ∙ ap (λ (n : Notes). n.emergencies) c.at_mut-notes.ensures.value))

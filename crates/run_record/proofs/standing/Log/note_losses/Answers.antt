@@ -20,6 +20,7 @@ loop-place-preserved c =
     let place = c.loop-place.place in
     record {
       slaves = slaves_more inv.slaves c.note_loss.ensures.slaves;
+      heard = c.in_ok-note_loss.ensures.heard ∙ inv.heard;
       told = λ lens retry missed as' bs shown all p r.
           let e : suc place ≡ place + 1 = omega arith in
           subst (λ (k : ℕ). ReportsTo k as' bs c.note_loss.new.self.notes) e
@@ -41,6 +42,7 @@ pub loop-place-init : goal.loop-place-init
 loop-place-init c = record {
   slaves = record { notes = refl; homes = refl; asked = refl; ports = refl; recover = refl };
   gave = λ lens retry missed leads shown all. refl;
+  heard = refl;
   told = λ lens retry missed as' bs shown all p r. to_first as' bs c.args.self.now.notes (both_lengths (λ a b. LosesSo c.args.frame a b) as' bs p) r;
 }
 

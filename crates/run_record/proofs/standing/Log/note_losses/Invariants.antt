@@ -3,6 +3,7 @@ use Rattle.frame_view.specs.View.{Lens}
 use Rattle.life_runs.specs.Led.{Leads}
 use Rattle.master_node.specs.Shows.{MasterShows}
 use Rattle.master_node.specs.Wants.{gave_of, AllCounted}
+use Rattle.run_record.specs.Heard.{emergencies_noted}
 use Rattle.run_record.specs.Led.{gaves_noted}
 use Rattle.run_record.specs.Reports.{AllReport, ReportsTo, LosesAll}
 use Rattle.run_record.specs.Session.{SameSlaves}
@@ -14,5 +15,6 @@ invariant-loop-place l = record {
   slaves : SameSlaves l.initial.self l.self;
   gave : (lens : ℕ → Lens) (retry missed : ℕ) (leads : List Leads) → MasterShows lens l.initial.self.recover retry l.master missed leads → AllCounted l.initial.self.recover leads →
       gaves_noted l.self.notes ≡ walked l.place l.frame (map gave_of leads) (gaves_noted l.initial.self.notes);
+  heard : emergencies_noted l.self.notes ≡ emergencies_noted l.initial.self.notes;
   told : LosesAll l.frame l.initial.self.recover l.master (λ as' bs. AllReport as' l.initial.self.notes → ReportsTo l.place as' bs l.self.notes);
 }

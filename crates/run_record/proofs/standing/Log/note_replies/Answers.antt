@@ -1,4 +1,4 @@
-use Rattle.std.proofs.Common.{◌≡◌, ◌+◌, ℕ, suc, refl, sym, ap, ◌∙◌, subst, arith}
+use Rattle.std.proofs.Common.{◌≡◌, ◌+◌, ℕ, suc, refl, ◌∙◌, subst, arith}
 use Rattle.run_record.proofs.Kept.{slaves_more}
 use Rattle.run_record.specs.Reports.{ReportsTo}
 use Rattle.run_record.proofs.Reporting.{to_first, to_last, both_lengths}
@@ -9,6 +9,7 @@ pub loop-place-init : goal.loop-place-init
 loop-place-init c = record {
   slaves = record { notes = refl; homes = refl; asked = refl; ports = refl; recover = refl };
   gave = refl;
+  heard = refl;
   told = λ lens recover as' bs x p r. to_first as' bs c.args.self.now.notes (both_lengths (λ a b. PassesSo c.args.frame a b) as' bs p) r;
 }
 
@@ -19,6 +20,7 @@ loop-place-preserved c =
     record {
       slaves = slaves_more inv.slaves c.note_reply.ensures.slaves;
       gave = c.in_ok-note_reply.ensures.gave ∙ inv.gave;
+      heard = c.in_ok-note_reply.ensures.heard ∙ inv.heard;
       told = λ lens recover as' bs x p r.
           let e : suc place ≡ place + 1 = omega arith in
           subst (λ (k : ℕ). ReportsTo k as' bs c.note_reply.new.self.notes) e (c.in_ok-note_reply.ensures.told lens recover as' bs x p (inv.told lens recover as' bs x p r));

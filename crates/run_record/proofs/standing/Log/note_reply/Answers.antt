@@ -1,4 +1,4 @@
-use Rattle.std.proofs.Common.{◌≡◌, List, get_or, sym, ap, ◌∙◌, subst}
+use Rattle.std.proofs.Common.{◌≡◌, List, get_or, ap, ◌∙◌, subst}
 use Rattle.run_record.specs.declared.notes.Awaited.{Awaited}
 use Rattle.run_record.specs.declared.notes.Notes.{Notes}
 use Rattle.run_record.proofs.Reporting.{got_there, awaited_there}

@@ -1,16 +1,14 @@
-use Rattle.std.proofs.Common.{◌≡◌, ◌<◌, ◌≤◌, ℕ, List, [], true, false, length, get_or, sym, ap, ◌∙◌, subst, rules, arith}
-use Rattle.std.specs.Prelude.{IfSome, slice_get}
+use Rattle.std.proofs.Common.{◌≡◌, ◌<◌, ◌≤◌, List, get_or, sym, ap, ◌∙◌, subst, arith}
 use Rattle.std.proofs.lemmas.Result.{on_ok_weaker}
-use Rattle.life_model.specs.Lives.{Stand}
-use Rattle.master_node.specs.Told.{Tells}
 use Rattle.run_record.specs.declared.notes.Notes.{Notes}
-use Rattle.run_record.specs.Notes.{began_script, told_noted}
+use Rattle.run_record.specs.Notes.{began_script}
 use Rattle.run_record.specs.Reports.{Reports}
 use Rattle.run_record.proofs.Gaves.{same_gaves}
-use Rattle.run_record.proofs.Reporting.{to_next, to_same, got_there, same_whole, script_same, script_more, reply_none, reply_told}
+use Rattle.run_record.proofs.Heard.{same_heard}
+use Rattle.run_record.proofs.Reporting.{to_next, to_same, got_there, same_whole, script_same, script_more}
 use Rattle.run_record.proofs.Stations.{same_noted}
 use Rattle.run_record.proofs.Steps.{any_ok}
-use Rattle.script_answers.specs.Steps.{TurnsSo, PassesSo}
+use Rattle.script_answers.specs.Steps.{TurnsSo}
 use Rattle.run_record.proofs.standing.Log.note_script.Goals as goal
 
 pub returns-then-number-rows-clause-told : goal.returns-then-number-rows-clause-told
@@ -50,3 +48,7 @@ returns-clause-told c =
     (λ a b e q s. subst (λ (z : Notes). Reports b z) (sym (is ∙ ap (λ (z : Notes). began_script z c.scripted-number.result c.changes_state-state.result c.args.frame) same))
     (script_more c.args.frame a b n q s bs c.args.at e c.scripted-number.result more (c.scripted-number.ensures lens recover bs x) c.changes_state-state.result (c.changes_state-state.ensures lens recover bs x))) r)
     c.began_script.ensures.is
+
+pub returns-clause-heard : goal.returns-clause-heard
+returns-clause-heard c =
+    any_ok c.began_script.result (same_heard c.args.self.now.notes c.args.at c.at_mut.result.now c.began_script.new.self (c.began_script.ensures.heard ∙ ap (λ (n : Notes). n.emergencies) c.at_mut.ensures.value))

@@ -1,4 +1,5 @@
 use Rattle.std.proofs.Common.{◌≡◌}
+use Rattle.run_record.specs.Heard.{emergencies_noted}
 use Rattle.run_record.specs.Led.{gaves_noted}
 use Rattle.run_record.specs.Reports.{AllReport, ReportsTo, TurnsAll}
 use Rattle.run_record.specs.Session.{SameSlaves}
@@ -8,5 +9,6 @@ abbrev pub invariant-loop-place : goal.invariant-loop-place
 invariant-loop-place l = record {
   slaves : SameSlaves l.initial.self l.self;
   gave : gaves_noted l.self.notes ≡ gaves_noted l.initial.self.notes;
+  heard : emergencies_noted l.self.notes ≡ emergencies_noted l.initial.self.notes;
   told : TurnsAll l.frame l.master (λ as' bs. AllReport as' l.initial.self.notes → ReportsTo l.place as' bs l.self.notes);
 }

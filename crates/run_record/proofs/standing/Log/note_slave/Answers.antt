@@ -4,6 +4,7 @@ use Rattle.std.proofs.lemmas.Result.{on_ok_weaker}
 use Rattle.run_record.specs.declared.notes.Notes.{Notes}
 use Rattle.run_record.specs.Notes.{stations_of}
 use Rattle.run_record.proofs.Gaves.{same_gaves}
+use Rattle.run_record.proofs.Heard.{same_heard}
 use Rattle.run_record.proofs.Reporting.{set_reports}
 use Rattle.run_record.proofs.Stations.{among_stations, one_noted}
 use Rattle.run_record.proofs.standing.Log.note_slave.Goals as goal
@@ -36,3 +37,9 @@ returns-clause-gave c =
 pub returns-clause-told : goal.returns-clause-told
 returns-clause-told c =
     on_ok_weaker c.note_at-noted.result (λ f. set_reports c.args.self.now.notes c.args.at c.at_mut-notes.result.now c.note_at-noted.new.notes c.at_mut-notes.ensures.value f) c.note_at-noted.ensures.told
+
+pub returns-clause-heard : goal.returns-clause-heard
+returns-clause-heard c =
+    on_ok_weaker c.note_at-noted.result
+    (λ same. same_heard c.args.self.now.notes c.args.at c.at_mut-notes.result.now c.note_at-noted.new.notes (same ∙ ap (λ (n : Notes). n.emergencies) c.at_mut-notes.ensures.value))
+    c.note_at-noted.ensures.heard

@@ -1,11 +1,10 @@
-use Rattle.std.proofs.Common.{◌≡◌, ◌<◌, ℕ, List, [], true, false, length, get_or, sym, ap, ◌∙◌, subst, rules, arith}
-use Rattle.std.specs.Prelude.{IfSome, Option, slice_get}
+use Rattle.std.proofs.Common.{◌≡◌, sym, ap, ◌∙◌, subst}
 use Rattle.std.proofs.lemmas.Result.{on_ok_weaker}
 use Rattle.run_record.specs.declared.notes.Awaited.{Awaited}
 use Rattle.run_record.specs.declared.notes.Notes.{Notes}
-use Rattle.run_record.specs.Notes.{stood}
 use Rattle.run_record.specs.Reports.{Reports}
 use Rattle.run_record.proofs.Gaves.{same_gaves}
+use Rattle.run_record.proofs.Heard.{same_heard}
 use Rattle.run_record.proofs.Reporting.{to_next, got_there, awaited_at, reply_none}
 use Rattle.run_record.proofs.Stations.{same_noted}
 use Rattle.run_record.proofs.Steps.{any_ok}
@@ -35,3 +34,7 @@ returns-clause-told c =
     (λ a b e q s. subst (λ (z : Notes). Reports b z) (sym is)
     (reply_none c.args.frame a b n q s leaves.result opens.result bs c.args.at e (leaves.ensures lens recover bs x) (opens.ensures lens recover bs x) is_so)) r)
     c.stands.ensures.is
+
+pub returns-clause-heard : goal.returns-clause-heard
+returns-clause-heard c =
+    any_ok c.stands.result (same_heard c.args.self.now.notes c.args.at c.at_mut-notes.result.now c.stands.new.self (c.stands.ensures.heard ∙ ap (λ (n : Notes). n.emergencies) c.at_mut-notes.ensures.value))

@@ -2,6 +2,7 @@ use Rattle.std.proofs.Common.{sym, ap, ◌∙◌, subst}
 use Rattle.run_record.specs.declared.notes.Notes.{Notes}
 use Rattle.run_record.specs.Reports.{Reports}
 use Rattle.run_record.proofs.Gaves.{same_gaves}
+use Rattle.run_record.proofs.Heard.{same_heard}
 use Rattle.run_record.proofs.Reporting.{set_reports}
 use Rattle.run_record.proofs.Stations.{same_noted}
 use Rattle.run_record.proofs.standing.Log.receive.Goals as goal
@@ -23,3 +24,7 @@ returns-clause-gave c =
 pub returns-clause-told : goal.returns-clause-told
 returns-clause-told c =
     set_reports c.args.self.now.notes c.in-Some.field-0.now c.at_mut.result.now c.received.new.self c.at_mut.ensures.value (λ a r. subst (λ (n : Notes). Reports a n) (sym c.received.ensures) r)
+
+pub returns-clause-heard : goal.returns-clause-heard
+returns-clause-heard c =
+    same_heard c.args.self.now.notes c.in-Some.field-0.now c.at_mut.result.now c.received.new.self (ap (λ (n : Notes). n.emergencies) c.received.ensures ∙ ap (λ (n : Notes). n.emergencies) c.at_mut.ensures.value)
