@@ -1,0 +1,5 @@
+pub mod Begins
+pub mod Clocks
+pub mod Goes
+pub mod Losses
+pub mod Orders

@@ -1,0 +1,29 @@
+//! How the frames of a run count: each lost frame, each that repairs, each that gains. Definitions and laws, no running code: the functions here do
+//! nothing, and their contracts state the laws.
+#![tactic(auto)]
+
+ghost use Rattle.std.specs.Prelude.{◌≡◌, ◌≤◌, ◌<◌, ℕ, suc, ◌+◌, ◌*◌, Bool, Option, List, length};
+ghost use Rattle.exchange_model.specs.Exchange.{Speech};
+ghost use Rattle.segment_model.specs.Slaves.{Datagram};
+ghost use Rattle.life_measure.specs.Tally.{Counts, new_tally};
+ghost use Rattle.run_frames.specs.Begins.{AllNew};
+ghost use Rattle.run_frames.specs.Clocks.{Clocked, tally_of};
+ghost use Rattle.run_frames.specs.Goes.{Under, AllUnder, AllClocked, OneUnder, all_lost};
+
+/// BEFORE THE FIRST FRAME the tally of a ring is new: each slave is brought up by five accesses and the wait for one step, one slave behind the other.
+pub fn begins_law<M, Q, R>()
+    ensures { (slowest : ℕ) (last : Option ℕ) (cs : List (Clocked M Q R)) → AllNew cs → tally_of slowest (length cs) 0 last 0 0 0 cs ≡ new_tally (length cs * (5 + slowest)) }
+{}
+
+/// A LOST FRAME COUNTS AS LOST, whether the slaves that it carried are given up by it or not, in the first bring-up, where it carries one slave at most,
+/// and behind it: nothing is gained and none is reopened by a state service, and what is to be repaired takes longer by a reopening at most.
+pub fn lost_law<M, Q, R>()
+    ensures counts { (x : Speech M Q R) (acknowledged : Q → Bool) (more : M → Bool) (passed : Q → Bool) (gives : Bool) (recover slowest opened later number lost still : ℕ) (last next : Option ℕ) (sent : List (Datagram M)) (as' : List (Clocked M Q R)) (us : List (Under M Q R)) →
+        AllClocked slowest as' → AllUnder x acknowledged more passed number sent as' us → opened ≤ later → (opened < length as' → OneUnder us) →
+        Counts (length as') slowest (tally_of slowest (length as') opened last number lost still as') (tally_of slowest (length as') later next (suc number) (suc lost) 0 (all_lost x acknowledged more passed gives recover number sent as' us)) }
+    // What stands behind it is a ring's again, with as many slaves.
+    ensures clocked { (x : Speech M Q R) (acknowledged : Q → Bool) (more : M → Bool) (passed : Q → Bool) (gives : Bool) (recover slowest number : ℕ) (sent : List (Datagram M)) (as' : List (Clocked M Q R)) (us : List (Under M Q R)) →
+        AllClocked slowest as' → AllUnder x acknowledged more passed number sent as' us → AllClocked slowest (all_lost x acknowledged more passed gives recover number sent as' us) × (length (all_lost x acknowledged more passed gives recover number sent as' us) ≡ length as') }
+{
+    life_measure::gain_law::<M, Q, R>();
+}
