@@ -32,13 +32,13 @@ new_is {M} {Q} {R} slowest last cs n =
         some false e f = absurd (let no = leb-false 1 (length (d ∷ ds)) e in omega (arith, no))
 
 -- what is behind a lost frame
-pub lost_clocked_all : {M Q R : Type 0} (x : Speech M Q R) (acknowledged : Q → Bool) (more : M → Bool) (passed : Q → Bool) (gives : Bool) (recover number : ℕ) (sent : List (Datagram M)) (slowest : ℕ) (as' : List (Clocked M Q R)) (us : List (Under M Q R)) →
+pub lost_clocked_all : {M Q R : Type 0} (before : GainsBefore M Q R) (lost' : GainsLost M Q R) (x : Speech M Q R) (acknowledged : Q → Bool) (more : M → Bool) (passed : Q → Bool) (gives : Bool) (recover number : ℕ) (sent : List (Datagram M)) (slowest : ℕ) (as' : List (Clocked M Q R)) (us : List (Under M Q R)) →
     AllClocked slowest as' → AllUnder x acknowledged more passed number sent as' us → AllClocked slowest (all_lost x acknowledged more passed gives recover number sent as' us)
-lost_clocked_all x acknowledged more passed gives recover number sent slowest [] [] k t = tt
-lost_clocked_all x acknowledged more passed gives recover number sent slowest [] (u ∷ us) k t = absurd t
-lost_clocked_all x acknowledged more passed gives recover number sent slowest (a ∷ as') [] k t = absurd t
-lost_clocked_all x acknowledged more passed gives recover number sent slowest (a ∷ as') (u ∷ us) k t =
-    (lost_clocked x acknowledged more passed gives recover number sent slowest a u k.0 t.0, lost_clocked_all x acknowledged more passed gives recover number sent slowest as' us k.1 t.1)
+lost_clocked_all before lost' x acknowledged more passed gives recover number sent slowest [] [] k t = tt
+lost_clocked_all before lost' x acknowledged more passed gives recover number sent slowest [] (u ∷ us) k t = absurd t
+lost_clocked_all before lost' x acknowledged more passed gives recover number sent slowest (a ∷ as') [] k t = absurd t
+lost_clocked_all before lost' x acknowledged more passed gives recover number sent slowest (a ∷ as') (u ∷ us) k t =
+    (lost_clocked before lost' x acknowledged more passed gives recover number sent slowest a u k.0 t.0, lost_clocked_all before lost' x acknowledged more passed gives recover number sent slowest as' us k.1 t.1)
 
 -- A LOST FRAME
 pub lost_counts : {M Q R : Type 0} (before : GainsBefore M Q R) (lost' : GainsLost M Q R) (x : Speech M Q R) (acknowledged : Q → Bool) (more : M → Bool) (passed : Q → Bool) (gives : Bool) (recover slowest opened later number lost still : ℕ) (last next : Option ℕ) (sent : List (Datagram M)) (as' : List (Clocked M Q R)) (us : List (Under M Q R)) →
@@ -58,9 +58,9 @@ lost_counts {M} {Q} {R} before lost' x acknowledged more passed gives recover sl
     off true false e f m = absurd (let p = leb-true (suc later) (length as') e in let q = leb-false (suc opened) (length as') f in omega (arith, p, q, l))
     off true true e f m =
         let p : opened < length as' = leb-true (suc opened) (length as') f in
-        let less = one_loses slowest (map (alone slowest number) as') (map (alone slowest (suc number)) bs) (one_by_one_loses x acknowledged more passed gives recover number sent slowest as' us k t (one p)) in
+        let less = one_loses slowest (map (alone slowest number) as') (map (alone slowest (suc number)) bs) (one_by_one_loses before lost' x acknowledged more passed gives recover number sent slowest as' us k t (one p)) in
         let small : broken 1 slowest ≤ broken (length as') slowest = omega (arith, p) in
         omega (arith, less, small)
     off false c e f m =
-        let most = all_most slowest (length as') next (suc number) 0 bs (omega (arith, m)) (lost_clocked_all x acknowledged more passed gives recover number sent slowest as' us k t) in
+        let most = all_most slowest (length as') next (suc number) 0 bs (omega (arith, m)) (lost_clocked_all before lost' x acknowledged more passed gives recover number sent slowest as' us k t) in
         omega (arith, most)

@@ -1,8 +1,13 @@
 mod Access
+mod Back
 mod Clocking
 mod Counting
+mod Deciding
 mod Losing
 mod Lost
+mod Meeting
 mod Most
+mod Reopening
+mod Returning
 mod Same
 mod Walking

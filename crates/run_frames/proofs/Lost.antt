@@ -8,9 +8,10 @@ use Rattle.life_measure.specs.Deadlines.{Standing, IsTimed}
 use Rattle.life_measure.specs.Repairs.{way_of, stand_way, whole_way, StandsAt}
 use Rattle.life_measure.specs.Tally.{broken}
 use Rattle.run_frames.specs.Clocks.{Clocked, standing, alone, in_round, ahead_at, clock_at}
-use Rattle.run_frames.specs.Goes.{Under, IsUnder, AllUnder, IsClocked, AllClocked, NoneUnder, OneUnder, clocked_behind, is_same, given_if, lost_life, all_lost}
+use Rattle.run_frames.specs.Goes.{Under, IsUnder, AllUnder, IsClocked, HandAt, AllClocked, NoneUnder, OneUnder, clocked_behind, is_same, given_if, lost_life, all_lost}
 use Rattle.run_frames.specs.Losses.{Stays, Loses, AllStay, OneLoses}
 use Rattle.run_frames.proofs.Access.{SameAccess, same_way, same_before, is_same_way, next_same, next_stands, lost_access, passed_access, lost_stands, IsBroken, gives_up_breaks, gives_up_stands}
+use Rattle.run_frames.proofs.Same.{GainsBefore, GainsLost, one_gains, next_hand, lost_hand, gives_up_hand}
 use Rattle.run_frames.proofs.Clocking.{clock_some, clock_most, ticks_on, stepped_stays, ahead_less}
 
 -- each slave's standing is timed
@@ -33,7 +34,7 @@ stays_on slaves slowest before behind number a l k same near =
       ticks = ticks_on a.pace number (is_same (way_of 1 1 a.life) (way_of 1 1 l)) a.stepped k.some;
     }
 
-module _ {M Q R : Type 0} (x : Speech M Q R) (acknowledged : Q → Bool) (more : M → Bool) (passed : Q → Bool) (gives : Bool) (recover number : ℕ) (sent : List (Datagram M)) where
+module _ {M Q R : Type 0} (before : GainsBefore M Q R) (lost : GainsLost M Q R) (x : Speech M Q R) (acknowledged : Q → Bool) (more : M → Bool) (passed : Q → Bool) (gives : Bool) (recover number : ℕ) (sent : List (Datagram M)) where
   abbrev Turn : Clocked M Q R → Under M Q R → Type 0
   Turn a u = IsUnder x acknowledged more passed number sent a u
 
@@ -46,10 +47,15 @@ module _ {M Q R : Type 0} (x : Speech M Q R) (acknowledged : Q → Bool) (more :
   before_stands : (slowest : ℕ) (a : Clocked M Q R) (u : Under M Q R) → IsClocked slowest a → Turn a u → StandsAt u.life u.life.stand
   before_stands slowest a u k t = subst (λ z. StandsAt z z.stand) (sym t.life) (next_stands x acknowledged more passed number a.life a.life.stand t.pick refl k.stands)
 
+  before_hand : (slowest : ℕ) (a : Clocked M Q R) (u : Under M Q R) → IsClocked slowest a → Turn a u → HandAt u.life u.life.stand
+  before_hand slowest a u k t = subst (λ z. HandAt z z.stand) (sym t.life) (next_hand x acknowledged more passed number a.life a.life.stand t.pick refl k.hand)
+
   -- what stands behind it
   pub lost_clocked : (slowest : ℕ) (a : Clocked M Q R) (u : Under M Q R) → IsClocked slowest a → Turn a u → IsClocked slowest (clocked_behind number a (behind a u))
   lost_clocked slowest a u k t = record {
     stands = go (gives && u.under);
+    hand = hands (gives && u.under);
+    gained = subst (λ z. 1 ≤ z) (sym (one_gains before lost x acknowledged more passed gives recover number sent a u t)) k.gained;
     some = k.some;
     most = k.most;
   }
@@ -60,6 +66,10 @@ module _ {M Q R : Type 0} (x : Speech M Q R) (acknowledged : Q → Bool) (more :
       go : (b : Bool) → (let m = given_if b recover a.spot number l in StandsAt m m.stand)
       go true = gives_up_stands recover number a.spot l
       go false = lost_stands x acknowledged more passed a.spot sent u.life u.life.stand refl (before_stands slowest a u k t)
+
+      hands : (b : Bool) → (let m = given_if b recover a.spot number l in HandAt m m.stand)
+      hands true = gives_up_hand recover number a.spot l
+      hands false = lost_hand x acknowledged more passed a.spot sent u.life u.life.stand refl (before_hand slowest a u k t)
 
   -- ONE THAT ISN'T CARRIED keeps its access
   pub passed_same : (a : Clocked M Q R) (u : Under M Q R) → Turn a u → u.under ≡ false → SameAccess a.life (behind a u)

@@ -82,6 +82,14 @@ abbrev pub reopened_all : {M Q R : Type 0} → List (Clocked M Q R) → ℕ
 reopened_all [] = 0
 reopened_all (c ∷ cs) = reopened c.life + reopened_all cs
 
+-- HOW MANY FRAMES IN A ROW came back with nothing gained, behind one more: none where a state service began to reopen a slave, as many where a repair
+-- went on, none where something was gained
+abbrev pub still_behind : {M Q R : Type 0} → ℕ → List (Clocked M Q R) → List (Clocked M Q R) → ℕ → ℕ
+still_behind repair before behind still =
+    if nat_lt (reopened_all before) (reopened_all behind) then 0
+    else if nat_lt 0 repair then still
+    else if nat_lt (gains_all before) (gains_all behind) then 0 else suc still
+
 -- THE TALLY OF A RUN behind so many frames, of which so many were lost and so many came back at last with nothing gained; a life has 1 before the
 -- first frame
 abbrev pub tally_of : {M Q R : Type 0} → ℕ → ℕ → ℕ → Option ℕ → ℕ → ℕ → ℕ → List (Clocked M Q R) → Tally

@@ -4,10 +4,11 @@ use Rattle.exchange_model.specs.Exchange.{Speech}
 use Rattle.segment_model.specs.Record.{News}
 use Rattle.segment_model.specs.Slaves.{Datagram, Found}
 use Rattle.task_model.specs.Accounts.{Pick}
-use Rattle.life_model.specs.Lives.{Life, Spot, life_next, life_back, life_lost, gives_up}
+use Rattle.life_model.specs.Lives.{Stand, Life, Spot, life_next, life_back, life_lost, gives_up}
 use Rattle.life_model.specs.Own.{own}
+use Rattle.life_measure.specs.Gains.{gains}
 use Rattle.life_measure.specs.Repairs.{Way, way_of, StandsAt}
-use Rattle.run_frames.specs.Clocks.{Clocked}
+use Rattle.run_frames.specs.Clocks.{Clocked, duty_reopens}
 
 -- the same access of a repair
 abbrev pub is_same : Option Way → Option Way → Bool
@@ -35,9 +36,17 @@ abbrev pub given_if : {M Q R : Type 0} → Bool → ℕ → Spot → ℕ → Lif
 given_if false recover spot number l = l
 given_if true recover spot number l = gives_up recover spot number l
 
--- A SLAVE OF A RING, the slowest of which has this pace: its life stands where one may, and its pace is one
+-- while a slave is open, and while it is opened anew behind its return to Init, no state service in hand has begun to reopen it
+abbrev pub HandAt : {M Q R : Type 0} → Life M Q R → Stand → Type 0
+HandAt l (Stand.Opens o) = (o.again ≡ true → 3 ≤ o.step) → duty_reopens l.era.account.hand ≡ 0
+HandAt l Stand.Open = duty_reopens l.era.account.hand ≡ 0
+HandAt l Stand.Gone = ⊤
+
+-- A SLAVE OF A RING, the slowest of which has this pace: its life stands where one may, it has gained 1 or more, and its pace is one
 pub record IsClocked {M Q R : Type 0} (slowest : ℕ) (c : Clocked M Q R) : Type 0 where
   pub stands : StandsAt c.life c.life.stand
+  pub hand : HandAt c.life c.life.stand
+  pub gained : 1 ≤ gains c.life
   pub some : 1 ≤ c.pace
   pub most : c.pace ≤ slowest
 
@@ -76,3 +85,11 @@ module _ {M Q R : Type 0} (x : Speech M Q R) (acknowledged : Q → Bool) (more :
   abbrev pub all_lost : Bool → ℕ → ℕ → List (Datagram M) → List (Clocked M Q R) → List (Under M Q R) → List (Clocked M Q R)
   all_lost gives recover number sent (a ∷ as') (u ∷ us) = clocked_behind number a (lost_life gives recover number sent a u) ∷ all_lost gives recover number sent as' us
   all_lost gives recover number sent _ _ = []
+
+  -- BEHIND ONE THAT CAME BACK
+  abbrev pub back_life : ℕ → List (Datagram M) → Clocked M Q R → Under M Q R → Life M Q R
+  back_life number back a u = life_back x acknowledged more passed number a.spot [] back u.came u.life u.life.stand
+
+  abbrev pub all_back : ℕ → List (Datagram M) → List (Clocked M Q R) → List (Under M Q R) → List (Clocked M Q R)
+  all_back number back (a ∷ as') (u ∷ us) = clocked_behind number a (back_life number back a u) ∷ all_back number back as' us
+  all_back number back _ _ = []

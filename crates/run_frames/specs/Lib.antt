@@ -1,4 +1,5 @@
 pub mod Begins
+pub mod Brings
 pub mod Clocks
 pub mod Goes
 pub mod Losses

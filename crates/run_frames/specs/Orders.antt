@@ -1,8 +1,9 @@
 -- THE ORDER IN WHICH A MASTER VISITS THE SLAVES OF ITS RING, by places.
-use Rattle.std.specs.Prelude.{◌≡◌, ◌≤◌, ℕ, zero, suc, ◌+◌, ◌-◌, ◌==◌, nat_lt, Bool, true, false, if◌then◌else◌, Option, Some, None, List, [], ◌∷◌, ◌++◌, filter, length}
-use Rattle.life_model.specs.Lives.{Stand}
+use Rattle.std.specs.Prelude.{◌≡◌, ◌≤◌, ℕ, zero, suc, ◌+◌, ◌-◌, ◌==◌, nat_lt, Bool, true, false, if◌then◌else◌, Option, Some, None, List, [], ◌∷◌, ◌++◌, filter, length, ◌<◌, ⊤}
+use Rattle.life_model.specs.Lives.{Stand, Opening}
+use Rattle.life_measure.specs.Repairs.{way_of}
 use Rattle.run_frames.specs.Clocks.{Clocked, start_of}
-use Rattle.run_frames.specs.Goes.{Under}
+use Rattle.run_frames.specs.Goes.{Under, NoneUnder}
 
 -- a slave that wasn't given up for good
 abbrev pub is_live : Stand → Bool
@@ -50,3 +51,18 @@ pub record AreFirst (ps qs : List ℕ) : Type 0 where
 abbrev pub last_of : Option ℕ → List ℕ → Option ℕ
 last_of last [] = last
 last_of last (p ∷ ps) = last_of (Some p) ps
+
+-- A FRAME BEHIND THE FIRST BRING-UP carries the live slaves of a round from the first on, at least one, and no other
+pub record IsRound {M Q R : Type 0} (count : ℕ) (last : Option ℕ) (as' : List (Clocked M Q R)) (us : List (Under M Q R)) (ps : List ℕ) : Type 0 where
+  pub first : AreFirst ps (live_round count last as')
+  pub under : (k : ℕ) → k < count → under_at us k ≡ is_in k ps
+
+-- IN THE FIRST BRING-UP it carries the slave that is brought up, and no other
+pub data IsOpening {M Q R : Type 0} : List (Under M Q R) → Type 0 where
+  here : (u : Under M Q R) (us : List (Under M Q R)) (o : Opening) → u.under ≡ true → u.life.stand ≡ Stand.Opens o → NoneUnder us → IsOpening (u ∷ us)
+  there : (u : Under M Q R) (us : List (Under M Q R)) → u.under ≡ false → IsOpening us → IsOpening (u ∷ us)
+
+-- nothing is to be repaired of any slave
+abbrev pub AllRepaired : {M Q R : Type 0} → List (Clocked M Q R) → Type 0
+AllRepaired [] = ⊤
+AllRepaired (c ∷ cs) = (way_of 1 1 c.life ≡ None) × AllRepaired cs

@@ -5,10 +5,12 @@
 ghost use Rattle.std.specs.Prelude.{◌≡◌, ◌≤◌, ◌<◌, ℕ, suc, ◌+◌, ◌*◌, Bool, Option, List, length};
 ghost use Rattle.exchange_model.specs.Exchange.{Speech};
 ghost use Rattle.segment_model.specs.Slaves.{Datagram};
-ghost use Rattle.life_measure.specs.Tally.{Counts, new_tally};
+ghost use Rattle.life_measure.specs.Tally.{Counts, new_tally, quiet};
 ghost use Rattle.run_frames.specs.Begins.{AllNew};
-ghost use Rattle.run_frames.specs.Clocks.{Clocked, tally_of};
-ghost use Rattle.run_frames.specs.Goes.{Under, AllUnder, AllClocked, OneUnder, all_lost};
+ghost use Rattle.run_frames.specs.Brings.{AllBring};
+ghost use Rattle.run_frames.specs.Clocks.{Clocked, repair_of, still_behind, tally_of};
+ghost use Rattle.run_frames.specs.Goes.{Under, AllUnder, AllClocked, OneUnder, all_back, all_lost};
+ghost use Rattle.run_frames.specs.Orders.{IsOpening, IsRound, AllRepaired, last_of};
 
 /// BEFORE THE FIRST FRAME the tally of a ring is new: each slave is brought up by five accesses and the wait for one step, one slave behind the other.
 pub fn begins_law<M, Q, R>()
@@ -26,4 +28,26 @@ pub fn lost_law<M, Q, R>()
         AllClocked slowest as' → AllUnder x acknowledged more passed number sent as' us → AllClocked slowest (all_lost x acknowledged more passed gives recover number sent as' us) × (length (all_lost x acknowledged more passed gives recover number sent as' us) ≡ length as') }
 {
     life_measure::gain_law::<M, Q, R>();
+}
+
+/// A FRAME THAT CAME BACK COUNTS: a state service began to reopen a slave by it, and gained; or all that is to be repaired comes a frame nearer to its
+/// end; or, with nothing to repair, it gained, or it is one of a few in a row that gained nothing, where those are no more than what is quiet.
+pub fn returned_law<M, Q, R>()
+    // In the first bring-up the frame carries the slave that is brought up; behind it nothing is to be repaired.
+    ensures opening { (x : Speech M Q R) (acknowledged : Q → Bool) (more : M → Bool) (passed : Q → Bool) (slowest opened later number lost still : ℕ) (last next : Option ℕ) (sent back : List (Datagram M)) (as' : List (Clocked M Q R)) (us : List (Under M Q R)) →
+        AllClocked slowest as' → AllUnder x acknowledged more passed number sent as' us → AllBring back as' us → opened < length as' → IsOpening us →
+        let bs = all_back x acknowledged more passed number back as' us in let many = still_behind (repair_of slowest (length as') opened last number as') as' bs still in
+        (length as' ≤ later → AllRepaired bs) → many ≤ quiet (length as') slowest →
+        Counts (length as') slowest (tally_of slowest (length as') opened last number lost still as') (tally_of slowest (length as') later next (suc number) lost many bs) }
+    // Behind it the frame carries the first live slaves of a round.
+    ensures round { (x : Speech M Q R) (acknowledged : Q → Bool) (more : M → Bool) (passed : Q → Bool) (slowest opened later number lost still : ℕ) (last : Option ℕ) (sent back : List (Datagram M)) (as' : List (Clocked M Q R)) (us : List (Under M Q R)) (ps : List ℕ) →
+        AllClocked slowest as' → AllUnder x acknowledged more passed number sent as' us → AllBring back as' us → length as' ≤ opened → length as' ≤ later → IsRound (length as') last as' us ps →
+        let bs = all_back x acknowledged more passed number back as' us in let many = still_behind (repair_of slowest (length as') opened last number as') as' bs still in
+        many ≤ quiet (length as') slowest → Counts (length as') slowest (tally_of slowest (length as') opened last number lost still as') (tally_of slowest (length as') later (last_of last ps) (suc number) lost many bs) }
+    ensures clocked { (x : Speech M Q R) (acknowledged : Q → Bool) (more : M → Bool) (passed : Q → Bool) (slowest number : ℕ) (sent back : List (Datagram M)) (as' : List (Clocked M Q R)) (us : List (Under M Q R)) →
+        AllClocked slowest as' → AllUnder x acknowledged more passed number sent as' us → AllBring back as' us → let bs = all_back x acknowledged more passed number back as' us in AllClocked slowest bs × (length bs ≡ length as') }
+{
+    life_measure::gain_law::<M, Q, R>();
+    life_measure::repair_law::<M, Q, R>();
+    life_measure::deadline_law();
 }

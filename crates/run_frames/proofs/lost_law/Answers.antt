@@ -8,4 +8,4 @@ returns-clause-counts g c = λ x acknowledged more passed gives recover slowest 
 
 pub returns-clause-clocked : goal.returns-clause-clocked
 returns-clause-clocked g c = λ x acknowledged more passed gives recover slowest number sent as' us k t.
-    (lost_clocked_all x acknowledged more passed gives recover number sent slowest as' us k t, as_many_lost c.gain_law.ensures.before c.gain_law.ensures.lost x acknowledged more passed gives recover number sent as' us t)
+    (lost_clocked_all c.gain_law.ensures.before c.gain_law.ensures.lost x acknowledged more passed gives recover number sent slowest as' us k t, as_many_lost c.gain_law.ensures.before c.gain_law.ensures.lost x acknowledged more passed gives recover number sent as' us t)
