@@ -4,6 +4,7 @@ use Rattle.std.specs.Prelude.{nat_lt}
 use Rattle.std.proofs.lemmas.Bool.{leb-true, leb-false}
 use Rattle.exchange_model.specs.Exchange.{Speech}
 use Rattle.segment_model.specs.Slaves.{Datagram}
+use Rattle.life_model.specs.Lives.{Spot}
 use Rattle.life_measure.specs.Deadlines.{repair}
 use Rattle.life_measure.specs.Tally.{Tally, Counts, new_tally, broken}
 use Rattle.run_frames.specs.Begins.{AllNew}
@@ -32,7 +33,7 @@ new_is {M} {Q} {R} slowest last cs n =
         some false e f = absurd (let no = leb-false 1 (length (d ∷ ds)) e in omega (arith, no))
 
 -- what is behind a lost frame
-pub lost_clocked_all : {M Q R : Type 0} (before : GainsBefore M Q R) (lost' : GainsLost M Q R) (x : Speech M Q R) (acknowledged : Q → Bool) (more : M → Bool) (passed : Q → Bool) (gives : Bool) (recover number : ℕ) (sent : List (Datagram M)) (slowest : ℕ) (as' : List (Clocked M Q R)) (us : List (Under M Q R)) →
+pub lost_clocked_all : {M Q R : Type 0} (before : GainsBefore M Q R) (lost' : GainsLost M Q R) (x : Spot → Speech M Q R) (acknowledged : Q → Bool) (more : M → Bool) (passed : Q → Bool) (gives : Bool) (recover number : ℕ) (sent : List (Datagram M)) (slowest : ℕ) (as' : List (Clocked M Q R)) (us : List (Under M Q R)) →
     AllClocked slowest as' → AllUnder x acknowledged more passed number sent as' us → AllClocked slowest (all_lost x acknowledged more passed gives recover number sent as' us)
 lost_clocked_all before lost' x acknowledged more passed gives recover number sent slowest [] [] k t = tt
 lost_clocked_all before lost' x acknowledged more passed gives recover number sent slowest [] (u ∷ us) k t = absurd t
@@ -41,7 +42,7 @@ lost_clocked_all before lost' x acknowledged more passed gives recover number se
     (lost_clocked before lost' x acknowledged more passed gives recover number sent slowest a u k.0 t.0, lost_clocked_all before lost' x acknowledged more passed gives recover number sent slowest as' us k.1 t.1)
 
 -- A LOST FRAME
-pub lost_counts : {M Q R : Type 0} (before : GainsBefore M Q R) (lost' : GainsLost M Q R) (x : Speech M Q R) (acknowledged : Q → Bool) (more : M → Bool) (passed : Q → Bool) (gives : Bool) (recover slowest opened later number lost still : ℕ) (last next : Option ℕ) (sent : List (Datagram M)) (as' : List (Clocked M Q R)) (us : List (Under M Q R)) →
+pub lost_counts : {M Q R : Type 0} (before : GainsBefore M Q R) (lost' : GainsLost M Q R) (x : Spot → Speech M Q R) (acknowledged : Q → Bool) (more : M → Bool) (passed : Q → Bool) (gives : Bool) (recover slowest opened later number lost still : ℕ) (last next : Option ℕ) (sent : List (Datagram M)) (as' : List (Clocked M Q R)) (us : List (Under M Q R)) →
     AllClocked slowest as' → AllUnder x acknowledged more passed number sent as' us → opened ≤ later → (opened < length as' → OneUnder us) →
     Counts (length as') slowest (tally_of slowest (length as') opened last number lost still as') (tally_of slowest (length as') later next (suc number) (suc lost) 0 (all_lost x acknowledged more passed gives recover number sent as' us))
 lost_counts {M} {Q} {R} before lost' x acknowledged more passed gives recover slowest opened later number lost still last next sent as' us k t l one =

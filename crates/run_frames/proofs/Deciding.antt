@@ -4,6 +4,7 @@ use Rattle.std.specs.Prelude.{nat_lt}
 use Rattle.std.proofs.lemmas.Bool.{leb-true, leb-false}
 use Rattle.exchange_model.specs.Exchange.{Speech}
 use Rattle.segment_model.specs.Slaves.{Datagram}
+use Rattle.life_model.specs.Lives.{Spot}
 use Rattle.life_measure.specs.Deadlines.{deadline, repair}
 use Rattle.life_measure.specs.Tally.{Tally, Counts, broken, quiet}
 use Rattle.run_frames.specs.Brings.{AllBring}
@@ -52,7 +53,7 @@ decide slaves pace n frames lost r q g h p s still some grows how few = by (nat_
             last false k less is o = (let won = leb-false (suc g) h k in Counts.nothing refl refl (omega (arith, won, grows)) is less (o ∙ ap (λ (z : Bool). if z then 0 else suc still) k) few)
 
 -- each has gained 1 or more
-all_some : {M Q R : Type 0} (slowest : ℕ) (cs : List (Clocked M Q R)) → AllClocked slowest cs → length cs ≤ gains_all cs
+pub all_some : {M Q R : Type 0} (slowest : ℕ) (cs : List (Clocked M Q R)) → AllClocked slowest cs → length cs ≤ gains_all cs
 all_some slowest [] k = omega arith
 all_some slowest (c ∷ cs) k = omega (arith, k.0.gained, all_some slowest cs k.1)
 
@@ -70,7 +71,7 @@ repair_first slowest count opened last number cs under = by (nat_lt opened count
     by false e = absurd (let less = leb-false (suc opened) count e in omega (arith, less, under))
     by true e = refl
 
-module _ {M Q R : Type 0} (known : Known M Q R) (x : Speech M Q R) (acknowledged : Q → Bool) (more : M → Bool) (passed : Q → Bool) (slowest opened later number lost still : ℕ) (last : Option ℕ) (sent back : List (Datagram M)) (as' : List (Clocked M Q R)) (us : List (Under M Q R)) where
+module _ {M Q R : Type 0} (known : Known M Q R) (x : Spot → Speech M Q R) (acknowledged : Q → Bool) (more : M → Bool) (passed : Q → Bool) (slowest opened later number lost still : ℕ) (last : Option ℕ) (sent back : List (Datagram M)) (as' : List (Clocked M Q R)) (us : List (Under M Q R)) where
   abbrev bs : List (Clocked M Q R)
   bs = all_back x acknowledged more passed number back as' us
 

@@ -9,5 +9,6 @@ mod Meeting
 mod Most
 mod Reopening
 mod Returning
+mod Running
 mod Same
 mod Walking

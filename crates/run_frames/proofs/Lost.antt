@@ -34,7 +34,7 @@ stays_on slaves slowest before behind number a l k same near =
       ticks = ticks_on a.pace number (is_same (way_of 1 1 a.life) (way_of 1 1 l)) a.stepped k.some;
     }
 
-module _ {M Q R : Type 0} (before : GainsBefore M Q R) (lost : GainsLost M Q R) (x : Speech M Q R) (acknowledged : Q → Bool) (more : M → Bool) (passed : Q → Bool) (gives : Bool) (recover number : ℕ) (sent : List (Datagram M)) where
+module _ {M Q R : Type 0} (before : GainsBefore M Q R) (lost : GainsLost M Q R) (x : Spot → Speech M Q R) (acknowledged : Q → Bool) (more : M → Bool) (passed : Q → Bool) (gives : Bool) (recover number : ℕ) (sent : List (Datagram M)) where
   abbrev Turn : Clocked M Q R → Under M Q R → Type 0
   Turn a u = IsUnder x acknowledged more passed number sent a u
 
@@ -42,13 +42,13 @@ module _ {M Q R : Type 0} (before : GainsBefore M Q R) (lost : GainsLost M Q R) 
   behind a u = lost_life x acknowledged more passed gives recover number sent a u
 
   before_same : (a : Clocked M Q R) (u : Under M Q R) → Turn a u → SameAccess a.life u.life
-  before_same a u t = subst (λ z. SameAccess a.life z) (sym t.life) (next_same x acknowledged more passed number a.life a.life.stand t.pick)
+  before_same a u t = subst (λ z. SameAccess a.life z) (sym t.life) (next_same (x a.spot) acknowledged more passed number a.life a.life.stand t.pick)
 
   before_stands : (slowest : ℕ) (a : Clocked M Q R) (u : Under M Q R) → IsClocked slowest a → Turn a u → StandsAt u.life u.life.stand
-  before_stands slowest a u k t = subst (λ z. StandsAt z z.stand) (sym t.life) (next_stands x acknowledged more passed number a.life a.life.stand t.pick refl k.stands)
+  before_stands slowest a u k t = subst (λ z. StandsAt z z.stand) (sym t.life) (next_stands (x a.spot) acknowledged more passed number a.life a.life.stand t.pick refl k.stands)
 
   before_hand : (slowest : ℕ) (a : Clocked M Q R) (u : Under M Q R) → IsClocked slowest a → Turn a u → HandAt u.life u.life.stand
-  before_hand slowest a u k t = subst (λ z. HandAt z z.stand) (sym t.life) (next_hand x acknowledged more passed number a.life a.life.stand t.pick refl k.hand)
+  before_hand slowest a u k t = subst (λ z. HandAt z z.stand) (sym t.life) (next_hand (x a.spot) acknowledged more passed number a.life a.life.stand t.pick refl k.hand)
 
   -- what stands behind it
   pub lost_clocked : (slowest : ℕ) (a : Clocked M Q R) (u : Under M Q R) → IsClocked slowest a → Turn a u → IsClocked slowest (clocked_behind number a (behind a u))
@@ -61,15 +61,15 @@ module _ {M Q R : Type 0} (before : GainsBefore M Q R) (lost : GainsLost M Q R) 
   }
     where
       l : Life M Q R
-      l = life_lost x acknowledged more passed a.spot [] sent u.life u.life.stand
+      l = life_lost (x a.spot) acknowledged more passed a.spot [] sent u.life u.life.stand
 
       go : (b : Bool) → (let m = given_if b recover a.spot number l in StandsAt m m.stand)
       go true = gives_up_stands recover number a.spot l
-      go false = lost_stands x acknowledged more passed a.spot sent u.life u.life.stand refl (before_stands slowest a u k t)
+      go false = lost_stands (x a.spot) acknowledged more passed a.spot sent u.life u.life.stand refl (before_stands slowest a u k t)
 
       hands : (b : Bool) → (let m = given_if b recover a.spot number l in HandAt m m.stand)
       hands true = gives_up_hand recover number a.spot l
-      hands false = lost_hand x acknowledged more passed a.spot sent u.life u.life.stand refl (before_hand slowest a u k t)
+      hands false = lost_hand (x a.spot) acknowledged more passed a.spot sent u.life u.life.stand refl (before_hand slowest a u k t)
 
   -- ONE THAT ISN'T CARRIED keeps its access
   pub passed_same : (a : Clocked M Q R) (u : Under M Q R) → Turn a u → u.under ≡ false → SameAccess a.life (behind a u)
@@ -79,20 +79,20 @@ module _ {M Q R : Type 0} (before : GainsBefore M Q R) (lost : GainsLost M Q R) 
       off true b e = e
       off false b e = refl
 
-      go : (b : Bool) → b ≡ false → SameAccess a.life (given_if b recover a.spot number (life_lost x acknowledged more passed a.spot [] sent u.life u.life.stand))
+      go : (b : Bool) → b ≡ false → SameAccess a.life (given_if b recover a.spot number (life_lost (x a.spot) acknowledged more passed a.spot [] sent u.life u.life.stand))
       go true e = absurd (cc)
-      go false e = same_before a.life u.life _ (before_same a u t) (passed_access x acknowledged more passed a.spot sent u.life u.life.stand (t.none out))
+      go false e = same_before a.life u.life _ (before_same a u t) (passed_access (x a.spot) acknowledged more passed a.spot sent u.life u.life.stand (t.none out))
 
   -- ANY: it keeps its access, or loses no more than a reopening takes
   pub lost_one : (slowest : ℕ) (a : Clocked M Q R) (u : Under M Q R) → IsClocked slowest a → Turn a u → Loses 1 slowest (alone slowest number a) (alone slowest (suc number) (clocked_behind number a (behind a u)))
   lost_one slowest a u k t = go (gives && u.under)
     where
       l : Life M Q R
-      l = life_lost x acknowledged more passed a.spot [] sent u.life u.life.stand
+      l = life_lost (x a.spot) acknowledged more passed a.spot [] sent u.life u.life.stand
 
       go : (b : Bool) → Loses 1 slowest (alone slowest number a) (alone slowest (suc number) (clocked_behind number a (given_if b recover a.spot number l)))
       go true = Loses.breaks ((gives_up_breaks recover number a.spot l).whole 1 slowest)
-      go false = elim (lost_access x acknowledged more passed a.spot sent u.life u.life.stand refl) [
+      go false = elim (lost_access (x a.spot) acknowledged more passed a.spot sent u.life u.life.stand refl) [
         | inl same ↦ Loses.stays (stays_on 1 slowest 0 0 number a l k (same_before a.life u.life l (before_same a u t) same) (omega arith))
         | inr broke ↦ Loses.breaks (broke.whole 1 slowest)
       ]

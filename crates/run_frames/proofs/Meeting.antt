@@ -111,28 +111,28 @@ Both m = StandsAt m m.stand × HandAt m m.stand
 stands_way : {M Q R : Type 0} (slaves pace : ℕ) (l : Life M Q R) (s : Stand) → l.stand ≡ s → way_of slaves pace l ≡ stand_way slaves pace l.era.side.halves.inn.state s
 stands_way slaves pace l s e = ap (stand_way slaves pace l.era.side.halves.inn.state) e
 
-module _ {M Q R : Type 0} (gains_before : GainsBefore M Q R) (openings : OpeningGoes M Q R) (halves : HalfGoes M Q R) (went : WentOn M Q R) (x : Speech M Q R) (acknowledged : Q → Bool) (more : M → Bool) (passed : Q → Bool) (number : ℕ) (sent back : List (Datagram M))
+module _ {M Q R : Type 0} (gains_before : GainsBefore M Q R) (openings : OpeningGoes M Q R) (halves : HalfGoes M Q R) (went : WentOn M Q R) (x : Spot → Speech M Q R) (acknowledged : Q → Bool) (more : M → Bool) (passed : Q → Bool) (number : ℕ) (sent back : List (Datagram M))
     (slaves slowest before later : ℕ) (a : Clocked M Q R) (u : Under M Q R) (k : IsClocked slowest a) (t : IsUnder x acknowledged more passed number sent a u) where
   abbrev Result : Life M Q R → Type 0
   Result m = Met slaves slowest before later number a m
 
   abbrev behind : Stand → Life M Q R
-  behind s = life_back x acknowledged more passed number a.spot [] back u.came u.life s
+  behind s = life_back (x a.spot) acknowledged more passed number a.spot [] back u.came u.life s
 
   before_same : SameAccess a.life u.life
-  before_same = subst (λ z. SameAccess a.life z) (sym t.life) (next_same x acknowledged more passed number a.life a.life.stand t.pick)
+  before_same = subst (λ z. SameAccess a.life z) (sym t.life) (next_same (x a.spot) acknowledged more passed number a.life a.life.stand t.pick)
 
   before_stands : StandsAt u.life u.life.stand
-  before_stands = subst (λ z. StandsAt z z.stand) (sym t.life) (next_stands x acknowledged more passed number a.life a.life.stand t.pick refl k.stands)
+  before_stands = subst (λ z. StandsAt z z.stand) (sym t.life) (next_stands (x a.spot) acknowledged more passed number a.life a.life.stand t.pick refl k.stands)
 
   before_hand : HandAt u.life u.life.stand
-  before_hand = subst (λ z. HandAt z z.stand) (sym t.life) (next_hand x acknowledged more passed number a.life a.life.stand t.pick refl k.hand)
+  before_hand = subst (λ z. HandAt z z.stand) (sym t.life) (next_hand (x a.spot) acknowledged more passed number a.life a.life.stand t.pick refl k.hand)
 
   before_reopened : reopened u.life ≡ reopened a.life
-  before_reopened = ap reopened t.life ∙ next_reopened x acknowledged more passed number a.life a.life.stand t.pick
+  before_reopened = ap reopened t.life ∙ next_reopened (x a.spot) acknowledged more passed number a.life a.life.stand t.pick
 
   before_gains : gains u.life ≡ gains a.life
-  before_gains = ap gains t.life ∙ gains_before x acknowledged more passed number a.life t.pick
+  before_gains = ap gains t.life ∙ gains_before (x a.spot) acknowledged more passed number a.life t.pick
 
   -- its way is that before
   before_way : (s : Stand) → u.life.stand ≡ s → way_of slaves slowest a.life ≡ stand_way slaves slowest u.life.era.side.halves.inn.state s
@@ -148,7 +148,7 @@ module _ {M Q R : Type 0} (gains_before : GainsBefore M Q R) (openings : Opening
 
   -- one that is opened
   opening : (o : Opening) → u.life.stand ≡ Stand.Opens o → OpeningBrings a.stepped o u.came → Result (behind (Stand.Opens o))
-  opening o e b = subst Result (sym (ap (λ z. life_back x acknowledged more passed number a.spot [] back z u.life (Stand.Opens o)) b.is)) (by (opening_gone openings a.stepped number u.life o b.done b.found at b.shows))
+  opening o e b = subst Result (sym (ap (λ z. life_back (x a.spot) acknowledged more passed number a.spot [] back z u.life (Stand.Opens o)) b.is)) (by (opening_gone openings a.stepped number u.life o b.done b.found at b.shows))
     where
       at : IsAt u.life o
       at = subst (StandsAt u.life) e before_stands
@@ -170,7 +170,7 @@ module _ {M Q R : Type 0} (gains_before : GainsBefore M Q R) (openings : Opening
 
   -- one that is open
   abbrev era : Era M Q R
-  era = era_back x acknowledged more passed a.spot.station number [] back u.life.era
+  era = era_back (x a.spot) acknowledged more passed a.spot.station number [] back u.life.era
 
   abbrev here : Life M Q R
   here = record u.life { era = era }
@@ -214,11 +214,11 @@ module _ {M Q R : Type 0} (gains_before : GainsBefore M Q R) (openings : Opening
 
       by : Reopens here era.account.hand → Result (reopens here era.account.hand)
       by (Reopens.stays zero' is) =
-          half (reopens here era.account.hand) is (half_gone x acknowledged more passed number a.spot back u.came u.life halves a.stepped b (ap (λ z. z.stand) is ∙ e))
+          half (reopens here era.account.hand) is (half_gone (x a.spot) acknowledged more passed number a.spot back u.came u.life halves a.stepped b (ap (λ z. z.stand) is ∙ e))
           (ap reopened is ∙ ap (λ z. eras_reopened u.life.past + z) (zero' ∙ sym none))
       by (Reopens.goes state one is) =
           let r : reopened (reopens here era.account.hand) ≡ eras_reopened u.life.past + duty_reopens era.account.hand = ap reopened is in
-          let won = going_gains x acknowledged more passed number a.spot back u.came u.life went none (inr (b.datagram, b.one)) one in
+          let won = going_gains (x a.spot) acknowledged more passed number a.spot back u.came u.life went none (inr (b.datagram, b.one)) one in
           Met.anew (omega (arith, r, one, before_reopened, none)) (omega (arith, won, before_gains))
 
   -- ANY
@@ -232,7 +232,7 @@ module _ {M Q R : Type 0} (gains_before : GainsBefore M Q R) (openings : Opening
       by Stand.Gone z e f = gone e
       by (Stand.Opens o) true e f = opening o e (subst (StandBrings back a u) e (b.some f))
       by (Stand.Opens o) false e f =
-          subst Result (sym (ap (λ z. life_back x acknowledged more passed number a.spot [] back z u.life (Stand.Opens o)) (b.none f).1)) (kept u.life (record { stand = refl; state = refl }) refl (near (live (Stand.Opens o) e) f))
+          subst Result (sym (ap (λ z. life_back (x a.spot) acknowledged more passed number a.spot [] back z u.life (Stand.Opens o)) (b.none f).1)) (kept u.life (record { stand = refl; state = refl }) refl (near (live (Stand.Opens o) e) f))
       by Stand.Open true e f = open_met e (subst (StandBrings back a u) e (b.some f))
       by Stand.Open false e f = open_passed e (b.none f).0 (near (live Stand.Open e) f)
 
@@ -240,7 +240,7 @@ module _ {M Q R : Type 0} (gains_before : GainsBefore M Q R) (openings : Opening
   pub opening_none : (o : Opening) → u.life.stand ≡ Stand.Opens o → u.under ≡ true → Brings back a u → reopened (behind u.life.stand) ≡ reopened a.life
   opening_none o e f b =
       let c = subst (StandBrings back a u) e (b.some f) in
-      ap (λ s. reopened (behind s)) e ∙ ap (λ z. reopened (life_back x acknowledged more passed number a.spot [] back z u.life (Stand.Opens o))) c.is ∙ opening_reopened number u.life o c.done c.found ∙ before_reopened
+      ap (λ s. reopened (behind s)) e ∙ ap (λ z. reopened (life_back (x a.spot) acknowledged more passed number a.spot [] back z u.life (Stand.Opens o))) c.is ∙ opening_reopened number u.life o c.done c.found ∙ before_reopened
 
   -- its way is one
   pub opening_some : (o : Opening) → u.life.stand ≡ Stand.Opens o → way_of slaves slowest a.life ≡ Some (opening_way slaves slowest o)
@@ -266,7 +266,7 @@ module _ {M Q R : Type 0} (gains_before : GainsBefore M Q R) (openings : Opening
 
       by : (s : Stand) → u.life.stand ≡ s → SameAccess a.life (behind s) × (reopened (behind s) ≡ reopened a.life)
       by Stand.Gone e = same u.life refl
-      by (Stand.Opens o) e = same (behind (Stand.Opens o)) (ap (λ z. life_back x acknowledged more passed number a.spot [] back z u.life (Stand.Opens o)) (b.none out).1)
+      by (Stand.Opens o) e = same (behind (Stand.Opens o)) (ap (λ z. life_back (x a.spot) acknowledged more passed number a.spot [] back z u.life (Stand.Opens o)) (b.none out).1)
       by Stand.Open e = open_same e (reopens_or here era.account.hand)
 
   -- what stands behind it
@@ -289,7 +289,7 @@ module _ {M Q R : Type 0} (gains_before : GainsBefore M Q R) (openings : Opening
       by Stand.Gone z e f = old
       by (Stand.Opens o) true e f =
           let c = subst (StandBrings back a u) e (b.some f) in
-          subst Both (sym (ap (λ z. life_back x acknowledged more passed number a.spot [] back z u.life (Stand.Opens o)) c.is))
+          subst Both (sym (ap (λ z. life_back (x a.spot) acknowledged more passed number a.spot [] back z u.life (Stand.Opens o)) c.is))
           (opened_by o e c (opening_gone openings a.stepped number u.life o c.done c.found (subst (StandsAt u.life) e before_stands) c.shows))
-      by (Stand.Opens o) false e f = subst Both (sym (ap (λ z. life_back x acknowledged more passed number a.spot [] back z u.life (Stand.Opens o)) (b.none f).1)) old
+      by (Stand.Opens o) false e f = subst Both (sym (ap (λ z. life_back (x a.spot) acknowledged more passed number a.spot [] back z u.life (Stand.Opens o)) (b.none f).1)) old
       by Stand.Open z e f = open_by e (reopens_or here era.account.hand)

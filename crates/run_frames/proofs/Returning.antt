@@ -47,7 +47,7 @@ pub record Known (M Q R : Type 0) : Type 0 where
   pub nearer : Nearer
   pub ends : RingEnds
 
-module _ {M Q R : Type 0} (known : Known M Q R) (x : Speech M Q R) (acknowledged : Q → Bool) (more : M → Bool) (passed : Q → Bool) (number : ℕ) (sent back : List (Datagram M)) where
+module _ {M Q R : Type 0} (known : Known M Q R) (x : Spot → Speech M Q R) (acknowledged : Q → Bool) (more : M → Bool) (passed : Q → Bool) (number : ℕ) (sent back : List (Datagram M)) where
   abbrev behind : Clocked M Q R → Under M Q R → Life M Q R
   behind a u = back_life x acknowledged more passed number back a u
 
@@ -62,7 +62,7 @@ module _ {M Q R : Type 0} (known : Known M Q R) (x : Speech M Q R) (acknowledged
 
   -- ONE SLAVE
   one_grows : (a : Clocked M Q R) (u : Under M Q R) → Turn a u → gains a.life ≤ gains (behind a u)
-  one_grows a u t = subst (λ z. z ≤ gains (behind a u)) (ap gains t.life ∙ known.before x acknowledged more passed number a.life t.pick) (known.grows x acknowledged more passed number a.spot [] back u.came u.life)
+  one_grows a u t = subst (λ z. z ≤ gains (behind a u)) (ap gains t.life ∙ known.before (x a.spot) acknowledged more passed number a.life t.pick) (known.grows (x a.spot) acknowledged more passed number a.spot [] back u.came u.life)
 
   pub back_clocked : (slowest : ℕ) (a : Clocked M Q R) (u : Under M Q R) → IsClocked slowest a → Turn a u → Brings back a u → IsClocked slowest (clocked_behind number a (behind a u))
   back_clocked slowest a u k t b =
@@ -211,11 +211,11 @@ RepairOpening M Q R = (x : Speech M Q R) (acknowledged : Q → Bool) (more : M �
     IsAt l o → IsDone o done found → GoesOn slaves pace (opening_rest slaves pace o.again o.step) (life_back x acknowledged more passed frame spot news back (Some (done, found)) l (Stand.Opens o))
 
 -- all that is known
-pub known_of : {M Q R : Type 0} → Speech M Q R → (Q → Bool) → (M → Bool) → (Q → Bool) → GainsBefore M Q R → GainsGrow M Q R → RepairOpening M Q R → HalfGoes M Q R → WentOn M Q R → Nearer → RingEnds → Known M Q R
+pub known_of : {M Q R : Type 0} → (Spot → Speech M Q R) → (Q → Bool) → (M → Bool) → (Q → Bool) → GainsBefore M Q R → GainsGrow M Q R → RepairOpening M Q R → HalfGoes M Q R → WentOn M Q R → Nearer → RingEnds → Known M Q R
 known_of x acknowledged more passed before grows openings halves went near ends = record {
   before = before;
   grows = grows;
-  openings = λ slaves pace frame l o done found at d. openings x acknowledged more passed slaves pace frame (record { station = 0; place = 0; start = 0 }) [] [] l o done found at d;
+  openings = λ slaves pace frame l o done found at d. openings (x (record { station = 0; place = 0; start = 0 })) acknowledged more passed slaves pace frame (record { station = 0; place = 0; start = 0 }) [] [] l o done found at d;
   halves = halves;
   went = went;
   nearer = near;

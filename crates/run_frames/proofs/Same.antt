@@ -70,23 +70,23 @@ GainsBefore M Q R = (x : Speech M Q R) (acknowledged : Q → Bool) (more : M →
 abbrev pub GainsLost : (M Q R : Type 0) → Type 0
 GainsLost M Q R = (x : Speech M Q R) (acknowledged : Q → Bool) (more : M → Bool) (passed : Q → Bool) (spot : Spot) (news : List (News M)) (sent : List (Datagram M)) (l : Life M Q R) → gains (life_lost x acknowledged more passed spot news sent l l.stand) ≡ gains l
 
-module _ {M Q R : Type 0} (before : GainsBefore M Q R) (lost : GainsLost M Q R) (x : Speech M Q R) (acknowledged : Q → Bool) (more : M → Bool) (passed : Q → Bool) (gives : Bool) (recover number : ℕ) (sent : List (Datagram M)) where
+module _ {M Q R : Type 0} (before : GainsBefore M Q R) (lost : GainsLost M Q R) (x : Spot → Speech M Q R) (acknowledged : Q → Bool) (more : M → Bool) (passed : Q → Bool) (gives : Bool) (recover number : ℕ) (sent : List (Datagram M)) where
   -- ONE SLAVE
   pub one_gains : (a : Clocked M Q R) (u : Under M Q R) → IsUnder x acknowledged more passed number sent a u → gains (lost_life x acknowledged more passed gives recover number sent a u) ≡ gains a.life
-  one_gains a u t = go (gives && u.under) ∙ lost x acknowledged more passed a.spot [] sent u.life ∙ ap gains t.life ∙ before x acknowledged more passed number a.life t.pick
+  one_gains a u t = go (gives && u.under) ∙ lost (x a.spot) acknowledged more passed a.spot [] sent u.life ∙ ap gains t.life ∙ before (x a.spot) acknowledged more passed number a.life t.pick
     where
       l : Life M Q R
-      l = life_lost x acknowledged more passed a.spot [] sent u.life u.life.stand
+      l = life_lost (x a.spot) acknowledged more passed a.spot [] sent u.life u.life.stand
 
       go : (b : Bool) → gains (given_if b recover a.spot number l) ≡ gains l
       go true = refl
       go false = refl
 
   pub one_reopened : (a : Clocked M Q R) (u : Under M Q R) → IsUnder x acknowledged more passed number sent a u → reopened (lost_life x acknowledged more passed gives recover number sent a u) ≡ reopened a.life
-  one_reopened a u t = go (gives && u.under) ∙ lost_reopened x acknowledged more passed a.spot sent u.life u.life.stand ∙ ap reopened t.life ∙ next_reopened x acknowledged more passed number a.life a.life.stand t.pick
+  one_reopened a u t = go (gives && u.under) ∙ lost_reopened (x a.spot) acknowledged more passed a.spot sent u.life u.life.stand ∙ ap reopened t.life ∙ next_reopened (x a.spot) acknowledged more passed number a.life a.life.stand t.pick
     where
       l : Life M Q R
-      l = life_lost x acknowledged more passed a.spot [] sent u.life u.life.stand
+      l = life_lost (x a.spot) acknowledged more passed a.spot [] sent u.life u.life.stand
 
       go : (b : Bool) → reopened (given_if b recover a.spot number l) ≡ reopened l
       go true = refl

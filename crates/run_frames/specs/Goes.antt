@@ -66,11 +66,11 @@ pub data OneUnder {M Q R : Type 0} : List (Under M Q R) → Type 0 where
   here : (u : Under M Q R) (us : List (Under M Q R)) → NoneUnder us → OneUnder (u ∷ us)
   there : (u : Under M Q R) (us : List (Under M Q R)) → u.under ≡ false → OneUnder us → OneUnder (u ∷ us)
 
-module _ {M Q R : Type 0} (x : Speech M Q R) (acknowledged : Q → Bool) (more : M → Bool) (passed : Q → Bool) where
+module _ {M Q R : Type 0} (x : Spot → Speech M Q R) (acknowledged : Q → Bool) (more : M → Bool) (passed : Q → Bool) where
   -- its life before the frame is by some choice, and a frame that has no datagram for it has none to its station
   pub record IsUnder (number : ℕ) (sent : List (Datagram M)) (a : Clocked M Q R) (u : Under M Q R) : Type 0 where
     pub pick : Pick Q
-    pub life : u.life ≡ life_next x acknowledged more passed number a.life a.life.stand pick
+    pub life : u.life ≡ life_next (x a.spot) acknowledged more passed number a.life a.life.stand pick
     pub none : u.under ≡ false → own a.spot.station sent ≡ []
 
   abbrev pub AllUnder : ℕ → List (Datagram M) → List (Clocked M Q R) → List (Under M Q R) → Type 0
@@ -80,7 +80,7 @@ module _ {M Q R : Type 0} (x : Speech M Q R) (acknowledged : Q → Bool) (more :
 
   -- BEHIND A LOST FRAME, by which the slaves that it carried are given up, or aren't
   abbrev pub lost_life : Bool → ℕ → ℕ → List (Datagram M) → Clocked M Q R → Under M Q R → Life M Q R
-  lost_life gives recover number sent a u = given_if (gives && u.under) recover a.spot number (life_lost x acknowledged more passed a.spot [] sent u.life u.life.stand)
+  lost_life gives recover number sent a u = given_if (gives && u.under) recover a.spot number (life_lost (x a.spot) acknowledged more passed a.spot [] sent u.life u.life.stand)
 
   abbrev pub all_lost : Bool → ℕ → ℕ → List (Datagram M) → List (Clocked M Q R) → List (Under M Q R) → List (Clocked M Q R)
   all_lost gives recover number sent (a ∷ as') (u ∷ us) = clocked_behind number a (lost_life gives recover number sent a u) ∷ all_lost gives recover number sent as' us
@@ -88,7 +88,7 @@ module _ {M Q R : Type 0} (x : Speech M Q R) (acknowledged : Q → Bool) (more :
 
   -- BEHIND ONE THAT CAME BACK
   abbrev pub back_life : ℕ → List (Datagram M) → Clocked M Q R → Under M Q R → Life M Q R
-  back_life number back a u = life_back x acknowledged more passed number a.spot [] back u.came u.life u.life.stand
+  back_life number back a u = life_back (x a.spot) acknowledged more passed number a.spot [] back u.came u.life u.life.stand
 
   abbrev pub all_back : ℕ → List (Datagram M) → List (Clocked M Q R) → List (Under M Q R) → List (Clocked M Q R)
   all_back number back (a ∷ as') (u ∷ us) = clocked_behind number a (back_life number back a u) ∷ all_back number back as' us

@@ -4,3 +4,4 @@ pub mod Clocks
 pub mod Goes
 pub mod Losses
 pub mod Orders
+pub mod Runs
