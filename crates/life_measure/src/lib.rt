@@ -7,9 +7,3 @@ mod rounds;
 mod sums;
 mod visits;
 mod won;
-
-pub use repairs::{deadline_law, repair_law};
-pub use rounds::round_law;
-pub use sums::sum_law;
-pub use visits::visit_law;
-pub use won::gain_law;

@@ -12,4 +12,5 @@ mod Reopening
 mod Returning
 mod Running
 mod Same
+mod Tallying
 mod Walking

@@ -9,8 +9,12 @@ use Rattle.segment_model.specs.Slaves.{Datagram, Found}
 use Rattle.life_model.specs.Lives.{Life, Spot, Stand, Opening, life_back}
 use Rattle.life_measure.specs.Deadlines.{Standing, deadline, deadline_of, repair, IsTimed, Mends, MendsIf, AllMend}
 use Rattle.life_measure.specs.Gains.{gains}
-use Rattle.life_measure.specs.Repairs.{Way, way_of, stand_way, half_way, opening_way, opening_rest, IsAt, IsDone, GoesOn}
+use Rattle.life_measure.specs.Repairs.{Way, way_of, stand_way, half_way, opening_way}
 use Rattle.life_measure.specs.Tally.{Tally, Counts, broken, quiet}
+use Rattle.life_measure.proofs.Gaining.{next_same, back_grows, lost_same, state_gains}
+use Rattle.life_measure.proofs.Halving.{half_goes}
+use Rattle.life_measure.proofs.Mending.{nearer_end, ring_ends}
+use Rattle.life_measure.proofs.Openings.{opening_goes}
 use Rattle.run_frames.specs.Brings.{Brings, AllBring}
 use Rattle.run_frames.specs.Clocks.{Clocked, standing, alone, in_round, ahead_at, start_of, one_by_one, repair_of, reopened, gains_all, reopened_all, still_behind, tally_of}
 use Rattle.run_frames.specs.Goes.{Under, IsUnder, AllUnder, IsClocked, AllClocked, NoneUnder, clocked_behind, back_life, all_back}
@@ -23,7 +27,7 @@ use Rattle.run_frames.proofs.Lost.{timed, stays_on}
 use Rattle.run_frames.proofs.Meeting.{Met, met_one, opening_none, opening_some, met_stands, passed_back}
 use Rattle.run_frames.proofs.Most.{all_most}
 use Rattle.run_frames.proofs.Reopening.{WentOn}
-use Rattle.run_frames.proofs.Same.{GainsBefore}
+use Rattle.run_frames.proofs.Same.{GainsBefore, GainsLost}
 use Rattle.run_frames.proofs.Walking.{comes_nearer}
 
 -- what the law of gains says of a frame that came back, and the law of deadlines of repairs
@@ -47,7 +51,7 @@ pub record Known (M Q R : Type 0) : Type 0 where
   pub nearer : Nearer
   pub ends : RingEnds
 
-module _ {M Q R : Type 0} (known : Known M Q R) (x : Spot → Speech M Q R) (acknowledged : Q → Bool) (more : M → Bool) (passed : Q → Bool) (number : ℕ) (sent back : List (Datagram M)) where
+module _ {M Q R : Type 0} (facts : Known M Q R) (x : Spot → Speech M Q R) (acknowledged : Q → Bool) (more : M → Bool) (passed : Q → Bool) (number : ℕ) (sent back : List (Datagram M)) where
   abbrev behind : Clocked M Q R → Under M Q R → Life M Q R
   behind a u = back_life x acknowledged more passed number back a u
 
@@ -62,11 +66,11 @@ module _ {M Q R : Type 0} (known : Known M Q R) (x : Spot → Speech M Q R) (ack
 
   -- ONE SLAVE
   one_grows : (a : Clocked M Q R) (u : Under M Q R) → Turn a u → gains a.life ≤ gains (behind a u)
-  one_grows a u t = subst (λ z. z ≤ gains (behind a u)) (ap gains t.life ∙ known.before (x a.spot) acknowledged more passed number a.life t.pick) (known.grows (x a.spot) acknowledged more passed number a.spot [] back u.came u.life)
+  one_grows a u t = subst (λ z. z ≤ gains (behind a u)) (ap gains t.life ∙ facts.before (x a.spot) acknowledged more passed number a.life t.pick) (facts.grows (x a.spot) acknowledged more passed number a.spot [] back u.came u.life)
 
   pub back_clocked : (slowest : ℕ) (a : Clocked M Q R) (u : Under M Q R) → IsClocked slowest a → Turn a u → Brings back a u → IsClocked slowest (clocked_behind number a (behind a u))
   back_clocked slowest a u k t b =
-      let both = met_stands known.before known.openings known.halves known.went x acknowledged more passed number sent back 1 slowest 0 0 a u k t b in
+      let both = met_stands facts.before facts.openings facts.halves facts.went x acknowledged more passed number sent back 1 slowest 0 0 a u k t b in
       record { stands = both.0; hand = both.1; gained = omega (arith, k.gained, one_grows a u t); some = k.some; most = k.most }
 
   -- ALL OF THEM
@@ -101,7 +105,7 @@ module _ {M Q R : Type 0} (known : Known M Q R) (x : Spot → Speech M Q R) (ack
   side_by_side slowest count last next place [] (u ∷ us) long k t b near = absurd t
   side_by_side slowest count last next place (a ∷ as') [] long k t b near = absurd t
   side_by_side slowest count last next place (a ∷ as') (u ∷ us) long k t b near =
-      go (met_one known.before known.openings known.halves known.went x acknowledged more passed number sent back count slowest (ahead_at count last place) (ahead_at count next place) a u k.0 t.0 b.0
+      go (met_one facts.before facts.openings facts.halves facts.went x acknowledged more passed number sent back count slowest (ahead_at count last place) (ahead_at count next place) a u k.0 t.0 b.0
           (λ is out. near 0 place (omega arith) (omega arith) is out))
       (side_by_side slowest count last next (suc place) as' us (omega (arith, long)) k.1 t.1 b.1 (λ i j e less is out. near (suc i) j (omega (arith, e)) (omega (arith, less)) is out)) (all_grow as' us t.1)
     where
@@ -136,7 +140,7 @@ module _ {M Q R : Type 0} (known : Known M Q R) (x : Spot → Speech M Q R) (ack
   passed_same : (slowest : ℕ) (a : Clocked M Q R) (u : Under M Q R) → IsClocked slowest a → Turn a u → Brings back a u → u.under ≡ false →
       (deadline 1 (alone slowest (suc number) (clocked_behind number a (behind a u))) ≤ deadline 1 (alone slowest number a)) × (reopened (behind a u) ≡ reopened a.life)
   passed_same slowest a u k t b out =
-      let p = passed_back known.before known.openings known.halves known.went x acknowledged more passed number sent back 1 slowest 0 0 a u k t b out in
+      let p = passed_back facts.before facts.openings facts.halves facts.went x acknowledged more passed number sent back 1 slowest 0 0 a u k t b out in
       (
         stays_less 1 slowest (alone slowest number a) (alone slowest (suc number) (clocked_behind number a (behind a u))) (timed 1 slowest 0 number a k (omega arith)) (timed 1 slowest 0 (suc number) (clocked_behind number a (behind a u)) (back_clocked slowest a u k t b) (omega arith))
         (stays_on 1 slowest 0 0 number a (behind a u) k p.0 (omega arith)),
@@ -158,14 +162,14 @@ module _ {M Q R : Type 0} (known : Known M Q R) (x : Spot → Speech M Q R) (ack
   opened_one : (slowest : ℕ) (a : Clocked M Q R) (u : Under M Q R) (o : Opening) → IsClocked slowest a → Turn a u → Brings back a u → u.under ≡ true → u.life.stand ≡ Stand.Opens o →
       (suc (deadline 1 (alone slowest (suc number) (clocked_behind number a (behind a u)))) ≤ deadline 1 (alone slowest number a)) × (reopened (behind a u) ≡ reopened a.life)
   opened_one slowest a u o k t b is e =
-      let same = opening_none known.before known.openings known.halves known.went x acknowledged more passed number sent back 1 slowest 0 0 a u k t o e is b in
-      (by same (met_one known.before known.openings known.halves known.went x acknowledged more passed number sent back 1 slowest 0 0 a u k t b (λ live out. absurd (cc))), same)
+      let same = opening_none facts.before facts.openings facts.halves facts.went x acknowledged more passed number sent back 1 slowest 0 0 a u k t o e is b in
+      (by same (met_one facts.before facts.openings facts.halves facts.went x acknowledged more passed number sent back 1 slowest 0 0 a u k t b (λ live out. absurd (cc))), same)
     where
       by : reopened (behind a u) ≡ reopened a.life → Met 1 slowest 0 0 number a (behind a u) → suc (deadline 1 (alone slowest (suc number) (clocked_behind number a (behind a u)))) ≤ deadline 1 (alone slowest number a)
       by same (Met.anew r g) = absurd (omega (arith, same, r))
       by same (Met.nearer r m) =
-          let way = opening_some known.before known.openings known.halves known.went x acknowledged more passed number sent back 1 slowest 0 0 a u k t o e in
-          known.nearer 1 slowest (alone slowest number a) (alone slowest (suc number) (clocked_behind number a (behind a u))) (opening_way 1 slowest o) (timed 1 slowest 0 number a k (omega arith))
+          let way = opening_some facts.before facts.openings facts.halves facts.went x acknowledged more passed number sent back 1 slowest 0 0 a u k t o e in
+          facts.nearer 1 slowest (alone slowest number a) (alone slowest (suc number) (clocked_behind number a (behind a u))) (opening_way 1 slowest o) (timed 1 slowest 0 number a k (omega arith))
           (timed 1 slowest 0 (suc number) (clocked_behind number a (behind a u)) (back_clocked slowest a u k t b) (omega arith)) way
           (subst (MendsIf 1 slowest (alone slowest number a) (alone slowest (suc number) (clocked_behind number a (behind a u)))) way m)
 
@@ -205,19 +209,17 @@ repaired slowest count last number place (c ∷ cs) r =
     go true e f = e
     go false e f = f
 
--- what the law of repairs says, as it stands
-abbrev pub RepairOpening : (M Q R : Type 0) → Type 0
-RepairOpening M Q R = (x : Speech M Q R) (acknowledged : Q → Bool) (more : M → Bool) (passed : Q → Bool) (slaves pace frame : ℕ) (spot : Spot) (news : List (News M)) (back : List (Datagram M)) (l : Life M Q R) (o : Opening) (done : Bool) (found : Option Found) →
-    IsAt l o → IsDone o done found → GoesOn slaves pace (opening_rest slaves pace o.again o.step) (life_back x acknowledged more passed frame spot news back (Some (done, found)) l (Stand.Opens o))
-
--- all that is known
-pub known_of : {M Q R : Type 0} → (Spot → Speech M Q R) → (Q → Bool) → (M → Bool) → (Q → Bool) → GainsBefore M Q R → GainsGrow M Q R → RepairOpening M Q R → HalfGoes M Q R → WentOn M Q R → Nearer → RingEnds → Known M Q R
-known_of x acknowledged more passed before grows openings halves went near ends = record {
-  before = before;
-  grows = grows;
-  openings = λ slaves pace frame l o done found at d. openings (x (record { station = 0; place = 0; start = 0 })) acknowledged more passed slaves pace frame (record { station = 0; place = 0; start = 0 }) [] [] l o done found at d;
-  halves = halves;
-  went = went;
-  nearer = near;
-  ends = ends;
+-- ALL THAT IS KNOWN of any services
+pub known : (M Q R : Type 0) → Known M Q R
+known M Q R = record {
+  before = λ x acknowledged more passed frame l pick. next_same x acknowledged more passed frame l l.stand pick;
+  grows = λ x acknowledged more passed frame spot news back came l. back_grows x acknowledged more passed frame spot news back came l l.stand;
+  openings = λ slaves pace frame l o done found at d. opening_goes slaves pace frame l o done found at d;
+  halves = λ x acknowledged more passed slaves pace frame spot news back came l d w one a e stands. half_goes x acknowledged more passed slaves pace frame spot news back came l d w one a e stands;
+  went = λ x acknowledged more passed frame spot news back came l d duty one hand is met steps. state_gains x acknowledged more passed frame spot news back came l d duty one hand is met steps;
+  nearer = λ slaves pace a b w s t e m. nearer_end slaves pace a b w s t e m;
+  ends = λ slaves pace before behind m. ring_ends slaves pace before behind m;
 }
+
+pub gains_lost : (M Q R : Type 0) → GainsLost M Q R
+gains_lost M Q R = λ x acknowledged more passed spot news sent l. lost_same x acknowledged more passed spot news sent l l.stand
