@@ -34,6 +34,17 @@ ticks_on pace number same stepped p = go (suc number % pace == 0) refl
         let on = mod_on pace number p e in
         inr (omega (arith, on, less, mod-lt (suc number) {m = pace} (omega (arith, p))))
 
+-- a step comes behind this frame, or nearer
+pub step_or : (pace number : ℕ) → 1 ≤ pace → ((suc number % pace == 0) ≡ true) ⊎ (suc (clock_at pace (suc number)) ≤ clock_at pace number)
+step_or pace number p = go (suc number % pace == 0) refl
+  where
+    go : (b : Bool) → (suc number % pace == 0) ≡ b → ((suc number % pace == 0) ≡ true) ⊎ (suc (clock_at pace (suc number)) ≤ clock_at pace number)
+    go true e = inl e
+    go false e =
+        let less : number % pace < pace = mod-lt number (omega (arith, p)) in
+        let on = mod_on pace number p e in
+        inr (omega (arith, on, less, mod-lt (suc number) {m = pace} (omega (arith, p))))
+
 pub stepped_stays : (pace number : ℕ) (same stepped : Bool) → same ≡ true → stepped ≡ true → stepped_behind pace number same stepped ≡ true
 stepped_stays pace number same stepped e f = go (suc number % pace == 0) same stepped e f
   where

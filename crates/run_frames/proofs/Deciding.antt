@@ -71,7 +71,7 @@ repair_first slowest count opened last number cs under = by (nat_lt opened count
     by false e = absurd (let less = leb-false (suc opened) count e in omega (arith, less, under))
     by true e = refl
 
-module _ {M Q R : Type 0} (known : Known M Q R) (x : Spot → Speech M Q R) (acknowledged : Q → Bool) (more : M → Bool) (passed : Q → Bool) (slowest opened later number lost still : ℕ) (last : Option ℕ) (sent back : List (Datagram M)) (as' : List (Clocked M Q R)) (us : List (Under M Q R)) where
+module _ {M Q R : Type 0} (facts : Known M Q R) (x : Spot → Speech M Q R) (acknowledged : Q → Bool) (more : M → Bool) (passed : Q → Bool) (slowest opened later number lost still : ℕ) (last : Option ℕ) (sent back : List (Datagram M)) (as' : List (Clocked M Q R)) (us : List (Under M Q R)) where
   abbrev bs : List (Clocked M Q R)
   bs = all_back x acknowledged more passed number back as' us
 
@@ -86,17 +86,17 @@ module _ {M Q R : Type 0} (known : Known M Q R) (x : Spot → Speech M Q R) (ack
       Counts (length as') slowest (tally_of slowest (length as') opened last number lost still as') (tally_of slowest (length as') later next (suc number) lost (still_behind now as' bs still) bs)
   frame_counts next k t how few =
       let one = decide (length as') slowest (length as') number lost (reopened_all as') (reopened_all bs) (gains_all as') (gains_all bs) now (repair_of slowest (length as') later next (suc number) bs) still
-          (all_some slowest as' k) (all_grow known x acknowledged more passed number sent back as' us t) how few in
+          (all_some slowest as' k) (all_grow facts x acknowledged more passed number sent back as' us t) how few in
       subst (λ z. Counts (length as') slowest (tally_of slowest (length as') opened last number lost still as')
           (record { frames = suc number; lost = lost; gains = gains_all bs - z; reopened = reopened_all bs; repair = repair_of slowest (length as') later next (suc number) bs; still = still_behind now as' bs still }))
-      (sym (as_many known x acknowledged more passed number sent back as' us t)) one
+      (sym (as_many facts x acknowledged more passed number sent back as' us t)) one
 
   -- BEHIND THE FIRST BRING-UP
   pub round_counts : (ps : List ℕ) → AllClocked slowest as' → AllUnder x acknowledged more passed number sent as' us → AllBring back as' us → length as' ≤ opened → length as' ≤ later → IsRound (length as') last as' us ps →
       still_behind now as' bs still ≤ quiet (length as') slowest →
       Counts (length as') slowest (tally_of slowest (length as') opened last number lost still as') (tally_of slowest (length as') later (last_of last ps) (suc number) lost (still_behind now as' bs still) bs)
-  round_counts ps k t b over more' r few = frame_counts (last_of last ps) k t (by (side_by_side known x acknowledged more passed number sent back slowest (length as') last (last_of last ps) 0 as' us (omega arith) k t b
-      (round_near known x acknowledged more passed number sent back (length as') last (last_of last ps) as' us ps refl r refl))) few
+  round_counts ps k t b over more' r few = frame_counts (last_of last ps) k t (by (side_by_side facts x acknowledged more passed number sent back slowest (length as') last (last_of last ps) 0 as' us (omega arith) k t b
+      (round_near facts x acknowledged more passed number sent back (length as') last (last_of last ps) as' us ps refl r refl))) few
     where
       before : now ≡ repair (length as') (in_round slowest (length as') last number 0 as')
       before = repair_round slowest (length as') opened last number as' over
@@ -105,13 +105,13 @@ module _ {M Q R : Type 0} (known : Known M Q R) (x : Spot → Speech M Q R) (ack
       behind = repair_round slowest (length as') later (last_of last ps) (suc number) bs more'
 
       most : repair (length as') (in_round slowest (length as') (last_of last ps) (suc number) 0 bs) ≤ broken (length as') slowest
-      most = all_most slowest (length as') (last_of last ps) (suc number) 0 bs (omega (arith, as_many known x acknowledged more passed number sent back as' us t)) (back_clocked_all known x acknowledged more passed number sent back slowest as' us k t b)
+      most = all_most slowest (length as') (last_of last ps) (suc number) 0 bs (omega (arith, as_many facts x acknowledged more passed number sent back as' us t)) (back_clocked_all facts x acknowledged more passed number sent back slowest as' us k t b)
 
-      by : AllMet known x acknowledged more passed number sent back slowest (length as') last (last_of last ps) 0 as' bs →
+      by : AllMet facts x acknowledged more passed number sent back slowest (length as') last (last_of last ps) 0 as' bs →
           ((suc (reopened_all as') ≤ reopened_all bs) × (suc (gains_all as') ≤ gains_all bs) × (repair_of slowest (length as') later (last_of last ps) (suc number) bs ≤ broken (length as') slowest))
           ⊎ ((reopened_all bs ≡ reopened_all as') × ((repair_of slowest (length as') later (last_of last ps) (suc number) bs ≡ 0) ⊎ (suc (repair_of slowest (length as') later (last_of last ps) (suc number) bs) ≤ now)))
       by (AllMet.anew r' g) = inl (r', g, omega (arith, behind, most))
-      by (AllMet.nearer r' m) = inr (r', elim (known.ends (length as') slowest (in_round slowest (length as') last number 0 as') (in_round slowest (length as') (last_of last ps) (suc number) 0 bs) m) [
+      by (AllMet.nearer r' m) = inr (r', elim (facts.ends (length as') slowest (in_round slowest (length as') last number 0 as') (in_round slowest (length as') (last_of last ps) (suc number) 0 bs) m) [
         | inl none ↦ inl (behind ∙ none)
         | inr less ↦ inr (omega (arith, less, before, behind))
       ])
@@ -123,7 +123,7 @@ module _ {M Q R : Type 0} (known : Known M Q R) (x : Spot → Speech M Q R) (ack
   opening_counts next k t b under one over few = frame_counts next k t (inr (met.1, by (nat_lt later (length as')) refl)) few
     where
       met : (suc (one_by_one (map (alone slowest (suc number)) bs)) ≤ one_by_one (map (alone slowest number) as')) × (reopened_all bs ≡ reopened_all as')
-      met = opening_met known x acknowledged more passed number sent back slowest as' us k t b one
+      met = opening_met facts x acknowledged more passed number sent back slowest as' us k t b one
 
       before : now ≡ one_by_one (map (alone slowest number) as')
       before = repair_first slowest (length as') opened last number as' under
@@ -133,3 +133,28 @@ module _ {M Q R : Type 0} (known : Known M Q R) (x : Spot → Speech M Q R) (ack
       by false e =
           let more' : length as' ≤ later = (let no' = leb-false (suc later) (length as') e in omega (arith, no')) in
           inl (repair_round slowest (length as') later next (suc number) bs more' ∙ repaired slowest (length as') next (suc number) 0 bs (over more'))
+
+  -- there as many frames in a row gained nothing behind it as before
+  pub opening_still : AllClocked slowest as' → AllUnder x acknowledged more passed number sent as' us → AllBring back as' us → opened < length as' → IsOpening us → still_behind now as' bs still ≡ still
+  opening_still k t b under one = by (nat_lt (reopened_all as') (reopened_all bs)) (nat_lt 0 now) refl refl
+    where
+      met : (suc (one_by_one (map (alone slowest (suc number)) bs)) ≤ one_by_one (map (alone slowest number) as')) × (reopened_all bs ≡ reopened_all as')
+      met = opening_met facts x acknowledged more passed number sent back slowest as' us k t b one
+
+      before : now ≡ one_by_one (map (alone slowest number) as')
+      before = repair_first slowest (length as') opened last number as' under
+
+      by : (c d : Bool) → nat_lt (reopened_all as') (reopened_all bs) ≡ c → nat_lt 0 now ≡ d → (if c then 0 else if d then still else if nat_lt (gains_all as') (gains_all bs) then 0 else suc still) ≡ still
+      by true d e f = absurd (let less = leb-true (suc (reopened_all as')) (reopened_all bs) e in omega (arith, less, met.1))
+      by false true e f = refl
+      by false false e f = absurd (let less = leb-false 1 now f in omega (arith, less, before, met.0))
+
+  -- behind any frame that came back it is none, as many, or one more
+  pub still_is : (still_behind now as' bs still ≡ 0) ⊎ ((still_behind now as' bs still ≡ still) ⊎ (still_behind now as' bs still ≡ suc still))
+  still_is = by (nat_lt (reopened_all as') (reopened_all bs)) (nat_lt 0 now) (nat_lt (gains_all as') (gains_all bs))
+    where
+      by : (c d e : Bool) → (let m = if c then 0 else if d then still else if e then 0 else suc still in (m ≡ 0) ⊎ ((m ≡ still) ⊎ (m ≡ suc still)))
+      by true d e = inl refl
+      by false true e = inr (inl refl)
+      by false false true = inl refl
+      by false false false = inr (inr refl)

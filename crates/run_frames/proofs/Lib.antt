@@ -13,4 +13,5 @@ mod Returning
 mod Running
 mod Same
 mod Tallying
+mod Waiting
 mod Walking

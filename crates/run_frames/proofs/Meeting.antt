@@ -293,3 +293,12 @@ module _ {M Q R : Type 0} (gains_before : GainsBefore M Q R) (openings : Opening
           (opened_by o e c (opening_gone openings a.stepped number u.life o c.done c.found (subst (StandsAt u.life) e before_stands) c.shows))
       by (Stand.Opens o) false e f = subst Both (sym (ap (λ z. life_back (x a.spot) acknowledged more passed number a.spot [] back z u.life (Stand.Opens o)) (b.none f).1)) old
       by Stand.Open z e f = open_by e (reopens_or here era.account.hand)
+
+  -- one that is gone stays so
+  pub live_back : is_live (behind u.life.stand).stand ≡ true → is_live a.life.stand ≡ true
+  live_back live = by u.life.stand refl live
+    where
+      by : (s : Stand) → u.life.stand ≡ s → is_live (behind s).stand ≡ true → is_live a.life.stand ≡ true
+      by Stand.Gone e f = absurd (let gone' = sym (ap is_live e) ∙ f in cc)
+      by (Stand.Opens o) e f = ap is_live (sym before_same.stand ∙ e)
+      by Stand.Open e f = ap is_live (sym before_same.stand ∙ e)

@@ -24,10 +24,11 @@ use Rattle.run_frames.proofs.Back.{OpeningGoes, HalfGoes}
 use Rattle.run_frames.proofs.Clocking.{ahead_less}
 use Rattle.run_frames.proofs.Losing.{stays_less}
 use Rattle.run_frames.proofs.Lost.{timed, stays_on}
-use Rattle.run_frames.proofs.Meeting.{Met, met_one, opening_none, opening_some, met_stands, passed_back}
+use Rattle.run_frames.proofs.Meeting.{Met, met_one, opening_none, opening_some, met_stands, passed_back, live_back}
 use Rattle.run_frames.proofs.Most.{all_most}
 use Rattle.run_frames.proofs.Reopening.{WentOn}
 use Rattle.run_frames.proofs.Same.{GainsBefore, GainsLost}
+use Rattle.run_frames.proofs.Waiting.{LiveBefore}
 use Rattle.run_frames.proofs.Walking.{comes_nearer}
 
 -- what the law of gains says of a frame that came back, and the law of deadlines of repairs
@@ -91,6 +92,22 @@ module _ {M Q R : Type 0} (facts : Known M Q R) (x : Spot → Speech M Q R) (ack
   all_grow [] (u ∷ us) t = absurd t
   all_grow (a ∷ as') [] t = absurd t
   all_grow (a ∷ as') (u ∷ us) t = omega (arith, one_grows a u t.0, all_grow as' us t.1)
+
+  -- one that is live behind it was
+  pub live_before : (slowest count : ℕ) (as' : List (Clocked M Q R)) (us : List (Under M Q R)) → AllClocked slowest as' → AllTurn as' us → LiveBefore slowest count as' (all as' us)
+  live_before slowest count [] [] k t = tt
+  live_before slowest count [] (u ∷ us) k t = absurd t
+  live_before slowest count (a ∷ as') [] k t = absurd t
+  live_before slowest count (a ∷ as') (u ∷ us) k t = (
+    (λ live. live_back facts.before facts.openings facts.halves facts.went x acknowledged more passed number sent back 1 slowest 0 0 a u k.0 t.0 live, refl),
+    live_before slowest count as' us k.1 t.1,
+  )
+
+  pub as_many_under : (as' : List (Clocked M Q R)) (us : List (Under M Q R)) → AllTurn as' us → length us ≡ length as'
+  as_many_under [] [] t = refl
+  as_many_under [] (u ∷ us) t = absurd t
+  as_many_under (a ∷ as') [] t = absurd t
+  as_many_under (a ∷ as') (u ∷ us) t = ap suc (as_many_under as' us t.1)
 
   -- ---- side by side
 

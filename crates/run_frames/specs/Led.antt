@@ -3,7 +3,6 @@ use Rattle.std.specs.Prelude.{◌≡◌, ◌≤◌, ◌<◌, ℕ, suc, Bool, fal
 use Rattle.frame_view.specs.Seen.{seen}
 use Rattle.frame_view.specs.View.{Lens}
 use Rattle.life_frames.specs.Shares.{came_at}
-use Rattle.life_measure.specs.Tally.{quiet}
 use Rattle.life_model.specs.Lives.{Spot, Life}
 use Rattle.life_runs.specs.Led.{Exchanged, Leads, Turn, IsLedFrame, speech_at, is_passed, led_behind, gives_up_at, missed_behind}
 use Rattle.link_mails.specs.Body.{Body}
@@ -16,6 +15,7 @@ use Rattle.run_frames.specs.Clocks.{Clocked}
 use Rattle.run_frames.specs.Goes.{Under, OneUnder, all_lost, all_back}
 use Rattle.run_frames.specs.Orders.{IsOpening, IsRound, AllRepaired, last_of}
 use Rattle.run_frames.specs.Runs.{Progress, nothing_sent, many}
+use Rattle.run_frames.specs.Waits.{Waits, all_anew, waits_behind, SomeWaits}
 
 -- each of these is the slave that the master leads
 abbrev pub AreLed : List Leads → List (Clocked Body Asked Reply) → Type 0
@@ -47,26 +47,30 @@ module _ (lens : ℕ → Lens) (recover retry slowest : ℕ) where
   abbrev pub still_led : Progress → Exchanged → List Turn → List (Clocked Body Asked Reply) → ℕ
   still_led p f us cs = many (speech_at lens) acknowledged is_followed is_passed recover slowest p (seen lens f.back) cs (unders (seen lens f.back) us)
 
+  -- and how each slave waits then
+  abbrev pub waits_led : Progress → Exchanged → List Turn → List (Clocked Body Asked Reply) → List Waits
+  waits_led p f us cs = waits_behind (still_led p f us cs) p.frames cs (unders (seen lens f.back) us) p.waits
+
   -- the lives behind a frame
   abbrev pub leads_behind : ℕ → ℕ → Exchanged → List Turn → List Leads
   leads_behind missed made f us = map (led_behind lens recover retry (gives_up_at lens recover retry missed) made f) us
 
   -- A RUN THAT A MASTER LEADS, frame by frame, with what the count of its frames asks for: a lost frame of the first bring-up carries one slave at most;
   -- one that came back carries the slave that is brought up, or behind the first bring-up the first live slaves of a round, and brings each that it
-  -- carries what its access asks for; and no more in a row gain nothing than what is quiet
+  -- carries what its access asks for; and behind one that gained nothing, with nothing to repair, some slave waits yet
   pub data IsTallied (first : List Leads) (paces : List ℕ) : List Exchanged → ℕ → List Leads → Progress → List (Clocked Body Asked Reply) → Type 0 where
-    start : IsTallied first paces [] 0 first (nothing_sent None) (first_clocked first paces)
+    start : IsTallied first paces [] 0 first (nothing_sent None (first_clocked first paces)) (first_clocked first paces)
     lost : (fs : List Exchanged) (missed : ℕ) (as' : List Leads) (p : Progress) (cs : List (Clocked Body Asked Reply)) (f : Exchanged) (us : List Turn) (after later : ℕ) (next : Option ℕ) → IsTallied first paces fs missed as' p cs →
         IsLedFrame lens (length fs) f.sent as' us → f.fate ≡ Lost after → p.opened ≤ later → (p.opened < length cs → OneUnder (unders (seen lens f.back) us)) →
         IsTallied first paces (fs ++ f ∷ []) (missed_behind lens recover retry f.fate missed) (leads_behind missed (length fs) f us)
-            (record { frames = suc p.frames; lost = suc p.lost; still = 0; opened = later; last = next }) (behind_lost (gives_up_at lens recover retry missed) p.frames f us cs)
+            (record { frames = suc p.frames; lost = suc p.lost; still = 0; opened = later; last = next; waits = all_anew cs }) (behind_lost (gives_up_at lens recover retry missed) p.frames f us cs)
     opening : (fs : List Exchanged) (missed : ℕ) (as' : List Leads) (p : Progress) (cs : List (Clocked Body Asked Reply)) (f : Exchanged) (us : List Turn) (later : ℕ) (next : Option ℕ) → IsTallied first paces fs missed as' p cs →
         IsLedFrame lens (length fs) f.sent as' us → f.fate ≡ Pass → AllBring (seen lens f.back) cs (unders (seen lens f.back) us) → p.opened < length cs → IsOpening (unders (seen lens f.back) us) →
-        (length cs ≤ later → AllRepaired (behind_back p.frames f us cs)) → still_led p f us cs ≤ quiet (length cs) slowest →
+        (length cs ≤ later → AllRepaired (behind_back p.frames f us cs)) →
         IsTallied first paces (fs ++ f ∷ []) (missed_behind lens recover retry f.fate missed) (leads_behind missed (length fs) f us)
-            (record { frames = suc p.frames; lost = p.lost; still = still_led p f us cs; opened = later; last = next }) (behind_back p.frames f us cs)
+            (record { frames = suc p.frames; lost = p.lost; still = p.still; opened = later; last = next; waits = all_anew cs }) (behind_back p.frames f us cs)
     round : (fs : List Exchanged) (missed : ℕ) (as' : List Leads) (p : Progress) (cs : List (Clocked Body Asked Reply)) (f : Exchanged) (us : List Turn) (later : ℕ) (ps : List ℕ) → IsTallied first paces fs missed as' p cs →
         IsLedFrame lens (length fs) f.sent as' us → f.fate ≡ Pass → AllBring (seen lens f.back) cs (unders (seen lens f.back) us) → length cs ≤ p.opened → length cs ≤ later → IsRound (length cs) p.last cs (unders (seen lens f.back) us) ps →
-        still_led p f us cs ≤ quiet (length cs) slowest →
+        (still_led p f us cs ≡ suc p.still → SomeWaits (behind_back p.frames f us cs) (waits_led p f us cs)) →
         IsTallied first paces (fs ++ f ∷ []) (missed_behind lens recover retry f.fate missed) (leads_behind missed (length fs) f us)
-            (record { frames = suc p.frames; lost = p.lost; still = still_led p f us cs; opened = later; last = last_of p.last ps }) (behind_back p.frames f us cs)
+            (record { frames = suc p.frames; lost = p.lost; still = still_led p f us cs; opened = later; last = last_of p.last ps; waits = waits_led p f us cs }) (behind_back p.frames f us cs)

@@ -6,3 +6,4 @@ pub mod Led
 pub mod Losses
 pub mod Orders
 pub mod Runs
+pub mod Waits
