@@ -1,20 +1,19 @@
 -- The access in hand of a repair: what comes into hand leaves it, and a lost frame leaves it or breaks it.
-use Rattle.std.proofs.Common.{◌≡◌, ◌⊎◌, ℕ, ◌+◌, ◌*◌, ◌≤◌, ◌==◌, ◌&&◌, not, Bool, true, false, Option, Some, None, List, [], ◌∷◌, ◌++◌, refl, sym, ap, ◌∙◌, subst, arith, if◌then◌else◌, inl, inr, eq-eqb}
+use Rattle.std.proofs.Common.{◌≡◌, ◌⊎◌, ℕ, ◌≤◌, ◌==◌, ◌&&◌, not, Bool, true, false, Option, Some, None, List, [], ◌∷◌, ◌++◌, refl, sym, ap, ◌∙◌, subst, arith, if◌then◌else◌, inl, inr, eq-eqb}
 use Rattle.std.specs.Prelude.{nat_lt, length}
 use Rattle.exchange_model.specs.Exchange.{Speech}
 use Rattle.exchange_model.specs.Rows.{Row, begun}
 use Rattle.link_model.specs.Master.{InState}
 use Rattle.link_model.specs.Link.{Halves}
 use Rattle.link_model.specs.Frames.{Ask, Gram, halves_without, halves_lost}
-use Rattle.segment_model.specs.Record.{News}
 use Rattle.segment_model.specs.Slaves.{Datagram, grams}
 use Rattle.segment_model.specs.Seats.{Side, side_begins, side_holds, is_over}
 use Rattle.task_model.specs.Accounts.{Pick}
 use Rattle.life_model.specs.Own.{own}
-use Rattle.life_model.specs.Lives.{Stand, Life, Spot, Opening, life_next, life_lost, gives_up, reopening}
+use Rattle.life_model.specs.Lives.{Stand, Life, Spot, life_next, life_lost, gives_up, reopening}
 use Rattle.life_measure.specs.Tally.{broken}
-use Rattle.life_measure.specs.Repairs.{Way, way_of, stand_way, half_way, whole_way, StandsAt, IsAt}
-use Rattle.run_frames.specs.Goes.{is_same, given_if}
+use Rattle.life_measure.specs.Repairs.{Way, way_of, stand_way, half_way, whole_way, StandsAt}
+use Rattle.run_frames.specs.Goes.{is_same}
 
 -- the same access is in hand
 pub record SameAccess {M Q R : Type 0} (l m : Life M Q R) : Type 0 where
@@ -102,9 +101,11 @@ module _ {M Q R : Type 0} (x : Speech M Q R) (acknowledged : Q → Bool) (more :
       let m = life_lost x acknowledged more passed spot [] sent l Stand.Open in
       elim (without spot.station l.era.side.halves (grams (own spot.station sent))) [
         | inl same ↦ inl (record { stand = refl; state = same })
-        | inr doubt ↦ inr (record { whole = λ slaves pace.
+        | inr doubt ↦ inr (record {
+          whole = λ slaves pace.
               let way : way_of slaves pace m ≡ half_way slaves pace InState.Doubt = ap (λ z. stand_way slaves pace z l.stand) doubt ∙ ap (stand_way slaves pace InState.Doubt) e in
-              subst (λ z. whole_way slaves pace z ≤ broken slaves pace) (sym way) (omega arith) })
+              subst (λ z. whole_way slaves pace z ≤ broken slaves pace) (sym way) (omega arith);
+        })
       ]
 
   -- one that doesn't carry the slave leaves it

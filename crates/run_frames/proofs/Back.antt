@@ -1,24 +1,18 @@
 -- A slave and a frame that came back.
-use Rattle.std.proofs.Common.{◌≡◌, ◌⊎◌, ℕ, zero, suc, ◌+◌, ◌*◌, ◌<◌, ◌≤◌, ◌==◌, ◌&&◌, Bool, true, false, Option, Some, None, List, [], ◌∷◌, ◌++◌, length, refl, sym, ap, ◌∙◌, subst, arith, if◌then◌else◌, inl, inr, eq-eqb}
+use Rattle.std.proofs.Common.{◌≡◌, ◌⊎◌, ℕ, ◌≤◌, ◌==◌, ◌&&◌, Bool, true, false, Option, Some, None, List, [], ◌∷◌, refl, sym, ap, ◌∙◌, subst, if◌then◌else◌, inl, inr, eq-eqb}
 use Rattle.std.specs.Prelude.{◌||◌}
 use Rattle.exchange_model.specs.Exchange.{Speech}
-use Rattle.link_model.specs.Frames.{Ask, in_ask, halves_after, halves_answered}
+use Rattle.link_model.specs.Frames.{Ask, halves_after, halves_answered}
 use Rattle.link_model.specs.Link.{Halves}
 use Rattle.link_model.specs.Mails.{differs}
-use Rattle.link_model.specs.Master.{InState, asked_answered, doubt_answered}
-use Rattle.segment_model.specs.Record.{News, is_for}
+use Rattle.link_model.specs.Master.{InState}
+use Rattle.segment_model.specs.Record.{News}
 use Rattle.segment_model.specs.Slaves.{Datagram, Found, grams}
-use Rattle.task_model.specs.Accounts.{Account, Duty, Stage, Progress, account_back, account_met, account_by, access_done}
-use Rattle.life_model.specs.Lives.{Era, Life, Stand, Spot, Opening, life_back, era_back, opening_back, clears, opens, steps_on, is_shown, shows_clear, last_step, reopens, reopens_at, reopening, returns_to_init, opens_state}
+use Rattle.task_model.specs.Accounts.{Duty, Stage}
+use Rattle.life_model.specs.Lives.{Era, Life, Stand, Spot, Opening, life_back, era_back, opening_back, clears, opens, steps_on, is_shown, reopens, reopens_at, reopening, returns_to_init, opens_state}
 use Rattle.life_model.specs.Own.{own}
-use Rattle.life_measure.specs.Deadlines.{Standing, IsTimed, Ticks, Mends, MendsIf, is_vain}
-use Rattle.life_measure.specs.Gains.{gains, stage_gains, progress_gains, phase_gains}
-use Rattle.life_measure.specs.Repairs.{Way, way_of, stand_way, half_way, opening_way, opening_rest, whole_way, StandsAt, IsAt, IsDone, IsAnswered, GoesOn, awaits_at, awaited}
-use Rattle.run_frames.specs.Brings.{OpeningBrings, AsksClear, HalfAsks, HalfBrings, StandBrings, Brings}
-use Rattle.run_frames.specs.Clocks.{Clocked, standing, goes_to_init, duty_reopens, eras_reopened, reopened, clock_at}
-use Rattle.run_frames.specs.Goes.{Under, IsUnder, IsClocked, HandAt, clocked_behind, is_same, back_life, stepped_behind}
-use Rattle.run_frames.proofs.Access.{SameAccess, same_way, same_before, is_same_way, next_same, next_stands, stands_open}
-use Rattle.run_frames.proofs.Clocking.{ticks_on, stepped_stays}
+use Rattle.life_measure.specs.Repairs.{Way, way_of, half_way, opening_rest, whole_way, IsAt, IsDone, IsAnswered, GoesOn, awaits_at, awaited}
+use Rattle.run_frames.specs.Brings.{AsksClear, HalfAsks, HalfBrings}
 
 -- ---- an opening
 

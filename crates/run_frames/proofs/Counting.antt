@@ -1,15 +1,15 @@
 -- Frames count.
-use Rattle.std.proofs.Common.{◌≡◌, ℕ, zero, suc, ◌+◌, ◌-◌, ◌*◌, ◌<◌, ◌≤◌, Bool, true, false, Option, Some, None, List, [], ◌∷◌, length, map, refl, sym, ap, ◌∙◌, subst, arith, if◌then◌else◌}
+use Rattle.std.proofs.Common.{◌≡◌, ℕ, suc, ◌+◌, ◌-◌, ◌*◌, ◌<◌, ◌≤◌, Bool, true, false, Option, List, [], ◌∷◌, length, map, refl, ap, ◌∙◌, arith, if◌then◌else◌}
 use Rattle.std.specs.Prelude.{nat_lt}
 use Rattle.std.proofs.lemmas.Bool.{leb-true, leb-false}
 use Rattle.exchange_model.specs.Exchange.{Speech}
 use Rattle.segment_model.specs.Slaves.{Datagram}
 use Rattle.life_model.specs.Lives.{Spot}
 use Rattle.life_measure.specs.Deadlines.{repair}
-use Rattle.life_measure.specs.Tally.{Tally, Counts, new_tally, broken}
+use Rattle.life_measure.specs.Tally.{Counts, new_tally, broken}
 use Rattle.run_frames.specs.Begins.{AllNew}
 use Rattle.run_frames.specs.Clocks.{Clocked, alone, in_round, one_by_one, repair_of, gains_all, reopened_all, tally_of}
-use Rattle.run_frames.specs.Goes.{Under, IsUnder, AllUnder, AllClocked, OneUnder, all_lost, clocked_behind, lost_life}
+use Rattle.run_frames.specs.Goes.{Under, AllUnder, AllClocked, OneUnder, all_lost}
 use Rattle.run_frames.proofs.Losing.{one_loses}
 use Rattle.run_frames.proofs.Lost.{lost_clocked, one_by_one_loses}
 use Rattle.run_frames.proofs.Most.{all_most}

@@ -1,11 +1,11 @@
 -- Which kind of frame one that came back is.
-use Rattle.std.proofs.Common.{◌≡◌, ◌⊎◌, ℕ, zero, suc, ◌+◌, ◌-◌, ◌*◌, ◌<◌, ◌≤◌, Bool, true, false, Option, Some, None, List, [], ◌∷◌, length, map, refl, sym, ap, ◌∙◌, subst, arith, if◌then◌else◌, inl, inr}
+use Rattle.std.proofs.Common.{◌≡◌, ◌⊎◌, ℕ, suc, ◌-◌, ◌<◌, ◌≤◌, Bool, true, false, Option, List, [], ◌∷◌, length, map, refl, sym, ap, ◌∙◌, subst, arith, if◌then◌else◌, inl, inr}
 use Rattle.std.specs.Prelude.{nat_lt}
 use Rattle.std.proofs.lemmas.Bool.{leb-true, leb-false}
 use Rattle.exchange_model.specs.Exchange.{Speech}
 use Rattle.segment_model.specs.Slaves.{Datagram}
 use Rattle.life_model.specs.Lives.{Spot}
-use Rattle.life_measure.specs.Deadlines.{deadline, repair}
+use Rattle.life_measure.specs.Deadlines.{repair}
 use Rattle.life_measure.specs.Tally.{Tally, Counts, broken, quiet}
 use Rattle.run_frames.specs.Brings.{AllBring}
 use Rattle.run_frames.specs.Clocks.{Clocked, alone, in_round, one_by_one, repair_of, gains_all, reopened_all, still_behind, tally_of}
@@ -86,9 +86,9 @@ module _ {M Q R : Type 0} (facts : Known M Q R) (x : Spot → Speech M Q R) (ack
       Counts (length as') slowest (tally_of slowest (length as') opened last number lost still as') (tally_of slowest (length as') later next (suc number) lost (still_behind now as' bs still) bs)
   frame_counts next k t how few =
       let one = decide (length as') slowest (length as') number lost (reopened_all as') (reopened_all bs) (gains_all as') (gains_all bs) now (repair_of slowest (length as') later next (suc number) bs) still
-          (all_some slowest as' k) (all_grow facts x acknowledged more passed number sent back as' us t) how few in
+      (all_some slowest as' k) (all_grow facts x acknowledged more passed number sent back as' us t) how few in
       subst (λ z. Counts (length as') slowest (tally_of slowest (length as') opened last number lost still as')
-          (record { frames = suc number; lost = lost; gains = gains_all bs - z; reopened = reopened_all bs; repair = repair_of slowest (length as') later next (suc number) bs; still = still_behind now as' bs still }))
+      (record { frames = suc number; lost = lost; gains = gains_all bs - z; reopened = reopened_all bs; repair = repair_of slowest (length as') later next (suc number) bs; still = still_behind now as' bs still }))
       (sym (as_many facts x acknowledged more passed number sent back as' us t)) one
 
   -- BEHIND THE FIRST BRING-UP
@@ -111,10 +111,13 @@ module _ {M Q R : Type 0} (facts : Known M Q R) (x : Spot → Speech M Q R) (ack
           ((suc (reopened_all as') ≤ reopened_all bs) × (suc (gains_all as') ≤ gains_all bs) × (repair_of slowest (length as') later (last_of last ps) (suc number) bs ≤ broken (length as') slowest))
           ⊎ ((reopened_all bs ≡ reopened_all as') × ((repair_of slowest (length as') later (last_of last ps) (suc number) bs ≡ 0) ⊎ (suc (repair_of slowest (length as') later (last_of last ps) (suc number) bs) ≤ now)))
       by (AllMet.anew r' g) = inl (r', g, omega (arith, behind, most))
-      by (AllMet.nearer r' m) = inr (r', elim (facts.ends (length as') slowest (in_round slowest (length as') last number 0 as') (in_round slowest (length as') (last_of last ps) (suc number) 0 bs) m) [
-        | inl none ↦ inl (behind ∙ none)
-        | inr less ↦ inr (omega (arith, less, before, behind))
-      ])
+      by (AllMet.nearer r' m) = inr (
+        r',
+        elim (facts.ends (length as') slowest (in_round slowest (length as') last number 0 as') (in_round slowest (length as') (last_of last ps) (suc number) 0 bs) m) [
+          | inl none ↦ inl (behind ∙ none)
+          | inr less ↦ inr (omega (arith, less, before, behind))
+        ],
+      )
 
   -- IN THE FIRST BRING-UP
   pub opening_counts : (next : Option ℕ) → AllClocked slowest as' → AllUnder x acknowledged more passed number sent as' us → AllBring back as' us → opened < length as' → IsOpening us → (length as' ≤ later → AllRepaired bs) →

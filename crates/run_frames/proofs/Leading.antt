@@ -1,27 +1,24 @@
 -- A frame that a master leads, for the slaves as it is counted.
-use Rattle.std.proofs.Common.{◌≡◌, ℕ, suc, ◌-◌, ◌==◌, ◌&&◌, Bool, true, false, Option, Some, None, List, [], ◌∷◌, map, filter, refl, sym, ap, ◌∙◌, subst, cond, if◌then◌else◌, inl, inr}
+use Rattle.std.proofs.Common.{◌≡◌, ℕ, ◌-◌, ◌==◌, ◌&&◌, Bool, true, false, List, [], ◌∷◌, map, refl, sym, ap, ◌∙◌, cond, if◌then◌else◌, inl, inr}
 use Rattle.std.specs.Prelude.{nat_le}
 use Rattle.datagrams.specs.Datagram as Raw
 use Rattle.datagrams.specs.Frame.{IsFrame, chained}
-use Rattle.datagrams.specs.declared.command.Command.TheVariants.{Aprd, Apwr, Fprd, Fpwr}
 use Rattle.frame_view.specs.Seen.{seen, datagrams_seen}
 use Rattle.frame_view.specs.View.{Lens, datagram_seen, address_of, place_of}
 use Rattle.frame_view.proofs.Octets.{seen_chained}
-use Rattle.life_frames.specs.Frames.{Share, FrameFor, AllNotFor, IsNotFor, IsByStation, IsByPlace}
-use Rattle.life_frames.specs.Shares as Shares
+use Rattle.life_frames.specs.Frames.{FrameFor, AllNotFor, IsNotFor}
 use Rattle.life_frames.specs.Shares.{came_at, given_where}
 use Rattle.life_model.specs.Lives.{Spot, Life, life_next, life_lost, life_back}
 use Rattle.life_model.specs.Own.{own}
-use Rattle.life_runs.specs.Led.{Exchanged, Leads, Turn, IsTurn, AllTurn, IsLedFrame, speech_at, is_passed, led_behind, life_behind}
+use Rattle.life_runs.specs.Led.{Exchanged, Leads, Turn, IsTurn, AllTurn, speech_at, is_passed, led_behind, life_behind}
 use Rattle.link_mails.specs.Body.{Body}
 use Rattle.master_duty.specs.Reply.{Reply}
 use Rattle.master_hand.specs.Spoken.{Asked, acknowledged, is_followed}
 use Rattle.segment_model.specs.Record.{is_for}
 use Rattle.segment_model.specs.Slaves.{Datagram, Address}
-use Rattle.segment_ring.specs.declared.wire.Fate.{Fate}
 use Rattle.segment_ring.specs.declared.wire.Fate.TheVariants.{Pass, Lost}
 use Rattle.run_frames.specs.Clocks.{Clocked}
-use Rattle.run_frames.specs.Goes.{Under, IsUnder, AllUnder, all_lost, all_back, given_if, lost_life, back_life}
+use Rattle.run_frames.specs.Goes.{IsUnder, AllUnder, all_lost, all_back, given_if, lost_life, back_life}
 use Rattle.run_frames.specs.Led.{AreLed, under_of, unders}
 
 -- a datagram of another slave isn't to this station
@@ -88,11 +85,10 @@ module _ (seen_is : SeenIs) (lens : ℕ → Lens) (recover retry made : ℕ) (f 
       (c.spot ≡ (led_behind lens recover retry gives made f u).lived.spot) × (lost_life (speech_at lens) acknowledged is_followed is_passed gives recover made (seen lens f.sent) c (under_of back u) ≡ (led_behind lens recover retry gives made f u).lived.life)
   one_lost gives after ds back c a u spot t fate =
       let here : c.spot ≡ u.lived.spot = spot ∙ sym t.next.spot in
-      let now = ap (λ z. life_behind lens recover retry gives made f z u.lived u.share) fate in
-      (
+      let now = ap (λ z. life_behind lens recover retry gives made f z u.lived u.share) fate in (
         here ∙ sym (ap (λ z. z.spot) now),
         ap (λ s. given_if (gives && u.share.under) recover s made (life_lost (speech_at lens s) acknowledged is_followed is_passed s [] (seen lens f.sent) u.lived.life u.lived.life.stand)) here
-        ∙ given_same (gives && u.share.under) u.lived.spot (life_lost (speech_at lens u.lived.spot) acknowledged is_followed is_passed u.lived.spot [] (seen lens f.sent) u.lived.life u.lived.life.stand) ∙ sym (ap (λ z. z.life) now),
+            ∙ given_same (gives && u.share.under) u.lived.spot (life_lost (speech_at lens u.lived.spot) acknowledged is_followed is_passed u.lived.spot [] (seen lens f.sent) u.lived.life u.lived.life.stand) ∙ sym (ap (λ z. z.life) now),
       )
 
   pub all_led_lost : (gives : Bool) (after : ℕ) (ds : List Raw.Datagram) (back : List (Datagram Body)) (cs : List Slave) (as' : List Leads) (us : List Turn) → AreLed as' cs → AllTurn lens made ds as' us → f.fate ≡ Lost after →
@@ -111,8 +107,7 @@ module _ (seen_is : SeenIs) (lens : ℕ → Lens) (recover retry made : ℕ) (f 
       (c.spot ≡ (led_behind lens recover retry gives made f u).lived.spot) × (back_life (speech_at lens) acknowledged is_followed is_passed made (seen lens f.back) c (under_of (seen lens f.back) u) ≡ (led_behind lens recover retry gives made f u).lived.life)
   one_back gives ds c a u spot t fate =
       let here : c.spot ≡ u.lived.spot = spot ∙ sym t.next.spot in
-      let now = ap (λ z. life_behind lens recover retry gives made f z u.lived u.share) fate in
-      (
+      let now = ap (λ z. life_behind lens recover retry gives made f z u.lived u.share) fate in (
         here ∙ sym (ap (λ z. z.spot) now),
         ap (λ s. life_back (speech_at lens s) acknowledged is_followed is_passed made s [] (seen lens f.back) (came_at u.share.under u.share.at (seen lens f.back)) u.lived.life u.lived.life.stand) here ∙ sym (ap (λ z. z.life) now),
       )

@@ -15,3 +15,4 @@ mod Same
 mod Tallying
 mod Waiting
 mod Walking
+mod Worked

@@ -1,18 +1,16 @@
 -- A slave and a lost frame.
-use Rattle.std.proofs.Common.{◌≡◌, ◌⊎◌, ℕ, zero, suc, ◌+◌, ◌<◌, ◌≤◌, ◌&&◌, Bool, true, false, Option, Some, None, List, [], ◌∷◌, map, length, refl, sym, ap, ◌∙◌, subst, arith, if◌then◌else◌, inl, inr}
+use Rattle.std.proofs.Common.{◌≡◌, ℕ, suc, ◌<◌, ◌≤◌, ◌&&◌, Bool, true, false, List, [], ◌∷◌, map, refl, sym, subst, arith, inl, inr}
 use Rattle.exchange_model.specs.Exchange.{Speech}
 use Rattle.segment_model.specs.Slaves.{Datagram}
-use Rattle.life_model.specs.Own.{own}
-use Rattle.life_model.specs.Lives.{Life, Stand, Spot, life_next, life_lost, gives_up}
-use Rattle.life_measure.specs.Deadlines.{Standing, IsTimed}
-use Rattle.life_measure.specs.Repairs.{way_of, stand_way, whole_way, StandsAt}
-use Rattle.life_measure.specs.Tally.{broken}
-use Rattle.run_frames.specs.Clocks.{Clocked, standing, alone, in_round, ahead_at, clock_at}
+use Rattle.life_model.specs.Lives.{Life, Spot, life_lost}
+use Rattle.life_measure.specs.Deadlines.{IsTimed}
+use Rattle.life_measure.specs.Repairs.{way_of, StandsAt}
+use Rattle.run_frames.specs.Clocks.{Clocked, standing, alone}
 use Rattle.run_frames.specs.Goes.{Under, IsUnder, AllUnder, IsClocked, HandAt, AllClocked, NoneUnder, OneUnder, clocked_behind, is_same, given_if, lost_life, all_lost}
 use Rattle.run_frames.specs.Losses.{Stays, Loses, AllStay, OneLoses}
-use Rattle.run_frames.proofs.Access.{SameAccess, same_way, same_before, is_same_way, next_same, next_stands, lost_access, passed_access, lost_stands, IsBroken, gives_up_breaks, gives_up_stands}
+use Rattle.run_frames.proofs.Access.{SameAccess, same_way, same_before, is_same_way, next_same, next_stands, lost_access, passed_access, lost_stands, gives_up_breaks, gives_up_stands}
 use Rattle.run_frames.proofs.Same.{GainsBefore, GainsLost, one_gains, next_hand, lost_hand, gives_up_hand}
-use Rattle.run_frames.proofs.Clocking.{clock_some, clock_most, ticks_on, stepped_stays, ahead_less}
+use Rattle.run_frames.proofs.Clocking.{clock_some, clock_most, ticks_on, stepped_stays}
 
 -- each slave's standing is timed
 pub timed : {M Q R : Type 0} (slaves slowest before number : ℕ) (c : Clocked M Q R) → IsClocked slowest c → before < slaves → IsTimed slaves slowest (standing slaves slowest before number c)
@@ -119,9 +117,9 @@ module _ {M Q R : Type 0} (before : GainsBefore M Q R) (lost : GainsLost M Q R) 
   one_by_one_loses slowest [] us k t (OneUnder.there u vs out n) = absurd t
   one_by_one_loses slowest (a ∷ as') us k t (OneUnder.here u vs n) =
       OneLoses.here (alone slowest number a) (alone slowest (suc number) (clocked_behind number a (behind a u))) (map (alone slowest number) as') (map (alone slowest (suc number)) (all_lost x acknowledged more passed gives recover number sent as' vs))
-          (timed 1 slowest 0 number a k.0 (omega arith)) (timed 1 slowest 0 (suc number) (clocked_behind number a (behind a u)) (lost_clocked slowest a u k.0 t.0) (omega arith))
-          (lost_one slowest a u k.0 t.0) (none_loses slowest as' vs k.1 t.1 n)
+      (timed 1 slowest 0 number a k.0 (omega arith)) (timed 1 slowest 0 (suc number) (clocked_behind number a (behind a u)) (lost_clocked slowest a u k.0 t.0) (omega arith))
+      (lost_one slowest a u k.0 t.0) (none_loses slowest as' vs k.1 t.1 n)
   one_by_one_loses slowest (a ∷ as') us k t (OneUnder.there u vs out n) =
       OneLoses.there (alone slowest number a) (alone slowest (suc number) (clocked_behind number a (behind a u))) (map (alone slowest number) as') (map (alone slowest (suc number)) (all_lost x acknowledged more passed gives recover number sent as' vs))
-          (timed 1 slowest 0 number a k.0 (omega arith)) (timed 1 slowest 0 (suc number) (clocked_behind number a (behind a u)) (lost_clocked slowest a u k.0 t.0) (omega arith))
-          (stays_on 1 slowest 0 0 number a (behind a u) k.0 (passed_same a u t.0 out) (omega arith)) (one_by_one_loses slowest as' vs k.1 t.1 n)
+      (timed 1 slowest 0 number a k.0 (omega arith)) (timed 1 slowest 0 (suc number) (clocked_behind number a (behind a u)) (lost_clocked slowest a u k.0 t.0) (omega arith))
+      (stays_on 1 slowest 0 0 number a (behind a u) k.0 (passed_same a u t.0 out) (omega arith)) (one_by_one_loses slowest as' vs k.1 t.1 n)

@@ -1,24 +1,23 @@
 -- What a frame that came back makes of one slave.
-use Rattle.std.proofs.Common.{◌≡◌, ◌⊎◌, ℕ, zero, suc, ◌+◌, ◌*◌, ◌<◌, ◌≤◌, ◌==◌, ◌&&◌, not, Bool, true, false, Option, Some, None, List, [], ◌∷◌, ◌++◌, length, refl, sym, ap, ◌∙◌, subst, arith, if◌then◌else◌, inl, inr, eqb-true}
+use Rattle.std.proofs.Common.{◌≡◌, ◌⊎◌, ℕ, suc, ◌+◌, ◌≤◌, ◌==◌, ◌&&◌, Bool, true, false, Option, Some, None, List, [], ◌∷◌, ◌++◌, refl, sym, ap, ◌∙◌, subst, arith, if◌then◌else◌, inl, inr, eqb-true}
 use Rattle.std.proofs.lemmas.Bool.{cases_lt}
 use Rattle.exchange_model.specs.Exchange.{Speech}
 use Rattle.link_model.specs.Frames.{halves_after}
 use Rattle.link_model.specs.Master.{InState}
-use Rattle.segment_model.specs.Record.{News}
 use Rattle.segment_model.specs.Slaves.{Datagram, Found, grams}
-use Rattle.task_model.specs.Accounts.{Duty, account_back}
-use Rattle.life_model.specs.Lives.{Era, Life, Stand, Spot, Opening, life_back, era_back, opening_back, shows_clear, last_step, clears, opens, steps_on, is_shown, reopens, reopening}
+use Rattle.task_model.specs.Accounts.{account_back}
+use Rattle.life_model.specs.Lives.{Era, Life, Stand, Spot, Opening, life_back, era_back, opening_back, shows_clear, last_step, clears, opens, steps_on, is_shown, reopens}
 use Rattle.life_model.specs.Own.{own}
-use Rattle.life_measure.specs.Deadlines.{Standing, IsTimed, Ticks, Mends, MendsIf, is_vain}
+use Rattle.life_measure.specs.Deadlines.{Mends, MendsIf, is_vain}
 use Rattle.life_measure.specs.Gains.{gains}
-use Rattle.life_measure.specs.Repairs.{Way, way_of, stand_way, half_way, opening_way, opening_rest, whole_way, StandsAt, IsAt, GoesOn, awaits_at}
+use Rattle.life_measure.specs.Repairs.{Way, way_of, stand_way, half_way, opening_way, whole_way, StandsAt, IsAt, awaits_at}
 use Rattle.run_frames.specs.Brings.{OpeningBrings, HalfBrings, StandBrings, Brings}
 use Rattle.run_frames.specs.Clocks.{Clocked, standing, duty_reopens, eras_reopened, reopened}
-use Rattle.run_frames.specs.Goes.{Under, IsUnder, IsClocked, HandAt, clocked_behind, is_same, back_life}
+use Rattle.run_frames.specs.Goes.{Under, IsUnder, IsClocked, HandAt, clocked_behind, is_same}
 use Rattle.run_frames.specs.Losses.{Stays}
 use Rattle.run_frames.specs.Orders.{is_live}
-use Rattle.run_frames.proofs.Access.{SameAccess, same_way, same_before, is_same_way, next_same, next_stands, stands_open}
-use Rattle.run_frames.proofs.Back.{OpeningGoes, OpeningGone, opening_gone, HalfGoes, HalfGone, half_gone, same_era}
+use Rattle.run_frames.proofs.Access.{SameAccess, same_way, same_before, next_same, next_stands, stands_open}
+use Rattle.run_frames.proofs.Back.{OpeningGoes, OpeningGone, opening_gone, HalfGoes, HalfGone, half_gone}
 use Rattle.run_frames.proofs.Clocking.{ticks_on}
 use Rattle.run_frames.proofs.Lost.{stays_on}
 use Rattle.run_frames.proofs.Reopening.{Reopens, reopens_or, WentOn, going_gains}
@@ -99,7 +98,7 @@ opening_hand {M} {Q} {R} frame l o done found e at hand = by o.again o.step o.st
           where
             above : (a : Bool) (s : ℕ) → a ≡ true → (a && s == 2) ≡ false → 3 ≤ suc s → 3 ≤ s
             above false s is g more = absurd (cc)
-            above true s is g more = elim (cases_lt s 3) [ | inl less ↦ absurd (let two : s ≡ 2 = omega (arith, less, more) in let yes = ap (λ z. z == 2) two in cc) | inr less ↦ less ]
+            above true s is g more = elim (cases_lt s 3) [ inl less ↦ absurd (let two : s ≡ 2 = omega (arith, less, more) in let yes = ap (λ z. z == 2) two in cc) | inr less ↦ less ]
 
 -- ---- the slave
 

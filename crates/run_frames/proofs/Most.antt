@@ -1,13 +1,13 @@
 -- No repair takes longer than a reopening.
-use Rattle.std.proofs.Common.{◌≡◌, ◌⊎◌, ℕ, zero, suc, ◌+◌, ◌*◌, ◌-◌, ◌<◌, ◌≤◌, Bool, true, false, Option, Some, None, List, [], ◌∷◌, length, refl, sym, ap, subst, arith, if◌then◌else◌, inl, inr}
+use Rattle.std.proofs.Common.{ℕ, zero, suc, ◌+◌, ◌≤◌, Bool, true, false, Option, Some, List, [], ◌∷◌, length, arith, if◌then◌else◌}
 use Rattle.std.specs.Prelude.{nat_le}
 use Rattle.link_model.specs.Master.{InState}
 use Rattle.life_model.specs.Lives.{Stand, Life, Opening}
-use Rattle.life_measure.specs.Deadlines.{Standing, IsTimed, deadline, repair}
+use Rattle.life_measure.specs.Deadlines.{deadline, repair}
 use Rattle.life_measure.specs.Repairs.{way_of, stand_way, half_way, opening_way, whole_way, StandsAt, IsAt}
 use Rattle.life_measure.specs.Tally.{broken}
 use Rattle.run_frames.specs.Clocks.{Clocked, standing, in_round, ahead_at}
-use Rattle.run_frames.specs.Goes.{IsClocked, AllClocked}
+use Rattle.run_frames.specs.Goes.{AllClocked}
 use Rattle.run_frames.proofs.Clocking.{ahead_less}
 use Rattle.run_frames.proofs.Losing.{most_of}
 use Rattle.run_frames.proofs.Lost.{timed}

@@ -1,15 +1,14 @@
 -- A slave that is open behind a frame that came back: it stays open, or a state service that has drained begins to reopen it.
-use Rattle.std.proofs.Common.{◌≡◌, ◌⊎◌, ℕ, zero, suc, ◌+◌, ◌*◌, ◌<◌, ◌≤◌, ◌==◌, ◌&&◌, not, Bool, true, false, Option, Some, None, List, [], ◌∷◌, ◌++◌, length, refl, sym, ap, ◌∙◌, subst, arith, if◌then◌else◌, inl, inr}
+use Rattle.std.proofs.Common.{◌≡◌, ◌⊎◌, ℕ, suc, ◌≤◌, ◌==◌, ◌&&◌, not, Bool, true, false, Option, Some, None, List, [], ◌∷◌, refl, sym, ap, ◌∙◌, arith, if◌then◌else◌, inl, inr}
 use Rattle.exchange_model.specs.Exchange.{Speech}
 use Rattle.segment_model.specs.Record.{News, is_for}
-use Rattle.segment_model.specs.Ends.{Outcome}
 use Rattle.segment_model.specs.Slaves.{Datagram, Found}
 use Rattle.task_model.specs.Accounts.{Account, Duty, Stage, Progress, account_back, account_met, account_by, access_done}
 use Rattle.life_model.specs.Lives.{Era, Life, Stand, Spot, life_back, era_back, reopens, reopens_at, reopening, returns_to_init, opens_state}
 use Rattle.life_model.specs.Own.{own}
 use Rattle.life_measure.specs.Gains.{gains, stage_gains, progress_gains, phase_gains}
 use Rattle.state_model.specs.States.{Phase}
-use Rattle.run_frames.specs.Clocks.{goes_to_init, duty_reopens, eras_reopened, reopened}
+use Rattle.run_frames.specs.Clocks.{goes_to_init, duty_reopens}
 
 -- it stays as it is, or is reopened
 pub data Reopens {M Q R : Type 0} (l : Life M Q R) (hand : Option Duty) : Type 0 where
@@ -77,13 +76,13 @@ module _ {M Q R : Type 0} (x : Speech M Q R) (acknowledged : Q → Bool) (more :
           at : (b c : Bool) → is_for spot.station d.address ≡ b → (d.counter == 0) ≡ c → suc (gains l) ≤ gains opened
           at true false f g =
               let now : duty_reopens (account_by frame l.era.account duty (access_done duty.target duty.stage d.access d.found)).hand ≡ 1 =
-                  sym (ap (λ z. duty_reopens (account_met spot.station frame l.era.account z d).hand) e ∙ ap (λ (z : Bool). duty_reopens (if z && not (d.counter == 0) then account_by frame l.era.account duty (access_done duty.target duty.stage d.access d.found) else l.era.account).hand) f
-                  ∙ ap (λ (z : Bool). duty_reopens (if not z then account_by frame l.era.account duty (access_done duty.target duty.stage d.access d.found) else l.era.account).hand) g) ∙ is in
+              sym (ap (λ z. duty_reopens (account_met spot.station frame l.era.account z d).hand) e ∙ ap (λ (z : Bool). duty_reopens (if z && not (d.counter == 0) then account_by frame l.era.account duty (access_done duty.target duty.stage d.access d.found) else l.era.account).hand) f
+              ∙ ap (λ (z : Bool). duty_reopens (if not z then account_by frame l.era.account duty (access_done duty.target duty.stage d.access d.found) else l.era.account).hand) g) ∙ is in
               let before : goes_to_init duty.target duty.stage ≡ 0 = sym (ap duty_reopens e) ∙ none in
               went x acknowledged more passed frame spot [] back came l d duty some.1 e f g (ends_drain duty.stage frame l.era.account duty (access_done duty.target duty.stage d.access d.found) before now)
           at true true f g = absurd (
               let now = ap (λ z. duty_reopens (account_met spot.station frame l.era.account z d).hand) e ∙ ap (λ (z : Bool). duty_reopens (if z && not (d.counter == 0) then account_by frame l.era.account duty (access_done duty.target duty.stage d.access d.found) else l.era.account).hand) f
-                  ∙ ap (λ (z : Bool). duty_reopens (if not z then account_by frame l.era.account duty (access_done duty.target duty.stage d.access d.found) else l.era.account).hand) g in
+              ∙ ap (λ (z : Bool). duty_reopens (if not z then account_by frame l.era.account duty (access_done duty.target duty.stage d.access d.found) else l.era.account).hand) g in
               cc)
           at false c f g = absurd (
               let now = ap (λ z. duty_reopens (account_met spot.station frame l.era.account z d).hand) e ∙ ap (λ (z : Bool). duty_reopens (if z && not (d.counter == 0) then account_by frame l.era.account duty (access_done duty.target duty.stage d.access d.found) else l.era.account).hand) f in

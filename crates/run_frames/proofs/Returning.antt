@@ -1,7 +1,6 @@
 -- A frame that came back, for all slaves of a ring.
-use Rattle.std.proofs.Common.{◌≡◌, ◌⊎◌, ℕ, zero, suc, ◌+◌, ◌-◌, ◌*◌, ◌<◌, ◌≤◌, Bool, true, false, Option, Some, None, List, [], ◌∷◌, length, map, refl, sym, ap, ◌∙◌, subst, arith, if◌then◌else◌, inl, inr}
-use Rattle.std.specs.Prelude.{nat_lt, nat_le}
-use Rattle.std.proofs.lemmas.Bool.{leb-true, leb-false, cases_lt}
+use Rattle.std.proofs.Common.{◌≡◌, ◌⊎◌, ℕ, suc, ◌+◌, ◌<◌, ◌≤◌, Bool, true, false, Option, Some, None, List, [], ◌∷◌, length, map, refl, sym, ap, ◌∙◌, subst, arith, if◌then◌else◌}
+use Rattle.std.specs.Prelude.{nat_le}
 use Rattle.exchange_model.specs.Exchange.{Speech}
 use Rattle.link_model.specs.Master.{InState}
 use Rattle.segment_model.specs.Record.{News}
@@ -9,23 +8,20 @@ use Rattle.segment_model.specs.Slaves.{Datagram, Found}
 use Rattle.life_model.specs.Lives.{Life, Spot, Stand, Opening, life_back}
 use Rattle.life_measure.specs.Deadlines.{Standing, deadline, deadline_of, repair, IsTimed, Mends, MendsIf, AllMend}
 use Rattle.life_measure.specs.Gains.{gains}
-use Rattle.life_measure.specs.Repairs.{Way, way_of, stand_way, half_way, opening_way}
-use Rattle.life_measure.specs.Tally.{Tally, Counts, broken, quiet}
+use Rattle.life_measure.specs.Repairs.{Way, way_of, stand_way, opening_way}
 use Rattle.life_measure.proofs.Gaining.{next_same, back_grows, lost_same, state_gains}
 use Rattle.life_measure.proofs.Halving.{half_goes}
 use Rattle.life_measure.proofs.Mending.{nearer_end, ring_ends}
 use Rattle.life_measure.proofs.Openings.{opening_goes}
 use Rattle.run_frames.specs.Brings.{Brings, AllBring}
-use Rattle.run_frames.specs.Clocks.{Clocked, standing, alone, in_round, ahead_at, start_of, one_by_one, repair_of, reopened, gains_all, reopened_all, still_behind, tally_of}
+use Rattle.run_frames.specs.Clocks.{Clocked, standing, alone, in_round, ahead_at, one_by_one, reopened, gains_all, reopened_all}
 use Rattle.run_frames.specs.Goes.{Under, IsUnder, AllUnder, IsClocked, AllClocked, NoneUnder, clocked_behind, back_life, all_back}
-use Rattle.run_frames.specs.Orders.{is_live, live_at, under_at, is_in, live_round, places_from, AreFirst, last_of, IsRound, IsOpening, AllRepaired}
-use Rattle.run_frames.proofs.Access.{SameAccess}
+use Rattle.run_frames.specs.Orders.{live_at, under_at, live_round, last_of, IsRound, IsOpening, AllRepaired}
 use Rattle.run_frames.proofs.Back.{OpeningGoes, HalfGoes}
 use Rattle.run_frames.proofs.Clocking.{ahead_less}
 use Rattle.run_frames.proofs.Losing.{stays_less}
 use Rattle.run_frames.proofs.Lost.{timed, stays_on}
 use Rattle.run_frames.proofs.Meeting.{Met, met_one, opening_none, opening_some, met_stands, passed_back, live_back}
-use Rattle.run_frames.proofs.Most.{all_most}
 use Rattle.run_frames.proofs.Reopening.{WentOn}
 use Rattle.run_frames.proofs.Same.{GainsBefore, GainsLost}
 use Rattle.run_frames.proofs.Waiting.{LiveBefore}
@@ -123,7 +119,7 @@ module _ {M Q R : Type 0} (facts : Known M Q R) (x : Spot → Speech M Q R) (ack
   side_by_side slowest count last next place (a ∷ as') [] long k t b near = absurd t
   side_by_side slowest count last next place (a ∷ as') (u ∷ us) long k t b near =
       go (met_one facts.before facts.openings facts.halves facts.went x acknowledged more passed number sent back count slowest (ahead_at count last place) (ahead_at count next place) a u k.0 t.0 b.0
-          (λ is out. near 0 place (omega arith) (omega arith) is out))
+      (λ is out. near 0 place (omega arith) (omega arith) is out))
       (side_by_side slowest count last next (suc place) as' us (omega (arith, long)) k.1 t.1 b.1 (λ i j e less is out. near (suc i) j (omega (arith, e)) (omega (arith, less)) is out)) (all_grow as' us t.1)
     where
       there : place < count
@@ -157,10 +153,9 @@ module _ {M Q R : Type 0} (facts : Known M Q R) (x : Spot → Speech M Q R) (ack
   passed_same : (slowest : ℕ) (a : Clocked M Q R) (u : Under M Q R) → IsClocked slowest a → Turn a u → Brings back a u → u.under ≡ false →
       (deadline 1 (alone slowest (suc number) (clocked_behind number a (behind a u))) ≤ deadline 1 (alone slowest number a)) × (reopened (behind a u) ≡ reopened a.life)
   passed_same slowest a u k t b out =
-      let p = passed_back facts.before facts.openings facts.halves facts.went x acknowledged more passed number sent back 1 slowest 0 0 a u k t b out in
-      (
+      let p = passed_back facts.before facts.openings facts.halves facts.went x acknowledged more passed number sent back 1 slowest 0 0 a u k t b out in (
         stays_less 1 slowest (alone slowest number a) (alone slowest (suc number) (clocked_behind number a (behind a u))) (timed 1 slowest 0 number a k (omega arith)) (timed 1 slowest 0 (suc number) (clocked_behind number a (behind a u)) (back_clocked slowest a u k t b) (omega arith))
-        (stays_on 1 slowest 0 0 number a (behind a u) k p.0 (omega arith)),
+            (stays_on 1 slowest 0 0 number a (behind a u) k p.0 (omega arith)),
         p.1,
       )
 

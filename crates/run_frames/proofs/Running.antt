@@ -1,5 +1,5 @@
 -- The frames of a run count, one behind the other.
-use Rattle.std.proofs.Common.{◌≡◌, ℕ, suc, ◌+◌, ◌-◌, ◌*◌, ◌<◌, ◌≤◌, Bool, true, false, zero, Option, List, length, refl, sym, ◌∙◌, subst, ap, arith, inl, inr}
+use Rattle.std.proofs.Common.{◌≡◌, ℕ, suc, ◌+◌, ◌*◌, ◌<◌, ◌≤◌, Bool, true, false, zero, Option, List, length, refl, sym, ◌∙◌, subst, arith, inl, inr}
 use Rattle.exchange_model.specs.Exchange.{Speech}
 use Rattle.life_model.specs.Lives.{Spot}
 use Rattle.life_measure.specs.Tally.{Tally, Counted, Counts, new_tally, quiet}
@@ -73,7 +73,7 @@ module _ {M Q R : Type 0} (facts : Known M Q R) (lost' : GainsLost M Q R) (x : S
         long = many' ∙ h.long;
         counted = Counted.more (tallied p as') (tallied q bs) h.counted
             (subst (λ s. Counts (length first) slowest (tallied p as') (tally_of slowest (length first) later next (suc p.frames) p.lost s bs)) same
-             (subst (λ n. Counts n slowest (tally_of slowest n p.opened p.last p.frames p.lost p.still as') (tally_of slowest n later next (suc p.frames) p.lost (many x acknowledged more passed recover slowest p back as' us) bs)) h.long c));
+            (subst (λ n. Counts n slowest (tally_of slowest n p.opened p.last p.frames p.lost p.still as') (tally_of slowest n later next (suc p.frames) p.lost (many x acknowledged more passed recover slowest p back as' us) bs)) h.long c));
         few = h.few;
         none = λ l'. zero';
         waited = subst (λ s. AllWaited slowest (length first) next (suc p.frames) s 0 bs (all_anew as')) (sym zero') (anew_waited slowest (length first) next (suc p.frames) 0 bs as' many' k);
@@ -86,7 +86,7 @@ module _ {M Q R : Type 0} (facts : Known M Q R) (lost' : GainsLost M Q R) (x : S
       let many' = as_many facts x acknowledged more passed p.frames sent back as' us t in
       let is = still_is facts x acknowledged more passed slowest p.opened later p.frames p.lost p.still p.last sent back as' us in
       let near = subst (λ n. (i k : ℕ) → k ≡ 0 + i → i < length as' → live_at as' i ≡ true → under_at us i ≡ false → suc (ahead_at n (last_of p.last ps) k) ≤ ahead_at n p.last k) h.long
-          (round_near facts x acknowledged more passed p.frames sent back (length as') p.last (last_of p.last ps) as' us ps refl round refl) in
+      (round_near facts x acknowledged more passed p.frames sent back (length as') p.last (last_of p.last ps) as' us ps refl round refl) in
       let grows : still ≤ suc p.still = elim is [ inl e ↦ omega (arith, e) | inr (inl e) ↦ omega (arith, e) | inr (inr e) ↦ omega (arith, e) ] in
       let waited' = waited_behind p as' bs us (last_of p.last ps) still h.long many' (as_many_under facts x acknowledged more passed p.frames sent back as' us t) h.clocked k (live_before facts x acknowledged more passed p.frames sent back slowest (length first) as' us h.clocked t) grows near h.waited in
       let few' : still ≤ quiet (length first) slowest = elim is [

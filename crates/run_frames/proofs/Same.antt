@@ -1,18 +1,18 @@
 -- What a lost frame leaves: the gains of a life, and how often state services began to reopen its slave.
-use Rattle.std.proofs.Common.{◌≡◌, ℕ, zero, suc, ◌+◌, ◌-◌, ◌*◌, ◌&&◌, Bool, true, false, Option, Some, None, List, [], ◌∷◌, ◌++◌, length, map, refl, sym, ap, ◌∙◌, subst, arith, if◌then◌else◌}
+use Rattle.std.proofs.Common.{◌≡◌, ℕ, suc, ◌+◌, ◌*◌, ◌&&◌, Bool, true, false, Option, Some, None, List, [], ◌∷◌, ◌++◌, length, map, refl, sym, ap, ◌∙◌, subst, arith, if◌then◌else◌}
 use Rattle.std.specs.Prelude.{◌≤◌, nat_lt}
 use Rattle.exchange_model.specs.Exchange.{Speech}
 use Rattle.segment_model.specs.Record.{News}
 use Rattle.segment_model.specs.Seats.{Side}
 use Rattle.segment_model.specs.Slaves.{Datagram}
 use Rattle.state_exchange.specs.Stated.{Service}
-use Rattle.task_model.specs.Accounts.{Account, Duty, Stage, Pick, account_begins, state_begins, starts, is_free, is_acknowledged}
+use Rattle.task_model.specs.Accounts.{Account, Duty, Pick, account_begins, state_begins, starts, is_free, is_acknowledged}
 use Rattle.life_model.specs.Lives.{Stand, Life, Spot, life_next, life_lost, gives_up, granted, new_life, reopening}
 use Rattle.life_measure.specs.Deadlines.{deadline}
 use Rattle.life_measure.specs.Gains.{gains}
 use Rattle.run_frames.specs.Begins.{AllNew}
 use Rattle.run_frames.specs.Clocks.{Clocked, alone, one_by_one, duty_reopens, reopened, gains_all, reopened_all}
-use Rattle.run_frames.specs.Goes.{Under, IsUnder, AllUnder, HandAt, clocked_behind, given_if, lost_life, all_lost}
+use Rattle.run_frames.specs.Goes.{Under, IsUnder, AllUnder, HandAt, given_if, lost_life, all_lost}
 
 -- a service that comes into hand drains, or changes nothing
 begins_hand : {M Q R : Type 0} (x : Speech M Q R) (acknowledged : Q → Bool) (frame : ℕ) (d : Side M Q R) (a : Account Q R) (hand : Option Duty) (begin : Option (Service Q)) → a.hand ≡ hand → duty_reopens (account_begins x acknowledged frame d a hand begin).hand ≡ duty_reopens a.hand

@@ -1,13 +1,12 @@
 -- A run that a master leads is one whose frames count.
-use Rattle.std.proofs.Common.{◌≡◌, ℕ, suc, ◌+◌, ◌≤◌, ◌<◌, Bool, true, false, Option, None, List, [], ◌∷◌, ◌++◌, length, map, refl, sym, ap, ◌∙◌, subst, arith, length-append, if◌then◌else◌}
+use Rattle.std.proofs.Common.{◌≡◌, ℕ, suc, ◌+◌, ◌≤◌, Bool, true, false, None, List, [], ◌∷◌, ◌++◌, length, refl, sym, ap, ◌∙◌, subst, arith, length-append, if◌then◌else◌}
 use Rattle.std.specs.Prelude.{⊤, nat_lt, All}
 use Rattle.std.proofs.lemmas.Bool.{leb-true, leb-false}
 use Rattle.std.proofs.lemmas.List.Elements.{All-head, All-tail}
 use Rattle.frame_view.specs.Seen.{seen}
 use Rattle.frame_view.specs.View.{Lens}
-use Rattle.life_model.specs.Lives.{new_life}
-use Rattle.life_runs.specs.First.{leads_from, spot_of}
-use Rattle.life_runs.specs.Led.{Exchanged, Leads, Turn, IsLed, IsLedFrame, speech_at, is_passed, led_behind, gives_up_at, missed_behind}
+use Rattle.life_runs.specs.First.{leads_from}
+use Rattle.life_runs.specs.Led.{Exchanged, Leads, IsLed, IsLedFrame, speech_at, is_passed, gives_up_at}
 use Rattle.link_mails.specs.Body.{Body}
 use Rattle.master_duty.specs.Reply.{Reply}
 use Rattle.master_hand.specs.Spoken.{Asked, acknowledged, is_followed}
@@ -18,7 +17,7 @@ use Rattle.segment_plan.specs.declared.slave.SlaveSpec.{SlaveSpec}
 use Rattle.run_frames.specs.Begins.{AllNew}
 use Rattle.run_frames.specs.Clocks.{Clocked}
 use Rattle.run_frames.specs.Goes.{AllClocked}
-use Rattle.run_frames.specs.Led.{AreLed, unders, first_clocked, behind_lost, behind_back, still_led, leads_behind, IsTallied}
+use Rattle.run_frames.specs.Led.{AreLed, unders, first_clocked, behind_lost, behind_back, leads_behind, IsTallied}
 use Rattle.run_frames.specs.Runs.{Progress, IsRun}
 use Rattle.run_frames.proofs.Leading.{SeenIs, all_under, all_led_lost, all_led_back, led_view}
 

@@ -1,10 +1,10 @@
 -- A slave that waits gains within a step and two rounds.
-use Rattle.std.proofs.Common.{◌≡◌, ◌⊎◌, ℕ, zero, suc, ◌+◌, ◌*◌, ◌<◌, ◌≤◌, ◌%◌, ◌==◌, ◌&&◌, Bool, true, false, Option, List, [], ◌∷◌, length, map, refl, sym, ap, ◌∙◌, subst, arith, if◌then◌else◌, inl, inr}
+use Rattle.std.proofs.Common.{◌≡◌, ◌⊎◌, ℕ, zero, suc, ◌+◌, ◌*◌, ◌<◌, ◌≤◌, ◌%◌, ◌==◌, ◌&&◌, Bool, true, false, Option, List, [], ◌∷◌, length, refl, sym, ◌∙◌, subst, arith, if◌then◌else◌, inl, inr}
 use Rattle.life_measure.specs.Tally.{quiet}
 use Rattle.run_frames.specs.Clocks.{Clocked, clock_at, ahead_at}
-use Rattle.run_frames.specs.Goes.{Under, IsClocked, AllClocked}
+use Rattle.run_frames.specs.Goes.{Under, AllClocked}
 use Rattle.run_frames.specs.Orders.{is_live, live_at, under_at}
-use Rattle.run_frames.specs.Waits.{Waits, new_waits, all_anew, waits_on, all_on, waits_behind, SomeWaits}
+use Rattle.run_frames.specs.Waits.{Waits, all_anew, waits_on, all_on, SomeWaits}
 use Rattle.run_frames.proofs.Clocking.{clock_some, clock_most, ahead_less, step_or}
 
 -- SO LONG IT HAS WAITED, behind so many frames with nothing gained: until a step comes, until a visit behind it, until the next
@@ -110,7 +110,7 @@ module _ {M Q R : Type 0} (slowest count : ℕ) where
         let there : place < count = omega (arith, long) in
         let was = l.0.0 live in
         let one = waited_on slowest count (clock_at a'.pace number) (clock_at a'.pace (suc number)) (ahead_at count last place) (ahead_at count next place) still more w.tries w.stepped (suc number % a'.pace == 0) u.under
-            (a.0 was) (clock_some a'.pace number k.0.some) few (ahead_less count next place there) (step_or a'.pace number k.0.some) (λ out. near 0 place (omega arith) (omega arith) was out) in
+        (a.0 was) (clock_some a'.pace number k.0.some) few (ahead_less count next place there) (step_or a'.pace number k.0.some) (λ out. near 0 place (omega arith) (omega arith) was out) in
         subst (λ p. Waited slowest count (clock_at p (suc number)) (ahead_at count next place) more (waits_on number a' u w)) (sym l.0.1) one,
     all_waited_on last next number still more (suc place) as' bs us ws (omega (arith, long)) (let f : length us ≡ length as' = cc in f) k.1 l.1 few (λ i j f less is out. near (suc i) j (omega (arith, f)) (omega (arith, less)) is out) a.1,
   )

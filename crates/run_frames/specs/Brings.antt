@@ -1,5 +1,5 @@
 -- WHAT A FRAME THAT CAME BACK BROUGHT A SLAVE: its repair goes on by what the access in hand asks for.
-use Rattle.std.specs.Prelude.{◌≡◌, ◌⊎◌, ℕ, ◌==◌, ◌&&◌, Bool, true, false, Option, Some, None, List, [], ◌∷◌, ⊤}
+use Rattle.std.specs.Prelude.{◌≡◌, ℕ, ◌==◌, ◌&&◌, Bool, true, false, Option, Some, None, List, [], ◌∷◌, ⊤}
 use Rattle.link_model.specs.Frames.{Ask, in_ask}
 use Rattle.link_model.specs.Mails.{LinkMail, differs}
 use Rattle.link_model.specs.Master.{InState}

@@ -1,7 +1,6 @@
 -- ONE FRAME OF A RUN, for each slave of its ring.
 use Rattle.std.specs.Prelude.{◌≡◌, ◌≤◌, ℕ, suc, ◌%◌, ◌==◌, ◌&&◌, not, Bool, true, false, if◌then◌else◌, Option, Some, None, List, [], ◌∷◌, ⊤}
 use Rattle.exchange_model.specs.Exchange.{Speech}
-use Rattle.segment_model.specs.Record.{News}
 use Rattle.segment_model.specs.Slaves.{Datagram, Found}
 use Rattle.task_model.specs.Accounts.{Pick}
 use Rattle.life_model.specs.Lives.{Stand, Life, Spot, life_next, life_back, life_lost, gives_up}

@@ -3,7 +3,6 @@ use Rattle.std.specs.Prelude.{◌≡◌, ◌≤◌, ◌<◌, ℕ, suc, Bool, fal
 use Rattle.frame_view.specs.Seen.{seen}
 use Rattle.frame_view.specs.View.{Lens}
 use Rattle.life_frames.specs.Shares.{came_at}
-use Rattle.life_model.specs.Lives.{Spot, Life}
 use Rattle.life_runs.specs.Led.{Exchanged, Leads, Turn, IsLedFrame, speech_at, is_passed, led_behind, gives_up_at, missed_behind}
 use Rattle.link_mails.specs.Body.{Body}
 use Rattle.master_duty.specs.Reply.{Reply}
@@ -63,14 +62,14 @@ module _ (lens : ℕ → Lens) (recover retry slowest : ℕ) where
     lost : (fs : List Exchanged) (missed : ℕ) (as' : List Leads) (p : Progress) (cs : List (Clocked Body Asked Reply)) (f : Exchanged) (us : List Turn) (after later : ℕ) (next : Option ℕ) → IsTallied first paces fs missed as' p cs →
         IsLedFrame lens (length fs) f.sent as' us → f.fate ≡ Lost after → p.opened ≤ later → (p.opened < length cs → OneUnder (unders (seen lens f.back) us)) →
         IsTallied first paces (fs ++ f ∷ []) (missed_behind lens recover retry f.fate missed) (leads_behind missed (length fs) f us)
-            (record { frames = suc p.frames; lost = suc p.lost; still = 0; opened = later; last = next; waits = all_anew cs }) (behind_lost (gives_up_at lens recover retry missed) p.frames f us cs)
+        (record { frames = suc p.frames; lost = suc p.lost; still = 0; opened = later; last = next; waits = all_anew cs }) (behind_lost (gives_up_at lens recover retry missed) p.frames f us cs)
     opening : (fs : List Exchanged) (missed : ℕ) (as' : List Leads) (p : Progress) (cs : List (Clocked Body Asked Reply)) (f : Exchanged) (us : List Turn) (later : ℕ) (next : Option ℕ) → IsTallied first paces fs missed as' p cs →
         IsLedFrame lens (length fs) f.sent as' us → f.fate ≡ Pass → AllBring (seen lens f.back) cs (unders (seen lens f.back) us) → p.opened < length cs → IsOpening (unders (seen lens f.back) us) →
         (length cs ≤ later → AllRepaired (behind_back p.frames f us cs)) →
         IsTallied first paces (fs ++ f ∷ []) (missed_behind lens recover retry f.fate missed) (leads_behind missed (length fs) f us)
-            (record { frames = suc p.frames; lost = p.lost; still = p.still; opened = later; last = next; waits = all_anew cs }) (behind_back p.frames f us cs)
+        (record { frames = suc p.frames; lost = p.lost; still = p.still; opened = later; last = next; waits = all_anew cs }) (behind_back p.frames f us cs)
     round : (fs : List Exchanged) (missed : ℕ) (as' : List Leads) (p : Progress) (cs : List (Clocked Body Asked Reply)) (f : Exchanged) (us : List Turn) (later : ℕ) (ps : List ℕ) → IsTallied first paces fs missed as' p cs →
         IsLedFrame lens (length fs) f.sent as' us → f.fate ≡ Pass → AllBring (seen lens f.back) cs (unders (seen lens f.back) us) → length cs ≤ p.opened → length cs ≤ later → IsRound (length cs) p.last cs (unders (seen lens f.back) us) ps →
         (still_led p f us cs ≡ suc p.still → SomeWaits (behind_back p.frames f us cs) (waits_led p f us cs)) →
         IsTallied first paces (fs ++ f ∷ []) (missed_behind lens recover retry f.fate missed) (leads_behind missed (length fs) f us)
-            (record { frames = suc p.frames; lost = p.lost; still = still_led p f us cs; opened = later; last = last_of p.last ps; waits = waits_led p f us cs }) (behind_back p.frames f us cs)
+        (record { frames = suc p.frames; lost = p.lost; still = still_led p f us cs; opened = later; last = last_of p.last ps; waits = waits_led p f us cs }) (behind_back p.frames f us cs)

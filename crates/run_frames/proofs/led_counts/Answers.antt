@@ -1,5 +1,5 @@
-use Rattle.std.proofs.Common.{sym, subst, arith, ◌∙◌}
-use Rattle.std.specs.Prelude.{◌≤◌, ◌+◌, ◌*◌, ℕ, length}
+use Rattle.std.proofs.Common.{subst, arith}
+use Rattle.std.specs.Prelude.{◌≤◌, ◌+◌, ◌*◌, length}
 use Rattle.life_measure.proofs.Paying.{within}
 use Rattle.life_measure.specs.Tally.{Counted, new_tally}
 use Rattle.life_runs.specs.First.{lens_of, first_leads}
@@ -8,11 +8,11 @@ use Rattle.link_mails.specs.Body.{Body}
 use Rattle.master_duty.specs.Reply.{Reply}
 use Rattle.master_hand.specs.Spoken.{Asked, acknowledged, is_followed}
 use Rattle.segment_plan.specs.Bound.{slowest}
-use Rattle.run_frames.specs.Clocks.{tally_of, gains_all, reopened_all}
+use Rattle.run_frames.specs.Clocks.{tally_of}
 use Rattle.run_frames.specs.Led.{first_clocked}
 use Rattle.run_frames.proofs.Deciding.{all_some}
 use Rattle.run_frames.proofs.Returning.{known, gains_lost}
-use Rattle.run_frames.proofs.Running.{Holds, holds}
+use Rattle.run_frames.proofs.Running.{holds}
 use Rattle.run_frames.proofs.Tallying.{tallied, first_of_plan, some_slowest}
 use Rattle.run_frames.proofs.led_counts.Goals as goal
 
@@ -37,5 +37,5 @@ returns-clause-within c = λ plan fs missed work lost as' p cs is t enough few.
     let counted = subst (λ n. Counted n (slowest plan.paces) (new_tally (n * (5 + slowest plan.paces))) (tally_of (slowest plan.paces) n p.opened p.last p.frames p.lost p.still cs)) b.3 h.counted in
     let least = all_some (slowest plan.paces) cs h.clocked in
     let all = within (length plan.slaves) (slowest plan.paces) (length plan.slaves * (5 + slowest plan.paces)) work lost (tally_of (slowest plan.paces) (length plan.slaves) p.opened p.last p.frames p.lost p.still cs)
-        is.laid.some_slave (some_slowest plan.paces (omega (arith, is.laid.paces, is.laid.some_slave)) is.laid.pace) (omega arith) counted (omega (arith, h.long, b.3, least, enough)) few in
+    is.laid.some_slave (some_slowest plan.paces (omega (arith, is.laid.paces, is.laid.some_slave)) is.laid.pace) (omega arith) counted (omega (arith, h.long, b.3, least, enough)) few in
     subst (λ n. n ≤ 16 * slowest plan.paces * (length plan.slaves + 1) * (work + lost + 2 * length plan.slaves)) k.frames all
