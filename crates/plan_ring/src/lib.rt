@@ -30,7 +30,7 @@ ghost use Rattle.whole_lives.specs.Whole.{IsWhole};
 ghost use Rattle.whole_ring.specs.Members.{MemberIs, IsRing, first_ring};
 ghost use Rattle.whole_ring.specs.Turning.{Turn, AllTurn, frame_at, behind_frame, given_up};
 ghost use Rattle.plan_ring.specs.Asked.{is_service, asked};
-ghost use Rattle.plan_ring.specs.Master.{Under, IsLed, AllLed, AllUnder, AllBehind, GoesOn};
+ghost use Rattle.plan_ring.specs.Master.{Under, IsLed as IsLedMember, AllLed, AllUnder, AllBehind, GoesOn};
 ghost use Rattle.plan_ring.specs.First.{AllFirst, AllStay, AllOpen, AllBooks, AllAtRest, runs_of, RunEnds};
 ghost use Rattle.plan_ring.specs.Plan.{PlanMember, FitsPlan, AllMacs, lens_of, members_of, step};
 ghost use Rattle.life_runs.specs.First.{lens_of, first_leads};
@@ -75,7 +75,7 @@ pub fn master_ring_law()
 /// THE BOOK OF EACH SLAVE THAT IS IN ITS FIRST EPOCH: of such a ring's slave, which its master leads, the answers are those that the frames give, the
 /// application of its node is what is done of its rows, and where it is settled and nothing is wanted of it, all is done.
 pub fn first_book_law()
-    ensures { (lens : ℕ → Lens) (ss : List SlaveSpec) (more : Body → Bool) (fs : List (Frame Body)) (place : ℕ) (m : PlanMember) → (i : MemberIs lens step (FitsPlan ss) fs place m) → (led : IsLed m) → IsFirst (length fs) m.life → m.life.stand ≡ Stand.Open →
+    ensures { (lens : ℕ → Lens) (ss : List SlaveSpec) (more : Body → Bool) (fs : List (Frame Body)) (place : ℕ) (m : PlanMember) → (i : MemberIs lens step (FitsPlan ss) fs place m) → (led : IsLedMember m) → IsFirst (length fs) m.life → m.life.stand ≡ Stand.Open →
         FirstBook m.services m.clearing m.plan m.spot i.whole led.forgets more m.first m.life fs m.node }
 {}
 
