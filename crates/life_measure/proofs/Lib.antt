@@ -1,9 +1,9 @@
 mod Around
-mod Gaining
-mod Halving
-mod Mending
-mod Openings
-mod Paying
+pub mod Gaining
+pub mod Halving
+pub mod Mending
+pub mod Openings
+pub mod Paying
 mod Turns
 mod Twice
 mod Worked

@@ -1,0 +1,41 @@
+use Rattle.std.proofs.Common.{subst, arith}
+use Rattle.std.specs.Prelude.{◌≤◌, ◌+◌, ◌*◌, length}
+use Rattle.life_measure.proofs.Paying.{within}
+use Rattle.life_measure.specs.Tally.{Counted, new_tally}
+use Rattle.life_runs.specs.First.{lens_of, first_leads}
+use Rattle.life_runs.specs.Led.{speech_at, is_passed}
+use Rattle.link_mails.specs.Body.{Body}
+use Rattle.master_duty.specs.Reply.{Reply}
+use Rattle.master_hand.specs.Spoken.{Asked, acknowledged, is_followed}
+use Rattle.segment_plan.specs.Bound.{slowest}
+use Rattle.run_frames.specs.Clocks.{tally_of}
+use Rattle.run_frames.specs.Led.{first_clocked}
+use Rattle.run_frames.proofs.Deciding.{all_some}
+use Rattle.run_frames.proofs.Returning.{known, gains_lost}
+use Rattle.run_frames.proofs.Running.{holds}
+use Rattle.run_frames.proofs.Tallying.{tallied, first_of_plan, some_slowest}
+use Rattle.run_frames.proofs.led_counts.Goals as goal
+
+pub returns-clause-led : goal.returns-clause-led
+returns-clause-led c = λ plan fs missed as' p cs is t.
+    let b = first_of_plan plan.services plan.slaves plan.paces is.laid.paces is.laid.pace in
+    let k = tallied c.seen_is.ensures (lens_of plan.slaves) plan.recover plan.retry (slowest plan.paces) (first_leads plan) plan.paces (b.0, b.1, b.2) fs missed as' p cs t in
+    (k.led, k.slaves, k.frames)
+
+pub returns-clause-counted : goal.returns-clause-counted
+returns-clause-counted c = λ plan fs missed as' p cs is t.
+    let b = first_of_plan plan.services plan.slaves plan.paces is.laid.paces is.laid.pace in
+    let k = tallied c.seen_is.ensures (lens_of plan.slaves) plan.recover plan.retry (slowest plan.paces) (first_leads plan) plan.paces (b.0, b.1, b.2) fs missed as' p cs t in
+    let h = holds (known Body Asked Reply) (gains_lost Body Asked Reply) (speech_at (lens_of plan.slaves)) acknowledged is_followed is_passed plan.recover (slowest plan.paces) (first_clocked (first_leads plan) plan.paces) p cs k.run in
+    subst (λ n. Counted n (slowest plan.paces) (new_tally (n * (5 + slowest plan.paces))) (tally_of (slowest plan.paces) n p.opened p.last p.frames p.lost p.still cs)) b.3 h.counted
+
+pub returns-clause-within : goal.returns-clause-within
+returns-clause-within c = λ plan fs missed work lost as' p cs is t enough few.
+    let b = first_of_plan plan.services plan.slaves plan.paces is.laid.paces is.laid.pace in
+    let k = tallied c.seen_is.ensures (lens_of plan.slaves) plan.recover plan.retry (slowest plan.paces) (first_leads plan) plan.paces (b.0, b.1, b.2) fs missed as' p cs t in
+    let h = holds (known Body Asked Reply) (gains_lost Body Asked Reply) (speech_at (lens_of plan.slaves)) acknowledged is_followed is_passed plan.recover (slowest plan.paces) (first_clocked (first_leads plan) plan.paces) p cs k.run in
+    let counted = subst (λ n. Counted n (slowest plan.paces) (new_tally (n * (5 + slowest plan.paces))) (tally_of (slowest plan.paces) n p.opened p.last p.frames p.lost p.still cs)) b.3 h.counted in
+    let least = all_some (slowest plan.paces) cs h.clocked in
+    let all = within (length plan.slaves) (slowest plan.paces) (length plan.slaves * (5 + slowest plan.paces)) work lost (tally_of (slowest plan.paces) (length plan.slaves) p.opened p.last p.frames p.lost p.still cs)
+    is.laid.some_slave (some_slowest plan.paces (omega (arith, is.laid.paces, is.laid.some_slave)) is.laid.pace) (omega arith) counted (omega (arith, h.long, b.3, least, enough)) few in
+    subst (λ n. n ≤ 16 * slowest plan.paces * (length plan.slaves + 1) * (work + lost + 2 * length plan.slaves)) k.frames all
