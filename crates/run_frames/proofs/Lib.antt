@@ -3,6 +3,7 @@ mod Back
 mod Clocking
 mod Counting
 mod Deciding
+mod Fated
 mod Leading
 mod Losing
 mod Lost

@@ -1,6 +1,7 @@
 pub mod Begins
 pub mod Brings
 pub mod Clocks
+pub mod Fates
 pub mod Goes
 pub mod Led
 pub mod Losses

@@ -20,6 +20,7 @@ ghost use Rattle.run_frames.specs.Brings.{AllBring};
 ghost use Rattle.run_frames.specs.Clocks.{Clocked, gains_all, reopened_all, repair_of, still_behind, tally_of};
 ghost use Rattle.run_frames.specs.Goes.{Under, AllUnder, AllClocked, OneUnder, all_back, all_lost};
 ghost use Rattle.run_frames.specs.Orders.{IsOpening, IsRound, AllRepaired, last_of};
+ghost use Rattle.run_frames.specs.Fates.{AreFated, gained_in};
 ghost use Rattle.run_frames.specs.Led.{AreLed, IsTallied};
 ghost use Rattle.run_frames.specs.Runs.{Progress, IsRun};
 
@@ -74,8 +75,8 @@ pub fn led_counts()
         IsLed (lens_of plan.slaves) plan.recover plan.retry (first_leads plan) fs missed as' × AreLed as' cs × (p.frames ≡ length fs) }
     ensures counted { (plan : Scenario) (fs : List Exchanged) (missed : ℕ) (as' : List Leads) (p : Progress) (cs : List (Clocked Body Asked Reply)) → IsPlan plan → IsTallied (lens_of plan.slaves) plan.recover plan.retry (slowest plan.paces) (first_leads plan) plan.paces fs missed as' p cs →
         Counted (length plan.slaves) (slowest plan.paces) (new_tally (length plan.slaves * (5 + slowest plan.paces))) (tally_of (slowest plan.paces) (length plan.slaves) p.opened p.last p.frames p.lost p.still cs) }
-    ensures within { (plan : Scenario) (fs : List Exchanged) (missed work lost : ℕ) (as' : List Leads) (p : Progress) (cs : List (Clocked Body Asked Reply)) → IsPlan plan → IsTallied (lens_of plan.slaves) plan.recover plan.retry (slowest plan.paces) (first_leads plan) plan.paces fs missed as' p cs →
-        gains_all cs + reopened_all cs ≤ length plan.slaves + work → p.lost ≤ lost → length fs ≤ 16 * slowest plan.paces * (length plan.slaves + 1) * (work + lost + 2 * length plan.slaves) }
+    ensures within { (plan : Scenario) (fs : List Exchanged) (missed work : ℕ) (as' : List Leads) (p : Progress) (cs : List (Clocked Body Asked Reply)) → IsPlan plan → IsTallied (lens_of plan.slaves) plan.recover plan.retry (slowest plan.paces) (first_leads plan) plan.paces fs missed as' p cs →
+        AreFated plan.lose 0 fs → gained_in as' ≤ length plan.slaves + work → length fs ≤ 16 * slowest plan.paces * (length plan.slaves + 1) * (work + length plan.lose + 2 * length plan.slaves) }
 {
     frame_view::seen_is();
 }
