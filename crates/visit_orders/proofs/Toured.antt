@@ -1,16 +1,20 @@
 -- A toured run is a led one, and its visits are those of the tour by stations.
-use Rattle.std.proofs.Common.{◌≡◌, ◌<◌, ◌≤◌, ◌+◌, ℕ, zero, suc, Bool, true, false, Option, Some, None, List, [], ◌∷◌, refl, sym, ap, ◌∙◌, subst, arith, length}
+use Rattle.std.proofs.Common.{◌≡◌, ◌<◌, ◌≤◌, ◌+◌, ℕ, zero, suc, Bool, true, false, Option, Some, None, List, [], ◌∷◌, refl, sym, ap, ◌∙◌, subst, arith, length, ◌++◌}
 use Rattle.std.specs.Prelude.{nat_lt, cond, filter, map, drop, if◌then◌else◌}
 use Rattle.std.proofs.lemmas.Bool.{ltb-true, ltb-false}
 use Rattle.frame_view.specs.View.{Lens}
 use Rattle.life_model.specs.Tours.{Member, is_live_in, round}
-use Rattle.life_runs.specs.Led.{Leads, Exchanged, IsLed, missed_behind}
+use Rattle.life_runs.specs.Led.{Leads, Exchanged, IsLed, missed_behind, Turn, IsLedFrame}
 use Rattle.master_tour.specs.Orders.{start_of, round_left, visited_of}
-use Rattle.master_tour.specs.Toured.{Tour, visit_of}
+use Rattle.master_tour.specs.Toured.{Tour, visit_of, IsOfTour}
+use Rattle.frame_view.specs.Seen.{seen}
+use Rattle.master_node.specs.Shows.{is_live_lead}
+use Rattle.master_node.specs.Toured.{turn_share}
+use Rattle.master_tour.specs.Goes.{holds_at}
 use Rattle.segment_model.specs.Visits.{Stop}
 use Rattle.segment_ring.specs.declared.wire.Fate.{Fate}
 use Rattle.segment_ring.specs.declared.wire.Fate.TheVariants.{Pass, Lost}
-use Rattle.visit_orders.specs.Toured.{IsToured, tour_behind, stations_of, visit_stations}
+use Rattle.visit_orders.specs.Toured.{IsToured, lives_behind, tour_behind, stations_of, visit_stations}
 use Rattle.visit_orders.specs.Visits.{AreOf, AreApart, IsPlace, stop_at, stops_at, stations_at, last_station}
 use Rattle.visit_orders.proofs.Orders.{round_as, drop_here}
 
@@ -70,3 +74,11 @@ visit_by_stations ring members live None opened last a d p h = go (nat_lt opened
         stations_are ring (filter live (round_left (start_of (length ring) last) (length ring) 0))
         ∙ ap (map (λ s. s.station)) (sym (filtered_same ring members live (round_left (start_of (length ring) last) (length ring) 0) h) ∙ round_as ring members last a d p)
         ∙ sym (later (ltb-false opened (length ring) e))
+
+-- ONE FRAME MORE of a tour
+pub toured_on : (lens : ℕ → Lens) (recover retry : ℕ) (first : List Leads) (fs : List Exchanged) (as' : List Leads) (us : List Turn) (f : Exchanged) (t under behind : Tour) (visit : List ℕ) (fate : Fate) → IsToured lens recover retry first fs t as' → IsLedFrame lens (length fs) f.sent as' us →
+    under ≡ t → IsOfTour (λ u. turn_share u) (λ k. holds_at is_live_lead as' k) t us (length (seen lens f.sent)) visit → f.fate ≡ fate → behind ≡ tour_behind retry fate (lives_behind lens recover retry t.missed (length fs) f us) under visit →
+    IsToured lens recover retry first (fs ++ f ∷ []) behind (lives_behind lens recover retry t.missed (length fs) f us)
+toured_on lens recover retry first fs as' us f t under behind visit fate r l e o is b =
+    let lives = lives_behind lens recover retry t.missed (length fs) f us in
+    subst (λ z. IsToured lens recover retry first (fs ++ f ∷ []) z lives) (sym (b ∙ (λ i. tour_behind retry (sym is i) lives (e i) visit))) (IsToured.on fs t as' f us visit r l o)

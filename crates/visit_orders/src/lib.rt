@@ -17,7 +17,14 @@ ghost use Rattle.life_runs.specs.Led.{Turn, IsLedFrame};
 ghost use Rattle.master_node.specs.Toured.{turn_share};
 ghost use Rattle.master_tour.specs.Toured.{AreFirst, IsOfTour};
 ghost use Rattle.segment_model.specs.Visits.{carried};
-ghost use Rattle.visit_orders.specs.Toured.{IsToured, AreAt, stations_of, visit_stations};
+ghost use Rattle.std.specs.Prelude.{◌++◌};
+ghost use Rattle.master_node.specs.Shows.{is_live_lead, is_opening_lead};
+ghost use Rattle.master_node.specs.Toured.{tour_of};
+ghost use Rattle.master_node.specs.declared.node.MasterNode.{MasterNode};
+ghost use Rattle.master_tour.specs.Goes.{holds_at};
+ghost use Rattle.master_tour.specs.Toured.{new_tour, goes_on, lost_on};
+ghost use Rattle.segment_ring.specs.declared.wire.Fate.{Fate};
+ghost use Rattle.visit_orders.specs.Toured.{IsToured, AreAt, lives_behind, stations_of, visit_stations};
 
 /// BEHIND THE FIRST BRING-UP a frame is a visit of the tour where the master goes through the places of its round as it does: it carries the live
 /// slaves one behind the other, at least one, and ends before the first that may not fit.
@@ -48,4 +55,15 @@ pub fn stations_law()
     ensures { (lens : ℕ → Lens) (ring : List Stop) (members : List Member) (made : ℕ) (octets : List ℕ) (as' : List Leads) (us : List Turn) (live : ℕ → Bool) (t : Tour) (visit : List ℕ) → length ring ≤ 16 → length us ≡ length ring → AreAt ring 0 us → AreOf ring members → AreApart ring → IsPlace ring t.last →
         ((k : ℕ) → live k ≡ is_live_in (stop_at ring k).station members) → IsLedFrame lens made octets as' us → IsOfTour (λ u. turn_share u) live t us (length (seen lens octets)) visit →
         AreFirst (carried ring (seen lens octets)) (visit_stations (stations_of ring t.again) (drop t.opened ring) (round ring (last_station ring t.last) members)) }
+{}
+
+/// THE FRAMES OF A MASTER ARE A RUN OF ONE TOUR, from its begin on, by what it tells of each frame that it makes, and behind its return and its loss.
+pub fn master_law()
+    ensures begins { (lens : ℕ → Lens) (recover retry : ℕ) (first : List Leads) (m : MasterNode) → tour_of m ≡ new_tour → IsToured lens recover retry first [] (tour_of m) first }
+    ensures returns { (lens : ℕ → Lens) (recover retry : ℕ) (first : List Leads) (fs : List Exchanged) (as' : List Leads) (us : List Turn) (f : Exchanged) (m under behind : MasterNode) → IsToured lens recover retry first fs (tour_of m) as' → IsLedFrame lens (length fs) f.sent as' us →
+        tour_of under ≡ tour_of m → IsOfTour (λ u. turn_share u) (λ k. holds_at is_live_lead as' k) (tour_of m) us (length (seen lens f.sent)) under.tour.visit.items → f.fate ≡ Fate.Pass → tour_of behind ≡ goes_on is_opening_lead (lives_behind lens recover retry m.tour.missed (length fs) f us) (tour_of under) under.tour.visit.items →
+        IsToured lens recover retry first (fs ++ f ∷ []) (tour_of behind) (lives_behind lens recover retry m.tour.missed (length fs) f us) }
+    ensures loses { (lens : ℕ → Lens) (recover retry : ℕ) (first : List Leads) (fs : List Exchanged) (as' : List Leads) (us : List Turn) (f : Exchanged) (after : ℕ) (m under behind : MasterNode) → IsToured lens recover retry first fs (tour_of m) as' → IsLedFrame lens (length fs) f.sent as' us →
+        tour_of under ≡ tour_of m → IsOfTour (λ u. turn_share u) (λ k. holds_at is_live_lead as' k) (tour_of m) us (length (seen lens f.sent)) under.tour.visit.items → f.fate ≡ Fate.Lost after → tour_of behind ≡ lost_on is_opening_lead retry (lives_behind lens recover retry m.tour.missed (length fs) f us) (tour_of under) under.tour.visit.items →
+        IsToured lens recover retry first (fs ++ f ∷ []) (tour_of behind) (lives_behind lens recover retry m.tour.missed (length fs) f us) }
 {}
