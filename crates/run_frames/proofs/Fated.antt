@@ -1,5 +1,5 @@
 -- No more frames are lost than the schedule has.
-use Rattle.std.proofs.Common.{◌≡◌, ℕ, zero, suc, ◌+◌, ◌<◌, ◌≤◌, ◌==◌, Bool, true, false, List, [], ◌∷◌, ◌++◌, length, refl, sym, ap, ◌∙◌, subst, arith, if◌then◌else◌, eqb-true}
+use Rattle.std.proofs.Common.{◌≡◌, ℕ, zero, suc, ◌+◌, ◌<◌, ◌≤◌, ◌==◌, Bool, true, false, List, [], ◌∷◌, ◌++◌, length, refl, ap, arith, if◌then◌else◌, eqb-true}
 use Rattle.link_mails.specs.Body.{Body}
 use Rattle.life_measure.specs.Gains.{gains}
 use Rattle.life_runs.specs.Led.{Exchanged, Leads}
@@ -7,8 +7,7 @@ use Rattle.frame_view.specs.View.{Lens}
 use Rattle.master_duty.specs.Reply.{Reply}
 use Rattle.master_hand.specs.Spoken.{Asked}
 use Rattle.segment_ring.specs.Schedule.{fate_at}
-use Rattle.segment_ring.specs.declared.wire.Fate.{Fate}
-use Rattle.segment_ring.specs.declared.wire.Fate.TheVariants.{Pass, Lost}
+use Rattle.segment_ring.specs.declared.wire.Fate.TheVariants.{Lost}
 use Rattle.run_frames.specs.Clocks.{Clocked, reopened, gains_all, reopened_all}
 use Rattle.run_frames.specs.Fates.{AreFated, lost_by, lost_of, gained_in}
 use Rattle.run_frames.specs.Led.{AreLed, IsTallied}
@@ -76,11 +75,11 @@ lost_more (e ∷ fs) f = omega (arith, lost_more fs f)
 -- THE COUNT of them
 pub lost_is : (lens : ℕ → Lens) (recover retry slowest : ℕ) (first : List Leads) (paces : List ℕ) (fs : List Exchanged) (missed : ℕ) (as' : List Leads) (p : Progress) (cs : List (Clocked Body Asked Reply)) → IsTallied lens recover retry slowest first paces fs missed as' p cs → p.lost ≡ lost_of fs
 lost_is lens recover retry slowest first paces fs missed as' p cs IsTallied.start = refl
-lost_is lens recover retry slowest first paces gs missed' bs q ds (IsTallied.lost fs missed as' p cs f us after later next r l fate more one) =
+lost_is lens recover retry slowest first paces gs missed' bs q ds (IsTallied.lost fs missed as' p cs f us after next r l fate one) =
     omega (arith, lost_is lens recover retry slowest first paces fs missed as' p cs r, lost_more fs f, ap lost_by fate)
-lost_is lens recover retry slowest first paces gs missed' bs q ds (IsTallied.opening fs missed as' p cs f us later next r l fate b under one over) =
+lost_is lens recover retry slowest first paces gs missed' bs q ds (IsTallied.opening fs missed as' p cs f us next r l fate b under one) =
     omega (arith, lost_is lens recover retry slowest first paces fs missed as' p cs r, lost_more fs f, ap lost_by fate)
-lost_is lens recover retry slowest first paces gs missed' bs q ds (IsTallied.round fs missed as' p cs f us later ps r l fate b over more round waits) =
+lost_is lens recover retry slowest first paces gs missed' bs q ds (IsTallied.round fs missed as' p cs f us ps r l fate b over round waits) =
     omega (arith, lost_is lens recover retry slowest first paces fs missed as' p cs r, lost_more fs f, ap lost_by fate)
 
 -- WHAT IS GAINED, by the lives

@@ -1,5 +1,6 @@
 mod Access
 mod Back
+mod Bringing
 mod Clocking
 mod Counting
 mod Deciding

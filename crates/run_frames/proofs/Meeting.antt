@@ -15,7 +15,7 @@ use Rattle.run_frames.specs.Brings.{OpeningBrings, HalfBrings, StandBrings, Brin
 use Rattle.run_frames.specs.Clocks.{Clocked, standing, duty_reopens, eras_reopened, reopened}
 use Rattle.run_frames.specs.Goes.{Under, IsUnder, IsClocked, HandAt, clocked_behind, is_same}
 use Rattle.run_frames.specs.Losses.{Stays}
-use Rattle.run_frames.specs.Orders.{is_live}
+use Rattle.run_frames.specs.Orders.{is_live, is_opening}
 use Rattle.run_frames.proofs.Access.{SameAccess, same_way, same_before, next_same, next_stands, stands_open}
 use Rattle.run_frames.proofs.Back.{OpeningGoes, OpeningGone, opening_gone, HalfGoes, HalfGone, half_gone}
 use Rattle.run_frames.proofs.Clocking.{ticks_on}
@@ -77,6 +77,21 @@ opening_reopened {M} {Q} {R} frame l o done found = go (shows_clear o) (done && 
     go false b true true = refl
     go false b true false = refl
     go false b false c = refl
+
+-- behind it the slave is being opened yet, or has nothing to repair
+opening_ends : {M Q R : Type 0} (frame : ℕ) (l : Life M Q R) (o : Opening) (done : Bool) (found : Option Found) → l.stand ≡ Stand.Opens o → IsAt l o → (let m = opening_back frame l o done found in (is_opening m.stand ≡ true) ⊎ (way_of 1 1 m ≡ None))
+opening_ends {M} {Q} {R} frame l o done found e at = go (shows_clear o) (done && is_shown 1 found) (o.step == last_step o) (done && is_shown o.state found) refl
+  where
+    nine : (a : Bool) (s : ℕ) → a ≡ true → (s == (if a then 9 else 5)) ≡ true → 3 ≤ s
+    nine true s is h = (let same = eqb-true s 9 h in omega (arith, same))
+    nine false s is h = absurd (cc)
+
+    go : (p b q c : Bool) → (o.step == last_step o) ≡ q → (let m : Life M Q R = if p then (if b then clears frame l o else l) else if q then (if c then opens frame l else l) else steps_on l o in (is_opening m.stand ≡ true) ⊎ (way_of 1 1 m ≡ None))
+    go true true q c h = inl refl
+    go true false q c h = inl (ap is_opening e)
+    go false b true true h = inr (ap (half_way 1 1) (at.new (λ is. nine o.again o.step is h)))
+    go false b true false h = inl (ap is_opening e)
+    go false b false c h = inl refl
 
 -- and its slave stands where one may, with no such service in hand
 opening_hand : {M Q R : Type 0} (frame : ℕ) (l : Life M Q R) (o : Opening) (done : Bool) (found : Option Found) → l.stand ≡ Stand.Opens o → IsAt l o → HandAt l l.stand → (let m = opening_back frame l o done found in HandAt m m.stand)
@@ -240,6 +255,14 @@ module _ {M Q R : Type 0} (gains_before : GainsBefore M Q R) (openings : Opening
   opening_none o e f b =
       let c = subst (StandBrings back a u) e (b.some f) in
       ap (λ s. reopened (behind s)) e ∙ ap (λ z. reopened (life_back (x a.spot) acknowledged more passed number a.spot [] back z u.life (Stand.Opens o))) c.is ∙ opening_reopened number u.life o c.done c.found ∙ before_reopened
+
+  -- it is being opened yet, or has nothing to repair
+  pub opened_back : (o : Opening) → u.life.stand ≡ Stand.Opens o → u.under ≡ true → Brings back a u → (is_opening (behind u.life.stand).stand ≡ true) ⊎ (way_of 1 1 (behind u.life.stand) ≡ None)
+  opened_back o e f b =
+      let c = subst (StandBrings back a u) e (b.some f) in
+      subst (λ s. (is_opening (behind s).stand ≡ true) ⊎ (way_of 1 1 (behind s) ≡ None)) (sym e)
+      (subst (λ m. (is_opening m.stand ≡ true) ⊎ (way_of 1 1 m ≡ None)) (sym (ap (λ z. life_back (x a.spot) acknowledged more passed number a.spot [] back z u.life (Stand.Opens o)) c.is))
+      (opening_ends number u.life o c.done c.found e (subst (StandsAt u.life) e before_stands)))
 
   -- its way is one
   pub opening_some : (o : Opening) → u.life.stand ≡ Stand.Opens o → way_of slaves slowest a.life ≡ Some (opening_way slaves slowest o)

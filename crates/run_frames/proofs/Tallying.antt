@@ -42,38 +42,38 @@ module _ (seen_is : SeenIs) (lens : ℕ → Lens) (recover retry slowest : ℕ) 
     slaves = begins.2;
     frames = refl;
   }
-  tallied gs missed' bs q ds (IsTallied.lost fs missed as' p cs f us after later next r l fate more one) =
+  tallied gs missed' bs q ds (IsTallied.lost fs missed as' p cs f us after next r l fate one) =
       let k = tallied fs missed as' p cs r in
       let l' = subst (λ n. IsLedFrame lens n f.sent as' us) (sym k.frames) l in
       let view = led_view seen_is lens recover retry p.frames f l'.datagrams l'.frame in
       record {
         led = IsLed.on fs missed as' f us k.led l;
-        run = IsRun.lost p cs (unders (seen lens f.back) us) (gives_up_at lens recover retry missed) (seen lens f.sent) later next k.run
-            (all_under seen_is lens recover retry p.frames f l'.datagrams (seen lens f.back) cs as' us k.slaves view l'.each) more one;
+        run = IsRun.lost p cs (unders (seen lens f.back) us) (gives_up_at lens recover retry missed) (seen lens f.sent) next k.run
+            (all_under seen_is lens recover retry p.frames f l'.datagrams (seen lens f.back) cs as' us k.slaves view l'.each) one;
         slaves = subst (λ n. AreLed (leads_behind lens recover retry slowest missed n f us) (behind_lost lens recover retry slowest (gives_up_at lens recover retry missed) p.frames f us cs)) k.frames
             (all_led_lost seen_is lens recover retry p.frames f (gives_up_at lens recover retry missed) after l'.datagrams (seen lens f.back) cs as' us k.slaves l'.each fate);
         frames = one_more fs f p.frames k.frames;
       }
-  tallied gs missed' bs q ds (IsTallied.opening fs missed as' p cs f us later next r l fate b under one over) =
+  tallied gs missed' bs q ds (IsTallied.opening fs missed as' p cs f us next r l fate b under one) =
       let k = tallied fs missed as' p cs r in
       let l' = subst (λ n. IsLedFrame lens n f.sent as' us) (sym k.frames) l in
       let view = led_view seen_is lens recover retry p.frames f l'.datagrams l'.frame in
       record {
         led = IsLed.on fs missed as' f us k.led l;
-        run = IsRun.opening p cs (unders (seen lens f.back) us) (seen lens f.sent) (seen lens f.back) later next k.run
-            (all_under seen_is lens recover retry p.frames f l'.datagrams (seen lens f.back) cs as' us k.slaves view l'.each) b under one over;
+        run = IsRun.opening p cs (unders (seen lens f.back) us) (seen lens f.sent) (seen lens f.back) next k.run
+            (all_under seen_is lens recover retry p.frames f l'.datagrams (seen lens f.back) cs as' us k.slaves view l'.each) b under one;
         slaves = subst (λ n. AreLed (leads_behind lens recover retry slowest missed n f us) (behind_back lens recover retry slowest p.frames f us cs)) k.frames
             (all_led_back seen_is lens recover retry p.frames f (gives_up_at lens recover retry missed) l'.datagrams cs as' us k.slaves l'.each fate);
         frames = one_more fs f p.frames k.frames;
       }
-  tallied gs missed' bs q ds (IsTallied.round fs missed as' p cs f us later ps r l fate b over more round waits) =
+  tallied gs missed' bs q ds (IsTallied.round fs missed as' p cs f us ps r l fate b over round waits) =
       let k = tallied fs missed as' p cs r in
       let l' = subst (λ n. IsLedFrame lens n f.sent as' us) (sym k.frames) l in
       let view = led_view seen_is lens recover retry p.frames f l'.datagrams l'.frame in
       record {
         led = IsLed.on fs missed as' f us k.led l;
-        run = IsRun.round p cs (unders (seen lens f.back) us) (seen lens f.sent) (seen lens f.back) later ps k.run
-            (all_under seen_is lens recover retry p.frames f l'.datagrams (seen lens f.back) cs as' us k.slaves view l'.each) b over more round waits;
+        run = IsRun.round p cs (unders (seen lens f.back) us) (seen lens f.sent) (seen lens f.back) ps k.run
+            (all_under seen_is lens recover retry p.frames f l'.datagrams (seen lens f.back) cs as' us k.slaves view l'.each) b over round waits;
         slaves = subst (λ n. AreLed (leads_behind lens recover retry slowest missed n f us) (behind_back lens recover retry slowest p.frames f us cs)) k.frames
             (all_led_back seen_is lens recover retry p.frames f (gives_up_at lens recover retry missed) l'.datagrams cs as' us k.slaves l'.each fate);
         frames = one_more fs f p.frames k.frames;

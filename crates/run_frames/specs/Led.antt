@@ -11,8 +11,8 @@ use Rattle.segment_model.specs.Slaves.{Datagram}
 use Rattle.segment_ring.specs.declared.wire.Fate.TheVariants.{Pass, Lost}
 use Rattle.run_frames.specs.Brings.{AllBring}
 use Rattle.run_frames.specs.Clocks.{Clocked}
-use Rattle.run_frames.specs.Goes.{Under, OneUnder, all_lost, all_back}
-use Rattle.run_frames.specs.Orders.{IsOpening, IsRound, AllRepaired, last_of}
+use Rattle.run_frames.specs.Goes.{Under, all_lost, all_back}
+use Rattle.run_frames.specs.Orders.{IsRound, CarriesOne, opened_on, last_of}
 use Rattle.run_frames.specs.Runs.{Progress, nothing_sent, many}
 use Rattle.run_frames.specs.Waits.{Waits, all_anew, waits_behind, SomeWaits}
 
@@ -54,22 +54,21 @@ module _ (lens : ℕ → Lens) (recover retry slowest : ℕ) where
   abbrev pub leads_behind : ℕ → ℕ → Exchanged → List Turn → List Leads
   leads_behind missed made f us = map (led_behind lens recover retry (gives_up_at lens recover retry missed) made f) us
 
-  -- A RUN THAT A MASTER LEADS, frame by frame, with what the count of its frames asks for: a lost frame of the first bring-up carries one slave at most;
-  -- one that came back carries the slave that is brought up, or behind the first bring-up the first live slaves of a round, and brings each that it
+  -- A RUN THAT A MASTER LEADS, frame by frame, with what the count of its frames asks for: in the first bring-up a frame carries the
+  -- slave that is brought up, and behind it one that came back the first live slaves of a round; it brings each that it
   -- carries what its access asks for; and behind one that gained nothing, with nothing to repair, some slave waits yet
   pub data IsTallied (first : List Leads) (paces : List ℕ) : List Exchanged → ℕ → List Leads → Progress → List (Clocked Body Asked Reply) → Type 0 where
     start : IsTallied first paces [] 0 first (nothing_sent None (first_clocked first paces)) (first_clocked first paces)
-    lost : (fs : List Exchanged) (missed : ℕ) (as' : List Leads) (p : Progress) (cs : List (Clocked Body Asked Reply)) (f : Exchanged) (us : List Turn) (after later : ℕ) (next : Option ℕ) → IsTallied first paces fs missed as' p cs →
-        IsLedFrame lens (length fs) f.sent as' us → f.fate ≡ Lost after → p.opened ≤ later → (p.opened < length cs → OneUnder (unders (seen lens f.back) us)) →
+    lost : (fs : List Exchanged) (missed : ℕ) (as' : List Leads) (p : Progress) (cs : List (Clocked Body Asked Reply)) (f : Exchanged) (us : List Turn) (after : ℕ) (next : Option ℕ) → IsTallied first paces fs missed as' p cs →
+        IsLedFrame lens (length fs) f.sent as' us → f.fate ≡ Lost after → (p.opened < length cs → CarriesOne p.opened (unders (seen lens f.back) us)) →
         IsTallied first paces (fs ++ f ∷ []) (missed_behind lens recover retry f.fate missed) (leads_behind missed (length fs) f us)
-        (record { frames = suc p.frames; lost = suc p.lost; still = 0; opened = later; last = next; waits = all_anew cs }) (behind_lost (gives_up_at lens recover retry missed) p.frames f us cs)
-    opening : (fs : List Exchanged) (missed : ℕ) (as' : List Leads) (p : Progress) (cs : List (Clocked Body Asked Reply)) (f : Exchanged) (us : List Turn) (later : ℕ) (next : Option ℕ) → IsTallied first paces fs missed as' p cs →
-        IsLedFrame lens (length fs) f.sent as' us → f.fate ≡ Pass → AllBring (seen lens f.back) cs (unders (seen lens f.back) us) → p.opened < length cs → IsOpening (unders (seen lens f.back) us) →
-        (length cs ≤ later → AllRepaired (behind_back p.frames f us cs)) →
+        (record { frames = suc p.frames; lost = suc p.lost; still = 0; opened = opened_on p.opened (behind_lost (gives_up_at lens recover retry missed) p.frames f us cs); last = next; waits = all_anew cs }) (behind_lost (gives_up_at lens recover retry missed) p.frames f us cs)
+    opening : (fs : List Exchanged) (missed : ℕ) (as' : List Leads) (p : Progress) (cs : List (Clocked Body Asked Reply)) (f : Exchanged) (us : List Turn) (next : Option ℕ) → IsTallied first paces fs missed as' p cs →
+        IsLedFrame lens (length fs) f.sent as' us → f.fate ≡ Pass → AllBring (seen lens f.back) cs (unders (seen lens f.back) us) → p.opened < length cs → CarriesOne p.opened (unders (seen lens f.back) us) →
         IsTallied first paces (fs ++ f ∷ []) (missed_behind lens recover retry f.fate missed) (leads_behind missed (length fs) f us)
-        (record { frames = suc p.frames; lost = p.lost; still = p.still; opened = later; last = next; waits = all_anew cs }) (behind_back p.frames f us cs)
-    round : (fs : List Exchanged) (missed : ℕ) (as' : List Leads) (p : Progress) (cs : List (Clocked Body Asked Reply)) (f : Exchanged) (us : List Turn) (later : ℕ) (ps : List ℕ) → IsTallied first paces fs missed as' p cs →
-        IsLedFrame lens (length fs) f.sent as' us → f.fate ≡ Pass → AllBring (seen lens f.back) cs (unders (seen lens f.back) us) → length cs ≤ p.opened → length cs ≤ later → IsRound (length cs) p.last cs (unders (seen lens f.back) us) ps →
+        (record { frames = suc p.frames; lost = p.lost; still = p.still; opened = opened_on p.opened (behind_back p.frames f us cs); last = next; waits = all_anew cs }) (behind_back p.frames f us cs)
+    round : (fs : List Exchanged) (missed : ℕ) (as' : List Leads) (p : Progress) (cs : List (Clocked Body Asked Reply)) (f : Exchanged) (us : List Turn) (ps : List ℕ) → IsTallied first paces fs missed as' p cs →
+        IsLedFrame lens (length fs) f.sent as' us → f.fate ≡ Pass → AllBring (seen lens f.back) cs (unders (seen lens f.back) us) → length cs ≤ p.opened → IsRound (length cs) p.last cs (unders (seen lens f.back) us) ps →
         (still_led p f us cs ≡ suc p.still → SomeWaits (behind_back p.frames f us cs) (waits_led p f us cs)) →
         IsTallied first paces (fs ++ f ∷ []) (missed_behind lens recover retry f.fate missed) (leads_behind missed (length fs) f us)
-        (record { frames = suc p.frames; lost = p.lost; still = still_led p f us cs; opened = later; last = last_of p.last ps; waits = waits_led p f us cs }) (behind_back p.frames f us cs)
+        (record { frames = suc p.frames; lost = p.lost; still = still_led p f us cs; opened = p.opened; last = last_of p.last ps; waits = waits_led p f us cs }) (behind_back p.frames f us cs)

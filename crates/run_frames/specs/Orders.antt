@@ -66,3 +66,21 @@ pub data IsOpening {M Q R : Type 0} : List (Under M Q R) → Type 0 where
 abbrev pub AllRepaired : {M Q R : Type 0} → List (Clocked M Q R) → Type 0
 AllRepaired [] = ⊤
 AllRepaired (c ∷ cs) = (way_of 1 1 c.life ≡ None) × AllRepaired cs
+
+-- a slave that is brought up, or opened anew
+abbrev pub is_opening : Stand → Bool
+is_opening (Stand.Opens o) = true
+is_opening Stand.Open = false
+is_opening Stand.Gone = false
+
+-- the frame carries the slave at this place, and no other
+abbrev pub CarriesOne : {M Q R : Type 0} → ℕ → List (Under M Q R) → Type 0
+CarriesOne n [] = ⊤
+CarriesOne zero (u ∷ us) = (u.under ≡ true) × NoneUnder us
+CarriesOne (suc n) (u ∷ us) = (u.under ≡ false) × CarriesOne n us
+
+-- HOW MANY SLAVES HAVE ENDED THEIR FIRST BRING-UP, behind a frame: one more where the one that was brought up isn't any more
+abbrev pub opened_on : {M Q R : Type 0} → ℕ → List (Clocked M Q R) → ℕ
+opened_on n [] = n
+opened_on zero (c ∷ cs) = if is_opening c.life.stand then 0 else 1
+opened_on (suc n) (c ∷ cs) = suc (opened_on n cs)

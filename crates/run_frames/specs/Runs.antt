@@ -6,8 +6,8 @@ use Rattle.life_model.specs.Lives.{Spot}
 use Rattle.run_frames.specs.Begins.{AllNew}
 use Rattle.run_frames.specs.Brings.{AllBring}
 use Rattle.run_frames.specs.Clocks.{Clocked, repair_of, still_behind}
-use Rattle.run_frames.specs.Goes.{Under, AllUnder, AllClocked, OneUnder, all_lost, all_back}
-use Rattle.run_frames.specs.Orders.{IsRound, IsOpening, AllRepaired, last_of}
+use Rattle.run_frames.specs.Goes.{Under, AllUnder, AllClocked, all_lost, all_back}
+use Rattle.run_frames.specs.Orders.{IsRound, CarriesOne, opened_on, last_of}
 use Rattle.run_frames.specs.Waits.{Waits, all_anew, waits_behind, SomeWaits}
 
 -- how far a run has come: the frames sent, those of them that were lost, and those in a row that came back at last with nothing gained; how many slaves
@@ -34,13 +34,13 @@ module _ {M Q R : Type 0} (x : Spot → Speech M Q R) (acknowledged : Q → Bool
   -- carried the first slaves of a round. Behind one that gained nothing, with nothing to repair, some slave waits yet
   pub data IsRun (first : List (Clocked M Q R)) : Progress → List (Clocked M Q R) → Type 0 where
     start : (last : Option ℕ) → AllNew first → AllClocked slowest first → IsRun first (nothing_sent last first) first
-    lost : (p : Progress) (as' : List (Clocked M Q R)) (us : List (Under M Q R)) (gives : Bool) (sent : List (Datagram M)) (later : ℕ) (next : Option ℕ) → IsRun first p as' → AllUnder x acknowledged more passed p.frames sent as' us →
-        p.opened ≤ later → (p.opened < length as' → OneUnder us) →
-        IsRun first (record { frames = suc p.frames; lost = suc p.lost; still = 0; opened = later; last = next; waits = all_anew as' }) (all_lost x acknowledged more passed gives recover p.frames sent as' us)
-    opening : (p : Progress) (as' : List (Clocked M Q R)) (us : List (Under M Q R)) (sent back : List (Datagram M)) (later : ℕ) (next : Option ℕ) → IsRun first p as' → AllUnder x acknowledged more passed p.frames sent as' us → AllBring back as' us →
-        p.opened < length as' → IsOpening us → (length as' ≤ later → AllRepaired (all_back x acknowledged more passed p.frames back as' us)) →
-        IsRun first (record { frames = suc p.frames; lost = p.lost; still = p.still; opened = later; last = next; waits = all_anew as' }) (all_back x acknowledged more passed p.frames back as' us)
-    round : (p : Progress) (as' : List (Clocked M Q R)) (us : List (Under M Q R)) (sent back : List (Datagram M)) (later : ℕ) (ps : List ℕ) → IsRun first p as' → AllUnder x acknowledged more passed p.frames sent as' us → AllBring back as' us →
-        length as' ≤ p.opened → length as' ≤ later → IsRound (length as') p.last as' us ps →
+    lost : (p : Progress) (as' : List (Clocked M Q R)) (us : List (Under M Q R)) (gives : Bool) (sent : List (Datagram M)) (next : Option ℕ) → IsRun first p as' → AllUnder x acknowledged more passed p.frames sent as' us →
+        (p.opened < length as' → CarriesOne p.opened us) →
+        IsRun first (record { frames = suc p.frames; lost = suc p.lost; still = 0; opened = opened_on p.opened (all_lost x acknowledged more passed gives recover p.frames sent as' us); last = next; waits = all_anew as' }) (all_lost x acknowledged more passed gives recover p.frames sent as' us)
+    opening : (p : Progress) (as' : List (Clocked M Q R)) (us : List (Under M Q R)) (sent back : List (Datagram M)) (next : Option ℕ) → IsRun first p as' → AllUnder x acknowledged more passed p.frames sent as' us → AllBring back as' us →
+        p.opened < length as' → CarriesOne p.opened us →
+        IsRun first (record { frames = suc p.frames; lost = p.lost; still = p.still; opened = opened_on p.opened (all_back x acknowledged more passed p.frames back as' us); last = next; waits = all_anew as' }) (all_back x acknowledged more passed p.frames back as' us)
+    round : (p : Progress) (as' : List (Clocked M Q R)) (us : List (Under M Q R)) (sent back : List (Datagram M)) (ps : List ℕ) → IsRun first p as' → AllUnder x acknowledged more passed p.frames sent as' us → AllBring back as' us →
+        length as' ≤ p.opened → IsRound (length as') p.last as' us ps →
         (many p back as' us ≡ suc p.still → SomeWaits (all_back x acknowledged more passed p.frames back as' us) (waits_behind (many p back as' us) p.frames as' us p.waits)) →
-        IsRun first (record { frames = suc p.frames; lost = p.lost; still = many p back as' us; opened = later; last = last_of p.last ps; waits = waits_behind (many p back as' us) p.frames as' us p.waits }) (all_back x acknowledged more passed p.frames back as' us)
+        IsRun first (record { frames = suc p.frames; lost = p.lost; still = many p back as' us; opened = p.opened; last = last_of p.last ps; waits = waits_behind (many p back as' us) p.frames as' us p.waits }) (all_back x acknowledged more passed p.frames back as' us)
