@@ -1,5 +1,7 @@
 -- Worked rounds of three slaves.
-use Rattle.std.proofs.Common.{◌≡◌, true, false, Some, None, List, [], ◌∷◌, refl}
+use Rattle.std.proofs.Common.{◌≡◌, ◌==◌, Bool, true, false, Some, None, List, [], ◌∷◌, refl}
+use Rattle.std.specs.Prelude.{not}
+use Rattle.master_tour.specs.Toured.{visit_of, new_tour, goes_on, lost_on}
 use Rattle.segment_model.specs.Visits.{Stop}
 use Rattle.life_model.specs.Tours.{Member, round}
 use Rattle.master_tour.specs.Orders.{visits_left}
@@ -16,8 +18,8 @@ members = record { stop = record { station = 101; state = 2; area = 128 }; spare
 begins : visits_left false [] 3 3 None 0 ≡ 0 ∷ 1 ∷ 2 ∷ []
 begins = refl
 
-goes_on : visits_left false [] 3 3 (Some 1) 0 ≡ 2 ∷ 0 ∷ 1 ∷ []
-goes_on = refl
+round_behind : visits_left false [] 3 3 (Some 1) 0 ≡ 2 ∷ 0 ∷ 1 ∷ []
+round_behind = refl
 
 turns_round : visits_left false [] 3 3 (Some 2) 1 ≡ 1 ∷ 2 ∷ []
 turns_round = refl
@@ -38,3 +40,24 @@ stations = refl
 
 same_round : round ring (last_station ring (Some 1)) members ≡ record { station = 103; state = 3; area = 64 } ∷ record { station = 101; state = 2; area = 128 } ∷ []
 same_round = refl
+
+-- the visit of a frame: the live ones of a round, the one that is brought up, the slaves of a lost frame
+visits : visit_of (λ k. not (k == 1)) 3 None 3 (Some 1) ≡ 2 ∷ 0 ∷ []
+visits = refl
+
+first_visit : visit_of (λ k. true) 3 None 1 None ≡ 1 ∷ []
+first_visit = refl
+
+same_visit : visit_of (λ k. true) 3 (Some (2 ∷ 0 ∷ [])) 3 (Some 1) ≡ 2 ∷ 0 ∷ []
+same_visit = refl
+
+-- where the tour stands behind a frame: once the first slave is open the second is brought up; a round goes on behind the one carried last
+brings_next : goes_on (λ (opens : Bool). opens) (false ∷ true ∷ []) new_tour (0 ∷ []) ≡ record { again = None; opened = 1; last = None; missed = 0 }
+brings_next = refl
+
+rounds : goes_on (λ (opens : Bool). opens) (false ∷ false ∷ false ∷ []) (record { again = None; opened = 3; last = Some 1; missed = 1 }) (2 ∷ 0 ∷ []) ≡ record { again = None; opened = 3; last = Some 0; missed = 0 }
+rounds = refl
+
+-- behind one lost frame the same come again, where two may be lost in a row
+loses : lost_on (λ (opens : Bool). opens) 2 (false ∷ false ∷ false ∷ []) (record { again = None; opened = 3; last = Some 1; missed = 0 }) (2 ∷ 0 ∷ []) ≡ record { again = Some (2 ∷ 0 ∷ []); opened = 3; last = Some 1; missed = 1 }
+loses = refl
