@@ -14,6 +14,7 @@ mod Reopening
 mod Returning
 mod Running
 mod Same
+mod Stating
 mod Tallying
 mod Waiting
 mod Walking

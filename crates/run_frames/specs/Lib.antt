@@ -7,4 +7,5 @@ pub mod Led
 pub mod Losses
 pub mod Orders
 pub mod Runs
+pub mod States
 pub mod Waits

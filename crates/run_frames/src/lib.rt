@@ -23,6 +23,7 @@ ghost use Rattle.run_frames.specs.Orders.{IsOpening, IsRound, AllRepaired, last_
 ghost use Rattle.run_frames.specs.Fates.{AreFated, gained_in};
 ghost use Rattle.run_frames.specs.Led.{AreLed, IsTallied};
 ghost use Rattle.run_frames.specs.Runs.{Progress, IsRun};
+ghost use Rattle.run_frames.specs.States.{states_all};
 
 /// BEFORE THE FIRST FRAME the tally of a ring is new: each slave is brought up by five accesses and the wait for one step, one slave behind the other.
 pub fn begins_law<M, Q, R>()
@@ -66,6 +67,11 @@ pub fn counts_law<M, Q, R>()
         Counted (length first) slowest (new_tally (length first * (5 + slowest))) (tally_of slowest (length first) p.opened p.last p.frames p.lost p.still cs) }
     ensures within { (x : Spot → Speech M Q R) (acknowledged : Q → Bool) (more : M → Bool) (passed : Q → Bool) (recover slowest work lost : ℕ) (first cs : List (Clocked M Q R)) (p : Progress) → IsRun x acknowledged more passed recover slowest first p cs →
         1 ≤ length first → 1 ≤ slowest → gains_all cs + reopened_all cs ≤ length first + work → p.lost ≤ lost → p.frames ≤ 16 * slowest * (length first + 1) * (work + lost + 2 * length first) }
+{}
+
+/// EACH REOPENING THAT A STATE SERVICE BEGAN is of a state service that came into hand: over a run there are no more.
+pub fn reopened_law<M, Q, R>()
+    ensures { (x : Spot → Speech M Q R) (acknowledged : Q → Bool) (more : M → Bool) (passed : Q → Bool) (recover slowest : ℕ) (first cs : List (Clocked M Q R)) (p : Progress) → IsRun x acknowledged more passed recover slowest first p cs → reopened_all cs ≤ states_all cs }
 {}
 
 /// THE FRAMES OF A RUN THAT A MASTER LEADS COUNT, of a plan's slaves with their paces: so they are at most `16 * pace * (slaves + 1)` for each mail told
