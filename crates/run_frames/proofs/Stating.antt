@@ -1,6 +1,6 @@
 -- Each reopening that a state service began is of a service that came into hand.
-use Rattle.std.proofs.Common.{◌≡◌, ℕ, zero, suc, ◌+◌, ◌≤◌, ◌==◌, ◌&&◌, not, Bool, true, false, Option, Some, None, List, [], ◌∷◌, ◌++◌, refl, sym, ap, ◌∙◌, subst, arith, if◌then◌else◌}
-use Rattle.std.specs.Prelude.{⊤, nat_lt, length}
+use Rattle.std.proofs.Common.{◌≡◌, ℕ, ◌+◌, ◌≤◌, ◌==◌, ◌&&◌, not, Bool, true, false, Option, Some, None, List, [], ◌∷◌, ◌++◌, refl, sym, ap, subst, arith, if◌then◌else◌}
+use Rattle.std.specs.Prelude.{⊤}
 use Rattle.exchange_model.specs.Exchange.{Speech}
 use Rattle.segment_model.specs.Record.{is_for}
 use Rattle.segment_model.specs.Seats.{Side}
@@ -10,9 +10,8 @@ use Rattle.task_model.specs.Accounts.{Account, Duty, Stage, Pick, Started, Progr
 use Rattle.life_model.specs.Lives.{Era, Life, Stand, Spot, Opening, granted, new_life, life_next, life_back, life_lost, gives_up, opening_back, shows_clear, last_step, is_shown, clears, opens, steps_on, era_back, reopens}
 use Rattle.life_model.specs.Own.{own}
 use Rattle.run_frames.specs.Begins.{AllNew}
-use Rattle.run_frames.specs.Brings.{AllBring}
 use Rattle.run_frames.specs.Clocks.{Clocked, goes_to_init, duty_reopens, eras_reopened, reopened, reopened_all}
-use Rattle.run_frames.specs.Goes.{Under, IsUnder, AllUnder, given_if, lost_life, back_life, all_lost, all_back}
+use Rattle.run_frames.specs.Goes.{Under, IsUnder, AllUnder, given_if, all_lost, all_back}
 use Rattle.run_frames.specs.Runs as Runs
 use Rattle.run_frames.specs.Runs.{IsRun}
 use Rattle.run_frames.specs.States.{state_of, states_in, states_of, states_begun, states_all}
