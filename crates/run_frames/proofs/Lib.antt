@@ -16,6 +16,8 @@ mod Running
 mod Same
 mod Stating
 mod Tallying
+mod Toured
+mod Touring
 mod Waiting
 mod Walking
 mod Worked

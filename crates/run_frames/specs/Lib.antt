@@ -8,4 +8,6 @@ pub mod Losses
 pub mod Orders
 pub mod Runs
 pub mod States
+pub mod Toured
+pub mod Tours
 pub mod Waits
