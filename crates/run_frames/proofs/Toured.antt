@@ -1,6 +1,6 @@
 -- A run whose frames are visits of one tour is one whose frames count.
-use Rattle.std.proofs.Common.{◌≡◌, ℕ, zero, suc, ◌+◌, ◌<◌, ◌≤◌, Bool, true, false, Option, Some, None, List, [], ◌∷◌, ◌++◌, length, refl, sym, ap, ◌∙◌, subst, arith, inl, inr}
-use Rattle.std.specs.Prelude.{⊤, nat_lt}
+use Rattle.std.proofs.Common.{◌≡◌, ℕ, ◌<◌, Option, None, List, length, sym, subst, inl, inr}
+use Rattle.std.specs.Prelude.{nat_lt}
 use Rattle.std.proofs.lemmas.Bool.{cases_lt}
 use Rattle.frame_view.specs.Seen.{seen}
 use Rattle.frame_view.specs.View.{Lens}
@@ -10,7 +10,7 @@ use Rattle.master_duty.specs.Reply.{Reply}
 use Rattle.master_hand.specs.Spoken.{Asked, acknowledged, is_followed}
 use Rattle.run_frames.specs.Begins.{AllNew}
 use Rattle.run_frames.specs.Clocks.{Clocked}
-use Rattle.run_frames.specs.Goes.{AllUnder, AllClocked, all_lost}
+use Rattle.run_frames.specs.Goes.{AllUnder, AllClocked}
 use Rattle.run_frames.specs.Led.{AreLed, unders, first_clocked, behind_lost, IsTallied}
 use Rattle.run_frames.specs.Orders.{opened_on, live_round}
 use Rattle.run_frames.specs.Runs.{Progress}
@@ -19,7 +19,7 @@ use Rattle.run_frames.specs.Tours.{last_lost}
 use Rattle.run_frames.proofs.Bringing.{FirstFrom}
 use Rattle.run_frames.proofs.Leading.{SeenIs, all_under, led_view}
 use Rattle.run_frames.proofs.Returning.{known, gains_lost, as_many_under}
-use Rattle.run_frames.proofs.Running.{Holds, holds}
+use Rattle.run_frames.proofs.Running.{holds}
 use Rattle.run_frames.proofs.Same.{as_many_lost}
 use Rattle.run_frames.proofs.Tallying.{Known, tallied}
 use Rattle.run_frames.proofs.Touring.{AgainOf, visit_is, again_on, carries, rounds, same_round, stays_opened, first_stays, over_stays}
@@ -65,9 +65,10 @@ module _ (seen_is : SeenIs) (lens : ℕ → Lens) (recover retry slowest : ℕ) 
         tallied = IsTallied.lost fs missed as' p cs f us after (last_lost (nat_lt p.opened (length cs)) gives p.last ps) h.tallied l fate (λ under. carries (length cs) p.opened p.last cs vs ps (long p cs f us t) under visit v.under);
         same = again_on gives (length cs) p.opened p.last cs (behind_lost lens recover retry slowest gives p.frames f us cs) ps
             (as_many_lost (known Body Asked Reply).before (gains_lost Body Asked Reply) (speech_at lens) acknowledged is_followed is_passed gives recover p.frames (seen lens f.sent) cs vs t)
-            (λ none. subst (λ b. (opened_on p.opened (behind_lost lens recover retry slowest b p.frames f us cs) ≡ p.opened) × (live_round (length cs) p.last (behind_lost lens recover retry slowest b p.frames f us cs) ≡ live_round (length cs) p.last cs)) (sym none)
-                (stays_opened (speech_at lens) acknowledged is_followed is_passed recover p.frames (seen lens f.sent) p.opened cs vs t (opened_same p cs ring),
-                 same_round (speech_at lens) acknowledged is_followed is_passed recover p.frames (seen lens f.sent) (length cs) p.last cs vs t)) visit;
+            (λ none. subst (λ b. (opened_on p.opened (behind_lost lens recover retry slowest b p.frames f us cs) ≡ p.opened) × (live_round (length cs) p.last (behind_lost lens recover retry slowest b p.frames f us cs) ≡ live_round (length cs) p.last cs)) (sym none) (
+              stays_opened (speech_at lens) acknowledged is_followed is_passed recover p.frames (seen lens f.sent) p.opened cs vs t (opened_same p cs ring),
+              same_round (speech_at lens) acknowledged is_followed is_passed recover p.frames (seen lens f.sent) (length cs) p.last cs vs t,
+            )) visit;
       }
   toured gs again' missed' bs q ds (IsToured.opening fs again missed as' p cs f us ps r l fate b under v) =
       let h = toured fs again missed as' p cs r in

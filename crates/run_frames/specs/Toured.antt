@@ -23,14 +23,14 @@ module _ (lens : ℕ → Lens) (recover retry slowest : ℕ) where
     lost : (fs : List Exchanged) (again : Option (List ℕ)) (missed : ℕ) (as' : List Leads) (p : Progress) (cs : List (Clocked Body Asked Reply)) (f : Exchanged) (us : List Turn) (after : ℕ) (ps : List ℕ) → IsToured first paces fs again missed as' p cs →
         IsLedFrame lens (length fs) f.sent as' us → f.fate ≡ Lost after → IsVisited again (length cs) p.opened p.last cs (unders (seen lens f.back) us) ps →
         IsToured first paces (fs ++ f ∷ []) (again_behind (gives_up_at lens recover retry missed) ps) (missed_behind lens recover retry f.fate missed) (leads_behind lens recover retry slowest missed (length fs) f us)
-            (record { frames = suc p.frames; lost = suc p.lost; still = 0; opened = opened_on p.opened (behind_lost lens recover retry slowest (gives_up_at lens recover retry missed) p.frames f us cs); last = last_lost (nat_lt p.opened (length cs)) (gives_up_at lens recover retry missed) p.last ps; waits = all_anew cs })
-            (behind_lost lens recover retry slowest (gives_up_at lens recover retry missed) p.frames f us cs)
+        (record { frames = suc p.frames; lost = suc p.lost; still = 0; opened = opened_on p.opened (behind_lost lens recover retry slowest (gives_up_at lens recover retry missed) p.frames f us cs); last = last_lost (nat_lt p.opened (length cs)) (gives_up_at lens recover retry missed) p.last ps; waits = all_anew cs })
+        (behind_lost lens recover retry slowest (gives_up_at lens recover retry missed) p.frames f us cs)
     opening : (fs : List Exchanged) (again : Option (List ℕ)) (missed : ℕ) (as' : List Leads) (p : Progress) (cs : List (Clocked Body Asked Reply)) (f : Exchanged) (us : List Turn) (ps : List ℕ) → IsToured first paces fs again missed as' p cs →
         IsLedFrame lens (length fs) f.sent as' us → f.fate ≡ Pass → AllBring (seen lens f.back) cs (unders (seen lens f.back) us) → p.opened < length cs → IsVisited again (length cs) p.opened p.last cs (unders (seen lens f.back) us) ps →
         IsToured first paces (fs ++ f ∷ []) None (missed_behind lens recover retry f.fate missed) (leads_behind lens recover retry slowest missed (length fs) f us)
-            (record { frames = suc p.frames; lost = p.lost; still = p.still; opened = opened_on p.opened (behind_back lens recover retry slowest p.frames f us cs); last = None; waits = all_anew cs }) (behind_back lens recover retry slowest p.frames f us cs)
+        (record { frames = suc p.frames; lost = p.lost; still = p.still; opened = opened_on p.opened (behind_back lens recover retry slowest p.frames f us cs); last = None; waits = all_anew cs }) (behind_back lens recover retry slowest p.frames f us cs)
     round : (fs : List Exchanged) (again : Option (List ℕ)) (missed : ℕ) (as' : List Leads) (p : Progress) (cs : List (Clocked Body Asked Reply)) (f : Exchanged) (us : List Turn) (ps : List ℕ) → IsToured first paces fs again missed as' p cs →
         IsLedFrame lens (length fs) f.sent as' us → f.fate ≡ Pass → AllBring (seen lens f.back) cs (unders (seen lens f.back) us) → length cs ≤ p.opened → IsVisited again (length cs) p.opened p.last cs (unders (seen lens f.back) us) ps →
         (still_led lens recover retry slowest p f us cs ≡ suc p.still → SomeWaits (behind_back lens recover retry slowest p.frames f us cs) (waits_led lens recover retry slowest p f us cs)) →
         IsToured first paces (fs ++ f ∷ []) None (missed_behind lens recover retry f.fate missed) (leads_behind lens recover retry slowest missed (length fs) f us)
-            (record { frames = suc p.frames; lost = p.lost; still = still_led lens recover retry slowest p f us cs; opened = p.opened; last = last_of p.last ps; waits = waits_led lens recover retry slowest p f us cs }) (behind_back lens recover retry slowest p.frames f us cs)
+        (record { frames = suc p.frames; lost = p.lost; still = still_led lens recover retry slowest p f us cs; opened = p.opened; last = last_of p.last ps; waits = waits_led lens recover retry slowest p f us cs }) (behind_back lens recover retry slowest p.frames f us cs)

@@ -1,5 +1,5 @@
 -- A RUN WHOSE FRAMES ARE VISITS OF ONE TOUR, by places in the ring.
-use Rattle.std.specs.Prelude.{◌≡◌, ◌<◌, ℕ, suc, nat_lt, Bool, true, false, if◌then◌else◌, Option, Some, None, List, [], ◌∷◌, length}
+use Rattle.std.specs.Prelude.{◌≡◌, ◌<◌, ℕ, nat_lt, Bool, true, false, Option, Some, None, List, [], ◌∷◌}
 use Rattle.run_frames.specs.Clocks.{Clocked}
 use Rattle.run_frames.specs.Goes.{Under}
 use Rattle.run_frames.specs.Orders.{AreFirst, live_round, under_at, is_in, last_of}
