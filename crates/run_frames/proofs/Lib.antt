@@ -14,7 +14,10 @@ mod Reopening
 mod Returning
 mod Running
 mod Same
+mod Stating
 mod Tallying
+mod Toured
+mod Touring
 mod Waiting
 mod Walking
 mod Worked

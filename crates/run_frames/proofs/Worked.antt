@@ -1,5 +1,5 @@
 -- Worked rows: a slave that is brought up alone, whose processor makes a step behind each third frame, and a ring of two.
-use Rattle.std.proofs.Common.{◌≡◌, ℕ, Bool, true, false, Option, Some, None, zero, suc, ◌≤◌, ◌<◌, ◌&&◌, ◌⊎◌, inl, List, [], ◌∷◌, refl, sym, ap, subst, arith}
+use Rattle.std.proofs.Common.{◌≡◌, ℕ, Bool, true, false, Option, Some, None, zero, suc, ◌<◌, ◌&&◌, inl, List, [], ◌∷◌, refl, sym, ap, subst, arith}
 use Rattle.exchange_model.specs.Exchange.{Speech}
 use Rattle.segment_model.specs.Slaves.{Datagram, Address, Access, Found}
 use Rattle.link_model.specs.Frames.{Ask}
@@ -110,13 +110,16 @@ module _ {M Q R : Type 0} (x : Spot → Speech M Q R) (acknowledged : Q → Bool
   opening step = record { again = false; step = step; state = 2; own = false }
 
   begins : Run (at 0) first
-  begins = IsRun.start None (refl, tt) (record {
-    stands = record { first = omega arith; last = omega arith; new = λ is. refl };
-    hand = λ is. refl;
-    gained = omega arith;
-    some = omega arith;
-    most = omega arith;
-  }, tt)
+  begins = IsRun.start None (refl, tt) (
+    record {
+      stands = record { first = omega arith; last = omega arith; new = λ is. refl };
+      hand = λ is. refl;
+      gained = omega arith;
+      some = omega arith;
+      most = omega arith;
+    },
+    tt,
+  )
 
   abbrev slave : ℕ → Option Found → Clocked M Q R → Clocked M Q R
   slave n found c = clocked_behind n c (back_life x acknowledged more passed n [] c (shown c found))

@@ -7,4 +7,7 @@ pub mod Led
 pub mod Losses
 pub mod Orders
 pub mod Runs
+pub mod States
+pub mod Toured
+pub mod Tours
 pub mod Waits

@@ -23,6 +23,8 @@ ghost use Rattle.run_frames.specs.Orders.{IsOpening, IsRound, AllRepaired, last_
 ghost use Rattle.run_frames.specs.Fates.{AreFated, gained_in};
 ghost use Rattle.run_frames.specs.Led.{AreLed, IsTallied};
 ghost use Rattle.run_frames.specs.Runs.{Progress, IsRun};
+ghost use Rattle.run_frames.specs.States.{states_all};
+ghost use Rattle.run_frames.specs.Toured.{IsToured};
 
 /// BEFORE THE FIRST FRAME the tally of a ring is new: each slave is brought up by five accesses and the wait for one step, one slave behind the other.
 pub fn begins_law<M, Q, R>()
@@ -68,6 +70,11 @@ pub fn counts_law<M, Q, R>()
         1 ≤ length first → 1 ≤ slowest → gains_all cs + reopened_all cs ≤ length first + work → p.lost ≤ lost → p.frames ≤ 16 * slowest * (length first + 1) * (work + lost + 2 * length first) }
 {}
 
+/// EACH REOPENING THAT A STATE SERVICE BEGAN is of a state service that came into hand: over a run there are no more.
+pub fn reopened_law<M, Q, R>()
+    ensures { (x : Spot → Speech M Q R) (acknowledged : Q → Bool) (more : M → Bool) (passed : Q → Bool) (recover slowest : ℕ) (first cs : List (Clocked M Q R)) (p : Progress) → IsRun x acknowledged more passed recover slowest first p cs → reopened_all cs ≤ states_all cs }
+{}
+
 /// THE FRAMES OF A RUN THAT A MASTER LEADS COUNT, of a plan's slaves with their paces: so they are at most `16 * pace * (slaves + 1)` for each mail told
 /// and heard, each step and each reopening of a state service, each lost frame, and two for each slave.
 pub fn led_counts()
@@ -77,6 +84,15 @@ pub fn led_counts()
         Counted (length plan.slaves) (slowest plan.paces) (new_tally (length plan.slaves * (5 + slowest plan.paces))) (tally_of (slowest plan.paces) (length plan.slaves) p.opened p.last p.frames p.lost p.still cs) }
     ensures within { (plan : Scenario) (fs : List Exchanged) (missed work : ℕ) (as' : List Leads) (p : Progress) (cs : List (Clocked Body Asked Reply)) → IsPlan plan → IsTallied (lens_of plan.slaves) plan.recover plan.retry (slowest plan.paces) (first_leads plan) plan.paces fs missed as' p cs →
         AreFated plan.lose 0 fs → gained_in as' ≤ length plan.slaves + work → length fs ≤ 16 * slowest plan.paces * (length plan.slaves + 1) * (work + length plan.lose + 2 * length plan.slaves) }
+{
+    frame_view::seen_is();
+}
+
+/// A RUN THAT A MASTER LEADS COUNTS, where its frames are visits of one tour: in the first bring-up of the slave that is brought up, behind it of the first
+/// live slaves of a round, and behind a lost frame of those that it carried, unless they were given up.
+pub fn toured_law()
+    ensures { (plan : Scenario) (fs : List Exchanged) (again : Option (List ℕ)) (missed : ℕ) (as' : List Leads) (p : Progress) (cs : List (Clocked Body Asked Reply)) → IsPlan plan → IsToured (lens_of plan.slaves) plan.recover plan.retry (slowest plan.paces) (first_leads plan) plan.paces fs again missed as' p cs →
+        IsTallied (lens_of plan.slaves) plan.recover plan.retry (slowest plan.paces) (first_leads plan) plan.paces fs missed as' p cs }
 {
     frame_view::seen_is();
 }

@@ -1,0 +1,88 @@
+-- A run whose frames are visits of one tour is one whose frames count.
+use Rattle.std.proofs.Common.{◌≡◌, ℕ, ◌<◌, Option, None, List, length, sym, subst, inl, inr}
+use Rattle.std.specs.Prelude.{nat_lt}
+use Rattle.std.proofs.lemmas.Bool.{cases_lt}
+use Rattle.frame_view.specs.Seen.{seen}
+use Rattle.frame_view.specs.View.{Lens}
+use Rattle.life_runs.specs.Led.{Exchanged, Leads, Turn, IsLedFrame, speech_at, is_passed, gives_up_at}
+use Rattle.link_mails.specs.Body.{Body}
+use Rattle.master_duty.specs.Reply.{Reply}
+use Rattle.master_hand.specs.Spoken.{Asked, acknowledged, is_followed}
+use Rattle.run_frames.specs.Begins.{AllNew}
+use Rattle.run_frames.specs.Clocks.{Clocked}
+use Rattle.run_frames.specs.Goes.{AllUnder, AllClocked}
+use Rattle.run_frames.specs.Led.{AreLed, unders, first_clocked, behind_lost, IsTallied}
+use Rattle.run_frames.specs.Orders.{opened_on, live_round}
+use Rattle.run_frames.specs.Runs.{Progress}
+use Rattle.run_frames.specs.Toured.{IsToured}
+use Rattle.run_frames.specs.Tours.{last_lost}
+use Rattle.run_frames.proofs.Bringing.{FirstFrom}
+use Rattle.run_frames.proofs.Leading.{SeenIs, all_under, led_view}
+use Rattle.run_frames.proofs.Returning.{known, gains_lost, as_many_under}
+use Rattle.run_frames.proofs.Running.{holds}
+use Rattle.run_frames.proofs.Same.{as_many_lost}
+use Rattle.run_frames.proofs.Tallying.{Known, tallied}
+use Rattle.run_frames.proofs.Touring.{AgainOf, visit_is, again_on, carries, rounds, same_round, stays_opened, first_stays, over_stays}
+
+abbrev Slave : Type 0
+Slave = Clocked Body Asked Reply
+
+module _ (seen_is : SeenIs) (lens : ℕ → Lens) (recover retry slowest : ℕ) (first : List Leads) (paces : List ℕ) (begins : AllNew (first_clocked first paces) × AllClocked slowest (first_clocked first paces) × AreLed first (first_clocked first paces)) where
+  -- what holds behind each frame
+  pub record Tours (fs : List Exchanged) (again : Option (List ℕ)) (missed : ℕ) (as' : List Leads) (p : Progress) (cs : List Slave) : Type 0 where
+    pub tallied : IsTallied lens recover retry slowest first paces fs missed as' p cs
+    pub same : AgainOf again (length cs) p.opened p.last cs
+
+  abbrev Lists : Progress → List Slave → Exchanged → List Turn → Type 0
+  Lists p cs f us = AllUnder (speech_at lens) acknowledged is_followed is_passed p.frames (seen lens f.sent) cs (unders (seen lens f.back) us)
+
+  under_all : (fs : List Exchanged) (missed : ℕ) (as' : List Leads) (p : Progress) (cs : List Slave) (f : Exchanged) (us : List Turn) → Known lens recover retry slowest first paces fs missed as' p cs → IsLedFrame lens (length fs) f.sent as' us → Lists p cs f us
+  under_all fs missed as' p cs f us k l =
+      let l' = subst (λ n. IsLedFrame lens n f.sent as' us) (sym k.frames) l in
+      all_under seen_is lens recover retry p.frames f l'.datagrams (seen lens f.back) cs as' us k.slaves (led_view seen_is lens recover retry p.frames f l'.datagrams l'.frame) l'.each
+
+  long : (p : Progress) (cs : List Slave) (f : Exchanged) (us : List Turn) → Lists p cs f us → length (unders (seen lens f.back) us) ≡ length cs
+  long p cs f us t = as_many_under (known Body Asked Reply) (speech_at lens) acknowledged is_followed is_passed p.frames (seen lens f.sent) (seen lens f.back) cs (unders (seen lens f.back) us) t
+
+  -- how many have ended their first bring-up stays
+  opened_same : (p : Progress) (cs : List Slave) → (p.opened < length cs → FirstFrom p.opened cs) → opened_on p.opened cs ≡ p.opened
+  opened_same p cs ring = elim (cases_lt p.opened (length cs)) [
+    | inl less ↦ first_stays p.opened cs (ring less) less
+    | inr more ↦ over_stays p.opened cs more
+  ]
+
+  pub toured : (fs : List Exchanged) (again : Option (List ℕ)) (missed : ℕ) (as' : List Leads) (p : Progress) (cs : List Slave) → IsToured lens recover retry slowest first paces fs again missed as' p cs → Tours fs again missed as' p cs
+  toured fs again missed as' p cs IsToured.start = record { tallied = IsTallied.start; same = tt }
+  toured gs again' missed' bs q ds (IsToured.lost fs again missed as' p cs f us after ps r l fate v) =
+      let h = toured fs again missed as' p cs r in
+      let k = tallied seen_is lens recover retry slowest first paces begins fs missed as' p cs h.tallied in
+      let ring = (holds (known Body Asked Reply) (gains_lost Body Asked Reply) (speech_at lens) acknowledged is_followed is_passed recover slowest (first_clocked first paces) p cs k.run).ring in
+      let t = under_all fs missed as' p cs f us k l in
+      let visit = visit_is again (length cs) p.opened p.last cs ps h.same v.places in
+      let gives = gives_up_at lens recover retry missed in
+      let vs = unders (seen lens f.back) us in
+      record {
+        tallied = IsTallied.lost fs missed as' p cs f us after (last_lost (nat_lt p.opened (length cs)) gives p.last ps) h.tallied l fate (λ under. carries (length cs) p.opened p.last cs vs ps (long p cs f us t) under visit v.under);
+        same = again_on gives (length cs) p.opened p.last cs (behind_lost lens recover retry slowest gives p.frames f us cs) ps
+            (as_many_lost (known Body Asked Reply).before (gains_lost Body Asked Reply) (speech_at lens) acknowledged is_followed is_passed gives recover p.frames (seen lens f.sent) cs vs t)
+            (λ none. subst (λ b. (opened_on p.opened (behind_lost lens recover retry slowest b p.frames f us cs) ≡ p.opened) × (live_round (length cs) p.last (behind_lost lens recover retry slowest b p.frames f us cs) ≡ live_round (length cs) p.last cs)) (sym none) (
+              stays_opened (speech_at lens) acknowledged is_followed is_passed recover p.frames (seen lens f.sent) p.opened cs vs t (opened_same p cs ring),
+              same_round (speech_at lens) acknowledged is_followed is_passed recover p.frames (seen lens f.sent) (length cs) p.last cs vs t,
+            )) visit;
+      }
+  toured gs again' missed' bs q ds (IsToured.opening fs again missed as' p cs f us ps r l fate b under v) =
+      let h = toured fs again missed as' p cs r in
+      let k = tallied seen_is lens recover retry slowest first paces begins fs missed as' p cs h.tallied in
+      let t = under_all fs missed as' p cs f us k l in
+      let visit = visit_is again (length cs) p.opened p.last cs ps h.same v.places in
+      record {
+        tallied = IsTallied.opening fs missed as' p cs f us None h.tallied l fate b under (carries (length cs) p.opened p.last cs (unders (seen lens f.back) us) ps (long p cs f us t) under visit v.under);
+        same = tt;
+      }
+  toured gs again' missed' bs q ds (IsToured.round fs again missed as' p cs f us ps r l fate b over v waits) =
+      let h = toured fs again missed as' p cs r in
+      let visit = visit_is again (length cs) p.opened p.last cs ps h.same v.places in
+      record {
+        tallied = IsTallied.round fs missed as' p cs f us ps h.tallied l fate b over (rounds (length cs) p.opened p.last cs (unders (seen lens f.back) us) ps over visit v.under) waits;
+        same = tt;
+      }
