@@ -3,4 +3,6 @@
 
 mod book;
 
-pub use book::{Answer, Begun, Book, Emergency, Ending, Epoch, GramIn, GramOut, Reply, SentFrame, SlaveBook};
+pub use book::{
+    Answer, Begun, Book, Emergency, Ending, Epoch, GramIn, GramOut, Reply, SentFrame, SlaveBook,
+};
