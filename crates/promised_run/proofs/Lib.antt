@@ -4,4 +4,5 @@ mod Rounds
 mod Unsent
 mod Epochs
 mod Emergencies
+mod Visits
 mod Overs

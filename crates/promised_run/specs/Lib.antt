@@ -2,4 +2,5 @@ pub mod Reported
 pub mod Unsent
 pub mod Epochs
 pub mod Emergencies
+pub mod Visits
 pub mod Promised

@@ -8,6 +8,7 @@ use Rattle.promised_run.specs.Emergencies.{AllHaveEmergencies}
 use Rattle.promised_run.specs.Epochs.{AllCaused}
 use Rattle.promised_run.specs.Reported.{AllReported}
 use Rattle.promised_run.specs.Unsent.{AllUnsent}
+use Rattle.promised_run.specs.Visits.{AllVisit}
 use Rattle.run_book.specs.declared.book.Book.{Book}
 use Rattle.run_book.specs.declared.book.Ending.{Ending}
 use Rattle.run_book.specs.declared.book.Ending.TheVariants as endings
@@ -40,3 +41,5 @@ pub record IsPromised (plan : Scenario) (book : Book) : Type 0 where
   pub epochs : book.ending ≢ endings.NoMemory → AllCaused led.leads book.slaves
   -- and of each slave just the emergencies among the mails that its life accepted over these frames are reported, each with the frame that brought it
   pub emergencies : book.ending ≢ endings.NoMemory → AllHaveEmergencies (heard_in led.lives) book.slaves
+  -- and the frames are the visits of one tour: each is addressed to the first slaves of its visit, in order, and to no other
+  pub visits : AllVisit plan led.toured

@@ -18,13 +18,16 @@ use Rattle.master_hand.specs.Spoken.{Asked, acknowledged, is_followed}
 use Rattle.life_runs.specs.Led.{new_leads}
 use Rattle.life_model.specs.Lives.{Spot}
 use Rattle.master_node.specs.Brought.{HasBrought}
-use Rattle.master_node.specs.Shows.{MasterShows, MasterUnder, IsLead, IsUnder}
+use Rattle.master_node.specs.Shows.{MasterShows, MasterUnder, IsLead, IsUnder, is_live_lead}
+use Rattle.master_node.specs.Toured.{tour_of, turn_share}
 use Rattle.master_node.specs.Told.{HasLeads}
 use Rattle.master_node.proofs.Lists.{both_map}
 use Rattle.master_node.specs.Wants.{gave_of, AllCounted}
 use Rattle.master_node.specs.declared.node.MasterNode.{MasterNode}
 use Rattle.master_node.specs.declared.node.Next.{Next}
 use Rattle.master_node.specs.declared.node.Next.TheVariants as nexts
+use Rattle.master_tour.specs.Goes.{holds_at}
+use Rattle.master_tour.specs.Toured.{Tour, IsOfTour, new_tour}
 use Rattle.master_node.proofs.Counts.{counted, turn_gave, back_gave, lost_gave}
 use Rattle.run_book.specs.declared.book.SentFrame.{SentFrame}
 use Rattle.segment_model.specs.Returned.{Returns}
@@ -40,7 +43,7 @@ use Rattle.slave_steps.specs.Node.{Node, node_passed}
 use Rattle.ring_returns.proofs.Returned as Returned
 use Rattle.run_record.specs.declared.notes.Notes.{Notes}
 use Rattle.run_record.specs.declared.standing.Log.{Log}
-use Rattle.run_record.specs.Led.{exchanged, gaves_noted, Leading, AreLed}
+use Rattle.run_record.specs.Led.{exchanged, gaves_noted, TouredTo, Leading, AreLed}
 use Rattle.run_record.specs.Heard.{emergencies_noted, HeardBy}
 use Rattle.run_record.specs.Notes.{new_notes}
 use Rattle.run_record.specs.Reports.{Reports, AllReport, ReportsOn, ReportsBy, TurnsAll}
@@ -53,6 +56,7 @@ use Rattle.script_answers.proofs.Losses.{passes_so, loses_so}
 use Rattle.script_answers.proofs.Turns.{turns_so}
 use Rattle.run_record.proofs.Gaves.{with_more}
 use Rattle.run_record.proofs.Heard.{first_heard}
+use Rattle.visit_orders.specs.Toured.{IsToured, tour_behind, lives_behind}
 
 -- BEFORE THE FIRST FRAME
 first_gaves : (services : List (ℕ × Plan.Service)) (number place : ℕ) (ss : List SlaveSpec) → gaves_noted (first_notes services number ss) ≡ map gave_of (leads_from services place ss)
@@ -77,8 +81,8 @@ first_reports services number place (s ∷ ss) e = (
   first_reports services (number + 1) (suc place) ss (omega (arith, e)),
 )
 
-pub begins : (plan : Scenario) (m : MasterNode) (notes : List Notes) → MasterShows (lens_of plan.slaves) plan.recover plan.retry m 0 (first_leads plan) → notes ≡ first_notes plan.services 0 plan.slaves → Leading plan m notes []
-begins plan m notes shown first = record {
+pub begins : (plan : Scenario) (m : MasterNode) (notes : List Notes) → MasterShows (lens_of plan.slaves) plan.recover plan.retry m 0 (first_leads plan) → notes ≡ first_notes plan.services 0 plan.slaves → tour_of m ≡ new_tour → Leading plan m notes []
+begins plan m notes shown first tour = record {
   missed = 0;
   leads = first_leads plan;
   lives = IsLed.start;
@@ -86,6 +90,7 @@ begins plan m notes shown first = record {
   gave = ap gaves_noted first ∙ first_gaves plan.services 0 0 plan.slaves;
   told = subst (λ (ns : List Notes). AllReport (first_leads plan) ns) (sym first) (first_reports plan.services 0 0 plan.slaves refl);
   heard = ap emergencies_noted first ∙ first_heard plan.services 0 0 plan.slaves;
+  toured = subst (λ (t : Tour). TouredTo plan [] t (first_leads plan)) (sym tour) IsToured.start;
 }
 
 -- GIVE-UPS over a frame
@@ -155,7 +160,9 @@ module _ (lens : ℕ → Lens) (recover retry : ℕ) (gives : Bool) (made : ℕ)
 -- ONE FRAME: what the master says of it before, and of its return or loss
 module _ (m0 m1 m2 : MasterNode) (f : Exchanged) (result : Next)
     (idle : (result ≡ nexts.Idle) ↔ (has_live m0 ≡ false))
-    (led : result ≡ nexts.Frame → (lens : ℕ → Lens) (recover retry missed number : ℕ) (as' : List Leads) → MasterShows lens recover retry m0 missed as' → (us : List Turn) × IsLedFrame lens number f.sent as' us × MasterUnder lens recover retry m1 f.sent missed us) where
+    (led : result ≡ nexts.Frame → (lens : ℕ → Lens) (recover retry missed number : ℕ) (as' : List Leads) → MasterShows lens recover retry m0 missed as' → (us : List Turn) × IsLedFrame lens number f.sent as' us × MasterUnder lens recover retry m1 f.sent missed us)
+    (visits : result ≡ nexts.Frame → (lens : ℕ → Lens) (recover retry missed : ℕ) (as' : List Leads) (us : List Turn) → MasterShows lens recover retry m0 missed as' → MasterUnder lens recover retry m1 f.sent missed us →
+        (tour_of m1 ≡ tour_of m0) × IsOfTour (λ u. turn_share u) (λ k. holds_at is_live_lead as' k) (tour_of m0) us (length (seen lens f.sent)) m1.tour.visit.items) where
   -- where some slave is live there is one
   made_by : (r : Next) → result ≡ r → has_live m0 ≡ true → result ≡ nexts.Frame
   made_by nexts.Frame e live = e
@@ -174,11 +181,25 @@ module _ (m0 m1 m2 : MasterNode) (f : Exchanged) (result : Next)
     abbrev leads : List Turn → List Leads
     leads us = map (led_behind lens plan.recover plan.retry gives (length fs) f) us
 
+    visited : (tour_of m1 ≡ tour_of m0) × IsOfTour (λ u. turn_share u) (λ k. holds_at is_live_lead l.leads k) (tour_of m0) made.0 (length (seen lens f.sent)) m1.tour.visit.items
+    visited = visits (made_by result refl live) lens plan.recover plan.retry l.missed l.leads made.0 l.shows made.2
+
+    -- where the tour stands behind it
+    abbrev tour : ℕ → Tour → Tour
+    tour missed t = tour_behind plan.retry f.fate (lives_behind lens plan.recover plan.retry missed (length fs) f made.0) t m1.tour.visit.items
+
+    toured_on : TouredTo plan (fs ++ f ∷ []) (tour l.missed (tour_of m0)) (leads made.0)
+    toured_on =
+        subst (λ (n : ℕ). TouredTo plan (fs ++ f ∷ []) (tour n (tour_of m0)) (lives_behind lens plan.recover plan.retry n (length fs) f made.0)) l.shows.missed_is
+        (IsToured.on fs (tour_of m0) l.leads f made.0 m1.tour.visit.items l.toured made.1 visited.1)
+
     pub led_on : AreLed plan (fs ++ f ∷ [])
-    led_on = record { missed = _; leads = leads made.0; lives = IsLed.on fs l.missed l.leads f made.0 l.lives made.1 }
+    led_on = record { missed = _; leads = leads made.0; lives = IsLed.on fs l.missed l.leads f made.0 l.lives made.1; tour = tour l.missed (tour_of m0); toured = toured_on }
 
     module _ (tell : (number : ℕ) (us : List Turn) → IsLedFrame lens number f.sent l.leads us → MasterUnder lens plan.recover plan.retry m1 f.sent l.missed us →
         MasterShows lens plan.recover plan.retry m2 (missed_behind lens plan.recover plan.retry f.fate l.missed) (map (led_behind lens plan.recover plan.retry gives number f) us))
+        (goes : (number : ℕ) (us : List Turn) → IsLedFrame lens number f.sent l.leads us → MasterUnder lens plan.recover plan.retry m1 f.sent l.missed us →
+        tour_of m2 ≡ tour_behind plan.retry f.fate (lives_behind lens plan.recover plan.retry l.missed number f us) (tour_of m1) m1.tour.visit.items)
         (frame : ℕ) (counts : length fs ≡ frame) (r r' : Log) (recover : r.recover ≡ plan.recover) (before : gaves_noted r.notes ≡ gaves_noted notes) (noted : GaveBy f.fate frame m2 r r')
         (told_before : TurnsAll frame m1 (ReportsOn notes r.notes)) (told_behind : ReportsBy f.fate frame m2 r r')
         (brings : f.fate ≡ Fates.Pass → (us : List Turn) → IsLedFrame lens (length fs) f.sent l.leads us → MasterUnder lens plan.recover plan.retry m1 f.sent l.missed us → HasBrought m2 us (seen lens f.back))
@@ -249,6 +270,7 @@ module _ (m0 m1 m2 : MasterNode) (f : Exchanged) (result : Next)
         gave = gave_by f.fate refl;
         told = told_by f.fate refl;
         heard = heard_by f.fate refl;
+        toured = subst (λ (t : Tour). TouredTo plan (fs ++ f ∷ []) t (leads made.0)) (sym (goes (length fs) made.0 made.1 made.2 ∙ ap (tour l.missed) visited.0)) toured_on;
       }
 
 -- what the ring gave back of a frame of the master's is its return
@@ -265,7 +287,7 @@ one_led_more plan fs f gs put l = subst (λ (k : List Exchanged). AreLed plan k)
 
 -- none
 pub none_led : (plan : Scenario) (fs : List SentFrame) → fs ≡ [] → AreLed plan (map exchanged fs)
-none_led plan fs none = subst (λ (gs : List SentFrame). AreLed plan (map exchanged gs)) (sym none) (record { missed = 0; leads = first_leads plan; lives = IsLed.start })
+none_led plan fs none = subst (λ (gs : List SentFrame). AreLed plan (map exchanged gs)) (sym none) (record { missed = 0; leads = first_leads plan; lives = IsLed.start; tour = new_tour; toured = IsToured.start })
 
 pub same_led : (plan : Scenario) (fs gs : List SentFrame) → gs ≡ fs → AreLed plan (map exchanged fs) → AreLed plan (map exchanged gs)
 same_led plan fs gs same led = subst (λ (hs : List SentFrame). AreLed plan (map exchanged hs)) (sym same) led

@@ -7,6 +7,7 @@ use Rattle.life_frames.specs.Shares.{AllBoth}
 use Rattle.life_heard.specs.Heard.{AllNoted, heard_in}
 use Rattle.life_runs.specs.First.{lens_of}
 use Rattle.life_runs.specs.Led.{Leads}
+use Rattle.master_node.specs.Toured.{tour_of}
 use Rattle.master_node.specs.Wants.{AllCounted, AllLeft, gave_of}
 use Rattle.master_node.proofs.Counts.{counted, placed}
 use Rattle.run_book.specs.declared.book.Book.{Book}
@@ -16,7 +17,7 @@ use Rattle.run_book.specs.declared.book.Ending.TheVariants as endings
 use Rattle.run_book.specs.declared.book.SentFrame.{SentFrame}
 use Rattle.run_book.specs.declared.book.SlaveBook.{SlaveBook}
 use Rattle.segment_plan.specs.declared.plan.Scenario.{Scenario}
-use Rattle.run_record.specs.Led.{exchanged, gaves_in, Leading, LeadTo, RestsSo, RestBy, LedBook}
+use Rattle.run_record.specs.Led.{exchanged, gaves_in, Leading, LeadTo, TouredTo, RestsSo, RestBy, LedBook}
 use Rattle.run_record.specs.Ran.{IsUnderway, EndsSo}
 use Rattle.run_record.specs.Session.{SessionState, session_rows, are_at_rest, some_given_up, IsLeftBy}
 use Rattle.run_record.specs.Reports.{IsBooked}
@@ -73,6 +74,8 @@ module _ (plan : Scenario) (s : SessionState) (b b' : Book) (h : IsUnderway plan
     missed = l.missed;
     leads = l.leads;
     lives = both.0;
+    tour = tour_of s.master;
+    toured = subst (λ (fs : List SentFrame). TouredTo plan (map exchanged fs) (tour_of s.master) l.leads) (sym frames) l.toured;
     gave = λ ok. has_gaves (rows ok);
     answers = λ ok. subst (λ (rs : List SlaveBook). AllBoth IsBooked l.leads rs) (sym (rows ok)) (all_booked s.recover l.leads s.ring.nodes s.notes same l.told);
     unsent = λ ok. subst (λ (rs : List SlaveBook). AllBoth IsSpent l.leads rs) (sym (rows ok)) (all_spent s.recover l.leads s.ring.nodes s.notes same l.told);

@@ -8,8 +8,10 @@ use Rattle.life_model.specs.Lives.{Stand}
 use Rattle.life_runs.specs.First.{lens_of, first_leads}
 use Rattle.life_runs.specs.Led.{Exchanged, Leads, IsLed}
 use Rattle.master_node.specs.Shows.{MasterShows}
+use Rattle.master_node.specs.Toured.{tour_of}
 use Rattle.master_node.specs.Wants.{gave_of, IsIdle}
 use Rattle.master_node.specs.declared.node.MasterNode.{MasterNode}
+use Rattle.master_tour.specs.Toured.{Tour}
 use Rattle.run_book.specs.declared.book.Book.{Book}
 use Rattle.run_book.specs.declared.book.Ending.{Ending}
 use Rattle.run_book.specs.declared.book.Ending.TheVariants as endings
@@ -23,6 +25,7 @@ use Rattle.run_record.specs.declared.notes.Notes.{Notes}
 use Rattle.segment_plan.specs.declared.plan.Scenario.{Scenario}
 use Rattle.slave_server.specs.Serving.{next_mail}
 use Rattle.slave_steps.specs.Node.{is_settled}
+use Rattle.visit_orders.specs.Toured.{IsToured}
 
 -- a frame of a book
 abbrev pub exchanged : SentFrame → Exchanged
@@ -32,11 +35,17 @@ exchanged f = record { sent = f.sent; fate = f.fate; back = f.back }
 abbrev pub LeadTo : Scenario → List Exchanged → ℕ → List Leads → Type 0
 LeadTo plan fs missed leads = IsLed (lens_of plan.slaves) plan.recover plan.retry (first_leads plan) fs missed leads
 
--- to some lives
+-- THEY ARE THE VISITS OF ONE TOUR, from its begin on, which stands so behind them
+abbrev pub TouredTo : Scenario → List Exchanged → Tour → List Leads → Type 0
+TouredTo plan fs tour leads = IsToured (lens_of plan.slaves) plan.recover plan.retry (first_leads plan) fs tour leads
+
+-- to some lives, as the visits of a tour
 pub record AreLed (plan : Scenario) (fs : List Exchanged) : Type 0 where
   pub missed : ℕ
   pub leads : List Leads
   pub lives : LeadTo plan fs missed leads
+  pub tour : Tour
+  pub toured : TouredTo plan fs tour leads
 
 -- the frames at which slaves were given up: by what is noted of them, by the rows of a book
 abbrev pub gaves_noted : List Notes → List (List ℕ)
@@ -46,7 +55,8 @@ abbrev pub gaves_in : List SlaveBook → List (List ℕ)
 gaves_in rows = map (λ (row : SlaveBook). row.gave) rows
 
 -- A MASTER BEHIND THESE FRAMES of a plan's run leads its slaves; so often each was given up as is noted, and what is noted of its services goes with its
--- life; and just the emergencies among the mails that its life accepted are noted, each with the frame that brought it
+-- life; and just the emergencies among the mails that its life accepted are noted, each with the frame that brought it; and its frames are the visits of
+-- its tour
 pub record Leading (plan : Scenario) (m : MasterNode) (notes : List Notes) (fs : List Exchanged) : Type 0 where
   pub missed : ℕ
   pub leads : List Leads
@@ -55,6 +65,7 @@ pub record Leading (plan : Scenario) (m : MasterNode) (notes : List Notes) (fs :
   pub gave : gaves_noted notes ≡ map gave_of leads
   pub told : AllReport leads notes
   pub heard : AllNoted (heard_in lives) (emergencies_noted notes)
+  pub toured : TouredTo plan fs (tour_of m) leads
 
 -- NOTHING IS LEFT of a slave at the end: it was given up for good; or its master wants nothing of it, and the slave is settled
 abbrev pub RestsSo : (ℕ → Lens) → Leads → SlaveBook → Type 0
@@ -77,11 +88,13 @@ RestBy lens endings.Unfinished leads rows = ⊤
 
 -- THE BOOK OF A RUN and the lives that its frames lead to: each slave was given up at just the frames that the book has; of its script just the services
 -- stand in the book that came into hand, each with its frame, and each reply is that of its row; of the mails that its life accepted just the emergencies
--- stand there, each with the frame that brought it; and nothing is left of it where the run is over
+-- stand there, each with the frame that brought it; and nothing is left of it where the run is over. The frames are the visits of one tour
 pub record LedBook (plan : Scenario) (book : Book) (ending : Ending) : Type 0 where
   pub missed : ℕ
   pub leads : List Leads
   pub lives : LeadTo plan (map exchanged book.frames) missed leads
+  pub tour : Tour
+  pub toured : TouredTo plan (map exchanged book.frames) tour leads
   pub gave : ending ≢ endings.NoMemory → gaves_in book.slaves ≡ map gave_of leads
   pub answers : ending ≢ endings.NoMemory → AllBoth IsBooked leads book.slaves
   pub unsent : ending ≢ endings.NoMemory → AllBoth IsSpent leads book.slaves

@@ -12,8 +12,10 @@ ghost use Rattle.life_runs.specs.Led.{Exchanged, Turn, led_behind, gives_up_at, 
 ghost use Rattle.master_node.specs.Brought.{HasBrought};
 ghost use Rattle.master_node.specs.Listed.{listed};
 ghost use Rattle.master_node.specs.Shows.{MasterShows, MasterUnder};
+ghost use Rattle.master_node.specs.Toured.{tour_of};
 ghost use Rattle.segment_model.specs.Returned.{Returns};
 ghost use Rattle.segment_ring.specs.declared.wire.Fate.TheVariants as Fates;
+ghost use Rattle.visit_orders.specs.Toured.{tour_behind, lives_behind};
 ghost use Rattle.run_record.specs.Led.{Leading};
 ghost use Rattle.run_record.specs.Replay.{first_ring};
 ghost use Rattle.run_record.specs.Session.{budget_of, smaller_bound, slave_row, rests_at, slave_rows, session_rows, first_session, are_at_rest, some_given_up, has_live, IsLeftBy, KeepsRest, Steps, Stops, Asks};
@@ -202,6 +204,8 @@ fn tell(master: &mut MasterNode, fate: Fate, back: &FrameBuf)
     ensures posts { vec_len master.new.posts ≡ vec_len master.old.posts }
     ensures leads { (lens : ℕ → Lens) (recover retry missed number : ℕ) (us : List Turn) (f : Exchanged) → f.fate ≡ fate → f.back ≡ back.now.items → MasterUnder lens recover retry master.old f.sent missed us →
         (fate ≡ Fates.Pass → Returns (seen lens f.sent) (seen lens back.now.items)) → MasterShows lens recover retry master.new (missed_behind lens recover retry f.fate missed) (map (led_behind lens recover retry (gives_up_at lens recover retry missed) number f) us) }
+    ensures toured { (lens : ℕ → Lens) (recover retry missed number : ℕ) (us : List Turn) (f : Exchanged) → f.fate ≡ fate → f.back ≡ back.now.items → MasterUnder lens recover retry master.old f.sent missed us →
+        (fate ≡ Fates.Pass → Returns (seen lens f.sent) (seen lens back.now.items)) → tour_of master.new ≡ tour_behind retry f.fate (lives_behind lens recover retry missed number f us) (tour_of master.old) master.old.tour.visit.items }
     ensures brought { fate ≡ Fates.Pass → (lens : ℕ → Lens) (recover retry missed : ℕ) (octets : List ℕ) (us : List Turn) → MasterUnder lens recover retry master.old octets missed us → Returns (seen lens octets) (seen lens back.now.items) →
         HasBrought master.new us (seen lens back.now.items) }
 {

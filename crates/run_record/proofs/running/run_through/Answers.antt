@@ -1,5 +1,6 @@
 use Rattle.std.proofs.Common.{◌≡◌, ◌⊎◌, inl, inr, ℕ, Bool, true, false, map, sym, ◌∙◌, subst, rules}
 use Rattle.std.specs.Bool.{OnFalse}
+use Rattle.master_node.specs.Toured.{tour_of}
 use Rattle.master_node.specs.Wants.{AllCounted}
 use Rattle.run_book.specs.declared.book.Book.{Book}
 use Rattle.segment_plan.specs.declared.plan.Scenario.{Scenario}
@@ -40,7 +41,7 @@ returns-in_err-step-clause-cut c =
     let leading = c.loop-settled.invariant.leading in
     any_err c.from_residual-in_err-step.result
     (elim c.in_err-step.ensures.err.frames [
-      | inl same ↦ same_led plan c.loop-settled.book.frames c.step.new.book.frames same (record { missed = leading.missed; leads = leading.leads; lives = leading.lives })
+      | inl same ↦ same_led plan c.loop-settled.book.frames c.step.new.book.frames same (record { missed = leading.missed; leads = leading.leads; lives = leading.lives; tour = tour_of s.master; toured = leading.toured })
       | inr f ↦ one_led_more plan c.loop-settled.book.frames f.0 c.step.new.book.frames f.1 (f.4 plan (map exchanged c.loop-settled.book.frames) (live_so plan s c.loop-settled.book c.loop-settled.settled c.loop-settled.invariant.underway leading (search rules) c.loop-settled.invariant.busy) leading)
     ])
 

@@ -1,0 +1,45 @@
+-- THE VISITS OF A BOOK: which slaves each of its frames carries, and in which order.
+use Rattle.std.specs.Prelude.{◌≡◌, ◌-◌, ℕ, nat_le, if◌then◌else◌, List, [], ◌∷◌, length, map, drop, ⊤}
+use Rattle.frame_view.specs.Seen.{seen}
+use Rattle.life_model.specs.Tours.{Member, round}
+use Rattle.life_runs.specs.First.{lens_of, first_leads}
+use Rattle.life_runs.specs.Led.{Exchanged, Leads}
+use Rattle.master_node.specs.Shows.{is_live_lead}
+use Rattle.master_node.specs.Wants.{gave_of}
+use Rattle.master_tour.specs.Toured.{Tour, AreFirst}
+use Rattle.segment_model.specs.Visits.{Stop, carried}
+use Rattle.segment_plan.specs.declared.plan.Scenario.{Scenario}
+use Rattle.segment_plan.specs.declared.slave.SlaveSpec.{SlaveSpec}
+use Rattle.visit_orders.specs.Toured.{IsToured, stations_of, visit_stations}
+use Rattle.visit_orders.specs.Visits.{last_station}
+
+-- a slave of a plan as a stop of its tour
+abbrev pub stop_of : SlaveSpec → Stop
+stop_of s = record { station = s.station; state = s.start; area = if nat_le s.out_len s.in_len then s.in_len else s.out_len }
+
+-- all of them, in the order of the ring
+abbrev pub stops_of : Scenario → List Stop
+stops_of plan = map (λ s. stop_of s) plan.slaves
+
+-- the members of the tour: each slave, with how often it may still be taken up again, and whether it is live, by its life
+abbrev pub members_of : ℕ → List SlaveSpec → List Leads → List Member
+members_of recover [] as' = []
+members_of recover (s ∷ ss) [] = []
+members_of recover (s ∷ ss) (a ∷ as') = record { stop = stop_of s; spare = recover - length (gave_of a); live = is_live_lead a } ∷ members_of recover ss as'
+
+-- a round of the live ones: from the one behind the one carried last, in the order of the ring
+abbrev pub round_next : Scenario → Tour → List Leads → List Stop
+round_next plan t as' = round (stops_of plan) (last_station (stops_of plan) t.last) (members_of plan.recover plan.slaves as')
+
+-- THE VISIT THAT COMES NEXT, by stations: those of the lost frame before it, again; else the one whose first bring-up goes on; else those of a round
+abbrev pub visit_next : Scenario → Tour → List Leads → List ℕ
+visit_next plan t as' = visit_stations (stations_of (stops_of plan) t.again) (drop t.opened (stops_of plan)) (round_next plan t as')
+
+-- A FRAME IS OF THAT VISIT: the stations that it is addressed to, datagram by datagram, are the first of the visit's, in order, and at least one
+abbrev pub IsVisit : Scenario → Tour → List Leads → Exchanged → Type 0
+IsVisit plan t as' f = AreFirst (carried (stops_of plan) (seen (lens_of plan.slaves) f.sent)) (visit_next plan t as')
+
+-- THE FRAMES OF A TOUR are, each by the tour and the lives before it
+abbrev pub AllVisit : (plan : Scenario) {fs : List Exchanged} {t : Tour} {as' : List Leads} → IsToured (lens_of plan.slaves) plan.recover plan.retry (first_leads plan) fs t as' → Type 0
+AllVisit plan IsToured.start = ⊤
+AllVisit plan (IsToured.on fs t as' f us visit before led of) = AllVisit plan before × IsVisit plan t as' f
