@@ -14,7 +14,7 @@ mod Reopening
 mod Returning
 mod Running
 mod Same
-mod Stating
+pub mod Stating
 mod Tallying
 mod Toured
 mod Touring

@@ -46,6 +46,10 @@ AllCame (e ∷ es) = Came e.account × AllCame es
 abbrev pub LifeCame : {M Q R : Type 0} → Life M Q R → Type 0
 LifeCame l = AllCame l.past × Came l.era.account
 
+-- before the first frame
+pub new_came : (M Q R : Type 0) (start : ℕ) → (let l : Life M Q R = new_life start in LifeCame l)
+new_came M Q R start = (tt, record { came = omega arith })
+
 more_came : {M Q R : Type 0} (es : List (Era M Q R)) (e : Era M Q R) → AllCame es → Came e.account → AllCame (es ++ e ∷ [])
 more_came [] e a c = (c, tt)
 more_came (d ∷ es) e a c = (a.0, more_came es e a.1 c)
@@ -82,12 +86,12 @@ begins_came {M} {Q} {R} x acknowledged frame d a None (Some (Service.State targe
     go true = record { came = more }
     go false = c
 
-next_came : {M Q R : Type 0} (x : Speech M Q R) (acknowledged : Q → Bool) (more : M → Bool) (passed : Q → Bool) (frame : ℕ) (l : Life M Q R) (stand : Stand) (pick : Pick Q) → LifeCame l → LifeCame (life_next x acknowledged more passed frame l stand pick)
+pub next_came : {M Q R : Type 0} (x : Speech M Q R) (acknowledged : Q → Bool) (more : M → Bool) (passed : Q → Bool) (frame : ℕ) (l : Life M Q R) (stand : Stand) (pick : Pick Q) → LifeCame l → LifeCame (life_next x acknowledged more passed frame l stand pick)
 next_came x acknowledged more passed frame l (Stand.Opens o) pick c = c
 next_came x acknowledged more passed frame l Stand.Gone pick c = c
 next_came x acknowledged more passed frame l Stand.Open pick c = (c.0, begins_came x acknowledged frame l.era.side l.era.account l.era.account.hand (granted l.era.passing pick).begin c.1)
 
-lost_came : {M Q R : Type 0} (x : Speech M Q R) (acknowledged : Q → Bool) (more : M → Bool) (passed : Q → Bool) (spot : Spot) (sent : List (Datagram M)) (l : Life M Q R) (stand : Stand) → LifeCame l → LifeCame (life_lost x acknowledged more passed spot [] sent l stand)
+pub lost_came : {M Q R : Type 0} (x : Speech M Q R) (acknowledged : Q → Bool) (more : M → Bool) (passed : Q → Bool) (spot : Spot) (sent : List (Datagram M)) (l : Life M Q R) (stand : Stand) → LifeCame l → LifeCame (life_lost x acknowledged more passed spot [] sent l stand)
 lost_came x acknowledged more passed spot sent l (Stand.Opens o) c = c
 lost_came x acknowledged more passed spot sent l Stand.Open c = c
 lost_came x acknowledged more passed spot sent l Stand.Gone c = c
@@ -131,7 +135,7 @@ same_past {M} {Q} {R} l (Some duty) = at duty.target duty.stage
         by true = refl
         by false = refl
 
-life_back_came : {M Q R : Type 0} (x : Speech M Q R) (acknowledged : Q → Bool) (more : M → Bool) (passed : Q → Bool) (frame : ℕ) (spot : Spot) (back : List (Datagram M)) (came : Option (Bool × Option Found)) (l : Life M Q R) (stand : Stand) → LifeCame l →
+pub life_back_came : {M Q R : Type 0} (x : Speech M Q R) (acknowledged : Q → Bool) (more : M → Bool) (passed : Q → Bool) (frame : ℕ) (spot : Spot) (back : List (Datagram M)) (came : Option (Bool × Option Found)) (l : Life M Q R) (stand : Stand) → LifeCame l →
     LifeCame (life_back x acknowledged more passed frame spot [] back came l stand)
 life_back_came x acknowledged more passed frame spot back None l (Stand.Opens o) c = c
 life_back_came x acknowledged more passed frame spot back (Some came) l (Stand.Opens o) c = opening_came frame l o came.0 came.1 c
@@ -146,9 +150,9 @@ abbrev EachCame : {M Q R : Type 0} → List (Clocked M Q R) → Type 0
 EachCame [] = ⊤
 EachCame (c ∷ cs) = LifeCame c.life × EachCame cs
 
-new_came : {M Q R : Type 0} (cs : List (Clocked M Q R)) → AllNew cs → EachCame cs
-new_came [] n = tt
-new_came (c ∷ cs) n = (subst LifeCame (sym n.0) (tt, record { came = omega arith }), new_came cs n.1)
+all_new : {M Q R : Type 0} (cs : List (Clocked M Q R)) → AllNew cs → EachCame cs
+all_new [] n = tt
+all_new {M} {Q} {R} (c ∷ cs) n = (subst LifeCame (sym n.0) (new_came M Q R c.spot.start), all_new cs n.1)
 
 all_few : {M Q R : Type 0} (cs : List (Clocked M Q R)) → EachCame cs → reopened_all cs ≤ states_all cs
 all_few [] e = omega arith
@@ -177,7 +181,7 @@ module _ {M Q R : Type 0} (x : Spot → Speech M Q R) (acknowledged : Q → Bool
       (life_back_came (x a.spot) acknowledged more passed number a.spot back u.came u.life u.life.stand (before number sent a u t.0 e.0), each_back number sent back as' us t.1 e.1)
 
   run_came : (recover slowest : ℕ) (first : List (Clocked M Q R)) (p : Runs.Progress) (cs : List (Clocked M Q R)) → IsRun x acknowledged more passed recover slowest first p cs → EachCame cs
-  run_came recover slowest first p cs (IsRun.start last n k) = new_came first n
+  run_came recover slowest first p cs (IsRun.start last n k) = all_new first n
   run_came recover slowest first q cs (IsRun.lost p as' us gives sent next r t one) = each_lost gives recover p.frames sent as' us t (run_came recover slowest first p as' r)
   run_came recover slowest first q cs (IsRun.opening p as' us sent back next r t b under one) = each_back p.frames sent back as' us t (run_came recover slowest first p as' r)
   run_came recover slowest first q cs (IsRun.round p as' us sent back ps r t b over round some) = each_back p.frames sent back as' us t (run_came recover slowest first p as' r)

@@ -1,5 +1,8 @@
 mod Sums
+mod Reopened
 mod Together
 mod Shaped
 mod Opened
+mod Rounds
 mod Runs
+mod Worked

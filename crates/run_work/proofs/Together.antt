@@ -23,15 +23,20 @@ use Rattle.segment_plan.specs.declared.slave.SlaveSpec.{SlaveSpec}
 use Rattle.service_counts.specs.Shapes.{shape_of}
 use Rattle.slave_server.specs.Spec.{core_of, profile_of}
 use Rattle.state_exchange.specs.Stated.{Service}
-use Rattle.run_work.specs.Together.{all_gains, packets_begun}
-use Rattle.run_work.proofs.Sums.{life_one, parted}
+use Rattle.run_frames.specs.Clocks.{reopened}
+use Rattle.run_frames.specs.Fates.{gained_in}
+use Rattle.run_frames.specs.States.{state_of, states_begun}
+use Rattle.run_frames.proofs.Stating.{life_few}
+use Rattle.run_work.specs.Together.{packets_begun}
+use Rattle.run_work.proofs.Reopened.{EachCame}
+use Rattle.run_work.proofs.Sums.{life_one, life_states, packets_none, parted}
 
 -- what the services of a script owe
 abbrev Enough : Type 0
 Enough = (slaves room : ℕ) (s : SlaveSpec) (service : Plan.Service) (q : Asked) → IsSlave s → IsService service → asked_of room service ≡ Some q → asked_most (profile_of s) (shape_of (core_of s)) q ≤ work_of slaves s service
 
--- a state service has six steps
-enough_steps : (b : Bool) → 6 ≤ (if b then 24 else 8)
+-- a state service has six steps, and reopens its slave at most once
+enough_steps : (b : Bool) → 6 + 1 ≤ (if b then 24 else 8)
 enough_steps true = omega arith
 enough_steps false = omega arith
 
@@ -42,12 +47,12 @@ module _ (enough : Enough) (n : ℕ) (s : SlaveSpec) (slave : IsSlave s) (room :
   abbrev count : Asked → ℕ
   count = asked_most (profile_of s) (shape_of (core_of s))
 
-  by_mails : (service : Plan.Service) → IsService service → (found : Option Asked) → asked_of room service ≡ found → (q : Service Asked) → option_map (λ (a : Asked). Service.Mails a) found ≡ Some q → service_most count q ≤ work_of n s service
+  by_mails : (service : Plan.Service) → IsService service → (found : Option Asked) → asked_of room service ≡ found → (q : Service Asked) → option_map (λ (a : Asked). Service.Mails a) found ≡ Some q → service_most count q + state_of q ≤ work_of n s service
   by_mails service is None e q over = absurd (let bad : None ≡ Some q = over in cc)
-  by_mails service is (Some a) e q over = subst (λ k. service_most count k ≤ work_of n s service) (some_is over) (enough n room s service a slave is e)
+  by_mails service is (Some a) e q over = subst (λ k. service_most count k + state_of k ≤ work_of n s service) (some_is over) (omega (arith, enough n room s service a slave is e))
 
   -- ONE OF A SCRIPT
-  one_enough : (service : Plan.Service) → IsService service → (q : Service Asked) → handed_over room service ≡ Some q → service_most count q ≤ work_of n s service
+  one_enough : (service : Plan.Service) → IsService service → (q : Service Asked) → handed_over room service ≡ Some q → service_most count q + state_of q ≤ work_of n s service
   one_enough (Plan.Service.Sdo service) is q over = by_mails (Plan.Service.Sdo service) is _ refl q over
   one_enough (Plan.Service.ReadFile name pass) is q over = by_mails (Plan.Service.ReadFile name pass) is _ refl q over
   one_enough (Plan.Service.WriteFile name pass bytes) is q over = by_mails (Plan.Service.WriteFile name pass bytes) is _ refl q over
@@ -55,11 +60,11 @@ module _ (enough : Enough) (n : ℕ) (s : SlaveSpec) (slave : IsSlave s) (room :
   one_enough (Plan.Service.WriteIdn drive idn elements bytes) is q over = by_mails (Plan.Service.WriteIdn drive idn elements bytes) is _ refl q over
   one_enough (Plan.Service.SetIp block) is q over = by_mails (Plan.Service.SetIp block) is _ refl q over
   one_enough Plan.Service.GetIp is q over = by_mails Plan.Service.GetIp is _ refl q over
-  one_enough (Plan.Service.State target) is q over = subst (λ k. service_most count k ≤ state_work target) (some_is over) (enough_steps (target == 1 || target == 3))
+  one_enough (Plan.Service.State target) is q over = subst (λ k. service_most count k + state_of k ≤ state_work target) (some_is over) (enough_steps (target == 1 || target == 3))
   one_enough (Plan.Service.Forward packet) is q over = absurd is
 
   -- SEVERAL, in order
-  those_enough : (services : List Plan.Service) (qs : List (Service Asked)) → All (λ (t : Plan.Service). IsService t) services → AreThose room services qs → begun_most count qs ≤ sum_by (work_of n s) services
+  those_enough : (services : List Plan.Service) (qs : List (Service Asked)) → All (λ (t : Plan.Service). IsService t) services → AreThose room services qs → begun_most count qs + sum_by state_of qs ≤ sum_by (work_of n s) services
   those_enough [] [] are those = omega arith
   those_enough [] (q ∷ qs) are those = absurd those
   those_enough (t ∷ ts) [] are those = absurd those
@@ -67,6 +72,7 @@ module _ (enough : Enough) (n : ℕ) (s : SlaveSpec) (slave : IsSlave s) (room :
       omega (
         arith,
         sum_by-cons (service_most count) q qs,
+        sum_by-cons state_of q qs,
         sum_by-cons (work_of n s) t ts,
         one_enough t (All-head (λ (t : Plan.Service). IsService t) t ts are) q those.0,
         those_enough ts qs (All-tail (λ (t : Plan.Service). IsService t) t ts are) those.1,
@@ -89,18 +95,23 @@ scripted n place (row ∷ rows) are =
     one false rest = rest
 
 module _ (enough : Enough) (plan : Scenario) (services : All (λ (row : ℕ × Plan.Service). IsAddressed (length plan.slaves) row) plan.services) where
-  one_slave : (place : ℕ) (s : SlaveSpec) (a : Leads) → IsSlave s → HasCome plan place s a → gains a.lived.life ≤ 1 + life_most (asked_most (profile_of s) (shape_of (core_of s))) a.lived.life →
-      gains a.lived.life ≤ 1 + (sum_by (work_of (length plan.slaves) s) (take a.number a.script) + begun_most (asked_most (profile_of s) (shape_of (core_of s))) (filter is_packet (life_started a.lived.life)))
-  one_slave place s a slave come gained =
+  one_slave : (place : ℕ) (s : SlaveSpec) (a : Leads) → IsSlave s → HasCome plan place s a → gains a.lived.life ≤ 1 + life_most (asked_most (profile_of s) (shape_of (core_of s))) a.lived.life → reopened a.lived.life ≤ states_begun a.lived.life →
+      gains a.lived.life + reopened a.lived.life ≤ 1 + (sum_by (work_of (length plan.slaves) s) (take a.number a.script) + begun_most (asked_most (profile_of s) (shape_of (core_of s))) (filter is_packet (life_started a.lived.life)))
+  one_slave place s a slave come gained few =
       let f = asked_most (profile_of s) (shape_of (core_of s)) in
-      let those = those_enough enough (length plan.slaves) s slave (lens_of plan.slaves s.station).out (take a.number (script_for place plan.services)) (filter (λ q. not (is_packet q)) (life_started a.lived.life)) (taken a.number (script_for place plan.services) (scripted (length plan.slaves) place plan.services services)) come.firsts.those in
+      let started = life_started a.lived.life in
+      let those = those_enough enough (length plan.slaves) s slave (lens_of plan.slaves s.station).out (take a.number (script_for place plan.services)) (filter (λ q. not (is_packet q)) started) (taken a.number (script_for place plan.services) (scripted (length plan.slaves) place plan.services services)) come.firsts.those in
       let same : sum_by (work_of (length plan.slaves) s) (take a.number (script_for place plan.services)) ≡ sum_by (work_of (length plan.slaves) s) (take a.number a.script) = ap (λ ts. sum_by (work_of (length plan.slaves) s) (take a.number ts)) (sym come.script) in
-      omega (arith, gained, life_one f a.lived.life, parted (service_most f) is_packet (life_started a.lived.life), those, same)
+      omega (arith, gained, few, life_one f a.lived.life, life_states a.lived.life, parted (service_most f) is_packet started, parted state_of is_packet started, packets_none started, those, same)
 
-  pub all_slaves : (place : ℕ) (ss : List SlaveSpec) (leads : List Leads) → All (λ (s : SlaveSpec). IsSlave s) ss → AllCome plan place ss leads → AllGain ss leads →
-      all_gains leads ≤ length ss + work_begun (length plan.slaves) ss leads + packets_begun ss leads
-  all_slaves place [] [] are come gained = omega arith
-  all_slaves place [] (a ∷ leads) are come gained = absurd come
-  all_slaves place (s ∷ ss) [] are come gained = absurd come
-  all_slaves place (s ∷ ss) (a ∷ leads) are come gained =
-      omega (arith, one_slave place s a (All-head (λ (s : SlaveSpec). IsSlave s) s ss are) come.0 gained.0, all_slaves (suc place) ss leads (All-tail (λ (s : SlaveSpec). IsSlave s) s ss are) come.1 gained.1)
+  pub all_slaves : (place : ℕ) (ss : List SlaveSpec) (leads : List Leads) → All (λ (s : SlaveSpec). IsSlave s) ss → AllCome plan place ss leads → AllGain ss leads → EachCame leads →
+      gained_in leads ≤ length ss + work_begun (length plan.slaves) ss leads + packets_begun ss leads
+  all_slaves place [] [] are come gained each = omega arith
+  all_slaves place [] (a ∷ leads) are come gained each = absurd come
+  all_slaves place (s ∷ ss) [] are come gained each = absurd come
+  all_slaves place (s ∷ ss) (a ∷ leads) are come gained each =
+      omega (
+        arith,
+        one_slave place s a (All-head (λ (s : SlaveSpec). IsSlave s) s ss are) come.0 gained.0 (life_few a.lived.life each.0),
+        all_slaves (suc place) ss leads (All-tail (λ (s : SlaveSpec). IsSlave s) s ss are) come.1 gained.1 each.1,
+      )

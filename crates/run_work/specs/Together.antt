@@ -1,19 +1,13 @@
--- THE LIVES OF A RUN TOGETHER.
+-- THE PACKETS OF A RUN.
 use Rattle.std.specs.Prelude.{ℕ, ◌+◌, List, [], ◌∷◌, filter}
 use Rattle.book_model.specs.Script.{life_started}
 use Rattle.life_counts.specs.Begun.{begun_most}
-use Rattle.life_measure.specs.Gains.{gains}
 use Rattle.life_runs.specs.Led.{Leads}
 use Rattle.plan_counts.specs.Asked.{asked_most}
 use Rattle.script_runs.specs.Came.{is_packet}
 use Rattle.segment_plan.specs.declared.slave.SlaveSpec.{SlaveSpec}
 use Rattle.service_counts.specs.Shapes.{shape_of}
 use Rattle.slave_server.specs.Spec.{core_of, profile_of}
-
--- what they have gained
-abbrev pub all_gains : List Leads → ℕ
-all_gains [] = 0
-all_gains (a ∷ leads) = gains a.lived.life + all_gains leads
 
 -- what the packets take that came into hand of each slave, with the echoes that it sends back
 abbrev pub packets_begun : List SlaveSpec → List Leads → ℕ

@@ -1,12 +1,15 @@
-//! What the lives of a run gain is no more than what the services and packets count that came into hand of its slaves, and together no more than what the
-//! plan counts for its services, and its packets. Definitions and laws, no running code: each function here does nothing, and its contract states the law.
+//! What the lives of a run gain, and how often state services reopen its slaves, is no more than what the plan counts for its services, and its packets;
+//! so are its frames. Definitions and laws, no running code: each function here does nothing, and its contract states the law.
 #![tactic(auto)]
 
-ghost use Rattle.std.specs.Prelude.{◌≡◌, ℕ, Bool, List, ◌≤◌, ◌+◌, length};
+ghost use Rattle.std.specs.Prelude.{◌≡◌, ℕ, Bool, List, ◌≤◌, ◌+◌, ◌*◌, length};
 ghost use Rattle.frame_view.specs.View.{Lens};
 ghost use Rattle.life_counts.specs.Begun.{KeepsShape};
 ghost use Rattle.life_runs.specs.First.{lens_of, first_leads};
 ghost use Rattle.life_runs.specs.Led.{Exchanged, Leads, IsLed};
+ghost use Rattle.link_mails.specs.Body.{Body};
+ghost use Rattle.master_duty.specs.Reply.{Reply};
+ghost use Rattle.master_hand.specs.Spoken.{Asked};
 ghost use Rattle.plan_counts.specs.Asked.{asked_most};
 ghost use Rattle.plan_ring.specs.Asked.{asked};
 ghost use Rattle.plan_ring.specs.Lives.{IsKnown};
@@ -15,9 +18,13 @@ ghost use Rattle.segment_plan.specs.Sound.{IsPlan};
 ghost use Rattle.segment_plan.specs.declared.plan.Scenario.{Scenario};
 ghost use Rattle.server_lives.specs.Real.{real_clearing};
 ghost use Rattle.slave_model.specs.Profile.{Profile, IsProfile};
+ghost use Rattle.run_frames.specs.Clocks.{Clocked};
+ghost use Rattle.run_frames.specs.Fates.{AreFated, gained_in};
+ghost use Rattle.run_frames.specs.Runs.{Progress};
 ghost use Rattle.run_work.specs.Gained.{app_shape, AllGain};
-ghost use Rattle.segment_plan.specs.Bound.{services_work};
-ghost use Rattle.run_work.specs.Together.{all_gains, packets_begun};
+ghost use Rattle.run_work.specs.Bounds.{IsPlanRun, bound_with};
+ghost use Rattle.segment_plan.specs.Bound.{services_work, host_work, bound_of};
+ghost use Rattle.run_work.specs.Together.{packets_begun};
 
 /// THE SHAPE OF A PLAN'S SLAVE STAYS, whatever services it carries out, whatever its AL state and whenever it is returned to Init; and each service that
 /// its master asks for takes at most as many mails as its shape says.
@@ -38,15 +45,33 @@ pub fn run_counts()
     shape_law();
 }
 
-/// THE LIVES OF A RUN TOGETHER have gained no more than all services of the plan count, what the packets take that came into hand, and one for each slave:
-/// whatever frames are lost and whoever is given up.
+/// THE LIVES OF A RUN TOGETHER: what they have gained, and how often state services began to reopen their slaves, is no more than all services of the plan
+/// count, what the packets take that came into hand, and one for each slave; whatever frames are lost and whoever is given up.
 pub fn run_work()
     ensures { (plan : Scenario) → IsPlan plan → IsKnown plan → (fs : List Exchanged) (missed : ℕ) (leads : List Leads) →
         IsLed (lens_of plan.slaves) plan.recover plan.retry (first_leads plan) fs missed leads → AllRound (ring_of plan) fs →
-        all_gains leads ≤ length plan.slaves + services_work plan.slaves plan.services + packets_begun plan.slaves leads }
+        gained_in leads ≤ length plan.slaves + services_work plan.slaves plan.services + packets_begun plan.slaves leads }
 {
     run_counts();
     plan_counts::plan_counts();
     script_runs::script_run_law();
     script_work::script_law();
+}
+
+/// FRAMES THAT WENT ROUND THE RING OF A PLAN have the fates of the plan's schedule.
+pub fn fates_law()
+    ensures { (plan : Scenario) (fs : List Exchanged) → AllRound (ring_of plan) fs → AreFated plan.lose 0 fs }
+{}
+
+/// THE FRAMES OF A RUN, of a plan that was read, that its master led, that are tallied and that went round its ring, are within the frame bound, with what
+/// the packets take that came into hand in place of what the host's count: whatever frames are lost and whoever is given up.
+pub fn run_bound()
+    ensures within { (plan : Scenario) (fs : List Exchanged) (missed : ℕ) (leads : List Leads) (p : Progress) (cs : List (Clocked Body Asked Reply)) →
+        IsPlan plan → IsKnown plan → IsPlanRun plan fs missed leads p cs → length fs ≤ bound_with plan (packets_begun plan.slaves leads) }
+    // With what the host's packets count, and so many datagrams heard, that is the frame bound itself.
+    ensures bound { (plan : Scenario) (grams : ℕ) → bound_with plan (host_work (length plan.slaves) plan.host + 128 * grams) ≡ bound_of plan grams }
+{
+    run_work();
+    fates_law();
+    run_frames::led_counts();
 }

@@ -1,0 +1,6 @@
+use Rattle.plan_ring.specs.Round.{ring_of}
+use Rattle.run_work.proofs.Rounds.{round_fated}
+use Rattle.run_work.proofs.fates_law.Goals as goal
+
+pub returns : goal.returns
+returns c = λ plan fs round. round_fated (ring_of plan) fs round
