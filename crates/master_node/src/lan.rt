@@ -1,4 +1,5 @@
 ghost use Rattle.std.specs.Prelude.{◌≡◌, ◌≤◌, ◌<◌, ◌+◌, length, nat_lt, true, IfOk, IfSome, Some, slice_get, drop};
+ghost use Rattle.eoe_switch.specs.Switch.{first_switch};
 ghost use Rattle.segment_plan.specs.Sound.{IsPlan};
 ghost use Rattle.master_node.specs.Ported.{are_ports};
 ghost use Rattle.master_node.specs.Forwards.{port_by, forwarded};
@@ -86,11 +87,12 @@ fn has_host(ports: Ports) -> bool {
 }
 
 impl Lan {
-    /// A switch with a port for the host and one for each slave that serves EoE, and the packets of the host.
+    /// A switch with a port for the host and one for each slave that serves EoE, all of them up, and the packets of the host.
     pub fn new(alloc: Global, plan: &Scenario) -> Result<Lan, NoMemory>
         requires { IsPlan plan.now }
         ensures host { IfOk result (λ lan. lan.host ≡ plan.now.host) }
         ensures entered { IfOk result (λ lan. lan.entered ≡ 0) }
+        ensures switch { IfOk result (λ lan. lan.switch ≡ first_switch (length lan.switch.ports)) }
     {
         let (ports, last) = ports_of(plan.slaves.as_slice());
         let switch = Switch::new(alloc, last + 1)?;
