@@ -2,8 +2,8 @@ use Rattle.ec_outside.specs.Faults.{Rose}
 use Rattle.ecmbx_words.specs.Form.{as_serve}
 use Rattle.ecmbx_call.specs.Course.{words_of}
 use Rattle.ecmbx_call.proofs.Calls.{calls_of}
-use Rattle.program_call.specs.Linked.{told_first, told_last}
-use Rattle.program_call.proofs.by_stream.stream_call.Goals as goal
+use Rattle.ecmbx_call.specs.Linked.{told_first, told_last}
+use Rattle.ecmbx_call.proofs.by_stream.stream_call.Goals as goal
 
 pub returns-clause-calls : goal.returns-clause-calls
 returns-clause-calls g c =

@@ -7,9 +7,9 @@ use Rattle.ecmbx_call.specs.Course.{words_of, Course}
 use Rattle.ecmbx_words.proofs.Loads.{said}
 use Rattle.ecmbx_call.proofs.Courses.{serve_course}
 use Rattle.ecmbx_call.proofs.Servings.{some_served}
-use Rattle.program_call.specs.Linked.{told_first, told_last}
-use Rattle.program_call.proofs.Calls.{began_words, name_at}
-use Rattle.program_call.proofs.by_stream.carry_out.Goals as goal
+use Rattle.ecmbx_call.specs.Linked.{told_first, told_last}
+use Rattle.ecmbx_call.proofs.Streams.{began_words, name_at}
+use Rattle.ecmbx_call.proofs.by_stream.carry_out.Goals as goal
 
 pub stream_file-requires-clause-some : goal.stream_file-requires-clause-some
 stream_file-requires-clause-some g c = some_served (as_serve (words_of c.args.words.now)) c.in-Some.count c.in-Some.ensures

@@ -2,7 +2,7 @@
 use Rattle.std.proofs.Common.{◌≡◌, ℕ, true, List, [], ◌∷◌, codes, sym, ◌∙◌}
 use Rattle.std.proofs.lemmas.Slice.Eq.{bytes_eq-Decides}
 use Rattle.tool_call.specs.Asked.{is_ask}
-use Rattle.program_call.specs.First.{is_stream}
+use Rattle.ecmbx_call.specs.First.{is_stream}
 
 -- it isn't both `stream` and `ask`
 pub one_first : (words : List (List ℕ)) → is_stream words ≡ true → is_ask words ≡ true → ⊥

@@ -7,13 +7,14 @@ ghost use Rattle.ecmbx_call.specs.Course.{words_of, CarriesOut, Began};
 ghost use Rattle.ecmbx_call.specs.Serving.{ServesFile, ServedIn};
 ghost use Rattle.ecmbx_call.specs.Causes.{IsServing};
 ghost use Rattle.ecmbx_call.specs.Calls.{Calls};
-ghost use Rattle.program_call.specs.Linked.{told_first, told_last};
+ghost use Rattle.ecmbx_call.specs.Linked.{told_first, told_last};
 
+use crate::top::serve_file;
 use ec_links::Link;
 use ec_outside::{Files, Sink};
-use ecmbx_call::{Book, Status, serve_file};
-use ecmbx_words::{say, stream_of, usage};
+use ecmbx_words::{Status, say, stream_of, usage};
 use gateway_stream::WholePort;
+use run_book::Book;
 use std::alloc::Global;
 
 // Serves the scenario under a name over a link.

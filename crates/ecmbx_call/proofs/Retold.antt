@@ -23,7 +23,7 @@ use Rattle.ecmbx_words.specs.declared.status.Status.{Status}
 use Rattle.ecmbx_words.specs.Files.{FileCourse}
 use Rattle.ecmbx_call.specs.Files.{limit}
 use Rattle.ecmbx_call.specs.Serving.{HasServed, ServeCourse, ServedIn}
-use Rattle.program_call.specs.Linked.{may_be_broken}
+use Rattle.ecmbx_call.specs.Linked.{may_be_broken}
 
 -- other words for what is told before a serving and behind it, in which at most less is said
 pub record Retold (first last first' last' : Told) : Type 0 where

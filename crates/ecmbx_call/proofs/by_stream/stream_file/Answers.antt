@@ -2,10 +2,10 @@ use Rattle.std.proofs.Common.{◌||◌, [], false}
 use Rattle.ec_outside.specs.Faults.{Rose}
 use Rattle.gateway_stream.specs.Hearing.{heard_of, is_broken}
 use Rattle.gateway_stream.specs.Sending.{sent_of}
-use Rattle.program_call.specs.Linked.{told_first, told_last}
-use Rattle.program_call.proofs.Retold.{in_retold, link_retold}
-use Rattle.program_call.proofs.Calls.{followed_retold}
-use Rattle.program_call.proofs.by_stream.stream_file.Goals as goal
+use Rattle.ecmbx_call.specs.Linked.{told_first, told_last}
+use Rattle.ecmbx_call.proofs.Retold.{in_retold, link_retold}
+use Rattle.ecmbx_call.proofs.Streams.{followed_retold}
+use Rattle.ecmbx_call.proofs.by_stream.stream_file.Goals as goal
 
 pub returns-clause-course : goal.returns-clause-course
 returns-clause-course g c =

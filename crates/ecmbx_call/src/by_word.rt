@@ -5,16 +5,18 @@ ghost use Rattle.ecmbx_words.specs.Form.{as_serve};
 ghost use Rattle.ecmbx_call.specs.Course.{words_of};
 ghost use Rattle.ecmbx_call.specs.Causes.{IsServing};
 ghost use Rattle.ecmbx_call.specs.Calls.{Calls};
-ghost use Rattle.program_call.specs.Linked.{told_first, told_last};
+ghost use Rattle.ecmbx_call.specs.Linked.{told_first, told_last};
 ghost use Rattle.gateway_tool.specs.Told.{told as asked};
 ghost use Rattle.tool_call.specs.Asked.{is_ask, asked_in};
-ghost use Rattle.program_call.specs.First.{is_stream};
-ghost use Rattle.program_call.specs.Asks.{Asks};
+ghost use Rattle.ecmbx_call.specs.First.{is_stream};
+ghost use Rattle.ecmbx_call.specs.Asks.{Asks};
 
 use crate::by_stream::stream_call;
+use crate::top::ecmbx;
 use ec_links::Link;
 use ec_outside::{Files, Port, Sink};
-use ecmbx_call::{Book, Status, ecmbx};
+use ecmbx_words::Status;
+use run_book::Book;
 use std::alloc::Global;
 use tool_call::{ask_call, is_ask};
 

@@ -14,7 +14,7 @@ use Rattle.ecmbx_call.specs.Files.{limit}
 use Rattle.ecmbx_call.specs.Course.{Began}
 use Rattle.ecmbx_call.specs.Serving.{ServeCourse, ServedIn}
 use Rattle.ecmbx_words.proofs.Loads.{turned}
-use Rattle.program_call.proofs.Retold.{Retold, file_retold}
+use Rattle.ecmbx_call.proofs.Retold.{Retold, file_retold}
 
 -- a file that was served, in other words for what is told
 pub followed_retold :

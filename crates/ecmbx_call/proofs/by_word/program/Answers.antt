@@ -3,9 +3,9 @@ use Rattle.ec_outside.specs.Faults.{Rose}
 use Rattle.gateway_run.specs.Serving.{told}
 use Rattle.ecmbx_call.specs.Course.{words_of}
 use Rattle.ecmbx_call.proofs.Calls.{calls_of}
-use Rattle.program_call.specs.First.{is_stream}
-use Rattle.program_call.proofs.Words.{one_first}
-use Rattle.program_call.proofs.by_word.program.Goals as goal
+use Rattle.ecmbx_call.specs.First.{is_stream}
+use Rattle.ecmbx_call.proofs.Words.{one_first}
+use Rattle.ecmbx_call.proofs.by_word.program.Goals as goal
 
 pub returns-then-is_stream-clause-asks : goal.returns-then-is_stream-clause-asks
 returns-then-is_stream-clause-asks g c =
