@@ -2,8 +2,6 @@
 //! its status. A word is two names, SCENARIO=LINK, where the scenario is SCENARIO.toml and what its link has to give is LINK.link.
 #![tactic(auto)]
 
-#[cfg(test)]
-mod connection;
 mod script;
 
 use anyhow::{Result, bail};
