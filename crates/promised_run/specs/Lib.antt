@@ -3,4 +3,5 @@ pub mod Unsent
 pub mod Epochs
 pub mod Emergencies
 pub mod Visits
+pub mod Few
 pub mod Promised
