@@ -97,6 +97,7 @@ left_by is_scripted old new (Some s) left = if is_scripted s && nat_lt (length o
 
 -- the services that came into hand in these past epochs, as their sessions have them
 module _ {V A M Q R : Type 0} (w : Setting V A M Q R) (gave : List ℕ) where
+  -- the same of the epochs of a chain
   abbrev pub chain_started : (stop : ℕ) (carried : _) (end : A) (carry : _) (a : A) (es : List (EpochBook M Q R)) →
       Chained w.exchange w.lawful w.states w.stated w.processor w.table w.cleared w.more w.spot w.frames gave stop carried end carry a es → List (Service Q)
   chain_started stop carried end carry a es Chained.none = []

@@ -1,6 +1,7 @@
 -- A CoE client: the mails that it sends for a service, and the reply that the mails it hears complete.
 use Rattle.std.specs.Prelude.{ℕ, zero, suc, ◌-◌, ◌==◌, ◌&&◌, ◌||◌, not, nat_le, nat_lt, Bool, true, false, List, [], ◌∷◌, ◌++◌, length, take, drop, if◌then◌else◌, Option, None, Some}
 use Rattle.mailbox_mail.specs.declared.outcome.ReplyKind.{ReplyKind}
+pub use Rattle.mailbox_mail.specs.Replies.{at_end}
 use Rattle.exchange_model.specs.Areas.{Areas}
 use Rattle.exchange_model.specs.Dialogue.{Turn, next, stop}
 use Rattle.coe_model.specs.Mails.{Coe, Expedited, First, Upload, DownloadAnswer, ExpeditedAnswer, FirstAnswer, Segment, SegmentAnswer, UploadSegment, UploadSegmentAnswer, Abort, ListRequest, ObjectRequest, EntryRequest, Information, InformationError, CoeMail, mail, failed}
@@ -58,11 +59,6 @@ abbrev pub decide : CoeMail → List CoeMail → Option Turn
 decide m [] = None
 decide m (mail c ∷ seen) = turn_of c
 decide m (_ ∷ seen) = Some stop
-
--- a reply side ends here
-abbrev pub at_end : List CoeMail → Reply → Option Reply
-at_end [] reply = Some reply
-at_end (m ∷ ms) reply = None
 
 -- an abort or a mailbox error in the place of an SDO answer
 abbrev pub sdo_refused : CoeMail → List CoeMail → Option Reply

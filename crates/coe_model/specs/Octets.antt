@@ -1,6 +1,7 @@
 -- The mails of CoE as octets: what a mailbox mail reads as, and what a mail is written as.
 use Rattle.std.specs.Prelude.{◌≡◌, ℕ, ◌<◌, ◌%◌, ◌==◌, ◌&&◌, nat_le, if◌then◌else◌, Bool, true, List, [], length, slice_index, Some, Result, Ok, Err}
 use Rattle.ec_fields.specs.Fields.{number_at}
+pub use Rattle.mailbox_mail.specs.Bodies.{is_error, mail_with}
 use Rattle.mailbox_mail.specs.Mail.{error_of}
 use Rattle.mailbox_mail.specs.declared.mail.Mail.{Mail}
 use Rattle.mailbox_mail.specs.declared.mail.Kind.{Kind}
@@ -26,10 +27,6 @@ heard body (Err fault) = unread fault (service_in body) (number_at 2 body 3) (sl
 abbrev pub body_heard : List ℕ → CoeMail
 body_heard body = heard body (coe_read body)
 
--- a mailbox error: its type and a detail
-abbrev pub is_error : List ℕ → Bool
-is_error body = nat_le 4 (length body) && number_at 2 body 0 == 1
-
 -- an EoE fragment: type 0
 abbrev pub is_fragment : List ℕ → Bool
 is_fragment body = nat_le 4 (length body) && slice_index body 0 % 16 == 0
@@ -44,10 +41,6 @@ by_kind _ body = other body
 -- a mail of octets as a mail of the model
 abbrev pub coe_mail_heard : Mail → CoeMail
 coe_mail_heard m = by_kind m.kind m.body.items
-
--- a mail with this body, to nobody and not yet counted
-abbrev pub mail_with : Kind → List ℕ → Mail
-mail_with kind body = record { address = 0; kind = kind; counter = 0; body = record { items = body } }
 
 -- a mail of the model as its one mail of octets, to nobody and not yet counted
 abbrev pub coe_mail_written : CoeMail → Mail

@@ -14,7 +14,7 @@ use Rattle.ecmbx_call.specs.Audits.{verdict_status}
 use Rattle.ecmbx_words.specs.Files.{Holds, IsLong, Followed}
 use Rattle.ecmbx_call.specs.Files.{limit}
 use Rattle.ecmbx_call.specs.Course.{Course}
-use Rattle.run_record.specs.Ran.{EndsAs, IsOver, IsCut}
+use Rattle.promised_run.specs.Ran.{EndsAs, IsOver, IsCut}
 use Rattle.gateway_run.specs.Serving.{Told as PortTold}
 use Rattle.gateway_run.specs.Served.{IsServed}
 use Rattle.ecmbx_call.specs.Causes.{loaded_in, IsFound, UsageCause, AbsentCause, LongCause, RefusedCause, CameOf, GivenUpCause, SpentCause, PortCause, IsBroken, BrokenCause, EndingAt, RunsTo, SavesTo, ServesTo, ShowsTo, AuditsTo, MakesTo}

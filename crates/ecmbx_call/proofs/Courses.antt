@@ -15,7 +15,7 @@ use Rattle.run_book.specs.declared.book.Ending.TheVariants as endings
 use Rattle.segment_plan.specs.Sound.{IsPlan}
 use Rattle.run_book.specs.Book.{IsNew}
 use Rattle.promised_run.specs.Promised.{IsPromised}
-use Rattle.run_record.specs.Ran.{HasFrames, EndsAs}
+use Rattle.promised_run.specs.Ran.{HasFrames, EndsAs}
 use Rattle.ecmbx_words.specs.declared.status.Status.{Status}
 use Rattle.ecmbx_words.specs.declared.status.Status.TheVariants as statuses
 use Rattle.ecmbx_words.specs.declared.form.Form.TheVariants as forms

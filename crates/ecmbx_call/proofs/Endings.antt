@@ -11,7 +11,7 @@ use Rattle.ecmbx_words.specs.declared.status.Status.TheVariants as statuses
 use Rattle.ecmbx_words.specs.Form.{form_in, name_in}
 use Rattle.ecmbx_call.specs.Course.{status_of}
 use Rattle.ec_outside.specs.Faults.{Rose}
-use Rattle.run_record.specs.Ran.{EndsAs}
+use Rattle.promised_run.specs.Ran.{EndsAs}
 use Rattle.gateway_run.specs.Serving.{Told as PortTold}
 use Rattle.gateway_run.specs.Served.{IsServed}
 use Rattle.ecmbx_call.specs.Causes.{EndingAt, IsServing}

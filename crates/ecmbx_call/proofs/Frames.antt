@@ -5,8 +5,8 @@ use Rattle.segment_plan.specs.declared.plan.Scenario.{Scenario}
 use Rattle.segment_plan.specs.Sound.{IsPlan}
 use Rattle.segment_plan.specs.Bound.{bound_of}
 use Rattle.run_book.specs.declared.book.Book.{Book}
-use Rattle.run_record.specs.Session.{budget_or}
-use Rattle.run_record.specs.Ran.{HasFrames}
+use Rattle.promised_run.specs.Session.{budget_or}
+use Rattle.promised_run.specs.Ran.{HasFrames}
 
 small_by : (frames : ℕ) (less : Bool) → nat_lt frames 100000000 ≡ less → (if less then frames else 100000000) ≤ 100000000
 small_by frames true is = omega (arith, ltb-true frames 100000000 is)

@@ -7,3 +7,6 @@ mod Endings
 pub mod Causes
 mod Frames
 pub mod Calls
+mod Words
+mod Retold
+mod Streams

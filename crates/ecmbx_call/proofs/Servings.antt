@@ -9,7 +9,7 @@ use Rattle.run_book.specs.declared.book.Book.{Book}
 use Rattle.run_book.specs.declared.book.Ending.{Ending}
 use Rattle.run_book.specs.declared.book.Ending.TheVariants as endings
 use Rattle.run_book.specs.Book.{IsNew}
-use Rattle.run_record.specs.Ran.{HasSent}
+use Rattle.promised_run.specs.Ran.{HasSent}
 use Rattle.gateway_run.specs.Serving.{Told}
 use Rattle.gateway_run.specs.Served.{IsServed}
 use Rattle.ecmbx_words.specs.declared.form.Form.TheVariants as forms

@@ -14,7 +14,7 @@ use Rattle.scenario.specs.Document.{plan_of}
 use Rattle.run_book.specs.declared.book.Book.{Book}
 use Rattle.run_book.specs.declared.book.Ending.{Ending}
 use Rattle.run_book.specs.declared.book.Ending.TheVariants as endings
-use Rattle.run_record.specs.Ran.{IsOver, IsCut}
+use Rattle.promised_run.specs.Ran.{IsOver, IsCut}
 use Rattle.run_report.specs.Report.{report_lines}
 use Rattle.run_report.specs.Saved.{capture_of}
 use Rattle.ecmbx_words.specs.declared.form.Form.{Form}

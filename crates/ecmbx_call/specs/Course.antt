@@ -15,7 +15,7 @@ use Rattle.run_book.specs.declared.book.Book.{Book}
 use Rattle.run_book.specs.Ports.{ports_of, IsAtPort}
 use Rattle.run_book.specs.Book.{IsNew}
 use Rattle.promised_run.specs.Promised.{IsPromised}
-use Rattle.run_record.specs.Ran.{HasFrames, EndsAs}
+use Rattle.promised_run.specs.Ran.{HasFrames, EndsAs}
 use Rattle.run_report.specs.Report.{report_lines}
 use Rattle.run_report.specs.Saved.{capture_of}
 use Rattle.ecmbx_words.specs.declared.form.Form.TheVariants as forms

@@ -5,3 +5,6 @@ pub mod Serving
 pub mod Course
 pub mod Causes
 pub mod Calls
+pub mod First
+pub mod Asks
+pub mod Linked

@@ -2,6 +2,7 @@
 use Rattle.std.specs.Prelude.{◌≡◌, ℕ, ◌+◌, ◌-◌, ◌*◌, ◌/◌, ◌≤◌, Bool, true, false, List, [], ◌∷◌, map, length, Option, None, Some}
 use Rattle.mailbox_mail.specs.declared.outcome.ReplyKind.{ReplyKind}
 use Rattle.mailbox_mail.specs.declared.mail.Kind.TheVariants.{EoE}
+pub use Rattle.mailbox_mail.specs.Replies.{at_end}
 use Rattle.eoe.specs.Cutting.{Cutting, fragments_from}
 use Rattle.eoe_model.specs.Mails.{SetIp, GetIp, EoeMail, mail, part}
 use Rattle.eoe_model.specs.Client.{Reply, set_reply, get_reply}
@@ -27,11 +28,6 @@ unsent_mails block Unsent.Get = mail GetIp ∷ []
 -- the same of a client
 abbrev pub left : Talking → List EoeMail
 left c = unsent_mails c.block c.unsent
-
--- a reply side ends here
-abbrev pub at_end : List EoeMail → Reply → Option Reply
-at_end [] reply = Some reply
-at_end (m ∷ ms) reply = None
 
 -- the reply that one mail is, where it stands alone
 abbrev pub alone : (EoeMail → Option Reply) → List EoeMail → Option Reply

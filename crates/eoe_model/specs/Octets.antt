@@ -2,6 +2,7 @@
 use Rattle.std.specs.Prelude.{ℕ, ◌==◌, ◌&&◌, nat_le, if◌then◌else◌, Bool, List, [], ◌++◌, length, Result, Ok, Err}
 use Rattle.byteorder.specs.Endian.{little_bytes}
 use Rattle.ec_fields.specs.Fields.{number_at, bits_of}
+pub use Rattle.mailbox_mail.specs.Bodies.{is_error, mail_with}
 use Rattle.mailbox_mail.specs.Mail.{error_of}
 use Rattle.mailbox_mail.specs.declared.mail.Mail.{Mail}
 use Rattle.mailbox_mail.specs.declared.mail.Kind.{Kind}
@@ -21,10 +22,6 @@ abbrev pub heard : List ℕ → Result Eoe EoeFault → EoeMail
 heard body (Ok e) = mail e
 heard body (Err fault) = unread fault (bits_of (number_at 2 body 0) 0 4)
 
--- a mailbox error: its type and a detail
-abbrev pub is_error : List ℕ → Bool
-is_error body = nat_le 4 (length body) && number_at 2 body 0 == 1
-
 -- a body under the type in the mail's header
 abbrev pub by_kind : Kind → List ℕ → EoeMail
 by_kind EoE body = heard body (eoe_read body)
@@ -34,10 +31,6 @@ by_kind _ body = other body
 -- what a mailbox mail reads as
 abbrev pub eoe_mail_heard : Mail → EoeMail
 eoe_mail_heard m = by_kind m.kind m.body.items
-
--- a mail with this body, to nobody and not yet counted
-abbrev pub mail_with : Kind → List ℕ → Mail
-mail_with kind body = record { address = 0; kind = kind; counter = 0; body = record { items = body } }
 
 -- an answer to a type that isn't served has its type alone in the first word, and the result in the second
 abbrev pub eoe_mail_written : EoeMail → Mail

@@ -1,6 +1,7 @@
 -- An FoE client: the mails that it sends for a service, and the reply that the mails it hears complete.
 use Rattle.std.specs.Prelude.{ℕ, zero, suc, ◌+◌, ◌/◌, ◌==◌, nat_lt, Bool, true, false, List, [], ◌∷◌, ◌++◌, length, drop, if◌then◌else◌, Option, None, Some}
 use Rattle.mailbox_mail.specs.declared.outcome.ReplyKind.{ReplyKind}
+pub use Rattle.mailbox_mail.specs.Replies.{at_end}
 use Rattle.exchange_model.specs.Areas.{Areas}
 use Rattle.exchange_model.specs.Dialogue.{Turn, next, again, stop}
 use Rattle.foe_model.specs.Mails.{Read, Write, Data, Ack, Error, Busy, FoeMail, mail, failed}
@@ -47,11 +48,6 @@ turn_behind out _ h = stop
 abbrev pub decide : ℕ → FoeMail → List FoeMail → Option Turn
 decide out m [] = None
 decide out m (h ∷ seen) = Some (turn_behind out m h)
-
--- a reply side ends here
-abbrev pub at_end : List FoeMail → Reply → Option Reply
-at_end [] reply = Some reply
-at_end (m ∷ ms) reply = None
 
 -- an FoE error or a mailbox error in the place of an answer
 abbrev pub refused_by : FoeMail → List FoeMail → Option Reply

@@ -6,6 +6,8 @@ mod captures;
 #[cfg(test)]
 mod coe;
 #[cfg(test)]
+mod connection;
+#[cfg(test)]
 mod eoe_parts;
 #[cfg(test)]
 mod fields;

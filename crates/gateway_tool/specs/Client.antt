@@ -1,5 +1,6 @@
 -- What a client has to say and to hear, as mails.
 use Rattle.std.specs.Prelude.{◌≡◌, ℕ, true, is_some, List, [], ◌∷◌, map, Option, None}
+pub use Rattle.mailbox_mail.specs.Bodies.{mail_with}
 use Rattle.mailbox_mail.specs.Mail.{error_of}
 use Rattle.mailbox_mail.specs.declared.mail.Mail.{Mail}
 use Rattle.mailbox_mail.specs.declared.mail.Kind.{Kind}
@@ -28,10 +29,6 @@ awaits (Client.File c) hs = FoeTalk.awaited c (map foe_mail_heard hs)
 abbrev pub kind_of : Client → Kind
 kind_of (Client.Sdo c) = Kind.CoE
 kind_of (Client.File c) = Kind.FoE
-
--- a mail with this body, to nobody and not counted
-abbrev pub mail_with : Kind → List ℕ → Mail
-mail_with kind octets = record { address = 0; kind = kind; counter = 0; body = record { items = octets } }
 
 -- a client has begun a service
 pub record Begins (areas : Areas) (q : Service) (c : Client) : Type 0 where

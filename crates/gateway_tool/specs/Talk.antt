@@ -43,6 +43,7 @@ abbrev pub passed_behind : Took → ℕ → ℕ
 passed_behind Took.Foreign n = n + 1
 passed_behind _ n = 0
 
+-- how many were taken behind one
 abbrev pub taken_behind : Took → ℕ → ℕ
 taken_behind Took.Foreign n = n
 taken_behind _ n = n + 1

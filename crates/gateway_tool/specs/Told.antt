@@ -10,6 +10,7 @@ pub record Told : Type 0 where
   pub over : Bool
   pub faults : ℕ
 
+-- what a port tells of these
 abbrev pub told : {Q : Type 0} → (Q → Option (List HeardGram)) → (Q → Option (List SentGram)) → (Q → Bool) → (Q → ℕ) → Q → Told
 told heard sent over faults port = record { heard = heard port; sent = sent port; over = over port; faults = faults port }
 

@@ -25,6 +25,7 @@ module _ {S V A Q R : Type 0} (w : Behind S V A Q R) (more : Body → Bool) (spo
   abbrev pub app_behind : A → List (Service Q) → A
   app_behind from qs = (exec_all (with_states w.exchange w.states (table_of w spot.station)) (from, 0) qs).0
 
+  -- the mails that these services emit, from an application on
   abbrev pub emitted_by : A → List (Service Q) → List Body
   emitted_by from qs = mails (emits_all (with_states w.exchange w.states (table_of w spot.station)) (from, 0) qs)
 
@@ -88,6 +89,7 @@ module _ {S V A Q R : Type 0} (w : Behind S V A Q R) (more : Body → Bool) (spo
   abbrev pub app_of : Node S → A
   app_of n = w.exchange.app (node_seen w n).node.server.server
 
+  -- the application with which a node begins anew, as it is seen in an AL state
   abbrev pub app_anew : ℕ → Node S → A
   app_anew state n = w.exchange.app (w.sees state (w.running.clear n.server)).server
 

@@ -21,6 +21,7 @@ begun_most count qs = sum_by (λ q. service_most count q) qs
 abbrev pub era_most : {M Q R : Type 0} → (Q → ℕ) → Era M Q R → ℕ
 era_most count e = begun_most count (services_in e.account.started)
 
+-- the most of several epochs
 abbrev pub eras_most : {M Q R : Type 0} → (Q → ℕ) → List (Era M Q R) → ℕ
 eras_most count [] = 0
 eras_most count (e ∷ es) = era_most count e + eras_most count es

@@ -70,6 +70,7 @@ module _ (lens : ℕ → Lens) where
     pub took : Took made a.lived.life.era.account u.lived.life.era.account u.begun
     pub asked : Asked lens ds u.lived u.share
 
+  -- of all slaves
   abbrev pub AllTurn : ℕ → List Raw.Datagram → List Leads → List Turn → Type 0
   AllTurn made ds [] [] = ⊤
   AllTurn made ds (a ∷ as') (u ∷ us) = IsTurn made ds a u × AllTurn made ds as' us
@@ -87,6 +88,7 @@ module _ (lens : ℕ → Lens) where
     life_behind gives made f Pass l share = lived_back (speech_at lens l.spot) acknowledged is_followed is_passed made (seen lens f.back) l share []
     life_behind gives made f (Lost after) l share = lived_lost (speech_at lens l.spot) acknowledged is_followed is_passed gives recover made (seen lens f.sent) l share []
 
+    -- the slave with that life, and its script as far as it was before the frame
     abbrev pub led_behind : Bool → ℕ → Exchanged → Turn → Leads
     led_behind gives made f u = record { script = u.script; number = u.number; lived = life_behind gives made f f.fate u.lived u.share }
 

@@ -19,6 +19,7 @@ pub record Span : Type 0 where
   pub cleared : Option ℕ
   pub opened : Option ℕ
 
+-- the frames of an epoch
 abbrev pub span_of : {M Q R : Type 0} → Era M Q R → Span
 span_of e = record { cleared = e.cleared; opened = e.opened }
 

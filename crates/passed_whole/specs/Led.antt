@@ -63,6 +63,7 @@ module _ {V A M Q R : Type 0} (x : Exchange V A M Q R) (acknowledged : Q → Boo
   abbrev pub turn_next : List (Frame M) → Era M Q R → EraTurn V M Q → Era M Q R
   turn_next fs e t = era_next x.speech acknowledged more passed (length fs) e t.pick
 
+  -- the epoch behind the frame of a turn
   abbrev pub turn_after : List (Frame M) → Bool → Era M Q R → EraTurn V M Q → Era M Q R
   turn_after fs counts e t =
       era_after x.speech acknowledged more passed spot.station (length fs) (news_in spot opened fs counts t) t.sent t.fate t.back (turn_next fs e t)

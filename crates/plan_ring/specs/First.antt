@@ -39,6 +39,7 @@ module _ (more : Body → Bool) (passed : Spoken.Asked → Bool) (lens : ℕ →
     pub wish : WishStays x.next.pick.begin
     pub given : NotGiven gives fate u
 
+  -- all of them
   abbrev pub AllStay : (gives : Bool) (fate : Fate) (ms : List PlanMember) (us : List Under) → AllUnder more passed lens made ds ms us → Type 0
   AllStay gives fate [] [] xs = ⊤
   AllStay gives fate [] (u ∷ us) xs = ⊥
@@ -74,6 +75,7 @@ module _ (lens : ℕ → Lens) (ss : List SlaveSpec) (more : Body → Bool) (fs 
     pub hand : m.life.era.account.hand ≡ None
     pub begun : HaveBegun a (services_in m.life.era.account.started)
 
+  -- of all of them
   abbrev pub AllAtRest : List PlanMember → List (Addressed Spoken.Asked) → Type 0
   AllAtRest [] [] = ⊤
   AllAtRest (m ∷ ms) (a ∷ as') = IsAtRest m a × AllAtRest ms as'

@@ -75,6 +75,7 @@ module _ (more : Body → Bool) (passed : Asked → Bool) where
     pub wish : WishIs is_service next.pick.begin
     pub boots : BeginBoots m.services.boot next.pick.begin
 
+  -- of all slaves
   abbrev pub AllUnder : (ℕ → Lens) → ℕ → List Raw.Datagram → List PlanMember → List Under → Type 0
   AllUnder lens made ds [] [] = ⊤
   AllUnder lens made ds (m ∷ ms) (u ∷ us) = IsUnder lens made ds m u × AllUnder lens made ds ms us
@@ -85,6 +86,7 @@ module _ (more : Body → Bool) (passed : Asked → Bool) where
   led_behind gives recover made f Pass m u = lived_back (speech_of m) acknowledged more passed made f.back u.lived u.share u.news
   led_behind gives recover made f (Lost after) m u = lived_lost (speech_of m) acknowledged more passed gives recover made f.sent u.lived u.share u.news
 
+  -- of all slaves
   abbrev pub AllBehind : Bool → ℕ → ℕ → Frame Body → Fate → List PlanMember → List Under → List PlanMember → Type 0
   AllBehind gives recover made f fate [] [] [] = ⊤
   AllBehind gives recover made f fate (m ∷ ms) (u ∷ us) (n ∷ ns) = (lived_of n ≡ led_behind gives recover made f fate m u) × AllBehind gives recover made f fate ms us ns

@@ -5,4 +5,5 @@ mod Unsent
 mod Epochs
 mod Emergencies
 mod Visits
+mod Few
 mod Overs

@@ -6,6 +6,7 @@ use Rattle.run_promises.specs.Promise.{slaves_behind, Keeps}
 use Rattle.run_promises.specs.Rest.{NothingIsLeft, AllIsDone}
 use Rattle.promised_run.specs.Emergencies.{AllHaveEmergencies}
 use Rattle.promised_run.specs.Epochs.{AllCaused}
+use Rattle.promised_run.specs.Few.{AreFewLost, OutlivesLosses}
 use Rattle.promised_run.specs.Reported.{AllReported}
 use Rattle.promised_run.specs.Unsent.{AllUnsent}
 use Rattle.promised_run.specs.Visits.{AllVisit}
@@ -43,3 +44,5 @@ pub record IsPromised (plan : Scenario) (book : Book) : Type 0 where
   pub emergencies : book.ending ≢ endings.NoMemory → AllHaveEmergencies (heard_in led.lives) book.slaves
   -- and the frames are the visits of one tour: each is addressed to the first slaves of its visit, in order, and to no other
   pub visits : AllVisit plan led.toured
+  -- and where no more frames in a row are lost than the retry limit no slave is given up: where nothing is left to do all is done
+  pub outlived : AreFewLost plan.lose plan.retry → book.ending ≢ endings.NoMemory → OutlivesLosses book

@@ -18,6 +18,7 @@ drive_at before number place ms = do
   _ ← unless_refused OutOfRange place (is_new_idn before drive number)
   Ok drive
 
+-- the keys of an IDN
 abbrev idn_keys : List (List ℕ)
 idn_keys =
     codes "number" ∷ codes "drive" ∷ codes "attribute" ∷ codes "label" ∷ codes "unit" ∷ codes "size"

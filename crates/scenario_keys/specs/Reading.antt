@@ -8,6 +8,7 @@ use Rattle.scenario_keys.specs.declared.refusal.Stop.TheVariants as stops
 
 -- what is read next, where nothing was refused before
 infixl 10 ◌>>=◌
+-- one reading behind another
 abbrev pub ◌>>=◌ : {A B : Type 0} → Result A Refusal → (A → Result B Refusal) → Result B Refusal
 (Ok x) >>= f = f x
 (Err e) >>= f = Err e

@@ -54,6 +54,7 @@ impl<N: Slave> Ring<N> {
     pub fn node(&self, at: u32) -> Option<&N>
         ensures { option_copied result ≡ slice_get self.now.nodes at }
     {
+        // A field is named so that the proof has what holds of the fields.
         let _ = &self.next;
         self.nodes.get(at as usize)
     }

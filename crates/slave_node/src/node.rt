@@ -107,6 +107,7 @@ impl<S: Services> SlaveNode<S> {
     pub fn settled(&self) -> bool
         ensures { result ≡ is_settled S.next_mail self.now }
     {
+        // A field is named so that the proof has what holds of the fields.
         let _ = &self.boot;
         self.esc.out_area().is_none()
             && !self.esc.is_asked()
@@ -118,6 +119,7 @@ impl<S: Services> SlaveNode<S> {
     pub fn handled(&self) -> u64
         ensures { result ≡ S.handled self.now.server }
     {
+        // A field is named so that the proof has what holds of the fields.
         let _ = &self.boot;
         self.server.handled()
     }
@@ -126,6 +128,7 @@ impl<S: Services> SlaveNode<S> {
     pub fn al(&self) -> u8
         ensures { result ≡ self.now.al.state }
     {
+        // A field is named so that the proof has what holds of the fields.
         let _ = &self.boot;
         self.al.state
     }
@@ -134,6 +137,7 @@ impl<S: Services> SlaveNode<S> {
     pub fn server(&self) -> &S
         ensures { result.now ≡ self.now.server }
     {
+        // A field is named so that the proof has what holds of the fields.
         let _ = &self.boot;
         &self.server
     }

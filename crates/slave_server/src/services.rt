@@ -52,6 +52,7 @@ impl Services for SlaveServer {
     ghost handled = { λ s. s.server.handled };
 
     fn handled(&self) -> u64 {
+        // A field is named so that the proof has what holds of the fields.
         let _ = &self.failure;
         self.handled
     }

@@ -51,6 +51,7 @@ impl SlaveServer {
         requires few { self.old.server.handled < 18446744073709551615 }
         ensures { self.new ≡ counted self.old }
     {
+        // A field is named so that the proof has what holds of the fields.
         let _ = &self.failure;
         self.handled += 1;
     }
@@ -63,6 +64,7 @@ impl SlaveServer {
         requires served { serves self.old.profile al Protocol.CoE ≡ true }
         ensures { self.new ≡ takes self.old (Ok (uncounted mail.now)) al }
     {
+        // A field is named so that the proof has what holds of the fields.
         let _ = &self.failure;
         let counts = self.sdo.take(&mut self.objects, al, mail.body.as_slice());
         self.handled += counts as u64;
@@ -79,6 +81,7 @@ impl SlaveServer {
         requires served { serves self.old.profile al Protocol.FoE ≡ true }
         ensures { self.new ≡ takes self.old (Ok (uncounted mail.now)) al }
     {
+        // A field is named so that the proof has what holds of the fields.
         let _ = &self.failure;
         if self.file.take(&mut self.store, al, mail.body.as_slice()) {
             self.handled += 1;
@@ -93,6 +96,7 @@ impl SlaveServer {
         requires served { serves self.old.profile al Protocol.SoE ≡ true }
         ensures { self.new ≡ takes self.old (Ok (uncounted mail.now)) al }
     {
+        // A field is named so that the proof has what holds of the fields.
         let _ = &self.failure;
         if self.drive.take(&mut self.idns, mail.body.as_slice()) {
             self.handled += 1;
@@ -107,6 +111,7 @@ impl SlaveServer {
         requires served { serves self.old.profile al Protocol.EoE ≡ true }
         ensures { self.new ≡ takes self.old (Ok (uncounted mail.now)) al }
     {
+        // A field is named so that the proof has what holds of the fields.
         let _ = &self.failure;
         if self.ether.take(&mut self.addresses, mail.body.as_slice()) {
             self.handled += 1;
@@ -117,6 +122,7 @@ impl SlaveServer {
     fn serves_sdo(&self, al: u8) -> bool
         ensures { result ≡ serves self.now.profile al Protocol.CoE }
     {
+        // A field is named so that the proof has what holds of the fields.
         let _ = &self.failure;
         self.protocols.has_coe && al != BOOTSTRAP
     }
@@ -124,6 +130,7 @@ impl SlaveServer {
     fn serves_file(&self, _al: u8) -> bool
         ensures { result ≡ serves self.now.profile _al Protocol.FoE }
     {
+        // A field is named so that the proof has what holds of the fields.
         let _ = &self.failure;
         self.protocols.has_foe
     }
@@ -131,6 +138,7 @@ impl SlaveServer {
     fn serves_drive(&self, al: u8) -> bool
         ensures { result ≡ serves self.now.profile al Protocol.SoE }
     {
+        // A field is named so that the proof has what holds of the fields.
         let _ = &self.failure;
         self.protocols.has_soe && al != BOOTSTRAP
     }
@@ -138,6 +146,7 @@ impl SlaveServer {
     fn serves_ether(&self, al: u8) -> bool
         ensures { result ≡ serves self.now.profile al Protocol.EoE }
     {
+        // A field is named so that the proof has what holds of the fields.
         let _ = &self.failure;
         self.protocols.has_eoe && al != BOOTSTRAP
     }

@@ -2,6 +2,7 @@
 use Rattle.std.specs.Prelude.{ℕ, ◌==◌, ◌&&◌, ◌||◌, not, nat_le, nat_lt, Bool, false, List, [], ◌∷◌, ◌++◌, length, if◌then◌else◌, Option, None, Some, Result, Ok, Err}
 use Rattle.ec_fields.specs.Fields.{number_at}
 use Rattle.mailbox_mail.specs.declared.outcome.ReplyKind.{ReplyKind}
+pub use Rattle.mailbox_mail.specs.Replies.{at_end}
 use Rattle.soe_model.specs.Elements.{Target, Elements}
 use Rattle.soe_model.specs.Mails.{Soe, SoeMail, mail, failed, message, fragments_of}
 use Rattle.soe_model.specs.Server.{most}
@@ -48,11 +49,6 @@ write_means app (Err code) = record { app = app; reply = (ReplyKind.SoeError cod
 abbrev pub meaning_of : {S : Type 0} → Elements S → S → Service → Meaning S
 meaning_of o app (read t) = read_means app (o.read app t)
 meaning_of o app (write t bytes) = write_means app (o.write app t bytes)
-
--- a reply side ends here
-abbrev pub at_end : List SoeMail → Reply → Option Reply
-at_end [] reply = Some reply
-at_end (m ∷ ms) reply = None
 
 -- an answer to a request about this target, with this opcode
 abbrev pub is_answer : ℕ → Target → Soe → Bool

@@ -1,6 +1,7 @@
 -- The mails of SoE as octets: what a mailbox mail reads as, and what a mail is written as.
 use Rattle.std.specs.Prelude.{ℕ, ◌==◌, ◌&&◌, nat_le, if◌then◌else◌, Bool, List, [], length, Result, Ok, Err}
 use Rattle.ec_fields.specs.Fields.{number_at, bits_of}
+pub use Rattle.mailbox_mail.specs.Bodies.{is_error, mail_with}
 use Rattle.mailbox_mail.specs.Mail.{error_of}
 use Rattle.mailbox_mail.specs.declared.mail.Mail.{Mail}
 use Rattle.mailbox_mail.specs.declared.mail.Kind.{Kind}
@@ -28,10 +29,6 @@ heard body (Err fault) = unread fault (is_marked body)
 abbrev pub body_heard : List ℕ → SoeMail
 body_heard body = heard body (soe_read body)
 
--- a mailbox error: its type and a detail
-abbrev pub is_error : List ℕ → Bool
-is_error body = nat_le 4 (length body) && number_at 2 body 0 == 1
-
 -- a body under the type in the mail's header
 abbrev pub by_kind : Kind → List ℕ → SoeMail
 by_kind SoE body = body_heard body
@@ -41,10 +38,6 @@ by_kind _ body = other body
 -- what a mailbox mail reads as
 abbrev pub soe_mail_heard : Mail → SoeMail
 soe_mail_heard m = by_kind m.kind m.body.items
-
--- a mail with this body, to nobody and not yet counted
-abbrev pub mail_with : Kind → List ℕ → Mail
-mail_with kind body = record { address = 0; kind = kind; counter = 0; body = record { items = body } }
 
 -- what a mail is written as
 abbrev pub soe_mail_written : SoeMail → Mail

@@ -2,16 +2,13 @@
 //! its status. A word is two names, SCENARIO=LINK, where the scenario is SCENARIO.toml and what its link has to give is LINK.link.
 #![tactic(auto)]
 
-#[cfg(test)]
-mod connection;
 mod script;
 
 use anyhow::{Result, bail};
 use ec_fields::{Octets, Rows};
 use ec_links::MemLink;
 use ec_outside::{DiskFiles, Files, Loaded, MemPort, MemSink};
-use ecmbx_call::{Book, Status};
-use program_call::program;
+use ecmbx_call::{Book, Status, program};
 use script::{Script, script_in};
 use std::alloc::Global;
 use std::env;

@@ -54,6 +54,7 @@ write_in name = if is_name name then Some (Act.Write (record { items = name })) 
 abbrev pub index_in : List ℕ → Option ℕ
 index_in word = ranged_in 0 65535 (number_in word)
 
+-- a subindex
 abbrev pub sub_in : List ℕ → Option ℕ
 sub_in word = ranged_in 0 255 (number_in word)
 
@@ -61,11 +62,13 @@ sub_in word = ranged_in 0 255 (number_in word)
 abbrev pub one_in : List ℕ → List ℕ → Option Act
 one_in act name = if bytes_eq act (codes "read_file") then read_in name else None
 
+-- with two arguments
 abbrev pub two_in : List ℕ → List ℕ → List ℕ → Option Act
 two_in act first second =
     if bytes_eq act (codes "upload") then upload_of (index_in first) (sub_in second)
     else (if bytes_eq act (codes "write_file") then write_in first else None)
 
+-- with three
 abbrev pub three_in : List ℕ → List ℕ → List ℕ → List ℕ → Option Act
 three_in act first second third = if bytes_eq act (codes "download") then download_of (index_in first) (sub_in second) (octets_in third) else None
 

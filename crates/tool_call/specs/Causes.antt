@@ -47,5 +47,6 @@ EndsSo words first last end = (a : Asked) × (service : Service) × (value : Rep
 abbrev pub NoAnswerCause : List (List ℕ) → Told → Told → Status → Type 0
 NoAnswerCause words first last status = status ≡ statuses.NoAnswer → EndsSo words first last ToolEnd.NoAnswer
 
+-- PortFault comes only where the port failed before the reply
 abbrev pub FaultCause : List (List ℕ) → Told → Told → Status → Type 0
 FaultCause words first last status = status ≡ statuses.PortFault → EndsSo words first last ToolEnd.PortFault × Rose first.faults last.faults

@@ -45,6 +45,7 @@ module _ {S V A Q R : Type 0} (w : Behind S V A Q R) (more : Body → Bool) (pas
   abbrev pub era_before : Era Body Q R → Era Body Q R
   era_before e = era_next w.exchange.speech w.states.acknowledged more passed (length fs) e pick
 
+  -- the epoch behind the frame
   abbrev pub era_behind : RingFate → Era Body Q R → Era Body Q R
   era_behind fate e = let f = frame_of w.lens t in era_after w.exchange.speech w.states.acknowledged more passed spot.station (length fs) news f.sent fate f.back (era_before e)
 

@@ -1,0 +1,88 @@
+ghost use Rattle.std.specs.Prelude.{◌≡◌, ◌⊎◌, ◌<◌};
+ghost use Rattle.ec_outside.specs.Faults.{Rose};
+ghost use Rattle.run_book.specs.Book.{IsNew};
+ghost use Rattle.ecmbx_words.specs.declared.status.Status.TheVariants as statuses;
+ghost use Rattle.ecmbx_words.specs.Form.{as_serve};
+ghost use Rattle.ecmbx_call.specs.Course.{words_of, CarriesOut, Began};
+ghost use Rattle.ecmbx_call.specs.Serving.{ServesFile, ServedIn};
+ghost use Rattle.ecmbx_call.specs.Causes.{IsServing};
+ghost use Rattle.ecmbx_call.specs.Calls.{Calls};
+ghost use Rattle.ecmbx_call.specs.Linked.{told_first, told_last};
+
+use crate::top::serve_file;
+use ec_links::Link;
+use ec_outside::{Files, Sink};
+use ecmbx_words::{Status, say, stream_of, usage};
+use gateway_stream::WholePort;
+use run_book::Book;
+use std::alloc::Global;
+
+// Serves the scenario under a name over a link.
+fn stream_file<F: Files, O: Sink, L: Link>(
+    alloc: Global,
+    name: &str,
+    count: u32,
+    files: &mut F,
+    out: &mut O,
+    link: L,
+    book: &mut Book,
+) -> (Status, L)
+    requires new { IsNew book.old }
+    requires some { 0 < count }
+    ensures course { ServesFile F.table F.file_faults O.written name.now count (told_first L.given L.sent L.over L.link_faults link) (told_last L.given L.sent L.over L.link_faults link result.1) book.new files.old files.new out.old out.new result.0 }
+    ensures sink { result.0 ≡ statuses.SinkFault → Rose (O.sink_faults out.old) (O.sink_faults out.new) }
+    ensures book { IsNew book.new ⊎ ServedIn name.now (F.table files.old) count (told_first L.given L.sent L.over L.link_faults link) (told_last L.given L.sent L.over L.link_faults link result.1) book.new }
+    ensures same { F.table files.new ≡ F.table files.old }
+{
+    let mut port = WholePort::new(link);
+    let status = serve_file(alloc, name, count, files, out, &mut port, book);
+    (status, port.into_link())
+}
+
+fn carry_out<F: Files, O: Sink, L: Link>(
+    alloc: Global,
+    words: &[String],
+    files: &mut F,
+    out: &mut O,
+    link: L,
+    book: &mut Book,
+) -> (Status, L)
+    requires { IsNew book.old }
+    ensures course { CarriesOut F.table F.file_faults O.written (as_serve (words_of words.now)) (told_first L.given L.sent L.over L.link_faults link) (told_last L.given L.sent L.over L.link_faults link result.1) book.new files.old files.new out.old out.new result.0 }
+    ensures sink { result.0 ≡ statuses.SinkFault → Rose (O.sink_faults out.old) (O.sink_faults out.new) }
+    ensures book { IsNew book.new ⊎ Began (as_serve (words_of words.now)) (F.table files.old) (told_first L.given L.sent L.over L.link_faults link) (told_last L.given L.sent L.over L.link_faults link result.1) book.new }
+    ensures same { F.table files.new ≡ F.table files.old }
+    ensures link { ¬ IsServing (as_serve (words_of words.now)) → result.1 ≡ link }
+{
+    match stream_of(words) {
+        Some(count) => stream_file(alloc, words[1].as_str(), count, files, out, link, book),
+        None => (say(out, Status::Usage, usage()), link),
+    }
+}
+
+/// Does what `stream SCENARIO COUNT` says, and gives the link back: it serves the segment of the scenario over the link, as the top call serves
+/// it over a port for `serve SCENARIO COUNT`, until COUNT requests came, the link ended or a header came that is no request's. The requests are
+/// those in the octets that the link gives, one behind the other, however they were cut into pieces; the replies are put in order. Every other
+/// list of words is `Usage`.
+///
+/// In the clauses the words are those of `serve`. The datagrams heard are the requests in the octets given, those sent are the datagrams in the
+/// octets put, and the faults are the link's; a put that failed may leave a part of the last datagram behind these.
+pub fn stream_call<F: Files, O: Sink, L: Link>(
+    alloc: Global,
+    words: &[String],
+    files: &mut F,
+    out: &mut O,
+    link: L,
+    book: &mut Book,
+) -> (Status, L)
+    requires { IsNew book.old }
+
+    // All that the top call promises, with what the link tells in the place of what a port tells.
+    ensures calls { Calls F.table F.file_faults O.written O.sink_faults (as_serve (words_of words.now)) (told_first L.given L.sent L.over L.link_faults link) (told_last L.given L.sent L.over L.link_faults link result.1) book.new files.old files.new out.old out.new result.0 }
+
+    // No file is changed, and no call but a serving touches the link.
+    ensures same { F.table files.new ≡ F.table files.old }
+    ensures link { ¬ IsServing (as_serve (words_of words.now)) → result.1 ≡ link }
+{
+    carry_out(alloc, words, files, out, link, book)
+}

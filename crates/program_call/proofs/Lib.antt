@@ -1,3 +1,0 @@
-mod Words
-mod Retold
-mod Calls

@@ -1,3 +1,0 @@
-pub mod First
-pub mod Asks
-pub mod Linked
