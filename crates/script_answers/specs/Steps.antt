@@ -113,4 +113,3 @@ pub record LosesSo (made : ℕ) (a b : Leads) : Type 0 where
   pub same : SameScript a b
   pub epochs : EpochsLost a.lived.life b.lived.life
   pub before : IsBefore (suc made) b.lived.life
-
