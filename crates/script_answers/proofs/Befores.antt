@@ -1,6 +1,6 @@
 -- ALL THAT STANDS IN A LIFE was before the next frame.
-use Rattle.std.proofs.Common.{ℕ, suc, ◌<◌, Bool, true, false, Option, Some, None, List, [], ◌∷◌, ◌++◌, arith}
-use Rattle.std.specs.Prelude.{◌==◌, ◌&&◌, nat_lt, if◌then◌else◌}
+use Rattle.std.proofs.Common.{ℕ, suc, ◌<◌, Bool, true, false, Option, Some, None, List, [], arith}
+use Rattle.std.specs.Prelude.{◌==◌, ◌&&◌, if◌then◌else◌}
 use Rattle.std.specs.List.{All}
 use Rattle.std.proofs.lemmas.List.Elements.{All-push, All-weaker}
 use Rattle.exchange_model.specs.Exchange.{Speech}
@@ -13,7 +13,7 @@ use Rattle.master_hand.specs.Spoken.{Asked, acknowledged, is_followed}
 use Rattle.segment_model.specs.Slaves.{Datagram, Found}
 use Rattle.task_model.specs.Accounts.{Duty, Stage}
 use Rattle.script_answers.specs.Steps.{OpenedBefore, IsBefore}
-use Rattle.script_answers.proofs.Anew.{EraOf, WasBefore}
+use Rattle.script_answers.proofs.Anew.{WasBefore}
 
 abbrev LifeOf : Type 0
 LifeOf = Life Body Asked Reply

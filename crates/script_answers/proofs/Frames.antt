@@ -1,40 +1,30 @@
 -- WHAT IS NOTED BEHIND A FRAME: the answer that its return brought, or nothing.
-use Rattle.std.proofs.Common.{◌≡◌, ◌⊎◌, inl, inr, ℕ, suc, ◌+◌, ◌<◌, Bool, true, false, Option, Some, None, List, [], ◌∷◌, ◌++◌, map, length, length-append, refl, ap, sym, ◌∙◌, subst, arith, append_assoc, append-nil}
-use Rattle.std.specs.Prelude.{◌==◌, ◌&&◌, option_map, is_some, nat_lt, if◌then◌else◌}
+use Rattle.std.proofs.Common.{◌≡◌, ℕ, suc, ◌<◌, Bool, true, false, Option, Some, None, List, [], ◌∷◌, ◌++◌, length, length-append, refl, ap, sym, ◌∙◌, subst, arith, append-nil}
+use Rattle.std.specs.Prelude.{◌==◌, ◌&&◌, option_map, is_some, if◌then◌else◌}
 use Rattle.std.specs.List.{All}
-use Rattle.std.proofs.lemmas.List.{map-append}
 use Rattle.exchange_model.specs.Areas.{Areas}
 use Rattle.exchange_model.specs.Exchange.{Speech, plain}
-use Rattle.exchange_model.specs.Rows.{Row, answer_after, row_heard}
-use Rattle.frame_view.specs.View.{Lens}
+use Rattle.exchange_model.specs.Rows.{answer_after, row_heard}
 use Rattle.frame_view.specs.Seen.{seen}
-use Rattle.life_runs.proofs.Spans as Spans
 use Rattle.life_runs.proofs.Spans.{clear_leaves, cleared_stays, last_stays, steps_stay}
 use Rattle.life_runs.specs.Spans.{is_leaving, is_open}
-use Rattle.life_frames.specs.Shares.{Lived, came_at, given_where}
-use Rattle.life_model.specs.Lives.{Spot, Era, Life, Stand, Opening, life_back, life_lost, era_back, era_lost, opening_back, shows_clear, is_shown, last_step, clears, opens, steps_on, reopens, reopens_at, reopening, opens_state, returns_to_init, gives_up, new_side}
+use Rattle.life_model.specs.Lives.{Spot, Era, Life, Stand, Opening, life_back, era_back, opening_back, shows_clear, is_shown, last_step, clears, opens, steps_on, reopens, reopens_at, reopening, opens_state, returns_to_init, new_side}
 use Rattle.life_model.specs.Own.{own}
-use Rattle.life_runs.specs.Led.{Exchanged, Leads, Turn, is_passed, speech_at, life_behind}
+use Rattle.life_runs.specs.Led.{is_passed}
 use Rattle.link_mails.specs.Body.{Body}
 use Rattle.link_model.specs.Frames.{all_accepted}
 use Rattle.master_duty.specs.Reply.{Reply}
-use Rattle.master_hand.specs.Spoken.{Asked, sdo, file, drive, net, passed, acknowledged, is_followed, ends, handed, hand_speech}
-use Rattle.segment_model.specs.Ends.{Outcome}
+use Rattle.master_hand.specs.Spoken.{Asked, acknowledged, is_followed, ends, hand_speech}
 use Rattle.segment_model.specs.Record.{News}
-use Rattle.segment_model.specs.Seats.{Side, newest, rows_of, side_back}
+use Rattle.segment_model.specs.Seats.{Side}
 use Rattle.segment_model.specs.Slaves.{Datagram, Found, grams}
-use Rattle.segment_ring.specs.declared.wire.Fate.{Fate}
-use Rattle.segment_ring.specs.declared.wire.Fate.TheVariants.{Pass, Lost}
-use Rattle.state_exchange.specs.Stated.{Service}
-use Rattle.task_model.specs.Accounts.{Account, Duty, Stage, Change, Started, new_account, account_met, account_back}
+use Rattle.task_model.specs.Accounts.{Account, Duty, Stage, Change, new_account}
 use Rattle.task_model.specs.Promise.{services_in, mails_in}
 use Rattle.task_model.proofs.Completed.{started_back}
-use Rattle.script_answers.specs.Answers.{Came, Scripted, Noted, AllNoted, RowRests, RestsSo, Awaits, Changes, ComesAnew, IsStill, IsAwaiting, IsGoing, Waits, StandsBy, IsNew, IsSpared, FreshBy, IsNoted, answers_in, side_answers, now_answer, newest_answer, states_in, reached_at, opened_anew, scripted_in, era_scripted, eras_scripted, over_scripted, life_scripted, turned}
-use Rattle.script_answers.specs.Steps.{EndedSo, ReplyPasses, ChangePasses, PassesSo, LosesSo, account_of, opened, with_begun, with_reply}
-use Rattle.script_answers.proofs.Backs.{Held, Went, AwaitsBack, past_scripted, front_scripted, changes_front, awaits_scripted, changes_scripted, changes_opened, change_with, change_reported, hand_back, no_hand, answers_rest, rests_heard, many_answers, after_none, last_change}
+use Rattle.script_answers.specs.Answers.{Came, Scripted, RowRests, RestsSo, Awaits, Changes, ComesAnew, IsStill, IsNew, FreshBy, answers_in, side_answers, now_answer, states_in, reached_at, opened_anew, scripted_in, era_scripted, eras_scripted, over_scripted, life_scripted}
+use Rattle.script_answers.proofs.Backs.{Held, Went, AwaitsBack, past_scripted, changes_front, changes_scripted, changes_opened, change_with, change_reported, hand_back, no_hand, answers_rest, rests_heard, many_answers}
 use Rattle.script_answers.proofs.Anew.{anew_spared}
-use Rattle.script_answers.proofs.Lists.{Answer, noted_more, noted_front, eras_more, changes_more}
-use Rattle.script_answers.proofs.Sides.{longer}
+use Rattle.script_answers.proofs.Lists.{Answer, eras_more, changes_more}
 use Rattle.script_answers.proofs.Turns.{awaits_on, changes_on, rests_on, spared, fresh_open}
 
 abbrev LifeOf : Type 0

@@ -1,5 +1,5 @@
 -- WHAT IS NOTED BEHIND A LOST FRAME, and at which frames a slave is given up.
-use Rattle.std.proofs.Common.{◌≡◌, ◌⊎◌, inl, inr, ℕ, suc, ◌<◌, Bool, true, false, Option, Some, None, List, [], ◌∷◌, ◌++◌, length, refl, ap, sym, ◌∙◌, subst}
+use Rattle.std.proofs.Common.{◌≡◌, ◌⊎◌, inl, inr, ℕ, ◌<◌, Bool, true, false, Option, Some, None, List, [], ◌∷◌, ◌++◌, length, refl, ap, sym, ◌∙◌, subst}
 use Rattle.std.specs.Prelude.{◌==◌, ◌&&◌, nat_lt, if◌then◌else◌}
 use Rattle.std.specs.List.{All}
 use Rattle.exchange_model.specs.Exchange.{Speech}
@@ -8,16 +8,15 @@ use Rattle.frame_view.specs.Seen.{seen}
 use Rattle.life_runs.proofs.Spans as Spans
 use Rattle.life_runs.specs.Spans.{is_leaving, is_open}
 use Rattle.life_frames.specs.Shares.{came_at, given_where}
-use Rattle.life_model.specs.Lives.{Spot, Era, Life, Stand, Opening, life_back, life_lost, era_back, era_lost, opening_back, shows_clear, is_shown, last_step, clears, opens, steps_on, reopens, reopens_at, reopening, opens_state, returns_to_init, gives_up}
+use Rattle.life_model.specs.Lives.{Spot, Era, Life, Stand, Opening, life_back, life_lost, era_back, opening_back, shows_clear, is_shown, last_step, clears, opens, steps_on, reopens, reopens_at, reopening, opens_state, returns_to_init}
 use Rattle.life_runs.specs.Led.{Exchanged, Leads, Turn, is_passed, speech_at}
 use Rattle.link_mails.specs.Body.{Body}
 use Rattle.master_duty.specs.Reply.{Reply}
 use Rattle.master_hand.specs.Spoken.{Asked, acknowledged, is_followed}
-use Rattle.segment_model.specs.Record.{News}
 use Rattle.segment_model.specs.Slaves.{Datagram, Found}
 use Rattle.segment_ring.specs.declared.wire.Fate.TheVariants.{Pass, Lost}
 use Rattle.task_model.specs.Accounts.{Duty, Stage}
-use Rattle.script_answers.specs.Answers.{Noted, AllNoted, RestsSo, IsStill, IsGoing, Waits, StandsBy, FreshBy, IsNoted, opened_anew, era_scripted, eras_scripted, life_scripted, turned}
+use Rattle.script_answers.specs.Answers.{Noted, AllNoted, IsStill, Waits, StandsBy, FreshBy, IsNoted, era_scripted, eras_scripted, life_scripted, turned}
 use Rattle.script_answers.specs.Steps.{IsBefore, PassesSo, LosesSo}
 use Rattle.script_answers.proofs.Anew.{anew_lost, eras_given}
 use Rattle.script_answers.proofs.Befores.{back_before, lost_before, given_before}

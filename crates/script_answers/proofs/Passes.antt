@@ -1,31 +1,26 @@
 -- WHAT IS NOTED BEHIND A FRAME OF A RUN, whatever is awaited.
-use Rattle.std.proofs.Common.{◌≡◌, ◌⊎◌, inl, inr, ℕ, ◌+◌, Bool, true, false, Option, Some, None, List, [], ◌∷◌, ◌++◌, map, length, length-append, refl, ap, sym, ◌∙◌, subst, arith}
-use Rattle.std.specs.Prelude.{◌==◌, ◌&&◌, is_some, nat_lt, if◌then◌else◌}
+use Rattle.std.proofs.Common.{◌≡◌, ◌⊎◌, inl, inr, ℕ, Bool, true, false, Option, Some, None, List, [], ◌∷◌, ◌++◌, length, length-append, refl, ap, sym, ◌∙◌, subst, arith}
+use Rattle.std.specs.Prelude.{is_some}
 use Rattle.exchange_model.specs.Areas.{Areas}
-use Rattle.exchange_model.specs.Exchange.{Speech}
 use Rattle.frame_view.specs.View.{Lens}
 use Rattle.frame_view.specs.Seen.{seen}
-use Rattle.life_runs.proofs.Spans as Spans
 use Rattle.life_runs.specs.Spans.{is_open}
-use Rattle.life_frames.specs.Shares.{Lived, came_at, given_where}
-use Rattle.life_model.specs.Lives.{Spot, Era, Life, Stand, Opening, life_back, life_lost, era_back, opening_back, shows_clear, is_shown, last_step, clears, opens, steps_on, reopens, reopens_at, reopening, opens_state, returns_to_init, gives_up}
-use Rattle.life_runs.specs.Led.{Exchanged, Leads, Turn, is_passed, speech_at, life_behind}
+use Rattle.life_frames.specs.Shares.{came_at}
+use Rattle.life_model.specs.Lives.{Life}
+use Rattle.life_runs.specs.Led.{Exchanged, Leads, Turn, is_passed, life_behind}
 use Rattle.link_mails.specs.Body.{Body}
 use Rattle.master_duty.specs.Reply.{Reply}
-use Rattle.master_hand.specs.Spoken.{Asked, acknowledged, is_followed, hand_speech, ends}
+use Rattle.master_hand.specs.Spoken.{Asked, ends}
 use Rattle.segment_model.specs.Ends.{Outcome}
-use Rattle.segment_model.specs.Record.{News}
 use Rattle.segment_model.specs.Slaves.{Datagram, Found}
 use Rattle.segment_ring.specs.declared.wire.Fate.{Fate}
-use Rattle.segment_ring.specs.declared.wire.Fate.TheVariants.{Pass, Lost}
-use Rattle.task_model.specs.Accounts.{Duty, Stage, Change}
-use Rattle.script_answers.specs.Answers.{Came, Scripted, Noted, IsReported, AllNoted, RowRests, RestsSo, Awaits, Changes, ComesAnew, IsAwaiting, IsGoing, Waits, StandsBy, FreshBy, IsNoted, now_answer, newest_answer, outcome_reply, reply_by, reached_at, life_scripted, turned}
-use Rattle.script_answers.specs.Steps.{IsBefore, EndedSo, ReplyPasses, ChangePasses, PassesSo, LosesSo, account_of, opened, with_begun, with_reply}
+use Rattle.segment_ring.specs.declared.wire.Fate.TheVariants.{Pass}
+use Rattle.task_model.specs.Accounts.{Change}
+use Rattle.script_answers.specs.Answers.{Came, Noted, IsReported, AllNoted, RowRests, RestsSo, Awaits, ComesAnew, IsGoing, Waits, StandsBy, FreshBy, IsNoted, now_answer, newest_answer, reply_by, reached_at, life_scripted, turned}
+use Rattle.script_answers.specs.Steps.{IsBefore, EndedSo, account_of, opened, with_begun, with_reply}
 use Rattle.script_answers.proofs.Backs.{Held, AwaitsBack, front_scripted, changes_front, awaits_scripted, changes_scripted, after_none, not_passed, last_change, change_reported}
-use Rattle.script_answers.proofs.Frames.{Stays, RestsBack, AnewBack, ChangeBack, back_stays, still_back, anew_back, awaits_back, change_back}
+use Rattle.script_answers.proofs.Frames.{Stays, AnewBack, ChangeBack, back_stays, still_back, anew_back, awaits_back, change_back}
 use Rattle.script_answers.proofs.Lists.{Answer, Over, noted_more, noted_front}
-use Rattle.script_answers.proofs.Sides.{longer}
-use Rattle.script_answers.proofs.Turns.{awaits_on, changes_on, rests_on, fresh_open}
 
 -- an outcome is reported by its reply
 reported : (outcome : Outcome Reply) (c : Change Reply) (made : ℕ) → c.answer ≡ outcome → c.completed ≡ made → IsReported (change_reported c) (Some (reply_by outcome, made))

@@ -1,5 +1,5 @@
 -- WHAT IS NOTED BEFORE A FRAME: what came into hand of a slave.
-use Rattle.std.proofs.Common.{◌≡◌, ◌⊎◌, inl, inr, ℕ, suc, ◌+◌, ◌<◌, ◌≤◌, Bool, true, false, Option, Some, None, List, [], ◌∷◌, ◌++◌, map, length, length-append, refl, ap, sym, ◌∙◌, subst, arith, append_assoc, append-nil}
+use Rattle.std.proofs.Common.{◌≡◌, ◌⊎◌, inl, inr, ℕ, suc, ◌+◌, ◌<◌, Bool, true, false, Option, Some, None, List, [], ◌∷◌, ◌++◌, length, length-append, refl, ap, sym, ◌∙◌, subst, arith, append_assoc, append-nil}
 use Rattle.std.specs.Prelude.{nat_lt, is_some, if◌then◌else◌}
 use Rattle.std.specs.List.{All}
 use Rattle.std.proofs.lemmas.Bool.{ltb-true, ltb-false}
@@ -12,7 +12,7 @@ use Rattle.exchange_model.specs.Rows.{Row}
 use Rattle.frame_view.specs.View.{Lens}
 use Rattle.life_runs.proofs.Spans as Spans
 use Rattle.life_runs.specs.Spans.{is_leaving, is_open}
-use Rattle.life_model.specs.Lives.{Era, Life, Stand, Opening, granted, life_next, returns_to_init}
+use Rattle.life_model.specs.Lives.{Era, Life, Stand, granted, life_next, returns_to_init}
 use Rattle.life_runs.specs.Led.{Leads, Turn, Comes, Took, IsTurn, is_passed, speech_at}
 use Rattle.link_mails.specs.Body.{Body}
 use Rattle.master_duty.specs.Reply.{Reply}
@@ -20,16 +20,16 @@ use Rattle.master_hand.specs.Spoken.{Asked, sdo, file, drive, net, handed, ends,
 use Rattle.master_hand.specs.Talk.{asked_of}
 use Rattle.script_runs.specs.Came.{is_packet}
 use Rattle.segment_model.specs.Ends.{Passing}
-use Rattle.segment_model.specs.Seats.{Side, newest, rows_of}
+use Rattle.segment_model.specs.Seats.{newest, rows_of}
 use Rattle.segment_plan.specs.declared.service.Service as Plan
 use Rattle.state_exchange.specs.Stated.{Service}
-use Rattle.task_model.specs.Accounts.{Account, Duty, Stage, Started, Pick, is_free, starts}
+use Rattle.task_model.specs.Accounts.{Duty, Stage, Pick, is_free, starts}
 use Rattle.task_model.specs.Promise.{services_in, mails_in}
-use Rattle.script_answers.specs.Answers.{Came, Scripted, Noted, IsReported, AllNoted, RowRests, RestsSo, Awaits, Changes, ComesAnew, IsStill, IsAwaiting, IsGoing, Waits, StandsBy, IsNew, IsSpared, FreshBy, IsNoted, answers_in, side_answers, states_in, change_outcome, now_answer, scripted_in, scripted_mails, era_scripted, eras_scripted, over_scripted, life_scripted, turned}
+use Rattle.script_answers.specs.Answers.{Came, Noted, AllNoted, RowRests, RestsSo, Awaits, Changes, ComesAnew, IsStill, IsAwaiting, Waits, StandsBy, IsNew, IsSpared, FreshBy, IsNoted, answers_in, side_answers, states_in, now_answer, scripted_in, scripted_mails, era_scripted, eras_scripted, over_scripted, life_scripted, turned}
 use Rattle.script_answers.specs.Steps.{awaited, with_begun, IsBefore, Turns, TurnsSo}
 use Rattle.script_answers.proofs.Backs.{past_scripted}
-use Rattle.script_answers.proofs.Lists.{Answer, scripted_state, scripted_one, no_outcome, mails_more, states_more, changes_more, changes_same, noted_more}
-use Rattle.script_answers.proofs.Sides.{Rests, Mails, State, RowStays, SideMails, longer, rests, mails, state, not_free}
+use Rattle.script_answers.proofs.Lists.{Answer, scripted_state, scripted_one, no_outcome, mails_more, states_more, changes_same, noted_more}
+use Rattle.script_answers.proofs.Sides.{Rests, Mails, State, longer, rests, mails, state, not_free}
 
 -- NO SERVICE OF A SCRIPT is a packet, and each has a reply
 abbrev among : (Asked → Bool) → Option Asked → Bool

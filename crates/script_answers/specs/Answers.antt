@@ -14,7 +14,7 @@ use Rattle.script_runs.specs.Came.{is_packet}
 use Rattle.segment_model.specs.Ends.{Outcome}
 use Rattle.segment_model.specs.Seats.{Side, rows_of}
 use Rattle.state_exchange.specs.Stated.{Service}
-use Rattle.task_model.specs.Accounts.{Account, Started, Duty, Change, new_account}
+use Rattle.task_model.specs.Accounts.{Started, Duty, Change, new_account}
 use Rattle.task_model.specs.Promise.{services_in, mails_in}
 
 -- what a scripted service has come to: one that goes by mails, the answer of its row, with the number of the frame that brought it; a change of state,
