@@ -14,14 +14,14 @@ use Rattle.master_duty.specs.Reply.{Reply}
 use Rattle.master_hand.specs.Spoken.{Asked, is_followed}
 use Rattle.run_promises.specs.Promise.{AllKeep}
 use Rattle.plan_ring.specs.Plan.{first_app}
-use Rattle.promised_run.specs.Reported.{IsReportedBy, RepliesBy, AreReplies, EraReplies, PastReplies, NewestReplies, LifeReplies, IsReported, AllReported}
+use Rattle.promised_run.specs.Reported.{stays, IsReportedBy, RepliesBy, AreReplies, EraReplies, PastReplies, NewestReplies, LifeReplies, IsReported, AllReported}
 use Rattle.promised_run.proofs.Unopened.{NothingBefore, AllNothing, Opened, AllOpened}
 use Rattle.run_book.specs.declared.book.SlaveBook.{SlaveBook}
 use Rattle.plan_ring.specs.Round.{all_seen}
 use Rattle.run_promises.specs.Slaves.{services_of}
 use Rattle.run_record.specs.Reports.{noted_in, IsBooked}
 use Rattle.script_answers.specs.Answers as Noting
-use Rattle.script_answers.specs.Answers.{Came, Scripted, Noted, AllNoted, answers_in, side_answers, first_change, changes_behind, change_came, scripted_by, scripted_in, scripted_mails, era_scripted, eras_scripted, life_scripted, reply_by, outcome_reply}
+use Rattle.script_answers.specs.Answers.{Came, Scripted, Noted, AllNoted, answers_in, side_answers, first_change, changes_behind, change_outcome, opened_anew, scripted_by, scripted_in, scripted_mails, era_scripted, eras_scripted, life_scripted, reply_by, outcome_reply}
 use Rattle.script_answers.proofs.Lists.{eras_more}
 use Rattle.script_runs.specs.Came.{is_packet}
 use Rattle.link_model.specs.Mails.{first_of}
@@ -116,20 +116,20 @@ module _ {V A : Type 0} (x : Exchange V A Body Asked Reply) (s : Stated V A Aske
   row_found : (q : Asked) (frame : ℕ) (r : Held) → r.service ≡ q → r.frame ≡ frame → IsAnswered x.speech is_followed station gs r → x.speech.handed q ≡ false → as_outcome r.answer ≡ found (Service.Mails q) frame
   row_found q frame r sq sf answered h = answered.replied (ap x.speech.handed sq ∙ h) ∙ (λ i. outcome_of x.speech is_followed station gs (record { service = Service.Mails (sq i); frame = sf i }))
 
-  mails_reported : (a : A × ℕ) (q : Asked) (frame : ℕ) (r : Held) (n : Noted) → r.service ≡ q → r.frame ≡ frame → IsAnswered x.speech is_followed station gs r → Replied a (Service.Mails q) frame → n.frame ≡ frame → n.reply ≡ r.answer → IsReportedBy x s table station gs a (Service.Mails q) frame n
-  mails_reported a q frame r n sq sf answered replied at is = record {
+  mails_reported : (anew : Option ℕ) (a : A × ℕ) (q : Asked) (frame : ℕ) (r : Held) (n : Noted) → r.service ≡ q → r.frame ≡ frame → IsAnswered x.speech is_followed station gs r → Replied a (Service.Mails q) frame → n.frame ≡ frame → n.reply ≡ r.answer → IsReportedBy x s table station gs anew a (Service.Mails q) frame n
+  mails_reported anew a q frame r n sq sf answered replied at is = record {
     at = at;
     given = λ h. is ∙ sym (outcome_back r.answer) ∙ ap outcome_reply (row_found q frame r sq sf answered (not_true (x.speech.handed q) h));
-    own = λ h z g e. replied (Outcome.Replied z, g) (sym (row_found q frame r sq sf answered (not_true (x.speech.handed q) h)) ∙ ap as_outcome (sym is ∙ e)) tt;
+    own = λ h stay z g e. replied (Outcome.Replied z, g) (sym (row_found q frame r sq sf answered (not_true (x.speech.handed q) h)) ∙ ap as_outcome (sym is ∙ e)) tt;
   }
 
   first_row : (q : Asked) (frame : ℕ) (r : Held) (ms : List (Asked × ℕ)) (rs : List Held) → (q, frame) ∷ ms ≡ rows_started (r ∷ rs) → (r.service ≡ q) × (r.frame ≡ frame) × (ms ≡ rows_started rs)
   first_row q frame r ms rs e = let head : (q, frame) ≡ (r.service, r.frame) = cc in let tail : ms ≡ rows_started rs = cc in (sym (ap (λ (p : Asked × ℕ). p.0) head), sym (ap (λ (p : Asked × ℕ). p.1) head), tail)
 
   -- A CHANGE OF STATE
-  came_is : (b : Bool) (outcome : Option (Outcome Reply × ℕ)) (reply : Option (Reply × ℕ)) → b ≡ false → Noting.IsReported (change_came b outcome) reply → reply ≡ outcome_reply outcome
-  came_is true outcome reply e h = absurd (let bad : true ≡ false = e in cc)
-  came_is false outcome reply e h = h
+  stays_so : (b : Bool) (anew : Option ℕ) (outcome : Option (Outcome Reply × ℕ)) → b ≡ false → change_outcome b anew outcome ≡ outcome
+  stays_so b anew None e = ap (λ (z : Bool). change_outcome z anew None) e
+  stays_so b anew (Some o) e = refl
 
   outcome_own : (a : A × ℕ) (target frame : ℕ) (o : Option (Outcome Reply × ℕ)) → found (Service.State target) frame ≡ o → Replied a (Service.State target) frame → (r : Reply) (g : ℕ) → outcome_reply o ≡ Some (r, g) → r ≡ reply_by (replies a (Service.State target))
   outcome_own a target frame None f replied r g e = absurd (let bad : None ≡ Some (r, g) = e in cc)
@@ -141,12 +141,12 @@ module _ {V A : Type 0} (x : Exchange V A Body Asked Reply) (s : Stated V A Aske
       reply_or y None = y
       reply_or y (Some k) = k.0
 
-  state_reported : (a : A × ℕ) (target frame : ℕ) (outcome : Option (Outcome Reply × ℕ)) (n : Noted) → found (Service.State target) frame ≡ outcome → Replied a (Service.State target) frame → n.frame ≡ frame → Noting.IsReported (change_came (returns_to_init target) outcome) n.reply →
-      IsReportedBy x s table station gs a (Service.State target) frame n
-  state_reported a target frame outcome n is replied at h = record {
+  state_reported : (anew : Option ℕ) (a : A × ℕ) (target frame : ℕ) (outcome : Option (Outcome Reply × ℕ)) (n : Noted) → found (Service.State target) frame ≡ outcome → Replied a (Service.State target) frame → n.frame ≡ frame →
+      n.reply ≡ outcome_reply (change_outcome (returns_to_init target) anew outcome) → IsReportedBy x s table station gs anew a (Service.State target) frame n
+  state_reported anew a target frame outcome n is replied at h = record {
     at = at;
-    given = λ e. came_is (returns_to_init target) outcome n.reply (not_true (returns_to_init target) e) h ∙ ap outcome_reply (sym is);
-    own = λ e r g f. outcome_own a target frame outcome is replied r g (sym (came_is (returns_to_init target) outcome n.reply (not_true (returns_to_init target) e) h) ∙ f);
+    given = λ e. h ∙ ap (λ (z : Option (Outcome Reply × ℕ)). outcome_reply (change_outcome (returns_to_init target) anew z)) (sym is);
+    own = λ e stay r g f. outcome_own a target frame outcome is replied r g (sym (h ∙ ap outcome_reply (stays_so (returns_to_init target) anew outcome (not_true (returns_to_init target) stay))) ∙ f);
   }
 
   -- the changes of state that are over, and the one in hand, have what the frames give
@@ -178,71 +178,81 @@ module _ {V A : Type 0} (x : Exchange V A Body Asked Reply) (s : Stated V A Aske
       by (Some duty) e o =
           let k = heads (target, frame) (duty.target, duty.frame) ms [] e in record { is = found_at (target, frame) (duty.target, duty.frame) k.0 ∙ o; rest = record { hand = None; whole = k.1; over = tt; none = tt } }
 
-  pub are_replies : (a : A × ℕ) (ss : List (Started Asked)) (rs : List Held) (cs : List (Change Reply)) (ns : List Noted) → mails_started ss ≡ rows_started rs → AllAnswered x.speech is_followed station gs rs → Found (states_started ss) cs →
-      AllReplied x s table is_followed station gs a ss → AllNoted (scripted_in ss (answers_in rs) cs) ns → AreReplies x s table station gs a ss ns
-  are_replies a [] rs cs ns m y f p h = none_noted ns h
-  are_replies a (r ∷ ss) rs cs ns m y f p h = go r.service rs m y f p.0 h (λ rs ds ms m y f h. are_replies (exec a r.service) ss rs ds ms m y f p.1 h)
+  pub are_replies : (anew : Option ℕ) (a : A × ℕ) (ss : List (Started Asked)) (rs : List Held) (cs : List (Change Reply)) (ns : List Noted) → mails_started ss ≡ rows_started rs → AllAnswered x.speech is_followed station gs rs → Found (states_started ss) cs →
+      AllReplied x s table is_followed station gs a ss → AllNoted (scripted_in anew ss (answers_in rs) cs) ns → AreReplies x s table station gs anew a ss ns
+  are_replies anew a [] rs cs ns m y f p h = none_noted ns h
+  are_replies anew a (r ∷ ss) rs cs ns m y f p h = go r.service rs m y f p.0 h (λ rs ds ms m y f h. are_replies anew (exec a r.service) ss rs ds ms m y f p.1 h)
     where
       noted_by : (b : Bool) (q : Asked) (t : Held) (ts : List Scripted) (ns : List Noted) → AllNoted (scripted_mails b r.frame t.answer ts) ns → t.service ≡ q → t.frame ≡ r.frame → IsAnswered x.speech is_followed station gs t → Replied a (Service.Mails q) r.frame →
-          (more : List Noted → Type 0) → ((ms : List Noted) → AllNoted ts ms → more ms) → RepliesBy x s table station gs b r.frame a (Service.Mails q) ns more
+          (more : List Noted → Type 0) → ((ms : List Noted) → AllNoted ts ms → more ms) → RepliesBy x s table station gs anew b r.frame a (Service.Mails q) ns more
       noted_by true q t ts ns h sq sf y p more k = k ns h
       noted_by false q t ts [] h sq sf y p more k = absurd h
-      noted_by false q t ts (n ∷ ns) h sq sf y p more k = (mails_reported a q r.frame t n sq sf y p h.0.0 h.0.1, k ns h.1)
+      noted_by false q t ts (n ∷ ns) h sq sf y p more k = (mails_reported anew a q r.frame t n sq sf y p h.0.0 h.0.1, k ns h.1)
 
       go : (z : Service Asked) (rs : List Held) → mail_of z r.frame ++ mails_started ss ≡ rows_started rs → AllAnswered x.speech is_followed station gs rs → Found (state_of z r.frame ++ states_started ss) cs → Replied a z r.frame →
-          AllNoted (scripted_by z r.frame (answers_in rs) cs (λ more others. scripted_in ss more others)) ns →
-          ((rs : List Held) (ds : List (Change Reply)) (ms : List Noted) → mails_started ss ≡ rows_started rs → AllAnswered x.speech is_followed station gs rs → Found (states_started ss) ds → AllNoted (scripted_in ss (answers_in rs) ds) ms → AreReplies x s table station gs (exec a r.service) ss ms) →
-          RepliesBy x s table station gs (is_packet z) r.frame a z ns (λ more. AreReplies x s table station gs (exec a r.service) ss more)
+          AllNoted (scripted_by anew z r.frame (answers_in rs) cs (λ more others. scripted_in anew ss more others)) ns →
+          ((rs : List Held) (ds : List (Change Reply)) (ms : List Noted) → mails_started ss ≡ rows_started rs → AllAnswered x.speech is_followed station gs rs → Found (states_started ss) ds → AllNoted (scripted_in anew ss (answers_in rs) ds) ms → AreReplies x s table station gs anew (exec a r.service) ss ms) →
+          RepliesBy x s table station gs anew (is_packet z) r.frame a z ns (λ more. AreReplies x s table station gs anew (exec a r.service) ss more)
       go (Service.State target) rs m y f p h more = state_by ns h
         where
           first : FoundFirst target r.frame (states_started ss) cs
           first = found_first target r.frame (states_started ss) cs f
 
-          state_by : (ns : List Noted) → AllNoted (record { frame = r.frame; came = change_came (returns_to_init target) (first_change cs) } ∷ scripted_in ss (answers_in rs) (changes_behind cs)) ns →
-              RepliesBy x s table station gs false r.frame a (Service.State target) ns (λ ms. AreReplies x s table station gs (exec a r.service) ss ms)
+          state_by : (ns : List Noted) → AllNoted (record { frame = r.frame; came = Came.state (change_outcome (returns_to_init target) anew (first_change cs)) } ∷ scripted_in anew ss (answers_in rs) (changes_behind cs)) ns →
+              RepliesBy x s table station gs anew false r.frame a (Service.State target) ns (λ ms. AreReplies x s table station gs anew (exec a r.service) ss ms)
           state_by [] h = absurd h
-          state_by (n ∷ ns) h = (state_reported a target r.frame (first_change cs) n first.is p h.0.0 h.0.1, more rs (changes_behind cs) ns m y first.rest h.1)
+          state_by (n ∷ ns) h = (state_reported anew a target r.frame (first_change cs) n first.is p h.0.0 h.0.1, more rs (changes_behind cs) ns m y first.rest h.1)
       go (Service.Mails q) [] m y f p h more = absurd (let bad : (q, r.frame) ∷ mails_started ss ≡ [] = m in cc)
       go (Service.Mails q) (t ∷ rs) m y f p h more =
           let e = first_row q r.frame t (mails_started ss) rs m in
-          noted_by (is_packet (Service.Mails q)) q t (scripted_in ss (answers_in rs) cs) ns h e.0 e.1 y.0 p (λ ms. AreReplies x s table station gs (exec a r.service) ss ms) (λ ms k. more rs cs ms e.2 y.1 f k)
+          noted_by (is_packet (Service.Mails q)) q t (scripted_in anew ss (answers_in rs) cs) ns h e.0 e.1 y.0 p (λ ms. AreReplies x s table station gs anew (exec a r.service) ss ms) (λ ms k. more rs cs ms e.2 y.1 f k)
 
 -- ALL EPOCHS
 module _ {S V A : Type 0} (w : Behind S V A Asked Reply) (spot : Spot) (fs : List (Frame Body)) where
-  kept_replies : (e : Era Body Asked Reply) (from to : A) (until : ℕ) (k : IsKept w is_followed spot fs e from to until) (ns : List Noted) → AllNoted (era_scripted e) ns → EraReplies w spot fs k ns
-  kept_replies e from to until k ns h =
-      are_replies w.exchange w.states (table_of w spot.station) spot.station (era_frames spot k.opened until fs) (w.states.told k.state from, 0) e.account.started (rows_of e.side) e.account.over ns k.told.mails k.told.answers
+  kept_replies : (anew : Option ℕ) (e : Era Body Asked Reply) (from to : A) (until : ℕ) (k : IsKept w is_followed spot fs e from to until) (ns : List Noted) → AllNoted (era_scripted anew e) ns → EraReplies w spot fs anew k ns
+  kept_replies anew e from to until k ns h =
+      are_replies w.exchange w.states (table_of w spot.station) spot.station (era_frames spot k.opened until fs) anew (w.states.told k.state from, 0) e.account.started (rows_of e.side) e.account.over ns k.told.mails k.told.answers
       (record { hand = e.account.hand; whole = k.told.states; over = k.told.over; none = k.told.hand }) k.answered.replies h
 
-  unopened_none : (e : Era Body Asked Reply) → e.account.started ≡ [] → era_scripted e ≡ []
-  unopened_none e none = ap (λ ss. scripted_in ss (side_answers e.side) e.account.over) none
+  unopened_none : (anew : Option ℕ) (e : Era Body Asked Reply) → e.account.started ≡ [] → era_scripted anew e ≡ []
+  unopened_none anew e none = ap (λ ss. scripted_in anew ss (side_answers e.side) e.account.over) none
 
   nothing_last : (es : List (Era Body Asked Reply)) (e : Era Body Asked Reply) → AllNothing (es ++ e ∷ []) → AllNothing es × NothingBefore e
   nothing_last [] e a = (tt, a.0)
   nothing_last (d ∷ es) e a = let more = nothing_last es e a.1 in ((a.0, more.0), more.1)
 
-  module _ (cleared : A → A) (first : A) where
-    past_replies : (es : List (Era Body Asked Reply)) (b : A) → AreKept w is_followed spot cleared fs first es b → AllNothing es → (ns : List Noted) → AllNoted (eras_scripted es) ns → PastReplies w spot fs cleared first es b ns
-    past_replies _ _ AreKept.none o ns h = subst (λ ms. PastReplies w spot fs cleared first [] first ms) (sym (none_noted ns h)) PastReplies.none
-    past_replies _ _ (AreKept.unopened es b e k n) o ns h =
+  module _ (gave : List ℕ) (cleared : A → A) (first : A) where
+    past_replies : (es : List (Era Body Asked Reply)) (behind : Option ℕ) (b : A) → AreKept w is_followed spot cleared fs first es b → AllNothing es → (ns : List Noted) → AllNoted (eras_scripted gave es behind) ns → PastReplies w spot fs gave cleared first es behind b ns
+    past_replies _ behind _ AreKept.none o ns h = subst (λ ms. PastReplies w spot fs gave cleared first [] behind first ms) (sym (none_noted ns h)) (PastReplies.none behind)
+    past_replies _ behind _ (AreKept.unopened es b e k n) o ns h =
         let last = nothing_last es e o in
-        let same : eras_scripted (es ++ e ∷ []) ≡ eras_scripted es = eras_more es e ∙ ap (λ ts. eras_scripted es ++ ts) (unopened_none e (last.1 n)) ∙ append-nil (eras_scripted es) in
-        PastReplies.unopened es b e ns (past_replies es b k last.0 ns (subst (λ ts. AllNoted ts ns) same h))
-    past_replies _ _ (AreKept.opened es b e left until k kept) o ns h =
-        let p = parts (eras_scripted es) (era_scripted e) ns (subst (λ ts. AllNoted ts ns) (eras_more es e) h) in
-        subst (λ ms. PastReplies w spot fs cleared first (es ++ e ∷ []) (cleared left) ms) (sym p.whole)
-        (PastReplies.opened es b e left until p.front p.behind (past_replies es b k (nothing_last es e o).0 p.front p.first) kept (kept_replies e b left until kept p.behind p.last))
+        let same : eras_scripted gave (es ++ e ∷ []) behind ≡ eras_scripted gave es e.opened =
+        eras_more gave es e behind ∙ ap (λ ts. eras_scripted gave es e.opened ++ ts) (unopened_none (opened_anew gave e.opened behind) e (last.1 n)) ∙ append-nil (eras_scripted gave es e.opened) in
+        PastReplies.unopened es behind b e ns (past_replies es e.opened b k last.0 ns (subst (λ ts. AllNoted ts ns) same h))
+    past_replies _ behind _ (AreKept.opened es b e left until k kept) o ns h =
+        let anew = opened_anew gave e.opened behind in
+        let p = parts (eras_scripted gave es e.opened) (era_scripted anew e) ns (subst (λ ts. AllNoted ts ns) (eras_more gave es e behind) h) in
+        subst (λ ms. PastReplies w spot fs gave cleared first (es ++ e ∷ []) behind (cleared left) ms) (sym p.whole)
+        (PastReplies.opened es behind b e left until p.front p.behind (past_replies es e.opened b k (nothing_last es e o).0 p.front p.first) kept (kept_replies anew e b left until kept p.behind p.last))
 
-    newest_replies : (e : Era Body Asked Reply) (from : A) (n : Node S) → IsNewest w is_followed spot cleared fs e from n → (ns : List Noted) → AllNoted (era_scripted e) ns → NewestReplies w spot fs e from n ns
-    newest_replies e from n (IsNewest.lives kept rests) ns h = NewestReplies.lives ns kept (kept_replies e from _ _ kept ns h)
+  module _ (cleared : A → A) (first : A) where
+    newest_replies : (e : Era Body Asked Reply) (from : A) (n : Node S) → IsNewest w is_followed spot cleared fs e from n → (ns : List Noted) → AllNoted (era_scripted None e) ns → NewestReplies w spot fs e from n ns
+    newest_replies e from n (IsNewest.lives kept rests) ns h = NewestReplies.lives ns kept (kept_replies None e from _ _ kept ns h)
     newest_replies e from n (IsNewest.waits state none anew) ns h =
-        subst (λ ms. NewestReplies w spot fs e from n ms) (sym (none_noted ns (subst (λ ts. AllNoted ts ns) (unopened_none e none) h))) NewestReplies.waits
-    newest_replies e from n (IsNewest.left state to until kept anew) ns h = NewestReplies.left to until ns kept (kept_replies e from to until kept ns h)
+        subst (λ ms. NewestReplies w spot fs e from n ms) (sym (none_noted ns (subst (λ ts. AllNoted ts ns) (unopened_none None e none) h))) NewestReplies.waits
+    newest_replies e from n (IsNewest.left state to until kept anew) ns h = NewestReplies.left to until ns kept (kept_replies None e from to until kept ns h)
 
     pub life_replies : (l : Life Body Asked Reply) (n : Node S) → IsKeptLife w is_followed spot cleared fs first l n → Opened l → (ns : List Noted) → AllNoted (life_scripted l) ns → LifeReplies w spot fs cleared first l n ns
     life_replies l n k o ns h =
-        let p = parts (eras_scripted l.past) (era_scripted l.era) ns h in
-        record { from = k.from; front = p.front; behind = p.behind; whole = p.whole; past = past_replies l.past k.from k.past o.past p.front p.first; newest = newest_replies l.era k.from n k.newest p.behind p.last }
+        let p = parts (eras_scripted l.gave l.past l.era.opened) (era_scripted None l.era) ns h in
+        record {
+          from = k.from;
+          front = p.front;
+          behind = p.behind;
+          whole = p.whole;
+          past = past_replies l.gave cleared first l.past l.era.opened k.from k.past o.past p.front p.first;
+          newest = newest_replies l.era k.from n k.newest p.behind p.last;
+        }
 
 -- ALL SLAVES
 pub all_reported : (plan : Scenario) (fs : List Exchanged) (place : ℕ) (ss : List SlaveSpec) (as' : List Leads) (ns : List (Node Serving)) (rows : List SlaveBook) → AllKeep plan fs place ss as' ns → AllOpened as' → AllBoth IsBooked as' rows → AllReported plan fs place ss as' ns rows

@@ -14,7 +14,7 @@ use Rattle.run_book.specs.declared.book.SlaveBook.{SlaveBook}
 use Rattle.plan_ring.specs.Round.{all_seen}
 use Rattle.run_promises.specs.Slaves.{services_of}
 use Rattle.run_record.specs.Reports.{noted_in}
-use Rattle.script_answers.specs.Answers.{Noted, reply_by, outcome_reply}
+use Rattle.script_answers.specs.Answers.{Noted, reply_by, outcome_reply, change_outcome, opened_anew}
 use Rattle.script_runs.specs.Came.{is_packet}
 use Rattle.segment_model.specs.Ends.{Outcome}
 use Rattle.segment_model.specs.Record.{Frame}
@@ -29,10 +29,21 @@ use Rattle.state_model.specs.States.{Table}
 use Rattle.task_model.specs.Accounts.{Started}
 use Rattle.task_model.specs.Promise.{outcome_of}
 
--- a service has a reply of its own, by mails or as a change of state that stays in its epoch: no packet, no mail that is passed on
+-- a service has a reply of its own, by mails or as a change of state: no packet, no mail that is passed on
 abbrev pub has_reply : {M R : Type 0} → Speech M Asked R → Service Asked → Bool
 has_reply x (Service.Mails q) = not (x.handed q)
-has_reply x (Service.State target) = not (returns_to_init target)
+has_reply x (Service.State target) = true
+
+-- it stays in its epoch: it is no change of state that returns its slave to Init
+abbrev pub stays : Service Asked → Bool
+stays (Service.Mails q) = true
+stays (Service.State target) = not (returns_to_init target)
+
+-- WHAT A SERVICE HAS COME TO, by what the frames of its epoch give for it: that; but a change of state that returns its slave to Init is reached with the frame
+-- that opened the slave anew, where one did and the slave wasn't given up in between
+abbrev pub came_to : Option ℕ → Service Asked → Option (Outcome Reply × ℕ) → Option (Outcome Reply × ℕ)
+came_to anew (Service.Mails q) outcome = outcome
+came_to anew (Service.State target) outcome = change_outcome (returns_to_init target) anew outcome
 
 -- a reply of a service by mails, or the outcome of a change of state, is that of the application
 abbrev pub IsReplyBy : Service Asked → Reply → Outcome Reply → Type 0
@@ -40,42 +51,43 @@ IsReplyBy (Service.Mails q) r outcome = Outcome.Replied r ≡ outcome
 IsReplyBy (Service.State target) r outcome = r ≡ reply_by outcome
 
 module _ {V A : Type 0} (x : Exchange V A Body Asked Reply) (s : Stated V A Asked) (table : Table) (station : ℕ) (gs : List (Frame Body)) where
-  -- WHAT IS REPORTED OF A SERVICE, with the frame before which it came into hand: just the reply that these frames give from there on, of the frame that
-  -- completed it, and none where they give none; and each reply is that of the application, with its AL state, behind the services before it. Of a change of
-  -- state that returns its slave to Init nothing more is said
-  pub record IsReportedBy (a : A × ℕ) (q : Service Asked) (frame : ℕ) (n : Noted) : Type 0 where
+  -- WHAT IS REPORTED OF A SERVICE, with the frame before which it came into hand, and the frame that opened its slave anew behind its epoch: just the reply
+  -- that these frames give from there on, of the frame that completed it, and none where they give none; and each reply is that of the application, with its
+  -- AL state, behind the services before it. A change of state that returns its slave to Init is done with the frame that opened the slave anew
+  pub record IsReportedBy (anew : Option ℕ) (a : A × ℕ) (q : Service Asked) (frame : ℕ) (n : Noted) : Type 0 where
     pub at : n.frame ≡ frame
-    pub given : has_reply x.speech q ≡ true → n.reply ≡ outcome_reply (outcome_of x.speech is_followed station gs (record { service = q; frame = frame }))
-    pub own : has_reply x.speech q ≡ true → (r : Reply) (g : ℕ) → n.reply ≡ Some (r, g) → IsReplyBy q r ((with_states x s table).reply a q)
+    pub given : has_reply x.speech q ≡ true → n.reply ≡ outcome_reply (came_to anew q (outcome_of x.speech is_followed station gs (record { service = q; frame = frame })))
+    pub own : has_reply x.speech q ≡ true → stays q ≡ true → (r : Reply) (g : ℕ) → n.reply ≡ Some (r, g) → IsReplyBy q r ((with_states x s table).reply a q)
 
   -- of a service and of those behind it; packets aren't of the script
-  abbrev pub RepliesBy : Bool → ℕ → A × ℕ → Service Asked → List Noted → (List Noted → Type 0) → Type 0
-  RepliesBy true frame a q ns more = more ns
-  RepliesBy false frame a q [] more = ⊥
-  RepliesBy false frame a q (n ∷ ns) more = IsReportedBy a q frame n × more ns
+  abbrev pub RepliesBy : Option ℕ → Bool → ℕ → A × ℕ → Service Asked → List Noted → (List Noted → Type 0) → Type 0
+  RepliesBy anew true frame a q ns more = more ns
+  RepliesBy anew false frame a q [] more = ⊥
+  RepliesBy anew false frame a q (n ∷ ns) more = IsReportedBy anew a q frame n × more ns
 
   -- OF THE SERVICES OF AN EPOCH, one after the other, from an application on
-  abbrev pub AreReplies : A × ℕ → List (Started Asked) → List Noted → Type 0
-  AreReplies a [] ns = ns ≡ []
-  AreReplies a (r ∷ rs) ns = RepliesBy (is_packet r.service) r.frame a r.service ns (λ more. AreReplies ((with_states x s table).exec a r.service) rs more)
+  abbrev pub AreReplies : Option ℕ → A × ℕ → List (Started Asked) → List Noted → Type 0
+  AreReplies anew a [] ns = ns ≡ []
+  AreReplies anew a (r ∷ rs) ns = RepliesBy anew (is_packet r.service) r.frame a r.service ns (λ more. AreReplies anew ((with_states x s table).exec a r.service) rs more)
 
 module _ {S V A : Type 0} (w : Behind S V A Asked Reply) (spot : Spot) (fs : List (Frame Body)) where
   -- of an epoch as it is kept
-  abbrev pub EraReplies : {e : Era Body Asked Reply} {from to : A} {until : ℕ} → IsKept w is_followed spot fs e from to until → List Noted → Type 0
-  EraReplies {e} {from} {to} {until} k ns = AreReplies w.exchange w.states (table_of w spot.station) spot.station (era_frames spot k.opened until fs) (w.states.told k.state from, 0) e.account.started ns
+  abbrev pub EraReplies : Option ℕ → {e : Era Body Asked Reply} {from to : A} {until : ℕ} → IsKept w is_followed spot fs e from to until → List Noted → Type 0
+  EraReplies anew {e} {from} {to} {until} k ns = AreReplies w.exchange w.states (table_of w spot.station) spot.station (era_frames spot k.opened until fs) anew (w.states.told k.state from, 0) e.account.started ns
 
-  -- OF ALL EPOCHS THAT ARE OVER, each from what the one before left, cleared; one that was not opened has none
-  pub data PastReplies (cleared : A → A) (first : A) : List (Era Body Asked Reply) → A → List Noted → Type 0 where
-    none : PastReplies cleared first [] first []
-    unopened : (es : List (Era Body Asked Reply)) (b : A) (e : Era Body Asked Reply) (ns : List Noted) → PastReplies cleared first es b ns → PastReplies cleared first (es ++ e ∷ []) (cleared b) ns
-    opened : (es : List (Era Body Asked Reply)) (b : A) (e : Era Body Asked Reply) (left : A) (until : ℕ) (ns ms : List Noted) → PastReplies cleared first es b ns → (k : IsKept w is_followed spot fs e b left until) →
-        EraReplies k ms → PastReplies cleared first (es ++ e ∷ []) (cleared left) (ns ++ ms)
+  -- OF ALL EPOCHS THAT ARE OVER, each from what the one before left, cleared, and with the frame that opened the one behind it; one that was not opened has
+  -- none. The slave was given up at these frames
+  pub data PastReplies (gave : List ℕ) (cleared : A → A) (first : A) : List (Era Body Asked Reply) → Option ℕ → A → List Noted → Type 0 where
+    none : (behind : Option ℕ) → PastReplies gave cleared first [] behind first []
+    unopened : (es : List (Era Body Asked Reply)) (behind : Option ℕ) (b : A) (e : Era Body Asked Reply) (ns : List Noted) → PastReplies gave cleared first es e.opened b ns → PastReplies gave cleared first (es ++ e ∷ []) behind (cleared b) ns
+    opened : (es : List (Era Body Asked Reply)) (behind : Option ℕ) (b : A) (e : Era Body Asked Reply) (left : A) (until : ℕ) (ns ms : List Noted) → PastReplies gave cleared first es e.opened b ns → (k : IsKept w is_followed spot fs e b left until) →
+        EraReplies (opened_anew gave e.opened behind) k ms → PastReplies gave cleared first (es ++ e ∷ []) behind (cleared left) (ns ++ ms)
 
-  -- of the newest: it is open, or nothing began in it, or it is over
+  -- of the newest: it is open, or nothing began in it, or it is over; nothing is opened behind it yet
   pub data NewestReplies (e : Era Body Asked Reply) (from : A) (n : Node S) : List Noted → Type 0 where
-    lives : (ns : List Noted) (k : IsKept w is_followed spot fs e from (app_of w is_followed spot n) (length fs)) → EraReplies k ns → NewestReplies e from n ns
+    lives : (ns : List Noted) (k : IsKept w is_followed spot fs e from (app_of w is_followed spot n) (length fs)) → EraReplies None k ns → NewestReplies e from n ns
     waits : NewestReplies e from n []
-    left : (to : A) (until : ℕ) (ns : List Noted) (k : IsKept w is_followed spot fs e from to until) → EraReplies k ns → NewestReplies e from n ns
+    left : (to : A) (until : ℕ) (ns : List Noted) (k : IsKept w is_followed spot fs e from to until) → EraReplies None k ns → NewestReplies e from n ns
 
   -- OF A WHOLE LIFE
   pub record LifeReplies (cleared : A → A) (first : A) (l : Life Body Asked Reply) (n : Node S) (ns : List Noted) : Type 0 where
@@ -83,7 +95,7 @@ module _ {S V A : Type 0} (w : Behind S V A Asked Reply) (spot : Spot) (fs : Lis
     pub front : List Noted
     pub behind : List Noted
     pub whole : ns ≡ front ++ behind
-    pub past : PastReplies cleared first l.past from front
+    pub past : PastReplies l.gave cleared first l.past l.era.opened from front
     pub newest : NewestReplies l.era from n behind
 
 -- OF ONE SLAVE of a plan at its place: each service of its script that came into hand is reported in its row of the book with just what the frames of its

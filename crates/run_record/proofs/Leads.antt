@@ -54,6 +54,7 @@ use Rattle.script_answers.specs.Answers.{turned as turned_lead}
 use Rattle.script_answers.specs.Steps.{TurnsSo, PassesSo, LosesSo}
 use Rattle.script_answers.proofs.Losses.{passes_so, loses_so}
 use Rattle.script_answers.proofs.Turns.{turns_so}
+use Rattle.run_record.proofs.Befores.{AllBefore, turns_before, all_before}
 use Rattle.run_record.proofs.Gaves.{with_more}
 use Rattle.run_record.proofs.Heard.{first_heard}
 use Rattle.visit_orders.specs.Toured.{IsToured, tour_behind, lives_behind}
@@ -65,7 +66,7 @@ first_gaves services number place (s ∷ ss) = ap (λ (gs : List (List ℕ)). []
 
 new_reports : (script : List Plan.Service) (spot : Spot) (left : ℕ) → left ≡ length script → Reports (new_leads script spot) (new_notes left)
 new_reports script spot left all = record {
-  told = record { many = refl; beside = refl; noted = tt; fresh = λ e. (refl, refl); stands = λ e. absurd (cc) };
+  told = record { many = refl; beside = refl; noted = tt; fresh = λ e. record { side = refl; account = refl; opened = refl }; stands = record { rests = λ e. absurd (cc); opens = λ o s g b. refl } };
   aligned = omega arith;
   last = λ bad. absurd (let no : true ≡ false = bad in cc);
   other = λ bad m answer. absurd (let no : false ≡ true = bad in cc);
@@ -149,13 +150,13 @@ module _ (lens : ℕ → Lens) (recover retry : ℕ) (gives : Bool) (made : ℕ)
   abbrev led_by : Fate → Turn → Leads
   led_by fate u = record { script = u.script; number = u.number; lived = life_behind lens recover retry gives made f fate u.lived u.share }
 
-  all_pass : (us : List Turn) → AllBoth (λ a b. PassesSo made a b) (map turned_lead us) (map (λ u. led_by Fates.Pass u) us)
-  all_pass [] = tt
-  all_pass (u ∷ us) = (passes_so lens recover retry gives made f u, all_pass us)
+  all_pass : (us : List Turn) → AllBefore made (map turned_lead us) → AllBoth (λ a b. PassesSo made a b) (map turned_lead us) (map (λ u. led_by Fates.Pass u) us)
+  all_pass [] h = tt
+  all_pass (u ∷ us) h = (passes_so lens recover retry gives made f u h.0, all_pass us h.1)
 
-  all_lose : (after : ℕ) (us : List Turn) → AllBoth (λ a b. LosesSo made a b) (map turned_lead us) (map (λ u. led_by (Fates.Lost after) u) us)
-  all_lose after [] = tt
-  all_lose after (u ∷ us) = (loses_so lens recover retry gives made f u after, all_lose after us)
+  all_lose : (after : ℕ) (us : List Turn) → AllBefore made (map turned_lead us) → AllBoth (λ a b. LosesSo made a b) (map turned_lead us) (map (λ u. led_by (Fates.Lost after) u) us)
+  all_lose after [] h = tt
+  all_lose after (u ∷ us) h = (loses_so lens recover retry gives made f u h.0 after, all_lose after us h.1)
 
 -- ONE FRAME: what the master says of it before, and of its return or loss
 module _ (m0 m1 m2 : MasterNode) (f : Exchanged) (result : Next)
@@ -238,11 +239,15 @@ module _ (m0 m1 m2 : MasterNode) (f : Exchanged) (result : Next)
           (subst (λ (k : ℕ). TurnsAll k m1 (ReportsOn notes r.notes)) (sym counts) told_before) lens plan.recover l.leads (map turned_lead made.0) under
           (all_turns lens plan.recover plan.retry gives (length fs) f made.1.datagrams l.leads made.0 made.1.each) l.told
 
+      -- all that stands in these lives was before this frame
+      stood_before : AllBefore (length fs) (map turned_lead made.0)
+      stood_before = turns_before lens plan.recover plan.retry gives (length fs) f made.1.datagrams l.leads made.0 made.1.each (all_before plan fs l.missed l.leads l.lives)
+
       told_by : (fate : Fate) → f.fate ≡ fate → AllReport (leads made.0) r'.notes
       told_by Fates.Pass e =
           let by : ReportsBy Fates.Pass (length fs) m2 r r' = subst (λ (n : ℕ). ReportsBy Fates.Pass n m2 r r') (sym counts) (subst (λ (k : Fate). ReportsBy k frame m2 r r') e told_behind) in
           by lens plan.recover (map turned_lead made.0) (leads made.0) shown.each
-          (subst (λ (k : Fate). AllBoth (λ a b. PassesSo (length fs) a b) (map turned_lead made.0) (map (λ u. led_by lens plan.recover plan.retry gives (length fs) f k u) made.0)) (sym e) (all_pass lens plan.recover plan.retry gives (length fs) f made.0))
+          (subst (λ (k : Fate). AllBoth (λ a b. PassesSo (length fs) a b) (map turned_lead made.0) (map (λ u. led_by lens plan.recover plan.retry gives (length fs) f k u) made.0)) (sym e) (all_pass lens plan.recover plan.retry gives (length fs) f made.0 stood_before))
           turned_reports
       told_by (Fates.Lost after) e =
           let by : ReportsBy (Fates.Lost after) (length fs) m2 r r' = subst (λ (n : ℕ). ReportsBy (Fates.Lost after) n m2 r r') (sym counts) (subst (λ (k : Fate). ReportsBy k frame m2 r r') e told_behind) in
@@ -250,7 +255,7 @@ module _ (m0 m1 m2 : MasterNode) (f : Exchanged) (result : Next)
           by lens plan.retry (missed_behind lens plan.recover plan.retry f.fate l.missed) (map turned_lead made.0) (leads made.0)
           (subst (λ (n : ℕ). MasterShows lens n plan.retry m2 (missed_behind lens plan.recover plan.retry f.fate l.missed) (leads made.0)) (sym recover) shown)
           (subst (λ (n : ℕ). AllCounted n (leads made.0)) (sym recover) all)
-          (subst (λ (k : Fate). AllBoth (λ a b. LosesSo (length fs) a b) (map turned_lead made.0) (map (λ u. led_by lens plan.recover plan.retry gives (length fs) f k u) made.0)) (sym e) (all_lose lens plan.recover plan.retry gives (length fs) f after made.0))
+          (subst (λ (k : Fate). AllBoth (λ a b. LosesSo (length fs) a b) (map turned_lead made.0) (map (λ u. led_by lens plan.recover plan.retry gives (length fs) f k u) made.0)) (sym e) (all_lose lens plan.recover plan.retry gives (length fs) f after made.0 stood_before))
           turned_reports
 
       heard_by : (fate : Fate) → f.fate ≡ fate → AllNoted (heard_on (λ u. brought_by lens (length fs) f fate u) (heard_in l.lives) made.0) (emergencies_noted r'.notes)

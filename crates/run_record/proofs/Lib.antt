@@ -1,4 +1,5 @@
 pub mod Asking
+pub mod Befores
 pub mod Budgets
 pub mod Firsts
 pub mod Gones

@@ -268,5 +268,5 @@ module _ (frame : ℕ) (a b : Leads) (n : Notes) (q : PassesSo frame a b) (r : R
       where
         by : (o u : Bool) → opens ≡ o → n.up ≡ u → Reports b (stood (if o then (if u then changed_noted changed frame n else answered n (record { kind = ReplyKind.Done; value = [] }) frame) else n) leaves opens frame)
         by true true o u = by_change changed u o (known (λ d. d.lived.life.stand ≡ Stand.Open → TellsChange changed d.lived.life.era.account) bs k b e x (open_stand b.lived.life.stand (sym opens_is ∙ o)))
-        by true false o u = pass_anew frame a b n q r leaves opens leaves_is opens_is (record { kind = ReplyKind.Done; value = [] }) is_so u o
+        by true false o u = pass_anew frame a b n q r leaves opens leaves_is opens_is is_so u o
         by false u o f = pass_goes frame a b n q r leaves opens leaves_is opens_is is_so (λ h. absurd (let bad : true ≡ false = sym h ∙ o in cc))

@@ -4,6 +4,7 @@ use Rattle.std.proofs.lemmas.Bool.{ltb-true}
 use Rattle.std.specs.Prelude.{◌&&◌, nat_lt, is_some, if◌then◌else◌}
 use Rattle.life_model.specs.Lives.{Stand}
 use Rattle.life_runs.specs.Led.{Leads}
+use Rattle.mailbox_mail.specs.declared.outcome.ReplyKind.{ReplyKind}
 use Rattle.master_duty.specs.Reply.{Reply}
 use Rattle.master_node.specs.Wants.{gave_of}
 use Rattle.master_node.specs.declared.event.Origin.{Origin}
@@ -275,9 +276,9 @@ module _ (made : ℕ) (a b : Leads) (n : Notes) (p : PassesSo made a b) (r : Rep
   pass_some e up o none nil = absurd (p.change.some n.scripted noted (awaited_is Awaited.Change e) (sym r.marked.up ∙ up) (sym opens_is ∙ o) none nil)
 
   -- one that returned its slave to Init, which is open again
-  pub pass_anew : (reply : Booked) → n.awaited ≡ Awaited.Change → n.up ≡ false → opens ≡ true → Reports b (stood (answered n reply made) leaves opens made)
-  pass_anew reply e up o =
-      pass_answered reply Awaited.Change e refl (λ front frame h. p.change.anew n.scripted front frame (Some (Some (reply.kind, reply.value), made)) (sym r.marked.up ∙ up) (sym opens_is ∙ o) h)
+  pub pass_anew : n.awaited ≡ Awaited.Change → n.up ≡ false → opens ≡ true → Reports b (stood (answered n (record { kind = ReplyKind.Done; value = [] }) made) leaves opens made)
+  pass_anew e up o =
+      pass_answered (record { kind = ReplyKind.Done; value = [] }) Awaited.Change e refl (λ front frame h. p.change.anew n.scripted front frame (sym r.marked.up ∙ up) (sym opens_is ∙ o) h)
 
 -- BEHIND A LOSS
 module _ (made : ℕ) (a b : Leads) (n : Notes) (p : LosesSo made a b) (r : Reports a n) where

@@ -112,6 +112,7 @@ ReportsBy Pass frame m r r' = PassesAll frame m (ReportsOn r.notes r'.notes)
 ReportsBy (Lost after) frame m r r' = LosesAll frame r.recover m (ReportsOn r.notes r'.notes)
 
 -- OF THE SCRIPT JUST THE SERVICES STAND IN THE BOOK that came into hand, each once and in order, with its frame; and each is reported with just what it
--- came to: the answer of its row, or the outcome of its change of state, of that frame, or none where it has none
+-- came to: the answer of its row, or the outcome of its change of state, of that frame, or none where it has none. A change that returns its slave to Init is
+-- reached with the frame that opened the next epoch, where its slave wasn't given up between that epoch's opening and its own
 abbrev pub IsBooked : Leads → SlaveBook → Type 0
 IsBooked a row = AllNoted (life_scripted a.lived.life) (noted_in row.begun row.answers)

@@ -1,5 +1,5 @@
 -- WHAT A RETURN MAKES of an account and of a side, and which service is the newest of those that are scripted.
-use Rattle.std.proofs.Common.{◌≡◌, ◌⊎◌, inl, inr, ℕ, ◌+◌, Bool, true, false, Option, Some, None, List, [], ◌∷◌, ◌++◌, map, length, length-append, refl, ap, sym, ◌∙◌, subst, arith, append_assoc, append-nil}
+use Rattle.std.proofs.Common.{◌≡◌, ◌⊎◌, inl, inr, ℕ, Bool, true, false, Option, Some, None, List, [], ◌∷◌, ◌++◌, length, refl, ap, sym, ◌∙◌, subst, arith, append_assoc, append-nil}
 use Rattle.std.specs.Prelude.{◌==◌, ◌&&◌, not, option_map, is_some, if◌then◌else◌}
 use Rattle.std.proofs.lemmas.List.{map-append}
 use Rattle.exchange_model.specs.Areas.{Areas}
@@ -9,14 +9,13 @@ use Rattle.life_model.specs.Lives.{Era, Life, Stand, returns_to_init}
 use Rattle.link_mails.specs.Body.{Body}
 use Rattle.master_duty.specs.Reply.{Reply}
 use Rattle.master_hand.specs.Spoken.{Asked, sdo, file, drive, net, passed, ends, handed, is_passed, hand_speech}
-use Rattle.script_runs.specs.Came.{is_packet}
 use Rattle.segment_model.specs.Record.{is_for}
-use Rattle.segment_model.specs.Seats.{newest, rows_of}
+use Rattle.segment_model.specs.Seats.{newest}
 use Rattle.segment_model.specs.Slaves.{Datagram}
 use Rattle.state_exchange.specs.Stated.{Service}
-use Rattle.task_model.specs.Accounts.{Account, Duty, Stage, Change, Progress, access_done, account_by, account_met, account_back}
-use Rattle.script_answers.specs.Answers.{Came, Scripted, RowRests, Awaits, Changes, answers_in, side_answers, now_answer, change_came, scripted_in, scripted_mails, eras_scripted, life_scripted}
-use Rattle.script_answers.proofs.Lists.{Answer, Over, scripted_state, scripted_one}
+use Rattle.task_model.specs.Accounts.{Account, Duty, Change, Progress, access_done, account_by, account_met, account_back}
+use Rattle.script_answers.specs.Answers.{Came, Scripted, RowRests, Awaits, Changes, answers_in, side_answers, now_answer, reached_at, change_outcome, scripted_in, scripted_mails, era_scripted, eras_scripted, life_scripted}
+use Rattle.script_answers.proofs.Lists.{Answer, Over, scripted_state, scripted_one, steady, no_outcome}
 
 abbrev pub Held : Type 0
 Held = Row Body Asked Reply
@@ -97,9 +96,13 @@ not_passed areas (drive q) h e = absurd (let bad : false ≡ true = e in cc)
 not_passed areas (net q) h e = absurd (let bad : false ≡ true = e in cc)
 not_passed areas (passed m) h e = absurd (let bad : true ≡ false = h in cc)
 
+-- the services of the epochs that are over
+abbrev pub past_scripted : Life Body Asked Reply → List Scripted
+past_scripted l = eras_scripted l.gave l.past l.era.opened
+
 -- THE NEWEST of what is scripted is the service by mails that awaits its reply
 abbrev pub front_scripted : (l : Life Body Asked Reply) → Awaits l.era → List Scripted
-front_scripted l w = eras_scripted l.past ++ scripted_in w.front (answers_in l.era.side.past) l.era.account.over
+front_scripted l w = past_scripted l ++ scripted_in None w.front (answers_in l.era.side.past) l.era.account.over
 
 awaits_answers : (e : Era Body Asked Reply) (w : Awaits e) → side_answers e.side ≡ answers_in e.side.past ++ now_answer e.side.now ∷ []
 awaits_answers e w =
@@ -108,10 +111,10 @@ awaits_answers e w =
 
 pub awaits_scripted : (l : Life Body Asked Reply) (w : Awaits l.era) → life_scripted l ≡ front_scripted l w ++ record { frame = w.frame; came = Came.mails (now_answer l.era.side.now) } ∷ []
 awaits_scripted l w =
-    (λ i. eras_scripted l.past ++ scripted_in (w.started i) (awaits_answers l.era w i) l.era.account.over)
-    ∙ ap (λ ss. eras_scripted l.past ++ ss) (scripted_one w.front (answers_in l.era.side.past) l.era.account.over w.asked w.frame (now_answer l.era.side.now) w.beside
-    ∙ ap (λ z. scripted_in w.front (answers_in l.era.side.past) l.era.account.over ++ scripted_mails z w.frame (now_answer l.era.side.now) []) w.script)
-    ∙ sym (append_assoc (eras_scripted l.past) (scripted_in w.front (answers_in l.era.side.past) l.era.account.over) (record { frame = w.frame; came = Came.mails (now_answer l.era.side.now) } ∷ []))
+    (λ i. past_scripted l ++ scripted_in None (w.started i) (awaits_answers l.era w i) l.era.account.over)
+    ∙ ap (λ ss. past_scripted l ++ ss) (scripted_one None w.front (answers_in l.era.side.past) l.era.account.over w.asked w.frame (now_answer l.era.side.now) w.beside
+    ∙ ap (λ z. scripted_in None w.front (answers_in l.era.side.past) l.era.account.over ++ scripted_mails z w.frame (now_answer l.era.side.now) []) w.script)
+    ∙ sym (append_assoc (past_scripted l) (scripted_in None w.front (answers_in l.era.side.past) l.era.account.over) (record { frame = w.frame; came = Came.mails (now_answer l.era.side.now) } ∷ []))
 
 -- it goes on awaiting it, or has it of this frame
 pub record AwaitsBack (areas : Areas) (frame : ℕ) (l : Life Body Asked Reply) (w : Awaits l.era) (m : Life Body Asked Reply) : Type 0 where
@@ -123,30 +126,39 @@ pub record AwaitsBack (areas : Areas) (frame : ℕ) (l : Life Body Asked Reply) 
   pub answer : now_answer m.era.side.now ≡ answer_after frame None (ends areas w.row.service heard)
 
 -- or the change of state in hand
+abbrev changes_before : (e : Era Body Asked Reply) → Changes e → List Scripted
+changes_before e w = scripted_in None w.front (side_answers e.side) e.account.over
+
 abbrev pub changes_front : (l : Life Body Asked Reply) → Changes l.era → List Scripted
-changes_front l w = eras_scripted l.past ++ scripted_in w.front (side_answers l.era.side) l.era.account.over
+changes_front l w = past_scripted l ++ changes_before l.era w
 
-abbrev pub is_away : Bool → Came
-is_away b = change_came b None
+abbrev pub change_reported : Change Reply → Came
+change_reported c = Came.state (Some (c.answer, c.completed))
 
-abbrev pub change_reported : ℕ → Change Reply → Came
-change_reported target c = change_came (returns_to_init target) (Some (c.answer, c.completed))
+-- whatever opens the slave anew
+change_last : (e : Era Body Asked Reply) (w : Changes e) (anew : Option ℕ) → era_scripted anew e ≡ changes_before e w ++ record { frame = w.frame; came = Came.state (change_outcome (returns_to_init w.duty.target) anew None) } ∷ []
+change_last e w anew =
+    (λ i. scripted_in anew (w.started i) (side_answers e.side) (sym (append-nil e.account.over) i))
+    ∙ scripted_state anew w.front (side_answers e.side) e.account.over [] w.duty.target w.frame w.beside
+    ∙ ap (λ ss. ss ++ record { frame = w.frame; came = Came.state (change_outcome (returns_to_init w.duty.target) anew None) } ∷ []) (steady anew None w.front (side_answers e.side) e.account.over w.beside)
 
-pub changes_scripted : (l : Life Body Asked Reply) (w : Changes l.era) → life_scripted l ≡ changes_front l w ++ record { frame = w.frame; came = change_came (returns_to_init w.duty.target) None } ∷ []
+pub changes_scripted : (l : Life Body Asked Reply) (w : Changes l.era) → life_scripted l ≡ changes_front l w ++ record { frame = w.frame; came = Came.state None } ∷ []
 changes_scripted l w =
-    (λ i. eras_scripted l.past ++ scripted_in (w.started i) (side_answers l.era.side) (append-nil' i))
-    ∙ ap (λ ss. eras_scripted l.past ++ ss) (scripted_state w.front (side_answers l.era.side) l.era.account.over [] w.duty.target w.frame w.beside)
-    ∙ sym (append_assoc (eras_scripted l.past) (scripted_in w.front (side_answers l.era.side) l.era.account.over) (record { frame = w.frame; came = change_came (returns_to_init w.duty.target) None } ∷ []))
-  where
-    append-nil' : l.era.account.over ≡ l.era.account.over ++ []
-    append-nil' = sym (append-nil l.era.account.over)
+    ap (λ ss. past_scripted l ++ ss) (change_last l.era w None ∙ ap (λ z. changes_before l.era w ++ record { frame = w.frame; came = Came.state z } ∷ []) (no_outcome (returns_to_init w.duty.target)))
+    ∙ sym (append_assoc (past_scripted l) (changes_before l.era w) (record { frame = w.frame; came = Came.state None } ∷ []))
+
+-- one that returns its slave to Init, which a frame opens anew
+pub changes_opened : (l : Life Body Asked Reply) (w : Changes l.era) (g : ℕ) → returns_to_init w.duty.target ≡ true → past_scripted l ++ era_scripted (Some g) l.era ≡ changes_front l w ++ record { frame = w.frame; came = Came.state (reached_at (Some g)) } ∷ []
+changes_opened l w g e =
+    ap (λ ss. past_scripted l ++ ss) (change_last l.era w (Some g) ∙ ap (λ (b : Bool). changes_before l.era w ++ record { frame = w.frame; came = Came.state (change_outcome b (Some g) None) } ∷ []) e)
+    ∙ sym (append_assoc (past_scripted l) (changes_before l.era w) (record { frame = w.frame; came = Came.state (reached_at (Some g)) } ∷ []))
 
 -- with its outcome
 pub change_with : (l : Life Body Asked Reply) (w : Changes l.era) (c : Change Reply) →
-    eras_scripted l.past ++ scripted_in (w.front ++ record { service = Service.State w.duty.target; frame = w.frame } ∷ []) (side_answers l.era.side) (l.era.account.over ++ c ∷ []) ≡ changes_front l w ++ record { frame = w.frame; came = change_reported w.duty.target c } ∷ []
+    past_scripted l ++ scripted_in None (w.front ++ record { service = Service.State w.duty.target; frame = w.frame } ∷ []) (side_answers l.era.side) (l.era.account.over ++ c ∷ []) ≡ changes_front l w ++ record { frame = w.frame; came = change_reported c } ∷ []
 change_with l w c =
-    ap (λ ss. eras_scripted l.past ++ ss) (scripted_state w.front (side_answers l.era.side) l.era.account.over (c ∷ []) w.duty.target w.frame w.beside)
-    ∙ sym (append_assoc (eras_scripted l.past) (scripted_in w.front (side_answers l.era.side) l.era.account.over) (record { frame = w.frame; came = change_reported w.duty.target c } ∷ []))
+    ap (λ ss. past_scripted l ++ ss) (scripted_state None w.front (side_answers l.era.side) l.era.account.over (c ∷ []) w.duty.target w.frame w.beside)
+    ∙ sym (append_assoc (past_scripted l) (changes_before l.era w) (record { frame = w.frame; came = change_reported c } ∷ []))
 
 -- the last of these
 abbrev last_of : {T : Type 0} → T → List T → T

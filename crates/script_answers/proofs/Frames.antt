@@ -1,39 +1,31 @@
 -- WHAT IS NOTED BEHIND A FRAME: the answer that its return brought, or nothing.
-use Rattle.std.proofs.Common.{◌≡◌, ◌⊎◌, inl, inr, ℕ, suc, ◌+◌, Bool, true, false, Option, Some, None, List, [], ◌∷◌, ◌++◌, map, length, length-append, refl, ap, sym, ◌∙◌, subst, arith, append_assoc, append-nil}
-use Rattle.std.specs.Prelude.{◌==◌, ◌&&◌, option_map, is_some, nat_lt, if◌then◌else◌}
-use Rattle.std.proofs.lemmas.List.{map-append}
+use Rattle.std.proofs.Common.{◌≡◌, ℕ, suc, ◌<◌, Bool, true, false, Option, Some, None, List, [], ◌∷◌, ◌++◌, length, length-append, refl, ap, sym, ◌∙◌, subst, arith, append-nil}
+use Rattle.std.specs.Prelude.{◌==◌, ◌&&◌, option_map, is_some, if◌then◌else◌}
+use Rattle.std.specs.List.{All}
 use Rattle.exchange_model.specs.Areas.{Areas}
 use Rattle.exchange_model.specs.Exchange.{Speech, plain}
-use Rattle.exchange_model.specs.Rows.{Row, answer_after, row_heard}
-use Rattle.frame_view.specs.View.{Lens}
+use Rattle.exchange_model.specs.Rows.{answer_after, row_heard}
 use Rattle.frame_view.specs.Seen.{seen}
-use Rattle.life_runs.proofs.Spans as Spans
-use Rattle.life_runs.proofs.Spans.{cleared_stays, last_stays, steps_stay}
+use Rattle.life_runs.proofs.Spans.{clear_leaves, cleared_stays, last_stays, steps_stay}
 use Rattle.life_runs.specs.Spans.{is_leaving, is_open}
-use Rattle.life_frames.specs.Shares.{Lived, came_at, given_where}
-use Rattle.life_model.specs.Lives.{Spot, Era, Life, Stand, Opening, life_back, life_lost, era_back, era_lost, opening_back, shows_clear, is_shown, last_step, clears, opens, steps_on, reopens, reopens_at, reopening, opens_state, returns_to_init, gives_up, new_side}
+use Rattle.life_model.specs.Lives.{Spot, Era, Life, Stand, Opening, life_back, era_back, opening_back, shows_clear, is_shown, last_step, clears, opens, steps_on, reopens, reopens_at, reopening, opens_state, returns_to_init, new_side}
 use Rattle.life_model.specs.Own.{own}
-use Rattle.life_runs.specs.Led.{Exchanged, Leads, Turn, is_passed, speech_at, life_behind}
+use Rattle.life_runs.specs.Led.{is_passed}
 use Rattle.link_mails.specs.Body.{Body}
 use Rattle.link_model.specs.Frames.{all_accepted}
 use Rattle.master_duty.specs.Reply.{Reply}
-use Rattle.master_hand.specs.Spoken.{Asked, sdo, file, drive, net, passed, acknowledged, is_followed, ends, handed, hand_speech}
-use Rattle.segment_model.specs.Ends.{Outcome}
+use Rattle.master_hand.specs.Spoken.{Asked, acknowledged, is_followed, ends, hand_speech}
 use Rattle.segment_model.specs.Record.{News}
-use Rattle.segment_model.specs.Seats.{Side, newest, rows_of, side_back}
+use Rattle.segment_model.specs.Seats.{Side}
 use Rattle.segment_model.specs.Slaves.{Datagram, Found, grams}
-use Rattle.segment_ring.specs.declared.wire.Fate.{Fate}
-use Rattle.segment_ring.specs.declared.wire.Fate.TheVariants.{Pass, Lost}
-use Rattle.state_exchange.specs.Stated.{Service}
-use Rattle.task_model.specs.Accounts.{Account, Duty, Stage, Change, Started, new_account, account_met, account_back}
+use Rattle.task_model.specs.Accounts.{Account, Duty, Stage, Change, new_account}
 use Rattle.task_model.specs.Promise.{services_in, mails_in}
 use Rattle.task_model.proofs.Completed.{started_back}
-use Rattle.script_answers.specs.Answers.{Scripted, Noted, AllNoted, RowRests, RestsSo, Awaits, Changes, ComesAnew, IsAwaiting, IsGoing, Waits, StandsBy, FreshBy, IsNoted, answers_in, side_answers, now_answer, newest_answer, states_in, scripted_in, era_scripted, eras_scripted, life_scripted, turned}
-use Rattle.script_answers.specs.Steps.{EndedSo, ReplyPasses, ChangePasses, PassesSo, LosesSo, account_of, opened, with_begun, with_reply}
-use Rattle.script_answers.proofs.Backs.{Held, Went, AwaitsBack, front_scripted, changes_front, awaits_scripted, changes_scripted, change_with, change_reported, hand_back, no_hand, answers_rest, rests_heard, many_answers, after_none, last_change, is_away}
-use Rattle.script_answers.proofs.Lists.{Answer, noted_more, noted_front, eras_more, changes_more}
-use Rattle.script_answers.proofs.Sides.{longer}
-use Rattle.script_answers.proofs.Turns.{awaits_on, changes_on, rests_on, fresh_open}
+use Rattle.script_answers.specs.Answers.{Came, Scripted, RowRests, RestsSo, Awaits, Changes, ComesAnew, IsStill, IsNew, FreshBy, answers_in, side_answers, now_answer, states_in, reached_at, opened_anew, scripted_in, era_scripted, eras_scripted, over_scripted, life_scripted}
+use Rattle.script_answers.proofs.Backs.{Held, Went, AwaitsBack, past_scripted, changes_front, changes_scripted, changes_opened, change_with, change_reported, hand_back, no_hand, answers_rest, rests_heard, many_answers}
+use Rattle.script_answers.proofs.Anew.{anew_spared}
+use Rattle.script_answers.proofs.Lists.{Answer, eras_more, changes_more}
+use Rattle.script_answers.proofs.Turns.{awaits_on, changes_on, rests_on, spared, fresh_open}
 
 abbrev LifeOf : Type 0
 LifeOf = Life Body Asked Reply
@@ -44,7 +36,7 @@ Beside l = mails_in (services_in l.era.account.started) ≡ length (side_answers
 -- WHAT STAYS of a life behind a frame, whatever is awaited: as many answers as services by mails, and an epoch that is new until its slave is open
 pub record Stays (l m : LifeOf) : Type 0 where
   pub beside : Beside l → Beside m
-  pub fresh : FreshBy l.stand l.era → FreshBy m.stand m.era
+  pub fresh : FreshBy l.stand l.gave l.era → FreshBy m.stand m.gave m.era
 
 -- A NEW EPOCH rests
 rests_new : (e : Era Body Asked Reply) → e.side ≡ new_side → e.account ≡ new_account → RestsSo e
@@ -54,8 +46,23 @@ rests_new e s a = record {
   row = subst (λ (z : Side Body Asked Reply). RowRests z.now) (sym s) tt;
 }
 
+-- A SLAVE THAT IS OPENED: the services of its life are those of the epochs that are over
+new_none : (l : LifeOf) (behind : Option ℕ) → l.era.account ≡ new_account → eras_scripted l.gave l.past behind ++ era_scripted None l.era ≡ eras_scripted l.gave l.past behind
+new_none l behind e = (λ i. eras_scripted l.gave l.past behind ++ scripted_in None (e i).started (side_answers l.era.side) (e i).over) ∙ append-nil (eras_scripted l.gave l.past behind)
+
+-- where it is leaving, the newest too
+abbrev over_where : LifeOf → Bool → Option ℕ → List Scripted
+over_where l leaving behind = eras_scripted l.gave (if leaving then l.past ++ l.era ∷ [] else l.past) behind
+
+whole_where : (l : LifeOf) (leaving : Bool) → (leaving ≡ false → IsNew l.era) → life_scripted l ≡ over_where l leaving None
+whole_where l true new = sym (eras_more l.gave l.past l.era None)
+whole_where l false new = let n = new refl in (λ i. eras_scripted l.gave l.past (n.opened i) ++ era_scripted None l.era) ∙ new_none l None n.account
+
+over_whole : (l : LifeOf) (o : Opening) → l.stand ≡ Stand.Opens o → FreshBy l.stand l.gave l.era → life_scripted l ≡ over_scripted l None
+over_whole l o s f = whole_where l (is_leaving l.stand) (λ e. subst (λ (z : Stand). FreshBy z l.gave l.era) s f (sym (ap is_leaving s) ∙ e))
+
 -- AN OPENING
-module _ (frame : ℕ) (l : LifeOf) (o : Opening) (done : Bool) (found : Option Found) where
+module _ (frame : ℕ) (l : LifeOf) (given : All (λ k. k < frame) l.gave) (o : Opening) (done : Bool) (found : Option Found) where
   abbrev behind_opening : Bool → Bool → Bool → Bool → LifeOf
   behind_opening shows seen last there = if shows then (if seen then clears frame l o else l) else if last then (if there then opens frame l else l) else steps_on l o
 
@@ -71,31 +78,47 @@ module _ (frame : ℕ) (l : LifeOf) (o : Opening) (done : Bool) (found : Option 
       go false seen false there e f = step e
 
   clear_scripted : life_scripted (clears frame l o) ≡ life_scripted l
-  clear_scripted = append-nil (eras_scripted (l.past ++ l.era ∷ [])) ∙ eras_more l.past l.era
+  clear_scripted = append-nil (eras_scripted l.gave (l.past ++ l.era ∷ []) None) ∙ eras_more l.gave l.past l.era None
 
-  pub opening_scripted : life_scripted (opening_back frame l o done found) ≡ life_scripted l
-  opening_scripted = opening_by (λ m. life_scripted m ≡ life_scripted l) (λ e. clear_scripted) refl (λ e. refl) (λ e. refl)
-
-  stays_opens : (e : Era Body Asked Reply) → FreshBy (Stand.Opens o) e → shows_clear o ≡ false → FreshBy (Stand.Opens (record o { step = suc o.step })) e
+  stays_opens : (e : Era Body Asked Reply) → FreshBy (Stand.Opens o) l.gave e → shows_clear o ≡ false → FreshBy (Stand.Opens (record o { step = suc o.step })) l.gave e
   stays_opens e h c = λ n. h (sym (steps_stay o.again o.step c) ∙ n)
 
   pub opening_stays : l.stand ≡ Stand.Opens o → Stays l (opening_back frame l o done found)
   opening_stays s = opening_by (λ m. Stays l m)
-      (λ e. record { beside = λ b. refl; fresh = λ f n. (refl, refl) })
+      (λ e. record { beside = λ b. refl; fresh = λ f n. record { side = refl; account = refl; opened = refl } })
       (record { beside = λ b. b; fresh = λ f. f })
-      (λ e. record { beside = λ b. b; fresh = λ f. tt })
-      (λ e. record { beside = λ b. b; fresh = λ f. stays_opens l.era (subst (λ (z : Stand). FreshBy z l.era) s f) e })
+      (λ e. record { beside = λ b. b; fresh = λ f. record { from = frame; opened = refl; before = given } })
+      (λ e. record { beside = λ b. b; fresh = λ f. stays_opens l.era (subst (λ (z : Stand). FreshBy z l.gave l.era) s f) e })
 
-  -- an epoch that it opens is new
-  pub opening_rests : l.stand ≡ Stand.Opens o → FreshBy l.stand l.era → (opening_back frame l o done found).stand ≡ Stand.Open → RestsSo (opening_back frame l o done found).era
-  opening_rests s f = opening_by (λ m. m.stand ≡ Stand.Open → RestsSo m.era)
-      (λ e t. absurd (cc))
-      (λ t. absurd (let bad = sym s ∙ t in cc))
-      (λ e t. let k = subst (λ (z : Stand). FreshBy z l.era) s f (last_stays o e) in let r = rests_new l.era k.0 k.1 in record { hand = r.hand; states = r.states; row = r.row })
-      (λ e t. absurd (cc))
+  -- it goes on, or the slave is open by this frame, which is what opens it anew
+  pub data OpeningBack (m : LifeOf) : Type 0 where
+    under_way : is_open m.stand ≡ false → life_scripted m ≡ life_scripted l → m.gave ≡ l.gave → ((x : Option ℕ) → over_scripted m x ≡ over_scripted l x) → OpeningBack m
+    is_up : m.stand ≡ Stand.Open → life_scripted m ≡ over_scripted l (Some frame) → RestsSo m.era → OpeningBack m
+
+  leaving_is : (b : Bool) → is_leaving l.stand ≡ b → (x : Option ℕ) → over_scripted l x ≡ over_where l b x
+  leaving_is b e x = ap (λ z. over_where l z x) e
+
+  cleared_over : l.stand ≡ Stand.Opens o → shows_clear o ≡ true → (x : Option ℕ) → over_scripted (clears frame l o) x ≡ over_scripted l x
+  cleared_over s e x = ap (λ z. over_where (clears frame l o) z x) (cleared_stays o) ∙ sym (leaving_is true (ap is_leaving s ∙ clear_leaves o e) x)
+
+  steps_over : l.stand ≡ Stand.Opens o → shows_clear o ≡ false → (x : Option ℕ) → over_scripted (steps_on l o) x ≡ over_scripted l x
+  steps_over s e x = ap (λ z. over_where l z x) (steps_stay o.again o.step e ∙ sym (ap is_leaving s))
+
+  opened_by : l.stand ≡ Stand.Opens o → FreshBy l.stand l.gave l.era → (o.step == last_step o) ≡ true → OpeningBack (opens frame l)
+  opened_by s f e =
+      let new = subst (λ (z : Stand). FreshBy z l.gave l.era) s f (last_stays o e) in
+      let r = rests_new l.era new.side new.account in
+      OpeningBack.is_up refl (new_none l (Some frame) new.account ∙ sym (leaving_is false (ap is_leaving s ∙ last_stays o e) (Some frame))) (record { hand = r.hand; states = r.states; row = r.row })
+
+  pub opening_is : l.stand ≡ Stand.Opens o → FreshBy l.stand l.gave l.era → OpeningBack (opening_back frame l o done found)
+  opening_is s f = opening_by (λ m. OpeningBack m)
+      (λ e. OpeningBack.under_way refl clear_scripted refl (cleared_over s e))
+      (OpeningBack.under_way (ap is_open s) refl refl (λ x. refl))
+      (opened_by s f)
+      (λ e. OpeningBack.under_way refl refl refl (steps_over s e))
 
 -- A LIFE BEHIND A FRAME THAT CAME BACK
-module _ (areas : Areas) (frame : ℕ) (spot : Spot) (news : List (News Body)) (back : List (Datagram Body)) (l : LifeOf) where
+module _ (areas : Areas) (frame : ℕ) (spot : Spot) (news : List (News Body)) (back : List (Datagram Body)) (l : LifeOf) (given : All (λ k. k < frame) l.gave) where
   abbrev x : Speech Body Asked Reply
   x = hand_speech areas
 
@@ -136,27 +159,29 @@ module _ (areas : Areas) (frame : ℕ) (spot : Spot) (news : List (News Body)) (
 
   open_stays : l.stand ≡ Stand.Open → Stays l (reopens came_back era.account.hand)
   open_stays s = reopens_by (λ m. Stays l m) came_back era.account.hand
-      (record { beside = era_beside; fresh = λ f. fresh_open l.stand era s })
+      (record { beside = era_beside; fresh = λ f. fresh_open l came_back s s refl refl f })
       (λ state. record { beside = era_beside; fresh = λ f n. absurd (let bad : true ≡ false = n in cc) })
 
   pub back_stays : (came : Option (Bool × Option Found)) (stand : Stand) → l.stand ≡ stand → Stays l (behind came stand)
   back_stays None (Stand.Opens o) s = record { beside = λ b. b; fresh = λ f. f }
-  back_stays (Some came) (Stand.Opens o) s = opening_stays frame l o came.0 came.1 s
+  back_stays (Some came) (Stand.Opens o) s = opening_stays frame l given o came.0 came.1 s
   back_stays came Stand.Open s = open_stays s
   back_stays came Stand.Gone s = record { beside = λ b. b; fresh = λ f. f }
 
-  -- OF A SLAVE THAT ISN'T OPEN no service comes to more
-  pub away_scripted : (came : Option (Bool × Option Found)) (stand : Stand) → is_open stand ≡ false → life_scripted (behind came stand) ≡ life_scripted l
-  away_scripted None (Stand.Opens o) e = refl
-  away_scripted (Some came) (Stand.Opens o) e = opening_scripted frame l o came.0 came.1
-  away_scripted came Stand.Open e = absurd (let bad : true ≡ false = e in cc)
-  away_scripted came Stand.Gone e = refl
+  -- OF A SLAVE THAT ISN'T OPEN the newest service goes on returning it to Init, or its outcome is of this frame
+  pub data AnewBack (c : ComesAnew l) (m : LifeOf) : Type 0 where
+    awaits : ComesAnew m → life_scripted m ≡ life_scripted l → AnewBack c m
+    reached : m.stand ≡ Stand.Open → life_scripted m ≡ c.front ++ record { frame = c.frame; came = Came.state (reached_at (Some frame)) } ∷ [] → RestsSo m.era → AnewBack c m
 
-  pub away_rests : (came : Option (Bool × Option Found)) (stand : Stand) → l.stand ≡ stand → is_open stand ≡ false → FreshBy l.stand l.era → (behind came stand).stand ≡ Stand.Open → RestsSo (behind came stand).era
-  away_rests None (Stand.Opens o) s e f t = absurd (let bad = sym s ∙ t in cc)
-  away_rests (Some came) (Stand.Opens o) s e f t = opening_rests frame l o came.0 came.1 s f t
-  away_rests came Stand.Open s e f t = absurd (let bad : true ≡ false = e in cc)
-  away_rests came Stand.Gone s e f t = absurd (let bad = sym s ∙ t in cc)
+  pub anew_back : (c : ComesAnew l) (came : Option (Bool × Option Found)) (stand : Stand) → l.stand ≡ stand → FreshBy l.stand l.gave l.era → AnewBack c (behind came stand)
+  anew_back c None (Stand.Opens o) s f = AnewBack.awaits c refl
+  anew_back c (Some came) (Stand.Opens o) s f = by (opening_back frame l o came.0 came.1) (opening_is frame l given o came.0 came.1 s f)
+    where
+      by : (m : LifeOf) → OpeningBack frame l given o came.0 came.1 m → AnewBack c m
+      by m (OpeningBack.under_way away same gave over) = AnewBack.awaits (record { front = c.front; frame = c.frame; whole = same ∙ c.whole; opens = λ g. over (Some g) ∙ c.opens g; away = away }) same
+      by m (OpeningBack.is_up open' whole rests) = AnewBack.reached open' (whole ∙ c.opens frame) rests
+  anew_back c came Stand.Open s f = absurd (let bad : true ≡ false = sym (ap is_open s) ∙ c.away in cc)
+  anew_back c came Stand.Gone s f = AnewBack.awaits c refl
 
   -- WHERE NOTHING IS IN HAND
   same_account : l.era.account.hand ≡ None → era.account ≡ l.era.account
@@ -172,20 +197,35 @@ module _ (areas : Areas) (frame : ℕ) (spot : Spot) (news : List (News Body)) (
   rests_back r = let same = same_account r.hand in rests_on l.era era r (ap (λ (z : Account Asked Reply). z.started) same) (ap (λ (z : Account Asked Reply). z.over) same) (ap (λ (z : Account Asked Reply). z.hand) same) (era_row r.row)
 
   rests_scripted : RestsSo l.era → life_scripted came_back ≡ life_scripted l
-  rests_scripted r = λ i. eras_scripted l.past ++ scripted_in (same_account r.hand i).started (era_answers r.row i) (same_account r.hand i).over
+  rests_scripted r = λ i. past_scripted l ++ scripted_in None (same_account r.hand i).started (era_answers r.row i) (same_account r.hand i).over
 
   pub record RestsBack (m : LifeOf) : Type 0 where
     pub scripted : life_scripted m ≡ life_scripted l
-    pub rests : m.stand ≡ Stand.Open → RestsSo m.era
+    pub still : IsStill m
 
-  pub still_back : (came : Option (Bool × Option Found)) (stand : Stand) → l.stand ≡ stand → FreshBy l.stand l.era → (l.stand ≡ Stand.Open → RestsSo l.era) → RestsBack (behind came stand)
+  still_opening : (o : Opening) → l.stand ≡ Stand.Opens o → FreshBy l.stand l.gave l.era → IsStill l → (m : LifeOf) → (done : Bool) (found : Option Found) → OpeningBack frame l given o done found m → RestsBack m
+  still_opening o s f h m done found (OpeningBack.under_way away same gave over) = record {
+    scripted = same;
+    still =
+        record {
+          rests = λ t. absurd (let bad : true ≡ false = sym (ap is_open t) ∙ away in cc);
+          opens = λ p t g before. over (Some g) ∙ h.opens o s g (subst (λ (z : List ℕ). All (λ k. k < g) z) gave before) ∙ sym (over None);
+        };
+  }
+  still_opening o s f h m done found (OpeningBack.is_up open' whole rests) = record {
+    scripted = whole ∙ h.opens o s frame given ∙ sym (over_whole l o s f);
+    still = record { rests = λ t. rests; opens = λ p t. absurd (let bad = sym open' ∙ t in cc) };
+  }
+
+  pub still_back : (came : Option (Bool × Option Found)) (stand : Stand) → l.stand ≡ stand → FreshBy l.stand l.gave l.era → IsStill l → RestsBack (behind came stand)
   still_back came Stand.Open s f h =
-      let r = h s in
+      let r = h.rests s in
       let none : era.account.hand ≡ None = ap (λ (z : Account Asked Reply). z.hand) (same_account r.hand) ∙ r.hand in
-      subst (λ z. RestsBack z) (sym (reopens_none came_back era.account.hand none)) (record { scripted = rests_scripted r; rests = λ t. rests_back r })
-  still_back None (Stand.Opens o) s f h = record { scripted = refl; rests = h }
-  still_back (Some came) (Stand.Opens o) s f h = record { scripted = opening_scripted frame l o came.0 came.1; rests = opening_rests frame l o came.0 came.1 s f }
-  still_back came Stand.Gone s f h = record { scripted = refl; rests = h }
+      subst (λ z. RestsBack z) (sym (reopens_none came_back era.account.hand none))
+      (record { scripted = rests_scripted r; still = record { rests = λ t. rests_back r; opens = λ o t. absurd (let bad = sym s ∙ t in cc) } })
+  still_back None (Stand.Opens o) s f h = record { scripted = refl; still = h }
+  still_back (Some came) (Stand.Opens o) s f h = still_opening o s f h (opening_back frame l o came.0 came.1) came.0 came.1 (opening_is frame l given o came.0 came.1 s f)
+  still_back came Stand.Gone s f h = record { scripted = refl; still = h }
 
   -- A SERVICE BY MAILS goes on awaiting its reply, or has it of this frame
   awaits_open : l.stand ≡ Stand.Open → (w : Awaits l.era) → now_answer l.era.side.now ≡ None → AwaitsBack areas frame l w (reopens came_back era.account.hand)
@@ -198,7 +238,7 @@ module _ (areas : Areas) (frame : ℕ) (spot : Spot) (news : List (News Body)) (
       subst (λ z. AwaitsBack areas frame l w z) (sym (reopens_none came_back era.account.hand no)) (record {
         stand = s;
         era = awaits_on l.era era w row (ap (λ (z : Account Asked Reply). z.started) same) over refl no now refl;
-        front = ap (λ (z : List (Change Reply)). eras_scripted l.past ++ scripted_in w.front (answers_in l.era.side.past) z) over;
+        front = ap (λ (z : List (Change Reply)). past_scripted l ++ scripted_in None w.front (answers_in l.era.side.past) z) over;
         at = refl;
         heard = plain x.emission (w.row.heard ++ heard);
         answer = ap now_answer now ∙ ap (λ (z : Answer). answer_after frame z (ends areas w.row.service (plain x.emission (w.row.heard ++ heard)))) (sym (ap now_answer w.now) ∙ none);
@@ -213,17 +253,27 @@ module _ (areas : Areas) (frame : ℕ) (spot : Spot) (news : List (News Body)) (
   pub data ChangeBack (w : Changes l.era) (m : LifeOf) : Type 0 where
     goes : m.stand ≡ Stand.Open → Changes m.era → life_scripted m ≡ life_scripted l → is_some m.era.account.hand ≡ true → ChangeBack w m
     leaves : ComesAnew m → life_scripted m ≡ life_scripted l → ChangeBack w m
-    over : (c : Change Reply) → m.stand ≡ Stand.Open → m.era.account.hand ≡ None → m.era.account.over ≡ l.era.account.over ++ c ∷ [] → c.completed ≡ frame → life_scripted m ≡ changes_front l w ++ record { frame = w.frame; came = change_reported w.duty.target c } ∷ [] → RestsSo m.era → ChangeBack w m
+    over : (c : Change Reply) → m.stand ≡ Stand.Open → m.era.account.hand ≡ None → m.era.account.over ≡ l.era.account.over ++ c ∷ [] → c.completed ≡ frame → life_scripted m ≡ changes_front l w ++ record { frame = w.frame; came = change_reported c } ∷ [] → RestsSo m.era → ChangeBack w m
 
-  module _ (s : l.stand ≡ Stand.Open) (w : Changes l.era) where
+  module _ (s : l.stand ≡ Stand.Open) (f : FreshBy l.stand l.gave l.era) (w : Changes l.era) where
     abbrev goes_on : (duty : Duty) → era.account.hand ≡ Some duty → duty.target ≡ w.duty.target → era.account.over ≡ l.era.account.over → Changes era
     goes_on duty hand target kept = changes_on l.era era w duty era_started kept hand target (era_row w.row)
 
     goes_scripted : era.account.over ≡ l.era.account.over → life_scripted came_back ≡ life_scripted l
-    goes_scripted kept = λ i. eras_scripted l.past ++ scripted_in (era_started i) (era_answers w.row i) (kept i)
+    goes_scripted kept = λ i. past_scripted l ++ scripted_in None (era_started i) (era_answers w.row i) (kept i)
+
+    -- what opens it anew, since it wasn't given up
+    opens_anew : (g : ℕ) → opened_anew l.gave l.era.opened (Some g) ≡ Some g
+    opens_anew g = let k = spared l.stand l.gave l.era s f in ap (λ (z : Option ℕ). opened_anew l.gave z (Some g)) k.opened ∙ anew_spared l.gave k.from g k.before
 
     comes_anew : (k : Changes era) (state : ℕ) → returns_to_init k.duty.target ≡ true → ComesAnew (record came_back { stand = reopening state true })
-    comes_anew k state e = record { front = changes_front came_back k; frame = k.frame; whole = changes_scripted came_back k ∙ ap (λ (b : Bool). changes_front came_back k ++ record { frame = k.frame; came = is_away b } ∷ []) e; away = refl }
+    comes_anew k state e = record {
+      front = changes_front came_back k;
+      frame = k.frame;
+      whole = changes_scripted came_back k;
+      opens = λ g. eras_more l.gave l.past era (Some g) ∙ ap (λ (z : Option ℕ). past_scripted l ++ era_scripted z era) (opens_anew g) ∙ changes_opened came_back k g e;
+      away = refl;
+    }
 
     change_goes : (duty : Duty) → era.account.hand ≡ Some duty → duty.target ≡ w.duty.target → era.account.over ≡ l.era.account.over → ChangeBack w (reopens came_back era.account.hand)
     change_goes duty hand target same = subst (λ (z : Option Duty). ChangeBack w (reopens came_back z)) (sym hand) (go duty.stage)
@@ -242,7 +292,7 @@ module _ (areas : Areas) (frame : ℕ) (spot : Spot) (news : List (News Body)) (
     change_over : (c : Change Reply) → era.account.hand ≡ None → era.account.over ≡ l.era.account.over ++ c ∷ [] → c.completed ≡ frame → ChangeBack w (reopens came_back era.account.hand)
     change_over c none more at = subst (λ (z : LifeOf). ChangeBack w z) (sym (reopens_none came_back era.account.hand none))
         (ChangeBack.over c s none more at
-        ((λ i. eras_scripted l.past ++ scripted_in ((era_started ∙ w.started) i) (era_answers w.row i) (more i)) ∙ change_with l w c)
+        ((λ i. past_scripted l ++ scripted_in None ((era_started ∙ w.started) i) (era_answers w.row i) (more i)) ∙ change_with l w c)
         (record {
           hand = none;
           states =

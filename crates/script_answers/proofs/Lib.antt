@@ -1,4 +1,6 @@
 pub mod Lists
+pub mod Anew
+pub mod Befores
 pub mod Sides
 pub mod Turns
 pub mod Backs

@@ -1,6 +1,5 @@
 -- Lists of scripted services, and of what is noted of them.
-use Rattle.std.proofs.Common.{◌≡◌, ℕ, suc, ◌+◌, Bool, true, false, Option, Some, None, List, [], ◌∷◌, ◌++◌, map, length, refl, ap, sym, ◌∙◌, subst, arith, append_assoc, append-nil}
-use Rattle.std.specs.Prelude.{⊤}
+use Rattle.std.proofs.Common.{◌≡◌, ℕ, suc, ◌+◌, Bool, true, false, Option, Some, None, List, [], ◌∷◌, ◌++◌, length, refl, ap, sym, ◌∙◌, arith, append_assoc, append-nil}
 use Rattle.life_model.specs.Lives.{Era, returns_to_init}
 use Rattle.link_mails.specs.Body.{Body}
 use Rattle.master_duty.specs.Reply.{Reply}
@@ -9,7 +8,7 @@ use Rattle.script_runs.specs.Came.{is_packet}
 use Rattle.state_exchange.specs.Stated.{Service}
 use Rattle.task_model.specs.Accounts.{Started, Change}
 use Rattle.task_model.specs.Promise.{services_in, mails_in}
-use Rattle.script_answers.specs.Answers.{Came, Scripted, Noted, IsReported, AllNoted, states_in, first_change, changes_behind, change_came, scripted_mails, scripted_by, scripted_in, era_scripted, eras_scripted}
+use Rattle.script_answers.specs.Answers.{Came, Scripted, Noted, IsReported, AllNoted, states_in, first_change, changes_behind, change_outcome, scripted_mails, scripted_by, scripted_in, opened_anew, era_scripted, next_opened, eras_scripted}
 
 abbrev pub Answer : Type 0
 Answer = Option (Reply × ℕ)
@@ -28,37 +27,55 @@ with_state ss target frame = ss ++ record { service = Service.State target; fram
 abbrev with_mails : List (Started Asked) → Asked → ℕ → List (Started Asked)
 with_mails ss q frame = ss ++ record { service = Service.Mails q; frame = frame } ∷ []
 
-abbrev state_came : ℕ → ℕ → Over → List Scripted
-state_came target frame tail = record { frame = frame; came = change_came (returns_to_init target) (first_change tail) } ∷ []
+abbrev state_came : Option ℕ → ℕ → ℕ → Over → List Scripted
+state_came anew target frame tail = record { frame = frame; came = Came.state (change_outcome (returns_to_init target) anew (first_change tail)) } ∷ []
 
 abbrev mails_came : Asked → ℕ → Answer → List Scripted
 mails_came q frame answer = scripted_mails (is_packet (Service.Mails q)) frame answer []
 
 -- a change of state, and those that are over behind the ones before it
-pub scripted_state : (ss : List (Started Asked)) (answers : List Answer) (over tail : Over) (target frame : ℕ) → states_in (services_in ss) ≡ length over →
-    scripted_in (ss ++ record { service = Service.State target; frame = frame } ∷ []) answers (over ++ tail) ≡ scripted_in ss answers over ++ record { frame = frame; came = change_came (returns_to_init target) (first_change tail) } ∷ []
-scripted_state [] answers [] tail target frame e = refl
-scripted_state [] answers (o ∷ over) tail target frame e = absurd (omega (arith, e))
-scripted_state (s ∷ ss) answers over tail target frame e = go s.service answers over e (λ as' os f. scripted_state ss as' os tail target frame f)
+pub scripted_state : (anew : Option ℕ) (ss : List (Started Asked)) (answers : List Answer) (over tail : Over) (target frame : ℕ) → states_in (services_in ss) ≡ length over →
+    scripted_in anew (ss ++ record { service = Service.State target; frame = frame } ∷ []) answers (over ++ tail)
+    ≡ scripted_in anew ss answers over ++ record { frame = frame; came = Came.state (change_outcome (returns_to_init target) anew (first_change tail)) } ∷ []
+scripted_state anew [] answers [] tail target frame e = refl
+scripted_state anew [] answers (o ∷ over) tail target frame e = absurd (omega (arith, e))
+scripted_state anew (s ∷ ss) answers over tail target frame e = go s.service answers over e (λ as' os f. scripted_state anew ss as' os tail target frame f)
   where
-    go : (z : Service Asked) (as' : List Answer) (os : Over) → states_in (z ∷ services_in ss) ≡ length os → ((bs : List Answer) (os : Over) → states_in (services_in ss) ≡ length os → scripted_in (with_state ss target frame) bs (os ++ tail) ≡ scripted_in ss bs os ++ state_came target frame tail) →
-        scripted_by z s.frame as' (os ++ tail) (λ bs qs. scripted_in (with_state ss target frame) bs qs) ≡ scripted_by z s.frame as' os (λ bs qs. scripted_in ss bs qs) ++ state_came target frame tail
+    go : (z : Service Asked) (as' : List Answer) (os : Over) → states_in (z ∷ services_in ss) ≡ length os → ((bs : List Answer) (os : Over) → states_in (services_in ss) ≡ length os → scripted_in anew (with_state ss target frame) bs (os ++ tail) ≡ scripted_in anew ss bs os ++ state_came anew target frame tail) →
+        scripted_by anew z s.frame as' (os ++ tail) (λ bs qs. scripted_in anew (with_state ss target frame) bs qs) ≡ scripted_by anew z s.frame as' os (λ bs qs. scripted_in anew ss bs qs) ++ state_came anew target frame tail
     go (Service.State t) as' [] f h = absurd (omega (arith, f))
-    go (Service.State t) as' (o ∷ os) f h = ap (λ (k : List Scripted). record { frame = s.frame; came = change_came (returns_to_init t) (Some (o.answer, o.completed)) } ∷ k) (h as' os (omega (arith, f)))
-    go (Service.Mails q) [] os f h = either (is_packet (Service.Mails q)) s.frame None (scripted_in ss [] os) (scripted_in (with_state ss target frame) [] (os ++ tail)) (state_came target frame tail) (h [] os f)
-    go (Service.Mails q) (a ∷ as') os f h = either (is_packet (Service.Mails q)) s.frame a (scripted_in ss as' os) (scripted_in (with_state ss target frame) as' (os ++ tail)) (state_came target frame tail) (h as' os f)
+    go (Service.State t) as' (o ∷ os) f h = ap (λ (k : List Scripted). record { frame = s.frame; came = Came.state (Some (o.answer, o.completed)) } ∷ k) (h as' os (omega (arith, f)))
+    go (Service.Mails q) [] os f h = either (is_packet (Service.Mails q)) s.frame None (scripted_in anew ss [] os) (scripted_in anew (with_state ss target frame) [] (os ++ tail)) (state_came anew target frame tail) (h [] os f)
+    go (Service.Mails q) (a ∷ as') os f h = either (is_packet (Service.Mails q)) s.frame a (scripted_in anew ss as' os) (scripted_in anew (with_state ss target frame) as' (os ++ tail)) (state_came anew target frame tail) (h as' os f)
 
-pub scripted_one : (ss : List (Started Asked)) (answers : List Answer) (over : Over) (q : Asked) (frame : ℕ) (answer : Answer) → mails_in (services_in ss) ≡ length answers →
-    scripted_in (ss ++ record { service = Service.Mails q; frame = frame } ∷ []) (answers ++ answer ∷ []) over ≡ scripted_in ss answers over ++ scripted_mails (is_packet (Service.Mails q)) frame answer []
-scripted_one [] [] over q frame answer e = refl
-scripted_one [] (a ∷ as') over q frame answer e = absurd (omega (arith, e))
-scripted_one (s ∷ ss) answers over q frame answer e = go s.service answers over e (λ as' os f. scripted_one ss as' os q frame answer f)
+pub scripted_one : (anew : Option ℕ) (ss : List (Started Asked)) (answers : List Answer) (over : Over) (q : Asked) (frame : ℕ) (answer : Answer) → mails_in (services_in ss) ≡ length answers →
+    scripted_in anew (ss ++ record { service = Service.Mails q; frame = frame } ∷ []) (answers ++ answer ∷ []) over ≡ scripted_in anew ss answers over ++ scripted_mails (is_packet (Service.Mails q)) frame answer []
+scripted_one anew [] [] over q frame answer e = refl
+scripted_one anew [] (a ∷ as') over q frame answer e = absurd (omega (arith, e))
+scripted_one anew (s ∷ ss) answers over q frame answer e = go s.service answers over e (λ as' os f. scripted_one anew ss as' os q frame answer f)
   where
-    go : (z : Service Asked) (as' : List Answer) (os : Over) → mails_in (z ∷ services_in ss) ≡ length as' → ((bs : List Answer) (os : Over) → mails_in (services_in ss) ≡ length bs → scripted_in (with_mails ss q frame) (bs ++ answer ∷ []) os ≡ scripted_in ss bs os ++ (mails_came q frame answer)) →
-        scripted_by z s.frame (as' ++ answer ∷ []) os (λ bs qs. scripted_in (with_mails ss q frame) bs qs) ≡ scripted_by z s.frame as' os (λ bs qs. scripted_in ss bs qs) ++ (mails_came q frame answer)
-    go (Service.State t) as' os f h = ap (λ (k : List Scripted). record { frame = s.frame; came = change_came (returns_to_init t) (first_change os) } ∷ k) (h as' (changes_behind os) f)
+    go : (z : Service Asked) (as' : List Answer) (os : Over) → mails_in (z ∷ services_in ss) ≡ length as' → ((bs : List Answer) (os : Over) → mails_in (services_in ss) ≡ length bs → scripted_in anew (with_mails ss q frame) (bs ++ answer ∷ []) os ≡ scripted_in anew ss bs os ++ (mails_came q frame answer)) →
+        scripted_by anew z s.frame (as' ++ answer ∷ []) os (λ bs qs. scripted_in anew (with_mails ss q frame) bs qs) ≡ scripted_by anew z s.frame as' os (λ bs qs. scripted_in anew ss bs qs) ++ (mails_came q frame answer)
+    go (Service.State t) as' os f h = ap (λ (k : List Scripted). record { frame = s.frame; came = Came.state (change_outcome (returns_to_init t) anew (first_change os)) } ∷ k) (h as' (changes_behind os) f)
     go (Service.Mails r) [] os f h = absurd (omega (arith, f))
-    go (Service.Mails r) (a ∷ as') os f h = either (is_packet (Service.Mails r)) s.frame a (scripted_in ss as' os) (scripted_in (with_mails ss q frame) (as' ++ answer ∷ []) os) (mails_came q frame answer) (h as' os (omega (arith, f)))
+    go (Service.Mails r) (a ∷ as') os f h = either (is_packet (Service.Mails r)) s.frame a (scripted_in anew ss as' os) (scripted_in anew (with_mails ss q frame) (as' ++ answer ∷ []) os) (mails_came q frame answer) (h as' os (omega (arith, f)))
+
+-- WHERE EACH CHANGE OF STATE IS OVER it doesn't matter what opens the slave anew
+pub steady : (a b : Option ℕ) (ss : List (Started Asked)) (answers : List Answer) (over : Over) → states_in (services_in ss) ≡ length over → scripted_in a ss answers over ≡ scripted_in b ss answers over
+steady a b [] answers over e = refl
+steady a b (s ∷ ss) answers over e = go s.service answers over e (λ as' os f. steady a b ss as' os f)
+  where
+    go : (z : Service Asked) (as' : List Answer) (os : Over) → states_in (z ∷ services_in ss) ≡ length os → ((bs : List Answer) (qs : Over) → states_in (services_in ss) ≡ length qs → scripted_in a ss bs qs ≡ scripted_in b ss bs qs) →
+        scripted_by a z s.frame as' os (λ bs qs. scripted_in a ss bs qs) ≡ scripted_by b z s.frame as' os (λ bs qs. scripted_in b ss bs qs)
+    go (Service.State t) as' [] f h = absurd (omega (arith, f))
+    go (Service.State t) as' (o ∷ os) f h = ap (λ (k : List Scripted). record { frame = s.frame; came = Came.state (Some (o.answer, o.completed)) } ∷ k) (h as' os (omega (arith, f)))
+    go (Service.Mails q) [] os f h = ap (λ (k : List Scripted). scripted_mails (is_packet (Service.Mails q)) s.frame None k) (h [] os f)
+    go (Service.Mails q) (x ∷ as') os f h = ap (λ (k : List Scripted). scripted_mails (is_packet (Service.Mails q)) s.frame x k) (h as' os f)
+
+-- one that isn't over has come to nothing, before its slave is opened anew
+pub no_outcome : (b : Bool) → change_outcome b None None ≡ None
+no_outcome true = refl
+no_outcome false = refl
 
 -- how many go by mails
 pub mails_more : (ss : List (Started Asked)) (q : Asked) (frame : ℕ) → mails_in (services_in (ss ++ record { service = Service.Mails q; frame = frame } ∷ [])) ≡ mails_in (services_in ss) + 1
@@ -111,6 +128,12 @@ noted_front (t ∷ u ∷ ss) [] s n h = absurd h.1
 noted_front (t ∷ ss) (m ∷ ns) s n h = let more = noted_front ss ns s n h.1 in ((h.0, more.0), more.1)
 
 -- ONE EPOCH MORE
-pub eras_more : (es : List (Era Body Asked Reply)) (e : Era Body Asked Reply) → eras_scripted (es ++ e ∷ []) ≡ eras_scripted es ++ era_scripted e
-eras_more [] e = append-nil (era_scripted e)
-eras_more (d ∷ es) e = ap (λ l. era_scripted d ++ l) (eras_more es e) ∙ sym (append_assoc (era_scripted d) (eras_scripted es) (era_scripted e))
+next_more : (es : List (Era Body Asked Reply)) (e : Era Body Asked Reply) (behind : Option ℕ) → next_opened (es ++ e ∷ []) behind ≡ next_opened es e.opened
+next_more [] e behind = refl
+next_more (d ∷ es) e behind = refl
+
+pub eras_more : (gave : List ℕ) (es : List (Era Body Asked Reply)) (e : Era Body Asked Reply) (behind : Option ℕ) → eras_scripted gave (es ++ e ∷ []) behind ≡ eras_scripted gave es e.opened ++ era_scripted (opened_anew gave e.opened behind) e
+eras_more gave [] e behind = append-nil (era_scripted (opened_anew gave e.opened behind) e)
+eras_more gave (d ∷ es) e behind =
+    (λ i. era_scripted (opened_anew gave d.opened (next_more es e behind i)) d ++ eras_more gave es e behind i)
+    ∙ sym (append_assoc (era_scripted (opened_anew gave d.opened (next_opened es e.opened)) d) (eras_scripted gave es e.opened) (era_scripted (opened_anew gave e.opened behind) e))

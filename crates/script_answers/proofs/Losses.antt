@@ -1,28 +1,32 @@
 -- WHAT IS NOTED BEHIND A LOST FRAME, and at which frames a slave is given up.
-use Rattle.std.proofs.Common.{◌≡◌, ◌⊎◌, inl, inr, ℕ, Bool, true, false, Option, Some, None, List, [], ◌∷◌, ◌++◌, length, refl, ap, sym, ◌∙◌, subst}
+use Rattle.std.proofs.Common.{◌≡◌, ◌⊎◌, inl, inr, ℕ, ◌<◌, Bool, true, false, Option, Some, None, List, [], ◌∷◌, ◌++◌, length, refl, ap, sym, ◌∙◌, subst}
 use Rattle.std.specs.Prelude.{◌==◌, ◌&&◌, nat_lt, if◌then◌else◌}
+use Rattle.std.specs.List.{All}
 use Rattle.exchange_model.specs.Exchange.{Speech}
 use Rattle.frame_view.specs.View.{Lens}
 use Rattle.frame_view.specs.Seen.{seen}
 use Rattle.life_runs.proofs.Spans as Spans
+use Rattle.life_runs.specs.Spans.{is_leaving, is_open}
 use Rattle.life_frames.specs.Shares.{came_at, given_where}
-use Rattle.life_model.specs.Lives.{Spot, Era, Life, Stand, Opening, life_back, life_lost, era_back, era_lost, opening_back, shows_clear, is_shown, last_step, clears, opens, steps_on, reopens, reopens_at, reopening, opens_state, returns_to_init, gives_up}
+use Rattle.life_model.specs.Lives.{Spot, Era, Life, Stand, Opening, life_back, life_lost, era_back, opening_back, shows_clear, is_shown, last_step, clears, opens, steps_on, reopens, reopens_at, reopening, opens_state, returns_to_init}
 use Rattle.life_runs.specs.Led.{Exchanged, Leads, Turn, is_passed, speech_at}
 use Rattle.link_mails.specs.Body.{Body}
 use Rattle.master_duty.specs.Reply.{Reply}
 use Rattle.master_hand.specs.Spoken.{Asked, acknowledged, is_followed}
-use Rattle.segment_model.specs.Record.{News}
 use Rattle.segment_model.specs.Slaves.{Datagram, Found}
 use Rattle.segment_ring.specs.declared.wire.Fate.TheVariants.{Pass, Lost}
 use Rattle.task_model.specs.Accounts.{Duty, Stage}
-use Rattle.script_answers.specs.Answers.{Noted, AllNoted, RestsSo, IsGoing, Waits, StandsBy, FreshBy, IsNoted, life_scripted, turned}
-use Rattle.script_answers.specs.Steps.{PassesSo, LosesSo}
+use Rattle.script_answers.specs.Answers.{Noted, AllNoted, IsStill, Waits, StandsBy, FreshBy, IsNoted, era_scripted, eras_scripted, life_scripted, turned}
+use Rattle.script_answers.specs.Steps.{IsBefore, PassesSo, LosesSo}
+use Rattle.script_answers.proofs.Anew.{anew_lost, eras_given}
+use Rattle.script_answers.proofs.Befores.{back_before, lost_before, given_before}
+use Rattle.script_answers.proofs.Lists.{eras_more}
 use Rattle.script_answers.proofs.Passes.{led, pass_still, pass_waits, pass_told, pass_own, awaiting, pass_goes, pass_ends, pass_some, pass_anew}
 use Rattle.script_answers.proofs.Sides.{longer}
 use Rattle.script_answers.proofs.Turns.{awaits_on, changes_on, rests_on, fresh_open}
 
 -- A LIFE BEHIND A LOST FRAME
-module _ (u : Turn) (x : Speech Body Asked Reply) (recover frame : ℕ) (sent : List (Datagram Body)) where
+module _ (u : Turn) (x : Speech Body Asked Reply) (recover frame : ℕ) (sent : List (Datagram Body)) (before : IsBefore frame u.lived.life) where
   abbrev spot : Spot
   spot = u.lived.spot
 
@@ -55,14 +59,14 @@ module _ (u : Turn) (x : Speech Body Asked Reply) (recover frame : ℕ) (sent : 
       by Waits.nothing h = h
       by Waits.reply h = h
       by Waits.change h = h
-  lost_stands Stand.Open s Waits.nothing h = λ t. let r = h t in rests_on l.era (without Stand.Open).era r refl refl refl r.row
+  lost_stands Stand.Open s Waits.nothing h = record { rests = λ t. let r = h.rests t in rests_on l.era (without Stand.Open).era r refl refl refl r.row; opens = λ o t. absurd (let bad = sym s ∙ t in cc) }
   lost_stands Stand.Open s Waits.reply h = record { stand = h.stand; era = awaits_on l.era (without Stand.Open).era h.era h.era.row refl refl refl h.era.hand h.era.now refl; unanswered = h.unanswered }
   lost_stands Stand.Open s Waits.change (inl g) = inl (record { stand = g.stand; era = changes_on l.era (without Stand.Open).era g.era g.era.duty refl refl g.era.hand refl g.era.row })
-  lost_stands Stand.Open s Waits.change (inr c) = inr (record { front = c.front; frame = c.frame; whole = c.whole; away = c.away })
+  lost_stands Stand.Open s Waits.change (inr c) = absurd (let bad : true ≡ false = sym (ap is_open s) ∙ c.away in cc)
 
   lost_noted : (stand : Stand) → l.stand ≡ stand → (w : Waits) (number : ℕ) (ns : List Noted) → IsNoted (turned u) w number ns → IsNoted (living (without stand)) w number ns
   lost_noted (Stand.Opens o) s w number ns h = record { many = h.many; beside = h.beside; noted = h.noted; fresh = h.fresh; stands = lost_stands (Stand.Opens o) s w h.stands }
-  lost_noted Stand.Open s w number ns h = record { many = h.many; beside = h.beside; noted = h.noted; fresh = fresh_open l.stand (without Stand.Open).era s; stands = lost_stands Stand.Open s w h.stands }
+  lost_noted Stand.Open s w number ns h = record { many = h.many; beside = h.beside; noted = h.noted; fresh = fresh_open l (without Stand.Open) s s refl refl h.fresh; stands = lost_stands Stand.Open s w h.stands }
   lost_noted Stand.Gone s w number ns h = record { many = h.many; beside = h.beside; noted = h.noted; fresh = h.fresh; stands = lost_stands Stand.Gone s w h.stands }
 
   lost_gave : (stand : Stand) → (without stand).gave ≡ l.gave
@@ -78,17 +82,48 @@ module _ (u : Turn) (x : Speech Body Asked Reply) (recover frame : ℕ) (sent : 
   away true e = absurd (cc)
   away false e = absurd (cc)
 
-  fresh_given : (b : Bool) (e : Era Body Asked Reply) → FreshBy (if b then reopening spot.start false else Stand.Gone) e
-  fresh_given true e = λ n. absurd (let bad : true ≡ false = n in cc)
-  fresh_given false e = tt
+  fresh_given : (b : Bool) (gave : List ℕ) (e : Era Body Asked Reply) → FreshBy (if b then reopening spot.start false else Stand.Gone) gave e
+  fresh_given true gave e = λ n. absurd (let bad : true ≡ false = n in cc)
+  fresh_given false gave e = tt
 
-  given_noted : (w : Waits) (number : ℕ) (ns : List Noted) → IsNoted (living (without l.stand)) w number ns → IsNoted (living (given true)) Waits.nothing number ns
+  -- its epochs keep what they came to, and no frame that opens it later gives the newest more
+  abbrev kept : Life Body Asked Reply
+  kept = without l.stand
+
+  kept_before : IsBefore frame kept
+  kept_before = lost_before frame l before x spot sent l.stand
+
+  abbrev gave' : List ℕ
+  gave' = kept.gave ++ frame ∷ []
+
+  given_scripted : life_scripted (given true) ≡ life_scripted kept
+  given_scripted = ap (λ ss. ss ++ era_scripted None kept.era) (eras_given kept.gave frame kept.past kept.era.opened kept_before.past kept_before.era)
+
+  given_over : (g : ℕ) → All (λ k. k < g) gave' → eras_scripted gave' (kept.past ++ kept.era ∷ []) (Some g) ≡ eras_scripted gave' (kept.past ++ kept.era ∷ []) None
+  given_over g later =
+      eras_more gave' kept.past kept.era (Some g)
+      ∙ ap (λ (z : Option ℕ). eras_scripted gave' kept.past kept.era.opened ++ era_scripted z kept.era) (anew_lost kept.gave frame kept.era.opened g kept_before.era later)
+      ∙ sym (eras_more gave' kept.past kept.era None)
+
+  given_opens : (b : Bool) (o : Opening) → (if b then reopening spot.start false else Stand.Gone) ≡ Stand.Opens o → (g : ℕ) → All (λ k. k < g) gave' →
+      eras_scripted gave' (if is_leaving (if b then reopening spot.start false else Stand.Gone) then kept.past ++ kept.era ∷ [] else kept.past) (Some g)
+      ≡ eras_scripted gave' (if is_leaving (if b then reopening spot.start false else Stand.Gone) then kept.past ++ kept.era ∷ [] else kept.past) None
+  given_opens true o e g later = given_over g later
+  given_opens false o e g later = absurd (cc)
+
+  given_still : IsStill (given true)
+  given_still = record {
+    rests = λ s. absurd (away (nat_lt (length kept.gave) recover) s);
+    opens = λ o s g later. given_opens (nat_lt (length kept.gave) recover) o s g later;
+  }
+
+  given_noted : (w : Waits) (number : ℕ) (ns : List Noted) → IsNoted (living kept) w number ns → IsNoted (living (given true)) Waits.nothing number ns
   given_noted w number ns h = record {
     many = h.many;
     beside = h.beside;
-    noted = h.noted;
-    fresh = fresh_given (nat_lt (length (without l.stand).gave) recover) (without l.stand).era;
-    stands = λ s. absurd (away (nat_lt (length (without l.stand).gave) recover) s);
+    noted = subst (λ ss. AllNoted ss ns) (sym given_scripted) h.noted;
+    fresh = fresh_given (nat_lt (length kept.gave) recover) gave' kept.era;
+    stands = given_still;
   }
 
   pub lost_waits : (b : Bool) (w : Waits) (number : ℕ) (ns : List Noted) → IsNoted (turned u) w number ns → (given b).gave ≡ l.gave → IsNoted (living (given b)) w number ns
@@ -104,7 +139,7 @@ module _ (u : Turn) (x : Speech Body Asked Reply) (recover frame : ℕ) (sent : 
   given_gave false = inl (lost_gave l.stand)
 
 -- BEHIND A FRAME OF EITHER FATE
-module _ (lens : ℕ → Lens) (recover retry : ℕ) (gives : Bool) (made : ℕ) (f : Exchanged) (u : Turn) where
+module _ (lens : ℕ → Lens) (recover retry : ℕ) (gives : Bool) (made : ℕ) (f : Exchanged) (u : Turn) (before : IsBefore made u.lived.life) where
   opening_gave : (l : Life Body Asked Reply) (o : Opening) (done : Bool) (found : Option Found) → (opening_back made l o done found).gave ≡ l.gave
   opening_gave l o done found = go (shows_clear o) (done && is_shown 1 found) (o.step == last_step o) (done && is_shown o.state found)
     where
@@ -133,31 +168,34 @@ module _ (lens : ℕ → Lens) (recover retry : ℕ) (gives : Bool) (made : ℕ)
   back_gave x spot back l came Stand.Open = let e = era_back x acknowledged is_followed is_passed spot.station made [] back l.era in reopens_gave (record l { era = e }) e.account.hand
   back_gave x spot back l came Stand.Gone = refl
 
-  pub passes_so : PassesSo made (turned u) (led lens recover retry gives made f u Pass)
+  pub passes_so : PassesSo made (turned u) (led lens recover retry gives made f u before Pass)
   passes_so = record {
-    still = λ number ns h. pass_still lens recover retry gives made f u number ns h;
+    still = λ number ns h. pass_still lens recover retry gives made f u before number ns h;
     reply = record {
-      waits = λ number ns h none. pass_waits lens recover retry gives made f u number ns h none;
-      told = λ number front frame reply g e h. pass_told lens recover retry gives made f u number front frame reply g e h;
-      up = λ number ns h. (awaiting lens recover retry gives made f u number ns h).stand;
-      own = λ number ns row h e p. pass_own lens recover retry gives made f u number ns h row e p;
+      waits = λ number ns h none. pass_waits lens recover retry gives made f u before number ns h none;
+      told = λ number front frame reply g e h. pass_told lens recover retry gives made f u before number front frame reply g e h;
+      up = λ number ns h. (awaiting lens recover retry gives made f u before number ns h).stand;
+      own = λ number ns row h e p. pass_own lens recover retry gives made f u before number ns h row e p;
     };
     change = record {
-      goes = λ number ns h e. pass_goes lens recover retry gives made f u number ns h e;
-      ends = λ number front frame outcome a b none over h. pass_ends lens recover retry gives made f u number front frame outcome a b none over h;
-      some = λ number ns h a b none over. pass_some lens recover retry gives made f u number ns h a b none over;
-      anew = λ number front frame reply a b h. pass_anew lens recover retry gives made f u number front frame reply a b h;
+      goes = λ number ns h e. pass_goes lens recover retry gives made f u before number ns h e;
+      ends = λ number front frame outcome a b none over h. pass_ends lens recover retry gives made f u before number front frame outcome a b none over h;
+      some = λ number ns h a b none over. pass_some lens recover retry gives made f u before number ns h a b none over;
+      anew = λ number front frame a b h. pass_anew lens recover retry gives made f u before number front frame a b h;
     };
     gave = back_gave (speech_at lens u.lived.spot) u.lived.spot (seen lens f.back) u.lived.life (came_at u.share.under u.share.at (seen lens f.back)) u.lived.life.stand;
     same = record { script = refl; number = refl };
     epochs = Spans.passes_so lens recover retry made gives f u.lived u.share;
+    before = back_before made u.lived.life before (speech_at lens u.lived.spot) u.lived.spot (seen lens f.back) (came_at u.share.under u.share.at (seen lens f.back)) u.lived.life.stand;
   }
 
-  pub loses_so : (after : ℕ) → LosesSo made (turned u) (led lens recover retry gives made f u (Lost after))
+  pub loses_so : (after : ℕ) → LosesSo made (turned u) (led lens recover retry gives made f u before (Lost after))
   loses_so after = record {
-    waits = λ w number ns h same. lost_waits u (speech_at lens u.lived.spot) recover made (seen lens f.sent) (gives && u.share.under) w number ns h same;
-    given = λ w number ns h more. lost_given u (speech_at lens u.lived.spot) recover made (seen lens f.sent) (gives && u.share.under) w number ns h more;
-    gave = given_gave u (speech_at lens u.lived.spot) recover made (seen lens f.sent) (gives && u.share.under);
+    waits = λ w number ns h same. lost_waits u (speech_at lens u.lived.spot) recover made (seen lens f.sent) before (gives && u.share.under) w number ns h same;
+    given = λ w number ns h more. lost_given u (speech_at lens u.lived.spot) recover made (seen lens f.sent) before (gives && u.share.under) w number ns h more;
+    gave = given_gave u (speech_at lens u.lived.spot) recover made (seen lens f.sent) before (gives && u.share.under);
     same = record { script = refl; number = refl };
     epochs = Spans.loses_so lens recover retry made gives f u.lived u.share after;
+    before = given_before made recover u.lived.spot (gives && u.share.under) (life_lost (speech_at lens u.lived.spot) acknowledged is_followed is_passed u.lived.spot [] (seen lens f.sent) u.lived.life u.lived.life.stand)
+        (lost_before made u.lived.life before (speech_at lens u.lived.spot) u.lived.spot (seen lens f.sent) u.lived.life.stand);
   }

@@ -1,42 +1,36 @@
 -- WHAT IS NOTED BEHIND A FRAME OF A RUN, whatever is awaited.
-use Rattle.std.proofs.Common.{◌≡◌, ◌⊎◌, inl, inr, ℕ, ◌+◌, Bool, true, false, Option, Some, None, List, [], ◌∷◌, ◌++◌, map, length, length-append, refl, ap, sym, ◌∙◌, subst, arith}
-use Rattle.std.specs.Prelude.{◌==◌, ◌&&◌, is_some, nat_lt, if◌then◌else◌}
+use Rattle.std.proofs.Common.{◌≡◌, ◌⊎◌, inl, inr, ℕ, Bool, true, false, Option, Some, None, List, [], ◌∷◌, ◌++◌, length, length-append, refl, ap, sym, ◌∙◌, subst, arith}
+use Rattle.std.specs.Prelude.{is_some}
 use Rattle.exchange_model.specs.Areas.{Areas}
-use Rattle.exchange_model.specs.Exchange.{Speech}
 use Rattle.frame_view.specs.View.{Lens}
 use Rattle.frame_view.specs.Seen.{seen}
-use Rattle.life_runs.proofs.Spans as Spans
 use Rattle.life_runs.specs.Spans.{is_open}
-use Rattle.life_frames.specs.Shares.{Lived, came_at, given_where}
-use Rattle.life_model.specs.Lives.{Spot, Era, Life, Stand, Opening, life_back, life_lost, era_back, opening_back, shows_clear, is_shown, last_step, clears, opens, steps_on, reopens, reopens_at, reopening, opens_state, returns_to_init, gives_up}
-use Rattle.life_runs.specs.Led.{Exchanged, Leads, Turn, is_passed, speech_at, life_behind}
+use Rattle.life_frames.specs.Shares.{came_at}
+use Rattle.life_model.specs.Lives.{Life}
+use Rattle.life_runs.specs.Led.{Exchanged, Leads, Turn, is_passed, life_behind}
 use Rattle.link_mails.specs.Body.{Body}
 use Rattle.master_duty.specs.Reply.{Reply}
-use Rattle.master_hand.specs.Spoken.{Asked, acknowledged, is_followed, hand_speech, ends}
+use Rattle.master_hand.specs.Spoken.{Asked, ends}
 use Rattle.segment_model.specs.Ends.{Outcome}
-use Rattle.segment_model.specs.Record.{News}
 use Rattle.segment_model.specs.Slaves.{Datagram, Found}
 use Rattle.segment_ring.specs.declared.wire.Fate.{Fate}
-use Rattle.segment_ring.specs.declared.wire.Fate.TheVariants.{Pass, Lost}
-use Rattle.task_model.specs.Accounts.{Duty, Stage, Change}
-use Rattle.script_answers.specs.Answers.{Came, Scripted, Noted, IsReported, AllNoted, RowRests, RestsSo, Awaits, Changes, ComesAnew, IsAwaiting, IsGoing, Waits, StandsBy, FreshBy, IsNoted, now_answer, newest_answer, change_came, outcome_reply, reply_by, life_scripted, turned}
-use Rattle.script_answers.specs.Steps.{EndedSo, ReplyPasses, ChangePasses, PassesSo, LosesSo, account_of, opened, with_begun, with_reply}
+use Rattle.segment_ring.specs.declared.wire.Fate.TheVariants.{Pass}
+use Rattle.task_model.specs.Accounts.{Change}
+use Rattle.script_answers.specs.Answers.{Came, Noted, IsReported, AllNoted, RowRests, RestsSo, Awaits, ComesAnew, IsGoing, Waits, StandsBy, FreshBy, IsNoted, now_answer, newest_answer, reply_by, reached_at, life_scripted, turned}
+use Rattle.script_answers.specs.Steps.{IsBefore, EndedSo, account_of, opened, with_begun, with_reply}
 use Rattle.script_answers.proofs.Backs.{Held, AwaitsBack, front_scripted, changes_front, awaits_scripted, changes_scripted, after_none, not_passed, last_change, change_reported}
-use Rattle.script_answers.proofs.Frames.{Stays, RestsBack, ChangeBack, back_stays, still_back, away_scripted, away_rests, awaits_back, change_back}
+use Rattle.script_answers.proofs.Frames.{Stays, AnewBack, ChangeBack, back_stays, still_back, anew_back, awaits_back, change_back}
 use Rattle.script_answers.proofs.Lists.{Answer, Over, noted_more, noted_front}
-use Rattle.script_answers.proofs.Sides.{longer}
-use Rattle.script_answers.proofs.Turns.{awaits_on, changes_on, rests_on, fresh_open}
 
 -- an outcome is reported by its reply
-reported : (b : Bool) (outcome : Outcome Reply) (c : Change Reply) (made : ℕ) → c.answer ≡ outcome → c.completed ≡ made → IsReported (change_came b (Some (c.answer, c.completed))) (Some (reply_by outcome, made))
-reported true outcome c made e f = tt
-reported false outcome c made e f = λ i. Some (reply_by (sym e i), sym f i)
+reported : (outcome : Outcome Reply) (c : Change Reply) (made : ℕ) → c.answer ≡ outcome → c.completed ≡ made → IsReported (change_reported c) (Some (reply_by outcome, made))
+reported outcome c made e f = λ i. Some (reply_by (sym e i), sym f i)
 
 no_longer : (xs : Over) (c : Change Reply) → xs ++ c ∷ [] ≡ [] → ⊥
 no_longer xs c e = let n = length-append xs (c ∷ []) in let m = ap length e in absurd (omega (arith, n, m))
 
 -- BEHIND A RETURN
-module _ (lens : ℕ → Lens) (recover retry : ℕ) (gives : Bool) (made : ℕ) (f : Exchanged) (u : Turn) where
+module _ (lens : ℕ → Lens) (recover retry : ℕ) (gives : Bool) (made : ℕ) (f : Exchanged) (u : Turn) (before : IsBefore made u.lived.life) where
   abbrev pub led : Fate → Leads
   led fate = record { script = u.script; number = u.number; lived = life_behind lens recover retry gives made f fate u.lived u.share }
 
@@ -56,7 +50,7 @@ module _ (lens : ℕ → Lens) (recover retry : ℕ) (gives : Bool) (made : ℕ)
   m = (led Pass).lived.life
 
   stays : Stays l m
-  stays = back_stays areas made u.lived.spot [] back l came l.stand refl
+  stays = back_stays areas made u.lived.spot [] back l before.gave came l.stand refl
 
   noted_so : (w v : Waits) (number : ℕ) (ns ms : List Noted) → IsNoted (turned u) w number ns → AllNoted (life_scripted m) ms → StandsBy v (led Pass) → IsNoted (led Pass) v number ms
   noted_so w v number ns ms h noted stands = record { many = h.many; beside = stays.beside h.beside; noted = noted; fresh = stays.fresh h.fresh; stands = stands }
@@ -67,8 +61,8 @@ module _ (lens : ℕ → Lens) (recover retry : ℕ) (gives : Bool) (made : ℕ)
   -- nothing is awaited
   pub pass_still : (number : ℕ) (ns : List Noted) → IsNoted (turned u) Waits.nothing number ns → IsNoted (led Pass) Waits.nothing number ns
   pass_still number ns h =
-      let b = still_back areas made u.lived.spot [] back l came l.stand refl h.fresh h.stands in
-      noted_so Waits.nothing Waits.nothing number ns ns h (noted_same ns b.scripted h.noted) b.rests
+      let b = still_back areas made u.lived.spot [] back l before.gave came l.stand refl h.fresh h.stands in
+      noted_so Waits.nothing Waits.nothing number ns ns h (noted_same ns b.scripted h.noted) b.still
 
   -- a reply is
   module _ (number : ℕ) (ns : List Noted) (h : IsNoted (turned u) Waits.reply number ns) where
@@ -76,7 +70,7 @@ module _ (lens : ℕ → Lens) (recover retry : ℕ) (gives : Bool) (made : ℕ)
     w = h.stands.era
 
     pub awaiting : AwaitsBack areas made l w m
-    awaiting = awaits_back areas made u.lived.spot [] back l came l.stand refl h.stands.stand w h.stands.unanswered
+    awaiting = awaits_back areas made u.lived.spot [] back l before.gave came l.stand refl h.stands.stand w h.stands.unanswered
 
     -- the newest as it was, and as it is
     was : life_scripted l ≡ front_scripted l w ++ record { frame = w.frame; came = Came.mails None } ∷ []
@@ -112,76 +106,91 @@ module _ (lens : ℕ → Lens) (recover retry : ℕ) (gives : Bool) (made : ℕ)
       noted_so Waits.reply Waits.nothing number ns (with_reply front frame (Some (reply, made))) h
       (subst (λ ss. AllNoted ss (with_reply front frame (Some (reply, made)))) (sym (is number ns h))
       (noted_more (front_scripted l w) front (record { frame = w.frame; came = Came.mails (now_answer m.era.side.now) }) (record { frame = frame; reply = Some (reply, made) }) parts.0 parts.1 answer))
-      (λ t. told_rests number ns h reply g e)
+      (record { rests = λ t. told_rests number ns h reply g e; opens = λ o t. absurd (let bad = sym k.stand ∙ t in cc) })
 
   -- a change of state is
-  went : (g : IsGoing l) → ChangeBack areas made u.lived.spot [] back l g.era m
-  went g = change_back areas made u.lived.spot [] back l g.stand g.era came l.stand refl
+  abbrev IsBack : (g : IsGoing l) → Type 0
+  IsBack g = ChangeBack areas made u.lived.spot [] back l before.gave g.era m
+
+  went : FreshBy l.stand l.gave l.era → (g : IsGoing l) → IsBack g
+  went f g = change_back areas made u.lived.spot [] back l before.gave g.stand f g.era came l.stand refl
+
+  abbrev IsAnew : (c : ComesAnew l) → Type 0
+  IsAnew c = AnewBack areas made u.lived.spot [] back l before.gave c m
+
+  anew : FreshBy l.stand l.gave l.era → (c : ComesAnew l) → IsAnew c
+  anew f c = anew_back areas made u.lived.spot [] back l before.gave c came l.stand refl f
 
   clash : {P : Type 0} (b : Bool) → b ≡ true → b ≡ false → P
   clash b e g = absurd (let bad : true ≡ false = sym e ∙ g in cc)
 
-  away_same : ComesAnew l → life_scripted m ≡ life_scripted l
-  away_same c = away_scripted areas made u.lived.spot [] back l came l.stand c.away
-
   pub pass_goes : (number : ℕ) (ns : List Noted) → IsNoted (turned u) Waits.change number ns → (opened (led Pass) ≡ true → (opened (turned u) ≡ true) × (is_some (account_of (led Pass)).hand ≡ true)) → IsNoted (led Pass) Waits.change number ns
   pass_goes number ns h open' = by h.stands
     where
-      going : (g : IsGoing l) → ChangeBack areas made u.lived.spot [] back l g.era m → IsNoted (led Pass) Waits.change number ns
+      going : (g : IsGoing l) → IsBack g → IsNoted (led Pass) Waits.change number ns
       going g (ChangeBack.goes s k same hand) = noted_so Waits.change Waits.change number ns ns h (noted_same ns same h.noted) (inl (record { stand = s; era = k }))
       going g (ChangeBack.leaves c same) = noted_so Waits.change Waits.change number ns ns h (noted_same ns same h.noted) (inr c)
       going g (ChangeBack.over c s idle more at same rests) = absurd (let t = open' (ap is_open s) in let bad : true ≡ false = sym t.1 ∙ ap is_some idle in cc)
 
-      away : (c : ComesAnew l) (b : Bool) → opened (led Pass) ≡ b → IsNoted (led Pass) Waits.change number ns
-      away c true e = clash (is_open l.stand) (open' e).0 c.away
-      away c false e = noted_so Waits.change Waits.change number ns ns h (noted_same ns (away_same c) h.noted) (inr (record { front = c.front; frame = c.frame; whole = away_same c ∙ c.whole; away = e }))
+      away : (c : ComesAnew l) → IsAnew c → IsNoted (led Pass) Waits.change number ns
+      away c (AnewBack.awaits k same) = noted_so Waits.change Waits.change number ns ns h (noted_same ns same h.noted) (inr k)
+      away c (AnewBack.reached s whole rests) = clash (is_open l.stand) (open' (ap is_open s)).0 c.away
 
       by : IsGoing l ⊎ ComesAnew l → IsNoted (led Pass) Waits.change number ns
-      by (inl g) = going g (went g)
-      by (inr c) = away c (opened (led Pass)) refl
+      by (inl g) = going g (went h.fresh g)
+      by (inr c) = away c (anew h.fresh c)
 
   pub pass_ends : (number : ℕ) (front : List Noted) (frame : ℕ) (outcome : Outcome Reply) → opened (turned u) ≡ true → opened (led Pass) ≡ true → (account_of (led Pass)).hand ≡ None → EndedSo (account_of (led Pass)).over outcome →
       IsNoted (turned u) Waits.change number (with_begun frame front) → IsNoted (led Pass) Waits.nothing number (with_reply front frame (Some (reply_by outcome, made)))
   pass_ends number front frame outcome before open' none ended h = by h.stands
     where
-      ends : (g : IsGoing l) → ChangeBack areas made u.lived.spot [] back l g.era m → IsNoted (led Pass) Waits.nothing number (with_reply front frame (Some (reply_by outcome, made)))
+      ends : (g : IsGoing l) → IsBack g → IsNoted (led Pass) Waits.nothing number (with_reply front frame (Some (reply_by outcome, made)))
       ends g (ChangeBack.goes s k same hand) = absurd (let bad : true ≡ false = sym hand ∙ ap is_some none in cc)
       ends g (ChangeBack.leaves c same) = clash (is_open m.stand) open' c.away
       ends g (ChangeBack.over c s idle more at same rests) =
           let ns = with_begun frame front in
           let w = g.era in
-          let parts = noted_front (changes_front l w) front (record { frame = w.frame; came = change_came (returns_to_init w.duty.target) None }) (record { frame = frame; reply = None }) (subst (λ ss. AllNoted ss ns) (changes_scripted l w) h.noted) in
+          let parts = noted_front (changes_front l w) front (record { frame = w.frame; came = Came.state None }) (record { frame = frame; reply = None }) (subst (λ ss. AllNoted ss ns) (changes_scripted l w) h.noted) in
           let last : c ≡ ended.change = last_change l.era.account.over ended.front c ended.change (sym more ∙ ended.whole) in
           noted_so Waits.change Waits.nothing number ns (with_reply front frame (Some (reply_by outcome, made))) h
           (subst (λ ss. AllNoted ss (with_reply front frame (Some (reply_by outcome, made)))) (sym same)
-          (noted_more (changes_front l w) front (record { frame = w.frame; came = change_reported w.duty.target c }) (record { frame = frame; reply = Some (reply_by outcome, made) }) parts.0 parts.1
-          (reported (returns_to_init w.duty.target) outcome c made (ap (λ (z : Change Reply). z.answer) last ∙ ended.is) at)))
-          (λ t. rests)
+          (noted_more (changes_front l w) front (record { frame = w.frame; came = change_reported c }) (record { frame = frame; reply = Some (reply_by outcome, made) }) parts.0 parts.1
+          (reported outcome c made (ap (λ (z : Change Reply). z.answer) last ∙ ended.is) at)))
+          (record { rests = λ t. rests; opens = λ o t. absurd (let bad = sym s ∙ t in cc) })
 
       by : IsGoing l ⊎ ComesAnew l → IsNoted (led Pass) Waits.nothing number (with_reply front frame (Some (reply_by outcome, made)))
-      by (inl g) = ends g (went g)
+      by (inl g) = ends g (went h.fresh g)
       by (inr c) = clash (is_open l.stand) before c.away
 
   pub pass_some : (number : ℕ) (ns : List Noted) → IsNoted (turned u) Waits.change number ns → opened (turned u) ≡ true → opened (led Pass) ≡ true → (account_of (led Pass)).hand ≡ None → (account_of (led Pass)).over ≡ [] → ⊥
   pass_some number ns h before open' none nil = by h.stands
     where
-      some : (g : IsGoing l) → ChangeBack areas made u.lived.spot [] back l g.era m → ⊥
+      some : (g : IsGoing l) → IsBack g → ⊥
       some g (ChangeBack.goes s k same hand) = absurd (let bad : true ≡ false = sym hand ∙ ap is_some none in cc)
       some g (ChangeBack.leaves c same) = clash (is_open m.stand) open' c.away
       some g (ChangeBack.over c s idle more at same rests) = no_longer l.era.account.over c (sym more ∙ nil)
 
       by : IsGoing l ⊎ ComesAnew l → ⊥
-      by (inl g) = some g (went g)
+      by (inl g) = some g (went h.fresh g)
       by (inr c) = clash (is_open l.stand) before c.away
 
-  pub pass_anew : (number : ℕ) (front : List Noted) (frame : ℕ) (reply : Answer) → opened (turned u) ≡ false → opened (led Pass) ≡ true → IsNoted (turned u) Waits.change number (with_begun frame front) → IsNoted (led Pass) Waits.nothing number (with_reply front frame reply)
-  pass_anew number front frame reply before open' h = by h.stands
+  pub pass_anew : (number : ℕ) (front : List Noted) (frame : ℕ) → opened (turned u) ≡ false → opened (led Pass) ≡ true →
+      IsNoted (turned u) Waits.change number (with_begun frame front) → IsNoted (led Pass) Waits.nothing number (with_reply front frame (Some (reply_by Outcome.Reached, made)))
+  pass_anew number front frame closed open' h = by h.stands
     where
-      by : IsGoing l ⊎ ComesAnew l → IsNoted (led Pass) Waits.nothing number (with_reply front frame reply)
-      by (inl g) = clash (is_open l.stand) (ap is_open g.stand) before
-      by (inr c) =
+      reply : Answer
+      reply = Some (reply_by Outcome.Reached, made)
+
+      opens : (c : ComesAnew l) → IsAnew c → IsNoted (led Pass) Waits.nothing number (with_reply front frame reply)
+      opens c (AnewBack.awaits k same) = clash (is_open m.stand) open' k.away
+      opens c (AnewBack.reached s whole rests) =
           let ns = with_begun frame front in
-          let parts = noted_front c.front front (record { frame = c.frame; came = Came.anew }) (record { frame = frame; reply = None }) (subst (λ ss. AllNoted ss ns) c.whole h.noted) in
+          let parts = noted_front c.front front (record { frame = c.frame; came = Came.state None }) (record { frame = frame; reply = None }) (subst (λ ss. AllNoted ss ns) c.whole h.noted) in
           noted_so Waits.change Waits.nothing number ns (with_reply front frame reply) h
-          (subst (λ ss. AllNoted ss (with_reply front frame reply)) (sym (away_same c ∙ c.whole)) (noted_more c.front front (record { frame = c.frame; came = Came.anew }) (record { frame = frame; reply = reply }) parts.0 parts.1 tt))
-          (λ t. away_rests areas made u.lived.spot [] back l came l.stand refl c.away h.fresh t)
+          (subst (λ ss. AllNoted ss (with_reply front frame reply)) (sym whole)
+          (noted_more c.front front (record { frame = c.frame; came = Came.state (reached_at (Some made)) }) (record { frame = frame; reply = reply }) parts.0 parts.1 refl))
+          (record { rests = λ t. rests; opens = λ o t. absurd (let bad = sym s ∙ t in cc) })
+
+      by : IsGoing l ⊎ ComesAnew l → IsNoted (led Pass) Waits.nothing number (with_reply front frame reply)
+      by (inl g) = clash (is_open l.stand) (ap is_open g.stand) closed
+      by (inr c) = opens c (anew h.fresh c)

@@ -1,5 +1,5 @@
 -- WHAT COMES INTO HAND, and what that makes of a side and an account.
-use Rattle.std.proofs.Common.{◌≡◌, ℕ, ◌+◌, Bool, true, false, Option, Some, None, List, [], ◌∷◌, ◌++◌, map, length, length-append, refl, ap, sym, ◌∙◌, subst, arith, append-nil}
+use Rattle.std.proofs.Common.{◌≡◌, ℕ, Bool, true, false, Option, Some, None, List, [], ◌∷◌, ◌++◌, length, length-append, refl, ap, sym, ◌∙◌, subst, arith, append-nil}
 use Rattle.std.specs.Prelude.{◌&&◌, not, is_some, is_none, option_map, if◌then◌else◌}
 use Rattle.std.proofs.lemmas.List.{map-append}
 use Rattle.exchange_model.specs.Exchange.{Speech}
@@ -9,8 +9,8 @@ use Rattle.master_duty.specs.Reply.{Reply}
 use Rattle.master_hand.specs.Spoken.{Asked}
 use Rattle.segment_model.specs.Seats.{Side, newest, rows_of, is_none_left, is_over, next_mail, side_begins, side_holds}
 use Rattle.state_exchange.specs.Stated.{Service}
-use Rattle.task_model.specs.Accounts.{Account, Duty, Stage, Started, mails_begin, is_free, is_acknowledged, starts, state_begins, account_begins}
-use Rattle.script_answers.specs.Answers.{RowRests, answers_in, side_answers, now_answer}
+use Rattle.task_model.specs.Accounts.{Account, Duty, Stage, mails_begin, is_free, is_acknowledged, starts, state_begins, account_begins}
+use Rattle.script_answers.specs.Answers.{RowRests, answers_in, side_answers}
 use Rattle.script_answers.proofs.Lists.{Answer}
 
 abbrev Held : Type 0

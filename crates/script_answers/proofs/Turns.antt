@@ -1,6 +1,7 @@
 -- WHAT IS NOTED BEFORE A FRAME: what came into hand of a slave.
-use Rattle.std.proofs.Common.{◌≡◌, ◌⊎◌, inl, inr, ℕ, suc, ◌+◌, ◌<◌, ◌≤◌, Bool, true, false, Option, Some, None, List, [], ◌∷◌, ◌++◌, map, length, length-append, refl, ap, sym, ◌∙◌, subst, arith, append_assoc, append-nil}
+use Rattle.std.proofs.Common.{◌≡◌, ◌⊎◌, inl, inr, ℕ, suc, ◌+◌, ◌<◌, Bool, true, false, Option, Some, None, List, [], ◌∷◌, ◌++◌, length, length-append, refl, ap, sym, ◌∙◌, subst, arith, append_assoc, append-nil}
 use Rattle.std.specs.Prelude.{nat_lt, is_some, if◌then◌else◌}
+use Rattle.std.specs.List.{All}
 use Rattle.std.proofs.lemmas.Bool.{ltb-true, ltb-false}
 use Rattle.std.proofs.lemmas.List.{map-append}
 use Rattle.datagrams.specs.Datagram as Raw
@@ -10,8 +11,8 @@ use Rattle.exchange_model.specs.Exchange.{Speech}
 use Rattle.exchange_model.specs.Rows.{Row}
 use Rattle.frame_view.specs.View.{Lens}
 use Rattle.life_runs.proofs.Spans as Spans
-use Rattle.life_runs.specs.Spans.{is_open}
-use Rattle.life_model.specs.Lives.{Era, Life, Stand, Opening, granted, life_next, returns_to_init}
+use Rattle.life_runs.specs.Spans.{is_leaving, is_open}
+use Rattle.life_model.specs.Lives.{Era, Life, Stand, granted, life_next, returns_to_init}
 use Rattle.life_runs.specs.Led.{Leads, Turn, Comes, Took, IsTurn, is_passed, speech_at}
 use Rattle.link_mails.specs.Body.{Body}
 use Rattle.master_duty.specs.Reply.{Reply}
@@ -19,15 +20,16 @@ use Rattle.master_hand.specs.Spoken.{Asked, sdo, file, drive, net, handed, ends,
 use Rattle.master_hand.specs.Talk.{asked_of}
 use Rattle.script_runs.specs.Came.{is_packet}
 use Rattle.segment_model.specs.Ends.{Passing}
-use Rattle.segment_model.specs.Seats.{Side, newest, rows_of}
+use Rattle.segment_model.specs.Seats.{newest, rows_of}
 use Rattle.segment_plan.specs.declared.service.Service as Plan
 use Rattle.state_exchange.specs.Stated.{Service}
-use Rattle.task_model.specs.Accounts.{Account, Duty, Stage, Started, Pick, is_free, starts}
+use Rattle.task_model.specs.Accounts.{Duty, Stage, Pick, is_free, starts}
 use Rattle.task_model.specs.Promise.{services_in, mails_in}
-use Rattle.script_answers.specs.Answers.{Came, Scripted, Noted, IsReported, AllNoted, RowRests, RestsSo, Awaits, Changes, ComesAnew, IsAwaiting, IsGoing, Waits, StandsBy, FreshBy, IsNoted, answers_in, side_answers, states_in, change_came, now_answer, scripted_in, scripted_mails, era_scripted, eras_scripted, life_scripted, turned}
-use Rattle.script_answers.specs.Steps.{awaited, with_begun, Turns, TurnsSo}
-use Rattle.script_answers.proofs.Lists.{Answer, scripted_state, scripted_one, mails_more, states_more, changes_more, changes_same, noted_more}
-use Rattle.script_answers.proofs.Sides.{Rests, Mails, State, RowStays, SideMails, longer, rests, mails, state, not_free}
+use Rattle.script_answers.specs.Answers.{Came, Noted, AllNoted, RowRests, RestsSo, Awaits, Changes, ComesAnew, IsStill, IsAwaiting, Waits, StandsBy, IsNew, IsSpared, FreshBy, IsNoted, answers_in, side_answers, states_in, now_answer, scripted_in, scripted_mails, era_scripted, eras_scripted, over_scripted, life_scripted, turned}
+use Rattle.script_answers.specs.Steps.{awaited, with_begun, IsBefore, Turns, TurnsSo}
+use Rattle.script_answers.proofs.Backs.{past_scripted}
+use Rattle.script_answers.proofs.Lists.{Answer, scripted_state, scripted_one, no_outcome, mails_more, states_more, changes_same, noted_more}
+use Rattle.script_answers.proofs.Sides.{Rests, Mails, State, longer, rests, mails, state, not_free}
 
 -- NO SERVICE OF A SCRIPT is a packet, and each has a reply
 abbrev among : (Asked → Bool) → Option Asked → Bool
@@ -61,15 +63,24 @@ packet_never : (areas : Areas) (octets : List ℕ) (frame : ℕ) (hs : List Body
 packet_never areas octets frame hs = refl
 
 -- WHERE A SLAVE STANDS as before, its epoch is as new as before
-pub fresh_same : (stand : Stand) (e e' : Era Body Asked Reply) → ((o : Opening) → stand ≡ Stand.Opens o → e' ≡ e) → FreshBy stand e → FreshBy stand e'
-fresh_same (Stand.Opens o) e e' same h = λ stays. subst (λ (z : Era Body Asked Reply). FreshBy (Stand.Opens o) z) (sym (same o refl)) h stays
-fresh_same Stand.Open e e' same h = tt
-fresh_same Stand.Gone e e' same h = tt
+pub fresh_same : (stand : Stand) (gave : List ℕ) (e e' : Era Body Asked Reply) → e'.opened ≡ e.opened → (is_open stand ≡ false → e' ≡ e) → FreshBy stand gave e → FreshBy stand gave e'
+fresh_same (Stand.Opens o) gave e e' opened same h = λ stays. subst (λ (z : Era Body Asked Reply). IsNew z) (sym (same refl)) (h stays)
+fresh_same Stand.Open gave e e' opened same h = record { from = h.from; opened = opened ∙ h.opened; before = h.before }
+fresh_same Stand.Gone gave e e' opened same h = tt
 
-pub fresh_open : (stand : Stand) (e : Era Body Asked Reply) → stand ≡ Stand.Open → FreshBy stand e
-fresh_open (Stand.Opens o) e s = absurd (cc)
-fresh_open Stand.Open e s = tt
-fresh_open Stand.Gone e s = tt
+-- one that is open goes on so
+pub spared : (stand : Stand) (gave : List ℕ) (e : Era Body Asked Reply) → stand ≡ Stand.Open → FreshBy stand gave e → IsSpared gave e
+spared stand gave e s h = subst (λ (z : Stand). FreshBy z gave e) s h
+
+pub fresh_open : (l m : Life Body Asked Reply) → l.stand ≡ Stand.Open → m.stand ≡ Stand.Open → m.gave ≡ l.gave → m.era.opened ≡ l.era.opened → FreshBy l.stand l.gave l.era → FreshBy m.stand m.gave m.era
+fresh_open l m s t gave opened h =
+    let k : IsSpared l.gave l.era = spared l.stand l.gave l.era s h in
+    let on : IsSpared m.gave m.era = record { from = k.from; opened = opened ∙ k.opened; before = subst (λ (z : List ℕ). All (λ n. n < k.from) z) (sym gave) k.before } in
+    subst (λ (z : Stand). FreshBy z m.gave m.era) (sym t) on
+
+-- what its services come to, if a frame opens it anew
+pub over_same : (l m : Life Body Asked Reply) → m.gave ≡ l.gave → m.past ≡ l.past → m.stand ≡ l.stand → m.era ≡ l.era → (x : Option ℕ) → over_scripted m x ≡ over_scripted l x
+over_same l m gave past stand era x = λ i. eras_scripted (gave i) (if is_leaving (stand i) then past i ++ era i ∷ [] else past i) x
 
 -- A LIFE BEFORE A FRAME
 not_granted : {Q : Type 0} (passing : Option Passing) (p : Pick Q) → p.begin ≡ None → (granted passing p).begin ≡ None
@@ -88,19 +99,25 @@ module _ (x : Speech Body Asked Reply) (made : ℕ) (l : Life Body Asked Reply) 
     pub past : m.past ≡ l.past
     pub stand : m.stand ≡ l.stand
     pub era : Rests x acknowledged made l.era.side l.era.account m.era.account m.era.side
-    pub still : (o : Opening) → l.stand ≡ Stand.Opens o → m.era ≡ l.era
+    pub still : is_open l.stand ≡ false → m.era ≡ l.era
+    pub gave : m.gave ≡ l.gave
+    pub opened : m.era.opened ≡ l.era.opened
 
   pub record LifeMails (q : Asked) (m : Life Body Asked Reply) : Type 0 where
     pub past : m.past ≡ l.past
     pub stand : m.stand ≡ Stand.Open
     pub was : l.stand ≡ Stand.Open
     pub era : Mails x acknowledged made l.era.side l.era.account q m.era.account m.era.side
+    pub gave : m.gave ≡ l.gave
+    pub opened : m.era.opened ≡ l.era.opened
 
   pub record LifeState (target : ℕ) (m : Life Body Asked Reply) : Type 0 where
     pub past : m.past ≡ l.past
     pub stand : m.stand ≡ Stand.Open
     pub was : l.stand ≡ Stand.Open
     pub era : State x acknowledged made l.era.side l.era.account target m.era.account m.era.side
+    pub gave : m.gave ≡ l.gave
+    pub opened : m.era.opened ≡ l.era.opened
 
   same_era : Rests x acknowledged made l.era.side l.era.account l.era.account l.era.side
   same_era = record { started = refl; hand = refl; answers = refl; past = refl; row = λ r e. record { row = r; is = e; service = refl; answer = refl }; over = refl; rests = λ h. h }
@@ -109,9 +126,9 @@ module _ (x : Speech Body Asked Reply) (made : ℕ) (l : Life Body Asked Reply) 
   granted_pick = granted l.era.passing pick
 
   pub life_rests : (stand : Stand) → l.stand ≡ stand → pick.begin ≡ None → LifeRests (next stand)
-  life_rests (Stand.Opens o) s e = record { past = refl; stand = refl; era = same_era; still = λ p t. refl }
-  life_rests Stand.Open s e = record { past = refl; stand = refl; era = rests x acknowledged made l.era.side l.era.account granted_pick.begin granted_pick.hold (not_granted l.era.passing pick e); still = λ p t. absurd (cc) }
-  life_rests Stand.Gone s e = record { past = refl; stand = refl; era = same_era; still = λ p t. refl }
+  life_rests (Stand.Opens o) s e = record { past = refl; stand = refl; era = same_era; still = λ t. refl; gave = refl; opened = refl }
+  life_rests Stand.Open s e = record { past = refl; stand = refl; era = rests x acknowledged made l.era.side l.era.account granted_pick.begin granted_pick.hold (not_granted l.era.passing pick e); still = λ t. absurd (let bad : true ≡ false = sym (ap is_open s) ∙ t in cc); gave = refl; opened = refl }
+  life_rests Stand.Gone s e = record { past = refl; stand = refl; era = same_era; still = λ t. refl; gave = refl; opened = refl }
 
   pub life_mails : (stand : Stand) → l.stand ≡ stand → (q : Asked) → pick.begin ≡ Some (Service.Mails q) → (next stand).era.account.started ≡ starts l.era.account (Service.Mails q) made → LifeMails q (next stand)
   life_mails (Stand.Opens o) s q e grew = absurd (longer l.era.account.started _ grew)
@@ -119,7 +136,7 @@ module _ (x : Speech Body Asked Reply) (made : ℕ) (l : Life Body Asked Reply) 
   life_mails Stand.Open s q e grew = by (as_wished l.era.passing pick (Service.Mails q) e)
     where
       by : (granted_pick.begin ≡ Some (Service.Mails q)) ⊎ (granted_pick.begin ≡ None) → LifeMails q (next Stand.Open)
-      by (inl is) = record { past = refl; stand = s; was = s; era = mails x acknowledged made l.era.side l.era.account granted_pick.begin granted_pick.hold q is grew }
+      by (inl is) = record { past = refl; stand = s; was = s; era = mails x acknowledged made l.era.side l.era.account granted_pick.begin granted_pick.hold q is grew; gave = refl; opened = refl }
       by (inr none) = absurd (longer l.era.account.started _ (sym (rests x acknowledged made l.era.side l.era.account granted_pick.begin granted_pick.hold none).started ∙ grew))
 
   pub life_state : (stand : Stand) → l.stand ≡ stand → (target : ℕ) → pick.begin ≡ Some (Service.State target) → (next stand).era.account.started ≡ starts l.era.account (Service.State target) made → LifeState target (next stand)
@@ -128,12 +145,12 @@ module _ (x : Speech Body Asked Reply) (made : ℕ) (l : Life Body Asked Reply) 
   life_state Stand.Open s target e grew = by (as_wished l.era.passing pick (Service.State target) e)
     where
       by : (granted_pick.begin ≡ Some (Service.State target)) ⊎ (granted_pick.begin ≡ None) → LifeState target (next Stand.Open)
-      by (inl is) = record { past = refl; stand = s; was = s; era = state x acknowledged made l.era.side l.era.account granted_pick.begin granted_pick.hold target is grew }
+      by (inl is) = record { past = refl; stand = s; was = s; era = state x acknowledged made l.era.side l.era.account granted_pick.begin granted_pick.hold target is grew; gave = refl; opened = refl }
       by (inr none) = absurd (longer l.era.account.started _ (sym (rests x acknowledged made l.era.side l.era.account granted_pick.begin granted_pick.hold none).started ∙ grew))
 
   -- what that makes of the scripted services
   pub rests_scripted : (m : Life Body Asked Reply) → LifeRests m → life_scripted m ≡ life_scripted l
-  rests_scripted m r = λ i. eras_scripted (r.past i) ++ scripted_in (r.era.started i) (r.era.answers i) (r.era.over i)
+  rests_scripted m r = λ i. eras_scripted (r.gave i) (r.past i) (r.opened i) ++ scripted_in None (r.era.started i) (r.era.answers i) (r.era.over i)
 
   mails_answers : (m : Life Body Asked Reply) (q : Asked) → LifeMails q m → side_answers m.era.side ≡ side_answers l.era.side ++ None ∷ []
   mails_answers m q r =
@@ -143,9 +160,9 @@ module _ (x : Speech Body Asked Reply) (made : ℕ) (l : Life Body Asked Reply) 
   pub mails_scripted : (m : Life Body Asked Reply) (q : Asked) → LifeMails q m → mails_in (services_in l.era.account.started) ≡ length (side_answers l.era.side) →
       life_scripted m ≡ life_scripted l ++ scripted_mails (is_packet (Service.Mails q)) made None []
   mails_scripted m q r b =
-      (λ i. eras_scripted (r.past i) ++ scripted_in (r.era.started i) (mails_answers m q r i) (r.era.over i))
-      ∙ ap (λ ss. eras_scripted l.past ++ ss) (scripted_one l.era.account.started (side_answers l.era.side) l.era.account.over q made None b)
-      ∙ sym (append_assoc (eras_scripted l.past) (era_scripted l.era) (scripted_mails (is_packet (Service.Mails q)) made None []))
+      (λ i. eras_scripted (r.gave i) (r.past i) (r.opened i) ++ scripted_in None (r.era.started i) (mails_answers m q r i) (r.era.over i))
+      ∙ ap (λ ss. past_scripted l ++ ss) (scripted_one None l.era.account.started (side_answers l.era.side) l.era.account.over q made None b)
+      ∙ sym (append_assoc (past_scripted l) (era_scripted None l.era) (scripted_mails (is_packet (Service.Mails q)) made None []))
 
   pub mails_beside : (m : Life Body Asked Reply) (q : Asked) → LifeMails q m → mails_in (services_in l.era.account.started) ≡ length (side_answers l.era.side) → mails_in (services_in m.era.account.started) ≡ length (side_answers m.era.side)
   mails_beside m q r b =
@@ -154,14 +171,21 @@ module _ (x : Speech Body Asked Reply) (made : ℕ) (l : Life Body Asked Reply) 
       omega (arith, n, k, b)
 
   pub state_scripted : (m : Life Body Asked Reply) (target : ℕ) → LifeState target m → states_in (services_in l.era.account.started) ≡ length l.era.account.over →
-      life_scripted m ≡ life_scripted l ++ record { frame = made; came = change_came (returns_to_init target) None } ∷ []
+      life_scripted m ≡ life_scripted l ++ record { frame = made; came = Came.state None } ∷ []
   state_scripted m target r e =
-      (λ i. eras_scripted (r.past i) ++ scripted_in (r.era.started i) (r.era.answers i) ((r.era.over ∙ sym (append-nil l.era.account.over)) i))
-      ∙ ap (λ ss. eras_scripted l.past ++ ss) (scripted_state l.era.account.started (side_answers l.era.side) l.era.account.over [] target made e)
-      ∙ sym (append_assoc (eras_scripted l.past) (era_scripted l.era) (record { frame = made; came = change_came (returns_to_init target) None } ∷ []))
+      (λ i. eras_scripted (r.gave i) (r.past i) (r.opened i) ++ scripted_in None (r.era.started i) (r.era.answers i) ((r.era.over ∙ sym (append-nil l.era.account.over)) i))
+      ∙ ap (λ ss. past_scripted l ++ ss) (scripted_state None l.era.account.started (side_answers l.era.side) l.era.account.over [] target made e
+      ∙ ap (λ z. era_scripted None l.era ++ record { frame = made; came = Came.state z } ∷ []) (no_outcome (returns_to_init target)))
+      ∙ sym (append_assoc (past_scripted l) (era_scripted None l.era) (record { frame = made; came = Came.state None } ∷ []))
 
   pub state_beside : (m : Life Body Asked Reply) (target : ℕ) → LifeState target m → mails_in (services_in l.era.account.started) ≡ length (side_answers l.era.side) → mails_in (services_in m.era.account.started) ≡ length (side_answers m.era.side)
   state_beside m target r b = ap (λ ss. mails_in (services_in ss)) r.era.started ∙ states_more l.era.account.started target made ∙ b ∙ ap length (sym r.era.answers)
+
+  -- what stands in it was before that frame as well
+  pub still_before : (stand : Stand) → IsBefore made l → IsBefore made (next stand)
+  still_before (Stand.Opens o) h = h
+  still_before Stand.Open h = record { past = h.past; era = h.era; gave = h.gave }
+  still_before Stand.Gone h = h
 
 -- it goes on awaiting its reply
 abbrev pub awaits_on : (e e' : Era Body Asked Reply) (w : Awaits e) (row : Row Body Asked Reply) → e'.account.started ≡ e.account.started → e'.account.over ≡ e.account.over → e'.side.past ≡ e.side.past → e'.account.hand ≡ None → e'.side.now ≡ Some row → row.service ≡ w.row.service → Awaits e'
@@ -221,7 +245,7 @@ module _ (lens : ℕ → Lens) (made : ℕ) (ds : List Raw.Datagram) (a : Leads)
     pub rests : RestsSo old
 
   free_by : (w : Waits) → StandsBy w a → a.lived.life.stand ≡ Stand.Open → is_free x old.side old.side.now ≡ true → old.account.hand ≡ None → Free w
-  free_by Waits.nothing h s free none = record { nothing = refl; rests = h s }
+  free_by Waits.nothing h s free none = record { nothing = refl; rests = h.rests s }
   free_by Waits.reply h s free none = absurd (not_waiting h free)
   free_by Waits.change (inl g) s free none = absurd (let bad = sym g.era.hand ∙ none in cc)
   free_by Waits.change (inr c) s free none = absurd (let bad : true ≡ false = sym (ap is_open s) ∙ c.away in cc)
@@ -236,11 +260,36 @@ module _ (lens : ℕ → Lens) (made : ℕ) (ds : List Raw.Datagram) (a : Leads)
         unanswered = ap now_answer s.is ∙ s.answer ∙ sym (ap now_answer w.era.now) ∙ w.unanswered;
       }
 
+  -- nor does what its services come to, if a frame opens it anew
+  rests_over : (r : Nothing) → is_open a.lived.life.stand ≡ false → (g : Option ℕ) → over_scripted u.lived.life g ≡ over_scripted a.lived.life g
+  rests_over r away g = over_same a.lived.life u.lived.life r.gave r.past r.stand (r.still away) g
+
+  rests_still : Nothing → IsStill a.lived.life → IsStill u.lived.life
+  rests_still r h = record {
+    rests = λ s. let k = h.rests (sym r.stand ∙ s) in rests_on old new k r.era.started r.era.over r.era.hand (r.era.rests k.row);
+    opens = λ o s g before.
+        let was : a.lived.life.stand ≡ Stand.Opens o = sym r.stand ∙ s in
+        rests_over r (ap is_open was) (Some g) ∙ h.opens o was g (subst (λ (z : List ℕ). All (λ k. k < g) z) r.gave before) ∙ sym (rests_over r (ap is_open was) None);
+  }
+
+  rests_anew : Nothing → ComesAnew a.lived.life → ComesAnew u.lived.life
+  rests_anew r c = record {
+    front = c.front;
+    frame = c.frame;
+    whole = rests_scripted x made a.lived.life y.next.pick u.lived.life r ∙ c.whole;
+    opens = λ g. rests_over r c.away (Some g) ∙ c.opens g;
+    away = ap is_open r.stand ∙ c.away;
+  }
+
   rests_by : Nothing → (w : Waits) → StandsBy w a → StandsBy w (turned u)
-  rests_by r Waits.nothing h = λ s. let k = h (sym r.stand ∙ s) in rests_on old new k r.era.started r.era.over r.era.hand (r.era.rests k.row)
+  rests_by r Waits.nothing h = rests_still r h
   rests_by r Waits.reply h = rests_waiting r h
   rests_by r Waits.change (inl g) = inl (record { stand = r.stand ∙ g.stand; era = changes_on old new g.era g.era.duty r.era.started r.era.over (r.era.hand ∙ g.era.hand) refl (r.era.rests g.era.row) })
-  rests_by r Waits.change (inr c) = inr (record { front = c.front; frame = c.frame; whole = rests_scripted x made a.lived.life y.next.pick u.lived.life r ∙ c.whole; away = ap is_open r.stand ∙ c.away })
+  rests_by r Waits.change (inr c) = inr (rests_anew r c)
+
+  -- one that was open goes on
+  goes_fresh : a.lived.life.stand ≡ Stand.Open → u.lived.life.stand ≡ Stand.Open → u.lived.life.gave ≡ a.lived.life.gave → new.opened ≡ old.opened → FreshBy a.lived.life.stand a.lived.life.gave old → FreshBy u.lived.life.stand u.lived.life.gave new
+  goes_fresh was stand gave opened h = fresh_open a.lived.life u.lived.life was stand gave opened h
 
   module _ (waits : Waits) (number : ℕ) (ns : List Noted) (h : IsNoted a waits number ns) where
     same_number : {P : Type 0} → u.number ≡ a.number → nat_lt number u.number ≡ true → P
@@ -257,7 +306,8 @@ module _ (lens : ℕ → Lens) (made : ℕ) (ds : List Raw.Datagram) (a : Leads)
             many = h.many ∙ sym k;
             beside = ap (λ ss. mails_in (services_in ss)) r.era.started ∙ h.beside ∙ ap length (sym r.era.answers);
             noted = subst (λ z. AllNoted z ns) (sym (rests_scripted x made a.lived.life y.next.pick u.lived.life r)) h.noted;
-            fresh = subst (λ (s : Stand). FreshBy s new) (sym r.stand) (fresh_same a.lived.life.stand old new r.still h.fresh);
+            fresh = subst (λ (s : Stand). FreshBy s u.lived.life.gave new) (sym r.stand)
+                (subst (λ (g : List ℕ). FreshBy a.lived.life.stand g new) (sym r.gave) (fresh_same a.lived.life.stand a.lived.life.gave old new r.opened r.still h.fresh));
             stands = rests_by r waits h.stands;
           };
           more = λ e. same_number k e;
@@ -287,8 +337,11 @@ module _ (lens : ℕ → Lens) (made : ℕ) (ds : List Raw.Datagram) (a : Leads)
             many = h.many ∙ sym k;
             beside = mails_beside x made a.lived.life y.next.pick u.lived.life q r h.beside;
             noted = subst (λ z. AllNoted z ns) (sym scripted) h.noted;
-            fresh = fresh_open u.lived.life.stand new r.stand;
-            stands = subst (λ (w : Waits). StandsBy w (turned u)) (sym free.nothing) (λ s. record { hand = r.era.hand; states = mails_states q r free.rests; row = row });
+            fresh = goes_fresh r.was r.stand r.gave r.opened h.fresh;
+            stands = subst (λ (w : Waits). StandsBy w (turned u)) (sym free.nothing) (record {
+              rests = λ s. record { hand = r.era.hand; states = mails_states q r free.rests; row = row };
+              opens = λ o s. absurd (let bad = sym r.stand ∙ s in cc);
+            });
           };
           more = λ e. same_number k e;
         }
@@ -322,14 +375,10 @@ module _ (lens : ℕ → Lens) (made : ℕ) (ds : List Raw.Datagram) (a : Leads)
             beside = mails_beside x made a.lived.life y.next.pick u.lived.life q r h.beside;
             noted = subst (λ z. AllNoted z (with_begun made ns)) (sym scripted)
                 (noted_more (life_scripted a.lived.life) ns (record { frame = made; came = Came.mails None }) (record { frame = made; reply = None }) h.noted refl refl);
-            fresh = fresh_open u.lived.life.stand new r.stand;
+            fresh = goes_fresh r.was r.stand r.gave r.opened h.fresh;
             stands = waits_now;
           });
         }
-
-    nothing_came : (b : Bool) → IsReported (change_came b None) None
-    nothing_came true = tt
-    nothing_came false = refl
 
     turn_state : (target : ℕ) → u.begun ≡ Some (Service.State target) → u.number ≡ suc a.number → Turns made (turned u) waits number ns
     turn_state target b k =
@@ -342,8 +391,8 @@ module _ (lens : ℕ → Lens) (made : ℕ) (ds : List Raw.Datagram) (a : Leads)
             many = refl;
             beside = state_beside x made a.lived.life y.next.pick u.lived.life target r h.beside;
             noted = subst (λ z. AllNoted z (with_begun made ns)) (sym scripted)
-                (noted_more (life_scripted a.lived.life) ns (record { frame = made; came = change_came (returns_to_init target) None }) (record { frame = made; reply = None }) h.noted refl (nothing_came (returns_to_init target)));
-            fresh = fresh_open u.lived.life.stand new r.stand;
+                (noted_more (life_scripted a.lived.life) ns (record { frame = made; came = Came.state None }) (record { frame = made; reply = None }) h.noted refl refl);
+            fresh = goes_fresh r.was r.stand r.gave r.opened h.fresh;
             stands = inl (record {
               stand = r.stand;
               era = record {
@@ -384,5 +433,8 @@ module _ (lens : ℕ → Lens) (made : ℕ) (ds : List Raw.Datagram) (a : Leads)
   next_number _ _ (Comes.state target at) = inr refl
   next_number _ _ (Comes.packet octets frame) = inl refl
 
+  turn_before : IsBefore made a.lived.life → IsBefore made u.lived.life
+  turn_before h = subst (λ (z : Life Body Asked Reply). IsBefore made z) (sym y.next.life) (still_before x made a.lived.life y.next.pick a.lived.life.stand h)
+
   pub turns_so : TurnsSo made a (turned u)
-  turns_so = record { turns = λ waits number ns h. turn_noted waits number ns h; gave = turn_gave; goes = record { script = y.script; number = next_number u.begun u.number y.comes }; epochs = Spans.turns_so lens made ds a u y }
+  turns_so = record { turns = λ waits number ns h. turn_noted waits number ns h; gave = turn_gave; goes = record { script = y.script; number = next_number u.begun u.number y.comes }; epochs = Spans.turns_so lens made ds a u y; before = turn_before }

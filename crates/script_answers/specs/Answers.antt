@@ -1,9 +1,10 @@
 -- WHAT BECAME OF THE SCRIPTED SERVICES OF A SLAVE: as its life has it, and as it is noted.
-use Rattle.std.specs.Prelude.{◌≡◌, ◌⊎◌, ℕ, suc, Bool, true, false, is_some, Option, Some, None, List, [], ◌∷◌, ◌++◌, map, length, ⊤}
+use Rattle.std.specs.Prelude.{◌≡◌, ◌⊎◌, ◌<◌, ◌&&◌, ℕ, suc, nat_lt, nat_le, Bool, true, false, is_some, if◌then◌else◌, Option, Some, None, List, [], ◌∷◌, ◌++◌, map, length, ⊤}
+use Rattle.std.specs.List.{All}
 use Rattle.exchange_model.specs.Areas.{Areas}
 use Rattle.exchange_model.specs.Rows.{Row}
 use Rattle.life_runs.specs.Spans.{is_leaving, is_open}
-use Rattle.life_model.specs.Lives.{Era, Life, Stand, returns_to_init, new_side}
+use Rattle.life_model.specs.Lives.{Era, Life, Stand, Opening, returns_to_init, new_side}
 use Rattle.life_runs.specs.Led.{Leads, Turn}
 use Rattle.link_mails.specs.Body.{Body}
 use Rattle.mailbox_mail.specs.declared.outcome.ReplyKind.{ReplyKind}
@@ -13,13 +14,12 @@ use Rattle.script_runs.specs.Came.{is_packet}
 use Rattle.segment_model.specs.Ends.{Outcome}
 use Rattle.segment_model.specs.Seats.{Side, rows_of}
 use Rattle.state_exchange.specs.Stated.{Service}
-use Rattle.task_model.specs.Accounts.{Account, Started, Duty, Change, new_account}
+use Rattle.task_model.specs.Accounts.{Started, Duty, Change, new_account}
 use Rattle.task_model.specs.Promise.{services_in, mails_in}
 
--- what a scripted service has come to: one that goes by mails, the answer of its row, with the number of the frame that brought it; a change of state
--- that stays in its epoch, its outcome, with that number; of one that returns its slave to Init nothing is said
+-- what a scripted service has come to: one that goes by mails, the answer of its row, with the number of the frame that brought it; a change of state,
+-- its outcome, with that number
 pub data Came : Type 0 where
-  anew : Came
   state : Option (Outcome Reply × ℕ) → Came
   mails : Option (Reply × ℕ) → Came
 
@@ -49,33 +49,60 @@ abbrev pub scripted_mails : Bool → ℕ → Option (Reply × ℕ) → List Scri
 scripted_mails true frame answer more = more
 scripted_mails false frame answer more = record { frame = frame; came = Came.mails answer } ∷ more
 
--- a change of state, by whether it returns its slave to Init
-abbrev pub change_came : Bool → Option (Outcome Reply × ℕ) → Came
-change_came true outcome = Came.anew
-change_came false outcome = Came.state outcome
+-- a change of state that returned its slave to Init reached its state with the frame that opened the slave anew, where one did
+abbrev pub reached_at : Option ℕ → Option (Outcome Reply × ℕ)
+reached_at None = None
+reached_at (Some frame) = Some (Outcome.Reached, frame)
 
--- a service and those behind it, with the answers of those that go by mails, and the changes of state that are over
-abbrev pub scripted_by : Service Asked → ℕ → List (Option (Reply × ℕ)) → List (Change Reply) → (List (Option (Reply × ℕ)) → List (Change Reply) → List Scripted) → List Scripted
-scripted_by (Service.State target) frame answers changes more = record { frame = frame; came = change_came (returns_to_init target) (first_change changes) } ∷ more answers (changes_behind changes)
-scripted_by (Service.Mails q) frame [] changes more = scripted_mails (is_packet (Service.Mails q)) frame None (more [] changes)
-scripted_by (Service.Mails q) frame (answer ∷ answers) changes more = scripted_mails (is_packet (Service.Mails q)) frame answer (more answers changes)
+-- THE OUTCOME OF A CHANGE OF STATE: that which its epoch has; where it has none, and the change returns its slave to Init, it is reached by the frame that
+-- opened the slave anew
+abbrev pub change_outcome : Bool → Option ℕ → Option (Outcome Reply × ℕ) → Option (Outcome Reply × ℕ)
+change_outcome returns anew (Some o) = Some o
+change_outcome returns anew None = if returns then reached_at anew else None
+
+-- a service and those behind it, with the frame that opened the slave anew, the answers of those that go by mails, and the changes of state that are over
+abbrev pub scripted_by : Option ℕ → Service Asked → ℕ → List (Option (Reply × ℕ)) → List (Change Reply) → (List (Option (Reply × ℕ)) → List (Change Reply) → List Scripted) → List Scripted
+scripted_by anew (Service.State target) frame answers changes more =
+    record { frame = frame; came = Came.state (change_outcome (returns_to_init target) anew (first_change changes)) } ∷ more answers (changes_behind changes)
+scripted_by anew (Service.Mails q) frame [] changes more = scripted_mails (is_packet (Service.Mails q)) frame None (more [] changes)
+scripted_by anew (Service.Mails q) frame (answer ∷ answers) changes more = scripted_mails (is_packet (Service.Mails q)) frame answer (more answers changes)
 
 -- THE SCRIPTED SERVICES among those that came into hand, each that goes by mails with the answer of its row, and each change of state with its outcome;
 -- packets are left out
-abbrev pub scripted_in : List (Started Asked) → List (Option (Reply × ℕ)) → List (Change Reply) → List Scripted
-scripted_in [] answers changes = []
-scripted_in (s ∷ ss) answers changes = scripted_by s.service s.frame answers changes (λ more others. scripted_in ss more others)
+abbrev pub scripted_in : Option ℕ → List (Started Asked) → List (Option (Reply × ℕ)) → List (Change Reply) → List Scripted
+scripted_in anew [] answers changes = []
+scripted_in anew (s ∷ ss) answers changes = scripted_by anew s.service s.frame answers changes (λ more others. scripted_in anew ss more others)
 
--- of an epoch, of several, and over a whole life
-abbrev pub era_scripted : Era Body Asked Reply → List Scripted
-era_scripted e = scripted_in e.account.started (side_answers e.side) e.account.over
+-- a slave was given up at a frame from one on and before another
+abbrev pub gave_between : ℕ → ℕ → List ℕ → Bool
+gave_between from until [] = false
+gave_between from until (frame ∷ gave) = if nat_le from frame && nat_lt frame until then true else gave_between from until gave
 
-abbrev pub eras_scripted : List (Era Body Asked Reply) → List Scripted
-eras_scripted [] = []
-eras_scripted (e ∷ es) = era_scripted e ++ eras_scripted es
+-- THE FRAME THAT OPENED A SLAVE ANEW behind an epoch, by the frames that opened this one and the next: where the slave was given up between these, it
+-- didn't come to that by itself
+abbrev pub anew_until : List ℕ → Option ℕ → ℕ → Option ℕ
+anew_until gave None until = None
+anew_until gave (Some from) until = if gave_between from until gave then None else Some until
 
+abbrev pub opened_anew : List ℕ → Option ℕ → Option ℕ → Option ℕ
+opened_anew gave from None = None
+opened_anew gave from (Some until) = anew_until gave from until
+
+-- of an epoch; and of several, with what opened the one behind them
+abbrev pub era_scripted : Option ℕ → Era Body Asked Reply → List Scripted
+era_scripted anew e = scripted_in anew e.account.started (side_answers e.side) e.account.over
+
+abbrev pub next_opened : List (Era Body Asked Reply) → Option ℕ → Option ℕ
+next_opened [] behind = behind
+next_opened (e ∷ es) behind = e.opened
+
+abbrev pub eras_scripted : List ℕ → List (Era Body Asked Reply) → Option ℕ → List Scripted
+eras_scripted gave [] behind = []
+eras_scripted gave (e ∷ es) behind = era_scripted (opened_anew gave e.opened (next_opened es behind)) e ++ eras_scripted gave es behind
+
+-- over a whole life: behind the newest epoch nothing is opened yet
 abbrev pub life_scripted : Life Body Asked Reply → List Scripted
-life_scripted l = eras_scripted l.past ++ era_scripted l.era
+life_scripted l = eras_scripted l.gave l.past l.era.opened ++ era_scripted None l.era
 
 -- a scripted service as it is noted: the number of the frame before which it came into hand, and the reply, where one is reported, with its frame
 pub record Noted : Type 0 where
@@ -95,7 +122,6 @@ outcome_reply (Some o) = Some (reply_by o.0, o.1)
 
 -- JUST WHAT A SERVICE HAS COME TO is reported: its reply, with its frame, or none where it has none
 abbrev pub IsReported : Came → Option (Reply × ℕ) → Type 0
-IsReported Came.anew reply = ⊤
 IsReported (Came.state outcome) reply = reply ≡ outcome_reply outcome
 IsReported (Came.mails answer) reply = reply ≡ answer
 
@@ -154,12 +180,26 @@ pub record Changes (e : Era Body Asked Reply) : Type 0 where
   pub hand : e.account.hand ≡ Some duty
   pub row : RowRests e.side.now
 
--- THE NEWEST SERVICE RETURNS ITS SLAVE TO INIT, which isn't open yet again
+-- the epochs of a slave that is opened behind which the next one opens: where it is leaving, the newest is over too
+abbrev pub eras_over : Life Body Asked Reply → List (Era Body Asked Reply)
+eras_over l = if is_leaving l.stand then l.past ++ l.era ∷ [] else l.past
+
+-- what their services come to, if this frame opens the next
+abbrev pub over_scripted : Life Body Asked Reply → Option ℕ → List Scripted
+over_scripted l behind = eras_scripted l.gave (eras_over l) behind
+
+-- THE NEWEST SERVICE RETURNS ITS SLAVE TO INIT, which isn't open yet again, and wasn't given up since: the frame that opens it is its outcome's
 pub record ComesAnew (l : Life Body Asked Reply) : Type 0 where
   pub front : List Scripted
   pub frame : ℕ
-  pub whole : life_scripted l ≡ front ++ record { frame = frame; came = Came.anew } ∷ []
+  pub whole : life_scripted l ≡ front ++ record { frame = frame; came = Came.state None } ∷ []
+  pub opens : (g : ℕ) → over_scripted l (Some g) ≡ front ++ record { frame = frame; came = Came.state (reached_at (Some g)) } ∷ []
   pub away : is_open l.stand ≡ false
+
+-- NOTHING IS AWAITED of a slave: where it is open, nothing is in hand; where it is opened, no service comes to more by that
+pub record IsStill (l : Life Body Asked Reply) : Type 0 where
+  pub rests : l.stand ≡ Stand.Open → RestsSo l.era
+  pub opens : (o : Opening) → l.stand ≡ Stand.Opens o → (g : ℕ) → All (λ k. k < g) l.gave → over_scripted l (Some g) ≡ over_scripted l None
 
 -- of a slave that is open
 pub record IsAwaiting (a : Leads) : Type 0 where
@@ -178,22 +218,34 @@ pub data Waits : Type 0 where
   change : Waits
 
 abbrev pub StandsBy : Waits → Leads → Type 0
-StandsBy Waits.nothing a = a.lived.life.stand ≡ Stand.Open → RestsSo a.lived.life.era
+StandsBy Waits.nothing a = IsStill a.lived.life
 StandsBy Waits.reply a = IsAwaiting a
 StandsBy Waits.change a = IsGoing a.lived.life ⊎ ComesAnew a.lived.life
 
--- an epoch is new until its slave is open
-abbrev pub FreshBy : Stand → Era Body Asked Reply → Type 0
-FreshBy (Stand.Opens o) e = is_leaving (Stand.Opens o) ≡ false → (e.side ≡ new_side) × (e.account ≡ new_account)
-FreshBy Stand.Open e = ⊤
-FreshBy Stand.Gone e = ⊤
+-- an epoch that isn't open yet
+pub record IsNew (e : Era Body Asked Reply) : Type 0 where
+  pub side : e.side ≡ new_side
+  pub account : e.account ≡ new_account
+  pub opened : e.opened ≡ None
+
+-- since an epoch was opened its slave wasn't given up
+pub record IsSpared (gave : List ℕ) (e : Era Body Asked Reply) : Type 0 where
+  pub from : ℕ
+  pub opened : e.opened ≡ Some from
+  pub before : All (λ k. k < from) gave
+
+-- an epoch is new until its slave is open, and goes on until it is given up
+abbrev pub FreshBy : Stand → List ℕ → Era Body Asked Reply → Type 0
+FreshBy (Stand.Opens o) gave e = is_leaving (Stand.Opens o) ≡ false → IsNew e
+FreshBy Stand.Open gave e = IsSpared gave e
+FreshBy Stand.Gone gave e = ⊤
 
 -- WHAT IS NOTED OF A SLAVE: how many scripted services came into hand, which, and what each was answered; and what is awaited of the newest
 pub record IsNoted (a : Leads) (waits : Waits) (number : ℕ) (ns : List Noted) : Type 0 where
   pub many : number ≡ a.number
   pub beside : mails_in (services_in a.lived.life.era.account.started) ≡ length (side_answers a.lived.life.era.side)
   pub noted : AllNoted (life_scripted a.lived.life) ns
-  pub fresh : FreshBy a.lived.life.stand a.lived.life.era
+  pub fresh : FreshBy a.lived.life.stand a.lived.life.gave a.lived.life.era
   pub stands : StandsBy waits a
 
 -- the slave behind what came into hand before a frame

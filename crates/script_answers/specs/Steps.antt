@@ -1,7 +1,8 @@
 -- WHAT A FRAME LEAVES OF WHAT IS NOTED OF A SLAVE: before it, behind its return, and behind its loss.
-use Rattle.std.specs.Prelude.{◌≡◌, ◌⊎◌, ◌≤◌, ℕ, suc, not, Bool, true, false, nat_lt, is_some, if◌then◌else◌, Option, Some, None, List, [], ◌∷◌, ◌++◌, length}
+use Rattle.std.specs.Prelude.{◌≡◌, ◌⊎◌, ◌<◌, ℕ, suc, Bool, true, false, nat_lt, is_some, Option, Some, None, List, [], ◌∷◌, ◌++◌, ⊤}
+use Rattle.std.specs.List.{All}
 use Rattle.life_runs.specs.Spans.{is_open, SameEpochs, EpochsBack, EpochsLost}
-use Rattle.life_model.specs.Lives.{Stand}
+use Rattle.life_model.specs.Lives.{Era, Life, Stand}
 use Rattle.life_runs.specs.Led.{Leads}
 use Rattle.master_duty.specs.Reply.{Reply}
 use Rattle.segment_model.specs.Ends.{Outcome}
@@ -36,6 +37,17 @@ with_begun made ns = ns ++ record { frame = made; reply = None } ∷ []
 abbrev pub with_reply : List Noted → ℕ → Option (Reply × ℕ) → List Noted
 with_reply ns frame reply = ns ++ record { frame = frame; reply = reply } ∷ []
 
+-- an epoch was opened before a frame, if it was
+abbrev pub OpenedBefore : ℕ → Option ℕ → Type 0
+OpenedBefore made None = ⊤
+OpenedBefore made (Some frame) = frame < made
+
+-- ALL THAT STANDS IN A LIFE was before a frame: the frames that opened its epochs, and those at which it was given up
+pub record IsBefore (made : ℕ) (l : Life Body Asked Reply) : Type 0 where
+  pub past : All (λ (e : Era Body Asked Reply). OpenedBefore made e.opened) l.past
+  pub era : OpenedBefore made l.era.opened
+  pub gave : All (λ k. k < made) l.gave
+
 -- BEFORE A FRAME: where the script went on, one service more; which of both kinds the account's hand tells
 pub record Turns (made : ℕ) (b : Leads) (waits : Waits) (number : ℕ) (ns : List Noted) : Type 0 where
   pub same : nat_lt number b.number ≡ false → IsNoted b waits number ns
@@ -52,6 +64,7 @@ pub record TurnsSo (made : ℕ) (a b : Leads) : Type 0 where
   pub gave : gives b ≡ gives a
   pub goes : GoesOn a b
   pub epochs : SameEpochs a.lived.life b.lived.life
+  pub before : IsBefore made a.lived.life → IsBefore made b.lived.life
 
 -- the same script, and so many of it that came into hand
 pub record SameScript (a b : Leads) : Type 0 where
@@ -79,7 +92,8 @@ pub record ChangePasses (made : ℕ) (a b : Leads) : Type 0 where
   pub ends : (number : ℕ) (front : List Noted) (frame : ℕ) (outcome : Outcome Reply) → opened a ≡ true → opened b ≡ true → (account_of b).hand ≡ None → EndedSo (account_of b).over outcome →
       IsNoted a Waits.change number (with_begun frame front) → IsNoted b Waits.nothing number (with_reply front frame (Some (reply_by outcome, made)))
   pub some : (number : ℕ) (ns : List Noted) → IsNoted a Waits.change number ns → opened a ≡ true → opened b ≡ true → (account_of b).hand ≡ None → (account_of b).over ≡ [] → ⊥
-  pub anew : (number : ℕ) (front : List Noted) (frame : ℕ) (reply : Option (Reply × ℕ)) → opened a ≡ false → opened b ≡ true → IsNoted a Waits.change number (with_begun frame front) → IsNoted b Waits.nothing number (with_reply front frame reply)
+  pub anew : (number : ℕ) (front : List Noted) (frame : ℕ) → opened a ≡ false → opened b ≡ true →
+      IsNoted a Waits.change number (with_begun frame front) → IsNoted b Waits.nothing number (with_reply front frame (Some (reply_by Outcome.Reached, made)))
 
 -- BEHIND A RETURN, of whatever is noted
 pub record PassesSo (made : ℕ) (a b : Leads) : Type 0 where
@@ -89,6 +103,7 @@ pub record PassesSo (made : ℕ) (a b : Leads) : Type 0 where
   pub gave : gives b ≡ gives a
   pub same : SameScript a b
   pub epochs : EpochsBack made a.lived.life b.lived.life
+  pub before : IsBefore (suc made) b.lived.life
 
 -- BEHIND A LOSS: it goes on so, where the slave isn't given up; and else nothing is awaited any more
 pub record LosesSo (made : ℕ) (a b : Leads) : Type 0 where
@@ -97,3 +112,4 @@ pub record LosesSo (made : ℕ) (a b : Leads) : Type 0 where
   pub gave : (gives b ≡ gives a) ⊎ (gives b ≡ gives a ++ made ∷ [])
   pub same : SameScript a b
   pub epochs : EpochsLost a.lived.life b.lived.life
+  pub before : IsBefore (suc made) b.lived.life
