@@ -9,6 +9,13 @@ use Rattle.master_tour.specs.declared.tour.Tour as Tours
 use Rattle.master_side.specs.declared.hand.Hand.{Ghosts}
 use Rattle.master_tour.specs.Goes.{is_live, holds_at}
 use Rattle.master_tour.specs.Made.{is_in}
+use Rattle.std.specs.Prelude.{filter, cond}
+use Rattle.std.proofs.Common.{◌-◌, length-append}
+use Rattle.std.proofs.lemmas.Bool.{ltb-true, ltb-false}
+use Rattle.master_side.specs.Again.{HasNoRoom, area_of, larger}
+use Rattle.master_node.specs.Rooms.{LeavesFull, area_at, area_in}
+use Rattle.master_tour.specs.Orders.{places_from, round_left, start_of}
+use Rattle.master_tour.specs.Toured.{LeavesOut}
 use Rattle.master_tour.specs.Orders.{visits_left, visited_of, is_fixed, AreOnce, IsCarried}
 use Rattle.master_tour.specs.Toured.{Tour, HaveFrom, Carries, AreFirst, IsOfTour, has_number, visit_of, visit_on}
 use Rattle.master_tour.specs.Walks.{StepsAt, EachPair}
@@ -19,7 +26,15 @@ use Rattle.master_node.specs.Toured.{stop_share, turn_share, again_of, tour_of, 
 use Rattle.master_node.specs.Shows.{IsUnder}
 use Rattle.frame_view.specs.View.{Lens}
 use Rattle.life_frames.specs.Shares.{AllBoth}
-use Rattle.life_runs.specs.Led.{Turn}
+use Rattle.life_runs.specs.Led.{Leads, Turn}
+use Rattle.life_frames.specs.Shares.{AllFrom, Lived}
+use Rattle.life_model.specs.Lives.{Spot}
+use Rattle.mailbox_master.specs.Any.{in_area_len}
+use Rattle.master_duty.specs.Reply.{Reply}
+use Rattle.master_hand.specs.Spoken.{Asked}
+use Rattle.master_tour.specs.Made.{IsPlanned}
+use Rattle.master_node.specs.Shows.{lived_of}
+use Rattle.std.specs.Prelude.{map}
 use Rattle.master_tour.specs.Goes.{opened_behind}
 use Rattle.master_tour.specs.Orders.{last_behind}
 use Rattle.master_tour.specs.Toured.{goes_on, lost_on}
@@ -182,19 +197,97 @@ whole m = go m.tour.again
     go true = refl
     go false = refl
 
-pub visiting_last : (m n : MasterNode) → Visiting m n → HasVisited m n
-visiting_last m n v = record { places = v.places; rest = left_of m n.tour.passed; count = v.count; long = v.long; carries = v.carries; split = sym (whole m) ∙ v.split; comes = v.comes }
+-- WHAT THE FRAME LEAVES OUT of a round: nothing, or it has no room for the first left out
+pub leaves_none : {G : Ghosts InHand} (octets : List ℕ) (ss : List (Stop InHand G)) (again : Bool) (rest : List ℕ) → (again ≡ false → rest ≡ []) → LeavesFull octets ss again rest
+leaves_none octets ss true [] h = tt
+leaves_none octets ss true (p ∷ ps) h = tt
+leaves_none octets ss false rest h = subst (λ z. LeavesFull octets ss false z) (sym (h refl)) tt
 
-pub visiting_same : (m n o : MasterNode) → SameTour n o → Visiting m n → HasVisited m o
-visiting_same m n o k v = record {
+pub leaves_one : {G : Ghosts InHand} (octets : List ℕ) (ss : List (Stop InHand G)) (again : Bool) (p : ℕ) (ps : List ℕ) → (holds_at (λ s. is_live s.stand) ss p ≡ true → HasNoRoom octets (area_in ss p)) → LeavesFull octets ss again (p ∷ ps)
+leaves_one octets ss true p ps h = tt
+leaves_one octets ss false p ps h = h
+
+-- a visit has no more slaves than there are
+filter_fewer : (live : ℕ → Bool) (xs : List ℕ) → length (filter live xs) ≤ length xs
+filter_fewer live [] = omega arith
+filter_fewer live (x ∷ xs) = go (live x)
+  where
+    go : (z : Bool) → length (cond z (x ∷ filter live xs) (filter live xs)) ≤ suc (length xs)
+    go true = let l = filter_fewer live xs in omega (arith, l)
+    go false = let l = filter_fewer live xs in omega (arith, l)
+
+places_long : (start count k n : ℕ) → length (places_from start count k n) ≡ n
+places_long start count k zero = refl
+places_long start count k (suc n) = ap suc (places_long start count (suc k) n)
+
+visit_fewer : (live : ℕ → Bool) (opened count : ℕ) (last : Option ℕ) (visit : List ℕ) → count ≤ 16 → length (visited_of (is_fixed false opened count) live (visits_left false visit opened count last 0)) ≤ 16
+visit_fewer live opened count last visit few = go (nat_lt opened count)
+  where
+    go : (z : Bool) → length (visited_of z live (if z then opened ∷ [] else round_left (start_of count last) count 0)) ≤ 16
+    go true = omega arith
+    go false = let a = filter_fewer live (round_left (start_of count last) count 0) in let b = places_long (start_of count last) count 0 (count - 0) in omega (arith, a, b, few)
+
+pub few_stops : (m : MasterNode) → length m.tour.stops.items ≤ 16
+few_stops m = let a = m.paired in let b = m.few in let c = m.tour.stops.ok.0 in omega (arith, a, b, c)
+
+-- behind sixteen datagrams none is left of a round
+pub none_left : (m : MasterNode) (places rest : List ℕ) → length m.tour.stops.items ≤ 16 → left_of m 0 ≡ places ++ rest → 16 ≤ length places → m.tour.again ≡ false → rest ≡ []
+none_left m places rest few split many e =
+    let live = λ (k : ℕ). holds_at (λ s. is_live s.stand) m.tour.stops.items k in
+    let whole = subst (λ z. length (visited_of (is_fixed z m.tour.opened (length m.tour.stops.items)) live (visits_left z m.tour.visit.items m.tour.opened (length m.tour.stops.items) m.tour.last 0)) ≤ 16) (sym e)
+        (visit_fewer live m.tour.opened (length m.tour.stops.items) m.tour.last m.tour.visit.items few) in
+    let both = ap length split ∙ length-append places rest in
+    go rest (omega (arith, whole, both, many))
+  where
+    go : (xs : List ℕ) → length xs ≤ 0 → xs ≡ []
+    go [] l = refl
+    go (x ∷ xs) l = absurd (omega (arith, l))
+
+pub visiting_last : (octets : List ℕ) (m n : MasterNode) → length m.tour.stops.items ≤ 16 → 16 ≤ n.tour.count → Visiting m n → HasVisited octets m n
+visiting_last octets m n few many v = record {
+  places = v.places;
+  rest = left_of m n.tour.passed;
+  count = v.count;
+  long = v.long;
+  alive = v.live;
+  carries = v.carries;
+  split = sym (whole m) ∙ v.split;
+  comes = v.comes;
+  leaves = leaves_none octets n.tour.stops.items m.tour.again (left_of m n.tour.passed) (none_left m v.places (left_of m n.tour.passed) few v.split (let e = v.count in omega (arith, e, many)));
+}
+
+left_same : (again : Bool) (visit visit' : List ℕ) (opened count : ℕ) (last : Option ℕ) (passed : ℕ) → (again ≡ true → visit' ≡ visit) → visits_left again visit' opened count last passed ≡ visits_left again visit opened count last passed
+left_same true visit visit' opened count last passed e = ap (λ z. visits_left true z opened count last passed) (e refl)
+left_same false visit visit' opened count last passed e = refl
+
+-- the visits that are left, by the tour as it stands now
+abbrev pub left_now : MasterNode → ℕ → List ℕ
+left_now n passed = visited_of (is_fixed n.tour.again n.tour.opened (length n.tour.stops.items)) (λ j. holds_at (λ s. is_live s.stand) n.tour.stops.items j) (visits_left n.tour.again n.tour.visit.items n.tour.opened (length n.tour.stops.items) n.tour.last passed)
+
+pub left_here : (m n : MasterNode) → Visiting m n → TourOn m n → (i : ℕ) → left_now n i ≡ left_of m i
+left_here m n v since i =
+    visited_same (is_fixed n.tour.again n.tour.opened (length n.tour.stops.items)) (λ j. holds_at (λ s. is_live s.stand) n.tour.stops.items j) (λ j. holds_at (λ s. is_live s.stand) m.tour.stops.items j)
+    (visits_left n.tour.again n.tour.visit.items n.tour.opened (length n.tour.stops.items) n.tour.last i) v.live
+    ∙ (λ j. visited_of (is_fixed (since.again j) (since.opened j) (v.long j)) (λ k. holds_at (λ s. is_live s.stand) m.tour.stops.items k) (visits_left (since.again j) n.tour.visit.items (since.opened j) (v.long j) (since.last j) i))
+    ∙ ap (visited_of (is_fixed m.tour.again m.tour.opened (length m.tour.stops.items)) (λ k. holds_at (λ s. is_live s.stand) m.tour.stops.items k)) (left_same m.tour.again m.tour.visit.items n.tour.visit.items m.tour.opened (length m.tour.stops.items) m.tour.last i
+    (λ e. v.comes ∙ ap (λ z. visit_on (again_of z m.tour.visit.items) v.places) e))
+
+pub visiting_same : (octets : List ℕ) (m n o : MasterNode) → length m.tour.stops.items ≤ 16 → TourOn m n → SameTour n o → (n.tour.count < 16 → n.tour.again ≡ false → left_now n n.tour.passed ≡ []) → Visiting m n → HasVisited octets m o
+visiting_same octets m n o few since k none v = record {
   places = v.places;
   rest = left_of m n.tour.passed;
   count = v.count ∙ sym k.count;
   long = ap (λ z. length z.items) k.stops ∙ v.long;
+  alive = λ j. ap (λ z. holds_at (λ s. is_live s.stand) z.items j) k.stops ∙ v.live j;
   carries = subst (λ z. Carries (λ s. stop_share s) z.items v.places) (sym k.stops) v.carries;
   split = sym (whole m) ∙ v.split;
   comes = ap (λ z. z.items) k.visit ∙ v.comes;
+  leaves = leaves_none octets o.tour.stops.items m.tour.again (left_of m n.tour.passed) (λ e. go e (nat_lt n.tour.count 16) refl);
 }
+  where
+    go : m.tour.again ≡ false → (z : Bool) → nat_lt n.tour.count 16 ≡ z → left_of m n.tour.passed ≡ []
+    go e true l = sym (left_here m n v since n.tour.passed) ∙ none (ltb-true n.tour.count 16 l) (since.again ∙ e)
+    go e false l = none_left m v.places (left_of m n.tour.passed) few v.split (let c = v.count in let g = ltb-false n.tour.count 16 l in omega (arith, c, g)) e
 
 -- where the tour stands once that is known: as before, but for the visits that were passed
 abbrev pub TourStops : Type 0
@@ -207,10 +300,6 @@ pub record IsDue (n : MasterNode) (t : TourStops) : Type 0 where
   pub visit : t.visit ≡ n.tour.visit
 
 -- ONE VISIT MORE, of the slave that comes next
-left_same : (again : Bool) (visit visit' : List ℕ) (opened count : ℕ) (last : Option ℕ) (passed : ℕ) → (again ≡ true → visit' ≡ visit) → visits_left again visit' opened count last passed ≡ visits_left again visit opened count last passed
-left_same true visit visit' opened count last passed e = ap (λ z. visits_left true z opened count last passed) (e refl)
-left_same false visit visit' opened count last passed e = refl
-
 more_on : (again : Bool) (visit cs : List ℕ) (p : ℕ) (old new : List ℕ) → old ≡ visit_on (again_of again visit) cs → IsCarried true again p old new → new ≡ visit_on (again_of again visit) (cs ++ p ∷ [])
 more_on true visit cs p old new e c = c ∙ e
 more_on false visit cs p old new e c = c ∙ ap (λ z. z ++ p ∷ []) e
@@ -224,18 +313,8 @@ module _ (m n n2 : MasterNode) (t1 : TourStops) (p : ℕ) (v : Visiting m n) (si
     (space : t1.count < 16) (passed : n2.tour.passed ≡ t1.passed)
     (takes : (t1.again ≡ false → length t1.visit.items < 16) → IsCarried (nat_lt t1.count n2.tour.count) t1.again p t1.visit.items n2.tour.visit.items)
     (shares : StepsAt (λ s t. TakesPart (nat_lt t1.count n2.tour.count) t1.count s t) p t1.stops.items n2.tour.stops.items) where
-  again_visit : m.tour.again ≡ true → n.tour.visit.items ≡ m.tour.visit.items
-  again_visit e = v.comes ∙ ap (λ z. visit_on (again_of z m.tour.visit.items) v.places) e
-
-  lefts : (i : ℕ) → visited_of (is_fixed n.tour.again n.tour.opened (length n.tour.stops.items)) (λ j. holds_at (λ s. is_live s.stand) n.tour.stops.items j) (visits_left n.tour.again n.tour.visit.items n.tour.opened (length n.tour.stops.items) n.tour.last i) ≡ left_of m i
-  lefts i =
-      visited_same (is_fixed n.tour.again n.tour.opened (length n.tour.stops.items)) (λ j. holds_at (λ s. is_live s.stand) n.tour.stops.items j) (λ j. holds_at (λ s. is_live s.stand) m.tour.stops.items j)
-      (visits_left n.tour.again n.tour.visit.items n.tour.opened (length n.tour.stops.items) n.tour.last i) v.live
-      ∙ (λ j. visited_of (is_fixed (since.again j) (since.opened j) (v.long j)) (λ k. holds_at (λ s. is_live s.stand) m.tour.stops.items k) (visits_left (since.again j) n.tour.visit.items (since.opened j) (v.long j) (since.last j) i))
-      ∙ ap (visited_of (is_fixed m.tour.again m.tour.opened (length m.tour.stops.items)) (λ k. holds_at (λ s. is_live s.stand) m.tour.stops.items k)) (left_same m.tour.again m.tour.visit.items n.tour.visit.items m.tour.opened (length m.tour.stops.items) m.tour.last i again_visit)
-
   here : left_of m 0 ≡ v.places ++ p ∷ left_of m t1.passed
-  here = v.split ∙ ap (λ z. v.places ++ z) (sym (lefts n.tour.passed) ∙ order ∙ ap (λ z. p ∷ z) (lefts t1.passed))
+  here = v.split ∙ ap (λ z. v.places ++ z) (sym (left_here m n v since n.tour.passed) ∙ order ∙ ap (λ z. p ∷ z) (left_here m n v since t1.passed))
 
   new : is_in p v.places ≡ false
   new = once_mid v.places p (left_of m t1.passed) (subst AreOnce here v.once)
@@ -264,6 +343,13 @@ module _ (m n n2 : MasterNode) (t1 : TourStops) (p : ℕ) (v : Visiting m n) (si
   long2 : length n2.tour.stops.items ≡ length m.tour.stops.items
   long2 = steps_long _ p t1.stops.items n2.tour.stops.items shares ∙ ap (λ z. length z.items) k.stops ∙ v.long
 
+  alive2 : (j : ℕ) → holds_at (λ s. is_live s.stand) n2.tour.stops.items j ≡ holds_at (λ s. is_live s.stand) m.tour.stops.items j
+  alive2 j = go (nat_lt t1.count n2.tour.count) shares ∙ ap (λ z. holds_at (λ s. is_live s.stand) z.items j) k.stops ∙ v.live j
+    where
+      go : (z : Bool) → StepsAt (λ s t. TakesPart z t1.count s t) p t1.stops.items n2.tour.stops.items → holds_at (λ s. is_live s.stand) n2.tour.stops.items j ≡ holds_at (λ s. is_live s.stand) t1.stops.items j
+      go true e = steps_holds (λ s. is_live s.stand) (λ s t. TakesPart true t1.count s t) p t1.stops.items n2.tour.stops.items (λ s t r. ap is_live r.0) e j
+      go false e = steps_holds (λ s. is_live s.stand) (λ s t. TakesPart false t1.count s t) p t1.stops.items n2.tour.stops.items (λ s t r. ap is_live r.0) e j
+
   -- it has the next datagram
   pub visiting_more : n2.tour.count ≡ t1.count + 1 → Visiting m n2
   visiting_more c =
@@ -274,7 +360,7 @@ module _ (m n n2 : MasterNode) (t1 : TourStops) (p : ℕ) (v : Visiting m n) (si
       record {
         places = v.places ++ p ∷ [];
         long = long2;
-        live = λ j. steps_holds (λ s. is_live s.stand) (λ s t. TakesPart true t1.count s t) p t1.stops.items n2.tour.stops.items (λ s t r. ap is_live r.0) part j ∙ ap (λ z. holds_at (λ s. is_live s.stand) z.items j) k.stops ∙ v.live j;
+        live = alive2;
         count = omega (arith, l, u, c);
         carries = carries_more t1.count p t1.stops.items n2.tour.stops.items v.places new carries1 count1 part;
         once = v.once;
@@ -287,17 +373,19 @@ module _ (m n n2 : MasterNode) (t1 : TourStops) (p : ℕ) (v : Visiting m n) (si
       more_long (x ∷ xs) = let e = more_long xs in omega (arith, e)
 
   -- the frame has no room for it
-  pub visiting_still : n2.tour.count ≡ t1.count → HasVisited m n2
-  visiting_still c =
+  pub visiting_still : (octets : List ℕ) → (holds_at (λ s. is_live s.stand) n2.tour.stops.items p ≡ true → HasNoRoom octets (area_in n2.tour.stops.items p)) → n2.tour.count ≡ t1.count → HasVisited octets m n2
+  visiting_still octets full c =
       let no = le-ltb t1.count n2.tour.count (omega (arith, c)) in
       record {
         places = v.places;
         rest = p ∷ left_of m t1.passed;
         count = count1 ∙ sym c;
         long = long2;
+        alive = alive2;
         carries = carries_still t1.count p t1.stops.items n2.tour.stops.items v.places new carries1 (subst (λ z. StepsAt (λ s t. TakesPart z t1.count s t) p t1.stops.items n2.tour.stops.items) no shares);
         split = sym (whole m) ∙ here;
         comes = kept_on m.tour.again p t1.visit.items n2.tour.visit.items (subst (λ z. IsCarried z m.tour.again p t1.visit.items n2.tour.visit.items) no carried) ∙ comes1;
+        leaves = leaves_one octets n2.tour.stops.items m.tour.again p (left_of m t1.passed) full;
       }
 
 -- THE FRAME IS OF THE TOUR as it stood before
@@ -308,7 +396,32 @@ visit_same live was count n again was_again opened was_opened last was_last h a 
     go (Some same) = refl
     go None = visited_same (nat_lt was_opened n) live was (visits_left false [] was_opened n was_last 0) h
 
-module _ (m m1 m2 : MasterNode) (h : HasVisited m1 m2) (again : m1.tour.again ≡ m.tour.again) (visit : m.tour.again ≡ true → m1.tour.visit.items ≡ m.tour.visit.items) (opened : m1.tour.opened ≡ m.tour.opened) (last : m1.tour.last ≡ m.tour.last) (missed : m1.tour.missed ≡ m.tour.missed) (on : TourOn m1 m2) where
+-- a slave of a round is live
+filter_live : (live : ℕ → Bool) (xs places : List ℕ) (p : ℕ) (ps : List ℕ) → filter live xs ≡ places ++ p ∷ ps → live p ≡ true
+filter_live live [] [] p ps e = absurd (cc)
+filter_live live [] (q ∷ places) p ps e = absurd (cc)
+filter_live live (x ∷ xs) places p ps e = go (live x) refl places e
+  where
+    go : (z : Bool) → live x ≡ z → (qs : List ℕ) → cond z (x ∷ filter live xs) (filter live xs) ≡ qs ++ p ∷ ps → live p ≡ true
+    go true h [] e = ap live (sym (let q : x ≡ p = cc in q)) ∙ h
+    go true h (q ∷ qs) e = filter_live live xs qs p ps (let w : filter live xs ≡ qs ++ p ∷ ps = cc in w)
+    go false h qs e = filter_live live xs qs p ps e
+
+visit_live : (live : ℕ → Bool) (opened count : ℕ) (last : Option ℕ) (places : List ℕ) (p : ℕ) (ps : List ℕ) → 1 ≤ length places → visit_of live count None opened last ≡ places ++ p ∷ ps → live p ≡ true
+visit_live live opened count last places p ps some e = go (nat_lt opened count) e
+  where
+    go : (z : Bool) → visited_of z live (if z then opened ∷ [] else round_left (start_of count last) count 0) ≡ places ++ p ∷ ps → live p ≡ true
+    go true e = let n = ap length e ∙ length-append places (p ∷ ps) in absurd (omega (arith, n, some))
+    go false e = filter_live live (round_left (start_of count last) count 0) places p ps e
+
+-- WHAT IT LEAVES OUT, by the length in its header and by the areas of the plan
+leaves_out : {G : Ghosts InHand} (octets : List ℕ) (ss : List (Stop InHand G)) (again : Bool) (visit rest : List ℕ) (size : ℕ) (area : ℕ → ℕ) → size ≡ length octets - 16 → ((k : ℕ) → area_in ss k ≡ area k) →
+    ((p : ℕ) (ps : List ℕ) → again ≡ false → rest ≡ p ∷ ps → holds_at (λ s. is_live s.stand) ss p ≡ true) → LeavesFull octets ss again rest → LeavesOut size area (again_of again visit) rest
+leaves_out octets ss again visit [] size area sized areas live l = tt
+leaves_out octets ss true visit (p ∷ ps) size area sized areas live l = tt
+leaves_out octets ss false visit (p ∷ ps) size area sized areas live l = let n = l (live p ps refl refl) in let a = areas p in omega (arith, n, a, sized)
+
+module _ (octets : List ℕ) (m m1 m2 : MasterNode) (h : HasVisited octets m1 m2) (again : m1.tour.again ≡ m.tour.again) (visit : m.tour.again ≡ true → m1.tour.visit.items ≡ m.tour.visit.items) (opened : m1.tour.opened ≡ m.tour.opened) (last : m1.tour.last ≡ m.tour.last) (missed : m1.tour.missed ≡ m.tour.missed) (on : TourOn m1 m2) where
   again_first : again_of m1.tour.again m1.tour.visit.items ≡ again_of m.tour.again m.tour.visit.items
   again_first = ap (λ z. again_of z m1.tour.visit.items) again ∙ go m.tour.again refl
     where
@@ -326,28 +439,37 @@ module _ (m m1 m2 : MasterNode) (h : HasVisited m1 m2) (again : m1.tour.again �
   pub tour_same : tour_of m2 ≡ tour_of m
   tour_same = λ i. record { again = again_same i; opened = (on.opened ∙ opened) i; last = (on.last ∙ last) i; missed = (on.missed ∙ missed) i }
 
-  pub of_tour : (live : ℕ → Bool) → ((k : ℕ) → holds_at (λ s. is_live s.stand) m1.tour.stops.items k ≡ live k) → (many : ℕ) → many ≡ m2.tour.count → 1 ≤ m2.tour.count → IsOfTour (λ s. stop_share s) live (tour_of m) m2.tour.stops.items many m2.tour.visit.items
-  of_tour live alive many is some = record {
+  first_rest : (live : ℕ → Bool) → ((k : ℕ) → holds_at (λ s. is_live s.stand) m1.tour.stops.items k ≡ live k) → visit_of live (length m2.tour.stops.items) (again_of m.tour.again m.tour.visit.items) m.tour.opened m.tour.last ≡ h.places ++ h.rest
+  first_rest live alive = sym (visit_same (λ k. holds_at (λ s. is_live s.stand) m1.tour.stops.items k) live (length m1.tour.stops.items) (length m2.tour.stops.items) (again_of m1.tour.again m1.tour.visit.items) (again_of m.tour.again m.tour.visit.items) m1.tour.opened m.tour.opened m1.tour.last m.tour.last alive (sym h.long) again_first opened last) ∙ h.split
+
+  pub of_tour : (live : ℕ → Bool) → ((k : ℕ) → holds_at (λ s. is_live s.stand) m1.tour.stops.items k ≡ live k) → ((k : ℕ) → holds_at (λ s. is_live s.stand) m2.tour.stops.items k ≡ live k) → (size : ℕ) (area : ℕ → ℕ) → size ≡ length octets - 16 → ((k : ℕ) → area_in m2.tour.stops.items k ≡ area k) →
+      (many : ℕ) → many ≡ m2.tour.count → 1 ≤ m2.tour.count → IsOfTour (λ s. stop_share s) live size area (tour_of m) m2.tour.stops.items many m2.tour.visit.items
+  of_tour live alive still size area sized areas many is some = record {
     places = h.places;
     whole = h.count ∙ sym is;
     carries = h.carries;
     first = record {
       rest = h.rest;
-      split = sym (visit_same (λ k. holds_at (λ s. is_live s.stand) m1.tour.stops.items k) live (length m1.tour.stops.items) (length m2.tour.stops.items) (again_of m1.tour.again m1.tour.visit.items) (again_of m.tour.again m.tour.visit.items) m1.tour.opened m.tour.opened m1.tour.last m.tour.last alive (sym h.long) again_first opened last) ∙ h.split;
+      split = first_rest live alive;
       some = let c = h.count in omega (arith, c, some);
     };
     comes = h.comes ∙ ap (λ z. visit_on z h.places) again_first;
+    leaves = leaves_out octets m2.tour.stops.items m.tour.again m.tour.visit.items h.rest size area sized areas
+        (λ p ps e r. still p ∙ visit_live live m.tour.opened (length m2.tour.stops.items) m.tour.last h.places p ps (let c = h.count in omega (arith, c, some))
+        (ap (λ z. visit_of live (length m2.tour.stops.items) (again_of z m.tour.visit.items) m.tour.opened m.tour.last) (sym e) ∙ first_rest live alive ∙ ap (λ z. h.places ++ z) r))
+        (subst (λ z. LeavesFull octets m2.tour.stops.items z h.rest) again h.leaves);
   }
 
 -- and by the lives of the slaves
-pub turns_tour : {G : Ghosts InHand} (lens : ℕ → Lens) (recover : ℕ) (octets : List ℕ) (live : ℕ → Bool) (t : Tour) (us : List Turn) (ss : List (Stop InHand G)) (many : ℕ) (visit : List ℕ) → AllBoth (λ u s. IsUnder lens recover octets u s) us ss → IsOfTour (λ s. stop_share s) live t ss many visit → IsOfTour (λ u. turn_share u) live t us many visit
-turns_tour lens recover octets live t us ss many visit e o = record {
+pub turns_tour : {G : Ghosts InHand} (lens : ℕ → Lens) (recover : ℕ) (octets : List ℕ) (live : ℕ → Bool) (size : ℕ) (area : ℕ → ℕ) (t : Tour) (us : List Turn) (ss : List (Stop InHand G)) (many : ℕ) (visit : List ℕ) → AllBoth (λ u s. IsUnder lens recover octets u s) us ss → IsOfTour (λ s. stop_share s) live size area t ss many visit → IsOfTour (λ u. turn_share u) live size area t us many visit
+turns_tour lens recover octets live size area t us ss many visit e o = record {
   places = o.places;
   whole = o.whole;
   carries = carries_same (λ s. stop_share s) (λ u. turn_share u) ss us o.places
       (λ test p. sym (both_holds (λ u s. IsUnder lens recover octets u s) (λ u. test (turn_share u)) (λ s. test (stop_share s)) (λ u s i. ap test (λ j. record { under = sym i.under j; at = sym i.at j })) us ss e p)) o.carries;
-  first = subst (λ z. AreFirst o.places (visit_of live z t.again t.opened t.last)) (sym (both_length (λ u s. IsUnder lens recover octets u s) us ss e)) o.first;
+  first = record { rest = o.first.rest; split = ap (λ z. visit_of live z t.again t.opened t.last) (both_length (λ u s. IsUnder lens recover octets u s) us ss e) ∙ o.first.split; some = o.first.some };
   comes = o.comes;
+  leaves = o.leaves;
 }
 
 -- WHERE IT STANDS BEHIND THE FRAME
@@ -375,6 +497,18 @@ counts_more n c (inr e) h = e
 -- the tour as the master has it
 abbrev tour_at : TourStops → Tour
 tour_at t = record { again = again_of t.again t.visit.items; opened = t.opened; last = t.last; missed = t.missed }
+
+-- THE AREAS OF THE SLAVES are those of the plan
+pub areas_from : {G : Ghosts InHand} (lens : ℕ → Lens) (P : ℕ → Lived Asked Reply → Stop InHand G → Type 0) → ((i : ℕ) (a : Lived Asked Reply) (s : Stop InHand G) → P i a s → area_of s.side ≡ larger (lens a.spot.station).out (lens a.spot.station).back) →
+    (n : ℕ) (as' : List Leads) (ss : List (Stop InHand G)) → AllFrom P n (map lived_of as') ss → (k : ℕ) → area_in ss k ≡ area_at lens as' k
+areas_from lens P h n [] [] e k = refl
+areas_from lens P h n [] (s ∷ ss) e k = absurd e
+areas_from lens P h n (a ∷ as') [] e k = absurd e
+areas_from lens P h n (a ∷ as') (s ∷ ss) e zero = h n a.lived s e.0
+areas_from lens P h n (a ∷ as') (s ∷ ss) e (suc k) = areas_from lens P h (suc n) as' ss e.1 k
+
+pub area_planned : {G : Ghosts InHand} (lens : ℕ → Lens) (spot : Spot) (s : Stop InHand G) → IsPlanned lens spot s.side.station s.place s.start s.stand s.side.out.len (in_area_len s.side.inn) → area_of s.side ≡ larger (lens spot.station).out (lens spot.station).back
+area_planned lens spot s p = λ i. larger ((sym p.out_is ∙ ap (λ z. (lens z).out) p.stands.station_is) i) ((sym p.back_is ∙ ap (λ z. (lens z).back) p.stands.station_is) i)
 
 pub tour_by : (m n : MasterNode) (a : TourStops) → m.tour ≡ a → n.tour ≡ a → tour_of n ≡ tour_of m
 tour_by m n a d e = ap tour_at e ∙ sym (ap tour_at d)

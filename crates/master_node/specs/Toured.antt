@@ -8,6 +8,7 @@ use Rattle.master_tour.specs.Goes.{is_live, holds_at}
 use Rattle.master_tour.specs.Orders.{AreOnce}
 use Rattle.master_tour.specs.Toured.{Tour, Carries, visit_of, visit_on}
 use Rattle.master_tour.specs.declared.stop.Stop.{Stop}
+use Rattle.master_node.specs.Rooms.{LeavesFull}
 use Rattle.master_node.specs.declared.node.MasterNode.{MasterNode}
 
 -- a slave's share of the frame, by its place in the tour and by its life
@@ -43,12 +44,14 @@ pub record IsBare (m : MasterNode) : Type 0 where
   pub again : m.tour.again ≡ true → AreOnce m.tour.visit.items
   pub anew : m.tour.again ≡ false → m.tour.visit.items ≡ []
 
--- BEHIND THE LAST it carries the first slaves of its visit
-pub record HasVisited (m n : MasterNode) : Type 0 where
+-- BEHIND THE LAST it carries the first slaves of its visit, and leaves out none of a round that would fit
+pub record HasVisited (octets : List ℕ) (m n : MasterNode) : Type 0 where
   pub places : List ℕ
   pub rest : List ℕ
   pub count : length places ≡ n.tour.count
   pub long : length n.tour.stops.items ≡ length m.tour.stops.items
+  pub alive : (k : ℕ) → holds_at (λ s. is_live s.stand) n.tour.stops.items k ≡ holds_at (λ s. is_live s.stand) m.tour.stops.items k
   pub carries : Carries (λ s. stop_share s) n.tour.stops.items places
   pub split : visit_of (λ k. holds_at (λ s. is_live s.stand) m.tour.stops.items k) (length m.tour.stops.items) (again_of m.tour.again m.tour.visit.items) m.tour.opened m.tour.last ≡ places ++ rest
   pub comes : n.tour.visit.items ≡ visit_on (again_of m.tour.again m.tour.visit.items) places
+  pub leaves : LeavesFull octets n.tour.stops.items m.tour.again rest

@@ -6,7 +6,8 @@ use Rattle.master_node.proofs.Filleds.{fills_first, fills_last, fills_same, fill
 use Rattle.master_tour.specs.Walks.{EachPair}
 use Rattle.master_tour.proofs.Walks.{each_same}
 use Rattle.master_node.proofs.Lists.{each_trans}
-use Rattle.master_node.proofs.Toureds.{counts_more, visiting_first, visiting_more, visiting_still, visiting_same, visiting_last}
+use Rattle.std.proofs.Common.{ℕ}
+use Rattle.master_node.proofs.Toureds.{few_stops, counts_more, visiting_first, visiting_more, visiting_still, visiting_same, visiting_last}
 use Rattle.master_node.proofs.node.MasterNode.fill.Goals as goal
 
 pub returns-in_default-clause-on : goal.returns-in_default-clause-on
@@ -53,7 +54,7 @@ returns-clause-filled c = λ lens recover made as' d x.
     fills_last lens recover made as' c.loop.counter c.loop.self c.loop.into.items (let t = c.loop-test.false in omega (arith, t)) (c.loop.invariant.3 lens recover made as' d x)
 
 pub loop-init : goal.loop-init
-loop-init c = (c.requires, refl, on_same c.args.self.now, (λ lens recover made as' d x. fills_first lens recover made as' c.args.self.now c.args.into.now.items x), each_same _ c.args.self.now.tour.stops.items (λ s. refl), λ b. visiting_first c.args.self.now b)
+loop-init c = (c.requires, refl, on_same c.args.self.now, (λ lens recover made as' d x. fills_first lens recover made as' c.args.self.now c.args.into.now.items x), each_same _ c.args.self.now.tour.stops.items (λ s. refl), λ b. (visiting_first c.args.self.now b, b.count))
 
 pub loop-preserved : goal.loop-preserved
 loop-preserved c = (
@@ -81,9 +82,14 @@ loop-preserved c = (
       let v = c.visit.ensures in
       let p = c.in-Some.place in
       let is : c.due.result ≡ Some p = cc in
-      visiting_more c.args.self.now c.loop.self c.visit.new.self c.due.new.self p (c.loop.invariant.5 b) c.loop.invariant.2
-      (record { stops = e.stops; count = e.kept.0; again = e.kept.1; visit = e.kept.2 })
-      (e.order p is).1 (c.in-Some.ensures.few) v.on.1 v.visits v.shares (counts_more _ _ v.counts (let t = c.if-self-count.false in λ q. omega (arith, t, q))),
+      let more = counts_more _ _ v.counts (let t = c.if-self-count.false in λ q. omega (arith, t, q)) in
+      let was = (c.loop.invariant.5 b).1 in
+      let same = e.kept.0 in (
+        visiting_more c.args.self.now c.loop.self c.visit.new.self c.due.new.self p (c.loop.invariant.5 b).0 c.loop.invariant.2
+            (record { stops = e.stops; count = e.kept.0; again = e.kept.1; visit = e.kept.2 })
+            (e.order p is).1 (c.in-Some.ensures.few) v.on.1 v.visits v.shares more,
+        omega (arith, more, was, same),
+      ),
 )
 
 pub returns-in_default-clause-joins : goal.returns-in_default-clause-joins
@@ -105,7 +111,8 @@ returns-clause-joins c = c.loop.invariant.4
 pub returns-in_default-clause-visited : goal.returns-in_default-clause-visited
 returns-in_default-clause-visited c = λ b.
     let e = c.due.ensures in
-    visiting_same c.args.self.now c.loop.self _ (record { stops = e.stops; count = e.kept.0; again = e.kept.1; visit = e.kept.2; opened = e.kept.3; last = e.kept.4; made = refl; posts = refl }) (c.loop.invariant.5 b)
+    let none : c.due.result ≡ None = cc in
+    visiting_same c.loop.into.items c.args.self.now c.loop.self _ (few_stops c.args.self.now) c.loop.invariant.2 (record { stops = e.stops; count = e.kept.0; again = e.kept.1; visit = e.kept.2; opened = e.kept.3; last = e.kept.4; made = refl; posts = refl }) (e.none none) (c.loop.invariant.5 b).0
 
 pub returns-then-not-visit-clause-visited : goal.returns-then-not-visit-clause-visited
 returns-then-not-visit-clause-visited c = λ b.
@@ -114,12 +121,15 @@ returns-then-not-visit-clause-visited c = λ b.
     let p = c.in-Some.place in
     let is : c.due.result ≡ Some p = cc in
     let no : c.visit.result ≡ false = cc in
-    visiting_still c.args.self.now c.loop.self c.visit.new.self c.due.new.self p (c.loop.invariant.5 b) c.loop.invariant.2
+    visiting_still c.args.self.now c.loop.self c.visit.new.self c.due.new.self p (c.loop.invariant.5 b).0 c.loop.invariant.2
     (record { stops = e.stops; count = e.kept.0; again = e.kept.1; visit = e.kept.2 })
-    (e.order p is).1 (c.in-Some.ensures.few) v.on.1 v.visits v.shares (v.still no).0
+    (e.order p is).1 (c.in-Some.ensures.few) v.on.1 v.visits v.shares c.visit.new.into.items (v.room (v.still no).0) (v.still no).0
 
 pub returns-clause-visited : goal.returns-clause-visited
-returns-clause-visited c = λ b. visiting_last c.args.self.now c.loop.self (c.loop.invariant.5 b)
+returns-clause-visited c = λ b.
+    let many = (c.loop.invariant.5 b).1 in
+    let over = c.loop-test.false in
+    visiting_last c.loop.into.items c.args.self.now c.loop.self (few_stops c.args.self.now) (omega (arith, many, over)) (c.loop.invariant.5 b).0
 
 pub returns-then-self-count-clause-visited : goal.returns-then-self-count-clause-visited
 returns-then-self-count-clause-visited c = λ b.
@@ -128,8 +138,9 @@ returns-then-self-count-clause-visited c = λ b.
     let p = c.in-Some.place in
     let is : c.due.result ≡ Some p = cc in
     let same = c.if-self-count.true in
-    visiting_still c.args.self.now c.loop.self c.visit.new.self c.due.new.self p (c.loop.invariant.5 b) c.loop.invariant.2 (record { stops = e.stops; count = e.kept.0; again = e.kept.1; visit = e.kept.2 })
-    (e.order p is).1 (c.in-Some.ensures.few) v.on.1 v.visits v.shares (omega (arith, same))
+    let still : c.visit.new.self.tour.count ≡ c.due.new.self.count = omega (arith, same) in
+    visiting_still c.args.self.now c.loop.self c.visit.new.self c.due.new.self p (c.loop.invariant.5 b).0 c.loop.invariant.2 (record { stops = e.stops; count = e.kept.0; again = e.kept.1; visit = e.kept.2 })
+    (e.order p is).1 (c.in-Some.ensures.few) v.on.1 v.visits v.shares c.visit.new.into.items (v.room still) still
 
 pub returns-then-self-count-clause-filled : goal.returns-then-self-count-clause-filled
 returns-then-self-count-clause-filled c = λ lens recover made as' d x.

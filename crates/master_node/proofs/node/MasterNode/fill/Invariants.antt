@@ -19,4 +19,4 @@ invariant-loop l =
     ((ds : List Raw.Datagram) × IsBegun l.into.items ds) × (vec_len l.self.posts ≡ vec_len l.initial.self.posts) × TourOn l.initial.self l.self
     × ((lens : ℕ → Lens) (recover made : ℕ) (as' : List Leads) → AreDistinct (map lived_of as') → IsEmpty lens recover made l.initial.self l.initial.into.items as' → Fills lens recover made as' l.counter l.self l.into.items)
     × JoinsKept l.initial.self l.self
-    × (IsBare l.initial.self → Visiting l.initial.self l.self)
+    × (IsBare l.initial.self → Visiting l.initial.self l.self × (l.self.tour.count ≡ l.counter))

@@ -14,7 +14,9 @@ use Rattle.master_node.proofs.Sents.{stand_lives, each_holds, each_any, begins_l
 use Rattle.master_tour.proofs.Steps as Steps
 use Rattle.master_tour.proofs.Walks.{each_map}
 use Rattle.master_node.proofs.Lists.{each_trans}
-use Rattle.master_node.proofs.Toureds.{each_none, tour_same, of_tour}
+use Rattle.master_tour.specs.Sizes.{frame_size}
+use Rattle.master_node.specs.Rooms.{area_at}
+use Rattle.master_node.proofs.Toureds.{each_none, tour_same, of_tour, areas_from, area_planned}
 use Rattle.master_node.proofs.node.MasterNode.make.Goals as goal
 
 pub returns-clause-led : goal.returns-clause-led
@@ -64,6 +66,8 @@ returns-clause-led c = λ lens recover retry missed number as' some x.
     let octets = c.finish-some.new.frame.items in
     let is = sent_is lens octets z.datagrams z.frame in
     let begun = f.filling.begun in
+    let into = c.fill.new.into.items in
+    let areas = areas_from lens (λ i a s. StopFills lens recover number begun (c.fill.new.self.made % 256) f.left f.filling.frame.datagrams i a s) (λ i a s w. area_planned lens a.spot s w.lives.planned) 0 as' t2.stops.items f.filling.frame.each in
     let bare = Steps.from_map _ (λ n a s. is_in n f.left ≡ true → s.under ≡ false) (λ i a s w. w.bare) 0 as' t2.stops.items (from_map lived_of (λ i a s. StopFills lens recover number begun (c.fill.new.self.made % 256) f.left f.filling.frame.datagrams i a s) 0 as' t2.stops.items f.filling.frame.each) in (
       turns lens recover number begun octets z.datagrams is as' z.lives t2.stops.items,
       record { datagrams = z.datagrams; frame = z.frame; each = turns_all lens recover number begun octets z.datagrams is f.left 0 as' z.lives t2.stops.items f.filling.among z.each },
@@ -77,8 +81,8 @@ returns-clause-led c = λ lens recover retry missed number as' some x.
         retry_is = on.retry ∙ e.tour.4 ∙ x.retry_is;
         sent = sent_some lens octets z.datagrams z.frame;
       },
-      tour_same m _ c.fill.new.self v e.tour.0 visits e.tour.1 e.tour.2 e.tour.3 on,
-      of_tour m _ c.fill.new.self v e.tour.0 visits e.tour.1 e.tour.2 e.tour.3 on (λ k. holds_at is_live_lead as' k) alive (length (seen lens octets)) (sent_many lens octets f.filling.frame.datagrams (c.finish-some.ensures.reads yes f.filling.frame.datagrams f.filling.frame.begun f.filling.frame.long f.filling.frame.named) ∙ f.filling.frame.long) f.some,
+      tour_same into m _ c.fill.new.self v e.tour.0 visits e.tour.1 e.tour.2 e.tour.3 on,
+      of_tour into m _ c.fill.new.self v e.tour.0 visits e.tour.1 e.tour.2 e.tour.3 on (λ k. holds_at is_live_lead as' k) alive (λ k. v.alive k ∙ alive k) (frame_size octets) (λ k. area_at lens as' k) (c.finish-some.ensures.size yes) areas (length (seen lens octets)) (sent_many lens octets f.filling.frame.datagrams (c.finish-some.ensures.reads yes f.filling.frame.datagrams f.filling.frame.begun f.filling.frame.long f.filling.frame.named) ∙ f.filling.frame.long) f.some,
     )
 
 pub returns-clause-joins : goal.returns-clause-joins

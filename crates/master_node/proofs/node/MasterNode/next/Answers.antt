@@ -9,6 +9,8 @@ use Rattle.master_node.proofs.Toureds.{turns_tour, tour_by}
 use Rattle.master_node.specs.Shows.{is_live_lead}
 use Rattle.master_node.specs.Toured.{stop_share, tour_of}
 use Rattle.master_tour.specs.Toured.{IsOfTour}
+use Rattle.master_tour.specs.Sizes.{frame_size}
+use Rattle.master_node.specs.Rooms.{area_at}
 use Rattle.master_node.proofs.node.MasterNode.next.Goals as goal
 
 pub returns-clause-led : goal.returns-clause-led
@@ -31,6 +33,6 @@ returns-clause-toured c = λ h lens recover retry missed as' us x y.
     let w = c.make.ensures.led lens recover retry missed 0 as' (subst (λ z. list_any (λ s. is_live s.stand) z.stops.items ≡ true) (sym c.admit.ensures.same.1) (sym c.has_live.ensures ∙ live)) (shows_same lens recover retry missed as' _ n c.admit.ensures.same.1 c.admit.ensures.same.0 x) in
     let same : tour_of n ≡ tour_of m = tour_by m n m.tour refl c.admit.ensures.same.1 in (
       w.3 ∙ same,
-      turns_tour lens recover c.make.new.into.items (λ k. holds_at is_live_lead as' k) (tour_of m) us c.make.new.self.tour.stops.items (length (seen lens c.make.new.into.items)) c.make.new.self.tour.visit.items y.each
-          (subst (λ z. IsOfTour (λ s. stop_share s) (λ k. holds_at is_live_lead as' k) z c.make.new.self.tour.stops.items (length (seen lens c.make.new.into.items)) c.make.new.self.tour.visit.items) same w.4),
+      turns_tour lens recover c.make.new.into.items (λ k. holds_at is_live_lead as' k) (frame_size c.make.new.into.items) (λ k. area_at lens as' k) (tour_of m) us c.make.new.self.tour.stops.items (length (seen lens c.make.new.into.items)) c.make.new.self.tour.visit.items y.each
+          (subst (λ z. IsOfTour (λ s. stop_share s) (λ k. holds_at is_live_lead as' k) (frame_size c.make.new.into.items) (λ k. area_at lens as' k) z c.make.new.self.tour.stops.items (length (seen lens c.make.new.into.items)) c.make.new.self.tour.visit.items) same w.4),
     )
