@@ -22,3 +22,4 @@ pub mod Joineds
 pub mod Toureds
 pub mod Forwards
 pub mod Rooms
+pub mod Fits

@@ -13,7 +13,7 @@ use Rattle.master_tour.specs.declared.stop.Stop.{Stop}
 use Rattle.master_node.specs.Rooms.{SendsSame, area_in}
 
 pub sends_same : {G : Ghosts InHand} (s : Stop InHand G) → SendsSame s s
-sends_same s = record { out = refl; inn = refl; duty = refl; passing = refl; turn = refl; paused = refl; carried = refl; stand = refl; under = refl }
+sends_same s = record { out = refl; inn = refl; duty = refl; passing = refl; turn = refl; paused = refl; carried = refl; stand = refl }
 
 -- what is said of the slave at a place, if it is live
 pub steps_room : {G : Ghosts InHand} (octets : List ℕ) (p : ℕ) (xs ys : List (Stop InHand G)) → StepsAt (λ s t. is_live t.stand ≡ true → HasNoRoom octets (area_of t.side)) p xs ys → holds_at (λ s. is_live s.stand) ys p ≡ true → HasNoRoom octets (area_in ys p)

@@ -10,7 +10,13 @@ use Rattle.master_side.specs.declared.hand.Hand.{Ghosts}
 use Rattle.master_tour.specs.Goes.{is_live, holds_at}
 use Rattle.master_tour.specs.Made.{is_in}
 use Rattle.std.specs.Prelude.{filter, cond}
-use Rattle.std.proofs.Common.{◌-◌, length-append}
+use Rattle.std.proofs.Common.{◌-◌, append-nil, drop, length-append}
+use Rattle.std.specs.Prelude.{IfSome, slice_get}
+use Rattle.master_tour.specs.Rooms.{StopRepeats, stop_len}
+use Rattle.master_tour.proofs.Walks.{steps_both}
+use Rattle.master_node.specs.Rooms.{FitFrom, FitUnder, IsSentStop, Takes, len_in}
+use Rattle.master_node.proofs.Fits.{again_here, fit_else, fit_ends, fit_less, fit_more, fit_most, fit_wider, stays_here, way_here}
+use Rattle.master_node.proofs.Lists.{steps_map}
 use Rattle.std.proofs.lemmas.Bool.{ltb-true, ltb-false}
 use Rattle.master_side.specs.Again.{HasNoRoom, area_of, larger}
 use Rattle.master_node.specs.Rooms.{LeavesFull, area_at, area_in}
@@ -134,6 +140,10 @@ once_mid (x ∷ xs) p ys o = go (p == x) refl (once_mid xs p ys o.1)
     go true e r = absurd (true_false (is_in x (xs ++ p ∷ ys)) (in_last x xs (p ∷ ys) (in_here x p ys (eq-eqb x p (sym (eqb-true p x e))))) o.0)
     go false e r = not_in p (x ∷ xs) (λ t. true_false (is_in p xs) (sym (ap (λ (z : Bool). if z then true else is_in p xs) e) ∙ t) r)
 
+once_behind : (xs : List ℕ) (p : ℕ) (ys : List ℕ) → AreOnce (xs ++ p ∷ ys) → is_in p ys ≡ false
+once_behind [] p ys o = o.0
+once_behind (x ∷ xs) p ys o = once_behind xs p ys o.1
+
 differs : (q p : ℕ) (cs : List ℕ) → is_in q cs ≡ true → is_in p cs ≡ false → q ≡ p → ⊥
 differs q p cs a b e = true_false (is_in p cs) (subst (λ z. is_in z cs ≡ true) e a) b
 
@@ -162,7 +172,7 @@ abbrev pub left_of : MasterNode → ℕ → List ℕ
 left_of m passed = visited_of (is_fixed m.tour.again m.tour.opened (length m.tour.stops.items)) (λ k. holds_at (λ s. is_live s.stand) m.tour.stops.items k) (visits_left m.tour.again m.tour.visit.items m.tour.opened (length m.tour.stops.items) m.tour.last passed)
 
 -- BEHIND SO MANY VISITS
-pub record Visiting (m n : MasterNode) : Type 0 where
+pub record Visiting (octets : List ℕ) (m n : MasterNode) : Type 0 where
   pub places : List ℕ
   pub long : length n.tour.stops.items ≡ length m.tour.stops.items
   pub live : (k : ℕ) → holds_at (λ s. is_live s.stand) n.tour.stops.items k ≡ holds_at (λ s. is_live s.stand) m.tour.stops.items k
@@ -171,9 +181,16 @@ pub record Visiting (m n : MasterNode) : Type 0 where
   pub once : AreOnce (left_of m 0)
   pub split : left_of m 0 ≡ places ++ left_of m n.tour.passed
   pub comes : n.tour.visit.items ≡ visit_on (again_of m.tour.again m.tour.visit.items) places
+  pub way : FitFrom (λ s. IsSentStop s) n.tour.stops.items (length octets) 16 places
+  pub fits : m.tour.again ≡ true → FitFrom (λ s. StopRepeats s) n.tour.stops.items 1514 (length octets) (left_of m n.tour.passed)
+  pub few : m.tour.again ≡ true → length m.tour.visit.items ≤ 16
 
-pub visiting_first : (m : MasterNode) → IsBare m → Visiting m m
-visiting_first m b = record {
+-- where the same slaves come again
+left_again : (m : MasterNode) (i : ℕ) → m.tour.again ≡ true → left_of m i ≡ drop i m.tour.visit.items
+left_again m i e = ap (λ z. visited_of (is_fixed z m.tour.opened (length m.tour.stops.items)) (λ k. holds_at (λ s. is_live s.stand) m.tour.stops.items k) (visits_left z m.tour.visit.items m.tour.opened (length m.tour.stops.items) m.tour.last i)) e
+
+pub visiting_first : (octets : List ℕ) (m : MasterNode) → length octets ≡ 16 → IsBare m → Visiting octets m m
+visiting_first octets m short b = record {
   places = [];
   long = refl;
   live = λ k. refl;
@@ -182,6 +199,10 @@ visiting_first m b = record {
   once = visits_once (λ k. holds_at (λ s. is_live s.stand) m.tour.stops.items k) m.tour.again m.tour.visit.items m.tour.opened (length m.tour.stops.items) m.tour.last b.again;
   split = ap (left_of m) (sym b.passed);
   comes = go m.tour.again refl;
+  way = omega (arith, short);
+  fits = λ e. subst (λ n. FitFrom (λ s. StopRepeats s) m.tour.stops.items 1514 n (left_of m m.tour.passed)) (sym short)
+      (subst (λ z. FitFrom (λ s. StopRepeats s) m.tour.stops.items 1514 16 z) (sym (ap (left_of m) b.passed ∙ left_again m 0 e)) (b.fits e).fit);
+  few = λ e. (b.fits e).few;
 }
   where
     go : (z : Bool) → m.tour.again ≡ z → m.tour.visit.items ≡ visit_on (again_of m.tour.again m.tour.visit.items) []
@@ -198,14 +219,12 @@ whole m = go m.tour.again
     go false = refl
 
 -- WHAT THE FRAME LEAVES OUT of a round: nothing, or it has no room for the first left out
-pub leaves_none : {G : Ghosts InHand} (octets : List ℕ) (ss : List (Stop InHand G)) (again : Bool) (rest : List ℕ) → (again ≡ false → rest ≡ []) → LeavesFull octets ss again rest
-leaves_none octets ss true [] h = tt
-leaves_none octets ss true (p ∷ ps) h = tt
-leaves_none octets ss false rest h = subst (λ z. LeavesFull octets ss false z) (sym (h refl)) tt
+pub leaves_none : {G : Ghosts InHand} (octets : List ℕ) (ss : List (Stop InHand G)) (again : Bool) (rest : List ℕ) → rest ≡ [] → LeavesFull octets ss again rest
+leaves_none octets ss again rest h = subst (λ z. LeavesFull octets ss again z) (sym h) tt
 
-pub leaves_one : {G : Ghosts InHand} (octets : List ℕ) (ss : List (Stop InHand G)) (again : Bool) (p : ℕ) (ps : List ℕ) → (holds_at (λ s. is_live s.stand) ss p ≡ true → HasNoRoom octets (area_in ss p)) → LeavesFull octets ss again (p ∷ ps)
-leaves_one octets ss true p ps h = tt
-leaves_one octets ss false p ps h = h
+pub leaves_one : {G : Ghosts InHand} (octets : List ℕ) (ss : List (Stop InHand G)) (again : Bool) (p : ℕ) (ps : List ℕ) → (again ≡ true → ⊥) → (holds_at (λ s. is_live s.stand) ss p ≡ true → HasNoRoom octets (area_in ss p)) → LeavesFull octets ss again (p ∷ ps)
+leaves_one octets ss true p ps a h = absurd (a refl)
+leaves_one octets ss false p ps a h = h
 
 -- a visit has no more slaves than there are
 filter_fewer : (live : ℕ → Bool) (xs : List ℕ) → length (filter live xs) ≤ length xs
@@ -230,20 +249,26 @@ visit_fewer live opened count last visit few = go (nat_lt opened count)
 pub few_stops : (m : MasterNode) → length m.tour.stops.items ≤ 16
 few_stops m = let a = m.paired in let b = m.few in let c = m.tour.stops.ok.0 in omega (arith, a, b, c)
 
--- behind sixteen datagrams none is left of a round
-pub none_left : (m : MasterNode) (places rest : List ℕ) → length m.tour.stops.items ≤ 16 → left_of m 0 ≡ places ++ rest → 16 ≤ length places → m.tour.again ≡ false → rest ≡ []
-none_left m places rest few split many e =
-    let live = λ (k : ℕ). holds_at (λ s. is_live s.stand) m.tour.stops.items k in
-    let whole = subst (λ z. length (visited_of (is_fixed z m.tour.opened (length m.tour.stops.items)) live (visits_left z m.tour.visit.items m.tour.opened (length m.tour.stops.items) m.tour.last 0)) ≤ 16) (sym e)
-        (visit_fewer live m.tour.opened (length m.tour.stops.items) m.tour.last m.tour.visit.items few) in
+-- behind sixteen datagrams none is left
+pub none_left : (m : MasterNode) (places rest : List ℕ) → length m.tour.stops.items ≤ 16 → (m.tour.again ≡ true → length m.tour.visit.items ≤ 16) → left_of m 0 ≡ places ++ rest → 16 ≤ length places → rest ≡ []
+none_left m places rest few again split many =
+    let whole = most m.tour.again refl in
     let both = ap length split ∙ length-append places rest in
     go rest (omega (arith, whole, both, many))
   where
+    live : ℕ → Bool
+    live k = holds_at (λ s. is_live s.stand) m.tour.stops.items k
+
+    most : (z : Bool) → m.tour.again ≡ z → length (left_of m 0) ≤ 16
+    most true e = subst (λ z. length (visited_of (is_fixed z m.tour.opened (length m.tour.stops.items)) live (visits_left z m.tour.visit.items m.tour.opened (length m.tour.stops.items) m.tour.last 0)) ≤ 16) (sym e) (again e)
+    most false e = subst (λ z. length (visited_of (is_fixed z m.tour.opened (length m.tour.stops.items)) live (visits_left z m.tour.visit.items m.tour.opened (length m.tour.stops.items) m.tour.last 0)) ≤ 16) (sym e)
+        (visit_fewer live m.tour.opened (length m.tour.stops.items) m.tour.last m.tour.visit.items few)
+
     go : (xs : List ℕ) → length xs ≤ 0 → xs ≡ []
     go [] l = refl
     go (x ∷ xs) l = absurd (omega (arith, l))
 
-pub visiting_last : (octets : List ℕ) (m n : MasterNode) → length m.tour.stops.items ≤ 16 → 16 ≤ n.tour.count → Visiting m n → HasVisited octets m n
+pub visiting_last : (octets : List ℕ) (m n : MasterNode) → length m.tour.stops.items ≤ 16 → n.tour.count ≡ 16 → Visiting octets m n → HasVisited octets m n
 visiting_last octets m n few many v = record {
   places = v.places;
   rest = left_of m n.tour.passed;
@@ -253,7 +278,9 @@ visiting_last octets m n few many v = record {
   carries = v.carries;
   split = sym (whole m) ∙ v.split;
   comes = v.comes;
-  leaves = leaves_none octets n.tour.stops.items m.tour.again (left_of m n.tour.passed) (none_left m v.places (left_of m n.tour.passed) few v.split (let e = v.count in omega (arith, e, many)));
+  leaves = leaves_none octets n.tour.stops.items m.tour.again (left_of m n.tour.passed) (none_left m v.places (left_of m n.tour.passed) few v.few v.split (let e = v.count in omega (arith, e, many)));
+  most = omega (arith, many);
+  way = v.way;
 }
 
 left_same : (again : Bool) (visit visit' : List ℕ) (opened count : ℕ) (last : Option ℕ) (passed : ℕ) → (again ≡ true → visit' ≡ visit) → visits_left again visit' opened count last passed ≡ visits_left again visit opened count last passed
@@ -264,7 +291,7 @@ left_same false visit visit' opened count last passed e = refl
 abbrev pub left_now : MasterNode → ℕ → List ℕ
 left_now n passed = visited_of (is_fixed n.tour.again n.tour.opened (length n.tour.stops.items)) (λ j. holds_at (λ s. is_live s.stand) n.tour.stops.items j) (visits_left n.tour.again n.tour.visit.items n.tour.opened (length n.tour.stops.items) n.tour.last passed)
 
-pub left_here : (m n : MasterNode) → Visiting m n → TourOn m n → (i : ℕ) → left_now n i ≡ left_of m i
+pub left_here : {octets : List ℕ} (m n : MasterNode) → Visiting octets m n → TourOn m n → (i : ℕ) → left_now n i ≡ left_of m i
 left_here m n v since i =
     visited_same (is_fixed n.tour.again n.tour.opened (length n.tour.stops.items)) (λ j. holds_at (λ s. is_live s.stand) n.tour.stops.items j) (λ j. holds_at (λ s. is_live s.stand) m.tour.stops.items j)
     (visits_left n.tour.again n.tour.visit.items n.tour.opened (length n.tour.stops.items) n.tour.last i) v.live
@@ -272,8 +299,9 @@ left_here m n v since i =
     ∙ ap (visited_of (is_fixed m.tour.again m.tour.opened (length m.tour.stops.items)) (λ k. holds_at (λ s. is_live s.stand) m.tour.stops.items k)) (left_same m.tour.again m.tour.visit.items n.tour.visit.items m.tour.opened (length m.tour.stops.items) m.tour.last i
     (λ e. v.comes ∙ ap (λ z. visit_on (again_of z m.tour.visit.items) v.places) e))
 
-pub visiting_same : (octets : List ℕ) (m n o : MasterNode) → length m.tour.stops.items ≤ 16 → TourOn m n → SameTour n o → (n.tour.count < 16 → n.tour.again ≡ false → left_now n n.tour.passed ≡ []) → Visiting m n → HasVisited octets m o
-visiting_same octets m n o few since k none v = record {
+pub visiting_same : (octets : List ℕ) (m n o : MasterNode) → length m.tour.stops.items ≤ 16 → n.tour.count ≤ 16 → TourOn m n → SameTour n o → (n.tour.count < 16 → n.tour.again ≡ false → left_now n n.tour.passed ≡ []) →
+    (n.tour.count < 16 → n.tour.again ≡ true → IfSome (slice_get n.tour.visit.items n.tour.passed) (λ p. length n.tour.stops.items ≤ p)) → Visiting octets m n → HasVisited octets m o
+visiting_same octets m n o few most since k none ends v = record {
   places = v.places;
   rest = left_of m n.tour.passed;
   count = v.count ∙ sym k.count;
@@ -282,12 +310,22 @@ visiting_same octets m n o few since k none v = record {
   carries = subst (λ z. Carries (λ s. stop_share s) z.items v.places) (sym k.stops) v.carries;
   split = sym (whole m) ∙ v.split;
   comes = ap (λ z. z.items) k.visit ∙ v.comes;
-  leaves = leaves_none octets o.tour.stops.items m.tour.again (left_of m n.tour.passed) (λ e. go e (nat_lt n.tour.count 16) refl);
+  leaves = leaves_none octets o.tour.stops.items m.tour.again (left_of m n.tour.passed) (go (nat_lt n.tour.count 16) refl);
+  most = let e = k.count in omega (arith, e, most);
+  way = subst (λ z. FitFrom (λ s. IsSentStop s) z.items (length octets) 16 v.places) (sym k.stops) v.way;
 }
   where
-    go : m.tour.again ≡ false → (z : Bool) → nat_lt n.tour.count 16 ≡ z → left_of m n.tour.passed ≡ []
-    go e true l = sym (left_here m n v since n.tour.passed) ∙ none (ltb-true n.tour.count 16 l) (since.again ∙ e)
-    go e false l = none_left m v.places (left_of m n.tour.passed) few v.split (let c = v.count in let g = ltb-false n.tour.count 16 l in omega (arith, c, g)) e
+    by : n.tour.count < 16 → (z : Bool) → m.tour.again ≡ z → left_of m n.tour.passed ≡ []
+    by l false e = sym (left_here m n v since n.tour.passed) ∙ none l (since.again ∙ e)
+    by l true e =
+        let now = left_again n n.tour.passed (since.again ∙ e) in
+        sym (left_here m n v since n.tour.passed) ∙ now
+        ∙ fit_ends (λ s. StopRepeats s) n.tour.stops.items 1514 (length octets) n.tour.visit.items n.tour.passed (ends l (since.again ∙ e))
+        (subst (λ z. FitFrom (λ s. StopRepeats s) n.tour.stops.items 1514 (length octets) z) (sym (left_here m n v since n.tour.passed) ∙ now) (v.fits e))
+
+    go : (z : Bool) → nat_lt n.tour.count 16 ≡ z → left_of m n.tour.passed ≡ []
+    go true l = by (ltb-true n.tour.count 16 l) m.tour.again refl
+    go false l = none_left m v.places (left_of m n.tour.passed) few v.few v.split (let c = v.count in let g = ltb-false n.tour.count 16 l in omega (arith, c, g))
 
 -- where the tour stands once that is known: as before, but for the visits that were passed
 abbrev pub TourStops : Type 0
@@ -307,17 +345,31 @@ more_on false visit cs p old new e c = c ∙ ap (λ z. z ++ p ∷ []) e
 kept_on : (again : Bool) (p : ℕ) (old new : List ℕ) → IsCarried false again p old new → new ≡ old
 kept_on again p old new c = c
 
-module _ (m n n2 : MasterNode) (t1 : TourStops) (p : ℕ) (v : Visiting m n) (since : TourOn m n) (k : IsDue n t1)
+module _ (before behind : List ℕ) (m n n2 : MasterNode) (t1 : TourStops) (p : ℕ) (v : Visiting before m n) (since : TourOn m n) (k : IsDue n t1)
     (order : visited_of (is_fixed n.tour.again n.tour.opened (length n.tour.stops.items)) (λ j. holds_at (λ s. is_live s.stand) n.tour.stops.items j) (visits_left n.tour.again n.tour.visit.items n.tour.opened (length n.tour.stops.items) n.tour.last n.tour.passed)
     ≡ p ∷ visited_of (is_fixed n.tour.again n.tour.opened (length n.tour.stops.items)) (λ j. holds_at (λ s. is_live s.stand) n.tour.stops.items j) (visits_left n.tour.again n.tour.visit.items n.tour.opened (length n.tour.stops.items) n.tour.last t1.passed))
     (space : t1.count < 16) (passed : n2.tour.passed ≡ t1.passed)
     (takes : (t1.again ≡ false → length t1.visit.items < 16) → IsCarried (nat_lt t1.count n2.tour.count) t1.again p t1.visit.items n2.tour.visit.items)
-    (shares : StepsAt (λ s t. TakesPart (nat_lt t1.count n2.tour.count) t1.count s t) p t1.stops.items n2.tour.stops.items) where
+    (shares : StepsAt (λ s t. TakesPart (nat_lt t1.count n2.tour.count) t1.count s t) p t1.stops.items n2.tour.stops.items)
+    (gets : StepsAt (λ s t. Takes before behind (nat_lt t1.count n2.tour.count) s t) p t1.stops.items n2.tour.stops.items) where
   here : left_of m 0 ≡ v.places ++ p ∷ left_of m t1.passed
   here = v.split ∙ ap (λ z. v.places ++ z) (sym (left_here m n v since n.tour.passed) ∙ order ∙ ap (λ z. p ∷ z) (left_here m n v since t1.passed))
 
   new : is_in p v.places ≡ false
   new = once_mid v.places p (left_of m t1.passed) (subst AreOnce here v.once)
+
+  later : is_in p (left_of m t1.passed) ≡ false
+  later = once_behind v.places p (left_of m t1.passed) (subst AreOnce here v.once)
+
+  next : left_of m n.tour.passed ≡ p ∷ left_of m t1.passed
+  next = sym (left_here m n v since n.tour.passed) ∙ order ∙ ap (λ z. p ∷ z) (left_here m n v since t1.passed)
+
+  way1 : FitFrom (λ s. IsSentStop s) n2.tour.stops.items (length before) 16 v.places
+  way1 = fit_else (λ s. IsSentStop s) _ p t1.stops.items n2.tour.stops.items (length before) 16 v.places gets new (subst (λ z. FitFrom (λ s. IsSentStop s) z.items (length before) 16 v.places) (sym k.stops) v.way)
+
+  -- behind a lost frame
+  fits1 : m.tour.again ≡ true → FitFrom (λ s. StopRepeats s) t1.stops.items 1514 (length before) (p ∷ left_of m t1.passed)
+  fits1 e = subst (λ z. FitFrom (λ s. StopRepeats s) z.items 1514 (length before) (p ∷ left_of m t1.passed)) (sym k.stops) (subst (λ z. FitFrom (λ s. StopRepeats s) n.tour.stops.items 1514 (length before) z) next (v.fits e))
 
   carries1 : Carries (λ s. stop_share s) t1.stops.items v.places
   carries1 = subst (λ z. Carries (λ s. stop_share s) z.items v.places) (sym k.stops) v.carries
@@ -351,10 +403,11 @@ module _ (m n n2 : MasterNode) (t1 : TourStops) (p : ℕ) (v : Visiting m n) (si
       go false e = steps_holds (λ s. is_live s.stand) (λ s t. TakesPart false t1.count s t) p t1.stops.items n2.tour.stops.items (λ s t r. ap is_live r.0) e j
 
   -- it has the next datagram
-  pub visiting_more : n2.tour.count ≡ t1.count + 1 → Visiting m n2
+  pub visiting_more : n2.tour.count ≡ t1.count + 1 → Visiting behind m n2
   visiting_more c =
       let yes = lt-ltb t1.count n2.tour.count (omega (arith, c)) in
       let part = subst (λ z. StepsAt (λ s t. TakesPart z t1.count s t) p t1.stops.items n2.tour.stops.items) yes shares in
+      let sent = way_here before behind p t1.stops.items n2.tour.stops.items (steps_map _ (λ s t. IsSentStop t × (length behind ≡ length before + (12 + stop_len t))) p t1.stops.items n2.tour.stops.items (λ s t r. let w = r.1.way yes in ((r.0.1, w.0), w.1)) (steps_both _ _ p t1.stops.items n2.tour.stops.items part gets)) in
       let l = more_long v.places in
       let u = count1 in
       record {
@@ -365,6 +418,15 @@ module _ (m n n2 : MasterNode) (t1 : TourStops) (p : ℕ) (v : Visiting m n) (si
         carries = carries_more t1.count p t1.stops.items n2.tour.stops.items v.places new carries1 count1 part;
         once = v.once;
         split = here ∙ sym (append_assoc v.places (p ∷ []) (left_of m t1.passed)) ∙ ap (λ z. (v.places ++ p ∷ []) ++ left_of m z) (sym passed);
+        way = fit_more (λ s. IsSentStop s) n2.tour.stops.items (length before) (length behind) 16 p v.places sent.0 (let e = sent.1 in omega (arith, e)) way1;
+        fits = λ e.
+            let f = fits1 e in
+            let a = (again_here before behind (nat_lt t1.count n2.tour.count) p t1.stops.items n2.tour.stops.items gets f.0).0 yes in
+            let g = sent.1 in
+            subst (λ z. FitFrom (λ s. StopRepeats s) n2.tour.stops.items 1514 (length behind) (left_of m z)) (sym passed)
+            (fit_else (λ s. StopRepeats s) _ p t1.stops.items n2.tour.stops.items 1514 (length behind) (left_of m t1.passed) gets later
+            (fit_less (λ s. StopRepeats s) t1.stops.items 1514 (length before + (12 + len_in t1.stops.items p)) (length behind) (left_of m t1.passed) (omega (arith, a, g)) f.1));
+        few = v.few;
         comes = more_on m.tour.again m.tour.visit.items v.places p t1.visit.items n2.tour.visit.items comes1 (subst (λ z. IsCarried z m.tour.again p t1.visit.items n2.tour.visit.items) yes carried);
       }
     where
@@ -373,8 +435,8 @@ module _ (m n n2 : MasterNode) (t1 : TourStops) (p : ℕ) (v : Visiting m n) (si
       more_long (x ∷ xs) = let e = more_long xs in omega (arith, e)
 
   -- the frame has no room for it
-  pub visiting_still : (octets : List ℕ) → (holds_at (λ s. is_live s.stand) n2.tour.stops.items p ≡ true → HasNoRoom octets (area_in n2.tour.stops.items p)) → n2.tour.count ≡ t1.count → HasVisited octets m n2
-  visiting_still octets full c =
+  pub visiting_still : (holds_at (λ s. is_live s.stand) n2.tour.stops.items p ≡ true → HasNoRoom behind (area_in n2.tour.stops.items p)) → n2.tour.count ≡ t1.count → HasVisited behind m n2
+  visiting_still full c =
       let no = le-ltb t1.count n2.tour.count (omega (arith, c)) in
       record {
         places = v.places;
@@ -385,7 +447,15 @@ module _ (m n n2 : MasterNode) (t1 : TourStops) (p : ℕ) (v : Visiting m n) (si
         carries = carries_still t1.count p t1.stops.items n2.tour.stops.items v.places new carries1 (subst (λ z. StepsAt (λ s t. TakesPart z t1.count s t) p t1.stops.items n2.tour.stops.items) no shares);
         split = sym (whole m) ∙ here;
         comes = kept_on m.tour.again p t1.visit.items n2.tour.visit.items (subst (λ z. IsCarried z m.tour.again p t1.visit.items n2.tour.visit.items) no carried) ∙ comes1;
-        leaves = leaves_one octets n2.tour.stops.items m.tour.again p (left_of m t1.passed) full;
+        leaves = leaves_one behind n2.tour.stops.items m.tour.again p (left_of m t1.passed)
+            (λ e.
+            let f = fits1 e in
+            let a = (again_here before behind (nat_lt t1.count n2.tour.count) p t1.stops.items n2.tour.stops.items gets f.0).1 no in
+            let b = fit_most (λ s. StopRepeats s) t1.stops.items 1514 (length before + (12 + len_in t1.stops.items p)) (left_of m t1.passed) f.1 in
+            omega (arith, a, b))
+            full;
+        most = omega (arith, c, space);
+        way = subst (λ z. FitFrom (λ s. IsSentStop s) n2.tour.stops.items (length z) 16 v.places) (sym (stays_here before behind (nat_lt t1.count n2.tour.count) p t1.stops.items n2.tour.stops.items no gets)) way1;
       }
 
 -- THE FRAME IS OF THE TOUR as it stood before
@@ -418,7 +488,7 @@ visit_live live opened count last places p ps some e = go (nat_lt opened count) 
 leaves_out : {G : Ghosts InHand} (octets : List ℕ) (ss : List (Stop InHand G)) (again : Bool) (visit rest : List ℕ) (size : ℕ) (area : ℕ → ℕ) → size ≡ length octets - 16 → ((k : ℕ) → area_in ss k ≡ area k) →
     ((p : ℕ) (ps : List ℕ) → again ≡ false → rest ≡ p ∷ ps → holds_at (λ s. is_live s.stand) ss p ≡ true) → LeavesFull octets ss again rest → LeavesOut size area (again_of again visit) rest
 leaves_out octets ss again visit [] size area sized areas live l = tt
-leaves_out octets ss true visit (p ∷ ps) size area sized areas live l = tt
+leaves_out octets ss true visit (p ∷ ps) size area sized areas live l = l
 leaves_out octets ss false visit (p ∷ ps) size area sized areas live l = let n = l (live p ps refl refl) in let a = areas p in omega (arith, n, a, sized)
 
 module _ (octets : List ℕ) (m m1 m2 : MasterNode) (h : HasVisited octets m1 m2) (again : m1.tour.again ≡ m.tour.again) (visit : m.tour.again ≡ true → m1.tour.visit.items ≡ m.tour.visit.items) (opened : m1.tour.opened ≡ m.tour.opened) (last : m1.tour.last ≡ m.tour.last) (missed : m1.tour.missed ≡ m.tour.missed) (on : TourOn m1 m2) where
@@ -459,6 +529,28 @@ module _ (octets : List ℕ) (m m1 m2 : MasterNode) (h : HasVisited octets m1 m2
         (ap (λ z. visit_of live (length m2.tour.stops.items) (again_of z m.tour.visit.items) m.tour.opened m.tour.last) (sym e) ∙ first_rest live alive ∙ ap (λ z. h.places ++ z) r))
         (subst (λ z. LeavesFull octets m2.tour.stops.items z h.rest) again h.leaves);
   }
+
+-- those that it carries are the ones that come again, should it be lost
+pub fit_under : (octets : List ℕ) (m n : MasterNode) → length octets ≤ 1514 → HasVisited octets m n → FitUnder n.tour.visit.items n.tour.stops.items
+fit_under octets m n small h = record {
+  few = let e = ap length visits in let c = h.count in let l = h.most in omega (arith, e, c, l);
+  fit = subst (λ z. FitFrom (λ s. IsSentStop s) n.tour.stops.items 1514 16 z) (sym visits) (fit_wider (λ s. IsSentStop s) n.tour.stops.items (length octets) 1514 16 h.places small h.way);
+}
+  where
+    none : (z : Bool) (rest : List ℕ) → z ≡ true → LeavesFull octets n.tour.stops.items z rest → rest ≡ []
+    none z [] e l = refl
+    none true (p ∷ ps) e l = absurd l
+    none false (p ∷ ps) e l = absurd (true_false false e refl)
+
+    go : (z : Bool) → m.tour.again ≡ z → n.tour.visit.items ≡ h.places
+    go false e = h.comes ∙ ap (λ z. visit_on (again_of z m.tour.visit.items) h.places) e
+    go true e =
+        let live = λ (k : ℕ). holds_at (λ s. is_live s.stand) m.tour.stops.items k in
+        let same = ap (λ z. visit_of live (length m.tour.stops.items) (again_of z m.tour.visit.items) m.tour.opened m.tour.last) (sym e) ∙ h.split ∙ ap (λ z. h.places ++ z) (none m.tour.again h.rest e h.leaves) ∙ append-nil h.places in
+        h.comes ∙ ap (λ z. visit_on (again_of z m.tour.visit.items) h.places) e ∙ same
+
+    visits : n.tour.visit.items ≡ h.places
+    visits = go m.tour.again refl
 
 -- and by the lives of the slaves
 pub turns_tour : {G : Ghosts InHand} (lens : ℕ → Lens) (recover : ℕ) (octets : List ℕ) (live : ℕ → Bool) (size : ℕ) (area : ℕ → ℕ) (t : Tour) (us : List Turn) (ss : List (Stop InHand G)) (many : ℕ) (visit : List ℕ) → AllBoth (λ u s. IsUnder lens recover octets u s) us ss → IsOfTour (λ s. stop_share s) live size area t ss many visit → IsOfTour (λ u. turn_share u) live size area t us many visit

@@ -70,7 +70,7 @@ impl MasterNode {
     ghost use Rattle.master_node.specs.Shows.{is_live_lead};
     ghost use Rattle.master_side.specs.Again.{HasNoRoom};
     ghost use Rattle.master_tour.specs.Sizes.{frame_size};
-    ghost use Rattle.master_node.specs.Rooms.{SendsSame, area_at, area_in};
+    ghost use Rattle.master_node.specs.Rooms.{SendsSame, Takes, area_at, area_in};
     ghost use Rattle.master_node.specs.Toured.{StaysPut, TakesPart, IsBare, HasVisited, stop_share, turn_share, tour_of};
     ghost use Rattle.std.specs.Prelude.{drop};
     ghost use Rattle.master_hand.specs.declared.laying.Laid.{Laid};
@@ -290,6 +290,7 @@ impl MasterNode {
             IsFilling lens recover made left self.old into.old.items as' → IsFilling lens recover made (if result then next else left) self.new into.new.items as' }
         ensures joins { JoinsKept self.old self.new }
         ensures room { self.new.tour.count ≡ self.old.tour.count → holds_at (λ s. is_live s.stand) self.new.tour.stops.items place ≡ true → HasNoRoom into.new.items (area_in self.new.tour.stops.items place) }
+        ensures takes { StepsAt (λ s t. Takes into.old.items into.new.items (nat_lt self.old.tour.count self.new.tour.count) s t) place self.old.tour.stops.items self.new.tour.stops.items }
     {
         let index = (self.made % 256) as u8;
         let coming = self.coming(place);
@@ -309,7 +310,7 @@ impl MasterNode {
         ensures begun { (ds : List Raw.Datagram) × IsBegun into.new.items ds }
         ensures posts { vec_len self.new.posts ≡ vec_len self.old.posts }
         ensures on { TourOn self.old self.new }
-        ensures visited { IsBare self.old → HasVisited into.new.items self.old self.new }
+        ensures visited { IsBare self.old → length into.old.items ≡ 16 → HasVisited into.new.items self.old self.new }
         ensures filled { (lens : ℕ → Lens) (recover made : ℕ) (as' : List Leads) → AreDistinct (map lived_of as') → IsEmpty lens recover made self.old into.old.items as' → IsFilled lens recover made self.new into.new.items as' }
         ensures joins { JoinsKept self.old self.new }
     {

@@ -1,9 +1,10 @@
 -- Whether a frame has room for a slave's datagram.
-use Rattle.std.proofs.Common.{◌≡◌, ◌≤◌, ◌+◌, ◌-◌, ◌<◌, ℕ, true, false, List, length, refl, sym, ap, ◌∙◌, subst, nat_le, leb-false, arith}
+use Rattle.std.proofs.Common.{◌≡◌, ◌≤◌, ◌+◌, ◌-◌, ◌<◌, ℕ, Bool, true, false, List, length, refl, sym, ap, ◌∙◌, subst, nat_le, leb-false, arith}
 use Rattle.al_state.specs.declared.bringing.BringUp.{BringUp}
 use Rattle.al_state.specs.BringUp.{octets_of}
 use Rattle.master_side.specs.Again.{HasNoRoom, IsOnWay, Repeats, area_of, sent_len}
 use Rattle.master_side.specs.declared.hand.Hand.{Ghosts}
+use Rattle.master_side.specs.declared.side.Side.{Side}
 use Rattle.master_side.proofs.Agains.{least_area}
 use Rattle.master_tour.specs.Goes.{is_live}
 use Rattle.master_tour.specs.declared.stop.Stand.{Stand}
@@ -61,27 +62,26 @@ module _ {H : Type 0} {G : Ghosts H} (before : List ℕ) (s t : Stop H G) where
     still = n;
   }
 
--- A LOST FRAME
-module _ {H : Type 0} {G : Ghosts H} (s t : Stop H G) where
-  pub loses_gone : s.stand ≡ Stand.Gone → LosesAgain s t
-  loses_gone e = λ w u. absurd (subst (λ z. StandOnWay z s.side) e w)
+-- A LOST FRAME, and before a visit: by stand and side
+module _ {H : Type 0} {G : Ghosts H} (a b : Stand) (s t : Side H G) where
+  pub loses_gone : (under : Bool) → a ≡ Stand.Gone → StandOnWay a s → under ≡ true → StandRepeats b t × (stand_len b t ≤ stand_len a s)
+  loses_gone under e w u = absurd (subst (λ z. StandOnWay z s) e w)
 
-  pub loses_opens : (up : BringUp) → s.stand ≡ Stand.Opening up → t.stand ≡ Stand.Opening up → LosesAgain s t
-  loses_opens up e f = λ w u. (subst (λ z. StandRepeats z t.side) (sym f) tt, (let a = ap (λ z. stand_len z s.side) e in let b = ap (λ z. stand_len z t.side) f in omega (arith, a, b)))
+  pub loses_opens : (under : Bool) (up : BringUp) → a ≡ Stand.Opening up → b ≡ Stand.Opening up → StandOnWay a s → under ≡ true → StandRepeats b t × (stand_len b t ≤ stand_len a s)
+  loses_opens under up e f w u = (subst (λ z. StandRepeats z t) (sym f) tt, (let p = ap (λ z. stand_len z s) e in let q = ap (λ z. stand_len z t) f in omega (arith, p, q)))
 
-  pub loses_open : s.stand ≡ Stand.Open → t.stand ≡ Stand.Open → (IsOnWay s.side → s.under ≡ true → Repeats t.side × (sent_len t.side ≤ sent_len s.side)) → LosesAgain s t
-  loses_open e f h = λ w u.
-      let x = h (subst (λ z. StandOnWay z s.side) e w) u in
+  pub loses_open : (under : Bool) → a ≡ Stand.Open → b ≡ Stand.Open → (IsOnWay s → under ≡ true → Repeats t × (sent_len t ≤ sent_len s)) → StandOnWay a s → under ≡ true → StandRepeats b t × (stand_len b t ≤ stand_len a s)
+  loses_open under e f h w u =
+      let x = h (subst (λ z. StandOnWay z s) e w) u in
       let l = x.1 in
-      (subst (λ z. StandRepeats z t.side) (sym f) x.0, (let a = ap (λ z. stand_len z s.side) e in let b = ap (λ z. stand_len z t.side) f in omega (arith, a, b, l)))
+      (subst (λ z. StandRepeats z t) (sym f) x.0, (let p = ap (λ z. stand_len z s) e in let q = ap (λ z. stand_len z t) f in omega (arith, p, q, l)))
 
-  -- before its visit
-  pub ahead_opens : (up : BringUp) (len : ℕ) → s.stand ≡ Stand.Opening up → len ≡ length (octets_of up) → len ≤ stop_len s
-  ahead_opens up len e l = let a = ap (λ z. stand_len z s.side) e in omega (arith, a, l)
-
-  pub ahead_open : (len : ℕ) → s.stand ≡ Stand.Open → t.stand ≡ Stand.Open → (Repeats s.side → Repeats t.side × (sent_len t.side ≡ sent_len s.side) × (len ≤ sent_len s.side)) → StopRepeats s → StopRepeats t × (stop_len t ≡ stop_len s) × (len ≤ stop_len s)
+  pub ahead_open : (len : ℕ) → a ≡ Stand.Open → b ≡ Stand.Open → (Repeats s → Repeats t × (sent_len t ≡ sent_len s) × (len ≤ sent_len s)) → StandRepeats a s → StandRepeats b t × (stand_len b t ≡ stand_len a s) × (len ≤ stand_len a s)
   ahead_open len e f h r =
-      let x = h (subst (λ z. StandRepeats z s.side) e r) in
-      let a = ap (λ z. stand_len z s.side) e in
-      let b = ap (λ z. stand_len z t.side) f in
-      (subst (λ z. StandRepeats z t.side) (sym f) x.0, b ∙ x.1 ∙ sym a, (let l = x.2 in omega (arith, a, l)))
+      let x = h (subst (λ z. StandRepeats z s) e r) in
+      let p = ap (λ z. stand_len z s) e in
+      let q = ap (λ z. stand_len z t) f in
+      (subst (λ z. StandRepeats z t) (sym f) x.0, q ∙ x.1 ∙ sym p, (let l = x.2 in omega (arith, p, l)))
+
+pub ahead_opens : {H : Type 0} {G : Ghosts H} (a : Stand) (s : Side H G) (up : BringUp) (len : ℕ) → a ≡ Stand.Opening up → len ≡ length (octets_of up) → len ≤ stand_len a s
+ahead_opens a s up len e l = let p = ap (λ z. stand_len z s) e in omega (arith, p, l)

@@ -47,10 +47,10 @@ abbrev pub visit_on : Option (List ℕ) → List ℕ → List ℕ
 visit_on (Some same) cs = same
 visit_on None cs = cs
 
--- WHAT A FRAME OF THIS LENGTH LEAVES OUT of its visit, which goes on with these: of a round none whose larger mailbox would fit
+-- WHAT A FRAME OF THIS LENGTH LEAVES OUT of its visit, which goes on with these: behind a lost frame none; of a round, none whose larger mailbox would fit
 abbrev pub LeavesOut : ℕ → (ℕ → ℕ) → Option (List ℕ) → List ℕ → Type 0
 LeavesOut size area again [] = ⊤
-LeavesOut size area (Some same) (p ∷ ps) = ⊤
+LeavesOut size area (Some same) (p ∷ ps) = ⊥
 LeavesOut size area None (p ∷ ps) = 1486 < size + area p
 
 -- A FRAME OF SO MANY DATAGRAMS IS OF THE TOUR: it carries the first slaves of its visit; `size` is the length in its header, and `area` that of the larger

@@ -195,6 +195,7 @@ impl<H: Hand> Tour<H> {
         ensures left { (p : ℕ) → result ≡ Some p → AreOnce self.old.visit.items → IsNextOf p (drop self.old.passed self.old.visit.items) (drop self.new.passed self.old.visit.items) }
         ensures order { (p : ℕ) → result ≡ Some p → (self.new.passed ≡ self.old.passed + 1) × (drop self.old.passed self.old.visit.items ≡ p ∷ drop self.new.passed self.old.visit.items) }
         ensures first { self.old.passed ≡ 0 → BeginsLive (λ s. is_live s.stand) true self.old.visit.items self.old.opened self.old.stops.items → Passes (λ s. is_live s.stand) self.old.stops.items result }
+        ensures none { result ≡ None → IfSome (slice_get self.old.visit.items self.old.passed) (λ p. length self.old.stops.items ≤ p) }
     {
         let place = *self.visit.get(self.passed)?;
         self.passed += 1;
@@ -250,6 +251,7 @@ impl<H: Hand> Tour<H> {
         ensures fixed { (p : ℕ) → result ≡ Some p → self.old.again ≡ true → self.new.passed ≡ self.old.passed + 1 }
         ensures none { result ≡ None → self.old.again ≡ false → visited_of (is_fixed self.old.again self.old.opened (length self.old.stops.items)) (λ k. holds_at (λ s. is_live s.stand) self.old.stops.items k) (visits_left self.old.again self.old.visit.items self.old.opened (length self.old.stops.items) self.old.last self.old.passed) ≡ [] }
         ensures first { self.old.passed ≡ 0 → BeginsLive (λ s. is_live s.stand) self.old.again self.old.visit.items self.old.opened self.old.stops.items → list_any (λ s. is_live s.stand) self.old.stops.items ≡ true → Passes (λ s. is_live s.stand) self.old.stops.items result }
+        ensures ends { result ≡ None → self.old.again ≡ true → IfSome (slice_get self.old.visit.items self.old.passed) (λ p. length self.old.stops.items ≤ p) }
     {
         if self.again {
             return self.carried_again();
@@ -273,6 +275,7 @@ impl<H: Hand> Tour<H> {
         ensures fixed { (p : ℕ) → result ≡ Some p → self.old.again ≡ true → self.new.passed ≡ self.old.passed + 1 }
         ensures none { result ≡ None → self.old.count < 16 → self.old.again ≡ false → visited_of (is_fixed self.old.again self.old.opened (length self.old.stops.items)) (λ k. holds_at (λ s. is_live s.stand) self.old.stops.items k) (visits_left self.old.again self.old.visit.items self.old.opened (length self.old.stops.items) self.old.last self.old.passed) ≡ [] }
         ensures first { self.old.count ≡ 0 → self.old.passed ≡ 0 → BeginsLive (λ s. is_live s.stand) self.old.again self.old.visit.items self.old.opened self.old.stops.items → list_any (λ s. is_live s.stand) self.old.stops.items ≡ true → Passes (λ s. is_live s.stand) self.old.stops.items result }
+        ensures ends { result ≡ None → self.old.count < 16 → self.old.again ≡ true → IfSome (slice_get self.old.visit.items self.old.passed) (λ p. length self.old.stops.items ≤ p) }
     {
         if self.count >= 16 {
             return None;

@@ -54,7 +54,7 @@ returns-clause-filled c = λ lens recover made as' d x.
     fills_last lens recover made as' c.loop.counter c.loop.self c.loop.into.items (let t = c.loop-test.false in omega (arith, t)) (c.loop.invariant.3 lens recover made as' d x)
 
 pub loop-init : goal.loop-init
-loop-init c = (c.requires, refl, on_same c.args.self.now, (λ lens recover made as' d x. fills_first lens recover made as' c.args.self.now c.args.into.now.items x), each_same _ c.args.self.now.tour.stops.items (λ s. refl), λ b. (visiting_first c.args.self.now b, b.count))
+loop-init c = (c.requires, refl, on_same c.args.self.now, (λ lens recover made as' d x. fills_first lens recover made as' c.args.self.now c.args.into.now.items x), each_same _ c.args.self.now.tour.stops.items (λ s. refl), λ b short. (visiting_first c.args.into.now.items c.args.self.now short b, b.count))
 
 pub loop-preserved : goal.loop-preserved
 loop-preserved c = (
@@ -77,17 +77,17 @@ loop-preserved c = (
       (λ left other q a o s g. subst (λ (z : Bool). IsFilling lens recover made (if z then other else left) c.visit.new.self c.visit.new.into.items as') yes (v.led lens recover made left other as' q d a o s g))),
   each_trans (λ s t. t.side.hand.found.join ≡ s.side.hand.found.join) c.args.self.now.tour.stops.items c.loop.self.tour.stops.items c.visit.new.self.tour.stops.items (λ x y z a b. b ∙ a) c.loop.invariant.4
       (subst (λ z. EachPair (λ s t. t.side.hand.found.join ≡ s.side.hand.found.join) z.items c.visit.new.self.tour.stops.items) c.due.ensures.stops c.visit.ensures.joins),
-  λ b.
+  λ b short.
       let e = c.due.ensures in
       let v = c.visit.ensures in
       let p = c.in-Some.place in
       let is : c.due.result ≡ Some p = cc in
       let more = counts_more _ _ v.counts (let t = c.if-self-count.false in λ q. omega (arith, t, q)) in
-      let was = (c.loop.invariant.5 b).1 in
+      let was = (c.loop.invariant.5 b short).1 in
       let same = e.kept.0 in (
-        visiting_more c.args.self.now c.loop.self c.visit.new.self c.due.new.self p (c.loop.invariant.5 b).0 c.loop.invariant.2
+        visiting_more c.loop.into.items c.visit.new.into.items c.args.self.now c.loop.self c.visit.new.self c.due.new.self p (c.loop.invariant.5 b short).0 c.loop.invariant.2
             (record { stops = e.stops; count = e.kept.0; again = e.kept.1; visit = e.kept.2 })
-            (e.order p is).1 (c.in-Some.ensures.few) v.on.1 v.visits v.shares more,
+            (e.order p is).1 (c.in-Some.ensures.few) v.on.1 v.visits v.shares v.takes more,
         omega (arith, more, was, same),
       ),
 )
@@ -109,38 +109,41 @@ pub returns-clause-joins : goal.returns-clause-joins
 returns-clause-joins c = c.loop.invariant.4
 
 pub returns-in_default-clause-visited : goal.returns-in_default-clause-visited
-returns-in_default-clause-visited c = λ b.
+returns-in_default-clause-visited c = λ b short.
     let e = c.due.ensures in
     let none : c.due.result ≡ None = cc in
-    visiting_same c.loop.into.items c.args.self.now c.loop.self _ (few_stops c.args.self.now) c.loop.invariant.2 (record { stops = e.stops; count = e.kept.0; again = e.kept.1; visit = e.kept.2; opened = e.kept.3; last = e.kept.4; made = refl; posts = refl }) (e.none none) (c.loop.invariant.5 b).0
+    let was = (c.loop.invariant.5 b short).1 in
+    let test = c.loop-test.true in
+    visiting_same c.loop.into.items c.args.self.now c.loop.self _ (few_stops c.args.self.now) (omega (arith, was, test)) c.loop.invariant.2 (record { stops = e.stops; count = e.kept.0; again = e.kept.1; visit = e.kept.2; opened = e.kept.3; last = e.kept.4; made = refl; posts = refl }) (e.none none) (e.ends none)
+    (c.loop.invariant.5 b short).0
 
 pub returns-then-not-visit-clause-visited : goal.returns-then-not-visit-clause-visited
-returns-then-not-visit-clause-visited c = λ b.
+returns-then-not-visit-clause-visited c = λ b short.
     let e = c.due.ensures in
     let v = c.visit.ensures in
     let p = c.in-Some.place in
     let is : c.due.result ≡ Some p = cc in
     let no : c.visit.result ≡ false = cc in
-    visiting_still c.args.self.now c.loop.self c.visit.new.self c.due.new.self p (c.loop.invariant.5 b).0 c.loop.invariant.2
+    visiting_still c.loop.into.items c.visit.new.into.items c.args.self.now c.loop.self c.visit.new.self c.due.new.self p (c.loop.invariant.5 b short).0 c.loop.invariant.2
     (record { stops = e.stops; count = e.kept.0; again = e.kept.1; visit = e.kept.2 })
-    (e.order p is).1 (c.in-Some.ensures.few) v.on.1 v.visits v.shares c.visit.new.into.items (v.room (v.still no).0) (v.still no).0
+    (e.order p is).1 (c.in-Some.ensures.few) v.on.1 v.visits v.shares v.takes (v.room (v.still no).0) (v.still no).0
 
 pub returns-clause-visited : goal.returns-clause-visited
-returns-clause-visited c = λ b.
-    let many = (c.loop.invariant.5 b).1 in
+returns-clause-visited c = λ b short.
+    let was = (c.loop.invariant.5 b short).1 in
     let over = c.loop-test.false in
-    visiting_last c.loop.into.items c.args.self.now c.loop.self (few_stops c.args.self.now) (omega (arith, many, over)) (c.loop.invariant.5 b).0
+    visiting_last c.loop.into.items c.args.self.now c.loop.self (few_stops c.args.self.now) (omega (arith, was, over)) (c.loop.invariant.5 b short).0
 
 pub returns-then-self-count-clause-visited : goal.returns-then-self-count-clause-visited
-returns-then-self-count-clause-visited c = λ b.
+returns-then-self-count-clause-visited c = λ b short.
     let e = c.due.ensures in
     let v = c.visit.ensures in
     let p = c.in-Some.place in
     let is : c.due.result ≡ Some p = cc in
     let same = c.if-self-count.true in
     let still : c.visit.new.self.tour.count ≡ c.due.new.self.count = omega (arith, same) in
-    visiting_still c.args.self.now c.loop.self c.visit.new.self c.due.new.self p (c.loop.invariant.5 b).0 c.loop.invariant.2 (record { stops = e.stops; count = e.kept.0; again = e.kept.1; visit = e.kept.2 })
-    (e.order p is).1 (c.in-Some.ensures.few) v.on.1 v.visits v.shares c.visit.new.into.items (v.room still) still
+    visiting_still c.loop.into.items c.visit.new.into.items c.args.self.now c.loop.self c.visit.new.self c.due.new.self p (c.loop.invariant.5 b short).0 c.loop.invariant.2 (record { stops = e.stops; count = e.kept.0; again = e.kept.1; visit = e.kept.2 })
+    (e.order p is).1 (c.in-Some.ensures.few) v.on.1 v.visits v.shares v.takes (v.room still) still
 
 pub returns-then-self-count-clause-filled : goal.returns-then-self-count-clause-filled
 returns-then-self-count-clause-filled c = λ lens recover made as' d x.

@@ -83,7 +83,7 @@ returns-in-State-clause-sends c =
     let m = c.args.self.now in
     let l : c.args.place < length m.tour.stops.items = omega (arith, c.requires, m.paired, m.tour.stops.ok.0) in
     let e = c.pass_by.ensures.sends in
-    steps_set _ c.args.place m.tour.stops.items c.index_mut.result.now _ l c.index_mut.ensures.value (record { out = e.0; inn = e.1; duty = e.2; passing = e.3; turn = e.4; paused = e.5; carried = e.6; stand = refl; under = refl })
+    steps_set _ c.args.place m.tour.stops.items c.index_mut.result.now _ l c.index_mut.ensures.value (record { out = e.0; inn = e.1; duty = e.2; passing = e.3; turn = e.4; paused = e.5; carried = e.6; stand = refl })
 
 pub returns-in-Packet-clause-sends : goal.returns-in-Packet-clause-sends
 returns-in-Packet-clause-sends c =

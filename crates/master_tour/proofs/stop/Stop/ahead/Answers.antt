@@ -42,7 +42,7 @@ pub returns-in-Opening-clause-area : goal.returns-in-Opening-clause-area
 returns-in-Opening-clause-area g c = let a = least_area c.args.self.now.side in let l = c.access_len.ensures.most in omega (arith, a, l)
 
 pub returns-in-Opening-clause-again : goal.returns-in-Opening-clause-again
-returns-in-Opening-clause-again g c = λ r. (r, refl, ahead_opens c.args.self.now c.args.self.now c.in-Opening.up c.access_len.result c.in-Opening.is c.access_len.ensures.is)
+returns-in-Opening-clause-again g c = λ r. (r, refl, ahead_opens c.args.self.now.stand c.args.self.now.side c.in-Opening.up c.access_len.result c.in-Opening.is c.access_len.ensures.is)
 
 pub returns-in-Open-clause-again : goal.returns-in-Open-clause-again
-returns-in-Open-clause-again g c = ahead_open c.args.self.now _ c.ahead.result c.in-Open.is c.in-Open.is c.ahead.ensures.again
+returns-in-Open-clause-again g c = ahead_open c.args.self.now.stand c.args.self.now.stand c.args.self.now.side c.ahead.new.self c.ahead.result c.in-Open.is c.in-Open.is c.ahead.ensures.again

@@ -39,10 +39,10 @@ returns-in-Open-clause-lives g c = λ x more passed recover spot lens ns octets 
     (lost_follows (λ d a. SideShows (g.H.Hand.shows y.hand x) y.out y.inn y.fresh y.duty d a) x g.H.Hand.acknowledged more passed recover spot ns sent l v.spare v.news stood.0 kept.3 there (kept.2 ∙ sh.spared))
 
 pub returns-in-Gone-clause-again : goal.returns-in-Gone-clause-again
-returns-in-Gone-clause-again g c = loses_gone c.args.self.now _ c.in-Gone.is
+returns-in-Gone-clause-again g c = let t = c.args.self.now in loses_gone t.stand t.stand t.side t.side t.under c.in-Gone.is
 
 pub returns-in-Opening-clause-again : goal.returns-in-Opening-clause-again
-returns-in-Opening-clause-again g c = loses_opens c.args.self.now _ _ c.in-Opening.is c.in-Opening.is
+returns-in-Opening-clause-again g c = let t = c.args.self.now in loses_opens t.stand t.stand t.side t.side t.under _ c.in-Opening.is c.in-Opening.is
 
 pub returns-in-Open-clause-again : goal.returns-in-Open-clause-again
-returns-in-Open-clause-again g c = loses_open c.args.self.now c.open_lost.new.self c.in-Open.is (c.open_lost.ensures.stand ∙ c.in-Open.is) c.open_lost.ensures.again
+returns-in-Open-clause-again g c = let t = c.args.self.now in loses_open t.stand c.open_lost.new.self.stand t.side c.open_lost.new.self.side t.under c.in-Open.is (c.open_lost.ensures.stand ∙ c.in-Open.is) c.open_lost.ensures.again
