@@ -6,7 +6,7 @@ use Rattle.life_model.specs.Lives.{life_lost}
 use Rattle.master_side.specs.Shown.{SideShows}
 use Rattle.master_tour.specs.Stands.{FollowShows, given_where}
 use Rattle.master_tour.proofs.Backs.{gave_turned, lost_gave}
-use Rattle.std.specs.Prelude.{not}
+use Rattle.std.proofs.Common.{◌≡◌, true, false}
 use Rattle.master_tour.proofs.stop.Stop.lost_for.Goals as goal
 
 pub returns-then-not-gives-clause-lives : goal.returns-then-not-gives-clause-lives
@@ -41,7 +41,7 @@ pub returns-then-not-gives-clause-again : goal.returns-then-not-gives-clause-aga
 returns-then-not-gives-clause-again g c = λ n. c.lost.ensures.again
 
 pub returns-else-self-clause-again : goal.returns-else-self-clause-again
-returns-else-self-clause-again g c = λ n. absurd (let d = sym (ap not n) ∙ c.if-not-gives.false in cc)
+returns-else-self-clause-again g c = λ n. absurd (let d : false ≡ true = sym n ∙ c.if-not-gives.false in cc)
 
 pub returns-then-self-clause-again : goal.returns-then-self-clause-again
-returns-then-self-clause-again g c = λ n. absurd (let d = sym (ap not n) ∙ c.if-not-gives.false in cc)
+returns-then-self-clause-again g c = λ n. absurd (let d : false ≡ true = sym n ∙ c.if-not-gives.false in cc)

@@ -44,8 +44,7 @@ returns-clause-area g c = λ n. subst (λ z. HasNoRoom c.args.frame.now.items z)
 pub returns-clause-room : goal.returns-clause-room
 returns-clause-room g c = λ r.
     let m = c.choose-began.new.self in
-    let most = c.choose-began.ensures.again r m.out.state (λ h. h) in
-    (
+    let most = c.choose-began.ensures.again r m.out.state (λ h. h) in (
       λ n. (let long = c.add_datagram-placed.ensures.long n in omega (arith, most, long)),
       λ y. (let same = (c.add_datagram-placed.ensures.way y).1 in omega (arith, most, same)),
     )
