@@ -23,3 +23,4 @@ pub mod Toureds
 pub mod Forwards
 pub mod Rooms
 pub mod Fits
+pub mod Leaves

@@ -7,7 +7,8 @@ use Rattle.master_tour.specs.Walks.{EachPair}
 use Rattle.master_tour.proofs.Walks.{each_same}
 use Rattle.master_node.proofs.Lists.{each_trans}
 use Rattle.std.proofs.Common.{ℕ}
-use Rattle.master_node.proofs.Toureds.{few_stops, counts_more, visiting_first, visiting_more, visiting_still, visiting_same, visiting_last}
+use Rattle.master_node.proofs.Leaves.{few_stops}
+use Rattle.master_node.proofs.Toureds.{counts_more, visiting_first, visiting_more, visiting_still, visiting_same, visiting_last}
 use Rattle.master_node.proofs.node.MasterNode.fill.Goals as goal
 
 pub returns-in_default-clause-on : goal.returns-in_default-clause-on

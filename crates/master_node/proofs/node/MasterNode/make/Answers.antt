@@ -17,7 +17,8 @@ use Rattle.master_node.proofs.Lists.{each_trans}
 use Rattle.master_tour.specs.Sizes.{frame_size}
 use Rattle.master_node.specs.Rooms.{FitAgain, area_at}
 use Rattle.master_node.proofs.Fits.{again_on, side_sends}
-use Rattle.master_node.proofs.Toureds.{fit_under, each_none, tour_same, of_tour, areas_from, area_planned}
+use Rattle.master_node.proofs.Leaves.{areas_from, area_planned, fit_under}
+use Rattle.master_node.proofs.Toureds.{each_none, tour_same, of_tour}
 use Rattle.master_node.proofs.node.MasterNode.make.Goals as goal
 
 pub returns-clause-led : goal.returns-clause-led
