@@ -69,34 +69,27 @@ takes_not octets fits grows s t n g k = record {
   stays = λ z. refl;
 }
 
-pub takes_visit : {G : Ghosts InHand} (before behind : List ℕ) (grows : Bool) (s t u : Stop InHand G) → (t.under ≡ true → grows ≡ true) → (t.under ≡ false → grows ≡ false) → Visits before behind s t → SendsSame t u → Takes before behind grows s u
-takes_visit before behind grows s t u yes no v k = record {
-  way = λ y. let w = v.way (there y) in let l = w.1 in let e = sends_len t u k in (sends_way t u k w.0, omega (arith, l, e));
-  again = λ r. let a = v.again r in let e = sends_len t u k in (λ y. (let l = a.1 (there y) in omega (arith, l, e)), λ z. a.0 (none z));
-  stays = λ z. v.still (none z);
-}
-  where
-    there : grows ≡ true → t.under ≡ true
-    there y = go t.under refl
-      where
-        go : (z : Bool) → t.under ≡ z → t.under ≡ true
-        go true e = e
-        go false e = absurd (true_false grows y (no e))
+under_yes : (u grows : Bool) → (u ≡ false → grows ≡ false) → grows ≡ true → u ≡ true
+under_yes true grows no y = refl
+under_yes false grows no y = absurd (true_false grows y (no refl))
 
-    none : grows ≡ false → t.under ≡ false
-    none n = go t.under refl
-      where
-        go : (z : Bool) → t.under ≡ z → t.under ≡ false
-        go true e = absurd (true_false grows (yes e) n)
-        go false e = e
+under_no : (u grows : Bool) → (u ≡ true → grows ≡ true) → grows ≡ false → u ≡ false
+under_no true grows yes n = absurd (true_false grows (yes refl) n)
+under_no false grows yes n = refl
+
+pub takes_visit : {G : Ghosts InHand} (before behind : List ℕ) (grows : Bool) (s t u : Stop InHand G) → (t.under ≡ true → grows ≡ true) → (t.under ≡ false → grows ≡ false) → Visits before behind s t → SendsSame t u → Takes before behind grows s u
+takes_visit before behind grows s t u yes no v k =
+    let long : stop_len u ≡ stop_len t = sends_len t u k in
+    record {
+      way = λ y. let w = v.way (under_yes t.under grows no y) in (sends_way t u k w.0, w.1 ∙ ap (λ n. length before + (12 + n)) (sym long));
+      again = λ r. let a = v.again r in (λ y. subst (λ n. n ≤ stop_len s) (sym long) (a.1 (under_yes t.under grows no y)), λ z. a.0 (under_no t.under grows yes z));
+      stays = λ z. v.still (under_no t.under grows yes z);
+    }
 
 pub takes_before : {G : Ghosts InHand} (before behind : List ℕ) (grows : Bool) (s t u : Stop InHand G) → (StopRepeats s → StopRepeats t × (stop_len t ≡ stop_len s)) → Takes before behind grows t u → Takes before behind grows s u
 takes_before before behind grows s t u h k = record {
   way = k.way;
-  again = λ r.
-      let x = h r in
-      let a = k.again x.0 in
-      (λ y. (let l = a.0 y in let e = x.1 in omega (arith, l, e)), λ z. (let l = a.1 z in let e = x.1 in omega (arith, l, e)));
+  again = λ r. let x = h r in let a = k.again x.0 in (λ y. subst (λ n. stop_len u ≤ n) x.1 (a.0 y), λ z. subst (λ n. HasNoRoom before n) x.1 (a.1 z));
   stays = k.stays;
 }
 

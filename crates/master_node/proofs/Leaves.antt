@@ -38,11 +38,11 @@ leaves_one octets ss false p ps a h = h
 -- a visit has no more slaves than there are
 filter_fewer : (live : ℕ → Bool) (xs : List ℕ) → length (filter live xs) ≤ length xs
 filter_fewer live [] = omega arith
-filter_fewer live (x ∷ xs) = go (live x)
+filter_fewer live (x ∷ xs) = go (live x) (filter_fewer live xs)
   where
-    go : (z : Bool) → length (cond z (x ∷ filter live xs) (filter live xs)) ≤ suc (length xs)
-    go true = let l = filter_fewer live xs in omega (arith, l)
-    go false = let l = filter_fewer live xs in omega (arith, l)
+    go : (z : Bool) → length (filter live xs) ≤ length xs → length (cond z (x ∷ filter live xs) (filter live xs)) ≤ suc (length xs)
+    go true l = omega (arith, l)
+    go false l = omega (arith, l)
 
 places_long : (start count k n : ℕ) → length (places_from start count k n) ≡ n
 places_long start count k zero = refl
@@ -81,12 +81,12 @@ none_left m places rest few again split many =
 filter_live : (live : ℕ → Bool) (xs places : List ℕ) (p : ℕ) (ps : List ℕ) → filter live xs ≡ places ++ p ∷ ps → live p ≡ true
 filter_live live [] [] p ps e = absurd (cc)
 filter_live live [] (q ∷ places) p ps e = absurd (cc)
-filter_live live (x ∷ xs) places p ps e = go (live x) refl places e
+filter_live live (x ∷ xs) places p ps e = go (live x) refl places (λ qs f. filter_live live xs qs p ps f) e
   where
-    go : (z : Bool) → live x ≡ z → (qs : List ℕ) → cond z (x ∷ filter live xs) (filter live xs) ≡ qs ++ p ∷ ps → live p ≡ true
-    go true h [] e = ap live (sym (let q : x ≡ p = cc in q)) ∙ h
-    go true h (q ∷ qs) e = filter_live live xs qs p ps (let w : filter live xs ≡ qs ++ p ∷ ps = cc in w)
-    go false h qs e = filter_live live xs qs p ps e
+    go : (z : Bool) → live x ≡ z → (qs : List ℕ) → ((rs : List ℕ) → filter live xs ≡ rs ++ p ∷ ps → live p ≡ true) → cond z (x ∷ filter live xs) (filter live xs) ≡ qs ++ p ∷ ps → live p ≡ true
+    go true h [] r e = ap live (sym (let q : x ≡ p = cc in q)) ∙ h
+    go true h (q ∷ qs) r e = r qs (let w : filter live xs ≡ qs ++ p ∷ ps = cc in w)
+    go false h qs r e = r qs e
 
 pub visit_live : (live : ℕ → Bool) (opened count : ℕ) (last : Option ℕ) (places : List ℕ) (p : ℕ) (ps : List ℕ) → 1 ≤ length places → visit_of live count None opened last ≡ places ++ p ∷ ps → live p ≡ true
 visit_live live opened count last places p ps some e = go (nat_lt opened count) e

@@ -342,7 +342,8 @@ impl MasterNode {
     }
 
     /// Makes the next frame; `Idle` exactly where no slave is live. The frame has just the datagrams that the lives of the slaves ask for, and
-    /// what came into hand of each is next of its script, or a packet. It carries the first slaves of its visit of the tour, in this order.
+    /// what came into hand of each is next of its script, or a packet. It carries the slaves of its visit of the tour, in this order: behind a lost frame
+    /// just the same again; of a round the first, and it leaves out none that would fit.
     pub fn next(&mut self, into: &mut FrameBuf) -> Next
         ensures idle { (result ≡ Next.Idle) ↔ (list_any (λ s. is_live s.stand) self.old.tour.stops.items ≡ false) }
         ensures posts { vec_len self.new.posts ≡ vec_len self.old.posts }

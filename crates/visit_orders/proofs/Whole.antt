@@ -21,12 +21,12 @@ module _ (size : ℕ) (ring : List Stop) (members : List Member) (live : ℕ →
   through : (lefts places rest : List ℕ) → filter live lefts ≡ places ++ rest → ((p : ℕ) (ps : List ℕ) → rest ≡ p ∷ ps → 1486 < size + area p) → GoesThrough size ring members lefts places
   through [] [] rest e h = tt
   through [] (c ∷ cs) rest e h = absurd (cc)
-  through (p ∷ ps) places rest e h = subst (λ z. Comes z size (stop_at ring p) p places (λ w. GoesThrough size ring members ps w)) (alive p) (go (live p) places e)
+  through (p ∷ ps) places rest e h = subst (λ z. Comes z size (stop_at ring p) p places (λ w. GoesThrough size ring members ps w)) (alive p) (go (live p) places (λ qs f. through ps qs rest f h) e)
     where
-      go : (z : Bool) (qs : List ℕ) → cond z (p ∷ filter live ps) (filter live ps) ≡ qs ++ rest → Comes z size (stop_at ring p) p qs (λ w. GoesThrough size ring members ps w)
-      go false qs f = through ps qs rest f h
-      go true [] f = let l = h p (filter live ps) (sym f) in let a = wide p in omega (arith, l, a)
-      go true (c ∷ qs) f = ((let q : c ≡ p = cc in q), through ps qs rest (let q : filter live ps ≡ qs ++ rest = cc in q) h)
+      go : (z : Bool) (qs : List ℕ) → ((rs : List ℕ) → filter live ps ≡ rs ++ rest → GoesThrough size ring members ps rs) → cond z (p ∷ filter live ps) (filter live ps) ≡ qs ++ rest → Comes z size (stop_at ring p) p qs (λ w. GoesThrough size ring members ps w)
+      go false qs r f = r qs f
+      go true [] r f = let l = h p (filter live ps) (sym f) in let a = wide p in omega (arith, l, a)
+      go true (c ∷ qs) r f = ((let q : c ≡ p = cc in q), r qs (let q : filter live ps ≡ qs ++ rest = cc in q))
 
   whole_round : (opened : ℕ) (last : Option ℕ) (places rest : List ℕ) → AreOf ring members → AreApart ring → IsPlace ring last → length ring ≤ opened → 1 ≤ length places → filter live (round_left (start_of (length ring) last) (length ring) 0) ≡ places ++ rest → LeavesOut size area None rest →
       IsVisit size None [] (round ring (last_station ring last) members) (stations_at ring places)
