@@ -69,21 +69,21 @@ takes_not octets fits grows s t n g k = record {
   stays = λ z. refl;
 }
 
-under_yes : (u grows : Bool) → (u ≡ false → grows ≡ false) → grows ≡ true → u ≡ true
-under_yes true grows no y = refl
-under_yes false grows no y = absurd (true_false grows y (no refl))
+under_grown : (u grows : Bool) → (u ≡ false → grows ≡ false) → grows ≡ true → u ≡ true
+under_grown true grows stays_so y = refl
+under_grown false grows stays_so y = absurd (true_false grows y (stays_so refl))
 
-under_no : (u grows : Bool) → (u ≡ true → grows ≡ true) → grows ≡ false → u ≡ false
-under_no true grows yes n = absurd (true_false grows (yes refl) n)
-under_no false grows yes n = refl
+under_stayed : (u grows : Bool) → (u ≡ true → grows ≡ true) → grows ≡ false → u ≡ false
+under_stayed true grows grows_so n = absurd (true_false grows (grows_so refl) n)
+under_stayed false grows grows_so n = refl
 
 pub takes_visit : {G : Ghosts InHand} (before behind : List ℕ) (grows : Bool) (s t u : Stop InHand G) → (t.under ≡ true → grows ≡ true) → (t.under ≡ false → grows ≡ false) → Visits before behind s t → SendsSame t u → Takes before behind grows s u
-takes_visit before behind grows s t u yes no v k =
+takes_visit before behind grows s t u grows_so stays_so v k =
     let long : stop_len u ≡ stop_len t = sends_len t u k in
     record {
-      way = λ y. let w = v.way (under_yes t.under grows no y) in (sends_way t u k w.0, w.1 ∙ ap (λ n. length before + (12 + n)) (sym long));
-      again = λ r. let a = v.again r in (λ y. subst (λ n. n ≤ stop_len s) (sym long) (a.1 (under_yes t.under grows no y)), λ z. a.0 (under_no t.under grows yes z));
-      stays = λ z. v.still (under_no t.under grows yes z);
+      way = λ y. let w = v.way (under_grown t.under grows stays_so y) in (sends_way t u k w.0, w.1 ∙ ap (λ n. length before + (12 + n)) (sym long));
+      again = λ r. let a = v.again r in (λ y. subst (λ n. n ≤ stop_len s) (sym long) (a.1 (under_grown t.under grows stays_so y)), λ z. a.0 (under_stayed t.under grows grows_so z));
+      stays = λ z. v.still (under_stayed t.under grows grows_so z);
     }
 
 pub takes_before : {G : Ghosts InHand} (before behind : List ℕ) (grows : Bool) (s t u : Stop InHand G) → (StopRepeats s → StopRepeats t × (stop_len t ≡ stop_len s)) → Takes before behind grows t u → Takes before behind grows s u

@@ -192,8 +192,8 @@ returns-clause-takes c =
     let was = c.lay.ensures.kept.0.count ∙ e.count in
     let is = c.came.ensures.kept.0.count in
     let looked = steps_trans (λ s t. Looks before c.fits.result s t) (λ s t. SendsSame s t) (λ s t. StopRepeats s → StopRepeats t × (stop_len t ≡ stop_len s)) place s0 s1 s2
-        (λ s t u k w r. let x = k.again r in (sends_again t u w x.0, sends_len t u w ∙ x.1)) e.room (steps_map _ (λ s t. SendsSame s t) place s1 s2 (λ s t p. stays_sends s t p.0) c.lay.ensures.laid) in
+    (λ s t u k w r. let x = k.again r in (sends_again t u w x.0, sends_len t u w ∙ x.1)) e.room (steps_map _ (λ s t. SendsSame s t) place s1 s2 (λ s t p. stays_sends s t p.0) c.lay.ensures.laid) in
     let visited = steps_trans (λ s t. Visits before behind s t × (t.under ≡ true → c.visit-began.new.self.count ≡ c.lay.new.self.tour.count + 1) × (t.under ≡ false → c.visit-began.new.self.count ≡ c.lay.new.self.tour.count)) (λ s t. SendsSame s t) (λ s t. Takes before behind (nat_lt old new) s t) place s2 s3 s4
-        (λ s t u p k. takes_visit before behind (nat_lt old new) s t u (λ y. (let l = p.1 y in lt-ltb old new (omega (arith, l, was, is)))) (λ n. (let l = p.2 n in le-ltb old new (omega (arith, l, was, is)))) p.0 k)
-        (steps_map _ _ place s2 s3 (λ s t p. (p.0, p.1.3, p.1.4)) (steps_both _ _ place s2 s3 v.room v.step)) c.came.ensures.sends in
+    (λ s t u p k. takes_visit before behind (nat_lt old new) s t u (λ y. (let l = p.1 y in lt-ltb old new (omega (arith, l, was, is)))) (λ n. (let l = p.2 n in le-ltb old new (omega (arith, l, was, is)))) p.0 k)
+    (steps_map _ _ place s2 s3 (λ s t p. (p.0, p.1.3, p.1.4)) (steps_both _ _ place s2 s3 v.room v.step)) c.came.ensures.sends in
     steps_trans (λ s t. StopRepeats s → StopRepeats t × (stop_len t ≡ stop_len s)) (λ s t. Takes before behind (nat_lt old new) s t) (λ s t. Takes before behind (nat_lt old new) s t) place s0 s2 s4 (λ s t u h k. takes_before before behind (nat_lt old new) s t u h k) looked visited
