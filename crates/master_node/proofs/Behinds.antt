@@ -20,6 +20,8 @@ use Rattle.master_tour.specs.declared.stop.Stop.{Stop}
 use Rattle.master_tour.proofs.Unpassed.{unpassed_back, unpassed_lost}
 use Rattle.segment_ring.specs.declared.wire.Fate.{Fate}
 use Rattle.segment_ring.specs.declared.wire.Fate.TheVariants.{Pass, Lost}
+use Rattle.master_node.specs.Rooms.{FitAgain}
+use Rattle.master_node.proofs.Fits.{again_on, stays_sends}
 use Rattle.master_node.specs.declared.node.MasterNode.{MasterNode}
 use Rattle.master_node.specs.Kept.{StopStays, NodeKept}
 use Rattle.master_node.specs.Shows.{WaitsNone, lived_of, turned_of, is_live_lead, is_opening_lead, side_shows, IsLived, IsLead, IsUnder, ComeAgain, GoesOn, GoesUnder, MasterShows}
@@ -134,8 +136,9 @@ module _ (lens : ℕ → Lens) (recover retry : ℕ) where
 
     -- THE MASTER BEHIND THE FRAME, which has told what that brought
     pub behind_shows : (m n : MasterNode) (missed : ℕ) (us : List Turn) → NodeKept m n → AllBoth (λ a t. IsLead lens recover a t) (map (led_behind lens recover retry gives made f) us) m.tour.stops.items → AreDistinct (map turned_of us) → All WaitsNone m.posts.items →
-        GoesOn m.tour.again m.tour.visit.items m.tour.opened (map (led_behind lens recover retry gives made f) us) → m.tour.missed ≡ missed → m.tour.retry ≡ retry → MasterShows lens recover retry n missed (map (led_behind lens recover retry gives made f) us)
-    behind_shows m n missed us k l d q g a b = record {
+        GoesOn m.tour.again m.tour.visit.items m.tour.opened (map (led_behind lens recover retry gives made f) us) → m.tour.missed ≡ missed → m.tour.retry ≡ retry → (m.tour.again ≡ true → FitAgain m.tour.visit.items m.tour.stops.items) →
+        MasterShows lens recover retry n missed (map (led_behind lens recover retry gives made f) us)
+    behind_shows m n missed us k l d q g a b w = record {
       each = both_each (λ a t. IsLead lens recover a t) (λ s t. StopStays s t) (λ a t. IsLead lens recover a t) (λ a s t v w. lead_kept a s t v w) (map (led_behind lens recover retry gives made f) us) m.tour.stops.items n.tour.stops.items l k.each;
       distinct = distinct_on us d;
       quiet = k.quiet q;
@@ -144,6 +147,7 @@ module _ (lens : ℕ → Lens) (recover retry : ℕ) where
           (subst (λ z. GoesOn m.tour.again m.tour.visit.items z (map (led_behind lens recover retry gives made f) us)) (sym k.tour.opened) g));
       missed_is = k.tour.missed ∙ a;
       retry_is = k.tour.retry ∙ b;
+      again = λ e. subst (λ z. FitAgain z.items n.tour.stops.items) (sym k.tour.visit) (again_on (λ s t. StopStays s t) (λ s t z. stays_sends s t z) m.tour.stops.items n.tour.stops.items m.tour.visit.items k.each (w (sym k.tour.again ∙ e)));
     }
 
   -- where the tour goes on behind a lost frame: the same slaves come again, or were given up

@@ -33,6 +33,8 @@ side_same s = record {
   side = record { out_is = refl; in_is = refl; fresh_is = refl; duty_is = refl };
   station = refl;
   passing = refl;
+  turn = refl;
+  paused = refl;
   carried = refl;
   heard = refl;
   found = refl;
@@ -55,6 +57,8 @@ stop_on n m s t u a b = record {
     side = record { out_is = b.side.side.out_is ∙ a.side.side.out_is; in_is = b.side.side.in_is ∙ a.side.side.in_is; fresh_is = b.side.side.fresh_is ∙ a.side.side.fresh_is; duty_is = b.side.side.duty_is ∙ a.side.side.duty_is };
     station = b.side.station ∙ a.side.station;
     passing = b.side.passing ∙ a.side.passing;
+    turn = b.side.turn ∙ a.side.turn;
+    paused = b.side.paused ∙ a.side.paused;
     carried = b.side.carried ∙ a.side.carried;
     heard = b.side.heard ∙ a.side.heard;
     found = b.side.found ∙ a.side.found;

@@ -21,3 +21,6 @@ pub mod Stoods
 pub mod Joineds
 pub mod Toureds
 pub mod Forwards
+pub mod Rooms
+pub mod Fits
+pub mod Leaves

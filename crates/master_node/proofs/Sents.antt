@@ -32,6 +32,7 @@ use Rattle.eoe_model.specs.Client as EoeClient
 use Rattle.segment_plan.specs.declared.service.Service as Plan
 use Rattle.state_exchange.specs.Stated.{Service}
 use Rattle.task_model.specs.Accounts.{Account, Pick}
+use Rattle.master_node.specs.Rooms.{FitAgain}
 use Rattle.master_node.specs.Filling.{IsAmong}
 use Rattle.master_node.specs.declared.node.MasterNode.{MasterNode}
 use Rattle.master_node.specs.Shows.{MasterShows, WaitsNone, is_led, lived_of, turned_of, is_live_lead, is_opening_lead, is_live_turn, is_opening_turn, is_carried, side_shows, HoldsFirst, ComeAgain, GoesOn, GoesUnder, IsLived, IsLead, IsUnder}
@@ -275,4 +276,5 @@ shows_same lens recover retry missed as' m n e f x = record {
   goes = subst (λ z. GoesOn z.again z.visit.items z.opened as') (sym e) x.goes;
   missed_is = ap (λ z. z.missed) e ∙ x.missed_is;
   retry_is = ap (λ z. z.retry) e ∙ x.retry_is;
+  again = λ a. subst (λ z. FitAgain z.visit.items z.stops.items) (sym e) (x.again (ap (λ z. z.again) (sym e) ∙ a));
 }

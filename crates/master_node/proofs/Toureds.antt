@@ -9,6 +9,19 @@ use Rattle.master_tour.specs.declared.tour.Tour as Tours
 use Rattle.master_side.specs.declared.hand.Hand.{Ghosts}
 use Rattle.master_tour.specs.Goes.{is_live, holds_at}
 use Rattle.master_tour.specs.Made.{is_in}
+use Rattle.std.specs.Prelude.{filter, cond}
+use Rattle.std.proofs.Common.{◌-◌, append-nil, drop, length-append}
+use Rattle.std.specs.Prelude.{IfSome, slice_get}
+use Rattle.master_tour.specs.Rooms.{StopRepeats, stop_len}
+use Rattle.master_tour.proofs.Walks.{steps_both}
+use Rattle.master_node.specs.Rooms.{FitFrom, FitUnder, IsSentStop, Takes, len_in}
+use Rattle.master_node.proofs.Fits.{again_here, fit_else, fit_ends, fit_less, fit_more, fit_most, fit_wider, stays_here, way_here}
+use Rattle.master_node.proofs.Lists.{steps_map}
+use Rattle.std.proofs.lemmas.Bool.{ltb-true, ltb-false}
+use Rattle.master_side.specs.Again.{HasNoRoom, area_of, larger}
+use Rattle.master_node.specs.Rooms.{LeavesFull, area_at, area_in}
+use Rattle.master_tour.specs.Orders.{places_from, round_left, start_of}
+use Rattle.master_tour.specs.Toured.{LeavesOut}
 use Rattle.master_tour.specs.Orders.{visits_left, visited_of, is_fixed, AreOnce, IsCarried}
 use Rattle.master_tour.specs.Toured.{Tour, HaveFrom, Carries, AreFirst, IsOfTour, has_number, visit_of, visit_on}
 use Rattle.master_tour.specs.Walks.{StepsAt, EachPair}
@@ -19,11 +32,20 @@ use Rattle.master_node.specs.Toured.{stop_share, turn_share, again_of, tour_of, 
 use Rattle.master_node.specs.Shows.{IsUnder}
 use Rattle.frame_view.specs.View.{Lens}
 use Rattle.life_frames.specs.Shares.{AllBoth}
-use Rattle.life_runs.specs.Led.{Turn}
+use Rattle.life_runs.specs.Led.{Leads, Turn}
+use Rattle.life_frames.specs.Shares.{AllFrom, Lived}
+use Rattle.life_model.specs.Lives.{Spot}
+use Rattle.mailbox_master.specs.Any.{in_area_len}
+use Rattle.master_duty.specs.Reply.{Reply}
+use Rattle.master_hand.specs.Spoken.{Asked}
+use Rattle.master_tour.specs.Made.{IsPlanned}
+use Rattle.master_node.specs.Shows.{lived_of}
+use Rattle.std.specs.Prelude.{map}
 use Rattle.master_tour.specs.Goes.{opened_behind}
 use Rattle.master_tour.specs.Orders.{last_behind}
 use Rattle.master_tour.specs.Toured.{goes_on, lost_on}
 use Rattle.master_node.specs.declared.node.MasterNode.{MasterNode}
+use Rattle.master_node.proofs.Leaves.{few_stops, leaves_none, leaves_one, leaves_out, left_of, none_left, visit_live}
 use Rattle.master_node.proofs.Filleds.{SameTour}
 use Rattle.master_node.proofs.Lefts.{true_false, in_here, in_there, in_last, in_first, not_in}
 use Rattle.master_node.proofs.Lists.{steps_trans, steps_holds, both_holds, both_length}
@@ -119,6 +141,10 @@ once_mid (x ∷ xs) p ys o = go (p == x) refl (once_mid xs p ys o.1)
     go true e r = absurd (true_false (is_in x (xs ++ p ∷ ys)) (in_last x xs (p ∷ ys) (in_here x p ys (eq-eqb x p (sym (eqb-true p x e))))) o.0)
     go false e r = not_in p (x ∷ xs) (λ t. true_false (is_in p xs) (sym (ap (λ (z : Bool). if z then true else is_in p xs) e) ∙ t) r)
 
+once_behind : (xs : List ℕ) (p : ℕ) (ys : List ℕ) → AreOnce (xs ++ p ∷ ys) → is_in p ys ≡ false
+once_behind [] p ys o = o.0
+once_behind (x ∷ xs) p ys o = once_behind xs p ys o.1
+
 differs : (q p : ℕ) (cs : List ℕ) → is_in q cs ≡ true → is_in p cs ≡ false → q ≡ p → ⊥
 differs q p cs a b e = true_false (is_in p cs) (subst (λ z. is_in z cs ≡ true) e a) b
 
@@ -142,12 +168,8 @@ module _ {G : Ghosts InHand} (n p : ℕ) (xs ys : List (Stop InHand G)) (cs : Li
     only = λ q t. c.only q (steps_back (λ s. (stop_share s).under) (λ s t. TakesPart false n s t) p xs ys (λ s t r. r.1) e q t);
   }
 
--- the visits that are left of a frame that was begun so
-abbrev pub left_of : MasterNode → ℕ → List ℕ
-left_of m passed = visited_of (is_fixed m.tour.again m.tour.opened (length m.tour.stops.items)) (λ k. holds_at (λ s. is_live s.stand) m.tour.stops.items k) (visits_left m.tour.again m.tour.visit.items m.tour.opened (length m.tour.stops.items) m.tour.last passed)
-
 -- BEHIND SO MANY VISITS
-pub record Visiting (m n : MasterNode) : Type 0 where
+pub record Visiting (octets : List ℕ) (m n : MasterNode) : Type 0 where
   pub places : List ℕ
   pub long : length n.tour.stops.items ≡ length m.tour.stops.items
   pub live : (k : ℕ) → holds_at (λ s. is_live s.stand) n.tour.stops.items k ≡ holds_at (λ s. is_live s.stand) m.tour.stops.items k
@@ -156,9 +178,16 @@ pub record Visiting (m n : MasterNode) : Type 0 where
   pub once : AreOnce (left_of m 0)
   pub split : left_of m 0 ≡ places ++ left_of m n.tour.passed
   pub comes : n.tour.visit.items ≡ visit_on (again_of m.tour.again m.tour.visit.items) places
+  pub way : FitFrom (λ s. IsSentStop s) n.tour.stops.items (length octets) 16 places
+  pub fits : m.tour.again ≡ true → FitFrom (λ s. StopRepeats s) n.tour.stops.items 1514 (length octets) (left_of m n.tour.passed)
+  pub few : m.tour.again ≡ true → length m.tour.visit.items ≤ 16
 
-pub visiting_first : (m : MasterNode) → IsBare m → Visiting m m
-visiting_first m b = record {
+-- where the same slaves come again
+left_again : (m : MasterNode) (i : ℕ) → m.tour.again ≡ true → left_of m i ≡ drop i m.tour.visit.items
+left_again m i e = ap (λ z. visited_of (is_fixed z m.tour.opened (length m.tour.stops.items)) (λ k. holds_at (λ s. is_live s.stand) m.tour.stops.items k) (visits_left z m.tour.visit.items m.tour.opened (length m.tour.stops.items) m.tour.last i)) e
+
+pub visiting_first : (octets : List ℕ) (m : MasterNode) → length octets ≡ 16 → IsBare m → Visiting octets m m
+visiting_first octets m short b = record {
   places = [];
   long = refl;
   live = λ k. refl;
@@ -167,6 +196,10 @@ visiting_first m b = record {
   once = visits_once (λ k. holds_at (λ s. is_live s.stand) m.tour.stops.items k) m.tour.again m.tour.visit.items m.tour.opened (length m.tour.stops.items) m.tour.last b.again;
   split = ap (left_of m) (sym b.passed);
   comes = go m.tour.again refl;
+  way = omega (arith, short);
+  fits = λ e. subst (λ n. FitFrom (λ s. StopRepeats s) m.tour.stops.items 1514 n (left_of m m.tour.passed)) (sym short)
+      (subst (λ z. FitFrom (λ s. StopRepeats s) m.tour.stops.items 1514 16 z) (sym (ap (left_of m) b.passed ∙ left_again m 0 e)) (b.fits e).fit);
+  few = λ e. (b.fits e).few;
 }
   where
     go : (z : Bool) → m.tour.again ≡ z → m.tour.visit.items ≡ visit_on (again_of m.tour.again m.tour.visit.items) []
@@ -182,19 +215,64 @@ whole m = go m.tour.again
     go true = refl
     go false = refl
 
-pub visiting_last : (m n : MasterNode) → Visiting m n → HasVisited m n
-visiting_last m n v = record { places = v.places; rest = left_of m n.tour.passed; count = v.count; long = v.long; carries = v.carries; split = sym (whole m) ∙ v.split; comes = v.comes }
+pub visiting_last : (octets : List ℕ) (m n : MasterNode) → length m.tour.stops.items ≤ 16 → n.tour.count ≡ 16 → Visiting octets m n → HasVisited octets m n
+visiting_last octets m n few many v = record {
+  places = v.places;
+  rest = left_of m n.tour.passed;
+  count = v.count;
+  long = v.long;
+  alive = v.live;
+  carries = v.carries;
+  split = sym (whole m) ∙ v.split;
+  comes = v.comes;
+  leaves = leaves_none octets n.tour.stops.items m.tour.again (left_of m n.tour.passed) (none_left m v.places (left_of m n.tour.passed) few v.few v.split (let e = v.count in omega (arith, e, many)));
+  most = omega (arith, many);
+  way = v.way;
+}
 
-pub visiting_same : (m n o : MasterNode) → SameTour n o → Visiting m n → HasVisited m o
-visiting_same m n o k v = record {
+left_same : (again : Bool) (visit visit' : List ℕ) (opened count : ℕ) (last : Option ℕ) (passed : ℕ) → (again ≡ true → visit' ≡ visit) → visits_left again visit' opened count last passed ≡ visits_left again visit opened count last passed
+left_same true visit visit' opened count last passed e = ap (λ z. visits_left true z opened count last passed) (e refl)
+left_same false visit visit' opened count last passed e = refl
+
+-- the visits that are left, by the tour as it stands now
+abbrev pub left_now : MasterNode → ℕ → List ℕ
+left_now n passed = visited_of (is_fixed n.tour.again n.tour.opened (length n.tour.stops.items)) (λ j. holds_at (λ s. is_live s.stand) n.tour.stops.items j) (visits_left n.tour.again n.tour.visit.items n.tour.opened (length n.tour.stops.items) n.tour.last passed)
+
+pub left_here : {octets : List ℕ} (m n : MasterNode) → Visiting octets m n → TourOn m n → (i : ℕ) → left_now n i ≡ left_of m i
+left_here m n v since i =
+    visited_same (is_fixed n.tour.again n.tour.opened (length n.tour.stops.items)) (λ j. holds_at (λ s. is_live s.stand) n.tour.stops.items j) (λ j. holds_at (λ s. is_live s.stand) m.tour.stops.items j)
+    (visits_left n.tour.again n.tour.visit.items n.tour.opened (length n.tour.stops.items) n.tour.last i) v.live
+    ∙ (λ j. visited_of (is_fixed (since.again j) (since.opened j) (v.long j)) (λ k. holds_at (λ s. is_live s.stand) m.tour.stops.items k) (visits_left (since.again j) n.tour.visit.items (since.opened j) (v.long j) (since.last j) i))
+    ∙ ap (visited_of (is_fixed m.tour.again m.tour.opened (length m.tour.stops.items)) (λ k. holds_at (λ s. is_live s.stand) m.tour.stops.items k)) (left_same m.tour.again m.tour.visit.items n.tour.visit.items m.tour.opened (length m.tour.stops.items) m.tour.last i
+    (λ e. v.comes ∙ ap (λ z. visit_on (again_of z m.tour.visit.items) v.places) e))
+
+pub visiting_same : (octets : List ℕ) (m n o : MasterNode) → length m.tour.stops.items ≤ 16 → n.tour.count ≤ 16 → TourOn m n → SameTour n o → (n.tour.count < 16 → n.tour.again ≡ false → left_now n n.tour.passed ≡ []) →
+    (n.tour.count < 16 → n.tour.again ≡ true → IfSome (slice_get n.tour.visit.items n.tour.passed) (λ p. length n.tour.stops.items ≤ p)) → Visiting octets m n → HasVisited octets m o
+visiting_same octets m n o few most since k none ends v = record {
   places = v.places;
   rest = left_of m n.tour.passed;
   count = v.count ∙ sym k.count;
   long = ap (λ z. length z.items) k.stops ∙ v.long;
+  alive = λ j. ap (λ z. holds_at (λ s. is_live s.stand) z.items j) k.stops ∙ v.live j;
   carries = subst (λ z. Carries (λ s. stop_share s) z.items v.places) (sym k.stops) v.carries;
   split = sym (whole m) ∙ v.split;
   comes = ap (λ z. z.items) k.visit ∙ v.comes;
+  leaves = leaves_none octets o.tour.stops.items m.tour.again (left_of m n.tour.passed) (go (nat_lt n.tour.count 16) refl);
+  most = let e = k.count in omega (arith, e, most);
+  way = subst (λ z. FitFrom (λ s. IsSentStop s) z.items (length octets) 16 v.places) (sym k.stops) v.way;
 }
+  where
+    by : n.tour.count < 16 → (z : Bool) → m.tour.again ≡ z → left_of m n.tour.passed ≡ []
+    by l false e = sym (left_here m n v since n.tour.passed) ∙ none l (since.again ∙ e)
+    by l true e =
+        let now = left_again n n.tour.passed (since.again ∙ e) in
+        sym (left_here m n v since n.tour.passed) ∙ now
+        ∙ fit_ends (λ s. StopRepeats s) n.tour.stops.items 1514 (length octets) n.tour.visit.items n.tour.passed (ends l (since.again ∙ e))
+        (subst (λ z. FitFrom (λ s. StopRepeats s) n.tour.stops.items 1514 (length octets) z) (sym (left_here m n v since n.tour.passed) ∙ now) (v.fits e))
+
+    go : (z : Bool) → nat_lt n.tour.count 16 ≡ z → left_of m n.tour.passed ≡ []
+    go true l = by (ltb-true n.tour.count 16 l) m.tour.again refl
+    go false l = none_left m v.places (left_of m n.tour.passed) few v.few v.split (let c = v.count in let g = ltb-false n.tour.count 16 l in omega (arith, c, g))
 
 -- where the tour stands once that is known: as before, but for the visits that were passed
 abbrev pub TourStops : Type 0
@@ -207,10 +285,6 @@ pub record IsDue (n : MasterNode) (t : TourStops) : Type 0 where
   pub visit : t.visit ≡ n.tour.visit
 
 -- ONE VISIT MORE, of the slave that comes next
-left_same : (again : Bool) (visit visit' : List ℕ) (opened count : ℕ) (last : Option ℕ) (passed : ℕ) → (again ≡ true → visit' ≡ visit) → visits_left again visit' opened count last passed ≡ visits_left again visit opened count last passed
-left_same true visit visit' opened count last passed e = ap (λ z. visits_left true z opened count last passed) (e refl)
-left_same false visit visit' opened count last passed e = refl
-
 more_on : (again : Bool) (visit cs : List ℕ) (p : ℕ) (old new : List ℕ) → old ≡ visit_on (again_of again visit) cs → IsCarried true again p old new → new ≡ visit_on (again_of again visit) (cs ++ p ∷ [])
 more_on true visit cs p old new e c = c ∙ e
 more_on false visit cs p old new e c = c ∙ ap (λ z. z ++ p ∷ []) e
@@ -218,27 +292,31 @@ more_on false visit cs p old new e c = c ∙ ap (λ z. z ++ p ∷ []) e
 kept_on : (again : Bool) (p : ℕ) (old new : List ℕ) → IsCarried false again p old new → new ≡ old
 kept_on again p old new c = c
 
-module _ (m n n2 : MasterNode) (t1 : TourStops) (p : ℕ) (v : Visiting m n) (since : TourOn m n) (k : IsDue n t1)
+module _ (before behind : List ℕ) (m n n2 : MasterNode) (t1 : TourStops) (p : ℕ) (v : Visiting before m n) (since : TourOn m n) (k : IsDue n t1)
     (order : visited_of (is_fixed n.tour.again n.tour.opened (length n.tour.stops.items)) (λ j. holds_at (λ s. is_live s.stand) n.tour.stops.items j) (visits_left n.tour.again n.tour.visit.items n.tour.opened (length n.tour.stops.items) n.tour.last n.tour.passed)
     ≡ p ∷ visited_of (is_fixed n.tour.again n.tour.opened (length n.tour.stops.items)) (λ j. holds_at (λ s. is_live s.stand) n.tour.stops.items j) (visits_left n.tour.again n.tour.visit.items n.tour.opened (length n.tour.stops.items) n.tour.last t1.passed))
     (space : t1.count < 16) (passed : n2.tour.passed ≡ t1.passed)
     (takes : (t1.again ≡ false → length t1.visit.items < 16) → IsCarried (nat_lt t1.count n2.tour.count) t1.again p t1.visit.items n2.tour.visit.items)
-    (shares : StepsAt (λ s t. TakesPart (nat_lt t1.count n2.tour.count) t1.count s t) p t1.stops.items n2.tour.stops.items) where
-  again_visit : m.tour.again ≡ true → n.tour.visit.items ≡ m.tour.visit.items
-  again_visit e = v.comes ∙ ap (λ z. visit_on (again_of z m.tour.visit.items) v.places) e
-
-  lefts : (i : ℕ) → visited_of (is_fixed n.tour.again n.tour.opened (length n.tour.stops.items)) (λ j. holds_at (λ s. is_live s.stand) n.tour.stops.items j) (visits_left n.tour.again n.tour.visit.items n.tour.opened (length n.tour.stops.items) n.tour.last i) ≡ left_of m i
-  lefts i =
-      visited_same (is_fixed n.tour.again n.tour.opened (length n.tour.stops.items)) (λ j. holds_at (λ s. is_live s.stand) n.tour.stops.items j) (λ j. holds_at (λ s. is_live s.stand) m.tour.stops.items j)
-      (visits_left n.tour.again n.tour.visit.items n.tour.opened (length n.tour.stops.items) n.tour.last i) v.live
-      ∙ (λ j. visited_of (is_fixed (since.again j) (since.opened j) (v.long j)) (λ k. holds_at (λ s. is_live s.stand) m.tour.stops.items k) (visits_left (since.again j) n.tour.visit.items (since.opened j) (v.long j) (since.last j) i))
-      ∙ ap (visited_of (is_fixed m.tour.again m.tour.opened (length m.tour.stops.items)) (λ k. holds_at (λ s. is_live s.stand) m.tour.stops.items k)) (left_same m.tour.again m.tour.visit.items n.tour.visit.items m.tour.opened (length m.tour.stops.items) m.tour.last i again_visit)
-
+    (shares : StepsAt (λ s t. TakesPart (nat_lt t1.count n2.tour.count) t1.count s t) p t1.stops.items n2.tour.stops.items)
+    (gets : StepsAt (λ s t. Takes before behind (nat_lt t1.count n2.tour.count) s t) p t1.stops.items n2.tour.stops.items) where
   here : left_of m 0 ≡ v.places ++ p ∷ left_of m t1.passed
-  here = v.split ∙ ap (λ z. v.places ++ z) (sym (lefts n.tour.passed) ∙ order ∙ ap (λ z. p ∷ z) (lefts t1.passed))
+  here = v.split ∙ ap (λ z. v.places ++ z) (sym (left_here m n v since n.tour.passed) ∙ order ∙ ap (λ z. p ∷ z) (left_here m n v since t1.passed))
 
   new : is_in p v.places ≡ false
   new = once_mid v.places p (left_of m t1.passed) (subst AreOnce here v.once)
+
+  later : is_in p (left_of m t1.passed) ≡ false
+  later = once_behind v.places p (left_of m t1.passed) (subst AreOnce here v.once)
+
+  next : left_of m n.tour.passed ≡ p ∷ left_of m t1.passed
+  next = sym (left_here m n v since n.tour.passed) ∙ order ∙ ap (λ z. p ∷ z) (left_here m n v since t1.passed)
+
+  way1 : FitFrom (λ s. IsSentStop s) n2.tour.stops.items (length before) 16 v.places
+  way1 = fit_else (λ s. IsSentStop s) _ p t1.stops.items n2.tour.stops.items (length before) 16 v.places gets new (subst (λ z. FitFrom (λ s. IsSentStop s) z.items (length before) 16 v.places) (sym k.stops) v.way)
+
+  -- behind a lost frame
+  fits1 : m.tour.again ≡ true → FitFrom (λ s. StopRepeats s) t1.stops.items 1514 (length before) (p ∷ left_of m t1.passed)
+  fits1 e = subst (λ z. FitFrom (λ s. StopRepeats s) z.items 1514 (length before) (p ∷ left_of m t1.passed)) (sym k.stops) (subst (λ z. FitFrom (λ s. StopRepeats s) n.tour.stops.items 1514 (length before) z) next (v.fits e))
 
   carries1 : Carries (λ s. stop_share s) t1.stops.items v.places
   carries1 = subst (λ z. Carries (λ s. stop_share s) z.items v.places) (sym k.stops) v.carries
@@ -264,21 +342,38 @@ module _ (m n n2 : MasterNode) (t1 : TourStops) (p : ℕ) (v : Visiting m n) (si
   long2 : length n2.tour.stops.items ≡ length m.tour.stops.items
   long2 = steps_long _ p t1.stops.items n2.tour.stops.items shares ∙ ap (λ z. length z.items) k.stops ∙ v.long
 
+  alive2 : (j : ℕ) → holds_at (λ s. is_live s.stand) n2.tour.stops.items j ≡ holds_at (λ s. is_live s.stand) m.tour.stops.items j
+  alive2 j = go (nat_lt t1.count n2.tour.count) shares ∙ ap (λ z. holds_at (λ s. is_live s.stand) z.items j) k.stops ∙ v.live j
+    where
+      go : (z : Bool) → StepsAt (λ s t. TakesPart z t1.count s t) p t1.stops.items n2.tour.stops.items → holds_at (λ s. is_live s.stand) n2.tour.stops.items j ≡ holds_at (λ s. is_live s.stand) t1.stops.items j
+      go true e = steps_holds (λ s. is_live s.stand) (λ s t. TakesPart true t1.count s t) p t1.stops.items n2.tour.stops.items (λ s t r. ap is_live r.0) e j
+      go false e = steps_holds (λ s. is_live s.stand) (λ s t. TakesPart false t1.count s t) p t1.stops.items n2.tour.stops.items (λ s t r. ap is_live r.0) e j
+
   -- it has the next datagram
-  pub visiting_more : n2.tour.count ≡ t1.count + 1 → Visiting m n2
+  pub visiting_more : n2.tour.count ≡ t1.count + 1 → Visiting behind m n2
   visiting_more c =
       let yes = lt-ltb t1.count n2.tour.count (omega (arith, c)) in
       let part = subst (λ z. StepsAt (λ s t. TakesPart z t1.count s t) p t1.stops.items n2.tour.stops.items) yes shares in
+      let sent = way_here before behind p t1.stops.items n2.tour.stops.items (steps_map _ (λ s t. IsSentStop t × (length behind ≡ length before + (12 + stop_len t))) p t1.stops.items n2.tour.stops.items (λ s t r. let w = r.1.way yes in ((r.0.1, w.0), w.1)) (steps_both _ _ p t1.stops.items n2.tour.stops.items part gets)) in
       let l = more_long v.places in
       let u = count1 in
       record {
         places = v.places ++ p ∷ [];
         long = long2;
-        live = λ j. steps_holds (λ s. is_live s.stand) (λ s t. TakesPart true t1.count s t) p t1.stops.items n2.tour.stops.items (λ s t r. ap is_live r.0) part j ∙ ap (λ z. holds_at (λ s. is_live s.stand) z.items j) k.stops ∙ v.live j;
+        live = alive2;
         count = omega (arith, l, u, c);
         carries = carries_more t1.count p t1.stops.items n2.tour.stops.items v.places new carries1 count1 part;
         once = v.once;
         split = here ∙ sym (append_assoc v.places (p ∷ []) (left_of m t1.passed)) ∙ ap (λ z. (v.places ++ p ∷ []) ++ left_of m z) (sym passed);
+        way = fit_more (λ s. IsSentStop s) n2.tour.stops.items (length before) (length behind) 16 p v.places sent.0 (let e = sent.1 in omega (arith, e)) way1;
+        fits = λ e.
+            let f = fits1 e in
+            let a = (again_here before behind (nat_lt t1.count n2.tour.count) p t1.stops.items n2.tour.stops.items gets f.0).0 yes in
+            let g = sent.1 in
+            subst (λ z. FitFrom (λ s. StopRepeats s) n2.tour.stops.items 1514 (length behind) (left_of m z)) (sym passed)
+            (fit_else (λ s. StopRepeats s) _ p t1.stops.items n2.tour.stops.items 1514 (length behind) (left_of m t1.passed) gets later
+            (fit_less (λ s. StopRepeats s) t1.stops.items 1514 (length before + (12 + len_in t1.stops.items p)) (length behind) (left_of m t1.passed) (omega (arith, a, g)) f.1));
+        few = v.few;
         comes = more_on m.tour.again m.tour.visit.items v.places p t1.visit.items n2.tour.visit.items comes1 (subst (λ z. IsCarried z m.tour.again p t1.visit.items n2.tour.visit.items) yes carried);
       }
     where
@@ -287,17 +382,27 @@ module _ (m n n2 : MasterNode) (t1 : TourStops) (p : ℕ) (v : Visiting m n) (si
       more_long (x ∷ xs) = let e = more_long xs in omega (arith, e)
 
   -- the frame has no room for it
-  pub visiting_still : n2.tour.count ≡ t1.count → HasVisited m n2
-  visiting_still c =
+  pub visiting_still : (holds_at (λ s. is_live s.stand) n2.tour.stops.items p ≡ true → HasNoRoom behind (area_in n2.tour.stops.items p)) → n2.tour.count ≡ t1.count → HasVisited behind m n2
+  visiting_still full c =
       let no = le-ltb t1.count n2.tour.count (omega (arith, c)) in
       record {
         places = v.places;
         rest = p ∷ left_of m t1.passed;
         count = count1 ∙ sym c;
         long = long2;
+        alive = alive2;
         carries = carries_still t1.count p t1.stops.items n2.tour.stops.items v.places new carries1 (subst (λ z. StepsAt (λ s t. TakesPart z t1.count s t) p t1.stops.items n2.tour.stops.items) no shares);
         split = sym (whole m) ∙ here;
         comes = kept_on m.tour.again p t1.visit.items n2.tour.visit.items (subst (λ z. IsCarried z m.tour.again p t1.visit.items n2.tour.visit.items) no carried) ∙ comes1;
+        leaves = leaves_one behind n2.tour.stops.items m.tour.again p (left_of m t1.passed)
+            (λ e.
+            let f = fits1 e in
+            let a = (again_here before behind (nat_lt t1.count n2.tour.count) p t1.stops.items n2.tour.stops.items gets f.0).1 no in
+            let b = fit_most (λ s. StopRepeats s) t1.stops.items 1514 (length before + (12 + len_in t1.stops.items p)) (left_of m t1.passed) f.1 in
+            omega (arith, a, b))
+            full;
+        most = omega (arith, c, space);
+        way = subst (λ z. FitFrom (λ s. IsSentStop s) n2.tour.stops.items (length z) 16 v.places) (sym (stays_here before behind (nat_lt t1.count n2.tour.count) p t1.stops.items n2.tour.stops.items no gets)) way1;
       }
 
 -- THE FRAME IS OF THE TOUR as it stood before
@@ -308,7 +413,7 @@ visit_same live was count n again was_again opened was_opened last was_last h a 
     go (Some same) = refl
     go None = visited_same (nat_lt was_opened n) live was (visits_left false [] was_opened n was_last 0) h
 
-module _ (m m1 m2 : MasterNode) (h : HasVisited m1 m2) (again : m1.tour.again ≡ m.tour.again) (visit : m.tour.again ≡ true → m1.tour.visit.items ≡ m.tour.visit.items) (opened : m1.tour.opened ≡ m.tour.opened) (last : m1.tour.last ≡ m.tour.last) (missed : m1.tour.missed ≡ m.tour.missed) (on : TourOn m1 m2) where
+module _ (octets : List ℕ) (m m1 m2 : MasterNode) (h : HasVisited octets m1 m2) (again : m1.tour.again ≡ m.tour.again) (visit : m.tour.again ≡ true → m1.tour.visit.items ≡ m.tour.visit.items) (opened : m1.tour.opened ≡ m.tour.opened) (last : m1.tour.last ≡ m.tour.last) (missed : m1.tour.missed ≡ m.tour.missed) (on : TourOn m1 m2) where
   again_first : again_of m1.tour.again m1.tour.visit.items ≡ again_of m.tour.again m.tour.visit.items
   again_first = ap (λ z. again_of z m1.tour.visit.items) again ∙ go m.tour.again refl
     where
@@ -326,28 +431,37 @@ module _ (m m1 m2 : MasterNode) (h : HasVisited m1 m2) (again : m1.tour.again �
   pub tour_same : tour_of m2 ≡ tour_of m
   tour_same = λ i. record { again = again_same i; opened = (on.opened ∙ opened) i; last = (on.last ∙ last) i; missed = (on.missed ∙ missed) i }
 
-  pub of_tour : (live : ℕ → Bool) → ((k : ℕ) → holds_at (λ s. is_live s.stand) m1.tour.stops.items k ≡ live k) → (many : ℕ) → many ≡ m2.tour.count → 1 ≤ m2.tour.count → IsOfTour (λ s. stop_share s) live (tour_of m) m2.tour.stops.items many m2.tour.visit.items
-  of_tour live alive many is some = record {
+  first_rest : (live : ℕ → Bool) → ((k : ℕ) → holds_at (λ s. is_live s.stand) m1.tour.stops.items k ≡ live k) → visit_of live (length m2.tour.stops.items) (again_of m.tour.again m.tour.visit.items) m.tour.opened m.tour.last ≡ h.places ++ h.rest
+  first_rest live alive = sym (visit_same (λ k. holds_at (λ s. is_live s.stand) m1.tour.stops.items k) live (length m1.tour.stops.items) (length m2.tour.stops.items) (again_of m1.tour.again m1.tour.visit.items) (again_of m.tour.again m.tour.visit.items) m1.tour.opened m.tour.opened m1.tour.last m.tour.last alive (sym h.long) again_first opened last) ∙ h.split
+
+  pub of_tour : (live : ℕ → Bool) → ((k : ℕ) → holds_at (λ s. is_live s.stand) m1.tour.stops.items k ≡ live k) → ((k : ℕ) → holds_at (λ s. is_live s.stand) m2.tour.stops.items k ≡ live k) → (size : ℕ) (area : ℕ → ℕ) → size ≡ length octets - 16 → ((k : ℕ) → area_in m2.tour.stops.items k ≡ area k) →
+      (many : ℕ) → many ≡ m2.tour.count → 1 ≤ m2.tour.count → IsOfTour (λ s. stop_share s) live size area (tour_of m) m2.tour.stops.items many m2.tour.visit.items
+  of_tour live alive still size area sized areas many is some = record {
     places = h.places;
     whole = h.count ∙ sym is;
     carries = h.carries;
     first = record {
       rest = h.rest;
-      split = sym (visit_same (λ k. holds_at (λ s. is_live s.stand) m1.tour.stops.items k) live (length m1.tour.stops.items) (length m2.tour.stops.items) (again_of m1.tour.again m1.tour.visit.items) (again_of m.tour.again m.tour.visit.items) m1.tour.opened m.tour.opened m1.tour.last m.tour.last alive (sym h.long) again_first opened last) ∙ h.split;
+      split = first_rest live alive;
       some = let c = h.count in omega (arith, c, some);
     };
     comes = h.comes ∙ ap (λ z. visit_on z h.places) again_first;
+    leaves = leaves_out octets m2.tour.stops.items m.tour.again m.tour.visit.items h.rest size area sized areas
+        (λ p ps e r. still p ∙ visit_live live m.tour.opened (length m2.tour.stops.items) m.tour.last h.places p ps (let c = h.count in omega (arith, c, some))
+        (ap (λ z. visit_of live (length m2.tour.stops.items) (again_of z m.tour.visit.items) m.tour.opened m.tour.last) (sym e) ∙ first_rest live alive ∙ ap (λ z. h.places ++ z) r))
+        (subst (λ z. LeavesFull octets m2.tour.stops.items z h.rest) again h.leaves);
   }
 
 -- and by the lives of the slaves
-pub turns_tour : {G : Ghosts InHand} (lens : ℕ → Lens) (recover : ℕ) (octets : List ℕ) (live : ℕ → Bool) (t : Tour) (us : List Turn) (ss : List (Stop InHand G)) (many : ℕ) (visit : List ℕ) → AllBoth (λ u s. IsUnder lens recover octets u s) us ss → IsOfTour (λ s. stop_share s) live t ss many visit → IsOfTour (λ u. turn_share u) live t us many visit
-turns_tour lens recover octets live t us ss many visit e o = record {
+pub turns_tour : {G : Ghosts InHand} (lens : ℕ → Lens) (recover : ℕ) (octets : List ℕ) (live : ℕ → Bool) (size : ℕ) (area : ℕ → ℕ) (t : Tour) (us : List Turn) (ss : List (Stop InHand G)) (many : ℕ) (visit : List ℕ) → AllBoth (λ u s. IsUnder lens recover octets u s) us ss → IsOfTour (λ s. stop_share s) live size area t ss many visit → IsOfTour (λ u. turn_share u) live size area t us many visit
+turns_tour lens recover octets live size area t us ss many visit e o = record {
   places = o.places;
   whole = o.whole;
   carries = carries_same (λ s. stop_share s) (λ u. turn_share u) ss us o.places
       (λ test p. sym (both_holds (λ u s. IsUnder lens recover octets u s) (λ u. test (turn_share u)) (λ s. test (stop_share s)) (λ u s i. ap test (λ j. record { under = sym i.under j; at = sym i.at j })) us ss e p)) o.carries;
-  first = subst (λ z. AreFirst o.places (visit_of live z t.again t.opened t.last)) (sym (both_length (λ u s. IsUnder lens recover octets u s) us ss e)) o.first;
+  first = record { rest = o.first.rest; split = ap (λ z. visit_of live z t.again t.opened t.last) (both_length (λ u s. IsUnder lens recover octets u s) us ss e) ∙ o.first.split; some = o.first.some };
   comes = o.comes;
+  leaves = o.leaves;
 }
 
 -- WHERE IT STANDS BEHIND THE FRAME

@@ -18,6 +18,8 @@ pub record SideKept {G : Ghosts InHand} (n : ℕ) (s t : Side InHand G) : Type 0
   pub side : SameSide s.out s.inn s.fresh s.duty t.out t.inn t.fresh t.duty
   pub station : t.station ≡ s.station
   pub passing : t.passing ≡ s.passing
+  pub turn : t.turn ≡ s.turn
+  pub paused : t.paused ≡ s.paused
   pub carried : t.carried ≡ s.carried
   pub heard : t.heard ≡ s.heard
   pub found : t.hand.found ≡ s.hand.found

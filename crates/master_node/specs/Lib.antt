@@ -15,3 +15,4 @@ pub mod Filling
 pub mod Joined
 pub mod Toured
 pub mod Forwards
+pub mod Rooms

@@ -21,6 +21,7 @@ use Rattle.master_tour.specs.Stands.{StandUnder, is_opening}
 use Rattle.master_tour.specs.declared.stop.Stop.{Stop}
 use Rattle.segment_model.specs.Seats.{Side}
 use Rattle.task_model.specs.Accounts.{Account}
+use Rattle.master_node.specs.Rooms.{FitAgain, FitUnder}
 use Rattle.master_node.specs.declared.node.MasterNode.{MasterNode}
 use Rattle.master_node.specs.declared.post.Post.{Post}
 
@@ -120,6 +121,7 @@ module _ (lens : ℕ → Lens) (recover : ℕ) where
       pub goes : GoesOn m.tour.again m.tour.visit.items m.tour.opened as'
       pub missed_is : m.tour.missed ≡ missed
       pub retry_is : m.tour.retry ≡ retry
+      pub again : m.tour.again ≡ true → FitAgain m.tour.visit.items m.tour.stops.items
 
     -- THE MASTER WHILE THIS FRAME IS UNDER WAY
     pub record MasterUnder (m : MasterNode) (octets : List ℕ) (missed : ℕ) (us : List Turn) : Type 0 where
@@ -130,3 +132,4 @@ module _ (lens : ℕ → Lens) (recover : ℕ) where
       pub missed_is : m.tour.missed ≡ missed
       pub retry_is : m.tour.retry ≡ retry
       pub sent : 1 ≤ length (seen lens octets)
+      pub fits : FitUnder m.tour.visit.items m.tour.stops.items

@@ -1,5 +1,5 @@
 -- THE TOUR OF A MASTER: what its frames carry of the tour, and where that stands behind them.
-use Rattle.std.specs.Prelude.{◌≡◌, ℕ, Bool, true, false, Option, Some, None, List, [], ◌++◌, length}
+use Rattle.std.specs.Prelude.{◌≡◌, ◌≤◌, ℕ, Bool, true, false, Option, Some, None, List, [], ◌++◌, length}
 use Rattle.life_frames.specs.Frames.{Share}
 use Rattle.life_runs.specs.Led.{Turn}
 use Rattle.master_hand.specs.declared.hand.InHand.{InHand}
@@ -8,6 +8,7 @@ use Rattle.master_tour.specs.Goes.{is_live, holds_at}
 use Rattle.master_tour.specs.Orders.{AreOnce}
 use Rattle.master_tour.specs.Toured.{Tour, Carries, visit_of, visit_on}
 use Rattle.master_tour.specs.declared.stop.Stop.{Stop}
+use Rattle.master_node.specs.Rooms.{FitAgain, FitFrom, IsSentStop, LeavesFull}
 use Rattle.master_node.specs.declared.node.MasterNode.{MasterNode}
 
 -- a slave's share of the frame, by its place in the tour and by its life
@@ -35,20 +36,25 @@ abbrev pub TakesPart : {G : Ghosts InHand} → Bool → ℕ → Stop InHand G �
 TakesPart true at s t = (t.stand ≡ s.stand) × (t.under ≡ true) × (t.at ≡ at)
 TakesPart false at s t = (t.stand ≡ s.stand) × (t.under ≡ true → s.under ≡ true)
 
--- BEFORE THE FIRST VISIT of a frame no slave has a datagram of it, and those that come again are different ones
+-- BEFORE THE FIRST VISIT of a frame no slave has a datagram of it, and those that come again are different ones, and have room in it
 pub record IsBare (m : MasterNode) : Type 0 where
   pub count : m.tour.count ≡ 0
   pub passed : m.tour.passed ≡ 0
   pub under : (k : ℕ) → holds_at (λ s. s.under) m.tour.stops.items k ≡ false
   pub again : m.tour.again ≡ true → AreOnce m.tour.visit.items
   pub anew : m.tour.again ≡ false → m.tour.visit.items ≡ []
+  pub fits : m.tour.again ≡ true → FitAgain m.tour.visit.items m.tour.stops.items
 
--- BEHIND THE LAST it carries the first slaves of its visit
-pub record HasVisited (m n : MasterNode) : Type 0 where
+-- BEHIND THE LAST it carries the first slaves of its visit, and leaves out none that would fit
+pub record HasVisited (octets : List ℕ) (m n : MasterNode) : Type 0 where
   pub places : List ℕ
   pub rest : List ℕ
   pub count : length places ≡ n.tour.count
   pub long : length n.tour.stops.items ≡ length m.tour.stops.items
+  pub alive : (k : ℕ) → holds_at (λ s. is_live s.stand) n.tour.stops.items k ≡ holds_at (λ s. is_live s.stand) m.tour.stops.items k
   pub carries : Carries (λ s. stop_share s) n.tour.stops.items places
   pub split : visit_of (λ k. holds_at (λ s. is_live s.stand) m.tour.stops.items k) (length m.tour.stops.items) (again_of m.tour.again m.tour.visit.items) m.tour.opened m.tour.last ≡ places ++ rest
   pub comes : n.tour.visit.items ≡ visit_on (again_of m.tour.again m.tour.visit.items) places
+  pub leaves : LeavesFull octets n.tour.stops.items m.tour.again rest
+  pub most : n.tour.count ≤ 16
+  pub way : FitFrom (λ s. IsSentStop s) n.tour.stops.items (length octets) 16 places

@@ -48,6 +48,7 @@ pub fn lay_script(side: &mut Side<InHand>)
 pub fn pass_by(side: &mut Side<InHand>)
     ensures kept { side.old.hand.laying.number < length side.old.hand.laying.script → SideKept (suc side.old.hand.laying.number) side.old side.new }
     ensures station { side.new.station ≡ side.old.station }
+    ensures sends { (side.new.out ≡ side.old.out) × (side.new.inn ≡ side.old.inn) × (side.new.duty ≡ side.old.duty) × (side.new.passing ≡ side.old.passing) × (side.new.turn ≡ side.old.turn) × (side.new.paused ≡ side.old.paused) × (side.new.carried ≡ side.old.carried) }
     ensures found { side.new.hand.found ≡ side.old.hand.found }
 {
     side.hand.pass_by();

@@ -68,6 +68,9 @@ impl MasterNode {
     ghost use Rattle.master_node.specs.Joined.{JoinsKept};
     ghost use Rattle.master_tour.specs.Toured.{IsOfTour};
     ghost use Rattle.master_node.specs.Shows.{is_live_lead};
+    ghost use Rattle.master_side.specs.Again.{HasNoRoom};
+    ghost use Rattle.master_tour.specs.Sizes.{frame_size};
+    ghost use Rattle.master_node.specs.Rooms.{SendsSame, Takes, area_at, area_in};
     ghost use Rattle.master_node.specs.Toured.{StaysPut, TakesPart, IsBare, HasVisited, stop_share, turn_share, tour_of};
     ghost use Rattle.std.specs.Prelude.{drop};
     ghost use Rattle.master_hand.specs.declared.laying.Laid.{Laid};
@@ -220,6 +223,7 @@ impl MasterNode {
         ensures tour { TourKept self.old self.new }
         ensures posts { self.new.posts ≡ self.old.posts }
         ensures joins { JoinsKept self.old self.new }
+        ensures sends { StepsAt (λ s t. SendsSame s t) place self.old.tour.stops.items self.new.tour.stops.items }
     {
         match coming {
             Coming::State(_) => pass_by(&mut self.tour.stops[place].side),
@@ -237,6 +241,7 @@ impl MasterNode {
         ensures put { StepsAt (λ s t. StaysPut s t) place self.old.tour.stops.items self.new.tour.stops.items }
         ensures kept { TourKept self.old self.new × (All WaitsNone self.old.posts.items → All WaitsNone self.new.posts.items) }
         ensures joins { JoinsKept self.old self.new }
+        ensures sends { StepsAt (λ s t. SendsSame s t) place self.old.tour.stops.items self.new.tour.stops.items }
     {
         let post = &mut self.posts[place];
         post.work = post.next;
@@ -260,6 +265,7 @@ impl MasterNode {
         ensures put { StepsAt (λ s t. StaysPut s t) place self.old.tour.stops.items self.new.tour.stops.items }
         ensures kept { TourKept self.old self.new × (All WaitsNone self.old.posts.items → All WaitsNone self.new.posts.items) }
         ensures joins { JoinsKept self.old self.new }
+        ensures sends { StepsAt (λ s t. SendsSame s t) place self.old.tour.stops.items self.new.tour.stops.items }
     {
         if began {
             self.begun(place, coming);
@@ -283,6 +289,8 @@ impl MasterNode {
         ensures led { (lens : ℕ → Lens) (recover made : ℕ) (left next : List ℕ) (as' : List Leads) → All WaitsNone self.old.posts.items → AreDistinct (map lived_of as') → is_in place left ≡ true → is_in place next ≡ false → ((k : ℕ) → is_in k next ≡ true → is_in k left ≡ true) →
             IsFilling lens recover made left self.old into.old.items as' → IsFilling lens recover made (if result then next else left) self.new into.new.items as' }
         ensures joins { JoinsKept self.old self.new }
+        ensures room { self.new.tour.count ≡ self.old.tour.count → holds_at (λ s. is_live s.stand) self.new.tour.stops.items place ≡ true → HasNoRoom into.new.items (area_in self.new.tour.stops.items place) }
+        ensures takes { StepsAt (λ s t. Takes into.old.items into.new.items (nat_lt self.old.tour.count self.new.tour.count) s t) place self.old.tour.stops.items self.new.tour.stops.items }
     {
         let index = (self.made % 256) as u8;
         let coming = self.coming(place);
@@ -302,7 +310,7 @@ impl MasterNode {
         ensures begun { (ds : List Raw.Datagram) × IsBegun into.new.items ds }
         ensures posts { vec_len self.new.posts ≡ vec_len self.old.posts }
         ensures on { TourOn self.old self.new }
-        ensures visited { IsBare self.old → HasVisited self.old self.new }
+        ensures visited { IsBare self.old → length into.old.items ≡ 16 → HasVisited into.new.items self.old self.new }
         ensures filled { (lens : ℕ → Lens) (recover made : ℕ) (as' : List Leads) → AreDistinct (map lived_of as') → IsEmpty lens recover made self.old into.old.items as' → IsFilled lens recover made self.new into.new.items as' }
         ensures joins { JoinsKept self.old self.new }
     {
@@ -325,7 +333,7 @@ impl MasterNode {
         ensures posts { vec_len self.new.posts ≡ vec_len self.old.posts }
         ensures led { (lens : ℕ → Lens) (recover retry missed number : ℕ) (as' : List Leads) → list_any (λ s. is_live s.stand) self.old.tour.stops.items ≡ true → MasterShows lens recover retry self.old missed as' →
             (us : List Turn) × IsLedFrame lens number into.new.items as' us × MasterUnder lens recover retry self.new into.new.items missed us × (tour_of self.new ≡ tour_of self.old) ×
-            IsOfTour (λ s. stop_share s) (λ k. holds_at is_live_lead as' k) (tour_of self.old) self.new.tour.stops.items (length (seen lens into.new.items)) self.new.tour.visit.items }
+            IsOfTour (λ s. stop_share s) (λ k. holds_at is_live_lead as' k) (frame_size into.new.items) (λ k. area_at lens as' k) (tour_of self.old) self.new.tour.stops.items (length (seen lens into.new.items)) self.new.tour.visit.items }
         ensures joins { JoinsKept self.old self.new }
     {
         self.tour.begin(into);
@@ -334,14 +342,15 @@ impl MasterNode {
     }
 
     /// Makes the next frame; `Idle` exactly where no slave is live. The frame has just the datagrams that the lives of the slaves ask for, and
-    /// what came into hand of each is next of its script, or a packet. It carries the first slaves of its visit of the tour, in this order.
+    /// what came into hand of each is next of its script, or a packet. It carries the slaves of its visit of the tour, in this order: behind a lost frame
+    /// just the same again; of a round the first, and it leaves out none that would fit.
     pub fn next(&mut self, into: &mut FrameBuf) -> Next
         ensures idle { (result ≡ Next.Idle) ↔ (list_any (λ s. is_live s.stand) self.old.tour.stops.items ≡ false) }
         ensures posts { vec_len self.new.posts ≡ vec_len self.old.posts }
         ensures led { result ≡ Next.Frame → (lens : ℕ → Lens) (recover retry missed number : ℕ) (as' : List Leads) → MasterShows lens recover retry self.old missed as' →
             (us : List Turn) × IsLedFrame lens number into.new.items as' us × MasterUnder lens recover retry self.new into.new.items missed us }
         ensures toured { result ≡ Next.Frame → (lens : ℕ → Lens) (recover retry missed : ℕ) (as' : List Leads) (us : List Turn) → MasterShows lens recover retry self.old missed as' → MasterUnder lens recover retry self.new into.new.items missed us →
-            (tour_of self.new ≡ tour_of self.old) × IsOfTour (λ u. turn_share u) (λ k. holds_at is_live_lead as' k) (tour_of self.old) us (length (seen lens into.new.items)) self.new.tour.visit.items }
+            (tour_of self.new ≡ tour_of self.old) × IsOfTour (λ u. turn_share u) (λ k. holds_at is_live_lead as' k) (frame_size into.new.items) (λ k. area_at lens as' k) (tour_of self.old) us (length (seen lens into.new.items)) self.new.tour.visit.items }
         ensures joins { JoinsKept self.old self.new }
     {
         self.list.clear();

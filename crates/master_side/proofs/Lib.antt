@@ -1,3 +1,4 @@
 pub mod Begins
 pub mod Backs
 pub mod Grams
+pub mod Agains

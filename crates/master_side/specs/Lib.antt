@@ -4,3 +4,4 @@ pub mod Carried
 pub mod Sent
 pub mod Heard
 pub mod Passes
+pub mod Again

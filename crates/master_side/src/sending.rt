@@ -36,6 +36,8 @@ impl<H: Hand> Side<H> {
     ghost use Rattle.master_side.specs.Carried.{Meant, choice_of, link_choice, drain_choice, mails_choice};
     ghost use Rattle.master_side.specs.Sent.{IsSent, SameSide, SameLink, visit_gram, write_gram, inward_gram, gram_len};
     ghost use Rattle.master_side.specs.Shown.{SideShows, Holds};
+    ghost use Rattle.master_side.specs.Again.{HasNoRoom, IsOnWay, Repeats, area_of, next_len, sent_len};
+    ghost use Rattle.master_side.specs.Carried.{in_hand};
     ghost use Rattle.master_side.specs.declared.carried.Carried.{Carried};
 
     // The write of the mail held stands next.
@@ -46,6 +48,7 @@ impl<H: Hand> Side<H> {
         ensures begun { (ds : List Raw.Datagram) → IsBegun frame.old.items ds → IsBegun frame.new.items (ds ++ write_gram index self.now.out self.now.out.state ∷ []) }
         ensures sent { IsSent self.now.area (write_gram index self.now.out self.now.out.state) }
         ensures reads { (m : Mail) → self.now.out.state ≡ Some m → ReadsAs self.now.out.len m }
+        ensures grows { length frame.new.items ≡ length frame.old.items + (12 + self.now.out.len) }
     {
         let head = self.out.head(index);
         datagrams::add_with(frame, &head, &self.out);
@@ -57,6 +60,7 @@ impl<H: Hand> Side<H> {
         requires room { length (in_access_of self.now.inn).octets ≤ 1514 - length frame.old.items - 12 }
         ensures begun { (ds : List Raw.Datagram) → IsBegun frame.old.items ds → IsBegun frame.new.items (ds ++ inward_gram index self.now.inn ∷ []) }
         ensures sent { IsSent self.now.area (inward_gram index self.now.inn) }
+        ensures grows { length frame.new.items ≡ length frame.old.items + (12 + length (in_access_of self.now.inn).octets) }
     {
         let head = self.inn.head(index);
         datagrams::add_with(frame, &head, &self.inn);
@@ -71,6 +75,7 @@ impl<H: Hand> Side<H> {
         ensures sent { IsSent self.now.area (visit_gram self.now.station index self.now.out self.now.inn self.now.duty result) }
         ensures meant { (lens : ℕ → Lens) (due : Option Access) (h : Halves Body) → (lens self.now.station).out ≡ self.now.out.len → (lens self.now.station).back ≡ in_area_len self.now.inn → h ≡ record { out = seat_half self.now.out; inn = in_half_of self.now.inn } →
             Meant self.now.station result h due (datagram_seen lens (visit_gram self.now.station index self.now.out self.now.inn self.now.duty result)) }
+        ensures grows { length frame.new.items ≡ length frame.old.items + (12 + gram_len self.now.out self.now.inn result) }
     {
         if !self.paused && matches!(self.inn, InwardHalf::Clear(_)) && !self.out.is_idle() {
             self.add_write(index, frame);
@@ -89,6 +94,7 @@ impl<H: Hand> Side<H> {
         ensures sent { IsSent self.now.area (visit_gram self.now.station index self.now.out self.now.inn self.now.duty result) }
         ensures meant { (lens : ℕ → Lens) (due : Option Access) (h : Halves Body) → (lens self.now.station).out ≡ self.now.out.len → (lens self.now.station).back ≡ in_area_len self.now.inn → h ≡ record { out = seat_half self.now.out; inn = in_half_of self.now.inn } →
             Meant self.now.station result h due (datagram_seen lens (visit_gram self.now.station index self.now.out self.now.inn self.now.duty result)) }
+        ensures grows { length frame.new.items ≡ length frame.old.items + (12 + gram_len self.now.out self.now.inn result) }
     {
         if !self.turn && matches!(self.inn, InwardHalf::Clear(_)) {
             add_full(self.station, index, frame);
@@ -107,6 +113,7 @@ impl<H: Hand> Side<H> {
         ensures sent { IsSent self.now.area (visit_gram self.now.station index self.now.out self.now.inn self.now.duty result) }
         ensures meant { (x : Speech Body H.Asked Reply) (lens : ℕ → Lens) (d : Seats.Side Body H.Asked Reply) (a : Account H.Asked Reply) → (lens self.now.station).out ≡ self.now.out.len → (lens self.now.station).back ≡ in_area_len self.now.inn → SideShows (H.shows self.now.hand x) self.now.out self.now.inn self.now.fresh self.now.duty d a →
             Meant self.now.station result d.halves (duty_access a.hand) (datagram_seen lens (visit_gram self.now.station index self.now.out self.now.inn self.now.duty result)) }
+        ensures grows { length frame.new.items ≡ length frame.old.items + (12 + gram_len self.now.out self.now.inn result) }
     {
         match self.state_in_hand() {
             None => match self.passing {
@@ -162,6 +169,7 @@ impl<H: Hand> Side<H> {
     fn len_of(&self, carried: Carried) -> usize
         ensures is { result ≡ gram_len self.now.out self.now.inn carried }
         ensures most { result ≤ 1486 }
+        ensures area { result ≤ area_of self.now }
     {
         match carried {
             Carried::Nothing => 0,
@@ -175,7 +183,9 @@ impl<H: Hand> Side<H> {
 
     // How many octets the first datagram of a service has that comes into hand: a drain begins with the status, mails with their write.
     fn first_len(&self, wish: Wish) -> usize
-        ensures { result ≤ 1486 }
+        ensures most { result ≤ 1486 }
+        ensures area { result ≤ area_of self.now }
+        ensures again { in_hand self.now.duty ≡ None → self.now.passing ≡ None → Repeats self.now → result ≤ sent_len self.now }
     {
         if !matches!(self.inn, InwardHalf::Clear(_)) {
             return self.len_of(Carried::Inward);
@@ -196,6 +206,8 @@ impl<H: Hand> Side<H> {
         ensures passing { self.new.passing ≡ self.old.passing }
         ensures most { result ≤ 1486 }
         ensures join { H.join self.new.hand ≡ H.join self.old.hand }
+        ensures area { result ≤ area_of self.old }
+        ensures again { Repeats self.old → Repeats self.new × (sent_len self.new ≡ sent_len self.old) × (result ≤ sent_len self.old) }
     {
         match wish {
             Some(wish) if self.is_free() => self.first_len(wish),
@@ -219,6 +231,10 @@ impl<H: Hand> Side<H> {
         ensures kept { SameSide self.old.out self.old.inn self.old.fresh self.old.duty self.new.out self.new.inn self.new.fresh self.new.duty }
         ensures hand { (self.new.hand ≡ self.old.hand) × (self.new.passing ≡ self.old.passing) }
         ensures link { (self.new.station ≡ self.old.station) × (self.new.area ≡ self.old.area) }
+        ensures long { result ≡ false → HasNoRoom frame.old.items (next_len self.old) }
+        ensures area { result ≡ false → HasNoRoom frame.old.items (area_of self.old) }
+        ensures grows { result ≡ true → length frame.new.items ≡ length frame.old.items + (12 + sent_len self.new) }
+        ensures way { result ≡ true → IsOnWay self.new × (sent_len self.new ≡ next_len self.old) }
     {
         self.heard = None;
         if self.len_of(self.choice()) > datagrams::room(frame) {
@@ -244,7 +260,8 @@ fn carried_by(errand: Errand) -> Carried
 fn add_full(station: u16, index: u8, frame: &mut FrameBuf)
     requires begun { (ds : List Raw.Datagram) × IsBegun frame.old.items ds }
     requires room { 1 ≤ 1514 - length frame.old.items - 12 }
-    ensures { (ds : List Raw.Datagram) → IsBegun frame.old.items ds → IsBegun frame.new.items (ds ++ datagram_of (head_to Fprd station index 2053 1) (0 ∷ []) ∷ []) }
+    ensures begun { (ds : List Raw.Datagram) → IsBegun frame.old.items ds → IsBegun frame.new.items (ds ++ datagram_of (head_to Fprd station index 2053 1) (0 ∷ []) ∷ []) }
+    ensures grows { length frame.new.items ≡ length frame.old.items + (12 + 1) }
 {
     let head = head_of(station, index, Command::Fprd, MANAGER_0 + MANAGER_STATUS, 1);
     datagrams::add(frame, &head, &[0]);
@@ -258,6 +275,7 @@ fn add_errand(errand: Errand, station: u16, index: u8, frame: &mut FrameBuf) -> 
     ensures begun { (ds : List Raw.Datagram) → IsBegun frame.old.items ds → IsBegun frame.new.items (ds ++ errand_gram station index (Some errand) ∷ []) }
     ensures sent { IsSent 64 (errand_gram station index (Some errand)) }
     ensures word { IsWord errand }
+    ensures grows { length frame.new.items ≡ length frame.old.items + (12 + length (errand_octets errand)) }
 {
     match errand {
         Errand::Write(word) => {

@@ -1,5 +1,4 @@
-ghost use Rattle.std.specs.Prelude.{◌≡◌, ◌∷◌, [], true, length, nat_le, Some, None, ℕ, Option};
-ghost use Rattle.std.specs.Prelude.{◌==◌, false};
+ghost use Rattle.std.specs.Prelude.{◌≡◌, ◌==◌, ◌∷◌, [], true, false, length, nat_le, Some, None, ℕ, Option};
 ghost use Rattle.ec_fields.specs.Fields.{number_at};
 ghost use Rattle.mailbox_master.specs.Any.{in_station, in_area_len, in_half_of};
 ghost use Rattle.link_mails.specs.Body.{Body};
@@ -70,7 +69,7 @@ pub struct Side<H: Hand> {
 }
 
 impl<H: Hand> Side<H> {
-    ghost use Rattle.std.specs.Prelude.{◌≡◌, ℕ, Bool, true, false, List, [], ◌∷◌, Option, Some, None, IfSome, is_none, is_some, option_map, length, if◌then◌else◌};
+    ghost use Rattle.std.specs.Prelude.{◌≡◌, ◌≤◌, ℕ, Bool, true, false, List, [], ◌∷◌, Option, Some, None, IfSome, is_none, is_some, option_map, length, if◌then◌else◌};
     ghost use Rattle.exchange_model.specs.Exchange.{Speech};
     ghost use Rattle.exchange_model.specs.Rows.{Row, row_heard};
     ghost use Rattle.segment_model.specs.Slaves.{Datagram, grams};
@@ -78,7 +77,6 @@ impl<H: Hand> Side<H> {
     ghost use Rattle.segment_model.specs.Seats as Seats;
     ghost use Rattle.link_mails.specs.Body.{Body};
     ghost use Rattle.task_model.specs.Accounts.{Account, new_account, duty_access, account_back, is_free, is_acknowledged};
-    ghost use Rattle.std.specs.Prelude.{◌≤◌};
     ghost use Rattle.mailbox_master.specs.Any.{in_half_of, in_area_len};
     ghost use Rattle.mailbox_master.specs.Seat.{seat_half};
     ghost use Rattle.master_duty.specs.Reply.{Reply};
@@ -86,6 +84,8 @@ impl<H: Hand> Side<H> {
     ghost use Rattle.master_duty.specs.declared.stage.Stage.{Stage};
     ghost use Rattle.master_side.specs.Carried.{Meant, IsBack, in_hand, is_errand, paused_after, turn_after, one};
     ghost use Rattle.master_side.specs.Sent.{SameLink};
+    ghost use Rattle.master_side.specs.Passes.{told_by};
+    ghost use Rattle.master_side.specs.Again.{HoldsOn, IsOnWay, Repeats, SendsAtMost, sent_len};
     ghost use Rattle.master_side.specs.Heard.{heard_of, Brought, HasJoined};
     ghost use Rattle.master_side.specs.Shown.{SideShows, Holds, Begins, Picked, new_side, wish_begun, takes_ready};
     ghost use Rattle.master_side.specs.declared.carried.Carried.{Carried};
@@ -154,6 +154,7 @@ impl<H: Hand> Side<H> {
         ensures script { H.script self.new.hand ≡ H.script self.old.hand }
         ensures passing { self.new.passing ≡ self.old.passing }
         ensures join { H.join self.new.hand ≡ H.join self.old.hand }
+        ensures on { HoldsOn self.old self.new }
     {
         if !self.out.is_idle() {
             return;
@@ -178,6 +179,7 @@ impl<H: Hand> Side<H> {
     pub fn is_free(&self) -> bool
         ensures free { (x : Speech Body H.Asked Reply) (d : Seats.Side Body H.Asked Reply) (a : Account H.Asked Reply) → SideShows (H.shows self.now.hand x) self.now.out self.now.inn self.now.fresh self.now.duty d a → result ≡ true → (is_free x d d.now ≡ true) × (is_acknowledged H.acknowledged d d.now ≡ true) × (in_hand self.now.duty ≡ None) }
         ensures waits { is_some self.now.passing ≡ true → result ≡ false }
+        ensures bare { result ≡ true → (in_hand self.now.duty ≡ None) × (self.now.passing ≡ None) }
     {
         let idle = self.out.is_idle();
         if self.state_in_hand().is_some() || self.passing.is_some() {
@@ -195,6 +197,7 @@ impl<H: Hand> Side<H> {
         ensures script { H.script self.new.hand ≡ (if result then H.behind self.old.hand else H.script self.old.hand) }
         ensures unpassed { (result ≡ true → (q : H.Asked) → H.ready self.old.hand ≡ Some q → H.passed q ≡ false) → self.new.passing ≡ None }
         ensures join { H.join self.new.hand ≡ H.join self.old.hand }
+        ensures again { in_hand self.old.duty ≡ None → self.old.passing ≡ None → Repeats self.old → SendsAtMost (sent_len self.old) self.new }
     {
         let began = self.hand.begin();
         let passed = began && self.hand.is_passed();
@@ -210,6 +213,7 @@ impl<H: Hand> Side<H> {
             Begins x H.acknowledged made d a (Some (Service.State target.state)) (λ e b. SideShows (H.shows self.new.hand x) self.new.out self.new.inn self.new.fresh self.new.duty e b) }
         ensures link { SameLink self.old.out self.old.inn self.old.station self.old.area self.new.out self.new.inn self.new.station self.new.area }
         ensures kept { (self.new.hand ≡ self.old.hand) × (self.new.passing ≡ self.old.passing) }
+        ensures again { in_hand self.old.duty ≡ None → self.old.passing ≡ None → Repeats self.old → SendsAtMost (sent_len self.old) self.new }
     {
         let duty = Duty::new(target.state);
         self.duty = Some(Met::On(duty));
@@ -226,6 +230,7 @@ impl<H: Hand> Side<H> {
         ensures script { H.script self.new.hand ≡ (if takes_ready result wish then H.behind self.old.hand else H.script self.old.hand) }
         ensures unpassed { self.old.passing ≡ None → (takes_ready result wish ≡ true → (q : H.Asked) → H.ready self.old.hand ≡ Some q → H.passed q ≡ false) → self.new.passing ≡ None }
         ensures join { H.join self.new.hand ≡ H.join self.old.hand }
+        ensures again { Repeats self.old → SendsAtMost (sent_len self.old) self.new }
     {
         if !self.is_free() {
             return false;
@@ -242,8 +247,8 @@ impl<H: Hand> Side<H> {
         }
     }
 
-    /// What comes before this slave's datagram: a service comes into hand, where one may, and the next mail is
-    /// held. Tells whether a service came into hand.
+    /// What comes before this slave's datagram: a service comes into hand, where one may, and the next mail is held. Tells whether a service came
+    /// into hand.
     pub fn choose(&mut self, wish: Option<Wish>) -> bool
         ensures picked { (x : Speech Body H.Asked Reply) (made : ℕ) (d : Seats.Side Body H.Asked Reply) (a : Account H.Asked Reply) → SideShows (H.shows self.old.hand x) self.old.out self.old.inn self.old.fresh self.old.duty d a →
             Picked x H.acknowledged made d a (wish_begun result wish (H.ready self.old.hand)) (λ e b. SideShows (H.shows self.new.hand x) self.new.out self.new.inn self.new.fresh self.new.duty e b) }
@@ -255,6 +260,7 @@ impl<H: Hand> Side<H> {
         ensures script { H.script self.new.hand ≡ (if takes_ready result wish then H.behind self.old.hand else H.script self.old.hand) }
         ensures unpassed { self.old.passing ≡ None → (takes_ready result wish ≡ true → (q : H.Asked) → H.ready self.old.hand ≡ Some q → H.passed q ≡ false) → self.new.passing ≡ None }
         ensures join { H.join self.new.hand ≡ H.join self.old.hand }
+        ensures again { Repeats self.old → SendsAtMost (sent_len self.old) self.new }
     {
         let began = self.begin(wish);
         self.hold_next();
@@ -270,6 +276,7 @@ impl<H: Hand> Side<H> {
         ensures script { H.script self.new.hand ≡ H.script self.old.hand }
         ensures unpassed { self.old.passing ≡ None → self.new.passing ≡ None }
         ensures join { H.join self.new.hand ≡ H.join self.old.hand }
+        ensures again { IsOnWay self.old → Repeats self.new × (sent_len self.new ≤ sent_len self.old) }
     {
         match self.carried {
             Carried::Write => self.write_lost(),
@@ -283,6 +290,7 @@ impl<H: Hand> Side<H> {
         ensures fresh { self.new.fresh ≡ false }
         ensures kept { (self.new.out ≡ self.old.out) × (self.new.inn ≡ self.old.inn) × (self.new.hand ≡ self.old.hand) × (self.new.duty ≡ self.old.duty) × (self.new.station ≡ self.old.station) × (self.new.area ≡ self.old.area) × (self.new.carried ≡ self.old.carried) }
         ensures unpassed { self.old.passing ≡ None → self.new.passing ≡ None }
+        ensures way { (self.new.turn ≡ self.old.turn) × (self.new.paused ≡ self.old.paused) × (self.new.passing ≡ told_by self.old.passing self.old.fresh) }
     {
         let passing = told(self.passing, self.fresh);
         self.passing = passing;
@@ -417,8 +425,7 @@ impl<H: Hand> Side<H> {
         }
     }
 
-    /// The frame under way came back: the datagram of this slave has this counter and these octets. `made` is the
-    /// frame's number.
+    /// The frame under way came back: the datagram of this slave has this counter and these octets. `made` is the frame's number.
     pub fn returned(&mut self, counter: u16, octets: &[u8], made: u32)
         ensures shown { (x : Speech Body H.Asked Reply) (frame : ℕ) (b : Datagram Body) (d : Seats.Side Body H.Asked Reply) (a : Account H.Asked Reply) → SideShows (H.shows self.old.hand x) self.old.out self.old.inn self.old.fresh self.old.duty d a →
             Meant self.old.station self.old.carried d.halves (duty_access a.hand) b → IsBack counter octets.now b →

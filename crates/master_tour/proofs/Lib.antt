@@ -15,3 +15,5 @@ pub mod Counts
 pub mod Unpassed
 pub mod Goes
 pub mod Joins
+pub mod Sizes
+pub mod Rooms

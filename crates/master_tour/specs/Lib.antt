@@ -8,3 +8,5 @@ pub mod Joins
 pub mod Orders
 pub mod Goes
 pub mod Toured
+pub mod Rooms
+pub mod Sizes

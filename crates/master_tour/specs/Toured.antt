@@ -1,5 +1,5 @@
 -- A TOUR, by places in the ring: which slaves a frame carries, and where the tour stands behind it.
-use Rattle.std.specs.Prelude.{◌≡◌, ◌≤◌, ℕ, suc, ◌+◌, ◌&&◌, ◌==◌, nat_lt, if◌then◌else◌, Bool, true, false, Option, Some, None, List, [], ◌∷◌, ◌++◌, length, ⊤}
+use Rattle.std.specs.Prelude.{◌≡◌, ◌≤◌, ◌<◌, ℕ, suc, ◌+◌, ◌&&◌, ◌==◌, nat_lt, if◌then◌else◌, Bool, true, false, Option, Some, None, List, [], ◌∷◌, ◌++◌, length, ⊤}
 use Rattle.life_frames.specs.Frames.{Share}
 use Rattle.master_tour.specs.Goes.{holds_at, opened_behind}
 use Rattle.master_tour.specs.Made.{is_in}
@@ -47,13 +47,21 @@ abbrev pub visit_on : Option (List ℕ) → List ℕ → List ℕ
 visit_on (Some same) cs = same
 visit_on None cs = cs
 
--- A FRAME OF SO MANY DATAGRAMS IS OF THE TOUR: it carries the first slaves of its visit
-pub record IsOfTour {S : Type 0} (share : S → Share) (live : ℕ → Bool) (t : Tour) (ss : List S) (many : ℕ) (visit : List ℕ) : Type 0 where
+-- WHAT A FRAME OF THIS LENGTH LEAVES OUT of its visit, which goes on with these: behind a lost frame none; of a round, none whose larger mailbox would fit
+abbrev pub LeavesOut : ℕ → (ℕ → ℕ) → Option (List ℕ) → List ℕ → Type 0
+LeavesOut size area again [] = ⊤
+LeavesOut size area (Some same) (p ∷ ps) = ⊥
+LeavesOut size area None (p ∷ ps) = 1486 < size + area p
+
+-- A FRAME OF SO MANY DATAGRAMS IS OF THE TOUR: it carries the first slaves of its visit; `size` is the length in its header, and `area` that of the larger
+-- mailbox of the slave at a place
+pub record IsOfTour {S : Type 0} (share : S → Share) (live : ℕ → Bool) (size : ℕ) (area : ℕ → ℕ) (t : Tour) (ss : List S) (many : ℕ) (visit : List ℕ) : Type 0 where
   pub places : List ℕ
   pub whole : length places ≡ many
   pub carries : Carries share ss places
   pub first : AreFirst places (visit_of live (length ss) t.again t.opened t.last)
   pub comes : visit ≡ visit_on t.again places
+  pub leaves : LeavesOut size area t.again first.rest
 
 -- behind a frame that came back, and behind one whose slaves are given up, the tour goes on, by what the slaves are then
 abbrev pub goes_on : {S : Type 0} → (S → Bool) → List S → Tour → List ℕ → Tour

@@ -138,7 +138,9 @@ impl<H: Hand> Stop<H> {
     ghost use Rattle.master_tour.specs.Cursor.{IsAtOne};
     ghost use Rattle.master_tour.specs.Goes.{is_live, is_opened};
     ghost use Rattle.master_tour.specs.Stands.{StopShows, FollowShows, IsMet, IsSpot, StandUnder, came_at, given_where, stand_gram, StandMeant, NextShows, HoldShows};
-    ghost use Rattle.std.specs.Prelude.{is_some, ◌&&◌};
+    ghost use Rattle.std.specs.Prelude.{is_some, ◌&&◌, ◌+◌};
+    ghost use Rattle.master_side.specs.Again.{HasNoRoom, IsOnWay, Repeats, area_of, sent_len};
+    ghost use Rattle.master_tour.specs.Rooms.{LosesAgain, StopRepeats, Visits, stop_len};
     ghost use Rattle.segment_model.specs.Returned.{Returns};
     ghost use Rattle.al_state.specs.declared.bringing.BringStep.{BringStep};
     ghost use Rattle.std.specs.Prelude.{None, ◌%◌};
@@ -210,6 +212,7 @@ impl<H: Hand> Stop<H> {
         ensures script { H.script self.new.side.hand ≡ H.script self.old.side.hand }
         ensures unpassed { self.old.side.passing ≡ None → self.new.side.passing ≡ None }
         ensures join { H.join self.new.side.hand ≡ H.join self.old.side.hand }
+        ensures again { IsOnWay self.old.side → self.old.under ≡ true → Repeats self.new.side × (sent_len self.new.side ≤ sent_len self.old.side) }
     {
         if self.under {
             self.side.lost();
@@ -381,6 +384,7 @@ impl<H: Hand> Stop<H> {
         ensures script { H.script self.new.side.hand ≡ H.script self.old.side.hand }
         ensures unpassed { self.old.side.passing ≡ None → self.new.side.passing ≡ None }
         ensures join { H.join self.new.side.hand ≡ H.join self.old.side.hand }
+        ensures again { LosesAgain self.old self.new }
     {
         self.news = None;
         match self.stand {
@@ -424,6 +428,7 @@ impl<H: Hand> Stop<H> {
         ensures script { H.script self.new.side.hand ≡ H.script self.old.side.hand }
         ensures unpassed { self.old.side.passing ≡ None → self.new.side.passing ≡ None }
         ensures join { (gives && self.old.under) ≡ false → H.join self.new.side.hand ≡ H.join self.old.side.hand }
+        ensures again { gives ≡ false → LosesAgain self.old self.new }
     {
         self.lost();
         if !gives {
@@ -445,6 +450,8 @@ impl<H: Hand> Stop<H> {
         ensures most { result ≤ 1486 }
         ensures script { H.script self.new.side.hand ≡ H.script self.old.side.hand }
         ensures join { H.join self.new.side.hand ≡ H.join self.old.side.hand }
+        ensures area { result ≤ area_of self.old.side }
+        ensures again { StopRepeats self.old → StopRepeats self.new × (stop_len self.new ≡ stop_len self.old) × (result ≤ stop_len self.old) }
     {
         match self.stand {
             Stand::Gone => 0,
@@ -486,6 +493,9 @@ impl<H: Hand> Stop<H> {
         ensures script { H.script self.new.side.hand ≡ (if takes_ready result wish then H.behind self.old.side.hand else H.script self.old.side.hand) }
         ensures unpassed { self.old.side.passing ≡ None → (takes_ready result wish ≡ true → (q : H.Asked) → H.ready self.old.side.hand ≡ Some q → H.passed q ≡ false) → self.new.side.passing ≡ None }
         ensures join { H.join self.new.side.hand ≡ H.join self.old.side.hand }
+        ensures room { Repeats self.old.side → (self.new.under ≡ false → HasNoRoom frame.old.items (sent_len self.old.side)) × (self.new.under ≡ true → sent_len self.new.side ≤ sent_len self.old.side) }
+        ensures area { self.new.under ≡ false → HasNoRoom frame.old.items (area_of self.old.side) }
+        ensures way { self.new.under ≡ true → IsOnWay self.new.side × (length frame.new.items ≡ length frame.old.items + (12 + sent_len self.new.side)) }
     {
         let began = self.side.choose(wish);
         let placed = self.side.add_datagram(index, frame);
@@ -504,6 +514,7 @@ impl<H: Hand> Stop<H> {
         ensures stand { self.new.stand ≡ self.old.stand }
         ensures kept { (self.new.place ≡ self.old.place) × (self.new.start ≡ self.old.start) × (self.new.spare ≡ self.old.spare) × (self.new.news ≡ self.old.news) }
         ensures at { (self.new.at ≡ at) × (self.new.under ≡ true) }
+        ensures grows { length frame.new.items ≡ length frame.old.items + (12 + length (octets_of up.now)) }
     {
         let mut head = Head::default();
         let mut body = ArrayVec::new();
@@ -535,6 +546,7 @@ impl<H: Hand> Stop<H> {
         ensures script { H.script self.new.side.hand ≡ (if takes_ready result wish then H.behind self.old.side.hand else H.script self.old.side.hand) }
         ensures unpassed { self.old.side.passing ≡ None → (takes_ready result wish ≡ true → (q : H.Asked) → H.ready self.old.side.hand ≡ Some q → H.passed q ≡ false) → self.new.side.passing ≡ None }
         ensures join { H.join self.new.side.hand ≡ H.join self.old.side.hand }
+        ensures room { Visits frame.old.items frame.new.items self.old self.new }
     {
         self.under = false;
         match self.stand {

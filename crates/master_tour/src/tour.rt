@@ -66,6 +66,8 @@ impl<H: Hand> Tour<H> {
     ghost use Rattle.master_tour.specs.Goes.{is_live, is_opened, holds_at, Passes, BeginsLive, opened_behind};
     ghost use Rattle.std.specs.List.{list_any};
     ghost use Rattle.std.specs.Prelude.{None, filter};
+    ghost use Rattle.master_tour.specs.Rooms.{LosesAgain, Looks, Visits};
+    ghost use Rattle.master_tour.specs.Sizes.{frame_size};
 
     // Each slave hears what came back.
     fn all_back(&mut self, octets: &[u8], made: u32)
@@ -100,6 +102,7 @@ impl<H: Hand> Tour<H> {
         ensures tour { (self.new.again ≡ self.old.again) × (self.new.visit ≡ self.old.visit) × (self.new.opened ≡ self.old.opened) × (self.new.last ≡ self.old.last) × (self.new.missed ≡ self.old.missed) × (self.new.retry ≡ self.old.retry) }
         ensures stays { EachPair (λ s t. (H.script t.side.hand ≡ H.script s.side.hand) × (s.side.passing ≡ None → t.side.passing ≡ None)) self.old.stops.items self.new.stops.items }
         ensures join { EachPair (λ s t. (gives && s.under) ≡ false → H.join t.side.hand ≡ H.join s.side.hand) self.old.stops.items self.new.stops.items }
+        ensures again { EachPair (λ s t. gives ≡ false → LosesAgain s t) self.old.stops.items self.new.stops.items }
     {
         for i in 0..self.stops.len() {
             self.stops[i].lost_for(gives);
@@ -192,6 +195,7 @@ impl<H: Hand> Tour<H> {
         ensures left { (p : ℕ) → result ≡ Some p → AreOnce self.old.visit.items → IsNextOf p (drop self.old.passed self.old.visit.items) (drop self.new.passed self.old.visit.items) }
         ensures order { (p : ℕ) → result ≡ Some p → (self.new.passed ≡ self.old.passed + 1) × (drop self.old.passed self.old.visit.items ≡ p ∷ drop self.new.passed self.old.visit.items) }
         ensures first { self.old.passed ≡ 0 → BeginsLive (λ s. is_live s.stand) true self.old.visit.items self.old.opened self.old.stops.items → Passes (λ s. is_live s.stand) self.old.stops.items result }
+        ensures none { result ≡ None → IfSome (slice_get self.old.visit.items self.old.passed) (λ p. length self.old.stops.items ≤ p) }
     {
         let place = *self.visit.get(self.passed)?;
         self.passed += 1;
@@ -247,6 +251,7 @@ impl<H: Hand> Tour<H> {
         ensures fixed { (p : ℕ) → result ≡ Some p → self.old.again ≡ true → self.new.passed ≡ self.old.passed + 1 }
         ensures none { result ≡ None → self.old.again ≡ false → visited_of (is_fixed self.old.again self.old.opened (length self.old.stops.items)) (λ k. holds_at (λ s. is_live s.stand) self.old.stops.items k) (visits_left self.old.again self.old.visit.items self.old.opened (length self.old.stops.items) self.old.last self.old.passed) ≡ [] }
         ensures first { self.old.passed ≡ 0 → BeginsLive (λ s. is_live s.stand) self.old.again self.old.visit.items self.old.opened self.old.stops.items → list_any (λ s. is_live s.stand) self.old.stops.items ≡ true → Passes (λ s. is_live s.stand) self.old.stops.items result }
+        ensures ends { result ≡ None → self.old.again ≡ true → IfSome (slice_get self.old.visit.items self.old.passed) (λ p. length self.old.stops.items ≤ p) }
     {
         if self.again {
             return self.carried_again();
@@ -270,6 +275,7 @@ impl<H: Hand> Tour<H> {
         ensures fixed { (p : ℕ) → result ≡ Some p → self.old.again ≡ true → self.new.passed ≡ self.old.passed + 1 }
         ensures none { result ≡ None → self.old.count < 16 → self.old.again ≡ false → visited_of (is_fixed self.old.again self.old.opened (length self.old.stops.items)) (λ k. holds_at (λ s. is_live s.stand) self.old.stops.items k) (visits_left self.old.again self.old.visit.items self.old.opened (length self.old.stops.items) self.old.last self.old.passed) ≡ [] }
         ensures first { self.old.count ≡ 0 → self.old.passed ≡ 0 → BeginsLive (λ s. is_live s.stand) self.old.again self.old.visit.items self.old.opened self.old.stops.items → list_any (λ s. is_live s.stand) self.old.stops.items ≡ true → Passes (λ s. is_live s.stand) self.old.stops.items result }
+        ensures ends { result ≡ None → self.old.count < 16 → self.old.again ≡ true → IfSome (slice_get self.old.visit.items self.old.passed) (λ p. length self.old.stops.items ≤ p) }
     {
         if self.count >= 16 {
             return None;
@@ -291,6 +297,7 @@ impl<H: Hand> Tour<H> {
         ensures tour { (self.new.again ≡ self.old.again) × (self.new.visit ≡ self.old.visit) × (self.new.opened ≡ self.old.opened) × (self.new.last ≡ self.old.last) × (self.new.missed ≡ self.old.missed) × (self.new.retry ≡ self.old.retry) × (self.new.passed ≡ self.old.passed) }
         ensures first { length frame.now.items ≡ 16 → result ≡ true }
         ensures join { StepsAt (λ s t. H.join t.side.hand ≡ H.join s.side.hand) place self.old.stops.items self.new.stops.items }
+        ensures room { StepsAt (λ s t. Looks frame.now.items result s t) place self.old.stops.items self.new.stops.items }
     {
         self.stops[place].ahead(wish) <= datagrams::room(frame)
     }
@@ -323,6 +330,7 @@ impl<H: Hand> Tour<H> {
         ensures began { StepsAt (λ s t. (takes_ready result wish ≡ true → is_some (H.ready s.side.hand) ≡ true) × (H.script t.side.hand ≡ (if takes_ready result wish then H.behind s.side.hand else H.script s.side.hand)) ×
             (s.side.passing ≡ None → (takes_ready result wish ≡ true → (q : H.Asked) → H.ready s.side.hand ≡ Some q → H.passed q ≡ false) → t.side.passing ≡ None)) place self.old.stops.items self.new.stops.items }
         ensures join { StepsAt (λ s t. H.join t.side.hand ≡ H.join s.side.hand) place self.old.stops.items self.new.stops.items }
+        ensures room { StepsAt (λ s t. Visits frame.old.items frame.new.items s t) place self.old.stops.items self.new.stops.items }
     {
         let at = self.count;
         let began = self.stops[place].visit(wish, at, index, frame);
@@ -367,6 +375,7 @@ impl<H: Hand> Tour<H> {
         ensures made { result ≡ true → (x : Spot → Speech Body H.Asked Reply) (more : Body → Bool) (passed : H.Asked → Bool) (made recover index : ℕ) (lens : ℕ → Lens) (left : List ℕ) (lives : List (Lived H.Asked Reply)) (begun : ℕ → Option (Service H.Asked)) →
             FrameMade (λ ds i a s. StopMade (x a.spot) H.acknowledged more passed made begun lens recover index (λ d b. SideShows (H.shows s.side.hand (x a.spot)) s.side.out s.side.inn s.side.fresh s.side.duty d b) s.side.station s.place s.start s.stand s.spare s.side.out s.side.inn s.side.duty s.side.carried s.side.passing s.under s.at left ds i a) frame.old.items self.now.count lives self.now.stops.items →
             FrameSent (λ ds a b s. StopSent (x a.spot) H.acknowledged more passed made begun lens recover (λ d k. SideShows (H.shows s.side.hand (x a.spot)) s.side.out s.side.inn s.side.fresh s.side.duty d k) s.side.station s.place s.start s.stand s.spare s.side.out.len (in_area_len s.side.inn) s.side.carried s.under s.at ds a b) frame.new.items lives self.now.stops.items }
+        ensures size { result ≡ true → frame_size frame.new.items ≡ length frame.old.items - 16 }
     {
         if self.count == 0 {
             return false;
@@ -468,6 +477,7 @@ impl<H: Hand> Tour<H> {
         ensures last { self.new.last ≡ (if nat_lt self.old.missed self.old.retry then self.old.last else last_behind self.old.opened (length self.old.stops.items) self.old.last self.old.visit.items) }
         ensures stays { EachPair (λ s t. (H.script t.side.hand ≡ H.script s.side.hand) × (s.side.passing ≡ None → t.side.passing ≡ None)) self.old.stops.items self.new.stops.items }
         ensures join { EachPair (λ s t. (not (nat_lt self.old.missed self.old.retry) && s.under) ≡ false → H.join t.side.hand ≡ H.join s.side.hand) self.old.stops.items self.new.stops.items }
+        ensures again { EachPair (λ s t. nat_lt self.old.missed self.old.retry ≡ true → LosesAgain s t) self.old.stops.items self.new.stops.items }
     {
         let missed = self.missed;
         let comes_again = missed < self.retry;

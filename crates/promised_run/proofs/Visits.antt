@@ -9,15 +9,18 @@ use Rattle.frame_view.specs.View.{Lens}
 use Rattle.frame_view.specs.Seen.{seen}
 use Rattle.life_model.specs.Lives.{Spot}
 use Rattle.life_model.specs.Tours.{Member, is_live_in}
-use Rattle.life_runs.proofs.First.{apart_from}
+use Rattle.life_runs.proofs.First.{apart_from, have_lens}
 use Rattle.life_runs.specs.First.{lens_of, first_leads, IsElsewhere, AreApart}
 use Rattle.life_runs.specs.Led.{Exchanged, Leads, Turn, AllTurn, IsLed, IsLedFrame}
 use Rattle.master_node.specs.Shows.{is_live_lead, is_opening_lead}
 use Rattle.master_node.specs.Toured.{turn_share}
+use Rattle.master_node.specs.Rooms.{area_at}
+use Rattle.master_side.specs.Again.{larger}
 use Rattle.master_tour.specs.Goes.{holds_at}
+use Rattle.master_tour.specs.Sizes.{frame_size}
 use Rattle.master_tour.specs.Orders.{last_place, last_behind}
-use Rattle.master_tour.specs.Toured.{Tour, IsOfTour, HaveFrom, visit_of, visit_on, goes_on, lost_on, has_number}
-use Rattle.promised_run.specs.Visits.{stop_of, stops_of, members_of, visit_next, IsVisit, AllVisit}
+use Rattle.master_tour.specs.Toured.{Tour, IsOfTour, HaveFrom, visit_on, goes_on, lost_on, has_number}
+use Rattle.promised_run.specs.Visits.{stop_of, stops_of, members_of, IsVisit, AllVisit}
 use Rattle.script_runs.specs.Slaves.{AllCome}
 use Rattle.segment_model.specs.Visits.{Stop, carried, station_at}
 use Rattle.segment_plan.specs.Sound.{IsPlan, IsSlave}
@@ -28,8 +31,8 @@ use Rattle.segment_ring.specs.declared.wire.Fate.TheVariants as Fates
 use Rattle.visit_orders.specs.Toured.{AreAt, IsToured, tour_behind, lives_behind}
 use Rattle.visit_orders.specs.Visits as Stops
 use Rattle.visit_orders.specs.Visits.{IsPlace, stop_at, stations_at}
-use Rattle.visit_orders.proofs.Carried.{carried_are, first_are}
-use Rattle.visit_orders.proofs.Toured.{toured_led, visit_by_stations}
+use Rattle.visit_orders.proofs.Toured.{toured_led}
+use Rattle.visit_orders.proofs.Whole.{visit_whole}
 
 -- THE SLAVES OF A FRAME stand at their places
 module _ (plan : Scenario) (lens : ℕ → Lens) (made : ℕ) (ds : List Raw.Datagram) where
@@ -86,6 +89,15 @@ module _ (plan : Scenario) (recover : ℕ) where
   live_at p (s ∷ ss) (b ∷ as') (suc k) c a x =
       live_at (suc p) ss as' k c.1 a.1 (All-tail IsSlave s ss x)
       ∙ sym (ap (λ (z : Bool). if z then is_live_lead b else is_live_in (stop_at (map (λ s. stop_of s) ss) k).station (members_of recover ss as')) (not_there s.station ss k (All-head IsSlave s ss x).some_station a.0))
+
+-- THE AREAS OF THE SLAVES are those of the stops
+module _ (plan : Scenario) (lens : ℕ → Lens) where
+  area_of_place : (p : ℕ) (ss : List SlaveSpec) (as' : List Leads) (k : ℕ) → AllCome plan p ss as' → HaveLens lens ss → area_at lens as' k ≡ (stop_at (map (λ s. stop_of s) ss) k).area
+  area_of_place p [] [] k c h = refl
+  area_of_place p [] (a ∷ as') k c h = absurd c
+  area_of_place p (s ∷ ss) [] k c h = absurd c
+  area_of_place p (s ∷ ss) (a ∷ as') zero c h = (λ i. larger (lens (ap (λ (z : Spot). z.station) c.0.spot i)).out (lens (ap (λ (z : Spot). z.station) c.0.spot i)).back) ∙ (λ i. larger (h.0.0 i) (h.0.1 i))
+  area_of_place p (s ∷ ss) (a ∷ as') (suc k) c h = area_of_place (suc p) ss as' k c.1 h.1
 
 -- THE PLACES OF A TOUR are those of the ring
 abbrev AllBelow : ℕ → List ℕ → Type 0
@@ -164,17 +176,14 @@ module _ (plan : Scenario) (is : IsPlan plan) (comes : ComeOf plan) where
       (subst (λ v. AllBelow (length (stops_of plan)) v) (sym o.comes) (visit_below (length (stops_of plan)) t.again o.places h.again below))
 
   one_visit : (made : ℕ) (t : Tour) (as' : List Leads) (f : Exchanged) (us : List Turn) (visit : List ℕ) → AllCome plan 0 plan.slaves as' → Placed (stops_of plan) t → IsLedFrame lens made f.sent as' us →
-      IsOfTour (λ u. turn_share u) (λ k. holds_at is_live_lead as' k) t us (length (seen lens f.sent)) visit → IsVisit plan t as' f
+      IsOfTour (λ u. turn_share u) (λ k. holds_at is_live_lead as' k) (frame_size f.sent) (λ k. area_at lens as' k) t us (length (seen lens f.sent)) visit → IsVisit plan t as' f
   one_visit made t as' f us visit c h l o =
-      let many = many_turns plan lens made l.datagrams 0 plan.slaves as' us c l.each in
       let apart : AreApart plan.slaves = apart_from [] 0 plan.slaves is.stations in
       let at : AreAt (stops_of plan) 0 us = are_at plan lens made l.datagrams (stops_of plan) 0 plan.slaves as' us (λ k. let same : 0 + k ≡ k = omega arith in ap (station_at (stops_of plan)) same) c l.each in
-      first_are (stops_of plan) (carried (stops_of plan) (seen lens f.sent)) (visit_of (λ k. holds_at is_live_lead as' k) (length us) t.again t.opened t.last) (visit_next plan t as') o.places
-      (carried_are lens (stops_of plan) made f.sent as' us (λ k. holds_at is_live_lead as' k) t visit (subst (λ n. n ≤ 16) (sym many) is.laid.few_slaves) at l o)
-      (ap (λ n. stations_at (stops_of plan) (visit_of (λ k. holds_at is_live_lead as' k) n t.again t.opened t.last)) (long made as' f.sent us c l)
-      ∙ visit_by_stations (stops_of plan) (members_of plan.recover plan.slaves as') (λ k. holds_at is_live_lead as' k) t.again t.opened t.last
-      (stops_are plan plan.recover 0 plan.slaves as' c) (stops_apart plan.slaves apart) h.last (λ k. live_at plan plan.recover 0 plan.slaves as' k c apart is.laid.slaves))
-      o.first
+      let few = length-map plan.slaves (λ s. stop_of s) in
+      let most = is.laid.few_slaves in
+      visit_whole lens (stops_of plan) (members_of plan.recover plan.slaves as') made f.sent as' us (λ k. holds_at is_live_lead as' k) (frame_size f.sent) (λ k. area_at lens as' k) t visit (omega (arith, few, most)) (long made as' f.sent us c l) at
+      (stops_are plan plan.recover 0 plan.slaves as' c) (stops_apart plan.slaves apart) h.last (λ k. live_at plan plan.recover 0 plan.slaves as' k c apart is.laid.slaves) (λ k. area_of_place plan lens 0 plan.slaves as' k c (have_lens plan.slaves apart)) l o
 
   pub all_visit : (fs : List Exchanged) (t : Tour) (as' : List Leads) (r : Toured fs t as') → AllVisit plan r
   all_visit _ _ _ IsToured.start = tt

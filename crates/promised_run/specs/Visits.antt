@@ -6,11 +6,13 @@ use Rattle.life_runs.specs.First.{lens_of, first_leads}
 use Rattle.life_runs.specs.Led.{Exchanged, Leads}
 use Rattle.master_node.specs.Shows.{is_live_lead}
 use Rattle.master_node.specs.Wants.{gave_of}
-use Rattle.master_tour.specs.Toured.{Tour, AreFirst}
+use Rattle.master_tour.specs.Sizes.{frame_size}
+use Rattle.master_tour.specs.Toured.{Tour}
+use Rattle.segment_model.specs.Visits
 use Rattle.segment_model.specs.Visits.{Stop, carried}
 use Rattle.segment_plan.specs.declared.plan.Scenario.{Scenario}
 use Rattle.segment_plan.specs.declared.slave.SlaveSpec.{SlaveSpec}
-use Rattle.visit_orders.specs.Toured.{IsToured, stations_of, visit_stations}
+use Rattle.visit_orders.specs.Toured.{IsToured, stations_of}
 use Rattle.visit_orders.specs.Visits.{last_station}
 
 -- a slave of a plan as a stop of its tour
@@ -31,13 +33,11 @@ members_of recover (s ∷ ss) (a ∷ as') = record { stop = stop_of s; spare = r
 abbrev pub round_next : Scenario → Tour → List Leads → List Stop
 round_next plan t as' = round (stops_of plan) (last_station (stops_of plan) t.last) (members_of plan.recover plan.slaves as')
 
--- THE VISIT THAT COMES NEXT, by stations: those of the lost frame before it, again; else the one whose first bring-up goes on; else those of a round
-abbrev pub visit_next : Scenario → Tour → List Leads → List ℕ
-visit_next plan t as' = visit_stations (stations_of (stops_of plan) t.again) (drop t.opened (stops_of plan)) (round_next plan t as')
-
--- A FRAME IS OF THAT VISIT: the stations that it is addressed to, datagram by datagram, are the first of the visit's, in order, and at least one
+-- A FRAME CARRIES THE SLAVES OF ITS VISIT, datagram by datagram, and no other: those of the lost frame before it, all again; else the one whose first bring-up
+-- goes on; else the first of a round, one at least, and none is left out for which the length in its header leaves room, be the datagram as long as the larger
+-- mailbox
 abbrev pub IsVisit : Scenario → Tour → List Leads → Exchanged → Type 0
-IsVisit plan t as' f = AreFirst (carried (stops_of plan) (seen (lens_of plan.slaves) f.sent)) (visit_next plan t as')
+IsVisit plan t as' f = Visits.IsVisit (frame_size f.sent) (stations_of (stops_of plan) t.again) (drop t.opened (stops_of plan)) (round_next plan t as') (carried (stops_of plan) (seen (lens_of plan.slaves) f.sent))
 
 -- THE FRAMES OF A TOUR are, each by the tour and the lives before it
 abbrev pub AllVisit : (plan : Scenario) {fs : List Exchanged} {t : Tour} {as' : List Leads} → IsToured (lens_of plan.slaves) plan.recover plan.retry (first_leads plan) fs t as' → Type 0

@@ -26,7 +26,9 @@ use Rattle.master_node.specs.Wants.{gave_of, AllCounted}
 use Rattle.master_node.specs.declared.node.MasterNode.{MasterNode}
 use Rattle.master_node.specs.declared.node.Next.{Next}
 use Rattle.master_node.specs.declared.node.Next.TheVariants as nexts
+use Rattle.master_node.specs.Rooms.{area_at}
 use Rattle.master_tour.specs.Goes.{holds_at}
+use Rattle.master_tour.specs.Sizes.{frame_size}
 use Rattle.master_tour.specs.Toured.{Tour, IsOfTour, new_tour}
 use Rattle.master_node.proofs.Counts.{counted, turn_gave, back_gave, lost_gave}
 use Rattle.run_book.specs.declared.book.SentFrame.{SentFrame}
@@ -163,7 +165,7 @@ module _ (m0 m1 m2 : MasterNode) (f : Exchanged) (result : Next)
     (idle : (result ≡ nexts.Idle) ↔ (has_live m0 ≡ false))
     (led : result ≡ nexts.Frame → (lens : ℕ → Lens) (recover retry missed number : ℕ) (as' : List Leads) → MasterShows lens recover retry m0 missed as' → (us : List Turn) × IsLedFrame lens number f.sent as' us × MasterUnder lens recover retry m1 f.sent missed us)
     (visits : result ≡ nexts.Frame → (lens : ℕ → Lens) (recover retry missed : ℕ) (as' : List Leads) (us : List Turn) → MasterShows lens recover retry m0 missed as' → MasterUnder lens recover retry m1 f.sent missed us →
-    (tour_of m1 ≡ tour_of m0) × IsOfTour (λ u. turn_share u) (λ k. holds_at is_live_lead as' k) (tour_of m0) us (length (seen lens f.sent)) m1.tour.visit.items) where
+    (tour_of m1 ≡ tour_of m0) × IsOfTour (λ u. turn_share u) (λ k. holds_at is_live_lead as' k) (frame_size f.sent) (λ k. area_at lens as' k) (tour_of m0) us (length (seen lens f.sent)) m1.tour.visit.items) where
   -- where some slave is live there is one
   made_by : (r : Next) → result ≡ r → has_live m0 ≡ true → result ≡ nexts.Frame
   made_by nexts.Frame e live = e
@@ -182,7 +184,7 @@ module _ (m0 m1 m2 : MasterNode) (f : Exchanged) (result : Next)
     abbrev leads : List Turn → List Leads
     leads us = map (led_behind lens plan.recover plan.retry gives (length fs) f) us
 
-    visited : (tour_of m1 ≡ tour_of m0) × IsOfTour (λ u. turn_share u) (λ k. holds_at is_live_lead l.leads k) (tour_of m0) made.0 (length (seen lens f.sent)) m1.tour.visit.items
+    visited : (tour_of m1 ≡ tour_of m0) × IsOfTour (λ u. turn_share u) (λ k. holds_at is_live_lead l.leads k) (frame_size f.sent) (λ k. area_at lens l.leads k) (tour_of m0) made.0 (length (seen lens f.sent)) m1.tour.visit.items
     visited = visits (made_by result refl live) lens plan.recover plan.retry l.missed l.leads made.0 l.shows made.2
 
     -- where the tour stands behind it

@@ -15,12 +15,11 @@ use Rattle.life_runs.specs.Led.{Leads, Turn, AllTurn, IsLedFrame}
 use Rattle.master_node.specs.Toured.{turn_share}
 use Rattle.master_node.proofs.Sents.{sent_is, sent_many}
 use Rattle.master_tour.specs.Goes.{holds_at}
-use Rattle.master_tour.specs.Toured.{Tour, HaveFrom, AreFirst, IsOfTour, has_number}
+use Rattle.master_tour.specs.Toured.{Tour, HaveFrom, IsOfTour, has_number}
 use Rattle.segment_model.specs.Slaves.{Address}
 use Rattle.segment_model.specs.Visits.{Stop, addressed, carried, station_at}
 use Rattle.visit_orders.specs.Toured.{AreAt}
 use Rattle.visit_orders.specs.Visits.{stop_at, stations_at}
-use Rattle.visit_orders.proofs.Orders.{map_append}
 
 -- the address of a place
 pub place_met : (p : ℕ) → p < 16 → place_of ((65536 - p) % 65536) ≡ Address.Place p
@@ -123,20 +122,8 @@ module _ (lens : ℕ → Lens) (ring : List Stop) where
       one_longer [] = refl
       one_longer (x ∷ xs) = ap suc (one_longer xs)
 
-  pub carried_are : (made : ℕ) (octets : List ℕ) (as' : List Leads) (us : List Turn) (live : ℕ → Bool) (t : Tour) (visit : List ℕ) → length us ≤ 16 → AreAt ring 0 us → IsLedFrame lens made octets as' us → (o : IsOfTour (λ u. turn_share u) live t us (length (seen lens octets)) visit) →
+  pub carried_are : (made : ℕ) (octets : List ℕ) (as' : List Leads) (us : List Turn) (live : ℕ → Bool) (size : ℕ) (area : ℕ → ℕ) (t : Tour) (visit : List ℕ) → length us ≤ 16 → AreAt ring 0 us → IsLedFrame lens made octets as' us → (o : IsOfTour (λ u. turn_share u) live size area t us (length (seen lens octets)) visit) →
       carried ring (seen lens octets) ≡ stations_at ring o.places
-  carried_are made octets as' us live t visit l r f o =
+  carried_are made octets as' us live size area t visit l r f o =
       ap (carried ring) (sent_is lens octets f.datagrams f.frame)
       ∙ all_to [] f.datagrams us o.places (λ k p h. find made f.datagrams 0 p as' us k p f.each r h (omega arith) (omega (arith, l))) (o.whole ∙ sent_many lens octets f.datagrams f.frame) o.carries.each
-
--- they are the first of the visit's stations
-pub first_are : (ring : List Stop) (cs ps ss : List ℕ) (places : List ℕ) → cs ≡ stations_at ring places → stations_at ring ps ≡ ss → AreFirst places ps → AreFirst cs ss
-first_are ring cs ps ss places e f a = record {
-  rest = stations_at ring a.rest;
-  split = sym f ∙ ap (stations_at ring) a.split ∙ map_append (λ p. (stop_at ring p).station) places a.rest ∙ ap (λ z. z ++ stations_at ring a.rest) (sym e);
-  some = let n = ap length e ∙ long places in let l = a.some in omega (arith, n, l);
-}
-  where
-    long : (xs : List ℕ) → length (stations_at ring xs) ≡ length xs
-    long [] = refl
-    long (x ∷ xs) = ap suc (long xs)

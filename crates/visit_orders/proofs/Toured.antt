@@ -10,7 +10,9 @@ use Rattle.master_tour.specs.Toured.{Tour, visit_of, IsOfTour}
 use Rattle.frame_view.specs.Seen.{seen}
 use Rattle.master_node.specs.Shows.{is_live_lead}
 use Rattle.master_node.specs.Toured.{turn_share}
+use Rattle.master_node.specs.Rooms.{area_at}
 use Rattle.master_tour.specs.Goes.{holds_at}
+use Rattle.master_tour.specs.Sizes.{frame_size}
 use Rattle.segment_model.specs.Visits.{Stop}
 use Rattle.segment_ring.specs.declared.wire.Fate.{Fate}
 use Rattle.segment_ring.specs.declared.wire.Fate.TheVariants.{Pass, Lost}
@@ -51,7 +53,7 @@ filtered_same ring members live (p ∷ ps) h =
 opened_here : (ring : List Stop) (opened : ℕ) → opened < length ring → drop opened ring ≡ stop_at ring opened ∷ drop (opened + 1) ring
 opened_here ring opened l = let e : suc opened ≡ opened + 1 = omega arith in drop_here ring opened l ∙ ap (λ z. stop_at ring opened ∷ drop z ring) e
 
-none_open : (opened : ℕ) (ring : List Stop) → length ring ≤ opened → drop opened ring ≡ []
+pub none_open : (opened : ℕ) (ring : List Stop) → length ring ≤ opened → drop opened ring ≡ []
 none_open zero [] l = refl
 none_open zero (s ∷ ss) l = absurd (omega (arith, l))
 none_open (suc n) [] l = refl
@@ -77,7 +79,7 @@ visit_by_stations ring members live None opened last a d p h = go (nat_lt opened
 
 -- ONE FRAME MORE of a tour
 pub toured_on : (lens : ℕ → Lens) (recover retry : ℕ) (first : List Leads) (fs : List Exchanged) (as' : List Leads) (us : List Turn) (f : Exchanged) (t under behind : Tour) (visit : List ℕ) (fate : Fate) → IsToured lens recover retry first fs t as' → IsLedFrame lens (length fs) f.sent as' us →
-    under ≡ t → IsOfTour (λ u. turn_share u) (λ k. holds_at is_live_lead as' k) t us (length (seen lens f.sent)) visit → f.fate ≡ fate → behind ≡ tour_behind retry fate (lives_behind lens recover retry t.missed (length fs) f us) under visit →
+    under ≡ t → IsOfTour (λ u. turn_share u) (λ k. holds_at is_live_lead as' k) (frame_size f.sent) (λ k. area_at lens as' k) t us (length (seen lens f.sent)) visit → f.fate ≡ fate → behind ≡ tour_behind retry fate (lives_behind lens recover retry t.missed (length fs) f us) under visit →
     IsToured lens recover retry first (fs ++ f ∷ []) behind (lives_behind lens recover retry t.missed (length fs) f us)
 toured_on lens recover retry first fs as' us f t under behind visit fate r l e o is b =
     let lives = lives_behind lens recover retry t.missed (length fs) f us in

@@ -1,8 +1,9 @@
 -- Worked rounds of three slaves.
-use Rattle.std.proofs.Common.{◌≡◌, ◌==◌, Bool, true, false, Some, None, List, [], ◌∷◌, refl}
+use Rattle.std.proofs.Common.{◌≡◌, ◌==◌, Bool, true, false, Some, None, List, [], ◌∷◌, refl, arith}
 use Rattle.std.specs.Prelude.{not}
-use Rattle.master_tour.specs.Toured.{visit_of, new_tour, goes_on, lost_on}
-use Rattle.segment_model.specs.Visits.{Stop}
+use Rattle.master_tour.specs.Sizes.{frame_size}
+use Rattle.master_tour.specs.Toured.{LeavesOut, visit_of, new_tour, goes_on, lost_on}
+use Rattle.segment_model.specs.Visits.{Stop, IsVisit}
 use Rattle.life_model.specs.Tours.{Member, round}
 use Rattle.master_tour.specs.Orders.{visits_left}
 use Rattle.visit_orders.specs.Visits.{GoesThrough, stations_at, last_station}
@@ -61,3 +62,18 @@ rounds = refl
 -- behind one lost frame the same come again, where two may be lost in a row
 loses : lost_on (λ (opens : Bool). opens) 2 (false ∷ false ∷ false ∷ []) (record { again = None; opened = 3; last = Some 1; missed = 0 }) (2 ∷ 0 ∷ []) ≡ record { again = Some (2 ∷ 0 ∷ []); opened = 3; last = Some 1; missed = 1 }
 loses = refl
+
+-- the length in the header of a frame with 28 octets of datagrams
+header_size : frame_size (255 ∷ 255 ∷ 255 ∷ 255 ∷ 255 ∷ 255 ∷ 2 ∷ 0 ∷ 0 ∷ 0 ∷ 0 ∷ 1 ∷ 136 ∷ 164 ∷ 28 ∷ 16 ∷ []) ≡ 28
+header_size = refl
+
+-- a frame of a round with 1,400 octets may leave out a slave with mailboxes of 128 octets, and behind a lost frame none
+leaves_out : LeavesOut 1400 (λ p. 128) None (0 ∷ [])
+leaves_out = omega arith
+
+leaves_none : LeavesOut 1400 (λ p. 128) (Some (2 ∷ 0 ∷ [])) []
+leaves_none = tt
+
+-- behind a lost frame that carried the third and the first these two again
+whole_again : IsVisit 1400 (Some (103 ∷ 101 ∷ [])) [] [] (103 ∷ 101 ∷ [])
+whole_again = refl

@@ -5,7 +5,9 @@ use Rattle.frame_view.specs.Seen.{seen}
 use Rattle.life_runs.specs.Led.{Exchanged, Leads, Turn, IsLedFrame, led_behind, gives_up_at}
 use Rattle.master_node.specs.Shows.{is_live_lead, is_opening_lead}
 use Rattle.master_node.specs.Toured.{turn_share}
+use Rattle.master_node.specs.Rooms.{area_at}
 use Rattle.master_tour.specs.Goes.{holds_at}
+use Rattle.master_tour.specs.Sizes.{frame_size}
 use Rattle.master_tour.specs.Toured.{Tour, IsOfTour, new_tour, goes_on, lost_on}
 use Rattle.segment_model.specs.Visits.{Stop, station_at}
 use Rattle.segment_ring.specs.declared.wire.Fate.{Fate}
@@ -22,10 +24,10 @@ module _ (lens : ℕ → Lens) (recover retry : ℕ) where
   abbrev pub lives_behind : ℕ → ℕ → Exchanged → List Turn → List Leads
   lives_behind missed made f us = map (led_behind lens recover retry (gives_up_at lens recover retry missed) made f) us
 
-  -- THE FRAMES OF A RUN, one after the other, the tour and the lives behind them: each frame carries the first slaves of its visit
+  -- THE FRAMES OF A RUN, one after the other, the tour and the lives behind them: each frame carries the slaves of its visit
   pub data IsToured (first : List Leads) : List Exchanged → Tour → List Leads → Type 0 where
     start : IsToured first [] new_tour first
-    on : (fs : List Exchanged) (t : Tour) (as' : List Leads) (f : Exchanged) (us : List Turn) (visit : List ℕ) → IsToured first fs t as' → IsLedFrame lens (length fs) f.sent as' us → IsOfTour (λ u. turn_share u) (λ k. holds_at is_live_lead as' k) t us (length (seen lens f.sent)) visit →
+    on : (fs : List Exchanged) (t : Tour) (as' : List Leads) (f : Exchanged) (us : List Turn) (visit : List ℕ) → IsToured first fs t as' → IsLedFrame lens (length fs) f.sent as' us → IsOfTour (λ u. turn_share u) (λ k. holds_at is_live_lead as' k) (frame_size f.sent) (λ k. area_at lens as' k) t us (length (seen lens f.sent)) visit →
         IsToured first (fs ++ f ∷ []) (tour_behind retry f.fate (lives_behind t.missed (length fs) f us) t visit) (lives_behind t.missed (length fs) f us)
 
 -- the slaves stand at their places of the ring, from this one on

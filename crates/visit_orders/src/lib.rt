@@ -15,7 +15,9 @@ ghost use Rattle.master_tour.specs.Toured.{Tour, visit_of};
 ghost use Rattle.frame_view.specs.Seen.{seen};
 ghost use Rattle.life_runs.specs.Led.{Turn, IsLedFrame};
 ghost use Rattle.master_node.specs.Toured.{turn_share};
-ghost use Rattle.master_tour.specs.Toured.{AreFirst, IsOfTour};
+ghost use Rattle.master_tour.specs.Sizes.{frame_size};
+ghost use Rattle.master_node.specs.Rooms.{area_at};
+ghost use Rattle.master_tour.specs.Toured.{IsOfTour};
 ghost use Rattle.segment_model.specs.Visits.{carried};
 ghost use Rattle.std.specs.Prelude.{◌++◌};
 ghost use Rattle.master_node.specs.Shows.{is_live_lead, is_opening_lead};
@@ -50,20 +52,21 @@ pub fn toured_law()
         stations_at ring (visit_of live (length ring) again opened last) ≡ visit_stations (stations_of ring again) (drop opened ring) (round ring (last_station ring last) members) }
 {}
 
-/// THE STATIONS THAT A FRAME OF SUCH A RUN IS ADDRESSED TO, datagram by datagram, are the first of its visit's, and it has no other datagram.
+/// THE STATIONS THAT A FRAME OF SUCH A RUN IS ADDRESSED TO, datagram by datagram, are those of its visit, and it has no other datagram: behind a lost
+/// frame just the same again; in the first bring-up the one that is brought up; else the first of a round, and none is left out that would fit.
 pub fn stations_law()
-    ensures { (lens : ℕ → Lens) (ring : List Stop) (members : List Member) (made : ℕ) (octets : List ℕ) (as' : List Leads) (us : List Turn) (live : ℕ → Bool) (t : Tour) (visit : List ℕ) → length ring ≤ 16 → length us ≡ length ring → AreAt ring 0 us → AreOf ring members → AreApart ring → IsPlace ring t.last →
-        ((k : ℕ) → live k ≡ is_live_in (stop_at ring k).station members) → IsLedFrame lens made octets as' us → IsOfTour (λ u. turn_share u) live t us (length (seen lens octets)) visit →
-        AreFirst (carried ring (seen lens octets)) (visit_stations (stations_of ring t.again) (drop t.opened ring) (round ring (last_station ring t.last) members)) }
+    ensures { (lens : ℕ → Lens) (ring : List Stop) (members : List Member) (made : ℕ) (octets : List ℕ) (as' : List Leads) (us : List Turn) (live : ℕ → Bool) (size : ℕ) (area : ℕ → ℕ) (t : Tour) (visit : List ℕ) → length ring ≤ 16 → length us ≡ length ring → AreAt ring 0 us → AreOf ring members → AreApart ring → IsPlace ring t.last →
+        ((k : ℕ) → live k ≡ is_live_in (stop_at ring k).station members) → ((k : ℕ) → area k ≡ (stop_at ring k).area) → IsLedFrame lens made octets as' us → IsOfTour (λ u. turn_share u) live size area t us (length (seen lens octets)) visit →
+        IsVisit size (stations_of ring t.again) (drop t.opened ring) (round ring (last_station ring t.last) members) (carried ring (seen lens octets)) }
 {}
 
 /// THE FRAMES OF A MASTER ARE A RUN OF ONE TOUR, from its begin on, by what it tells of each frame that it makes, and behind its return and its loss.
 pub fn master_law()
     ensures begins { (lens : ℕ → Lens) (recover retry : ℕ) (first : List Leads) (m : MasterNode) → tour_of m ≡ new_tour → IsToured lens recover retry first [] (tour_of m) first }
     ensures returns { (lens : ℕ → Lens) (recover retry : ℕ) (first : List Leads) (fs : List Exchanged) (as' : List Leads) (us : List Turn) (f : Exchanged) (m under behind : MasterNode) → IsToured lens recover retry first fs (tour_of m) as' → IsLedFrame lens (length fs) f.sent as' us →
-        tour_of under ≡ tour_of m → IsOfTour (λ u. turn_share u) (λ k. holds_at is_live_lead as' k) (tour_of m) us (length (seen lens f.sent)) under.tour.visit.items → f.fate ≡ Fate.Pass → tour_of behind ≡ goes_on is_opening_lead (lives_behind lens recover retry m.tour.missed (length fs) f us) (tour_of under) under.tour.visit.items →
+        tour_of under ≡ tour_of m → IsOfTour (λ u. turn_share u) (λ k. holds_at is_live_lead as' k) (frame_size f.sent) (λ k. area_at lens as' k) (tour_of m) us (length (seen lens f.sent)) under.tour.visit.items → f.fate ≡ Fate.Pass → tour_of behind ≡ goes_on is_opening_lead (lives_behind lens recover retry m.tour.missed (length fs) f us) (tour_of under) under.tour.visit.items →
         IsToured lens recover retry first (fs ++ f ∷ []) (tour_of behind) (lives_behind lens recover retry m.tour.missed (length fs) f us) }
     ensures loses { (lens : ℕ → Lens) (recover retry : ℕ) (first : List Leads) (fs : List Exchanged) (as' : List Leads) (us : List Turn) (f : Exchanged) (after : ℕ) (m under behind : MasterNode) → IsToured lens recover retry first fs (tour_of m) as' → IsLedFrame lens (length fs) f.sent as' us →
-        tour_of under ≡ tour_of m → IsOfTour (λ u. turn_share u) (λ k. holds_at is_live_lead as' k) (tour_of m) us (length (seen lens f.sent)) under.tour.visit.items → f.fate ≡ Fate.Lost after → tour_of behind ≡ lost_on is_opening_lead retry (lives_behind lens recover retry m.tour.missed (length fs) f us) (tour_of under) under.tour.visit.items →
+        tour_of under ≡ tour_of m → IsOfTour (λ u. turn_share u) (λ k. holds_at is_live_lead as' k) (frame_size f.sent) (λ k. area_at lens as' k) (tour_of m) us (length (seen lens f.sent)) under.tour.visit.items → f.fate ≡ Fate.Lost after → tour_of behind ≡ lost_on is_opening_lead retry (lives_behind lens recover retry m.tour.missed (length fs) f us) (tour_of under) under.tour.visit.items →
         IsToured lens recover retry first (fs ++ f ∷ []) (tour_of behind) (lives_behind lens recover retry m.tour.missed (length fs) f us) }
 {}

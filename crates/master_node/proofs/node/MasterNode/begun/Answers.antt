@@ -5,6 +5,7 @@ use Rattle.master_node.proofs.Kepts.{stop_same}
 use Rattle.master_node.proofs.Lists.{steps_same}
 use Rattle.std.proofs.Common.{refl}
 use Rattle.master_tour.proofs.Walks.{each_same}
+use Rattle.master_node.proofs.Rooms.{sends_same}
 use Rattle.master_node.proofs.node.MasterNode.begun.Goals as goal
 
 pub returns-in-None-clause-begun : goal.returns-in-None-clause-begun
@@ -28,3 +29,9 @@ returns-in-None-clause-put c =
     let m = c.args.self.now in
     let l : c.args.place < length m.tour.stops.items = omega (arith, c.requires, m.paired, m.tour.stops.ok.0) in
     steps_same _ c.args.place m.tour.stops.items l (λ s. (refl, refl, refl))
+
+pub returns-in-None-clause-sends : goal.returns-in-None-clause-sends
+returns-in-None-clause-sends c =
+    let m = c.args.self.now in
+    let l : c.args.place < length m.tour.stops.items = omega (arith, c.requires, m.paired, m.tour.stops.ok.0) in
+    steps_same _ c.args.place m.tour.stops.items l (λ s. sends_same s)

@@ -6,6 +6,8 @@ use Rattle.master_node.proofs.Filleds.{fills_first, fills_last, fills_same, fill
 use Rattle.master_tour.specs.Walks.{EachPair}
 use Rattle.master_tour.proofs.Walks.{each_same}
 use Rattle.master_node.proofs.Lists.{each_trans}
+use Rattle.std.proofs.Common.{ℕ}
+use Rattle.master_node.proofs.Leaves.{few_stops}
 use Rattle.master_node.proofs.Toureds.{counts_more, visiting_first, visiting_more, visiting_still, visiting_same, visiting_last}
 use Rattle.master_node.proofs.node.MasterNode.fill.Goals as goal
 
@@ -53,7 +55,7 @@ returns-clause-filled c = λ lens recover made as' d x.
     fills_last lens recover made as' c.loop.counter c.loop.self c.loop.into.items (let t = c.loop-test.false in omega (arith, t)) (c.loop.invariant.3 lens recover made as' d x)
 
 pub loop-init : goal.loop-init
-loop-init c = (c.requires, refl, on_same c.args.self.now, (λ lens recover made as' d x. fills_first lens recover made as' c.args.self.now c.args.into.now.items x), each_same _ c.args.self.now.tour.stops.items (λ s. refl), λ b. visiting_first c.args.self.now b)
+loop-init c = (c.requires, refl, on_same c.args.self.now, (λ lens recover made as' d x. fills_first lens recover made as' c.args.self.now c.args.into.now.items x), each_same _ c.args.self.now.tour.stops.items (λ s. refl), λ b short. (visiting_first c.args.into.now.items c.args.self.now short b, b.count))
 
 pub loop-preserved : goal.loop-preserved
 loop-preserved c = (
@@ -76,14 +78,19 @@ loop-preserved c = (
       (λ left other q a o s g. subst (λ (z : Bool). IsFilling lens recover made (if z then other else left) c.visit.new.self c.visit.new.into.items as') yes (v.led lens recover made left other as' q d a o s g))),
   each_trans (λ s t. t.side.hand.found.join ≡ s.side.hand.found.join) c.args.self.now.tour.stops.items c.loop.self.tour.stops.items c.visit.new.self.tour.stops.items (λ x y z a b. b ∙ a) c.loop.invariant.4
       (subst (λ z. EachPair (λ s t. t.side.hand.found.join ≡ s.side.hand.found.join) z.items c.visit.new.self.tour.stops.items) c.due.ensures.stops c.visit.ensures.joins),
-  λ b.
+  λ b short.
       let e = c.due.ensures in
       let v = c.visit.ensures in
       let p = c.in-Some.place in
       let is : c.due.result ≡ Some p = cc in
-      visiting_more c.args.self.now c.loop.self c.visit.new.self c.due.new.self p (c.loop.invariant.5 b) c.loop.invariant.2
-      (record { stops = e.stops; count = e.kept.0; again = e.kept.1; visit = e.kept.2 })
-      (e.order p is).1 (c.in-Some.ensures.few) v.on.1 v.visits v.shares (counts_more _ _ v.counts (let t = c.if-self-count.false in λ q. omega (arith, t, q))),
+      let more = counts_more _ _ v.counts (let t = c.if-self-count.false in λ q. omega (arith, t, q)) in
+      let was = (c.loop.invariant.5 b short).1 in
+      let same = e.kept.0 in (
+        visiting_more c.loop.into.items c.visit.new.into.items c.args.self.now c.loop.self c.visit.new.self c.due.new.self p (c.loop.invariant.5 b short).0 c.loop.invariant.2
+            (record { stops = e.stops; count = e.kept.0; again = e.kept.1; visit = e.kept.2 })
+            (e.order p is).1 (c.in-Some.ensures.few) v.on.1 v.visits v.shares v.takes more,
+        omega (arith, more, was, same),
+      ),
 )
 
 pub returns-in_default-clause-joins : goal.returns-in_default-clause-joins
@@ -103,33 +110,41 @@ pub returns-clause-joins : goal.returns-clause-joins
 returns-clause-joins c = c.loop.invariant.4
 
 pub returns-in_default-clause-visited : goal.returns-in_default-clause-visited
-returns-in_default-clause-visited c = λ b.
+returns-in_default-clause-visited c = λ b short.
     let e = c.due.ensures in
-    visiting_same c.args.self.now c.loop.self _ (record { stops = e.stops; count = e.kept.0; again = e.kept.1; visit = e.kept.2; opened = e.kept.3; last = e.kept.4; made = refl; posts = refl }) (c.loop.invariant.5 b)
+    let none : c.due.result ≡ None = cc in
+    let was = (c.loop.invariant.5 b short).1 in
+    let test = c.loop-test.true in
+    visiting_same c.loop.into.items c.args.self.now c.loop.self _ (few_stops c.args.self.now) (omega (arith, was, test)) c.loop.invariant.2 (record { stops = e.stops; count = e.kept.0; again = e.kept.1; visit = e.kept.2; opened = e.kept.3; last = e.kept.4; made = refl; posts = refl }) (e.none none) (e.ends none)
+    (c.loop.invariant.5 b short).0
 
 pub returns-then-not-visit-clause-visited : goal.returns-then-not-visit-clause-visited
-returns-then-not-visit-clause-visited c = λ b.
+returns-then-not-visit-clause-visited c = λ b short.
     let e = c.due.ensures in
     let v = c.visit.ensures in
     let p = c.in-Some.place in
     let is : c.due.result ≡ Some p = cc in
     let no : c.visit.result ≡ false = cc in
-    visiting_still c.args.self.now c.loop.self c.visit.new.self c.due.new.self p (c.loop.invariant.5 b) c.loop.invariant.2
+    visiting_still c.loop.into.items c.visit.new.into.items c.args.self.now c.loop.self c.visit.new.self c.due.new.self p (c.loop.invariant.5 b short).0 c.loop.invariant.2
     (record { stops = e.stops; count = e.kept.0; again = e.kept.1; visit = e.kept.2 })
-    (e.order p is).1 (c.in-Some.ensures.few) v.on.1 v.visits v.shares (v.still no).0
+    (e.order p is).1 (c.in-Some.ensures.few) v.on.1 v.visits v.shares v.takes (v.room (v.still no).0) (v.still no).0
 
 pub returns-clause-visited : goal.returns-clause-visited
-returns-clause-visited c = λ b. visiting_last c.args.self.now c.loop.self (c.loop.invariant.5 b)
+returns-clause-visited c = λ b short.
+    let was = (c.loop.invariant.5 b short).1 in
+    let over = c.loop-test.false in
+    visiting_last c.loop.into.items c.args.self.now c.loop.self (few_stops c.args.self.now) (omega (arith, was, over)) (c.loop.invariant.5 b short).0
 
 pub returns-then-self-count-clause-visited : goal.returns-then-self-count-clause-visited
-returns-then-self-count-clause-visited c = λ b.
+returns-then-self-count-clause-visited c = λ b short.
     let e = c.due.ensures in
     let v = c.visit.ensures in
     let p = c.in-Some.place in
     let is : c.due.result ≡ Some p = cc in
     let same = c.if-self-count.true in
-    visiting_still c.args.self.now c.loop.self c.visit.new.self c.due.new.self p (c.loop.invariant.5 b) c.loop.invariant.2 (record { stops = e.stops; count = e.kept.0; again = e.kept.1; visit = e.kept.2 })
-    (e.order p is).1 (c.in-Some.ensures.few) v.on.1 v.visits v.shares (omega (arith, same))
+    let still : c.visit.new.self.tour.count ≡ c.due.new.self.count = omega (arith, same) in
+    visiting_still c.loop.into.items c.visit.new.into.items c.args.self.now c.loop.self c.visit.new.self c.due.new.self p (c.loop.invariant.5 b short).0 c.loop.invariant.2 (record { stops = e.stops; count = e.kept.0; again = e.kept.1; visit = e.kept.2 })
+    (e.order p is).1 (c.in-Some.ensures.few) v.on.1 v.visits v.shares v.takes (v.room still) still
 
 pub returns-then-self-count-clause-filled : goal.returns-then-self-count-clause-filled
 returns-then-self-count-clause-filled c = λ lens recover made as' d x.

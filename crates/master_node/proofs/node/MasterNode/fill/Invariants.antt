@@ -1,4 +1,4 @@
-use Rattle.std.proofs.Common.{◌≡◌, ℕ, List, vec_len}
+use Rattle.std.proofs.Common.{◌≡◌, ℕ, List, length, vec_len}
 use Rattle.std.specs.Prelude.{map}
 use Rattle.datagrams.specs.Datagram as Raw
 use Rattle.datagrams.specs.Frame.{IsBegun}
@@ -19,4 +19,4 @@ invariant-loop l =
     ((ds : List Raw.Datagram) × IsBegun l.into.items ds) × (vec_len l.self.posts ≡ vec_len l.initial.self.posts) × TourOn l.initial.self l.self
     × ((lens : ℕ → Lens) (recover made : ℕ) (as' : List Leads) → AreDistinct (map lived_of as') → IsEmpty lens recover made l.initial.self l.initial.into.items as' → Fills lens recover made as' l.counter l.self l.into.items)
     × JoinsKept l.initial.self l.self
-    × (IsBare l.initial.self → Visiting l.initial.self l.self)
+    × (IsBare l.initial.self → length l.initial.into.items ≡ 16 → Visiting l.into.items l.initial.self l.self × (l.self.tour.count ≡ l.counter))

@@ -20,6 +20,8 @@ use Rattle.master_tour.specs.Joins.{join_at}
 use Rattle.master_node.specs.Shows.{IsUnder}
 use Rattle.master_node.specs.Joined.{IsUnfinished, stand_before, stand_under, mails_lost}
 use Rattle.master_node.proofs.Joineds.{lost_unfinished, three_on, three_kept, three_of, three_after, unfinished_kept}
+use Rattle.master_node.specs.Rooms.{FitAgain}
+use Rattle.master_node.proofs.Fits.{again_lost}
 use Rattle.master_node.proofs.node.MasterNode.lost.Goals as goal
 
 pub returns-clause-leads : goal.returns-clause-leads
@@ -36,6 +38,7 @@ returns-clause-leads c = λ lens recover retry missed number after octets us f p
     (goes_lost lens recover retry number f after (nat_lt missed retry) t.again m.tour.visit.items t.visit.items m.tour.opened t.opened us t.stops.items p (c.lost.ensures.tour.1 ∙ comes) (ap (λ z. z.items) c.lost.ensures.tour.0)
     (c.lost.ensures.opened ∙ ap (λ (z : Bool). if z then m.tour.opened else opened_behind (λ s. is_opened s.stand) m.tour.opened t.stops.items) comes) leads u.goes)
     (c.lost.ensures.tour.2 ∙ missed_is lens recover retry f after missed m.tour.missed m.tour.retry p u.missed_is u.retry_is) (c.lost.ensures.tour.3 ∙ u.retry_is)
+    (λ e. subst (λ z. FitAgain z.items t.stops.items) (sym c.lost.ensures.tour.0) (again_lost _ (λ s w h. h (sym c.lost.ensures.tour.1 ∙ e)) m.tour.stops.items t.stops.items m.tour.visit.items c.lost.ensures.again u.fits))
 
 pub returns-clause-joined : goal.returns-clause-joined
 returns-clause-joined c = λ lens recover retry missed number after octets us befores f p b u h.

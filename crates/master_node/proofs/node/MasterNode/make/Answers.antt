@@ -14,6 +14,10 @@ use Rattle.master_node.proofs.Sents.{stand_lives, each_holds, each_any, begins_l
 use Rattle.master_tour.proofs.Steps as Steps
 use Rattle.master_tour.proofs.Walks.{each_map}
 use Rattle.master_node.proofs.Lists.{each_trans}
+use Rattle.master_tour.specs.Sizes.{frame_size}
+use Rattle.master_node.specs.Rooms.{FitAgain, area_at}
+use Rattle.master_node.proofs.Fits.{again_on, side_sends}
+use Rattle.master_node.proofs.Leaves.{areas_from, area_planned, fit_under}
 use Rattle.master_node.proofs.Toureds.{each_none, tour_same, of_tour}
 use Rattle.master_node.proofs.node.MasterNode.make.Goals as goal
 
@@ -50,6 +54,7 @@ returns-clause-led c = λ lens recover retry missed number as' some x.
       many = many;
     }) in
     let on = c.fill.ensures.on in
+    let into = c.fill.new.into.items in
     let visits = λ (a : m.tour.again ≡ true). ap (λ z. z.items) (e.again a) in
     let v = c.fill.ensures.visited (record {
       count = e.count;
@@ -57,13 +62,17 @@ returns-clause-led c = λ lens recover retry missed number as' some x.
       under = each_none _ (λ s. s.under) (λ s t p. p.5) ss ts e.each;
       again = λ a. (goes.comes a).once;
       anew = λ a. e.anew (sym e.tour.0 ∙ a);
-    }) in
+      fits = λ a.
+          let was = sym e.tour.0 ∙ a in
+          subst (λ z. FitAgain z ts) (sym (visits was)) (again_on _ (λ s t p. side_sends s t p.0 p.1) ss ts m.tour.visit.items e.each (x.again was));
+    }) e.empty in
     let t2 = c.fill.new.self.tour in
     let yes = c.finish-some.ensures.some ∙ some_not t2.count f.some in
     let z = c.finish-some.ensures.made yes (speech_at lens) is_followed is_passed number recover (c.fill.new.self.made % 256) lens f.left lives f.filling.begun f.filling.frame in
     let octets = c.finish-some.new.frame.items in
     let is = sent_is lens octets z.datagrams z.frame in
     let begun = f.filling.begun in
+    let areas = areas_from lens (λ i a s. StopFills lens recover number begun (c.fill.new.self.made % 256) f.left f.filling.frame.datagrams i a s) (λ i a s w. area_planned lens a.spot s w.lives.planned) 0 as' t2.stops.items f.filling.frame.each in
     let bare = Steps.from_map _ (λ n a s. is_in n f.left ≡ true → s.under ≡ false) (λ i a s w. w.bare) 0 as' t2.stops.items (from_map lived_of (λ i a s. StopFills lens recover number begun (c.fill.new.self.made % 256) f.left f.filling.frame.datagrams i a s) 0 as' t2.stops.items f.filling.frame.each) in (
       turns lens recover number begun octets z.datagrams is as' z.lives t2.stops.items,
       record { datagrams = z.datagrams; frame = z.frame; each = turns_all lens recover number begun octets z.datagrams is f.left 0 as' z.lives t2.stops.items f.filling.among z.each },
@@ -76,9 +85,10 @@ returns-clause-led c = λ lens recover retry missed number as' some x.
         missed_is = on.missed ∙ e.tour.3 ∙ x.missed_is;
         retry_is = on.retry ∙ e.tour.4 ∙ x.retry_is;
         sent = sent_some lens octets z.datagrams z.frame;
+        fits = fit_under into _ c.fill.new.self c.fill.ensures.begun.1.fits v;
       },
-      tour_same m _ c.fill.new.self v e.tour.0 visits e.tour.1 e.tour.2 e.tour.3 on,
-      of_tour m _ c.fill.new.self v e.tour.0 visits e.tour.1 e.tour.2 e.tour.3 on (λ k. holds_at is_live_lead as' k) alive (length (seen lens octets)) (sent_many lens octets f.filling.frame.datagrams (c.finish-some.ensures.reads yes f.filling.frame.datagrams f.filling.frame.begun f.filling.frame.long f.filling.frame.named) ∙ f.filling.frame.long) f.some,
+      tour_same into m _ c.fill.new.self v e.tour.0 visits e.tour.1 e.tour.2 e.tour.3 on,
+      of_tour into m _ c.fill.new.self v e.tour.0 visits e.tour.1 e.tour.2 e.tour.3 on (λ k. holds_at is_live_lead as' k) alive (λ k. v.alive k ∙ alive k) (frame_size octets) (λ k. area_at lens as' k) (c.finish-some.ensures.size yes) areas (length (seen lens octets)) (sent_many lens octets f.filling.frame.datagrams (c.finish-some.ensures.reads yes f.filling.frame.datagrams f.filling.frame.begun f.filling.frame.long f.filling.frame.named) ∙ f.filling.frame.long) f.some,
     )
 
 pub returns-clause-joins : goal.returns-clause-joins

@@ -16,6 +16,7 @@ returns-clause-leads c =
       goes = record { ahead = λ k a l. all_open plan 0 plan.slaves k l; comes = λ t. absurd (let w : true ≡ false = sym t ∙ e.begins.1 in cc) };
       missed_is = e.begins.2;
       retry_is = e.begins.3;
+      again = λ t. absurd (let w : true ≡ false = sym t ∙ e.begins.1 in cc);
     }
 
 pub returns-clause-joined : goal.returns-clause-joined

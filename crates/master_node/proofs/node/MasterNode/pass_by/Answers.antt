@@ -8,6 +8,7 @@ use Rattle.master_node.proofs.Visits.{state_passes}
 use Rattle.std.proofs.Common.{ap}
 use Rattle.master_tour.proofs.Walks.{each_same}
 use Rattle.master_node.proofs.Lists.{steps_each}
+use Rattle.master_node.proofs.Rooms.{sends_same}
 use Rattle.master_node.proofs.node.MasterNode.pass_by.Goals as goal
 
 pub returns-in-State-clause-begun : goal.returns-in-State-clause-begun
@@ -76,3 +77,28 @@ returns-in-Script-clause-put c =
     let m = c.args.self.now in
     let l : c.args.place < length m.tour.stops.items = omega (arith, c.requires, m.paired, m.tour.stops.ok.0) in
     steps_same _ c.args.place m.tour.stops.items l (λ s. (refl, refl, refl))
+
+pub returns-in-State-clause-sends : goal.returns-in-State-clause-sends
+returns-in-State-clause-sends c =
+    let m = c.args.self.now in
+    let l : c.args.place < length m.tour.stops.items = omega (arith, c.requires, m.paired, m.tour.stops.ok.0) in
+    let e = c.pass_by.ensures.sends in
+    steps_set _ c.args.place m.tour.stops.items c.index_mut.result.now _ l c.index_mut.ensures.value (record { out = e.0; inn = e.1; duty = e.2; passing = e.3; turn = e.4; paused = e.5; carried = e.6; stand = refl })
+
+pub returns-in-Packet-clause-sends : goal.returns-in-Packet-clause-sends
+returns-in-Packet-clause-sends c =
+    let m = c.args.self.now in
+    let l : c.args.place < length m.tour.stops.items = omega (arith, c.requires, m.paired, m.tour.stops.ok.0) in
+    steps_same _ c.args.place m.tour.stops.items l (λ s. sends_same s)
+
+pub returns-in-Mail-clause-sends : goal.returns-in-Mail-clause-sends
+returns-in-Mail-clause-sends c =
+    let m = c.args.self.now in
+    let l : c.args.place < length m.tour.stops.items = omega (arith, c.requires, m.paired, m.tour.stops.ok.0) in
+    steps_same _ c.args.place m.tour.stops.items l (λ s. sends_same s)
+
+pub returns-in-Script-clause-sends : goal.returns-in-Script-clause-sends
+returns-in-Script-clause-sends c =
+    let m = c.args.self.now in
+    let l : c.args.place < length m.tour.stops.items = omega (arith, c.requires, m.paired, m.tour.stops.ok.0) in
+    steps_same _ c.args.place m.tour.stops.items l (λ s. sends_same s)

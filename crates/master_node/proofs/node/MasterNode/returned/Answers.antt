@@ -21,6 +21,7 @@ use Rattle.master_tour.specs.Joins.{join_at}
 use Rattle.master_tour.specs.Stands.{came_at}
 use Rattle.master_node.specs.Joined.{IsUnfinished, StopCompleted, stand_before, stand_under, mails_back}
 use Rattle.master_node.proofs.Joineds.{back_unfinished, completed_at, three_on, three_kept, three_map, three_of, three_after, pair_both, completed_kept}
+use Rattle.master_node.proofs.Lefts.{true_false}
 use Rattle.master_node.proofs.node.MasterNode.returned.Goals as goal
 
 pub returns-clause-leads : goal.returns-clause-leads
@@ -34,7 +35,7 @@ returns-clause-leads c = λ lens recover retry missed number octets us f p b u r
     (λ v s t i w e. lead_behind lens recover retry gives number f octets v s t _ i (w []) (life_back_is lens recover retry gives number f octets c.args.frame.now.items v s p b i) e.0 e.1) in
     behind_shows lens recover retry gives number f _ _ 0 us c.all_back.ensures.kept leads u.distinct u.quiet
     (goes_behind lens recover retry gives number f c.returned.new.self.again m.tour.visit.items c.returned.new.self.visit.items m.tour.opened c.returned.new.self.opened us ts c.returned.ensures.tour.1 c.returned.ensures.opened leads u.goes)
-    c.returned.ensures.tour.2 (c.returned.ensures.tour.3 ∙ u.retry_is)
+    c.returned.ensures.tour.2 (c.returned.ensures.tour.3 ∙ u.retry_is) (λ e. absurd (true_false c.returned.new.self.again e c.returned.ensures.tour.1))
 
 pub returns-clause-brought : goal.returns-clause-brought
 returns-clause-brought c = λ lens recover retry missed octets us u r.

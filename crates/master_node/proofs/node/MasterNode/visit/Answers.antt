@@ -1,6 +1,6 @@
 use Rattle.std.proofs.Common.{◌⊎◌, inl, ◌≡◌, ◌∙◌, ◌+◌, ◌%◌, refl, sym, ap, subst, arith}
 use Rattle.std.specs.Prelude.{map, false, nat_lt, IfSome, slice_get}
-use Rattle.std.proofs.lemmas.Bool.{le-ltb}
+use Rattle.std.proofs.lemmas.Bool.{le-ltb, lt-ltb}
 use Rattle.master_node.specs.Toured.{StaysPut, TakesPart}
 use Rattle.master_node.proofs.Toureds.{takes_part, part_steps}
 use Rattle.master_hand.specs.Laying.{ready_of}
@@ -21,6 +21,14 @@ use Rattle.master_node.proofs.Filleds.{count_behind}
 use Rattle.master_node.proofs.Visits.{Fitted, Began, now, comes, frame, among, among_fitted}
 use Rattle.std.proofs.Common.{◌∙◌}
 use Rattle.master_node.proofs.Lists.{steps_each, each_trans}
+use Rattle.std.proofs.Common.{true}
+use Rattle.master_side.specs.Again.{HasNoRoom, area_of}
+use Rattle.master_side.specs.Sent.{SameLink}
+use Rattle.master_tour.specs.Rooms.{Looks, StopRepeats, Visits, stop_len}
+use Rattle.master_node.specs.Rooms.{SendsSame, Takes}
+use Rattle.master_node.proofs.Fits.{sends_again, sends_len, stays_sends, takes_before, takes_not, takes_visit}
+use Rattle.master_node.proofs.Lists.{steps_trans}
+use Rattle.master_node.proofs.Rooms.{steps_room, looks_full, visits_full}
 use Rattle.master_node.proofs.node.MasterNode.visit.Goals as goal
 
 pub returns-then-not-fits-clause-led : goal.returns-then-not-fits-clause-led
@@ -133,3 +141,59 @@ returns-clause-shares c =
     subst (λ z. StepsAt (λ s t. TakesPart (nat_lt z c.came.new.self.tour.count) z s t) place s0 s4) before
     (subst (λ z. StepsAt (λ s t. TakesPart (nat_lt c.lay.new.self.tour.count z) c.lay.new.self.tour.count s t) place s0 s4) (sym behind)
     (part_steps c.lay.new.self.tour.count (nat_lt c.lay.new.self.tour.count c.visit-began.new.self.count) place s0 s1 s2 s3 s4 first second third c.came.ensures.put))
+
+pub returns-then-not-fits-clause-room : goal.returns-then-not-fits-clause-room
+returns-then-not-fits-clause-room c = λ n l.
+    let e = c.fits.ensures in
+    let s0 = c.args.self.now.tour.stops.items in
+    let s1 = c.fits.new.self.stops.items in
+    steps_room c.args.into.now.items c.args.place s0 s1
+    (steps_map _ (λ s t. is_live t.stand ≡ true → HasNoRoom c.args.into.now.items (area_of t.side)) c.args.place s0 s1 (λ s t p y. looks_full c.args.into.now.items c.fits.result s t c.if-not-fits.true p.0 p.1.0) (steps_both _ _ c.args.place s0 s1 e.room e.step)) l
+
+pub returns-clause-room : goal.returns-clause-room
+returns-clause-room c = λ n l.
+    let v = c.visit-began.ensures in
+    let place = c.args.place in
+    let before = c.args.into.now.items in
+    let behind = c.visit-began.new.frame.items in
+    let s2 = c.lay.new.self.tour.stops.items in
+    let s3 = c.visit-began.new.self.stops.items in
+    let s4 = c.came.new.self.tour.stops.items in
+    let same = sym c.came.ensures.kept.0.count ∙ n ∙ sym (c.lay.ensures.kept.0.count ∙ c.fits.ensures.count) in
+    steps_room behind place s2 s4
+    (steps_trans (λ s t. (Visits before behind s t) × (SameLink s.side.out s.side.inn s.side.station s.side.area t.side.out t.side.inn t.side.station t.side.area) × (t.stand ≡ s.stand) × (t.under ≡ true → c.visit-began.new.self.count ≡ c.lay.new.self.tour.count + 1)) (λ s t. SendsSame s t)
+    (λ s t. is_live t.stand ≡ true → HasNoRoom behind (area_of t.side)) place s2 s3 s4
+    (λ s t w p q. visits_full before behind s t w c.lay.new.self.tour.count c.visit-began.new.self.count same p.3 p.0 p.1 p.2 q)
+    (steps_map _ _ place s2 s3 (λ s t p. (p.0, p.1.0, p.1.1, p.1.3)) (steps_both _ _ place s2 s3 v.room v.step)) c.came.ensures.sends) l
+
+pub returns-then-not-fits-clause-takes : goal.returns-then-not-fits-clause-takes
+returns-then-not-fits-clause-takes c =
+    let e = c.fits.ensures in
+    let n = e.count in
+    let old = c.args.self.now.tour.count in
+    let new = c.fits.new.self.count in
+    let octets = c.args.into.now.items in
+    steps_map _ (λ s t. Takes octets octets (nat_lt old new) s t) c.args.place c.args.self.now.tour.stops.items c.fits.new.self.stops.items (λ s t p. takes_not octets c.fits.result (nat_lt old new) s t c.if-not-fits.true (le-ltb old new (omega (arith, n))) p) e.room
+
+pub returns-clause-takes : goal.returns-clause-takes
+returns-clause-takes c =
+    let e = c.fits.ensures in
+    let v = c.visit-began.ensures in
+    let place = c.args.place in
+    let before = c.args.into.now.items in
+    let behind = c.visit-began.new.frame.items in
+    let s0 = c.args.self.now.tour.stops.items in
+    let s1 = c.fits.new.self.stops.items in
+    let s2 = c.lay.new.self.tour.stops.items in
+    let s3 = c.visit-began.new.self.stops.items in
+    let s4 = c.came.new.self.tour.stops.items in
+    let old = c.args.self.now.tour.count in
+    let new = c.came.new.self.tour.count in
+    let was = c.lay.ensures.kept.0.count ∙ e.count in
+    let is = c.came.ensures.kept.0.count in
+    let looked = steps_trans (λ s t. Looks before c.fits.result s t) (λ s t. SendsSame s t) (λ s t. StopRepeats s → StopRepeats t × (stop_len t ≡ stop_len s)) place s0 s1 s2
+    (λ s t u k w r. let x = k.again r in (sends_again t u w x.0, sends_len t u w ∙ x.1)) e.room (steps_map _ (λ s t. SendsSame s t) place s1 s2 (λ s t p. stays_sends s t p.0) c.lay.ensures.laid) in
+    let visited = steps_trans (λ s t. Visits before behind s t × (t.under ≡ true → c.visit-began.new.self.count ≡ c.lay.new.self.tour.count + 1) × (t.under ≡ false → c.visit-began.new.self.count ≡ c.lay.new.self.tour.count)) (λ s t. SendsSame s t) (λ s t. Takes before behind (nat_lt old new) s t) place s2 s3 s4
+    (λ s t u p k. takes_visit before behind (nat_lt old new) s t u (λ y. (let l = p.1 y in lt-ltb old new (omega (arith, l, was, is)))) (λ n. (let l = p.2 n in le-ltb old new (omega (arith, l, was, is)))) p.0 k)
+    (steps_map _ _ place s2 s3 (λ s t p. (p.0, p.1.3, p.1.4)) (steps_both _ _ place s2 s3 v.room v.step)) c.came.ensures.sends in
+    steps_trans (λ s t. StopRepeats s → StopRepeats t × (stop_len t ≡ stop_len s)) (λ s t. Takes before behind (nat_lt old new) s t) (λ s t. Takes before behind (nat_lt old new) s t) place s0 s2 s4 (λ s t u h k. takes_before before behind (nat_lt old new) s t u h k) looked visited

@@ -1,6 +1,7 @@
 use Rattle.std.proofs.Common.{◌≡◌, true, sym, subst, ap, ◌∙◌, Option, Some}
 use Rattle.master_side.specs.declared.carried.Wish.{Wish}
 use Rattle.master_side.specs.Shown.{SideShows, Begins, wish_begun, takes_ready}
+use Rattle.master_side.proofs.Agains.{again_most}
 use Rattle.master_side.proofs.side.Side.begin.Goals as goal
 
 pub returns-in-Mails-clause-picked : goal.returns-in-Mails-clause-picked
@@ -25,3 +26,15 @@ returns-in-State-clause-picked g c = λ x made d a s.
     let e : c.args.wish ≡ Some (Wish.State c.in-State.target) = c.in-Some.is ∙ ap Some c.in-State.is in
     subst (λ (w : Option Wish). Begins x g.H.Hand.acknowledged made d a (wish_begun true w (g.H.Hand.ready old.hand)) (λ e b. SideShows (g.H.Hand.shows new.hand x) new.out new.inn new.fresh new.duty e b)) (sym e)
     (c.begin_state.ensures.picked x made d a s f.0 f.1 f.2)
+
+pub returns-then-not-is_free-clause-again : goal.returns-then-not-is_free-clause-again
+returns-then-not-is_free-clause-again g c = λ r. again_most c.args.self.now r
+
+pub returns-in_default-clause-again : goal.returns-in_default-clause-again
+returns-in_default-clause-again g c = λ r. again_most c.args.self.now r
+
+pub returns-in-Mails-clause-again : goal.returns-in-Mails-clause-again
+returns-in-Mails-clause-again g c = λ r. let f = c.is_free.ensures.bare c.if-not-is_free.false in c.begin_mails.ensures.again f.0 f.1 r
+
+pub returns-in-State-clause-again : goal.returns-in-State-clause-again
+returns-in-State-clause-again g c = λ r. let f = c.is_free.ensures.bare c.if-not-is_free.false in c.begin_state.ensures.again f.0 f.1 r

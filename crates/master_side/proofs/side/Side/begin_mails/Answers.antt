@@ -1,4 +1,5 @@
-use Rattle.std.proofs.Common.{sym, ◌∙◌}
+use Rattle.std.proofs.Common.{sym, ◌∙◌, true, false}
+use Rattle.master_side.proofs.Agains.{mails_most, never}
 use Rattle.master_side.proofs.Begins.{begins_ready, none_passed}
 use Rattle.master_side.proofs.side.Side.begin_mails.Goals.{then-began, else-began, then-passed, else-passed}
 use Rattle.master_side.proofs.side.Side.begin_mails.Goals as goal
@@ -13,8 +14,15 @@ returns-clause-unpassed g c = λ h.
     elim c.if-passed.branch [
       | then-passed w ↦ elim c.if-began.branch [
         | then-began v ↦ absurd (let no = none_passed ready c.begin-began.result (g.H.Hand.passes c.begin-began.new.self) g.H.Hand.passed c.begin-began.ensures.did v.if-began.true (h v.if-began.true) c.begin-began.ensures.passes in
-            let t = sym w.if-passed.true ∙ v.passed-is ∙ v.is_passed-passed.ensures ∙ no in cc)
-        | else-began v ↦ absurd (let t = sym w.if-passed.true ∙ v.passed-is in cc)
+            never (sym w.if-passed.true ∙ v.passed-is ∙ v.is_passed-passed.ensures ∙ no))
+        | else-began v ↦ absurd (never (sym w.if-passed.true ∙ v.passed-is ∙ v.if-began.false))
       ]
       | else-passed w ↦ w.passing-is
+    ]
+
+pub returns-clause-again : goal.returns-clause-again
+returns-clause-again g c = λ n p r held h.
+    elim c.if-passed.branch [
+      | then-passed w ↦ mails_most c.args.self.now _ true w.passing-is n p r held h
+      | else-passed w ↦ mails_most c.args.self.now _ false w.passing-is n p r held h
     ]

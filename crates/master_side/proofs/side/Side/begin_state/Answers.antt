@@ -1,6 +1,10 @@
+use Rattle.master_side.proofs.Agains.{drains_most}
 use Rattle.master_side.proofs.Begins.{begins_state}
 use Rattle.master_side.proofs.side.Side.begin_state.Goals as goal
 
 pub returns-clause-picked : goal.returns-clause-picked
 returns-clause-picked g c = λ x made d a s free known none.
     begins_state x g.H.Hand.acknowledged made d a (g.H.Hand.shows c.args.self.now.hand x) c.args.self.now.out c.args.self.now.inn c.args.self.now.fresh c.args.self.now.duty c.new-duty.result _ s none free known c.new-duty.ensures.target c.new-duty.ensures.stage
+
+pub returns-clause-again : goal.returns-clause-again
+returns-clause-again g c = λ n p r held h. drains_most c.args.self.now c.new-duty.result c.new-duty.ensures.stage n p r held

@@ -1,6 +1,7 @@
 use Rattle.std.proofs.Common.{sym, subst}
 use Rattle.master_side.specs.Shown.{SideShows}
 use Rattle.master_side.proofs.Begins.{picked}
+use Rattle.master_side.proofs.Agains.{holds_most}
 use Rattle.master_side.proofs.side.Side.choose.Goals as goal
 
 pub returns-clause-picked : goal.returns-clause-picked
@@ -8,3 +9,6 @@ returns-clause-picked g c = λ x made d a s. picked x g.H.Hand.acknowledged made
 
 pub returns-clause-waits : goal.returns-clause-waits
 returns-clause-waits g c = λ p x d a s. c.hold_next.ensures.shown x d a (subst (λ z. SideShows (g.H.Hand.shows z.hand x) z.out z.inn z.fresh z.duty d a) (sym (c.begin-began.ensures.waits p).1) s)
+
+pub returns-clause-again : goal.returns-clause-again
+returns-clause-again g c = λ r. holds_most c.begin-began.new.self c.hold_next.new.self _ c.hold_next.ensures.on (c.begin-began.ensures.again r)

@@ -2,6 +2,10 @@ use Rattle.std.proofs.Common.{sym, subst, ap}
 use Rattle.master_side.specs.Shown.{SideShows}
 use Rattle.master_tour.specs.Stands.{StopShows, StandShows, is_open}
 use Rattle.master_tour.proofs.Visits.{still_hold, open_hold}
+use Rattle.std.proofs.Common.{arith, refl}
+use Rattle.master_side.proofs.Agains.{least_area}
+use Rattle.master_tour.specs.Rooms.{StandRepeats}
+use Rattle.master_tour.proofs.Rooms.{ahead_opens, ahead_open}
 use Rattle.master_tour.proofs.stop.Stop.ahead.Goals as goal
 
 pub returns-in-Gone-clause-lives : goal.returns-in-Gone-clause-lives
@@ -30,3 +34,15 @@ returns-in-Open-clause-lives g c = λ x more passed made recover spot l sh.
       spared = sh.spared;
       over = sh.over;
     })
+
+pub returns-in-Gone-clause-again : goal.returns-in-Gone-clause-again
+returns-in-Gone-clause-again g c = λ r. absurd (subst (λ z. StandRepeats z c.args.self.now.side) c.in-Gone.is r)
+
+pub returns-in-Opening-clause-area : goal.returns-in-Opening-clause-area
+returns-in-Opening-clause-area g c = let a = least_area c.args.self.now.side in let l = c.access_len.ensures.most in omega (arith, a, l)
+
+pub returns-in-Opening-clause-again : goal.returns-in-Opening-clause-again
+returns-in-Opening-clause-again g c = λ r. (r, refl, ahead_opens c.args.self.now.stand c.args.self.now.side c.in-Opening.up c.access_len.result c.in-Opening.is c.access_len.ensures.is)
+
+pub returns-in-Open-clause-again : goal.returns-in-Open-clause-again
+returns-in-Open-clause-again g c = ahead_open c.args.self.now.stand c.args.self.now.stand c.args.self.now.side c.ahead.new.self c.ahead.result c.in-Open.is c.in-Open.is c.ahead.ensures.again

@@ -6,6 +6,7 @@ use Rattle.life_model.specs.Own
 use Rattle.master_side.specs.Shown.{SideShows}
 use Rattle.master_tour.specs.Stands.{StopShows, FollowShows, StandUnder, is_open}
 use Rattle.master_tour.proofs.Backs.{still_follows, lost_follows, own_lost, seen_aims}
+use Rattle.master_tour.proofs.Rooms.{loses_gone, loses_opens, loses_open}
 use Rattle.master_tour.proofs.stop.Stop.lost.Goals as goal
 
 pub returns-in-Gone-clause-lives : goal.returns-in-Gone-clause-lives
@@ -36,3 +37,12 @@ returns-in-Open-clause-lives g c = λ x more passed recover spot lens ns octets 
     let there = subst (λ (z : ℕ). SideShows (g.H.Hand.shows y.hand x) y.out y.inn y.fresh y.duty (Seats.side_lost z (Own.own z sent) l.era.side) l.era.account) sp.station_is s in
     subst (λ z. FollowShows (λ d a. SideShows (g.H.Hand.shows y.hand x) y.out y.inn y.fresh y.duty d a) recover spot z v.spare v.news l (life_lost x g.H.Hand.acknowledged more passed spot ns sent l l.stand)) (sym (c.open_lost.ensures.stand ∙ c.in-Open.is))
     (lost_follows (λ d a. SideShows (g.H.Hand.shows y.hand x) y.out y.inn y.fresh y.duty d a) x g.H.Hand.acknowledged more passed recover spot ns sent l v.spare v.news stood.0 kept.3 there (kept.2 ∙ sh.spared))
+
+pub returns-in-Gone-clause-again : goal.returns-in-Gone-clause-again
+returns-in-Gone-clause-again g c = let t = c.args.self.now in loses_gone t.stand t.stand t.side t.side t.under c.in-Gone.is
+
+pub returns-in-Opening-clause-again : goal.returns-in-Opening-clause-again
+returns-in-Opening-clause-again g c = let t = c.args.self.now in loses_opens t.stand t.stand t.side t.side t.under _ c.in-Opening.is c.in-Opening.is
+
+pub returns-in-Open-clause-again : goal.returns-in-Open-clause-again
+returns-in-Open-clause-again g c = let t = c.args.self.now in loses_open t.stand c.open_lost.new.self.stand t.side c.open_lost.new.self.side t.under c.in-Open.is (c.open_lost.ensures.stand ∙ c.in-Open.is) c.open_lost.ensures.again

@@ -6,6 +6,7 @@ use Rattle.life_model.specs.Lives.{life_lost}
 use Rattle.master_side.specs.Shown.{SideShows}
 use Rattle.master_tour.specs.Stands.{FollowShows, given_where}
 use Rattle.master_tour.proofs.Backs.{gave_turned, lost_gave}
+use Rattle.std.proofs.Common.{◌≡◌, true, false}
 use Rattle.master_tour.proofs.stop.Stop.lost_for.Goals as goal
 
 pub returns-then-not-gives-clause-lives : goal.returns-then-not-gives-clause-lives
@@ -35,3 +36,12 @@ returns-then-self-clause-lives g c = λ x more passed number recover spot lens n
     let second = c.give_up.ensures.lives x number recover spot m spot_is first.shown in
     subst (λ z. FollowShows (λ d a. SideShows (g.H.Hand.shows y.hand x) y.out y.inn y.fresh y.duty d a) recover spot f.stand f.spare f.news l (given_where z recover spot number m)) (sym (ap (λ z. z && t.under) c.if-not-gives.false ∙ sym c.lost.ensures.under ∙ c.if-self.true))
     (record { shown = second.shown; told = second.told ∙ gave_turned l m recover spot number (lost_gave x g.H.Hand.acknowledged more passed spot ns (seen lens octets) l l.stand) })
+
+pub returns-then-not-gives-clause-again : goal.returns-then-not-gives-clause-again
+returns-then-not-gives-clause-again g c = λ n. c.lost.ensures.again
+
+pub returns-else-self-clause-again : goal.returns-else-self-clause-again
+returns-else-self-clause-again g c = λ n. absurd (let d : false ≡ true = sym n ∙ c.if-not-gives.false in cc)
+
+pub returns-then-self-clause-again : goal.returns-then-self-clause-again
+returns-then-self-clause-again g c = λ n. absurd (let d : false ≡ true = sym n ∙ c.if-not-gives.false in cc)

@@ -1,6 +1,7 @@
 use Rattle.task_model.specs.Accounts.{duty_access}
 use Rattle.master_side.specs.Shown.{SideShows}
 use Rattle.master_tour.proofs.Unders.{nothing_under, none_lost, has_lost}
+use Rattle.std.proofs.Common.{sym, ◌∙◌}
 use Rattle.master_tour.proofs.stop.Stop.open_lost.Goals as goal
 
 pub returns-then-self-clause-shown : goal.returns-then-self-clause-shown
@@ -14,3 +15,9 @@ pub returns-else-self-clause-shown : goal.returns-else-self-clause-shown
 returns-else-self-clause-shown g c = λ x sent d a s u.
     let w = c.args.self.now.side in
     none_lost x (g.H.Hand.shows w.hand x) w.out w.inn w.fresh w.duty d a w.station sent (nothing_under w.station c.args.self.now.at c.args.self.now.under w.carried d.halves (duty_access a.hand) sent c.if-self.false u) s
+
+pub returns-then-self-clause-again : goal.returns-then-self-clause-again
+returns-then-self-clause-again g c = λ w u. c.lost.ensures.again w
+
+pub returns-else-self-clause-again : goal.returns-else-self-clause-again
+returns-else-self-clause-again g c = λ w u. absurd (let d = sym c.if-self.false ∙ u in cc)

@@ -3,6 +3,9 @@ use Rattle.task_model.specs.Accounts.{duty_access}
 use Rattle.master_tour.proofs.Visits.{picked_map, holds_map, same_shown, same_meant}
 use Rattle.mailbox_master.specs.Any.{in_half_of}
 use Rattle.master_tour.proofs.Grams.{choice_clear}
+use Rattle.std.proofs.Common.{arith}
+use Rattle.master_side.specs.Again.{HasNoRoom}
+use Rattle.master_side.proofs.Agains.{area_same}
 use Rattle.master_tour.proofs.stop.Stop.open_visit.Goals as goal
 
 pub returns-clause-shown : goal.returns-clause-shown
@@ -34,3 +37,14 @@ returns-clause-order g c = λ u f.
     let m = c.choose-began.new.self in
     let k = c.add_datagram-placed.ensures in
     ap (λ z. (in_half_of z).state) k.kept.in_is ∙ choice_clear m.duty m.passing (in_half_of m.inn).state m.turn m.paused m.out.state (sym (k.order u) ∙ f)
+
+pub returns-clause-area : goal.returns-clause-area
+returns-clause-area g c = λ n. subst (λ z. HasNoRoom c.args.frame.now.items z) (area_same c.args.self.now.side c.choose-began.new.self c.choose-began.ensures.link.out_is c.choose-began.ensures.link.in_is) (c.add_datagram-placed.ensures.area n)
+
+pub returns-clause-room : goal.returns-clause-room
+returns-clause-room g c = λ r.
+    let m = c.choose-began.new.self in
+    let most = c.choose-began.ensures.again r m.out.state (λ h. h) in (
+      λ n. (let long = c.add_datagram-placed.ensures.long n in omega (arith, most, long)),
+      λ y. (let same = (c.add_datagram-placed.ensures.way y).1 in omega (arith, most, same)),
+    )

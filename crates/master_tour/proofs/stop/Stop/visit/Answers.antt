@@ -7,6 +7,7 @@ use Rattle.master_side.specs.Carried.{Meant}
 use Rattle.master_side.specs.Sent.{visit_gram}
 use Rattle.master_tour.specs.Stands.{StopShows, StandShows, StandMeant, stand_gram, is_open}
 use Rattle.master_tour.proofs.Visits.{still_next, open_next}
+use Rattle.master_tour.proofs.Rooms.{visit_gone, visit_full, visit_opens, visit_open}
 use Rattle.master_tour.proofs.stop.Stop.visit.Goals as goal
 
 pub returns-in-Gone-clause-lives : goal.returns-in-Gone-clause-lives
@@ -57,3 +58,15 @@ returns-in-Open-clause-lives g c = λ x more passed made recover spot lens l a b
       λ u. subst (λ z. StandMeant lens n.side.station c.args.index n.side.carried z (record l { era = era }) (datagram_seen lens (stand_gram n.side.station c.args.index z n.side.out n.side.inn n.side.duty n.side.carried))) (sym is)
           (subst (λ (z : ℕ). Meant z n.side.carried era.side.halves (duty_access era.account.hand) (datagram_seen lens (visit_gram n.side.station c.args.index n.side.out n.side.inn n.side.duty n.side.carried))) (sym k.link.station_is) (r.1 u)),
     ))
+
+pub returns-in-Gone-clause-room : goal.returns-in-Gone-clause-room
+returns-in-Gone-clause-room g c = visit_gone c.args.frame.now.items c.args.self.now _ c.in-Gone.is refl
+
+pub returns-then-access_len-room-clause-room : goal.returns-then-access_len-room-clause-room
+returns-then-access_len-room-clause-room g c = visit_full c.args.frame.now.items c.args.self.now _ c.in-Opening.up c.access_len.result c.room.result c.in-Opening.is refl c.access_len.ensures.is c.access_len.ensures.most c.room.ensures c.if-access_len-room.true
+
+pub returns-else-access_len-room-clause-room : goal.returns-else-access_len-room-clause-room
+returns-else-access_len-room-clause-room g c = let k = c.opening_visit.ensures in visit_opens c.args.frame.now.items c.args.self.now c.opening_visit.new.self c.opening_visit.new.frame.items c.in-Opening.up c.in-Opening.is (k.stand ∙ c.in-Opening.is) k.at.1 k.grows
+
+pub returns-in-Open-clause-room : goal.returns-in-Open-clause-room
+returns-in-Open-clause-room g c = let k = c.open_visit.ensures in visit_open c.args.frame.now.items c.args.self.now c.open_visit.new.self c.open_visit.new.frame.items c.in-Open.is (k.stand ∙ c.in-Open.is) k.area k.room k.way k.full

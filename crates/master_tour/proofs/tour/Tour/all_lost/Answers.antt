@@ -13,6 +13,7 @@ use Rattle.master_tour.proofs.Walks.{walk_on, walk_over, walked_length}
 use Rattle.mailbox_master.specs.Any.{in_area_len}
 use Rattle.master_side.specs.Sent.{SameLink}
 use Rattle.master_tour.specs.Made.{IsSized}
+use Rattle.master_tour.specs.Rooms.{LosesAgain}
 use Rattle.master_tour.proofs.tour.Tour.all_lost.Goals as goal
 
 pub loop-i-preserved : goal.loop-i-preserved
@@ -35,6 +36,8 @@ loop-i-preserved g c =
       c.loop-i.invariant.8,
       walk_on (λ s t. (c.args.gives && s.under) ≡ false → g.H.Hand.join t.side.hand ≡ g.H.Hand.join s.side.hand)
           c.loop-i.i (c.loop-i.i + 1) c.args.self.now.stops.items c.loop-i.self.stops.items c.index_mut.result.now c.lost_for.new.self (add-one c.loop-i.i) c.loop-i.invariant.9 (let e = len ∙ c.args.self.now.stops.ok.0 in omega (arith, test, e)) c.index_mut.ensures.value c.lost_for.ensures.join,
+      walk_on (λ s t. c.args.gives ≡ false → LosesAgain s t)
+          c.loop-i.i (c.loop-i.i + 1) c.args.self.now.stops.items c.loop-i.self.stops.items c.index_mut.result.now c.lost_for.new.self (add-one c.loop-i.i) c.loop-i.invariant.10 (let e = len ∙ c.args.self.now.stops.ok.0 in omega (arith, test, e)) c.index_mut.ensures.value c.lost_for.ensures.again,
     )
 
 pub returns : goal.returns
@@ -49,5 +52,6 @@ returns g c =
       kept = walk_over (λ s t. SameLink s.side.out s.side.inn s.side.station s.side.area t.side.out t.side.inn t.side.station t.side.area × (IsSized s.stand s.side.out.len (in_area_len s.side.inn) → IsSized t.stand t.side.out.len (in_area_len t.side.inn))) c.loop-i.i c.args.self.now.stops.items c.loop-i.self.stops.items (let e = len ∙ c.args.self.now.stops.ok.0 in omega (arith, test, e)) c.loop-i.invariant.2;
       tour = (c.loop-i.invariant.3, c.loop-i.invariant.4, c.loop-i.invariant.5, c.loop-i.invariant.6, c.loop-i.invariant.7, c.loop-i.invariant.8);
       join = walk_over (λ s t. (c.args.gives && s.under) ≡ false → g.H.Hand.join t.side.hand ≡ g.H.Hand.join s.side.hand) c.loop-i.i c.args.self.now.stops.items c.loop-i.self.stops.items (let e = len ∙ c.args.self.now.stops.ok.0 in omega (arith, test, e)) c.loop-i.invariant.9;
+      again = walk_over (λ s t. c.args.gives ≡ false → LosesAgain s t) c.loop-i.i c.args.self.now.stops.items c.loop-i.self.stops.items (let e = len ∙ c.args.self.now.stops.ok.0 in omega (arith, test, e)) c.loop-i.invariant.10;
       long = sym (walked_length _ c.loop-i.i c.args.self.now.stops.items c.loop-i.self.stops.items c.loop-i.invariant.0);
     }

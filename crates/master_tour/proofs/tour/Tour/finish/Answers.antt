@@ -1,6 +1,7 @@
 use Rattle.std.proofs.Common.{ap, length}
 use Rattle.master_side.specs.Shown.{SideShows}
 use Rattle.master_tour.proofs.Sents.{stop_sent, all_sent, some_more}
+use Rattle.master_tour.proofs.Sizes.{size_is}
 use Rattle.master_tour.proofs.tour.Tour.finish.Goals as goal
 
 pub returns-clause-made : goal.returns-clause-made
@@ -18,3 +19,6 @@ returns-clause-made g c = λ r x more passed made recover index lens left lives 
 
 pub returns-clause-reads : goal.returns-clause-reads
 returns-clause-reads g c = λ r ds b l n. c.finish.ensures.reads ds b (some_more c.args.self.now.count (length ds) l c.if-self-eq0.false) n
+
+pub returns-clause-size : goal.returns-clause-size
+returns-clause-size g c = λ r. size_is c.args.frame.now.items c.finish.new.frame.items c.requires.0 c.requires.1 (c.finish.ensures.text c.requires.0 c.requires.1)

@@ -4,6 +4,7 @@ use Rattle.master_side.specs.Shown.{SideShows}
 use Rattle.master_tour.proofs.Walks.{steps_set}
 use Rattle.master_tour.proofs.Steps.{frame_grows}
 use Rattle.master_tour.proofs.Mades.{made_ahead, made_other, grown_none}
+use Rattle.master_tour.proofs.Rooms.{looks}
 use Rattle.master_tour.proofs.tour.Tour.fits.Goals as goal
 
 pub returns-clause-lives : goal.returns-clause-lives
@@ -27,3 +28,9 @@ returns-clause-made g c = λ x more passed made recover index count lens left li
 
 pub returns-clause-join : goal.returns-clause-join
 returns-clause-join g c = steps_set _ c.args.place c.args.self.now.stops.items c.index_mut.result.now c.ahead.new.self c.requires.inside c.index_mut.ensures.value c.ahead.ensures.join
+
+pub returns-clause-room : goal.returns-clause-room
+returns-clause-room g c =
+    let a = c.ahead.ensures in
+    steps_set _ c.args.place c.args.self.now.stops.items c.index_mut.result.now c.ahead.new.self c.requires.inside c.index_mut.ensures.value
+    (looks c.args.frame.now.items c.index_mut.result.now c.ahead.new.self c.ahead.result c.room.result a.area a.again c.room.ensures)

@@ -1,3 +1,6 @@
+use Rattle.std.proofs.Common.{◌≡◌, ap, true, false}
+use Rattle.std.specs.Prelude.{nat_lt, not}
+use Rattle.master_tour.specs.Rooms.{LosesAgain}
 use Rattle.mailbox_master.specs.Any.{in_area_len}
 use Rattle.master_tour.proofs.Mades.{planned_as, all_behind}
 use Rattle.master_tour.proofs.Walks.{each_map}
@@ -32,3 +35,13 @@ returns-then-comes_again-clause-join g c = each_map _ _ c.args.self.now.stops.it
 
 pub returns-clause-join : goal.returns-clause-join
 returns-clause-join g c = each_map _ _ c.args.self.now.stops.items c.all_lost.new.self.stops.items (λ s t p. p) c.all_lost.ensures.join
+
+pub returns-then-comes_again-clause-again : goal.returns-then-comes_again-clause-again
+returns-then-comes_again-clause-again g c =
+    let t = c.args.self.now in
+    each_map (λ s u. not (nat_lt t.missed t.retry) ≡ false → LosesAgain s u) (λ s u. nat_lt t.missed t.retry ≡ true → LosesAgain s u) t.stops.items c.all_lost.new.self.stops.items (λ s u p e. p (ap not e)) c.all_lost.ensures.again
+
+pub returns-clause-again : goal.returns-clause-again
+returns-clause-again g c =
+    let t = c.args.self.now in
+    each_map (λ s u. not (nat_lt t.missed t.retry) ≡ false → LosesAgain s u) (λ s u. nat_lt t.missed t.retry ≡ true → LosesAgain s u) t.stops.items c.all_lost.new.self.stops.items (λ s u p e. p (ap not e)) c.all_lost.ensures.again

@@ -23,6 +23,7 @@ use Rattle.master_tour.proofs.Orders.{counted_carried}
 use Rattle.master_tour.proofs.Steps.{frame_grows}
 use Rattle.master_tour.proofs.Mades.{made_visit, made_other, grown_of}
 use Rattle.master_tour.proofs.Walks.{steps_set, at_place}
+use Rattle.master_tour.specs.Rooms.{Visits}
 use Rattle.master_tour.proofs.tour.Tour.visit.Goals as goal
 
 pub returns-clause-lives : goal.returns-clause-lives
@@ -88,3 +89,8 @@ pub returns-clause-join : goal.returns-clause-join
 returns-clause-join g c =
     subst (λ z. StepsAt (λ s t. g.H.Hand.join t.side.hand ≡ g.H.Hand.join s.side.hand) c.args.place c.args.self.now.stops.items z.items) (sym c.carry_where.ensures.stops)
     (steps_set (λ s t. g.H.Hand.join t.side.hand ≡ g.H.Hand.join s.side.hand) c.args.place c.args.self.now.stops.items c.index_mut.result.now c.visit-began.new.self c.requires.inside c.index_mut.ensures.value c.visit-began.ensures.join)
+
+pub returns-clause-room : goal.returns-clause-room
+returns-clause-room g c =
+    subst (λ z. StepsAt (λ s t. Visits c.args.frame.now.items c.visit-began.new.frame.items s t) c.args.place c.args.self.now.stops.items z.items) (sym c.carry_where.ensures.stops)
+    (steps_set (λ s t. Visits c.args.frame.now.items c.visit-began.new.frame.items s t) c.args.place c.args.self.now.stops.items c.index_mut.result.now c.visit-began.new.self c.requires.inside c.index_mut.ensures.value c.visit-began.ensures.room)

@@ -1,0 +1,7 @@
+-- THE LENGTH IN A FRAME'S HEADER.
+use Rattle.std.specs.Prelude.{ℕ, List}
+use Rattle.ec_fields.specs.Fields.{number_at, bits_of}
+
+-- the lower eleven bits of its word
+abbrev pub frame_size : List ℕ → ℕ
+frame_size octets = bits_of (number_at 2 octets 14) 0 11
