@@ -1,13 +1,15 @@
 -- A step acknowledges the repeat request that stands, in whatever state the slave is.
-use Rattle.std.proofs.Common.{◌≡◌, Bool, true, false, Option, Some, None, refl, sym, ap, ◌∙◌, if◌then◌else◌}
+use Rattle.std.proofs.Common.{◌≡◌, ◌==◌, Bool, true, false, Option, Some, None, refl, sym, ap, ◌∙◌, if◌then◌else◌}
+use Rattle.frames_seen.specs.Slaves.{registers_seen}
 use Rattle.link_mails.specs.Body.{Body}
 use Rattle.link_model.specs.Mails.{LinkMail, differs, first_of}
 use Rattle.link_model.specs.Slave as Model
 use Rattle.link_model.specs.Slave.{InSide, Server, noticed, repeated, request_answered, looked, offers}
+use Rattle.mailbox_slave.specs.Node.{node_of, server_of}
 use Rattle.mailbox_slave.specs.Registers.{in_len, request_of, acknowledge_of}
 use Rattle.slave_lives.specs.Nodes.{IsRunning, IsRoomy, stepped}
 use Rattle.slave_lives.specs.Returning.{Clears}
-use Rattle.slave_lives.specs.Steps.{Running, node_steps}
+use Rattle.slave_lives.specs.Steps.{Running, node_steps, word_carried}
 use Rattle.slave_lives.proofs.NodeSteps as Stepped
 use Rattle.slave_steps.specs.Node.{Node}
 
@@ -69,7 +71,8 @@ pub acknowledges : {S : Type 0} (u : Running S) (n : Node S) → Clears u → Is
     (request_of (stepped u n).registers ≡ request_of n.registers) × (acknowledge_of (stepped u n).registers ≡ request_of n.registers)
 acknowledges u n clears runs roomy =
     let on = Stepped.steps_on u clears n runs roomy in
-    let a = step_answers _ u.clear _ _ _ in (
+    let al = (word_carried n.boot n.registers).state in
+    let a = step_answers (server_of u.take u.next u.rest al) u.clear ((registers_seen n.registers).state == 1) (al == 1) (node_of n.kept n.registers n.server) in (
       ap (λ x. x.inn.request) on.steps.node ∙ a.request,
       ap (λ x. x.inn.acknowledge) on.steps.node ∙ a.acknowledge,
     )

@@ -69,14 +69,14 @@ module _ {S : Type 0} (u : Running S) (boot : Bool) (lens : ℕ → Lens) (p : P
 
       by_closed : Awaits next → IsClosed u boot lens p o t.node → Shows (awaited next) (registers_after t.node.registers comes) ⊎ Waits next (registers_after t.node.registers comes)
       by_closed (Awaits.watch a two) closed = (watch_stands u boot lens p f.closing.plan next f.closing.state (met true t.node comes) closed_next a two).leads (ap₂ awaits_at a two)
-      by_closed (Awaits.again a nine) (IsClosed.brings first step b clears none) = absurd (let no : true ≡ false = sym a ∙ first in cc)
+      by_closed (Awaits.again a nine) (IsClosed.brings up step b clears none) = absurd (let no : true ≡ false = sym a ∙ up in cc)
       by_closed (Awaits.again a nine) (IsClosed.frozen a' (inl one) x) = absurd (let no : 2 ≡ 9 = sym (ap suc one) ∙ nine in cc)
       by_closed (Awaits.again a nine) (IsClosed.frozen a' (inr two) x) = absurd (let no : 3 ≡ 9 = sym (ap suc two) ∙ nine in cc)
       by_closed (Awaits.again a nine) (IsClosed.left a' one start turn former b) = absurd (let no : 2 ≡ 9 = sym (ap suc one) ∙ nine in cc)
       by_closed (Awaits.again a nine) (IsClosed.returned a' step b) =
           let eight : o.step ≡ 8 = omega (arith, nine) in
           inr (word_next (Closed.again_is o a ∙ eight) (subst (λ m. IsReturned u p m t.node.registers t.node.kept t.node.server) eight b) (ap₂ (λ (x : Bool) (s : ℕ). shows_clear (record o { again = x; step = s })) a nine))
-      by_closed (Awaits.first a five) (IsClosed.brings first step b clears none) =
+      by_closed (Awaits.first a five) (IsClosed.brings up step b clears none) =
           let four : o.step ≡ 4 = omega (arith, five) in
           inr (word_next (Closed.bring_is o a ∙ ap bring_turn four)
           (Brought.returned u boot lens p f.closing.plan 8 t.node.registers t.node.kept t.node.server (subst (λ m. IsBringing p m t.node.registers t.node.kept t.node.server) (ap bring_turn four) b) clears none)

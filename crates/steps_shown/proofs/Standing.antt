@@ -70,16 +70,16 @@ module _ {S : Type 0} (u : Running S) (boot : Bool) (lens : ℕ → Lens) (p : P
     last : shows_clear o ≡ false → turn_of o ≡ 9 → IsReturned u p 9 n.registers n.kept n.server → AtRead n
 
   at_read : (n : Node S) → Awaits o → IsClosed u boot lens p o n → AtRead n
-  at_read n (Awaits.watch a two) (IsClosed.brings first step b clear none) = absurd (let no : true ≡ false = sym a ∙ first in cc)
+  at_read n (Awaits.watch a two) (IsClosed.brings up step b clear none) = absurd (let no : true ≡ false = sym a ∙ up in cc)
   at_read n (Awaits.watch a two) (IsClosed.frozen a' step f) = AtRead.frozen (watch_clear o a two) (Closed.again_is o a ∙ two) f
   at_read n (Awaits.watch a two) (IsClosed.left a' one start turn former b) = absurd (let no : 1 ≡ 2 = sym one ∙ two in cc)
   at_read n (Awaits.watch a two) (IsClosed.returned a' step b) = AtRead.init (watch_clear o a two) (Closed.again_is o a ∙ two) (subst (λ m. IsReturned u p m n.registers n.kept n.server) two b)
-  at_read n (Awaits.again a nine) (IsClosed.brings first step b clear none) = absurd (let no : true ≡ false = sym a ∙ first in cc)
+  at_read n (Awaits.again a nine) (IsClosed.brings up step b clear none) = absurd (let no : true ≡ false = sym a ∙ up in cc)
   at_read n (Awaits.again a nine) (IsClosed.frozen a' (inl one) f) = absurd (let no : 1 ≡ 9 = sym one ∙ nine in cc)
   at_read n (Awaits.again a nine) (IsClosed.frozen a' (inr two) f) = absurd (let no : 2 ≡ 9 = sym two ∙ nine in cc)
   at_read n (Awaits.again a nine) (IsClosed.left a' one start turn former b) = absurd (let no : 1 ≡ 9 = sym one ∙ nine in cc)
   at_read n (Awaits.again a nine) (IsClosed.returned a' step b) = AtRead.last (again_clear o a nine) (Closed.again_is o a ∙ nine) (subst (λ m. IsReturned u p m n.registers n.kept n.server) nine b)
-  at_read n (Awaits.first a five) (IsClosed.brings first step b clear none) =
+  at_read n (Awaits.first a five) (IsClosed.brings up step b clear none) =
       AtRead.last (first_clear o a) (Closed.bring_is o a ∙ ap bring_turn five)
       (Brought.returned u boot lens p plan 9 n.registers n.kept n.server (subst (λ m. IsBringing p m n.registers n.kept n.server) (ap bring_turn five) b) clear none)
   at_read n (Awaits.first a five) (IsClosed.frozen a' step f) = absurd (let no : true ≡ false = sym a' ∙ a in cc)
