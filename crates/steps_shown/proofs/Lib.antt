@@ -1,4 +1,5 @@
 mod Asking
 mod Going
 mod Reading
+mod Showing
 mod Standing

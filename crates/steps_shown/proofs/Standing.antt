@@ -10,7 +10,7 @@ use Rattle.frame_pass.specs.Passing.{registers_after}
 use Rattle.frame_view.specs.View.{Lens}
 use Rattle.frames_seen.specs.Slaves.{registers_seen}
 use Rattle.life_measure.specs.Repairs.{awaits_at, awaited}
-use Rattle.life_model.specs.Lives.{Opening, shows_clear, last_step}
+use Rattle.life_model.specs.Lives.{Opening, shows_clear, is_shown}
 use Rattle.mailbox_slave.specs.Kept.{Kept}
 use Rattle.segment_model.specs.Slaves.{Found, Registers}
 use Rattle.segment_ring.specs.Ring.{is_in_pace}
@@ -20,7 +20,7 @@ use Rattle.slave_lives.specs.Nodes.{StepsOn, stepped}
 use Rattle.slave_lives.specs.Opening.{Plan, IsPlan, IsBringing, AtMostOne}
 use Rattle.slave_lives.specs.Returning.{IsFrozen, IsReturned, IsTurn}
 use Rattle.slave_lives.specs.Rings.{come_to, met, is_met_at}
-use Rattle.slave_lives.specs.Stands.{turn_of, bring_turn, IsBringStep, IsClosed, Closing, MayStep}
+use Rattle.slave_lives.specs.Stands.{turn_of, bring_turn, IsClosed, MayStep, CameBack}
 use Rattle.slave_lives.specs.Steps.{Running, HasStepped}
 use Rattle.slave_lives.proofs.Brought as Brought
 use Rattle.slave_lives.proofs.Closing as Closed
@@ -31,7 +31,8 @@ use Rattle.slave_steps.specs.Node.{Node}
 use Rattle.state_law.specs.Shows.{slave_table}
 use Rattle.state_model.specs.States as States
 use Rattle.steps_shown.specs.Shown.{Shows, Waits, StandsFor}
-use Rattle.steps_shown.proofs.Reading.{Reads, reads_leave, word_waits}
+use Rattle.steps_shown.proofs.Reading.{Reads, reads_leave}
+use Rattle.steps_shown.proofs.Showing.{read_shows}
 
 -- the accesses that await a step: the watch of a return, the end of a reopening, the end of a bring-up
 pub data Awaits (o : Opening) : Type 0 where
@@ -177,3 +178,15 @@ module _ {S : Type 0} (u : Running S) (boot : Bool) (lens : ℕ → Lens) (p : P
     leads = λ e. watched n (at_read n (Awaits.watch a two) closed) (watch_clear o a two);
     shows = λ e no_. absurd (cc);
   }
+
+  -- WHAT COMES BACK of the access shows it
+  pub access_shows : (n : Node S) (d : Raw.Datagram) (done : Bool) (found : Option Found) → IsClosed u boot lens p o n → awaits_at o.again o.step ≡ true → CameBack lens p (turn_of o) n.registers d done found → d.head.counter ≡ 0 → Shows (awaited o) n.registers →
+      (done && is_shown (awaited o) found) ≡ true
+  access_shows n d done found closed a came zero s =
+      let k = at_read n (awaits_of o a) closed in
+      read_shows lens p (turn_of o) (awaited o) n.registers d done found (reads_at n k) came zero (low k) s
+    where
+      low : AtRead n → n.registers.al_status < 32
+      low (AtRead.frozen clear turn f) = f.opens.status
+      low (AtRead.init clear turn b) = b.status
+      low (AtRead.last clear turn b) = b.status

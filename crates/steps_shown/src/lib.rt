@@ -2,10 +2,11 @@
 //! nothing, and its contract states the law.
 #![tactic(auto)]
 
-ghost use Rattle.std.specs.Prelude.{◌≡◌, ◌==◌, ◌||◌, ℕ, suc, Bool, true, false, Option};
+ghost use Rattle.std.specs.Prelude.{◌≡◌, ◌==◌, ◌||◌, ◌&&◌, ℕ, suc, Bool, true, false, Option};
 ghost use Rattle.datagrams.specs.Datagram as Raw;
 ghost use Rattle.frame_view.specs.View.{Lens};
-ghost use Rattle.life_model.specs.Lives.{Opening, shows_clear, last_step};
+ghost use Rattle.life_measure.specs.Repairs.{awaits_at, awaited};
+ghost use Rattle.life_model.specs.Lives.{Opening, shows_clear, last_step, is_shown};
 ghost use Rattle.segment_model.specs.Slaves.{Found};
 ghost use Rattle.segment_ring.specs.Ring.{is_in_pace};
 ghost use Rattle.slave_lives.specs.Lived.{RingFrame, node_behind, ClosedFrame, AccessBack};
@@ -13,10 +14,10 @@ ghost use Rattle.mailbox_slave.specs.Registers.{in_len, request_of, acknowledge_
 ghost use Rattle.slave_lives.specs.Nodes.{IsRunning, IsRoomy, stepped};
 ghost use Rattle.slave_lives.specs.Returning.{Clears};
 ghost use Rattle.slave_lives.specs.Opening.{Plan};
-ghost use Rattle.slave_lives.specs.Stands.{Closing, MayStep};
+ghost use Rattle.slave_lives.specs.Stands.{Closing, MayStep, CameBack, turn_of};
 ghost use Rattle.slave_lives.specs.Steps.{Running};
 ghost use Rattle.slave_steps.specs.Node.{Node};
-ghost use Rattle.steps_shown.specs.Shown.{StandsFor};
+ghost use Rattle.steps_shown.specs.Shown.{Shows, StandsFor};
 
 /// BEHIND A STEP A SLAVE SHOWS WHAT ITS OPENING AWAITS, Init or the state that is opened: where the access that awaits it is in hand, the state stands or
 /// its word waits; a frame, met or lost before the slave or behind it, leaves that; and a step carries the word out.
@@ -29,6 +30,9 @@ pub fn shown_law<S>()
         StandsFor (is_in_pace t.pace t.ring.number || before) o (node_behind u t).registers }
     ensures goes { (u : Running S) (boot : Bool) (lens : ℕ → Lens) (p : Plan) (o : Opening) (t : RingFrame S) (d : Raw.Datagram) (done : Bool) (found : Option Found) → ClosedFrame u boot lens p o t → AccessBack lens p o t d done found →
         shows_clear o ≡ false → (o.step == last_step o) ≡ false → StandsFor (is_in_pace t.pace t.ring.number) (record o { step = suc o.step }) (node_behind u t).registers }
+    // What comes back of an access that no slave before met shows the state that stands.
+    ensures shows { (u : Running S) (boot : Bool) (lens : ℕ → Lens) (p : Plan) (o : Opening) (n : Node S) (d : Raw.Datagram) (done : Bool) (found : Option Found) → Closing u boot lens p o n → awaits_at o.again o.step ≡ true →
+        CameBack lens p (turn_of o) n.registers d done found → d.head.counter ≡ 0 → Shows (awaited o) n.registers → (done && is_shown (awaited o) found) ≡ true }
 
     // A step acknowledges the repeat request that stands, in whatever state the slave is.
     ensures acknowledges { (u : Running S) (n : Node S) → Clears u → IsRunning u n → IsRoomy u (in_len n.registers) n.server → (request_of (stepped u n).registers ≡ request_of n.registers) × (acknowledge_of (stepped u n).registers ≡ request_of n.registers) }
