@@ -2,7 +2,7 @@
 //! nothing, and its contract states the law.
 #![tactic(auto)]
 
-ghost use Rattle.std.specs.Prelude.{◌≡◌, ◌==◌, ◌||◌, ◌&&◌, ℕ, suc, Bool, true, false, Option};
+ghost use Rattle.std.specs.Prelude.{◌≡◌, ◌==◌, ◌||◌, ◌&&◌, ℕ, suc, Bool, true, false, Option, List};
 ghost use Rattle.datagrams.specs.Datagram as Raw;
 ghost use Rattle.frame_view.specs.View.{Lens};
 ghost use Rattle.life_measure.specs.Repairs.{awaits_at, awaited};
@@ -17,6 +17,16 @@ ghost use Rattle.slave_lives.specs.Opening.{Plan};
 ghost use Rattle.slave_lives.specs.Stands.{Closing, MayStep, CameBack, turn_of};
 ghost use Rattle.slave_lives.specs.Steps.{Running};
 ghost use Rattle.slave_steps.specs.Node.{Node};
+ghost use Rattle.esc_registers.specs.declared.registers.Registers.{Registers};
+ghost use Rattle.frame_pass.specs.Passing.{registers_after};
+ghost use Rattle.frames_seen.specs.Own.{own_seen};
+ghost use Rattle.frames_seen.specs.Ring.{all_after, IsRingMet};
+ghost use Rattle.link_mails.specs.Body.{Body};
+ghost use Rattle.link_model.specs.Frames.{in_ask};
+ghost use Rattle.link_model.specs.Master.{InState};
+ghost use Rattle.mailbox_slave.specs.Kept.{Kept};
+ghost use Rattle.segment_model.specs.Slaves.{Datagram, Serving};
+ghost use Rattle.steps_shown.specs.Asked.{IsOwn, ComesBack, NoRequest, SameBits};
 ghost use Rattle.steps_shown.specs.Shown.{Shows, StandsFor};
 
 /// BEHIND A STEP A SLAVE SHOWS WHAT ITS OPENING AWAITS, Init or the state that is opened: where the access that awaits it is in hand, the state stands or
@@ -36,4 +46,15 @@ pub fn shown_law<S>()
 
     // A step acknowledges the repeat request that stands, in whatever state the slave is.
     ensures acknowledges { (u : Running S) (n : Node S) → Clears u → IsRunning u n → IsRoomy u (in_len n.registers) n.server → (request_of (stepped u n).registers ≡ request_of n.registers) × (acknowledge_of (stepped u n).registers ≡ request_of n.registers) }
+{}
+
+/// AN OPEN SLAVE ANSWERS ITS MASTER'S INWARD HALF, whatever slaves are before and behind it in its ring: the repeat request is met and stands, the
+/// acknowledge that is read is the one that stands, and no other datagram of a session changes either. So behind a step the acknowledge is the request.
+pub fn asked_law<V>()
+    ensures requests { (lens : ℕ → Lens) (before : List Registers) (r : Registers) (behind : List Registers) (k : Kept) (v : Serving V Body) (sent : List Raw.Datagram) (x : Datagram Body) (bit : Bool) → IsRingMet lens before r behind k v sent → IsOwn lens r.station sent x →
+        x.gram.ask ≡ in_ask InState.Doubt bit → ComesBack lens before r behind sent × (request_of (registers_after r (all_after before sent)) ≡ bit) × (acknowledge_of (registers_after r (all_after before sent)) ≡ acknowledge_of r) }
+    ensures reads { (lens : ℕ → Lens) (before : List Registers) (r : Registers) (behind : List Registers) (k : Kept) (v : Serving V Body) (sent : List Raw.Datagram) (x : Datagram Body) (bit : Bool) → IsRingMet lens before r behind k v sent → IsOwn lens r.station sent x →
+        x.gram.ask ≡ in_ask InState.Asked bit → (b : ComesBack lens before r behind sent) × (b.datagram.gram.acknowledge ≡ acknowledge_of r) }
+    ensures stays { (lens : ℕ → Lens) (before : List Registers) (r : Registers) (behind : List Registers) (k : Kept) (v : Serving V Body) (sent : List Raw.Datagram) → IsRingMet lens before r behind k v sent → NoRequest (own_seen lens r.station sent) →
+        SameBits r (registers_after r (all_after before sent)) }
 {}
