@@ -1,5 +1,5 @@
 -- A frame that came back brought each slave what its access asks for: by what was sent, what comes back of it, and what the slaves answer.
-use Rattle.std.proofs.Common.{◌≡◌, ℕ, suc, ◌==◌, Bool, true, false, Option, Some, None, List, [], ◌∷◌, ◌++◌, length, refl, sym, ap, ◌∙◌, subst, cond, eq-eqb, inl, inr}
+use Rattle.std.proofs.Common.{◌≡◌, ℕ, zero, suc, ◌==◌, Bool, true, false, Option, Some, None, List, [], ◌∷◌, ◌++◌, length, refl, sym, ap, ◌∙◌, subst, cond, eq-eqb, inl, inr}
 use Rattle.std.specs.Prelude.{map, ◌⊎◌, if◌then◌else◌}
 use Rattle.datagrams.specs.declared.command.Command.{Command}
 use Rattle.datagrams.specs.declared.command.Command.TheVariants.{Fprd, Fpwr}
