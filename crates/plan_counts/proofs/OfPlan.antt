@@ -109,9 +109,9 @@ plan_within room s (WriteIdn number idn elements bytes) q is sound e =
     (omega (arith, enough s is (length bytes) (length bytes) (omega arith)))
 plan_within room s (SetIp block) q is sound e = by (nat_lt room (length block + 10)) e
   where
-    by : (b : Bool) → (if b then None else Some (net (EoeClient.set_ip block))) ≡ Some q → asked_most (profile_of s) (shape_of (core_of s)) q ≤ mails_of s 64
+    by : (b : Bool) → (if b then None else Some (net (EoeClient.set_ip block))) ≡ Some q → asked_most (profile_of s) (shape_of (core_of s)) q ≤ mails_of s 64 + 0
     by true e = absurd (cc)
-    by false e = subst (λ a. asked_most (profile_of s) (shape_of (core_of s)) a ≤ mails_of s 64) (some_same (net (EoeClient.set_ip block)) q e) (omega arith)
+    by false e = subst (λ a. asked_most (profile_of s) (shape_of (core_of s)) a ≤ mails_of s 64 + 0) (some_same (net (EoeClient.set_ip block)) q e) (omega arith)
 plan_within room s GetIp q is sound e =
     subst (λ a. asked_most (profile_of s) (shape_of (core_of s)) a ≤ own_work s GetIp + entering GetIp) (some_same (net EoeClient.get_ip) q e) (omega arith)
 plan_within room s (State to) q is sound e = absurd (cc)
