@@ -54,7 +54,7 @@ module _ (enough : Enough) (s : SlaveSpec) (slave : IsSlave s) (room : ℕ) wher
 
   by_mails : (service : Plan.Service) → IsService service → (found : Option Asked) → asked_of room service ≡ found → (q : Service Asked) → option_map (λ (a : Asked). Service.Mails a) found ≡ Some q → service_most count q + state_of q ≤ whole_work s service
   by_mails service is None e q over = absurd (let bad : None ≡ Some q = over in cc)
-  by_mails service is (Some a) e q over = subst (λ k. service_most count k + state_of k ≤ whole_work s service) (some_is over) (omega (arith, enough n room s service a slave is e))
+  by_mails service is (Some a) e q over = subst (λ k. service_most count k + state_of k ≤ whole_work s service) (some_is over) (omega (arith, enough room s service a slave is e))
 
   -- ONE OF A SCRIPT
   one_enough : (service : Plan.Service) → IsService service → (q : Service Asked) → handed_over room service ≡ Some q → service_most count q + state_of q ≤ whole_work s service
