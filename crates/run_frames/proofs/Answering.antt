@@ -1,6 +1,6 @@
 -- A frame that came back brought each slave what its access asks for: by what was sent, what comes back of it, and what the slaves answer.
-use Rattle.std.proofs.Common.{◌≡◌, ℕ, zero, suc, ◌==◌, Bool, true, false, Option, Some, None, List, [], ◌∷◌, ◌++◌, length, refl, sym, ap, ◌∙◌, subst, cond, eq-eqb, inl, inr}
-use Rattle.std.specs.Prelude.{map, ◌⊎◌, if◌then◌else◌}
+use Rattle.std.proofs.Common.{◌≡◌, ℕ, zero, suc, ◌==◌, Bool, true, false, Option, Some, List, [], ◌∷◌, ◌++◌, length, refl, sym, ap, ◌∙◌, subst, cond, eq-eqb, inl, inr}
+use Rattle.std.specs.Prelude.{◌⊎◌, if◌then◌else◌}
 use Rattle.datagrams.specs.declared.command.Command.{Command}
 use Rattle.datagrams.specs.declared.command.Command.TheVariants.{Fprd, Fpwr}
 use Rattle.datagrams.specs.Datagram as Raw
@@ -9,7 +9,7 @@ use Rattle.frame_view.specs.View.{Lens, datagram_seen, address_of, station_of}
 use Rattle.life_frames.specs.Frames.{FrameFor, HasOne, GramFor, IsOpenGram}
 use Rattle.life_frames.specs.Shares.{came_at, came_of}
 use Rattle.life_frames.proofs.Frames.{own_none, own_one}
-use Rattle.life_model.specs.Lives.{Stand, Opening, AsksOpen}
+use Rattle.life_model.specs.Lives.{Stand}
 use Rattle.life_model.specs.Own.{own}
 use Rattle.life_model.specs.Tours.{item_at}
 use Rattle.life_runs.specs.Led.{Leads, Turn, IsTurn, AllTurn}
@@ -24,7 +24,7 @@ use Rattle.segment_model.specs.Record.{is_for}
 use Rattle.segment_model.specs.Returned.{IsReturn, Returns}
 use Rattle.segment_model.specs.Slaves.{Datagram, grams}
 use Rattle.run_frames.specs.Answers.{AsksHalf, EachAsks, AsksFirst, AllAsk, HalfAnswers, EachAnswers, StandAnswers, AllAnswer}
-use Rattle.run_frames.specs.Brings.{OpeningBrings, AsksClear, HalfAsks, HalfBrings, StandBrings, Brings, AllBring}
+use Rattle.run_frames.specs.Brings.{AsksClear, HalfAsks, HalfBrings, StandBrings, Brings, AllBring}
 use Rattle.run_frames.specs.Clocks.{Clocked}
 use Rattle.run_frames.specs.Led.{AreLed, under_of, unders}
 

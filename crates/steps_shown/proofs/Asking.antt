@@ -1,5 +1,5 @@
 -- A step acknowledges the repeat request that stands, in whatever state the slave is.
-use Rattle.std.proofs.Common.{◌≡◌, ◌==◌, Bool, true, false, Option, Some, None, refl, sym, ap, ◌∙◌, if◌then◌else◌}
+use Rattle.std.proofs.Common.{◌≡◌, ◌==◌, Bool, true, false, Option, Some, None, refl, ap, ◌∙◌, if◌then◌else◌}
 use Rattle.frames_seen.specs.Slaves.{registers_seen}
 use Rattle.link_mails.specs.Body.{Body}
 use Rattle.link_model.specs.Mails.{LinkMail, differs, first_of}

@@ -4,13 +4,12 @@ use Rattle.std.specs.Prelude.{◌||◌}
 use Rattle.datagrams.specs.Datagram as Raw
 use Rattle.frame_pass.specs.Passing.{registers_after}
 use Rattle.frame_view.specs.View.{Lens}
-use Rattle.frames_seen.specs.Slaves.{registers_seen}
 use Rattle.life_measure.specs.Repairs.{awaits_at, awaited}
 use Rattle.life_model.specs.Lives.{Opening, shows_clear, last_step}
 use Rattle.segment_model.specs.Slaves.{Found}
 use Rattle.segment_ring.specs.Ring.{is_in_pace}
 use Rattle.segment_ring.specs.declared.wire.Fate.{Fate}
-use Rattle.slave_lives.specs.Lived.{RingFrame, is_reached, node_met, node_behind, fate_of, ClosedFrame, AccessBack}
+use Rattle.slave_lives.specs.Lived.{RingFrame, is_reached, node_met, node_behind, ClosedFrame, AccessBack}
 use Rattle.slave_lives.specs.Nodes.{stepped}
 use Rattle.slave_lives.specs.Opening.{Plan, IsPlan, IsBringing, AtMostOne, JustOne}
 use Rattle.slave_lives.specs.Returning.{IsReturned}

@@ -1,5 +1,5 @@
 -- An open slave meets the datagram of its master's inward half.
-use Rattle.std.proofs.Common.{◌≡◌, ℕ, ◌+◌, ◌%◌, ◌==◌, Bool, true, false, List, [], ◌∷◌, refl, sym, ap, ◌∙◌, eq-eqb, if◌then◌else◌}
+use Rattle.std.proofs.Common.{◌≡◌, ℕ, ◌+◌, ◌%◌, ◌==◌, Bool, true, false, List, [], ◌∷◌, refl, ap, ◌∙◌, eq-eqb, if◌then◌else◌}
 use Rattle.datagrams.specs.Datagram as Raw
 use Rattle.esc_registers.specs.declared.registers.Registers as Esc
 use Rattle.frame_pass.specs.Passing.{registers_after, datagrams_after}

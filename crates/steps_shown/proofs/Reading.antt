@@ -1,6 +1,6 @@
 -- Accesses that read leave a slave's registers; and the word of the state that is opened waits where it was met.
-use Rattle.std.proofs.Common.{◌≡◌, ◌⊎◌, inl, inr, ℕ, ◌<◌, Bool, true, false, Option, Some, List, [], ◌∷◌, refl, sym, ap, ◌∙◌, subst, eq-eqb}
-use Rattle.datagrams.specs.declared.command.Command.TheVariants.{Aprd, Fprd, Fpwr}
+use Rattle.std.proofs.Common.{◌≡◌, ◌⊎◌, inl, inr, ℕ, Bool, true, false, Some, List, [], ◌∷◌, refl, sym, ap, ◌∙◌, subst, eq-eqb}
+use Rattle.datagrams.specs.declared.command.Command.TheVariants.{Fprd, Fpwr}
 use Rattle.datagrams.specs.Datagram as Raw
 use Rattle.ec_fields.specs.Fields.{number_at}
 use Rattle.esc_registers.specs.declared.registers.Registers as Esc

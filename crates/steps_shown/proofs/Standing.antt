@@ -1,10 +1,8 @@
 -- The state that an access awaits stands, or its word waits: by frames and steps.
-use Rattle.std.proofs.Common.{◌≡◌, ◌⊎◌, inl, inr, ℕ, suc, ◌<◌, ◌==◌, ◌&&◌, Bool, true, false, Option, Some, None, List, refl, sym, ap, ap₂, ◌∙◌, subst, arith, if◌then◌else◌}
-use Rattle.std.specs.Prelude.{◌||◌}
-use Rattle.std.proofs.lemmas.Bool.{eqb-true, and_parts, or_cases}
+use Rattle.std.proofs.Common.{◌≡◌, ◌⊎◌, inl, inr, ℕ, ◌<◌, ◌==◌, ◌&&◌, Bool, true, false, Option, Some, None, List, refl, sym, ap, ap₂, ◌∙◌, subst, arith, if◌then◌else◌}
+use Rattle.std.proofs.lemmas.Bool.{eqb-true, or_cases}
 use Rattle.datagrams.specs.Datagram as Raw
 use Rattle.esc_registers.specs.declared.registers.Registers as Esc
-use Rattle.esc_registers.specs.Manager.{is_right}
 use Rattle.esc_registers.specs.Registers.{are_areas_right}
 use Rattle.frame_pass.specs.Passing.{registers_after}
 use Rattle.frame_view.specs.View.{Lens}
@@ -13,13 +11,10 @@ use Rattle.life_measure.specs.Repairs.{awaits_at, awaited}
 use Rattle.life_model.specs.Lives.{Opening, shows_clear, is_shown}
 use Rattle.mailbox_slave.specs.Kept.{Kept}
 use Rattle.segment_model.specs.Slaves.{Found, Registers}
-use Rattle.segment_ring.specs.Ring.{is_in_pace}
-use Rattle.segment_ring.specs.declared.wire.Fate.{Fate}
-use Rattle.slave_lives.specs.Lived.{RingFrame, is_reached, node_met, node_behind, fate_of, ClosedFrame, AccessBack}
 use Rattle.slave_lives.specs.Nodes.{StepsOn, stepped}
 use Rattle.slave_lives.specs.Opening.{Plan, IsPlan, IsBringing, AtMostOne}
-use Rattle.slave_lives.specs.Returning.{IsFrozen, IsReturned, IsTurn}
-use Rattle.slave_lives.specs.Rings.{come_to, met, is_met_at}
+use Rattle.slave_lives.specs.Returning.{IsFrozen, IsReturned}
+use Rattle.slave_lives.specs.Rings.{met}
 use Rattle.slave_lives.specs.Stands.{turn_of, bring_turn, IsClosed, MayStep, CameBack}
 use Rattle.slave_lives.specs.Steps.{Running, HasStepped}
 use Rattle.slave_lives.proofs.Brought as Brought
