@@ -1,5 +1,5 @@
 -- A plan before its first frame.
-use Rattle.std.proofs.Common.{◌≡◌, ℕ, suc, ◌+◌, None, List, [], ◌∷◌, length, refl, arith}
+use Rattle.std.proofs.Common.{◌≡◌, ℕ, suc, None, List, [], ◌∷◌, length, refl, arith}
 use Rattle.life_runs.specs.First.{first_leads, leads_from}
 use Rattle.packet_work.specs.World.{Happened, new_world}
 use Rattle.run_frames.specs.Led.{first_clocked}

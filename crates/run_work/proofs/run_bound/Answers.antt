@@ -1,7 +1,7 @@
-use Rattle.std.proofs.Common.{◌≡◌, ◌+◌, ◌*◌, ◌≤◌, ◌<◌, length, arith}
+use Rattle.std.proofs.Common.{◌+◌, ◌*◌, length, arith}
 use Rattle.plan_counts.specs.Split.{own_work}
 use Rattle.script_work.specs.Begun.{work_in}
-use Rattle.segment_plan.specs.Bound.{slowest, services_work, host_work}
+use Rattle.segment_plan.specs.Bound.{services_work, host_work}
 use Rattle.run_work.specs.Switched.{cuts_begun}
 use Rattle.run_work.specs.Together.{packets_begun}
 use Rattle.run_work.proofs.run_bound.Goals as goal

@@ -1,8 +1,7 @@
-use Rattle.std.proofs.Common.{◌≡◌, ◌+◌, ◌*◌, ◌≤◌, length, arith}
+use Rattle.std.proofs.Common.{length, arith}
 use Rattle.std.proofs.Math.Nat.{mul-le-mul_right}
 use Rattle.life_runs.specs.First.{lens_of}
 use Rattle.plan_counts.specs.Split.{entering}
-use Rattle.script_work.specs.Begun.{work_in}
 use Rattle.run_work.specs.Switched.{cuts_begun, host_cuts}
 use Rattle.run_work.specs.Together.{packets_begun}
 use Rattle.run_work.proofs.Packets.{square, work_parts, host_parts, within_square}
