@@ -1,5 +1,5 @@
 -- The frames of a run are paid.
-use Rattle.std.proofs.Common.{◌≡◌, ℕ, suc, ◌+◌, ◌*◌, ◌≤◌, refl, arith}
+use Rattle.std.proofs.Common.{◌≡◌, ℕ, suc, ◌+◌, ◌*◌, ◌≤◌, ◌<◌, refl, arith}
 use Rattle.std.proofs.lemmas.Nat.{mul-le}
 use Rattle.life_measure.specs.Tally.{Tally, Counts, Counted, IsPaid, new_tally, broken, quiet}
 
@@ -64,14 +64,14 @@ paid slaves pace first t (Counted.more b c on by) = paid_by slaves pace first b 
 prices : (slaves pace product : ℕ) → 1 ≤ slaves → 1 ≤ pace → product ≡ pace * slaves → slaves ≤ product → (1 + broken slaves pace + quiet slaves pace ≤ 16 * product + 16 * pace) × (1 + quiet slaves pace ≤ 16 * product + 16 * pace)
 prices slaves pace product n p e m = (omega (arith, n, p, m), omega (arith, n, p, m))
 
-firsts : (slaves pace product first whole : ℕ) → 1 ≤ slaves → 1 ≤ pace → product ≡ pace * slaves → slaves ≤ product → first ≤ slaves * (5 + pace) → whole ≡ 16 * product + 16 * pace → first + quiet slaves pace ≤ 2 * slaves * whole
+firsts : (slaves pace product first whole : ℕ) → 1 ≤ slaves → 1 ≤ pace → product ≡ pace * slaves → slaves ≤ product → first ≤ slaves * (5 + pace) → whole ≡ 16 * product + 16 * pace → first + quiet slaves pace < 2 * slaves * whole
 firsts slaves pace product first whole n p e m f w =
     let more : 2 * 1 * whole ≤ 2 * slaves * whole = mul-le (2 * 1) whole (2 * slaves) whole (omega (arith, n)) (omega arith) in
     let spread : slaves * (5 + pace) ≡ 5 * slaves + product = omega (arith, e) in
     omega (arith, n, p, m, f, w, more, spread)
 
 pub within : (slaves pace first work lost : ℕ) (t : Tally) → 1 ≤ slaves → 1 ≤ pace → first ≤ slaves * (5 + pace) → Counted slaves pace (new_tally first) t → t.gains + t.reopened ≤ work → t.lost ≤ lost →
-    t.frames ≤ 16 * pace * (slaves + 1) * (work + lost + 2 * slaves)
+    t.frames < 16 * pace * (slaves + 1) * (work + lost + 2 * slaves)
 within slaves pace first work lost t n p f c g l =
     let product = pace * slaves in
     let whole = 16 * pace * (slaves + 1) in
@@ -84,6 +84,6 @@ within slaves pace first work lost t n p f c g l =
     let by_reopened : t.reopened * broken slaves pace ≤ t.reopened * whole = mul-le t.reopened (broken slaves pace) t.reopened whole (omega arith) (omega (arith, is, price.0)) in
     let by_work : (t.gains + t.reopened) * whole ≤ work * whole = mul-le (t.gains + t.reopened) whole work whole g (omega arith) in
     let both : (t.gains + t.reopened) * whole ≡ t.gains * whole + t.reopened * whole = omega arith in
-    let by_first : first + quiet slaves pace ≤ 2 * slaves * whole = firsts slaves pace product first whole n p refl least f is in
+    let by_first : first + quiet slaves pace < 2 * slaves * whole = firsts slaves pace product first whole n p refl least f is in
     let sum : whole * (work + lost + 2 * slaves) ≡ work * whole + lost * whole + 2 * slaves * whole = omega arith in
     omega (arith, done.sum, done.still, by_lost, by_gains, by_reopened, by_work, both, by_first, sum)

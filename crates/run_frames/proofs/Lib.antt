@@ -1,4 +1,5 @@
 mod Access
+mod Answering
 mod Back
 mod Bringing
 mod Clocking

@@ -1,5 +1,5 @@
 -- A run whose frames are visits of one tour is one whose frames count.
-use Rattle.std.proofs.Common.{◌≡◌, ℕ, ◌<◌, Option, None, List, length, sym, subst, inl, inr}
+use Rattle.std.proofs.Common.{◌≡◌, ℕ, ◌<◌, Option, None, List, [], ◌∷◌, ◌++◌, length, sym, subst, inl, inr}
 use Rattle.std.specs.Prelude.{nat_lt}
 use Rattle.std.proofs.lemmas.Bool.{cases_lt}
 use Rattle.frame_view.specs.Seen.{seen}
@@ -8,14 +8,19 @@ use Rattle.life_runs.specs.Led.{Exchanged, Leads, Turn, IsLedFrame, speech_at, i
 use Rattle.link_mails.specs.Body.{Body}
 use Rattle.master_duty.specs.Reply.{Reply}
 use Rattle.master_hand.specs.Spoken.{Asked, acknowledged, is_followed}
+use Rattle.run_frames.specs.Answers.{AllAsk, AllAnswer, AllReturned}
+use Rattle.segment_model.specs.Returned.{Returns}
+use Rattle.segment_ring.specs.declared.wire.Fate.TheVariants.{Pass}
 use Rattle.run_frames.specs.Begins.{AllNew}
+use Rattle.run_frames.specs.Brings.{AllBring}
 use Rattle.run_frames.specs.Clocks.{Clocked}
 use Rattle.run_frames.specs.Goes.{AllUnder, AllClocked}
 use Rattle.run_frames.specs.Led.{AreLed, unders, first_clocked, behind_lost, IsTallied}
 use Rattle.run_frames.specs.Orders.{opened_on, live_round}
 use Rattle.run_frames.specs.Runs.{Progress}
-use Rattle.run_frames.specs.Toured.{IsToured}
+use Rattle.run_frames.specs.Toured.{IsToured, AskIn, AnswerIn, WaitIn}
 use Rattle.run_frames.specs.Tours.{last_lost}
+use Rattle.run_frames.proofs.Answering.{all_bring}
 use Rattle.run_frames.proofs.Bringing.{FirstFrom}
 use Rattle.run_frames.proofs.Leading.{SeenIs, all_under, led_view}
 use Rattle.run_frames.proofs.Returning.{known, gains_lost, as_many_under}
@@ -26,6 +31,15 @@ use Rattle.run_frames.proofs.Touring.{AgainOf, visit_is, again_on, carries, roun
 
 abbrev Slave : Type 0
 Slave = Clocked Body Asked Reply
+
+-- one frame more
+front_returned : (lens : ℕ → Lens) (fs : List Exchanged) (f : Exchanged) → AllReturned lens (fs ++ f ∷ []) → AllReturned lens fs
+front_returned lens [] f r = tt
+front_returned lens (e ∷ fs) f r = (r.0, front_returned lens fs f r.1)
+
+last_returned : (lens : ℕ → Lens) (fs : List Exchanged) (f : Exchanged) → AllReturned lens (fs ++ f ∷ []) → f.fate ≡ Pass → Returns (seen lens f.sent) (seen lens f.back)
+last_returned lens [] f r = r.0
+last_returned lens (e ∷ fs) f r = last_returned lens fs f r.1
 
 module _ (seen_is : SeenIs) (lens : ℕ → Lens) (recover retry slowest : ℕ) (first : List Leads) (paces : List ℕ) (begins : AllNew (first_clocked first paces) × AllClocked slowest (first_clocked first paces) × AreLed first (first_clocked first paces)) where
   -- what holds behind each frame
@@ -44,6 +58,12 @@ module _ (seen_is : SeenIs) (lens : ℕ → Lens) (recover retry slowest : ℕ) 
   long : (p : Progress) (cs : List Slave) (f : Exchanged) (us : List Turn) → Lists p cs f us → length (unders (seen lens f.back) us) ≡ length cs
   long p cs f us t = as_many_under (known Body Asked Reply) (speech_at lens) acknowledged is_followed is_passed p.frames (seen lens f.sent) (seen lens f.back) cs (unders (seen lens f.back) us) t
 
+  -- what came back brought each slave what its access asks for
+  brings : (fs : List Exchanged) (missed : ℕ) (as' : List Leads) (p : Progress) (cs : List Slave) (f : Exchanged) (us : List Turn) → Known lens recover retry slowest first paces fs missed as' p cs → IsLedFrame lens (length fs) f.sent as' us →
+      Returns (seen lens f.sent) (seen lens f.back) → AllAsk (seen lens f.sent) us → AllAnswer (seen lens f.back) cs us → AllBring (seen lens f.back) cs (unders (seen lens f.back) us)
+  brings fs missed as' p cs f us k l r asks answers =
+      all_bring lens (length fs) l.datagrams (seen lens f.sent) (seen lens f.back) (led_view seen_is lens recover retry (length fs) f l.datagrams l.frame) r cs as' us k.slaves l.each asks answers
+
   -- how many have ended their first bring-up stays
   opened_same : (p : Progress) (cs : List Slave) → (p.opened < length cs → FirstFrom p.opened cs) → opened_on p.opened cs ≡ p.opened
   opened_same p cs ring = elim (cases_lt p.opened (length cs)) [
@@ -51,10 +71,10 @@ module _ (seen_is : SeenIs) (lens : ℕ → Lens) (recover retry slowest : ℕ) 
     | inr more ↦ over_stays p.opened cs more
   ]
 
-  pub toured : (fs : List Exchanged) (again : Option (List ℕ)) (missed : ℕ) (as' : List Leads) (p : Progress) (cs : List Slave) → IsToured lens recover retry slowest first paces fs again missed as' p cs → Tours fs again missed as' p cs
-  toured fs again missed as' p cs IsToured.start = record { tallied = IsTallied.start; same = tt }
-  toured gs again' missed' bs q ds (IsToured.lost fs again missed as' p cs f us after ps r l fate v) =
-      let h = toured fs again missed as' p cs r in
+  pub toured : (fs : List Exchanged) (again : Option (List ℕ)) (missed : ℕ) (as' : List Leads) (p : Progress) (cs : List Slave) → (t : IsToured lens recover retry slowest first paces fs again missed as' p cs) → AllReturned lens fs → AskIn t → AnswerIn t → WaitIn t → Tours fs again missed as' p cs
+  toured fs again missed as' p cs IsToured.start back asks answers waits = record { tallied = IsTallied.start; same = tt }
+  toured gs again' missed' bs q ds (IsToured.lost fs again missed as' p cs f us after ps r l fate v) back asks answers waits =
+      let h = toured fs again missed as' p cs r (front_returned lens fs f back) asks answers waits in
       let k = tallied seen_is lens recover retry slowest first paces begins fs missed as' p cs h.tallied in
       let ring = (holds (known Body Asked Reply) (gains_lost Body Asked Reply) (speech_at lens) acknowledged is_followed is_passed recover slowest (first_clocked first paces) p cs k.run).ring in
       let t = under_all fs missed as' p cs f us k l in
@@ -70,19 +90,20 @@ module _ (seen_is : SeenIs) (lens : ℕ → Lens) (recover retry slowest : ℕ) 
               same_round (speech_at lens) acknowledged is_followed is_passed recover p.frames (seen lens f.sent) (length cs) p.last cs vs t,
             )) visit;
       }
-  toured gs again' missed' bs q ds (IsToured.opening fs again missed as' p cs f us ps r l fate b under v) =
-      let h = toured fs again missed as' p cs r in
+  toured gs again' missed' bs q ds (IsToured.opening fs again missed as' p cs f us ps r l fate under v) back asks answers waits =
+      let h = toured fs again missed as' p cs r (front_returned lens fs f back) asks.1 answers.1 waits in
       let k = tallied seen_is lens recover retry slowest first paces begins fs missed as' p cs h.tallied in
       let t = under_all fs missed as' p cs f us k l in
       let visit = visit_is again (length cs) p.opened p.last cs ps h.same v.places in
       record {
-        tallied = IsTallied.opening fs missed as' p cs f us None h.tallied l fate b under (carries (length cs) p.opened p.last cs (unders (seen lens f.back) us) ps (long p cs f us t) under visit v.under);
+        tallied = IsTallied.opening fs missed as' p cs f us None h.tallied l fate (brings fs missed as' p cs f us k l (last_returned lens fs f back fate) asks.0 answers.0) under (carries (length cs) p.opened p.last cs (unders (seen lens f.back) us) ps (long p cs f us t) under visit v.under);
         same = tt;
       }
-  toured gs again' missed' bs q ds (IsToured.round fs again missed as' p cs f us ps r l fate b over v waits) =
-      let h = toured fs again missed as' p cs r in
+  toured gs again' missed' bs q ds (IsToured.round fs again missed as' p cs f us ps r l fate over v) back asks answers waits =
+      let h = toured fs again missed as' p cs r (front_returned lens fs f back) asks.1 answers.1 waits.1 in
+      let k = tallied seen_is lens recover retry slowest first paces begins fs missed as' p cs h.tallied in
       let visit = visit_is again (length cs) p.opened p.last cs ps h.same v.places in
       record {
-        tallied = IsTallied.round fs missed as' p cs f us ps h.tallied l fate b over (rounds (length cs) p.opened p.last cs (unders (seen lens f.back) us) ps over visit v.under) waits;
+        tallied = IsTallied.round fs missed as' p cs f us ps h.tallied l fate (brings fs missed as' p cs f us k l (last_returned lens fs f back fate) asks.0 answers.0) over (rounds (length cs) p.opened p.last cs (unders (seen lens f.back) us) ps over visit v.under) waits.0;
         same = tt;
       }

@@ -1,5 +1,5 @@
 -- A RUN THAT A MASTER LEADS, whose frames are visits of one tour.
-use Rattle.std.specs.Prelude.{◌≡◌, ◌≤◌, ◌<◌, ℕ, suc, nat_lt, Option, None, List, [], ◌∷◌, ◌++◌, length}
+use Rattle.std.specs.Prelude.{◌≡◌, ◌≤◌, ◌<◌, ℕ, suc, nat_lt, Option, None, List, [], ◌∷◌, ◌++◌, length, ⊤}
 use Rattle.frame_view.specs.Seen.{seen}
 use Rattle.frame_view.specs.View.{Lens}
 use Rattle.life_runs.specs.Led.{Exchanged, Leads, Turn, IsLedFrame, gives_up_at, missed_behind}
@@ -7,7 +7,7 @@ use Rattle.link_mails.specs.Body.{Body}
 use Rattle.master_duty.specs.Reply.{Reply}
 use Rattle.master_hand.specs.Spoken.{Asked}
 use Rattle.segment_ring.specs.declared.wire.Fate.TheVariants.{Pass, Lost}
-use Rattle.run_frames.specs.Brings.{AllBring}
+use Rattle.run_frames.specs.Answers.{AllAsk, AllAnswer}
 use Rattle.run_frames.specs.Clocks.{Clocked}
 use Rattle.run_frames.specs.Led.{unders, first_clocked, behind_lost, behind_back, still_led, waits_led, leads_behind}
 use Rattle.run_frames.specs.Orders.{opened_on, last_of}
@@ -16,8 +16,7 @@ use Rattle.run_frames.specs.Tours.{IsVisited, again_behind, last_lost}
 use Rattle.run_frames.specs.Waits.{all_anew, SomeWaits}
 
 module _ (lens : ℕ → Lens) (recover retry slowest : ℕ) where
-  -- frame by frame, with the slaves that come again: each is a visit of the tour, whether it is lost or comes back, in the first bring-up and behind it;
-  -- one that came back brings each slave what its access asks for; and behind one that gained nothing, with nothing to repair, some slave waits yet
+  -- frame by frame, with the slaves that come again: each is a visit of the tour, whether it is lost or comes back, in the first bring-up and behind it
   pub data IsToured (first : List Leads) (paces : List ℕ) : List Exchanged → Option (List ℕ) → ℕ → List Leads → Progress → List (Clocked Body Asked Reply) → Type 0 where
     start : IsToured first paces [] None 0 first (nothing_sent None (first_clocked first paces)) (first_clocked first paces)
     lost : (fs : List Exchanged) (again : Option (List ℕ)) (missed : ℕ) (as' : List Leads) (p : Progress) (cs : List (Clocked Body Asked Reply)) (f : Exchanged) (us : List Turn) (after : ℕ) (ps : List ℕ) → IsToured first paces fs again missed as' p cs →
@@ -26,11 +25,33 @@ module _ (lens : ℕ → Lens) (recover retry slowest : ℕ) where
         (record { frames = suc p.frames; lost = suc p.lost; still = 0; opened = opened_on p.opened (behind_lost lens recover retry slowest (gives_up_at lens recover retry missed) p.frames f us cs); last = last_lost (nat_lt p.opened (length cs)) (gives_up_at lens recover retry missed) p.last ps; waits = all_anew cs })
         (behind_lost lens recover retry slowest (gives_up_at lens recover retry missed) p.frames f us cs)
     opening : (fs : List Exchanged) (again : Option (List ℕ)) (missed : ℕ) (as' : List Leads) (p : Progress) (cs : List (Clocked Body Asked Reply)) (f : Exchanged) (us : List Turn) (ps : List ℕ) → IsToured first paces fs again missed as' p cs →
-        IsLedFrame lens (length fs) f.sent as' us → f.fate ≡ Pass → AllBring (seen lens f.back) cs (unders (seen lens f.back) us) → p.opened < length cs → IsVisited again (length cs) p.opened p.last cs (unders (seen lens f.back) us) ps →
+        IsLedFrame lens (length fs) f.sent as' us → f.fate ≡ Pass → p.opened < length cs → IsVisited again (length cs) p.opened p.last cs (unders (seen lens f.back) us) ps →
         IsToured first paces (fs ++ f ∷ []) None (missed_behind lens recover retry f.fate missed) (leads_behind lens recover retry slowest missed (length fs) f us)
         (record { frames = suc p.frames; lost = p.lost; still = p.still; opened = opened_on p.opened (behind_back lens recover retry slowest p.frames f us cs); last = None; waits = all_anew cs }) (behind_back lens recover retry slowest p.frames f us cs)
     round : (fs : List Exchanged) (again : Option (List ℕ)) (missed : ℕ) (as' : List Leads) (p : Progress) (cs : List (Clocked Body Asked Reply)) (f : Exchanged) (us : List Turn) (ps : List ℕ) → IsToured first paces fs again missed as' p cs →
-        IsLedFrame lens (length fs) f.sent as' us → f.fate ≡ Pass → AllBring (seen lens f.back) cs (unders (seen lens f.back) us) → length cs ≤ p.opened → IsVisited again (length cs) p.opened p.last cs (unders (seen lens f.back) us) ps →
-        (still_led lens recover retry slowest p f us cs ≡ suc p.still → SomeWaits (behind_back lens recover retry slowest p.frames f us cs) (waits_led lens recover retry slowest p f us cs)) →
+        IsLedFrame lens (length fs) f.sent as' us → f.fate ≡ Pass → length cs ≤ p.opened → IsVisited again (length cs) p.opened p.last cs (unders (seen lens f.back) us) ps →
         IsToured first paces (fs ++ f ∷ []) None (missed_behind lens recover retry f.fate missed) (leads_behind lens recover retry slowest missed (length fs) f us)
         (record { frames = suc p.frames; lost = p.lost; still = still_led lens recover retry slowest p f us cs; opened = p.opened; last = last_of p.last ps; waits = waits_led lens recover retry slowest p f us cs }) (behind_back lens recover retry slowest p.frames f us cs)
+
+module _ {lens : ℕ → Lens} {recover retry slowest : ℕ} {first : List Leads} {paces : List ℕ} where
+  -- EACH FRAME THAT CAME BACK asked by the inward half first
+  abbrev pub AskIn : {fs : List Exchanged} {again : Option (List ℕ)} {missed : ℕ} {as' : List Leads} {p : Progress} {cs : List (Clocked Body Asked Reply)} → IsToured lens recover retry slowest first paces fs again missed as' p cs → Type 0
+  AskIn IsToured.start = ⊤
+  AskIn (IsToured.lost fs again missed as' p cs f us after ps run led fate visit) = AskIn run
+  AskIn (IsToured.opening fs again missed as' p cs f us ps run led fate under visit) = AllAsk (seen lens f.sent) us × AskIn run
+  AskIn (IsToured.round fs again missed as' p cs f us ps run led fate over visit) = AllAsk (seen lens f.sent) us × AskIn run
+
+  -- and each slave answered by it what awaits a step
+  abbrev pub AnswerIn : {fs : List Exchanged} {again : Option (List ℕ)} {missed : ℕ} {as' : List Leads} {p : Progress} {cs : List (Clocked Body Asked Reply)} → IsToured lens recover retry slowest first paces fs again missed as' p cs → Type 0
+  AnswerIn IsToured.start = ⊤
+  AnswerIn (IsToured.lost fs again missed as' p cs f us after ps run led fate visit) = AnswerIn run
+  AnswerIn (IsToured.opening fs again missed as' p cs f us ps run led fate under visit) = AllAnswer (seen lens f.back) cs us × AnswerIn run
+  AnswerIn (IsToured.round fs again missed as' p cs f us ps run led fate over visit) = AllAnswer (seen lens f.back) cs us × AnswerIn run
+
+  -- BEHIND EACH FRAME THAT GAINED NOTHING, with nothing to repair, some slave waits yet
+  abbrev pub WaitIn : {fs : List Exchanged} {again : Option (List ℕ)} {missed : ℕ} {as' : List Leads} {p : Progress} {cs : List (Clocked Body Asked Reply)} → IsToured lens recover retry slowest first paces fs again missed as' p cs → Type 0
+  WaitIn IsToured.start = ⊤
+  WaitIn (IsToured.lost fs again missed as' p cs f us after ps run led fate visit) = WaitIn run
+  WaitIn (IsToured.opening fs again missed as' p cs f us ps run led fate under visit) = WaitIn run
+  WaitIn (IsToured.round fs again missed as' p cs f us ps run led fate over visit) =
+      (still_led lens recover retry slowest p f us cs ≡ suc p.still → SomeWaits (behind_back lens recover retry slowest p.frames f us cs) (waits_led lens recover retry slowest p f us cs)) × WaitIn run

@@ -15,6 +15,7 @@ ghost use Rattle.segment_plan.specs.Sound.{IsPlan};
 ghost use Rattle.segment_plan.specs.declared.plan.Scenario.{Scenario};
 ghost use Rattle.life_model.specs.Lives.{Spot};
 ghost use Rattle.life_measure.specs.Tally.{Counts, Counted, new_tally, quiet};
+ghost use Rattle.run_frames.specs.Answers.{AllReturned};
 ghost use Rattle.run_frames.specs.Begins.{AllNew};
 ghost use Rattle.run_frames.specs.Brings.{AllBring};
 ghost use Rattle.run_frames.specs.Clocks.{Clocked, gains_all, reopened_all, repair_of, still_behind, tally_of};
@@ -24,7 +25,7 @@ ghost use Rattle.run_frames.specs.Fates.{AreFated, gained_in};
 ghost use Rattle.run_frames.specs.Led.{AreLed, IsTallied};
 ghost use Rattle.run_frames.specs.Runs.{Progress, IsRun};
 ghost use Rattle.run_frames.specs.States.{states_all};
-ghost use Rattle.run_frames.specs.Toured.{IsToured};
+ghost use Rattle.run_frames.specs.Toured.{IsToured, AskIn, AnswerIn, WaitIn};
 
 /// BEFORE THE FIRST FRAME the tally of a ring is new: each slave is brought up by five accesses and the wait for one step, one slave behind the other.
 pub fn begins_law<M, Q, R>()
@@ -61,13 +62,13 @@ pub fn returned_law<M, Q, R>()
 {}
 
 /// THE FRAMES OF A RUN COUNT, from the first on: each is lost, repairs, gains, or begins a reopening by a state service, or is one of a few. So at each
-/// moment they are at most `16 * pace * (slaves + 1)` for each mail told and heard, each step of a state service and each reopening, each lost frame, and
+/// moment they are fewer than `16 * pace * (slaves + 1)` for each mail told and heard, each step of a state service and each reopening, each lost frame, and
 /// two for each slave.
 pub fn counts_law<M, Q, R>()
     ensures counted { (x : Spot → Speech M Q R) (acknowledged : Q → Bool) (more : M → Bool) (passed : Q → Bool) (recover slowest : ℕ) (first cs : List (Clocked M Q R)) (p : Progress) → IsRun x acknowledged more passed recover slowest first p cs →
         Counted (length first) slowest (new_tally (length first * (5 + slowest))) (tally_of slowest (length first) p.opened p.last p.frames p.lost p.still cs) }
     ensures within { (x : Spot → Speech M Q R) (acknowledged : Q → Bool) (more : M → Bool) (passed : Q → Bool) (recover slowest work lost : ℕ) (first cs : List (Clocked M Q R)) (p : Progress) → IsRun x acknowledged more passed recover slowest first p cs →
-        1 ≤ length first → 1 ≤ slowest → gains_all cs + reopened_all cs ≤ length first + work → p.lost ≤ lost → p.frames ≤ 16 * slowest * (length first + 1) * (work + lost + 2 * length first) }
+        1 ≤ length first → 1 ≤ slowest → gains_all cs + reopened_all cs ≤ length first + work → p.lost ≤ lost → p.frames < 16 * slowest * (length first + 1) * (work + lost + 2 * length first) }
 {}
 
 /// EACH REOPENING THAT A STATE SERVICE BEGAN is of a state service that came into hand: over a run there are no more.
@@ -75,7 +76,7 @@ pub fn reopened_law<M, Q, R>()
     ensures { (x : Spot → Speech M Q R) (acknowledged : Q → Bool) (more : M → Bool) (passed : Q → Bool) (recover slowest : ℕ) (first cs : List (Clocked M Q R)) (p : Progress) → IsRun x acknowledged more passed recover slowest first p cs → reopened_all cs ≤ states_all cs }
 {}
 
-/// THE FRAMES OF A RUN THAT A MASTER LEADS COUNT, of a plan's slaves with their paces: so they are at most `16 * pace * (slaves + 1)` for each mail told
+/// THE FRAMES OF A RUN THAT A MASTER LEADS COUNT, of a plan's slaves with their paces: so they are fewer than `16 * pace * (slaves + 1)` for each mail told
 /// and heard, each step and each reopening of a state service, each lost frame, and two for each slave.
 pub fn led_counts()
     ensures led { (plan : Scenario) (fs : List Exchanged) (missed : ℕ) (as' : List Leads) (p : Progress) (cs : List (Clocked Body Asked Reply)) → IsPlan plan → IsTallied (lens_of plan.slaves) plan.recover plan.retry (slowest plan.paces) (first_leads plan) plan.paces fs missed as' p cs →
@@ -83,15 +84,17 @@ pub fn led_counts()
     ensures counted { (plan : Scenario) (fs : List Exchanged) (missed : ℕ) (as' : List Leads) (p : Progress) (cs : List (Clocked Body Asked Reply)) → IsPlan plan → IsTallied (lens_of plan.slaves) plan.recover plan.retry (slowest plan.paces) (first_leads plan) plan.paces fs missed as' p cs →
         Counted (length plan.slaves) (slowest plan.paces) (new_tally (length plan.slaves * (5 + slowest plan.paces))) (tally_of (slowest plan.paces) (length plan.slaves) p.opened p.last p.frames p.lost p.still cs) }
     ensures within { (plan : Scenario) (fs : List Exchanged) (missed work : ℕ) (as' : List Leads) (p : Progress) (cs : List (Clocked Body Asked Reply)) → IsPlan plan → IsTallied (lens_of plan.slaves) plan.recover plan.retry (slowest plan.paces) (first_leads plan) plan.paces fs missed as' p cs →
-        AreFated plan.lose 0 fs → gained_in as' ≤ length plan.slaves + work → length fs ≤ 16 * slowest plan.paces * (length plan.slaves + 1) * (work + length plan.lose + 2 * length plan.slaves) }
+        AreFated plan.lose 0 fs → gained_in as' ≤ length plan.slaves + work → length fs < 16 * slowest plan.paces * (length plan.slaves + 1) * (work + length plan.lose + 2 * length plan.slaves) }
 {
     frame_view::seen_is();
 }
 
 /// A RUN THAT A MASTER LEADS COUNTS, where its frames are visits of one tour: in the first bring-up of the slave that is brought up, behind it of the first
-/// live slaves of a round, and behind a lost frame of those that it carried, unless they were given up.
+/// live slaves of a round, and behind a lost frame of those that it carried, unless they were given up. What came back of each is the return of what was
+/// sent; it asked by the inward half first, and each slave answered what awaits a step behind one; and while nothing is gained some slave waits yet.
 pub fn toured_law()
-    ensures { (plan : Scenario) (fs : List Exchanged) (again : Option (List ℕ)) (missed : ℕ) (as' : List Leads) (p : Progress) (cs : List (Clocked Body Asked Reply)) → IsPlan plan → IsToured (lens_of plan.slaves) plan.recover plan.retry (slowest plan.paces) (first_leads plan) plan.paces fs again missed as' p cs →
+    ensures { (plan : Scenario) (fs : List Exchanged) (again : Option (List ℕ)) (missed : ℕ) (as' : List Leads) (p : Progress) (cs : List (Clocked Body Asked Reply)) → IsPlan plan →
+        (run : IsToured (lens_of plan.slaves) plan.recover plan.retry (slowest plan.paces) (first_leads plan) plan.paces fs again missed as' p cs) → AllReturned (lens_of plan.slaves) fs → AskIn run → AnswerIn run → WaitIn run →
         IsTallied (lens_of plan.slaves) plan.recover plan.retry (slowest plan.paces) (first_leads plan) plan.paces fs missed as' p cs }
 {
     frame_view::seen_is();

@@ -1,8 +1,9 @@
-mod Sums
-mod Reopened
-mod Together
-mod Shaped
 mod Opened
+mod Packets
+mod Reopened
 mod Rounds
 mod Runs
+mod Shaped
+mod Sums
+mod Together
 mod Worked

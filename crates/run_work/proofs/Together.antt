@@ -15,7 +15,8 @@ use Rattle.run_work.specs.Gained.{AllGain}
 use Rattle.script_runs.specs.Came.{handed_over, AreThose, is_packet}
 use Rattle.script_runs.specs.Slaves.{HasCome, AllCome}
 use Rattle.script_work.specs.Begun.{work_begun}
-use Rattle.segment_plan.specs.Bound.{state_work, work_of}
+use Rattle.plan_counts.specs.Split.{own_work, entering}
+use Rattle.segment_plan.specs.Bound.{state_work}
 use Rattle.segment_plan.specs.Sound.{IsSlave, IsService, IsAddressed}
 use Rattle.segment_plan.specs.declared.plan.Scenario.{Scenario}
 use Rattle.segment_plan.specs.declared.service.Service as Plan
@@ -31,28 +32,32 @@ use Rattle.run_work.specs.Together.{packets_begun}
 use Rattle.run_work.proofs.Reopened.{EachCame}
 use Rattle.run_work.proofs.Sums.{life_one, life_states, packets_none, parted}
 
+-- a service's own mails, and the fragments of what it emits
+abbrev pub whole_work : SlaveSpec → Plan.Service → ℕ
+whole_work s service = own_work s service + entering service
+
 -- what the services of a script owe
 abbrev Enough : Type 0
-Enough = (slaves room : ℕ) (s : SlaveSpec) (service : Plan.Service) (q : Asked) → IsSlave s → IsService service → asked_of room service ≡ Some q → asked_most (profile_of s) (shape_of (core_of s)) q ≤ work_of slaves s service
+Enough = (room : ℕ) (s : SlaveSpec) (service : Plan.Service) (q : Asked) → IsSlave s → IsService service → asked_of room service ≡ Some q → asked_most (profile_of s) (shape_of (core_of s)) q ≤ whole_work s service
 
 -- a state service has six steps, and reopens its slave at most once
-enough_steps : (b : Bool) → 6 + 1 ≤ (if b then 24 else 8)
-enough_steps true = omega arith
-enough_steps false = omega arith
+more_steps : (b : Bool) → 6 + 1 ≤ (if b then 24 else 8) + 0
+more_steps true = omega arith
+more_steps false = omega arith
 
 some_is : {X : Type 0} {x y : X} → Some x ≡ Some y → x ≡ y
 some_is e = cc
 
-module _ (enough : Enough) (n : ℕ) (s : SlaveSpec) (slave : IsSlave s) (room : ℕ) where
+module _ (enough : Enough) (s : SlaveSpec) (slave : IsSlave s) (room : ℕ) where
   abbrev count : Asked → ℕ
   count = asked_most (profile_of s) (shape_of (core_of s))
 
-  by_mails : (service : Plan.Service) → IsService service → (found : Option Asked) → asked_of room service ≡ found → (q : Service Asked) → option_map (λ (a : Asked). Service.Mails a) found ≡ Some q → service_most count q + state_of q ≤ work_of n s service
+  by_mails : (service : Plan.Service) → IsService service → (found : Option Asked) → asked_of room service ≡ found → (q : Service Asked) → option_map (λ (a : Asked). Service.Mails a) found ≡ Some q → service_most count q + state_of q ≤ whole_work s service
   by_mails service is None e q over = absurd (let bad : None ≡ Some q = over in cc)
-  by_mails service is (Some a) e q over = subst (λ k. service_most count k + state_of k ≤ work_of n s service) (some_is over) (omega (arith, enough n room s service a slave is e))
+  by_mails service is (Some a) e q over = subst (λ k. service_most count k + state_of k ≤ whole_work s service) (some_is over) (omega (arith, enough room s service a slave is e))
 
   -- ONE OF A SCRIPT
-  one_enough : (service : Plan.Service) → IsService service → (q : Service Asked) → handed_over room service ≡ Some q → service_most count q + state_of q ≤ work_of n s service
+  one_enough : (service : Plan.Service) → IsService service → (q : Service Asked) → handed_over room service ≡ Some q → service_most count q + state_of q ≤ whole_work s service
   one_enough (Plan.Service.Sdo service) is q over = by_mails (Plan.Service.Sdo service) is _ refl q over
   one_enough (Plan.Service.ReadFile name pass) is q over = by_mails (Plan.Service.ReadFile name pass) is _ refl q over
   one_enough (Plan.Service.WriteFile name pass bytes) is q over = by_mails (Plan.Service.WriteFile name pass bytes) is _ refl q over
@@ -60,11 +65,11 @@ module _ (enough : Enough) (n : ℕ) (s : SlaveSpec) (slave : IsSlave s) (room :
   one_enough (Plan.Service.WriteIdn drive idn elements bytes) is q over = by_mails (Plan.Service.WriteIdn drive idn elements bytes) is _ refl q over
   one_enough (Plan.Service.SetIp block) is q over = by_mails (Plan.Service.SetIp block) is _ refl q over
   one_enough Plan.Service.GetIp is q over = by_mails Plan.Service.GetIp is _ refl q over
-  one_enough (Plan.Service.State target) is q over = subst (λ k. service_most count k + state_of k ≤ state_work target) (some_is over) (enough_steps (target == 1 || target == 3))
+  one_enough (Plan.Service.State target) is q over = subst (λ k. service_most count k + state_of k ≤ state_work target + 0) (some_is over) (more_steps (target == 1 || target == 3))
   one_enough (Plan.Service.Forward packet) is q over = absurd is
 
   -- SEVERAL, in order
-  those_enough : (services : List Plan.Service) (qs : List (Service Asked)) → All (λ (t : Plan.Service). IsService t) services → AreThose room services qs → begun_most count qs + sum_by state_of qs ≤ sum_by (work_of n s) services
+  those_enough : (services : List Plan.Service) (qs : List (Service Asked)) → All (λ (t : Plan.Service). IsService t) services → AreThose room services qs → begun_most count qs + sum_by state_of qs ≤ sum_by (whole_work s) services
   those_enough [] [] are those = omega arith
   those_enough [] (q ∷ qs) are those = absurd those
   those_enough (t ∷ ts) [] are those = absurd those
@@ -73,7 +78,7 @@ module _ (enough : Enough) (n : ℕ) (s : SlaveSpec) (slave : IsSlave s) (room :
         arith,
         sum_by-cons (service_most count) q qs,
         sum_by-cons state_of q qs,
-        sum_by-cons (work_of n s) t ts,
+        sum_by-cons (whole_work s) t ts,
         one_enough t (All-head (λ (t : Plan.Service). IsService t) t ts are) q those.0,
         those_enough ts qs (All-tail (λ (t : Plan.Service). IsService t) t ts are) those.1,
       )
@@ -96,16 +101,16 @@ scripted n place (row ∷ rows) are =
 
 module _ (enough : Enough) (plan : Scenario) (services : All (λ (row : ℕ × Plan.Service). IsAddressed (length plan.slaves) row) plan.services) where
   one_slave : (place : ℕ) (s : SlaveSpec) (a : Leads) → IsSlave s → HasCome plan place s a → gains a.lived.life ≤ 1 + life_most (asked_most (profile_of s) (shape_of (core_of s))) a.lived.life → reopened a.lived.life ≤ states_begun a.lived.life →
-      gains a.lived.life + reopened a.lived.life ≤ 1 + (sum_by (work_of (length plan.slaves) s) (take a.number a.script) + begun_most (asked_most (profile_of s) (shape_of (core_of s))) (filter is_packet (life_started a.lived.life)))
+      gains a.lived.life + reopened a.lived.life ≤ 1 + (sum_by (whole_work s) (take a.number a.script) + begun_most (asked_most (profile_of s) (shape_of (core_of s))) (filter is_packet (life_started a.lived.life)))
   one_slave place s a slave come gained few =
       let f = asked_most (profile_of s) (shape_of (core_of s)) in
       let started = life_started a.lived.life in
-      let those = those_enough enough (length plan.slaves) s slave (lens_of plan.slaves s.station).out (take a.number (script_for place plan.services)) (filter (λ q. not (is_packet q)) started) (taken a.number (script_for place plan.services) (scripted (length plan.slaves) place plan.services services)) come.firsts.those in
-      let same : sum_by (work_of (length plan.slaves) s) (take a.number (script_for place plan.services)) ≡ sum_by (work_of (length plan.slaves) s) (take a.number a.script) = ap (λ ts. sum_by (work_of (length plan.slaves) s) (take a.number ts)) (sym come.script) in
+      let those = those_enough enough s slave (lens_of plan.slaves s.station).out (take a.number (script_for place plan.services)) (filter (λ q. not (is_packet q)) started) (taken a.number (script_for place plan.services) (scripted (length plan.slaves) place plan.services services)) come.firsts.those in
+      let same : sum_by (whole_work s) (take a.number (script_for place plan.services)) ≡ sum_by (whole_work s) (take a.number a.script) = ap (λ ts. sum_by (whole_work s) (take a.number ts)) (sym come.script) in
       omega (arith, gained, few, life_one f a.lived.life, life_states a.lived.life, parted (service_most f) is_packet started, parted state_of is_packet started, packets_none started, those, same)
 
   pub all_slaves : (place : ℕ) (ss : List SlaveSpec) (leads : List Leads) → All (λ (s : SlaveSpec). IsSlave s) ss → AllCome plan place ss leads → AllGain ss leads → EachCame leads →
-      gained_in leads ≤ length ss + work_begun (length plan.slaves) ss leads + packets_begun ss leads
+      gained_in leads ≤ length ss + work_begun whole_work ss leads + packets_begun ss leads
   all_slaves place [] [] are come gained each = omega arith
   all_slaves place [] (a ∷ leads) are come gained each = absurd come
   all_slaves place (s ∷ ss) [] are come gained each = absurd come

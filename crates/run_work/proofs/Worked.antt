@@ -1,11 +1,25 @@
 -- A plan before its first frame.
-use Rattle.std.specs.Prelude.{None, []}
-use Rattle.life_runs.specs.First.{first_leads}
-use Rattle.run_frames.specs.Led.{IsTallied, first_clocked}
+use Rattle.std.proofs.Common.{◌≡◌, ℕ, suc, None, List, [], ◌∷◌, length, refl, arith}
+use Rattle.life_runs.specs.First.{first_leads, leads_from}
+use Rattle.packet_work.specs.World.{Happened, new_world}
+use Rattle.run_frames.specs.Led.{first_clocked}
 use Rattle.run_frames.specs.Runs.{nothing_sent}
+use Rattle.run_frames.specs.Toured.{IsToured}
 use Rattle.segment_plan.specs.declared.plan.Scenario.{Scenario}
+use Rattle.segment_plan.specs.declared.service.Service as Plan
+use Rattle.segment_plan.specs.declared.slave.SlaveSpec.{SlaveSpec}
 use Rattle.run_work.specs.Bounds.{IsPlanRun}
+use Rattle.run_work.specs.Switched.{AreSwitched}
+use Rattle.run_work.specs.Together.{packets_begun}
 
 -- a run of it, of which nothing was sent
 nothing : (plan : Scenario) → (let cs = first_clocked (first_leads plan) plan.paces in IsPlanRun plan [] 0 (first_leads plan) (nothing_sent None cs) cs)
-nothing plan = record { tallied = IsTallied.start; round = tt }
+nothing plan = record { again = None; toured = IsToured.start; asks = tt; answers = tt; waits = tt; round = tt }
+
+-- no packet came into hand, and none entered a switch
+no_packets : (rows : List (ℕ × Plan.Service)) (place : ℕ) (ss : List SlaveSpec) → packets_begun ss (leads_from rows place ss) ≡ 0
+no_packets rows place [] = refl
+no_packets rows place (s ∷ ss) = omega (arith, no_packets rows (suc place) ss)
+
+none_entered : (plan : Scenario) → AreSwitched plan (first_leads plan)
+none_entered plan = record { world = new_world (length plan.slaves); happened = Happened.none; entered = omega arith; written = omega (arith, no_packets plan.services 0 plan.slaves) }

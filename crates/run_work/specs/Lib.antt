@@ -1,3 +1,4 @@
 pub mod Together
 pub mod Gained
 pub mod Bounds
+pub mod Switched

@@ -2,7 +2,7 @@
 //! so are its frames. Definitions and laws, no running code: each function here does nothing, and its contract states the law.
 #![tactic(auto)]
 
-ghost use Rattle.std.specs.Prelude.{◌≡◌, ℕ, Bool, List, ◌≤◌, ◌+◌, ◌*◌, length};
+ghost use Rattle.std.specs.Prelude.{◌≢◌, ℕ, Bool, List, ◌≤◌, ◌<◌, ◌+◌, length};
 ghost use Rattle.frame_view.specs.View.{Lens};
 ghost use Rattle.life_counts.specs.Begun.{KeepsShape};
 ghost use Rattle.life_runs.specs.First.{lens_of, first_leads};
@@ -20,11 +20,16 @@ ghost use Rattle.server_lives.specs.Real.{real_clearing};
 ghost use Rattle.slave_model.specs.Profile.{Profile, IsProfile};
 ghost use Rattle.run_frames.specs.Clocks.{Clocked};
 ghost use Rattle.run_frames.specs.Fates.{AreFated, gained_in};
+ghost use Rattle.run_frames.specs.Led.{IsTallied};
 ghost use Rattle.run_frames.specs.Runs.{Progress};
+ghost use Rattle.segment_plan.specs.Bound.{slowest};
 ghost use Rattle.run_work.specs.Gained.{app_shape, AllGain};
 ghost use Rattle.run_work.specs.Bounds.{IsPlanRun, bound_with};
 ghost use Rattle.segment_plan.specs.Bound.{services_work, host_work, bound_of};
+ghost use Rattle.run_work.specs.Switched.{AreSwitched, cuts_begun};
 ghost use Rattle.run_work.specs.Together.{packets_begun};
+ghost use Rattle.plan_counts.specs.Split.{own_work};
+ghost use Rattle.script_work.specs.Begun.{work_in};
 
 /// THE SHAPE OF A PLAN'S SLAVE STAYS, whatever services it carries out, whatever its AL state and whenever it is returned to Init; and each service that
 /// its master asks for takes at most as many mails as its shape says.
@@ -46,11 +51,12 @@ pub fn run_counts()
 }
 
 /// THE LIVES OF A RUN TOGETHER: what they have gained, and how often state services began to reopen their slaves, is no more than all services of the plan
-/// count, what the packets take that came into hand, and one for each slave; whatever frames are lost and whoever is given up.
+/// count of their own, the fragments of what downloads emit that began, what the packets take that came into hand, and one for each slave; whatever frames
+/// are lost and whoever is given up.
 pub fn run_work()
     ensures { (plan : Scenario) → IsPlan plan → IsKnown plan → (fs : List Exchanged) (missed : ℕ) (leads : List Leads) →
         IsLed (lens_of plan.slaves) plan.recover plan.retry (first_leads plan) fs missed leads → AllRound (ring_of plan) fs →
-        gained_in leads ≤ length plan.slaves + services_work plan.slaves plan.services + packets_begun plan.slaves leads }
+        gained_in leads ≤ length plan.slaves + work_in own_work plan.slaves plan.services + (cuts_begun plan.slaves leads + packets_begun plan.slaves leads) }
 {
     run_counts();
     plan_counts::plan_counts();
@@ -58,20 +64,46 @@ pub fn run_work()
     script_work::script_law();
 }
 
+/// THE PACKETS OF A RUN COUNT NO MORE THAN THE FRAME BOUND HAS FOR THEM, where they are those of one switch: what downloads emit and what comes into hand
+/// is together within what the host's packets count, and what a download counts for the one that it emits. So each is counted once.
+pub fn switched_law()
+    ensures { (plan : Scenario) → IsPlan plan → (fs : List Exchanged) (missed : ℕ) (leads : List Leads) → IsLed (lens_of plan.slaves) plan.recover plan.retry (first_leads plan) fs missed leads → AreSwitched plan leads →
+        work_in own_work plan.slaves plan.services + (cuts_begun plan.slaves leads + packets_begun plan.slaves leads) ≤ services_work plan.slaves plan.services + host_work (length plan.slaves) plan.host }
+{
+    plan_counts::plan_counts();
+    script_work::script_law();
+    packet_work::packet_law();
+}
+
 /// FRAMES THAT WENT ROUND THE RING OF A PLAN have the fates of the plan's schedule.
 pub fn fates_law()
     ensures { (plan : Scenario) (fs : List Exchanged) → AllRound (ring_of plan) fs → AreFated plan.lose 0 fs }
 {}
 
-/// THE FRAMES OF A RUN, of a plan that was read, that its master led, that are tallied and that went round its ring, are within the frame bound, with what
-/// the packets take that came into hand in place of what the host's count: whatever frames are lost and whoever is given up.
+/// WHAT CAME BACK OF A RUN'S FRAMES, which went round the ring of its plan, is the return of what was sent; so its frames are tallied.
+pub fn tallied_law()
+    ensures { (plan : Scenario) (fs : List Exchanged) (missed : ℕ) (leads : List Leads) (p : Progress) (cs : List (Clocked Body Asked Reply)) → IsPlan plan → IsPlanRun plan fs missed leads p cs →
+        IsTallied (lens_of plan.slaves) plan.recover plan.retry (slowest plan.paces) (first_leads plan) plan.paces fs missed leads p cs }
+{
+    run_frames::toured_law();
+}
+
+/// THE FRAMES OF A RUN, of a plan that was read, that its master led by visits of one tour and that went round its ring, are fewer than the frame bound:
+/// whatever frames are lost and whoever is given up.
 pub fn run_bound()
+    // Of any packets: with what they take that came into hand, and the fragments of what downloads emit.
     ensures within { (plan : Scenario) (fs : List Exchanged) (missed : ℕ) (leads : List Leads) (p : Progress) (cs : List (Clocked Body Asked Reply)) →
-        IsPlan plan → IsKnown plan → IsPlanRun plan fs missed leads p cs → length fs ≤ bound_with plan (packets_begun plan.slaves leads) }
-    // With what the host's packets count, and so many datagrams heard, that is the frame bound itself.
-    ensures bound { (plan : Scenario) (grams : ℕ) → bound_with plan (host_work (length plan.slaves) plan.host + 128 * grams) ≡ bound_of plan grams }
+        IsPlan plan → IsKnown plan → IsPlanRun plan fs missed leads p cs → length fs < bound_with plan (cuts_begun plan.slaves leads + packets_begun plan.slaves leads) }
+    // And where the packets are those of one switch, the frame bound itself.
+    ensures switched { (plan : Scenario) (fs : List Exchanged) (missed : ℕ) (leads : List Leads) (p : Progress) (cs : List (Clocked Body Asked Reply)) →
+        IsPlan plan → IsKnown plan → IsPlanRun plan fs missed leads p cs → AreSwitched plan leads → length fs < bound_of plan 0 }
+    // So it is never cut off by a budget of as many frames or more.
+    ensures uncut { (plan : Scenario) (fs : List Exchanged) (missed : ℕ) (leads : List Leads) (p : Progress) (cs : List (Clocked Body Asked Reply)) (budget : ℕ) →
+        IsPlan plan → IsKnown plan → IsPlanRun plan fs missed leads p cs → AreSwitched plan leads → bound_of plan 0 ≤ budget → length fs ≢ budget }
 {
     run_work();
+    switched_law();
     fates_law();
+    tallied_law();
     run_frames::led_counts();
 }

@@ -7,10 +7,9 @@ use Rattle.frame_view.specs.View.{Lens}
 use Rattle.segment_plan.specs.declared.plan.Scenario.{Scenario}
 use Rattle.segment_plan.specs.declared.service.Service as Plan
 use Rattle.segment_plan.specs.declared.slave.SlaveSpec.{SlaveSpec}
-use Rattle.segment_plan.specs.Bound.{work_of, addressed_work, services_work}
 use Rattle.life_runs.specs.Led.{Leads, Turn, Exchanged, AllTurn, IsLed, led_behind, gives_up_at}
 use Rattle.life_runs.specs.First.{script_for, leads_from, first_leads}
-use Rattle.script_work.specs.Begun.{work_begun}
+use Rattle.script_work.specs.Begun.{work_begun, addressed, work_in}
 
 -- THE SCRIPTS STAY
 abbrev scripts : List Leads → List (List Plan.Service)
@@ -28,34 +27,6 @@ led_scripts lens recover retry first fs missed leads IsLed.start = refl
 led_scripts lens recover retry first fs missed leads (IsLed.on gs before as' f us led frame) =
     same_scripts lens (length gs) frame.datagrams as' us (led_behind lens recover retry (gives_up_at lens recover retry before) (length gs) f) (λ u. refl) frame.each ∙ led_scripts lens recover retry first gs before as' led
 
--- ALL SERVICES OF THE SCRIPTS
-abbrev all_work : ℕ → List SlaveSpec → List (List Plan.Service) → ℕ
-all_work n [] ls = 0
-all_work n (s ∷ ss) [] = 0
-all_work n (s ∷ ss) (l ∷ ls) = sum_by (work_of n s) l + all_work n ss ls
-
-begun_less : (n : ℕ) (ss : List SlaveSpec) (leads : List Leads) → work_begun n ss leads ≤ all_work n ss (scripts leads)
-begun_less n [] leads = omega arith
-begun_less n (s ∷ ss) [] = omega arith
-begun_less n (s ∷ ss) (a ∷ leads) = omega (arith, sum_by-take-le (work_of n s) a.script a.number, begun_less n ss leads)
-
--- that of one row, at the slaves from a place on
-abbrev row_work : ℕ → ℕ → List SlaveSpec → ℕ × Plan.Service → ℕ
-row_work n place [] row = 0
-row_work n place (s ∷ ss) row = (if row.0 == place then work_of n s row.1 else 0) + row_work n (suc place) ss row
-
-no_row : (n place : ℕ) (ss : List SlaveSpec) → all_work n ss (scripts (leads_from [] place ss)) ≡ 0
-no_row n place [] = refl
-no_row n place (s ∷ ss) = omega (arith, no_row n (suc place) ss)
-
-one_row : (n place : ℕ) (row : ℕ × Plan.Service) (rows : List (ℕ × Plan.Service)) (ss : List SlaveSpec) → all_work n ss (scripts (leads_from (row ∷ rows) place ss)) ≡ row_work n place ss row + all_work n ss (scripts (leads_from rows place ss))
-one_row n place row rows [] = omega arith
-one_row n place row rows (s ∷ ss) = omega (arith, head (row.0 == place), one_row n (suc place) row rows ss)
-  where
-    head : (b : Bool) → sum_by (work_of n s) (if b then row.1 ∷ script_for place rows else script_for place rows) ≡ (if b then work_of n s row.1 else 0) + sum_by (work_of n s) (script_for place rows)
-    head true = sum_by-cons (work_of n s) row.1 (script_for place rows)
-    head false = omega arith
-
 -- a row is at one slave at most
 apart : (a b : ℕ) → a < b → (a == b) ≡ false
 apart a b l = go (a == b) refl
@@ -64,27 +35,56 @@ apart a b l = go (a == b) refl
     go false e = refl
     go true e = absurd (omega (arith, l, eqb-true a b e))
 
-behind_it : (n place : ℕ) (ss : List SlaveSpec) (row : ℕ × Plan.Service) → row.0 < place → row_work n place ss row ≡ 0
-behind_it n place [] row l = refl
-behind_it n place (s ∷ ss) row l = omega (arith, ap (λ (b : Bool). if b then work_of n s row.1 else 0) (apart row.0 place l), behind_it n (suc place) ss row (omega (arith, l)))
+module _ (work : SlaveSpec → Plan.Service → ℕ) where
+  -- ALL SERVICES OF THE SCRIPTS
+  abbrev all_work : List SlaveSpec → List (List Plan.Service) → ℕ
+  all_work [] ls = 0
+  all_work (s ∷ ss) [] = 0
+  all_work (s ∷ ss) (l ∷ ls) = sum_by (work s) l + all_work ss ls
 
-at_place : (n place at : ℕ) (ss : List SlaveSpec) (row : ℕ × Plan.Service) → row.0 ≡ place + at → row_work n place ss row ≡ unwrap_or (option_map (λ slave. work_of n slave row.1) (slice_get ss at)) 0
-at_place n place at [] row e = refl
-at_place n place zero (s ∷ ss) row e =
-    let is : row.0 ≡ place = omega (arith, e) in
-    omega (arith, ap (λ (b : Bool). if b then work_of n s row.1 else 0) (eq-eqb row.0 place is), behind_it n (suc place) ss row (omega (arith, is)))
-at_place n place (suc at) (s ∷ ss) row e =
-    omega (arith, ap (λ (b : Bool). if b then work_of n s row.1 else 0) (far (row.0 == place) refl), at_place n (suc place) at ss row (omega (arith, e)))
-  where
-    far : (c : Bool) → (row.0 == place) ≡ c → (row.0 == place) ≡ false
-    far false f = f
-    far true f = absurd (omega (arith, e, eqb-true row.0 place f))
+  begun_less : (ss : List SlaveSpec) (leads : List Leads) → work_begun work ss leads ≤ all_work ss (scripts leads)
+  begun_less [] leads = omega arith
+  begun_less (s ∷ ss) [] = omega arith
+  begun_less (s ∷ ss) (a ∷ leads) = omega (arith, sum_by-take-le (work s) a.script a.number, begun_less ss leads)
 
-all_rows : (ss : List SlaveSpec) (rows : List (ℕ × Plan.Service)) → all_work (length ss) ss (scripts (leads_from rows 0 ss)) ≡ services_work ss rows
-all_rows ss [] = no_row (length ss) 0 ss
-all_rows ss (row ∷ rows) = omega (arith, sum_by-cons (addressed_work ss) row rows, one_row (length ss) 0 row rows ss, at_place (length ss) 0 row.0 ss row (omega arith), all_rows ss rows)
+  -- that of one row, at the slaves from a place on
+  abbrev row_work : ℕ → List SlaveSpec → ℕ × Plan.Service → ℕ
+  row_work place [] row = 0
+  row_work place (s ∷ ss) row = (if row.0 == place then work s row.1 else 0) + row_work (suc place) ss row
 
-pub script_works : (lens : ℕ → Lens) (recover retry : ℕ) (plan : Scenario) (fs : List Exchanged) (missed : ℕ) (leads : List Leads) → IsLed lens recover retry (first_leads plan) fs missed leads →
-    work_begun (length plan.slaves) plan.slaves leads ≤ services_work plan.slaves plan.services
-script_works lens recover retry plan fs missed leads led =
-    omega (arith, begun_less (length plan.slaves) plan.slaves leads, ap (all_work (length plan.slaves) plan.slaves) (led_scripts lens recover retry (first_leads plan) fs missed leads led), all_rows plan.slaves plan.services)
+  no_row : (place : ℕ) (ss : List SlaveSpec) → all_work ss (scripts (leads_from [] place ss)) ≡ 0
+  no_row place [] = refl
+  no_row place (s ∷ ss) = omega (arith, no_row (suc place) ss)
+
+  one_row : (place : ℕ) (row : ℕ × Plan.Service) (rows : List (ℕ × Plan.Service)) (ss : List SlaveSpec) → all_work ss (scripts (leads_from (row ∷ rows) place ss)) ≡ row_work place ss row + all_work ss (scripts (leads_from rows place ss))
+  one_row place row rows [] = omega arith
+  one_row place row rows (s ∷ ss) = omega (arith, head (row.0 == place), one_row (suc place) row rows ss)
+    where
+      head : (b : Bool) → sum_by (work s) (if b then row.1 ∷ script_for place rows else script_for place rows) ≡ (if b then work s row.1 else 0) + sum_by (work s) (script_for place rows)
+      head true = sum_by-cons (work s) row.1 (script_for place rows)
+      head false = omega arith
+
+  behind_it : (place : ℕ) (ss : List SlaveSpec) (row : ℕ × Plan.Service) → row.0 < place → row_work place ss row ≡ 0
+  behind_it place [] row l = refl
+  behind_it place (s ∷ ss) row l = omega (arith, ap (λ (b : Bool). if b then work s row.1 else 0) (apart row.0 place l), behind_it (suc place) ss row (omega (arith, l)))
+
+  at_place : (place at : ℕ) (ss : List SlaveSpec) (row : ℕ × Plan.Service) → row.0 ≡ place + at → row_work place ss row ≡ unwrap_or (option_map (λ slave. work slave row.1) (slice_get ss at)) 0
+  at_place place at [] row e = refl
+  at_place place zero (s ∷ ss) row e =
+      let is : row.0 ≡ place = omega (arith, e) in
+      omega (arith, ap (λ (b : Bool). if b then work s row.1 else 0) (eq-eqb row.0 place is), behind_it (suc place) ss row (omega (arith, is)))
+  at_place place (suc at) (s ∷ ss) row e =
+      omega (arith, ap (λ (b : Bool). if b then work s row.1 else 0) (far (row.0 == place) refl), at_place (suc place) at ss row (omega (arith, e)))
+    where
+      far : (c : Bool) → (row.0 == place) ≡ c → (row.0 == place) ≡ false
+      far false f = f
+      far true f = absurd (omega (arith, e, eqb-true row.0 place f))
+
+  all_rows : (ss : List SlaveSpec) (rows : List (ℕ × Plan.Service)) → all_work ss (scripts (leads_from rows 0 ss)) ≡ work_in work ss rows
+  all_rows ss [] = no_row 0 ss
+  all_rows ss (row ∷ rows) = omega (arith, sum_by-cons (addressed work ss) row rows, one_row 0 row rows ss, at_place 0 row.0 ss row (omega arith), all_rows ss rows)
+
+  pub script_works : (lens : ℕ → Lens) (recover retry : ℕ) (plan : Scenario) (fs : List Exchanged) (missed : ℕ) (leads : List Leads) → IsLed lens recover retry (first_leads plan) fs missed leads →
+      work_begun work plan.slaves leads ≤ work_in work plan.slaves plan.services
+  script_works lens recover retry plan fs missed leads led =
+      omega (arith, begun_less plan.slaves leads, ap (all_work plan.slaves) (led_scripts lens recover retry (first_leads plan) fs missed leads led), all_rows plan.slaves plan.services)

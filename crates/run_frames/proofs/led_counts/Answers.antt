@@ -1,5 +1,5 @@
 use Rattle.std.proofs.Common.{subst, arith}
-use Rattle.std.specs.Prelude.{◌≤◌, ◌+◌, ◌*◌, length}
+use Rattle.std.specs.Prelude.{◌≤◌, ◌<◌, ◌+◌, ◌*◌, length}
 use Rattle.life_measure.proofs.Paying.{within}
 use Rattle.life_measure.specs.Tally.{Counted, new_tally}
 use Rattle.life_runs.specs.First.{lens_of, first_leads}
@@ -40,4 +40,4 @@ returns-clause-within c = λ plan fs missed work as' p cs is t fated enough.
     let least = all_some (slowest plan.paces) cs h.clocked in
     let all = within (length plan.slaves) (slowest plan.paces) (length plan.slaves * (5 + slowest plan.paces)) work (length plan.lose) (tally_of (slowest plan.paces) (length plan.slaves) p.opened p.last p.frames p.lost p.still cs)
     is.laid.some_slave (some_slowest plan.paces (omega (arith, is.laid.paces, is.laid.some_slave)) is.laid.pace) (omega arith) counted (omega (arith, h.long, b.3, least, gained_is as' cs k.slaves, enough)) few in
-    subst (λ n. n ≤ 16 * slowest plan.paces * (length plan.slaves + 1) * (work + length plan.lose + 2 * length plan.slaves)) k.frames all
+    subst (λ n. n < 16 * slowest plan.paces * (length plan.slaves + 1) * (work + length plan.lose + 2 * length plan.slaves)) k.frames all

@@ -1,0 +1,6 @@
+mod Asking
+mod Going
+mod Meeting
+mod Reading
+mod Showing
+mod Standing
