@@ -32,6 +32,7 @@ HasUnfinished m stands befores = AllThree (λ l j s. IsUnfinished l s.side.hand.
 abbrev pub stand_before : Leads → Stand
 stand_before a = a.lived.life.stand
 
+-- the same while a frame is under way
 abbrev pub stand_under : Turn → Stand
 stand_under u = u.lived.life.stand
 
@@ -39,6 +40,7 @@ stand_under u = u.lived.life.stand
 abbrev pub mails_back : List (Datagram Body) → Turn → List Body
 mails_back back u = accepted_in u.lived.spot u.lived.life back
 
+-- a lost frame brings none
 abbrev pub mails_lost : Turn → List Body
 mails_lost u = []
 

@@ -39,9 +39,11 @@ WaitsNone p = p.mails.items ≡ []
 abbrev pub lead_of : Turn → Leads
 lead_of u = record { script = u.script; number = u.number; lived = u.lived }
 
+-- the life of a slave that is led
 abbrev pub lived_of : Leads → Lived Asked Reply
 lived_of a = a.lived
 
+-- the life of a slave before a frame
 abbrev pub turned_of : Turn → Lived Asked Reply
 turned_of u = u.lived
 
@@ -49,15 +51,19 @@ turned_of u = u.lived
 abbrev pub is_live_lead : Leads → Bool
 is_live_lead a = is_led a.lived.life.stand
 
+-- it is brought up or opened anew
 abbrev pub is_opening_lead : Leads → Bool
 is_opening_lead a = is_opening a.lived.life.stand
 
+-- before a frame it is live
 abbrev pub is_live_turn : Turn → Bool
 is_live_turn u = is_led u.lived.life.stand
 
+-- before a frame it is brought up or opened anew
 abbrev pub is_opening_turn : Turn → Bool
 is_opening_turn u = is_opening u.lived.life.stand
 
+-- the frame has a datagram of it
 abbrev pub is_carried : Turn → Bool
 is_carried u = u.share.under
 

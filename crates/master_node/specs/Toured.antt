@@ -15,6 +15,7 @@ use Rattle.master_node.specs.declared.node.MasterNode.{MasterNode}
 abbrev pub stop_share : {G : Ghosts InHand} → Stop InHand G → Share
 stop_share s = record { under = s.under; at = s.at }
 
+-- a slave's share of the frame, by its life
 abbrev pub turn_share : Turn → Share
 turn_share u = u.share
 

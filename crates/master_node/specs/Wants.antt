@@ -57,6 +57,7 @@ pub record IsIdle (lens : ℕ → Lens) (a : Leads) : Type 0 where
 abbrev pub IsLeft : (ℕ → Lens) → Leads → Type 0
 IsLeft lens a = (a.lived.life.stand ≡ Lives.Stand.Gone) ⊎ IsIdle lens a
 
+-- of all slaves
 abbrev pub AllLeft : (ℕ → Lens) → List Leads → Type 0
 AllLeft lens [] = ⊤
 AllLeft lens (a ∷ as') = IsLeft lens a × AllLeft lens as'

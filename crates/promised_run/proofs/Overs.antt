@@ -4,7 +4,7 @@ use Rattle.std.proofs.lemmas.List.{append-nil}
 use Rattle.frame_view.specs.View.{Lens}
 use Rattle.life_runs.specs.Causes.{AllHaveCause}
 use Rattle.life_frames.specs.Shares.{AllBoth}
-use Rattle.life_heard.specs.Heard.{heard_in}
+use Rattle.run_record.specs.AcceptedMails.{heard_in}
 use Rattle.life_runs.specs.First.{lens_of, first_leads}
 use Rattle.life_runs.specs.Led.{Exchanged, Leads, IsLed}
 use Rattle.run_promises.specs.Promise.{slaves_behind, Keeps}
@@ -22,7 +22,7 @@ use Rattle.run_book.specs.declared.book.Book.{Book}
 use Rattle.run_book.specs.declared.book.Ending.{Ending}
 use Rattle.run_book.specs.declared.book.Ending.TheVariants as endings
 use Rattle.run_book.specs.declared.book.SlaveBook.{SlaveBook}
-use Rattle.plan_ring.specs.Round.{ring_of, AllRound}
+use Rattle.run_promises.specs.Round.{ring_of, AllRound}
 use Rattle.run_record.specs.Led.{exchanged, RestsSo, DoneSo, RestBy, LedBook}
 use Rattle.run_record.specs.Ran.{HasFrames, HasRows, EndsAs}
 use Rattle.run_record.specs.Replay.{first_ring, ring_after}

@@ -13,11 +13,11 @@ use Rattle.link_mails.specs.Body.{Body}
 use Rattle.master_duty.specs.Reply.{Reply}
 use Rattle.master_hand.specs.Spoken.{Asked, is_followed}
 use Rattle.run_promises.specs.Promise.{AllKeep}
-use Rattle.plan_ring.specs.Plan.{first_app}
+use Rattle.run_promises.specs.Plan.{first_app}
 use Rattle.promised_run.specs.Reported.{stays, IsReportedBy, RepliesBy, AreReplies, EraReplies, PastReplies, NewestReplies, LifeReplies, IsReported, AllReported}
 use Rattle.promised_run.proofs.Unopened.{NothingBefore, AllNothing, Opened, AllOpened}
 use Rattle.run_book.specs.declared.book.SlaveBook.{SlaveBook}
-use Rattle.plan_ring.specs.Round.{all_seen}
+use Rattle.run_promises.specs.Round.{all_seen}
 use Rattle.run_promises.specs.Slaves.{services_of}
 use Rattle.run_record.specs.Reports.{noted_in, IsBooked}
 use Rattle.script_answers.specs.Answers as Noting

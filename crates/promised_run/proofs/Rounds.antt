@@ -1,8 +1,8 @@
 -- THE FRAMES OF A BOOK went round the ring of the plan's slaves.
 use Rattle.std.proofs.Common.{◌≡◌, List, [], ◌∷◌, map, refl}
 use Rattle.run_book.specs.declared.book.SentFrame.{SentFrame}
-use Rattle.plan_ring.specs.Round as Round
-use Rattle.plan_ring.specs.Round.{AllRound}
+use Rattle.run_promises.specs.Round as Round
+use Rattle.run_promises.specs.Round.{AllRound}
 use Rattle.run_record.specs.Led.{exchanged}
 use Rattle.run_record.specs.Replay.{AreRecorded, ring_after, behind}
 use Rattle.segment_ring.specs.Ring.{RingState}

@@ -1,7 +1,7 @@
 -- THE EMERGENCIES OF A SLAVE, as a book has them.
 use Rattle.std.specs.Prelude.{◌≡◌, List}
 use Rattle.life_frames.specs.Shares.{AllBoth}
-use Rattle.life_heard.specs.Heard.{Accepted, emergencies_of}
+use Rattle.run_record.specs.AcceptedMails.{Accepted, emergencies_of}
 use Rattle.run_book.specs.declared.book.SlaveBook.{SlaveBook}
 
 -- OF ONE SLAVE: its book reports just the emergencies among the mails that its life accepted, in order, each whole and with the frame whose return

@@ -1,6 +1,6 @@
 -- THE PROMISE OF A RUN, by the frames of its book.
 use Rattle.std.specs.Prelude.{◌≡◌, ◌≢◌, List, map, ⊤}
-use Rattle.life_heard.specs.Heard.{heard_in}
+use Rattle.run_record.specs.AcceptedMails.{heard_in}
 use Rattle.life_runs.specs.Led.{Leads}
 use Rattle.run_promises.specs.Promise.{slaves_behind, Keeps}
 use Rattle.run_promises.specs.Rest.{NothingIsLeft, AllIsDone}

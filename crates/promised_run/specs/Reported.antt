@@ -9,9 +9,9 @@ use Rattle.life_runs.specs.Led.{Exchanged, Leads}
 use Rattle.link_mails.specs.Body.{Body}
 use Rattle.master_duty.specs.Reply.{Reply}
 use Rattle.master_hand.specs.Spoken.{Asked, is_followed}
-use Rattle.plan_ring.specs.Plan.{first_app}
+use Rattle.run_promises.specs.Plan.{first_app}
 use Rattle.run_book.specs.declared.book.SlaveBook.{SlaveBook}
-use Rattle.plan_ring.specs.Round.{all_seen}
+use Rattle.run_promises.specs.Round.{all_seen}
 use Rattle.run_promises.specs.Slaves.{services_of}
 use Rattle.run_record.specs.Reports.{noted_in}
 use Rattle.script_answers.specs.Answers.{Noted, reply_by, outcome_reply, change_outcome, opened_anew}

@@ -35,6 +35,7 @@ start_of count (Some last) = if nat_lt last count then last + 1 else 0
 abbrev pub before_in : ℕ → ℕ → ℕ → ℕ
 before_in count start place = if nat_le start place then place - start else place + (count - start)
 
+-- where the one carried last is this
 abbrev pub ahead_at : ℕ → Option ℕ → ℕ → ℕ
 ahead_at count last place = before_in count (start_of count last) place
 

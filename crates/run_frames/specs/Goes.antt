@@ -72,6 +72,7 @@ module _ {M Q R : Type 0} (x : Spot → Speech M Q R) (acknowledged : Q → Bool
     pub life : u.life ≡ life_next (x a.spot) acknowledged more passed number a.life a.life.stand pick
     pub none : u.under ≡ false → own a.spot.station sent ≡ []
 
+  -- of all slaves
   abbrev pub AllUnder : ℕ → List (Datagram M) → List (Clocked M Q R) → List (Under M Q R) → Type 0
   AllUnder number sent [] [] = ⊤
   AllUnder number sent (a ∷ as') (u ∷ us) = IsUnder number sent a u × AllUnder number sent as' us
@@ -81,6 +82,7 @@ module _ {M Q R : Type 0} (x : Spot → Speech M Q R) (acknowledged : Q → Bool
   abbrev pub lost_life : Bool → ℕ → ℕ → List (Datagram M) → Clocked M Q R → Under M Q R → Life M Q R
   lost_life gives recover number sent a u = given_if (gives && u.under) recover a.spot number (life_lost (x a.spot) acknowledged more passed a.spot [] sent u.life u.life.stand)
 
+  -- of all slaves
   abbrev pub all_lost : Bool → ℕ → ℕ → List (Datagram M) → List (Clocked M Q R) → List (Under M Q R) → List (Clocked M Q R)
   all_lost gives recover number sent (a ∷ as') (u ∷ us) = clocked_behind number a (lost_life gives recover number sent a u) ∷ all_lost gives recover number sent as' us
   all_lost gives recover number sent _ _ = []
@@ -89,6 +91,7 @@ module _ {M Q R : Type 0} (x : Spot → Speech M Q R) (acknowledged : Q → Bool
   abbrev pub back_life : ℕ → List (Datagram M) → Clocked M Q R → Under M Q R → Life M Q R
   back_life number back a u = life_back (x a.spot) acknowledged more passed number a.spot [] back u.came u.life u.life.stand
 
+  -- of all slaves
   abbrev pub all_back : ℕ → List (Datagram M) → List (Clocked M Q R) → List (Under M Q R) → List (Clocked M Q R)
   all_back number back (a ∷ as') (u ∷ us) = clocked_behind number a (back_life number back a u) ∷ all_back number back as' us
   all_back number back _ _ = []

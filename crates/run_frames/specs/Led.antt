@@ -26,6 +26,7 @@ AreLed _ _ = ⊥
 abbrev pub under_of : List (Datagram Body) → Turn → Under Body Asked Reply
 under_of back u = record { life = u.lived.life; under = u.share.under; came = came_at u.share.under u.share.at back }
 
+-- of all slaves
 abbrev pub unders : List (Datagram Body) → List Turn → List (Under Body Asked Reply)
 unders back us = map (under_of back) us
 
@@ -39,6 +40,7 @@ module _ (lens : ℕ → Lens) (recover retry slowest : ℕ) where
   abbrev pub behind_lost : Bool → ℕ → Exchanged → List Turn → List (Clocked Body Asked Reply) → List (Clocked Body Asked Reply)
   behind_lost gives made f us cs = all_lost (speech_at lens) acknowledged is_followed is_passed gives recover made (seen lens f.sent) cs (unders (seen lens f.back) us)
 
+  -- behind a frame that came back
   abbrev pub behind_back : ℕ → Exchanged → List Turn → List (Clocked Body Asked Reply) → List (Clocked Body Asked Reply)
   behind_back made f us cs = all_back (speech_at lens) acknowledged is_followed is_passed made (seen lens f.back) cs (unders (seen lens f.back) us)
 

@@ -9,6 +9,7 @@ pub record Waits : Type 0 where
   pub stepped : Bool
   pub tries : ℕ
 
+-- something was gained just now
 abbrev pub new_waits : Waits
 new_waits = record { stepped = false; tries = 0 }
 

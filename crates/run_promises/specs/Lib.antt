@@ -3,3 +3,5 @@ pub mod Books
 pub mod Rests
 pub mod Promise
 pub mod Rest
+pub use Rattle.plan_ring.specs.Plan
+pub use Rattle.plan_ring.specs.Round

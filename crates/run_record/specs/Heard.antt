@@ -17,6 +17,7 @@ use Rattle.segment_ring.specs.declared.wire.Fate.TheVariants.{Pass, Lost}
 abbrev pub emergencies_noted : List Notes → List (List Emergency)
 emergencies_noted notes = map (λ (n : Notes). n.emergencies) notes
 
+-- by the rows of a book
 abbrev pub emergencies_in : List SlaveBook → List (List Emergency)
 emergencies_in rows = map (λ (row : SlaveBook). row.emergencies) rows
 

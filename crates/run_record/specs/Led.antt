@@ -51,6 +51,7 @@ pub record AreLed (plan : Scenario) (fs : List Exchanged) : Type 0 where
 abbrev pub gaves_noted : List Notes → List (List ℕ)
 gaves_noted notes = map (λ (n : Notes). n.gave) notes
 
+-- by the rows of a book
 abbrev pub gaves_in : List SlaveBook → List (List ℕ)
 gaves_in rows = map (λ (row : SlaveBook). row.gave) rows
 

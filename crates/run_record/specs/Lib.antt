@@ -7,3 +7,4 @@ pub mod Reports
 pub mod Led
 pub mod Session
 pub mod Ran
+pub use Rattle.life_heard.specs.Heard as AcceptedMails

@@ -71,6 +71,7 @@ answered_where n reply frame = if n.in_hand && awaits_nothing n.awaited then ans
 abbrev pub alarmed : Notes → List ℕ → ℕ → Notes
 alarmed n octets frame = record n { emergencies = n.emergencies ++ record { octets = octets; frame = frame } ∷ [] }
 
+-- a service in hand is in doubt
 abbrev pub doubted : Notes → Notes
 doubted n = record n { answers = answers_doubted n; in_hand = false; awaited = Awaited.Nothing }
 
@@ -119,6 +120,7 @@ epochs_opened n frame = last_opened n.epochs frame (slice_get n.epochs (length n
 abbrev pub epochs_stood : Notes → Bool → Bool → ℕ → List Epoch
 epochs_stood n leaves opens frame = if n.leaving && not leaves then epochs_cleared n frame else if not n.up && opens then epochs_opened n frame else n.epochs
 
+-- and how its master stands to it now
 abbrev pub stood : Notes → Bool → Bool → ℕ → Notes
 stood n leaves opens frame = record n { epochs = epochs_stood n leaves opens frame; leaving = leaves; up = opens }
 

@@ -73,9 +73,11 @@ pub record IsReporting (a : Leads) (begun : List Begun) (answers : List Answer) 
   pub rest : IsNumbered (length a.script) begun answers scripted left
   pub marked : IsMarked a epochs leaving up
 
+-- by what is noted of a slave
 abbrev pub Reports : Leads → Notes → Type 0
 Reports a n = IsReporting a n.begun n.answers n.in_hand n.awaited n.scripted n.left n.gave n.epochs n.leaving n.up
 
+-- of all slaves
 abbrev pub AllReport : List Leads → List Notes → Type 0
 AllReport as' notes = AllBoth (λ a n. Reports a n) as' notes
 
@@ -107,6 +109,7 @@ LosesAll frame recover m P =
 abbrev pub ReportsOn : List Notes → List Notes → List Leads → List Leads → Type 0
 ReportsOn old new as' bs = AllReport as' old → AllReport bs new
 
+-- by the fate of the frame
 abbrev pub ReportsBy : Fate → ℕ → MasterNode → Log → Log → Type 0
 ReportsBy Pass frame m r r' = PassesAll frame m (ReportsOn r.notes r'.notes)
 ReportsBy (Lost after) frame m r r' = LosesAll frame r.recover m (ReportsOn r.notes r'.notes)

@@ -49,6 +49,7 @@ pub record SessionState : Type 0 where
 abbrev pub smaller_bound : ℕ → ℕ
 smaller_bound frames = if nat_lt frames 100000000 then frames else 100000000
 
+-- or those of its budget
 abbrev pub budget_or : Option ℕ → ℕ → ℕ
 budget_or (Some frames) bound = frames
 budget_or None bound = smaller_bound bound
@@ -115,6 +116,7 @@ abbrev pub rests_at : ℕ → Option (Node SlaveServer) → Notes → Bool
 rests_at recover (Some node) n = is_at_rest (slave_row recover node n)
 rests_at recover None n = true
 
+-- each has nothing left to do
 abbrev pub are_at_rest : List SlaveBook → Bool
 are_at_rest rows = list_all is_at_rest rows
 
@@ -122,6 +124,7 @@ are_at_rest rows = list_all is_at_rest rows
 abbrev pub has_given_up : SlaveBook → Bool
 has_given_up row = nat_lt 0 (length row.gave)
 
+-- one of them was given up
 abbrev pub some_given_up : List SlaveBook → Bool
 some_given_up rows = list_any has_given_up rows
 

@@ -280,6 +280,7 @@ impl Session {
     pub fn gave_up(&self) -> bool
         ensures { result ≡ some_given_up (session_rows self.now) }
     {
+        // A field is named so that the proof has what holds of the fields.
         let _ = &self.number;
         some_given_up(self.log.notes.as_slice())
     }
@@ -290,6 +291,7 @@ impl Session {
         ensures many { length result.now ≡ length self.now.ring.nodes }
         ensures few { length result.now ≤ 16 }
     {
+        // A field is named so that the proof has what holds of the fields.
         let _ = &self.number;
         self.log.stations.as_slice()
     }

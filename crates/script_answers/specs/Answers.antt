@@ -32,6 +32,7 @@ pub record Scripted : Type 0 where
 abbrev pub answers_in : List (Row Body Asked Reply) → List (Option (Reply × ℕ))
 answers_in rs = map (λ r. r.answer) rs
 
+-- of a side
 abbrev pub side_answers : Side Body Asked Reply → List (Option (Reply × ℕ))
 side_answers d = answers_in (rows_of d)
 
@@ -40,6 +41,7 @@ abbrev pub first_change : List (Change Reply) → Option (Outcome Reply × ℕ)
 first_change [] = None
 first_change (c ∷ cs) = Some (c.answer, c.completed)
 
+-- those behind the first
 abbrev pub changes_behind : List (Change Reply) → List (Change Reply)
 changes_behind [] = []
 changes_behind (c ∷ cs) = cs
@@ -96,6 +98,7 @@ abbrev pub next_opened : List (Era Body Asked Reply) → Option ℕ → Option �
 next_opened [] behind = behind
 next_opened (e ∷ es) behind = e.opened
 
+-- of several epochs
 abbrev pub eras_scripted : List ℕ → List (Era Body Asked Reply) → Option ℕ → List Scripted
 eras_scripted gave [] behind = []
 eras_scripted gave (e ∷ es) behind = era_scripted (opened_anew gave e.opened (next_opened es behind)) e ++ eras_scripted gave es behind
@@ -116,6 +119,7 @@ reply_by Outcome.Handed = Some (ReplyKind.Handed, [])
 reply_by Outcome.Reached = Some (ReplyKind.Done, [])
 reply_by (Outcome.Refused code) = Some (ReplyKind.StateRefused code, [])
 
+-- with the frame that brought it
 abbrev pub outcome_reply : Option (Outcome Reply × ℕ) → Option (Reply × ℕ)
 outcome_reply None = None
 outcome_reply (Some o) = Some (reply_by o.0, o.1)
@@ -136,6 +140,7 @@ abbrev pub now_answer : Option (Row Body Asked Reply) → Option (Reply × ℕ)
 now_answer None = None
 now_answer (Some r) = r.answer
 
+-- of the newest epoch
 abbrev pub newest_answer : Leads → Option (Reply × ℕ)
 newest_answer a = now_answer a.lived.life.era.side.now
 
@@ -207,6 +212,7 @@ pub record IsAwaiting (a : Leads) : Type 0 where
   pub era : Awaits a.lived.life.era
   pub unanswered : newest_answer a ≡ None
 
+-- a change of state is awaited of it
 pub record IsGoing (l : Life Body Asked Reply) : Type 0 where
   pub stand : l.stand ≡ Stand.Open
   pub era : Changes l.era
@@ -217,6 +223,7 @@ pub data Waits : Type 0 where
   reply : Waits
   change : Waits
 
+-- how the life stands where that is awaited
 abbrev pub StandsBy : Waits → Leads → Type 0
 StandsBy Waits.nothing a = IsStill a.lived.life
 StandsBy Waits.reply a = IsAwaiting a
