@@ -1,5 +1,5 @@
 -- THE EMERGENCIES OF A BOOK, slave by slave.
-use Rattle.std.proofs.Common.{◌≡◌, ℕ, List, [], ◌∷◌, map}
+use Rattle.std.proofs.Common.{◌≡◌, List, [], ◌∷◌, map}
 use Rattle.run_record.specs.AcceptedMails.{Accepted, AllNoted, emergencies_of}
 use Rattle.promised_run.specs.Emergencies.{AllHaveEmergencies}
 use Rattle.run_book.specs.declared.book.Emergency.{Emergency}

@@ -1,9 +1,9 @@
 -- WHAT A BOOK REPORTS IS WHAT THE FRAMES GIVE, and what the application replied.
 use Rattle.std.specs.Prelude.{◌==◌, not, if◌then◌else◌}
-use Rattle.std.proofs.Common.{◌≡◌, ℕ, suc, Bool, true, false, Option, Some, None, List, [], ◌∷◌, ◌++◌, map, length, refl, ap, sym, ◌∙◌, subst, append_assoc, append-nil}
+use Rattle.std.proofs.Common.{◌≡◌, ℕ, suc, Bool, true, false, Option, Some, None, List, [], ◌∷◌, ◌++◌, refl, ap, sym, ◌∙◌, subst, append-nil}
 use Rattle.exchange_model.specs.Exchange.{Exchange}
 use Rattle.exchange_model.specs.Rows.{Row}
-use Rattle.kept_lives.specs.Epochs.{IsKept, AreKept, IsNewest, IsKeptLife, app_of}
+use Rattle.kept_lives.specs.Epochs.{IsKept, AreKept, IsNewest, IsKeptLife}
 use Rattle.life_frames.specs.Shares.{AllBoth}
 use Rattle.life_model.specs.Eras.{era_frames}
 use Rattle.life_model.specs.Lives.{Spot, Era, Life, returns_to_init}
@@ -14,13 +14,12 @@ use Rattle.master_duty.specs.Reply.{Reply}
 use Rattle.master_hand.specs.Spoken.{Asked, is_followed}
 use Rattle.run_promises.specs.Promise.{AllKeep}
 use Rattle.run_promises.specs.Plan.{first_app}
-use Rattle.promised_run.specs.Reported.{stays, IsReportedBy, RepliesBy, AreReplies, EraReplies, PastReplies, NewestReplies, LifeReplies, IsReported, AllReported}
+use Rattle.promised_run.specs.Reported.{IsReportedBy, RepliesBy, AreReplies, EraReplies, PastReplies, NewestReplies, LifeReplies, AllReported}
 use Rattle.promised_run.proofs.Unopened.{NothingBefore, AllNothing, Opened, AllOpened}
 use Rattle.run_book.specs.declared.book.SlaveBook.{SlaveBook}
 use Rattle.run_promises.specs.Round.{all_seen}
 use Rattle.run_promises.specs.Slaves.{services_of}
 use Rattle.run_record.specs.Reports.{noted_in, IsBooked}
-use Rattle.script_answers.specs.Answers as Noting
 use Rattle.script_answers.specs.Answers.{Came, Scripted, Noted, AllNoted, answers_in, side_answers, first_change, changes_behind, change_outcome, opened_anew, scripted_by, scripted_in, scripted_mails, era_scripted, eras_scripted, life_scripted, reply_by, outcome_reply}
 use Rattle.script_answers.proofs.Lists.{eras_more}
 use Rattle.script_runs.specs.Came.{is_packet}

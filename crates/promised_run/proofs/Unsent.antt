@@ -1,5 +1,5 @@
 -- WHAT OF A SCRIPT WASN'T SENT: the script of each slave is the plan's.
-use Rattle.std.proofs.Common.{◌≡◌, ℕ, suc, List, [], ◌∷◌}
+use Rattle.std.proofs.Common.{ℕ, suc, List, [], ◌∷◌}
 use Rattle.life_frames.specs.Shares.{AllBoth}
 use Rattle.life_runs.specs.Led.{Leads}
 use Rattle.promised_run.specs.Unsent.{AllUnsent}

@@ -10,7 +10,7 @@ use Rattle.frame_view.specs.Seen.{seen}
 use Rattle.life_model.specs.Lives.{Spot}
 use Rattle.life_model.specs.Tours.{Member, is_live_in}
 use Rattle.life_runs.proofs.First.{apart_from, have_lens}
-use Rattle.life_runs.specs.First.{lens_of, first_leads, IsElsewhere, AreApart}
+use Rattle.life_runs.specs.First.{lens_of, first_leads, IsElsewhere, AreApart, HaveLens}
 use Rattle.life_runs.specs.Led.{Exchanged, Leads, Turn, AllTurn, IsLed, IsLedFrame}
 use Rattle.master_node.specs.Shows.{is_live_lead, is_opening_lead}
 use Rattle.master_node.specs.Toured.{turn_share}
@@ -19,10 +19,10 @@ use Rattle.master_side.specs.Again.{larger}
 use Rattle.master_tour.specs.Goes.{holds_at}
 use Rattle.master_tour.specs.Sizes.{frame_size}
 use Rattle.master_tour.specs.Orders.{last_place, last_behind}
-use Rattle.master_tour.specs.Toured.{Tour, IsOfTour, HaveFrom, visit_on, goes_on, lost_on, has_number}
+use Rattle.master_tour.specs.Toured.{Tour, IsOfTour, HaveFrom, visit_on, goes_on, has_number}
 use Rattle.promised_run.specs.Visits.{stop_of, stops_of, members_of, IsVisit, AllVisit}
 use Rattle.script_runs.specs.Slaves.{AllCome}
-use Rattle.segment_model.specs.Visits.{Stop, carried, station_at}
+use Rattle.segment_model.specs.Visits.{Stop, station_at}
 use Rattle.segment_plan.specs.Sound.{IsPlan, IsSlave}
 use Rattle.segment_plan.specs.declared.plan.Scenario.{Scenario}
 use Rattle.segment_plan.specs.declared.slave.SlaveSpec.{SlaveSpec}

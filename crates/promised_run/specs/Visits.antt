@@ -1,5 +1,5 @@
 -- THE VISITS OF A BOOK: which slaves each of its frames carries, and in which order.
-use Rattle.std.specs.Prelude.{◌≡◌, ◌-◌, ℕ, nat_le, if◌then◌else◌, List, [], ◌∷◌, length, map, drop, ⊤}
+use Rattle.std.specs.Prelude.{◌-◌, ℕ, nat_le, if◌then◌else◌, List, [], ◌∷◌, length, map, drop, ⊤}
 use Rattle.frame_view.specs.Seen.{seen}
 use Rattle.life_model.specs.Tours.{Member, round}
 use Rattle.life_runs.specs.First.{lens_of, first_leads}
