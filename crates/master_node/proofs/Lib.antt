@@ -21,3 +21,4 @@ pub mod Stoods
 pub mod Joineds
 pub mod Toureds
 pub mod Forwards
+pub mod Happenings

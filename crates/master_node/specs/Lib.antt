@@ -15,3 +15,5 @@ pub mod Filling
 pub mod Joined
 pub mod Toured
 pub mod Forwards
+pub mod Ports
+pub mod Happened

@@ -21,6 +21,7 @@ use Rattle.master_node.proofs.Filleds.{count_behind}
 use Rattle.master_node.proofs.Visits.{Fitted, Began, now, comes, frame, among, among_fitted}
 use Rattle.std.proofs.Common.{◌∙◌}
 use Rattle.master_node.proofs.Lists.{steps_each, each_trans}
+use Rattle.master_node.proofs.Happenings.{happens_none, happens_on}
 use Rattle.master_node.proofs.node.MasterNode.visit.Goals as goal
 
 pub returns-then-not-fits-clause-led : goal.returns-then-not-fits-clause-led
@@ -133,3 +134,9 @@ returns-clause-shares c =
     subst (λ z. StepsAt (λ s t. TakesPart (nat_lt z c.came.new.self.tour.count) z s t) place s0 s4) before
     (subst (λ z. StepsAt (λ s t. TakesPart (nat_lt c.lay.new.self.tour.count z) c.lay.new.self.tour.count s t) place s0 s4) (sym behind)
     (part_steps c.lay.new.self.tour.count (nat_lt c.lay.new.self.tour.count c.visit-began.new.self.count) place s0 s1 s2 s3 s4 first second third c.came.ensures.put))
+
+pub returns-then-not-fits-clause-lan : goal.returns-then-not-fits-clause-lan
+returns-then-not-fits-clause-lan c = happens_none 1 _ _ refl
+
+pub returns-clause-lan : goal.returns-clause-lan
+returns-clause-lan c = happens_on 1 _ _ _ c.came.ensures.lan c.lay.ensures.lan
