@@ -19,3 +19,4 @@ pub mod Unsent
 pub mod Epochs
 pub mod Reports
 pub mod Reporting
+pub mod Switched

@@ -7,3 +7,4 @@ pub mod Reports
 pub mod Led
 pub mod Session
 pub mod Ran
+pub mod Switched
