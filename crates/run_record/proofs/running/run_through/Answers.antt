@@ -59,6 +59,7 @@ loop-settled-preserved c =
       settled = c.settled-settled-in-loop-settled.ensures.rest;
       left = c.settled-settled-in-loop-settled.ensures.left;
       busy = c.settled-settled-in-loop-settled.ensures.busy;
+      switched = step.1.switch c.args.plan.now.host c.loop-settled.invariant.switched;
       leading = one_frame_more c.args.plan.now c.step.new.self.master c.step.new.self.notes c.loop-settled.book.frames step.0 c.step.new.book.frames step.1.put
           (step.1.leads c.args.plan.now (map exchanged c.loop-settled.book.frames) under.recover (length-map c.loop-settled.book.frames exchanged ∙ many c.args.plan.now 0 s c.loop-settled.book under) (live_so c.args.plan.now s c.loop-settled.book c.loop-settled.settled under c.loop-settled.invariant.leading (search rules) c.loop-settled.invariant.busy) c.loop-settled.invariant.leading);
     }
@@ -82,5 +83,5 @@ pub returns-clause-led : goal.returns-clause-led
 returns-clause-led c =
     let s = c.loop-settled.session in
     let invariant = c.loop-settled.invariant in
-    led_book c.args.plan.now s c.loop-settled.book c.finish.new.book invariant.underway invariant.leading c.finish.ensures.frames c.finish.ensures.many c.ending_of-ending.result c.finish.result c.loop-settled.settled
+    led_book c.args.plan.now s c.loop-settled.book c.finish.new.book invariant.underway invariant.leading invariant.switched c.finish.ensures.frames c.finish.ensures.same c.finish.ensures.many c.ending_of-ending.result c.finish.result c.loop-settled.settled
     c.ending_of-ending.ensures.ends invariant.left c.ending_of-ending.ensures.cut c.finish.ensures.answers c.finish.ensures.rows
