@@ -1,7 +1,7 @@
 -- What is noted of the switch, one thing after the other.
-use Rattle.std.proofs.Common.{◌≡◌, ℕ, ◌+◌, ◌<◌, List, [], ◌∷◌, ◌++◌, refl, sym, ap, subst, ◌∙◌, arith, length, take, drop, map, get_or, append_assoc, append-nil, add-one, length-append}
+use Rattle.std.proofs.Common.{◌≡◌, ℕ, ◌+◌, ◌<◌, ◌≤◌, List, [], ◌∷◌, ◌++◌, refl, sym, ap, subst, ◌∙◌, arith, length, take, drop, map, get_or, append_assoc, append-nil, add-one, length-append}
 use Rattle.std.specs.Prelude.{All}
-use Rattle.std.proofs.lemmas.List.{map-append, length-map, take-append-drop}
+use Rattle.std.proofs.lemmas.List.{map-append, length-map, take-append-drop, take_all}
 use Rattle.std.proofs.lemmas.List.Elements.{All-nil, All-cons, All-head, All-tail, All-get_or}
 use Rattle.std.proofs.Math.Seq.{take-suc}
 use Rattle.arrayvec.specs.ArrayVec.{ArrayVec}
@@ -15,6 +15,8 @@ use Rattle.run_book.specs.Book.{IsNew}
 use Rattle.run_book.specs.Ports.{ports_of, IsAtPort}
 use Rattle.run_book.specs.declared.book.Book.{Book}
 use Rattle.segment_plan.specs.declared.plan.Scenario.{Scenario}
+use Rattle.run_record.specs.declared.standing.Log.{Log}
+use Rattle.run_record.specs.Session.{SessionState, first_session, SameSlaves}
 use Rattle.run_record.specs.Switched.{octets_of, HasNoted, NotesSwitch, SameSwitch, IsSwitched, HasPackets}
 
 -- ---- at a port
@@ -53,6 +55,13 @@ notes_next ports rows k r b b1 b2 inside is so one = λ before all h.
     subst (λ z. HasNoted z b2) (append_assoc before (take k rows) (r ∷ []) ∙ ap (λ z. before ++ z) (sym more))
     (one (before ++ take k rows) (All-cons (IsAt ports) r [] here (All-nil (IsAt ports))) (so before all h))
 
+pub notes_last : (ports : ℕ) (rows : List Happening) (k : ℕ) (b b' : Book) → length rows ≤ k → NotesTo ports rows k b b' → NotesSwitch ports rows b b'
+notes_last ports rows k b b' over so = λ before all h. subst (λ z. HasNoted (before ++ z) b') (take_all k rows over) (so before all h)
+
+-- the ports are those of the log, whichever of its moments
+pub switch_at : (a b : Log) (rows : List Happening) (x y : Book) → SameSlaves a b → NotesSwitch (1 + length b.ports) rows x y → NotesSwitch (1 + length a.ports) rows x y
+switch_at a b rows x y same notes = subst (λ (n : ℕ). NotesSwitch (1 + n) rows x y) (ap length same.ports) notes
+
 -- ---- a session
 
 pub noted_same : (rows : List Happening) (b b' : Book) → SameSwitch b b' → HasNoted rows b → HasNoted rows b'
@@ -71,8 +80,12 @@ switched_on ports host l l' b b' h n x =
     }
 
 -- before the first frame
-pub switched_new : (ports : ℕ) (host : List (ArrayVec ℕ)) (l : Lan) (b : Book) → IsNew b → HasHappened ports host [] l → IsSwitched ports host l b
-switched_new ports host l b new h = record { rows = []; noted = record { switch = new.switch; many = ap length new.switched; host = new.host }; happened = h }
+pub switched_new : (plan : Scenario) (grams : ℕ) (s : SessionState) (b : Book) → s ≡ first_session plan grams s.master → IsNew b → HasHappened (ports_of plan.slaves) plan.host [] s.master.lan → IsSwitched s.ports plan.host s.master.lan b
+switched_new plan grams s b first new h = record {
+  rows = [];
+  noted = record { switch = new.switch; many = ap length new.switched; host = new.host };
+  happened = subst (λ (n : ℕ). HasHappened n plan.host [] s.master.lan) (sym (ap (λ (t : SessionState). t.ports) first)) h;
+}
 
 -- ---- the book
 

@@ -6,13 +6,14 @@ use Rattle.run_book.specs.declared.book.Book.{Book}
 use Rattle.segment_plan.specs.declared.plan.Scenario.{Scenario}
 use Rattle.run_record.specs.Session.{SessionState, session_rows, are_at_rest, has_live}
 use Rattle.run_record.specs.Ran.{IsUnderway, EndsSo, EndsAs}
-use Rattle.run_record.proofs.Underway.{still_left, many, stepped_on, stopped, has_frames, ended, ran_so, ran_as}
+use Rattle.run_record.proofs.Underway.{begun, still_left, many, stepped_on, stopped, has_frames, ended, ran_so, ran_as}
 use Rattle.run_record.specs.Led.{exchanged, Leading}
-use Rattle.run_record.proofs.Leads.{one_frame_more, one_led_more, none_led, same_led}
+use Rattle.run_record.proofs.Leads.{one_frame_more, one_led_more, none_led, same_led, first_leading}
 use Rattle.std.proofs.lemmas.List.{length-map}
 use Rattle.run_record.proofs.Ends.{some_live}
 use Rattle.run_record.proofs.Overs.{led_book}
 use Rattle.run_record.proofs.Steps.{any_err}
+use Rattle.run_record.proofs.Switched.{switched_new}
 use Rattle.master_node.proofs.Counts.{counted}
 use Rattle.life_runs.specs.First.{lens_of}
 use Rattle.run_record.proofs.running.run_through.Goals as goal
@@ -44,6 +45,23 @@ returns-in_err-step-clause-cut c =
       | inl same ↦ same_led plan c.loop-settled.book.frames c.step.new.book.frames same (record { missed = leading.missed; leads = leading.leads; lives = leading.lives; tour = tour_of s.master; toured = leading.toured })
       | inr f ↦ one_led_more plan c.loop-settled.book.frames f.0 c.step.new.book.frames f.1 (f.4 plan (map exchanged c.loop-settled.book.frames) (live_so plan s c.loop-settled.book c.loop-settled.settled c.loop-settled.invariant.underway leading (search rules) c.loop-settled.invariant.busy) leading)
     ])
+
+pub loop-settled-init : goal.loop-settled-init
+loop-settled-init c =
+    let plan = c.args.plan.now in
+    let begins = c.in_ok-session.ensures in
+    let new = c.requires.new in
+    record {
+      underway = begun plan 0 _ c.args.book.now begins.session new;
+      serving = new.serving;
+      grams = new.grams;
+      replies = new.replies;
+      settled = c.settled-settled.ensures.rest;
+      left = c.settled-settled.ensures.left;
+      busy = c.settled-settled.ensures.busy;
+      switched = switched_new plan 0 _ c.args.book.now begins.session new begins.switch;
+      leading = first_leading plan _ _ c.args.book.now.frames new.frames begins.leads;
+    }
 
 pub loop-settled-preserved : goal.loop-settled-preserved
 loop-settled-preserved c =

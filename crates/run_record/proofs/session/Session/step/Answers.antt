@@ -65,7 +65,7 @@ returns-clause-ok c =
             let many : 1 + length c.note_behind.new.self.ports ≡ c.args.self.now.ports = ap (λ (l : List ℕ). 1 + length l) c.note_behind.ensures.slaves.ports ∙ same ∙ before in
             let first = switched_on ports host c.self.inside.master.lan c.next.new.self.lan c.args.book.now c.note_before.new.book c.next.ensures.happened c.in_ok-note_before.ensures.switch
             (subst (λ (n : ℕ). IsSwitched n host c.self.inside.master.lan c.args.book.now) (sym before) (subst (λ (s : SessionState). IsSwitched c.args.self.now.ports host s.master.lan c.args.book.now) (sym c.self.view_is) x)) in
-            subst (λ (n : ℕ). IsSwitched n host c.tell.new.master.lan c.note_behind.new.book) (sym many ∙ refl)
+            subst (λ (n : ℕ). IsSwitched n host c.tell.new.master.lan c.note_behind.new.book) (sym many)
             (subst (λ (n : ℕ). IsSwitched n host c.tell.new.master.lan c.note_behind.new.book) before
             (switched_on ports host c.next.new.self.lan c.tell.new.master.lan c.put_frame.new.book c.note_behind.new.book c.tell.ensures.happened (subst (λ (n : ℕ). NotesSwitch n c.tell.new.master.lan.happened c.put_frame.new.book c.note_behind.new.book) same both.1.1.1)
             (switched_same ports host c.next.new.self.lan c.note_before.new.book c.put_frame.new.book c.put_frame.ensures.switch first)));
