@@ -23,8 +23,8 @@ loop-row-preserved c =
       heard = c.note_switch.ensures.heard ∙ inv.heard;
       told = λ as' r. c.note_switch.ensures.told as' (inv.told as' r);
       frames = frames_more ports inv.frames (at_log inv.slaves c.note_switch.ensures.frames);
-      switch = notes_next ports c.args.rows.now c.loop-row.row-index c.loop-row-item.result c.args.book.now c.loop-row.book c.note_switch.new.book c.loop-row-test.true c.loop-row-item.is inv.switch
-          (switch_at c.args.self.now c.loop-row.self (c.loop-row-item.result ∷ []) c.loop-row.book c.note_switch.new.book inv.slaves c.in_ok-note_switch.ensures.switch);
+      switch = notes_next ports c.args.rows.now c.loop-row.row-index c.row-item.result c.args.book.now c.loop-row.book c.note_switch.new.book c.loop-row-test.true c.row-item.is inv.switch
+          (switch_at c.args.self.now c.loop-row.self (c.row-item.result ∷ []) c.loop-row.book c.note_switch.new.book inv.slaves c.in_ok-note_switch.ensures.switch);
     }
 
 pub returns-in_err-note_switch-clause-slaves : goal.returns-in_err-note_switch-clause-slaves
