@@ -14,7 +14,7 @@ pub returns-clause-switch : goal.returns-clause-switch
 returns-clause-switch c =
     on_ok_weaker c.note_handed.result
     (λ handed. λ before all h. noted_more before c.args.row.now c.args.book.now _
-        (c.in_ok-add.ensures.ok ∙ ap (λ e. c.args.book.now.switch ++ e ∷ []) c.copy_of_event.ensures)
-        (ap length c.in_ok-add-2.ensures.ok ∙ length-append c.args.book.now.switched (c.args.moment.sent ∷ []))
-        handed h)
+    (c.in_ok-add.ensures.ok ∙ ap (λ e. c.args.book.now.switch ++ e ∷ []) c.copy_of_event.ensures)
+    (ap length c.in_ok-add-2.ensures.ok ∙ length-append c.args.book.now.switched (c.args.moment.sent ∷ []))
+    handed h)
     c.note_handed.ensures
