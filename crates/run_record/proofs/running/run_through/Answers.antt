@@ -49,18 +49,19 @@ returns-in_err-step-clause-cut c =
 pub loop-settled-init : goal.loop-settled-init
 loop-settled-init c =
     let plan = c.args.plan.now in
+    let s = c.in_ok-session.session in
     let begins = c.in_ok-session.ensures in
     let new = c.requires.new in
     record {
-      underway = begun plan 0 _ c.args.book.now begins.session new;
+      underway = begun plan 0 s c.args.book.now begins.session new;
       serving = new.serving;
       grams = new.grams;
       replies = new.replies;
       settled = c.settled-settled.ensures.rest;
       left = c.settled-settled.ensures.left;
       busy = c.settled-settled.ensures.busy;
-      switched = switched_new plan 0 _ c.args.book.now begins.session new begins.switch;
-      leading = first_leading plan _ _ c.args.book.now.frames new.frames begins.leads;
+      switched = switched_new plan 0 s c.args.book.now begins.session new begins.switch;
+      leading = first_leading plan s.master s.notes c.args.book.now.frames new.frames begins.leads;
     }
 
 pub loop-settled-preserved : goal.loop-settled-preserved
