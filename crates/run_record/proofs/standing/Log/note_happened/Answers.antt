@@ -30,6 +30,12 @@ loop-row-preserved c =
 pub returns-in_err-note_switch-clause-slaves : goal.returns-in_err-note_switch-clause-slaves
 returns-in_err-note_switch-clause-slaves c = slaves_more c.loop-row.invariant.slaves c.note_switch.ensures.slaves
 
+pub returns-in_err-note_switch-clause-gave : goal.returns-in_err-note_switch-clause-gave
+returns-in_err-note_switch-clause-gave c = c.note_switch.ensures.gave ∙ c.loop-row.invariant.gave
+
+pub returns-in_err-note_switch-clause-heard : goal.returns-in_err-note_switch-clause-heard
+returns-in_err-note_switch-clause-heard c = c.note_switch.ensures.heard ∙ c.loop-row.invariant.heard
+
 pub returns-in_err-note_switch-clause-told : goal.returns-in_err-note_switch-clause-told
 returns-in_err-note_switch-clause-told c = λ as' r. c.note_switch.ensures.told as' (c.loop-row.invariant.told as' r)
 
