@@ -134,7 +134,7 @@ module _ {S : Type 0} (o : Network S) (sound : IsSound o) (areas : Areas) (sized
     emitted = ([], append-nil _ ∙ whole_emitted v q valid);
   }
 
-  before : (v : Server S) (p : List EoeMail) → Idle o areas.back v p → Before (eoe_exchange o areas) v p
+  pub before : (v : Server S) (p : List EoeMail) → Idle o areas.back v p → Before (eoe_exchange o areas) v p
   before v p idle = record { app = idle.station; handled = idle.handled; emitted = ap (emitted is_emission) idle.given }
 
   part_of : (v : Server S) (q : Service) → is_service q ≡ true → (p r : List EoeMail) → mails_of areas.out q ≡ p ++ r →

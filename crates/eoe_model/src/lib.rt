@@ -3,12 +3,13 @@
 //! functions do nothing, and their contracts state the laws.
 #![tactic(auto)]
 
-ghost use Rattle.std.specs.Prelude.{◌≡◌, ◌≤◌, ◌⊎◌, ◌*◌, ◌/◌, ◌-◌, ℕ, suc, true, false, List, [], ◌++◌, length, Option, Some};
+ghost use Rattle.std.specs.Prelude.{◌≡◌, ◌≤◌, ◌⊎◌, ◌*◌, ◌/◌, ◌-◌, ℕ, suc, true, false, List, [], ◌∷◌, ◌++◌, length, Option, Some};
 ghost use Rattle.eoe.specs.declared.joining.Unfinished.{Unfinished};
 ghost use Rattle.eoe.specs.Cutting.{fragments_of};
 ghost use Rattle.eoe.specs.Joining.{joins, GivesWhole};
 ghost use Rattle.exchange_model.specs.Areas.{Areas, AreMailboxes};
 ghost use Rattle.exchange_model.specs.Exchange.{IsLawful, Before, Behind, after, given, plain, emitted};
+ghost use Rattle.exchange_model.specs.Prefix.{IsPrefixOf};
 ghost use Rattle.eoe_model.specs.Mails.{EoeMail, is_emission};
 ghost use Rattle.eoe_model.specs.Network.{Network, IsSound, IsSpelled, is_ready};
 ghost use Rattle.eoe_model.specs.Server.{Server, serve};
@@ -24,7 +25,8 @@ pub fn eoe_is_lawful<S>()
 
 /// The client's mails against the server, in plain words. All of them: the station is the one that the service means, one service more was
 /// carried out, the emissions are its own, and an address service has the reply that it means, a packet none. A first part of them has carried
-/// out nothing, or the whole service.
+/// out nothing, or the whole service; one that lacks the last mail, as a packet without its last fragment, has carried out nothing. What the server
+/// gives for a first part it gives first for all.
 pub fn client_against_server<S>()
     ensures app { (o : Network S) (areas : Areas) → IsSound o → AreMailboxes areas → (v : Server S) (q : Service) → is_ready o v.station ≡ true → is_service q ≡ true →
         (after (serve o areas.back) v (mails_of areas.out q)).station ≡ (meaning_of o areas.back v.station q).station }
@@ -38,6 +40,10 @@ pub fn client_against_server<S>()
         is_handed q ≡ true → plain is_emission (given (serve o areas.back) v (mails_of areas.out q)) ≡ [] }
     ensures part { (o : Network S) (areas : Areas) → IsSound o → AreMailboxes areas → (v : Server S) (q : Service) → is_ready o v.station ≡ true → is_service q ≡ true →
         (p r : List EoeMail) → mails_of areas.out q ≡ p ++ r → Before (eoe_exchange o areas) v p ⊎ Behind (eoe_exchange o areas) v q p }
+    ensures late { (o : Network S) (areas : Areas) → IsSound o → AreMailboxes areas → (v : Server S) (q : Service) → is_service q ≡ true →
+        (p r : List EoeMail) (m : EoeMail) → mails_of areas.out q ≡ p ++ m ∷ r → Before (eoe_exchange o areas) v p }
+    ensures begins { (o : Network S) (areas : Areas) (v : Server S) (q : Service) (p r : List EoeMail) → mails_of areas.out q ≡ p ++ r →
+        IsPrefixOf (given (serve o areas.back) v p) (given (serve o areas.back) v (mails_of areas.out q)) }
 {}
 
 /// The same over mailbox mails: each mail is written in its one spelling, and read by the grammar from whatever came. The application sends no

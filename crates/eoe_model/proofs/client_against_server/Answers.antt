@@ -1,4 +1,8 @@
-use Rattle.eoe_model.proofs.EoeLaw.{eoe_law}
+use Rattle.std.proofs.Common.{sym}
+use Rattle.exchange_model.proofs.Words.{given_part}
+use Rattle.eoe_model.specs.Server.{serve}
+use Rattle.eoe_model.specs.Client.{mails_of}
+use Rattle.eoe_model.proofs.EoeLaw.{eoe_law, kept, before}
 use Rattle.eoe_model.proofs.client_against_server.Goals as goal
 
 pub returns-clause-app : goal.returns-clause-app
@@ -18,3 +22,9 @@ returns-clause-silent g c = λ o areas sound sized v q ready valid posts. (eoe_l
 
 pub returns-clause-part : goal.returns-clause-part
 returns-clause-part g c = λ o areas sound sized v q ready valid p r e. (eoe_law o sound areas sized).part v q ready valid p r e
+
+pub returns-clause-late : goal.returns-clause-late
+returns-clause-late g c = λ o areas sound sized v q valid p r m e. before o sound areas sized v p ((kept o sound areas sized v q valid).late p m r e)
+
+pub returns-clause-begins : goal.returns-clause-begins
+returns-clause-begins g c = λ o areas v q p r e. given_part (serve o areas.back) v p (mails_of areas.out q) (r, sym e)
