@@ -11,7 +11,7 @@ use Rattle.ecmbx_words.specs.declared.status.Status.{Status}
 use Rattle.ecmbx_words.specs.Form.{form_in, name_in, as_serve}
 use Rattle.ecmbx_words.specs.Files.{FileCourse, Followed}
 use Rattle.ecmbx_call.specs.Files.{limit}
-use Rattle.ecmbx_call.specs.Course.{Began}
+use Rattle.ecmbx_call.specs.Course.{Began, BeganIn}
 use Rattle.ecmbx_call.specs.Serving.{ServeCourse, ServedIn}
 use Rattle.ecmbx_words.proofs.Loads.{turned}
 use Rattle.ecmbx_call.proofs.Retold.{Retold, file_retold}
@@ -28,6 +28,11 @@ followed_retold first last first' last' h count book name table faulted old new 
 pub began_words : (words : List (List ℕ)) (table : Option Table) (first last : Told) (book : Book) (count : ℕ) (name : List ℕ) → form_in words ≡ forms.Serve count → name ≡ name_in words → IsNew book ⊎ ServedIn name table count first last book → IsNew book ⊎ Began words table first last book
 began_words words table first last book count name f is (inl fresh) = inl fresh
 began_words words table first last book count name f is (inr served) = inr (inr (count, f, subst (λ n. ServedIn n table count first last book) is served))
+
+-- and of one that ran it
+pub ran_words : (words : List (List ℕ)) (table : Option Table) (first last : Told) (book : Book) (name : List ℕ) → name ≡ name_in words → IsNew book ⊎ BeganIn name table book → IsNew book ⊎ Began words table first last book
+ran_words words table first last book name is (inl fresh) = inl fresh
+ran_words words table first last book name is (inr began) = inr (inl (subst (λ n. BeganIn n table book) is began))
 
 -- one word asks for none
 none_by : (serves : Bool) (count : ℕ) → form_in (if serves then codes "serve" ∷ [] else []) ≡ forms.Serve count → ⊥

@@ -8,6 +8,7 @@ use Rattle.ecmbx_call.specs.Course.{words_of, Course}
 use Rattle.ecmbx_words.proofs.Loads.{said}
 use Rattle.ecmbx_call.proofs.Courses.{run_course, decode_course, audit_course, serve_course, saved_words, name_at, saved_at, run_other, saved_other, decode_other, audit_other, serve_other}
 use Rattle.ecmbx_call.proofs.Servings.{some_served}
+use Rattle.ecmbx_call.proofs.Streams.{began_words, ran_words}
 use Rattle.ecmbx_call.proofs.top.carry_out.Goals as goal
 
 pub returns-in-Run-clause-course : goal.returns-in-Run-clause-course
@@ -49,3 +50,13 @@ pub returns-in-Serve-clause-course : goal.returns-in-Serve-clause-course
 returns-in-Serve-clause-course g c =
     serve_course (words_of c.args.words.now) (g.F.Files.table c.args.files.now) (g.F.Files.table c.serve_file.new.files) (Rose (g.F.Files.file_faults c.args.files.now) (g.F.Files.file_faults c.serve_file.new.files)) (told g.P.Port.heard g.P.Port.sent g.P.Port.over g.P.Port.port_faults c.args.port.now) (told g.P.Port.heard g.P.Port.sent g.P.Port.over g.P.Port.port_faults c.serve_file.new.port) c.serve_file.new.book c.as_str-in-Serve.result.now
     (g.O.Sink.written c.args.out.now) (g.O.Sink.written c.serve_file.new.out) c.serve_file.result c.in-Serve.count (sym c.in-Serve.ensures) (c.as_str-in-Serve.ensures.value ∙ name_at c.args.words.now c.index-words-1-in-Serve.result c.index-words-1-in-Serve.is (λ other. absurd (serve_other c.in-Serve.count (sym other ∙ sym c.in-Serve.ensures)))) c.serve_file.ensures.course
+
+pub returns-in-RunSaved-clause-book : goal.returns-in-RunSaved-clause-book
+returns-in-RunSaved-clause-book g c =
+    ran_words (words_of c.args.words.now) (g.F.Files.table c.args.files.now) (told g.P.Port.heard g.P.Port.sent g.P.Port.over g.P.Port.port_faults c.args.port.now) (told g.P.Port.heard g.P.Port.sent g.P.Port.over g.P.Port.port_faults c.args.port.now) c.run_file_saved.new.book c.as_str-in-RunSaved.result.now
+    (c.as_str-in-RunSaved.ensures.value ∙ name_at c.args.words.now c.index-words-1-in-RunSaved.result c.index-words-1-in-RunSaved.is (λ other. absurd (saved_other (sym other ∙ sym c.in-RunSaved.ensures)))) c.run_file_saved.ensures.book
+
+pub returns-in-Serve-clause-book : goal.returns-in-Serve-clause-book
+returns-in-Serve-clause-book g c =
+    began_words (words_of c.args.words.now) (g.F.Files.table c.args.files.now) (told g.P.Port.heard g.P.Port.sent g.P.Port.over g.P.Port.port_faults c.args.port.now) (told g.P.Port.heard g.P.Port.sent g.P.Port.over g.P.Port.port_faults c.serve_file.new.port) c.serve_file.new.book c.in-Serve.count c.as_str-in-Serve.result.now (sym c.in-Serve.ensures)
+    (c.as_str-in-Serve.ensures.value ∙ name_at c.args.words.now c.index-words-1-in-Serve.result c.index-words-1-in-Serve.is (λ other. absurd (serve_other c.in-Serve.count (sym other ∙ sym c.in-Serve.ensures)))) c.serve_file.ensures.book
