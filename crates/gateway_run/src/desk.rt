@@ -225,8 +225,6 @@ impl Desk {
             Event::GivenUp { slave } => self.give_up(alloc, *slave),
             Event::Emergency { .. } => Ok(()),
             Event::Answered { .. }
-            | Event::Host(_)
-            | Event::Switch(_)
             | Event::Cleared { .. }
             | Event::Opened { .. } => Ok(()),
         }

@@ -24,3 +24,4 @@ pub mod Forwards
 pub mod Rooms
 pub mod Fits
 pub mod Leaves
+pub mod Happenings

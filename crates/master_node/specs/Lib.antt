@@ -16,3 +16,5 @@ pub mod Joined
 pub mod Toured
 pub mod Forwards
 pub mod Rooms
+pub mod Ports
+pub mod Happened

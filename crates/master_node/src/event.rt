@@ -2,8 +2,6 @@ ghost use Rattle.std.specs.Prelude.{◌≡◌, ◌≤◌, ◌<◌, ◌++◌, ◌
 
 use arrayvec::ArrayVec;
 use ec_fields::NoMemory;
-use eoe::Packet;
-use eoe_switch::SwitchEvent;
 use mailbox_mail::{Mail, ReplyKind};
 use std::alloc::Global;
 
@@ -18,7 +16,7 @@ pub enum Origin {
     Gateway(u32),
 }
 
-/// What happened in a step of the master.
+/// What happened in a step of the master, but for the switch.
 #[derive(Debug, Drop)]
 pub enum Event {
     /// A service came into hand.
@@ -27,10 +25,6 @@ pub enum Event {
     Answered { slave: u32, kind: ReplyKind },
     /// The slave sent an emergency.
     Emergency { slave: u32, octets: ArrayVec<u8, 8> },
-    /// The switch handed a packet to the host.
-    Host(Packet),
-    /// Something happened at the switch.
-    Switch(SwitchEvent),
     /// A mail that was passed on has a reply.
     GatewayReply { key: usize, mail: Mail },
     /// A mail that was passed on gets no further reply.
@@ -43,7 +37,7 @@ pub enum Event {
     Opened { slave: u32 },
 }
 
-/// How many events a frame can bring, with every slave in it: one at the switch and two a slave before it, four a slave behind it.
+/// How many events a frame can bring, and one to spare: with every slave in it one a slave before it, and five a slave behind it.
 const MOST: usize = 97;
 
 /// The events of a frame: those of `next`, and behind them those of the return or the loss. Its memory is taken at `new`.

@@ -1,10 +1,13 @@
-ghost use Rattle.std.specs.Prelude.{◌≡◌, ◌≤◌, ◌<◌, ◌+◌, length, nat_lt, true, IfOk, IfSome, Some, slice_get, drop};
+ghost use Rattle.std.specs.Prelude.{◌≡◌, ◌≤◌, ◌<◌, ◌+◌, ◌%◌, ◌==◌, [], length, nat_lt, true, count_by, if◌then◌else◌, All, IfOk, IfSome, Some, slice_get, drop};
 ghost use Rattle.eoe_switch.specs.Switch.{first_switch};
+ghost use Rattle.segment_plan.specs.declared.slave.SlaveSpec.{SlaveSpec as Spec};
 ghost use Rattle.segment_plan.specs.Sound.{IsPlan};
-ghost use Rattle.master_node.specs.Ported.{are_ports};
+ghost use Rattle.segment_plan.specs.Sound.{IsPacket};
+ghost use Rattle.master_node.specs.Ported.{are_ports, are_long};
+ghost use Rattle.master_node.specs.Ports.{ports_of};
 ghost use Rattle.master_node.specs.Forwards.{port_by, forwarded};
 
-use crate::event::{Event, EventList};
+use crate::happened::{Happening, Happenings};
 use arrayvec::ArrayVec;
 use ec_fields::{NoMemory, Rows, buffer_of};
 use eoe::Packet;
@@ -27,8 +30,11 @@ pub struct Lan {
     host: Rows<Packet>,
     /// How many packets of the host have come in.
     entered: usize,
+    /// What happened in this step.
+    happened: Happenings,
     ghost ported: { are_ports (length switch.ports) ports.items ≡ true },
     ghost host_port: { 1 ≤ length switch.ports },
+    ghost long: { are_long host ≡ true },
 }
 
 // One more slave: where it serves EoE it has the port behind the last one.
@@ -37,6 +43,8 @@ fn with_port(ports: &mut ArrayVec<Option<u32>, 16>, last: u32, serves: bool) -> 
     requires ports { are_ports (last + 1) ports.old.items ≡ true }
     ensures ports { are_ports (result + 1) ports.new.items ≡ true }
     ensures few { result ≤ last + 1 }
+    ensures next { length ports.old.items < 16 → result ≡ (if serves then last + 1 else last) }
+    ensures long { length ports.old.items < 16 → length ports.new.items ≡ length ports.old.items + 1 }
 {
     if ports.len() >= 16 {
         return last;
@@ -54,6 +62,7 @@ fn ports_of(slaves: &[SlaveSpec]) -> (ArrayVec<Option<u32>, 16>, u32)
     requires { length slaves.now ≤ 16 }
     ensures ports { are_ports (result.1 + 1) result.0.items ≡ true }
     ensures few { result.1 ≤ 16 }
+    ensures many { result.1 + 1 ≡ ports_of slaves.now }
 {
     let mut ports = ArrayVec::new();
     let mut last = HOST;
@@ -81,18 +90,24 @@ fn copies(alloc: Global, packets: &[Packet]) -> Result<Rows<Packet>, NoMemory>
     Ok(rows)
 }
 
-// Whether a port is among these.
-fn has_host(ports: Ports) -> bool {
+// Whether the host's port is among these.
+fn has_host(ports: Ports) -> bool
+    ensures { result ≡ (ports.bits % 2 == 1) }
+{
     ports.bits % 2 == 1
 }
 
 impl Lan {
+    ghost use Rattle.std.specs.Prelude.{◌≡◌, [], IfOk};
+    ghost use Rattle.segment_plan.specs.Sound.{IsPlan};
+    ghost use Rattle.master_node.specs.Ports.{ports_of};
+    ghost use Rattle.master_node.specs.Happened.{HasHappened, Happens, HappensSo, Comes};
+
     /// A switch with a port for the host and one for each slave that serves EoE, all of them up, and the packets of the host.
     pub fn new(alloc: Global, plan: &Scenario) -> Result<Lan, NoMemory>
         requires { IsPlan plan.now }
-        ensures host { IfOk result (λ lan. lan.host ≡ plan.now.host) }
-        ensures entered { IfOk result (λ lan. lan.entered ≡ 0) }
         ensures switch { IfOk result (λ lan. lan.switch ≡ first_switch (length lan.switch.ports)) }
+        ensures begins { IfOk result (λ lan. HasHappened (ports_of plan.now.slaves) plan.now.host [] lan) }
     {
         let (ports, last) = ports_of(plan.slaves.as_slice());
         let switch = Switch::new(alloc, last + 1)?;
@@ -102,12 +117,14 @@ impl Lan {
             ports,
             host,
             entered: 0,
+            happened: Happenings::new(alloc)?,
         })
     }
 
     /// The port of a slave.
     pub fn port(&self, slave: usize) -> Option<u32>
         ensures inside { IfSome result (λ p. p < length self.now.switch.ports) }
+        ensures behind { IfSome result (λ p. 1 ≤ p) }
         ensures is { result ≡ port_by (slice_get self.now.ports.items slave) }
     {
         if slave >= self.ports.len() {
@@ -141,48 +158,71 @@ impl Lan {
         self.entered < self.host.len()
     }
 
+    /// The next step begins: nothing has happened in it.
+    pub fn begins(&mut self)
+        ensures so { HappensSo self.old self.new }
+        ensures none { self.new.happened ≡ [] }
+    {
+        self.happened.clear();
+    }
+
+    /// What happened in this step.
+    pub fn happened(&self) -> &[Happening]
+        ensures { result.now ≡ self.now.happened }
+    {
+        self.happened.all()
+    }
+
     /// The next packet of the host comes in.
-    pub fn enter(&mut self, list: &mut EventList) {
-        if let Some(packet) = self.host.get(self.entered) {
-            let packet = copy(packet);
-            self.entered = self.entered.saturating_add(1);
-            self.arrive(HOST, packet, list);
+    pub fn enter(&mut self)
+        ensures { Happens 1 self.old self.new }
+    {
+        if self.entered >= self.host.len() {
+            return;
         }
+        let packet = copy(&self.host.as_slice()[self.entered]);
+        self.entered += 1;
+        self.arrive(HOST, packet);
     }
 
     /// A packet comes in from a slave.
-    pub fn came(&mut self, slave: usize, packet: Packet, list: &mut EventList) {
-        if let Some(port) = self.port(slave) {
-            self.arrive(port, packet, list);
-        }
-    }
-
-    // A packet comes in at a port.
-    fn arrive(&mut self, port: u32, packet: Packet, list: &mut EventList)
-        requires { port < length self.old.switch.ports }
+    pub fn came(&mut self, slave: usize, packet: Packet)
+        ensures { Happens 1 self.old self.new }
     {
         if packet.len() < LEAST {
             return;
         }
-        let (taken, _full) = self.switch.arrive(port, &packet);
-        if has_host(taken) {
-            let handed = copy(&packet);
-            list.put(Event::Switch(SwitchEvent::Arrive { port, packet }));
-            list.put(Event::Host(handed));
-        } else {
-            list.put(Event::Switch(SwitchEvent::Arrive { port, packet }));
+        if let Some(port) = self.port(slave) {
+            self.arrive(port, packet);
         }
     }
 
+    // A packet comes in at a port.
+    fn arrive(&mut self, port: u32, packet: Packet)
+        requires there { port < length self.old.switch.ports }
+        requires long { 14 ≤ length packet.items }
+        ensures { Comes port packet self.old self.new }
+    {
+        let (taken, _full) = self.switch.arrive(port, &packet);
+        let handed = has_host(taken);
+        let event = SwitchEvent::Arrive { port, packet };
+        self.happened.put(Happening { event, handed });
+    }
+
     /// The oldest packet that waits at a slave's port.
-    pub fn begin(&mut self, slave: usize, list: &mut EventList) -> Option<Packet>
+    pub fn begin(&mut self, slave: usize) -> Option<Packet>
         ensures long { IfSome result (λ p. 14 ≤ length p.items) }
         ensures oldest { IfSome result (λ p. slice_get (forwarded self.old.switch self.old.ports.items slave) 0 ≡ Some p) }
         ensures goes_on { forwarded self.new.switch self.new.ports.items slave ≡ drop 1 (forwarded self.old.switch self.old.ports.items slave) }
+        ensures happens { Happens 1 self.old self.new }
     {
         let port = self.port(slave)?;
         let packet = self.switch.begun(port)?;
-        list.put(Event::Switch(SwitchEvent::Begun { port }));
+        let event = SwitchEvent::Begun { port };
+        self.happened.put(Happening {
+            event,
+            handed: false,
+        });
         if packet.len() < LEAST {
             return None;
         }
@@ -190,10 +230,16 @@ impl Lan {
     }
 
     /// A slave's port goes down.
-    pub fn down(&mut self, slave: usize, list: &mut EventList) {
+    pub fn down(&mut self, slave: usize)
+        ensures { Happens 1 self.old self.new }
+    {
         if let Some(port) = self.port(slave) {
             self.switch.down(port);
-            list.put(Event::Switch(SwitchEvent::Down { port }));
+            let event = SwitchEvent::Down { port };
+            self.happened.put(Happening {
+                event,
+                handed: false,
+            });
         }
     }
 }

@@ -8,6 +8,7 @@ mod changed;
 mod coming;
 mod copies;
 mod event;
+mod happened;
 mod lan;
 mod laying;
 mod node;
@@ -20,5 +21,6 @@ mod wants;
 
 pub use changed::Changed;
 pub use event::{Event, Origin};
+pub use happened::Happening;
 pub use node::{MasterNode, Next};
 pub use told::Told;

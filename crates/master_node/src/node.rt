@@ -2,6 +2,7 @@ ghost use Rattle.std.specs.Prelude.{◌≡◌, ◌≤◌, vec_len};
 
 use crate::coming::{Coming, scripted, wish_of};
 use crate::event::{Event, EventList, Origin};
+use crate::happened::Happening;
 use crate::lan::Lan;
 use crate::laying::{lay_mail, lay_nothing, lay_packet, lay_script, pass_by};
 use crate::post::{Post, Work};
@@ -75,6 +76,7 @@ impl MasterNode {
     ghost use Rattle.std.specs.Prelude.{drop};
     ghost use Rattle.master_hand.specs.declared.laying.Laid.{Laid};
     ghost use Rattle.master_node.specs.Forwards.{forwarded};
+    ghost use Rattle.master_node.specs.Happened.{Happens, HappensSo};
 
     // Whether a slave is live.
     pub(crate) fn has_live(&self) -> bool
@@ -96,12 +98,13 @@ impl MasterNode {
     // A packet of the host comes into the switch, where one may.
     fn admit(&mut self)
         ensures same { (self.new.posts ≡ self.old.posts) × (self.new.tour ≡ self.old.tour) }
+        ensures lan { Happens 1 self.old.lan self.new.lan }
     {
         if self.tour.opened < self.tour.stops.len() || !self.lan.has_host() {
             return;
         }
         if self.lan.is_quiet() && !self.has_packet() {
-            self.lan.enter(&mut self.list);
+            self.lan.enter();
         }
     }
 
@@ -132,12 +135,13 @@ impl MasterNode {
         ensures kept { TourKept self.old self.new × (All WaitsNone self.old.posts.items → All WaitsNone self.new.posts.items) }
         ensures oldest { StepsAt (λ s t. t.side.hand.laying.laid ≡ Laid.Packet → slice_get (forwarded self.old.lan.switch self.old.lan.ports.items place) 0 ≡ Some (record { items = t.side.hand.laying.packet })) place self.old.tour.stops.items self.new.tour.stops.items }
         ensures goes_on { forwarded self.new.lan.switch self.new.lan.ports.items place ≡ drop 1 (forwarded self.old.lan.switch self.old.lan.ports.items place) }
+        ensures lan { Happens 1 self.old.lan self.new.lan }
     {
         let post = &mut self.posts[place];
         post.next = Work::Packet;
         post.origin = Origin::Forward(post.forwards);
         post.forwards = post.forwards.wrapping_add(1);
-        match self.lan.begin(place, &mut self.list) {
+        match self.lan.begin(place) {
             Some(packet) => lay_packet(&mut self.tour.stops[place].side, &packet),
             None => lay_nothing(&mut self.tour.stops[place].side),
         }
@@ -149,6 +153,7 @@ impl MasterNode {
         ensures posts { vec_len self.new.posts ≡ vec_len self.old.posts }
         ensures laid { StepsAt (λ s t. StopStays s t) place self.old.tour.stops.items self.new.tour.stops.items }
         ensures kept { TourKept self.old self.new × (All WaitsNone self.old.posts.items → All WaitsNone self.new.posts.items) }
+        ensures lan { self.new.lan ≡ self.old.lan }
     {
         let post = &mut self.posts[place];
         post.origin = Origin::Gateway(post.oldest());
@@ -164,6 +169,7 @@ impl MasterNode {
         ensures posts { vec_len self.new.posts ≡ vec_len self.old.posts }
         ensures laid { StepsAt (λ s t. StopStays s t × IsLaid (Some Coming.Script) t.side.hand.laying.laid) place self.old.tour.stops.items self.new.tour.stops.items }
         ensures kept { TourKept self.old self.new × (All WaitsNone self.old.posts.items → All WaitsNone self.new.posts.items) }
+        ensures lan { self.new.lan ≡ self.old.lan }
     {
         let side = &mut self.tour.stops[place].side;
         let number = side.hand.number();
@@ -179,6 +185,7 @@ impl MasterNode {
         ensures posts { vec_len self.new.posts ≡ vec_len self.old.posts }
         ensures tour { (self.new.tour ≡ self.old.tour) × (self.new.made ≡ self.old.made) }
         ensures quiet { All WaitsNone self.old.posts.items → All WaitsNone self.new.posts.items }
+        ensures lan { self.new.lan ≡ self.old.lan }
     {
         let number = self.tour.stops[place].side.hand.number();
         let post = &mut self.posts[place];
@@ -192,6 +199,7 @@ impl MasterNode {
         ensures posts { vec_len self.new.posts ≡ vec_len self.old.posts }
         ensures laid { StepsAt (λ s t. StopStays s t × IsLaid (Some coming) t.side.hand.laying.laid) place self.old.tour.stops.items self.new.tour.stops.items }
         ensures kept { TourKept self.old self.new × (All WaitsNone self.old.posts.items → All WaitsNone self.new.posts.items) }
+        ensures lan { Happens 1 self.old.lan self.new.lan }
     {
         match coming {
             Coming::Packet => self.lay_packet(place),
@@ -208,6 +216,7 @@ impl MasterNode {
         ensures laid { StepsAt (λ s t. StopStays s t × IsLaid coming t.side.hand.laying.laid) place self.old.tour.stops.items self.new.tour.stops.items }
         ensures kept { TourKept self.old self.new × (All WaitsNone self.old.posts.items → All WaitsNone self.new.posts.items) }
         ensures joins { JoinsKept self.old self.new }
+        ensures lan { Happens 1 self.old.lan self.new.lan }
     {
         match coming {
             None => {}
@@ -224,6 +233,7 @@ impl MasterNode {
         ensures posts { self.new.posts ≡ self.old.posts }
         ensures joins { JoinsKept self.old self.new }
         ensures sends { StepsAt (λ s t. SendsSame s t) place self.old.tour.stops.items self.new.tour.stops.items }
+        ensures lan { self.new.lan ≡ self.old.lan }
     {
         match coming {
             Coming::State(_) => pass_by(&mut self.tour.stops[place].side),
@@ -242,6 +252,7 @@ impl MasterNode {
         ensures kept { TourKept self.old self.new × (All WaitsNone self.old.posts.items → All WaitsNone self.new.posts.items) }
         ensures joins { JoinsKept self.old self.new }
         ensures sends { StepsAt (λ s t. SendsSame s t) place self.old.tour.stops.items self.new.tour.stops.items }
+        ensures lan { self.new.lan ≡ self.old.lan }
     {
         let post = &mut self.posts[place];
         post.work = post.next;
@@ -266,6 +277,7 @@ impl MasterNode {
         ensures kept { TourKept self.old self.new × (All WaitsNone self.old.posts.items → All WaitsNone self.new.posts.items) }
         ensures joins { JoinsKept self.old self.new }
         ensures sends { StepsAt (λ s t. SendsSame s t) place self.old.tour.stops.items self.new.tour.stops.items }
+        ensures lan { self.new.lan ≡ self.old.lan }
     {
         if began {
             self.begun(place, coming);
@@ -291,6 +303,7 @@ impl MasterNode {
         ensures joins { JoinsKept self.old self.new }
         ensures room { self.new.tour.count ≡ self.old.tour.count → holds_at (λ s. is_live s.stand) self.new.tour.stops.items place ≡ true → HasNoRoom into.new.items (area_in self.new.tour.stops.items place) }
         ensures takes { StepsAt (λ s t. Takes into.old.items into.new.items (nat_lt self.old.tour.count self.new.tour.count) s t) place self.old.tour.stops.items self.new.tour.stops.items }
+        ensures lan { Happens 1 self.old.lan self.new.lan }
     {
         let index = (self.made % 256) as u8;
         let coming = self.coming(place);
@@ -313,6 +326,7 @@ impl MasterNode {
         ensures visited { IsBare self.old → length into.old.items ≡ 16 → HasVisited into.new.items self.old self.new }
         ensures filled { (lens : ℕ → Lens) (recover made : ℕ) (as' : List Leads) → AreDistinct (map lived_of as') → IsEmpty lens recover made self.old into.old.items as' → IsFilled lens recover made self.new into.new.items as' }
         ensures joins { JoinsKept self.old self.new }
+        ensures lan { Happens 16 self.old.lan self.new.lan }
     {
         for _ in 0..SLAVES {
             let Some(place) = self.tour.due() else {
@@ -335,6 +349,7 @@ impl MasterNode {
             (us : List Turn) × IsLedFrame lens number into.new.items as' us × MasterUnder lens recover retry self.new into.new.items missed us × (tour_of self.new ≡ tour_of self.old) ×
             IsOfTour (λ s. stop_share s) (λ k. holds_at is_live_lead as' k) (frame_size into.new.items) (λ k. area_at lens as' k) (tour_of self.old) self.new.tour.stops.items (length (seen lens into.new.items)) self.new.tour.visit.items }
         ensures joins { JoinsKept self.old self.new }
+        ensures lan { Happens 16 self.old.lan self.new.lan }
     {
         self.tour.begin(into);
         self.fill(into);
@@ -352,8 +367,10 @@ impl MasterNode {
         ensures toured { result ≡ Next.Frame → (lens : ℕ → Lens) (recover retry missed : ℕ) (as' : List Leads) (us : List Turn) → MasterShows lens recover retry self.old missed as' → MasterUnder lens recover retry self.new into.new.items missed us →
             (tour_of self.new ≡ tour_of self.old) × IsOfTour (λ u. turn_share u) (λ k. holds_at is_live_lead as' k) (frame_size into.new.items) (λ k. area_at lens as' k) (tour_of self.old) us (length (seen lens into.new.items)) self.new.tour.visit.items }
         ensures joins { JoinsKept self.old self.new }
+        ensures happened { HappensSo self.old.lan self.new.lan }
     {
         self.list.clear();
+        self.lan.begins();
         if !self.has_live() {
             return Next::Idle;
         }
@@ -369,6 +386,13 @@ impl MasterNode {
         ensures { result.now ≡ listed_last self.now.list.rows.items self.now.list.first self.now.list.count }
     {
         self.list.last()
+    }
+
+    /// What happened at the switch in the last `next`, `returned` or `lost`.
+    pub fn happened(&self) -> &[Happening]
+        ensures { result.now ≡ self.now.lan.happened }
+    {
+        self.lan.happened()
     }
 
     /// What happened in the last `next` and in the `returned` or `lost` behind it.

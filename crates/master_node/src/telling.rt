@@ -23,6 +23,7 @@ impl MasterNode {
     ghost use Rattle.master_node.specs.Brought.{HasBrought};
     ghost use Rattle.master_node.specs.Joined.{HasUnfinished, HasCompleted, stand_before, stand_under, unfinished_after, mails_back, mails_lost};
     ghost use Rattle.master_node.specs.Kept.{NodeKept};
+    ghost use Rattle.master_node.specs.Happened.{Happens, HappensSo};
     ghost use Rattle.master_node.specs.Shows.{MasterShows, MasterUnder};
     ghost use Rattle.master_tour.specs.Toured.{goes_on, lost_on};
     ghost use Rattle.master_node.specs.Shows.{is_opening_lead};
@@ -33,6 +34,7 @@ impl MasterNode {
         requires { place < vec_len self.old.posts }
         ensures posts { vec_len self.new.posts ≡ vec_len self.old.posts }
         ensures kept { NodeKept self.old self.new }
+        ensures lan { self.new.lan ≡ self.old.lan }
     {
         let post = &mut self.posts[place];
         post.work = Work::Nothing;
@@ -48,6 +50,7 @@ impl MasterNode {
         requires { place < vec_len self.old.posts }
         ensures posts { vec_len self.new.posts ≡ vec_len self.old.posts }
         ensures kept { NodeKept self.old self.new }
+        ensures lan { Happens 1 self.old.lan self.new.lan }
     {
         let hand = &self.tour.stops[place].side.hand;
         if let Some(octets) = hand.emergency() {
@@ -59,7 +62,7 @@ impl MasterNode {
         }
         if let Some(packet) = hand.packet() {
             let packet = buffer_of(packet.as_slice());
-            self.lan.came(place, packet, &mut self.list);
+            self.lan.came(place, packet);
         }
     }
 
@@ -68,6 +71,7 @@ impl MasterNode {
         requires { place < vec_len self.old.posts }
         ensures posts { vec_len self.new.posts ≡ vec_len self.old.posts }
         ensures kept { NodeKept self.old self.new }
+        ensures lan { self.new.lan ≡ self.old.lan }
     {
         if let Some(mail) = self.tour.stops[place].side.hand.replied() {
             let mail = bare(mail);
@@ -80,6 +84,7 @@ impl MasterNode {
         requires { place < vec_len self.old.posts }
         ensures posts { vec_len self.new.posts ≡ vec_len self.old.posts }
         ensures kept { NodeKept self.old self.new }
+        ensures lan { self.new.lan ≡ self.old.lan }
     {
         if let Some(kind) = self.tour.stops[place].side.hand.answer() {
             self.answered(place, kind);
@@ -91,6 +96,7 @@ impl MasterNode {
         requires { place < vec_len self.old.posts }
         ensures posts { vec_len self.new.posts ≡ vec_len self.old.posts }
         ensures kept { NodeKept self.old self.new }
+        ensures lan { Happens 1 self.old.lan self.new.lan }
     {
         if matches!(what, Heard::Emission) {
             self.emitted(place);
@@ -108,6 +114,7 @@ impl MasterNode {
         requires { place < vec_len self.old.posts }
         ensures posts { vec_len self.new.posts ≡ vec_len self.old.posts }
         ensures kept { NodeKept self.old self.new }
+        ensures lan { self.new.lan ≡ self.old.lan }
     {
         if self.tour.stops[place].side.is_free() {
             self.answered(place, ReplyKind::Handed);
@@ -119,6 +126,7 @@ impl MasterNode {
         requires { place < vec_len self.old.posts }
         ensures posts { vec_len self.new.posts ≡ vec_len self.old.posts }
         ensures kept { NodeKept self.old self.new }
+        ensures lan { self.new.lan ≡ self.old.lan }
     {
         if self.tour.stops[place].side.passing.is_none() {
             self.answered(place, ReplyKind::Handed);
@@ -131,6 +139,7 @@ impl MasterNode {
         requires { place < vec_len self.old.posts }
         ensures posts { vec_len self.new.posts ≡ vec_len self.old.posts }
         ensures kept { NodeKept self.old self.new }
+        ensures lan { self.new.lan ≡ self.old.lan }
     {
         match self.tour.stops[place].side.duty {
             Some(Met::Reached) => self.answered(place, ReplyKind::Done),
@@ -144,6 +153,7 @@ impl MasterNode {
         requires { place < vec_len self.old.posts }
         ensures posts { vec_len self.new.posts ≡ vec_len self.old.posts }
         ensures kept { NodeKept self.old self.new }
+        ensures lan { self.new.lan ≡ self.old.lan }
     {
         match self.posts[place].work {
             Work::Nothing | Work::Mails => {}
@@ -165,6 +175,7 @@ impl MasterNode {
         requires { place < vec_len self.old.posts }
         ensures posts { vec_len self.new.posts ≡ vec_len self.old.posts }
         ensures kept { NodeKept self.old self.new }
+        ensures lan { self.new.lan ≡ self.old.lan }
     {
         let slave = place as u32;
         let own = self.has_state(place);
@@ -185,6 +196,7 @@ impl MasterNode {
         requires { place < vec_len self.old.posts }
         ensures posts { vec_len self.new.posts ≡ vec_len self.old.posts }
         ensures kept { NodeKept self.old self.new }
+        ensures lan { Happens 1 self.old.lan self.new.lan }
     {
         if let Some(what) = what {
             self.heard(place, what);
@@ -196,6 +208,7 @@ impl MasterNode {
         requires { place < vec_len self.old.posts }
         ensures posts { vec_len self.new.posts ≡ vec_len self.old.posts }
         ensures kept { NodeKept self.old self.new }
+        ensures lan { Happens 1 self.old.lan self.new.lan }
     {
         let what = self.tour.stops[place].side.heard;
         self.heard_where(place, what);
@@ -207,6 +220,7 @@ impl MasterNode {
     fn carried_back(&mut self, k: usize)
         ensures posts { vec_len self.new.posts ≡ vec_len self.old.posts }
         ensures kept { NodeKept self.old self.new }
+        ensures lan { Happens 1 self.old.lan self.new.lan }
     {
         match self.tour.visit.get(k) {
             Some(&place) if place < self.posts.len() => self.back(place),
@@ -218,6 +232,7 @@ impl MasterNode {
     fn all_back(&mut self)
         ensures posts { vec_len self.new.posts ≡ vec_len self.old.posts }
         ensures kept { NodeKept self.old self.new }
+        ensures lan { Happens 16 self.old.lan self.new.lan }
     {
         for k in 0..self.tour.visit.len() {
             self.carried_back(k);
@@ -234,8 +249,10 @@ impl MasterNode {
         ensures brought { (lens : ℕ → Lens) (recover retry missed : ℕ) (octets : List ℕ) (us : List Turn) → MasterUnder lens recover retry self.old octets missed us → Returns (seen lens octets) (seen lens frame.now.items) → HasBrought self.new us (seen lens frame.now.items) }
         ensures joined { (lens : ℕ → Lens) (recover retry missed number : ℕ) (octets : List ℕ) (us : List Turn) (befores : List (Option Unfinished)) (f : Exchanged) → f.fate ≡ Fate.Pass → f.back ≡ frame.now.items → MasterUnder lens recover retry self.old octets missed us → Returns (seen lens octets) (seen lens frame.now.items) →
             HasUnfinished self.old (map stand_under us) befores → HasCompleted self.new us befores (seen lens frame.now.items) × HasUnfinished self.new (map stand_before (map (led_behind lens recover retry (gives_up_at lens recover retry missed) number f) us)) (unfinished_after (mails_back (seen lens frame.now.items)) us befores) }
+        ensures happened { HappensSo self.old.lan self.new.lan }
     {
         self.list.ends();
+        self.lan.begins();
         self.tour.returned(frame, self.made.wrapping_sub(1));
         self.all_back();
     }
@@ -245,6 +262,7 @@ impl MasterNode {
         requires { place < vec_len self.old.posts }
         ensures posts { vec_len self.new.posts ≡ vec_len self.old.posts }
         ensures kept { NodeKept self.old self.new }
+        ensures lan { self.new.lan ≡ self.old.lan }
     {
         self.posts[place].drop_all();
     }
@@ -254,9 +272,10 @@ impl MasterNode {
         requires { place < vec_len self.old.posts }
         ensures posts { vec_len self.new.posts ≡ vec_len self.old.posts }
         ensures kept { NodeKept self.old self.new }
+        ensures lan { Happens 1 self.old.lan self.new.lan }
     {
         if !self.tour.stops[place].is_live() {
-            self.lan.down(place, &mut self.list);
+            self.lan.down(place);
         }
     }
 
@@ -265,6 +284,7 @@ impl MasterNode {
         requires { place < vec_len self.old.posts }
         ensures posts { vec_len self.new.posts ≡ vec_len self.old.posts }
         ensures kept { NodeKept self.old self.new }
+        ensures lan { Happens 1 self.old.lan self.new.lan }
     {
         if !matches!(self.tour.stops[place].news, Some(Turned::GivenUp)) {
             return;
@@ -280,6 +300,7 @@ impl MasterNode {
     fn carried_given_up(&mut self, k: usize)
         ensures posts { vec_len self.new.posts ≡ vec_len self.old.posts }
         ensures kept { NodeKept self.old self.new }
+        ensures lan { Happens 1 self.old.lan self.new.lan }
     {
         match self.tour.visit.get(k) {
             Some(&place) if place < self.posts.len() => self.given_up(place),
@@ -291,6 +312,7 @@ impl MasterNode {
     fn all_given_up(&mut self)
         ensures posts { vec_len self.new.posts ≡ vec_len self.old.posts }
         ensures kept { NodeKept self.old self.new }
+        ensures lan { Happens 16 self.old.lan self.new.lan }
     {
         for k in 0..self.tour.visit.len() {
             self.carried_given_up(k);
@@ -306,8 +328,10 @@ impl MasterNode {
             HasUnfinished self.old (map stand_under us) befores → HasUnfinished self.new (map stand_before (map (led_behind lens recover retry (gives_up_at lens recover retry missed) number f) us)) (unfinished_after mails_lost us befores) }
         ensures toured { (lens : ℕ → Lens) (recover retry missed number after : ℕ) (octets : List ℕ) (us : List Turn) (f : Exchanged) → f.fate ≡ Fate.Lost after → f.sent ≡ octets → MasterUnder lens recover retry self.old octets missed us →
             tour_of self.new ≡ lost_on is_opening_lead retry (map (led_behind lens recover retry (gives_up_at lens recover retry missed) number f) us) (tour_of self.old) self.old.tour.visit.items }
+        ensures happened { HappensSo self.old.lan self.new.lan }
     {
         self.list.ends();
+        self.lan.begins();
         self.tour.lost();
         self.all_given_up();
     }

@@ -298,3 +298,6 @@ none_led plan fs none = subst (λ (gs : List SentFrame). AreLed plan (map exchan
 
 pub same_led : (plan : Scenario) (fs gs : List SentFrame) → gs ≡ fs → AreLed plan (map exchanged fs) → AreLed plan (map exchanged gs)
 same_led plan fs gs same led = subst (λ (hs : List SentFrame). AreLed plan (map exchanged hs)) (sym same) led
+
+pub first_leading : (plan : Scenario) (m : MasterNode) (notes : List Notes) (fs : List SentFrame) → fs ≡ [] → Leading plan m notes [] → Leading plan m notes (map exchanged fs)
+first_leading plan m notes fs none leading = subst (λ (gs : List SentFrame). Leading plan m notes (map exchanged gs)) (sym none) leading

@@ -20,3 +20,4 @@ pub mod Unsent
 pub mod Epochs
 pub mod Reports
 pub mod Reporting
+pub mod Switched

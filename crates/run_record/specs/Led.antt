@@ -20,6 +20,7 @@ use Rattle.run_book.specs.declared.book.SlaveBook.{SlaveBook}
 use Rattle.run_record.specs.Reports.{AllReport, IsBooked}
 use Rattle.run_record.specs.Epochs.{HasEpochs}
 use Rattle.run_record.specs.Heard.{emergencies_noted, emergencies_in}
+use Rattle.run_record.specs.Switched.{HasPackets}
 use Rattle.run_record.specs.Unsent.{IsSpent}
 use Rattle.run_record.specs.declared.notes.Notes.{Notes}
 use Rattle.segment_plan.specs.declared.plan.Scenario.{Scenario}
@@ -89,7 +90,8 @@ RestBy lens endings.Unfinished leads rows = ⊤
 
 -- THE BOOK OF A RUN and the lives that its frames lead to: each slave was given up at just the frames that the book has; of its script just the services
 -- stand in the book that came into hand, each with its frame, and each reply is that of its row; of the mails that its life accepted just the emergencies
--- stand there, each with the frame that brought it; and nothing is left of it where the run is over. The frames are the visits of one tour
+-- stand there, each with the frame that brought it; and nothing is left of it where the run is over. The frames are the visits of one tour. And the packets of
+-- the host are those that the events of the switch make
 pub record LedBook (plan : Scenario) (book : Book) (ending : Ending) : Type 0 where
   pub missed : ℕ
   pub leads : List Leads
@@ -102,3 +104,4 @@ pub record LedBook (plan : Scenario) (book : Book) (ending : Ending) : Type 0 wh
   pub epochs : ending ≢ endings.NoMemory → AllBoth HasEpochs leads book.slaves
   pub heard : ending ≢ endings.NoMemory → AllNoted (heard_in lives) (emergencies_in book.slaves)
   pub rests : RestBy (lens_of plan.slaves) ending leads book.slaves
+  pub packets : ending ≢ endings.NoMemory → HasPackets plan book

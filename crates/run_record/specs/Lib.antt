@@ -8,3 +8,4 @@ pub mod Led
 pub mod Session
 pub mod Ran
 pub use Rattle.life_heard.specs.Heard as AcceptedMails
+pub mod Switched

@@ -1,6 +1,7 @@
 -- A run that is made frame by frame.
 use Rattle.std.specs.Prelude.{◌≡◌, ℕ, zero, suc, map, replicate, false, ◌+◌, ◌==◌, Bool, true, nat_lt, if◌then◌else◌, ◌||◌, List, [], ◌∷◌, ◌++◌, ◌⊎◌, length, All, count_by, slice_get, Option, Some, None, is_some}
 use Rattle.std.specs.List.{list_all, list_any}
+use Rattle.arrayvec.specs.ArrayVec.{ArrayVec}
 use Rattle.segment_plan.specs.Bound.{bound_of}
 use Rattle.segment_plan.specs.declared.plan.Scenario.{Scenario}
 use Rattle.segment_plan.specs.declared.service.Service.{Service}
@@ -29,6 +30,7 @@ use Rattle.segment_ring.specs.declared.wire.Fate.{Fate}
 use Rattle.segment_ring.specs.declared.wire.Fate.TheVariants.{Pass, Lost}
 use Rattle.run_record.specs.Led.{exchanged, gaves_noted, Leading, AreLed}
 use Rattle.run_record.specs.Replay.{first_ring, behind, IsRecorded}
+use Rattle.run_record.specs.Switched.{IsSwitched}
 
 -- a session: the ring with its slaves, what became of each slave, their stations and the lengths of their mailboxes, the mails that are
 -- passed on to each and how many of them still wait, the master, the ports of its switch, how often a slave is taken up again, the most frames, and
@@ -183,6 +185,10 @@ LeadsOn s s' f = (plan : Scenario) (fs : List Exchanged) → s.recover ≡ plan.
 abbrev pub LedOn : SessionState → SentFrame → Type 0
 LedOn s f = (plan : Scenario) (fs : List Exchanged) → has_live s.master ≡ true → Leading plan s.master s.notes fs → AreLed plan (fs ++ exchanged f ∷ [])
 
+-- the packets of the book stay those of the master's switch
+abbrev pub SwitchesOn : SessionState → Book → SessionState → Book → Type 0
+SwitchesOn s b s' b' = (host : List (ArrayVec ℕ)) → IsSwitched s.ports host s.master.lan b → IsSwitched s'.ports host s'.master.lan b'
+
 -- ONE STEP: one frame more stands in the book, as the ring before gives it, and the ring is the one behind that frame
 pub record Steps (s : SessionState) (b : Book) (s' : SessionState) (b' : Book) (f : SentFrame) : Type 0 where
   pub put : b'.frames ≡ b.frames ++ f ∷ []
@@ -197,6 +203,7 @@ pub record Steps (s : SessionState) (b : Book) (s' : SessionState) (b' : Book) (
   pub serving : s'.serving ≡ s.serving
   pub rest : KeepsRest s.ports b b'
   pub leads : LeadsOn s s' f
+  pub switch : SwitchesOn s b s' b'
 
 -- a mail as it is passed on, with the key of its asker
 abbrev pub asked_mail : ℕ → Mail → AskedMail

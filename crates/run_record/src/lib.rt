@@ -10,6 +10,7 @@ mod running;
 mod scripts;
 mod session;
 mod standing;
+mod switching;
 
 pub use running::run;
 pub use session::Session;

@@ -1,45 +1,28 @@
 ghost use Rattle.std.specs.Prelude.{◌≡◌, ◌≤◌, ◌+◌, [], Some, length, map, replicate, IfOk, OnOk};
-ghost use Rattle.std.specs.Bool.{OnTrue};
 ghost use Rattle.segment_plan.specs.Sound.{IsLaid};
-ghost use Rattle.run_book.specs.Ports.{ports_of, IsAtPort};
+ghost use Rattle.run_book.specs.Ports.{ports_of};
 ghost use Rattle.run_record.specs.Session.{scripted, first_notes, home_of, SameFrames, SameSlaves};
 ghost use Rattle.life_runs.specs.Led.{Leads};
 ghost use Rattle.run_record.specs.Heard.{emergencies_noted};
 ghost use Rattle.run_record.specs.Led.{gaves_noted};
 ghost use Rattle.run_record.specs.Reports.{Reports, KeepsReports};
 ghost use Rattle.run_record.specs.Notes.{station_of, stations_of};
+ghost use Rattle.run_record.specs.Switched.{NotesSwitch};
 
 use crate::notes::Notes;
 use crate::standing::{AskedMail, Log};
-use ec_fields::{NoMemory, Octets, Rows, buffer_of};
-use eoe_switch::SwitchEvent;
+use ec_fields::{NoMemory, Octets, Rows};
 use mailbox_mail::ReplyKind;
 use master_node::{Event, MasterNode, Origin};
 use run_book::{Book, Reply};
 use segment_plan::{Scenario, Service, SlaveSpec};
 use std::alloc::Global;
 
-/// The octets of a packet's addresses and its EtherType.
-const LEAST_PACKET: usize = 14;
-
 /// When something happened: with which frame, and how many frames had been sent then.
 #[derive(Clone, Copy, Debug)]
 pub struct Moment {
     pub frame: u32,
     pub sent: u32,
-}
-
-fn copy_of_event(event: &SwitchEvent) -> SwitchEvent
-    ensures { result ≡ event.now }
-{
-    match event {
-        SwitchEvent::Arrive { port, packet } => SwitchEvent::Arrive {
-            port: *port,
-            packet: buffer_of(packet.as_slice()),
-        },
-        SwitchEvent::Begun { port } => SwitchEvent::Begun { port: *port },
-        SwitchEvent::Down { port } => SwitchEvent::Down { port: *port },
-    }
 }
 
 // How many services the script has for a slave.
@@ -105,8 +88,6 @@ fn note_at(
         Event::Opened { .. }
         | Event::Emergency { .. }
         | Event::GivenUp { .. }
-        | Event::Host(_)
-        | Event::Switch(_)
         | Event::GatewayReply { .. }
         | Event::GatewayDone { .. } => Ok(()),
     }
@@ -217,9 +198,26 @@ impl Log {
         ensures heard { OnOk result (emergencies_noted self.new.notes ≡ emergencies_noted self.old.notes) }
         ensures told { OnOk result (KeepsReports self.old.notes self.new.notes) }
         ensures frames { SameFrames (1 + length self.old.ports) book.old book.new }
+        ensures switch { OnOk result (NotesSwitch (1 + length self.old.ports) master.now.lan.happened book.old book.new) }
+    {
+        self.note_events(alloc, master, moment)?;
+        self.note_happened(alloc, moment, master.happened(), book)
+    }
+
+    // Notes what happened beside the switch.
+    fn note_events(
+        &mut self,
+        alloc: Global,
+        master: &MasterNode,
+        moment: Moment,
+    ) -> Result<(), NoMemory>
+        ensures slaves { SameSlaves self.old self.new }
+        ensures gave { OnOk result (gaves_noted self.new.notes ≡ gaves_noted self.old.notes) }
+        ensures heard { OnOk result (emergencies_noted self.new.notes ≡ emergencies_noted self.old.notes) }
+        ensures told { OnOk result (KeepsReports self.old.notes self.new.notes) }
     {
         for event in master.events() {
-            self.note_event(alloc, master, moment, event, book)?;
+            self.note_event(alloc, master, moment, event)?;
         }
         Ok(())
     }
@@ -230,13 +228,11 @@ impl Log {
         master: &MasterNode,
         moment: Moment,
         event: &Event,
-        book: &mut Book,
     ) -> Result<(), NoMemory>
         ensures slaves { SameSlaves self.old self.new }
         ensures gave { OnOk result (gaves_noted self.new.notes ≡ gaves_noted self.old.notes) }
         ensures heard { OnOk result (emergencies_noted self.new.notes ≡ emergencies_noted self.old.notes) }
         ensures told { OnOk result (KeepsReports self.old.notes self.new.notes) }
-        ensures frames { SameFrames (1 + length self.old.ports) book.old book.new }
     {
         match event {
             Event::Began { slave, .. }
@@ -245,8 +241,6 @@ impl Log {
             | Event::Opened { slave } => {
                 self.note_slave(alloc, master, moment, event, *slave as usize)
             }
-            Event::Host(packet) => book.host.add(Octets::copy_of(alloc, packet.as_slice())?),
-            Event::Switch(event) => self.note_switch(moment, event, book),
             Event::Emergency { .. }
             | Event::GivenUp { .. }
             | Event::GatewayReply { .. }
@@ -277,60 +271,5 @@ impl Log {
         let noted = note_at(alloc, master, moment, event, notes);
         *self.stations.at_mut(at) = station_of(home, notes, self.recover);
         noted
-    }
-
-    fn note_switch(
-        &mut self,
-        moment: Moment,
-        event: &SwitchEvent,
-        book: &mut Book,
-    ) -> Result<(), NoMemory>
-        ensures slaves { SameSlaves self.old self.new }
-        ensures gave { OnOk result (gaves_noted self.new.notes ≡ gaves_noted self.old.notes) }
-        ensures heard { OnOk result (emergencies_noted self.new.notes ≡ emergencies_noted self.old.notes) }
-        ensures told { OnOk result (KeepsReports self.old.notes self.new.notes) }
-        ensures frames { SameFrames (1 + length self.old.ports) book.old book.new }
-    {
-        if !self.is_at_port(event) {
-            return Ok(());
-        }
-        if let SwitchEvent::Arrive { port, .. } = event {
-            self.receive(*port as usize);
-        }
-        book.switch.add(copy_of_event(event))?;
-        book.switched.add(moment.sent)
-    }
-
-    // Whether an event is at a port of the switch, as each is.
-    fn is_at_port(&self, event: &SwitchEvent) -> bool
-        ensures { OnTrue result (IsAtPort (1 + length self.now.ports) event.now) }
-    {
-        match event {
-            SwitchEvent::Arrive { port, packet } => {
-                *port as usize <= self.ports.len() && packet.len() >= LEAST_PACKET
-            }
-            SwitchEvent::Begun { port } | SwitchEvent::Down { port } => {
-                *port as usize <= self.ports.len()
-            }
-        }
-    }
-
-    // A packet came in at a port. That of the host, port 0, is no slave's.
-    fn receive(&mut self, port: usize)
-        ensures slaves { SameSlaves self.old self.new }
-        ensures gave { gaves_noted self.new.notes ≡ gaves_noted self.old.notes }
-        ensures heard { emergencies_noted self.new.notes ≡ emergencies_noted self.old.notes }
-        ensures told { KeepsReports self.old.notes self.new.notes }
-    {
-        if port == 0 {
-            return;
-        }
-        let Some(&slave) = self.ports.get(port - 1) else {
-            return;
-        };
-        if (slave as usize) >= self.notes.len() {
-            return;
-        }
-        self.notes.at_mut(slave as usize).received();
     }
 }

@@ -7,6 +7,7 @@ ghost use Rattle.run_record.specs.Heard.{emergencies_noted, HeardBy};
 ghost use Rattle.run_record.specs.Led.{gaves_noted};
 ghost use Rattle.run_record.specs.Reports.{ReportsTo, ReportsOn, ReportsBy, LosesAll};
 ghost use Rattle.run_record.specs.Session.{SameFrames, SameSlaves, gave_at, gaves_behind, GaveBy};
+ghost use Rattle.run_record.specs.Switched.{NotesSwitch};
 
 use crate::log::{Moment, station_of};
 use crate::standing::Log;
@@ -106,6 +107,7 @@ impl Log {
         ensures gave { OnOk result (GaveBy fate moment.frame master.now self.old self.new) }
         ensures heard { OnOk result (HeardBy fate moment.frame master.now self.old self.new) }
         ensures told { OnOk result (ReportsBy fate moment.frame master.now self.old self.new) }
+        ensures switch { OnOk result (NotesSwitch (1 + length self.old.ports) master.now.lan.happened book.old book.new) }
     {
         self.note(alloc, master, moment, book)?;
         self.note_fate(alloc, master, fate, moment.frame)

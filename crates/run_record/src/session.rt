@@ -10,13 +10,16 @@ ghost use Rattle.frame_view.specs.View.{Lens};
 ghost use Rattle.frame_view.specs.Seen.{seen};
 ghost use Rattle.life_runs.specs.Led.{Exchanged, Turn, led_behind, gives_up_at, missed_behind};
 ghost use Rattle.master_node.specs.Brought.{HasBrought};
+ghost use Rattle.master_node.specs.Happened.{HasHappened, HappensSo};
 ghost use Rattle.master_node.specs.Listed.{listed};
 ghost use Rattle.master_node.specs.Shows.{MasterShows, MasterUnder};
 ghost use Rattle.master_node.specs.Toured.{tour_of};
 ghost use Rattle.segment_model.specs.Returned.{Returns};
 ghost use Rattle.segment_ring.specs.declared.wire.Fate.TheVariants as Fates;
 ghost use Rattle.visit_orders.specs.Toured.{tour_behind, lives_behind};
+ghost use Rattle.run_book.specs.Ports.{ports_of};
 ghost use Rattle.run_record.specs.Led.{Leading};
+ghost use Rattle.run_record.specs.Switched.{SameSwitch};
 ghost use Rattle.run_record.specs.Replay.{first_ring};
 ghost use Rattle.run_record.specs.Session.{budget_of, smaller_bound, slave_row, rests_at, slave_rows, session_rows, first_session, are_at_rest, some_given_up, has_live, IsLeftBy, KeepsRest, Steps, Stops, Asks};
 
@@ -192,6 +195,7 @@ fn put_frame(
     ensures sent_fits { length sent.now.items ≤ 1514 }
     ensures back_fits { length back.now.items ≤ 1514 }
     ensures rest { (ports : ℕ) → KeepsRest ports book.old book.new }
+    ensures switch { SameSwitch book.old book.new }
 {
     let (sent, back) = (sent.as_slice(), back.as_slice());
     let sent = Octets::copy_of(alloc, sent)?;
@@ -208,6 +212,7 @@ fn tell(master: &mut MasterNode, fate: Fate, back: &FrameBuf)
         (fate ≡ Fates.Pass → Returns (seen lens f.sent) (seen lens back.now.items)) → tour_of master.new ≡ tour_behind retry f.fate (lives_behind lens recover retry missed number f us) (tour_of master.old) master.old.tour.visit.items }
     ensures brought { fate ≡ Fates.Pass → (lens : ℕ → Lens) (recover retry missed : ℕ) (octets : List ℕ) (us : List Turn) → MasterUnder lens recover retry master.old octets missed us → Returns (seen lens octets) (seen lens back.now.items) →
         HasBrought master.new us (seen lens back.now.items) }
+    ensures happened { HappensSo master.old.lan master.new.lan }
 {
     match fate {
         Fate::Pass => master.returned(back),
@@ -221,6 +226,7 @@ impl Session {
         requires { IsPlan plan.now }
         ensures session { IfOk result (λ session. session ≡ first_session plan.now grams session.master) }
         ensures leads { IfOk result (λ session. Leading plan.now session.master session.notes []) }
+        ensures switch { IfOk result (λ session. HasHappened (ports_of plan.now.slaves) plan.now.host [] session.master.lan) }
     {
         Ok(Session {
             master: MasterNode::new(alloc, plan)?,
@@ -362,6 +368,7 @@ impl Session {
         ensures answers { (result ≡ ending) ⊎ (result ≡ endings.NoMemory) }
         ensures rows { result ≢ endings.NoMemory → book.new.slaves ≡ session_rows self }
         ensures many { length self.notes ≡ length self.ring.nodes }
+        ensures same { SameSwitch book.old book.new }
     {
         let Session {
             ring,

@@ -11,4 +11,4 @@ returns-then-not-serves-clause-ports c =
 pub returns-clause-ports : goal.returns-clause-ports
 returns-clause-ports c =
     subst (λ (z : List (Option ℕ)). are_ports (c.args.last + 1 + 1) z ≡ true) (sym c.push-2.ensures.items)
-    (ports_push (c.args.last + 1) (c.args.last + 1 + 1) c.args.ports.now.items (Some (c.args.last + 1)) (omega arith) c.requires.ports (port_next (c.args.last + 1)))
+    (ports_push (c.args.last + 1) (c.args.last + 1 + 1) c.args.ports.now.items (Some (c.args.last + 1)) (omega arith) c.requires.ports (port_next (c.args.last + 1) (omega arith)))

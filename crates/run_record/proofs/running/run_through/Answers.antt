@@ -6,13 +6,14 @@ use Rattle.run_book.specs.declared.book.Book.{Book}
 use Rattle.segment_plan.specs.declared.plan.Scenario.{Scenario}
 use Rattle.run_record.specs.Session.{SessionState, session_rows, are_at_rest, has_live}
 use Rattle.run_record.specs.Ran.{IsUnderway, EndsSo, EndsAs}
-use Rattle.run_record.proofs.Underway.{still_left, many, stepped_on, stopped, has_frames, ended, ran_so, ran_as}
+use Rattle.run_record.proofs.Underway.{begun, still_left, many, stepped_on, stopped, has_frames, ended, ran_so, ran_as}
 use Rattle.run_record.specs.Led.{exchanged, Leading}
-use Rattle.run_record.proofs.Leads.{one_frame_more, one_led_more, none_led, same_led}
+use Rattle.run_record.proofs.Leads.{one_frame_more, one_led_more, none_led, same_led, first_leading}
 use Rattle.std.proofs.lemmas.List.{length-map}
 use Rattle.run_record.proofs.Ends.{some_live}
 use Rattle.run_record.proofs.Overs.{led_book}
 use Rattle.run_record.proofs.Steps.{any_err}
+use Rattle.run_record.proofs.Switched.{switched_new}
 use Rattle.master_node.proofs.Counts.{counted}
 use Rattle.life_runs.specs.First.{lens_of}
 use Rattle.run_record.proofs.running.run_through.Goals as goal
@@ -45,6 +46,24 @@ returns-in_err-step-clause-cut c =
       | inr f ↦ one_led_more plan c.loop-settled.book.frames f.0 c.step.new.book.frames f.1 (f.4 plan (map exchanged c.loop-settled.book.frames) (live_so plan s c.loop-settled.book c.loop-settled.settled c.loop-settled.invariant.underway leading (search rules) c.loop-settled.invariant.busy) leading)
     ])
 
+pub loop-settled-init : goal.loop-settled-init
+loop-settled-init c =
+    let plan = c.args.plan.now in
+    let s = c.in_ok-session.session in
+    let begins = c.in_ok-session.ensures in
+    let new = c.requires.new in
+    record {
+      underway = begun plan 0 s c.args.book.now begins.session new;
+      serving = new.serving;
+      grams = new.grams;
+      replies = new.replies;
+      settled = c.settled-settled.ensures.rest;
+      left = c.settled-settled.ensures.left;
+      busy = c.settled-settled.ensures.busy;
+      switched = switched_new plan 0 s c.args.book.now begins.session new begins.switch;
+      leading = first_leading plan s.master s.notes c.args.book.now.frames new.frames begins.leads;
+    }
+
 pub loop-settled-preserved : goal.loop-settled-preserved
 loop-settled-preserved c =
     let s = c.loop-settled.session in
@@ -59,6 +78,7 @@ loop-settled-preserved c =
       settled = c.settled-settled-in-loop-settled.ensures.rest;
       left = c.settled-settled-in-loop-settled.ensures.left;
       busy = c.settled-settled-in-loop-settled.ensures.busy;
+      switched = step.1.switch c.args.plan.now.host c.loop-settled.invariant.switched;
       leading = one_frame_more c.args.plan.now c.step.new.self.master c.step.new.self.notes c.loop-settled.book.frames step.0 c.step.new.book.frames step.1.put
           (step.1.leads c.args.plan.now (map exchanged c.loop-settled.book.frames) under.recover (length-map c.loop-settled.book.frames exchanged ∙ many c.args.plan.now 0 s c.loop-settled.book under) (live_so c.args.plan.now s c.loop-settled.book c.loop-settled.settled under c.loop-settled.invariant.leading (search rules) c.loop-settled.invariant.busy) c.loop-settled.invariant.leading);
     }
@@ -82,5 +102,5 @@ pub returns-clause-led : goal.returns-clause-led
 returns-clause-led c =
     let s = c.loop-settled.session in
     let invariant = c.loop-settled.invariant in
-    led_book c.args.plan.now s c.loop-settled.book c.finish.new.book invariant.underway invariant.leading c.finish.ensures.frames c.finish.ensures.many c.ending_of-ending.result c.finish.result c.loop-settled.settled
+    led_book c.args.plan.now s c.loop-settled.book c.finish.new.book invariant.underway invariant.leading invariant.switched c.finish.ensures.frames c.finish.ensures.same c.finish.ensures.many c.ending_of-ending.result c.finish.result c.loop-settled.settled
     c.ending_of-ending.ensures.ends invariant.left c.ending_of-ending.ensures.cut c.finish.ensures.answers c.finish.ensures.rows

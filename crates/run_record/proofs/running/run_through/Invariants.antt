@@ -3,6 +3,7 @@ use Rattle.std.specs.Bool.{OnTrue, OnFalse}
 use Rattle.run_record.specs.Session.{session_rows, are_at_rest, has_live, IsLeftBy}
 use Rattle.run_record.specs.Led.{exchanged, Leading}
 use Rattle.run_record.specs.Ran.{IsUnderway}
+use Rattle.run_record.specs.Switched.{IsSwitched}
 use Rattle.run_record.proofs.running.run_through.Given as goal
 
 abbrev pub invariant-loop-settled : goal.invariant-loop-settled
@@ -14,6 +15,7 @@ invariant-loop-settled l = record {
   settled : OnTrue l.settled (are_at_rest (session_rows l.session) ≡ true);
   left : OnTrue l.settled (IsLeftBy l.session.master);
   busy : OnFalse l.settled ((are_at_rest (session_rows l.session) ≡ false) ⊎ (has_live l.session.master ≡ true));
+  switched : IsSwitched l.session.ports l.plan.host l.session.master.lan l.book;
   leading : Leading l.plan l.session.master l.session.notes (map exchanged l.book.frames);
 }
 

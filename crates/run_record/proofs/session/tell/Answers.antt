@@ -31,3 +31,9 @@ returns-in-Lost-clause-toured c = λ lens recover retry missed number us f fate 
 
 pub returns-in-Lost-clause-brought : goal.returns-in-Lost-clause-brought
 returns-in-Lost-clause-brought c = λ pass. absurd (let bad : Fates.Lost c.in-Lost.after ≡ Fates.Pass = sym c.in-Lost.is ∙ pass in cc)
+
+pub returns-in-Pass-clause-happened : goal.returns-in-Pass-clause-happened
+returns-in-Pass-clause-happened c = c.returned.ensures.happened
+
+pub returns-in-Lost-clause-happened : goal.returns-in-Lost-clause-happened
+returns-in-Lost-clause-happened c = c.lost.ensures.happened

@@ -9,6 +9,7 @@ use Rattle.master_node.proofs.Lists.{each_trans}
 use Rattle.std.proofs.Common.{ℕ}
 use Rattle.master_node.proofs.Leaves.{few_stops}
 use Rattle.master_node.proofs.Toureds.{counts_more, visiting_first, visiting_more, visiting_still, visiting_same, visiting_last}
+use Rattle.master_node.proofs.Happenings.{happens_none, happens_then, happens_more}
 use Rattle.master_node.proofs.node.MasterNode.fill.Goals as goal
 
 pub returns-in_default-clause-on : goal.returns-in_default-clause-on
@@ -55,7 +56,7 @@ returns-clause-filled c = λ lens recover made as' d x.
     fills_last lens recover made as' c.loop.counter c.loop.self c.loop.into.items (let t = c.loop-test.false in omega (arith, t)) (c.loop.invariant.3 lens recover made as' d x)
 
 pub loop-init : goal.loop-init
-loop-init c = (c.requires, refl, on_same c.args.self.now, (λ lens recover made as' d x. fills_first lens recover made as' c.args.self.now c.args.into.now.items x), each_same _ c.args.self.now.tour.stops.items (λ s. refl), λ b short. (visiting_first c.args.into.now.items c.args.self.now short b, b.count))
+loop-init c = (c.requires, refl, on_same c.args.self.now, (λ lens recover made as' d x. fills_first lens recover made as' c.args.self.now c.args.into.now.items x), each_same _ c.args.self.now.tour.stops.items (λ s. refl), (λ b short. (visiting_first c.args.into.now.items c.args.self.now short b, b.count)), happens_none 0 _ _ refl)
 
 pub loop-preserved : goal.loop-preserved
 loop-preserved c = (
@@ -78,7 +79,7 @@ loop-preserved c = (
       (λ left other q a o s g. subst (λ (z : Bool). IsFilling lens recover made (if z then other else left) c.visit.new.self c.visit.new.into.items as') yes (v.led lens recover made left other as' q d a o s g))),
   each_trans (λ s t. t.side.hand.found.join ≡ s.side.hand.found.join) c.args.self.now.tour.stops.items c.loop.self.tour.stops.items c.visit.new.self.tour.stops.items (λ x y z a b. b ∙ a) c.loop.invariant.4
       (subst (λ z. EachPair (λ s t. t.side.hand.found.join ≡ s.side.hand.found.join) z.items c.visit.new.self.tour.stops.items) c.due.ensures.stops c.visit.ensures.joins),
-  λ b short.
+  (λ b short.
       let e = c.due.ensures in
       let v = c.visit.ensures in
       let p = c.in-Some.place in
@@ -90,7 +91,8 @@ loop-preserved c = (
             (record { stops = e.stops; count = e.kept.0; again = e.kept.1; visit = e.kept.2 })
             (e.order p is).1 (c.in-Some.ensures.few) v.on.1 v.visits v.shares v.takes more,
         omega (arith, more, was, same),
-      ),
+      )),
+  happens_then c.loop.counter 1 _ _ _ c.loop.invariant.6 c.visit.ensures.lan,
 )
 
 pub returns-in_default-clause-joins : goal.returns-in_default-clause-joins
@@ -160,3 +162,15 @@ returns-then-self-count-clause-filled c = λ lens recover made as' d x.
     (λ a. e.left p is a) (λ a b g h. passes_at (λ s. is_live s.stand) c.loop.self.tour.stops.items c.due.result p is (e.first a b g h))
     (c.in-Some.ensures.few) v.on.0 v.on.1 v.quiet v.visits v.counts (λ a b. (v.first a b).1)
     (λ left other q a o s g. subst (λ (z : Bool). IsFilling lens recover made (if z then other else left) c.visit.new.self c.visit.new.into.items as') yes (v.led lens recover made left other as' q d a o s g)))
+
+pub returns-in_default-clause-lan : goal.returns-in_default-clause-lan
+returns-in_default-clause-lan c = happens_more c.loop.counter 16 _ _ (omega arith) c.loop.invariant.6
+
+pub returns-then-not-visit-clause-lan : goal.returns-then-not-visit-clause-lan
+returns-then-not-visit-clause-lan c = happens_more (c.loop.counter + 1) 16 _ _ (omega arith) (happens_then c.loop.counter 1 _ _ _ c.loop.invariant.6 c.visit.ensures.lan)
+
+pub returns-then-self-count-clause-lan : goal.returns-then-self-count-clause-lan
+returns-then-self-count-clause-lan c = happens_more (c.loop.counter + 1) 16 _ _ (omega arith) (happens_then c.loop.counter 1 _ _ _ c.loop.invariant.6 c.visit.ensures.lan)
+
+pub returns-clause-lan : goal.returns-clause-lan
+returns-clause-lan c = happens_more c.loop.counter 16 _ _ (omega arith) c.loop.invariant.6

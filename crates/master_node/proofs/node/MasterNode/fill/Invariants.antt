@@ -6,6 +6,7 @@ use Rattle.frame_view.specs.View.{Lens}
 use Rattle.life_frames.specs.Shares.{AreDistinct}
 use Rattle.life_runs.specs.Led.{Leads}
 use Rattle.master_node.specs.Filling.{IsEmpty}
+use Rattle.master_node.specs.Happened.{Happens}
 use Rattle.master_node.specs.Kept.{TourOn}
 use Rattle.master_node.specs.Joined.{JoinsKept}
 use Rattle.master_node.specs.Shows.{lived_of}
@@ -20,3 +21,4 @@ invariant-loop l =
     × ((lens : ℕ → Lens) (recover made : ℕ) (as' : List Leads) → AreDistinct (map lived_of as') → IsEmpty lens recover made l.initial.self l.initial.into.items as' → Fills lens recover made as' l.counter l.self l.into.items)
     × JoinsKept l.initial.self l.self
     × (IsBare l.initial.self → length l.initial.into.items ≡ 16 → Visiting l.into.items l.initial.self l.self × (l.self.tour.count ≡ l.counter))
+    × Happens l.counter l.initial.self.lan l.self.lan

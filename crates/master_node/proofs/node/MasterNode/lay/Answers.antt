@@ -7,6 +7,7 @@ use Rattle.master_node.proofs.Lists.{steps_same}
 use Rattle.std.proofs.Common.{ap, refl}
 use Rattle.master_tour.proofs.Walks.{each_same}
 use Rattle.master_node.proofs.Lists.{steps_each}
+use Rattle.master_node.proofs.Happenings.{happens_none}
 use Rattle.master_node.proofs.node.MasterNode.lay.Goals as goal
 
 pub returns-in-None-clause-laid : goal.returns-in-None-clause-laid
@@ -25,3 +26,6 @@ returns-in-None-clause-joins c = each_same _ c.args.self.now.tour.stops.items (�
 
 pub returns-in-Some-clause-joins : goal.returns-in-Some-clause-joins
 returns-in-Some-clause-joins c = steps_each _ _ c.args.place c.args.self.now.tour.stops.items c.lay_coming.new.self.tour.stops.items (λ s. refl) (λ s t p. ap (λ z. z.join) p.0.side.found) c.lay_coming.ensures.laid
+
+pub returns-in-None-clause-lan : goal.returns-in-None-clause-lan
+returns-in-None-clause-lan c = happens_none 1 _ _ refl

@@ -5,6 +5,7 @@ use Rattle.master_node.specs.Coming.{IsLaid}
 use Rattle.master_node.specs.Kept.{StopStays}
 use Rattle.master_node.proofs.Kepts.{stop_same, tour_same}
 use Rattle.master_node.proofs.Lists.{steps_same, steps_map}
+use Rattle.master_node.proofs.Happenings.{happens_none}
 use Rattle.master_node.proofs.node.MasterNode.lay_coming.Goals as goal
 
 pub returns-in-Packet-clause-laid : goal.returns-in-Packet-clause-laid
@@ -38,3 +39,12 @@ returns-in-State-clause-laid c =
 
 pub returns-in-State-clause-kept : goal.returns-in-State-clause-kept
 returns-in-State-clause-kept c = (tour_same c.args.self.now c.lay_state.new.self c.lay_state.ensures.tour.0 c.lay_state.ensures.tour.1, c.lay_state.ensures.quiet)
+
+pub returns-in-Mail-clause-lan : goal.returns-in-Mail-clause-lan
+returns-in-Mail-clause-lan c = happens_none 1 _ _ c.lay_mail.ensures.lan
+
+pub returns-in-Script-clause-lan : goal.returns-in-Script-clause-lan
+returns-in-Script-clause-lan c = happens_none 1 _ _ c.lay_script.ensures.lan
+
+pub returns-in-State-clause-lan : goal.returns-in-State-clause-lan
+returns-in-State-clause-lan c = happens_none 1 _ _ c.lay_state.ensures.lan

@@ -1,4 +1,4 @@
-use Rattle.std.proofs.Common.{◌≡◌, ◌+◌, Bool, [], sym, ap, ◌∙◌}
+use Rattle.std.proofs.Common.{◌≡◌, ◌+◌, Bool, [], sym, ap, ◌∙◌, arith}
 use Rattle.std.specs.Prelude.{map, not, nat_lt, if◌then◌else◌}
 use Rattle.life_runs.specs.Led.{speech_at, gives_up_at, led_behind}
 use Rattle.master_tour.specs.Orders.{last_behind}
@@ -22,6 +22,7 @@ use Rattle.master_node.specs.Joined.{IsUnfinished, stand_before, stand_under, ma
 use Rattle.master_node.proofs.Joineds.{lost_unfinished, three_on, three_kept, three_of, three_after, unfinished_kept}
 use Rattle.master_node.specs.Rooms.{FitAgain}
 use Rattle.master_node.proofs.Fits.{again_lost}
+use Rattle.master_node.proofs.Happenings.{happens_so}
 use Rattle.master_node.proofs.node.MasterNode.lost.Goals as goal
 
 pub returns-clause-leads : goal.returns-clause-leads
@@ -72,3 +73,6 @@ returns-clause-toured c = λ lens recover retry missed number after octets us f 
     lost_same is_opening_lead retry leads m n (ap (λ z. z.items) (k.tour.visit ∙ e.tour.0)) (k.tour.again ∙ e.tour.1 ∙ by) (k.tour.missed ∙ e.tour.2 ∙ ap (λ (z : Bool). if z then m.tour.missed + 1 else 0) by)
     (k.tour.opened ∙ e.opened ∙ (λ i. if by i then m.tour.opened else opens_behind lens recover retry leads m.tour.opened c.lost.new.self.stops.items n.tour.stops.items k.each x.each i))
     (k.tour.last ∙ e.last ∙ (λ i. if by i then m.tour.last else last_behind m.tour.opened (behind_long lens recover retry octets (led_behind lens recover retry (gives_up_at lens recover retry missed) number f) us m.tour.stops.items u.each i) m.tour.last m.tour.visit.items))
+
+pub returns-clause-happened : goal.returns-clause-happened
+returns-clause-happened c = happens_so 16 _ _ _ (omega arith) c.begins.ensures.so c.begins.ensures.none c.all_given_up.ensures.lan

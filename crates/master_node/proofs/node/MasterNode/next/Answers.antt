@@ -1,4 +1,4 @@
-use Rattle.std.proofs.Common.{◌≡◌, ◌∙◌, true, refl, sym, subst, length}
+use Rattle.std.proofs.Common.{◌≡◌, ◌∙◌, true, refl, sym, subst, length, arith}
 use Rattle.frame_view.specs.Seen.{seen}
 use Rattle.std.specs.List.{list_any}
 use Rattle.master_tour.specs.Goes.{is_live, holds_at}
@@ -11,6 +11,7 @@ use Rattle.master_node.specs.Toured.{stop_share, tour_of}
 use Rattle.master_tour.specs.Toured.{IsOfTour}
 use Rattle.master_tour.specs.Sizes.{frame_size}
 use Rattle.master_node.specs.Rooms.{area_at}
+use Rattle.master_node.proofs.Happenings.{happens_so, happens_then}
 use Rattle.master_node.proofs.node.MasterNode.next.Goals as goal
 
 pub returns-clause-led : goal.returns-clause-led
@@ -36,3 +37,6 @@ returns-clause-toured c = λ h lens recover retry missed as' us x y.
       turns_tour lens recover c.make.new.into.items (λ k. holds_at is_live_lead as' k) (frame_size c.make.new.into.items) (λ k. area_at lens as' k) (tour_of m) us c.make.new.self.tour.stops.items (length (seen lens c.make.new.into.items)) c.make.new.self.tour.visit.items y.each
           (subst (λ z. IsOfTour (λ s. stop_share s) (λ k. holds_at is_live_lead as' k) (frame_size c.make.new.into.items) (λ k. area_at lens as' k) z c.make.new.self.tour.stops.items (length (seen lens c.make.new.into.items)) c.make.new.self.tour.visit.items) same w.4),
     )
+
+pub returns-clause-happened : goal.returns-clause-happened
+returns-clause-happened c = happens_so 17 _ _ _ (omega arith) c.begins.ensures.so c.begins.ensures.none (happens_then 1 16 _ _ _ c.admit.ensures.lan c.make.ensures.lan)

@@ -1,4 +1,4 @@
-use Rattle.std.proofs.Common.{[], refl, ap, ◌∙◌}
+use Rattle.std.proofs.Common.{[], refl, ap, ◌∙◌, arith}
 use Rattle.std.specs.Prelude.{map}
 use Rattle.frame_view.specs.Seen.{seen}
 use Rattle.life_runs.specs.Led.{speech_at, gives_up_at, led_behind}
@@ -22,6 +22,7 @@ use Rattle.master_tour.specs.Stands.{came_at}
 use Rattle.master_node.specs.Joined.{IsUnfinished, StopCompleted, stand_before, stand_under, mails_back}
 use Rattle.master_node.proofs.Joineds.{back_unfinished, completed_at, three_on, three_kept, three_map, three_of, three_after, pair_both, completed_kept}
 use Rattle.master_node.proofs.Lefts.{true_false}
+use Rattle.master_node.proofs.Happenings.{happens_so}
 use Rattle.master_node.proofs.node.MasterNode.returned.Goals as goal
 
 pub returns-clause-leads : goal.returns-clause-leads
@@ -84,3 +85,6 @@ returns-clause-toured c = λ lens recover retry missed number octets us f p b u 
     let x = returns-clause-leads c lens recover retry missed number octets us f p b u r in
     goes_same is_opening_lead leads m n (k.tour.again ∙ e.tour.1) (k.tour.opened ∙ e.opened ∙ opens_behind lens recover retry leads m.tour.opened c.returned.new.self.stops.items n.tour.stops.items k.each x.each)
     (k.tour.last ∙ e.last ∙ ap (λ z. last_behind m.tour.opened z m.tour.last m.tour.visit.items) (behind_long lens recover retry octets (led_behind lens recover retry (gives_up_at lens recover retry missed) number f) us m.tour.stops.items u.each)) (k.tour.missed ∙ e.tour.2)
+
+pub returns-clause-happened : goal.returns-clause-happened
+returns-clause-happened c = happens_so 16 _ _ _ (omega arith) c.begins.ensures.so c.begins.ensures.none c.all_back.ensures.lan

@@ -29,6 +29,7 @@ use Rattle.master_node.specs.Rooms.{SendsSame, Takes}
 use Rattle.master_node.proofs.Fits.{sends_again, sends_len, stays_sends, takes_before, takes_not, takes_visit}
 use Rattle.master_node.proofs.Lists.{steps_trans}
 use Rattle.master_node.proofs.Rooms.{steps_room, looks_full, visits_full}
+use Rattle.master_node.proofs.Happenings.{happens_none, happens_on}
 use Rattle.master_node.proofs.node.MasterNode.visit.Goals as goal
 
 pub returns-then-not-fits-clause-led : goal.returns-then-not-fits-clause-led
@@ -197,3 +198,9 @@ returns-clause-takes c =
     (λ s t u p k. takes_visit before behind (nat_lt old new) s t u (λ y. (let l = p.1 y in lt-ltb old new (omega (arith, l, was, is)))) (λ n. (let l = p.2 n in le-ltb old new (omega (arith, l, was, is)))) p.0 k)
     (steps_map _ _ place s2 s3 (λ s t p. (p.0, p.1.3, p.1.4)) (steps_both _ _ place s2 s3 v.room v.step)) c.came.ensures.sends in
     steps_trans (λ s t. StopRepeats s → StopRepeats t × (stop_len t ≡ stop_len s)) (λ s t. Takes before behind (nat_lt old new) s t) (λ s t. Takes before behind (nat_lt old new) s t) place s0 s2 s4 (λ s t u h k. takes_before before behind (nat_lt old new) s t u h k) looked visited
+
+pub returns-then-not-fits-clause-lan : goal.returns-then-not-fits-clause-lan
+returns-then-not-fits-clause-lan c = happens_none 1 _ _ refl
+
+pub returns-clause-lan : goal.returns-clause-lan
+returns-clause-lan c = happens_on 1 _ _ _ c.came.ensures.lan c.lay.ensures.lan

@@ -26,3 +26,6 @@ invariant_of-result c =
 
 pub returns-clause-leads : goal.returns-clause-leads
 returns-clause-leads c = begins c.args.plan.now _ _ c.in_ok-new.ensures.leads c.in_ok-new-2.ensures.notes c.in_ok-new.ensures.tour
+
+pub returns-clause-switch : goal.returns-clause-switch
+returns-clause-switch c = c.in_ok-new.ensures.begins

@@ -9,6 +9,8 @@ use Rattle.run_record.proofs.Leads.{leads_on, led_on, returned}
 use Rattle.run_record.specs.Replay.{behind, IsRecorded}
 use Rattle.run_record.specs.Session.{SessionState, SameFrames, KeepsRest, has_live}
 use Rattle.run_record.proofs.Kept.{rest_more}
+use Rattle.run_record.specs.Switched.{IsSwitched, NotesSwitch}
+use Rattle.run_record.proofs.Switched.{switched_on, switched_same}
 use Rattle.std.proofs.lemmas.Result.{on_ok_weaker}
 use Rattle.run_record.proofs.Steps.{any_err, on_ok_both, holds_on, no_frame, one_frame}
 use Rattle.run_record.proofs.session.Session.step.Goals as goal
@@ -59,6 +61,14 @@ returns-clause-ok c =
         serving = ap (λ (s : SessionState). s.serving) c.self.view_is;
         rest = subst (λ (n : ℕ). KeepsRest n c.args.book.now c.note_behind.new.book) before
             (rest_more ports c.note_before.ensures.frames.rest (rest_more ports (c.put_frame.ensures.rest ports) (subst (λ (n : ℕ). KeepsRest n c.put_frame.new.book c.note_behind.new.book) same c.note_behind.ensures.frames.rest)));
+        switch = λ host x.
+            let many : 1 + length c.note_behind.new.self.ports ≡ c.args.self.now.ports = ap (λ (l : List ℕ). 1 + length l) c.note_behind.ensures.slaves.ports ∙ same ∙ before in
+            let first = switched_on ports host c.self.inside.master.lan c.next.new.self.lan c.args.book.now c.note_before.new.book c.next.ensures.happened c.in_ok-note_before.ensures.switch
+            (subst (λ (n : ℕ). IsSwitched n host c.self.inside.master.lan c.args.book.now) (sym before) (subst (λ (s : SessionState). IsSwitched c.args.self.now.ports host s.master.lan c.args.book.now) (sym c.self.view_is) x)) in
+            subst (λ (n : ℕ). IsSwitched n host c.tell.new.master.lan c.note_behind.new.book) (sym many)
+            (subst (λ (n : ℕ). IsSwitched n host c.tell.new.master.lan c.note_behind.new.book) before
+            (switched_on ports host c.next.new.self.lan c.tell.new.master.lan c.put_frame.new.book c.note_behind.new.book c.tell.ensures.happened (subst (λ (n : ℕ). NotesSwitch n c.tell.new.master.lan.happened c.put_frame.new.book c.note_behind.new.book) same both.1.1.1)
+            (switched_same ports host c.next.new.self.lan c.note_before.new.book c.put_frame.new.book c.put_frame.ensures.switch first)));
         leads = λ plan fs recover counts live l.
             let live : has_live c.self.inside.master ≡ true = ap (λ (s : SessionState). has_live s.master) c.self.view_is ∙ live in
             let same : Leading plan c.self.inside.master c.self.inside.log.notes fs = subst (λ (s : SessionState). Leading plan s.master s.notes fs) (sym c.self.view_is) l in
@@ -72,10 +82,10 @@ returns-clause-ok c =
             c.in_ok-note_before.ensures.told both.1.0
             (λ pass us frame under. c.tell.ensures.brought pass (lens_of plan.slaves) plan.recover plan.retry same.missed c.next.new.into.items us under
             (returned (lens_of plan.slaves) c.self.inside.ring (exchanged f) (length fs) same.leads us c.exchange-fate.ensures.fate c.exchange-fate.ensures.back frame pass))
-            c.in_ok-note_before.ensures.heard both.1.1;
+            c.in_ok-note_before.ensures.heard both.1.1.0;
       },
     ))
-    (on_ok_both _ _ c.note_behind.result c.note_behind.ensures.gave (on_ok_both _ _ c.note_behind.result c.note_behind.ensures.told c.note_behind.ensures.heard))
+    (on_ok_both _ _ c.note_behind.result c.note_behind.ensures.gave (on_ok_both _ _ c.note_behind.result c.note_behind.ensures.told (on_ok_both _ _ c.note_behind.result c.note_behind.ensures.heard c.note_behind.ensures.switch)))
 
 pub returns-clause-err : goal.returns-clause-err
 returns-clause-err c =

@@ -2,6 +2,7 @@ use Rattle.std.proofs.lemmas.Result.{on_ok_weaker}
 use Rattle.run_record.proofs.Gaves.{gave_after}
 use Rattle.run_record.proofs.Heard.{heard_after}
 use Rattle.run_record.proofs.Kept.{slaves_more}
+use Rattle.run_record.proofs.Steps.{any_ok}
 use Rattle.run_record.proofs.standing.Log.note_behind.Goals as goal
 
 pub returns-clause-slaves : goal.returns-clause-slaves
@@ -18,3 +19,6 @@ returns-clause-heard c =
     on_ok_weaker c.note_fate.result
     (λ by. heard_after c.args.fate c.args.moment.frame c.args.master.now c.args.self.now c.note.new.self c.note_fate.new.self c.in_ok-note.ensures.heard by)
     c.note_fate.ensures.heard
+
+pub returns-clause-switch : goal.returns-clause-switch
+returns-clause-switch c = any_ok c.note_fate.result c.in_ok-note.ensures.switch

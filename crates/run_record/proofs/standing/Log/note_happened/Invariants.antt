@@ -3,13 +3,15 @@ use Rattle.run_record.specs.Heard.{emergencies_noted}
 use Rattle.run_record.specs.Led.{gaves_noted}
 use Rattle.run_record.specs.Reports.{KeepsReports}
 use Rattle.run_record.specs.Session.{SameSlaves, SameFrames}
-use Rattle.run_record.proofs.standing.Log.note.Given as goal
+use Rattle.run_record.proofs.Switched.{NotesTo}
+use Rattle.run_record.proofs.standing.Log.note_happened.Given as goal
 
-abbrev pub invariant-loop-event : goal.invariant-loop-event
-invariant-loop-event l = record {
+abbrev pub invariant-loop-row : goal.invariant-loop-row
+invariant-loop-row l = record {
   slaves : SameSlaves l.initial.self l.self;
   gave : gaves_noted l.self.notes ≡ gaves_noted l.initial.self.notes;
   heard : emergencies_noted l.self.notes ≡ emergencies_noted l.initial.self.notes;
   told : KeepsReports l.initial.self.notes l.self.notes;
   frames : SameFrames (1 + length l.initial.self.ports) l.initial.book l.book;
+  switch : NotesTo (1 + length l.initial.self.ports) l.rows l.row-index l.initial.book l.book;
 }
