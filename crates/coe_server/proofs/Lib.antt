@@ -1,3 +1,4 @@
+pub use Rattle.object_dictionary.proofs as of_object_dictionary
 pub mod Unread
 pub mod Gives
 pub mod Fits

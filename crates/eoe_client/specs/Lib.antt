@@ -1,2 +1,3 @@
+pub use Rattle.eoe_model.specs as of_eoe_model
 pub mod Talk
 pub mod Hear

@@ -1,2 +1,3 @@
+pub use Rattle.exchange_model.proofs as of_exchange_model
 mod Sends
 mod TookIs

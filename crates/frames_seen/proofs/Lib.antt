@@ -1,3 +1,5 @@
+pub use Rattle.frame_view.proofs as of_frame_view
+pub use Rattle.link_model.proofs as of_link_model
 pub mod Numbers
 pub mod Others
 pub mod Boxes

@@ -1,3 +1,5 @@
+pub use Rattle.frame_view.specs as of_frame_view
+pub use Rattle.link_model.specs as of_link_model
 pub mod Slaves
 pub mod Spoken
 pub mod Met

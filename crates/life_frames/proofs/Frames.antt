@@ -6,16 +6,16 @@ use Rattle.al_state.specs.declared.bringing.BringStep.{BringStep}
 use Rattle.al_state.specs.declared.bringing.BringStep.TheVariants.{Return, Watch, Address, OutOff, InOff, OutManager, InManager, Start, Await}
 use Rattle.al_state.specs.declared.bringing.BringUp.{BringUp}
 use Rattle.al_state.specs.BringUp.{head_of, octets_of}
-use Rattle.datagrams.specs.declared.command.Command.{Command}
-use Rattle.datagrams.specs.declared.command.Command.TheVariants.{Aprd, Apwr, Fprd, Fpwr}
-use Rattle.datagrams.specs.Command.{IsNamed}
-use Rattle.datagrams.specs.Datagram as Raw
-use Rattle.datagrams.specs.Frame.{datagram_of}
+use Rattle.al_state.specs.of_datagrams.declared.command.Command.{Command}
+use Rattle.al_state.specs.of_datagrams.declared.command.Command.TheVariants.{Aprd, Apwr, Fprd, Fpwr}
+use Rattle.al_state.specs.of_datagrams.Command.{IsNamed}
+use Rattle.al_state.specs.of_datagrams.Datagram as Raw
+use Rattle.al_state.specs.of_datagrams.Frame.{datagram_of}
 use Rattle.frame_view.specs.View.{Lens, datagram_seen, address_of, place_of, station_of}
 use Rattle.frame_view.specs.Seen.{datagrams_seen}
-use Rattle.segment_model.specs.Slaves as Slaves
-use Rattle.segment_model.specs.Slaves.{Datagram}
-use Rattle.segment_model.specs.Record.{is_for}
+use Rattle.frame_view.specs.of_segment_model.Slaves as Slaves
+use Rattle.frame_view.specs.of_segment_model.Slaves.{Datagram}
+use Rattle.frame_view.specs.of_segment_model.Record.{is_for}
 use Rattle.life_model.specs.Lives.{Spot, Stand}
 use Rattle.life_model.specs.Own.{own}
 use Rattle.life_frames.specs.Frames.{IsNotFor, AllNotFor, HasOne, GramFor, AreApart}

@@ -1,2 +1,3 @@
+pub use Rattle.frame_view.proofs as of_frame_view
 pub mod Frames
 pub mod Twice

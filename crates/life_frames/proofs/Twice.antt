@@ -2,16 +2,16 @@
 use Rattle.std.proofs.Common.{◌≡◌, ◌++◌, ℕ, Bool, true, false, List, [], ◌∷◌, Option, Some, None, refl, sym, ap, ◌∙◌, length, arith}
 use Rattle.std.proofs.lemmas.Bool.{le-ltb}
 use Rattle.std.specs.Prelude.{◌&&◌, is_some, nat_lt, if◌then◌else◌, option_map}
-use Rattle.exchange_model.specs.Exchange.{Speech}
-use Rattle.exchange_model.specs.Rows.{Row, begun, left, row_told}
-use Rattle.link_mails.specs.Body.{Body}
-use Rattle.link_model.specs.Mails.{LinkMail}
-use Rattle.segment_model.specs.Seats.{Side, Choice, is_over, is_none_left, side_begins, side_holds, side_next, next_mail}
-use Rattle.state_exchange.specs.Stated.{Service}
-use Rattle.segment_model.specs.Ends.{Passing}
+use Rattle.life_model.specs.of_exchange_model.Exchange.{Speech}
+use Rattle.life_model.specs.of_exchange_model.Rows.{Row, begun, left, row_told}
+use Rattle.frame_view.specs.of_link_mails.Body.{Body}
+use Rattle.frame_view.specs.of_link_model.Mails.{LinkMail}
+use Rattle.frame_view.specs.of_segment_model.Seats.{Side, Choice, is_over, is_none_left, side_begins, side_holds, side_next, next_mail}
+use Rattle.life_model.specs.of_state_exchange.Stated.{Service}
+use Rattle.frame_view.specs.of_segment_model.Ends.{Passing}
 use Rattle.life_model.specs.Lives
 use Rattle.life_model.specs.Lives.{Era, Life, granted, era_next, life_next, passing_begins}
-use Rattle.task_model.specs.Accounts.{Account, Duty, Pick, mails_choice, account_begins, account_next, is_free, is_acknowledged, starts, state_begins}
+use Rattle.life_model.specs.of_task_model.Accounts.{Account, Duty, Pick, mails_choice, account_begins, account_next, is_free, is_acknowledged, starts, state_begins}
 
 module _ {Q R : Type 0} (x : Speech Body Q R) where
   -- while a mail is held that was not yet sent, no service is over

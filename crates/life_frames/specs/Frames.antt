@@ -1,7 +1,7 @@
 -- WHAT A FRAME OF THE MASTER HAS FOR A SLAVE, by how the master stands to it.
 use Rattle.std.specs.Prelude.{◌≡◌, ◌⊎◌, ℕ, ◌-◌, ◌%◌, ◌<◌, ◌==◌, Bool, true, false, List, [], ◌∷◌, ◌++◌, length, ⊤}
-use Rattle.datagrams.specs.declared.command.Command.TheVariants.{Aprd, Apwr, Fprd, Fpwr}
-use Rattle.datagrams.specs.Datagram as Raw
+use Rattle.al_state.specs.of_datagrams.declared.command.Command.TheVariants.{Aprd, Apwr, Fprd, Fpwr}
+use Rattle.al_state.specs.of_datagrams.Datagram as Raw
 use Rattle.frame_view.specs.View.{Lens}
 use Rattle.life_model.specs.Lives.{Spot, Stand}
 use Rattle.life_frames.specs.Openings.{IsOpeningGram}

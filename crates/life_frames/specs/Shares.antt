@@ -1,13 +1,13 @@
 -- ALL SLAVES OF A MASTER, place by place: their lives before and behind a frame, and what the frame has for each.
 use Rattle.std.specs.Prelude.{◌≡◌, ℕ, suc, ◌==◌, ◌&&◌, Bool, true, false, Option, Some, None, List, [], ◌∷◌, ⊤}
-use Rattle.datagrams.specs.Datagram as Raw
-use Rattle.exchange_model.specs.Exchange.{Speech}
+use Rattle.al_state.specs.of_datagrams.Datagram as Raw
+use Rattle.life_model.specs.of_exchange_model.Exchange.{Speech}
 use Rattle.frame_view.specs.View.{Lens}
 use Rattle.frame_view.specs.Seen.{datagrams_seen}
-use Rattle.link_mails.specs.Body.{Body}
-use Rattle.segment_model.specs.Slaves.{Datagram, Found}
-use Rattle.segment_model.specs.Record.{News}
-use Rattle.task_model.specs.Accounts.{Pick}
+use Rattle.frame_view.specs.of_link_mails.Body.{Body}
+use Rattle.frame_view.specs.of_segment_model.Slaves.{Datagram, Found}
+use Rattle.frame_view.specs.of_segment_model.Record.{News}
+use Rattle.life_model.specs.of_task_model.Accounts.{Pick}
 use Rattle.life_model.specs.Lives.{Spot, Stand, Life, AsksOpen, life_next, life_back, life_lost, gives_up}
 use Rattle.life_model.specs.Tours.{item_at}
 use Rattle.life_frames.specs.Frames.{Share, FrameFor, AreApart}

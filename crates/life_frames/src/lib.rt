@@ -3,7 +3,7 @@
 #![tactic(auto)]
 
 ghost use Rattle.std.specs.Prelude.{◌≡◌, ◌++◌, ◌∷◌, [], ℕ, List};
-ghost use Rattle.datagrams.specs.Datagram as Raw;
+ghost use Rattle.al_state.specs.of_datagrams.Datagram as Raw;
 ghost use Rattle.life_model.specs.Lives.{Spot};
 ghost use Rattle.life_frames.specs.Frames.{IsNotFor, AllNotFor};
 

@@ -1,15 +1,15 @@
 -- The emergencies among accepted mails, part by part and slave by slave.
 use Rattle.std.proofs.Common.{◌≡◌, ◌<◌, ◌≤◌, ℕ, zero, suc, Option, Some, List, [], ◌∷◌, ◌++◌, map, length, refl, ap, sym, ◌∙◌, subst, append_assoc, append-nil, arith}
 use Rattle.std.specs.Prelude.{IfSome, slice_get, slice_set}
-use Rattle.frame_view.specs.View.{Lens}
+use Rattle.run_book.specs.of_frame_view.View.{Lens}
 use Rattle.life_heard.specs.Heard.{Accepted, AllNoted, accepted_with, brought_of, brought_by, emergencies_of, emergencies_with, heard_on, heard_to}
-use Rattle.life_runs.specs.Led.{Exchanged, Turn}
-use Rattle.link_mails.specs.Body.{Body}
-use Rattle.master_hand.specs.Brings.{as_list, emergency_in, emergencies_in}
-use Rattle.master_tour.specs.Brings.{accepted_in}
+use Rattle.run_book.specs.of_life_runs.Led.{Exchanged, Turn}
+use Rattle.run_book.specs.of_link_mails.Body.{Body}
+use Rattle.run_book.specs.of_master_hand.Brings.{as_list, emergency_in, emergencies_in}
+use Rattle.run_book.specs.of_master_tour.Brings.{accepted_in}
 use Rattle.run_book.specs.declared.book.Emergency.{Emergency}
-use Rattle.segment_model.specs.Slaves.{Datagram}
-use Rattle.segment_ring.specs.declared.wire.Fate.TheVariants.{Lost}
+use Rattle.run_book.specs.of_segment_model.Slaves.{Datagram}
+use Rattle.run_book.specs.of_segment_ring.declared.wire.Fate.TheVariants.{Lost}
 
 -- OF PARTS
 with_append : (frame : ℕ) (xs ys : List (List ℕ)) → emergencies_with frame (xs ++ ys) ≡ emergencies_with frame xs ++ emergencies_with frame ys

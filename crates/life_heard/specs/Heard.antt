@@ -1,15 +1,15 @@
 -- THE MAILS THAT A MASTER ACCEPTS of its slaves over the frames of a run, and the emergencies among them.
 use Rattle.std.specs.Prelude.{◌≡◌, ℕ, zero, suc, List, [], ◌∷◌, ◌++◌, map, length}
-use Rattle.frame_view.specs.View.{Lens}
-use Rattle.frame_view.specs.Seen.{seen}
-use Rattle.life_runs.specs.Led.{Exchanged, Leads, Turn, IsLed}
-use Rattle.link_mails.specs.Body.{Body}
-use Rattle.master_hand.specs.Brings.{as_list, emergency_in}
-use Rattle.master_tour.specs.Brings.{accepted_in}
+use Rattle.run_book.specs.of_frame_view.View.{Lens}
+use Rattle.run_book.specs.of_frame_view.Seen.{seen}
+use Rattle.run_book.specs.of_life_runs.Led.{Exchanged, Leads, Turn, IsLed}
+use Rattle.run_book.specs.of_link_mails.Body.{Body}
+use Rattle.run_book.specs.of_master_hand.Brings.{as_list, emergency_in}
+use Rattle.run_book.specs.of_master_tour.Brings.{accepted_in}
 use Rattle.run_book.specs.declared.book.Emergency.{Emergency}
-use Rattle.segment_model.specs.Slaves.{Datagram}
-use Rattle.segment_ring.specs.declared.wire.Fate.{Fate}
-use Rattle.segment_ring.specs.declared.wire.Fate.TheVariants.{Pass, Lost}
+use Rattle.run_book.specs.of_segment_model.Slaves.{Datagram}
+use Rattle.run_book.specs.of_segment_ring.declared.wire.Fate.{Fate}
+use Rattle.run_book.specs.of_segment_ring.declared.wire.Fate.TheVariants.{Pass, Lost}
 
 -- a mail accepted of a slave, with the number of the frame whose return brought it
 pub record Accepted : Type 0 where

@@ -3,15 +3,15 @@
 #![tactic(auto)]
 
 ghost use Rattle.std.specs.Prelude.{◌≡◌, ◌<◌, ◌≤◌, ◌++◌, ℕ, suc, List, [], length, map, Option, Some, IfSome, slice_get, slice_set};
-ghost use Rattle.frame_view.specs.View.{Lens};
+ghost use Rattle.run_book.specs.of_frame_view.View.{Lens};
 ghost use Rattle.life_heard.specs.Heard.{Accepted, AllNoted, brought_of, brought_by, emergencies_of, emergencies_with, heard_in, heard_on, heard_none, heard_to};
-ghost use Rattle.life_runs.specs.Led.{Exchanged, Leads, Turn, IsLed, IsLedFrame};
-ghost use Rattle.link_mails.specs.Body.{Body};
-ghost use Rattle.master_hand.specs.Brings.{as_list, emergencies_in};
-ghost use Rattle.master_tour.specs.Brings.{accepted_in};
+ghost use Rattle.run_book.specs.of_life_runs.Led.{Exchanged, Leads, Turn, IsLed, IsLedFrame};
+ghost use Rattle.run_book.specs.of_link_mails.Body.{Body};
+ghost use Rattle.run_book.specs.of_master_hand.Brings.{as_list, emergencies_in};
+ghost use Rattle.run_book.specs.of_master_tour.Brings.{accepted_in};
 ghost use Rattle.run_book.specs.declared.book.Emergency.{Emergency};
-ghost use Rattle.segment_model.specs.Slaves.{Datagram};
-ghost use Rattle.segment_ring.specs.declared.wire.Fate.TheVariants.{Lost};
+ghost use Rattle.run_book.specs.of_segment_model.Slaves.{Datagram};
+ghost use Rattle.run_book.specs.of_segment_ring.declared.wire.Fate.TheVariants.{Lost};
 
 /// FRAME BY FRAME the emergencies that are noted of each slave are just those among the mails accepted of it, in order, each with the frame that brought
 /// it: a return adds the one that it brought, slave by slave, and a loss none. Over a run the mails accepted are those of its frames, one after the other.

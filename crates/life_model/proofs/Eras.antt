@@ -3,14 +3,14 @@ use Rattle.std.proofs.Common.{◌≡◌, ℕ, zero, suc, ◌+◌, ◌-◌, ◌<�
 use Rattle.std.specs.Prelude.{replicate}
 use Rattle.std.proofs.lemmas.List.{drop-append-le, length-map}
 use Rattle.std.proofs.Math.Seq.{take-length}
-use Rattle.exchange_model.specs.Exchange.{Exchange}
-use Rattle.link_model.specs.Segment.{RingFate}
-use Rattle.segment_model.specs.Slaves.{Registers, Processor, Slave, Datagram, Ring, Move, ring_after, ring_back, ring_steps}
-use Rattle.segment_model.specs.Record.{Frame, News, frame_of}
-use Rattle.segment_model.specs.Seats.{Side, Planned, IsOpening}
-use Rattle.segment_model.specs.Split.{IsFrameOf, sides_next, sides_after}
-use Rattle.state_model.specs.States.{Table}
-use Rattle.state_exchange.specs.Stated.{Stated}
+use Rattle.task_model.specs.of_exchange_model.Exchange.{Exchange}
+use Rattle.task_model.specs.of_link_model.Segment.{RingFate}
+use Rattle.task_model.specs.of_segment_model.Slaves.{Registers, Processor, Slave, Datagram, Ring, Move, ring_after, ring_back, ring_steps}
+use Rattle.task_model.specs.of_segment_model.Record.{Frame, News, frame_of}
+use Rattle.task_model.specs.of_segment_model.Seats.{Side, Planned, IsOpening}
+use Rattle.task_model.specs.of_segment_model.Split.{IsFrameOf, sides_next, sides_after}
+use Rattle.task_model.specs.of_state_model.States.{Table}
+use Rattle.task_model.specs.of_state_exchange.Stated.{Stated}
 use Rattle.task_model.specs.Accounts.{Account, Pick, new_account}
 use Rattle.task_model.specs.Tasks.{IsTaskPlan, IsTasked, AreServed, mails_choices, accounts_next, accounts_after}
 use Rattle.task_model.specs.Promise.{PlanSession, OfEach}

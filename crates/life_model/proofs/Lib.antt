@@ -1,3 +1,4 @@
+pub use Rattle.task_model.proofs as of_task_model
 pub mod Owns
 pub mod Rings
 pub mod Eras

@@ -2,26 +2,26 @@
 use Rattle.std.proofs.Common.{◌≡◌, inl, inr, ℕ, suc, ◌≤◌, Bool, true, false, Option, Some, None, List, [], ◌∷◌, ◌++◌, map, length, length-append, refl, ap, sym, ◌∙◌, subst, arith, append_assoc}
 use Rattle.std.specs.Prelude.{◌==◌, ◌&&◌, nat_lt, if◌then◌else◌, ⊤}
 use Rattle.std.proofs.lemmas.Bool.{ltb-true, lt-ltb}
-use Rattle.datagrams.specs.Datagram as Raw
-use Rattle.exchange_model.specs.Exchange.{Speech}
-use Rattle.frame_view.specs.View.{Lens}
-use Rattle.frame_view.specs.Seen.{seen}
+use Rattle.segment_ring.specs.of_datagrams.Datagram as Raw
+use Rattle.life_frames.specs.of_exchange_model.Exchange.{Speech}
+use Rattle.life_frames.specs.of_frame_view.View.{Lens}
+use Rattle.life_frames.specs.of_frame_view.Seen.{seen}
 use Rattle.life_frames.specs.Shares.{Lived, came_at, given_where}
 use Rattle.life_frames.specs.Frames.{Share}
-use Rattle.life_model.specs.Lives.{Spot, Era, Stand, Opening, life_next, life_back, life_lost, era_back, opening_back, shows_clear, is_shown, last_step, clears, opens, steps_on, reopens, reopens_at, reopening, opens_state, returns_to_init}
+use Rattle.life_frames.specs.of_life_model.Lives.{Spot, Era, Stand, Opening, life_next, life_back, life_lost, era_back, opening_back, shows_clear, is_shown, last_step, clears, opens, steps_on, reopens, reopens_at, reopening, opens_state, returns_to_init}
 use Rattle.life_runs.specs.First.{first_leads, leads_from}
 use Rattle.life_runs.specs.Led.{Exchanged, Leads, Turn, AllTurn, IsLed, is_passed, speech_at, life_behind, led_behind, gives_up_at}
-use Rattle.link_mails.specs.Body.{Body}
-use Rattle.master_duty.specs.Reply.{Reply}
+use Rattle.life_frames.specs.of_link_mails.Body.{Body}
+use Rattle.master_hand.specs.of_master_duty.Reply.{Reply}
 use Rattle.master_hand.specs.Spoken.{Asked, acknowledged, is_followed}
-use Rattle.segment_model.specs.Record.{News}
-use Rattle.segment_model.specs.Slaves.{Datagram, Found}
-use Rattle.segment_plan.specs.declared.plan.Scenario.{Scenario}
-use Rattle.segment_plan.specs.declared.service.Service as Plan
-use Rattle.segment_plan.specs.declared.slave.SlaveSpec.{SlaveSpec}
+use Rattle.life_frames.specs.of_segment_model.Record.{News}
+use Rattle.life_frames.specs.of_segment_model.Slaves.{Datagram, Found}
+use Rattle.master_hand.specs.of_segment_plan.declared.plan.Scenario.{Scenario}
+use Rattle.master_hand.specs.of_segment_plan.declared.service.Service as Plan
+use Rattle.master_hand.specs.of_segment_plan.declared.slave.SlaveSpec.{SlaveSpec}
 use Rattle.segment_ring.specs.declared.wire.Fate.{Fate}
 use Rattle.segment_ring.specs.declared.wire.Fate.TheVariants.{Pass, Lost}
-use Rattle.task_model.specs.Accounts.{Duty, Stage, Pick}
+use Rattle.life_frames.specs.of_task_model.Accounts.{Duty, Stage, Pick}
 use Rattle.life_runs.specs.Causes.{since, HasCause, EndsBy, first_cleared, AllEndBy, EachHasCause, AllHaveCause}
 use Rattle.life_runs.specs.Spans.{is_leaving}
 use Rattle.life_runs.proofs.Spans.{LifeOf, both, clear_leaves, cleared_stays}

@@ -3,13 +3,13 @@ use Rattle.std.proofs.Common.{◌≡◌, ℕ, suc, ◌+◌, ◌==◌, ◌||◌, 
 use Rattle.std.specs.Prelude.{Some, None, if◌then◌else◌}
 use Rattle.std.proofs.lemmas.Bool.{eq-eqb, ne_eqb}
 use Rattle.std.specs.List.{list_any}
-use Rattle.frame_view.specs.View.{Lens}
+use Rattle.life_frames.specs.of_frame_view.View.{Lens}
 use Rattle.life_frames.specs.Shares as Shares
 use Rattle.life_frames.specs.Frames.{AreApart as Apart}
-use Rattle.life_model.specs.Lives.{Spot}
-use Rattle.segment_plan.specs.Sound.{repeated_from, is_same_station}
-use Rattle.segment_plan.specs.declared.service.Service as Service
-use Rattle.segment_plan.specs.declared.slave.SlaveSpec.{SlaveSpec}
+use Rattle.life_frames.specs.of_life_model.Lives.{Spot}
+use Rattle.master_hand.specs.of_segment_plan.Sound.{repeated_from, is_same_station}
+use Rattle.master_hand.specs.of_segment_plan.declared.service.Service as Service
+use Rattle.master_hand.specs.of_segment_plan.declared.slave.SlaveSpec.{SlaveSpec}
 use Rattle.std.specs.Prelude.{map, ◌<◌}
 use Rattle.life_runs.specs.Led.{Leads}
 use Rattle.life_runs.specs.First.{lens_of, spot_of, script_for, leads_from, IsElsewhere, AreApart, HaveLens}

@@ -1,10 +1,10 @@
 -- THE SLAVES OF A PLAN before the first frame, as their master leads them.
 use Rattle.std.specs.Prelude.{◌≡◌, ℕ, suc, ◌==◌, false, if◌then◌else◌, List, [], ◌∷◌, ⊤}
-use Rattle.frame_view.specs.View.{Lens}
-use Rattle.life_model.specs.Lives.{Spot}
-use Rattle.segment_plan.specs.declared.plan.Scenario.{Scenario}
-use Rattle.segment_plan.specs.declared.service.Service as Plan
-use Rattle.segment_plan.specs.declared.slave.SlaveSpec.{SlaveSpec}
+use Rattle.life_frames.specs.of_frame_view.View.{Lens}
+use Rattle.life_frames.specs.of_life_model.Lives.{Spot}
+use Rattle.master_hand.specs.of_segment_plan.declared.plan.Scenario.{Scenario}
+use Rattle.master_hand.specs.of_segment_plan.declared.service.Service as Plan
+use Rattle.master_hand.specs.of_segment_plan.declared.slave.SlaveSpec.{SlaveSpec}
 use Rattle.life_runs.specs.Led.{Leads, new_leads}
 
 -- the lengths of the mailboxes at each station of a plan

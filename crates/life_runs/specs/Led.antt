@@ -1,26 +1,26 @@
 -- A MASTER LEADS THE LIVES OF ITS SLAVES, frame by frame: what comes into hand of each, what the frame has for it, and what the return or the loss
 -- of the frame makes of its life.
 use Rattle.std.specs.Prelude.{◌≡◌, ℕ, suc, ◌+◌, ◌%◌, Bool, not, nat_lt, if◌then◌else◌, Option, Some, None, List, [], ◌∷◌, ◌++◌, map, length, slice_get, ⊤}
-use Rattle.datagrams.specs.Datagram as Raw
-use Rattle.datagrams.specs.Frame.{IsFrame, chained}
-use Rattle.eoe_model.specs.Client as EoeClient
-use Rattle.exchange_model.specs.Exchange.{Speech}
-use Rattle.frame_view.specs.View.{Lens}
-use Rattle.frame_view.specs.Seen.{seen}
+use Rattle.segment_ring.specs.of_datagrams.Datagram as Raw
+use Rattle.segment_ring.specs.of_datagrams.Frame.{IsFrame, chained}
+use Rattle.master_hand.specs.of_eoe_model.Client as EoeClient
+use Rattle.life_frames.specs.of_exchange_model.Exchange.{Speech}
+use Rattle.life_frames.specs.of_frame_view.View.{Lens}
+use Rattle.life_frames.specs.of_frame_view.Seen.{seen}
 use Rattle.life_frames.specs.Frames.{Share}
 use Rattle.life_frames.specs.Shares.{Lived, IsNext, Asked, lived_back, lived_lost}
-use Rattle.life_model.specs.Lives.{Spot, new_life}
-use Rattle.link_mails.specs.Body.{Body}
-use Rattle.master_duty.specs.Reply.{Reply}
+use Rattle.life_frames.specs.of_life_model.Lives.{Spot, new_life}
+use Rattle.life_frames.specs.of_link_mails.Body.{Body}
+use Rattle.master_hand.specs.of_master_duty.Reply.{Reply}
 use Rattle.master_hand.specs.Spoken as Spoken
 use Rattle.master_hand.specs.Spoken.{net, hand_speech, acknowledged, is_followed}
 pub use Rattle.master_hand.specs.Spoken.{is_passed}
 use Rattle.master_hand.specs.Talk.{asked_of}
-use Rattle.segment_plan.specs.declared.service.Service as Plan
+use Rattle.master_hand.specs.of_segment_plan.declared.service.Service as Plan
 use Rattle.segment_ring.specs.declared.wire.Fate.{Fate}
 use Rattle.segment_ring.specs.declared.wire.Fate.TheVariants.{Pass, Lost}
-use Rattle.state_exchange.specs.Stated.{Service}
-use Rattle.task_model.specs.Accounts.{Account, starts}
+use Rattle.life_frames.specs.of_state_exchange.Stated.{Service}
+use Rattle.life_frames.specs.of_task_model.Accounts.{Account, starts}
 
 -- a frame as it went round: its octets, its fate, and what came back
 pub record Exchanged : Type 0 where

@@ -3,14 +3,14 @@
 #![tactic(auto)]
 
 ghost use Rattle.std.specs.Prelude.{◌≡◌, ℕ, Bool, List, length};
-ghost use Rattle.frame_view.specs.View.{Lens};
+ghost use Rattle.life_frames.specs.of_frame_view.View.{Lens};
 ghost use Rattle.segment_ring.specs.declared.wire.Fate.TheVariants.{Pass, Lost};
 ghost use Rattle.life_runs.specs.Led.{missed_behind, Exchanged, Leads, Turn, IsTurn, IsLed, life_behind};
-ghost use Rattle.datagrams.specs.Datagram as Raw;
+ghost use Rattle.segment_ring.specs.of_datagrams.Datagram as Raw;
 ghost use Rattle.life_runs.specs.Causes.{AllHaveCause};
 ghost use Rattle.life_runs.specs.Spans.{SameEpochs, EpochsBack, EpochsLost};
 ghost use Rattle.life_runs.specs.First.{first_leads};
-ghost use Rattle.segment_plan.specs.declared.plan.Scenario.{Scenario};
+ghost use Rattle.master_hand.specs.of_segment_plan.declared.plan.Scenario.{Scenario};
 
 /// A frame that came back ends the lost ones in a row.
 pub fn returned_law()

@@ -1,10 +1,10 @@
 -- How a client in hand goes on showing its row.
 use Rattle.std.proofs.Common.{◌≡◌, ℕ, List, [], ◌∷◌, ◌++◌, Bool, true, false, Option, Some, None, refl, sym, ap, ◌∙◌, append_assoc, append-nil, drop, length}
 use Rattle.std.specs.Prelude.{is_some, option_map}
-use Rattle.exchange_model.specs.Exchange.{Speech, plain}
-use Rattle.exchange_model.specs.Rows.{Row, begun, answer_after, row_heard, row_told, left}
-use Rattle.exchange_model.proofs.Words.{plain-append}
-use Rattle.segment_model.specs.Seats.{next_mail, first_left}
+use Rattle.foe_client.specs.of_exchange_model.Exchange.{Speech, plain}
+use Rattle.foe_client.specs.of_exchange_model.Rows.{Row, begun, answer_after, row_heard, row_told, left}
+use Rattle.foe_client.proofs.of_exchange_model.Words.{plain-append}
+use Rattle.serving_model.specs.of_segment_model.Seats.{next_mail, first_left}
 use Rattle.master_hand.specs.Grips.{Talks, Going, Hearing, HasIt}
 
 -- a service comes into hand

@@ -3,19 +3,19 @@ use Rattle.std.proofs.Common.{◌≡◌, ℕ, List, [], ◌∷◌, Bool, true, f
 use Rattle.std.specs.Prelude.{is_some, is_none, option_map, Ok, not, ◌&&◌, if◌then◌else◌, ◌⊎◌}
 use Rattle.std.proofs.Common.{inl, inr}
 use Rattle.mailbox_mail.specs.declared.outcome.Took.{Took}
-use Rattle.exchange_model.specs.Areas.{Areas}
-use Rattle.exchange_model.specs.Exchange.{Speech, plain}
-use Rattle.exchange_model.specs.Rows.{Row, begun, row_heard, row_told}
-use Rattle.link_mails.specs.Body.{Body}
-use Rattle.segment_model.specs.Seats.{Side, is_none_left, next_mail}
-use Rattle.task_model.specs.Accounts as Accounts
-use Rattle.task_model.specs.Accounts.{is_free}
-use Rattle.master_duty.specs.Reply.{Reply}
+use Rattle.foe_client.specs.of_exchange_model.Areas.{Areas}
+use Rattle.foe_client.specs.of_exchange_model.Exchange.{Speech, plain}
+use Rattle.foe_client.specs.of_exchange_model.Rows.{Row, begun, row_heard, row_told}
+use Rattle.master_side.specs.of_link_mails.Body.{Body}
+use Rattle.serving_model.specs.of_segment_model.Seats.{Side, is_none_left, next_mail}
+use Rattle.master_side.specs.of_task_model.Accounts as Accounts
+use Rattle.master_side.specs.of_task_model.Accounts.{is_free}
+use Rattle.master_side.specs.of_master_duty.Reply.{Reply}
 use Rattle.master_side.specs.Fits.{Tells}
-use Rattle.foe_model.specs.Meaning as FoeMeaning
-use Rattle.eoe_model.specs.Client as EoeClient
-use Rattle.coe_model.proofs.Closing.{ends_none}
-use Rattle.soe_model.specs.Client as SoeClient
+use Rattle.foe_client.specs.of_foe_model.Meaning as FoeMeaning
+use Rattle.eoe_client.specs.of_eoe_model.Client as EoeClient
+use Rattle.coe_client.proofs.of_coe_model.Closing.{ends_none}
+use Rattle.soe_client.specs.of_soe_model.Client as SoeClient
 use Rattle.master_hand.specs.Spoken.{Asked, sdo, file, drive, net, passed, emission, ends, handed, replied, acknowledged, hand_speech}
 use Rattle.master_hand.specs.Passed.{mail_of}
 use Rattle.master_hand.specs.Grips.{Going}

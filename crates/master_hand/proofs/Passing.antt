@@ -3,9 +3,9 @@ use Rattle.std.proofs.Common.{◌≡◌, ℕ, ◌+◌, List, [], ◌∷◌, Bool
 use Rattle.std.specs.Prelude.{is_some, Ok, not, ◌≤◌, ◌↔◌, if◌then◌else◌}
 use Rattle.std.specs.Bool.{OnTrue, OnFalse}
 use Rattle.mailbox_mail.specs.declared.outcome.Took.{Took}
-use Rattle.link_mails.specs.Body.{Body}
+use Rattle.master_side.specs.of_link_mails.Body.{Body}
 use Rattle.serving_model.specs.Passing.{ends_told}
-use Rattle.master_duty.specs.Reply.{Reply}
+use Rattle.master_side.specs.of_master_duty.Reply.{Reply}
 use Rattle.master_hand.specs.Spoken.{passed, passed_ends, is_followed}
 use Rattle.master_hand.specs.Passed.{mail_of, passed_left, at_end, PassedTook}
 use Rattle.master_hand.specs.Talk.{Talking, IsSent, ClientTook, Starts}

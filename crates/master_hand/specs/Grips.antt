@@ -1,7 +1,7 @@
 -- What a client in hand shows of the row of its service. Told and heard are stored nowhere.
 use Rattle.std.specs.Prelude.{◌≡◌, ℕ, Bool, is_some, List, [], ◌++◌, Option, Some, None}
-use Rattle.exchange_model.specs.Exchange.{Speech, plain}
-use Rattle.exchange_model.specs.Rows.{Row}
+use Rattle.foe_client.specs.of_exchange_model.Exchange.{Speech, plain}
+use Rattle.foe_client.specs.of_exchange_model.Rows.{Row}
 
 -- by what it will hear, the client has just the mails to send that the row has left, and replies as the row's service does
 pub record Talks {M Q R : Type 0} (x : Speech M Q R) (later : List M → List M) (awaits : List M → Option R) (r : Row M Q R) : Type 0 where

@@ -5,8 +5,8 @@ use Rattle.eoe.specs.declared.joining.Joined.{Joined}
 use Rattle.eoe.specs.declared.joining.Joined.TheVariants.{More, Whole, Dropped}
 use Rattle.eoe.specs.declared.joining.Unfinished.{Unfinished}
 use Rattle.eoe.specs.declared.message.Fragment.{Fragment}
-use Rattle.eoe_model.specs.Mails as EoeMails
-use Rattle.link_mails.specs.Body.{Body}
+use Rattle.eoe_client.specs.of_eoe_model.Mails as EoeMails
+use Rattle.master_side.specs.of_link_mails.Body.{Body}
 use Rattle.master_hand.specs.Brings.{as_list}
 use Rattle.master_hand.specs.Spoken.{heard_net}
 use Rattle.master_hand.specs.declared.found.Brought.{Brought}

@@ -2,8 +2,8 @@
 use Rattle.std.specs.Prelude.{◌≡◌, true, is_some, List, [], ◌∷◌, Option, Some, None, Ok, if◌then◌else◌}
 use Rattle.mailbox_mail.specs.declared.mail.Mail.{Mail}
 use Rattle.mailbox_mail.specs.declared.outcome.Took.{Took}
-use Rattle.link_mails.specs.Body.{Body, uncounted}
-use Rattle.master_duty.specs.Reply.{Reply}
+use Rattle.master_side.specs.of_link_mails.Body.{Body, uncounted}
+use Rattle.master_side.specs.of_master_duty.Reply.{Reply}
 use Rattle.master_hand.specs.Spoken.{passed_ends}
 use Rattle.master_hand.specs.declared.passed.Content.{Content}
 use Rattle.master_hand.specs.declared.passed.PassedMail.{PassedMail}

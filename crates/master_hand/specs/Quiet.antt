@@ -1,10 +1,10 @@
 -- A frame that brings no mail leaves what a hand shows.
 use Rattle.std.specs.Prelude.{◌≡◌, ℕ, Bool, true, false, List, [], ◌++◌, Option, Some, None, option_map, refl}
 use Rattle.std.proofs.Common.{ap, sym, ◌∙◌, subst, append-nil}
-use Rattle.exchange_model.specs.Exchange.{Speech, plain}
-use Rattle.exchange_model.specs.Rows.{Row, row_heard, answer_after}
-use Rattle.link_mails.specs.Body.{Body}
-use Rattle.master_duty.specs.Reply.{Reply}
+use Rattle.foe_client.specs.of_exchange_model.Exchange.{Speech, plain}
+use Rattle.foe_client.specs.of_exchange_model.Rows.{Row, row_heard, answer_after}
+use Rattle.master_side.specs.of_link_mails.Body.{Body}
+use Rattle.master_side.specs.of_master_duty.Reply.{Reply}
 use Rattle.master_hand.specs.Spoken.{Asked, hand_speech}
 use Rattle.master_hand.specs.Grips.{Going, Hearing, HasIt}
 use Rattle.master_hand.specs.Talk.{Talking, IsOf, client_later, client_awaits}

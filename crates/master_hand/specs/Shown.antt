@@ -1,10 +1,10 @@
 -- What the master's hand shows of the newest row of a slave.
 use Rattle.std.specs.Prelude.{◌≡◌, Bool, true, false, is_some, [], Option, None}
-use Rattle.exchange_model.specs.Exchange.{Speech}
-use Rattle.exchange_model.specs.Rows.{Row}
-use Rattle.link_mails.specs.Body.{Body}
+use Rattle.foe_client.specs.of_exchange_model.Exchange.{Speech}
+use Rattle.foe_client.specs.of_exchange_model.Rows.{Row}
+use Rattle.master_side.specs.of_link_mails.Body.{Body}
 use Rattle.mailbox_mail.specs.declared.outcome.Took.{Took}
-use Rattle.master_duty.specs.Reply.{Reply}
+use Rattle.master_side.specs.of_master_duty.Reply.{Reply}
 use Rattle.master_hand.specs.Spoken.{Asked, hand_speech}
 use Rattle.master_hand.specs.Grips.{Going, Hearing, HasIt}
 use Rattle.master_hand.specs.Talk.{Talking, IsOf, is_mail, client_later, client_awaits}

@@ -3,29 +3,29 @@ use Rattle.std.specs.Prelude.{ℕ, Bool, true, false, List, [], ◌∷◌, Optio
 use Rattle.mailbox_mail.specs.declared.mail.Mail.{Mail}
 use Rattle.mailbox_mail.specs.declared.mail.Kind.{Kind}
 use Rattle.mailbox_mail.specs.declared.mail.Kind.TheVariants.{CoE, SoE}
-use Rattle.link_mails.specs.Body.{Body}
-use Rattle.exchange_model.specs.Areas.{Areas}
-use Rattle.exchange_model.specs.Exchange.{Speech}
-use Rattle.exchange_model.specs.Lifted.{lifted_speech}
+use Rattle.master_side.specs.of_link_mails.Body.{Body}
+use Rattle.foe_client.specs.of_exchange_model.Areas.{Areas}
+use Rattle.foe_client.specs.of_exchange_model.Exchange.{Speech}
+use Rattle.foe_client.specs.of_exchange_model.Lifted.{lifted_speech}
 use Rattle.serving_model.specs.Passing.{ends_told}
-use Rattle.coe_model.specs.Mails as CoeMails
-use Rattle.coe_model.specs.Meaning as CoeMeaning
-use Rattle.coe_model.specs.Client as CoeClient
-use Rattle.coe_model.specs.Model as CoeModel
-use Rattle.coe_model.specs.Octets as CoeOctets
-use Rattle.foe_model.specs.Mails as FoeMails
-use Rattle.foe_model.specs.Meaning as FoeMeaning
-use Rattle.foe_model.specs.Model as FoeModel
-use Rattle.foe_model.specs.Octets as FoeOctets
-use Rattle.soe_model.specs.Mails as SoeMails
-use Rattle.soe_model.specs.Client as SoeClient
-use Rattle.soe_model.specs.Model as SoeModel
-use Rattle.soe_model.specs.Octets as SoeOctets
-use Rattle.eoe_model.specs.Mails as EoeMails
-use Rattle.eoe_model.specs.Client as EoeClient
-use Rattle.eoe_model.specs.Model as EoeModel
-use Rattle.eoe_model.specs.Octets as EoeOctets
-use Rattle.master_duty.specs.Reply.{Reply}
+use Rattle.coe_client.specs.of_coe_model.Mails as CoeMails
+use Rattle.coe_client.specs.of_coe_model.Meaning as CoeMeaning
+use Rattle.coe_client.specs.of_coe_model.Client as CoeClient
+use Rattle.coe_client.specs.of_coe_model.Model as CoeModel
+use Rattle.coe_client.specs.of_coe_model.Octets as CoeOctets
+use Rattle.foe_client.specs.of_foe_model.Mails as FoeMails
+use Rattle.foe_client.specs.of_foe_model.Meaning as FoeMeaning
+use Rattle.foe_client.specs.of_foe_model.Model as FoeModel
+use Rattle.foe_client.specs.of_foe_model.Octets as FoeOctets
+use Rattle.soe_client.specs.of_soe_model.Mails as SoeMails
+use Rattle.soe_client.specs.of_soe_model.Client as SoeClient
+use Rattle.soe_client.specs.of_soe_model.Model as SoeModel
+use Rattle.soe_client.specs.of_soe_model.Octets as SoeOctets
+use Rattle.eoe_client.specs.of_eoe_model.Mails as EoeMails
+use Rattle.eoe_client.specs.of_eoe_model.Client as EoeClient
+use Rattle.eoe_client.specs.of_eoe_model.Model as EoeModel
+use Rattle.eoe_client.specs.of_eoe_model.Octets as EoeOctets
+use Rattle.master_side.specs.of_master_duty.Reply.{Reply}
 
 -- what is asked of a slave by mails: a service of a protocol, or that a mail is passed on as it is
 pub data Asked : Type 0 where

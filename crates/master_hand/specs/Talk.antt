@@ -2,19 +2,19 @@
 use Rattle.std.specs.Prelude.{◌≡◌, ℕ, Bool, true, false, is_some, List, [], ◌∷◌, map, Option, Some, None, Ok, if◌then◌else◌, length, ◌+◌, ◌≤◌, nat_lt}
 use Rattle.mailbox_mail.specs.declared.outcome.Took.{Took}
 use Rattle.master_hand.specs.declared.passed.Content.{Content}
-use Rattle.exchange_model.specs.Areas.{Areas}
-use Rattle.link_mails.specs.Body.{Body}
-use Rattle.foe_model.specs.Meaning as FoeMeaning
-use Rattle.soe_model.specs.Client as SoeClient
-use Rattle.soe_model.specs.Elements.{target}
-use Rattle.eoe_model.specs.Client as EoeClient
+use Rattle.foe_client.specs.of_exchange_model.Areas.{Areas}
+use Rattle.master_side.specs.of_link_mails.Body.{Body}
+use Rattle.foe_client.specs.of_foe_model.Meaning as FoeMeaning
+use Rattle.soe_client.specs.of_soe_model.Client as SoeClient
+use Rattle.soe_client.specs.of_soe_model.Elements.{target}
+use Rattle.eoe_client.specs.of_eoe_model.Client as EoeClient
 use Rattle.coe_client.specs.Talk as CoeTalk
 use Rattle.foe_client.specs.Talk as FoeTalk
 use Rattle.soe_client.specs.Talk as SoeTalk
 use Rattle.eoe_client.specs.Talk as EoeTalk
 use Rattle.object_dictionary.specs.declared.service.SdoService.{SdoService}
 use Rattle.segment_plan.specs.declared.service.Service.{Service}
-use Rattle.master_duty.specs.Reply.{Reply}
+use Rattle.master_side.specs.of_master_duty.Reply.{Reply}
 use Rattle.master_hand.specs.Spoken.{Asked, sdo, file, drive, net, passed, heard_sdo, told_sdo, heard_file, told_file, heard_drive, told_drive, heard_net, told_net, replied, valid, planned, ends}
 use Rattle.master_hand.specs.Passed.{mail_of, passed_left, passed_awaits}
 use Rattle.master_hand.specs.declared.clients.Which.{Which}

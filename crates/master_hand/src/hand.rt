@@ -33,10 +33,10 @@ pub struct InHand {
 impl InHand {
     ghost use Rattle.std.specs.Prelude.{◌≡◌, ◌≤◌, ℕ, List, [], ◌∷◌, true, false, length, IfOk, Option, Some, None, Ok, option_map, All, if◌then◌else◌, ◌&&◌, not};
     ghost use Rattle.mailbox_mail.specs.View.{mail_seen};
-    ghost use Rattle.exchange_model.specs.Rows.{Row, row_heard};
-    ghost use Rattle.link_mails.specs.Body.{Body};
+    ghost use Rattle.foe_client.specs.of_exchange_model.Rows.{Row, row_heard};
+    ghost use Rattle.master_side.specs.of_link_mails.Body.{Body};
     ghost use Rattle.segment_plan.specs.Sound.{IsService};
-    ghost use Rattle.master_duty.specs.Reply.{Reply};
+    ghost use Rattle.master_side.specs.of_master_duty.Reply.{Reply};
     ghost use Rattle.master_hand.specs.Spoken.{Asked, emission, hand_speech};
     ghost use Rattle.master_hand.specs.Passed.{body_of};
     ghost use Rattle.master_hand.specs.Talk.{client_later, is_handed};

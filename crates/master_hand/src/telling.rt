@@ -1,10 +1,10 @@
 ghost use Rattle.std.specs.Prelude.{◌≡◌, ◌≤◌, ◌<◌, ◌+◌, ◌++◌, ℕ, suc, [], length, slice_get, IfSome, Option, None, Some, option_map, true, OnOk, OnErr};
 ghost use Rattle.std.specs.Option.{option_copied};
 ghost use Rattle.master_hand.specs.Talk.{client_awaits, value_of, is_mail};
-ghost use Rattle.exchange_model.specs.Exchange.{Speech};
-ghost use Rattle.exchange_model.specs.Rows.{Row};
-ghost use Rattle.link_mails.specs.Body.{Body};
-ghost use Rattle.master_duty.specs.Reply.{Reply};
+ghost use Rattle.foe_client.specs.of_exchange_model.Exchange.{Speech};
+ghost use Rattle.foe_client.specs.of_exchange_model.Rows.{Row};
+ghost use Rattle.master_side.specs.of_link_mails.Body.{Body};
+ghost use Rattle.master_side.specs.of_master_duty.Reply.{Reply};
 ghost use Rattle.master_hand.specs.Spoken.{Asked};
 ghost use Rattle.master_hand.specs.Brings.{emergency_kept};
 ghost use Rattle.master_hand.specs.Joins.{packet_kept};

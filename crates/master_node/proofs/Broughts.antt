@@ -1,6 +1,6 @@
 -- What a frame that came back brought.
 use Rattle.std.proofs.Common.{◌≡◌, ℕ, Option, Some, None, List, [], ap, sym, ◌∙◌, subst, append-nil}
-use Rattle.link_mails.specs.Body.{Body}
+use Rattle.master_side.specs.of_link_mails.Body.{Body}
 use Rattle.life_runs.specs.Led.{Turn}
 use Rattle.eoe.specs.declared.joining.Unfinished.{Unfinished}
 use Rattle.master_hand.specs.Brings.{Brings, as_list, emergency_in, emergencies_in, emergency_kept}
@@ -12,7 +12,7 @@ use Rattle.master_side.specs.declared.hand.Hand.{Ghosts}
 use Rattle.master_side.specs.declared.hand.Heard.{Heard}
 use Rattle.master_tour.specs.Brings.{accepted_in}
 use Rattle.master_tour.specs.declared.stop.Stop.{Stop}
-use Rattle.segment_model.specs.Slaves.{Datagram}
+use Rattle.master_duty.specs.of_segment_model.Slaves.{Datagram}
 use Rattle.master_node.specs.Brought.{StopBrought}
 use Rattle.master_node.specs.Kept.{StopStays}
 

@@ -3,7 +3,7 @@ use Rattle.std.proofs.Common.{◌≡◌, ◌⊎◌, inl, inr, ◌<◌, ◌+◌, 
 use Rattle.std.specs.Prelude.{is_some, slice_get, nat_lt, if◌then◌else◌, ⊤}
 use Rattle.life_runs.specs.Led.{Comes}
 use Rattle.master_hand.specs.Laying.{Waiting, Scripted, scripted, scripted_behind, asked_next, ready_of, ready_by}
-use Rattle.eoe_model.specs.Client as EoeClient
+use Rattle.master_hand.specs.of_eoe_model.Client as EoeClient
 use Rattle.master_hand.specs.Spoken.{Asked, net, is_passed}
 use Rattle.master_hand.specs.Talk.{asked_of}
 use Rattle.master_hand.specs.declared.laying.Laid.{Laid}
@@ -11,7 +11,7 @@ use Rattle.master_side.specs.Shown.{wish_begun, takes_ready, wished}
 use Rattle.master_side.specs.declared.carried.Wish.{Wish}
 use Rattle.segment_plan.specs.declared.service.Service as Plan
 use Rattle.segment_plan.specs.declared.service.Service.{Service}
-use Rattle.state_exchange.specs.Stated as Stated
+use Rattle.master_duty.specs.of_state_exchange.Stated as Stated
 use Rattle.master_node.specs.Coming.{IsComing, IsLaid, wish_of}
 use Rattle.master_node.specs.declared.coming.Coming.{Coming}
 

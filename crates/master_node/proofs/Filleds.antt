@@ -3,8 +3,8 @@ use Rattle.std.proofs.Common.{◌≡◌, ◌⊎◌, inl, inr, ◌<◌, ◌≤◌
 use Rattle.std.specs.Prelude.{nat_lt, map, All}
 use Rattle.std.specs.List.{list_any}
 use Rattle.std.proofs.lemmas.Bool.{lt-ltb, le-ltb}
-use Rattle.frame_view.specs.View.{Lens}
-use Rattle.life_frames.specs.Shares.{AllFrom}
+use Rattle.life_runs.specs.of_frame_view.View.{Lens}
+use Rattle.life_runs.specs.of_life_frames.Shares.{AllFrom}
 use Rattle.life_runs.specs.Led.{Leads}
 use Rattle.master_tour.specs.Goes.{is_live, holds_at, Passes, BeginsLive}
 use Rattle.master_tour.specs.Made.{FrameMade, is_in}

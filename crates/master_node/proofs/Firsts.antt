@@ -5,11 +5,11 @@ use Rattle.std.proofs.lemmas.Bool.{eqb-true}
 use Rattle.segment_plan.specs.Sound.{is_start}
 use Rattle.al_state.specs.declared.bringing.BringStep.{BringStep}
 use Rattle.al_state.specs.declared.bringing.BringUp.{BringUp}
-use Rattle.frame_view.specs.View.{Lens}
-use Rattle.life_frames.specs.Openings.{has_step, opening_of}
-use Rattle.life_frames.specs.Shares.{AllFrom, AllBoth, AllThree}
-use Rattle.life_model.specs.Lives
-use Rattle.life_model.specs.Lives.{new_life}
+use Rattle.life_runs.specs.of_frame_view.View.{Lens}
+use Rattle.life_runs.specs.of_life_frames.Openings.{has_step, opening_of}
+use Rattle.life_runs.specs.of_life_frames.Shares.{AllFrom, AllBoth, AllThree}
+use Rattle.master_tour.specs.of_life_model.Lives
+use Rattle.master_tour.specs.of_life_model.Lives.{new_life}
 use Rattle.life_runs.specs.First.{spot_of, script_for, leads_from, HaveLens}
 use Rattle.mailbox_master.specs.Any.{in_area_len}
 use Rattle.master_hand.specs.Shown.{Shows}
@@ -23,7 +23,7 @@ use Rattle.master_tour.specs.declared.stop.Stand.{Stand}
 use Rattle.master_tour.specs.declared.stop.Stop.{Stop}
 use Rattle.segment_plan.specs.declared.plan.Scenario.{Scenario}
 use Rattle.segment_plan.specs.declared.slave.SlaveSpec.{SlaveSpec}
-use Rattle.task_model.specs.Accounts.{new_account}
+use Rattle.master_duty.specs.of_task_model.Accounts.{new_account}
 use Rattle.master_node.specs.Shows.{side_shows, IsLead, is_opening_lead}
 use Rattle.master_node.specs.First.{IsNewSide, IsFirst}
 use Rattle.master_node.specs.Joined.{IsUnfinished, stand_before}

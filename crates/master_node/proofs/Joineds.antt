@@ -3,13 +3,13 @@ use Rattle.std.proofs.Common.{◌≡◌, ◌<◌, ℕ, zero, suc, get_or, Bool, 
 use Rattle.std.specs.Prelude.{◌==◌, ◌&&◌, nat_lt, if◌then◌else◌, map, IfSome, slice_get}
 use Rattle.std.proofs.lemmas.Bool.Decides.{nat_tests}
 use Rattle.eoe.specs.declared.joining.Unfinished.{Unfinished}
-use Rattle.exchange_model.specs.Exchange.{Speech}
-use Rattle.life_frames.specs.Shares.{AllBoth, AllThree, given_where}
-use Rattle.life_model.specs.Lives.{Life, Era, Opening, Spot, Stand, shows_clear, last_step, is_shown, clears, opens, steps_on, opening_back, reopens, reopens_at, reopening, opens_state, returns_to_init, era_back, life_back, life_lost}
+use Rattle.master_duty.specs.of_exchange_model.Exchange.{Speech}
+use Rattle.life_runs.specs.of_life_frames.Shares.{AllBoth, AllThree, given_where}
+use Rattle.master_tour.specs.of_life_model.Lives.{Life, Era, Opening, Spot, Stand, shows_clear, last_step, is_shown, clears, opens, steps_on, opening_back, reopens, reopens_at, reopening, opens_state, returns_to_init, era_back, life_back, life_lost}
 use Rattle.life_runs.specs.Led.{Turn}
 use Rattle.life_runs.specs.Spans.{is_leaving}
-use Rattle.link_mails.specs.Body.{Body}
-use Rattle.link_model.specs.Link.{Halves}
+use Rattle.master_side.specs.of_link_mails.Body.{Body}
+use Rattle.mailbox_master.specs.of_link_model.Link.{Halves}
 use Rattle.master_duty.specs.Reply.{Reply}
 use Rattle.master_hand.specs.Joins.{unfinished_behind, Completes}
 use Rattle.master_hand.specs.Spoken.{Asked}
@@ -23,10 +23,10 @@ use Rattle.master_tour.specs.Walks.{EachPair}
 use Rattle.master_tour.specs.declared.stop.Turned.{Turned}
 use Rattle.master_tour.proofs.Backs.{turned_same}
 use Rattle.master_tour.proofs.Openings.{turned_is, lt_self, lt_more}
-use Rattle.segment_model.specs.Record.{News}
-use Rattle.segment_model.specs.Slaves as Slaves
-use Rattle.segment_model.specs.Slaves.{Datagram}
-use Rattle.task_model.specs.Accounts.{Duty, Stage}
+use Rattle.master_duty.specs.of_segment_model.Record.{News}
+use Rattle.master_duty.specs.of_segment_model.Slaves as Slaves
+use Rattle.master_duty.specs.of_segment_model.Slaves.{Datagram}
+use Rattle.master_duty.specs.of_task_model.Accounts.{Duty, Stage}
 use Rattle.master_hand.specs.declared.hand.InHand.{InHand}
 use Rattle.master_side.specs.declared.hand.Hand.{Ghosts}
 use Rattle.master_tour.specs.declared.stop.Stop.{Stop}

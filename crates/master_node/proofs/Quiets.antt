@@ -4,13 +4,13 @@ use Rattle.std.specs.Prelude.{nat_lt, nat_le, All, IfSome, slice_get, option_map
 use Rattle.std.specs.List.{list_any}
 use Rattle.std.proofs.lemmas.Bool.{ltb-true, ltb-false, le-leb, lt-leb}
 use Rattle.std.proofs.lemmas.List.Elements.{All-nil, All-cons, All-head, All-tail}
-use Rattle.exchange_model.specs.Exchange.{Speech}
-use Rattle.exchange_model.specs.Rows.{Row}
-use Rattle.frame_view.specs.View.{Lens}
-use Rattle.life_frames.specs.Shares.{AllBoth}
-use Rattle.life_model.specs.Lives
+use Rattle.master_duty.specs.of_exchange_model.Exchange.{Speech}
+use Rattle.master_duty.specs.of_exchange_model.Rows.{Row}
+use Rattle.life_runs.specs.of_frame_view.View.{Lens}
+use Rattle.life_runs.specs.of_life_frames.Shares.{AllBoth}
+use Rattle.master_tour.specs.of_life_model.Lives
 use Rattle.life_runs.specs.Led.{Leads, speech_at}
-use Rattle.link_mails.specs.Body.{link_mail}
+use Rattle.master_side.specs.of_link_mails.Body.{link_mail}
 use Rattle.master_duty.specs.declared.duty.Duty.{Duty}
 use Rattle.master_hand.specs.Shown.{Shows}
 use Rattle.master_hand.specs.declared.hand.InHand.{InHand}
@@ -20,10 +20,10 @@ use Rattle.master_side.specs.declared.hand.Hand.{Ghosts}
 use Rattle.master_tour.specs.Goes.{holds_at}
 use Rattle.master_tour.specs.declared.stop.Stand.{Stand}
 use Rattle.master_tour.specs.declared.stop.Stop.{Stop}
-use Rattle.segment_model.specs.Laws.{NothingInHand}
-use Rattle.segment_model.specs.Seats
-use Rattle.task_model.specs.Accounts
-use Rattle.task_model.specs.Accounts.{is_free}
+use Rattle.master_duty.specs.of_segment_model.Laws.{NothingInHand}
+use Rattle.master_duty.specs.of_segment_model.Seats
+use Rattle.master_duty.specs.of_task_model.Accounts
+use Rattle.master_duty.specs.of_task_model.Accounts.{is_free}
 use Rattle.master_tour.specs.Stands.{StandShows}
 use Rattle.master_node.specs.Shows.{IsLead, side_shows}
 use Rattle.master_node.specs.Wants.{gave_of, gave_more, IsCounted, AllPlaced, IsIdle, IsLeft, AllLeft, IsQuiet, IsQuietBy}

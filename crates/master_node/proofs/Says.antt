@@ -1,18 +1,18 @@
 -- WHAT A MASTER SAYS of the newest service of a slave.
 use Rattle.std.proofs.Common.{◌≡◌, ◌<◌, ℕ, zero, suc, true, false, Option, Some, None, List, [], ◌∷◌, ◌++◌, length, get_or, refl, ap, sym, ◌∙◌, subst, arith}
 use Rattle.std.specs.Prelude.{IfSome, IfOk, Result, Ok, Err, slice_get, is_some}
-use Rattle.exchange_model.specs.Exchange.{Speech}
-use Rattle.exchange_model.specs.Rows.{Row}
-use Rattle.frame_view.specs.View.{Lens}
-use Rattle.life_frames.specs.Shares.{AllBoth}
-use Rattle.life_model.specs.Lives
+use Rattle.master_duty.specs.of_exchange_model.Exchange.{Speech}
+use Rattle.master_duty.specs.of_exchange_model.Rows.{Row}
+use Rattle.life_runs.specs.of_frame_view.View.{Lens}
+use Rattle.life_runs.specs.of_life_frames.Shares.{AllBoth}
+use Rattle.master_tour.specs.of_life_model.Lives
 use Rattle.life_runs.specs.Led.{Leads}
-use Rattle.link_mails.specs.Body.{Body}
+use Rattle.master_side.specs.of_link_mails.Body.{Body}
 use Rattle.mailbox_mail.specs.declared.outcome.ReplyKind.{ReplyKind}
 use Rattle.master_duty.specs.Reply.{Reply}
 use Rattle.master_duty.specs.declared.duty.Duty.{Duty}
-use Rattle.eoe_model.specs.Client as EoeClient
-use Rattle.foe_model.specs.Meaning as FoeMeaning
+use Rattle.master_hand.specs.of_eoe_model.Client as EoeClient
+use Rattle.master_hand.specs.of_foe_model.Meaning as FoeMeaning
 use Rattle.master_hand.specs.Grips.{HasIt}
 use Rattle.master_hand.specs.Shown.{Shows, has_reply}
 use Rattle.master_hand.specs.Spoken.{Asked, sdo, file, drive, net, passed, is_passed}
@@ -26,7 +26,7 @@ use Rattle.master_side.specs.declared.hand.Hand.{Ghosts}
 use Rattle.master_tour.specs.Stands.{StandShows}
 use Rattle.master_tour.specs.declared.stop.Stand.{Stand}
 use Rattle.master_tour.specs.declared.stop.Stop.{Stop}
-use Rattle.task_model.specs.Accounts
+use Rattle.master_duty.specs.of_task_model.Accounts
 use Rattle.master_node.specs.Shows.{IsLead, side_shows}
 use Rattle.master_node.specs.Told.{Tells}
 use Rattle.master_node.specs.declared.told.Told.{Told}

@@ -2,9 +2,9 @@
 use Rattle.std.proofs.Common.{◌≡◌, ℕ, Bool, true, false, refl, ap, sym, ◌∙◌}
 use Rattle.std.specs.Prelude.{◌&&◌, nat_lt}
 use Rattle.al_state.specs.declared.bringing.BringStep.{BringStep}
-use Rattle.frame_view.specs.View.{Lens}
+use Rattle.life_runs.specs.of_frame_view.View.{Lens}
 use Rattle.life_runs.specs.Spans.{is_leaving, is_open}
-use Rattle.life_frames.specs.Openings.{step_number}
+use Rattle.life_runs.specs.of_life_frames.Openings.{step_number}
 use Rattle.life_runs.specs.Led.{Leads}
 use Rattle.master_hand.specs.declared.hand.InHand.{InHand}
 use Rattle.master_node.specs.Shows.{IsLead, side_shows}

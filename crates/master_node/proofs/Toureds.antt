@@ -2,7 +2,7 @@
 use Rattle.std.proofs.Common.{◌≡◌, ◌⊎◌, inl, inr, ◌<◌, ◌≤◌, ◌+◌, ◌==◌, ℕ, zero, suc, Bool, true, false, Option, Some, None, List, [], ◌∷◌, ◌++◌, refl, sym, ap, ◌∙◌, subst, arith, length, append_assoc}
 use Rattle.std.specs.Prelude.{nat_lt, ◌&&◌, not, if◌then◌else◌}
 use Rattle.std.proofs.lemmas.Bool.{eq-eqb, eqb-true, lt-ltb, le-ltb}
-use Rattle.life_frames.specs.Frames.{Share}
+use Rattle.life_runs.specs.of_life_frames.Frames.{Share}
 use Rattle.master_hand.specs.contracts.hand.InHandHand.TheImpl as Impl
 use Rattle.master_hand.specs.declared.hand.InHand.{InHand}
 use Rattle.master_tour.specs.declared.tour.Tour as Tours
@@ -30,11 +30,11 @@ use Rattle.master_tour.proofs.Firsts.{visits_once, visited_same}
 use Rattle.master_node.specs.Kept.{TourOn}
 use Rattle.master_node.specs.Toured.{stop_share, turn_share, again_of, tour_of, StaysPut, TakesPart, IsBare, HasVisited}
 use Rattle.master_node.specs.Shows.{IsUnder}
-use Rattle.frame_view.specs.View.{Lens}
-use Rattle.life_frames.specs.Shares.{AllBoth}
+use Rattle.life_runs.specs.of_frame_view.View.{Lens}
+use Rattle.life_runs.specs.of_life_frames.Shares.{AllBoth}
 use Rattle.life_runs.specs.Led.{Leads, Turn}
-use Rattle.life_frames.specs.Shares.{AllFrom, Lived}
-use Rattle.life_model.specs.Lives.{Spot}
+use Rattle.life_runs.specs.of_life_frames.Shares.{AllFrom, Lived}
+use Rattle.master_tour.specs.of_life_model.Lives.{Spot}
 use Rattle.mailbox_master.specs.Any.{in_area_len}
 use Rattle.master_duty.specs.Reply.{Reply}
 use Rattle.master_hand.specs.Spoken.{Asked}

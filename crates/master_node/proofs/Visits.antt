@@ -1,8 +1,8 @@
 -- A VISIT: what comes into hand of one slave, and what stays of all others.
 use Rattle.std.proofs.Common.{◌≡◌, ◌<◌, ℕ, suc, Bool, true, false, Option, Some, None, List, refl, sym, ap, ◌∙◌, subst, arith, length}
 use Rattle.std.specs.Prelude.{is_some, slice_get, map, IfSome, if◌then◌else◌}
-use Rattle.frame_view.specs.View.{Lens}
-use Rattle.life_frames.specs.Shares.{Lived, AllFrom, AreDistinct}
+use Rattle.life_runs.specs.of_frame_view.View.{Lens}
+use Rattle.life_runs.specs.of_life_frames.Shares.{Lived, AllFrom, AreDistinct}
 use Rattle.master_duty.specs.Reply.{Reply}
 use Rattle.life_runs.specs.Led.{Leads, Comes}
 use Rattle.master_hand.specs.Laying.{Scripted, scripted, scripted_behind, ready_of}
@@ -16,7 +16,7 @@ use Rattle.master_tour.specs.Made.{ComesAt, FrameMade, is_in}
 use Rattle.master_tour.specs.Walks.{EachPair, StepsAt}
 use Rattle.master_tour.specs.declared.stop.Stop.{Stop}
 use Rattle.segment_plan.specs.declared.service.Service as Plan
-use Rattle.state_exchange.specs.Stated.{Service}
+use Rattle.master_duty.specs.of_state_exchange.Stated.{Service}
 use Rattle.master_node.specs.Coming.{IsComing, IsLaid, PassesBy, CameBy, next_of, wish_of}
 use Rattle.master_node.specs.Filling.{IsAmong, StopFills}
 use Rattle.master_node.specs.Kept.{StopKept, StopStays}

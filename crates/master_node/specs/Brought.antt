@@ -1,15 +1,15 @@
 -- WHAT A FRAME THAT CAME BACK BROUGHT of the slaves, by their lives, as a master has it.
 use Rattle.std.specs.Prelude.{List}
-use Rattle.life_frames.specs.Shares.{AllBoth}
+use Rattle.life_runs.specs.of_life_frames.Shares.{AllBoth}
 use Rattle.life_runs.specs.Led.{Turn}
-use Rattle.link_mails.specs.Body.{Body}
+use Rattle.master_side.specs.of_link_mails.Body.{Body}
 use Rattle.master_hand.specs.Brings.{Brings}
 use Rattle.master_hand.specs.declared.hand.InHand.{InHand}
 use Rattle.master_side.specs.Heard.{Brought}
 use Rattle.master_side.specs.declared.hand.Hand.{Ghosts}
 use Rattle.master_tour.specs.Brings.{accepted_in}
 use Rattle.master_tour.specs.declared.stop.Stop.{Stop}
-use Rattle.segment_model.specs.Slaves.{Datagram}
+use Rattle.master_duty.specs.of_segment_model.Slaves.{Datagram}
 use Rattle.master_node.specs.declared.node.MasterNode.{MasterNode}
 
 -- a slave's hand tells of the mails that its life accepted

@@ -1,11 +1,11 @@
 -- THE PACKETS THAT SLAVES SEND, as a master joins them: what is unfinished of each, by the lives of the slaves, and what a frame that came back completed.
 use Rattle.std.specs.Prelude.{◌≡◌, ⊤, false, Option, None, List, [], ◌∷◌}
 use Rattle.eoe.specs.declared.joining.Unfinished.{Unfinished}
-use Rattle.life_frames.specs.Shares.{AllThree}
-use Rattle.life_model.specs.Lives.{Stand}
+use Rattle.life_runs.specs.of_life_frames.Shares.{AllThree}
+use Rattle.master_tour.specs.of_life_model.Lives.{Stand}
 use Rattle.life_runs.specs.Led.{Leads, Turn}
 use Rattle.life_runs.specs.Spans.{is_leaving}
-use Rattle.link_mails.specs.Body.{Body}
+use Rattle.master_side.specs.of_link_mails.Body.{Body}
 use Rattle.master_hand.specs.Joins.{unfinished_behind, Completes}
 use Rattle.master_hand.specs.declared.hand.InHand.{InHand}
 use Rattle.master_side.specs.Heard.{Brought}
@@ -14,7 +14,7 @@ use Rattle.master_tour.specs.Brings.{accepted_in}
 use Rattle.master_tour.specs.Joins.{join_at}
 use Rattle.master_tour.specs.Walks.{EachPair}
 use Rattle.master_tour.specs.declared.stop.Stop.{Stop}
-use Rattle.segment_model.specs.Slaves.{Datagram}
+use Rattle.master_duty.specs.of_segment_model.Slaves.{Datagram}
 use Rattle.master_node.specs.declared.node.MasterNode.{MasterNode}
 
 -- what is unfinished at a slave's hand, by how the master stands to it: of an open slave this, and of one that is opened nothing, once it needn't

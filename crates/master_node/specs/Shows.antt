@@ -1,12 +1,12 @@
 -- A MASTER LEADS THE LIVES OF ITS SLAVES: what it has of each, before a frame and while one is under way.
 use Rattle.std.specs.Prelude.{◌≡◌, ◌≤◌, ◌<◌, ℕ, Bool, true, false, None, List, [], ◌∷◌, map, length, All}
-use Rattle.frame_view.specs.View.{Lens}
-use Rattle.frame_view.specs.Seen.{seen}
-use Rattle.life_frames.specs.Shares.{Lived, AllBoth, AreDistinct}
-use Rattle.life_model.specs.Lives
-use Rattle.life_model.specs.Lives.{Spot}
+use Rattle.life_runs.specs.of_frame_view.View.{Lens}
+use Rattle.life_runs.specs.of_frame_view.Seen.{seen}
+use Rattle.life_runs.specs.of_life_frames.Shares.{Lived, AllBoth, AreDistinct}
+use Rattle.master_tour.specs.of_life_model.Lives
+use Rattle.master_tour.specs.of_life_model.Lives.{Spot}
 use Rattle.life_runs.specs.Led.{Leads, Turn, speech_at}
-use Rattle.link_mails.specs.Body.{Body}
+use Rattle.master_side.specs.of_link_mails.Body.{Body}
 use Rattle.mailbox_master.specs.Any.{in_area_len}
 use Rattle.master_duty.specs.Reply.{Reply}
 use Rattle.master_hand.specs.Shown.{Shows}
@@ -19,8 +19,8 @@ use Rattle.master_tour.specs.Made.{StopLives, is_in}
 use Rattle.master_tour.specs.Orders.{AreOnce}
 use Rattle.master_tour.specs.Stands.{StandUnder, is_opening}
 use Rattle.master_tour.specs.declared.stop.Stop.{Stop}
-use Rattle.segment_model.specs.Seats.{Side}
-use Rattle.task_model.specs.Accounts.{Account}
+use Rattle.master_duty.specs.of_segment_model.Seats.{Side}
+use Rattle.master_duty.specs.of_task_model.Accounts.{Account}
 use Rattle.master_node.specs.Rooms.{FitAgain, FitUnder}
 use Rattle.master_node.specs.declared.node.MasterNode.{MasterNode}
 use Rattle.master_node.specs.declared.post.Post.{Post}

@@ -1,10 +1,10 @@
 -- WHAT A MASTER SAYS OF THE NEWEST SERVICE of a slave, by what it has of it.
 use Rattle.std.specs.Prelude.{◌≡◌, ℕ, true, Option, Some, None, List, ◌++◌}
-use Rattle.exchange_model.specs.Rows.{Row}
-use Rattle.frame_view.specs.View.{Lens}
-use Rattle.life_frames.specs.Shares.{AllBoth}
+use Rattle.master_duty.specs.of_exchange_model.Rows.{Row}
+use Rattle.life_runs.specs.of_frame_view.View.{Lens}
+use Rattle.life_runs.specs.of_life_frames.Shares.{AllBoth}
 use Rattle.life_runs.specs.Led.{Leads}
-use Rattle.link_mails.specs.Body.{Body}
+use Rattle.master_side.specs.of_link_mails.Body.{Body}
 use Rattle.master_duty.specs.Reply.{Reply}
 use Rattle.master_hand.specs.Spoken.{Asked, is_passed}
 use Rattle.master_node.specs.Shows.{IsLead}

@@ -1,6 +1,6 @@
 -- THE TOUR OF A MASTER: what its frames carry of the tour, and where that stands behind them.
 use Rattle.std.specs.Prelude.{◌≡◌, ◌≤◌, ℕ, Bool, true, false, Option, Some, None, List, [], ◌++◌, length}
-use Rattle.life_frames.specs.Frames.{Share}
+use Rattle.life_runs.specs.of_life_frames.Frames.{Share}
 use Rattle.life_runs.specs.Led.{Turn}
 use Rattle.master_hand.specs.declared.hand.InHand.{InHand}
 use Rattle.master_side.specs.declared.hand.Hand.{Ghosts}

@@ -1,11 +1,11 @@
 -- WHAT A MASTER STILL WANTS of the slaves that it leads, and how often each was given up.
 use Rattle.std.specs.Prelude.{◌≡◌, ◌⊎◌, ◌≤◌, ℕ, suc, ◌-◌, Bool, true, nat_lt, nat_le, None, List, [], ◌∷◌, length, slice_get, ⊤}
-use Rattle.exchange_model.specs.Exchange.{Speech}
-use Rattle.frame_view.specs.View.{Lens}
-use Rattle.life_model.specs.Lives
+use Rattle.master_duty.specs.of_exchange_model.Exchange.{Speech}
+use Rattle.life_runs.specs.of_frame_view.View.{Lens}
+use Rattle.master_tour.specs.of_life_model.Lives
 use Rattle.life_runs.specs.Led.{Leads, speech_at}
-use Rattle.link_mails.specs.Body.{Body}
-use Rattle.link_model.specs.Master.{InState}
+use Rattle.master_side.specs.of_link_mails.Body.{Body}
+use Rattle.mailbox_master.specs.of_link_model.Master.{InState}
 use Rattle.mailbox_master.specs.Any.{in_half_of}
 use Rattle.master_duty.specs.Reply.{Reply}
 use Rattle.master_hand.specs.Shown.{Shows}
@@ -16,9 +16,9 @@ use Rattle.master_side.specs.Shown.{SideShows}
 use Rattle.master_side.specs.declared.hand.Hand.{Ghosts}
 use Rattle.master_side.specs.declared.side.Side as Sides
 use Rattle.master_tour.specs.declared.stop.Stand.{Stand}
-use Rattle.segment_model.specs.Laws.{WantsNothing}
-use Rattle.segment_model.specs.Seats
-use Rattle.task_model.specs.Accounts.{Account, is_free}
+use Rattle.master_duty.specs.of_segment_model.Laws.{WantsNothing}
+use Rattle.master_duty.specs.of_segment_model.Seats
+use Rattle.master_duty.specs.of_task_model.Accounts.{Account, is_free}
 
 -- the frames at which a slave was given up
 abbrev pub gave_of : Leads → List ℕ

@@ -2,7 +2,7 @@
 
 ghost use Rattle.std.specs.Prelude.{◌≡◌, List, Option, option_map};
 ghost use Rattle.eoe.specs.declared.joining.Unfinished.{Unfinished};
-ghost use Rattle.link_mails.specs.Body.{Body};
+ghost use Rattle.master_side.specs.of_link_mails.Body.{Body};
 ghost use Rattle.master_hand.specs.Brings.{Brings, as_list, emergencies_in};
 ghost use Rattle.master_hand.specs.Joins.{Completes, packets_in};
 ghost use Rattle.master_side.specs.Heard.{Brought};
@@ -37,8 +37,8 @@ impl MasterNode {
     ghost use Rattle.std.specs.Prelude.{◌≡◌, ◌<◌, ℕ, List, Option, IfSome, slice_get, vec_len, option_map};
     ghost use Rattle.eoe.specs.declared.joining.Unfinished.{Unfinished};
     ghost use Rattle.life_runs.specs.Led.{Turn};
-    ghost use Rattle.link_mails.specs.Body.{Body};
-    ghost use Rattle.segment_model.specs.Slaves.{Datagram};
+    ghost use Rattle.master_side.specs.of_link_mails.Body.{Body};
+    ghost use Rattle.master_duty.specs.of_segment_model.Slaves.{Datagram};
     ghost use Rattle.master_hand.specs.Brings.{as_list, emergencies_in};
     ghost use Rattle.master_tour.specs.Brings.{accepted_in};
     ghost use Rattle.master_node.specs.Brought.{HasBrought};

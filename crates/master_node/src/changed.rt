@@ -5,7 +5,7 @@ ghost use Rattle.master_duty.specs.Reply.{Reply};
 ghost use Rattle.master_hand.specs.Spoken.{Asked};
 ghost use Rattle.master_side.specs.Carried.{in_hand};
 ghost use Rattle.master_side.specs.Shown.{DutyShows, OverShows};
-ghost use Rattle.task_model.specs.Accounts.{Account};
+ghost use Rattle.master_duty.specs.of_task_model.Accounts.{Account};
 ghost use Rattle.master_node.specs.Changed.{TellsChange};
 
 use crate::node::MasterNode;
@@ -38,8 +38,8 @@ fn changed_by(duty: Option<Met>) -> Changed
 
 impl MasterNode {
     ghost use Rattle.std.specs.Prelude.{◌≡◌, ◌<◌, ℕ, List, IfSome, slice_get, vec_len};
-    ghost use Rattle.frame_view.specs.View.{Lens};
-    ghost use Rattle.life_model.specs.Lives.{Stand};
+    ghost use Rattle.life_runs.specs.of_frame_view.View.{Lens};
+    ghost use Rattle.master_tour.specs.of_life_model.Lives.{Stand};
     ghost use Rattle.life_runs.specs.Led.{Leads};
     ghost use Rattle.master_node.specs.Told.{HasLeads};
 

@@ -58,9 +58,9 @@ impl MasterNode {
     ghost use Rattle.master_node.specs.Kept.{StopStays, TourKept, TourOn};
     ghost use Rattle.master_node.specs.Coming.{next_of, IsComing, IsLaid, PassesBy, CameBy};
     ghost use Rattle.std.specs.Prelude.{◌⊎◌, ◌+◌, ◌∷◌, [], nat_lt, map, if◌then◌else◌};
-    ghost use Rattle.frame_view.specs.View.{Lens};
-    ghost use Rattle.frame_view.specs.Seen.{seen};
-    ghost use Rattle.life_frames.specs.Shares.{AreDistinct};
+    ghost use Rattle.life_runs.specs.of_frame_view.View.{Lens};
+    ghost use Rattle.life_runs.specs.of_frame_view.Seen.{seen};
+    ghost use Rattle.life_runs.specs.of_life_frames.Shares.{AreDistinct};
     ghost use Rattle.life_runs.specs.Led.{Leads, Turn, IsLedFrame};
     ghost use Rattle.master_tour.specs.Made.{is_in};
     ghost use Rattle.master_tour.specs.Orders.{IsCarried};

@@ -26,7 +26,7 @@ fn is_up(stand: Stand) -> bool
 
 impl MasterNode {
     ghost use Rattle.std.specs.Prelude.{◌≡◌, ◌<◌, ℕ, List, IfSome, slice_get, vec_len};
-    ghost use Rattle.frame_view.specs.View.{Lens};
+    ghost use Rattle.life_runs.specs.of_frame_view.View.{Lens};
     ghost use Rattle.life_runs.specs.Spans.{is_leaving, is_open};
     ghost use Rattle.life_runs.specs.Led.{Leads};
     ghost use Rattle.master_node.specs.Told.{HasLeads};

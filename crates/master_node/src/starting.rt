@@ -1,7 +1,7 @@
 //! A master before its first frame.
 
 ghost use Rattle.std.specs.Prelude.{◌≡◌, ◌≤◌, ◌<◌, length, map, replicate, vec_len, false, All, IfOk, None};
-ghost use Rattle.life_frames.specs.Shares.{AllFrom};
+ghost use Rattle.life_runs.specs.of_life_frames.Shares.{AllFrom};
 ghost use Rattle.master_node.specs.Lives.{waiting_of};
 ghost use Rattle.segment_plan.specs.Sound.{IsPlan, IsSlave, IsPace};
 ghost use Rattle.master_node.specs.First.{IsNewSide, IsFirst};

@@ -15,10 +15,10 @@ use master_tour::Turned;
 impl MasterNode {
     ghost use Rattle.std.specs.Prelude.{◌≡◌, ℕ, Option, List, map};
     ghost use Rattle.eoe.specs.declared.joining.Unfinished.{Unfinished};
-    ghost use Rattle.frame_view.specs.View.{Lens};
-    ghost use Rattle.frame_view.specs.Seen.{seen};
-    ghost use Rattle.segment_model.specs.Returned.{Returns};
-    ghost use Rattle.segment_ring.specs.declared.wire.Fate.{Fate};
+    ghost use Rattle.life_runs.specs.of_frame_view.View.{Lens};
+    ghost use Rattle.life_runs.specs.of_frame_view.Seen.{seen};
+    ghost use Rattle.master_duty.specs.of_segment_model.Returned.{Returns};
+    ghost use Rattle.life_runs.specs.of_segment_ring.declared.wire.Fate.{Fate};
     ghost use Rattle.life_runs.specs.Led.{Turn, Exchanged, led_behind, gives_up_at, missed_behind};
     ghost use Rattle.master_node.specs.Brought.{HasBrought};
     ghost use Rattle.master_node.specs.Joined.{HasUnfinished, HasCompleted, stand_before, stand_under, unfinished_after, mails_back, mails_lost};

@@ -1,9 +1,9 @@
 //! What a master says of the newest service of a slave, by what it has of it.
 
 ghost use Rattle.std.specs.Prelude.{◌≡◌, true, ℕ, Option, IfOk};
-ghost use Rattle.exchange_model.specs.Exchange.{Speech};
-ghost use Rattle.exchange_model.specs.Rows.{Row};
-ghost use Rattle.link_mails.specs.Body.{Body};
+ghost use Rattle.master_duty.specs.of_exchange_model.Exchange.{Speech};
+ghost use Rattle.master_duty.specs.of_exchange_model.Rows.{Row};
+ghost use Rattle.master_side.specs.of_link_mails.Body.{Body};
 ghost use Rattle.master_duty.specs.Reply.{Reply};
 ghost use Rattle.master_hand.specs.Shown.{Shows, has_reply};
 ghost use Rattle.master_hand.specs.Spoken.{Asked};
@@ -49,8 +49,8 @@ fn told_of(hand: &InHand, into: &mut Octets) -> Result<Told, NoMemory>
 
 impl MasterNode {
     ghost use Rattle.std.specs.Prelude.{◌≡◌, ◌<◌, ℕ, List, IfOk, IfSome, is_some, slice_get, vec_len};
-    ghost use Rattle.frame_view.specs.View.{Lens};
-    ghost use Rattle.life_model.specs.Lives.{Stand};
+    ghost use Rattle.life_runs.specs.of_frame_view.View.{Lens};
+    ghost use Rattle.master_tour.specs.of_life_model.Lives.{Stand};
     ghost use Rattle.life_runs.specs.Led.{Leads};
     ghost use Rattle.master_node.specs.Told.{HasLeads, Tells};
 

@@ -2,7 +2,7 @@
 
 ghost use Rattle.std.specs.Prelude.{◌≡◌, ◌<◌, None, vec_len};
 ghost use Rattle.std.specs.Bool.{OnTrue, OnFalse};
-ghost use Rattle.link_model.specs.Master.{InState};
+ghost use Rattle.mailbox_master.specs.of_link_model.Master.{InState};
 ghost use Rattle.mailbox_master.specs.Any.{in_half_of};
 ghost use Rattle.master_node.specs.Wants.{IsQuiet, gave_more};
 
@@ -47,7 +47,7 @@ impl MasterNode {
     ghost use Rattle.std.specs.Prelude.{◌≡◌, ◌<◌, ℕ, List, All, IfSome, true, nat_lt, length, slice_get, vec_len};
     ghost use Rattle.std.specs.Bool.{OnTrue, OnFalse};
     ghost use Rattle.std.specs.List.{list_any};
-    ghost use Rattle.frame_view.specs.View.{Lens};
+    ghost use Rattle.life_runs.specs.of_frame_view.View.{Lens};
     ghost use Rattle.life_runs.specs.Led.{Leads};
     ghost use Rattle.master_tour.specs.Goes.{is_live, holds_at};
     ghost use Rattle.master_node.specs.Shows.{MasterShows};

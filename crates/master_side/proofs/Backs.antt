@@ -12,16 +12,16 @@ use Rattle.mailbox_mail.specs.declared.mail.Kind.{Kind}
 use Rattle.mailbox_mail.specs.Kind.{kind_of}
 use Rattle.mailbox_mail.specs.Mail.{mail_read, mail_of, is_past, type_in}
 use Rattle.ec_fields.specs.Fields.{number_at}
-use Rattle.exchange_model.specs.Rows.{Row, row_heard}
-use Rattle.link_mails.specs.Body.{Body, link_mail, mail_brought}
-use Rattle.link_model.specs.Mails.{LinkMail, news}
-use Rattle.link_model.specs.Counters.{repeats}
-use Rattle.link_model.specs.Master.{InHalf, InState, in_lost, out_answered}
-use Rattle.link_model.specs.Link.{Halves}
-use Rattle.link_model.specs.Frames.{Ask, Gram, in_ask, halves_answered, halves_accept, halves_lost, all_accepted}
-use Rattle.segment_model.specs.Slaves.{Datagram, grams}
-use Rattle.segment_model.specs.Seats.{Side, is_write, side_lost, side_back}
-use Rattle.task_model.specs.Accounts.{Account}
+use Rattle.frame_view.specs.of_exchange_model.Rows.{Row, row_heard}
+use Rattle.frame_view.specs.of_link_mails.Body.{Body, link_mail, mail_brought}
+use Rattle.frame_view.specs.of_link_model.Mails.{LinkMail, news}
+use Rattle.frame_view.specs.of_link_model.Counters.{repeats}
+use Rattle.frame_view.specs.of_link_model.Master.{InHalf, InState, in_lost, out_answered}
+use Rattle.frame_view.specs.of_link_model.Link.{Halves}
+use Rattle.frame_view.specs.of_link_model.Frames.{Ask, Gram, in_ask, halves_answered, halves_accept, halves_lost, all_accepted}
+use Rattle.frame_view.specs.of_segment_model.Slaves.{Datagram, grams}
+use Rattle.frame_view.specs.of_segment_model.Seats.{Side, is_write, side_lost, side_back}
+use Rattle.master_duty.specs.of_task_model.Accounts.{Account}
 use Rattle.mailbox_master.specs.Links.{OutLink}
 use Rattle.mailbox_master.specs.Seat.{seat_half, got_seen}
 use Rattle.mailbox_master.specs.declared.seat.GotView.{GotView}
@@ -29,7 +29,7 @@ use Rattle.mailbox_master.specs.declared.halves.InwardHalf.{InwardHalf}
 use Rattle.mailbox_master.specs.Any.{in_half_of, out_returned}
 use Rattle.master_duty.specs.declared.duty.Duty.{Duty}
 use Rattle.master_side.specs.declared.carried.Carried.{Carried}
-use Rattle.exchange_model.specs.Exchange.{Speech}
+use Rattle.frame_view.specs.of_exchange_model.Exchange.{Speech}
 use Rattle.master_duty.specs.Reply.{Reply}
 use Rattle.master_side.specs.Shown.{SideShows, DutyShows, OverShows}
 use Rattle.master_side.specs.Carried.{Asks, Meant, IsBack, one, is_errand, duty_left, in_hand}
@@ -37,19 +37,19 @@ use Rattle.frame_view.specs.View.{link_counter, register_counter, link_mail_in, 
 use Rattle.master_duty.specs.declared.stage.Met.{Met}
 use Rattle.master_duty.specs.Stages.{stage_of}
 use Rattle.master_duty.specs.Mets.{progress_of, KeepsTarget}
-use Rattle.segment_model.specs.Slaves.{Address, Access, Found}
-use Rattle.segment_model.specs.Ends.{Outcome}
-use Rattle.segment_model.specs.Record.{is_for}
-use Rattle.task_model.specs.Accounts as Tasks
-use Rattle.task_model.specs.Accounts.{account_back, account_met, account_by, access_done, duty_access}
+use Rattle.frame_view.specs.of_segment_model.Slaves.{Address, Access, Found}
+use Rattle.frame_view.specs.of_segment_model.Ends.{Outcome}
+use Rattle.frame_view.specs.of_segment_model.Record.{is_for}
+use Rattle.master_duty.specs.of_task_model.Accounts as Tasks
+use Rattle.master_duty.specs.of_task_model.Accounts.{account_back, account_met, account_by, access_done, duty_access}
 use Rattle.master_side.specs.Heard.{view_in, heard_of}
 use Rattle.mailbox_master.specs.Any.{in_returned, in_got}
 use Rattle.mailbox_master.specs.Next.{got_by, got_of, accepted_by}
 use Rattle.mailbox_master.specs.declared.inward.Got.TheVariants.{Mail as GotMail, Repeat, Empty}
 use Rattle.mailbox_master.specs.declared.inward.Got.{Got}
 use Rattle.mailbox_master.proofs.Agreement.{got_by-accepts}
-use Rattle.link_model.specs.Master.{read_answered, doubt_answered, asked_answered}
-use Rattle.link_model.specs.Frames.{mail_back}
+use Rattle.frame_view.specs.of_link_model.Master.{read_answered, doubt_answered, asked_answered}
+use Rattle.frame_view.specs.of_link_model.Frames.{mail_back}
 
 abbrev Rows : Type 0 → Type 0
 Rows Q = Option (Row Body Q Reply)

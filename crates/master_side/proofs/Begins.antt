@@ -1,18 +1,18 @@
 -- A service that comes into hand.
 use Rattle.std.proofs.Common.{◌≡◌, ℕ, List, [], ◌∷◌, ◌++◌, Bool, true, false, Option, Some, None, refl, sym, ap, ◌∙◌, subst, append-nil}
 use Rattle.std.specs.Prelude.{◌&&◌, is_none, is_some, if◌then◌else◌, Ok}
-use Rattle.exchange_model.specs.Exchange.{Speech}
-use Rattle.exchange_model.specs.Rows.{Row, begun}
+use Rattle.frame_view.specs.of_exchange_model.Exchange.{Speech}
+use Rattle.frame_view.specs.of_exchange_model.Rows.{Row, begun}
 use Rattle.mailbox_mail.specs.declared.mail.Mail.{Mail}
-use Rattle.link_mails.specs.Body.{Body, uncounted}
-use Rattle.link_model.specs.Mails.{LinkMail}
-use Rattle.link_model.specs.Master.{out_hold}
-use Rattle.link_model.specs.Link.{Halves}
-use Rattle.segment_model.specs.Seats
-use Rattle.segment_model.specs.Seats.{Side, is_over, next_mail, side_holds}
-use Rattle.state_exchange.specs.Stated.{Service}
-use Rattle.task_model.specs.Accounts
-use Rattle.task_model.specs.Accounts.{Account, is_free, is_acknowledged, mails_begin, account_begins, starts, state_begins}
+use Rattle.frame_view.specs.of_link_mails.Body.{Body, uncounted}
+use Rattle.frame_view.specs.of_link_model.Mails.{LinkMail}
+use Rattle.frame_view.specs.of_link_model.Master.{out_hold}
+use Rattle.frame_view.specs.of_link_model.Link.{Halves}
+use Rattle.frame_view.specs.of_segment_model.Seats
+use Rattle.frame_view.specs.of_segment_model.Seats.{Side, is_over, next_mail, side_holds}
+use Rattle.master_duty.specs.of_state_exchange.Stated.{Service}
+use Rattle.master_duty.specs.of_task_model.Accounts
+use Rattle.master_duty.specs.of_task_model.Accounts.{Account, is_free, is_acknowledged, mails_begin, account_begins, starts, state_begins}
 use Rattle.mailbox_master.specs.declared.halves.InwardHalf.{InwardHalf}
 use Rattle.mailbox_master.specs.Links.{OutLink}
 use Rattle.mailbox_master.specs.Any.{in_half_of, out_held}

@@ -9,14 +9,14 @@ use Rattle.datagrams.specs.Datagram as Raw
 use Rattle.mailbox_mail.specs.declared.mail.Mail.{Mail}
 use Rattle.mailbox_mail.specs.Area.{mail_area}
 use Rattle.mailbox_mail.specs.Mail.{mail_read}
-use Rattle.link_mails.specs.Body.{Body, link_mail, link_read}
-use Rattle.link_model.specs.Master.{InHalf}
-use Rattle.link_model.specs.Link.{Halves}
-use Rattle.link_model.specs.Frames.{Ask, in_ask}
-use Rattle.segment_model.specs.Slaves as Slaves
-use Rattle.segment_model.specs.Slaves.{Access, Datagram}
-use Rattle.task_model.specs.Accounts
-use Rattle.task_model.specs.Accounts.{duty_access, stage_access}
+use Rattle.frame_view.specs.of_link_mails.Body.{Body, link_mail, link_read}
+use Rattle.frame_view.specs.of_link_model.Master.{InHalf}
+use Rattle.frame_view.specs.of_link_model.Link.{Halves}
+use Rattle.frame_view.specs.of_link_model.Frames.{Ask, in_ask}
+use Rattle.frame_view.specs.of_segment_model.Slaves as Slaves
+use Rattle.frame_view.specs.of_segment_model.Slaves.{Access, Datagram}
+use Rattle.master_duty.specs.of_task_model.Accounts
+use Rattle.master_duty.specs.of_task_model.Accounts.{duty_access, stage_access}
 use Rattle.frame_view.specs.View.{Lens, datagram_seen}
 use Rattle.mailbox_master.specs.declared.halves.InwardHalf.{InwardHalf}
 use Rattle.mailbox_master.specs.declared.halves.InwardHalf.TheVariants.{Clear, Doubt, Asked, Refetch}

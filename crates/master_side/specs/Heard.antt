@@ -2,7 +2,7 @@
 use Rattle.std.specs.Prelude.{◌≡◌, List, [], ◌∷◌, Option, Some, None, Ok}
 use Rattle.mailbox_mail.specs.declared.mail.MailView.{MailView}
 use Rattle.mailbox_mail.specs.View.{mail_seen}
-use Rattle.link_mails.specs.Body.{Body, uncounted}
+use Rattle.frame_view.specs.of_link_mails.Body.{Body, uncounted}
 use Rattle.mailbox_master.specs.declared.seat.GotView.{GotView}
 use Rattle.master_side.specs.declared.hand.Heard.{Heard}
 

@@ -1,3 +1,8 @@
+pub use Rattle.frame_view.specs.of_link_mails as of_link_mails
+pub use Rattle.mailbox_mail.specs as of_mailbox_mail
+pub use Rattle.mailbox_master.specs as of_mailbox_master
+pub use Rattle.master_duty.specs as of_master_duty
+pub use Rattle.master_duty.specs.of_task_model as of_task_model
 pub mod Fits
 pub mod Shown
 pub mod Carried

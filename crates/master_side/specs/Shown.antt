@@ -1,16 +1,16 @@
 -- What a side shows of the model's side and account of its slave.
 use Rattle.std.specs.Prelude.{◌≡◌, ℕ, Bool, true, false, Option, Some, None, option_map, List, [], ◌∷◌, ◌++◌, ⊤}
 use Rattle.mailbox_mail.specs.declared.mail.Mail.{Mail}
-use Rattle.link_mails.specs.Body.{Body}
-use Rattle.link_model.specs.Link.{new_link}
-use Rattle.exchange_model.specs.Exchange.{Speech}
-use Rattle.exchange_model.specs.Rows.{Row}
-use Rattle.segment_model.specs.Ends.{Outcome}
-use Rattle.segment_model.specs.Seats
-use Rattle.segment_model.specs.Seats.{Side, next_mail, side_holds, side_next}
-use Rattle.state_exchange.specs.Stated.{Service}
-use Rattle.task_model.specs.Accounts
-use Rattle.task_model.specs.Accounts.{Account, Started, Pick, mails_choice, mails_begin, account_begins, account_next}
+use Rattle.frame_view.specs.of_link_mails.Body.{Body}
+use Rattle.frame_view.specs.of_link_model.Link.{new_link}
+use Rattle.frame_view.specs.of_exchange_model.Exchange.{Speech}
+use Rattle.frame_view.specs.of_exchange_model.Rows.{Row}
+use Rattle.frame_view.specs.of_segment_model.Ends.{Outcome}
+use Rattle.frame_view.specs.of_segment_model.Seats
+use Rattle.frame_view.specs.of_segment_model.Seats.{Side, next_mail, side_holds, side_next}
+use Rattle.master_duty.specs.of_state_exchange.Stated.{Service}
+use Rattle.master_duty.specs.of_task_model.Accounts
+use Rattle.master_duty.specs.of_task_model.Accounts.{Account, Started, Pick, mails_choice, mails_begin, account_begins, account_next}
 use Rattle.mailbox_master.specs.declared.halves.InwardHalf.{InwardHalf}
 use Rattle.mailbox_master.specs.Links.{OutLink}
 use Rattle.mailbox_master.specs.Any.{in_half_of}

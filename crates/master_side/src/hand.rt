@@ -23,11 +23,11 @@ pub trait Hand {
     ghost use Rattle.std.specs.Prelude.{◌≡◌, ◌≤◌, ◌+◌, ℕ, List, [], ◌∷◌, Bool, true, false, Option, Some, None, Ok, option_map, is_some, length, if◌then◌else◌};
     ghost use Rattle.mailbox_mail.specs.declared.mail.Mail.{Mail};
     ghost use Rattle.mailbox_mail.specs.View.{mail_seen};
-    ghost use Rattle.exchange_model.specs.Exchange.{Speech};
-    ghost use Rattle.exchange_model.specs.Rows.{Row, begun, row_heard};
-    ghost use Rattle.link_mails.specs.Body.{Body, uncounted};
-    ghost use Rattle.segment_model.specs.Seats.{Side};
-    ghost use Rattle.task_model.specs.Accounts.{is_free, is_acknowledged};
+    ghost use Rattle.frame_view.specs.of_exchange_model.Exchange.{Speech};
+    ghost use Rattle.frame_view.specs.of_exchange_model.Rows.{Row, begun, row_heard};
+    ghost use Rattle.frame_view.specs.of_link_mails.Body.{Body, uncounted};
+    ghost use Rattle.frame_view.specs.of_segment_model.Seats.{Side};
+    ghost use Rattle.master_duty.specs.of_task_model.Accounts.{is_free, is_acknowledged};
     ghost use Rattle.master_duty.specs.Reply.{Reply};
     ghost use Rattle.master_side.specs.Fits.{Tells};
 

@@ -1,11 +1,11 @@
 ghost use Rattle.std.specs.Prelude.{◌≡◌, ◌==◌, ◌∷◌, [], true, false, length, nat_le, Some, None, ℕ, Option};
 ghost use Rattle.ec_fields.specs.Fields.{number_at};
 ghost use Rattle.mailbox_master.specs.Any.{in_station, in_area_len, in_half_of};
-ghost use Rattle.link_mails.specs.Body.{Body};
-ghost use Rattle.link_model.specs.Link.{Halves};
-ghost use Rattle.link_model.specs.Frames.{Ask};
-ghost use Rattle.segment_model.specs.Slaves.{Access};
-ghost use Rattle.task_model.specs.Accounts.{access_done};
+ghost use Rattle.frame_view.specs.of_link_mails.Body.{Body};
+ghost use Rattle.frame_view.specs.of_link_model.Link.{Halves};
+ghost use Rattle.frame_view.specs.of_link_model.Frames.{Ask};
+ghost use Rattle.frame_view.specs.of_segment_model.Slaves.{Access};
+ghost use Rattle.master_duty.specs.of_task_model.Accounts.{access_done};
 ghost use Rattle.frame_view.specs.View.{found_of, state_found};
 ghost use Rattle.master_duty.specs.Stages.{stage_of};
 ghost use Rattle.master_duty.specs.Mets.{progress_of, KeepsTarget};
@@ -70,13 +70,13 @@ pub struct Side<H: Hand> {
 
 impl<H: Hand> Side<H> {
     ghost use Rattle.std.specs.Prelude.{◌≡◌, ◌≤◌, ℕ, Bool, true, false, List, [], ◌∷◌, Option, Some, None, IfSome, is_none, is_some, option_map, length, if◌then◌else◌};
-    ghost use Rattle.exchange_model.specs.Exchange.{Speech};
-    ghost use Rattle.exchange_model.specs.Rows.{Row, row_heard};
-    ghost use Rattle.segment_model.specs.Slaves.{Datagram, grams};
-    ghost use Rattle.link_model.specs.Frames.{all_accepted};
-    ghost use Rattle.segment_model.specs.Seats as Seats;
-    ghost use Rattle.link_mails.specs.Body.{Body};
-    ghost use Rattle.task_model.specs.Accounts.{Account, new_account, duty_access, account_back, is_free, is_acknowledged};
+    ghost use Rattle.frame_view.specs.of_exchange_model.Exchange.{Speech};
+    ghost use Rattle.frame_view.specs.of_exchange_model.Rows.{Row, row_heard};
+    ghost use Rattle.frame_view.specs.of_segment_model.Slaves.{Datagram, grams};
+    ghost use Rattle.frame_view.specs.of_link_model.Frames.{all_accepted};
+    ghost use Rattle.frame_view.specs.of_segment_model.Seats as Seats;
+    ghost use Rattle.frame_view.specs.of_link_mails.Body.{Body};
+    ghost use Rattle.master_duty.specs.of_task_model.Accounts.{Account, new_account, duty_access, account_back, is_free, is_acknowledged};
     ghost use Rattle.mailbox_master.specs.Any.{in_half_of, in_area_len};
     ghost use Rattle.mailbox_master.specs.Seat.{seat_half};
     ghost use Rattle.master_duty.specs.Reply.{Reply};
@@ -90,7 +90,7 @@ impl<H: Hand> Side<H> {
     ghost use Rattle.master_side.specs.Shown.{SideShows, Holds, Begins, Picked, new_side, wish_begun, takes_ready};
     ghost use Rattle.master_side.specs.declared.carried.Carried.{Carried};
     ghost use Rattle.master_side.specs.declared.carried.Wish.{Wish};
-    ghost use Rattle.state_exchange.specs.Stated.{Service};
+    ghost use Rattle.master_duty.specs.of_state_exchange.Stated.{Service};
 
     /// A slave at the end of its bring-up. The lengths are those of its mailboxes, 64 to 1,486 octets.
     pub fn new(station: u16, out_len: u16, in_len: u16, pace: u32, hand: H) -> Side<H>

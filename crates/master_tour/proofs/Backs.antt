@@ -7,31 +7,31 @@ use Rattle.al_state.specs.declared.bringing.BringStep.{BringStep}
 use Rattle.al_state.specs.declared.bringing.BringStep.TheVariants.{Return, Watch, Address, OutOff, InOff, OutManager, InManager, Start, Await}
 use Rattle.al_state.specs.declared.bringing.BringUp.{BringUp}
 use Rattle.al_state.specs.BringUp.{head_of, octets_of}
-use Rattle.link_mails.specs.Body.{Body}
-use Rattle.link_model.specs.Frames.{all_accepted}
-use Rattle.link_model.specs.Link.{Halves}
-use Rattle.exchange_model.specs.Exchange.{Speech}
-use Rattle.segment_model.specs.Slaves.{Datagram, Access, Found, grams}
-use Rattle.segment_model.specs.Returned.{Returns}
-use Rattle.segment_model.specs.Seats.{Side, side_back, side_lost}
-use Rattle.task_model.specs.Accounts
-use Rattle.task_model.specs.Accounts.{Account, account_back}
-use Rattle.segment_model.specs.Record.{News}
-use Rattle.life_model.specs.Lives
-use Rattle.life_model.specs.Lives.{Life, Spot, Era, era_back, era_lost, life_back, life_lost, reopens, gives_up, returns_to_init}
-use Rattle.life_model.specs.Own
-use Rattle.life_model.specs.Tours.{item_at}
-use Rattle.frame_view.specs.View.{Lens, datagram_seen, station_of, found_of, register_counter}
-use Rattle.frame_view.specs.Seen.{part_seen, parts_seen, seen}
+use Rattle.life_frames.specs.of_link_mails.Body.{Body}
+use Rattle.life_frames.specs.of_link_model.Frames.{all_accepted}
+use Rattle.life_frames.specs.of_link_model.Link.{Halves}
+use Rattle.life_frames.specs.of_exchange_model.Exchange.{Speech}
+use Rattle.life_frames.specs.of_segment_model.Slaves.{Datagram, Access, Found, grams}
+use Rattle.life_frames.specs.of_segment_model.Returned.{Returns}
+use Rattle.life_frames.specs.of_segment_model.Seats.{Side, side_back, side_lost}
+use Rattle.life_frames.specs.of_task_model.Accounts
+use Rattle.life_frames.specs.of_task_model.Accounts.{Account, account_back}
+use Rattle.life_frames.specs.of_segment_model.Record.{News}
+use Rattle.life_frames.specs.of_life_model.Lives
+use Rattle.life_frames.specs.of_life_model.Lives.{Life, Spot, Era, era_back, era_lost, life_back, life_lost, reopens, gives_up, returns_to_init}
+use Rattle.life_frames.specs.of_life_model.Own
+use Rattle.life_frames.specs.of_life_model.Tours.{item_at}
+use Rattle.life_frames.specs.of_frame_view.View.{Lens, datagram_seen, station_of, found_of, register_counter}
+use Rattle.life_frames.specs.of_frame_view.Seen.{part_seen, parts_seen, seen}
 use Rattle.datagrams.specs.Frame.{frame_read}
 use Rattle.datagrams.specs.declared.frame.Frame.{Frame}
 use Rattle.datagrams.specs.declared.frame.FrameFault.{FrameFault}
 use Rattle.std.specs.Prelude.{Result, Ok, Err}
 use Rattle.master_side.specs.Shown.{new_side}
-use Rattle.task_model.specs.Accounts.{new_account}
+use Rattle.life_frames.specs.of_task_model.Accounts.{new_account}
 use Rattle.std.proofs.lemmas.Bool.{lt-ltb}
 use Rattle.std.proofs.Common.{length-append}
-use Rattle.master_duty.specs.Reply.{Reply}
+use Rattle.master_side.specs.of_master_duty.Reply.{Reply}
 use Rattle.master_tour.specs.Under.{Grams, mine, IsAt}
 use Rattle.master_tour.specs.Stands.{OpensUnder, IsMet, is_reading, came_at, came_of, turned, turned_by, is_opening, is_open, is_still, opening_of, IsOpeningOf, ShowsSome, EraShows, StopShows, FollowShows}
 use Rattle.master_tour.specs.declared.stop.Stand.{Stand}

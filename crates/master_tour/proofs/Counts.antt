@@ -2,15 +2,15 @@
 use Rattle.std.proofs.Common.{◌≡◌, inl, inr, ℕ, Bool, true, false, List, [], ◌∷◌, ◌++◌, Option, Some, None, refl, sym, ap, ◌∙◌, append-nil}
 use Rattle.std.specs.Prelude.{◌⊎◌, ◌&&◌, if◌then◌else◌}
 use Rattle.std.proofs.lemmas.List.{append_cancel_left}
-use Rattle.exchange_model.specs.Exchange.{Speech}
-use Rattle.link_mails.specs.Body.{Body}
-use Rattle.segment_model.specs.Ends.{Passing}
-use Rattle.segment_model.specs.Seats.{Side}
-use Rattle.state_exchange.specs.Stated.{Service}
-use Rattle.task_model.specs.Accounts.{Account, Duty, Started, Pick, is_free, is_acknowledged, account_begins, account_next, starts, state_begins}
-use Rattle.life_model.specs.Lives
-use Rattle.life_model.specs.Lives.{Life, granted, era_next, life_next, passing_begins}
-use Rattle.master_duty.specs.Reply.{Reply}
+use Rattle.life_frames.specs.of_exchange_model.Exchange.{Speech}
+use Rattle.life_frames.specs.of_link_mails.Body.{Body}
+use Rattle.life_frames.specs.of_segment_model.Ends.{Passing}
+use Rattle.life_frames.specs.of_segment_model.Seats.{Side}
+use Rattle.life_frames.specs.of_state_exchange.Stated.{Service}
+use Rattle.life_frames.specs.of_task_model.Accounts.{Account, Duty, Started, Pick, is_free, is_acknowledged, account_begins, account_next, starts, state_begins}
+use Rattle.life_frames.specs.of_life_model.Lives
+use Rattle.life_frames.specs.of_life_model.Lives.{Life, granted, era_next, life_next, passing_begins}
+use Rattle.master_side.specs.of_master_duty.Reply.{Reply}
 use Rattle.master_side.specs.Shown.{started_by}
 use Rattle.master_tour.specs.Stands.{Counts}
 

@@ -2,21 +2,21 @@
 use Rattle.std.proofs.Common.{◌≡◌, ℕ, ◌-◌, ◌<◌, ◌==◌, Bool, true, false, List, [], ◌∷◌, ◌++◌, length, Option, Some, None, refl, sym, ap, ◌∙◌, subst, arith, length-append, eq-eqb}
 use Rattle.std.specs.Prelude.{nat_lt, nat_le, if◌then◌else◌, ◌&&◌, not}
 use Rattle.std.proofs.lemmas.Bool.{eqb-true, le-ltb, lt-ltb, ltb-true, ltb-false}
-use Rattle.ec_fields.specs.Fields.{bits_of, number_at}
+use Rattle.datagrams.specs.of_ec_fields.Fields.{bits_of, number_at}
 use Rattle.al_state.specs.declared.bringing.BringStep.{BringStep}
 use Rattle.al_state.specs.declared.bringing.BringStep.TheVariants.{Return, Watch, Address, OutOff, InOff, OutManager, InManager, Start, Await}
 use Rattle.al_state.specs.declared.bringing.BringUp.{BringUp}
 use Rattle.al_state.specs.BringUp.{is_behind_init, step_behind, is_up, shows}
-use Rattle.link_mails.specs.Body.{Body}
-use Rattle.exchange_model.specs.Exchange.{Speech}
-use Rattle.segment_model.specs.Slaves.{Datagram, Access, Found}
-use Rattle.segment_model.specs.Record.{News}
-use Rattle.segment_model.specs.Seats.{Side}
-use Rattle.task_model.specs.Accounts.{Account, new_account}
-use Rattle.life_model.specs.Lives
-use Rattle.life_model.specs.Lives.{Opening, Life, Era, Spot, is_shown, opening_back, opens, new_era, life_back}
-use Rattle.frame_view.specs.View.{found_of, state_found}
-use Rattle.master_duty.specs.Reply.{Reply}
+use Rattle.life_frames.specs.of_link_mails.Body.{Body}
+use Rattle.life_frames.specs.of_exchange_model.Exchange.{Speech}
+use Rattle.life_frames.specs.of_segment_model.Slaves.{Datagram, Access, Found}
+use Rattle.life_frames.specs.of_segment_model.Record.{News}
+use Rattle.life_frames.specs.of_segment_model.Seats.{Side}
+use Rattle.life_frames.specs.of_task_model.Accounts.{Account, new_account}
+use Rattle.life_frames.specs.of_life_model.Lives
+use Rattle.life_frames.specs.of_life_model.Lives.{Opening, Life, Era, Spot, is_shown, opening_back, opens, new_era, life_back}
+use Rattle.life_frames.specs.of_frame_view.View.{found_of, state_found}
+use Rattle.master_side.specs.of_master_duty.Reply.{Reply}
 use Rattle.master_side.specs.Shown.{new_side}
 use Rattle.master_tour.specs.declared.stop.Stand.{Stand}
 use Rattle.master_tour.specs.declared.stop.Turned.{Turned}

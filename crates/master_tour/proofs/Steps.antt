@@ -3,12 +3,12 @@ use Rattle.std.proofs.Common.{◌≡◌, ℕ, zero, suc, ◌+◌, ◌<◌, ◌==
 use Rattle.std.specs.Prelude.{⊤}
 use Rattle.std.proofs.lemmas.Bool.{eqb-true}
 use Rattle.datagrams.specs.Datagram as Raw
-use Rattle.frame_view.specs.View.{Lens}
+use Rattle.life_frames.specs.of_frame_view.View.{Lens}
 use Rattle.datagrams.specs.Command.{IsNamed}
 use Rattle.datagrams.specs.Frame.{IsBegun, Each}
-use Rattle.life_model.specs.Lives
-use Rattle.life_model.specs.Lives.{Spot}
-use Rattle.master_duty.specs.Reply.{Reply}
+use Rattle.life_frames.specs.of_life_model.Lives
+use Rattle.life_frames.specs.of_life_model.Lives.{Spot}
+use Rattle.master_side.specs.of_master_duty.Reply.{Reply}
 use Rattle.life_frames.specs.Frames.{IsNotFor, GramFor, AreApart}
 use Rattle.life_frames.specs.Shares.{Lived, AllFrom, IsElsewhere, AreDistinct}
 use Rattle.life_frames.proofs.Frames.{apart_back, not_for, gram_named}

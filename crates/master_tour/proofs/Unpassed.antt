@@ -1,18 +1,18 @@
 -- A life in which no mail that is passed on came into hand has none in hand.
 use Rattle.std.proofs.Common.{◌≡◌, ℕ, Bool, true, false, List, Option, Some, None, refl, ap, ◌∙◌}
 use Rattle.std.specs.Prelude.{◌&&◌, ◌==◌, nat_lt, length, if◌then◌else◌}
-use Rattle.exchange_model.specs.Exchange.{Speech}
-use Rattle.link_mails.specs.Body.{Body}
-use Rattle.segment_model.specs.Ends.{Passing}
-use Rattle.segment_model.specs.Record.{News}
-use Rattle.segment_model.specs.Slaves.{Datagram, Found}
-use Rattle.state_exchange.specs.Stated.{Service}
-use Rattle.task_model.specs.Accounts.{Account, Duty, Stage, Pick, account_next}
-use Rattle.life_model.specs.Lives
-use Rattle.life_model.specs.Lives.{Life, Opening, Spot, granted, passing_begins, passes, opening_back, clears, opens, steps_on, shows_clear, last_step, is_shown, reopens, reopens_at, returns_to_init, reopening, opens_state, life_next, era_back, life_back, life_lost, gives_up}
+use Rattle.life_frames.specs.of_exchange_model.Exchange.{Speech}
+use Rattle.life_frames.specs.of_link_mails.Body.{Body}
+use Rattle.life_frames.specs.of_segment_model.Ends.{Passing}
+use Rattle.life_frames.specs.of_segment_model.Record.{News}
+use Rattle.life_frames.specs.of_segment_model.Slaves.{Datagram, Found}
+use Rattle.life_frames.specs.of_state_exchange.Stated.{Service}
+use Rattle.life_frames.specs.of_task_model.Accounts.{Account, Duty, Stage, Pick, account_next}
+use Rattle.life_frames.specs.of_life_model.Lives
+use Rattle.life_frames.specs.of_life_model.Lives.{Life, Opening, Spot, granted, passing_begins, passes, opening_back, clears, opens, steps_on, shows_clear, last_step, is_shown, reopens, reopens_at, returns_to_init, reopening, opens_state, life_next, era_back, life_back, life_lost, gives_up}
 use Rattle.life_frames.specs.Frames.{Share}
 use Rattle.life_frames.specs.Shares.{Lived, given_where, came_at, lived_back, lived_lost}
-use Rattle.master_duty.specs.Reply.{Reply}
+use Rattle.master_side.specs.of_master_duty.Reply.{Reply}
 
 module _ {Q : Type 0} (x : Speech Body Q Reply) (acknowledged : Q → Bool) (more : Body → Bool) (passed : Q → Bool) where
   none_begins : (p : Option Passing) (old new : Account Q Reply) (w : Option (Service Q)) → p ≡ None → ((q : Q) → w ≡ Some (Service.Mails q) → passed q ≡ false) → passing_begins x acknowledged more passed p old new w ≡ None

@@ -1,32 +1,32 @@
 -- A slave's visit: a choice, and its datagram.
 use Rattle.std.proofs.Common.{◌≡◌, ℕ, Bool, Option, ◌++◌, sym, subst, ◌∙◌, append-nil}
-use Rattle.link_mails.specs.Body.{Body}
-use Rattle.link_model.specs.Link.{Halves}
-use Rattle.mailbox_mail.specs.declared.mail.Mail.{Mail}
-use Rattle.exchange_model.specs.Exchange.{Speech}
-use Rattle.exchange_model.specs.Rows.{Row}
-use Rattle.segment_model.specs.Slaves.{Access}
-use Rattle.segment_model.specs.Seats.{Side}
-use Rattle.task_model.specs.Accounts.{Account}
-use Rattle.frame_view.specs.View.{Lens, datagram_seen}
-use Rattle.mailbox_master.specs.declared.halves.InwardHalf.{InwardHalf}
-use Rattle.mailbox_master.specs.Links.{OutLink}
-use Rattle.mailbox_master.specs.Any.{in_half_of}
-use Rattle.mailbox_master.specs.Seat.{seat_half}
-use Rattle.master_duty.specs.declared.stage.Met.{Met}
-use Rattle.master_duty.specs.Reply.{Reply}
+use Rattle.life_frames.specs.of_link_mails.Body.{Body}
+use Rattle.life_frames.specs.of_link_model.Link.{Halves}
+use Rattle.master_side.specs.of_mailbox_mail.declared.mail.Mail.{Mail}
+use Rattle.life_frames.specs.of_exchange_model.Exchange.{Speech}
+use Rattle.life_frames.specs.of_exchange_model.Rows.{Row}
+use Rattle.life_frames.specs.of_segment_model.Slaves.{Access}
+use Rattle.life_frames.specs.of_segment_model.Seats.{Side}
+use Rattle.life_frames.specs.of_task_model.Accounts.{Account}
+use Rattle.life_frames.specs.of_frame_view.View.{Lens, datagram_seen}
+use Rattle.master_side.specs.of_mailbox_master.declared.halves.InwardHalf.{InwardHalf}
+use Rattle.master_side.specs.of_mailbox_master.Links.{OutLink}
+use Rattle.master_side.specs.of_mailbox_master.Any.{in_half_of}
+use Rattle.master_side.specs.of_mailbox_master.Seat.{seat_half}
+use Rattle.master_side.specs.of_master_duty.declared.stage.Met.{Met}
+use Rattle.master_side.specs.of_master_duty.Reply.{Reply}
 use Rattle.master_side.specs.declared.carried.Carried.{Carried}
 use Rattle.master_side.specs.Carried.{Meant, in_hand}
 use Rattle.master_side.specs.Sent.{SameSide, visit_gram}
 use Rattle.master_side.specs.Shown.{SideShows, DutyShows, OverShows, Picked, Holds}
 use Rattle.std.specs.Prelude.{Some, None, true, false, is_some}
 use Rattle.std.proofs.Common.{ap, refl}
-use Rattle.segment_model.specs.Seats.{side_next}
-use Rattle.segment_model.specs.Ends.{Passing}
-use Rattle.task_model.specs.Accounts.{Pick, mails_choice, account_next}
-use Rattle.life_model.specs.Lives
-use Rattle.life_model.specs.Lives.{Life, Era, era_next, granted, life_next}
-use Rattle.state_exchange.specs.Stated.{Service}
+use Rattle.life_frames.specs.of_segment_model.Seats.{side_next}
+use Rattle.life_frames.specs.of_segment_model.Ends.{Passing}
+use Rattle.life_frames.specs.of_task_model.Accounts.{Pick, mails_choice, account_next}
+use Rattle.life_frames.specs.of_life_model.Lives
+use Rattle.life_frames.specs.of_life_model.Lives.{Life, Era, era_next, granted, life_next}
+use Rattle.life_frames.specs.of_state_exchange.Stated.{Service}
 use Rattle.master_side.specs.Shown.{started_by}
 use Rattle.master_tour.specs.Stands.{NextShows, HoldShows, Counts, is_open}
 

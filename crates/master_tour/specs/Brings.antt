@@ -1,13 +1,13 @@
 -- THE MAILS THAT A SLAVE'S MASTER ACCEPTED of a frame that came back, by its life.
 use Rattle.std.specs.Prelude.{ℕ, List, []}
-use Rattle.life_model.specs.Lives
-use Rattle.life_model.specs.Lives.{Life, Spot}
-use Rattle.life_model.specs.Own
-use Rattle.link_mails.specs.Body.{Body}
-use Rattle.link_model.specs.Frames.{all_accepted}
-use Rattle.link_model.specs.Link.{Halves}
-use Rattle.master_duty.specs.Reply.{Reply}
-use Rattle.segment_model.specs.Slaves.{Datagram, grams}
+use Rattle.life_frames.specs.of_life_model.Lives
+use Rattle.life_frames.specs.of_life_model.Lives.{Life, Spot}
+use Rattle.life_frames.specs.of_life_model.Own
+use Rattle.life_frames.specs.of_link_mails.Body.{Body}
+use Rattle.life_frames.specs.of_link_model.Frames.{all_accepted}
+use Rattle.life_frames.specs.of_link_model.Link.{Halves}
+use Rattle.master_side.specs.of_master_duty.Reply.{Reply}
+use Rattle.life_frames.specs.of_segment_model.Slaves.{Datagram, grams}
 
 -- by its stand: while it is open those that its halves accept, of its own datagrams
 abbrev pub accepted_at : ℕ → Halves Body → List (Datagram Body) → Lives.Stand → List Body

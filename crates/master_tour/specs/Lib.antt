@@ -1,3 +1,4 @@
+pub use Rattle.life_frames.specs.of_life_model as of_life_model
 pub mod Under
 pub mod Walks
 pub mod Cursor

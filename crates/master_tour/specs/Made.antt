@@ -3,25 +3,25 @@ use Rattle.std.specs.Prelude.{◌≡◌, ℕ, ◌==◌, if◌then◌else◌, Boo
 use Rattle.datagrams.specs.Datagram as Raw
 use Rattle.datagrams.specs.Command.{IsNamed}
 use Rattle.datagrams.specs.Frame.{IsBegun, IsFrame, Each, chained}
-use Rattle.exchange_model.specs.Exchange.{Speech}
-use Rattle.frame_view.specs.View.{Lens, datagram_seen}
-use Rattle.frame_view.specs.Seen.{datagrams_seen}
+use Rattle.life_frames.specs.of_exchange_model.Exchange.{Speech}
+use Rattle.life_frames.specs.of_frame_view.View.{Lens, datagram_seen}
+use Rattle.life_frames.specs.of_frame_view.Seen.{datagrams_seen}
 use Rattle.life_frames.specs.Frames.{AllNotFor, HasOne}
 use Rattle.life_frames.specs.Shares.{Lived, AllFrom, AllThree, IsNext, Asked}
-use Rattle.life_model.specs.Lives.{Life, Spot, life_next}
-use Rattle.link_mails.specs.Body.{Body}
-use Rattle.link_model.specs.Master.{InState}
-use Rattle.mailbox_mail.specs.declared.mail.Mail.{Mail}
-use Rattle.mailbox_master.specs.declared.halves.InwardHalf.{InwardHalf}
-use Rattle.mailbox_master.specs.Links.{OutLink}
-use Rattle.mailbox_master.specs.Any.{in_half_of, in_area_len}
-use Rattle.master_duty.specs.declared.stage.Met.{Met}
-use Rattle.master_duty.specs.Reply.{Reply}
+use Rattle.life_frames.specs.of_life_model.Lives.{Life, Spot, life_next}
+use Rattle.life_frames.specs.of_link_mails.Body.{Body}
+use Rattle.life_frames.specs.of_link_model.Master.{InState}
+use Rattle.master_side.specs.of_mailbox_mail.declared.mail.Mail.{Mail}
+use Rattle.master_side.specs.of_mailbox_master.declared.halves.InwardHalf.{InwardHalf}
+use Rattle.master_side.specs.of_mailbox_master.Links.{OutLink}
+use Rattle.master_side.specs.of_mailbox_master.Any.{in_half_of, in_area_len}
+use Rattle.master_side.specs.of_master_duty.declared.stage.Met.{Met}
+use Rattle.master_side.specs.of_master_duty.Reply.{Reply}
 use Rattle.master_side.specs.declared.carried.Carried.{Carried}
 use Rattle.master_side.specs.declared.passing.Passing.{Passing}
-use Rattle.segment_model.specs.Seats.{Side}
-use Rattle.state_exchange.specs.Stated.{Service}
-use Rattle.task_model.specs.Accounts.{Account, Pick}
+use Rattle.life_frames.specs.of_segment_model.Seats.{Side}
+use Rattle.life_frames.specs.of_state_exchange.Stated.{Service}
+use Rattle.life_frames.specs.of_task_model.Accounts.{Account, Pick}
 use Rattle.master_tour.specs.declared.stop.Stand.{Stand}
 use Rattle.master_tour.specs.Stands.{StopShows, StandMeant, StandUnder, IsSpot, Counts, stand_gram}
 

@@ -5,26 +5,26 @@ use Rattle.al_state.specs.declared.bringing.BringStep.TheVariants.{Watch, Await}
 use Rattle.al_state.specs.declared.bringing.BringUp.{BringUp}
 use Rattle.al_state.specs.BringUp.{is_behind_init, head_of, octets_of}
 use Rattle.datagrams.specs.Frame.{datagram_of}
-use Rattle.link_mails.specs.Body.{Body}
-use Rattle.segment_model.specs.Slaves.{Datagram, Access, Found}
-use Rattle.segment_model.specs.Seats.{Side}
-use Rattle.task_model.specs.Accounts.{Account, duty_access}
-use Rattle.state_exchange.specs.Stated.{Service}
-use Rattle.exchange_model.specs.Exchange.{Speech}
+use Rattle.life_frames.specs.of_link_mails.Body.{Body}
+use Rattle.life_frames.specs.of_segment_model.Slaves.{Datagram, Access, Found}
+use Rattle.life_frames.specs.of_segment_model.Seats.{Side}
+use Rattle.life_frames.specs.of_task_model.Accounts.{Account, duty_access}
+use Rattle.life_frames.specs.of_state_exchange.Stated.{Service}
+use Rattle.life_frames.specs.of_exchange_model.Exchange.{Speech}
 use Rattle.datagrams.specs.Datagram as Raw
-use Rattle.mailbox_mail.specs.declared.mail.Mail.{Mail}
-use Rattle.mailbox_master.specs.declared.halves.InwardHalf.{InwardHalf}
-use Rattle.mailbox_master.specs.Links.{OutLink}
-use Rattle.master_duty.specs.declared.stage.Met.{Met}
+use Rattle.master_side.specs.of_mailbox_mail.declared.mail.Mail.{Mail}
+use Rattle.master_side.specs.of_mailbox_master.declared.halves.InwardHalf.{InwardHalf}
+use Rattle.master_side.specs.of_mailbox_master.Links.{OutLink}
+use Rattle.master_side.specs.of_master_duty.declared.stage.Met.{Met}
 use Rattle.master_side.specs.Carried.{Meant}
 use Rattle.master_side.specs.Sent.{visit_gram, no_gram}
 use Rattle.master_side.specs.Shown.{started_by}
-use Rattle.life_model.specs.Lives
-use Rattle.life_model.specs.Lives.{Opening, Era, Life, Spot, life_next, gives_up}
+use Rattle.life_frames.specs.of_life_model.Lives
+use Rattle.life_frames.specs.of_life_model.Lives.{Opening, Era, Life, Spot, life_next, gives_up}
 pub use Rattle.life_frames.specs.Openings.{step_number, has_step, opening_of}
 pub use Rattle.life_frames.specs.Shares.{came_of, came_at, given_where}
-use Rattle.frame_view.specs.View.{Lens, datagram_seen, found_of}
-use Rattle.master_duty.specs.Reply.{Reply}
+use Rattle.life_frames.specs.of_frame_view.View.{Lens, datagram_seen, found_of}
+use Rattle.master_side.specs.of_master_duty.Reply.{Reply}
 use Rattle.master_side.specs.declared.carried.Carried.{Carried}
 use Rattle.master_tour.specs.declared.stop.Stand.{Stand}
 use Rattle.master_tour.specs.declared.stop.Turned.{Turned}

@@ -1,21 +1,21 @@
 -- A SLAVE'S SERVICES BY THE MASTER'S NAMES are such as the laws of lives speak of.
 use Rattle.std.proofs.Common.{◌≡◌, ℕ, ◌&&◌, Bool, true, false, List, refl, ap, sym, ◌∙◌}
 use Rattle.std.specs.Prelude.{if◌then◌else◌, None, option_map}
-use Rattle.frame_view.specs.View.{Lens}
-use Rattle.link_mails.specs.Body.{Body}
-use Rattle.exchange_model.specs.Exchange.{Exchange}
-use Rattle.exchange_sum.specs.Refusing.{Refusal, gated}
-use Rattle.foe_model.specs.Meaning as FoeMeaning
-use Rattle.eoe_model.specs.Network.{Station}
-use Rattle.master_duty.specs.Reply as Master
-use Rattle.master_hand.specs.Spoken.{Asked, sdo, file, drive, net, passed, hand_speech, acknowledged}
-use Rattle.state_exchange.specs.Families.{InState, states_of}
-use Rattle.slave_model.specs.Acknowledged as Slave
-use Rattle.slave_model.specs.Product.{product, served, refusal, side}
-use Rattle.slave_model.specs.Profile.{Protocol, Profile, areas_of, serves}
+use Rattle.life_runs.specs.of_frame_view.View.{Lens}
+use Rattle.life_runs.specs.of_link_mails.Body.{Body}
+use Rattle.named_lives.specs.of_exchange_model.Exchange.{Exchange}
+use Rattle.slave_parts.specs.of_exchange_sum.Refusing.{Refusal, gated}
+use Rattle.slave_parts.specs.of_foe_model.Meaning as FoeMeaning
+use Rattle.slave_parts.specs.of_eoe_model.Network.{Station}
+use Rattle.life_runs.specs.of_master_duty.Reply as Master
+use Rattle.life_runs.specs.of_master_hand.Spoken.{Asked, sdo, file, drive, net, passed, hand_speech, acknowledged}
+use Rattle.slave_parts.specs.of_state_exchange.Families.{InState, states_of}
+use Rattle.slave_parts.specs.of_slave_model.Acknowledged as Slave
+use Rattle.slave_parts.specs.of_slave_model.Product.{product, served, refusal, side}
+use Rattle.slave_parts.specs.of_slave_model.Profile.{Protocol, Profile, areas_of, serves}
 use Rattle.slave_parts.specs.Parts.{Core, Server, parts}
 use Rattle.named_lives.specs.Named.{Agrees, AgreesLast}
-use Rattle.book_model.specs.Chain.{Same}
+use Rattle.book_lives.specs.of_book_model.Chain.{Same}
 use Rattle.book_lives.specs.First.{Forgets}
 use Rattle.server_lives.specs.Real.{real_clearing}
 use Rattle.named_lives.specs.Alike.{Alike}

@@ -1,18 +1,18 @@
 -- A RUN IN WHICH EACH SLAVE STAYS IN ITS FIRST EPOCH.
 use Rattle.std.proofs.Common.{◌≡◌, ℕ, suc, Bool, List, [], ◌∷◌, length, refl, sym, subst}
-use Rattle.datagrams.specs.Datagram as Raw
-use Rattle.frame_view.specs.View.{Lens}
-use Rattle.link_mails.specs.Body.{Body}
-use Rattle.segment_model.specs.Record.{Frame}
-use Rattle.segment_plan.specs.declared.slave.SlaveSpec.{SlaveSpec}
-use Rattle.segment_ring.specs.declared.wire.Fate.{Fate}
-use Rattle.segment_ring.specs.declared.wire.Fate.TheVariants.{Pass, Lost}
-use Rattle.task_model.specs.Accounts.{Pick}
-use Rattle.life_model.specs.Lives.{Life, Stand, life_next, life_back, life_lost}
-use Rattle.master_duty.specs.Reply as Master
-use Rattle.master_hand.specs.Spoken.{Asked, acknowledged}
-use Rattle.life_frames.specs.Shares.{came_at, given_where}
-use Rattle.book_model.specs.Script.{Addressed, HaveBegun, AnyLive, EachLive, AllLive, RestsWhole, DoneWhole}
+use Rattle.life_runs.specs.of_datagrams.Datagram as Raw
+use Rattle.life_runs.specs.of_frame_view.View.{Lens}
+use Rattle.life_runs.specs.of_link_mails.Body.{Body}
+use Rattle.slave_parts.specs.of_segment_model.Record.{Frame}
+use Rattle.life_runs.specs.of_segment_plan.declared.slave.SlaveSpec.{SlaveSpec}
+use Rattle.life_runs.specs.of_segment_ring.declared.wire.Fate.{Fate}
+use Rattle.life_runs.specs.of_segment_ring.declared.wire.Fate.TheVariants.{Pass, Lost}
+use Rattle.named_lives.specs.of_task_model.Accounts.{Pick}
+use Rattle.named_lives.specs.of_life_model.Lives.{Life, Stand, life_next, life_back, life_lost}
+use Rattle.life_runs.specs.of_master_duty.Reply as Master
+use Rattle.life_runs.specs.of_master_hand.Spoken.{Asked, acknowledged}
+use Rattle.life_runs.specs.of_life_frames.Shares.{came_at, given_where}
+use Rattle.book_lives.specs.of_book_model.Script.{Addressed, HaveBegun, AnyLive, EachLive, AllLive, RestsWhole, DoneWhole}
 use Rattle.book_lives.specs.Rows.{IsFirst}
 use Rattle.book_lives.proofs.Rows.{back_first, lost_first, new_first}
 use Rattle.book_lives.proofs.First.{first_book}

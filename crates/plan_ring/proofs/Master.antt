@@ -1,27 +1,27 @@
 -- THE MASTER'S LIVES are those of the ring: what it speaks with a slave is what the slave's client speaks, but for mails that are passed on.
 use Rattle.std.proofs.Common.{◌≡◌, ℕ, suc, ◌&&◌, Bool, true, false, List, [], ◌∷◌, ◌++◌, length, refl, ap, sym, ◌∙◌, subst}
 use Rattle.std.specs.Prelude.{if◌then◌else◌}
-use Rattle.datagrams.specs.Datagram as Raw
-use Rattle.datagrams.specs.Frame.{IsFrame, chained}
-use Rattle.frame_pass.specs.Passing.{datagrams_after}
-use Rattle.frame_view.specs.View.{Lens}
-use Rattle.link_mails.specs.Body.{Body}
-use Rattle.segment_model.specs.Record.{Frame}
-use Rattle.segment_plan.specs.declared.slave.SlaveSpec.{SlaveSpec}
-use Rattle.segment_ring.specs.declared.wire.Fate.{Fate}
-use Rattle.segment_ring.specs.declared.wire.Fate.TheVariants.{Pass, Lost}
-use Rattle.segment_ring.specs.Ring.{RingState, ring_behind}
-use Rattle.segment_ring.specs.Schedule.{fate_at}
-use Rattle.slave_server.specs.Serving.{Serving}
-use Rattle.slave_steps.specs.Node.{Node, node_passed}
-use Rattle.master_duty.specs.Reply as Master
-use Rattle.master_hand.specs.Spoken.{Asked, acknowledged}
-use Rattle.life_model.specs.Lives.{Spot, Life, life_next, life_back, life_lost, gives_up}
-use Rattle.life_frames.specs.Shares as Shares
-use Rattle.life_frames.specs.Shares.{Lived, came_at, given_where}
+use Rattle.life_runs.specs.of_datagrams.Datagram as Raw
+use Rattle.life_runs.specs.of_datagrams.Frame.{IsFrame, chained}
+use Rattle.book_lives.specs.of_frame_pass.Passing.{datagrams_after}
+use Rattle.life_runs.specs.of_frame_view.View.{Lens}
+use Rattle.life_runs.specs.of_link_mails.Body.{Body}
+use Rattle.slave_parts.specs.of_segment_model.Record.{Frame}
+use Rattle.life_runs.specs.of_segment_plan.declared.slave.SlaveSpec.{SlaveSpec}
+use Rattle.life_runs.specs.of_segment_ring.declared.wire.Fate.{Fate}
+use Rattle.life_runs.specs.of_segment_ring.declared.wire.Fate.TheVariants.{Pass, Lost}
+use Rattle.life_runs.specs.of_segment_ring.Ring.{RingState, ring_behind}
+use Rattle.life_runs.specs.of_segment_ring.Schedule.{fate_at}
+use Rattle.server_lives.specs.of_slave_server.Serving.{Serving}
+use Rattle.book_lives.specs.of_slave_steps.Node.{Node, node_passed}
+use Rattle.life_runs.specs.of_master_duty.Reply as Master
+use Rattle.life_runs.specs.of_master_hand.Spoken.{Asked, acknowledged}
+use Rattle.named_lives.specs.of_life_model.Lives.{Spot, Life, life_next, life_back, life_lost, gives_up}
+use Rattle.life_runs.specs.of_life_frames.Shares as Shares
+use Rattle.life_runs.specs.of_life_frames.Shares.{Lived, came_at, given_where}
 use Rattle.named_lives.specs.Alike.{InHandIs}
 use Rattle.named_lives.proofs.Alike as Alike
-use Rattle.slave_lives.specs.Rings.{fate_seen, is_met_at, met, turned}
+use Rattle.book_lives.specs.of_slave_lives.Rings.{fate_seen, is_met_at, met, turned}
 use Rattle.whole_ring.specs.Members.{IsRing}
 use Rattle.whole_ring.specs.Turning.{Turn, TurnsFor, AllTurn, frame_at, next_life, life_by, behind_frame, given_up}
 use Rattle.whole_ring.proofs.Begins as Begins
@@ -30,7 +30,7 @@ use Rattle.whole_ring.proofs.Turning.{next_stand}
 use Rattle.plan_ring.specs.Asked.{is_service}
 use Rattle.plan_ring.specs.Plan.{PlanMember, FitsPlan, step, new_members}
 use Rattle.plan_ring.proofs.Asked.{alike, forgets_as}
-use Rattle.slave_server.specs.Spec.{profile_of}
+use Rattle.server_lives.specs.of_slave_server.Spec.{profile_of}
 use Rattle.plan_ring.specs.Master.{speech_of, lived_of, IsLed, AllLed, Under, IsUnder, AllUnder, IsSame, AllSame, AllBehind, OnAs, GoesOn}
 
 module _ (more : Body → Bool) (passed : Asked → Bool) (lens : ℕ → Lens) (made : ℕ) (ds : List Raw.Datagram) where

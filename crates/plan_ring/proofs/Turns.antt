@@ -1,35 +1,35 @@
 -- WHAT THE MASTER MADE OF A FRAME, slave by slave, is what the law of its ring asks for; and the lives behind it are those that it leads.
 use Rattle.std.proofs.Common.{◌≡◌, ℕ, suc, ◌+◌, Bool, true, false, Option, Some, None, List, [], ◌∷◌, map, length, refl, ap, sym, ◌∙◌, subst}
 use Rattle.std.specs.Prelude.{◌%◌, if◌then◌else◌, nat_lt, slice_get, All}
-use Rattle.datagrams.specs.Datagram as Raw
-use Rattle.exchange_model.specs.Exchange.{Speech}
-use Rattle.frame_view.specs.View.{Lens}
-use Rattle.frame_view.specs.Seen.{seen}
-use Rattle.life_frames.specs.Shares.{Lived, lived_back, lived_lost}
-use Rattle.life_model.specs.Lives.{Spot, Life, life_next}
+use Rattle.life_runs.specs.of_datagrams.Datagram as Raw
+use Rattle.named_lives.specs.of_exchange_model.Exchange.{Speech}
+use Rattle.life_runs.specs.of_frame_view.View.{Lens}
+use Rattle.life_runs.specs.of_frame_view.Seen.{seen}
+use Rattle.life_runs.specs.of_life_frames.Shares.{Lived, lived_back, lived_lost}
+use Rattle.named_lives.specs.of_life_model.Lives.{Spot, Life, life_next}
 use Rattle.life_runs.specs.First.{lens_of}
 use Rattle.life_runs.specs.Led as Led
 use Rattle.life_runs.specs.Led.{Exchanged, Leads, Turn, Comes, IsTurn, AllTurn, is_passed, speech_at, life_behind}
-use Rattle.link_mails.specs.Body.{Body}
-use Rattle.master_duty.specs.Reply.{Reply}
-use Rattle.master_hand.specs.Spoken.{Asked, sdo, file, drive, net, passed, hand_speech, acknowledged, is_followed}
-use Rattle.master_hand.specs.Talk.{asked_of, asked_set}
+use Rattle.life_runs.specs.of_link_mails.Body.{Body}
+use Rattle.life_runs.specs.of_master_duty.Reply.{Reply}
+use Rattle.life_runs.specs.of_master_hand.Spoken.{Asked, sdo, file, drive, net, passed, hand_speech, acknowledged, is_followed}
+use Rattle.life_runs.specs.of_master_hand.Talk.{asked_of, asked_set}
 use Rattle.named_lives.specs.Alike.{WishIs}
 use Rattle.plan_ring.specs.Asked.{is_service}
 use Rattle.plan_ring.specs.Master as Master
 use Rattle.plan_ring.specs.Master.{speech_of, lived_of, Under, IsUnder, AllUnder, IsSame, AllSame, AllBehind}
 use Rattle.plan_ring.specs.Plan.{PlanMember, FitsPlan, step}
-use Rattle.segment_model.specs.Record.{Frame}
-use Rattle.segment_plan.specs.declared.plan.Scenario.{Scenario}
-use Rattle.segment_plan.specs.declared.service.Service as Plan
-use Rattle.segment_plan.specs.declared.slave.SlaveSpec.{SlaveSpec}
-use Rattle.segment_ring.specs.declared.wire.Fate.{Fate}
-use Rattle.segment_ring.specs.declared.wire.Fate.TheVariants.{Pass, Lost}
-use Rattle.segment_ring.specs.Ring.{RingState, ring_returned}
-use Rattle.segment_ring.specs.Schedule.{fate_at}
-use Rattle.slave_server.specs.Serving.{Serving}
-use Rattle.slave_steps.specs.Node.{Node, node_passed}
-use Rattle.state_exchange.specs.Stated.{Service}
+use Rattle.slave_parts.specs.of_segment_model.Record.{Frame}
+use Rattle.life_runs.specs.of_segment_plan.declared.plan.Scenario.{Scenario}
+use Rattle.life_runs.specs.of_segment_plan.declared.service.Service as Plan
+use Rattle.life_runs.specs.of_segment_plan.declared.slave.SlaveSpec.{SlaveSpec}
+use Rattle.life_runs.specs.of_segment_ring.declared.wire.Fate.{Fate}
+use Rattle.life_runs.specs.of_segment_ring.declared.wire.Fate.TheVariants.{Pass, Lost}
+use Rattle.life_runs.specs.of_segment_ring.Ring.{RingState, ring_returned}
+use Rattle.life_runs.specs.of_segment_ring.Schedule.{fate_at}
+use Rattle.server_lives.specs.of_slave_server.Serving.{Serving}
+use Rattle.book_lives.specs.of_slave_steps.Node.{Node, node_passed}
+use Rattle.slave_parts.specs.of_state_exchange.Stated.{Service}
 use Rattle.whole_ring.specs.Members.{MemberIs, AllLived}
 use Rattle.whole_ring.specs.Turning.{BeginBoots, frame_at}
 use Rattle.plan_ring.specs.Lives.{IsOf, IsShown, AllShown}
@@ -41,7 +41,7 @@ abbrev served : Option Asked → Bool
 served None = true
 served (Some q) = is_service q
 
-room_served : (b : Bool) (block : List ℕ) → served (if b then None else Some (net (Rattle.eoe_model.specs.Client.set_ip block))) ≡ true
+room_served : (b : Bool) (block : List ℕ) → served (if b then None else Some (net (Rattle.slave_parts.specs.of_eoe_model.Client.set_ip block))) ≡ true
 room_served true block = refl
 room_served false block = refl
 

@@ -1,20 +1,20 @@
 -- THE SERVICES OF A SLAVE AS A MASTER ASKS FOR THEM: by the names that the master has for them, and with its replies.
 use Rattle.std.specs.Prelude.{ℕ, Bool, true, false, Some}
-use Rattle.frame_view.specs.View.{Lens}
-use Rattle.coe_model.specs.Meaning as CoeMeaning
-use Rattle.coe_model.specs.Tables.{nowhere}
-use Rattle.eoe_model.specs.Network.{Station}
-use Rattle.state_exchange.specs.Families.{InState, states_of}
-use Rattle.master_duty.specs.Reply as Master
-use Rattle.master_hand.specs.Spoken.{Asked, sdo, file, drive, net, passed, hand_speech, acknowledged}
+use Rattle.life_runs.specs.of_frame_view.View.{Lens}
+use Rattle.slave_parts.specs.of_coe_model.Meaning as CoeMeaning
+use Rattle.slave_parts.specs.of_coe_model.Tables.{nowhere}
+use Rattle.slave_parts.specs.of_eoe_model.Network.{Station}
+use Rattle.slave_parts.specs.of_state_exchange.Families.{InState, states_of}
+use Rattle.life_runs.specs.of_master_duty.Reply as Master
+use Rattle.life_runs.specs.of_master_hand.Spoken.{Asked, sdo, file, drive, net, passed, hand_speech, acknowledged}
 use Rattle.named_lives.specs.Named.{Naming, named, named_states}
-use Rattle.slave_lives.specs.Lived.{Behind}
-use Rattle.slave_model.specs.Acknowledged as Slave
-use Rattle.slave_model.specs.Product.{product}
-use Rattle.slave_model.specs.Profile.{Protocol, Profile, areas_of}
-use Rattle.slave_model.specs.Server.{ServiceOf, Reply}
+use Rattle.book_lives.specs.of_slave_lives.Lived.{Behind}
+use Rattle.slave_parts.specs.of_slave_model.Acknowledged as Slave
+use Rattle.slave_parts.specs.of_slave_model.Product.{product}
+use Rattle.slave_parts.specs.of_slave_model.Profile.{Protocol, Profile, areas_of}
+use Rattle.slave_parts.specs.of_slave_model.Server.{ServiceOf, Reply}
 use Rattle.slave_parts.specs.Parts.{Core, Server, parts}
-use Rattle.slave_server.specs.Serving.{Serving}
+use Rattle.server_lives.specs.of_slave_server.Serving.{Serving}
 use Rattle.server_lives.specs.Real.{real}
 
 -- a service of one of the slave's protocols; a mail that is passed on is none

@@ -1,3 +1,9 @@
+pub use Rattle.book_lives.specs as of_book_lives
+pub use Rattle.named_lives.specs as of_named_lives
+pub use Rattle.server_lives.specs as of_server_lives
+pub use Rattle.slave_parts.specs as of_slave_parts
+pub use Rattle.server_lives.specs.of_slave_server as of_slave_server
+pub use Rattle.whole_ring.specs as of_whole_ring
 pub mod Asked
 pub mod Plan
 pub mod Master

@@ -1,16 +1,16 @@
 -- A MASTER THAT LEADS THE LIVES OF A PLAN'S SLAVES, and the ring in which their nodes live them.
 use Rattle.std.specs.Prelude.{◌≡◌, ℕ, suc, Bool, true, List, [], ◌∷◌, length, slice_get, IfSome, All, ⊤}
-use Rattle.frame_view.specs.View.{Lens}
+use Rattle.life_runs.specs.of_frame_view.View.{Lens}
 use Rattle.life_runs.specs.First.{lens_of, spot_of, script_for}
 use Rattle.life_runs.specs.Led.{Exchanged, Leads}
 use Rattle.plan_ring.specs.Asked.{asked}
 use Rattle.plan_ring.specs.Master.{AllLed, lived_of}
 use Rattle.plan_ring.specs.Plan.{PlanMember, FitsPlan, plan_of, first_app, step}
-use Rattle.segment_plan.specs.declared.plan.Scenario.{Scenario}
-use Rattle.segment_plan.specs.declared.service.Service as Plan
-use Rattle.segment_plan.specs.declared.slave.SlaveSpec.{SlaveSpec}
+use Rattle.life_runs.specs.of_segment_plan.declared.plan.Scenario.{Scenario}
+use Rattle.life_runs.specs.of_segment_plan.declared.service.Service as Plan
+use Rattle.life_runs.specs.of_segment_plan.declared.slave.SlaveSpec.{SlaveSpec}
 use Rattle.server_lives.specs.Real.{real_clearing}
-use Rattle.slave_server.specs.Spec.{profile_of}
+use Rattle.server_lives.specs.of_slave_server.Spec.{profile_of}
 use Rattle.whole_ring.specs.Members.{IsRing}
 use Rattle.plan_ring.specs.Round.{ring_of, ring_after, all_seen}
 

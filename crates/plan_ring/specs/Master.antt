@@ -1,22 +1,22 @@
 -- A MASTER AND THE RING OF ITS PLAN: its lives of the slaves are those that the ring's law speaks of.
 use Rattle.std.specs.Prelude.{◌≡◌, ℕ, Bool, List, [], ◌∷◌, ◌++◌, length, ⊤}
-use Rattle.datagrams.specs.Datagram as Raw
-use Rattle.exchange_model.specs.Exchange.{Speech}
-use Rattle.frame_view.specs.View.{Lens}
-use Rattle.link_mails.specs.Body.{Body}
-use Rattle.segment_model.specs.Record.{Frame, News}
-use Rattle.segment_plan.specs.declared.slave.SlaveSpec.{SlaveSpec}
-use Rattle.segment_ring.specs.declared.wire.Fate.{Fate}
-use Rattle.segment_ring.specs.declared.wire.Fate.TheVariants.{Pass, Lost}
-use Rattle.segment_ring.specs.Ring.{RingState, ring_behind}
-use Rattle.segment_ring.specs.Schedule.{fate_at}
-use Rattle.slave_server.specs.Serving.{Serving}
-use Rattle.slave_steps.specs.Node.{Node, node_passed}
-use Rattle.master_duty.specs.Reply as Master
-use Rattle.master_hand.specs.Spoken.{Asked, hand_speech, acknowledged}
-use Rattle.life_frames.specs.Frames.{Share}
-use Rattle.life_frames.specs.Shares as Shares
-use Rattle.life_frames.specs.Shares.{Lived, IsNext, lived_back, lived_lost}
+use Rattle.life_runs.specs.of_datagrams.Datagram as Raw
+use Rattle.named_lives.specs.of_exchange_model.Exchange.{Speech}
+use Rattle.life_runs.specs.of_frame_view.View.{Lens}
+use Rattle.life_runs.specs.of_link_mails.Body.{Body}
+use Rattle.slave_parts.specs.of_segment_model.Record.{Frame, News}
+use Rattle.life_runs.specs.of_segment_plan.declared.slave.SlaveSpec.{SlaveSpec}
+use Rattle.life_runs.specs.of_segment_ring.declared.wire.Fate.{Fate}
+use Rattle.life_runs.specs.of_segment_ring.declared.wire.Fate.TheVariants.{Pass, Lost}
+use Rattle.life_runs.specs.of_segment_ring.Ring.{RingState, ring_behind}
+use Rattle.life_runs.specs.of_segment_ring.Schedule.{fate_at}
+use Rattle.server_lives.specs.of_slave_server.Serving.{Serving}
+use Rattle.book_lives.specs.of_slave_steps.Node.{Node, node_passed}
+use Rattle.life_runs.specs.of_master_duty.Reply as Master
+use Rattle.life_runs.specs.of_master_hand.Spoken.{Asked, hand_speech, acknowledged}
+use Rattle.life_runs.specs.of_life_frames.Frames.{Share}
+use Rattle.life_runs.specs.of_life_frames.Shares as Shares
+use Rattle.life_runs.specs.of_life_frames.Shares.{Lived, IsNext, lived_back, lived_lost}
 use Rattle.book_lives.specs.First.{Forgets}
 use Rattle.named_lives.specs.Alike.{Alike, WishIs, InHandIs}
 use Rattle.whole_ring.specs.Members.{IsRing}

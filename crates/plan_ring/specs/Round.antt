@@ -1,18 +1,18 @@
 -- THE FRAMES OF A RUN WENT ROUND THE RING of its slaves.
 use Rattle.std.specs.Prelude.{◌≡◌, ℕ, List, [], ◌∷◌, map, ⊤}
-use Rattle.frame_view.specs.View.{Lens}
-use Rattle.frame_view.specs.Seen.{seen}
+use Rattle.life_runs.specs.of_frame_view.View.{Lens}
+use Rattle.life_runs.specs.of_frame_view.Seen.{seen}
 use Rattle.life_runs.specs.Led.{Exchanged}
-use Rattle.link_mails.specs.Body.{Body}
+use Rattle.life_runs.specs.of_link_mails.Body.{Body}
 use Rattle.plan_ring.specs.Plan.{step}
-use Rattle.segment_model.specs.Record.{Frame}
-use Rattle.segment_plan.specs.declared.plan.Scenario.{Scenario}
-use Rattle.segment_ring.specs.Ring.{RingState, ring_behind, ring_returned}
-use Rattle.segment_ring.specs.Schedule.{fate_at}
-use Rattle.slave_lives.specs.Rings.{fate_seen}
-use Rattle.slave_server.specs.Serving.{Serving}
-use Rattle.slave_server.specs.Spec.{node_of}
-use Rattle.slave_steps.specs.Node.{Node, node_passed}
+use Rattle.slave_parts.specs.of_segment_model.Record.{Frame}
+use Rattle.life_runs.specs.of_segment_plan.declared.plan.Scenario.{Scenario}
+use Rattle.life_runs.specs.of_segment_ring.Ring.{RingState, ring_behind, ring_returned}
+use Rattle.life_runs.specs.of_segment_ring.Schedule.{fate_at}
+use Rattle.book_lives.specs.of_slave_lives.Rings.{fate_seen}
+use Rattle.server_lives.specs.of_slave_server.Serving.{Serving}
+use Rattle.server_lives.specs.of_slave_server.Spec.{node_of}
+use Rattle.book_lives.specs.of_slave_steps.Node.{Node, node_passed}
 
 -- the slaves of a plan as they are switched on, in their ring before its first frame
 abbrev pub ring_of : Scenario → RingState (Node Serving)

@@ -1,9 +1,9 @@
 -- THE EPOCHS OF A BOOK have their causes, by the give-ups of the book.
 use Rattle.std.proofs.Common.{◌≡◌, ℕ, List, [], ◌∷◌, map, sym, subst}
 use Rattle.life_runs.specs.Causes.{AllEndBy, AllHaveCause}
-use Rattle.life_frames.specs.Shares.{AllBoth}
+use Rattle.life_runs.specs.of_life_frames.Shares.{AllBoth}
 use Rattle.life_runs.specs.Led.{Leads}
-use Rattle.master_node.specs.Wants.{gave_of}
+use Rattle.run_book.specs.of_master_node.Wants.{gave_of}
 use Rattle.promised_run.specs.Epochs.{AllCaused}
 use Rattle.run_book.specs.declared.book.SlaveBook.{SlaveBook}
 use Rattle.run_record.specs.Epochs.{HasEpochs}

@@ -3,39 +3,39 @@ use Rattle.std.proofs.Common.{◌≡◌, ◌≢◌, ℕ, suc, ◌+◌, ◌-◌, 
 use Rattle.std.specs.Prelude.{◌==◌, ◌&&◌, ◌||◌, nat_lt, not, if◌then◌else◌, ⊤}
 use Rattle.std.proofs.lemmas.Bool.{ltb-true, ltb-false}
 use Rattle.std.proofs.lemmas.List.{length-append}
-use Rattle.datagrams.specs.Datagram as Raw
-use Rattle.exchange_model.specs.Exchange.{Speech}
-use Rattle.frame_view.specs.View.{Lens}
-use Rattle.frame_view.specs.Seen.{seen}
-use Rattle.life_frames.specs.Shares.{came_at}
-use Rattle.life_model.specs.Lives.{Spot, Life, Stand, Opening, life_next, life_back, life_lost, era_back, opening_back, shows_clear, is_shown, last_step, clears, opens, steps_on, reopens, reopens_at, reopening, opens_state, returns_to_init}
+use Rattle.life_runs.specs.of_datagrams.Datagram as Raw
+use Rattle.segment_plan.specs.of_exchange_model.Exchange.{Speech}
+use Rattle.life_runs.specs.of_frame_view.View.{Lens}
+use Rattle.life_runs.specs.of_frame_view.Seen.{seen}
+use Rattle.life_runs.specs.of_life_frames.Shares.{came_at}
+use Rattle.script_runs.specs.of_life_model.Lives.{Spot, Life, Stand, Opening, life_next, life_back, life_lost, era_back, opening_back, shows_clear, is_shown, last_step, clears, opens, steps_on, reopens, reopens_at, reopening, opens_state, returns_to_init}
 use Rattle.life_runs.specs.First.{lens_of, first_leads, leads_from}
 use Rattle.life_runs.specs.Led.{Exchanged, Leads, Turn, AllTurn, IsLed, is_passed, speech_at, led_behind, life_behind, gives_up_at, missed_behind}
-use Rattle.link_mails.specs.Body.{Body}
-use Rattle.master_duty.specs.Reply.{Reply}
-use Rattle.master_hand.specs.Spoken.{Asked, acknowledged, is_followed}
-use Rattle.segment_model.specs.Record.{News}
-use Rattle.segment_model.specs.Slaves.{Datagram, Found}
+use Rattle.life_runs.specs.of_link_mails.Body.{Body}
+use Rattle.life_runs.specs.of_master_duty.Reply.{Reply}
+use Rattle.life_runs.specs.of_master_hand.Spoken.{Asked, acknowledged, is_followed}
+use Rattle.script_runs.specs.of_segment_model.Record.{News}
+use Rattle.script_runs.specs.of_segment_model.Slaves.{Datagram, Found}
 use Rattle.segment_plan.specs.declared.plan.Scenario.{Scenario}
 use Rattle.segment_plan.specs.declared.service.Service as Plan
 use Rattle.segment_plan.specs.declared.slave.SlaveSpec.{SlaveSpec}
-use Rattle.segment_ring.specs.Schedule.{fate_at}
-use Rattle.segment_ring.specs.declared.wire.Fate.{Fate}
-use Rattle.segment_ring.specs.declared.wire.Fate.TheVariants.{Pass, Lost}
-use Rattle.task_model.specs.Accounts.{Duty, Stage, Pick}
+use Rattle.life_runs.specs.of_segment_ring.Schedule.{fate_at}
+use Rattle.life_runs.specs.of_segment_ring.declared.wire.Fate.{Fate}
+use Rattle.life_runs.specs.of_segment_ring.declared.wire.Fate.TheVariants.{Pass, Lost}
+use Rattle.script_runs.specs.of_task_model.Accounts.{Duty, Stage, Pick}
 use Rattle.run_book.specs.declared.book.Book.{Book}
 use Rattle.run_book.specs.declared.book.Ending.{Ending}
 use Rattle.run_book.specs.declared.book.Ending.TheVariants as endings
 use Rattle.run_book.specs.declared.book.SentFrame.{SentFrame}
 use Rattle.run_book.specs.declared.book.SlaveBook.{SlaveBook}
-use Rattle.master_node.specs.Wants.{gave_of}
+use Rattle.run_book.specs.of_master_node.Wants.{gave_of}
 use Rattle.run_record.specs.Led.{exchanged, gaves_in, LedBook}
 use Rattle.run_record.specs.Ran.{HasFrames, EndsAs}
 use Rattle.run_record.specs.Replay.{first_ring, behind as ring_next, AreRecorded}
 use Rattle.run_record.specs.Session.{some_given_up}
-use Rattle.segment_ring.specs.Ring.{RingState}
-use Rattle.slave_server.specs.declared.server.SlaveServer.{SlaveServer}
-use Rattle.slave_steps.specs.Node.{Node}
+use Rattle.life_runs.specs.of_segment_ring.Ring.{RingState}
+use Rattle.run_book.specs.of_slave_server.declared.server.SlaveServer.{SlaveServer}
+use Rattle.run_book.specs.of_slave_steps.Node.{Node}
 use Rattle.promised_run.specs.Few.{IsLost, AreFewLost, NoneGivenUp, OutlivesLosses}
 
 -- these frames, from this number on, have the fates of the schedule

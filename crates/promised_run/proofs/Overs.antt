@@ -1,9 +1,9 @@
 -- WHERE A RUN IS OVER nothing is left of it.
 use Rattle.std.proofs.Common.{◌≡◌, inl, inr, ℕ, List, [], ◌∷◌, ◌++◌, map, ap, sym, ◌∙◌, subst}
 use Rattle.std.proofs.lemmas.List.{append-nil}
-use Rattle.frame_view.specs.View.{Lens}
+use Rattle.life_runs.specs.of_frame_view.View.{Lens}
 use Rattle.life_runs.specs.Causes.{AllHaveCause}
-use Rattle.life_frames.specs.Shares.{AllBoth}
+use Rattle.life_runs.specs.of_life_frames.Shares.{AllBoth}
 use Rattle.run_record.specs.AcceptedMails.{heard_in}
 use Rattle.life_runs.specs.First.{lens_of, first_leads}
 use Rattle.life_runs.specs.Led.{Exchanged, Leads, IsLed}
@@ -29,9 +29,9 @@ use Rattle.run_record.specs.Replay.{first_ring, ring_after}
 use Rattle.script_runs.specs.Slaves.{AllCome}
 use Rattle.segment_plan.specs.Sound.{IsPlan}
 use Rattle.segment_plan.specs.declared.plan.Scenario.{Scenario}
-use Rattle.segment_ring.specs.Ring.{RingState}
-use Rattle.slave_server.specs.Serving.{Serving}
-use Rattle.slave_steps.specs.Node.{Node}
+use Rattle.life_runs.specs.of_segment_ring.Ring.{RingState}
+use Rattle.run_book.specs.of_slave_server.Serving.{Serving}
+use Rattle.run_book.specs.of_slave_steps.Node.{Node}
 
 -- what this crate's law says, for one plan
 abbrev pub Promises : Scenario → Type 0

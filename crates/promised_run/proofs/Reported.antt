@@ -1,17 +1,17 @@
 -- WHAT A BOOK REPORTS IS WHAT THE FRAMES GIVE, and what the application replied.
 use Rattle.std.specs.Prelude.{◌==◌, not, if◌then◌else◌}
 use Rattle.std.proofs.Common.{◌≡◌, ℕ, suc, Bool, true, false, Option, Some, None, List, [], ◌∷◌, ◌++◌, refl, ap, sym, ◌∙◌, subst, append-nil}
-use Rattle.exchange_model.specs.Exchange.{Exchange}
-use Rattle.exchange_model.specs.Rows.{Row}
-use Rattle.kept_lives.specs.Epochs.{IsKept, AreKept, IsNewest, IsKeptLife}
-use Rattle.life_frames.specs.Shares.{AllBoth}
-use Rattle.life_model.specs.Eras.{era_frames}
-use Rattle.life_model.specs.Lives.{Spot, Era, Life, returns_to_init}
+use Rattle.segment_plan.specs.of_exchange_model.Exchange.{Exchange}
+use Rattle.segment_plan.specs.of_exchange_model.Rows.{Row}
+use Rattle.run_promises.specs.of_kept_lives.Epochs.{IsKept, AreKept, IsNewest, IsKeptLife}
+use Rattle.life_runs.specs.of_life_frames.Shares.{AllBoth}
+use Rattle.script_runs.specs.of_life_model.Eras.{era_frames}
+use Rattle.script_runs.specs.of_life_model.Lives.{Spot, Era, Life, returns_to_init}
 use Rattle.life_runs.specs.First.{lens_of, spot_of}
 use Rattle.life_runs.specs.Led.{Exchanged, Leads}
-use Rattle.link_mails.specs.Body.{Body}
-use Rattle.master_duty.specs.Reply.{Reply}
-use Rattle.master_hand.specs.Spoken.{Asked, is_followed}
+use Rattle.life_runs.specs.of_link_mails.Body.{Body}
+use Rattle.life_runs.specs.of_master_duty.Reply.{Reply}
+use Rattle.life_runs.specs.of_master_hand.Spoken.{Asked, is_followed}
 use Rattle.run_promises.specs.Promise.{AllKeep}
 use Rattle.run_promises.specs.Plan.{first_app}
 use Rattle.promised_run.specs.Reported.{IsReportedBy, RepliesBy, AreReplies, EraReplies, PastReplies, NewestReplies, LifeReplies, AllReported}
@@ -20,24 +20,24 @@ use Rattle.run_book.specs.declared.book.SlaveBook.{SlaveBook}
 use Rattle.run_promises.specs.Round.{all_seen}
 use Rattle.run_promises.specs.Slaves.{services_of}
 use Rattle.run_record.specs.Reports.{noted_in, IsBooked}
-use Rattle.script_answers.specs.Answers.{Came, Scripted, Noted, AllNoted, answers_in, side_answers, first_change, changes_behind, change_outcome, opened_anew, scripted_by, scripted_in, scripted_mails, era_scripted, eras_scripted, life_scripted, reply_by, outcome_reply}
-use Rattle.script_answers.proofs.Lists.{eras_more}
+use Rattle.run_record.specs.of_script_answers.Answers.{Came, Scripted, Noted, AllNoted, answers_in, side_answers, first_change, changes_behind, change_outcome, opened_anew, scripted_by, scripted_in, scripted_mails, era_scripted, eras_scripted, life_scripted, reply_by, outcome_reply}
+use Rattle.run_record.proofs.of_script_answers.Lists.{eras_more}
 use Rattle.script_runs.specs.Came.{is_packet}
-use Rattle.link_model.specs.Mails.{first_of}
-use Rattle.segment_model.specs.Ends.{Outcome, state_ends}
-use Rattle.segment_model.specs.Laws.{IsAnswered, AllAnswered, as_outcome}
-use Rattle.segment_model.specs.Record.{Frame, News, first_end, or_later, news_from}
-use Rattle.segment_model.specs.Seats.{rows_of}
+use Rattle.script_runs.specs.of_link_model.Mails.{first_of}
+use Rattle.script_runs.specs.of_segment_model.Ends.{Outcome, state_ends}
+use Rattle.script_runs.specs.of_segment_model.Laws.{IsAnswered, AllAnswered, as_outcome}
+use Rattle.script_runs.specs.of_segment_model.Record.{Frame, News, first_end, or_later, news_from}
+use Rattle.script_runs.specs.of_segment_model.Seats.{rows_of}
 use Rattle.segment_plan.specs.declared.plan.Scenario.{Scenario}
 use Rattle.segment_plan.specs.declared.slave.SlaveSpec.{SlaveSpec}
-use Rattle.server_lives.specs.Real.{real_clearing}
-use Rattle.slave_lives.specs.Lived.{Behind, table_of}
-use Rattle.slave_server.specs.Serving.{Serving}
-use Rattle.slave_steps.specs.Node.{Node}
-use Rattle.state_exchange.specs.Stated.{Stated, Service, with_states}
-use Rattle.state_model.specs.States.{Table}
-use Rattle.task_model.specs.Accounts.{Started, Duty, Change}
-use Rattle.task_model.specs.Promise.{AllReplied, AllFound, IsOpenYet, IsReply, mail_of, state_of, mails_started, states_started, rows_started, changes_in, duty_in, outcome_of}
+use Rattle.run_promises.specs.of_server_lives.Real.{real_clearing}
+use Rattle.run_promises.specs.of_slave_lives.Lived.{Behind, table_of}
+use Rattle.run_book.specs.of_slave_server.Serving.{Serving}
+use Rattle.run_book.specs.of_slave_steps.Node.{Node}
+use Rattle.script_runs.specs.of_state_exchange.Stated.{Stated, Service, with_states}
+use Rattle.life_runs.specs.of_state_model.States.{Table}
+use Rattle.script_runs.specs.of_task_model.Accounts.{Started, Duty, Change}
+use Rattle.script_runs.specs.of_task_model.Promise.{AllReplied, AllFound, IsOpenYet, IsReply, mail_of, state_of, mails_started, states_started, rows_started, changes_in, duty_in, outcome_of}
 
 abbrev Held : Type 0
 Held = Row Body Asked Reply

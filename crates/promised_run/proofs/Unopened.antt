@@ -1,28 +1,28 @@
 -- IN AN EPOCH THAT WASN'T OPENED nothing came into hand.
 use Rattle.std.proofs.Common.{◌≡◌, ℕ, Bool, true, false, Option, Some, None, List, [], ◌∷◌, ◌++◌, map, length, refl, ap, sym, ◌∙◌, subst}
 use Rattle.std.specs.Prelude.{◌==◌, ◌&&◌, is_some, if◌then◌else◌, ⊤}
-use Rattle.datagrams.specs.Datagram as Raw
-use Rattle.exchange_model.specs.Exchange.{Speech}
-use Rattle.frame_view.specs.View.{Lens}
-use Rattle.frame_view.specs.Seen.{seen}
-use Rattle.life_frames.specs.Frames.{Share}
-use Rattle.life_frames.specs.Shares.{Lived, came_at, given_where}
-use Rattle.life_model.specs.Lives.{Spot, Era, Life, Stand, Opening, life_next, life_back, life_lost, era_back, opening_back, shows_clear, is_shown, last_step, clears, opens, steps_on, reopens, reopens_at, reopening, opens_state, returns_to_init}
-use Rattle.life_model.specs.Own.{own}
+use Rattle.life_runs.specs.of_datagrams.Datagram as Raw
+use Rattle.segment_plan.specs.of_exchange_model.Exchange.{Speech}
+use Rattle.life_runs.specs.of_frame_view.View.{Lens}
+use Rattle.life_runs.specs.of_frame_view.Seen.{seen}
+use Rattle.life_runs.specs.of_life_frames.Frames.{Share}
+use Rattle.life_runs.specs.of_life_frames.Shares.{Lived, came_at, given_where}
+use Rattle.script_runs.specs.of_life_model.Lives.{Spot, Era, Life, Stand, Opening, life_next, life_back, life_lost, era_back, opening_back, shows_clear, is_shown, last_step, clears, opens, steps_on, reopens, reopens_at, reopening, opens_state, returns_to_init}
+use Rattle.script_runs.specs.of_life_model.Own.{own}
 use Rattle.life_runs.specs.First.{first_leads, leads_from}
 use Rattle.life_runs.specs.Led.{Exchanged, Leads, Turn, AllTurn, IsLed, is_passed, speech_at, life_behind, led_behind, gives_up_at}
-use Rattle.link_mails.specs.Body.{Body}
-use Rattle.master_duty.specs.Reply.{Reply}
-use Rattle.master_hand.specs.Spoken.{Asked, acknowledged, is_followed}
-use Rattle.segment_model.specs.Record.{News}
-use Rattle.segment_model.specs.Slaves.{Datagram, Found}
+use Rattle.life_runs.specs.of_link_mails.Body.{Body}
+use Rattle.life_runs.specs.of_master_duty.Reply.{Reply}
+use Rattle.life_runs.specs.of_master_hand.Spoken.{Asked, acknowledged, is_followed}
+use Rattle.script_runs.specs.of_segment_model.Record.{News}
+use Rattle.script_runs.specs.of_segment_model.Slaves.{Datagram, Found}
 use Rattle.segment_plan.specs.declared.plan.Scenario.{Scenario}
 use Rattle.segment_plan.specs.declared.service.Service as Plan
 use Rattle.segment_plan.specs.declared.slave.SlaveSpec.{SlaveSpec}
-use Rattle.segment_ring.specs.declared.wire.Fate.{Fate}
-use Rattle.segment_ring.specs.declared.wire.Fate.TheVariants.{Pass, Lost}
-use Rattle.task_model.specs.Accounts.{Duty, Stage, Pick}
-use Rattle.task_model.proofs.Completed.{started_back}
+use Rattle.life_runs.specs.of_segment_ring.declared.wire.Fate.{Fate}
+use Rattle.life_runs.specs.of_segment_ring.declared.wire.Fate.TheVariants.{Pass, Lost}
+use Rattle.script_runs.specs.of_task_model.Accounts.{Duty, Stage, Pick}
+use Rattle.script_runs.proofs.of_task_model.Completed.{started_back}
 
 abbrev pub NothingBefore : Era Body Asked Reply → Type 0
 NothingBefore e = e.opened ≡ None → e.account.started ≡ []

@@ -1,6 +1,6 @@
 -- WHAT OF A SCRIPT WASN'T SENT: the script of each slave is the plan's.
 use Rattle.std.proofs.Common.{ℕ, suc, List, [], ◌∷◌}
-use Rattle.life_frames.specs.Shares.{AllBoth}
+use Rattle.life_runs.specs.of_life_frames.Shares.{AllBoth}
 use Rattle.life_runs.specs.Led.{Leads}
 use Rattle.promised_run.specs.Unsent.{AllUnsent}
 use Rattle.run_book.specs.declared.book.SlaveBook.{SlaveBook}

@@ -4,35 +4,35 @@ use Rattle.std.specs.Prelude.{nat_lt, if◌then◌else◌, All, ⊤}
 use Rattle.std.proofs.lemmas.Bool.{eq-eqb, ne_eqb}
 use Rattle.std.proofs.lemmas.List.{length-map}
 use Rattle.std.proofs.lemmas.List.Elements.{All-head, All-tail}
-use Rattle.datagrams.specs.Datagram as Raw
-use Rattle.frame_view.specs.View.{Lens}
-use Rattle.frame_view.specs.Seen.{seen}
-use Rattle.life_model.specs.Lives.{Spot}
-use Rattle.life_model.specs.Tours.{Member, is_live_in}
+use Rattle.life_runs.specs.of_datagrams.Datagram as Raw
+use Rattle.life_runs.specs.of_frame_view.View.{Lens}
+use Rattle.life_runs.specs.of_frame_view.Seen.{seen}
+use Rattle.script_runs.specs.of_life_model.Lives.{Spot}
+use Rattle.script_runs.specs.of_life_model.Tours.{Member, is_live_in}
 use Rattle.life_runs.proofs.First.{apart_from, have_lens}
 use Rattle.life_runs.specs.First.{lens_of, first_leads, IsElsewhere, AreApart, HaveLens}
 use Rattle.life_runs.specs.Led.{Exchanged, Leads, Turn, AllTurn, IsLed, IsLedFrame}
-use Rattle.master_node.specs.Shows.{is_live_lead, is_opening_lead}
-use Rattle.master_node.specs.Toured.{turn_share}
-use Rattle.master_node.specs.Rooms.{area_at}
-use Rattle.master_side.specs.Again.{larger}
-use Rattle.master_tour.specs.Goes.{holds_at}
-use Rattle.master_tour.specs.Sizes.{frame_size}
-use Rattle.master_tour.specs.Orders.{last_place, last_behind}
-use Rattle.master_tour.specs.Toured.{Tour, IsOfTour, HaveFrom, visit_on, goes_on, has_number}
+use Rattle.run_book.specs.of_master_node.Shows.{is_live_lead, is_opening_lead}
+use Rattle.run_book.specs.of_master_node.Toured.{turn_share}
+use Rattle.run_book.specs.of_master_node.Rooms.{area_at}
+use Rattle.life_runs.specs.of_master_side.Again.{larger}
+use Rattle.run_book.specs.of_master_tour.Goes.{holds_at}
+use Rattle.run_book.specs.of_master_tour.Sizes.{frame_size}
+use Rattle.run_book.specs.of_master_tour.Orders.{last_place, last_behind}
+use Rattle.run_book.specs.of_master_tour.Toured.{Tour, IsOfTour, HaveFrom, visit_on, goes_on, has_number}
 use Rattle.promised_run.specs.Visits.{stop_of, stops_of, members_of, IsVisit, AllVisit}
 use Rattle.script_runs.specs.Slaves.{AllCome}
-use Rattle.segment_model.specs.Visits.{Stop, station_at}
+use Rattle.script_runs.specs.of_segment_model.Visits.{Stop, station_at}
 use Rattle.segment_plan.specs.Sound.{IsPlan, IsSlave}
 use Rattle.segment_plan.specs.declared.plan.Scenario.{Scenario}
 use Rattle.segment_plan.specs.declared.slave.SlaveSpec.{SlaveSpec}
-use Rattle.segment_ring.specs.declared.wire.Fate.{Fate}
-use Rattle.segment_ring.specs.declared.wire.Fate.TheVariants as Fates
-use Rattle.visit_orders.specs.Toured.{AreAt, IsToured, tour_behind, lives_behind}
-use Rattle.visit_orders.specs.Visits as Stops
-use Rattle.visit_orders.specs.Visits.{IsPlace, stop_at, stations_at}
-use Rattle.visit_orders.proofs.Toured.{toured_led}
-use Rattle.visit_orders.proofs.Whole.{visit_whole}
+use Rattle.life_runs.specs.of_segment_ring.declared.wire.Fate.{Fate}
+use Rattle.life_runs.specs.of_segment_ring.declared.wire.Fate.TheVariants as Fates
+use Rattle.run_record.specs.of_visit_orders.Toured.{AreAt, IsToured, tour_behind, lives_behind}
+use Rattle.run_record.specs.of_visit_orders.Visits as Stops
+use Rattle.run_record.specs.of_visit_orders.Visits.{IsPlace, stop_at, stations_at}
+use Rattle.run_record.proofs.of_visit_orders.Toured.{toured_led}
+use Rattle.run_record.proofs.of_visit_orders.Whole.{visit_whole}
 
 -- THE SLAVES OF A FRAME stand at their places
 module _ (plan : Scenario) (lens : ℕ → Lens) (made : ℕ) (ds : List Raw.Datagram) where

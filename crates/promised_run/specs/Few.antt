@@ -3,9 +3,9 @@ use Rattle.std.specs.Prelude.{◌≡◌, ◌≢◌, ℕ, ◌+◌, ◌≤◌, Lis
 use Rattle.run_book.specs.declared.book.Book.{Book}
 use Rattle.run_book.specs.declared.book.Ending.TheVariants as endings
 use Rattle.run_book.specs.declared.book.SlaveBook.{SlaveBook}
-use Rattle.segment_ring.specs.Schedule.{fate_at}
-use Rattle.segment_ring.specs.declared.wire.Fate.{Fate}
-use Rattle.segment_ring.specs.declared.wire.Fate.TheVariants.{Pass, Lost}
+use Rattle.life_runs.specs.of_segment_ring.Schedule.{fate_at}
+use Rattle.life_runs.specs.of_segment_ring.declared.wire.Fate.{Fate}
+use Rattle.life_runs.specs.of_segment_ring.declared.wire.Fate.TheVariants.{Pass, Lost}
 
 -- a frame with this fate is lost
 abbrev pub IsLost : Fate → Type 0

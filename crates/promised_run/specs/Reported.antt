@@ -1,33 +1,33 @@
 -- EACH SERVICE OF A SCRIPT IS REPORTED with just what the frames give for it, and each reply is that of its application.
 use Rattle.std.specs.Prelude.{◌≡◌, ℕ, suc, not, Bool, true, false, Option, Some, None, List, [], ◌∷◌, ◌++◌, length, ⊤}
-use Rattle.exchange_model.specs.Exchange.{Exchange, Speech}
-use Rattle.kept_lives.specs.Epochs.{IsKept, app_of}
-use Rattle.life_model.specs.Eras.{era_frames}
-use Rattle.life_model.specs.Lives.{Spot, Era, Life, returns_to_init}
+use Rattle.segment_plan.specs.of_exchange_model.Exchange.{Exchange, Speech}
+use Rattle.run_promises.specs.of_kept_lives.Epochs.{IsKept, app_of}
+use Rattle.script_runs.specs.of_life_model.Eras.{era_frames}
+use Rattle.script_runs.specs.of_life_model.Lives.{Spot, Era, Life, returns_to_init}
 use Rattle.life_runs.specs.First.{lens_of, spot_of}
 use Rattle.life_runs.specs.Led.{Exchanged, Leads}
-use Rattle.link_mails.specs.Body.{Body}
-use Rattle.master_duty.specs.Reply.{Reply}
-use Rattle.master_hand.specs.Spoken.{Asked, is_followed}
+use Rattle.life_runs.specs.of_link_mails.Body.{Body}
+use Rattle.life_runs.specs.of_master_duty.Reply.{Reply}
+use Rattle.life_runs.specs.of_master_hand.Spoken.{Asked, is_followed}
 use Rattle.run_promises.specs.Plan.{first_app}
 use Rattle.run_book.specs.declared.book.SlaveBook.{SlaveBook}
 use Rattle.run_promises.specs.Round.{all_seen}
 use Rattle.run_promises.specs.Slaves.{services_of}
 use Rattle.run_record.specs.Reports.{noted_in}
-use Rattle.script_answers.specs.Answers.{Noted, reply_by, outcome_reply, change_outcome, opened_anew}
+use Rattle.run_record.specs.of_script_answers.Answers.{Noted, reply_by, outcome_reply, change_outcome, opened_anew}
 use Rattle.script_runs.specs.Came.{is_packet}
-use Rattle.segment_model.specs.Ends.{Outcome}
-use Rattle.segment_model.specs.Record.{Frame}
+use Rattle.script_runs.specs.of_segment_model.Ends.{Outcome}
+use Rattle.script_runs.specs.of_segment_model.Record.{Frame}
 use Rattle.segment_plan.specs.declared.plan.Scenario.{Scenario}
 use Rattle.segment_plan.specs.declared.slave.SlaveSpec.{SlaveSpec}
-use Rattle.server_lives.specs.Real.{real_clearing}
-use Rattle.slave_lives.specs.Lived.{Behind, table_of}
-use Rattle.slave_server.specs.Serving.{Serving}
-use Rattle.slave_steps.specs.Node.{Node}
-use Rattle.state_exchange.specs.Stated.{Stated, Service, with_states}
-use Rattle.state_model.specs.States.{Table}
-use Rattle.task_model.specs.Accounts.{Started}
-use Rattle.task_model.specs.Promise.{outcome_of}
+use Rattle.run_promises.specs.of_server_lives.Real.{real_clearing}
+use Rattle.run_promises.specs.of_slave_lives.Lived.{Behind, table_of}
+use Rattle.run_book.specs.of_slave_server.Serving.{Serving}
+use Rattle.run_book.specs.of_slave_steps.Node.{Node}
+use Rattle.script_runs.specs.of_state_exchange.Stated.{Stated, Service, with_states}
+use Rattle.life_runs.specs.of_state_model.States.{Table}
+use Rattle.script_runs.specs.of_task_model.Accounts.{Started}
+use Rattle.script_runs.specs.of_task_model.Promise.{outcome_of}
 
 -- a service has a reply of its own, by mails or as a change of state: no packet, no mail that is passed on
 abbrev pub has_reply : {M R : Type 0} → Speech M Asked R → Service Asked → Bool

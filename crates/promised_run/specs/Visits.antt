@@ -1,19 +1,19 @@
 -- THE VISITS OF A BOOK: which slaves each of its frames carries, and in which order.
 use Rattle.std.specs.Prelude.{◌-◌, ℕ, nat_le, if◌then◌else◌, List, [], ◌∷◌, length, map, drop, ⊤}
-use Rattle.frame_view.specs.Seen.{seen}
-use Rattle.life_model.specs.Tours.{Member, round}
+use Rattle.life_runs.specs.of_frame_view.Seen.{seen}
+use Rattle.script_runs.specs.of_life_model.Tours.{Member, round}
 use Rattle.life_runs.specs.First.{lens_of, first_leads}
 use Rattle.life_runs.specs.Led.{Exchanged, Leads}
-use Rattle.master_node.specs.Shows.{is_live_lead}
-use Rattle.master_node.specs.Wants.{gave_of}
-use Rattle.master_tour.specs.Sizes.{frame_size}
-use Rattle.master_tour.specs.Toured.{Tour}
-use Rattle.segment_model.specs.Visits
-use Rattle.segment_model.specs.Visits.{Stop, carried}
+use Rattle.run_book.specs.of_master_node.Shows.{is_live_lead}
+use Rattle.run_book.specs.of_master_node.Wants.{gave_of}
+use Rattle.run_book.specs.of_master_tour.Sizes.{frame_size}
+use Rattle.run_book.specs.of_master_tour.Toured.{Tour}
+use Rattle.script_runs.specs.of_segment_model.Visits
+use Rattle.script_runs.specs.of_segment_model.Visits.{Stop, carried}
 use Rattle.segment_plan.specs.declared.plan.Scenario.{Scenario}
 use Rattle.segment_plan.specs.declared.slave.SlaveSpec.{SlaveSpec}
-use Rattle.visit_orders.specs.Toured.{IsToured, stations_of}
-use Rattle.visit_orders.specs.Visits.{last_station}
+use Rattle.run_record.specs.of_visit_orders.Toured.{IsToured, stations_of}
+use Rattle.run_record.specs.of_visit_orders.Visits.{last_station}
 
 -- a slave of a plan as a stop of its tour
 abbrev pub stop_of : SlaveSpec → Stop

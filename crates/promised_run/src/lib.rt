@@ -4,7 +4,7 @@
 ghost use Rattle.std.specs.Prelude.{◌≡◌, [], false};
 ghost use Rattle.run_book.specs.Book.{IsNew};
 ghost use Rattle.run_record.specs.Ran.{HasFrames, EndsAs};
-ghost use Rattle.scenario.specs.Told.{IsTold};
+ghost use Rattle.run_promises.specs.of_scenario.Told.{IsTold};
 ghost use Rattle.segment_plan.specs.Sound.{IsPlan};
 ghost use Rattle.promised_run.specs.Promised.{IsPromised};
 

@@ -1,36 +1,36 @@
 -- THE BOOKS of slaves that stay up.
 use Rattle.std.proofs.Common.{◌≡◌, ℕ, suc, true, List, [], ◌∷◌, map, length, ap, sym, ◌∙◌, subst}
 use Rattle.std.proofs.lemmas.List.{length-map}
-use Rattle.book_lives.specs.First.{Forgets, FirstBook}
-use Rattle.book_lives.specs.Rows.{IsFirst}
-use Rattle.book_lives.proofs.First.{first_book}
-use Rattle.eoe_model.specs.Network.{Station}
-use Rattle.frame_view.specs.View.{Lens}
-use Rattle.life_frames.specs.Shares.{Lived}
-use Rattle.life_model.specs.Eras.{Clearing}
-use Rattle.life_model.specs.Lives.{Spot, Life, Stand}
-use Rattle.life_runs.specs.First.{lens_of, spot_of}
-use Rattle.life_runs.specs.Led.{Exchanged, Leads}
-use Rattle.link_mails.specs.Body.{Body}
-use Rattle.master_duty.specs.Reply.{Reply}
-use Rattle.master_hand.specs.Spoken.{Asked, is_followed}
+use Rattle.plan_ring.specs.of_book_lives.First.{Forgets, FirstBook}
+use Rattle.plan_ring.specs.of_book_lives.Rows.{IsFirst}
+use Rattle.plan_ring.proofs.of_book_lives.First.{first_book}
+use Rattle.script_runs.specs.of_eoe_model.Network.{Station}
+use Rattle.script_runs.specs.of_frame_view.View.{Lens}
+use Rattle.script_runs.specs.of_life_frames.Shares.{Lived}
+use Rattle.script_runs.specs.of_life_model.Eras.{Clearing}
+use Rattle.script_runs.specs.of_life_model.Lives.{Spot, Life, Stand}
+use Rattle.script_runs.specs.of_life_runs.First.{lens_of, spot_of}
+use Rattle.script_runs.specs.of_life_runs.Led.{Exchanged, Leads}
+use Rattle.script_runs.specs.of_link_mails.Body.{Body}
+use Rattle.script_runs.specs.of_master_duty.Reply.{Reply}
+use Rattle.script_runs.specs.of_master_hand.Spoken.{Asked, is_followed}
 use Rattle.plan_ring.specs.Master.{IsLed, AllLed}
 use Rattle.plan_ring.specs.Plan.{PlanMember, FitsPlan, step, plan_of, first_app}
-use Rattle.segment_model.specs.Record.{Frame}
-use Rattle.segment_plan.specs.declared.plan.Scenario.{Scenario}
-use Rattle.segment_plan.specs.declared.slave.SlaveSpec.{SlaveSpec}
-use Rattle.server_lives.specs.Real.{real_clearing}
-use Rattle.slave_lives.specs.Lived.{Behind, node_seen}
-use Rattle.slave_lives.specs.Opening as Opening
-use Rattle.slave_parts.specs.Parts.{Core, Server}
-use Rattle.slave_server.specs.Serving.{Serving}
-use Rattle.slave_steps.specs.Node.{Node, is_settled}
-use Rattle.slave_lives.specs.Steps.{Stands}
-use Rattle.mailbox_slave.specs.Node.{in_side}
-use Rattle.segment_model.specs.Laws.{IsSettled}
-use Rattle.state_exchange.specs.Families.{InState}
-use Rattle.whole_lives.specs.Whole.{IsWhole, StandsAs}
-use Rattle.whole_ring.specs.Members.{MemberIs, AllLived}
+use Rattle.script_runs.specs.of_segment_model.Record.{Frame}
+use Rattle.script_runs.specs.of_segment_plan.declared.plan.Scenario.{Scenario}
+use Rattle.script_runs.specs.of_segment_plan.declared.slave.SlaveSpec.{SlaveSpec}
+use Rattle.plan_ring.specs.of_server_lives.Real.{real_clearing}
+use Rattle.kept_lives.specs.of_slave_lives.Lived.{Behind, node_seen}
+use Rattle.kept_lives.specs.of_slave_lives.Opening as Opening
+use Rattle.plan_ring.specs.of_slave_parts.Parts.{Core, Server}
+use Rattle.plan_ring.specs.of_slave_server.Serving.{Serving}
+use Rattle.kept_lives.specs.of_slave_steps.Node.{Node, is_settled}
+use Rattle.kept_lives.specs.of_slave_lives.Steps.{Stands}
+use Rattle.kept_lives.specs.of_mailbox_slave.Node.{in_side}
+use Rattle.script_runs.specs.of_segment_model.Laws.{IsSettled}
+use Rattle.script_runs.specs.of_state_exchange.Families.{InState}
+use Rattle.kept_lives.specs.of_whole_lives.Whole.{IsWhole, StandsAs}
+use Rattle.plan_ring.specs.of_whole_ring.Members.{MemberIs, AllLived}
 use Rattle.plan_ring.specs.Lives.{IsShown, AllShown, AreLived}
 use Rattle.plan_ring.specs.Round.{ring_of, ring_after, frame_seen, all_seen}
 use Rattle.run_promises.specs.Books.{StaysUp, HasBook, AllHaveBooks}

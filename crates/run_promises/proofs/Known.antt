@@ -4,11 +4,11 @@ use Rattle.std.specs.Prelude.{IfSome, slice_get}
 use Rattle.std.proofs.lemmas.List.Elements.{All-weaker}
 use Rattle.plan_ring.specs.Lives.{IsKnown, StateFits, RowFits}
 use Rattle.scenario.specs.Told.{IsTold}
-use Rattle.scenario_bodies.specs.Suited.{Suits}
-use Rattle.scenario_services.specs.Reading.{FitsSlave}
-use Rattle.segment_plan.specs.declared.plan.Scenario.{Scenario}
-use Rattle.segment_plan.specs.declared.service.Service as Plan
-use Rattle.segment_plan.specs.declared.slave.SlaveSpec.{SlaveSpec}
+use Rattle.scenario.specs.of_scenario_bodies.Suited.{Suits}
+use Rattle.scenario.specs.of_scenario_services.Reading.{FitsSlave}
+use Rattle.script_runs.specs.of_segment_plan.declared.plan.Scenario.{Scenario}
+use Rattle.script_runs.specs.of_segment_plan.declared.service.Service as Plan
+use Rattle.script_runs.specs.of_segment_plan.declared.slave.SlaveSpec.{SlaveSpec}
 
 -- a service that suits its slave asks for no state that the slave lacks
 state_fits : (s : SlaveSpec) (q : Plan.Service) → Suits s q → StateFits s q

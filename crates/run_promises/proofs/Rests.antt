@@ -2,36 +2,36 @@
 use Rattle.std.proofs.Common.{◌≡◌, ℕ, suc, true, Option, Some, None, List, [], ◌∷◌, map, length, take, filter, ap, sym, ◌∙◌, subst}
 use Rattle.std.specs.Prelude.{not}
 use Rattle.std.proofs.Math.Seq.{take-length}
-use Rattle.book_model.specs.Script.{life_started}
-use Rattle.eoe_model.specs.Network.{Station}
-use Rattle.exchange_model.specs.Exchange.{Speech}
-use Rattle.exchange_model.specs.Rows.{Row}
-use Rattle.frame_view.specs.View.{Lens}
-use Rattle.life_frames.specs.Shares.{Lived}
-use Rattle.life_model.specs.Eras.{Clearing}
-use Rattle.life_model.specs.Lives.{Spot, Life, Stand}
-use Rattle.life_runs.specs.First.{lens_of, spot_of, script_for}
-use Rattle.life_runs.specs.Led.{Exchanged, Leads, speech_at}
-use Rattle.link_mails.specs.Body.{Body}
-use Rattle.master_duty.specs.Reply.{Reply}
-use Rattle.master_hand.specs.Spoken.{Asked, hand_speech, is_followed}
-use Rattle.named_lives.specs.Alike.{RowIs}
-use Rattle.named_lives.proofs.Alike as Alike
+use Rattle.script_runs.specs.of_book_model.Script.{life_started}
+use Rattle.script_runs.specs.of_eoe_model.Network.{Station}
+use Rattle.script_runs.specs.of_exchange_model.Exchange.{Speech}
+use Rattle.script_runs.specs.of_exchange_model.Rows.{Row}
+use Rattle.script_runs.specs.of_frame_view.View.{Lens}
+use Rattle.script_runs.specs.of_life_frames.Shares.{Lived}
+use Rattle.script_runs.specs.of_life_model.Eras.{Clearing}
+use Rattle.script_runs.specs.of_life_model.Lives.{Spot, Life, Stand}
+use Rattle.script_runs.specs.of_life_runs.First.{lens_of, spot_of, script_for}
+use Rattle.script_runs.specs.of_life_runs.Led.{Exchanged, Leads, speech_at}
+use Rattle.script_runs.specs.of_link_mails.Body.{Body}
+use Rattle.script_runs.specs.of_master_duty.Reply.{Reply}
+use Rattle.script_runs.specs.of_master_hand.Spoken.{Asked, hand_speech, is_followed}
+use Rattle.plan_ring.specs.of_named_lives.Alike.{RowIs}
+use Rattle.plan_ring.proofs.of_named_lives.Alike as Alike
 use Rattle.plan_ring.specs.Asked.{is_service}
 use Rattle.plan_ring.specs.Master.{speech_of, IsLed, AllLed}
 use Rattle.plan_ring.specs.Plan.{PlanMember, FitsPlan, step, first_app}
-use Rattle.segment_model.specs.Laws.{WantsNothing, NothingInHand}
-use Rattle.segment_model.specs.Record.{Frame}
-use Rattle.segment_plan.specs.declared.plan.Scenario.{Scenario}
-use Rattle.segment_plan.specs.declared.slave.SlaveSpec.{SlaveSpec}
-use Rattle.server_lives.specs.Real.{real_clearing}
-use Rattle.slave_lives.specs.Lived.{Behind}
-use Rattle.slave_parts.specs.Parts.{Core, Server}
-use Rattle.slave_server.specs.Serving.{Serving, next_mail}
-use Rattle.slave_steps.specs.Node.{Node, is_settled}
-use Rattle.state_exchange.specs.Families.{InState}
-use Rattle.whole_lives.specs.Whole.{StandsAs, LivesOpen}
-use Rattle.whole_ring.specs.Members.{MemberIs, AllLived}
+use Rattle.script_runs.specs.of_segment_model.Laws.{WantsNothing, NothingInHand}
+use Rattle.script_runs.specs.of_segment_model.Record.{Frame}
+use Rattle.script_runs.specs.of_segment_plan.declared.plan.Scenario.{Scenario}
+use Rattle.script_runs.specs.of_segment_plan.declared.slave.SlaveSpec.{SlaveSpec}
+use Rattle.plan_ring.specs.of_server_lives.Real.{real_clearing}
+use Rattle.kept_lives.specs.of_slave_lives.Lived.{Behind}
+use Rattle.plan_ring.specs.of_slave_parts.Parts.{Core, Server}
+use Rattle.plan_ring.specs.of_slave_server.Serving.{Serving, next_mail}
+use Rattle.kept_lives.specs.of_slave_steps.Node.{Node, is_settled}
+use Rattle.script_runs.specs.of_state_exchange.Families.{InState}
+use Rattle.kept_lives.specs.of_whole_lives.Whole.{StandsAs, LivesOpen}
+use Rattle.plan_ring.specs.of_whole_ring.Members.{MemberIs, AllLived}
 use Rattle.plan_ring.specs.Lives.{IsShown, AllShown, AreLived}
 use Rattle.plan_ring.specs.Round.{ring_of, ring_after, all_seen}
 use Rattle.script_runs.specs.Came.{AreThose, is_packet}

@@ -1,10 +1,10 @@
 -- THE FIRST OF FRAMES that went round a ring went round it.
 use Rattle.std.proofs.Common.{List, [], ◌∷◌, ◌++◌}
-use Rattle.life_runs.specs.Led.{Exchanged}
+use Rattle.script_runs.specs.of_life_runs.Led.{Exchanged}
 use Rattle.plan_ring.specs.Round.{AllRound, behind}
-use Rattle.segment_ring.specs.Ring.{RingState}
-use Rattle.slave_server.specs.Serving.{Serving}
-use Rattle.slave_steps.specs.Node.{Node}
+use Rattle.script_runs.specs.of_segment_ring.Ring.{RingState}
+use Rattle.plan_ring.specs.of_slave_server.Serving.{Serving}
+use Rattle.kept_lives.specs.of_slave_steps.Node.{Node}
 
 pub first_round : (ring : RingState (Node Serving)) (fs others : List Exchanged) → AllRound ring (fs ++ others) → AllRound ring fs
 first_round ring [] others round = tt

@@ -1,22 +1,22 @@
 -- THE PROMISE, slave by slave.
 use Rattle.std.proofs.Common.{◌≡◌, ℕ, suc, List, [], ◌∷◌, map, ap, sym, ◌∙◌, subst}
-use Rattle.frame_view.specs.View.{Lens}
-use Rattle.life_frames.specs.Shares.{Lived}
-use Rattle.life_model.specs.Lives.{Life}
-use Rattle.life_runs.specs.First.{lens_of, spot_of, script_for}
-use Rattle.life_runs.specs.Led.{Exchanged, Leads}
-use Rattle.link_mails.specs.Body.{Body}
-use Rattle.book_model.specs.Script.{life_started}
-use Rattle.master_duty.specs.Reply.{Reply}
-use Rattle.master_hand.specs.Spoken.{Asked, is_followed}
+use Rattle.script_runs.specs.of_frame_view.View.{Lens}
+use Rattle.script_runs.specs.of_life_frames.Shares.{Lived}
+use Rattle.script_runs.specs.of_life_model.Lives.{Life}
+use Rattle.script_runs.specs.of_life_runs.First.{lens_of, spot_of, script_for}
+use Rattle.script_runs.specs.of_life_runs.Led.{Exchanged, Leads}
+use Rattle.script_runs.specs.of_link_mails.Body.{Body}
+use Rattle.script_runs.specs.of_book_model.Script.{life_started}
+use Rattle.script_runs.specs.of_master_duty.Reply.{Reply}
+use Rattle.script_runs.specs.of_master_hand.Spoken.{Asked, is_followed}
 use Rattle.plan_ring.specs.Plan.{PlanMember, FitsPlan, step, first_app}
-use Rattle.segment_model.specs.Record.{Frame}
-use Rattle.segment_plan.specs.declared.plan.Scenario.{Scenario}
-use Rattle.segment_plan.specs.declared.slave.SlaveSpec.{SlaveSpec}
-use Rattle.server_lives.specs.Real.{real_clearing}
-use Rattle.slave_server.specs.Serving.{Serving}
-use Rattle.slave_steps.specs.Node.{Node}
-use Rattle.whole_ring.specs.Members.{MemberIs, AllLived}
+use Rattle.script_runs.specs.of_segment_model.Record.{Frame}
+use Rattle.script_runs.specs.of_segment_plan.declared.plan.Scenario.{Scenario}
+use Rattle.script_runs.specs.of_segment_plan.declared.slave.SlaveSpec.{SlaveSpec}
+use Rattle.plan_ring.specs.of_server_lives.Real.{real_clearing}
+use Rattle.plan_ring.specs.of_slave_server.Serving.{Serving}
+use Rattle.kept_lives.specs.of_slave_steps.Node.{Node}
+use Rattle.plan_ring.specs.of_whole_ring.Members.{MemberIs, AllLived}
 use Rattle.plan_ring.specs.Lives.{IsShown, AllShown, AreLived}
 use Rattle.plan_ring.specs.Round.{ring_of, ring_after, all_seen}
 use Rattle.script_runs.specs.Came.{Came, AreFirst}

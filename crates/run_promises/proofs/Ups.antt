@@ -1,30 +1,30 @@
 -- A SLAVE THAT STAYS UP is in its first epoch: one that was never given up or returned to Init behind a frame never was before it.
 use Rattle.std.proofs.Common.{◌≡◌, ℕ, suc, Bool, true, false, Option, Some, None, List, [], ◌∷◌, ◌++◌, map, length, refl, ap, sym, ◌∙◌, subst, arith, length-append}
 use Rattle.std.specs.Prelude.{◌&&◌, ◌==◌, if◌then◌else◌, ⊤}
-use Rattle.datagrams.specs.Datagram as Raw
-use Rattle.book_lives.specs.Rows.{WishStays, IsFirst}
-use Rattle.book_lives.proofs.Rows.{back_first, lost_first, new_first}
-use Rattle.book_model.specs.Script.{life_started}
-use Rattle.exchange_model.specs.Exchange.{Speech}
-use Rattle.frame_view.specs.View.{Lens}
-use Rattle.frame_view.specs.Seen.{seen}
-use Rattle.life_frames.specs.Shares.{came_at, given_where}
-use Rattle.life_model.specs.Book.{NoInits}
-use Rattle.life_model.specs.Lives.{Spot, Life, Opening, Stand, life_next, life_back, life_lost, opening_back, shows_clear, is_shown, last_step, clears, opens, steps_on, reopens, reopens_at, reopening, opens_state, returns_to_init, era_back}
-use Rattle.life_runs.specs.First.{lens_of, first_leads, leads_from}
-use Rattle.life_runs.specs.Led as Led
-use Rattle.life_runs.specs.Led.{Exchanged, Leads, Turn, IsTurn, AllTurn, IsLed, is_passed, speech_at, life_behind, gives_up_at}
-use Rattle.link_mails.specs.Body.{Body}
-use Rattle.master_duty.specs.Reply.{Reply}
-use Rattle.master_hand.specs.Spoken.{Asked, acknowledged, is_followed}
-use Rattle.segment_model.specs.Record.{News}
-use Rattle.segment_model.specs.Slaves.{Datagram, Found}
-use Rattle.segment_plan.specs.declared.plan.Scenario.{Scenario}
-use Rattle.segment_plan.specs.declared.slave.SlaveSpec.{SlaveSpec}
-use Rattle.segment_ring.specs.declared.wire.Fate.{Fate}
-use Rattle.segment_ring.specs.declared.wire.Fate.TheVariants.{Pass, Lost}
-use Rattle.state_exchange.specs.Stated.{Service}
-use Rattle.task_model.specs.Accounts.{Duty, Stage, Pick}
+use Rattle.script_runs.specs.of_datagrams.Datagram as Raw
+use Rattle.plan_ring.specs.of_book_lives.Rows.{WishStays, IsFirst}
+use Rattle.plan_ring.proofs.of_book_lives.Rows.{back_first, lost_first, new_first}
+use Rattle.script_runs.specs.of_book_model.Script.{life_started}
+use Rattle.script_runs.specs.of_exchange_model.Exchange.{Speech}
+use Rattle.script_runs.specs.of_frame_view.View.{Lens}
+use Rattle.script_runs.specs.of_frame_view.Seen.{seen}
+use Rattle.script_runs.specs.of_life_frames.Shares.{came_at, given_where}
+use Rattle.script_runs.specs.of_life_model.Book.{NoInits}
+use Rattle.script_runs.specs.of_life_model.Lives.{Spot, Life, Opening, Stand, life_next, life_back, life_lost, opening_back, shows_clear, is_shown, last_step, clears, opens, steps_on, reopens, reopens_at, reopening, opens_state, returns_to_init, era_back}
+use Rattle.script_runs.specs.of_life_runs.First.{lens_of, first_leads, leads_from}
+use Rattle.script_runs.specs.of_life_runs.Led as Led
+use Rattle.script_runs.specs.of_life_runs.Led.{Exchanged, Leads, Turn, IsTurn, AllTurn, IsLed, is_passed, speech_at, life_behind, gives_up_at}
+use Rattle.script_runs.specs.of_link_mails.Body.{Body}
+use Rattle.script_runs.specs.of_master_duty.Reply.{Reply}
+use Rattle.script_runs.specs.of_master_hand.Spoken.{Asked, acknowledged, is_followed}
+use Rattle.script_runs.specs.of_segment_model.Record.{News}
+use Rattle.script_runs.specs.of_segment_model.Slaves.{Datagram, Found}
+use Rattle.script_runs.specs.of_segment_plan.declared.plan.Scenario.{Scenario}
+use Rattle.script_runs.specs.of_segment_plan.declared.slave.SlaveSpec.{SlaveSpec}
+use Rattle.script_runs.specs.of_segment_ring.declared.wire.Fate.{Fate}
+use Rattle.script_runs.specs.of_segment_ring.declared.wire.Fate.TheVariants.{Pass, Lost}
+use Rattle.script_runs.specs.of_state_exchange.Stated.{Service}
+use Rattle.script_runs.specs.of_task_model.Accounts.{Duty, Stage, Pick}
 use Rattle.run_promises.specs.Books.{StaysUp}
 use Rattle.script_runs.proofs.Came.{listed, past_is, turn_started, behind_same}
 

@@ -1,21 +1,21 @@
 -- THE BOOK OF A SLAVE THAT STAYS UP: in its first epoch, from the switch on.
 use Rattle.std.specs.Prelude.{◌≡◌, ℕ, suc, true, List, [], ◌∷◌, ⊤}
-use Rattle.book_lives.specs.First.{Forgets, FirstBook}
-use Rattle.book_model.specs.Script.{life_started}
-use Rattle.life_model.specs.Book.{NoInits}
-use Rattle.life_model.specs.Lives.{Life, Stand}
-use Rattle.life_runs.specs.First.{lens_of, spot_of}
-use Rattle.life_runs.specs.Led.{Exchanged, Leads}
-use Rattle.master_hand.specs.Spoken.{is_followed}
+use Rattle.plan_ring.specs.of_book_lives.First.{Forgets, FirstBook}
+use Rattle.script_runs.specs.of_book_model.Script.{life_started}
+use Rattle.script_runs.specs.of_life_model.Book.{NoInits}
+use Rattle.script_runs.specs.of_life_model.Lives.{Life, Stand}
+use Rattle.script_runs.specs.of_life_runs.First.{lens_of, spot_of}
+use Rattle.script_runs.specs.of_life_runs.Led.{Exchanged, Leads}
+use Rattle.script_runs.specs.of_master_hand.Spoken.{is_followed}
 use Rattle.plan_ring.specs.Plan.{plan_of, first_app}
-use Rattle.segment_plan.specs.declared.plan.Scenario.{Scenario}
-use Rattle.segment_plan.specs.declared.slave.SlaveSpec.{SlaveSpec}
-use Rattle.server_lives.specs.Real.{real_clearing}
-use Rattle.segment_model.specs.Laws.{IsSettled}
-use Rattle.slave_lives.specs.Lived.{node_seen}
-use Rattle.slave_server.specs.Serving.{Serving, next_mail}
-use Rattle.slave_steps.specs.Node.{Node, is_settled}
-use Rattle.whole_lives.specs.Whole.{IsWhole}
+use Rattle.script_runs.specs.of_segment_plan.declared.plan.Scenario.{Scenario}
+use Rattle.script_runs.specs.of_segment_plan.declared.slave.SlaveSpec.{SlaveSpec}
+use Rattle.plan_ring.specs.of_server_lives.Real.{real_clearing}
+use Rattle.script_runs.specs.of_segment_model.Laws.{IsSettled}
+use Rattle.kept_lives.specs.of_slave_lives.Lived.{node_seen}
+use Rattle.plan_ring.specs.of_slave_server.Serving.{Serving, next_mail}
+use Rattle.kept_lives.specs.of_slave_steps.Node.{Node, is_settled}
+use Rattle.kept_lives.specs.of_whole_lives.Whole.{IsWhole}
 use Rattle.plan_ring.specs.Round.{all_seen}
 use Rattle.run_promises.specs.Slaves.{services_of}
 

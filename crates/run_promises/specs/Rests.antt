@@ -1,21 +1,21 @@
 -- NOTHING IS LEFT of a slave: all of its script came into hand and is carried out.
 use Rattle.std.specs.Prelude.{◌≡◌, ℕ, suc, true, not, None, List, [], ◌∷◌, filter, length, ⊤}
-use Rattle.book_model.specs.Script.{life_started}
-use Rattle.eoe_model.specs.Network.{Station}
-use Rattle.frame_view.specs.View.{Lens}
-use Rattle.life_model.specs.Lives.{Stand}
-use Rattle.life_runs.specs.First.{lens_of, spot_of, script_for}
-use Rattle.life_runs.specs.Led.{Exchanged, Leads, speech_at}
-use Rattle.master_hand.specs.Spoken.{is_followed}
+use Rattle.script_runs.specs.of_book_model.Script.{life_started}
+use Rattle.script_runs.specs.of_eoe_model.Network.{Station}
+use Rattle.script_runs.specs.of_frame_view.View.{Lens}
+use Rattle.script_runs.specs.of_life_model.Lives.{Stand}
+use Rattle.script_runs.specs.of_life_runs.First.{lens_of, spot_of, script_for}
+use Rattle.script_runs.specs.of_life_runs.Led.{Exchanged, Leads, speech_at}
+use Rattle.script_runs.specs.of_master_hand.Spoken.{is_followed}
 use Rattle.plan_ring.specs.Plan.{first_app}
-use Rattle.segment_model.specs.Laws.{WantsNothing}
-use Rattle.segment_plan.specs.declared.plan.Scenario.{Scenario}
-use Rattle.segment_plan.specs.declared.slave.SlaveSpec.{SlaveSpec}
-use Rattle.server_lives.specs.Real.{real_clearing}
-use Rattle.slave_parts.specs.Parts.{Core}
-use Rattle.slave_server.specs.Serving.{Serving, next_mail}
-use Rattle.slave_steps.specs.Node.{Node, is_settled}
-use Rattle.state_exchange.specs.Families.{InState}
+use Rattle.script_runs.specs.of_segment_model.Laws.{WantsNothing}
+use Rattle.script_runs.specs.of_segment_plan.declared.plan.Scenario.{Scenario}
+use Rattle.script_runs.specs.of_segment_plan.declared.slave.SlaveSpec.{SlaveSpec}
+use Rattle.plan_ring.specs.of_server_lives.Real.{real_clearing}
+use Rattle.plan_ring.specs.of_slave_parts.Parts.{Core}
+use Rattle.plan_ring.specs.of_slave_server.Serving.{Serving, next_mail}
+use Rattle.kept_lives.specs.of_slave_steps.Node.{Node, is_settled}
+use Rattle.script_runs.specs.of_state_exchange.Families.{InState}
 use Rattle.plan_ring.specs.Round.{all_seen}
 use Rattle.script_runs.specs.Came.{AreThose, is_packet}
 use Rattle.kept_lives.specs.Epochs.{AreKept, NothingLeft, app_of}

@@ -1,23 +1,23 @@
 -- WHAT A MACHINE BUILDER MAY RELY ON of each slave of a plan, behind any frames of a run: which of its services came into hand, and what its
 -- application has carried out of them.
 use Rattle.std.specs.Prelude.{ℕ, suc, List, [], ◌∷◌, ⊤}
-use Rattle.book_model.specs.Script.{life_started}
-use Rattle.eoe_model.specs.Network.{Station}
-use Rattle.life_runs.specs.First.{lens_of, spot_of, script_for}
-use Rattle.life_runs.specs.Led.{Exchanged, Leads}
-use Rattle.master_duty.specs.Reply.{Reply}
-use Rattle.master_hand.specs.Spoken.{Asked, is_followed}
+use Rattle.script_runs.specs.of_book_model.Script.{life_started}
+use Rattle.script_runs.specs.of_eoe_model.Network.{Station}
+use Rattle.script_runs.specs.of_life_runs.First.{lens_of, spot_of, script_for}
+use Rattle.script_runs.specs.of_life_runs.Led.{Exchanged, Leads}
+use Rattle.script_runs.specs.of_master_duty.Reply.{Reply}
+use Rattle.script_runs.specs.of_master_hand.Spoken.{Asked, is_followed}
 use Rattle.plan_ring.specs.Asked.{asked}
 use Rattle.plan_ring.specs.Plan.{first_app}
-use Rattle.segment_plan.specs.declared.plan.Scenario.{Scenario}
-use Rattle.segment_plan.specs.declared.slave.SlaveSpec.{SlaveSpec}
-use Rattle.server_lives.specs.Real.{real_clearing}
-use Rattle.slave_lives.specs.Lived.{Behind}
-use Rattle.slave_parts.specs.Parts.{Core, Server}
-use Rattle.slave_server.specs.Serving.{Serving}
-use Rattle.slave_server.specs.Spec.{profile_of}
-use Rattle.slave_steps.specs.Node.{Node}
-use Rattle.state_exchange.specs.Families.{InState}
+use Rattle.script_runs.specs.of_segment_plan.declared.plan.Scenario.{Scenario}
+use Rattle.script_runs.specs.of_segment_plan.declared.slave.SlaveSpec.{SlaveSpec}
+use Rattle.plan_ring.specs.of_server_lives.Real.{real_clearing}
+use Rattle.kept_lives.specs.of_slave_lives.Lived.{Behind}
+use Rattle.plan_ring.specs.of_slave_parts.Parts.{Core, Server}
+use Rattle.plan_ring.specs.of_slave_server.Serving.{Serving}
+use Rattle.plan_ring.specs.of_slave_server.Spec.{profile_of}
+use Rattle.kept_lives.specs.of_slave_steps.Node.{Node}
+use Rattle.script_runs.specs.of_state_exchange.Families.{InState}
 use Rattle.plan_ring.specs.Round.{all_seen}
 use Rattle.script_runs.specs.Came.{Came, AreFirst}
 use Rattle.kept_lives.specs.Epochs.{IsKeptLife}

@@ -3,10 +3,10 @@
 #![tactic(auto)]
 
 ghost use Rattle.std.specs.Prelude.{ℕ, List, ◌++◌};
-ghost use Rattle.life_runs.specs.First.{lens_of, first_leads};
-ghost use Rattle.life_runs.specs.Led.{Exchanged, Leads, IsLed};
-ghost use Rattle.segment_plan.specs.Sound.{IsPlan};
-ghost use Rattle.segment_plan.specs.declared.plan.Scenario.{Scenario};
+ghost use Rattle.script_runs.specs.of_life_runs.First.{lens_of, first_leads};
+ghost use Rattle.script_runs.specs.of_life_runs.Led.{Exchanged, Leads, IsLed};
+ghost use Rattle.script_runs.specs.of_segment_plan.Sound.{IsPlan};
+ghost use Rattle.script_runs.specs.of_segment_plan.declared.plan.Scenario.{Scenario};
 ghost use Rattle.plan_ring.specs.Lives.{IsKnown};
 ghost use Rattle.plan_ring.specs.Round.{ring_of, AllRound, ring_after};
 ghost use Rattle.run_promises.specs.Books.{AllHaveBooks};

@@ -3,10 +3,10 @@ use Rattle.std.proofs.Common.{◌≡◌, ◌⊎◌, inl, inr, ◌≤◌, ℕ, ze
 use Rattle.std.specs.Prelude.{◌||◌, ◌&&◌, nat_lt, slice_get, is_some}
 use Rattle.std.proofs.lemmas.Bool.{ltb-false}
 use Rattle.std.proofs.lemmas.Option.{slice_get_past}
-use Rattle.frame_view.specs.View.{Lens}
-use Rattle.life_frames.specs.Shares.{AllBoth}
-use Rattle.life_model.specs.Lives.{Stand}
-use Rattle.life_runs.specs.Led.{Leads}
+use Rattle.master_node.specs.of_frame_view.View.{Lens}
+use Rattle.master_node.specs.of_life_frames.Shares.{AllBoth}
+use Rattle.master_node.specs.of_life_model.Lives.{Stand}
+use Rattle.master_node.specs.of_life_runs.Led.{Leads}
 use Rattle.master_node.specs.Shows.{MasterShows}
 use Rattle.master_node.specs.Wants.{gave_of, IsCounted, AllCounted, IsLeft, AllLeft}
 use Rattle.master_node.specs.declared.node.MasterNode.{MasterNode}
@@ -17,7 +17,7 @@ use Rattle.run_record.specs.Session.{slave_row, slave_rows, is_at_rest, are_at_r
 use Rattle.run_record.proofs.Gones.{AllGone, all_gone, first_false, second_false}
 use Rattle.slave_server.specs.Serving.{next_mail}
 use Rattle.slave_server.specs.declared.server.SlaveServer.{SlaveServer}
-use Rattle.slave_steps.specs.Node.{Node, is_settled}
+use Rattle.slave_node.specs.of_slave_steps.Node.{Node, is_settled}
 
 both_true : (a b : Bool) → (a && b) ≡ true → (a ≡ true) × (b ≡ true)
 both_true true b e = (refl, e)

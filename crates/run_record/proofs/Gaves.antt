@@ -1,7 +1,7 @@
 -- What is noted of give-ups, slave by slave.
 use Rattle.std.proofs.Common.{◌≡◌, ◌≤◌, ◌<◌, ℕ, zero, suc, Bool, true, false, Some, List, [], ◌∷◌, ◌++◌, map, length, get_or, refl, ap, sym, ◌∙◌, subst, arith}
 use Rattle.std.specs.Prelude.{nat_lt, if◌then◌else◌, IfSome, slice_get, slice_set, slice_index_or}
-use Rattle.life_runs.specs.Led.{Leads}
+use Rattle.master_node.specs.of_life_runs.Led.{Leads}
 use Rattle.master_node.specs.Wants.{gave_of, IsCounted, AllCounted}
 use Rattle.run_record.specs.declared.notes.Notes.{Notes}
 use Rattle.run_record.specs.Led.{gaves_noted}

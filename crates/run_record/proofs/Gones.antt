@@ -2,23 +2,23 @@
 use Rattle.std.proofs.Common.{◌≡◌, refl, ℕ, Bool, true, false, List, [], ◌∷◌}
 use Rattle.std.specs.Prelude.{◌||◌, ⊤}
 use Rattle.std.specs.List.{list_any}
-use Rattle.frame_view.specs.View.{Lens}
-use Rattle.life_frames.specs.Shares.{AllBoth}
-use Rattle.life_model.specs.Lives
-use Rattle.life_model.specs.Lives.{Spot, Life}
-use Rattle.life_runs.specs.Led.{Leads}
-use Rattle.link_mails.specs.Body.{Body}
-use Rattle.master_duty.specs.Reply.{Reply}
-use Rattle.master_hand.specs.Spoken.{Asked}
-use Rattle.master_hand.specs.declared.hand.InHand.{InHand}
+use Rattle.master_node.specs.of_frame_view.View.{Lens}
+use Rattle.master_node.specs.of_life_frames.Shares.{AllBoth}
+use Rattle.master_node.specs.of_life_model.Lives
+use Rattle.master_node.specs.of_life_model.Lives.{Spot, Life}
+use Rattle.master_node.specs.of_life_runs.Led.{Leads}
+use Rattle.slave_node.specs.of_link_mails.Body.{Body}
+use Rattle.master_node.specs.of_master_duty.Reply.{Reply}
+use Rattle.master_node.specs.of_master_hand.Spoken.{Asked}
+use Rattle.master_node.specs.of_master_hand.declared.hand.InHand.{InHand}
 use Rattle.master_node.specs.Shows.{IsLead, side_shows}
-use Rattle.master_side.specs.declared.hand.Hand.{Ghosts}
-use Rattle.master_tour.specs.Goes.{is_live}
-use Rattle.master_tour.specs.Stands.{StandShows}
-use Rattle.master_tour.specs.declared.stop.Stand.{Stand}
-use Rattle.master_tour.specs.declared.stop.Stop.{Stop}
-use Rattle.segment_model.specs.Seats.{Side}
-use Rattle.task_model.specs.Accounts.{Account}
+use Rattle.master_node.specs.of_master_side.declared.hand.Hand.{Ghosts}
+use Rattle.master_node.specs.of_master_tour.Goes.{is_live}
+use Rattle.master_node.specs.of_master_tour.Stands.{StandShows}
+use Rattle.master_node.specs.of_master_tour.declared.stop.Stand.{Stand}
+use Rattle.master_node.specs.of_master_tour.declared.stop.Stop.{Stop}
+use Rattle.master_node.specs.of_segment_model.Seats.{Side}
+use Rattle.master_node.specs.of_task_model.Accounts.{Account}
 
 -- each was given up for good
 abbrev pub AllGone : List Leads → Type 0

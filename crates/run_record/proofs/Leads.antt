@@ -4,19 +4,19 @@ use Rattle.std.specs.Prelude.{◌↔◌, ◌&&◌, nat_lt, if◌then◌else◌}
 use Rattle.std.proofs.lemmas.Bool.{lt-ltb, le-ltb}
 use Rattle.std.proofs.lemmas.List.{map-append}
 use Rattle.datagrams.specs.Datagram as Raw
-use Rattle.frame_view.specs.View.{Lens}
-use Rattle.frame_view.specs.Seen.{seen}
-use Rattle.life_frames.specs.Shares.{AllBoth, Lived, came_at, given_where}
+use Rattle.master_node.specs.of_frame_view.View.{Lens}
+use Rattle.master_node.specs.of_frame_view.Seen.{seen}
+use Rattle.master_node.specs.of_life_frames.Shares.{AllBoth, Lived, came_at, given_where}
 use Rattle.life_heard.proofs.Heards.{loses}
 use Rattle.life_heard.specs.Heard.{AllNoted, brought_by, heard_in, heard_on}
-use Rattle.life_model.specs.Lives.{Life, life_lost}
-use Rattle.life_runs.specs.First.{lens_of, script_for, first_leads, leads_from}
-use Rattle.life_runs.specs.Led.{Exchanged, Leads, Turn, AllTurn, IsLed, IsLedFrame, is_passed, speech_at, life_behind, led_behind, gives_up_at, missed_behind}
-use Rattle.link_mails.specs.Body.{Body}
-use Rattle.master_duty.specs.Reply.{Reply}
-use Rattle.master_hand.specs.Spoken.{Asked, acknowledged, is_followed}
-use Rattle.life_runs.specs.Led.{new_leads}
-use Rattle.life_model.specs.Lives.{Spot}
+use Rattle.master_node.specs.of_life_model.Lives.{Life, life_lost}
+use Rattle.master_node.specs.of_life_runs.First.{lens_of, script_for, first_leads, leads_from}
+use Rattle.master_node.specs.of_life_runs.Led.{Exchanged, Leads, Turn, AllTurn, IsLed, IsLedFrame, is_passed, speech_at, life_behind, led_behind, gives_up_at, missed_behind}
+use Rattle.slave_node.specs.of_link_mails.Body.{Body}
+use Rattle.master_node.specs.of_master_duty.Reply.{Reply}
+use Rattle.master_node.specs.of_master_hand.Spoken.{Asked, acknowledged, is_followed}
+use Rattle.master_node.specs.of_life_runs.Led.{new_leads}
+use Rattle.master_node.specs.of_life_model.Lives.{Spot}
 use Rattle.master_node.specs.Brought.{HasBrought}
 use Rattle.master_node.specs.Shows.{MasterShows, MasterUnder, IsLead, IsUnder, is_live_lead}
 use Rattle.master_node.specs.Toured.{tour_of, turn_share}
@@ -27,12 +27,12 @@ use Rattle.master_node.specs.declared.node.MasterNode.{MasterNode}
 use Rattle.master_node.specs.declared.node.Next.{Next}
 use Rattle.master_node.specs.declared.node.Next.TheVariants as nexts
 use Rattle.master_node.specs.Rooms.{area_at}
-use Rattle.master_tour.specs.Goes.{holds_at}
-use Rattle.master_tour.specs.Sizes.{frame_size}
-use Rattle.master_tour.specs.Toured.{Tour, IsOfTour, new_tour}
+use Rattle.master_node.specs.of_master_tour.Goes.{holds_at}
+use Rattle.master_node.specs.of_master_tour.Sizes.{frame_size}
+use Rattle.master_node.specs.of_master_tour.Toured.{Tour, IsOfTour, new_tour}
 use Rattle.master_node.proofs.Counts.{counted, turn_gave, back_gave, lost_gave}
 use Rattle.run_book.specs.declared.book.SentFrame.{SentFrame}
-use Rattle.segment_model.specs.Returned.{Returns}
+use Rattle.master_node.specs.of_segment_model.Returned.{Returns}
 use Rattle.segment_plan.specs.declared.plan.Scenario.{Scenario}
 use Rattle.segment_plan.specs.declared.service.Service as Plan
 use Rattle.segment_plan.specs.declared.slave.SlaveSpec.{SlaveSpec}
@@ -41,7 +41,7 @@ use Rattle.segment_ring.specs.declared.wire.Fate.TheVariants as Fates
 use Rattle.segment_ring.specs.Ring.{RingState, ring_returned}
 use Rattle.segment_ring.specs.Schedule.{fate_at}
 use Rattle.slave_server.specs.declared.server.SlaveServer.{SlaveServer}
-use Rattle.slave_steps.specs.Node.{Node, node_passed}
+use Rattle.slave_node.specs.of_slave_steps.Node.{Node, node_passed}
 use Rattle.ring_returns.proofs.Returned as Returned
 use Rattle.run_record.specs.declared.notes.Notes.{Notes}
 use Rattle.run_record.specs.declared.standing.Log.{Log}

@@ -1,3 +1,5 @@
+pub use Rattle.script_answers.proofs as of_script_answers
+pub use Rattle.visit_orders.proofs as of_visit_orders
 pub mod Asking
 pub mod Befores
 pub mod Budgets

@@ -2,11 +2,11 @@
 use Rattle.std.proofs.Common.{◌≡◌, ◌⊎◌, inl, inr, ℕ, Bool, true, false, List, map, length, ap, sym, ◌∙◌, subst}
 use Rattle.std.specs.Prelude.{◌≢◌}
 use Rattle.std.specs.Bool.{OnTrue, OnFalse}
-use Rattle.frame_view.specs.View.{Lens}
-use Rattle.life_frames.specs.Shares.{AllBoth}
+use Rattle.master_node.specs.of_frame_view.View.{Lens}
+use Rattle.master_node.specs.of_life_frames.Shares.{AllBoth}
 use Rattle.life_heard.specs.Heard.{AllNoted, heard_in}
-use Rattle.life_runs.specs.First.{lens_of}
-use Rattle.life_runs.specs.Led.{Leads}
+use Rattle.master_node.specs.of_life_runs.First.{lens_of}
+use Rattle.master_node.specs.of_life_runs.Led.{Leads}
 use Rattle.master_node.specs.Toured.{tour_of}
 use Rattle.master_node.specs.Wants.{AllCounted, AllLeft, gave_of}
 use Rattle.master_node.proofs.Counts.{counted, placed}

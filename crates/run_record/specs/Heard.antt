@@ -1,15 +1,15 @@
 -- WHAT IS NOTED OF A SLAVE'S EMERGENCIES, beside the mails that its life accepted.
 use Rattle.std.specs.Prelude.{◌≡◌, ℕ, suc, List, map}
 use Rattle.life_heard.specs.Heard.{Accepted, AllNoted, brought_of, heard_on, heard_to}
-use Rattle.life_runs.specs.Led.{Turn}
+use Rattle.master_node.specs.of_life_runs.Led.{Turn}
 use Rattle.master_node.specs.Brought.{HasBrought}
 use Rattle.master_node.specs.declared.node.MasterNode.{MasterNode}
 use Rattle.run_book.specs.declared.book.Emergency.{Emergency}
 use Rattle.run_book.specs.declared.book.SlaveBook.{SlaveBook}
 use Rattle.run_record.specs.declared.notes.Notes.{Notes}
 use Rattle.run_record.specs.declared.standing.Log.{Log}
-use Rattle.segment_model.specs.Slaves.{Datagram}
-use Rattle.link_mails.specs.Body.{Body}
+use Rattle.master_node.specs.of_segment_model.Slaves.{Datagram}
+use Rattle.slave_node.specs.of_link_mails.Body.{Body}
 use Rattle.segment_ring.specs.declared.wire.Fate.{Fate}
 use Rattle.segment_ring.specs.declared.wire.Fate.TheVariants.{Pass, Lost}
 

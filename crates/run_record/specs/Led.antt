@@ -1,17 +1,17 @@
 -- THE FRAMES OF A RUN ARE LED by its master: each is just what the lives of the slaves ask for, from the plan's new lives on; and what the book says of
 -- give-ups and of the end is what those lives have.
 use Rattle.std.specs.Prelude.{◌≡◌, ◌≢◌, ◌⊎◌, ℕ, true, List, [], map, ⊤}
-use Rattle.frame_view.specs.View.{Lens}
-use Rattle.life_frames.specs.Shares.{AllBoth}
+use Rattle.master_node.specs.of_frame_view.View.{Lens}
+use Rattle.master_node.specs.of_life_frames.Shares.{AllBoth}
 use Rattle.life_heard.specs.Heard.{AllNoted, heard_in}
-use Rattle.life_model.specs.Lives.{Stand}
-use Rattle.life_runs.specs.First.{lens_of, first_leads}
-use Rattle.life_runs.specs.Led.{Exchanged, Leads, IsLed}
+use Rattle.master_node.specs.of_life_model.Lives.{Stand}
+use Rattle.master_node.specs.of_life_runs.First.{lens_of, first_leads}
+use Rattle.master_node.specs.of_life_runs.Led.{Exchanged, Leads, IsLed}
 use Rattle.master_node.specs.Shows.{MasterShows}
 use Rattle.master_node.specs.Toured.{tour_of}
 use Rattle.master_node.specs.Wants.{gave_of, IsIdle}
 use Rattle.master_node.specs.declared.node.MasterNode.{MasterNode}
-use Rattle.master_tour.specs.Toured.{Tour}
+use Rattle.master_node.specs.of_master_tour.Toured.{Tour}
 use Rattle.run_book.specs.declared.book.Book.{Book}
 use Rattle.run_book.specs.declared.book.Ending.{Ending}
 use Rattle.run_book.specs.declared.book.Ending.TheVariants as endings
@@ -25,7 +25,7 @@ use Rattle.run_record.specs.Unsent.{IsSpent}
 use Rattle.run_record.specs.declared.notes.Notes.{Notes}
 use Rattle.segment_plan.specs.declared.plan.Scenario.{Scenario}
 use Rattle.slave_server.specs.Serving.{next_mail}
-use Rattle.slave_steps.specs.Node.{is_settled}
+use Rattle.slave_node.specs.of_slave_steps.Node.{is_settled}
 use Rattle.visit_orders.specs.Toured.{IsToured}
 
 -- a frame of a book

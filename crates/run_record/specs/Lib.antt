@@ -1,3 +1,5 @@
+pub use Rattle.script_answers.specs as of_script_answers
+pub use Rattle.visit_orders.specs as of_visit_orders
 pub mod Notes
 pub mod Replay
 pub mod Unsent

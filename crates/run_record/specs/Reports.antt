@@ -1,9 +1,9 @@
 -- WHAT IS NOTED OF A SLAVE'S SERVICES, beside its life.
 use Rattle.std.specs.Prelude.{◌≡◌, ◌+◌, ℕ, zero, suc, Bool, true, false, if◌then◌else◌, Option, Some, None, List, [], ◌∷◌, ◌++◌, length, ⊤}
-use Rattle.frame_view.specs.View.{Lens}
-use Rattle.life_frames.specs.Shares.{AllBoth}
-use Rattle.life_runs.specs.Led.{Leads}
-use Rattle.master_duty.specs.Reply.{Reply}
+use Rattle.master_node.specs.of_frame_view.View.{Lens}
+use Rattle.master_node.specs.of_life_frames.Shares.{AllBoth}
+use Rattle.master_node.specs.of_life_runs.Led.{Leads}
+use Rattle.master_node.specs.of_master_duty.Reply.{Reply}
 use Rattle.master_node.specs.Shows.{MasterShows}
 use Rattle.master_node.specs.Told.{HasLeads}
 use Rattle.master_node.specs.Wants.{gave_of, AllCounted}

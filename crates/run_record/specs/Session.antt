@@ -7,7 +7,7 @@ use Rattle.segment_plan.specs.declared.plan.Scenario.{Scenario}
 use Rattle.segment_plan.specs.declared.service.Service.{Service}
 use Rattle.segment_plan.specs.declared.slave.SlaveSpec.{SlaveSpec}
 use Rattle.segment_ring.specs.Ring.{RingState}
-use Rattle.slave_steps.specs.Node.{Node, is_settled}
+use Rattle.slave_node.specs.of_slave_steps.Node.{Node, is_settled}
 use Rattle.slave_server.specs.Serving.{next_mail}
 use Rattle.slave_server.specs.declared.server.SlaveServer.{SlaveServer}
 use Rattle.run_book.specs.Book.{IsShort}
@@ -23,9 +23,9 @@ use Rattle.run_record.specs.Notes.{new_notes, ended}
 use Rattle.master_node.specs.declared.node.MasterNode.{MasterNode}
 use Rattle.master_node.specs.Shows.{MasterShows}
 use Rattle.master_node.specs.Wants.{gave_of, AllCounted, AllPlaced, AllLeft}
-use Rattle.master_tour.specs.Goes.{is_live}
-use Rattle.life_runs.specs.Led.{Exchanged, Leads}
-use Rattle.frame_view.specs.View.{Lens}
+use Rattle.master_node.specs.of_master_tour.Goes.{is_live}
+use Rattle.master_node.specs.of_life_runs.Led.{Exchanged, Leads}
+use Rattle.master_node.specs.of_frame_view.View.{Lens}
 use Rattle.segment_ring.specs.declared.wire.Fate.{Fate}
 use Rattle.segment_ring.specs.declared.wire.Fate.TheVariants.{Pass, Lost}
 use Rattle.run_record.specs.Led.{exchanged, gaves_noted, Leading, AreLed}

@@ -2,7 +2,7 @@ ghost use Rattle.std.specs.Prelude.{◌≡◌, ◌≤◌, ◌+◌, [], Some, len
 ghost use Rattle.segment_plan.specs.Sound.{IsLaid};
 ghost use Rattle.run_book.specs.Ports.{ports_of};
 ghost use Rattle.run_record.specs.Session.{scripted, first_notes, home_of, SameFrames, SameSlaves};
-ghost use Rattle.life_runs.specs.Led.{Leads};
+ghost use Rattle.master_node.specs.of_life_runs.Led.{Leads};
 ghost use Rattle.run_record.specs.Heard.{emergencies_noted};
 ghost use Rattle.run_record.specs.Led.{gaves_noted};
 ghost use Rattle.run_record.specs.Reports.{Reports, KeepsReports};

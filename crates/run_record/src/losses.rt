@@ -1,6 +1,6 @@
 ghost use Rattle.std.specs.Prelude.{◌≡◌, ◌<◌, ◌≤◌, ◌+◌, ℕ, suc, List, length, map, vec_len, OnOk, Some, slice_get};
-ghost use Rattle.frame_view.specs.View.{Lens};
-ghost use Rattle.life_runs.specs.Led.{Leads};
+ghost use Rattle.master_node.specs.of_frame_view.View.{Lens};
+ghost use Rattle.master_node.specs.of_life_runs.Led.{Leads};
 ghost use Rattle.master_node.specs.Shows.{MasterShows};
 ghost use Rattle.master_node.specs.Wants.{gave_of, AllCounted};
 ghost use Rattle.run_record.specs.Heard.{emergencies_noted, HeardBy};

@@ -1,2 +1,3 @@
+pub use Rattle.scenario_bodies.specs as of_scenario_bodies
 pub mod Services
 pub mod Reading

@@ -2,18 +2,18 @@
 use Rattle.std.proofs.Common.{◌≡◌, ◌⊎◌, inl, inr, ℕ, Bool, true, false, Option, Some, None, List, [], ◌∷◌, ◌++◌, length, refl, ap, sym, ◌∙◌, subst, arith, append_assoc, append-nil}
 use Rattle.std.specs.Prelude.{◌==◌, ◌&&◌, not, option_map, is_some, if◌then◌else◌}
 use Rattle.std.proofs.lemmas.List.{map-append}
-use Rattle.exchange_model.specs.Areas.{Areas}
-use Rattle.exchange_model.specs.Exchange.{Speech, plain}
-use Rattle.exchange_model.specs.Rows.{Row, answer_after, row_heard}
-use Rattle.life_model.specs.Lives.{Era, Life, Stand, returns_to_init}
-use Rattle.link_mails.specs.Body.{Body}
-use Rattle.master_duty.specs.Reply.{Reply}
-use Rattle.master_hand.specs.Spoken.{Asked, sdo, file, drive, net, passed, ends, handed, is_passed, hand_speech}
-use Rattle.segment_model.specs.Record.{is_for}
-use Rattle.segment_model.specs.Seats.{newest}
-use Rattle.segment_model.specs.Slaves.{Datagram}
-use Rattle.state_exchange.specs.Stated.{Service}
-use Rattle.task_model.specs.Accounts.{Account, Duty, Change, Progress, access_done, account_by, account_met, account_back}
+use Rattle.script_runs.specs.of_exchange_model.Areas.{Areas}
+use Rattle.script_runs.specs.of_exchange_model.Exchange.{Speech, plain}
+use Rattle.script_runs.specs.of_exchange_model.Rows.{Row, answer_after, row_heard}
+use Rattle.script_runs.specs.of_life_model.Lives.{Era, Life, Stand, returns_to_init}
+use Rattle.script_runs.specs.of_link_mails.Body.{Body}
+use Rattle.script_runs.specs.of_master_duty.Reply.{Reply}
+use Rattle.script_runs.specs.of_master_hand.Spoken.{Asked, sdo, file, drive, net, passed, ends, handed, is_passed, hand_speech}
+use Rattle.script_runs.specs.of_segment_model.Record.{is_for}
+use Rattle.script_runs.specs.of_segment_model.Seats.{newest}
+use Rattle.script_runs.specs.of_segment_model.Slaves.{Datagram}
+use Rattle.script_runs.specs.of_state_exchange.Stated.{Service}
+use Rattle.script_runs.specs.of_task_model.Accounts.{Account, Duty, Change, Progress, access_done, account_by, account_met, account_back}
 use Rattle.script_answers.specs.Answers.{Came, Scripted, RowRests, Awaits, Changes, answers_in, side_answers, now_answer, reached_at, change_outcome, scripted_in, scripted_mails, era_scripted, eras_scripted, life_scripted}
 use Rattle.script_answers.proofs.Lists.{Answer, Over, scripted_state, scripted_one, steady, no_outcome}
 

@@ -3,15 +3,15 @@ use Rattle.std.proofs.Common.{ℕ, suc, ◌<◌, Bool, true, false, Option, Some
 use Rattle.std.specs.Prelude.{◌==◌, ◌&&◌, if◌then◌else◌}
 use Rattle.std.specs.List.{All}
 use Rattle.std.proofs.lemmas.List.Elements.{All-push, All-weaker}
-use Rattle.exchange_model.specs.Exchange.{Speech}
-use Rattle.life_frames.specs.Shares.{given_where}
-use Rattle.life_model.specs.Lives.{Spot, Life, Stand, Opening, life_back, life_lost, era_back, opening_back, shows_clear, is_shown, last_step, clears, opens, steps_on, reopens, reopens_at, reopening, opens_state, returns_to_init}
-use Rattle.life_runs.specs.Led.{is_passed}
-use Rattle.link_mails.specs.Body.{Body}
-use Rattle.master_duty.specs.Reply.{Reply}
-use Rattle.master_hand.specs.Spoken.{Asked, acknowledged, is_followed}
-use Rattle.segment_model.specs.Slaves.{Datagram, Found}
-use Rattle.task_model.specs.Accounts.{Duty, Stage}
+use Rattle.script_runs.specs.of_exchange_model.Exchange.{Speech}
+use Rattle.script_runs.specs.of_life_frames.Shares.{given_where}
+use Rattle.script_runs.specs.of_life_model.Lives.{Spot, Life, Stand, Opening, life_back, life_lost, era_back, opening_back, shows_clear, is_shown, last_step, clears, opens, steps_on, reopens, reopens_at, reopening, opens_state, returns_to_init}
+use Rattle.script_runs.specs.of_life_runs.Led.{is_passed}
+use Rattle.script_runs.specs.of_link_mails.Body.{Body}
+use Rattle.script_runs.specs.of_master_duty.Reply.{Reply}
+use Rattle.script_runs.specs.of_master_hand.Spoken.{Asked, acknowledged, is_followed}
+use Rattle.script_runs.specs.of_segment_model.Slaves.{Datagram, Found}
+use Rattle.script_runs.specs.of_task_model.Accounts.{Duty, Stage}
 use Rattle.script_answers.specs.Steps.{OpenedBefore, IsBefore}
 use Rattle.script_answers.proofs.Anew.{WasBefore}
 

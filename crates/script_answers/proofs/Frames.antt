@@ -2,25 +2,25 @@
 use Rattle.std.proofs.Common.{◌≡◌, ℕ, suc, ◌<◌, Bool, true, false, Option, Some, None, List, [], ◌∷◌, ◌++◌, length, length-append, refl, ap, sym, ◌∙◌, subst, arith, append-nil}
 use Rattle.std.specs.Prelude.{◌==◌, ◌&&◌, option_map, is_some, if◌then◌else◌}
 use Rattle.std.specs.List.{All}
-use Rattle.exchange_model.specs.Areas.{Areas}
-use Rattle.exchange_model.specs.Exchange.{Speech, plain}
-use Rattle.exchange_model.specs.Rows.{answer_after, row_heard}
-use Rattle.frame_view.specs.Seen.{seen}
-use Rattle.life_runs.proofs.Spans.{clear_leaves, cleared_stays, last_stays, steps_stay}
-use Rattle.life_runs.specs.Spans.{is_leaving, is_open}
-use Rattle.life_model.specs.Lives.{Spot, Era, Life, Stand, Opening, life_back, era_back, opening_back, shows_clear, is_shown, last_step, clears, opens, steps_on, reopens, reopens_at, reopening, opens_state, returns_to_init, new_side}
-use Rattle.life_model.specs.Own.{own}
-use Rattle.life_runs.specs.Led.{is_passed}
-use Rattle.link_mails.specs.Body.{Body}
-use Rattle.link_model.specs.Frames.{all_accepted}
-use Rattle.master_duty.specs.Reply.{Reply}
-use Rattle.master_hand.specs.Spoken.{Asked, acknowledged, is_followed, ends, hand_speech}
-use Rattle.segment_model.specs.Record.{News}
-use Rattle.segment_model.specs.Seats.{Side}
-use Rattle.segment_model.specs.Slaves.{Datagram, Found, grams}
-use Rattle.task_model.specs.Accounts.{Account, Duty, Stage, Change, new_account}
-use Rattle.task_model.specs.Promise.{services_in, mails_in}
-use Rattle.task_model.proofs.Completed.{started_back}
+use Rattle.script_runs.specs.of_exchange_model.Areas.{Areas}
+use Rattle.script_runs.specs.of_exchange_model.Exchange.{Speech, plain}
+use Rattle.script_runs.specs.of_exchange_model.Rows.{answer_after, row_heard}
+use Rattle.script_runs.specs.of_frame_view.Seen.{seen}
+use Rattle.script_runs.proofs.of_life_runs.Spans.{clear_leaves, cleared_stays, last_stays, steps_stay}
+use Rattle.script_runs.specs.of_life_runs.Spans.{is_leaving, is_open}
+use Rattle.script_runs.specs.of_life_model.Lives.{Spot, Era, Life, Stand, Opening, life_back, era_back, opening_back, shows_clear, is_shown, last_step, clears, opens, steps_on, reopens, reopens_at, reopening, opens_state, returns_to_init, new_side}
+use Rattle.script_runs.specs.of_life_model.Own.{own}
+use Rattle.script_runs.specs.of_life_runs.Led.{is_passed}
+use Rattle.script_runs.specs.of_link_mails.Body.{Body}
+use Rattle.script_runs.specs.of_link_model.Frames.{all_accepted}
+use Rattle.script_runs.specs.of_master_duty.Reply.{Reply}
+use Rattle.script_runs.specs.of_master_hand.Spoken.{Asked, acknowledged, is_followed, ends, hand_speech}
+use Rattle.script_runs.specs.of_segment_model.Record.{News}
+use Rattle.script_runs.specs.of_segment_model.Seats.{Side}
+use Rattle.script_runs.specs.of_segment_model.Slaves.{Datagram, Found, grams}
+use Rattle.script_runs.specs.of_task_model.Accounts.{Account, Duty, Stage, Change, new_account}
+use Rattle.script_runs.specs.of_task_model.Promise.{services_in, mails_in}
+use Rattle.script_runs.proofs.of_task_model.Completed.{started_back}
 use Rattle.script_answers.specs.Answers.{Came, Scripted, RowRests, RestsSo, Awaits, Changes, ComesAnew, IsStill, IsNew, FreshBy, answers_in, side_answers, now_answer, states_in, reached_at, opened_anew, scripted_in, era_scripted, eras_scripted, over_scripted, life_scripted}
 use Rattle.script_answers.proofs.Backs.{Held, Went, AwaitsBack, past_scripted, changes_front, changes_scripted, changes_opened, change_with, change_reported, hand_back, no_hand, answers_rest, rests_heard, many_answers}
 use Rattle.script_answers.proofs.Anew.{anew_spared}

@@ -1,13 +1,13 @@
 -- Lists of scripted services, and of what is noted of them.
 use Rattle.std.proofs.Common.{◌≡◌, ℕ, suc, ◌+◌, Bool, true, false, Option, Some, None, List, [], ◌∷◌, ◌++◌, length, refl, ap, sym, ◌∙◌, arith, append_assoc, append-nil}
-use Rattle.life_model.specs.Lives.{Era, returns_to_init}
-use Rattle.link_mails.specs.Body.{Body}
-use Rattle.master_duty.specs.Reply.{Reply}
-use Rattle.master_hand.specs.Spoken.{Asked}
+use Rattle.script_runs.specs.of_life_model.Lives.{Era, returns_to_init}
+use Rattle.script_runs.specs.of_link_mails.Body.{Body}
+use Rattle.script_runs.specs.of_master_duty.Reply.{Reply}
+use Rattle.script_runs.specs.of_master_hand.Spoken.{Asked}
 use Rattle.script_runs.specs.Came.{is_packet}
-use Rattle.state_exchange.specs.Stated.{Service}
-use Rattle.task_model.specs.Accounts.{Started, Change}
-use Rattle.task_model.specs.Promise.{services_in, mails_in}
+use Rattle.script_runs.specs.of_state_exchange.Stated.{Service}
+use Rattle.script_runs.specs.of_task_model.Accounts.{Started, Change}
+use Rattle.script_runs.specs.of_task_model.Promise.{services_in, mails_in}
 use Rattle.script_answers.specs.Answers.{Came, Scripted, Noted, IsReported, AllNoted, states_in, first_change, changes_behind, change_outcome, scripted_mails, scripted_by, scripted_in, opened_anew, era_scripted, next_opened, eras_scripted}
 
 abbrev pub Answer : Type 0

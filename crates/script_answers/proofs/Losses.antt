@@ -2,20 +2,20 @@
 use Rattle.std.proofs.Common.{◌≡◌, ◌⊎◌, inl, inr, ℕ, ◌<◌, Bool, true, false, Option, Some, None, List, [], ◌∷◌, ◌++◌, length, refl, ap, sym, ◌∙◌, subst}
 use Rattle.std.specs.Prelude.{◌==◌, ◌&&◌, nat_lt, if◌then◌else◌}
 use Rattle.std.specs.List.{All}
-use Rattle.exchange_model.specs.Exchange.{Speech}
-use Rattle.frame_view.specs.View.{Lens}
-use Rattle.frame_view.specs.Seen.{seen}
-use Rattle.life_runs.proofs.Spans as Spans
-use Rattle.life_runs.specs.Spans.{is_leaving, is_open}
-use Rattle.life_frames.specs.Shares.{came_at, given_where}
-use Rattle.life_model.specs.Lives.{Spot, Era, Life, Stand, Opening, life_back, life_lost, era_back, opening_back, shows_clear, is_shown, last_step, clears, opens, steps_on, reopens, reopens_at, reopening, opens_state, returns_to_init}
-use Rattle.life_runs.specs.Led.{Exchanged, Leads, Turn, is_passed, speech_at}
-use Rattle.link_mails.specs.Body.{Body}
-use Rattle.master_duty.specs.Reply.{Reply}
-use Rattle.master_hand.specs.Spoken.{Asked, acknowledged, is_followed}
-use Rattle.segment_model.specs.Slaves.{Datagram, Found}
-use Rattle.segment_ring.specs.declared.wire.Fate.TheVariants.{Pass, Lost}
-use Rattle.task_model.specs.Accounts.{Duty, Stage}
+use Rattle.script_runs.specs.of_exchange_model.Exchange.{Speech}
+use Rattle.script_runs.specs.of_frame_view.View.{Lens}
+use Rattle.script_runs.specs.of_frame_view.Seen.{seen}
+use Rattle.script_runs.proofs.of_life_runs.Spans as Spans
+use Rattle.script_runs.specs.of_life_runs.Spans.{is_leaving, is_open}
+use Rattle.script_runs.specs.of_life_frames.Shares.{came_at, given_where}
+use Rattle.script_runs.specs.of_life_model.Lives.{Spot, Era, Life, Stand, Opening, life_back, life_lost, era_back, opening_back, shows_clear, is_shown, last_step, clears, opens, steps_on, reopens, reopens_at, reopening, opens_state, returns_to_init}
+use Rattle.script_runs.specs.of_life_runs.Led.{Exchanged, Leads, Turn, is_passed, speech_at}
+use Rattle.script_runs.specs.of_link_mails.Body.{Body}
+use Rattle.script_runs.specs.of_master_duty.Reply.{Reply}
+use Rattle.script_runs.specs.of_master_hand.Spoken.{Asked, acknowledged, is_followed}
+use Rattle.script_runs.specs.of_segment_model.Slaves.{Datagram, Found}
+use Rattle.script_runs.specs.of_segment_ring.declared.wire.Fate.TheVariants.{Pass, Lost}
+use Rattle.script_runs.specs.of_task_model.Accounts.{Duty, Stage}
 use Rattle.script_answers.specs.Answers.{Noted, AllNoted, IsStill, Waits, StandsBy, FreshBy, IsNoted, era_scripted, eras_scripted, life_scripted, turned}
 use Rattle.script_answers.specs.Steps.{IsBefore, PassesSo, LosesSo}
 use Rattle.script_answers.proofs.Anew.{anew_lost, eras_given}

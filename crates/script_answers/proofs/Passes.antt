@@ -1,21 +1,21 @@
 -- WHAT IS NOTED BEHIND A FRAME OF A RUN, whatever is awaited.
 use Rattle.std.proofs.Common.{◌≡◌, ◌⊎◌, inl, inr, ℕ, Bool, true, false, Option, Some, None, List, [], ◌∷◌, ◌++◌, length, length-append, refl, ap, sym, ◌∙◌, subst, arith}
 use Rattle.std.specs.Prelude.{is_some}
-use Rattle.exchange_model.specs.Areas.{Areas}
-use Rattle.frame_view.specs.View.{Lens}
-use Rattle.frame_view.specs.Seen.{seen}
-use Rattle.life_runs.specs.Spans.{is_open}
-use Rattle.life_frames.specs.Shares.{came_at}
-use Rattle.life_model.specs.Lives.{Life}
-use Rattle.life_runs.specs.Led.{Exchanged, Leads, Turn, is_passed, life_behind}
-use Rattle.link_mails.specs.Body.{Body}
-use Rattle.master_duty.specs.Reply.{Reply}
-use Rattle.master_hand.specs.Spoken.{Asked, ends}
-use Rattle.segment_model.specs.Ends.{Outcome}
-use Rattle.segment_model.specs.Slaves.{Datagram, Found}
-use Rattle.segment_ring.specs.declared.wire.Fate.{Fate}
-use Rattle.segment_ring.specs.declared.wire.Fate.TheVariants.{Pass}
-use Rattle.task_model.specs.Accounts.{Change}
+use Rattle.script_runs.specs.of_exchange_model.Areas.{Areas}
+use Rattle.script_runs.specs.of_frame_view.View.{Lens}
+use Rattle.script_runs.specs.of_frame_view.Seen.{seen}
+use Rattle.script_runs.specs.of_life_runs.Spans.{is_open}
+use Rattle.script_runs.specs.of_life_frames.Shares.{came_at}
+use Rattle.script_runs.specs.of_life_model.Lives.{Life}
+use Rattle.script_runs.specs.of_life_runs.Led.{Exchanged, Leads, Turn, is_passed, life_behind}
+use Rattle.script_runs.specs.of_link_mails.Body.{Body}
+use Rattle.script_runs.specs.of_master_duty.Reply.{Reply}
+use Rattle.script_runs.specs.of_master_hand.Spoken.{Asked, ends}
+use Rattle.script_runs.specs.of_segment_model.Ends.{Outcome}
+use Rattle.script_runs.specs.of_segment_model.Slaves.{Datagram, Found}
+use Rattle.script_runs.specs.of_segment_ring.declared.wire.Fate.{Fate}
+use Rattle.script_runs.specs.of_segment_ring.declared.wire.Fate.TheVariants.{Pass}
+use Rattle.script_runs.specs.of_task_model.Accounts.{Change}
 use Rattle.script_answers.specs.Answers.{Came, Noted, IsReported, AllNoted, RowRests, RestsSo, Awaits, ComesAnew, IsGoing, Waits, StandsBy, FreshBy, IsNoted, now_answer, newest_answer, reply_by, reached_at, life_scripted, turned}
 use Rattle.script_answers.specs.Steps.{IsBefore, EndedSo, account_of, opened, with_begun, with_reply}
 use Rattle.script_answers.proofs.Backs.{Held, AwaitsBack, front_scripted, changes_front, awaits_scripted, changes_scripted, after_none, not_passed, last_change, change_reported}

@@ -2,14 +2,14 @@
 use Rattle.std.proofs.Common.{◌≡◌, ℕ, Bool, true, false, Option, Some, None, List, [], ◌∷◌, ◌++◌, length, length-append, refl, ap, sym, ◌∙◌, subst, arith, append-nil}
 use Rattle.std.specs.Prelude.{◌&&◌, not, is_some, is_none, option_map, if◌then◌else◌}
 use Rattle.std.proofs.lemmas.List.{map-append}
-use Rattle.exchange_model.specs.Exchange.{Speech}
-use Rattle.exchange_model.specs.Rows.{Row, begun, row_told, left}
-use Rattle.link_mails.specs.Body.{Body}
-use Rattle.master_duty.specs.Reply.{Reply}
-use Rattle.master_hand.specs.Spoken.{Asked}
-use Rattle.segment_model.specs.Seats.{Side, newest, rows_of, is_none_left, is_over, next_mail, side_begins, side_holds}
-use Rattle.state_exchange.specs.Stated.{Service}
-use Rattle.task_model.specs.Accounts.{Account, Duty, Stage, mails_begin, is_free, is_acknowledged, starts, state_begins, account_begins}
+use Rattle.script_runs.specs.of_exchange_model.Exchange.{Speech}
+use Rattle.script_runs.specs.of_exchange_model.Rows.{Row, begun, row_told, left}
+use Rattle.script_runs.specs.of_link_mails.Body.{Body}
+use Rattle.script_runs.specs.of_master_duty.Reply.{Reply}
+use Rattle.script_runs.specs.of_master_hand.Spoken.{Asked}
+use Rattle.script_runs.specs.of_segment_model.Seats.{Side, newest, rows_of, is_none_left, is_over, next_mail, side_begins, side_holds}
+use Rattle.script_runs.specs.of_state_exchange.Stated.{Service}
+use Rattle.script_runs.specs.of_task_model.Accounts.{Account, Duty, Stage, mails_begin, is_free, is_acknowledged, starts, state_begins, account_begins}
 use Rattle.script_answers.specs.Answers.{RowRests, answers_in, side_answers}
 use Rattle.script_answers.proofs.Lists.{Answer}
 

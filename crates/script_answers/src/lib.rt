@@ -3,12 +3,12 @@
 #![tactic(auto)]
 
 ghost use Rattle.std.specs.Prelude.{ℕ, Bool, List};
-ghost use Rattle.datagrams.specs.Datagram as Raw;
-ghost use Rattle.frame_view.specs.View.{Lens};
-ghost use Rattle.life_runs.specs.Led.{Exchanged, Leads, Turn, IsTurn, life_behind};
+ghost use Rattle.script_runs.specs.of_datagrams.Datagram as Raw;
+ghost use Rattle.script_runs.specs.of_frame_view.View.{Lens};
+ghost use Rattle.script_runs.specs.of_life_runs.Led.{Exchanged, Leads, Turn, IsTurn, life_behind};
 ghost use Rattle.script_answers.specs.Answers.{turned};
 ghost use Rattle.script_answers.specs.Steps.{IsBefore, TurnsSo, PassesSo, LosesSo};
-ghost use Rattle.segment_ring.specs.declared.wire.Fate.TheVariants.{Pass, Lost};
+ghost use Rattle.script_runs.specs.of_segment_ring.declared.wire.Fate.TheVariants.{Pass, Lost};
 
 /// FRAME BY FRAME what is noted of a slave's scripted services goes with its life: one service more where its script went on, the reply that a return
 /// brought, and nothing more of one that is given up. So each reply that was noted is that of its row, of the frame that brought it; and a change of state

@@ -1,31 +1,31 @@
 -- WHAT CAME INTO HAND over a run: frame by frame the next of the script, a packet, or nothing; no frame takes one back.
 use Rattle.std.proofs.Common.{◌≡◌, ℕ, suc, Bool, true, false, Option, Some, None, List, [], ◌∷◌, ◌++◌, map, length, refl, ap, sym, ◌∙◌, subst, append_assoc, append-nil}
 use Rattle.std.specs.Prelude.{◌%◌, ◌&&◌}
-use Rattle.datagrams.specs.Datagram as Raw
+use Rattle.life_runs.specs.of_datagrams.Datagram as Raw
 use Rattle.book_model.specs.Script.{eras_started, life_started}
 use Rattle.book_model.proofs.Scripts.{back_same, lost_same}
-use Rattle.exchange_model.specs.Exchange.{Speech}
-use Rattle.frame_view.specs.View.{Lens}
-use Rattle.frame_view.specs.Seen.{seen}
-use Rattle.life_frames.specs.Frames.{Share}
-use Rattle.life_frames.specs.Shares.{Lived, came_at, given_where}
-use Rattle.life_model.specs.Lives.{Spot, Life, Stand, granted, life_next, life_lost}
+use Rattle.book_model.specs.of_exchange_model.Exchange.{Speech}
+use Rattle.life_runs.specs.of_frame_view.View.{Lens}
+use Rattle.life_runs.specs.of_frame_view.Seen.{seen}
+use Rattle.life_runs.specs.of_life_frames.Frames.{Share}
+use Rattle.life_runs.specs.of_life_frames.Shares.{Lived, came_at, given_where}
+use Rattle.book_model.specs.of_life_model.Lives.{Spot, Life, Stand, granted, life_next, life_lost}
 use Rattle.life_runs.specs.First.{lens_of, script_for, first_leads, leads_from}
 use Rattle.life_runs.specs.Led as Led
 use Rattle.life_runs.specs.Led.{Exchanged, Leads, Turn, Comes, Took, IsTurn, AllTurn, IsLed, IsLedFrame, is_passed, speech_at, life_behind, gives_up_at}
-use Rattle.link_mails.specs.Body.{Body}
-use Rattle.master_duty.specs.Reply.{Reply}
-use Rattle.master_hand.specs.Spoken.{Asked, acknowledged, is_followed}
-use Rattle.segment_model.specs.Ends.{Passing}
-use Rattle.segment_model.specs.Seats.{Side}
-use Rattle.segment_plan.specs.declared.plan.Scenario.{Scenario}
-use Rattle.segment_plan.specs.declared.service.Service as Plan
-use Rattle.segment_plan.specs.declared.slave.SlaveSpec.{SlaveSpec}
-use Rattle.segment_ring.specs.declared.wire.Fate.{Fate}
-use Rattle.segment_ring.specs.declared.wire.Fate.TheVariants.{Pass, Lost}
-use Rattle.state_exchange.specs.Stated.{Service}
-use Rattle.task_model.specs.Accounts.{Account, Duty, Pick, Started, account_begins}
-use Rattle.task_model.specs.Promise.{services_in}
+use Rattle.life_runs.specs.of_link_mails.Body.{Body}
+use Rattle.life_runs.specs.of_master_duty.Reply.{Reply}
+use Rattle.life_runs.specs.of_master_hand.Spoken.{Asked, acknowledged, is_followed}
+use Rattle.book_model.specs.of_segment_model.Ends.{Passing}
+use Rattle.book_model.specs.of_segment_model.Seats.{Side}
+use Rattle.life_runs.specs.of_segment_plan.declared.plan.Scenario.{Scenario}
+use Rattle.life_runs.specs.of_segment_plan.declared.service.Service as Plan
+use Rattle.life_runs.specs.of_segment_plan.declared.slave.SlaveSpec.{SlaveSpec}
+use Rattle.life_runs.specs.of_segment_ring.declared.wire.Fate.{Fate}
+use Rattle.life_runs.specs.of_segment_ring.declared.wire.Fate.TheVariants.{Pass, Lost}
+use Rattle.book_model.specs.of_state_exchange.Stated.{Service}
+use Rattle.book_model.specs.of_task_model.Accounts.{Account, Duty, Pick, Started, account_begins}
+use Rattle.book_model.specs.of_task_model.Promise.{services_in}
 use Rattle.script_runs.specs.Came.{Came}
 use Rattle.script_runs.specs.Slaves.{HasCome, AllCome}
 use Rattle.script_runs.proofs.Firsts.{firsts}

@@ -4,12 +4,12 @@ use Rattle.std.specs.Prelude.{◌%◌, not, option_map, slice_get, nat_lt, if◌
 use Rattle.std.proofs.lemmas.List.Elements.{filter-append}
 use Rattle.std.proofs.lemmas.Option.{slice_get_within, get_or_from_slice_get}
 use Rattle.std.proofs.Math.Seq.{take-suc}
-use Rattle.eoe_model.specs.Client as EoeClient
+use Rattle.life_runs.specs.of_eoe_model.Client as EoeClient
 use Rattle.life_runs.specs.Led.{Comes}
-use Rattle.master_hand.specs.Spoken.{Asked, net}
-use Rattle.master_hand.specs.Talk.{asked_of}
-use Rattle.segment_plan.specs.declared.service.Service as Plan
-use Rattle.state_exchange.specs.Stated.{Service}
+use Rattle.life_runs.specs.of_master_hand.Spoken.{Asked, net}
+use Rattle.life_runs.specs.of_master_hand.Talk.{asked_of}
+use Rattle.life_runs.specs.of_segment_plan.declared.service.Service as Plan
+use Rattle.book_model.specs.of_state_exchange.Stated.{Service}
 use Rattle.script_runs.specs.Came.{Came, handed_over, AreThose, is_packet, AreFirst}
 
 -- no script has a packet

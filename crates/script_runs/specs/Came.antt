@@ -1,11 +1,11 @@
 -- WHAT CAME INTO HAND OF A SLAVE, by its script.
 use Rattle.std.specs.Prelude.{◌≡◌, ℕ, ◌≤◌, ◌%◌, Bool, true, false, not, Option, Some, option_map, List, [], ◌∷◌, ◌++◌, take, filter, length, ⊤}
-use Rattle.eoe_model.specs.Client as EoeClient
+use Rattle.life_runs.specs.of_eoe_model.Client as EoeClient
 use Rattle.life_runs.specs.Led.{Comes}
-use Rattle.master_hand.specs.Spoken.{Asked, net}
-use Rattle.master_hand.specs.Talk.{asked_of}
-use Rattle.segment_plan.specs.declared.service.Service as Plan
-use Rattle.state_exchange.specs.Stated.{Service}
+use Rattle.life_runs.specs.of_master_hand.Spoken.{Asked, net}
+use Rattle.life_runs.specs.of_master_hand.Talk.{asked_of}
+use Rattle.life_runs.specs.of_segment_plan.declared.service.Service as Plan
+use Rattle.book_model.specs.of_state_exchange.Stated.{Service}
 
 -- THE NEXT OF THE SCRIPT, or a packet, one by one, and so many of the script; `room` is the length of the slave's mailbox 0
 pub data Came (room : ℕ) (script : List Plan.Service) : ℕ → List (Service Asked) → Type 0 where

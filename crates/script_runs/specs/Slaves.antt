@@ -3,8 +3,8 @@ use Rattle.std.specs.Prelude.{◌≡◌, ℕ, suc, List, [], ◌∷◌, ⊤}
 use Rattle.book_model.specs.Script.{life_started}
 use Rattle.life_runs.specs.First.{lens_of, spot_of, script_for}
 use Rattle.life_runs.specs.Led.{Leads}
-use Rattle.segment_plan.specs.declared.plan.Scenario.{Scenario}
-use Rattle.segment_plan.specs.declared.slave.SlaveSpec.{SlaveSpec}
+use Rattle.life_runs.specs.of_segment_plan.declared.plan.Scenario.{Scenario}
+use Rattle.life_runs.specs.of_segment_plan.declared.slave.SlaveSpec.{SlaveSpec}
 use Rattle.script_runs.specs.Came.{Came, AreFirst}
 
 -- OF ONE at this place: over all epochs of its life the next of its script, or a packet, one by one; without the packets they are the first of the script

@@ -4,7 +4,7 @@
 ghost use Rattle.std.specs.Prelude.{ℕ, List};
 ghost use Rattle.life_runs.specs.First.{lens_of, first_leads};
 ghost use Rattle.life_runs.specs.Led.{Exchanged, Leads, IsLed};
-ghost use Rattle.segment_plan.specs.declared.plan.Scenario.{Scenario};
+ghost use Rattle.life_runs.specs.of_segment_plan.declared.plan.Scenario.{Scenario};
 ghost use Rattle.script_runs.specs.Slaves.{AllCome};
 
 /// OF EACH SLAVE'S SCRIPT just the first services came into hand, each once and in order, with the packets of its port among them, over all epochs of

@@ -1,3 +1,5 @@
+pub use Rattle.exchange_model.proofs as of_exchange_model
+pub use Rattle.link_model.proofs as of_link_model
 pub mod Overs
 pub mod News
 pub mod Answers

@@ -1,3 +1,5 @@
+pub use Rattle.exchange_model.specs as of_exchange_model
+pub use Rattle.link_model.specs as of_link_model
 pub mod Slaves
 pub mod Record
 pub mod Returned

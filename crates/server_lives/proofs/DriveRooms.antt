@@ -1,26 +1,26 @@
 -- WHAT SERVERS OF SOE AND EOE give has room, and leaves what they act on.
 use Rattle.std.proofs.Common.{◌≡◌, ℕ, zero, suc, ◌+◌, ◌-◌, ◌*◌, ◌/◌, ◌%◌, ◌≤◌, ◌==◌, ◌&&◌, nat_le, Bool, true, false, List, [], ◌∷◌, map, length, take, drop, Option, Some, None, Result, Ok, Err, refl, ap, sym, subst, arith, leb-true}
 use Rattle.std.specs.Prelude.{if◌then◌else◌}
-use Rattle.soe_model.specs.Elements as Elements
-use Rattle.soe_model.specs.Elements.{Target, Elements}
-use Rattle.soe_model.specs.Mails as SoeMails
-use Rattle.soe_model.specs.Mails.{Soe, SoeMail, fragments, message}
-use Rattle.soe_model.specs.Server as Soe
-use Rattle.soe_model.specs.Octets.{soe_mail_written}
-use Rattle.eoe.specs.declared.joining.Joined.{Joined}
-use Rattle.eoe.specs.declared.joining.Joined.TheVariants.{More, Whole, Dropped}
-use Rattle.eoe.specs.declared.joining.Unfinished.{Unfinished}
-use Rattle.eoe.specs.declared.message.Fragment.{Fragment}
-use Rattle.eoe.specs.Address.{is_block}
-use Rattle.eoe.specs.Cutting.{fragments_of}
-use Rattle.eoe.specs.Joining.{taken}
-use Rattle.eoe.specs.Message.{eoe_text}
-use Rattle.eoe_model.specs.Mails as EoeMails
-use Rattle.eoe_model.specs.Mails.{Eoe, EoeMail, Part}
-use Rattle.eoe_model.specs.Network.{Network, Station}
-use Rattle.eoe_model.specs.Server as Eoe
-use Rattle.eoe_model.specs.Octets.{eoe_mail_written}
-use Rattle.slave_lives.specs.Nodes.{IsPlaced}
+use Rattle.slave_parts.specs.of_soe_model.Elements as Elements
+use Rattle.slave_parts.specs.of_soe_model.Elements.{Target, Elements}
+use Rattle.slave_parts.specs.of_soe_model.Mails as SoeMails
+use Rattle.slave_parts.specs.of_soe_model.Mails.{Soe, SoeMail, fragments, message}
+use Rattle.slave_parts.specs.of_soe_model.Server as Soe
+use Rattle.slave_parts.specs.of_soe_model.Octets.{soe_mail_written}
+use Rattle.slave_server.specs.of_eoe.declared.joining.Joined.{Joined}
+use Rattle.slave_server.specs.of_eoe.declared.joining.Joined.TheVariants.{More, Whole, Dropped}
+use Rattle.slave_server.specs.of_eoe.declared.joining.Unfinished.{Unfinished}
+use Rattle.slave_server.specs.of_eoe.declared.message.Fragment.{Fragment}
+use Rattle.slave_server.specs.of_eoe.Address.{is_block}
+use Rattle.slave_server.specs.of_eoe.Cutting.{fragments_of}
+use Rattle.slave_server.specs.of_eoe.Joining.{taken}
+use Rattle.slave_server.specs.of_eoe.Message.{eoe_text}
+use Rattle.slave_parts.specs.of_eoe_model.Mails as EoeMails
+use Rattle.slave_parts.specs.of_eoe_model.Mails.{Eoe, EoeMail, Part}
+use Rattle.slave_parts.specs.of_eoe_model.Network.{Network, Station}
+use Rattle.slave_parts.specs.of_eoe_model.Server as Eoe
+use Rattle.slave_parts.specs.of_eoe_model.Octets.{eoe_mail_written}
+use Rattle.whole_lives.specs.of_slave_lives.Nodes.{IsPlaced}
 use Rattle.server_lives.specs.Rooms.{AllPlaced}
 use Rattle.server_lives.proofs.Rooms.{body_placed, error_placed, take_few, fragments_placed}
 

@@ -1,3 +1,4 @@
+pub use Rattle.slave_server.proofs as of_slave_server
 pub mod Reals
 pub mod Rooms
 pub mod CoeRooms

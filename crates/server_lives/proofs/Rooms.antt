@@ -1,17 +1,17 @@
 -- EACH MAIL OF A SLAVE HAS ROOM: what a server gives for a mail, whatever the mail is.
 use Rattle.std.proofs.Common.{ℕ, zero, suc, ◌+◌, ◌-◌, ◌*◌, ◌/◌, ◌≤◌, nat_lt, Bool, true, false, List, [], ◌∷◌, ◌++◌, map, length, take, drop, arith}
 use Rattle.std.specs.Prelude.{if◌then◌else◌}
-use Rattle.mailbox_mail.specs.Mail.{error_of}
-use Rattle.mailbox_mail.specs.declared.mail.Kind.{Kind}
-use Rattle.mailbox_mail.specs.declared.mail.Mail.{Mail}
-use Rattle.eoe.specs.declared.message.Eoe.TheVariants.{Fragment as Part}
-use Rattle.eoe.specs.declared.message.Fragment.{Fragment}
-use Rattle.eoe.specs.Cutting.{fragment_at, fragments_from}
-use Rattle.eoe.specs.Message.{eoe_text}
-use Rattle.coe_model.specs.Octets.{mail_with}
-use Rattle.slave_model.specs.Server.{told_by}
+use Rattle.slave_server.specs.of_mailbox_mail.Mail.{error_of}
+use Rattle.slave_server.specs.of_mailbox_mail.declared.mail.Kind.{Kind}
+use Rattle.slave_server.specs.of_mailbox_mail.declared.mail.Mail.{Mail}
+use Rattle.slave_server.specs.of_eoe.declared.message.Eoe.TheVariants.{Fragment as Part}
+use Rattle.slave_server.specs.of_eoe.declared.message.Fragment.{Fragment}
+use Rattle.slave_server.specs.of_eoe.Cutting.{fragment_at, fragments_from}
+use Rattle.slave_server.specs.of_eoe.Message.{eoe_text}
+use Rattle.slave_parts.specs.of_coe_model.Octets.{mail_with}
+use Rattle.slave_parts.specs.of_slave_model.Server.{told_by}
 use Rattle.slave_server.specs.Serving.{written}
-use Rattle.slave_lives.specs.Nodes.{IsPlaced}
+use Rattle.whole_lives.specs.of_slave_lives.Nodes.{IsPlaced}
 use Rattle.server_lives.specs.Rooms.{AllPlaced}
 
 pub take_few : (n : ℕ) (l : List ℕ) → length (take n l) ≤ n

@@ -1,42 +1,42 @@
 -- A SLAVE'S SERVER STAYS SOUND, whatever mails it takes in whatever AL states: what it gives has room, and its services act on what laws speak of.
 use Rattle.std.proofs.Common.{◌≡◌, ℕ, suc, ◌+◌, ◌-◌, ◌*◌, ◌/◌, ◌<◌, ◌≤◌, ◌&&◌, Bool, true, false, List, [], ◌∷◌, ◌++◌, map, length, Option, Some, None, Result, Ok, Err, refl, ap, sym, ◌∙◌, subst, arith, lt-ltb, ltb-true}
 use Rattle.std.specs.Prelude.{if◌then◌else◌, is_none}
-use Rattle.mailbox_mail.specs.declared.mail.Mail.{Mail}
-use Rattle.mailbox_mail.specs.declared.mail.Kind.{Kind}
-use Rattle.mailbox_mail.specs.declared.mail.MailFault.TheVariants.{Short, LengthPastArea, UnknownKind}
-use Rattle.link_mails.specs.Body.{Body}
-use Rattle.eoe.specs.declared.message.Eoe.TheVariants.{Fragment as Part}
-use Rattle.eoe.specs.declared.message.Fragment.{Fragment}
-use Rattle.eoe.specs.Cutting.{fragments_of}
-use Rattle.eoe.specs.Message.{eoe_text}
-use Rattle.exchange_sum.specs.Refusing.{gated}
-use Rattle.coe_model.specs.Mails.{fragment}
-use Rattle.coe_model.specs.Mails as CoeMails
-use Rattle.coe_model.specs.Octets as CoeOctets
-use Rattle.coe_model.specs.Octets.{coe_mail_written}
-use Rattle.coe_model.specs.Server as Coe
-use Rattle.foe_model.specs.Mails as FoeMails
-use Rattle.foe_model.specs.Octets as FoeOctets
-use Rattle.foe_model.specs.Server as Foe
-use Rattle.soe_model.specs.Mails as SoeMails
-use Rattle.soe_model.specs.Octets as SoeOctets
-use Rattle.soe_model.specs.Server as Soe
-use Rattle.eoe_model.specs.Mails as EoeMails
-use Rattle.eoe_model.specs.Octets as EoeOctets
-use Rattle.eoe_model.specs.Server as Eoe
-use Rattle.eoe_model.specs.Network.{Station}
-use Rattle.object_dictionary.specs.Dictionary as Objects
-use Rattle.file_store.specs.Files as Store
-use Rattle.idn_table.specs.Idns as Idns
-use Rattle.slave_model.specs.Application.{Core, ArePartsLawful, core_valid, station_valid, with_objects, stored, written, station_tables, station_files, station_elements, network}
-use Rattle.slave_model.specs.Profile.{Protocol, Profile, IsProfile, serves}
-use Rattle.slave_model.specs.Server.{seat, reseated, one_more, heard_by, failure, refused_counts, refused_gives, soe_quiet, eoe_quiet}
-use Rattle.slave_model.specs.Product.{protocol_of, served, refusal, serve_by, serve_other, serve}
-use Rattle.slave_model.proofs.Stations.{both, left_of, right_of, tables_law, tables_spelled, files_law, elements_law}
+use Rattle.slave_server.specs.of_mailbox_mail.declared.mail.Mail.{Mail}
+use Rattle.slave_server.specs.of_mailbox_mail.declared.mail.Kind.{Kind}
+use Rattle.slave_server.specs.of_mailbox_mail.declared.mail.MailFault.TheVariants.{Short, LengthPastArea, UnknownKind}
+use Rattle.whole_lives.specs.of_link_mails.Body.{Body}
+use Rattle.slave_server.specs.of_eoe.declared.message.Eoe.TheVariants.{Fragment as Part}
+use Rattle.slave_server.specs.of_eoe.declared.message.Fragment.{Fragment}
+use Rattle.slave_server.specs.of_eoe.Cutting.{fragments_of}
+use Rattle.slave_server.specs.of_eoe.Message.{eoe_text}
+use Rattle.slave_parts.specs.of_exchange_sum.Refusing.{gated}
+use Rattle.slave_parts.specs.of_coe_model.Mails.{fragment}
+use Rattle.slave_parts.specs.of_coe_model.Mails as CoeMails
+use Rattle.slave_parts.specs.of_coe_model.Octets as CoeOctets
+use Rattle.slave_parts.specs.of_coe_model.Octets.{coe_mail_written}
+use Rattle.slave_parts.specs.of_coe_model.Server as Coe
+use Rattle.slave_parts.specs.of_foe_model.Mails as FoeMails
+use Rattle.slave_parts.specs.of_foe_model.Octets as FoeOctets
+use Rattle.slave_parts.specs.of_foe_model.Server as Foe
+use Rattle.slave_parts.specs.of_soe_model.Mails as SoeMails
+use Rattle.slave_parts.specs.of_soe_model.Octets as SoeOctets
+use Rattle.slave_parts.specs.of_soe_model.Server as Soe
+use Rattle.slave_parts.specs.of_eoe_model.Mails as EoeMails
+use Rattle.slave_parts.specs.of_eoe_model.Octets as EoeOctets
+use Rattle.slave_parts.specs.of_eoe_model.Server as Eoe
+use Rattle.slave_parts.specs.of_eoe_model.Network.{Station}
+use Rattle.slave_server.specs.of_object_dictionary.Dictionary as Objects
+use Rattle.slave_server.specs.of_file_store.Files as Store
+use Rattle.slave_parts.specs.of_idn_table.Idns as Idns
+use Rattle.slave_parts.specs.of_slave_model.Application.{Core, ArePartsLawful, core_valid, station_valid, with_objects, stored, written, station_tables, station_files, station_elements, network}
+use Rattle.slave_parts.specs.of_slave_model.Profile.{Protocol, Profile, IsProfile, serves}
+use Rattle.slave_parts.specs.of_slave_model.Server.{seat, reseated, one_more, heard_by, failure, refused_counts, refused_gives, soe_quiet, eoe_quiet}
+use Rattle.slave_parts.specs.of_slave_model.Product.{protocol_of, served, refusal, serve_by, serve_other, serve}
+use Rattle.slave_parts.proofs.of_slave_model.Stations.{both, left_of, right_of, tables_law, tables_spelled, files_law, elements_law}
 use Rattle.slave_parts.specs.Parts as The
 use Rattle.slave_parts.specs.Parts.{Server, parts}
 use Rattle.slave_server.specs.Serving as Serving
-use Rattle.slave_lives.specs.Nodes.{IsPlaced}
+use Rattle.whole_lives.specs.of_slave_lives.Nodes.{IsPlaced}
 use Rattle.server_lives.specs.Rooms.{AllPlaced, MayWrite, IsUnderWay, IsSound}
 use Rattle.server_lives.proofs.Rooms.{body_placed, error_placed, all_append, told, fragments_placed}
 use Rattle.server_lives.proofs.CoeRooms as CoeRooms

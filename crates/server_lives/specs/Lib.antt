@@ -1,2 +1,3 @@
+pub use Rattle.slave_server.specs as of_slave_server
 pub mod Real
 pub mod Rooms

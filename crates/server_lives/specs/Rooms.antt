@@ -1,11 +1,11 @@
 -- WHAT ALWAYS HOLDS OF A SLAVE'S SERVER as it runs: each mail that waits has room, and what its services act on are such as their laws speak of.
 use Rattle.std.specs.Prelude.{◌≡◌, ℕ, ◌+◌, ◌≤◌, true, List, [], ◌∷◌, length, None, ⊤}
-use Rattle.file_store.specs.Files as Store
-use Rattle.foe_model.specs.Server.{Transfer, idle, reading, writing, closing}
-use Rattle.mailbox_mail.specs.declared.mail.Mail.{Mail}
-use Rattle.slave_lives.specs.Nodes.{IsPlaced}
-use Rattle.slave_model.specs.Application.{station_valid}
-use Rattle.slave_model.specs.Profile.{Profile}
+use Rattle.slave_server.specs.of_file_store.Files as Store
+use Rattle.slave_parts.specs.of_foe_model.Server.{Transfer, idle, reading, writing, closing}
+use Rattle.slave_server.specs.of_mailbox_mail.declared.mail.Mail.{Mail}
+use Rattle.whole_lives.specs.of_slave_lives.Nodes.{IsPlaced}
+use Rattle.slave_parts.specs.of_slave_model.Application.{station_valid}
+use Rattle.slave_parts.specs.of_slave_model.Profile.{Profile}
 use Rattle.slave_parts.specs.Parts.{parts}
 use Rattle.slave_server.specs.Serving.{Serving}
 

@@ -3,19 +3,19 @@
 #![tactic(auto)]
 
 ghost use Rattle.std.specs.Prelude.{◌≡◌, ◌+◌, ◌≤◌, ℕ, Bool, true, [], None, length};
-ghost use Rattle.frame_view.specs.View.{Lens};
-ghost use Rattle.link_mails.specs.Body.{Body};
-ghost use Rattle.slave_lives.specs.Ends.{ClearsAs};
-ghost use Rattle.slave_lives.specs.Lived.{IsBehind};
-ghost use Rattle.life_model.specs.Lives.{Spot};
-ghost use Rattle.slave_lives.specs.Nodes.{GivesPlaced};
-ghost use Rattle.slave_lives.specs.Opening.{Plan, IsPlan};
-ghost use Rattle.slave_model.specs.Profile.{Profile, IsProfile};
-ghost use Rattle.slave_model.specs.Application.{station_valid};
+ghost use Rattle.whole_lives.specs.of_frame_view.View.{Lens};
+ghost use Rattle.whole_lives.specs.of_link_mails.Body.{Body};
+ghost use Rattle.whole_lives.specs.of_slave_lives.Ends.{ClearsAs};
+ghost use Rattle.whole_lives.specs.of_slave_lives.Lived.{IsBehind};
+ghost use Rattle.whole_lives.specs.of_life_model.Lives.{Spot};
+ghost use Rattle.whole_lives.specs.of_slave_lives.Nodes.{GivesPlaced};
+ghost use Rattle.whole_lives.specs.of_slave_lives.Opening.{Plan, IsPlan};
+ghost use Rattle.slave_parts.specs.of_slave_model.Profile.{Profile, IsProfile};
+ghost use Rattle.slave_parts.specs.of_slave_model.Application.{station_valid};
 ghost use Rattle.slave_parts.specs.Parts.{Core, parts};
 ghost use Rattle.whole_lives.specs.Whole.{IsWhole};
 ghost use Rattle.slave_server.specs.Serving.{Serving, fresh};
-ghost use Rattle.slave_steps.specs.Node.{Node};
+ghost use Rattle.whole_lives.specs.of_slave_steps.Node.{Node};
 ghost use Rattle.server_lives.specs.Real.{running_as, real, real_clearing, StepsAs};
 ghost use Rattle.server_lives.specs.Rooms.{IsSound};
 

@@ -2,18 +2,18 @@
 use Rattle.std.proofs.Common.{◌≡◌, ◌⊎◌, inl, inr, ℕ, suc, ◌+◌, ◌<◌, ◌==◌, Bool, false, List, [], ◌∷◌, ◌++◌, length, refl, ap, sym, ◌∙◌, subst, arith}
 use Rattle.std.specs.Prelude.{⊤}
 use Rattle.std.proofs.lemmas.Bool.{ne_eqb, eqb-false}
-use Rattle.datagrams.specs.Datagram as Raw
-use Rattle.esc_registers.specs.declared.registers.Registers as Esc
-use Rattle.frame_pass.specs.Passing.{datagrams_after}
-use Rattle.frame_view.specs.View.{Lens}
+use Rattle.segment_ring.specs.of_datagrams.Datagram as Raw
+use Rattle.slave_steps.specs.of_esc_registers.declared.registers.Registers as Esc
+use Rattle.slave_steps.specs.of_frame_pass.Passing.{datagrams_after}
+use Rattle.frames_seen.specs.of_frame_view.View.{Lens}
 use Rattle.frames_seen.specs.Own.{own_of, IsApart, IsAlone}
 use Rattle.frames_seen.specs.Ring.{all_after, AllApart}
 use Rattle.frames_seen.specs.Spoken.{AllSpoken}
 use Rattle.frames_seen.proofs.Aparts.{open_apart, none_apart}
 use Rattle.frames_seen.proofs.Owns.{other_view}
 use Rattle.frames_seen.proofs.Places.{all_else_behind, open_alone}
-use Rattle.link_mails.specs.Body.{Body}
-use Rattle.segment_model.specs.Slaves.{Serving}
+use Rattle.slave_steps.specs.of_link_mails.Body.{Body}
+use Rattle.state_law.specs.of_segment_model.Slaves.{Serving}
 use Rattle.slave_steps.specs.Node.{Node, new_box}
 use Rattle.life_model.specs.Lives.{Opening, Stand}
 use Rattle.slave_lives.specs.Opening.{Plan, IsPlan, AtMostOne, JustOne}

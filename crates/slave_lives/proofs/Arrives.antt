@@ -1,11 +1,11 @@
 -- A FRAME COMES to a closed slave: at most the access in hand means it.
 use Rattle.std.proofs.Common.{◌≡◌, ◌⊎◌, inl, inr, ℕ, ◌<◌, ◌==◌, Bool, true, false, List, refl, ap, sym, ◌∙◌, subst, arith}
 use Rattle.std.specs.Prelude.{if◌then◌else◌, None}
-use Rattle.datagrams.specs.Datagram as Raw
-use Rattle.esc_registers.specs.declared.registers.Registers as Esc
-use Rattle.esc_registers.specs.Access.{row_of, passed_at}
-use Rattle.frame_pass.specs.Passing.{passed}
-use Rattle.frame_view.specs.View.{Lens}
+use Rattle.segment_ring.specs.of_datagrams.Datagram as Raw
+use Rattle.slave_steps.specs.of_esc_registers.declared.registers.Registers as Esc
+use Rattle.slave_steps.specs.of_esc_registers.Access.{row_of, passed_at}
+use Rattle.slave_steps.specs.of_frame_pass.Passing.{passed}
+use Rattle.frames_seen.specs.of_frame_view.View.{Lens}
 use Rattle.frames_seen.specs.Own.{NoneMeant}
 use Rattle.slave_steps.specs.Node.{Node, new_node}
 use Rattle.life_model.specs.Lives.{Opening}

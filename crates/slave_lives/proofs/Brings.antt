@@ -3,17 +3,17 @@ use Rattle.std.proofs.Common.{◌≡◌, ◌⊎◌, inl, inr, ℕ, ◌<◌, ◌=
 use Rattle.std.specs.Prelude.{if◌then◌else◌, Some, None}
 use Rattle.std.proofs.lemmas.Bool.{eq-eqb}
 use Rattle.byteorder.specs.Endian.{little_bytes}
-use Rattle.ec_fields.specs.Fields.{number_at}
-use Rattle.datagrams.specs.declared.command.Command.{Command}
-use Rattle.datagrams.specs.declared.command.Command.TheVariants.{Apwr, Fprd, Fpwr}
-use Rattle.datagrams.specs.Datagram as Raw
-use Rattle.esc_registers.specs.declared.registers.Registers.{Registers}
-use Rattle.esc_registers.specs.Manager.{is_right}
-use Rattle.frame_pass.specs.Passing.{passed}
-use Rattle.link_model.specs.Slave.{Node}
-use Rattle.link_mails.specs.Body.{Body}
-use Rattle.mailbox_slave.specs.Kept.{Kept}
-use Rattle.frame_view.specs.View.{Lens}
+use Rattle.segment_ring.specs.of_ec_fields.Fields.{number_at}
+use Rattle.segment_ring.specs.of_datagrams.declared.command.Command.{Command}
+use Rattle.segment_ring.specs.of_datagrams.declared.command.Command.TheVariants.{Apwr, Fprd, Fpwr}
+use Rattle.segment_ring.specs.of_datagrams.Datagram as Raw
+use Rattle.slave_steps.specs.of_esc_registers.declared.registers.Registers.{Registers}
+use Rattle.slave_steps.specs.of_esc_registers.Manager.{is_right}
+use Rattle.slave_steps.specs.of_frame_pass.Passing.{passed}
+use Rattle.frames_seen.specs.of_link_model.Slave.{Node}
+use Rattle.slave_steps.specs.of_link_mails.Body.{Body}
+use Rattle.slave_steps.specs.of_mailbox_slave.Kept.{Kept}
+use Rattle.frames_seen.specs.of_frame_view.View.{Lens}
 use Rattle.frames_seen.specs.Slaves.{registers_seen}
 use Rattle.slave_lives.specs.Opening.{Plan, IsPlan, manager_octets, IsBringing}
 use Rattle.frames_seen.proofs.Boxes.{aimed}

@@ -1,9 +1,9 @@
 -- A RING'S EXCHANGE is a frame of its closed slave's life.
 use Rattle.std.proofs.Common.{◌≡◌, ℕ, Bool, true, false, length, refl, ap, sym, subst}
 use Rattle.std.specs.Prelude.{Option, if◌then◌else◌}
-use Rattle.datagrams.specs.Datagram as Raw
-use Rattle.frame_view.specs.View.{Lens}
-use Rattle.segment_model.specs.Slaves.{Found}
+use Rattle.segment_ring.specs.of_datagrams.Datagram as Raw
+use Rattle.frames_seen.specs.of_frame_view.View.{Lens}
+use Rattle.state_law.specs.of_segment_model.Slaves.{Found}
 use Rattle.segment_ring.specs.declared.wire.Fate.{Fate}
 use Rattle.segment_ring.specs.declared.wire.Fate.TheVariants.{Pass}
 use Rattle.segment_ring.specs.Ring.{is_in_pace}

@@ -2,18 +2,18 @@
 use Rattle.std.proofs.Common.{◌≡◌, ◌≢◌, ◌⊎◌, inl, inr, ℕ, suc, ◌<◌, ◌==◌, ◌&&◌, Bool, true, false, List, [], ◌∷◌, length, refl, ap, ap₂, sym, ◌∙◌, subst, arith}
 use Rattle.std.specs.Prelude.{Option, Some, None, if◌then◌else◌, nat_lt}
 use Rattle.std.proofs.lemmas.Bool.{eqb-true, eqb-false, ltb-true, and_parts}
-use Rattle.datagrams.specs.Datagram as Raw
-use Rattle.ec_fields.specs.Fields.{number_at, bits_of}
-use Rattle.esc_registers.specs.declared.registers.Registers as Esc
-use Rattle.datagrams.specs.declared.head.Head.{Head}
-use Rattle.frame_pass.specs.Passing.{passed, datagram_after, registers_after}
-use Rattle.frame_pass.proofs.Parts.{head_kept}
+use Rattle.segment_ring.specs.of_datagrams.Datagram as Raw
+use Rattle.segment_ring.specs.of_ec_fields.Fields.{number_at, bits_of}
+use Rattle.slave_steps.specs.of_esc_registers.declared.registers.Registers as Esc
+use Rattle.segment_ring.specs.of_datagrams.declared.head.Head.{Head}
+use Rattle.slave_steps.specs.of_frame_pass.Passing.{passed, datagram_after, registers_after}
+use Rattle.slave_steps.proofs.of_frame_pass.Parts.{head_kept}
 use Rattle.frames_seen.proofs.Rows.{access_len}
-use Rattle.frame_view.specs.View.{Lens, datagram_seen, station_of, access_of, read_access, found_of}
+use Rattle.frames_seen.specs.of_frame_view.View.{Lens, datagram_seen, station_of, access_of, read_access, found_of}
 use Rattle.frames_seen.proofs.Owns.{unmoved}
-use Rattle.mailbox_slave.specs.Kept.{Kept}
-use Rattle.mailbox_slave.specs.Registers.{in_len}
-use Rattle.segment_model.specs.Slaves.{Access, Found}
+use Rattle.slave_steps.specs.of_mailbox_slave.Kept.{Kept}
+use Rattle.slave_steps.specs.of_mailbox_slave.Registers.{in_len}
+use Rattle.state_law.specs.of_segment_model.Slaves.{Access, Found}
 use Rattle.slave_steps.specs.Node.{Node}
 use Rattle.life_model.specs.Lives.{Opening, Stand, Life, last_step, shows_clear, is_shown, steps_on, clears, opens, opening_back}
 use Rattle.slave_lives.specs.Nodes.{IsRunning, IsRoomy, stepped, StepsOn}

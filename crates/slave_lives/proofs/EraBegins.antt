@@ -2,12 +2,12 @@
 use Rattle.std.proofs.Common.{◌≡◌, ◌⊎◌, inl, inr, ℕ, suc, Bool, true, List, [], ◌∷◌, length, Ok, refl, ap, sym, ◌∙◌, subst, arith}
 use Rattle.std.specs.Prelude.{Option, None, option_map}
 use Rattle.frames_seen.specs.Slaves.{registers_seen}
-use Rattle.link_model.specs.Link.{new_link}
-use Rattle.link_model.specs.Slave.{Node}
-use Rattle.link_mails.specs.Body.{Body, uncounted}
-use Rattle.segment_model.specs.Slaves.{Slave, Serving, first_waiting}
-use Rattle.segment_model.specs.Record.{Frame}
-use Rattle.state_exchange.specs.Stated.{IsStated}
+use Rattle.frames_seen.specs.of_link_model.Link.{new_link}
+use Rattle.frames_seen.specs.of_link_model.Slave.{Node}
+use Rattle.slave_steps.specs.of_link_mails.Body.{Body, uncounted}
+use Rattle.state_law.specs.of_segment_model.Slaves.{Slave, Serving, first_waiting}
+use Rattle.state_law.specs.of_segment_model.Record.{Frame}
+use Rattle.life_model.specs.of_state_exchange.Stated.{IsStated}
 use Rattle.state_law.specs.Shows.{slave_table}
 use Rattle.state_law.proofs.Tables.{is_table}
 use Rattle.slave_steps.specs.Node as Running

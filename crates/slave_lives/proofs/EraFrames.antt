@@ -1,31 +1,31 @@
 -- AN OPEN SLAVE'S NODE lives its epoch on by each frame of its ring.
 use Rattle.std.proofs.Common.{◌≡◌, ℕ, zero, suc, ◌+◌, ◌-◌, ◌==◌, Bool, true, false, List, [], ◌∷◌, ◌++◌, length, refl, ap, ap₂, sym, ◌∙◌, subst, arith, length-append}
 use Rattle.std.specs.Prelude.{if◌then◌else◌}
-use Rattle.datagrams.specs.Datagram as Raw
-use Rattle.ec_fields.specs.Fields.{bits_of}
-use Rattle.esc_registers.specs.declared.registers.Registers as Esc
-use Rattle.frame_pass.specs.Passing.{registers_after}
-use Rattle.frame_view.specs.Seen.{datagrams_seen}
+use Rattle.segment_ring.specs.of_datagrams.Datagram as Raw
+use Rattle.segment_ring.specs.of_ec_fields.Fields.{bits_of}
+use Rattle.slave_steps.specs.of_esc_registers.declared.registers.Registers as Esc
+use Rattle.slave_steps.specs.of_frame_pass.Passing.{registers_after}
+use Rattle.frames_seen.specs.of_frame_view.Seen.{datagrams_seen}
 use Rattle.frames_seen.specs.Kept.{FrameKeeps}
 use Rattle.frames_seen.specs.Own.{own_seen}
 use Rattle.frames_seen.specs.Ring.{IsRingMet}
 use Rattle.frames_seen.specs.Slaves.{registers_seen, slave_of, IsOpen}
 use Rattle.frames_seen.proofs.Rings as FrameRings
-use Rattle.link_model.specs.Frames.{Ask, node_meets}
-use Rattle.link_model.specs.Slave.{Node}
-use Rattle.link_mails.specs.Body.{Body}
-use Rattle.mailbox_slave.specs.Node.{in_side}
-use Rattle.mailbox_slave.specs.Registers.{in_len}
-use Rattle.segment_model.specs.Slaves.{Slave, Datagram, Ring, slave_meets, slave_after, frame_after, ring_after, ring_back, ring_steps, first_meet}
-use Rattle.segment_model.specs.Record.{Frame, News}
+use Rattle.frames_seen.specs.of_link_model.Frames.{Ask, node_meets}
+use Rattle.frames_seen.specs.of_link_model.Slave.{Node}
+use Rattle.slave_steps.specs.of_link_mails.Body.{Body}
+use Rattle.slave_steps.specs.of_mailbox_slave.Node.{in_side}
+use Rattle.slave_steps.specs.of_mailbox_slave.Registers.{in_len}
+use Rattle.state_law.specs.of_segment_model.Slaves.{Slave, Datagram, Ring, slave_meets, slave_after, frame_after, ring_after, ring_back, ring_steps, first_meet}
+use Rattle.state_law.specs.of_segment_model.Record.{Frame, News}
 use Rattle.segment_ring.specs.declared.wire.Fate.{Fate}
 use Rattle.segment_ring.specs.declared.wire.Fate.TheVariants.{Pass, Lost}
 use Rattle.segment_ring.specs.Ring.{is_in_pace}
 use Rattle.slave_steps.specs.Node as Running
-use Rattle.task_model.specs.Accounts.{Pick}
+use Rattle.life_model.specs.of_task_model.Accounts.{Pick}
 use Rattle.life_model.specs.Own.{own, own_fate}
-use Rattle.exchange_model.specs.Exchange.{Speech}
-use Rattle.link_model.specs.Segment.{RingFate}
+use Rattle.life_model.specs.of_exchange_model.Exchange.{Speech}
+use Rattle.frames_seen.specs.of_link_model.Segment.{RingFate}
 use Rattle.life_model.specs.Lives.{Spot, Era, AsksOpen, era_next, era_after}
 use Rattle.life_model.specs.Eras.{EraIs}
 use Rattle.life_model.proofs.Eras as Eras
@@ -38,7 +38,7 @@ use Rattle.slave_lives.proofs.Opens.{open_step}
 use Rattle.slave_lives.proofs.Owned.{own_is}
 use Rattle.slave_lives.proofs.RingFrames.{after_keeps, met_runs}
 use Rattle.slave_lives.proofs.Stepping.{step_view}
-use Rattle.state_model.specs.States as States
+use Rattle.state_law.specs.of_state_model.States as States
 use Rattle.state_law.specs.Shows.{slave_table}
 
 -- what stands in mailbox 1 was offered, behind frames too

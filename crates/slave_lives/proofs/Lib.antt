@@ -1,3 +1,6 @@
+pub use Rattle.frames_seen.proofs as of_frames_seen
+pub use Rattle.life_model.proofs as of_life_model
+pub use Rattle.life_model.proofs.of_task_model as of_task_model
 pub mod Stepping
 pub mod Opens
 pub mod Brings

@@ -2,15 +2,15 @@
 use Rattle.std.proofs.Common.{◌≡◌, ◌⊎◌, inl, inr, ℕ, ◌<◌, ◌≤◌, ◌==◌, ◌&&◌, not, Bool, true, false, List, [], ◌∷◌, length, refl, ap, sym, ◌∙◌, subst, arith}
 use Rattle.std.specs.Prelude.{Some}
 use Rattle.std.proofs.lemmas.Bool.{eq-eqb}
-use Rattle.ec_fields.specs.Fields.{number_at}
-use Rattle.datagrams.specs.declared.command.Command.TheVariants.{Aprd, Apwr, Fprd, Fpwr}
-use Rattle.datagrams.specs.Datagram as Raw
-use Rattle.esc_registers.specs.declared.registers.Registers as Esc
-use Rattle.esc_registers.specs.Manager.{is_right, is_enabled}
-use Rattle.frame_pass.specs.Passing.{passed, registers_after}
-use Rattle.mailbox_slave.specs.Kept.{Kept}
-use Rattle.mailbox_slave.specs.Registers.{request_of}
-use Rattle.frame_view.specs.View.{Lens}
+use Rattle.segment_ring.specs.of_ec_fields.Fields.{number_at}
+use Rattle.segment_ring.specs.of_datagrams.declared.command.Command.TheVariants.{Aprd, Apwr, Fprd, Fpwr}
+use Rattle.segment_ring.specs.of_datagrams.Datagram as Raw
+use Rattle.slave_steps.specs.of_esc_registers.declared.registers.Registers as Esc
+use Rattle.slave_steps.specs.of_esc_registers.Manager.{is_right, is_enabled}
+use Rattle.slave_steps.specs.of_frame_pass.Passing.{passed, registers_after}
+use Rattle.slave_steps.specs.of_mailbox_slave.Kept.{Kept}
+use Rattle.slave_steps.specs.of_mailbox_slave.Registers.{request_of}
+use Rattle.frames_seen.specs.of_frame_view.View.{Lens}
 use Rattle.frames_seen.specs.Slaves.{registers_seen}
 use Rattle.slave_lives.specs.Steps.{Running}
 use Rattle.slave_lives.specs.Opening.{Plan, IsPlan, IsAccess, manager_octets, AtMostOne, JustOne}

@@ -1,10 +1,10 @@
 -- A RING, octet by octet: each slave meets the datagrams as those before it leave them.
 use Rattle.std.proofs.Common.{◌≡◌, ℕ, zero, suc, Bool, true, false, List, [], ◌∷◌, ◌++◌, length, refl, ap, ap₂, sym, ◌∙◌, subst}
 use Rattle.std.specs.Prelude.{if◌then◌else◌}
-use Rattle.datagrams.specs.Datagram as Raw
-use Rattle.datagrams.specs.Frame.{IsFrame}
-use Rattle.esc_registers.specs.declared.registers.Registers as Esc
-use Rattle.frame_pass.specs.Passing.{passed, registers_after, datagrams_after}
+use Rattle.segment_ring.specs.of_datagrams.Datagram as Raw
+use Rattle.segment_ring.specs.of_datagrams.Frame.{IsFrame}
+use Rattle.slave_steps.specs.of_esc_registers.declared.registers.Registers as Esc
+use Rattle.slave_steps.specs.of_frame_pass.Passing.{passed, registers_after, datagrams_after}
 use Rattle.frames_seen.specs.Kept.{FrameKeeps}
 use Rattle.frames_seen.specs.Ring.{all_after}
 use Rattle.frames_seen.proofs.Passes as Octets

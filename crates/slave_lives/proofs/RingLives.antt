@@ -1,15 +1,15 @@
 -- A RING'S EXCHANGE of octets is a frame of its open slave's life.
 use Rattle.std.proofs.Common.{◌≡◌, ℕ, Bool, List, [], ◌∷◌, ◌++◌, length, refl, ap, ap₂, sym, subst}
-use Rattle.datagrams.specs.Frame.{IsFrame}
-use Rattle.frame_view.specs.View.{Lens}
-use Rattle.frame_view.specs.Seen.{seen, datagrams_seen}
-use Rattle.frame_view.proofs.Octets as Octets
-use Rattle.link_mails.specs.Body.{Body}
-use Rattle.segment_model.specs.Slaves.{Datagram}
-use Rattle.segment_model.specs.Record.{Frame, News}
+use Rattle.segment_ring.specs.of_datagrams.Frame.{IsFrame}
+use Rattle.frames_seen.specs.of_frame_view.View.{Lens}
+use Rattle.frames_seen.specs.of_frame_view.Seen.{seen, datagrams_seen}
+use Rattle.frames_seen.proofs.of_frame_view.Octets as Octets
+use Rattle.slave_steps.specs.of_link_mails.Body.{Body}
+use Rattle.state_law.specs.of_segment_model.Slaves.{Datagram}
+use Rattle.state_law.specs.of_segment_model.Record.{Frame, News}
 use Rattle.segment_ring.specs.declared.wire.Fate.{Fate}
 use Rattle.segment_ring.specs.declared.wire.Fate.TheVariants.{Pass, Lost}
-use Rattle.task_model.specs.Accounts.{Pick}
+use Rattle.life_model.specs.of_task_model.Accounts.{Pick}
 use Rattle.life_model.specs.Lives.{Spot, Era, AsksOpen, era_next, era_after}
 use Rattle.slave_lives.specs.Steps.{Running}
 use Rattle.slave_lives.specs.Rings.{come_back, IsExchanged}

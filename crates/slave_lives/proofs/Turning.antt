@@ -2,24 +2,24 @@
 use Rattle.std.proofs.Common.{◌≡◌, ◌⊎◌, inl, inr, ℕ, ◌<◌, ◌==◌, ◌&&◌, ◌||◌, Bool, true, false, List, [], ◌∷◌, ◌++◌, length, Ok, refl, ap, ap₂, sym, ◌∙◌, subst, arith}
 use Rattle.std.specs.Prelude.{if◌then◌else◌, Option, Some, None, option_map}
 use Rattle.std.proofs.lemmas.Bool.{eq-eqb, eqb-true, and_parts, and_from, or_cases}
-use Rattle.datagrams.specs.Datagram as Raw
-use Rattle.esc_registers.specs.declared.registers.Registers as Esc
-use Rattle.esc_registers.specs.Manager.{is_right, is_enabled}
-use Rattle.esc_registers.specs.Registers.{are_areas_right}
-use Rattle.al_state.specs.Request.{is_state}
-use Rattle.frame_pass.specs.Passing.{passed, registers_after}
-use Rattle.link_model.specs.Mails.{LinkMail}
-use Rattle.link_model.specs.Link.{new_link}
-use Rattle.link_model.specs.Slave.{Node, Server, node_look, node_serve}
-use Rattle.link_mails.specs.Body.{Body, link_read, uncounted}
-use Rattle.mailbox_mail.specs.Mail.{mail_read}
-use Rattle.mailbox_slave.specs.Kept.{Kept}
-use Rattle.mailbox_slave.specs.Registers.{request_of, acknowledge_of, out_box, in_box}
-use Rattle.mailbox_slave.specs.Node.{node_of, server_of}
-use Rattle.segment_model.specs.Slaves.{Registers}
-use Rattle.state_model.specs.States
+use Rattle.segment_ring.specs.of_datagrams.Datagram as Raw
+use Rattle.slave_steps.specs.of_esc_registers.declared.registers.Registers as Esc
+use Rattle.slave_steps.specs.of_esc_registers.Manager.{is_right, is_enabled}
+use Rattle.slave_steps.specs.of_esc_registers.Registers.{are_areas_right}
+use Rattle.state_law.specs.of_al_state.Request.{is_state}
+use Rattle.slave_steps.specs.of_frame_pass.Passing.{passed, registers_after}
+use Rattle.frames_seen.specs.of_link_model.Mails.{LinkMail}
+use Rattle.frames_seen.specs.of_link_model.Link.{new_link}
+use Rattle.frames_seen.specs.of_link_model.Slave.{Node, Server, node_look, node_serve}
+use Rattle.slave_steps.specs.of_link_mails.Body.{Body, link_read, uncounted}
+use Rattle.slave_steps.specs.of_mailbox_mail.Mail.{mail_read}
+use Rattle.slave_steps.specs.of_mailbox_slave.Kept.{Kept}
+use Rattle.slave_steps.specs.of_mailbox_slave.Registers.{request_of, acknowledge_of, out_box, in_box}
+use Rattle.slave_steps.specs.of_mailbox_slave.Node.{node_of, server_of}
+use Rattle.state_law.specs.of_segment_model.Slaves.{Registers}
+use Rattle.state_law.specs.of_state_model.States
 use Rattle.state_law.specs.Shows.{slave_table}
-use Rattle.frame_view.specs.View.{Lens}
+use Rattle.frames_seen.specs.of_frame_view.View.{Lens}
 use Rattle.frames_seen.specs.Slaves.{registers_seen, IsOpen}
 use Rattle.slave_lives.specs.Steps.{Running, Stands, KeepsOthers, HasStepped, node_steps, node_answered, node_cleared, word_carried}
 use Rattle.slave_lives.specs.Opening.{Plan, IsPlan, IsAccess, IsOpened, AtMostOne, JustOne}
@@ -28,7 +28,7 @@ use Rattle.slave_lives.proofs.Openings.{allowed, the_access, none_moves}
 use Rattle.frames_seen.proofs.Owns.{unmoved}
 use Rattle.frames_seen.proofs.Numbers.{word_back}
 use Rattle.byteorder.specs.Endian.{little_bytes}
-use Rattle.ec_fields.specs.Fields.{number_at, bits_of}
+use Rattle.segment_ring.specs.of_ec_fields.Fields.{number_at, bits_of}
 
 -- an empty mailbox
 no_out : (r : Esc.Registers) → r.out_manager.full ≡ false → out_box r ≡ None

@@ -2,12 +2,12 @@
 use Rattle.std.proofs.Common.{◌≡◌, ◌⊎◌, inl, inr, ℕ, suc, ◌+◌, ◌-◌, ◌%◌, ◌<◌, ◌≤◌, ◌==◌, ◌&&◌, Bool, true, false, List, [], ◌∷◌, length, refl, ap, sym, ◌∙◌, subst, arith}
 use Rattle.std.specs.Prelude.{if◌then◌else◌, None}
 use Rattle.std.proofs.lemmas.Bool.{ne_eqb, eq-eqb}
-use Rattle.datagrams.specs.Datagram as Raw
-use Rattle.esc_registers.specs.declared.registers.Registers as Esc
-use Rattle.esc_registers.specs.Access.{is_by_place, is_by_station, moved_on, passed_at, row_of}
-use Rattle.frame_pass.specs.Passing.{passed, datagram_after, datagrams_after}
-use Rattle.mailbox_slave.specs.Kept.{Kept}
-use Rattle.frame_view.specs.View.{Lens}
+use Rattle.segment_ring.specs.of_datagrams.Datagram as Raw
+use Rattle.slave_steps.specs.of_esc_registers.declared.registers.Registers as Esc
+use Rattle.slave_steps.specs.of_esc_registers.Access.{is_by_place, is_by_station, moved_on, passed_at, row_of}
+use Rattle.slave_steps.specs.of_frame_pass.Passing.{passed, datagram_after, datagrams_after}
+use Rattle.slave_steps.specs.of_mailbox_slave.Kept.{Kept}
+use Rattle.frames_seen.specs.of_frame_view.View.{Lens}
 use Rattle.frames_seen.specs.Spoken.{means}
 use Rattle.frames_seen.specs.Own.{is_to, IsApart}
 use Rattle.frames_seen.specs.Ring.{all_after, AllApart}

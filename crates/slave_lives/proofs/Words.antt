@@ -2,14 +2,14 @@
 use Rattle.std.proofs.Common.{◌≡◌, ◌≢◌, ◌⊎◌, inl, inr, ℕ, ◌+◌, ◌<◌, ◌==◌, ◌&&◌, ◌||◌, Bool, true, false, not, refl, ap, ap₂, sym, ◌∙◌, arith}
 use Rattle.std.specs.Prelude.{Option, Some, None, if◌then◌else◌}
 use Rattle.std.proofs.lemmas.Bool.{eqb-true, or_cases}
-use Rattle.ec_fields.specs.Fields.{bits_of}
-use Rattle.al_state.specs.declared.machine.Al.{Al}
-use Rattle.al_state.specs.declared.machine.Asked.TheVariants.{Ignored}
-use Rattle.al_state.specs.Request.{is_state, is_change, refusal_of, carried, request_of}
-use Rattle.esc_registers.specs.declared.registers.Registers as Esc
-use Rattle.esc_registers.specs.Registers.{are_areas_right}
-use Rattle.segment_model.specs.Slaves.{Registers}
-use Rattle.state_model.specs.States as States
+use Rattle.segment_ring.specs.of_ec_fields.Fields.{bits_of}
+use Rattle.state_law.specs.of_al_state.declared.machine.Al.{Al}
+use Rattle.state_law.specs.of_al_state.declared.machine.Asked.TheVariants.{Ignored}
+use Rattle.state_law.specs.of_al_state.Request.{is_state, is_change, refusal_of, carried, request_of}
+use Rattle.slave_steps.specs.of_esc_registers.declared.registers.Registers as Esc
+use Rattle.slave_steps.specs.of_esc_registers.Registers.{are_areas_right}
+use Rattle.state_law.specs.of_segment_model.Slaves.{Registers}
+use Rattle.state_law.specs.of_state_model.States as States
 use Rattle.state_law.specs.Shows.{Shows, slave_table, error_of, word_seen}
 use Rattle.state_law.proofs.Carries.{carries, not_zero}
 use Rattle.slave_steps.specs.Step.{status_word, shown, al_asked, al_behind, word_behind}

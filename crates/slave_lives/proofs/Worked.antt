@@ -1,16 +1,16 @@
 -- A frame of 60 octets round a ring of two slaves: a mail for the first, which is open, and the first access of a reopening for the second.
 use Rattle.std.proofs.Common.{◌≡◌, ℕ, true, false, List, [], ◌∷◌, refl}
 use Rattle.std.specs.Prelude.{None, Ok, map, replicate, zero, suc}
-use Rattle.datagrams.specs.declared.command.Command.TheVariants.{Fpwr, Apwr}
-use Rattle.datagrams.specs.Datagram as Raw
-use Rattle.datagrams.specs.Frame.{frame_text}
-use Rattle.esc_registers.specs.declared.registers.Registers as Esc
-use Rattle.mailbox_mail.specs.declared.mail.Kind.TheVariants.{CoE}
-use Rattle.link_model.specs.Frames.{Ask}
-use Rattle.segment_model.specs.Slaves.{Address, Access}
+use Rattle.segment_ring.specs.of_datagrams.declared.command.Command.TheVariants.{Fpwr, Apwr}
+use Rattle.segment_ring.specs.of_datagrams.Datagram as Raw
+use Rattle.segment_ring.specs.of_datagrams.Frame.{frame_text}
+use Rattle.slave_steps.specs.of_esc_registers.declared.registers.Registers as Esc
+use Rattle.slave_steps.specs.of_mailbox_mail.declared.mail.Kind.TheVariants.{CoE}
+use Rattle.frames_seen.specs.of_link_model.Frames.{Ask}
+use Rattle.state_law.specs.of_segment_model.Slaves.{Address, Access}
 use Rattle.segment_ring.specs.Ring.{ring_behind, RingState}
-use Rattle.frame_view.specs.View.{Lens, asking}
-use Rattle.frame_view.specs.Seen.{seen}
+use Rattle.frames_seen.specs.of_frame_view.View.{Lens, asking}
+use Rattle.frames_seen.specs.of_frame_view.Seen.{seen}
 use Rattle.frames_seen.specs.Slaves.{registers_seen}
 use Rattle.slave_steps.specs.Node.{Node, new_box, node_passed}
 use Rattle.slave_lives.specs.Nodes.{stepped}

@@ -1,15 +1,15 @@
 -- THE EPOCHS OF A LIFE that are over, each with the server that its slave left.
 use Rattle.std.specs.Prelude.{◌≡◌, ◌≤◌, ◌<◌, ◌∷◌, ◌++◌, ℕ, true, false, Option, Some, None, List, [], length, ⊤}
-use Rattle.exchange_model.specs.Exchange.{Speech, plain}
-use Rattle.exchange_model.specs.Rows.{Row, answer_after}
-use Rattle.frame_view.specs.Seen.{seen}
-use Rattle.link_mails.specs.Body.{Body}
-use Rattle.segment_model.specs.Record.{Frame}
-use Rattle.segment_model.specs.Slaves.{Registers, Slave}
+use Rattle.life_model.specs.of_exchange_model.Exchange.{Speech, plain}
+use Rattle.life_model.specs.of_exchange_model.Rows.{Row, answer_after}
+use Rattle.frames_seen.specs.of_frame_view.Seen.{seen}
+use Rattle.slave_steps.specs.of_link_mails.Body.{Body}
+use Rattle.state_law.specs.of_segment_model.Record.{Frame}
+use Rattle.state_law.specs.of_segment_model.Slaves.{Registers, Slave}
 use Rattle.life_model.specs.Lives.{Spot, Era}
 use Rattle.life_model.specs.Eras.{EraIs, Clearing, IsClearing}
 use Rattle.life_model.specs.Own.{own}
-use Rattle.task_model.specs.Accounts.{Pick}
+use Rattle.life_model.specs.of_task_model.Accounts.{Pick}
 use Rattle.segment_ring.specs.Ring.{is_in_pace}
 use Rattle.slave_lives.specs.Lived.{Behind, table_of, RingFrame, octets_back, is_reached, node_met, LivesEra, IsForOpen, StepsUp}
 

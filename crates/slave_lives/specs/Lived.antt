@@ -1,28 +1,28 @@
 -- A SLAVE'S LIFE AS ITS NODE LIVES IT: the node's registers, box and server, as the exchange's, are the slave of the epoch that is open.
 use Rattle.std.specs.Prelude.{◌≡◌, ◌≢◌, ◌<◌, ◌∷◌, ◌++◌, ℕ, Bool, true, List, [], length, Option, Some, None}
-use Rattle.datagrams.specs.Datagram as Raw
-use Rattle.datagrams.specs.Frame.{IsFrame}
-use Rattle.exchange_model.specs.Exchange.{Exchange}
-use Rattle.frame_view.specs.View.{Lens}
-use Rattle.frame_view.specs.Seen.{seen, datagrams_seen}
+use Rattle.segment_ring.specs.of_datagrams.Datagram as Raw
+use Rattle.segment_ring.specs.of_datagrams.Frame.{IsFrame}
+use Rattle.life_model.specs.of_exchange_model.Exchange.{Exchange}
+use Rattle.frames_seen.specs.of_frame_view.View.{Lens}
+use Rattle.frames_seen.specs.of_frame_view.Seen.{seen, datagrams_seen}
 use Rattle.frames_seen.specs.Own.{own_of, IsAlone}
 use Rattle.frames_seen.specs.Ring.{AllApart}
 use Rattle.frames_seen.specs.Slaves.{registers_seen, slave_of, IsOpen}
 use Rattle.frames_seen.specs.Spoken.{AllSpoken}
-use Rattle.frame_pass.specs.Passing.{datagrams_after}
-use Rattle.link_mails.specs.Body.{Body}
-use Rattle.mailbox_slave.specs.Node.{in_side}
-use Rattle.mailbox_slave.specs.Registers.{in_len}
-use Rattle.segment_model.specs.Slaves.{Registers, Slave, Serving, Processor, Found}
-use Rattle.segment_model.specs.Record.{Frame, News}
+use Rattle.slave_steps.specs.of_frame_pass.Passing.{datagrams_after}
+use Rattle.slave_steps.specs.of_link_mails.Body.{Body}
+use Rattle.slave_steps.specs.of_mailbox_slave.Node.{in_side}
+use Rattle.slave_steps.specs.of_mailbox_slave.Registers.{in_len}
+use Rattle.state_law.specs.of_segment_model.Slaves.{Registers, Slave, Serving, Processor, Found}
+use Rattle.state_law.specs.of_segment_model.Record.{Frame, News}
 use Rattle.segment_ring.specs.declared.wire.Fate.{Fate}
 use Rattle.segment_ring.specs.declared.wire.Fate.TheVariants.{Pass, Lost}
-use Rattle.state_exchange.specs.Stated.{Stated}
+use Rattle.life_model.specs.of_state_exchange.Stated.{Stated}
 use Rattle.state_law.specs.Shows.{slave_table}
-use Rattle.state_model.specs.States as States
+use Rattle.state_law.specs.of_state_model.States as States
 use Rattle.segment_ring.specs.Schedule.{fate_at}
 use Rattle.segment_ring.specs.Ring.{RingState, is_in_pace, ring_behind, ring_returned}
-use Rattle.task_model.specs.Accounts.{Pick}
+use Rattle.life_model.specs.of_task_model.Accounts.{Pick}
 use Rattle.slave_steps.specs.Node.{Node, node_passed}
 use Rattle.life_model.specs.Lives.{Spot, Era, Opening, AsksOpen, era_next, era_after, new_era}
 use Rattle.life_model.specs.Eras.{EraIs}

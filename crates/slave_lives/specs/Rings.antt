@@ -1,11 +1,11 @@
 -- ONE FRAME OF A RING, for the slave at one place of it: whether it meets it, and the step behind it.
 use Rattle.std.specs.Prelude.{◌≡◌, ℕ, zero, suc, Bool, true, false, if◌then◌else◌, List, [], ◌∷◌, ◌++◌, map, length}
-use Rattle.datagrams.specs.Datagram as Raw
-use Rattle.datagrams.specs.Frame.{IsFrame}
-use Rattle.esc_registers.specs.declared.registers.Registers as Esc
-use Rattle.frame_pass.specs.Passing.{registers_after, datagrams_after}
+use Rattle.segment_ring.specs.of_datagrams.Datagram as Raw
+use Rattle.segment_ring.specs.of_datagrams.Frame.{IsFrame}
+use Rattle.slave_steps.specs.of_esc_registers.declared.registers.Registers as Esc
+use Rattle.slave_steps.specs.of_frame_pass.Passing.{registers_after, datagrams_after}
 use Rattle.frames_seen.specs.Ring.{all_after}
-use Rattle.link_model.specs.Segment.{RingFate}
+use Rattle.frames_seen.specs.of_link_model.Segment.{RingFate}
 use Rattle.segment_ring.specs.declared.wire.Fate.{Fate}
 use Rattle.segment_ring.specs.declared.wire.Fate.TheVariants.{Pass, Lost}
 use Rattle.segment_ring.specs.Schedule.{fate_at}

@@ -1,10 +1,10 @@
 -- A frame of the master on its way to a slave that it opens.
 use Rattle.std.specs.Prelude.{◌≡◌, ◌⊎◌, if◌then◌else◌, ℕ, ◌+◌, ◌-◌, ◌%◌, false, List, [], ◌∷◌, ⊤}
-use Rattle.datagrams.specs.Datagram as Raw
-use Rattle.esc_registers.specs.declared.registers.Registers as Esc
-use Rattle.esc_registers.specs.Access.{is_by_place}
-use Rattle.frame_pass.specs.Passing.{datagram_after}
-use Rattle.frame_view.specs.View.{Lens, datagram_seen}
+use Rattle.segment_ring.specs.of_datagrams.Datagram as Raw
+use Rattle.slave_steps.specs.of_esc_registers.declared.registers.Registers as Esc
+use Rattle.slave_steps.specs.of_esc_registers.Access.{is_by_place}
+use Rattle.slave_steps.specs.of_frame_pass.Passing.{datagram_after}
+use Rattle.frames_seen.specs.of_frame_view.View.{Lens, datagram_seen}
 use Rattle.frames_seen.specs.Own.{is_to}
 use Rattle.frames_seen.specs.Places.{IsElse}
 use Rattle.slave_lives.specs.Opening.{Plan, aim, IsAccess}

@@ -1,15 +1,15 @@
 -- What an EoE server does over a slave's addresses is what it does over the station.
 use Rattle.std.proofs.Common.{◌≡◌, ℕ, ◌-◌, ◌&&◌, nat_le, Bool, true, false, List, length, Option, Some, None, refl}
 use Rattle.std.specs.Prelude.{if◌then◌else◌}
-use Rattle.eoe.specs.declared.joining.Joined.{Joined}
-use Rattle.eoe.specs.declared.joining.Joined.TheVariants.{More, Whole, Dropped}
-use Rattle.eoe.specs.declared.joining.Unfinished.{Unfinished}
-use Rattle.eoe.specs.Joining.{taken}
-use Rattle.eoe.specs.Address.{is_block}
-use Rattle.eoe_model.specs.Echo.{echo_of}
-use Rattle.eoe_model.specs.Mails as Mails
-use Rattle.eoe_model.specs.Network.{Station}
-use Rattle.eoe_model.specs.Server as Eoe
+use Rattle.eoe_server.specs.of_eoe.declared.joining.Joined.{Joined}
+use Rattle.eoe_server.specs.of_eoe.declared.joining.Joined.TheVariants.{More, Whole, Dropped}
+use Rattle.eoe_server.specs.of_eoe.declared.joining.Unfinished.{Unfinished}
+use Rattle.eoe_server.specs.of_eoe.Joining.{taken}
+use Rattle.eoe_server.specs.of_eoe.Address.{is_block}
+use Rattle.eoe_server.specs.of_eoe_model.Echo.{echo_of}
+use Rattle.eoe_server.specs.of_eoe_model.Mails as Mails
+use Rattle.eoe_server.specs.of_eoe_model.Network.{Station}
+use Rattle.eoe_server.specs.of_eoe_model.Server as Eoe
 use Rattle.eoe_server.specs.declared.Addresses.{Addresses}
 use Rattle.eoe_server.specs.Serving.{addresses_network}
 use Rattle.slave_model.specs.Profile.{Profile}

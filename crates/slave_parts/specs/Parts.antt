@@ -1,7 +1,7 @@
 -- The parts of a slave as they are: its object dictionary, its store of files and its table of IDNs.
 use Rattle.std.specs.Prelude.{[]}
-use Rattle.object_dictionary.specs.Dictionary as Objects
-use Rattle.file_store.specs.Files as Store
+use Rattle.coe_server.specs.of_object_dictionary.Dictionary as Objects
+use Rattle.foe_server.specs.of_file_store.Files as Store
 use Rattle.idn_table.specs.Idns as Idns
 use Rattle.idn_table.specs.Idns.{idn_elements}
 use Rattle.coe_server.specs.ObjectTables.{tables_with}

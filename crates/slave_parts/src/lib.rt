@@ -1,9 +1,9 @@
 //! The laws of exchange, spoken of one slave's real parts: its object dictionary, its store of files and its table of IDNs. No running code.
 #![tactic(auto)]
 
-ghost use Rattle.exchange_model.specs.Exchange.{IsLawful};
-ghost use Rattle.state_exchange.specs.Stated.{IsStated};
-ghost use Rattle.state_exchange.specs.Families.{states_of};
+ghost use Rattle.idn_table.specs.of_exchange_model.Exchange.{IsLawful};
+ghost use Rattle.slave_model.specs.of_state_exchange.Stated.{IsStated};
+ghost use Rattle.slave_model.specs.of_state_exchange.Families.{states_of};
 ghost use Rattle.slave_model.specs.Profile.{Profile, IsProfile};
 ghost use Rattle.slave_model.specs.Application.{ArePartsLawful};
 ghost use Rattle.slave_model.specs.Acknowledged.{acknowledged};

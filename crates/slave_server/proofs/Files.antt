@@ -3,7 +3,7 @@ use Rattle.std.proofs.Common.{◌≡◌, ℕ, ◌+◌, ◌-◌, ◌<◌, ◌≤�
 use Rattle.std.specs.Prelude.{if◌then◌else◌}
 use Rattle.std.proofs.lemmas.List.{drop_more}
 use Rattle.std.proofs.lemmas.List.Sums.{sum_by_push, sum_by-cons}
-use Rattle.block_pool.specs.Region.{blocks_for}
+use Rattle.file_store.specs.of_block_pool.Region.{blocks_for}
 use Rattle.file_store.specs.declared.file.FileSpec.{FileSpec}
 use Rattle.file_store.specs.Files as Store
 use Rattle.file_store.specs.Stored.{Stored, free_now}

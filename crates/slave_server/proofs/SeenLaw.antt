@@ -4,23 +4,23 @@ use Rattle.std.specs.Prelude.{if◌then◌else◌, option_map}
 use Rattle.mailbox_mail.specs.declared.mail.Mail.{Mail}
 use Rattle.mailbox_mail.specs.declared.mail.Kind.{Kind}
 use Rattle.mailbox_mail.specs.declared.mail.MailFault.TheVariants.{Short, LengthPastArea, UnknownKind}
-use Rattle.link_mails.specs.Body.{Body, uncounted}
-use Rattle.exchange_sum.specs.Refusing.{gated}
+use Rattle.slave_steps.specs.of_link_mails.Body.{Body, uncounted}
+use Rattle.slave_parts.specs.of_exchange_sum.Refusing.{gated}
 use Rattle.object_dictionary.specs.Dictionary as Objects
 use Rattle.file_store.specs.Files as Store
 use Rattle.idn_table.specs.Idns as Idns
-use Rattle.coe_model.specs.Mails as CoeMails
-use Rattle.coe_model.specs.Octets as CoeOctets
-use Rattle.foe_model.specs.Mails as FoeMails
-use Rattle.foe_model.specs.Octets as FoeOctets
-use Rattle.soe_model.specs.Mails as SoeMails
-use Rattle.soe_model.specs.Octets as SoeOctets
-use Rattle.eoe_model.specs.Mails as EoeMails
-use Rattle.eoe_model.specs.Octets as EoeOctets
-use Rattle.segment_model.specs.Slaves.{first_waiting}
-use Rattle.slave_model.specs.Profile.{Protocol, Profile, serves}
-use Rattle.slave_model.specs.Server.{Seat, seat, failure, heard_by, told_by, refused_gives, soe_quiet, eoe_quiet}
-use Rattle.slave_model.specs.Product.{protocol_of, served, refusal, serve_by, serve_other, serve}
+use Rattle.coe_server.specs.of_coe_model.Mails as CoeMails
+use Rattle.coe_server.specs.of_coe_model.Octets as CoeOctets
+use Rattle.foe_server.specs.of_foe_model.Mails as FoeMails
+use Rattle.foe_server.specs.of_foe_model.Octets as FoeOctets
+use Rattle.idn_table.specs.of_soe_model.Mails as SoeMails
+use Rattle.idn_table.specs.of_soe_model.Octets as SoeOctets
+use Rattle.eoe_server.specs.of_eoe_model.Mails as EoeMails
+use Rattle.eoe_server.specs.of_eoe_model.Octets as EoeOctets
+use Rattle.slave_parts.specs.of_segment_model.Slaves.{first_waiting}
+use Rattle.slave_parts.specs.of_slave_model.Profile.{Protocol, Profile, serves}
+use Rattle.slave_parts.specs.of_slave_model.Server.{Seat, seat, failure, heard_by, told_by, refused_gives, soe_quiet, eoe_quiet}
+use Rattle.slave_parts.specs.of_slave_model.Product.{protocol_of, served, refusal, serve_by, serve_other, serve}
 use Rattle.slave_parts.specs.Parts.{Server, parts}
 use Rattle.slave_server.specs.Serving.{written, first_of, behind_first}
 use Rattle.slave_server.specs.Seen.{seen_in, IsExchange}

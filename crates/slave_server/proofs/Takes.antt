@@ -3,29 +3,29 @@ use Rattle.std.proofs.Common.{◌≡◌, ℕ, ◌+◌, ◌-◌, ◌*◌, ◌/◌
 use mir.Val.{bool_byte}
 use Rattle.mailbox_mail.specs.declared.mail.Mail.{Mail}
 use Rattle.mailbox_mail.specs.declared.mail.Kind.{Kind}
-use Rattle.link_mails.specs.Body.{Body, uncounted}
-use Rattle.exchange_model.specs.Exchange.{Exchange}
-use Rattle.exchange_sum.specs.Refusing.{gated}
+use Rattle.slave_steps.specs.of_link_mails.Body.{Body, uncounted}
+use Rattle.idn_table.specs.of_exchange_model.Exchange.{Exchange}
+use Rattle.slave_parts.specs.of_exchange_sum.Refusing.{gated}
 use Rattle.object_dictionary.specs.Dictionary as Objects
 use Rattle.file_store.specs.Files as Store
 use Rattle.file_store.specs.Stored.{Stored}
 use Rattle.idn_table.specs.Idns as Idns
 use Rattle.idn_table.specs.Idns.{idn_elements}
-use Rattle.coe_model.specs.Mails as CoeMails
-use Rattle.coe_model.specs.Octets as CoeOctets
-use Rattle.coe_model.specs.Server as CoeServer
-use Rattle.foe_model.specs.Octets as FoeOctets
-use Rattle.foe_model.specs.Server as FoeServer
-use Rattle.soe_model.specs.Octets as SoeOctets
-use Rattle.soe_model.specs.Server as SoeServer
-use Rattle.eoe_model.specs.Octets as EoeOctets
-use Rattle.eoe_model.specs.Server as EoeServer
-use Rattle.eoe_model.specs.Network.{Station}
+use Rattle.coe_server.specs.of_coe_model.Mails as CoeMails
+use Rattle.coe_server.specs.of_coe_model.Octets as CoeOctets
+use Rattle.coe_server.specs.of_coe_model.Server as CoeServer
+use Rattle.foe_server.specs.of_foe_model.Octets as FoeOctets
+use Rattle.foe_server.specs.of_foe_model.Server as FoeServer
+use Rattle.idn_table.specs.of_soe_model.Octets as SoeOctets
+use Rattle.idn_table.specs.of_soe_model.Server as SoeServer
+use Rattle.eoe_server.specs.of_eoe_model.Octets as EoeOctets
+use Rattle.eoe_server.specs.of_eoe_model.Server as EoeServer
+use Rattle.eoe_server.specs.of_eoe_model.Network.{Station}
 use Rattle.eoe.specs.Message.{eoe_read, eoe_text}
 use Rattle.eoe.specs.declared.message.Eoe.TheVariants.{Fragment as Part}
 use Rattle.eoe.specs.declared.message.Fragment.{Fragment}
 use Rattle.eoe.specs.Cutting.{Cutting, fragments_of}
-use Rattle.eoe_model.specs.Mails as EoeMails
+use Rattle.eoe_server.specs.of_eoe_model.Mails as EoeMails
 use Rattle.coe_server.specs.declared.state.Emitted.{Emitted}
 use Rattle.coe_server.specs.ObjectTables.{object_tables}
 use Rattle.coe_server.specs.Serving as Coe
@@ -34,10 +34,10 @@ use Rattle.foe_server.specs.Stores.{store_files}
 use Rattle.soe_server.specs.Serving as Soe
 use Rattle.eoe_server.specs.Serving as Eoe
 use Rattle.eoe_server.specs.declared.Addresses.{Addresses}
-use Rattle.slave_model.specs.Profile.{Protocol, serves}
-use Rattle.slave_model.specs.Application.{Core, station_files, station_elements, station_tables, network, fragment_bodies}
-use Rattle.slave_model.specs.Server.{Seat, ServiceOf, Reply, seat, reseated, told_by}
-use Rattle.slave_model.specs.Product.{protocol_of, served, refusal, serve_by}
+use Rattle.slave_parts.specs.of_slave_model.Profile.{Protocol, serves}
+use Rattle.slave_parts.specs.of_slave_model.Application.{Core, station_files, station_elements, station_tables, network, fragment_bodies}
+use Rattle.slave_parts.specs.of_slave_model.Server.{Seat, ServiceOf, Reply, seat, reseated, told_by}
+use Rattle.slave_parts.specs.of_slave_model.Product.{protocol_of, served, refusal, serve_by}
 use Rattle.slave_parts.specs.Parts.{parts}
 use Rattle.slave_parts.proofs.Parted.{soe_seen, soe_parted, foe_seen, foe_parted, coe_seen, coe_parted}
 use Rattle.slave_parts.proofs.Addressed.{eoe_seen, eoe_parted}

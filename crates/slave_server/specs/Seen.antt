@@ -1,12 +1,12 @@
 -- The slave's server as the exchange's own server behind its mailboxes.
 use Rattle.std.specs.Prelude.{◌≡◌, ℕ, map, option_map, Ok}
 use Rattle.mailbox_mail.specs.declared.mail.Mail.{Mail}
-use Rattle.link_mails.specs.Body.{Body, uncounted}
-use Rattle.segment_model.specs.Slaves as Slaves
-use Rattle.segment_model.specs.Slaves.{serving}
-use Rattle.state_exchange.specs.Families.{InState}
-use Rattle.slave_model.specs.Profile.{Profile}
-use Rattle.slave_model.specs.Product.{product}
+use Rattle.slave_steps.specs.of_link_mails.Body.{Body, uncounted}
+use Rattle.slave_parts.specs.of_segment_model.Slaves as Slaves
+use Rattle.slave_parts.specs.of_segment_model.Slaves.{serving}
+use Rattle.slave_parts.specs.of_state_exchange.Families.{InState}
+use Rattle.slave_parts.specs.of_slave_model.Profile.{Profile}
+use Rattle.slave_parts.specs.of_slave_model.Product.{product}
 use Rattle.slave_parts.specs.Parts.{Server, parts}
 use Rattle.slave_server.specs.Serving.{Serving, takes, next_mail, rest}
 

@@ -1,5 +1,5 @@
 ghost use Rattle.std.specs.Prelude.{◌≡◌, ◌<◌, ◌≤◌, IfOk, OnOk, None, is_some, length};
-ghost use Rattle.block_pool.specs.Region.{blocks_for};
+ghost use Rattle.file_store.specs.of_block_pool.Region.{blocks_for};
 ghost use Rattle.file_store.specs.Files.{file_of};
 ghost use Rattle.file_store.specs.Stored.{free_now};
 ghost use Rattle.segment_plan.specs.Sound.{IsSlave, IsIdn};

@@ -2,11 +2,11 @@
 use Rattle.std.proofs.Common.{◌≡◌, ℕ, suc, ◌+◌, Bool, true, false, not, cond, List, [], ◌∷◌, ◌++◌, filter, length, drop, map, Option, None, Some, option_map, refl, sym, ap, ap₂, ◌∙◌, arith}
 use Rattle.std.proofs.lemmas.List.{map-append, length-map}
 use Rattle.std.specs.List.{drop-map}
-use Rattle.exchange_model.specs.Prefix.{IsPrefixOf}
-use Rattle.exchange_model.specs.Exchange.{Exchange, after, given, plain, emitted}
-use Rattle.exchange_model.specs.Rows.{Row, left, exec_all}
-use Rattle.exchange_model.proofs.Lists.{drop_past, filter_mapped}
-use Rattle.segment_model.specs.Ends.{Outcome}
+use Rattle.state_model.specs.of_exchange_model.Prefix.{IsPrefixOf}
+use Rattle.state_model.specs.of_exchange_model.Exchange.{Exchange, after, given, plain, emitted}
+use Rattle.state_model.specs.of_exchange_model.Rows.{Row, left, exec_all}
+use Rattle.state_model.proofs.of_exchange_model.Lists.{drop_past, filter_mapped}
+use Rattle.state_model.specs.of_segment_model.Ends.{Outcome}
 use Rattle.state_model.specs.States.{Table}
 use Rattle.state_model.specs.Promises.{state_behind}
 use Rattle.state_exchange.specs.Stated.{Stated, IsStated, Act, Service, Counting, acts, mails, all_mails, act_emission, planned_by, serve_act, states_in, with_states}

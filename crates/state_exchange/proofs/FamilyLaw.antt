@@ -1,8 +1,8 @@
 -- A family of exchanges as one: it keeps the laws of its members, and its AL state is a part of its application.
 use Rattle.std.proofs.Common.{◌≡◌, ◌⊎◌, inl, inr, ℕ, Bool, true, not, List, [], ◌∷◌, ◌++◌, refl, sym, ap, ◌∙◌, subst}
 use Rattle.std.proofs.lemmas.List.Elements.{filter_agree}
-use Rattle.exchange_model.specs.Prefix.{IsPrefixOf}
-use Rattle.exchange_model.specs.Exchange.{Exchange, IsLawful, AnswersLast, Before, Behind, after, given, plain, emitted}
+use Rattle.state_model.specs.of_exchange_model.Prefix.{IsPrefixOf}
+use Rattle.state_model.specs.of_exchange_model.Exchange.{Exchange, IsLawful, AnswersLast, Before, Behind, after, given, plain, emitted}
 use Rattle.state_exchange.specs.Stated.{IsStated}
 use Rattle.state_exchange.specs.Families.{InState, AreOneClient, AreOne, in_states, states_of}
 

@@ -1,8 +1,8 @@
 -- An exchange with states beside it keeps the laws.
 use Rattle.std.proofs.Common.{◌≡◌, ◌≢◌, ◌⊎◌, inl, inr, ℕ, suc, ◌+◌, ◌≤◌, true, false, List, [], ◌∷◌, ◌++◌, Option, None, Some, option_map, refl, sym, ap, ◌∙◌, subst, arith}
-use Rattle.exchange_model.specs.Prefix.{IsPrefixOf}
-use Rattle.exchange_model.specs.Exchange.{Exchange, IsLawful, Before, Behind, after, given, plain, emitted}
-use Rattle.segment_model.specs.Ends.{Outcome}
+use Rattle.state_model.specs.of_exchange_model.Prefix.{IsPrefixOf}
+use Rattle.state_model.specs.of_exchange_model.Exchange.{Exchange, IsLawful, Before, Behind, after, given, plain, emitted}
+use Rattle.state_model.specs.of_segment_model.Ends.{Outcome}
 use Rattle.state_model.specs.States.{Table}
 use Rattle.state_model.specs.Promises.{state_behind}
 use Rattle.state_exchange.specs.Stated.{Stated, IsStated, Act, Service, Counting, acts, mails, all_mails, planned_by, ends_by, with_states}

@@ -1,15 +1,15 @@
 -- What a server has taken of a row that is answered.
 use Rattle.std.proofs.Common.{◌≡◌, ℕ, inl, inr, true, false, List, [], ◌++◌, Some, None, sym, ap, ◌∙◌, subst, append-nil}
-use Rattle.exchange_model.specs.Prefix.{IsPrefixOf}
-use Rattle.exchange_model.specs.Exchange.{Exchange, IsLawful, after, given, plain}
-use Rattle.exchange_model.specs.Rows.{Row, left, told_all}
-use Rattle.exchange_model.specs.Laws.{Moment}
-use Rattle.exchange_model.proofs.Lists.{filter_both, both_ways}
-use Rattle.exchange_model.proofs.Words.{given_part}
-use Rattle.exchange_model.proofs.Settles.{settled_ready}
-use Rattle.exchange_model.proofs.Nows.{reached_or_waits}
-use Rattle.exchange_model.proofs.Steps.{answered_whole}
-use Rattle.segment_model.specs.Ends.{Outcome}
+use Rattle.state_model.specs.of_exchange_model.Prefix.{IsPrefixOf}
+use Rattle.state_model.specs.of_exchange_model.Exchange.{Exchange, IsLawful, after, given, plain}
+use Rattle.state_model.specs.of_exchange_model.Rows.{Row, left, told_all}
+use Rattle.state_model.specs.of_exchange_model.Laws.{Moment}
+use Rattle.state_model.proofs.of_exchange_model.Lists.{filter_both, both_ways}
+use Rattle.state_model.proofs.of_exchange_model.Words.{given_part}
+use Rattle.state_model.proofs.of_exchange_model.Settles.{settled_ready}
+use Rattle.state_model.proofs.of_exchange_model.Nows.{reached_or_waits}
+use Rattle.state_model.proofs.of_exchange_model.Steps.{answered_whole}
+use Rattle.state_model.specs.of_segment_model.Ends.{Outcome}
 use Rattle.state_model.specs.States.{Table}
 use Rattle.state_exchange.specs.Stated.{Stated, IsStated, Act, Service, Counting, acts, mails, with_states}
 use Rattle.state_exchange.proofs.Acts.{acts_same, front_acts, rest_acts, cut_mails, plain_given_acts}

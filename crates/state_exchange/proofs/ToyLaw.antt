@@ -1,10 +1,10 @@
 -- The adder with an AL state owes the laws of exchange and those of an AL state, and a run of it with its state services, computed.
 use Rattle.std.proofs.Common.{◌≡◌, ◌≢◌, ◌⊎◌, inl, inr, ℕ, zero, suc, ◌≤◌, Bool, true, false, List, [], ◌∷◌, ◌++◌, Option, None, Some, refl, sym, ap, ◌∙◌, subst, arith, le_refl, append-nil}
-use Rattle.exchange_model.specs.Exchange.{IsLawful, Before, Behind, given, plain, emitted}
-use Rattle.exchange_model.specs.Dialogue.{Decides, rest_at}
-use Rattle.exchange_model.specs.Toy.{Mail, first, second, posted, held, total, refused, noted, Service, sum, post, Adder, finish, emission, decide, handed}
-use Rattle.exchange_model.specs.Toy
-use Rattle.exchange_model.proofs.Turns.{follows, all_said}
+use Rattle.state_model.specs.of_exchange_model.Exchange.{IsLawful, Before, Behind, given, plain, emitted}
+use Rattle.state_model.specs.of_exchange_model.Dialogue.{Decides, rest_at}
+use Rattle.state_model.specs.of_exchange_model.Toy.{Mail, first, second, posted, held, total, refused, noted, Service, sum, post, Adder, finish, emission, decide, handed}
+use Rattle.state_model.specs.of_exchange_model.Toy
+use Rattle.state_model.proofs.of_exchange_model.Turns.{follows, all_said}
 use Rattle.state_exchange.specs.Stated.{IsStated}
 use Rattle.state_exchange.specs.Toys.{Desk, adds, refuse, serve_in, serve, ends, exec_in, Sheet, desk, desk_states, steps, stated_desk}
 use Rattle.state_exchange.proofs.StatedLaw.{stated_law}

@@ -1,6 +1,6 @@
 -- A family of exchanges, one for each AL state, as one exchange whose server and application have the AL state that stands.
 use Rattle.std.specs.Prelude.{◌≡◌, ℕ, Bool, List}
-use Rattle.exchange_model.specs.Exchange.{Exchange}
+use Rattle.state_model.specs.of_exchange_model.Exchange.{Exchange}
 use Rattle.state_exchange.specs.Stated.{Stated}
 
 -- a server or an application, and the AL state in which it is

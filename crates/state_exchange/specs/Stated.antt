@@ -1,7 +1,7 @@
 -- An exchange whose application has an AL state, with its state services beside the services by mails: one exchange of both.
 use Rattle.std.specs.Prelude.{◌≡◌, ◌+◌, ℕ, suc, Bool, true, false, Option, Some, None, option_map, List, [], ◌∷◌, ◌++◌, map}
-use Rattle.exchange_model.specs.Exchange.{Exchange, Speech, AnswersLast}
-use Rattle.segment_model.specs.Ends.{Outcome}
+use Rattle.state_model.specs.of_exchange_model.Exchange.{Exchange, Speech, AnswersLast}
+use Rattle.state_model.specs.of_segment_model.Ends.{Outcome}
 use Rattle.state_model.specs.States.{Table}
 use Rattle.state_model.specs.Promises.{state_behind, answer_of}
 

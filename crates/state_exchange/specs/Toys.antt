@@ -1,11 +1,11 @@
 -- A small exchange with an AL state: the adder with a state beside its value, which adds in one state alone.
 use Rattle.std.specs.Prelude.{ℕ, zero, suc, ◌+◌, nat_le, Bool, true, false, if◌then◌else◌, List, [], ◌∷◌, Option, None, Some}
-use Rattle.exchange_model.specs.Exchange.{Exchange, Speech}
-use Rattle.exchange_model.specs.Dialogue.{said, sent}
-use Rattle.exchange_model.specs.Toy.{Mail, first, second, posted, held, total, refused, noted, Service, sum, post, Adder, emission, decide, handed, number}
-use Rattle.exchange_model.specs.Toy
+use Rattle.state_model.specs.of_exchange_model.Exchange.{Exchange, Speech}
+use Rattle.state_model.specs.of_exchange_model.Dialogue.{said, sent}
+use Rattle.state_model.specs.of_exchange_model.Toy.{Mail, first, second, posted, held, total, refused, noted, Service, sum, post, Adder, emission, decide, handed, number}
+use Rattle.state_model.specs.of_exchange_model.Toy
 use Rattle.state_model.specs.States.{Table}
-use Rattle.segment_model.specs.Ends.{Outcome}
+use Rattle.state_model.specs.of_segment_model.Ends.{Outcome}
 use Rattle.state_exchange.specs.Stated.{Stated, Act, Counting, with_states}
 use Rattle.state_exchange.specs.Stated
 

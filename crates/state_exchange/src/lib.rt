@@ -3,8 +3,8 @@
 #![tactic(auto)]
 
 ghost use Rattle.std.specs.Prelude.{◌≡◌, ℕ, Bool, length};
-ghost use Rattle.exchange_model.specs.Exchange.{Exchange, IsLawful, AnswersLast, after, given};
-ghost use Rattle.exchange_model.specs.Rows.{exec_all};
+ghost use Rattle.state_model.specs.of_exchange_model.Exchange.{Exchange, IsLawful, AnswersLast, after, given};
+ghost use Rattle.state_model.specs.of_exchange_model.Rows.{exec_all};
 ghost use Rattle.state_model.specs.States.{Table};
 ghost use Rattle.state_exchange.specs.Stated.{Stated, IsStated, with_states};
 ghost use Rattle.state_exchange.specs.Families.{AreOneClient, AreOne, in_states, states_of};

@@ -1,15 +1,15 @@
 -- The drain: with the newest row over and mailbox 0 empty, the server has carried out all rows.
 use Rattle.std.proofs.Common.{◌≡◌, ◌⊎◌, inl, inr, ℕ, suc, ◌+◌, ◌<◌, ◌&&◌, Bool, true, false, not, is_none, is_some, if◌then◌else◌, Option, Some, None, List, [], ◌∷◌, ◌++◌, length, refl, ap, sym, ◌∙◌, arith, append-nil, length-append, ◌≤◌}
-use Rattle.exchange_model.specs.Exchange.{Exchange, IsLawful, after}
-use Rattle.exchange_model.specs.Rows.{Row, Fits, begun, InDone, told_all, left}
-use Rattle.exchange_model.specs.Laws.{Moment}
-use Rattle.exchange_model.proofs.Moments
-use Rattle.exchange_model.proofs.Steps.{handed_whole}
-use Rattle.exchange_model.proofs.Settles.{settled_more, settled_handled, told_all_last}
-use Rattle.exchange_model.proofs.Words.{after-append, grows_all}
-use Rattle.link_model.specs.Mails.{LinkMail, news, seen, is_repeat}
-use Rattle.link_model.specs.Link.{Link}
-use Rattle.link_model.specs.Agree.{Agrees}
+use Rattle.segment_model.specs.of_exchange_model.Exchange.{Exchange, IsLawful, after}
+use Rattle.segment_model.specs.of_exchange_model.Rows.{Row, Fits, begun, InDone, told_all, left}
+use Rattle.segment_model.specs.of_exchange_model.Laws.{Moment}
+use Rattle.segment_model.proofs.of_exchange_model.Moments
+use Rattle.segment_model.proofs.of_exchange_model.Steps.{handed_whole}
+use Rattle.segment_model.proofs.of_exchange_model.Settles.{settled_more, settled_handled, told_all_last}
+use Rattle.segment_model.proofs.of_exchange_model.Words.{after-append, grows_all}
+use Rattle.segment_model.specs.of_link_model.Mails.{LinkMail, news, seen, is_repeat}
+use Rattle.segment_model.specs.of_link_model.Link.{Link}
+use Rattle.segment_model.specs.of_link_model.Agree.{Agrees}
 use Rattle.segment_model.specs.Slaves.{Slave, Datagram, Access, Found, is_meant, datagram_meets, found_met}
 use Rattle.segment_model.specs.Seats.{is_over, is_none_left}
 

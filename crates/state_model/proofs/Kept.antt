@@ -1,6 +1,6 @@
 -- What each event keeps, and what follows for the AL state, the error flag and the answers.
 use Rattle.std.proofs.Common.{◌≡◌, ◌⊎◌, inl, inr, ℕ, ◌==◌, Bool, true, false, Option, Some, None, List, [], ◌∷◌, ◌++◌, refl, ap, sym, ◌∙◌, subst, append-nil, append_assoc, if◌then◌else◌, eqb-true}
-use Rattle.link_model.specs.Link.{Fate, is_met}
+use Rattle.segment_model.specs.of_link_model.Link.{Fate, is_met}
 use Rattle.segment_model.specs.Slaves.{Registers}
 use Rattle.segment_model.specs.Record.{News}
 use Rattle.segment_model.specs.Ends.{Outcome, state_ends}

@@ -1,6 +1,6 @@
 -- The longest first part of what came into hand of which just so many count.
 use Rattle.std.proofs.Common.{◌≡◌, ℕ, zero, suc, ◌-◌, ◌≤◌, ◌&&◌, Bool, true, false, List, [], ◌∷◌, ◌++◌, take, refl, ap, sym, ◌∙◌, arith, if◌then◌else◌}
-use Rattle.exchange_model.specs.Prefix.{IsPrefixOf}
+use Rattle.segment_model.specs.of_exchange_model.Prefix.{IsPrefixOf}
 use Rattle.state_model.specs.Order.{Begun, count_of, is_zero, one_less, done, services_of, Scripted, Scripted.nothing, Scripted.mails, Scripted.state}
 
 module _ {M Q : Type 0} where

@@ -1,8 +1,8 @@
 -- What tasks of a serving count, and what those that count nothing leave.
 use Rattle.std.proofs.Common.{◌≡◌, ◌⊎◌, inl, inr, suc, ◌+◌, ◌-◌, ◌≤◌, ◌==◌, ◌&&◌, Bool, true, false, not, List, [], ◌∷◌, ◌++◌, refl, ap, sym, ◌∙◌, arith, if◌then◌else◌, eqb-true}
 use Rattle.std.proofs.lemmas.Bool.Decides.{nat_tests}
-use Rattle.exchange_model.specs.Exchange.{Exchange, IsLawful, after}
-use Rattle.exchange_model.proofs.Words.{grows_all}
+use Rattle.segment_model.specs.of_exchange_model.Exchange.{Exchange, IsLawful, after}
+use Rattle.segment_model.proofs.of_exchange_model.Words.{grows_all}
 use Rattle.segment_model.specs.Ends.{Task}
 use Rattle.state_model.proofs.Orders.{done_front}
 use Rattle.state_model.specs.Order.{Begun, count_of, is_zero, one_less, done, tasks_of, weighed, server_behind, servers_behind, EachOne, IsQuiet}

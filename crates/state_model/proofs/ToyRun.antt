@@ -2,11 +2,11 @@
 -- mails that are passed on count.
 use Rattle.std.proofs.Common.{◌≡◌, ℕ, ◌==◌, ◌&&◌, ◌||◌, Bool, true, false, Option, Some, None, List, [], ◌∷◌, refl, ap, ◌∙◌, arith, map}
 use Rattle.std.proofs.lemmas.Bool.Decides.{nat_tests}
-use Rattle.link_model.specs.Link.{Fate}
+use Rattle.segment_model.specs.of_link_model.Link.{Fate}
 use Rattle.segment_model.specs.Slaves.{Registers}
 use Rattle.segment_model.specs.Record.{News}
 use Rattle.segment_model.specs.Ends.{Task, Outcome}
-use Rattle.exchange_model.specs.Toy.{Mail, first, second, posted, held, total, refused, noted, Service, sum, Adder, adder, finish}
+use Rattle.segment_model.specs.of_exchange_model.Toy.{Mail, first, second, posted, held, total, refused, noted, Service, sum, Adder, adder, finish}
 use Rattle.state_model.specs.States.{Table, States, Event, run, new_states}
 use Rattle.state_model.specs.Promises.{IsTable}
 use Rattle.state_model.specs.Order.{IsQuiet, weighed, done, tasks_of}

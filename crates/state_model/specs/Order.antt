@@ -1,6 +1,6 @@
 -- What is addressed to one slave, in the order in which it came into hand, and the first part of it that is done.
 use Rattle.std.specs.Prelude.{◌≡◌, ◌⊎◌, ℕ, zero, suc, ◌==◌, ◌&&◌, Bool, true, false, not, if◌then◌else◌, List, [], ◌∷◌, ◌++◌, map, ⊤}
-use Rattle.exchange_model.specs.Exchange.{Exchange, after}
+use Rattle.segment_model.specs.of_exchange_model.Exchange.{Exchange, after}
 use Rattle.segment_model.specs.Ends.{Task}
 
 -- a task that came into hand, and whether the slave counts it among the services that it carried out

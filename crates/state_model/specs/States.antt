@@ -1,6 +1,6 @@
 -- AL states as frames and a slave's processor change them, and the state services of its master (ETG.1000.6, 6.4.1).
 use Rattle.std.specs.Prelude.{ℕ, ◌==◌, Bool, true, false, if◌then◌else◌, Option, Some, None, List, [], ◌∷◌, ◌++◌}
-use Rattle.link_model.specs.Link.{Fate, is_met}
+use Rattle.segment_model.specs.of_link_model.Link.{Fate, is_met}
 use Rattle.segment_model.specs.Slaves.{Registers}
 use Rattle.segment_model.specs.Record.{News}
 use Rattle.segment_model.specs.Ends.{Outcome}

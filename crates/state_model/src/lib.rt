@@ -3,12 +3,12 @@
 #![tactic(auto)]
 
 ghost use Rattle.std.specs.Prelude.{◌≡◌, ◌≤◌, ◌+◌, ◌-◌, ℕ, suc, Bool, true, false, Option, Some, None, List, [], ◌∷◌, ◌++◌, length, take};
-ghost use Rattle.exchange_model.specs.Prefix.{IsPrefixOf};
-ghost use Rattle.exchange_model.specs.Exchange.{Exchange, IsLawful, after};
-ghost use Rattle.exchange_model.specs.Rows.{Row, Fits};
-ghost use Rattle.exchange_model.specs.Laws.{Moment};
-ghost use Rattle.link_model.specs.Link.{Link};
-ghost use Rattle.link_model.specs.Agree.{Agrees};
+ghost use Rattle.segment_model.specs.of_exchange_model.Prefix.{IsPrefixOf};
+ghost use Rattle.segment_model.specs.of_exchange_model.Exchange.{Exchange, IsLawful, after};
+ghost use Rattle.segment_model.specs.of_exchange_model.Rows.{Row, Fits};
+ghost use Rattle.segment_model.specs.of_exchange_model.Laws.{Moment};
+ghost use Rattle.segment_model.specs.of_link_model.Link.{Link};
+ghost use Rattle.segment_model.specs.of_link_model.Agree.{Agrees};
 ghost use Rattle.segment_model.specs.Slaves.{Registers, Slave, Datagram, Access, Found, Processor, is_meant, datagram_meets, slave_after, slave_steps};
 ghost use Rattle.segment_model.specs.Ends.{Task, state_ends};
 ghost use Rattle.segment_model.specs.Record.{News};

@@ -1,22 +1,22 @@
 -- The ghost rows before a frame: a service comes into hand, and a mail is taken up.
 use Rattle.std.proofs.Common.{◌≡◌, ◌⊎◌, inl, inr, ℕ, ◌+◌, ◌≤◌, ◌&&◌, Bool, true, false, is_none, if◌then◌else◌, Option, None, Some, option_map, List, [], ◌∷◌, ◌++◌, length, refl, sym, ap, ap₂, ◌∙◌, subst, append_assoc, append-nil, arith, length-append}
 use Rattle.std.proofs.lemmas.Bool.{and_parts}
-use Rattle.exchange_model.specs.Prefix.{IsPrefixOf}
-use Rattle.exchange_model.specs.Exchange.{Exchange, IsLawful, after, given, plain}
-use Rattle.exchange_model.specs.Rows.{Row, Settled, begun, row_told, left, told_all, heard_all, services}
-use Rattle.exchange_model.specs.Laws.{Moment}
-use Rattle.exchange_model.proofs.Lists.{append_none, prefix_nil}
-use Rattle.exchange_model.proofs.Moments
-use Rattle.link_model.specs.Mails
-use Rattle.link_model.specs.Mails.{LinkMail}
-use Rattle.link_model.proofs.Law.{accepted_of_offered}
-use Rattle.segment_model.specs.Ends.{Outcome}
-use Rattle.segment_model.specs.Seats.{Side, Seat, link_of, newest, rows_of, is_over, side_begins, side_holds, next_mail, first_left, seat_next}
-use Rattle.segment_model.proofs.Overs.{over_parts, idle}
-use Rattle.segment_model.proofs.Fitted.{few}
-use Rattle.segment_model.proofs.Handed.{Facts, facts_of}
-use Rattle.segment_model.proofs.Sounds.{SeatAgrees}
-use Rattle.state_model.specs.States.{Table}
+use Rattle.state_exchange.specs.of_exchange_model.Prefix.{IsPrefixOf}
+use Rattle.state_exchange.specs.of_exchange_model.Exchange.{Exchange, IsLawful, after, given, plain}
+use Rattle.state_exchange.specs.of_exchange_model.Rows.{Row, Settled, begun, row_told, left, told_all, heard_all, services}
+use Rattle.state_exchange.specs.of_exchange_model.Laws.{Moment}
+use Rattle.state_exchange.proofs.of_exchange_model.Lists.{append_none, prefix_nil}
+use Rattle.state_exchange.proofs.of_exchange_model.Moments
+use Rattle.state_exchange.specs.of_link_model.Mails
+use Rattle.state_exchange.specs.of_link_model.Mails.{LinkMail}
+use Rattle.state_exchange.proofs.of_link_model.Law.{accepted_of_offered}
+use Rattle.state_exchange.specs.of_segment_model.Ends.{Outcome}
+use Rattle.state_exchange.specs.of_segment_model.Seats.{Side, Seat, link_of, newest, rows_of, is_over, side_begins, side_holds, next_mail, first_left, seat_next}
+use Rattle.state_exchange.proofs.of_segment_model.Overs.{over_parts, idle}
+use Rattle.state_exchange.proofs.of_segment_model.Fitted.{few}
+use Rattle.state_exchange.proofs.of_segment_model.Handed.{Facts, facts_of}
+use Rattle.state_exchange.proofs.of_segment_model.Sounds.{SeatAgrees}
+use Rattle.state_exchange.specs.of_state_model.States.{Table}
 use Rattle.state_exchange.specs.Stated.{Stated, IsStated, Act, Service, acts, states_in, with_states, service_valid, service_handed, service_planned}
 use Rattle.state_exchange.proofs.Acts.{acts_append, acts_length, acts_same, begin_acts, plain_acts, left_mails, left_none}
 use Rattle.state_exchange.proofs.StatedLaw.{stated_law}

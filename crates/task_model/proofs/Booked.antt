@@ -1,16 +1,16 @@
 -- What a book takes of a slave is what the record gives, from what its seat and its account carry.
 use Rattle.std.proofs.Common.{◌≡◌, inl, inr, ℕ, Bool, Option, Some, None, List, [], ◌∷◌, ◌++◌, map, length, refl, ap, sym, ◌∙◌, subst}
-use Rattle.exchange_model.specs.Exchange.{Exchange, IsLawful}
-use Rattle.exchange_model.specs.Rows.{Row}
-use Rattle.segment_model.specs.Record.{Frame}
-use Rattle.segment_model.specs.Seats.{Seat, newest, rows_of}
-use Rattle.segment_model.specs.Laws.{HandedBy, KnowsCounters}
-use Rattle.segment_model.specs.Books
-use Rattle.segment_model.proofs.Rising.{RisesNow, rises_all}
-use Rattle.segment_model.proofs.Handed.{BegunBy, handed_by}
-use Rattle.segment_model.proofs.Hands.{each_counted}
-use Rattle.state_model.specs.States.{Table}
-use Rattle.state_model.specs.Promises.{IsTable}
+use Rattle.state_exchange.specs.of_exchange_model.Exchange.{Exchange, IsLawful}
+use Rattle.state_exchange.specs.of_exchange_model.Rows.{Row}
+use Rattle.state_exchange.specs.of_segment_model.Record.{Frame}
+use Rattle.state_exchange.specs.of_segment_model.Seats.{Seat, newest, rows_of}
+use Rattle.state_exchange.specs.of_segment_model.Laws.{HandedBy, KnowsCounters}
+use Rattle.state_exchange.specs.of_segment_model.Books
+use Rattle.state_exchange.proofs.of_segment_model.Rising.{RisesNow, rises_all}
+use Rattle.state_exchange.proofs.of_segment_model.Handed.{BegunBy, handed_by}
+use Rattle.state_exchange.proofs.of_segment_model.Hands.{each_counted}
+use Rattle.state_exchange.specs.of_state_model.States.{Table}
+use Rattle.state_exchange.specs.of_state_model.Promises.{IsTable}
 use Rattle.state_exchange.specs.Stated.{Stated, IsStated, Service}
 use Rattle.task_model.specs.Accounts.{Started, Account}
 use Rattle.task_model.specs.Promise.{AllEnded, TasksAnswered, mail_of, mails_started, rows_started}

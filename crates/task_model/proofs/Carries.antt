@@ -1,9 +1,9 @@
 -- What a step of the slave's processor does to the AL state.
 use Rattle.std.proofs.Common.{◌≡◌, ◌⊎◌, inl, inr, ℕ, Bool, true, false, Option, Some, None, refl, ap, sym, ◌∙◌, if◌then◌else◌}
-use Rattle.segment_model.specs.Slaves.{Registers}
-use Rattle.state_model.specs.States.{Table, Phase, carry, word_carried, decided}
-use Rattle.state_model.specs.Promises.{state_behind, reached}
-use Rattle.state_model.proofs.Words.{Idle, Fresh, Changed, Denied, Flag, Cleared, InHand}
+use Rattle.state_exchange.specs.of_segment_model.Slaves.{Registers}
+use Rattle.state_exchange.specs.of_state_model.States.{Table, Phase, carry, word_carried, decided}
+use Rattle.state_exchange.specs.of_state_model.Promises.{state_behind, reached}
+use Rattle.state_exchange.proofs.of_state_model.Words.{Idle, Fresh, Changed, Denied, Flag, Cleared, InHand}
 use Rattle.task_model.proofs.Rings.{SamePlace}
 
 -- station address and sync managers stay

@@ -2,13 +2,13 @@
 use Rattle.std.proofs.Common.{◌≡◌, ℕ, ◌<◌, ◌≤◌, ◌&&◌, Bool, true, false, not, ◌==◌, Option, Some, None, List, [], ◌∷◌, ◌++◌, length, refl, ap, sym, ◌∙◌, subst, arith, length-append, if◌then◌else◌}
 use Rattle.std.specs.Prelude.{⊤}
 use Rattle.std.proofs.lemmas.Bool.{and_parts}
-use Rattle.exchange_model.specs.Exchange.{Exchange}
-use Rattle.exchange_model.specs.Rows.{answer_after}
-use Rattle.segment_model.specs.Slaves.{Datagram}
-use Rattle.segment_model.specs.Record.{Frame, is_for, first_end, joined, news_from, frame_news}
-use Rattle.segment_model.specs.Ends.{Outcome, ends}
-use Rattle.segment_model.specs.Seats.{Side}
-use Rattle.segment_model.proofs.Answers.{kept_of, news_from-none, outcome-push}
+use Rattle.state_exchange.specs.of_exchange_model.Exchange.{Exchange}
+use Rattle.state_exchange.specs.of_exchange_model.Rows.{answer_after}
+use Rattle.state_exchange.specs.of_segment_model.Slaves.{Datagram}
+use Rattle.state_exchange.specs.of_segment_model.Record.{Frame, is_for, first_end, joined, news_from, frame_news}
+use Rattle.state_exchange.specs.of_segment_model.Ends.{Outcome, ends}
+use Rattle.state_exchange.specs.of_segment_model.Seats.{Side}
+use Rattle.state_exchange.proofs.of_segment_model.Answers.{kept_of, news_from-none, outcome-push}
 use Rattle.state_exchange.specs.Stated.{Service}
 use Rattle.task_model.specs.Accounts.{Started, Duty, Account, Pick, Progress, is_free, is_acknowledged, starts, state_begins, account_begins, account_next, account_by, account_met, account_back, access_done}
 use Rattle.task_model.specs.Promise.{task_of, outcome_of, AllRise, AllEnded, but_last}

@@ -1,14 +1,14 @@
 -- Which of a slave's services are carried out: each that has a reply is among the first of them, so many as its server counts.
 use Rattle.std.proofs.Common.{◌≡◌, ℕ, suc, ◌+◌, ◌<◌, ◌≤◌, Bool, true, Some, List, [], ◌∷◌, ◌++◌, length, refl, ap, sym, ◌∙◌, subst, arith}
 use Rattle.std.specs.Prelude.{⊤}
-use Rattle.exchange_model.specs.Exchange.{Exchange, IsLawful, after}
-use Rattle.exchange_model.specs.Rows.{Row, Fits, InDone, left, services, told_all}
-use Rattle.exchange_model.specs.Laws.{Moment}
-use Rattle.exchange_model.proofs.Words.{after-append, grows_all}
-use Rattle.exchange_model.proofs.Settles.{settled_front, settled_handled, settled_more, told_all_last}
-use Rattle.exchange_model.proofs.Steps.{handed_whole}
-use Rattle.segment_model.specs.Record.{Frame}
-use Rattle.segment_model.specs.Ends.{Outcome}
+use Rattle.state_exchange.specs.of_exchange_model.Exchange.{Exchange, IsLawful, after}
+use Rattle.state_exchange.specs.of_exchange_model.Rows.{Row, Fits, InDone, left, services, told_all}
+use Rattle.state_exchange.specs.of_exchange_model.Laws.{Moment}
+use Rattle.state_exchange.proofs.of_exchange_model.Words.{after-append, grows_all}
+use Rattle.state_exchange.proofs.of_exchange_model.Settles.{settled_front, settled_handled, settled_more, told_all_last}
+use Rattle.state_exchange.proofs.of_exchange_model.Steps.{handed_whole}
+use Rattle.state_exchange.specs.of_segment_model.Record.{Frame}
+use Rattle.state_exchange.specs.of_segment_model.Ends.{Outcome}
 use Rattle.state_exchange.specs.Stated.{Service, states_in}
 use Rattle.task_model.specs.Promise.{outcome_of, IsReply, AllDone, mails_in, services_in, state_found}
 use Rattle.task_model.proofs.Ghosts.{GhostRow, starts_of, label_by, mail_labels}

@@ -1,17 +1,17 @@
 -- The rows of a slave's services by mails and state services as rows of one exchange of both, beside the session's side of its mails: ghosts
 -- that no master keeps. What a control word does stands in them where the slave's AL state changes, or at last where its service is closed.
 use Rattle.std.proofs.Common.{◌≡◌, ◌⊎◌, inl, inr, ℕ, ◌+◌, true, false, Option, None, Some, List, [], ◌∷◌, ◌++◌, map, refl, sym, ap, ◌∙◌, append_assoc, arith}
-use Rattle.exchange_model.specs.Exchange.{Exchange, IsLawful, after, given}
-use Rattle.exchange_model.specs.Rows.{Row, left, services}
-use Rattle.exchange_model.specs.Laws.{Moment}
-use Rattle.link_model.specs.Mails.{LinkMail}
-use Rattle.segment_model.specs.Slaves.{Slave}
-use Rattle.segment_model.specs.Ends.{Outcome}
-use Rattle.segment_model.specs.Seats.{Side, Seat, rows_of}
-use Rattle.segment_model.specs.Laws.{as_outcome}
-use Rattle.segment_model.proofs.Handed.{Facts}
-use Rattle.state_model.specs.States.{Table}
-use Rattle.state_model.specs.Promises.{state_behind}
+use Rattle.state_exchange.specs.of_exchange_model.Exchange.{Exchange, IsLawful, after, given}
+use Rattle.state_exchange.specs.of_exchange_model.Rows.{Row, left, services}
+use Rattle.state_exchange.specs.of_exchange_model.Laws.{Moment}
+use Rattle.state_exchange.specs.of_link_model.Mails.{LinkMail}
+use Rattle.state_exchange.specs.of_segment_model.Slaves.{Slave}
+use Rattle.state_exchange.specs.of_segment_model.Ends.{Outcome}
+use Rattle.state_exchange.specs.of_segment_model.Seats.{Side, Seat, rows_of}
+use Rattle.state_exchange.specs.of_segment_model.Laws.{as_outcome}
+use Rattle.state_exchange.proofs.of_segment_model.Handed.{Facts}
+use Rattle.state_exchange.specs.of_state_model.States.{Table}
+use Rattle.state_exchange.specs.of_state_model.Promises.{state_behind}
 use Rattle.state_exchange.specs.Stated.{Stated, Act, Service, Counting, acts, mails, states_in, with_states}
 use Rattle.task_model.specs.Accounts.{Started, Stage, Duty, Account}
 

@@ -1,3 +1,4 @@
+pub use Rattle.state_exchange.proofs.of_segment_model as of_segment_model
 pub mod Rings
 pub mod Served
 pub mod Carries

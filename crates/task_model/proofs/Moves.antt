@@ -1,31 +1,31 @@
 -- The ghost rows over a frame and over a step of the slave's processor: a drain ends, a service is closed, mails are heard and taken, and the
 -- control word is taken where the AL state changes.
 use Rattle.std.proofs.Common.{◌≡◌, inl, inr, ℕ, ◌==◌, Bool, true, false, if◌then◌else◌, Option, None, Some, option_map, List, [], ◌∷◌, ◌++◌, drop, length, refl, sym, ap, ap₂, ◌∙◌, subst, append-nil}
-use Rattle.exchange_model.specs.Prefix.{IsPrefixOf}
-use Rattle.exchange_model.specs.Exchange.{Exchange, IsLawful, after, given, plain}
-use Rattle.exchange_model.specs.Rows.{Row, row_heard, row_told, answer_after, left}
-use Rattle.exchange_model.specs.Laws.{Moment}
-use Rattle.exchange_model.proofs.Lists.{append_none, append_cancel}
-use Rattle.exchange_model.proofs.Words.{after-append, given-append, plain-append}
-use Rattle.exchange_model.proofs.Moments
-use Rattle.link_model.specs.Mails.{LinkMail}
-use Rattle.link_model.specs.Link.{Halves}
-use Rattle.link_model.specs.Frames
-use Rattle.link_model.specs.Frames.{Ask, node_meets}
-use Rattle.link_model.specs.Slave.{Node}
-use Rattle.link_model.proofs.Law.{accepted_of_offered}
-use Rattle.segment_model.specs.Slaves.{Serving, Registers, Access, Datagram, grams, Slave, is_meant, registers_met, slave_meets, slave_after}
-use Rattle.segment_model.specs.Record.{News}
-use Rattle.segment_model.specs.Ends.{Outcome}
-use Rattle.segment_model.specs.Seats.{Seat, link_of, newest, side_back, side_lost, seat_back}
-use Rattle.segment_model.specs.Laws.{as_outcome}
-use Rattle.segment_model.proofs.Sounds.{SeatAgrees}
-use Rattle.segment_model.proofs.Rests.{all_taken}
-use Rattle.segment_model.proofs.Written.{has_written, back_frees, losts_out}
-use Rattle.segment_model.specs.Record
-use Rattle.segment_model.proofs.Handed.{Facts, facts_of}
-use Rattle.state_model.specs.States.{Table, Phase, Turn, shown}
-use Rattle.state_model.specs.Promises.{state_behind}
+use Rattle.state_exchange.specs.of_exchange_model.Prefix.{IsPrefixOf}
+use Rattle.state_exchange.specs.of_exchange_model.Exchange.{Exchange, IsLawful, after, given, plain}
+use Rattle.state_exchange.specs.of_exchange_model.Rows.{Row, row_heard, row_told, answer_after, left}
+use Rattle.state_exchange.specs.of_exchange_model.Laws.{Moment}
+use Rattle.state_exchange.proofs.of_exchange_model.Lists.{append_none, append_cancel}
+use Rattle.state_exchange.proofs.of_exchange_model.Words.{after-append, given-append, plain-append}
+use Rattle.state_exchange.proofs.of_exchange_model.Moments
+use Rattle.state_exchange.specs.of_link_model.Mails.{LinkMail}
+use Rattle.state_exchange.specs.of_link_model.Link.{Halves}
+use Rattle.state_exchange.specs.of_link_model.Frames
+use Rattle.state_exchange.specs.of_link_model.Frames.{Ask, node_meets}
+use Rattle.state_exchange.specs.of_link_model.Slave.{Node}
+use Rattle.state_exchange.proofs.of_link_model.Law.{accepted_of_offered}
+use Rattle.state_exchange.specs.of_segment_model.Slaves.{Serving, Registers, Access, Datagram, grams, Slave, is_meant, registers_met, slave_meets, slave_after}
+use Rattle.state_exchange.specs.of_segment_model.Record.{News}
+use Rattle.state_exchange.specs.of_segment_model.Ends.{Outcome}
+use Rattle.state_exchange.specs.of_segment_model.Seats.{Seat, link_of, newest, side_back, side_lost, seat_back}
+use Rattle.state_exchange.specs.of_segment_model.Laws.{as_outcome}
+use Rattle.state_exchange.proofs.of_segment_model.Sounds.{SeatAgrees}
+use Rattle.state_exchange.proofs.of_segment_model.Rests.{all_taken}
+use Rattle.state_exchange.proofs.of_segment_model.Written.{has_written, back_frees, losts_out}
+use Rattle.state_exchange.specs.of_segment_model.Record
+use Rattle.state_exchange.proofs.of_segment_model.Handed.{Facts, facts_of}
+use Rattle.state_exchange.specs.of_state_model.States.{Table, Phase, Turn, shown}
+use Rattle.state_exchange.specs.of_state_model.Promises.{state_behind}
 use Rattle.state_exchange.specs.Stated.{Stated, IsStated, Act, Service, acts, act_emission, mails, ends_by, with_states, service_handed, service_ends}
 use Rattle.state_exchange.proofs.Acts.{acts_append, acts_same, mails_append, all_acts, plain_acts, left_word}
 use Rattle.state_exchange.proofs.StatedLaw.{stated_law}

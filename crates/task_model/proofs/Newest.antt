@@ -1,18 +1,18 @@
 -- What is kept of a slave's seat and account, and when its newest service is over.
 use Rattle.std.proofs.Common.{◌≡◌, ◌⊎◌, inl, inr, ℕ, Bool, true, false, is_some, Option, Some, None, List, [], ◌∷◌, ◌++◌, refl, ap, sym, ◌∙◌, subst}
-use Rattle.exchange_model.specs.Exchange.{Exchange, IsLawful}
-use Rattle.exchange_model.specs.Rows.{Row}
-use Rattle.segment_model.specs.Record.{Frame}
-use Rattle.segment_model.specs.Ends.{Outcome}
-use Rattle.segment_model.specs.Seats.{Seat, newest, rows_of, is_over}
-use Rattle.segment_model.specs.Laws.{AllAnswered, NowHanded, NothingInHand}
-use Rattle.segment_model.proofs.Overs.{over_parts}
-use Rattle.segment_model.proofs.Sounds.{SeatAgrees}
-use Rattle.segment_model.proofs.Kept.{Records, rows_answered}
-use Rattle.segment_model.proofs.Handed.{NowFacts, Posts, now_handed}
-use Rattle.segment_model.proofs.Ended.{row_ended, behind}
-use Rattle.state_model.specs.States.{Table}
-use Rattle.state_model.specs.Promises.{IsTable}
+use Rattle.state_exchange.specs.of_exchange_model.Exchange.{Exchange, IsLawful}
+use Rattle.state_exchange.specs.of_exchange_model.Rows.{Row}
+use Rattle.state_exchange.specs.of_segment_model.Record.{Frame}
+use Rattle.state_exchange.specs.of_segment_model.Ends.{Outcome}
+use Rattle.state_exchange.specs.of_segment_model.Seats.{Seat, newest, rows_of, is_over}
+use Rattle.state_exchange.specs.of_segment_model.Laws.{AllAnswered, NowHanded, NothingInHand}
+use Rattle.state_exchange.proofs.of_segment_model.Overs.{over_parts}
+use Rattle.state_exchange.proofs.of_segment_model.Sounds.{SeatAgrees}
+use Rattle.state_exchange.proofs.of_segment_model.Kept.{Records, rows_answered}
+use Rattle.state_exchange.proofs.of_segment_model.Handed.{NowFacts, Posts, now_handed}
+use Rattle.state_exchange.proofs.of_segment_model.Ended.{row_ended, behind}
+use Rattle.state_exchange.specs.of_state_model.States.{Table}
+use Rattle.state_exchange.specs.of_state_model.Promises.{IsTable}
 use Rattle.state_exchange.specs.Stated.{Stated, IsStated, Service, acts}
 use Rattle.task_model.specs.Accounts.{Started, Account, is_free}
 use Rattle.task_model.specs.Promise.{state_found, AllEnded}

@@ -1,11 +1,11 @@
 -- The state services that are over and the one in hand are just those of all services that came into hand, in order.
 use Rattle.std.proofs.Common.{◌≡◌, ℕ, ◌<◌, ◌≤◌, Option, Some, None, Bool, List, [], ◌∷◌, ◌++◌, refl, ap, sym, ◌∙◌, subst, arith}
 use Rattle.std.specs.Prelude.{⊤}
-use Rattle.exchange_model.specs.Exchange.{Exchange}
-use Rattle.segment_model.specs.Record.{Frame}
-use Rattle.segment_model.specs.Ends.{Outcome}
-use Rattle.state_model.specs.States.{Table}
-use Rattle.state_model.specs.Promises.{state_behind, answer_of}
+use Rattle.state_exchange.specs.of_exchange_model.Exchange.{Exchange}
+use Rattle.state_exchange.specs.of_segment_model.Record.{Frame}
+use Rattle.state_exchange.specs.of_segment_model.Ends.{Outcome}
+use Rattle.state_exchange.specs.of_state_model.States.{Table}
+use Rattle.state_exchange.specs.of_state_model.Promises.{state_behind, answer_of}
 use Rattle.state_exchange.specs.Stated.{Service}
 use Rattle.task_model.specs.Accounts.{Started, Stage, Duty, Change}
 use Rattle.task_model.specs.Promise.{outcome_of, next_start, states_started, changes_in, duty_in, AllFound, IsOpenYet}

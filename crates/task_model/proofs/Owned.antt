@@ -1,8 +1,8 @@
 -- An account behind a frame: the datagrams addressed to its station alone count.
 use Rattle.std.proofs.Common.{◌≡◌, ℕ, ◌==◌, List, [], ◌∷◌, Bool, true, false, Option, Some, None, filter, refl, ap, ◌∙◌}
 use Rattle.std.specs.Prelude.{◌&&◌, not, if◌then◌else◌}
-use Rattle.segment_model.specs.Slaves.{Datagram}
-use Rattle.segment_model.specs.Record.{is_for}
+use Rattle.state_exchange.specs.of_segment_model.Slaves.{Datagram}
+use Rattle.state_exchange.specs.of_segment_model.Record.{is_for}
 use Rattle.task_model.specs.Accounts.{Account, Duty, account_met, account_back, account_by, access_done}
 
 module _ {M Q R : Type 0} (station frame : ℕ) where

@@ -1,17 +1,17 @@
 -- What a slave promises, from what its seat and its account carry.
 use Rattle.std.proofs.Common.{◌≡◌, inl, inr, ℕ, ◌+◌, ◌<◌, Bool, Option, Some, None, List, [], ◌∷◌, ◌++◌, take, length, refl, ap, ap₂, sym, ◌∙◌, subst, arith, append-nil, length-append}
 use Rattle.std.proofs.lemmas.List.{length-take-le}
-use Rattle.exchange_model.specs.Prefix.{IsPrefixOf}
-use Rattle.exchange_model.specs.Exchange.{Exchange, IsLawful, after, given, emitted}
-use Rattle.exchange_model.specs.Rows.{Fits, services, exec_all, emits_all}
-use Rattle.exchange_model.proofs.Lists.{prefix_nil}
-use Rattle.exchange_model.proofs.Moments
-use Rattle.link_model.proofs.Law.{accepted_of_offered}
-use Rattle.segment_model.specs.Record.{Frame}
-use Rattle.segment_model.specs.Ends.{Outcome}
-use Rattle.segment_model.specs.Seats.{Seat, link_of, newest, rows_of}
-use Rattle.state_model.specs.States.{Table}
-use Rattle.state_model.specs.Promises.{IsTable}
+use Rattle.state_exchange.specs.of_exchange_model.Prefix.{IsPrefixOf}
+use Rattle.state_exchange.specs.of_exchange_model.Exchange.{Exchange, IsLawful, after, given, emitted}
+use Rattle.state_exchange.specs.of_exchange_model.Rows.{Fits, services, exec_all, emits_all}
+use Rattle.state_exchange.proofs.of_exchange_model.Lists.{prefix_nil}
+use Rattle.state_exchange.proofs.of_exchange_model.Moments
+use Rattle.state_exchange.proofs.of_link_model.Law.{accepted_of_offered}
+use Rattle.state_exchange.specs.of_segment_model.Record.{Frame}
+use Rattle.state_exchange.specs.of_segment_model.Ends.{Outcome}
+use Rattle.state_exchange.specs.of_segment_model.Seats.{Seat, link_of, newest, rows_of}
+use Rattle.state_exchange.specs.of_state_model.States.{Table}
+use Rattle.state_exchange.specs.of_state_model.Promises.{IsTable}
 use Rattle.state_exchange.specs.Stated.{Stated, IsStated, Act, Service, Counting, acts, mails, states_in, with_states, service_handed}
 use Rattle.state_exchange.proofs.Acts.{mails_acts, mails_append, emitted_acts, left_none, executed}
 use Rattle.state_exchange.proofs.StatedLaw.{stated_law}

@@ -1,13 +1,13 @@
 -- The outcomes of a slave's services against its ghost rows: each reply is its application's, in the AL state that stood.
 use Rattle.std.proofs.Common.{◌≡◌, ℕ, suc, Bool, true, false, Option, Some, None, List, [], ◌∷◌, ◌++◌, length, refl, ap, sym, ◌∙◌, subst, if◌then◌else◌}
 use Rattle.std.specs.Prelude.{⊤}
-use Rattle.exchange_model.specs.Exchange.{Exchange}
-use Rattle.exchange_model.specs.Rows.{Row, Replied}
-use Rattle.segment_model.specs.Record.{Frame, News, first_end, or_later, news_from}
-use Rattle.segment_model.specs.Ends.{Task, Outcome, ends, mails_end, all_written}
-use Rattle.segment_model.specs.Laws.{AllAnswered}
-use Rattle.state_model.specs.States.{Table}
-use Rattle.state_model.specs.Promises.{state_behind}
+use Rattle.state_exchange.specs.of_exchange_model.Exchange.{Exchange}
+use Rattle.state_exchange.specs.of_exchange_model.Rows.{Row, Replied}
+use Rattle.state_exchange.specs.of_segment_model.Record.{Frame, News, first_end, or_later, news_from}
+use Rattle.state_exchange.specs.of_segment_model.Ends.{Task, Outcome, ends, mails_end, all_written}
+use Rattle.state_exchange.specs.of_segment_model.Laws.{AllAnswered}
+use Rattle.state_exchange.specs.of_state_model.States.{Table}
+use Rattle.state_exchange.specs.of_state_model.Promises.{state_behind}
 use Rattle.state_exchange.specs.Stated.{Stated, IsStated, Act, Service, Counting, with_states}
 use Rattle.task_model.specs.Promise.{outcome_of, IsReply, AllReplied}
 use Rattle.task_model.proofs.Ghosts.{GhostRow, starts_of, Label, labels_of, label_by, mail_labels}

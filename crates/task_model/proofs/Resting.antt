@@ -1,17 +1,17 @@
 -- With nothing left all services of a slave are carried out, each has its outcome, and all emissions were heard.
 use Rattle.std.proofs.Common.{◌≡◌, inl, inr, ℕ, ◌+◌, Bool, true, Some, None, option_map, List, [], ◌∷◌, ◌++◌, length, ap, sym, ◌∙◌, subst, arith, append-nil}
-use Rattle.exchange_model.specs.Exchange.{Exchange, IsLawful, after, given, emitted}
-use Rattle.exchange_model.specs.Rows.{Row, Rest, left, services, exec_all, emits_all}
-use Rattle.exchange_model.proofs.Lists.{append_cancel}
-use Rattle.exchange_model.proofs.Moments
-use Rattle.segment_model.specs.Record.{Frame}
-use Rattle.segment_model.specs.Ends.{Outcome}
-use Rattle.segment_model.specs.Seats.{Seat, link_of}
-use Rattle.segment_model.specs.Laws.{IsSettled, WantsNothing}
-use Rattle.segment_model.proofs.Overs.{over_parts}
-use Rattle.segment_model.proofs.Rests.{all_taken, all_offered}
-use Rattle.state_model.specs.States.{Table}
-use Rattle.state_model.specs.Promises.{IsTable}
+use Rattle.state_exchange.specs.of_exchange_model.Exchange.{Exchange, IsLawful, after, given, emitted}
+use Rattle.state_exchange.specs.of_exchange_model.Rows.{Row, Rest, left, services, exec_all, emits_all}
+use Rattle.state_exchange.proofs.of_exchange_model.Lists.{append_cancel}
+use Rattle.state_exchange.proofs.of_exchange_model.Moments
+use Rattle.state_exchange.specs.of_segment_model.Record.{Frame}
+use Rattle.state_exchange.specs.of_segment_model.Ends.{Outcome}
+use Rattle.state_exchange.specs.of_segment_model.Seats.{Seat, link_of}
+use Rattle.state_exchange.specs.of_segment_model.Laws.{IsSettled, WantsNothing}
+use Rattle.state_exchange.proofs.of_segment_model.Overs.{over_parts}
+use Rattle.state_exchange.proofs.of_segment_model.Rests.{all_taken, all_offered}
+use Rattle.state_exchange.specs.of_state_model.States.{Table}
+use Rattle.state_exchange.specs.of_state_model.Promises.{IsTable}
 use Rattle.state_exchange.specs.Stated.{Stated, IsStated, Act, Service, Counting, acts, mails, states_in, with_states, service_handed}
 use Rattle.state_exchange.proofs.Acts.{mails_acts, emitted_acts, left_mails, left_none, executed}
 use Rattle.state_exchange.proofs.StatedLaw.{stated_law}

@@ -1,11 +1,11 @@
 -- What other slaves do to a frame: all that it has for a station to which they don't answer they leave.
 use Rattle.std.proofs.Common.{◌≡◌, ℕ, zero, suc, ◌==◌, ◌&&◌, Bool, true, false, not, Option, Some, None, List, [], ◌∷◌, ◌++◌, map, refl, ap, sym, ◌∙◌, if◌then◌else◌, eqb-true, eq-eqb}
 use Rattle.std.specs.Prelude.{⊤}
-use Rattle.link_model.specs.Mails.{news}
-use Rattle.link_model.specs.Frames.{Ask, Gram}
-use Rattle.segment_model.specs.Slaves.{Registers, Address, Access, Datagram, Slave, Ring, is_meant, address_behind, registers_met, counter_met, found_met, slave_meets, datagram_meets, slave_after, frame_after, all_back}
-use Rattle.segment_model.specs.Record.{News, is_for, gram_news, last_heard, found_news, datagram_news, back_news}
-use Rattle.state_model.specs.Promises.{statuses}
+use Rattle.state_exchange.specs.of_link_model.Mails.{news}
+use Rattle.state_exchange.specs.of_link_model.Frames.{Ask, Gram}
+use Rattle.state_exchange.specs.of_segment_model.Slaves.{Registers, Address, Access, Datagram, Slave, Ring, is_meant, address_behind, registers_met, counter_met, found_met, slave_meets, datagram_meets, slave_after, frame_after, all_back}
+use Rattle.state_exchange.specs.of_segment_model.Record.{News, is_for, gram_news, last_heard, found_news, datagram_news, back_news}
+use Rattle.state_exchange.specs.of_state_model.Promises.{statuses}
 use Rattle.task_model.specs.Accounts.{Account, Duty, IsOther, IsServed, is_quiet, is_later, account_met, account_by, account_back, access_done}
 
 -- no access of the frame sets a station address or a sync manager

@@ -1,14 +1,14 @@
 -- What a frame does to the registers of the slave that it serves, and what it brings back of its state service.
 use Rattle.std.proofs.Common.{◌≡◌, ℕ, suc, ◌==◌, ◌&&◌, ◌⊎◌, inl, inr, Bool, true, false, not, is_some, Option, Some, None, List, [], ◌∷◌, ◌++◌, refl, ap, sym, ◌∙◌, if◌then◌else◌, eq-eqb}
 use Rattle.std.proofs.Math.Dec.{eqb-suc-zero}
-use Rattle.link_model.specs.Mails.{LinkMail}
-use Rattle.link_model.specs.Slave.{Node}
-use Rattle.link_model.specs.Link.{written}
-use Rattle.link_model.specs.Frames.{Ask, node_meets}
-use Rattle.segment_model.specs.Slaves.{Serving, Registers, Address, Access, Datagram, Found, Slave, is_meant, registers_met, counter_met, found_met, Ring, slave_meets, datagram_meets, slave_after, frame_after, all_back}
-use Rattle.segment_model.specs.Record.{News, is_for, found_news, back_news}
-use Rattle.state_model.specs.States.{Phase, Turn, phase_written, word_of, word_met, shown, reads}
-use Rattle.state_model.specs.Promises.{statuses}
+use Rattle.state_exchange.specs.of_link_model.Mails.{LinkMail}
+use Rattle.state_exchange.specs.of_link_model.Slave.{Node}
+use Rattle.state_exchange.specs.of_link_model.Link.{written}
+use Rattle.state_exchange.specs.of_link_model.Frames.{Ask, node_meets}
+use Rattle.state_exchange.specs.of_segment_model.Slaves.{Serving, Registers, Address, Access, Datagram, Found, Slave, is_meant, registers_met, counter_met, found_met, Ring, slave_meets, datagram_meets, slave_after, frame_after, all_back}
+use Rattle.state_exchange.specs.of_segment_model.Record.{News, is_for, found_news, back_news}
+use Rattle.state_exchange.specs.of_state_model.States.{Phase, Turn, phase_written, word_of, word_met, shown, reads}
+use Rattle.state_exchange.specs.of_state_model.Promises.{statuses}
 use Rattle.task_model.specs.Accounts.{Account, Duty, Stage, IsOther, Progress, phase_access, stage_access, duty_access, is_quiet, is_later, account_met, account_by, account_back, access_done, turn_progress, found_done}
 use Rattle.task_model.proofs.Rings.{Reaches, NoneAnswers, LaterAccess, reaches_later, later_after, statuses_back, ring_account, ring_statuses, status_seen, statuses_seen, quiet_met, differ, place_after, other_apart, for_behind}
 

@@ -1,21 +1,21 @@
 -- What a session with accounts keeps of each slave, turn by turn, and what it promises.
 use Rattle.std.proofs.Common.{◌≡◌, ℕ, Bool, true, None, List, [], ◌∷◌, ◌++◌, map, length, refl, ap, sym, ◌∙◌, subst}
-use Rattle.exchange_model.specs.Exchange.{Exchange, IsLawful}
-use Rattle.link_model.specs.Segment.{RingFate, Distinct}
-use Rattle.link_model.specs.Frames.{IsFrameFor}
-use Rattle.segment_model.specs.Slaves.{Slave, Processor, Datagram, Ring, grams, slave_after, frame_after, ring_back}
-use Rattle.segment_model.specs.Record.{Frame}
-use Rattle.segment_model.specs.Seats.{Side, Seat, Planned, AllReady, IsFrame, IsOpening, ring_of, sides_of, seat_next, seats_next, seat_back, seats_after, side_begins, side_lost, seat_steps, writes, new_seats}
-use Rattle.segment_model.specs.Laws.{EachSeat, HandedBy, KnowsCounters}
-use Rattle.segment_model.proofs.Answers.{kept_of}
-use Rattle.segment_model.proofs.Sounds.{SeatAgrees, next_agrees, step_agrees}
-use Rattle.segment_model.proofs.Written.{frame_tells}
-use Rattle.segment_model.proofs.Posts.{writes-all_back}
-use Rattle.segment_model.proofs.Handed.{Posts, next_posts, back_posts, lost_posts}
-use Rattle.segment_model.proofs.Hands.{SeatPosts, new_posts}
-use Rattle.segment_model.proofs.Kept.{Records, Follows, nexts_records, nexts_follow, afters_follow, turn_follows, new_follows}
-use Rattle.state_model.specs.States.{Table}
-use Rattle.state_model.specs.Promises.{IsTable}
+use Rattle.state_exchange.specs.of_exchange_model.Exchange.{Exchange, IsLawful}
+use Rattle.state_exchange.specs.of_link_model.Segment.{RingFate, Distinct}
+use Rattle.state_exchange.specs.of_link_model.Frames.{IsFrameFor}
+use Rattle.state_exchange.specs.of_segment_model.Slaves.{Slave, Processor, Datagram, Ring, grams, slave_after, frame_after, ring_back}
+use Rattle.state_exchange.specs.of_segment_model.Record.{Frame}
+use Rattle.state_exchange.specs.of_segment_model.Seats.{Side, Seat, Planned, AllReady, IsFrame, IsOpening, ring_of, sides_of, seat_next, seats_next, seat_back, seats_after, side_begins, side_lost, seat_steps, writes, new_seats}
+use Rattle.state_exchange.specs.of_segment_model.Laws.{EachSeat, HandedBy, KnowsCounters}
+use Rattle.state_exchange.proofs.of_segment_model.Answers.{kept_of}
+use Rattle.state_exchange.proofs.of_segment_model.Sounds.{SeatAgrees, next_agrees, step_agrees}
+use Rattle.state_exchange.proofs.of_segment_model.Written.{frame_tells}
+use Rattle.state_exchange.proofs.of_segment_model.Posts.{writes-all_back}
+use Rattle.state_exchange.proofs.of_segment_model.Handed.{Posts, next_posts, back_posts, lost_posts}
+use Rattle.state_exchange.proofs.of_segment_model.Hands.{SeatPosts, new_posts}
+use Rattle.state_exchange.proofs.of_segment_model.Kept.{Records, Follows, nexts_records, nexts_follow, afters_follow, turn_follows, new_follows}
+use Rattle.state_exchange.specs.of_state_model.States.{Table}
+use Rattle.state_exchange.specs.of_state_model.Promises.{IsTable}
 use Rattle.state_exchange.specs.Stated.{Stated, IsStated, Service}
 use Rattle.task_model.specs.Accounts.{Account, Pick, mails_begin, mails_choice, account_begins, account_next, account_back}
 use Rattle.task_model.specs.Tasks.{TaskTurn, TaskSession, AllBrought, IsTaskPlan, IsTasked, AreServed, MayRun, mails_choices, mails_turn, accounts_next, accounts_after, happens, run, new_accounts, new_tasks}

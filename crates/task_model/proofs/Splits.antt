@@ -1,12 +1,12 @@
 -- Sides, accounts and a ring that meet in frames alone are a session with accounts, and its mails are a session of mails.
 use Rattle.std.proofs.Common.{◌≡◌, ℕ, Bool, List, [], ◌∷◌, ◌++◌, length, refl, ap, sym, ◌∙◌, subst}
-use Rattle.exchange_model.specs.Exchange.{Exchange}
-use Rattle.segment_model.specs.Slaves.{Processor, Ring, Move, ring_after, ring_back, ring_steps}
-use Rattle.segment_model.specs.Record.{Frame, frame_of}
-use Rattle.segment_model.specs.Seats
-use Rattle.segment_model.specs.Seats.{Side, Turn, Planned, IsFrame, IsOpening, seats_next, ring_of, sides_of}
-use Rattle.segment_model.specs.Split.{IsBound, IsFrameOf, sides_next, sides_after}
-use Rattle.segment_model.proofs.Replays.{nexts_sides, turn_sides, turn_ring, turn_back, turn_frames, frame_from}
+use Rattle.state_exchange.specs.of_exchange_model.Exchange.{Exchange}
+use Rattle.state_exchange.specs.of_segment_model.Slaves.{Processor, Ring, Move, ring_after, ring_back, ring_steps}
+use Rattle.state_exchange.specs.of_segment_model.Record.{Frame, frame_of}
+use Rattle.state_exchange.specs.of_segment_model.Seats
+use Rattle.state_exchange.specs.of_segment_model.Seats.{Side, Turn, Planned, IsFrame, IsOpening, seats_next, ring_of, sides_of}
+use Rattle.state_exchange.specs.of_segment_model.Split.{IsBound, IsFrameOf, sides_next, sides_after}
+use Rattle.state_exchange.proofs.of_segment_model.Replays.{nexts_sides, turn_sides, turn_ring, turn_back, turn_frames, frame_from}
 use Rattle.task_model.specs.Accounts.{Account, Pick}
 use Rattle.task_model.specs.Tasks.{TaskTurn, TaskSession, IsTasked, AreServed, MayRun, mails_choices, mails_turn, accounts_next, accounts_after, new_tasks, happens, run}
 

@@ -1,21 +1,21 @@
 -- The registers of a slave, the account of its services and the record of its statuses: together they are a run of state services.
 use Rattle.std.proofs.Common.{◌≡◌, ℕ, ◌<◌, ◌≤◌, ◌&&◌, Bool, true, false, Option, Some, None, List, [], ◌∷◌, ◌++◌, map, length, refl, ap, sym, ◌∙◌, subst, arith, append-nil, length-append, if◌then◌else◌}
 use Rattle.std.specs.Prelude.{⊤}
-use Rattle.exchange_model.specs.Exchange.{Exchange}
-use Rattle.exchange_model.specs.Rows.{answer_after}
-use Rattle.link_model.specs.Link.{Fate}
-use Rattle.link_model.specs.Mails.{LinkMail}
-use Rattle.segment_model.specs.Slaves.{Registers, grams}
-use Rattle.segment_model.specs.Record.{Frame, News, first_end, news_from, frame_news, back_news, all_told, joined}
-use Rattle.segment_model.specs.Ends.{Task, Outcome, ends, state_ends}
-use Rattle.segment_model.specs.Seats.{Side}
-use Rattle.segment_model.proofs.Answers.{kept_of, news_from-push, news_from-none, outcome-push}
-use Rattle.segment_model.proofs.News.{joined-append}
-use Rattle.state_model.specs.States.{Table, Phase, Hand, Closed, States, Event, Turn, carry, phase_written, word_of, word_met, shown, reads, turned, returned}
-use Rattle.state_model.specs.Promises.{IsTable, AllTold, state_behind, state_closed, answer_of, statuses}
-use Rattle.state_model.proofs.Words.{Idle, InHand}
-use Rattle.state_model.proofs.Kept.{Holds, HoldsAt, happens_holds, promised}
-use Rattle.state_model.proofs.News.{by_statuses}
+use Rattle.state_exchange.specs.of_exchange_model.Exchange.{Exchange}
+use Rattle.state_exchange.specs.of_exchange_model.Rows.{answer_after}
+use Rattle.state_exchange.specs.of_link_model.Link.{Fate}
+use Rattle.state_exchange.specs.of_link_model.Mails.{LinkMail}
+use Rattle.state_exchange.specs.of_segment_model.Slaves.{Registers, grams}
+use Rattle.state_exchange.specs.of_segment_model.Record.{Frame, News, first_end, news_from, frame_news, back_news, all_told, joined}
+use Rattle.state_exchange.specs.of_segment_model.Ends.{Task, Outcome, ends, state_ends}
+use Rattle.state_exchange.specs.of_segment_model.Seats.{Side}
+use Rattle.state_exchange.proofs.of_segment_model.Answers.{kept_of, news_from-push, news_from-none, outcome-push}
+use Rattle.state_exchange.proofs.of_segment_model.News.{joined-append}
+use Rattle.state_exchange.specs.of_state_model.States.{Table, Phase, Hand, Closed, States, Event, Turn, carry, phase_written, word_of, word_met, shown, reads, turned, returned}
+use Rattle.state_exchange.specs.of_state_model.Promises.{IsTable, AllTold, state_behind, state_closed, answer_of, statuses}
+use Rattle.state_exchange.proofs.of_state_model.Words.{Idle, InHand}
+use Rattle.state_exchange.proofs.of_state_model.Kept.{Holds, HoldsAt, happens_holds, promised}
+use Rattle.state_exchange.proofs.of_state_model.News.{by_statuses}
 use Rattle.state_exchange.specs.Stated.{Service}
 use Rattle.task_model.specs.Accounts.{Stage, Duty, Change, Account, Pick, new_account, starts, state_begins, account_begins, account_next, account_by, turn_progress, is_free, is_acknowledged}
 use Rattle.task_model.proofs.Rings.{statuses-append}

@@ -1,10 +1,10 @@
 -- An open slave isn't in state Init, nor on the way to it.
 use Rattle.std.proofs.Common.{◌≡◌, ◌≢◌, ◌⊎◌, inl, inr, ℕ, Bool, Option, Some, None, List, [], ◌∷◌, sym, ◌∙◌}
-use Rattle.segment_model.specs.Slaves.{Registers, Slave}
-use Rattle.segment_model.specs.Record.{Frame}
-use Rattle.state_model.specs.States.{Table, Phase}
-use Rattle.state_model.specs.Promises.{IsTable, reached, state_behind}
-use Rattle.state_model.proofs.Words.{Idle, Fresh, Changed, Denied, Flag, Cleared, InHand}
+use Rattle.state_exchange.specs.of_segment_model.Slaves.{Registers, Slave}
+use Rattle.state_exchange.specs.of_segment_model.Record.{Frame}
+use Rattle.state_exchange.specs.of_state_model.States.{Table, Phase}
+use Rattle.state_exchange.specs.of_state_model.Promises.{IsTable, reached, state_behind}
+use Rattle.state_exchange.proofs.of_state_model.Words.{Idle, Fresh, Changed, Denied, Flag, Cleared, InHand}
 use Rattle.task_model.specs.Accounts.{Stage, Duty, Change, Account}
 use Rattle.task_model.specs.Steady.{IsSteady, NoneToInit, StageToInit, HandToInit}
 use Rattle.task_model.proofs.Stately.{Stately, AtStage, AtHand, state_over, at_hand}

@@ -1,18 +1,18 @@
 -- The ghost rows over a step of the slave's processor, which tells its server the AL state and then serves, and at the end of
 -- bring-up.
 use Rattle.std.proofs.Common.{◌≡◌, ◌⊎◌, inl, inr, ℕ, true, Option, None, Some, List, [], ◌∷◌, ◌++◌, refl, sym, ap, ap₂, ◌∙◌, subst, append_assoc}
-use Rattle.exchange_model.specs.Exchange.{Exchange, IsLawful, after, given}
-use Rattle.exchange_model.proofs.Lists.{append_none, append_cancel}
-use Rattle.exchange_model.proofs.Words.{after-append, given-append}
-use Rattle.exchange_model.proofs.Moments
-use Rattle.link_model.specs.Slave.{Node, node_look, node_take, node_takes, node_offers, node_serve}
-use Rattle.link_model.proofs.Law.{taken_of_held}
-use Rattle.segment_model.specs.Slaves.{Serving, serving, Registers, Processor, state_told, Slave}
-use Rattle.segment_model.specs.Seats.{Seat, Planned, link_of, seat_steps, new_seat}
-use Rattle.segment_model.proofs.Links.{served_server, served_gives}
-use Rattle.segment_model.proofs.Sounds.{SeatAgrees}
-use Rattle.state_model.specs.States.{Table, Phase, carry}
-use Rattle.state_model.specs.Promises.{state_behind}
+use Rattle.state_exchange.specs.of_exchange_model.Exchange.{Exchange, IsLawful, after, given}
+use Rattle.state_exchange.proofs.of_exchange_model.Lists.{append_none, append_cancel}
+use Rattle.state_exchange.proofs.of_exchange_model.Words.{after-append, given-append}
+use Rattle.state_exchange.proofs.of_exchange_model.Moments
+use Rattle.state_exchange.specs.of_link_model.Slave.{Node, node_look, node_take, node_takes, node_offers, node_serve}
+use Rattle.state_exchange.proofs.of_link_model.Law.{taken_of_held}
+use Rattle.state_exchange.specs.of_segment_model.Slaves.{Serving, serving, Registers, Processor, state_told, Slave}
+use Rattle.state_exchange.specs.of_segment_model.Seats.{Seat, Planned, link_of, seat_steps, new_seat}
+use Rattle.state_exchange.proofs.of_segment_model.Links.{served_server, served_gives}
+use Rattle.state_exchange.proofs.of_segment_model.Sounds.{SeatAgrees}
+use Rattle.state_exchange.specs.of_state_model.States.{Table, Phase, carry}
+use Rattle.state_exchange.specs.of_state_model.Promises.{state_behind}
 use Rattle.state_exchange.specs.Stated.{Stated, IsStated, Act, acts, with_states}
 use Rattle.state_exchange.proofs.Acts.{acts_append, mails_acts, mails_append, after_acts, given_acts, state_kept}
 use Rattle.state_exchange.proofs.StatedLaw.{stated_law}

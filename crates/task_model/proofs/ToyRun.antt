@@ -1,16 +1,16 @@
 -- A computed run of the desk, an adder with an AL state: a sum is refused in the first state; a state service, whose write is lost once and
 -- whose processor is slow, brings the state that adds; another is refused and its error flag acknowledged; and the same sum is done.
 use Rattle.std.proofs.Common.{◌≡◌, ℕ, false, true, Option, Some, None, List, [], ◌∷◌, map, take, refl}
-use Rattle.exchange_model.specs.Toy.{Mail, first, second, held, total, refused, noted, Service, sum}
-use Rattle.link_model.specs.Frames.{Ask, IsSent}
-use Rattle.link_model.specs.Segment.{RingFate}
-use Rattle.segment_model.specs.Slaves.{Processor, Address, Access, Datagram}
-use Rattle.segment_model.specs.Record.{heard}
-use Rattle.segment_model.specs.Ends.{Outcome}
-use Rattle.segment_model.specs.Books.{Answer}
-use Rattle.segment_model.specs.Laws.{IsSettled, WantsNothing}
-use Rattle.segment_model.specs.Seats.{Planned, sides_of, ring_of}
-use Rattle.state_model.specs.States
+use Rattle.state_exchange.specs.of_exchange_model.Toy.{Mail, first, second, held, total, refused, noted, Service, sum}
+use Rattle.state_exchange.specs.of_link_model.Frames.{Ask, IsSent}
+use Rattle.state_exchange.specs.of_link_model.Segment.{RingFate}
+use Rattle.state_exchange.specs.of_segment_model.Slaves.{Processor, Address, Access, Datagram}
+use Rattle.state_exchange.specs.of_segment_model.Record.{heard}
+use Rattle.state_exchange.specs.of_segment_model.Ends.{Outcome}
+use Rattle.state_exchange.specs.of_segment_model.Books.{Answer}
+use Rattle.state_exchange.specs.of_segment_model.Laws.{IsSettled, WantsNothing}
+use Rattle.state_exchange.specs.of_segment_model.Seats.{Planned, sides_of, ring_of}
+use Rattle.state_exchange.specs.of_state_model.States
 use Rattle.state_exchange.specs.Stated
 use Rattle.state_exchange.specs.Toys.{Desk, desk, desk_states, steps}
 use Rattle.state_exchange.proofs.ToyLaw.{desk_law, desk_is_stated}

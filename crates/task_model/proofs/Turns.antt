@@ -1,14 +1,14 @@
 -- Registers, accounts and the record of a session: a slave that answers to its station keeps its invariant by a choice, a frame and a step.
 use Rattle.std.proofs.Common.{◌≡◌, ℕ, Bool, List, [], ◌∷◌, ◌++◌, length, refl, ap, sym, ◌∙◌, subst}
 use Rattle.std.specs.Prelude.{⊤}
-use Rattle.exchange_model.specs.Exchange.{Exchange}
-use Rattle.segment_model.specs.Slaves.{Processor, Datagram, slave_after, frame_after}
-use Rattle.segment_model.specs.Record.{Frame, frame_news, back_news}
-use Rattle.segment_model.specs.Seats.{Seat, Planned, seat_next, seat_back, side_lost, seat_steps, new_seats}
-use Rattle.segment_model.proofs.Answers.{kept_of}
-use Rattle.state_model.specs.States
-use Rattle.state_model.specs.States.{Table}
-use Rattle.state_model.specs.Promises.{statuses}
+use Rattle.state_exchange.specs.of_exchange_model.Exchange.{Exchange}
+use Rattle.state_exchange.specs.of_segment_model.Slaves.{Processor, Datagram, slave_after, frame_after}
+use Rattle.state_exchange.specs.of_segment_model.Record.{Frame, frame_news, back_news}
+use Rattle.state_exchange.specs.of_segment_model.Seats.{Seat, Planned, seat_next, seat_back, side_lost, seat_steps, new_seats}
+use Rattle.state_exchange.proofs.of_segment_model.Answers.{kept_of}
+use Rattle.state_exchange.specs.of_state_model.States
+use Rattle.state_exchange.specs.of_state_model.States.{Table}
+use Rattle.state_exchange.specs.of_state_model.Promises.{statuses}
 use Rattle.state_exchange.specs.Stated.{Stated}
 use Rattle.task_model.specs.Accounts.{Account, Pick, mails_choice, account_next, account_back}
 use Rattle.task_model.specs.Tasks.{Answers, IsBrought, CarriesWords, AllBrought, new_accounts}

@@ -1,12 +1,12 @@
 -- A turn of a session, seat by seat: what each keeps all keep.
 use Rattle.std.proofs.Common.{◌≡◌, ℕ, zero, suc, ◌==◌, Bool, false, List, [], ◌∷◌, ◌++◌, ap, sym, ◌∙◌, subst, append_assoc}
 use Rattle.std.specs.Prelude.{⊤}
-use Rattle.exchange_model.specs.Exchange.{Exchange}
-use Rattle.segment_model.specs.Slaves.{Registers, Processor, Datagram, Ring, slave_after, frame_after, all_back}
-use Rattle.segment_model.specs.Seats.{Seat, Planned, ring_of, sides_of, seat_next, seats_next, seat_back, seats_back, side_lost, seats_lost, seat_steps, seat_steps_at, seats_step}
-use Rattle.segment_model.specs.Record.{back_news}
-use Rattle.segment_model.specs.Laws.{EachSeat}
-use Rattle.state_model.specs.Promises.{statuses}
+use Rattle.state_exchange.specs.of_exchange_model.Exchange.{Exchange}
+use Rattle.state_exchange.specs.of_segment_model.Slaves.{Registers, Processor, Datagram, Ring, slave_after, frame_after, all_back}
+use Rattle.state_exchange.specs.of_segment_model.Seats.{Seat, Planned, ring_of, sides_of, seat_next, seats_next, seat_back, seats_back, side_lost, seats_lost, seat_steps, seat_steps_at, seats_step}
+use Rattle.state_exchange.specs.of_segment_model.Record.{back_news}
+use Rattle.state_exchange.specs.of_segment_model.Laws.{EachSeat}
+use Rattle.state_exchange.specs.of_state_model.Promises.{statuses}
 use Rattle.task_model.specs.Accounts.{Account, Pick, mails_choice, account_next, account_back, duty_access}
 use Rattle.task_model.specs.Tasks.{mails_choices, accounts_next, accounts_back, AreServed, Nobody, Apart}
 use Rattle.task_model.proofs.Rings.{Reaches, NoneAnswers, SamePlace, reaches, reaches_later, reaches_behind, place_after}

@@ -1,13 +1,13 @@
 -- The services of a slave as its master accounts for them: services by mails and state services in the order in which they came into hand, one
 -- in hand at a time, and what the master's datagrams make of a state service.
 use Rattle.std.specs.Prelude.{◌≡◌, ℕ, ◌==◌, ◌&&◌, Bool, true, false, not, is_none, if◌then◌else◌, Option, Some, None, List, [], ◌∷◌, ◌++◌}
-use Rattle.exchange_model.specs.Exchange.{Speech}
-use Rattle.exchange_model.specs.Rows.{Row}
-use Rattle.segment_model.specs.Slaves.{Datagram, Address, Access, Found}
-use Rattle.segment_model.specs.Record.{is_for}
-use Rattle.segment_model.specs.Ends.{Outcome}
-use Rattle.segment_model.specs.Seats.{Side, Choice, is_over}
-use Rattle.state_model.specs.States.{Phase, Turn, phase_written, shown}
+use Rattle.state_exchange.specs.of_exchange_model.Exchange.{Speech}
+use Rattle.state_exchange.specs.of_exchange_model.Rows.{Row}
+use Rattle.state_exchange.specs.of_segment_model.Slaves.{Datagram, Address, Access, Found}
+use Rattle.state_exchange.specs.of_segment_model.Record.{is_for}
+use Rattle.state_exchange.specs.of_segment_model.Ends.{Outcome}
+use Rattle.state_exchange.specs.of_segment_model.Seats.{Side, Choice, is_over}
+use Rattle.state_exchange.specs.of_state_model.States.{Phase, Turn, phase_written, shown}
 use Rattle.state_exchange.specs.Stated.{Service}
 
 -- a service that came into hand, with the number of the frame before which it did

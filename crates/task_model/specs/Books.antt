@@ -1,12 +1,12 @@
 -- The book of a run with state services: the answer of each service of a slave, from its frames, and when all is done.
 use Rattle.std.specs.Prelude.{◌≡◌, ℕ, Bool, Option, None, List, [], ◌∷◌}
-use Rattle.exchange_model.specs.Exchange.{Exchange, Speech}
-use Rattle.segment_model.specs.Slaves.{Slave}
-use Rattle.segment_model.specs.Record.{Frame}
-use Rattle.segment_model.specs.Seats.{Side}
-use Rattle.segment_model.specs.Laws.{NothingInHand, IsSettled, WantsNothing}
-use Rattle.segment_model.specs.Books.{Answer, answer_from, not_sent, AllEnded}
-use Rattle.state_model.specs.States.{Table}
+use Rattle.state_exchange.specs.of_exchange_model.Exchange.{Exchange, Speech}
+use Rattle.state_exchange.specs.of_segment_model.Slaves.{Slave}
+use Rattle.state_exchange.specs.of_segment_model.Record.{Frame}
+use Rattle.state_exchange.specs.of_segment_model.Seats.{Side}
+use Rattle.state_exchange.specs.of_segment_model.Laws.{NothingInHand, IsSettled, WantsNothing}
+use Rattle.state_exchange.specs.of_segment_model.Books.{Answer, answer_from, not_sent, AllEnded}
+use Rattle.state_exchange.specs.of_state_model.States.{Table}
 use Rattle.state_exchange.specs.Stated.{Stated, Service}
 use Rattle.task_model.specs.Accounts.{Started, Account}
 use Rattle.task_model.specs.Promise.{outcome_of, services_in, but_last, TasksRest}

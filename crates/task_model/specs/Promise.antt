@@ -1,14 +1,14 @@
 -- What a session of services by mails and state services promises of each slave.
 use Rattle.std.specs.Prelude.{◌≡◌, ℕ, suc, ◌+◌, ◌<◌, ◌≤◌, Bool, Option, Some, None, List, [], ◌∷◌, ◌++◌, map, take, length, ⊤}
-use Rattle.exchange_model.specs.Prefix.{IsPrefixOf}
-use Rattle.exchange_model.specs.Exchange.{Exchange, Speech, IsLawful, emitted}
-use Rattle.exchange_model.specs.Rows.{Row, exec_all, emits_all}
-use Rattle.segment_model.specs.Slaves.{Slave, Ring, Processor}
-use Rattle.segment_model.specs.Record.{Frame, first_end, news_from, heard}
-use Rattle.segment_model.specs.Ends.{Task, Outcome, ends}
-use Rattle.segment_model.specs.Seats.{Side, Planned, rows_of}
-use Rattle.segment_model.specs.Laws.{AllAnswered, IsSettled, WantsNothing}
-use Rattle.state_model.specs.States.{Table}
+use Rattle.state_exchange.specs.of_exchange_model.Prefix.{IsPrefixOf}
+use Rattle.state_exchange.specs.of_exchange_model.Exchange.{Exchange, Speech, IsLawful, emitted}
+use Rattle.state_exchange.specs.of_exchange_model.Rows.{Row, exec_all, emits_all}
+use Rattle.state_exchange.specs.of_segment_model.Slaves.{Slave, Ring, Processor}
+use Rattle.state_exchange.specs.of_segment_model.Record.{Frame, first_end, news_from, heard}
+use Rattle.state_exchange.specs.of_segment_model.Ends.{Task, Outcome, ends}
+use Rattle.state_exchange.specs.of_segment_model.Seats.{Side, Planned, rows_of}
+use Rattle.state_exchange.specs.of_segment_model.Laws.{AllAnswered, IsSettled, WantsNothing}
+use Rattle.state_exchange.specs.of_state_model.States.{Table}
 use Rattle.state_exchange.specs.Stated.{Stated, IsStated, Service, with_states, mails}
 use Rattle.task_model.specs.Accounts.{Started, Duty, Change, Account}
 use Rattle.task_model.specs.Tasks.{IsTaskPlan, IsTasked}

@@ -1,6 +1,6 @@
 -- An open slave isn't in state Init, nor on the way to it.
 use Rattle.std.specs.Prelude.{◌≡◌, ◌≢◌, ℕ, Bool, Option, Some, None, List, [], ◌∷◌, ⊤}
-use Rattle.segment_model.specs.Slaves.{Slave}
+use Rattle.state_exchange.specs.of_segment_model.Slaves.{Slave}
 use Rattle.state_exchange.specs.Stated.{Stated}
 use Rattle.task_model.specs.Accounts.{Duty, Stage, Change, Account}
 

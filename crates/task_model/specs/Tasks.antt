@@ -1,14 +1,14 @@
 -- A session in which services go by mails or change AL states: the session of the mails, and beside each slave its account.
 use Rattle.std.specs.Prelude.{◌≡◌, ℕ, ◌==◌, Bool, false, Some, None, List, [], ◌∷◌, ◌++◌, map, length, ⊤}
-use Rattle.exchange_model.specs.Exchange.{Exchange, Speech}
-use Rattle.link_model.specs.Segment.{RingFate}
-use Rattle.segment_model.specs.Slaves.{Registers, Processor, Datagram, Ring, ring_back, Move}
-use Rattle.segment_model.specs.Record.{Frame}
-use Rattle.segment_model.specs.Seats
-use Rattle.segment_model.specs.Seats.{Side, Choice, Turn, Session, Planned, IsPlan, IsFrame, IsOpening, seats_next, ring_of, sides_of, new_session}
-use Rattle.state_model.specs.States
-use Rattle.state_model.specs.States.{Table}
-use Rattle.state_model.specs.Promises.{IsTable}
+use Rattle.state_exchange.specs.of_exchange_model.Exchange.{Exchange, Speech}
+use Rattle.state_exchange.specs.of_link_model.Segment.{RingFate}
+use Rattle.state_exchange.specs.of_segment_model.Slaves.{Registers, Processor, Datagram, Ring, ring_back, Move}
+use Rattle.state_exchange.specs.of_segment_model.Record.{Frame}
+use Rattle.state_exchange.specs.of_segment_model.Seats
+use Rattle.state_exchange.specs.of_segment_model.Seats.{Side, Choice, Turn, Session, Planned, IsPlan, IsFrame, IsOpening, seats_next, ring_of, sides_of, new_session}
+use Rattle.state_exchange.specs.of_state_model.States
+use Rattle.state_exchange.specs.of_state_model.States.{Table}
+use Rattle.state_exchange.specs.of_state_model.Promises.{IsTable}
 use Rattle.state_exchange.specs.Stated.{Stated}
 use Rattle.task_model.specs.Accounts.{Account, Pick, IsServed, new_account, mails_choice, account_next, account_back, duty_access}
 

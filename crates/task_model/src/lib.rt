@@ -5,12 +5,12 @@
 #![tactic(auto)]
 
 ghost use Rattle.std.specs.Prelude.{◌≡◌, ℕ, Bool, List, [], ◌∷◌, ◌++◌, length};
-ghost use Rattle.exchange_model.specs.Exchange.{Exchange};
-ghost use Rattle.segment_model.specs.Slaves.{Processor, Ring, Move, ring_after, ring_back, ring_steps};
-ghost use Rattle.segment_model.specs.Record.{Frame, frame_of};
-ghost use Rattle.segment_model.specs.Seats.{Side, Planned, IsOpening, ring_of, sides_of};
-ghost use Rattle.segment_model.specs.Laws.{HandedBy, KnowsCounters};
-ghost use Rattle.segment_model.specs.Split.{IsBound, IsFrameOf, sides_next, sides_after};
+ghost use Rattle.state_exchange.specs.of_exchange_model.Exchange.{Exchange};
+ghost use Rattle.state_exchange.specs.of_segment_model.Slaves.{Processor, Ring, Move, ring_after, ring_back, ring_steps};
+ghost use Rattle.state_exchange.specs.of_segment_model.Record.{Frame, frame_of};
+ghost use Rattle.state_exchange.specs.of_segment_model.Seats.{Side, Planned, IsOpening, ring_of, sides_of};
+ghost use Rattle.state_exchange.specs.of_segment_model.Laws.{HandedBy, KnowsCounters};
+ghost use Rattle.state_exchange.specs.of_segment_model.Split.{IsBound, IsFrameOf, sides_next, sides_after};
 ghost use Rattle.state_exchange.specs.Stated.{Stated, Service};
 ghost use Rattle.task_model.specs.Accounts.{Account, Pick};
 ghost use Rattle.task_model.specs.Tasks.{TaskTurn, IsTasked, AreServed, MayRun, mails_choices, accounts_next, accounts_after, new_tasks, run};

@@ -2,22 +2,22 @@
 use Rattle.std.proofs.Common.{◌≡◌, ◌⊎◌, inl, inr, ◌<◌, ◌≤◌, ◌+◌, ◌-◌, ◌%◌, ◌==◌, ℕ, zero, suc, Bool, true, false, Some, List, [], ◌∷◌, ◌++◌, refl, sym, ap, ◌∙◌, subst, arith, length, append_assoc}
 use Rattle.std.specs.Prelude.{◌&&◌, nat_le, slice_get, if◌then◌else◌}
 use Rattle.std.proofs.lemmas.Bool.{eqb-true, ne_eqb, le-leb}
-use Rattle.al_state.specs.BringUp.{head_at}
-use Rattle.al_state.specs.declared.bringing.BringStep.{BringStep}
-use Rattle.al_state.specs.declared.bringing.BringUp.{BringUp}
-use Rattle.datagrams.specs.Datagram as Raw
-use Rattle.datagrams.specs.declared.command.Command.{Command}
-use Rattle.frame_view.specs.Seen.{seen, datagrams_seen}
-use Rattle.frame_view.specs.View.{Lens, datagram_seen, place_of, address_of}
-use Rattle.life_frames.specs.Frames.{Share, FrameFor, GramFor}
-use Rattle.life_model.specs.Lives.{Stand}
-use Rattle.life_runs.specs.Led.{Leads, Turn, AllTurn, IsLedFrame}
+use Rattle.master_node.specs.of_al_state.BringUp.{head_at}
+use Rattle.master_node.specs.of_al_state.declared.bringing.BringStep.{BringStep}
+use Rattle.master_node.specs.of_al_state.declared.bringing.BringUp.{BringUp}
+use Rattle.master_node.specs.of_datagrams.Datagram as Raw
+use Rattle.master_node.specs.of_datagrams.declared.command.Command.{Command}
+use Rattle.master_node.specs.of_frame_view.Seen.{seen, datagrams_seen}
+use Rattle.master_node.specs.of_frame_view.View.{Lens, datagram_seen, place_of, address_of}
+use Rattle.master_node.specs.of_life_frames.Frames.{Share, FrameFor, GramFor}
+use Rattle.master_node.specs.of_life_model.Lives.{Stand}
+use Rattle.master_node.specs.of_life_runs.Led.{Leads, Turn, AllTurn, IsLedFrame}
 use Rattle.master_node.specs.Toured.{turn_share}
 use Rattle.master_node.proofs.Sents.{sent_is, sent_many}
-use Rattle.master_tour.specs.Goes.{holds_at}
-use Rattle.master_tour.specs.Toured.{Tour, HaveFrom, IsOfTour, has_number}
-use Rattle.segment_model.specs.Slaves.{Address}
-use Rattle.segment_model.specs.Visits.{Stop, addressed, carried, station_at}
+use Rattle.master_node.specs.of_master_tour.Goes.{holds_at}
+use Rattle.master_node.specs.of_master_tour.Toured.{Tour, HaveFrom, IsOfTour, has_number}
+use Rattle.master_node.specs.of_segment_model.Slaves.{Address}
+use Rattle.master_node.specs.of_segment_model.Visits.{Stop, addressed, carried, station_at}
 use Rattle.visit_orders.specs.Toured.{AreAt}
 use Rattle.visit_orders.specs.Visits.{stop_at, stations_at}
 

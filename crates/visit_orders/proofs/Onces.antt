@@ -2,8 +2,8 @@
 use Rattle.std.proofs.Common.{◌≡◌, ℕ, ◌==◌, Bool, true, false, List, [], ◌∷◌, ◌++◌, refl, sym, ap, ◌∙◌, subst, eq-eqb}
 use Rattle.std.specs.Prelude.{if◌then◌else◌}
 use Rattle.std.proofs.lemmas.Bool.{eqb-true}
-use Rattle.master_tour.specs.Made.{is_in}
-use Rattle.master_tour.specs.Orders.{AreOnce, IsNextOf, IsCarried}
+use Rattle.master_node.specs.of_master_tour.Made.{is_in}
+use Rattle.master_node.specs.of_master_tour.Orders.{AreOnce, IsNextOf, IsCarried}
 use Rattle.visit_orders.specs.Visits.{Carried}
 
 in_more : (k p : ℕ) (ps : List ℕ) → is_in k ps ≡ false → (k == p) ≡ false → is_in k (ps ++ p ∷ []) ≡ false

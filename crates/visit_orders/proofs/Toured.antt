@@ -2,20 +2,20 @@
 use Rattle.std.proofs.Common.{◌≡◌, ◌<◌, ◌≤◌, ◌+◌, ℕ, zero, suc, Bool, true, false, Option, Some, None, List, [], ◌∷◌, refl, sym, ap, ◌∙◌, subst, arith, length, ◌++◌}
 use Rattle.std.specs.Prelude.{nat_lt, cond, filter, map, drop, if◌then◌else◌}
 use Rattle.std.proofs.lemmas.Bool.{ltb-true, ltb-false}
-use Rattle.frame_view.specs.View.{Lens}
-use Rattle.life_model.specs.Tours.{Member, is_live_in, round}
-use Rattle.life_runs.specs.Led.{Leads, Exchanged, IsLed, missed_behind, Turn, IsLedFrame}
-use Rattle.master_tour.specs.Orders.{start_of, round_left, visited_of}
-use Rattle.master_tour.specs.Toured.{Tour, visit_of, IsOfTour}
-use Rattle.frame_view.specs.Seen.{seen}
+use Rattle.master_node.specs.of_frame_view.View.{Lens}
+use Rattle.master_node.specs.of_life_model.Tours.{Member, is_live_in, round}
+use Rattle.master_node.specs.of_life_runs.Led.{Leads, Exchanged, IsLed, missed_behind, Turn, IsLedFrame}
+use Rattle.master_node.specs.of_master_tour.Orders.{start_of, round_left, visited_of}
+use Rattle.master_node.specs.of_master_tour.Toured.{Tour, visit_of, IsOfTour}
+use Rattle.master_node.specs.of_frame_view.Seen.{seen}
 use Rattle.master_node.specs.Shows.{is_live_lead}
 use Rattle.master_node.specs.Toured.{turn_share}
 use Rattle.master_node.specs.Rooms.{area_at}
-use Rattle.master_tour.specs.Goes.{holds_at}
-use Rattle.master_tour.specs.Sizes.{frame_size}
-use Rattle.segment_model.specs.Visits.{Stop}
-use Rattle.segment_ring.specs.declared.wire.Fate.{Fate}
-use Rattle.segment_ring.specs.declared.wire.Fate.TheVariants.{Pass, Lost}
+use Rattle.master_node.specs.of_master_tour.Goes.{holds_at}
+use Rattle.master_node.specs.of_master_tour.Sizes.{frame_size}
+use Rattle.master_node.specs.of_segment_model.Visits.{Stop}
+use Rattle.master_node.specs.of_segment_ring.declared.wire.Fate.{Fate}
+use Rattle.master_node.specs.of_segment_ring.declared.wire.Fate.TheVariants.{Pass, Lost}
 use Rattle.visit_orders.specs.Toured.{IsToured, lives_behind, tour_behind, stations_of, visit_stations}
 use Rattle.visit_orders.specs.Visits.{AreOf, AreApart, IsPlace, stop_at, stops_at, stations_at, last_station}
 use Rattle.visit_orders.proofs.Orders.{round_as, drop_here}

@@ -2,14 +2,14 @@
 use Rattle.std.proofs.Common.{◌≡◌, ◌<◌, ◌≤◌, ◌+◌, ℕ, zero, suc, Bool, true, false, Option, Some, None, List, [], ◌∷◌, ◌++◌, refl, sym, ap, ◌∙◌, subst, arith, length, drop, append-nil}
 use Rattle.std.specs.Prelude.{nat_lt, cond, filter, if◌then◌else◌}
 use Rattle.std.proofs.lemmas.Bool.{ltb-true, ltb-false, le-ltb}
-use Rattle.frame_view.specs.Seen.{seen}
-use Rattle.frame_view.specs.View.{Lens}
-use Rattle.life_model.specs.Tours.{Member, is_live_in, round}
-use Rattle.life_runs.specs.Led.{Leads, Turn, IsLedFrame}
+use Rattle.master_node.specs.of_frame_view.Seen.{seen}
+use Rattle.master_node.specs.of_frame_view.View.{Lens}
+use Rattle.master_node.specs.of_life_model.Tours.{Member, is_live_in, round}
+use Rattle.master_node.specs.of_life_runs.Led.{Leads, Turn, IsLedFrame}
 use Rattle.master_node.specs.Toured.{turn_share}
-use Rattle.master_tour.specs.Orders.{start_of, round_left, visited_of}
-use Rattle.master_tour.specs.Toured.{Tour, IsOfTour, LeavesOut, visit_of}
-use Rattle.segment_model.specs.Visits.{Stop, IsVisit, carried}
+use Rattle.master_node.specs.of_master_tour.Orders.{start_of, round_left, visited_of}
+use Rattle.master_node.specs.of_master_tour.Toured.{Tour, IsOfTour, LeavesOut, visit_of}
+use Rattle.master_node.specs.of_segment_model.Visits.{Stop, IsVisit, carried}
 use Rattle.visit_orders.specs.Toured.{AreAt, stations_of}
 use Rattle.visit_orders.specs.Visits.{AreOf, AreApart, IsPlace, Comes, GoesThrough, stop_at, stations_at, last_station}
 use Rattle.visit_orders.proofs.Carried.{carried_are}

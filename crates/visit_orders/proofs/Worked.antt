@@ -1,11 +1,11 @@
 -- Worked rounds of three slaves.
 use Rattle.std.proofs.Common.{◌≡◌, ◌==◌, Bool, true, false, Some, None, List, [], ◌∷◌, refl, arith}
 use Rattle.std.specs.Prelude.{not}
-use Rattle.master_tour.specs.Sizes.{frame_size}
-use Rattle.master_tour.specs.Toured.{LeavesOut, visit_of, new_tour, goes_on, lost_on}
-use Rattle.segment_model.specs.Visits.{Stop, IsVisit}
-use Rattle.life_model.specs.Tours.{Member, round}
-use Rattle.master_tour.specs.Orders.{visits_left}
+use Rattle.master_node.specs.of_master_tour.Sizes.{frame_size}
+use Rattle.master_node.specs.of_master_tour.Toured.{LeavesOut, visit_of, new_tour, goes_on, lost_on}
+use Rattle.master_node.specs.of_segment_model.Visits.{Stop, IsVisit}
+use Rattle.master_node.specs.of_life_model.Tours.{Member, round}
+use Rattle.master_node.specs.of_master_tour.Orders.{visits_left}
 use Rattle.visit_orders.specs.Visits.{GoesThrough, stations_at, last_station}
 
 abbrev ring : List Stop

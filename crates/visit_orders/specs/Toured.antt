@@ -1,17 +1,17 @@
 -- A RUN WHOSE FRAMES ARE VISITS OF ONE TOUR.
 use Rattle.std.specs.Prelude.{◌≡◌, ℕ, suc, ⊤, Option, Some, None, List, [], ◌∷◌, ◌++◌, length, map}
-use Rattle.frame_view.specs.View.{Lens}
-use Rattle.frame_view.specs.Seen.{seen}
-use Rattle.life_runs.specs.Led.{Exchanged, Leads, Turn, IsLedFrame, led_behind, gives_up_at}
+use Rattle.master_node.specs.of_frame_view.View.{Lens}
+use Rattle.master_node.specs.of_frame_view.Seen.{seen}
+use Rattle.master_node.specs.of_life_runs.Led.{Exchanged, Leads, Turn, IsLedFrame, led_behind, gives_up_at}
 use Rattle.master_node.specs.Shows.{is_live_lead, is_opening_lead}
 use Rattle.master_node.specs.Toured.{turn_share}
 use Rattle.master_node.specs.Rooms.{area_at}
-use Rattle.master_tour.specs.Goes.{holds_at}
-use Rattle.master_tour.specs.Sizes.{frame_size}
-use Rattle.master_tour.specs.Toured.{Tour, IsOfTour, new_tour, goes_on, lost_on}
-use Rattle.segment_model.specs.Visits.{Stop, station_at}
-use Rattle.segment_ring.specs.declared.wire.Fate.{Fate}
-use Rattle.segment_ring.specs.declared.wire.Fate.TheVariants.{Pass, Lost}
+use Rattle.master_node.specs.of_master_tour.Goes.{holds_at}
+use Rattle.master_node.specs.of_master_tour.Sizes.{frame_size}
+use Rattle.master_node.specs.of_master_tour.Toured.{Tour, IsOfTour, new_tour, goes_on, lost_on}
+use Rattle.master_node.specs.of_segment_model.Visits.{Stop, station_at}
+use Rattle.master_node.specs.of_segment_ring.declared.wire.Fate.{Fate}
+use Rattle.master_node.specs.of_segment_ring.declared.wire.Fate.TheVariants.{Pass, Lost}
 use Rattle.visit_orders.specs.Visits.{stations_at}
 
 -- where a tour stands behind a frame, by its fate and the lives behind it

@@ -1,9 +1,9 @@
 -- The slaves of a ring by their places.
 use Rattle.std.specs.Prelude.{◌≡◌, ℕ, ◌+◌, ◌<◌, ◌==◌, Bool, true, false, Option, Some, None, List, [], ◌∷◌, map, get_or, length, ⊤}
-use Rattle.segment_model.specs.Visits.{Stop}
-use Rattle.life_model.specs.Tours.{Member, is_live_in}
-use Rattle.master_tour.specs.Made.{is_in}
-use Rattle.master_tour.specs.Orders.{AreOnce}
+use Rattle.master_node.specs.of_segment_model.Visits.{Stop}
+use Rattle.master_node.specs.of_life_model.Tours.{Member, is_live_in}
+use Rattle.master_node.specs.of_master_tour.Made.{is_in}
+use Rattle.master_node.specs.of_master_tour.Orders.{AreOnce}
 
 -- no slave
 abbrev pub no_stop : Stop

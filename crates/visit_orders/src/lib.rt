@@ -3,29 +3,29 @@
 #![tactic(auto)]
 
 ghost use Rattle.std.specs.Prelude.{◌≡◌, ◌≤◌, ◌<◌, ◌∷◌, [], ℕ, Bool, false, List, Option, None, length};
-ghost use Rattle.segment_model.specs.Visits.{Stop, IsVisit};
-ghost use Rattle.life_model.specs.Tours.{Member, round};
-ghost use Rattle.master_tour.specs.Orders.{visits_left, IsNextOf, IsCarried};
+ghost use Rattle.master_node.specs.of_segment_model.Visits.{Stop, IsVisit};
+ghost use Rattle.master_node.specs.of_life_model.Tours.{Member, round};
+ghost use Rattle.master_node.specs.of_master_tour.Orders.{visits_left, IsNextOf, IsCarried};
 ghost use Rattle.visit_orders.specs.Visits.{AreOf, AreApart, IsPlace, GoesThrough, last_station, stations_at, stop_at, Carried};
 ghost use Rattle.std.specs.Prelude.{drop};
-ghost use Rattle.frame_view.specs.View.{Lens};
-ghost use Rattle.life_model.specs.Tours.{is_live_in};
-ghost use Rattle.life_runs.specs.Led.{Exchanged, Leads, IsLed};
-ghost use Rattle.master_tour.specs.Toured.{Tour, visit_of};
-ghost use Rattle.frame_view.specs.Seen.{seen};
-ghost use Rattle.life_runs.specs.Led.{Turn, IsLedFrame};
+ghost use Rattle.master_node.specs.of_frame_view.View.{Lens};
+ghost use Rattle.master_node.specs.of_life_model.Tours.{is_live_in};
+ghost use Rattle.master_node.specs.of_life_runs.Led.{Exchanged, Leads, IsLed};
+ghost use Rattle.master_node.specs.of_master_tour.Toured.{Tour, visit_of};
+ghost use Rattle.master_node.specs.of_frame_view.Seen.{seen};
+ghost use Rattle.master_node.specs.of_life_runs.Led.{Turn, IsLedFrame};
 ghost use Rattle.master_node.specs.Toured.{turn_share};
-ghost use Rattle.master_tour.specs.Sizes.{frame_size};
+ghost use Rattle.master_node.specs.of_master_tour.Sizes.{frame_size};
 ghost use Rattle.master_node.specs.Rooms.{area_at};
-ghost use Rattle.master_tour.specs.Toured.{IsOfTour};
-ghost use Rattle.segment_model.specs.Visits.{carried};
+ghost use Rattle.master_node.specs.of_master_tour.Toured.{IsOfTour};
+ghost use Rattle.master_node.specs.of_segment_model.Visits.{carried};
 ghost use Rattle.std.specs.Prelude.{◌++◌};
 ghost use Rattle.master_node.specs.Shows.{is_live_lead, is_opening_lead};
 ghost use Rattle.master_node.specs.Toured.{tour_of};
 ghost use Rattle.master_node.specs.declared.node.MasterNode.{MasterNode};
-ghost use Rattle.master_tour.specs.Goes.{holds_at};
-ghost use Rattle.master_tour.specs.Toured.{new_tour, goes_on, lost_on};
-ghost use Rattle.segment_ring.specs.declared.wire.Fate.{Fate};
+ghost use Rattle.master_node.specs.of_master_tour.Goes.{holds_at};
+ghost use Rattle.master_node.specs.of_master_tour.Toured.{new_tour, goes_on, lost_on};
+ghost use Rattle.master_node.specs.of_segment_ring.declared.wire.Fate.{Fate};
 ghost use Rattle.visit_orders.specs.Toured.{IsToured, AreAt, lives_behind, stations_of, visit_stations};
 
 /// BEHIND THE FIRST BRING-UP a frame is a visit of the tour where the master goes through the places of its round as it does: it carries the live

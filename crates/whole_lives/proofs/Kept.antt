@@ -1,15 +1,15 @@
 -- WHAT A FRAME AND A STEP keep of a node: it runs, and where the slave is closed its server is, cleared, what it was.
 use Rattle.std.proofs.Common.{◌≡◌, ◌⊎◌, inl, inr, ℕ, Bool, true, false, List, [], ◌∷◌, refl, ap, ◌∙◌, subst, arith}
 use Rattle.std.specs.Prelude.{if◌then◌else◌}
-use Rattle.datagrams.specs.Datagram as Raw
-use Rattle.esc_registers.specs.declared.registers.Registers as Esc
-use Rattle.frame_pass.specs.Passing.{passed}
-use Rattle.frame_view.specs.View.{Lens}
-use Rattle.frames_seen.specs.Own.{NoneMeant, IsAlone}
-use Rattle.mailbox_slave.specs.Registers.{in_len}
-use Rattle.segment_ring.specs.Ring.{is_in_pace}
-use Rattle.slave_steps.specs.Node.{Node}
-use Rattle.life_model.specs.Lives.{Opening}
+use Rattle.slave_lives.specs.of_datagrams.Datagram as Raw
+use Rattle.slave_lives.specs.of_esc_registers.declared.registers.Registers as Esc
+use Rattle.slave_lives.specs.of_frame_pass.Passing.{passed}
+use Rattle.slave_lives.specs.of_frame_view.View.{Lens}
+use Rattle.slave_lives.specs.of_frames_seen.Own.{NoneMeant, IsAlone}
+use Rattle.slave_lives.specs.of_mailbox_slave.Registers.{in_len}
+use Rattle.slave_lives.specs.of_segment_ring.Ring.{is_in_pace}
+use Rattle.slave_lives.specs.of_slave_steps.Node.{Node}
+use Rattle.slave_lives.specs.of_life_model.Lives.{Opening}
 use Rattle.slave_lives.specs.Nodes.{IsRunning, IsRoomy, StepsOn, stepped}
 use Rattle.slave_lives.specs.Opening.{Plan, IsPlan, AtMostOne, JustOne}
 use Rattle.slave_lives.specs.Returning.{Clears, IsFrozen}

@@ -2,28 +2,28 @@
 use Rattle.std.proofs.Common.{◌≡◌, ◌≢◌, ◌⊎◌, inl, inr, ℕ, zero, suc, ◌==◌, Bool, true, false, List, [], ◌∷◌, ◌++◌, length, refl, ap, sym, ◌∙◌, subst}
 use Rattle.std.specs.Prelude.{Option, Some, None, if◌then◌else◌, ◌&&◌}
 use Rattle.std.proofs.lemmas.Bool.{eqb-true}
-use Rattle.exchange_model.specs.Exchange.{Speech}
-use Rattle.frame_pass.specs.Passing.{datagrams_after}
-use Rattle.frame_view.specs.Seen.{seen}
-use Rattle.frames_seen.specs.Own.{own_of, IsAlone}
-use Rattle.frames_seen.specs.Ring.{AllApart}
-use Rattle.frames_seen.specs.Slaves.{registers_seen}
-use Rattle.frames_seen.specs.Spoken.{AllSpoken}
-use Rattle.link_mails.specs.Body.{Body}
-use Rattle.link_model.specs.Segment.{RingFate}
-use Rattle.segment_model.specs.Record.{Frame, News}
-use Rattle.segment_model.specs.Seats.{Side}
-use Rattle.segment_model.specs.Slaves.{Found}
-use Rattle.segment_ring.specs.declared.wire.Fate.TheVariants.{Lost}
-use Rattle.slave_steps.specs.Node.{Node}
-use Rattle.state_exchange.specs.Stated.{Service}
-use Rattle.task_model.specs.Accounts.{Account, Pick, Duty, Stage, is_free, is_acknowledged, starts, state_begins, account_begins, duty_access}
-use Rattle.task_model.specs.Steady.{IsSteady, AsksNoInit, NoneToInit, HandToInit, StageToInit}
-use Rattle.task_model.proofs.Sessions.{tasks_steady}
-use Rattle.life_model.specs.Lives.{Spot, Era, Life, Stand, AsksOpen, granted, returns_to_init, opens_state, reopening, reopens, reopens_at}
-use Rattle.life_model.specs.Eras.{Clearing, OpenEra}
-use Rattle.life_model.specs.Own.{own}
-use Rattle.life_model.proofs.Eras.{session_of, of_one}
+use Rattle.slave_lives.specs.of_exchange_model.Exchange.{Speech}
+use Rattle.slave_lives.specs.of_frame_pass.Passing.{datagrams_after}
+use Rattle.slave_lives.specs.of_frame_view.Seen.{seen}
+use Rattle.slave_lives.specs.of_frames_seen.Own.{own_of, IsAlone}
+use Rattle.slave_lives.specs.of_frames_seen.Ring.{AllApart}
+use Rattle.slave_lives.specs.of_frames_seen.Slaves.{registers_seen}
+use Rattle.slave_lives.specs.of_frames_seen.Spoken.{AllSpoken}
+use Rattle.slave_lives.specs.of_link_mails.Body.{Body}
+use Rattle.slave_lives.specs.of_link_model.Segment.{RingFate}
+use Rattle.slave_lives.specs.of_segment_model.Record.{Frame, News}
+use Rattle.slave_lives.specs.of_segment_model.Seats.{Side}
+use Rattle.slave_lives.specs.of_segment_model.Slaves.{Found}
+use Rattle.slave_lives.specs.of_segment_ring.declared.wire.Fate.TheVariants.{Lost}
+use Rattle.slave_lives.specs.of_slave_steps.Node.{Node}
+use Rattle.slave_lives.specs.of_state_exchange.Stated.{Service}
+use Rattle.slave_lives.specs.of_task_model.Accounts.{Account, Pick, Duty, Stage, is_free, is_acknowledged, starts, state_begins, account_begins, duty_access}
+use Rattle.slave_lives.specs.of_task_model.Steady.{IsSteady, AsksNoInit, NoneToInit, HandToInit, StageToInit}
+use Rattle.slave_lives.proofs.of_task_model.Sessions.{tasks_steady}
+use Rattle.slave_lives.specs.of_life_model.Lives.{Spot, Era, Life, Stand, AsksOpen, granted, returns_to_init, opens_state, reopening, reopens, reopens_at}
+use Rattle.slave_lives.specs.of_life_model.Eras.{Clearing, OpenEra}
+use Rattle.slave_lives.specs.of_life_model.Own.{own}
+use Rattle.slave_lives.proofs.of_life_model.Eras.{session_of, of_one}
 use Rattle.slave_lives.specs.Ends.{LeftEras, IsAnswered}
 use Rattle.slave_lives.specs.Lived.{Behind, table_of, node_seen, RingFrame, IsForOpen, LivesEra, OpenFrame, is_reached, node_met, node_behind, frame_of}
 use Rattle.slave_lives.specs.Opening.{Plan, IsPlan}

@@ -3,19 +3,19 @@
 use Rattle.std.proofs.Common.{◌≡◌, ◌≢◌, ℕ, ◌==◌, Bool, true, false, List, [], ◌∷◌, ◌++◌, length, refl, ap, sym, ◌∙◌, subst}
 use Rattle.std.specs.Prelude.{Option, Some, None, if◌then◌else◌, ⊤, ◌&&◌, not}
 use Rattle.std.proofs.lemmas.Bool.{eqb-true, eqb-false}
-use Rattle.frame_view.specs.Seen.{seen, datagrams_seen}
-use Rattle.frames_seen.specs.Own.{own_seen}
-use Rattle.frames_seen.specs.Ring.{AreAnswers}
-use Rattle.frames_seen.specs.Slaves.{slave_of, registers_seen, IsOpen}
-use Rattle.frames_seen.proofs.Rings as FrameRings
-use Rattle.segment_model.specs.Record.{is_for}
-use Rattle.segment_model.specs.Slaves.{Datagram, Access, Found, frame_after}
-use Rattle.segment_ring.specs.declared.wire.Fate.{Fate}
-use Rattle.segment_ring.specs.declared.wire.Fate.TheVariants.{Pass, Lost}
-use Rattle.state_model.specs.States.{Phase}
-use Rattle.task_model.specs.Accounts.{Account, Duty, Stage, Progress, Change, IsServed, is_quiet, duty_access, stage_access, access_done, account_by, account_met, account_back}
-use Rattle.task_model.specs.Steady.{NoneToInit, HandToInit, StageToInit}
-use Rattle.life_model.specs.Own.{own}
+use Rattle.slave_lives.specs.of_frame_view.Seen.{seen, datagrams_seen}
+use Rattle.slave_lives.specs.of_frames_seen.Own.{own_seen}
+use Rattle.slave_lives.specs.of_frames_seen.Ring.{AreAnswers}
+use Rattle.slave_lives.specs.of_frames_seen.Slaves.{slave_of, registers_seen, IsOpen}
+use Rattle.slave_lives.proofs.of_frames_seen.Rings as FrameRings
+use Rattle.slave_lives.specs.of_segment_model.Record.{is_for}
+use Rattle.slave_lives.specs.of_segment_model.Slaves.{Datagram, Access, Found, frame_after}
+use Rattle.slave_lives.specs.of_segment_ring.declared.wire.Fate.{Fate}
+use Rattle.slave_lives.specs.of_segment_ring.declared.wire.Fate.TheVariants.{Pass, Lost}
+use Rattle.slave_lives.specs.of_state_model.States.{Phase}
+use Rattle.slave_lives.specs.of_task_model.Accounts.{Account, Duty, Stage, Progress, Change, IsServed, is_quiet, duty_access, stage_access, access_done, account_by, account_met, account_back}
+use Rattle.slave_lives.specs.of_task_model.Steady.{NoneToInit, HandToInit, StageToInit}
+use Rattle.slave_lives.specs.of_life_model.Own.{own}
 use Rattle.slave_lives.specs.Lived.{Behind, RingFrame, IsForOpen, is_reached, fate_of, octets_back, returned}
 use Rattle.slave_lives.specs.Rings.{registers_of, come_back, is_met_at}
 use Rattle.slave_lives.proofs.Owned.{own_is}

@@ -1,15 +1,15 @@
 -- THE PROMISES of an open slave's epoch, and the epochs before it as the model has them.
 use Rattle.std.proofs.Common.{◌≡◌, false, List, length, subst}
-use Rattle.link_mails.specs.Body.{Body}
-use Rattle.segment_model.specs.Laws.{HandedBy, KnowsCounters}
-use Rattle.segment_model.specs.Record.{Frame}
-use Rattle.slave_steps.specs.Node.{Node}
-use Rattle.task_model.specs.Promise.{TasksPromised, TasksAnswered, TasksRestIf}
-use Rattle.task_model.specs.Books.{TasksPast, TasksEndedIf}
-use Rattle.task_model.proofs.Sessions.{tasks_promised, tasks_rest, tasks_answered, tasks_handed, tasks_counted, tasks_past, tasks_ended}
-use Rattle.life_model.specs.Eras.{Clearing, OpenEra, era_frames}
-use Rattle.life_model.specs.Lives.{Spot, Life, Stand}
-use Rattle.life_model.proofs.Eras.{session_of, of_one}
+use Rattle.slave_lives.specs.of_link_mails.Body.{Body}
+use Rattle.slave_lives.specs.of_segment_model.Laws.{HandedBy, KnowsCounters}
+use Rattle.slave_lives.specs.of_segment_model.Record.{Frame}
+use Rattle.slave_lives.specs.of_slave_steps.Node.{Node}
+use Rattle.slave_lives.specs.of_task_model.Promise.{TasksPromised, TasksAnswered, TasksRestIf}
+use Rattle.slave_lives.specs.of_task_model.Books.{TasksPast, TasksEndedIf}
+use Rattle.slave_lives.proofs.of_task_model.Sessions.{tasks_promised, tasks_rest, tasks_answered, tasks_handed, tasks_counted, tasks_past, tasks_ended}
+use Rattle.slave_lives.specs.of_life_model.Eras.{Clearing, OpenEra, era_frames}
+use Rattle.slave_lives.specs.of_life_model.Lives.{Spot, Life, Stand}
+use Rattle.slave_lives.proofs.of_life_model.Eras.{session_of, of_one}
 use Rattle.slave_lives.specs.Lived.{Behind, table_of, node_seen}
 use Rattle.slave_lives.specs.Opening.{Plan}
 use Rattle.whole_lives.specs.Promises.{IsPromised}

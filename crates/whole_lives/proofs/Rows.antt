@@ -1,16 +1,16 @@
 -- THE ROW IN HAND has the answer of what was heard for it: so it stays by a master's choices and frames.
 use Rattle.std.proofs.Common.{◌≡◌, ℕ, Bool, true, false, List, [], ◌∷◌, ◌++◌, refl, ap}
 use Rattle.std.specs.Prelude.{Option, Some, None, if◌then◌else◌, option_map, ◌&&◌}
-use Rattle.exchange_model.specs.Exchange.{Speech, plain}
-use Rattle.exchange_model.specs.Rows.{Row, begun, answer_after, row_heard, row_told}
-use Rattle.link_model.specs.Frames.{all_accepted}
-use Rattle.link_model.specs.Segment.{RingFate}
-use Rattle.segment_model.specs.Record.{News}
-use Rattle.segment_model.specs.Slaves.{Datagram, grams}
-use Rattle.segment_model.specs.Seats.{Side, side_begins, side_holds, is_over, next_mail}
-use Rattle.task_model.specs.Accounts.{Pick, mails_choice}
-use Rattle.life_model.specs.Lives.{Era, era_next, era_after, granted}
-use Rattle.life_model.specs.Own.{own}
+use Rattle.slave_lives.specs.of_exchange_model.Exchange.{Speech, plain}
+use Rattle.slave_lives.specs.of_exchange_model.Rows.{Row, begun, answer_after, row_heard, row_told}
+use Rattle.slave_lives.specs.of_link_model.Frames.{all_accepted}
+use Rattle.slave_lives.specs.of_link_model.Segment.{RingFate}
+use Rattle.slave_lives.specs.of_segment_model.Record.{News}
+use Rattle.slave_lives.specs.of_segment_model.Slaves.{Datagram, grams}
+use Rattle.slave_lives.specs.of_segment_model.Seats.{Side, side_begins, side_holds, is_over, next_mail}
+use Rattle.slave_lives.specs.of_task_model.Accounts.{Pick, mails_choice}
+use Rattle.slave_lives.specs.of_life_model.Lives.{Era, era_next, era_after, granted}
+use Rattle.slave_lives.specs.of_life_model.Own.{own}
 use Rattle.slave_lives.specs.Ends.{IsAnswered}
 
 module _ {M Q R : Type 0} (x : Speech M Q R) (none : (q : Q) → x.ends q [] ≡ None) where

@@ -1,18 +1,18 @@
 -- A LIFE THAT IS LIVED among the slaves of a ring: what is known of its node, and how the master's frame comes to it.
 use Rattle.std.proofs.Common.{◌≡◌, inl, inr, ℕ, ◌==◌, true, false, List, ◌∷◌, ◌++◌, length, refl, ap, sym, ◌∙◌, subst}
 use Rattle.std.proofs.lemmas.Bool.{ne_eqb}
-use Rattle.al_state.specs.Request.{is_state}
-use Rattle.ec_fields.specs.Fields.{bits_of}
-use Rattle.frame_pass.specs.Passing.{datagrams_after}
-use Rattle.frames_seen.specs.Ring.{AllApart}
-use Rattle.frames_seen.specs.Slaves.{registers_seen}
-use Rattle.link_mails.specs.Body.{Body}
-use Rattle.mailbox_slave.specs.Registers.{in_len}
-use Rattle.segment_model.specs.Record.{Frame}
-use Rattle.segment_ring.specs.Ring.{is_in_pace}
-use Rattle.slave_steps.specs.Node.{Node}
-use Rattle.life_model.specs.Eras.{Clearing}
-use Rattle.life_model.specs.Lives.{Spot, Era, Stand}
+use Rattle.slave_lives.specs.of_al_state.Request.{is_state}
+use Rattle.slave_lives.specs.of_ec_fields.Fields.{bits_of}
+use Rattle.slave_lives.specs.of_frame_pass.Passing.{datagrams_after}
+use Rattle.slave_lives.specs.of_frames_seen.Ring.{AllApart}
+use Rattle.slave_lives.specs.of_frames_seen.Slaves.{registers_seen}
+use Rattle.slave_lives.specs.of_link_mails.Body.{Body}
+use Rattle.slave_lives.specs.of_mailbox_slave.Registers.{in_len}
+use Rattle.slave_lives.specs.of_segment_model.Record.{Frame}
+use Rattle.slave_lives.specs.of_segment_ring.Ring.{is_in_pace}
+use Rattle.slave_lives.specs.of_slave_steps.Node.{Node}
+use Rattle.slave_lives.specs.of_life_model.Eras.{Clearing}
+use Rattle.slave_lives.specs.of_life_model.Lives.{Spot, Era, Stand}
 use Rattle.slave_lives.specs.Lived.{Behind, RingFrame, node_met}
 use Rattle.slave_lives.specs.Nodes.{IsRoomy}
 use Rattle.slave_lives.specs.Opening.{Plan}

@@ -2,18 +2,18 @@
 use Rattle.std.proofs.Common.{◌≡◌, ◌⊎◌, inl, inr, ℕ, suc, ◌+◌, ◌==◌, Bool, true, false, List, [], ◌∷◌, ◌++◌, length, refl, ap, ap₂, sym, ◌∙◌, subst, arith, length-append}
 use Rattle.std.specs.Prelude.{Option, Some, None, if◌then◌else◌, ◌&&◌}
 use Rattle.std.proofs.lemmas.Bool.{eqb-true, ne_eqb, and_parts}
-use Rattle.al_state.specs.Request.{is_state}
-use Rattle.ec_fields.specs.Fields.{bits_of}
-use Rattle.frames_seen.specs.Own.{NoneMeant}
-use Rattle.frames_seen.specs.Slaves.{registers_seen}
-use Rattle.link_mails.specs.Body.{Body}
-use Rattle.segment_model.specs.Record.{Frame}
-use Rattle.segment_model.specs.Slaves.{Found}
-use Rattle.segment_ring.specs.declared.wire.Fate.{Fate}
-use Rattle.mailbox_slave.specs.Registers.{in_len}
-use Rattle.segment_ring.specs.Ring.{is_in_pace}
-use Rattle.life_model.specs.Lives.{Spot, Era, Life, Opening, Stand, new_era, last_step, shows_clear, is_shown, steps_on, clears, opens, opening_back}
-use Rattle.life_model.specs.Eras.{Clearing}
+use Rattle.slave_lives.specs.of_al_state.Request.{is_state}
+use Rattle.slave_lives.specs.of_ec_fields.Fields.{bits_of}
+use Rattle.slave_lives.specs.of_frames_seen.Own.{NoneMeant}
+use Rattle.slave_lives.specs.of_frames_seen.Slaves.{registers_seen}
+use Rattle.slave_lives.specs.of_link_mails.Body.{Body}
+use Rattle.slave_lives.specs.of_segment_model.Record.{Frame}
+use Rattle.slave_lives.specs.of_segment_model.Slaves.{Found}
+use Rattle.slave_lives.specs.of_segment_ring.declared.wire.Fate.{Fate}
+use Rattle.slave_lives.specs.of_mailbox_slave.Registers.{in_len}
+use Rattle.slave_lives.specs.of_segment_ring.Ring.{is_in_pace}
+use Rattle.slave_lives.specs.of_life_model.Lives.{Spot, Era, Life, Opening, Stand, new_era, last_step, shows_clear, is_shown, steps_on, clears, opens, opening_back}
+use Rattle.slave_lives.specs.of_life_model.Eras.{Clearing}
 use Rattle.slave_lives.specs.Ends.{LeftEras}
 use Rattle.slave_lives.specs.Lived.{Behind, RingFrame, LivesEra, ClosedFrame, OpensEra, is_reached, node_met, node_behind, frame_of}
 use Rattle.slave_lives.specs.Nodes.{IsRunning, IsRoomy, stepped}

@@ -2,12 +2,12 @@
 use Rattle.std.proofs.Common.{◌≡◌, ◌≢◌, ℕ, Bool, true, false, refl, sym, ◌∙◌}
 use Rattle.std.specs.Prelude.{Option, Some, None, if◌then◌else◌}
 use Rattle.std.proofs.lemmas.Bool.{ne_eqb}
-use Rattle.esc_registers.specs.declared.registers.Registers as Esc
-use Rattle.esc_registers.specs.Registers.{are_areas_right}
-use Rattle.frames_seen.specs.Slaves.{registers_seen}
-use Rattle.segment_model.specs.Slaves.{Registers}
-use Rattle.state_model.specs.States as States
-use Rattle.state_law.specs.Shows.{slave_table}
+use Rattle.slave_lives.specs.of_esc_registers.declared.registers.Registers as Esc
+use Rattle.slave_lives.specs.of_esc_registers.Registers.{are_areas_right}
+use Rattle.slave_lives.specs.of_frames_seen.Slaves.{registers_seen}
+use Rattle.slave_lives.specs.of_segment_model.Slaves.{Registers}
+use Rattle.slave_lives.specs.of_state_model.States as States
+use Rattle.slave_lives.specs.of_state_law.Shows.{slave_table}
 use Rattle.slave_lives.specs.Steps.{StaysUp, word_carried}
 
 -- the state isn't Init, and no word that waits leads there

@@ -1,24 +1,24 @@
 -- A SLAVE WHOSE REOPENING HASN'T REACHED IT lives its epoch on and stays up, by each frame without datagrams of its own.
 use Rattle.std.proofs.Common.{◌≡◌, inl, inr, ℕ, Bool, true, false, List, [], ◌∷◌, ◌++◌, length, refl, ap, sym, ◌∙◌, subst}
 use Rattle.std.specs.Prelude.{if◌then◌else◌}
-use Rattle.datagrams.specs.Datagram as Raw
-use Rattle.esc_registers.specs.declared.registers.Registers as Esc
-use Rattle.frame_pass.specs.Passing.{datagrams_after}
-use Rattle.frame_view.specs.Seen.{seen, datagrams_seen}
-use Rattle.frames_seen.specs.Own.{own_of, is_to, NoneMeant}
-use Rattle.frames_seen.specs.Ring.{all_after, AllApart}
-use Rattle.frames_seen.specs.Slaves.{registers_seen}
-use Rattle.frames_seen.specs.Spoken.{AllSpoken}
-use Rattle.frames_seen.proofs.Aparts.{none_apart}
-use Rattle.frames_seen.proofs.Owns.{other_view}
-use Rattle.link_mails.specs.Body.{Body}
-use Rattle.mailbox_slave.specs.Registers.{in_len}
-use Rattle.segment_model.specs.Record.{Frame}
-use Rattle.segment_ring.specs.declared.wire.Fate.{Fate}
-use Rattle.segment_ring.specs.declared.wire.Fate.TheVariants.{Pass, Lost}
-use Rattle.segment_ring.specs.Ring.{is_in_pace}
-use Rattle.life_model.specs.Lives.{Spot, Era}
-use Rattle.life_model.specs.Own.{own}
+use Rattle.slave_lives.specs.of_datagrams.Datagram as Raw
+use Rattle.slave_lives.specs.of_esc_registers.declared.registers.Registers as Esc
+use Rattle.slave_lives.specs.of_frame_pass.Passing.{datagrams_after}
+use Rattle.slave_lives.specs.of_frame_view.Seen.{seen, datagrams_seen}
+use Rattle.slave_lives.specs.of_frames_seen.Own.{own_of, is_to, NoneMeant}
+use Rattle.slave_lives.specs.of_frames_seen.Ring.{all_after, AllApart}
+use Rattle.slave_lives.specs.of_frames_seen.Slaves.{registers_seen}
+use Rattle.slave_lives.specs.of_frames_seen.Spoken.{AllSpoken}
+use Rattle.slave_lives.proofs.of_frames_seen.Aparts.{none_apart}
+use Rattle.slave_lives.proofs.of_frames_seen.Owns.{other_view}
+use Rattle.slave_lives.specs.of_link_mails.Body.{Body}
+use Rattle.slave_lives.specs.of_mailbox_slave.Registers.{in_len}
+use Rattle.slave_lives.specs.of_segment_model.Record.{Frame}
+use Rattle.slave_lives.specs.of_segment_ring.declared.wire.Fate.{Fate}
+use Rattle.slave_lives.specs.of_segment_ring.declared.wire.Fate.TheVariants.{Pass, Lost}
+use Rattle.slave_lives.specs.of_segment_ring.Ring.{is_in_pace}
+use Rattle.slave_lives.specs.of_life_model.Lives.{Spot, Era}
+use Rattle.slave_lives.specs.of_life_model.Own.{own}
 use Rattle.slave_lives.specs.Ends.{YetFrame}
 use Rattle.slave_lives.specs.Lived.{Behind, IsBehind, RingFrame, IsForOpen, fate_of, is_reached, node_met, node_behind, frame_of, octets_back, returned}
 use Rattle.slave_lives.specs.Nodes.{IsRoomy}

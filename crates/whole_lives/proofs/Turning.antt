@@ -1,17 +1,17 @@
 -- A LIFE TURNS, by how the master stands to the slave; it begins with the slave as it is switched on; and it goes on where the slave is given up.
 use Rattle.std.proofs.Common.{◌≡◌, inl, ℕ, Bool, true, false, List, [], ◌∷◌, ◌++◌, length, refl, ap, sym, ◌∙◌, subst}
 use Rattle.std.specs.Prelude.{Option, Some, None, if◌then◌else◌, nat_lt}
-use Rattle.frame_pass.specs.Passing.{datagrams_after}
-use Rattle.frames_seen.specs.Own.{own_of, NoneMeant}
-use Rattle.frames_seen.specs.Ring.{AllApart}
-use Rattle.link_mails.specs.Body.{Body}
-use Rattle.link_model.specs.Segment.{RingFate}
-use Rattle.segment_model.specs.Record.{Frame, News}
-use Rattle.segment_model.specs.Slaves.{Found}
-use Rattle.slave_steps.specs.Node.{Node, new_node}
-use Rattle.task_model.specs.Accounts.{Pick}
-use Rattle.life_model.specs.Eras.{Clearing}
-use Rattle.life_model.specs.Lives.{Spot, Era, Opening, Life, Stand, new_life, gives_up, reopening}
+use Rattle.slave_lives.specs.of_frame_pass.Passing.{datagrams_after}
+use Rattle.slave_lives.specs.of_frames_seen.Own.{own_of, NoneMeant}
+use Rattle.slave_lives.specs.of_frames_seen.Ring.{AllApart}
+use Rattle.slave_lives.specs.of_link_mails.Body.{Body}
+use Rattle.slave_lives.specs.of_link_model.Segment.{RingFate}
+use Rattle.slave_lives.specs.of_segment_model.Record.{Frame, News}
+use Rattle.slave_lives.specs.of_segment_model.Slaves.{Found}
+use Rattle.slave_lives.specs.of_slave_steps.Node.{Node, new_node}
+use Rattle.slave_lives.specs.of_task_model.Accounts.{Pick}
+use Rattle.slave_lives.specs.of_life_model.Eras.{Clearing}
+use Rattle.slave_lives.specs.of_life_model.Lives.{Spot, Era, Opening, Life, Stand, new_life, gives_up, reopening}
 use Rattle.slave_lives.specs.Ends.{LeftEras}
 use Rattle.slave_lives.specs.Lived.{Behind, RingFrame, is_reached, node_behind, frame_of}
 use Rattle.slave_lives.specs.Opening.{Plan, IsPlan}

@@ -1,14 +1,14 @@
 -- WHAT THE EPOCH OF AN OPEN SLAVE PROMISES OF ITS NODE, over the slave's own part of the frames.
 use Rattle.std.specs.Prelude.{Bool, List, length}
-use Rattle.link_mails.specs.Body.{Body}
-use Rattle.segment_model.specs.Laws.{HandedBy, KnowsCounters}
-use Rattle.segment_model.specs.Record.{Frame}
-use Rattle.slave_steps.specs.Node.{Node}
-use Rattle.task_model.specs.Books.{TasksPast, TasksEndedIf}
-use Rattle.task_model.specs.Promise.{TasksPromised, TasksAnswered, TasksRestIf}
-use Rattle.task_model.specs.Steady.{IsSteady}
-use Rattle.life_model.specs.Eras.{era_frames}
-use Rattle.life_model.specs.Lives.{Spot, Era}
+use Rattle.slave_lives.specs.of_link_mails.Body.{Body}
+use Rattle.slave_lives.specs.of_segment_model.Laws.{HandedBy, KnowsCounters}
+use Rattle.slave_lives.specs.of_segment_model.Record.{Frame}
+use Rattle.slave_lives.specs.of_slave_steps.Node.{Node}
+use Rattle.slave_lives.specs.of_task_model.Books.{TasksPast, TasksEndedIf}
+use Rattle.slave_lives.specs.of_task_model.Promise.{TasksPromised, TasksAnswered, TasksRestIf}
+use Rattle.slave_lives.specs.of_task_model.Steady.{IsSteady}
+use Rattle.slave_lives.specs.of_life_model.Eras.{era_frames}
+use Rattle.slave_lives.specs.of_life_model.Lives.{Spot, Era}
 use Rattle.slave_lives.specs.Lived.{Behind, table_of, node_seen, LivesEra}
 
 -- all that the model's law of an open epoch promises, of the node as it is seen, with the side and the account of the life

@@ -1,13 +1,13 @@
 -- THE WHOLE LIFE OF A SLAVE AS ITS NODE LIVES IT: what holds between all epochs of its life, its node and the frames so far.
 use Rattle.std.specs.Prelude.{◌≡◌, ◌⊎◌, ℕ, true, false, List, Option, None}
-use Rattle.exchange_model.specs.Exchange.{IsLawful}
-use Rattle.link_mails.specs.Body.{Body}
-use Rattle.segment_model.specs.Record.{Frame}
-use Rattle.slave_steps.specs.Node.{Node}
-use Rattle.state_exchange.specs.Stated.{IsStated}
-use Rattle.task_model.specs.Steady.{IsSteady, NoneToInit, HandToInit}
-use Rattle.life_model.specs.Lives.{Spot, Era, Opening, Stand, Life, new_era}
-use Rattle.life_model.specs.Eras.{Clearing}
+use Rattle.slave_lives.specs.of_exchange_model.Exchange.{IsLawful}
+use Rattle.slave_lives.specs.of_link_mails.Body.{Body}
+use Rattle.slave_lives.specs.of_segment_model.Record.{Frame}
+use Rattle.slave_lives.specs.of_slave_steps.Node.{Node}
+use Rattle.slave_lives.specs.of_state_exchange.Stated.{IsStated}
+use Rattle.slave_lives.specs.of_task_model.Steady.{IsSteady, NoneToInit, HandToInit}
+use Rattle.slave_lives.specs.of_life_model.Lives.{Spot, Era, Opening, Stand, Life, new_era}
+use Rattle.slave_lives.specs.of_life_model.Eras.{Clearing}
 use Rattle.slave_lives.specs.Ends.{LeftEra, LeftEras, ClearsAs, IsAnswered}
 use Rattle.slave_lives.specs.Lived.{Behind, IsBehind, node_seen, LivesEra}
 use Rattle.slave_lives.specs.Nodes.{IsRunning}

@@ -2,15 +2,15 @@
 #![tactic(auto)]
 
 ghost use Rattle.std.specs.Prelude.{◌≡◌, ◌==◌, ◌∷◌, ◌++◌, ℕ, Bool, true, false, Option, None, List, [], length};
-ghost use Rattle.link_mails.specs.Body.{Body};
-ghost use Rattle.segment_model.specs.Record.{Frame, News};
-ghost use Rattle.segment_model.specs.Slaves.{Found};
-ghost use Rattle.slave_steps.specs.Node.{Node, new_node};
-ghost use Rattle.task_model.specs.Accounts.{Pick};
-ghost use Rattle.life_model.specs.Eras.{Clearing, Eras};
-ghost use Rattle.life_model.specs.Lives.{Spot, Life, Stand, new_life, gives_up};
-ghost use Rattle.mailbox_slave.specs.Registers.{in_len};
-ghost use Rattle.segment_ring.specs.Ring.{is_in_pace};
+ghost use Rattle.slave_lives.specs.of_link_mails.Body.{Body};
+ghost use Rattle.slave_lives.specs.of_segment_model.Record.{Frame, News};
+ghost use Rattle.slave_lives.specs.of_segment_model.Slaves.{Found};
+ghost use Rattle.slave_lives.specs.of_slave_steps.Node.{Node, new_node};
+ghost use Rattle.slave_lives.specs.of_task_model.Accounts.{Pick};
+ghost use Rattle.slave_lives.specs.of_life_model.Eras.{Clearing, Eras};
+ghost use Rattle.slave_lives.specs.of_life_model.Lives.{Spot, Life, Stand, new_life, gives_up};
+ghost use Rattle.slave_lives.specs.of_mailbox_slave.Registers.{in_len};
+ghost use Rattle.slave_lives.specs.of_segment_ring.Ring.{is_in_pace};
 ghost use Rattle.slave_lives.specs.Lived.{Behind, RingFrame, node_met, node_behind, frame_of, table_of};
 ghost use Rattle.slave_lives.specs.Nodes.{IsRoomy};
 ghost use Rattle.slave_lives.specs.Seats.{Seat, KnownAs, ComesAs, AreDistinct, AllMeet, nodes_of};

@@ -2,13 +2,13 @@
 use Rattle.std.proofs.Common.{◌≡◌, ℕ, suc, ◌<◌, Bool, true, false, List, [], ◌∷◌, ◌++◌, map, length, refl, ap, sym, ◌∙◌, subst}
 use Rattle.std.specs.Prelude.{if◌then◌else◌}
 use Rattle.std.proofs.lemmas.List.{length-replicate}
-use Rattle.frame_view.specs.View.{Lens}
-use Rattle.link_mails.specs.Body.{Body}
-use Rattle.mailbox_slave.specs.Registers.{in_len}
-use Rattle.segment_model.specs.Record.{Frame}
-use Rattle.segment_ring.specs.Ring.{RingState}
-use Rattle.slave_steps.specs.Node.{Node}
-use Rattle.life_model.specs.Lives.{Spot, Life, new_life, gives_up}
+use Rattle.life_frames.specs.of_frame_view.View.{Lens}
+use Rattle.life_frames.specs.of_link_mails.Body.{Body}
+use Rattle.whole_lives.specs.of_mailbox_slave.Registers.{in_len}
+use Rattle.life_frames.specs.of_segment_model.Record.{Frame}
+use Rattle.whole_lives.specs.of_segment_ring.Ring.{RingState}
+use Rattle.whole_lives.specs.of_slave_steps.Node.{Node}
+use Rattle.life_frames.specs.of_life_model.Lives.{Spot, Life, new_life, gives_up}
 use Rattle.whole_lives.specs.Whole.{IsLived}
 use Rattle.whole_lives.proofs.Turning.{begins, given_up}
 use Rattle.whole_ring.specs.Members.{Member, IsElsewhere, AreDistinct, MemberIs, AllLived, IsRing, IsNew, AllNew, first_ring, HandBoots}

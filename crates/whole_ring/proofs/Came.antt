@@ -2,26 +2,26 @@
 use Rattle.std.proofs.Common.{◌≡◌, ◌⊎◌, inl, inr, ℕ, suc, ◌+◌, ◌%◌, ◌<◌, ◌≤◌, ◌==◌, Bool, true, false, List, [], ◌∷◌, ◌++◌, length, refl, ap, ap₂, sym, ◌∙◌, subst, arith}
 use Rattle.std.specs.Prelude.{if◌then◌else◌, not, Option, Some, None, is_some}
 use Rattle.std.proofs.lemmas.Bool.{ne_eqb}
-use Rattle.datagrams.specs.declared.command.Command.{Command}
-use Rattle.datagrams.specs.declared.head.Head.{Head}
-use Rattle.datagrams.specs.Datagram as Raw
-use Rattle.esc_registers.specs.declared.registers.Registers as Esc
-use Rattle.esc_registers.specs.declared.row.Row.{Row}
-use Rattle.esc_registers.specs.Access.{reads, writes, accessed, read_row, write_row, moved_on, passed_at, is_meant, row_of}
-use Rattle.frame_pass.specs.Passing.{passed, datagram_after, datagrams_after}
-use Rattle.frame_view.specs.Seen.{datagrams_seen}
-use Rattle.frame_view.specs.View.{Lens, datagram_seen, register_counter, access_of, station_of}
-use Rattle.frames_seen.specs.Ring.{all_after, AllApart}
-use Rattle.frames_seen.specs.Spoken.{means}
-use Rattle.frames_seen.proofs.Owns.{unmoved}
-use Rattle.segment_model.specs.Slaves.{Access, Found}
-use Rattle.life_model.specs.Tours.{item_at}
+use Rattle.life_frames.specs.of_datagrams.declared.command.Command.{Command}
+use Rattle.life_frames.specs.of_datagrams.declared.head.Head.{Head}
+use Rattle.life_frames.specs.of_datagrams.Datagram as Raw
+use Rattle.whole_lives.specs.of_esc_registers.declared.registers.Registers as Esc
+use Rattle.whole_lives.specs.of_esc_registers.declared.row.Row.{Row}
+use Rattle.whole_lives.specs.of_esc_registers.Access.{reads, writes, accessed, read_row, write_row, moved_on, passed_at, is_meant, row_of}
+use Rattle.whole_lives.specs.of_frame_pass.Passing.{passed, datagram_after, datagrams_after}
+use Rattle.life_frames.specs.of_frame_view.Seen.{datagrams_seen}
+use Rattle.life_frames.specs.of_frame_view.View.{Lens, datagram_seen, register_counter, access_of, station_of}
+use Rattle.whole_lives.specs.of_frames_seen.Ring.{all_after, AllApart}
+use Rattle.whole_lives.specs.of_frames_seen.Spoken.{means}
+use Rattle.whole_lives.proofs.of_frames_seen.Owns.{unmoved}
+use Rattle.life_frames.specs.of_segment_model.Slaves.{Access, Found}
+use Rattle.life_frames.specs.of_life_model.Tours.{item_at}
 use Rattle.life_frames.specs.Shares.{came_of}
-use Rattle.slave_lives.specs.Opening.{Plan, aim, IsAccess, JustOne}
-use Rattle.slave_lives.specs.Returning.{IsTurn}
-use Rattle.slave_lives.specs.Ways.{AllNotFor, IsOnWay, JustOnWay, Beside, ComesBack}
-use Rattle.slave_lives.proofs.Backs.{comes_back, moved_counter}
-use Rattle.slave_lives.proofs.Ways as Way
+use Rattle.whole_lives.specs.of_slave_lives.Opening.{Plan, aim, IsAccess, JustOne}
+use Rattle.whole_lives.specs.of_slave_lives.Returning.{IsTurn}
+use Rattle.whole_lives.specs.of_slave_lives.Ways.{AllNotFor, IsOnWay, JustOnWay, Beside, ComesBack}
+use Rattle.whole_lives.proofs.of_slave_lives.Backs.{comes_back, moved_counter}
+use Rattle.whole_lives.proofs.of_slave_lives.Ways as Way
 use Rattle.whole_ring.proofs.Frames.{IsSent}
 
 -- slaves behind a datagram, and it behind them

@@ -2,27 +2,27 @@
 use Rattle.std.proofs.Common.{◌≡◌, ◌⊎◌, inl, inr, ℕ, suc, ◌+◌, ◌-◌, ◌%◌, ◌<◌, ◌==◌, ◌&&◌, Bool, true, false, List, [], ◌∷◌, ◌++◌, length, refl, ap, sym, ◌∙◌, subst, arith}
 use Rattle.std.specs.Prelude.{if◌then◌else◌, ◌||◌, not, slice_index}
 use Rattle.std.proofs.lemmas.Bool.{ne_eqb, eqb-false, eq-eqb}
-use Rattle.al_state.specs.declared.bringing.BringStep.{BringStep}
-use Rattle.al_state.specs.declared.bringing.BringUp.{BringUp}
-use Rattle.al_state.specs.BringUp.{head_of, octets_of}
-use Rattle.datagrams.specs.declared.command.Command.{Command}
-use Rattle.datagrams.specs.declared.command.Command.TheVariants.{Aprd, Apwr, Fprd, Fpwr}
-use Rattle.datagrams.specs.Datagram as Raw
-use Rattle.datagrams.specs.Frame.{chained, saying, datagram_of}
-use Rattle.esc_registers.specs.Access.{is_by_place, is_by_station}
-use Rattle.frame_view.specs.View.{Lens}
-use Rattle.frames_seen.specs.Own.{own_of}
-use Rattle.frames_seen.specs.Places.{AllElse}
-use Rattle.esc_registers.specs.Manager.{is_enabled}
-use Rattle.frames_seen.specs.Spoken.{is_spoken, IsSpoken, AllSpoken}
-use Rattle.life_model.specs.Lives.{Spot, Opening, Stand}
+use Rattle.life_frames.specs.of_al_state.declared.bringing.BringStep.{BringStep}
+use Rattle.life_frames.specs.of_al_state.declared.bringing.BringUp.{BringUp}
+use Rattle.life_frames.specs.of_al_state.BringUp.{head_of, octets_of}
+use Rattle.life_frames.specs.of_datagrams.declared.command.Command.{Command}
+use Rattle.life_frames.specs.of_datagrams.declared.command.Command.TheVariants.{Aprd, Apwr, Fprd, Fpwr}
+use Rattle.life_frames.specs.of_datagrams.Datagram as Raw
+use Rattle.life_frames.specs.of_datagrams.Frame.{chained, saying, datagram_of}
+use Rattle.whole_lives.specs.of_esc_registers.Access.{is_by_place, is_by_station}
+use Rattle.life_frames.specs.of_frame_view.View.{Lens}
+use Rattle.whole_lives.specs.of_frames_seen.Own.{own_of}
+use Rattle.whole_lives.specs.of_frames_seen.Places.{AllElse}
+use Rattle.whole_lives.specs.of_esc_registers.Manager.{is_enabled}
+use Rattle.whole_lives.specs.of_frames_seen.Spoken.{is_spoken, IsSpoken, AllSpoken}
+use Rattle.life_frames.specs.of_life_model.Lives.{Spot, Opening, Stand}
 use Rattle.life_frames.specs.Frames as Frames
 use Rattle.life_frames.specs.Frames.{Share, FrameFor, HasOne, IsOpenGram, IsByStation, IsByPlace, GramFor, IsRequest}
 use Rattle.life_frames.specs.Openings.{step_number, opening_of, IsOpeningGram}
-use Rattle.slave_lives.specs.Opening.{Plan}
-use Rattle.slave_lives.specs.Stands.{turn_of}
-use Rattle.slave_lives.specs.Seats.{ComesAs}
-use Rattle.slave_lives.specs.Ways.{IsNotFor, AllNotFor, IsOnWay, OneOnWay}
+use Rattle.whole_lives.specs.of_slave_lives.Opening.{Plan}
+use Rattle.whole_lives.specs.of_slave_lives.Stands.{turn_of}
+use Rattle.whole_lives.specs.of_slave_lives.Seats.{ComesAs}
+use Rattle.whole_lives.specs.of_slave_lives.Ways.{IsNotFor, AllNotFor, IsOnWay, OneOnWay}
 use Rattle.whole_lives.specs.Whole.{plan_to}
 use Rattle.whole_lives.proofs.Still.{own_not}
 use Rattle.whole_lives.specs.Turns.{plan_at}

@@ -1,27 +1,27 @@
 -- ALL SLAVES OF THE RING by a frame: all lives are lived on.
 use Rattle.std.proofs.Common.{◌≡◌, ℕ, suc, ◌+◌, ◌<◌, ◌==◌, Bool, List, [], ◌∷◌, ◌++◌, map, length, refl, ap, ap₂, sym, ◌∙◌, subst, arith, length-append}
 use Rattle.std.specs.Prelude.{if◌then◌else◌}
-use Rattle.datagrams.specs.Datagram as Raw
-use Rattle.datagrams.specs.Frame.{IsFrame, chained}
-use Rattle.frame_pass.specs.Passing.{datagrams_after}
-use Rattle.frame_view.specs.View.{Lens}
-use Rattle.link_mails.specs.Body.{Body}
-use Rattle.segment_model.specs.Record.{Frame}
-use Rattle.segment_ring.specs.declared.wire.Fate.{Fate}
-use Rattle.segment_ring.specs.Ring.{RingState, is_in_pace, nodes_stepped, frame_met, ring_behind}
-use Rattle.segment_ring.specs.Schedule.{fate_at}
-use Rattle.slave_steps.specs.Node.{Node, node_passed}
-use Rattle.life_model.specs.Lives.{Spot, Stand}
+use Rattle.life_frames.specs.of_datagrams.Datagram as Raw
+use Rattle.life_frames.specs.of_datagrams.Frame.{IsFrame, chained}
+use Rattle.whole_lives.specs.of_frame_pass.Passing.{datagrams_after}
+use Rattle.life_frames.specs.of_frame_view.View.{Lens}
+use Rattle.life_frames.specs.of_link_mails.Body.{Body}
+use Rattle.life_frames.specs.of_segment_model.Record.{Frame}
+use Rattle.whole_lives.specs.of_segment_ring.declared.wire.Fate.{Fate}
+use Rattle.whole_lives.specs.of_segment_ring.Ring.{RingState, is_in_pace, nodes_stepped, frame_met, ring_behind}
+use Rattle.whole_lives.specs.of_segment_ring.Schedule.{fate_at}
+use Rattle.whole_lives.specs.of_slave_steps.Node.{Node, node_passed}
+use Rattle.life_frames.specs.of_life_model.Lives.{Spot, Stand}
 use Rattle.life_frames.specs.Frames.{FrameFor}
 use Rattle.life_frames.specs.Shares.{Asked}
-use Rattle.mailbox_slave.specs.Registers.{in_len}
-use Rattle.slave_lives.specs.Lived.{Behind, RingFrame, node_behind}
-use Rattle.slave_lives.specs.Nodes.{stepped}
-use Rattle.slave_lives.specs.Opening.{Plan, IsPlan}
-use Rattle.slave_lives.specs.Rings.{come_to, fate_seen, is_met_at, met, turned}
-use Rattle.slave_lives.specs.Seats as Seats
-use Rattle.slave_lives.specs.Seats.{Seat, KnownAs, AllSeats, AllCome, AllMeet, ComesAs, nodes_of}
-use Rattle.slave_lives.proofs.AllSeats.{all_meet_first}
+use Rattle.whole_lives.specs.of_mailbox_slave.Registers.{in_len}
+use Rattle.whole_lives.specs.of_slave_lives.Lived.{Behind, RingFrame, node_behind}
+use Rattle.whole_lives.specs.of_slave_lives.Nodes.{stepped}
+use Rattle.whole_lives.specs.of_slave_lives.Opening.{Plan, IsPlan}
+use Rattle.whole_lives.specs.of_slave_lives.Rings.{come_to, fate_seen, is_met_at, met, turned}
+use Rattle.whole_lives.specs.of_slave_lives.Seats as Seats
+use Rattle.whole_lives.specs.of_slave_lives.Seats.{Seat, KnownAs, AllSeats, AllCome, AllMeet, ComesAs, nodes_of}
+use Rattle.whole_lives.proofs.of_slave_lives.AllSeats.{all_meet_first}
 use Rattle.whole_lives.specs.Turns.{FrameComes, plan_at, seat_at}
 use Rattle.whole_lives.specs.Whole.{IsLived}
 use Rattle.whole_lives.proofs.Kept.{met_server}

@@ -1,37 +1,37 @@
 -- ONE SLAVE OF THE RING by a frame: its life is lived on.
 use Rattle.std.proofs.Common.{◌≡◌, ◌⊎◌, inl, inr, ℕ, suc, ◌+◌, ◌<◌, ◌==◌, Bool, true, false, List, [], ◌∷◌, ◌++◌, length, refl, ap, ap₂, sym, ◌∙◌, subst, arith}
 use Rattle.std.specs.Prelude.{Option, Some, None, not}
-use Rattle.datagrams.specs.Datagram as Raw
-use Rattle.datagrams.specs.Frame.{chained}
-use Rattle.frame_pass.specs.Passing.{datagram_after, datagrams_after}
-use Rattle.frame_view.specs.View.{datagram_seen}
-use Rattle.frame_view.specs.Seen.{seen, datagrams_seen}
-use Rattle.frame_view.proofs.Octets as Octets
-use Rattle.frames_seen.specs.Ring.{all_after, AllApart}
-use Rattle.link_mails.specs.Body.{Body}
-use Rattle.link_model.specs.Segment.{RingFate}
-use Rattle.mailbox_slave.specs.Registers.{in_len}
-use Rattle.segment_model.specs.Record.{Frame}
-use Rattle.segment_model.specs.Slaves.{Datagram, Found}
-use Rattle.segment_ring.specs.declared.wire.Fate.{Fate}
-use Rattle.segment_ring.specs.declared.wire.Fate.TheVariants.{Pass, Lost}
-use Rattle.slave_steps.specs.Node.{Node}
-use Rattle.life_model.specs.Eras.{Clearing}
-use Rattle.life_model.specs.Lives.{Spot, Life, Era, Opening, Stand, AsksOpen, life_next}
-use Rattle.life_model.specs.Tours.{item_at}
+use Rattle.life_frames.specs.of_datagrams.Datagram as Raw
+use Rattle.life_frames.specs.of_datagrams.Frame.{chained}
+use Rattle.whole_lives.specs.of_frame_pass.Passing.{datagram_after, datagrams_after}
+use Rattle.life_frames.specs.of_frame_view.View.{datagram_seen}
+use Rattle.life_frames.specs.of_frame_view.Seen.{seen, datagrams_seen}
+use Rattle.life_frames.proofs.of_frame_view.Octets as Octets
+use Rattle.whole_lives.specs.of_frames_seen.Ring.{all_after, AllApart}
+use Rattle.life_frames.specs.of_link_mails.Body.{Body}
+use Rattle.life_frames.specs.of_link_model.Segment.{RingFate}
+use Rattle.whole_lives.specs.of_mailbox_slave.Registers.{in_len}
+use Rattle.life_frames.specs.of_segment_model.Record.{Frame}
+use Rattle.life_frames.specs.of_segment_model.Slaves.{Datagram, Found}
+use Rattle.whole_lives.specs.of_segment_ring.declared.wire.Fate.{Fate}
+use Rattle.whole_lives.specs.of_segment_ring.declared.wire.Fate.TheVariants.{Pass, Lost}
+use Rattle.whole_lives.specs.of_slave_steps.Node.{Node}
+use Rattle.life_frames.specs.of_life_model.Eras.{Clearing}
+use Rattle.life_frames.specs.of_life_model.Lives.{Spot, Life, Era, Opening, Stand, AsksOpen, life_next}
+use Rattle.life_frames.specs.of_life_model.Tours.{item_at}
 use Rattle.life_frames.specs.Frames.{FrameFor}
 use Rattle.life_frames.specs.Shares.{Asked, came_at, came_of}
-use Rattle.slave_lives.specs.Lived.{Behind, RingFrame, fate_of, is_reached, node_met, node_behind, frame_of, returned}
-use Rattle.slave_lives.specs.Nodes.{IsRunning, IsRoomy}
-use Rattle.slave_lives.specs.Opening.{Plan, IsPlan, JustOne}
-use Rattle.slave_lives.specs.Rings.{registers_of, come_to, is_met_at, met}
-use Rattle.slave_lives.specs.Stands.{turn_of}
-use Rattle.slave_lives.specs.Ways.{AllNotFor, JustOnWay}
-use Rattle.slave_lives.proofs.AllSeats as Seats
-use Rattle.slave_lives.proofs.RingFrames.{after_keeps, met_runs}
-use Rattle.slave_lives.proofs.RingLives.{sent_is, back_is}
-use Rattle.slave_lives.proofs.Servers.{step_holds}
-use Rattle.slave_lives.proofs.Ways as Way
+use Rattle.whole_lives.specs.of_slave_lives.Lived.{Behind, RingFrame, fate_of, is_reached, node_met, node_behind, frame_of, returned}
+use Rattle.whole_lives.specs.of_slave_lives.Nodes.{IsRunning, IsRoomy}
+use Rattle.whole_lives.specs.of_slave_lives.Opening.{Plan, IsPlan, JustOne}
+use Rattle.whole_lives.specs.of_slave_lives.Rings.{registers_of, come_to, is_met_at, met}
+use Rattle.whole_lives.specs.of_slave_lives.Stands.{turn_of}
+use Rattle.whole_lives.specs.of_slave_lives.Ways.{AllNotFor, JustOnWay}
+use Rattle.whole_lives.proofs.of_slave_lives.AllSeats as Seats
+use Rattle.whole_lives.proofs.of_slave_lives.RingFrames.{after_keeps, met_runs}
+use Rattle.whole_lives.proofs.of_slave_lives.RingLives.{sent_is, back_is}
+use Rattle.whole_lives.proofs.of_slave_lives.Servers.{step_holds}
+use Rattle.whole_lives.proofs.of_slave_lives.Ways as Way
 use Rattle.whole_lives.specs.Turns.{FrameComes, AsksFor, Came, CameAs, TurnsAs, era_before, era_behind, plan_at}
 use Rattle.whole_lives.specs.Turns as Whole
 use Rattle.whole_lives.specs.Whole.{IsWhole, OpensAs, StandsAs, IsLived, plan_to}

@@ -2,17 +2,17 @@
 #![tactic(auto)]
 
 ghost use Rattle.std.specs.Prelude.{◌≡◌, ◌<◌, ◌∷◌, ◌++◌, ℕ, Bool, List, [], length};
-ghost use Rattle.datagrams.specs.Datagram as Raw;
-ghost use Rattle.datagrams.specs.Frame.{IsFrame, chained};
-ghost use Rattle.frame_view.specs.View.{Lens};
-ghost use Rattle.link_mails.specs.Body.{Body};
-ghost use Rattle.segment_model.specs.Record.{Frame};
-ghost use Rattle.segment_ring.specs.Ring.{RingState, ring_behind};
-ghost use Rattle.segment_ring.specs.Schedule.{fate_at};
-ghost use Rattle.slave_steps.specs.Node.{Node, node_passed};
-ghost use Rattle.life_model.specs.Eras.{Eras};
-ghost use Rattle.life_model.specs.Lives.{Spot, Stand};
-ghost use Rattle.slave_lives.specs.Lived.{table_of};
+ghost use Rattle.life_frames.specs.of_datagrams.Datagram as Raw;
+ghost use Rattle.life_frames.specs.of_datagrams.Frame.{IsFrame, chained};
+ghost use Rattle.life_frames.specs.of_frame_view.View.{Lens};
+ghost use Rattle.life_frames.specs.of_link_mails.Body.{Body};
+ghost use Rattle.life_frames.specs.of_segment_model.Record.{Frame};
+ghost use Rattle.whole_lives.specs.of_segment_ring.Ring.{RingState, ring_behind};
+ghost use Rattle.whole_lives.specs.of_segment_ring.Schedule.{fate_at};
+ghost use Rattle.whole_lives.specs.of_slave_steps.Node.{Node, node_passed};
+ghost use Rattle.life_frames.specs.of_life_model.Eras.{Eras};
+ghost use Rattle.life_frames.specs.of_life_model.Lives.{Spot, Stand};
+ghost use Rattle.whole_lives.specs.of_slave_lives.Lived.{table_of};
 ghost use Rattle.whole_lives.specs.Promises.{IsPromised};
 ghost use Rattle.whole_ring.specs.Members.{Member, MemberIs, AreDistinct, IsRing, AllNew, Passes, first_ring};
 ghost use Rattle.whole_ring.specs.Turning.{Turn, AllTurn, frame_at, behind_frame, given_up};

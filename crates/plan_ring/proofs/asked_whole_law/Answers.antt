@@ -1,10 +1,10 @@
 use Rattle.std.proofs.Common.{refl}
-use Rattle.master_hand.specs.Spoken.{hand_speech, acknowledged}
-use Rattle.slave_model.specs.Acknowledged as Slave
-use Rattle.slave_model.specs.Product.{product}
-use Rattle.slave_model.specs.Profile.{areas_of}
+use Rattle.life_runs.specs.of_master_hand.Spoken.{hand_speech, acknowledged}
+use Rattle.slave_parts.specs.of_slave_model.Acknowledged as Slave
+use Rattle.slave_parts.specs.of_slave_model.Product.{product}
+use Rattle.slave_parts.specs.of_slave_model.Profile.{areas_of}
 use Rattle.slave_parts.specs.Parts.{parts}
-use Rattle.state_exchange.specs.Families.{states_of}
+use Rattle.slave_parts.specs.of_state_exchange.Families.{states_of}
 use Rattle.named_lives.proofs.Named.{named_law, named_stated}
 use Rattle.plan_ring.specs.Asked.{as_asked}
 use Rattle.plan_ring.proofs.Asked as Its

@@ -1,6 +1,6 @@
 use Rattle.std.proofs.Common.{[], sym, subst}
 use Rattle.master_node.specs.Toured.{tour_of}
-use Rattle.segment_ring.specs.declared.wire.Fate.{Fate}
+use Rattle.master_node.specs.of_segment_ring.declared.wire.Fate.{Fate}
 use Rattle.visit_orders.specs.Toured.{IsToured}
 use Rattle.visit_orders.proofs.Toured.{toured_on}
 use Rattle.visit_orders.proofs.master_law.Goals as goal

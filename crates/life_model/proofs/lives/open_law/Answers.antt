@@ -1,6 +1,6 @@
 -- The promises of a session of one slave, at the types of the function.
 use Rattle.std.proofs.Common.{false}
-use Rattle.segment_model.specs.Laws.{HandedBy, KnowsCounters}
+use Rattle.task_model.specs.of_segment_model.Laws.{HandedBy, KnowsCounters}
 use Rattle.task_model.specs.Promise.{TasksPromised, TasksAnswered, TasksRestIf}
 use Rattle.task_model.specs.Books.{TasksPast, TasksEndedIf}
 use Rattle.task_model.specs.Steady.{AsksNoInit, IsSteady}

@@ -1,5 +1,5 @@
 use Rattle.std.proofs.Common.{◌≡◌, take, vec_len}
-use Rattle.life_frames.specs.Shares.{AllFrom}
+use Rattle.life_runs.specs.of_life_frames.Shares.{AllFrom}
 use Rattle.master_node.specs.First.{IsFirst}
 use Rattle.master_node.proofs.starting.stops_of.Given as goal
 

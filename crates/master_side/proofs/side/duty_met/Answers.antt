@@ -1,9 +1,9 @@
 use Rattle.std.proofs.Common.{sym, subst, ap, ◌∙◌}
-use Rattle.segment_model.specs.Slaves.{Access}
+use Rattle.frame_view.specs.of_segment_model.Slaves.{Access}
 use Rattle.master_side.specs.declared.carried.Carried.{Carried}
 use Rattle.master_side.specs.Carried.{Asks}
 use Rattle.frame_view.specs.View.{found_of}
-use Rattle.task_model.specs.Accounts.{access_done}
+use Rattle.master_duty.specs.of_task_model.Accounts.{access_done}
 use Rattle.master_duty.specs.Stages.{stage_of}
 use Rattle.master_side.proofs.side.duty_met.Goals as goal
 

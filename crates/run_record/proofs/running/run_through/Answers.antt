@@ -15,7 +15,7 @@ use Rattle.run_record.proofs.Overs.{led_book}
 use Rattle.run_record.proofs.Steps.{any_err}
 use Rattle.run_record.proofs.Switched.{switched_new}
 use Rattle.master_node.proofs.Counts.{counted}
-use Rattle.life_runs.specs.First.{lens_of}
+use Rattle.master_node.specs.of_life_runs.First.{lens_of}
 use Rattle.run_record.proofs.running.run_through.Goals as goal
 
 pub returns-in_err-step-clause-frames : goal.returns-in_err-step-clause-frames

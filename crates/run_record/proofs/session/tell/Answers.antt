@@ -1,5 +1,5 @@
 use Rattle.std.proofs.Common.{◌≡◌, ℕ, map, refl, ap, sym, ◌∙◌, subst}
-use Rattle.life_runs.specs.Led.{led_behind, gives_up_at, missed_behind}
+use Rattle.master_node.specs.of_life_runs.Led.{led_behind, gives_up_at, missed_behind}
 use Rattle.master_node.specs.Shows.{MasterShows}
 use Rattle.master_node.specs.Toured.{tour_of}
 use Rattle.segment_ring.specs.declared.wire.Fate.{Fate}

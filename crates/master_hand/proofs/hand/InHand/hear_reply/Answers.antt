@@ -1,6 +1,6 @@
 use Rattle.std.proofs.Common.{[], ◌∷◌, sym, subst}
 use Rattle.std.specs.Prelude.{option_map}
-use Rattle.exchange_model.specs.Rows.{row_heard}
+use Rattle.foe_client.specs.of_exchange_model.Rows.{row_heard}
 use Rattle.mailbox_mail.specs.declared.mail.Mail.{Mail}
 use Rattle.mailbox_mail.specs.View.{mail_seen}
 use Rattle.master_hand.specs.Passed.{body_of}

@@ -1,5 +1,5 @@
 use Rattle.std.proofs.Common.{◌≡◌, true, refl, subst}
-use Rattle.exchange_model.specs.Areas.{Areas}
+use Rattle.foe_client.specs.of_exchange_model.Areas.{Areas}
 use Rattle.master_hand.specs.Talk.{is_askable}
 use Rattle.master_hand.specs.Laying.{ready_of}
 use Rattle.master_hand.specs.declared.course.Course.{Course}

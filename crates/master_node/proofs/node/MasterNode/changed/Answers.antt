@@ -1,5 +1,5 @@
 use Rattle.std.proofs.Common.{◌≡◌, ◌<◌, length, arith}
-use Rattle.life_model.specs.Lives.{Stand}
+use Rattle.master_tour.specs.of_life_model.Lives.{Stand}
 use Rattle.master_node.specs.Changed.{TellsChange}
 use Rattle.master_node.specs.Shows.{IsLead}
 use Rattle.master_node.proofs.Says.{both_here, lead_open}

@@ -2,8 +2,8 @@ use Rattle.std.proofs.Common.{◌≡◌, ℕ, List, length, vec_len}
 use Rattle.std.specs.Prelude.{map}
 use Rattle.datagrams.specs.Datagram as Raw
 use Rattle.datagrams.specs.Frame.{IsBegun}
-use Rattle.frame_view.specs.View.{Lens}
-use Rattle.life_frames.specs.Shares.{AreDistinct}
+use Rattle.life_runs.specs.of_frame_view.View.{Lens}
+use Rattle.life_runs.specs.of_life_frames.Shares.{AreDistinct}
 use Rattle.life_runs.specs.Led.{Leads}
 use Rattle.master_node.specs.Filling.{IsEmpty}
 use Rattle.master_node.specs.Happened.{Happens}

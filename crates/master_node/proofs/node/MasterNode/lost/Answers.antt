@@ -12,8 +12,8 @@ use Rattle.master_node.proofs.Lists.{both_map}
 use Rattle.master_node.proofs.Behinds.{life_lost_is, lead_behind, all_led, goes_lost, behind_shows, missed_is}
 use Rattle.std.proofs.Common.{subst, None}
 use Rattle.std.specs.Prelude.{◌&&◌}
-use Rattle.frame_view.specs.Seen.{seen}
-use Rattle.life_frames.specs.Shares.{Lived}
+use Rattle.life_runs.specs.of_frame_view.Seen.{seen}
+use Rattle.life_runs.specs.of_life_frames.Shares.{Lived}
 use Rattle.master_duty.specs.Reply.{Reply}
 use Rattle.master_hand.specs.Joins.{unfinished_behind}
 use Rattle.master_tour.specs.Joins.{join_at}

@@ -1,11 +1,11 @@
 use Rattle.std.proofs.Common.{◌≡◌, ◌∙◌, ◌%◌, ℕ, Option, None, true, false, refl, sym, ap, subst, length}
 use Rattle.std.specs.Prelude.{map, is_some}
-use Rattle.frame_view.specs.Seen.{seen}
+use Rattle.life_runs.specs.of_frame_view.Seen.{seen}
 use Rattle.life_runs.specs.Led.{speech_at}
 use Rattle.master_hand.specs.Spoken.{Asked, is_followed, is_passed}
 use Rattle.master_tour.specs.Goes.{is_live, holds_at}
 use Rattle.master_tour.specs.Made.{FrameMade, is_in}
-use Rattle.state_exchange.specs.Stated.{Service}
+use Rattle.master_duty.specs.of_state_exchange.Stated.{Service}
 use Rattle.master_node.specs.Filling.{IsAmong, StopFills}
 use Rattle.master_node.specs.Shows.{IsLead, GoesOn, lived_of, is_live_lead}
 use Rattle.master_node.proofs.Fills.{from_map}

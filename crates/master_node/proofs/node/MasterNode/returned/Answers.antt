@@ -1,6 +1,6 @@
 use Rattle.std.proofs.Common.{[], refl, ap, ◌∙◌, arith}
 use Rattle.std.specs.Prelude.{map}
-use Rattle.frame_view.specs.Seen.{seen}
+use Rattle.life_runs.specs.of_frame_view.Seen.{seen}
 use Rattle.life_runs.specs.Led.{speech_at, gives_up_at, led_behind}
 use Rattle.master_tour.specs.Orders.{last_behind}
 use Rattle.master_node.specs.Shows.{is_opening_lead}
@@ -14,7 +14,7 @@ use Rattle.master_node.proofs.Broughts.{brought_kept}
 use Rattle.master_node.proofs.Lists.{both_each, both_map}
 use Rattle.master_node.proofs.Behinds.{life_back_is, lead_behind, all_led, goes_behind, behind_shows}
 use Rattle.std.proofs.Common.{subst, None}
-use Rattle.life_frames.specs.Shares.{Lived}
+use Rattle.life_runs.specs.of_life_frames.Shares.{Lived}
 use Rattle.master_duty.specs.Reply.{Reply}
 use Rattle.master_hand.specs.Joins.{unfinished_behind}
 use Rattle.master_tour.specs.Joins.{join_at}

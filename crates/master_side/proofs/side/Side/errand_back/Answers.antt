@@ -1,5 +1,5 @@
 use Rattle.std.proofs.Common.{sym, subst, inl, inr, ◌∙◌, Option, Some}
-use Rattle.task_model.specs.Accounts.{duty_access, account_back}
+use Rattle.master_duty.specs.of_task_model.Accounts.{duty_access, account_back}
 use Rattle.master_duty.specs.declared.duty.Duty.{Duty}
 use Rattle.master_side.specs.Carried.{one}
 use Rattle.master_side.specs.Shown.{DutyShows}

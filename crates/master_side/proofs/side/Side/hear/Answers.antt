@@ -1,6 +1,6 @@
 use Rattle.std.proofs.Common.{sym, subst, Option}
 use Rattle.std.specs.Prelude.{option_map}
-use Rattle.exchange_model.specs.Rows.{row_heard}
+use Rattle.frame_view.specs.of_exchange_model.Rows.{row_heard}
 use Rattle.mailbox_mail.specs.declared.mail.MailView.{MailView}
 use Rattle.master_side.specs.Heard.{heard_of}
 use Rattle.master_side.proofs.side.Side.hear.Goals as goal

@@ -1,12 +1,12 @@
 use Rattle.std.proofs.Common.{subst, sym, ap, ◌∙◌, List, Option}
 use Rattle.std.specs.Prelude.{option_map}
-use Rattle.exchange_model.specs.Rows.{row_heard}
-use Rattle.segment_model.specs.Seats.{side_back}
+use Rattle.frame_view.specs.of_exchange_model.Rows.{row_heard}
+use Rattle.frame_view.specs.of_segment_model.Seats.{side_back}
 use Rattle.mailbox_mail.specs.declared.mail.MailView.{MailView}
 use Rattle.master_side.specs.declared.carried.Carried.{Carried}
-use Rattle.task_model.specs.Accounts.{duty_access, account_back}
+use Rattle.master_duty.specs.of_task_model.Accounts.{duty_access, account_back}
 use Rattle.master_side.specs.Carried.{Meant, one}
-use Rattle.link_mails.specs.Body.{Body}
+use Rattle.frame_view.specs.of_link_mails.Body.{Body}
 use Rattle.mailbox_master.specs.Any.{in_half_of}
 use Rattle.master_side.specs.Heard.{heard_of, Brought, HasJoined}
 use Rattle.master_side.proofs.Backs.{inward_back, inward_accepts, kept_side, view_short}

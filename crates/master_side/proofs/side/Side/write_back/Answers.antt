@@ -1,5 +1,5 @@
 use Rattle.std.proofs.Common.{subst}
-use Rattle.task_model.specs.Accounts.{duty_access}
+use Rattle.master_duty.specs.of_task_model.Accounts.{duty_access}
 use Rattle.master_side.specs.declared.carried.Carried.{Carried}
 use Rattle.master_side.specs.Carried.{Meant}
 use Rattle.master_side.proofs.Backs.{write_back}

@@ -1,8 +1,8 @@
 use Rattle.std.proofs.Common.{ℕ, sym, subst, ap, ◌∙◌, refl}
-use Rattle.frame_view.specs.Seen.{seen}
-use Rattle.segment_model.specs.Seats
-use Rattle.life_model.specs.Lives.{life_lost}
-use Rattle.life_model.specs.Own
+use Rattle.life_frames.specs.of_frame_view.Seen.{seen}
+use Rattle.life_frames.specs.of_segment_model.Seats
+use Rattle.life_frames.specs.of_life_model.Lives.{life_lost}
+use Rattle.life_frames.specs.of_life_model.Own
 use Rattle.master_side.specs.Shown.{SideShows}
 use Rattle.master_tour.specs.Stands.{StopShows, FollowShows, StandUnder, is_open}
 use Rattle.master_tour.proofs.Backs.{still_follows, lost_follows, own_lost, seen_aims}

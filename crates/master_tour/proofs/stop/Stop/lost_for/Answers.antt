@@ -1,8 +1,8 @@
 use Rattle.std.proofs.Common.{sym, subst, ap, ◌∙◌}
 use Rattle.std.specs.Prelude.{◌&&◌, nat_lt}
 use Rattle.master_tour.specs.Stands.{IsSpot}
-use Rattle.frame_view.specs.Seen.{seen}
-use Rattle.life_model.specs.Lives.{life_lost}
+use Rattle.life_frames.specs.of_frame_view.Seen.{seen}
+use Rattle.life_frames.specs.of_life_model.Lives.{life_lost}
 use Rattle.master_side.specs.Shown.{SideShows}
 use Rattle.master_tour.specs.Stands.{FollowShows, given_where}
 use Rattle.master_tour.proofs.Backs.{gave_turned, lost_gave}

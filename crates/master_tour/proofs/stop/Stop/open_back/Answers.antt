@@ -1,9 +1,9 @@
 use Rattle.std.proofs.Common.{sym, subst, ◌∙◌, ap, ◌≤◌, get_or, Option, []}
 use Rattle.datagrams.specs.Frame.{parts_of}
-use Rattle.frame_view.specs.Seen.{part_seen}
-use Rattle.link_model.specs.Frames.{all_accepted}
-use Rattle.segment_model.specs.Slaves.{grams}
-use Rattle.task_model.specs.Accounts.{duty_access}
+use Rattle.life_frames.specs.of_frame_view.Seen.{part_seen}
+use Rattle.life_frames.specs.of_link_model.Frames.{all_accepted}
+use Rattle.life_frames.specs.of_segment_model.Slaves.{grams}
+use Rattle.life_frames.specs.of_task_model.Accounts.{duty_access}
 use Rattle.master_side.specs.Heard.{Brought, HasJoined}
 use Rattle.master_side.specs.declared.hand.Heard.{Heard}
 use Rattle.master_side.specs.Shown.{SideShows}

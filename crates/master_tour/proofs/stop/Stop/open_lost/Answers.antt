@@ -1,4 +1,4 @@
-use Rattle.task_model.specs.Accounts.{duty_access}
+use Rattle.life_frames.specs.of_task_model.Accounts.{duty_access}
 use Rattle.master_side.specs.Shown.{SideShows}
 use Rattle.master_tour.proofs.Unders.{nothing_under, none_lost, has_lost}
 use Rattle.std.proofs.Common.{sym, ◌∙◌}

@@ -1,14 +1,14 @@
 use Rattle.std.proofs.Common.{ℕ, sym, subst, ap, ◌∙◌, refl}
 use Rattle.std.specs.Prelude.{nat_lt}
 use Rattle.datagrams.specs.Frame.{parts_of}
-use Rattle.frame_view.specs.Seen.{seen}
-use Rattle.segment_model.specs.Seats
-use Rattle.task_model.specs.Accounts.{account_back, duty_access}
-use Rattle.life_model.specs.Lives as Lives
-use Rattle.life_model.specs.Lives.{era_back}
-use Rattle.life_model.specs.Own
-use Rattle.link_model.specs.Frames.{all_accepted}
-use Rattle.segment_model.specs.Slaves.{grams}
+use Rattle.life_frames.specs.of_frame_view.Seen.{seen}
+use Rattle.life_frames.specs.of_segment_model.Seats
+use Rattle.life_frames.specs.of_task_model.Accounts.{account_back, duty_access}
+use Rattle.life_frames.specs.of_life_model.Lives as Lives
+use Rattle.life_frames.specs.of_life_model.Lives.{era_back}
+use Rattle.life_frames.specs.of_life_model.Own
+use Rattle.life_frames.specs.of_link_model.Frames.{all_accepted}
+use Rattle.life_frames.specs.of_segment_model.Slaves.{grams}
 use Rattle.master_side.specs.Heard.{Brought, HasJoined}
 use Rattle.master_side.specs.Shown.{SideShows}
 use Rattle.master_tour.specs.Stands.{StopShows, StandUnder, StandShows, IsSpot, came_at}

@@ -1,7 +1,7 @@
 use Rattle.std.proofs.Common.{sym, subst, ap, ◌∙◌}
-use Rattle.task_model.specs.Accounts.{duty_access}
+use Rattle.life_frames.specs.of_task_model.Accounts.{duty_access}
 use Rattle.master_tour.proofs.Visits.{picked_map, holds_map, same_shown, same_meant}
-use Rattle.mailbox_master.specs.Any.{in_half_of}
+use Rattle.master_side.specs.of_mailbox_master.Any.{in_half_of}
 use Rattle.master_tour.proofs.Grams.{choice_clear}
 use Rattle.std.proofs.Common.{arith}
 use Rattle.master_side.specs.Again.{HasNoRoom}

@@ -1,7 +1,7 @@
 use Rattle.std.proofs.Common.{sym, subst, ◌∙◌}
 use Rattle.master_side.specs.Shown.{SideShows}
 use Rattle.master_tour.specs.Stands.{StopShows, FollowShows}
-use Rattle.life_model.specs.Lives.{life_back}
+use Rattle.life_frames.specs.of_life_model.Lives.{life_back}
 use Rattle.std.specs.Prelude.{Some}
 use Rattle.master_tour.proofs.Openings.{opening_follows}
 use Rattle.std.proofs.Common.{ap}

@@ -1,22 +1,22 @@
 use Rattle.std.proofs.Common.{◌≡◌, ℕ, List}
 use Rattle.std.specs.Prelude.{Bool, None}
-use Rattle.segment_model.specs.Returned.{Returns}
-use Rattle.segment_model.specs.Record.{News}
-use Rattle.life_model.specs.Lives.{Life, Spot, life_back}
+use Rattle.life_frames.specs.of_segment_model.Returned.{Returns}
+use Rattle.life_frames.specs.of_segment_model.Record.{News}
+use Rattle.life_frames.specs.of_life_model.Lives.{Life, Spot, life_back}
 use Rattle.master_tour.specs.Stands.{StopShows, FollowShows, IsSpot, StandUnder, came_at}
-use Rattle.exchange_model.specs.Exchange.{Speech}
-use Rattle.link_mails.specs.Body.{Body}
-use Rattle.segment_model.specs.Slaves.{Datagram}
-use Rattle.frame_view.specs.Seen.{seen}
-use Rattle.frame_view.specs.View.{Lens}
-use Rattle.master_duty.specs.Reply.{Reply}
+use Rattle.life_frames.specs.of_exchange_model.Exchange.{Speech}
+use Rattle.life_frames.specs.of_link_mails.Body.{Body}
+use Rattle.life_frames.specs.of_segment_model.Slaves.{Datagram}
+use Rattle.life_frames.specs.of_frame_view.Seen.{seen}
+use Rattle.life_frames.specs.of_frame_view.View.{Lens}
+use Rattle.master_side.specs.of_master_duty.Reply.{Reply}
 use Rattle.master_side.specs.Heard.{Brought}
 use Rattle.master_tour.specs.Brings.{accepted_in}
 use Rattle.master_tour.specs.Joins.{Joins}
 use Rattle.master_side.specs.Shown.{SideShows}
 use Rattle.master_tour.specs.Cursor.{IsAtOne}
 use Rattle.master_tour.specs.Walks.{Walked}
-use Rattle.mailbox_master.specs.Any.{in_area_len}
+use Rattle.master_side.specs.of_mailbox_master.Any.{in_area_len}
 use Rattle.master_side.specs.Sent.{SameLink}
 use Rattle.master_tour.specs.Made.{IsSized}
 use Rattle.master_tour.proofs.tour.Tour.all_back.Given as goal

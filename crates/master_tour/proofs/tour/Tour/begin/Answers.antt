@@ -1,7 +1,7 @@
 use Rattle.std.proofs.Common.{◌≡◌, [], sym, ap, ◌∙◌, subst, refl}
 use Rattle.std.specs.Prelude.{is_some, false}
 use Rattle.master_tour.specs.Walks.{EachPair}
-use Rattle.mailbox_master.specs.Any.{in_area_len}
+use Rattle.master_side.specs.of_mailbox_master.Any.{in_area_len}
 use Rattle.master_side.specs.Shown.{SideShows}
 use Rattle.life_frames.specs.Shares.{AllFrom}
 use Rattle.master_tour.specs.Made.{StopMade}

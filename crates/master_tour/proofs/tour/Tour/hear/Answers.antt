@@ -1,11 +1,11 @@
 use Rattle.std.proofs.Common.{◌≡◌, ℕ, List, subst}
 use Rattle.std.specs.Prelude.{Bool}
-use Rattle.exchange_model.specs.Exchange.{Speech}
-use Rattle.link_mails.specs.Body.{Body}
-use Rattle.segment_model.specs.Returned.{Returns}
-use Rattle.segment_model.specs.Record.{News}
-use Rattle.life_model.specs.Lives.{Life, Spot, life_back}
-use Rattle.master_duty.specs.Reply.{Reply}
+use Rattle.life_frames.specs.of_exchange_model.Exchange.{Speech}
+use Rattle.life_frames.specs.of_link_mails.Body.{Body}
+use Rattle.life_frames.specs.of_segment_model.Returned.{Returns}
+use Rattle.life_frames.specs.of_segment_model.Record.{News}
+use Rattle.life_frames.specs.of_life_model.Lives.{Life, Spot, life_back}
+use Rattle.master_side.specs.of_master_duty.Reply.{Reply}
 use Rattle.master_side.specs.Heard.{Brought}
 use Rattle.master_tour.specs.Brings.{accepted_in}
 use Rattle.master_tour.specs.Joins.{Joins}
@@ -13,7 +13,7 @@ use Rattle.master_side.specs.Shown.{SideShows}
 use Rattle.master_tour.specs.Walks.{EachPair}
 use Rattle.master_tour.specs.Stands.{StopShows, FollowShows, IsSpot, StandUnder, came_at}
 use Rattle.std.proofs.Common.{sym, refl}
-use Rattle.frame_view.specs.Seen.{seen}
+use Rattle.life_frames.specs.of_frame_view.Seen.{seen}
 use Rattle.master_tour.proofs.Cursors.{seen_none}
 use Rattle.master_tour.proofs.Frames.{none_returns}
 use Rattle.master_tour.proofs.Walks.{each_map, each_same}

@@ -1,7 +1,7 @@
 use Rattle.std.proofs.Common.{◌≡◌, ap, true, false}
 use Rattle.std.specs.Prelude.{nat_lt, not}
 use Rattle.master_tour.specs.Rooms.{LosesAgain}
-use Rattle.mailbox_master.specs.Any.{in_area_len}
+use Rattle.master_side.specs.of_mailbox_master.Any.{in_area_len}
 use Rattle.master_tour.proofs.Mades.{planned_as, all_behind}
 use Rattle.master_tour.proofs.Walks.{each_map}
 use Rattle.master_tour.proofs.tour.Tour.lost.Goals as goal

@@ -1,4 +1,4 @@
-use Rattle.mailbox_master.specs.Any.{in_area_len}
+use Rattle.master_side.specs.of_mailbox_master.Any.{in_area_len}
 use Rattle.master_tour.proofs.Mades.{planned_as, all_behind}
 use Rattle.master_tour.proofs.tour.Tour.returned.Goals as goal
 

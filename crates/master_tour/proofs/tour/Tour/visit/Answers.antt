@@ -2,12 +2,12 @@ use Rattle.std.proofs.Common.{◌≡◌, ℕ, List, [], ◌∷◌, ◌++◌, tru
 use Rattle.std.specs.Prelude.{Bool, is_some}
 use Rattle.datagrams.specs.Datagram as Raw
 use Rattle.datagrams.specs.Frame.{IsBegun}
-use Rattle.exchange_model.specs.Exchange.{Speech}
-use Rattle.link_mails.specs.Body.{Body}
-use Rattle.life_model.specs.Lives.{Life, Spot}
-use Rattle.frame_view.specs.View.{Lens, datagram_seen}
-use Rattle.mailbox_master.specs.Any.{in_area_len}
-use Rattle.master_duty.specs.Reply.{Reply}
+use Rattle.life_frames.specs.of_exchange_model.Exchange.{Speech}
+use Rattle.life_frames.specs.of_link_mails.Body.{Body}
+use Rattle.life_frames.specs.of_life_model.Lives.{Life, Spot}
+use Rattle.life_frames.specs.of_frame_view.View.{Lens, datagram_seen}
+use Rattle.master_side.specs.of_mailbox_master.Any.{in_area_len}
+use Rattle.master_side.specs.of_master_duty.Reply.{Reply}
 use Rattle.master_side.specs.Shown.{SideShows, wish_begun, takes_ready}
 use Rattle.master_tour.specs.Walks.{StepsAt}
 use Rattle.master_tour.specs.Stands.{StopShows, IsSpot, stand_gram, StandMeant, NextShows}

@@ -10,7 +10,7 @@ use Rattle.run_record.proofs.Reporting.{to_next, got_there, awaited_at, reply_to
 use Rattle.run_record.proofs.Stations.{same_noted}
 use Rattle.run_record.proofs.Steps.{any_ok}
 use Rattle.script_answers.specs.Steps.{PassesSo}
-use Rattle.life_model.specs.Lives.{Stand}
+use Rattle.master_node.specs.of_life_model.Lives.{Stand}
 use Rattle.master_node.specs.Told.{Tells}
 use Rattle.run_record.proofs.standing.Log.note_answer.Goals as goal
 

@@ -1,6 +1,6 @@
 use Rattle.std.proofs.Common.{◌≡◌, ℕ, List, map}
-use Rattle.frame_view.specs.View.{Lens}
-use Rattle.life_runs.specs.Led.{Leads}
+use Rattle.master_node.specs.of_frame_view.View.{Lens}
+use Rattle.master_node.specs.of_life_runs.Led.{Leads}
 use Rattle.master_node.specs.Shows.{MasterShows}
 use Rattle.master_node.specs.Wants.{gave_of, AllCounted}
 use Rattle.run_record.specs.Heard.{emergencies_noted}
