@@ -51,6 +51,11 @@ returns-in-Serve-clause-course g c =
     serve_course (words_of c.args.words.now) (g.F.Files.table c.args.files.now) (g.F.Files.table c.serve_file.new.files) (Rose (g.F.Files.file_faults c.args.files.now) (g.F.Files.file_faults c.serve_file.new.files)) (told g.P.Port.heard g.P.Port.sent g.P.Port.over g.P.Port.port_faults c.args.port.now) (told g.P.Port.heard g.P.Port.sent g.P.Port.over g.P.Port.port_faults c.serve_file.new.port) c.serve_file.new.book c.as_str-in-Serve.result.now
     (g.O.Sink.written c.args.out.now) (g.O.Sink.written c.serve_file.new.out) c.serve_file.result c.in-Serve.count (sym c.in-Serve.ensures) (c.as_str-in-Serve.ensures.value ∙ name_at c.args.words.now c.index-words-1-in-Serve.result c.index-words-1-in-Serve.is (λ other. absurd (serve_other c.in-Serve.count (sym other ∙ sym c.in-Serve.ensures)))) c.serve_file.ensures.course
 
+pub returns-in-Run-clause-book : goal.returns-in-Run-clause-book
+returns-in-Run-clause-book g c =
+    ran_words (words_of c.args.words.now) (g.F.Files.table c.args.files.now) (told g.P.Port.heard g.P.Port.sent g.P.Port.over g.P.Port.port_faults c.args.port.now) (told g.P.Port.heard g.P.Port.sent g.P.Port.over g.P.Port.port_faults c.args.port.now) c.run_file.new.book c.as_str.result.now
+    (c.as_str.ensures.value ∙ name_at c.args.words.now c.index-words-1.result c.index-words-1.is (λ other. absurd (run_other (sym other ∙ sym c.in-Run.ensures)))) c.run_file.ensures.book
+
 pub returns-in-RunSaved-clause-book : goal.returns-in-RunSaved-clause-book
 returns-in-RunSaved-clause-book g c =
     ran_words (words_of c.args.words.now) (g.F.Files.table c.args.files.now) (told g.P.Port.heard g.P.Port.sent g.P.Port.over g.P.Port.port_faults c.args.port.now) (told g.P.Port.heard g.P.Port.sent g.P.Port.over g.P.Port.port_faults c.args.port.now) c.run_file_saved.new.book c.as_str-in-RunSaved.result.now
