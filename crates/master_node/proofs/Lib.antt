@@ -25,3 +25,5 @@ pub mod Rooms
 pub mod Fits
 pub mod Leaves
 pub mod Happenings
+pub mod Downs
+pub mod Arrivals

@@ -31,3 +31,5 @@ pub mod Forwards
 pub mod Rooms
 pub mod Ports
 pub mod Happened
+pub mod Downs
+pub mod Arrivals
