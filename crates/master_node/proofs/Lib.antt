@@ -26,4 +26,5 @@ pub mod Fits
 pub mod Leaves
 pub mod Happenings
 pub mod Downs
+pub mod Made
 pub mod Arrivals

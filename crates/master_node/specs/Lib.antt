@@ -32,4 +32,5 @@ pub mod Rooms
 pub mod Ports
 pub mod Happened
 pub mod Downs
+pub mod Made
 pub mod Arrivals

@@ -105,6 +105,7 @@ impl Lan {
     ghost use Rattle.master_node.specs.Happened.{HasHappened, Happens, HappensSo, Comes};
     ghost use Rattle.master_node.specs.Downs.{Lists, down_by};
     ghost use Rattle.master_node.specs.Arrivals.{arrive_by};
+    ghost use Rattle.master_node.specs.Made.{Makes};
 
     /// A switch with a port for the host and one for each slave that serves EoE, all of them up, and the packets of the host.
     pub fn new(alloc: Global, plan: &Scenario) -> Result<Lan, NoMemory>
@@ -179,7 +180,8 @@ impl Lan {
 
     /// The next packet of the host comes in.
     pub fn enter(&mut self)
-        ensures { Happens 1 self.old self.new }
+        ensures happens { Happens 1 self.old self.new }
+        ensures made { Makes self.old self.new }
     {
         if self.entered >= self.host.len() {
             return;
@@ -220,6 +222,7 @@ impl Lan {
         ensures oldest { IfSome result (λ p. slice_get (forwarded self.old.switch self.old.ports.items slave) 0 ≡ Some p) }
         ensures goes_on { forwarded self.new.switch self.new.ports.items slave ≡ drop 1 (forwarded self.old.switch self.old.ports.items slave) }
         ensures happens { Happens 1 self.old self.new }
+        ensures made { Makes self.old self.new }
     {
         let port = self.port(slave)?;
         let packet = self.switch.begun(port)?;
