@@ -67,10 +67,13 @@ module _ (lens : ℕ → Lens) (recover retry : ℕ) (gives : Bool) (made : ℕ)
       live : Live l
       live = ap is_led e
 
+      e2 : Lives.Era Body Asked Reply
+      e2 = era_back (speech_at lens u.lived.spot) acknowledged is_followed is_passed u.lived.spot.station made [] (seen lens f.back) l.era
+
       by : (c : Option (Bool × Option Found)) →
           is_led (life_back (speech_at lens u.lived.spot) acknowledged is_followed is_passed made u.lived.spot [] (seen lens f.back) c l Stand.Open).stand ≡ is_led l.stand
-      by None = reopens_live _ _ live ∙ sym live
-      by (Some c) = reopens_live _ _ live ∙ sym live
+      by None = reopens_live (record l { era = e2 }) e2.account.hand live ∙ sym live
+      by (Some c) = reopens_live (record l { era = e2 }) e2.account.hand live ∙ sym live
 
   pub pass_lives : f.fate ≡ Pass → (us : List Turn) (k : ℕ) → holds_at is_live_lead (map (led_behind lens recover retry gives made f) us) k ≡ holds_at is_live_turn us k
   pass_lives e [] k = refl

@@ -31,10 +31,13 @@ equal k q e = grind (arith, nat_tests)
 unequal : (k q : ℕ) → (k == q) ≡ false → q ≡ k → ⊥
 unequal k q e s = let bad : true ≡ false = sym (ap (λ z. k == z) s ∙ same_port k) ∙ e in cc
 
+zero_plus : (n : ℕ) → 0 + n ≡ n
+zero_plus n = omega arith
+
 -- ---- one behind the other
 
 pub downs_append : (p : ℕ) (xs ys : List SwitchEvent) → downs_at p (xs ++ ys) ≡ downs_at p xs + downs_at p ys
-downs_append p [] ys = refl
+downs_append p [] ys = omega arith
 downs_append p (x ∷ xs) ys = let rest = downs_append p xs ys in omega (arith, rest)
 
 pub arrivals_append : (p : ℕ) (xs ys : List SwitchEvent) → arrivals_at p (xs ++ ys) ≡ arrivals_at p xs ++ arrivals_at p ys
@@ -85,7 +88,7 @@ down_other p None goes n = refl
 down_other p (Some q) false n = refl
 down_other p (Some q) true n = ap (λ (b : Bool). once_if b + 0) (other_port q p (λ e. n (ap Some e)))
 
-as_packet : List ℕ → ArrayVec ℕ
+abbrev as_packet : List ℕ → ArrayVec ℕ
 as_packet octets = record { items = octets }
 
 where_own : (p : ℕ) (short : Bool) (octets : List ℕ) → arrivals_at p (arrive_where short p octets) ≡ long_where short octets
@@ -150,7 +153,7 @@ module _ (ports : List (Option ℕ)) where
     -- how often the port goes down by the visit
     pub downs_visit : (goes : ℕ → Bool) (ps : List ℕ) → AreOnce ps → downs_at p (downs_in ports goes ps) ≡ (if is_in k ps then once_if (goes k) else 0)
     downs_visit goes [] once = refl
-    downs_visit goes (q ∷ ps) once = downs_append p here rest ∙ go (k == q) refl
+    downs_visit goes (q ∷ ps) once = downs_append p here rest ∙ go (downs_visit goes ps once.1) (k == q) refl
       where
         here : List SwitchEvent
         here = down_by (port_of q) (goes q)
@@ -158,21 +161,21 @@ module _ (ports : List (Option ℕ)) where
         rest : List SwitchEvent
         rest = downs_in ports goes ps
 
-        go : (b : Bool) → (k == q) ≡ b → downs_at p here + downs_at p rest ≡ (if (if k == q then true else is_in k ps) then once_if (goes k) else 0)
-        go true e =
+        go : downs_at p rest ≡ (if is_in k ps then once_if (goes k) else 0) → (b : Bool) → (k == q) ≡ b → downs_at p here + downs_at p rest ≡ (if (if k == q then true else is_in k ps) then once_if (goes k) else 0)
+        go ih true e =
             let same : k ≡ q = equal k q e in
             let head : downs_at p here ≡ once_if (goes k) = (λ i. downs_at p (down_by (port_of (sym same i)) (goes (sym same i)))) ∙ ap (λ o. downs_at p (down_by o (goes k))) own.has ∙ down_own p (goes k) in
-            let tail : downs_at p rest ≡ 0 = downs_visit goes ps once.1 ∙ ap (λ (b : Bool). if b then once_if (goes k) else 0) (ap (λ z. is_in z ps) same ∙ once.0) in
+            let tail : downs_at p rest ≡ 0 = ih ∙ ap (λ (b : Bool). if b then once_if (goes k) else 0) (ap (λ z. is_in z ps) same ∙ once.0) in
             let sum : downs_at p here + downs_at p rest ≡ once_if (goes k) = omega (arith, head, tail) in
             sum ∙ ap (λ (b : Bool). if (if b then true else is_in k ps) then once_if (goes k) else 0) (sym e)
-        go false e =
+        go ih false e =
             let head : downs_at p here ≡ 0 = down_other p (port_of q) (goes q) (not_own q e) in
-            ap (λ n. n + downs_at p rest) head ∙ downs_visit goes ps once.1 ∙ ap (λ (b : Bool). if (if b then true else is_in k ps) then once_if (goes k) else 0) (sym e)
+            ap (λ n. n + downs_at p rest) head ∙ zero_plus (downs_at p rest) ∙ ih ∙ ap (λ (b : Bool). if (if b then true else is_in k ps) then once_if (goes k) else 0) (sym e)
 
     -- what comes in there
     pub arrivals_visit : (packets : ℕ → List (List ℕ)) (ps : List ℕ) → AreOnce ps → arrivals_at p (arrivals_in ports packets ps) ≡ (if is_in k ps then long_ones (packets k) else [])
     arrivals_visit packets [] once = refl
-    arrivals_visit packets (q ∷ ps) once = arrivals_append p here rest ∙ go (k == q) refl
+    arrivals_visit packets (q ∷ ps) once = arrivals_append p here rest ∙ go (arrivals_visit packets ps once.1) (k == q) refl
       where
         here : List SwitchEvent
         here = arrive_by (port_of q) (packets q)
@@ -180,12 +183,12 @@ module _ (ports : List (Option ℕ)) where
         rest : List SwitchEvent
         rest = arrivals_in ports packets ps
 
-        go : (b : Bool) → (k == q) ≡ b → arrivals_at p here ++ arrivals_at p rest ≡ (if (if k == q then true else is_in k ps) then long_ones (packets k) else [])
-        go true e =
+        go : arrivals_at p rest ≡ (if is_in k ps then long_ones (packets k) else []) → (b : Bool) → (k == q) ≡ b → arrivals_at p here ++ arrivals_at p rest ≡ (if (if k == q then true else is_in k ps) then long_ones (packets k) else [])
+        go ih true e =
             let same : k ≡ q = equal k q e in
             let head : arrivals_at p here ≡ long_ones (packets k) = (λ i. arrivals_at p (arrive_by (port_of (sym same i)) (packets (sym same i)))) ∙ ap (λ o. arrivals_at p (arrive_by o (packets k))) own.has ∙ arrive_own p (packets k) in
-            let tail : arrivals_at p rest ≡ [] = arrivals_visit packets ps once.1 ∙ ap (λ (b : Bool). if b then long_ones (packets k) else []) (ap (λ z. is_in z ps) same ∙ once.0) in
+            let tail : arrivals_at p rest ≡ [] = ih ∙ ap (λ (b : Bool). if b then long_ones (packets k) else []) (ap (λ z. is_in z ps) same ∙ once.0) in
             (λ i. head i ++ tail i) ∙ append-nil (long_ones (packets k)) ∙ ap (λ (b : Bool). if (if b then true else is_in k ps) then long_ones (packets k) else []) (sym e)
-        go false e =
-            ap (λ z. z ++ arrivals_at p rest) (arrive_other p (port_of q) (packets q) (not_own q e)) ∙ arrivals_visit packets ps once.1
+        go ih false e =
+            ap (λ z. z ++ arrivals_at p rest) (arrive_other p (port_of q) (packets q) (not_own q e)) ∙ ih
             ∙ ap (λ (b : Bool). if (if b then true else is_in k ps) then long_ones (packets k) else []) (sym e)
