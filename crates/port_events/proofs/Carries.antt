@@ -18,7 +18,6 @@ use Rattle.master_hand.specs.Joins.{packets_in}
 use Rattle.master_node.specs.Arrivals.{completed_at, ComeIn}
 use Rattle.master_node.specs.Downs.{goes_down, GoDown}
 use Rattle.master_node.specs.Happened.{events_of}
-use Rattle.master_node.specs.Joined.{mails_back}
 use Rattle.master_node.specs.Made.{IsOfMaking, AreOfMaking}
 use Rattle.master_node.specs.Shows.{is_carried}
 use Rattle.master_node.specs.Toured.{turn_share}
@@ -30,12 +29,12 @@ use Rattle.master_tour.specs.Made.{is_in}
 use Rattle.master_tour.specs.Orders.{AreOnce}
 use Rattle.master_tour.specs.Toured.{Tour, IsOfTour, visit_of, visit_on}
 use Rattle.packets_heard.specs.Heard.{Joined, joined_in}
-use Rattle.segment_model.specs.Returned.{IsReturn, Returns}
+use Rattle.segment_model.specs.Returned.{Returns}
 use Rattle.segment_model.specs.Record.{is_for}
 use Rattle.segment_model.specs.Slaves.{Datagram, grams}
 use Rattle.segment_ring.specs.declared.wire.Fate.{Fate}
 use Rattle.segment_ring.specs.declared.wire.Fate.TheVariants.{Pass, Lost}
-use Rattle.port_events.specs.Listed.{unfinished_of, CarriesAll, packets_by, listed_behind, ListedOn, Listed}
+use Rattle.port_events.specs.Listed.{unfinished_of, CarriesAll, packets_by, listed_behind, Listed}
 
 -- ---- the places that a frame carries are among those of its visit
 in_first : (k : ℕ) (ps rest : List ℕ) → is_in k ps ≡ true → is_in k (ps ++ rest) ≡ true

@@ -1,14 +1,14 @@
 -- Which slaves are live, frame by frame.
-use Rattle.std.proofs.Common.{◌≡◌, ℕ, zero, suc, Bool, true, false, Option, Some, None, List, [], ◌∷◌, ◌++◌, map, length, refl, sym, ap, subst, ◌∙◌}
-use Rattle.std.specs.Prelude.{◌==◌, ◌&&◌, not, nat_lt, if◌then◌else◌}
+use Rattle.std.proofs.Common.{◌≡◌, ℕ, zero, suc, Bool, true, false, Option, Some, None, List, [], ◌∷◌, map, refl, sym, ap, ◌∙◌}
+use Rattle.std.specs.Prelude.{◌==◌, ◌&&◌, not}
 use Rattle.datagrams.specs.Datagram as Raw
 use Rattle.frame_view.specs.View.{Lens}
 use Rattle.frame_view.specs.Seen.{seen}
 use Rattle.life_frames.specs.Frames.{FrameFor}
-use Rattle.life_frames.specs.Shares.{Lived, came_at, given_where}
+use Rattle.life_frames.specs.Shares.{came_at, given_where}
 use Rattle.life_model.specs.Lives as Lives
 use Rattle.life_model.specs.Lives.{Life, Opening, Spot, Stand, life_next, life_back, life_lost, opening_back, shows_clear, last_step, is_shown, clears, opens, reopens, reopens_at, returns_to_init, era_back, reopening}
-use Rattle.life_runs.specs.Led.{Exchanged, Leads, Turn, IsTurn, AllTurn, speech_at, life_behind, led_behind, is_passed}
+use Rattle.life_runs.specs.Led.{Exchanged, Leads, Turn, AllTurn, speech_at, life_behind, led_behind, is_passed}
 use Rattle.link_mails.specs.Body.{Body}
 use Rattle.master_duty.specs.Reply.{Reply}
 use Rattle.master_hand.specs.Spoken.{Asked, acknowledged, is_followed}
@@ -16,8 +16,7 @@ use Rattle.master_node.specs.Downs.{goes_down}
 use Rattle.master_node.specs.Shows.{is_led, is_live_lead, is_live_turn, is_carried}
 use Rattle.master_node.proofs.Counts.{if_by, next_stand}
 use Rattle.master_tour.specs.Goes.{holds_at}
-use Rattle.segment_model.specs.Record.{News}
-use Rattle.segment_model.specs.Slaves.{Datagram, Found}
+use Rattle.segment_model.specs.Slaves.{Found}
 use Rattle.segment_ring.specs.declared.wire.Fate.{Fate}
 use Rattle.segment_ring.specs.declared.wire.Fate.TheVariants.{Pass, Lost}
 use Rattle.task_model.specs.Accounts.{Duty, Stage}
