@@ -31,3 +31,6 @@ pub mod Forwards
 pub mod Rooms
 pub mod Ports
 pub mod Happened
+pub mod Downs
+pub mod Made
+pub mod Arrivals
