@@ -1,0 +1,2 @@
+mod Goes
+mod Answers
