@@ -1,2 +1,2 @@
-mod Goes
-mod Answers
+pub mod Goes
+pub mod Answers

@@ -1,0 +1,5 @@
+mod Ways
+mod Opened
+mod Halves
+mod Opens
+mod Turns

@@ -1,0 +1,19 @@
+-- WHAT A SLAVE ANSWERS FOR, between two frames: what awaits a step of its processor stands in it, and shows once it made one.
+use Rattle.std.specs.Prelude.{◌≡◌, Bool, true, ⊤}
+use Rattle.esc_registers.specs.declared.registers.Registers as Esc
+use Rattle.life_model.specs.Lives.{Stand, Life}
+use Rattle.link_mails.specs.Body.{Body}
+use Rattle.link_model.specs.Master.{InHalf, InState}
+use Rattle.mailbox_slave.specs.Registers.{request_of, acknowledge_of}
+use Rattle.steps_shown.specs.Shown.{StandsFor}
+
+-- where its acknowledge is awaited the repeat request stands, and once the slave made a step its acknowledge
+pub record Asked (stepped : Bool) (h : InHalf) (r : Esc.Registers) : Type 0 where
+  pub request : h.state ≡ InState.Asked → request_of r ≡ h.bit
+  pub acknowledge : h.state ≡ InState.Asked → stepped ≡ true → acknowledge_of r ≡ h.bit
+
+-- by how the master stands to it; `stepped` says whether it made a step since the access in hand is in hand
+abbrev pub StandsTo : {Q R : Type 0} → Bool → Life Body Q R → Stand → Esc.Registers → Type 0
+StandsTo stepped l (Stand.Opens o) r = StandsFor stepped o r
+StandsTo stepped l Stand.Open r = Asked stepped l.era.side.halves.inn r
+StandsTo stepped l Stand.Gone r = ⊤
