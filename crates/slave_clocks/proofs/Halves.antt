@@ -83,7 +83,7 @@ station_here station adp Apwr e = absurd (cc)
 station_here station adp Aprw e = absurd (cc)
 station_here station adp c e = absurd (cc)
 
-own_here : (lens : ℕ → Lens) (station : ℕ) (ds : List Raw.Datagram) → AllHere station (grams (own_seen lens station ds))
+pub own_here : (lens : ℕ → Lens) (station : ℕ) (ds : List Raw.Datagram) → AllHere station (grams (own_seen lens station ds))
 own_here lens station [] = tt
 own_here lens station (d ∷ ds) = go (is_to station d) refl (own_here lens station ds)
   where
@@ -101,7 +101,7 @@ module _ {V : Type 0} (station : ℕ) where
   node_same s [] = refl
   node_same s (d ∷ ds) = node_same (slave_meets station s d) ds
 
-  grams_same : (s : Slave V Body) (ds : List (Datagram Body)) → grams (frame_after station s ds) ≡ grams_after station s.node (grams ds)
+  pub grams_same : (s : Slave V Body) (ds : List (Datagram Body)) → grams (frame_after station s ds) ≡ grams_after station s.node (grams ds)
   grams_same s [] = refl
   grams_same s (d ∷ ds) = ap (λ l. _ ∷ l) (grams_same (slave_meets station s d) ds)
 
@@ -145,7 +145,7 @@ module _ {S V A Q R : Type 0} (w : Behind S V A Q R) (c : Clearing V A) (p : Pla
   pub mine_is : own spot.station (seen w.lens t.octets) ≡ own_seen w.lens spot.station t.datagrams
   mine_is = ap (own spot.station) (sent_is w.lens t) ∙ own_is w.lens spot.station t.datagrams
 
-  sent_so : IsSent half.out.holding (Some half.inn) (grams (own_seen w.lens spot.station t.datagrams))
+  pub sent_so : IsSent half.out.holding (Some half.inn) (grams (own_seen w.lens spot.station t.datagrams))
   sent_so = subst (λ l. IsSent half.out.holding (Some half.inn) l)
       (ap (λ ds. Link.own spot.station (grams ds)) mine_is ∙ all_own spot.station (grams (own_seen w.lens spot.station t.datagrams)) (own_here w.lens spot.station t.datagrams)) asks.halves
 

@@ -1,5 +1,6 @@
-mod Ways
-mod Opened
-mod Halves
-mod Opens
-mod Turns
+pub mod Ways
+pub mod Opened
+pub mod Answering
+pub mod Halves
+pub mod Opens
+pub mod Turns
