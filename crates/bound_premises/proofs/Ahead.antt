@@ -4,6 +4,7 @@ use Rattle.std.specs.Prelude.{⊤, nat_lt}
 use Rattle.std.proofs.lemmas.Bool.{ltb-false}
 use Rattle.datagrams.specs.Datagram as Raw
 use Rattle.exchange_model.specs.Exchange.{Speech}
+use Rattle.frame_view.specs.Seen.{seen}
 use Rattle.frame_view.specs.View.{Lens}
 use Rattle.life_frames.specs.Shares.{came_at, given_where, Lived}
 use Rattle.life_model.specs.Lives.{Spot, Stand, Life, life_next, life_back, life_lost}
@@ -70,14 +71,14 @@ module _ (lens : ℕ → Lens) (recover retry made : ℕ) (f : Exchanged) (gives
   out_opening ds a u t is out = by f.fate
     where
       by : (z : Fate) → is_opening (life_behind lens recover retry gives made f z u.lived u.share).life.stand ≡ true
-      by Pass = back_opening (speech_at lens u.lived.spot) made u.lived.spot _ u.share.under u.share.at u.lived.life u.lived.life.stand out refl (turn_opening ds a u t is)
-      by (Lost after) = lost_opening (speech_at lens u.lived.spot) made u.lived.spot _ (gives && u.share.under) recover u.lived.life u.lived.life.stand (no_give gives u.share.under out) refl (turn_opening ds a u t is)
+      by Pass = back_opening (speech_at lens u.lived.spot) made u.lived.spot (seen lens f.back) u.share.under u.share.at u.lived.life u.lived.life.stand out refl (turn_opening ds a u t is)
+      by (Lost after) = lost_opening (speech_at lens u.lived.spot) made u.lived.spot (seen lens f.sent) (gives && u.share.under) recover u.lived.life u.lived.life.stand (no_give gives u.share.under out) refl (turn_opening ds a u t is)
 
   -- a lost one by which nobody is given up
   kept_opening : (after : ℕ) (ds : List Raw.Datagram) (a : Leads) (u : Turn) → IsTurn lens made ds a u → is_opening_lead a ≡ true → f.fate ≡ Lost after → gives ≡ false → is_opening_lead (lead_of u) ≡ true
   kept_opening after ds a u t is fate none =
       subst (λ z. is_opening (life_behind lens recover retry gives made f z u.lived u.share).life.stand ≡ true) (sym fate)
-        (lost_opening (speech_at lens u.lived.spot) made u.lived.spot _ (gives && u.share.under) recover u.lived.life u.lived.life.stand (ap (λ g. g && u.share.under) none) refl (turn_opening ds a u t is))
+        (lost_opening (speech_at lens u.lived.spot) made u.lived.spot (seen lens f.sent) (gives && u.share.under) recover u.lived.life u.lived.life.stand (ap (λ g. g && u.share.under) none) refl (turn_opening ds a u t is))
 
   -- ---- all of them
   pub out_stays : (ds : List Raw.Datagram) (as' : List Leads) (us : List Turn) → AllTurn lens made ds as' us → (k : ℕ) → holds_at is_opening_lead as' k ≡ true → holds_at (λ u. u.share.under) us k ≡ false → holds_at is_opening_lead (map (led_behind lens recover retry gives made f) us) k ≡ true

@@ -134,7 +134,7 @@ in_same : (k : ℕ) (ps : List ℕ) → Made.is_in k ps ≡ is_in k ps
 in_same k [] = refl
 in_same k (p ∷ ps) = ap (λ z. if k == p then true else z) (in_same k ps)
 
-under_same : (back : List (Datagram Body)) (us : List Turn) (k : ℕ) → under_at (unders back us) k ≡ holds_at (λ u. u.share.under) us k
+pub under_same : (back : List (Datagram Body)) (us : List Turn) (k : ℕ) → under_at (unders back us) k ≡ holds_at (λ u. u.share.under) us k
 under_same back [] k = refl
 under_same back (u ∷ us) zero = refl
 under_same back (u ∷ us) (suc k) = under_same back us k
@@ -150,11 +150,11 @@ numbered n (u ∷ us) (suc k) e = numbered n us k e
 
 each_under : (us : List Turn) (n : ℕ) (ps : List ℕ) (k : ℕ) → Tours.HaveFrom (λ u. turn_share u) us n ps → is_in k ps ≡ true → holds_at (λ u. u.share.under) us k ≡ true
 each_under us n [] k h e = absurd (cc)
-each_under us n (p ∷ ps) k h e = go (k == p) refl e
+each_under us n (p ∷ ps) k h e = go (k == p) refl e (λ i. each_under us (suc n) ps k h.1 i)
   where
-    go : (b : Bool) → (k == p) ≡ b → (if b then true else is_in k ps) ≡ true → holds_at (λ u. u.share.under) us k ≡ true
-    go true same i = subst (λ z. holds_at (λ u. u.share.under) us z ≡ true) (sym (eqb-true k p same)) (numbered n us p h.0)
-    go false same i = each_under us (suc n) ps k h.1 i
+    go : (b : Bool) → (k == p) ≡ b → (if b then true else is_in k ps) ≡ true → (is_in k ps ≡ true → holds_at (λ u. u.share.under) us k ≡ true) → holds_at (λ u. u.share.under) us k ≡ true
+    go true same i rest = subst (λ z. holds_at (λ u. u.share.under) us z ≡ true) (sym (eqb-true k p same)) (numbered n us p h.0)
+    go false same i rest = rest i
 
 both_ways : (a b : Bool) → (a ≡ true → b ≡ true) → (b ≡ true → a ≡ true) → a ≡ b
 both_ways true b f g = sym (f refl)

@@ -129,7 +129,7 @@ module _ (lens : ℕ → Lens) (recover retry slowest : ℕ) (first : List Leads
     led_back : f.fate ≡ Pass → AreLed lives (behind_back lens recover retry slowest p.frames f us cs)
     led_back fate = subst (λ n. AreLed lives (behind_back lens recover retry slowest n f us cs)) (sym b.frames) (all_led_back seen_is lens recover retry (length fs) f gives l.datagrams cs as' us b.led l.each fate)
 
-    on_past : Tour
+    abbrev on_past : Tour
     on_past = goes_on is_opening_lead lives t ps
 
     opened_more : t.opened ≤ opened_behind is_opening_lead t.opened lives

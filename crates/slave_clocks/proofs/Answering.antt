@@ -19,7 +19,7 @@ use Rattle.mailbox_slave.specs.Node.{in_side}
 use Rattle.mailbox_slave.specs.Registers.{acknowledge_of}
 use Rattle.run_frames.specs.Answers.{AsksHalf, EachAsks, HalfAnswers, EachAnswers, OpeningAnswers}
 use Rattle.segment_model.specs.Record.{Frame, News}
-use Rattle.segment_model.specs.Slaves.{Datagram, Found, grams}
+use Rattle.segment_model.specs.Slaves.{Datagram, Found, Slave, grams}
 use Rattle.segment_ring.specs.declared.wire.Fate.TheVariants.{Pass, Lost}
 use Rattle.slave_lives.specs.Lived.{Behind, RingFrame, LivesEra, AccessBack, fate_of, frame_of}
 use Rattle.slave_lives.specs.Opening.{Plan}
@@ -79,7 +79,7 @@ module _ {S V A Q R : Type 0} (w : Behind S V A Q R) (c : Clearing V A) (p : Pla
   abbrev back : List (Datagram Body)
   back = own spot.station (frame_of w.lens t).back
 
-  abbrev slave : _
+  abbrev slave : Slave V Body
   slave = slave_of t.node.kept t.node.registers (w.sees (registers_seen t.node.registers).state t.node.server)
 
   back_grams : grams (own spot.station (frame_of w.lens t).back) ≡ grams_after spot.station slave.node (grams (own_seen w.lens spot.station t.datagrams))

@@ -3,6 +3,7 @@ use Rattle.std.proofs.Common.{◌≡◌, ◌⊎◌, inl, inr, ℕ, suc, ◌==◌
 use Rattle.std.specs.Prelude.{◌||◌}
 use Rattle.std.proofs.lemmas.Bool.{ne_eqb, and_parts}
 use Rattle.ec_fields.specs.Fields.{bits_of}
+use Rattle.esc_registers.specs.declared.registers.Registers as Esc
 use Rattle.al_state.specs.Request.{is_state}
 use Rattle.frames_seen.specs.Slaves.{registers_seen}
 use Rattle.life_measure.specs.Repairs.{awaits_at, awaited}
@@ -33,11 +34,11 @@ use Rattle.whole_lives.proofs.Kept.{met_boot}
 use Rattle.slave_clocks.proofs.Ways.{clock_in, clock_out}
 
 -- an access that awaits no step answers for nothing
-pub nothing_awaited : (o : Opening) (b : Bool) (r : _) → awaits_at o.again o.step ≡ false → StandsFor b o r
+pub nothing_awaited : (o : Opening) (b : Bool) (r : Esc.Registers) → awaits_at o.again o.step ≡ false → StandsFor b o r
 nothing_awaited o b r e = record { leads = λ a. absurd (let no : true ≡ false = sym a ∙ e in cc); shows = λ a s. absurd (let no : true ≡ false = sym a ∙ e in cc) }
 
 -- another clock
-pub clocked_so : (o : Opening) (b d : Bool) (r : _) → (awaits_at o.again o.step ≡ true → d ≡ true → b ≡ true) → StandsFor b o r → StandsFor d o r
+pub clocked_so : (o : Opening) (b d : Bool) (r : Esc.Registers) → (awaits_at o.again o.step ≡ true → d ≡ true → b ≡ true) → StandsFor b o r → StandsFor d o r
 clocked_so o b d r f s = record { leads = s.leads; shows = λ a e. s.shows a (f a e) }
 
 module _ {S V A Q R : Type 0} (w : Behind S V A Q R) (c : Clearing V A) (p : Plan) (spot : Spot) (whole : IsWhole w c p spot) (fs : List (Frame Body)) (o : Opening) (t : RingFrame S) (runs : IsRunning w.running t.node) (boot : t.node.boot ≡ w.boot) (f : FrameComes w p spot (Stand.Opens o) t) where

@@ -1,7 +1,7 @@
 -- An open slave, by a frame: it is open yet, or its reopening begins.
 use Rattle.std.proofs.Common.{◌≡◌, ℕ, ◌==◌, ◌&&◌, Bool, true, false, Option, Some, None, List, refl, sym, ap, ap₂, ◌∙◌, subst, if◌then◌else◌}
 use Rattle.frame_view.specs.Seen.{seen}
-use Rattle.half_asked.specs.Asked.{IsAsked}
+use Rattle.half_asked.specs.Asked.{IsAsked, GoesOn}
 use Rattle.life_measure.specs.Repairs.{way_of, stand_way, half_way}
 use Rattle.life_model.specs.Eras.{Clearing}
 use Rattle.life_model.specs.Lives.{Spot, Era, Life, Stand, AsksOpen, reopens, reopens_at, reopening, returns_to_init, opens_state}
@@ -12,10 +12,10 @@ use Rattle.mailbox_slave.specs.Node.{in_side}
 use Rattle.run_frames.specs.Goes.{is_same, stepped_behind}
 use Rattle.segment_model.specs.Record.{Frame, News}
 use Rattle.segment_model.specs.Slaves.{Found}
-use Rattle.slave_lives.specs.Lived.{Behind, RingFrame, LivesEra, fate_of, node_behind, frame_of}
+use Rattle.slave_lives.specs.Lived.{Behind, RingFrame, LivesEra, fate_of, node_met, node_behind, frame_of}
 use Rattle.slave_lives.specs.Opening.{Plan}
 use Rattle.task_model.specs.Accounts.{Pick, Duty, Stage}
-use Rattle.whole_lives.specs.Turns.{FrameComes, AsksFor, era_behind, life_by}
+use Rattle.whole_lives.specs.Turns.{FrameComes, AsksFor, era_before, era_behind, life_by}
 use Rattle.whole_lives.specs.Whole.{IsWhole}
 use Rattle.slave_clocks.specs.Stands.{Asked, StandsTo}
 use Rattle.slave_clocks.proofs.Halves.{half_same, half_goes, stands_on}
@@ -31,7 +31,7 @@ module _ {S V A Q R : Type 0} (w : Behind S V A Q R) (c : Clearing V A) (p : Pla
   abbrev Clocked : Life Body Q R → Type 0
   Clocked k = StandsTo (stepped_behind t.pace t.ring.number (is_same (way_of 1 1 l) (way_of 1 1 k)) stepped) k k.stand (node_behind w.running t).registers
 
-  asked_first : IsAsked _ (in_side t.node.kept t.node.registers)
+  asked_first : IsAsked (era_before w more passed spot fs t pick news l.era).side.halves.inn (in_side t.node.kept t.node.registers)
   asked_first = λ x. prior.request (ap (λ (h : InHalf). h.state) (sym (half_same w c p spot whole from l.era fs t more passed pick news lives f a.asks)) ∙ x) ∙ ap (λ (h : InHalf). h.bit) (sym (half_same w c p spot whole from l.era fs t more passed pick news lives f a.asks))
 
   same_before : (fate : RingFate) → (let k : Life Body Q R = record l { era = era fate } in is_same (way_of 1 1 l) (way_of 1 1 k) ≡ true → (era fate).side.halves.inn.state ≡ InState.Asked → l.era.side.halves.inn.state ≡ InState.Asked)
@@ -44,7 +44,7 @@ module _ {S V A Q R : Type 0} (w : Behind S V A Q R) (c : Clearing V A) (p : Pla
       let same = is_same (way_of 1 1 l) (way_of 1 1 k) in
       subst (λ (s : Stand). StandsTo (stepped_behind t.pace t.ring.number same stepped) k s (node_behind w.running t).registers) (sym stand)
         (stands_on w c p spot whole from l.era fs t more passed pick news lives f a.asks stepped same prior (era fate).side.halves.inn
-          (subst (λ (z : RingFate). _) is (half_goes w c p spot whole from l.era fs t more passed pick news lives f a.asks asked_first (fate_of t) refl)) (same_before fate))
+          (subst (λ (z : RingFate). GoesOn (era_before w more passed spot fs t pick news l.era).side.halves.inn (in_side t.node.kept t.node.registers) (era z).side.halves.inn (in_side t.node.kept (node_met t).registers)) is (half_goes w c p spot whole from l.era fs t more passed pick news lives f a.asks asked_first (fate_of t) refl)) (same_before fate))
 
   anew : (state : ℕ) → Clocked (record l { era = era RingFate.Back; stand = reopening state true })
   anew state = nothing_awaited _ _ (node_behind w.running t).registers refl

@@ -1,6 +1,7 @@
 -- By how the master stands to the slave.
 use Rattle.std.proofs.Common.{◌≡◌, ◌⊎◌, inl, inr, ℕ, suc, ◌==◌, ◌&&◌, Bool, true, false, Option, Some, None, List, [], ◌∷◌, ◌++◌, refl, sym, ap, ap₂, ◌∙◌, subst, if◌then◌else◌, length}
 use Rattle.std.specs.Prelude.{nat_lt}
+use Rattle.esc_registers.specs.declared.registers.Registers as Esc
 use Rattle.life_measure.specs.Repairs.{way_of, stand_way, opening_way, awaits_at}
 use Rattle.life_model.specs.Eras.{Clearing}
 use Rattle.life_model.specs.Lives.{Spot, Era, Life, Opening, Stand, shows_clear, last_step, is_shown, clears, opens, steps_on, opening_back, gives_up, reopening}
@@ -22,7 +23,7 @@ use Rattle.slave_clocks.proofs.Opens.{open_turns}
 use Rattle.slave_clocks.proofs.Ways.{itself, next_other}
 
 -- a give-up answers for nothing
-pub given : {Q R : Type 0} (recover frame : ℕ) (spot : Spot) (l : Life Body Q R) (stepped : Bool) (r : _) → (let k = gives_up recover spot frame l in StandsTo stepped k k.stand r)
+pub given : {Q R : Type 0} (recover frame : ℕ) (spot : Spot) (l : Life Body Q R) (stepped : Bool) (r : Esc.Registers) → (let k = gives_up recover spot frame l in StandsTo stepped k k.stand r)
 given recover frame spot l stepped r = go (nat_lt (length l.gave) recover)
   where
     go : (b : Bool) → StandsTo stepped (record l { stand = if b then reopening spot.start false else Stand.Gone; gave = l.gave ++ frame ∷ [] }) (if b then reopening spot.start false else Stand.Gone) r
