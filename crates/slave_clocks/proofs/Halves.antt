@@ -122,9 +122,6 @@ module _ {S V A Q R : Type 0} (w : Behind S V A Q R) (c : Clearing V A) (p : Pla
   abbrev slave : Slave V Body
   slave = slave_of t.node.kept r (w.sees (registers_seen r).state t.node.server)
 
-  pub mine : List (Datagram Body)
-  mine = own_seen w.lens spot.station t.datagrams
-
   for_open : is_reached t ≡ true → IsForOpen t.before t.node t.behind t.datagrams
   for_open reached =
       let here : p.station ≡ r.station = whole.station ∙ sym lives.station in
@@ -177,9 +174,6 @@ module _ {S V A Q R : Type 0} (w : Behind S V A Q R) (c : Clearing V A) (p : Pla
           (subst (λ (n : Node Body (Serving V Body)). GoesOn half.inn (in_side t.node.kept r) (halves_after spot.station half (grams_after spot.station slave.node (grams ds))).inn n.inn) (met_mine reached) goes))
   half_goes asked (Lost after) is = subst (λ (gs : List (Datagram Body)). On (halves_without spot.station half (grams gs)).inn (node_met t).registers) (sym mine_is) (by (is_reached t) refl)
     where
-      abbrev ds : List (Datagram Body)
-      ds = own_seen w.lens spot.station t.datagrams
-
       by : (b : Bool) → is_reached t ≡ b → On (halves_without spot.station half (grams (own_seen w.lens spot.station t.datagrams))).inn (met b t.node comes).registers
       by true reached =
           subst (λ (n : Node Body (Serving V Body)). GoesOn half.inn (in_side t.node.kept r) (halves_without spot.station half (grams (own_seen w.lens spot.station t.datagrams))).inn n.inn) (met_mine reached)

@@ -47,7 +47,7 @@ module _ {S V A Q R : Type 0} (w : Behind S V A Q R) (c : Clearing V A) (p : Pla
           (subst (λ (z : RingFate). GoesOn (era_before w more passed spot fs t pick news l.era).side.halves.inn (in_side t.node.kept t.node.registers) (era z).side.halves.inn (in_side t.node.kept (node_met t).registers)) is (half_goes w c p spot whole from l.era fs t more passed pick news lives f a.asks asked_first (fate_of t) refl)) (same_before fate))
 
   anew : (state : ℕ) → Clocked (record l { era = era RingFate.Back; stand = reopening state true })
-  anew state = nothing_awaited _ _ (node_behind w.running t).registers refl
+  anew state = nothing_awaited (record { again = true; step = 1; state = state; own = true }) _ (node_behind w.running t).registers refl
 
   by_stage : (frame_of w.lens t).fate ≡ RingFate.Back → (target : ℕ) (stage : Stage) → Clocked (reopens_at (record l { era = era RingFate.Back }) target stage)
   by_stage is target Stage.Drains = still RingFate.Back is

@@ -27,7 +27,7 @@ pub given : {Q R : Type 0} (recover frame : ℕ) (spot : Spot) (l : Life Body Q 
 given recover frame spot l stepped r = go (nat_lt (length l.gave) recover)
   where
     go : (b : Bool) → StandsTo stepped (record l { stand = if b then reopening spot.start false else Stand.Gone; gave = l.gave ++ frame ∷ [] }) (if b then reopening spot.start false else Stand.Gone) r
-    go true = nothing_awaited _ stepped r refl
+    go true = nothing_awaited (record { again = true; step = 1; state = spot.start; own = false }) stepped r refl
     go false = tt
 
 -- an access behind the return to Init awaits nothing

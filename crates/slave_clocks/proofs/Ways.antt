@@ -21,9 +21,6 @@ itself (Some w) = go (w.rest == w.rest) w.awaits (eq-eqb w.rest w.rest refl)
 pub next_other : (o : Opening) → awaits_at o.again (suc o.step) ≡ true → is_same (Some (opening_way 1 1 o)) (Some (opening_way 1 1 (record o { step = suc o.step }))) ≡ false
 next_other o e = by o.again o.step e
   where
-    of : Bool → ℕ → Bool
-    of again step = is_same (Some (opening_way 1 1 (record o { again = again; step = step }))) (Some (opening_way 1 1 (record o { again = again; step = suc step })))
-
     by : (again : Bool) (step : ℕ) → awaits_at again (suc step) ≡ true →
         is_same (Some (opening_way 1 1 (record o { again = again; step = step }))) (Some (opening_way 1 1 (record o { again = again; step = suc step }))) ≡ false
     by true step e = elim (or_cases (suc step == 2) (suc step == 9) e) [
