@@ -23,7 +23,7 @@ use Rattle.life_model.specs.Lives.{Spot, Era, AsksOpen, Stand, granted}
 use Rattle.life_model.specs.Own.{own}
 use Rattle.link_mails.specs.Body.{Body}
 use Rattle.link_model.specs.Frames as Link
-use Rattle.link_model.specs.Frames.{Gram, IsSent, node_after, grams_after, halves_after, halves_without}
+use Rattle.link_model.specs.Frames.{Gram, IsSent, node_after, grams_after, gram_meets, halves_after, halves_without}
 use Rattle.link_model.specs.Link.{Halves}
 use Rattle.link_model.specs.Master.{InHalf, InState}
 use Rattle.link_model.specs.Slave.{InSide, Node}
@@ -103,7 +103,7 @@ module _ {V : Type 0} (station : ℕ) where
 
   pub grams_same : (s : Slave V Body) (ds : List (Datagram Body)) → grams (frame_after station s ds) ≡ grams_after station s.node (grams ds)
   grams_same s [] = refl
-  grams_same s (d ∷ ds) = ap (λ l. _ ∷ l) (grams_same (slave_meets station s d) ds)
+  grams_same s (d ∷ ds) = ap (λ l. (if d.gram.station == station then gram_meets s.node d.gram.ask d.gram else d.gram) ∷ l) (grams_same (slave_meets station s d) ds)
 
 module _ {S V A Q R : Type 0} (w : Behind S V A Q R) (c : Clearing V A) (p : Plan) (spot : Spot) (whole : IsWhole w c p spot) (from : A) (e : Era Body Q R) (fs : List (Frame Body)) (t : RingFrame S) (more : Body → Bool) (passed : Q → Bool) (pick : Pick Q) (news : List (News Body))
     (lives : LivesEra w spot from e fs t.node) (f : FrameComes w p spot Stand.Open t) (asks : AsksOpen spot.station (era_before w more passed spot fs t pick news e) (seen w.lens t.octets)) where
