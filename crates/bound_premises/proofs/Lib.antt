@@ -1,0 +1,4 @@
+mod Ahead
+mod News
+mod Places
+mod Tours
