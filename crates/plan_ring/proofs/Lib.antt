@@ -5,6 +5,6 @@ pub mod Valid
 pub mod Plan
 pub mod Master
 pub mod First
-mod Known
-mod Turns
-mod Lives
+pub mod Known
+pub mod Turns
+pub mod Lives

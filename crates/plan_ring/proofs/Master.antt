@@ -36,10 +36,10 @@ use Rattle.plan_ring.specs.Master.{speech_of, lived_of, IsLed, AllLed, Under, Is
 module _ (more : Body → Bool) (passed : Asked → Bool) (lens : ℕ → Lens) (made : ℕ) (ds : List Raw.Datagram) where
   -- ONE SLAVE
   module _ (m : PlanMember) (u : Under) (led : IsLed m) (x : IsUnder more passed lens made ds m u) where
-    abbrev turn_of : Turn Asked
+    abbrev pub turn_of : Turn Asked
     turn_of = record { pick = x.next.pick; share = u.share; news = u.news }
 
-    next_same : next_life more passed made m.services m.life turn_of ≡ u.lived.life
+    pub next_same : next_life more passed made m.services m.life turn_of ≡ u.lived.life
     next_same =
         ap (λ (k : Asked → Bool). life_next m.services.exchange.speech k more passed made m.life m.life.stand x.next.pick) led.last
         ∙ sym (Alike.next_same is_service (speech_of m) m.services.exchange.speech led.alike acknowledged more passed made m.life m.life.stand x.next.pick led.in_hand x.wish)
@@ -50,17 +50,17 @@ module _ (more : Body → Bool) (passed : Asked → Bool) (lens : ℕ → Lens) 
         (sym (Alike.next_same is_service (speech_of m) m.services.exchange.speech led.alike acknowledged more passed made m.life m.life.stand x.next.pick led.in_hand x.wish) ∙ sym x.next.life)
         (Alike.next_is is_service (speech_of m) m.services.exchange.speech led.alike acknowledged more passed made m.life m.life.stand x.next.pick led.in_hand x.wish)
 
-    lived_is : u.lived ≡ record { spot = m.spot; life = next_life more passed made m.services m.life turn_of }
+    pub lived_is : u.lived ≡ record { spot = m.spot; life = next_life more passed made m.services m.life turn_of }
     lived_is = λ i. record { spot = x.next.spot i; life = sym next_same i }
 
-    turns_for : TurnsFor more passed lens made ds m turn_of
+    pub turns_for : TurnsFor more passed lens made ds m turn_of
     turns_for = record { asked = subst (λ (l : Lived Asked Master.Reply). Shares.Asked lens ds l u.share) lived_is x.asked; boots = x.boots }
 
-    stand_is : u.lived.life.stand ≡ m.life.stand
+    pub stand_is : u.lived.life.stand ≡ m.life.stand
     stand_is = ap (λ (l : Life Body Asked Master.Reply). l.stand) (sym next_same) ∙ next_stand more passed made m.services m.life turn_of
 
     -- behind a frame that came back
-    back_life : (f : Frame Body) → life_back m.services.exchange.speech m.services.states.acknowledged more passed made m.spot u.news f.back (came_at u.share.under u.share.at f.back) (next_life more passed made m.services m.life turn_of) m.life.stand
+    pub back_life : (f : Frame Body) → life_back m.services.exchange.speech m.services.states.acknowledged more passed made m.spot u.news f.back (came_at u.share.under u.share.at f.back) (next_life more passed made m.services m.life turn_of) m.life.stand
         ≡ life_back (speech_of m) acknowledged more passed made u.lived.spot u.news f.back (came_at u.share.under u.share.at f.back) u.lived.life u.lived.life.stand
     back_life f =
         (λ i. life_back m.services.exchange.speech (led.last i) more passed made (sym x.next.spot i) u.news f.back (came_at u.share.under u.share.at f.back) (next_same i) (sym stand_is i))
@@ -72,7 +72,7 @@ module _ (more : Body → Bool) (passed : Asked → Bool) (lens : ℕ → Lens) 
         (Alike.back_is is_service (speech_of m) m.services.exchange.speech led.alike acknowledged more passed made u.lived.spot u.news f.back (came_at u.share.under u.share.at f.back) u.lived.life u.lived.life.stand next_in)
 
     -- and behind a lost one
-    lost_life : (f : Frame Body) → life_lost m.services.exchange.speech m.services.states.acknowledged more passed m.spot u.news f.sent (next_life more passed made m.services m.life turn_of) m.life.stand
+    pub lost_life : (f : Frame Body) → life_lost m.services.exchange.speech m.services.states.acknowledged more passed m.spot u.news f.sent (next_life more passed made m.services m.life turn_of) m.life.stand
         ≡ life_lost (speech_of m) acknowledged more passed u.lived.spot u.news f.sent u.lived.life u.lived.life.stand
     lost_life f =
         (λ i. life_lost m.services.exchange.speech (led.last i) more passed (sym x.next.spot i) u.news f.sent (next_same i) (sym stand_is i))
@@ -84,31 +84,31 @@ module _ (more : Body → Bool) (passed : Asked → Bool) (lens : ℕ → Lens) 
         (Alike.lost_is is_service (speech_of m) m.services.exchange.speech led.alike acknowledged more passed u.lived.spot u.news f.sent u.lived.life u.lived.life.stand next_in)
 
   -- ALL SLAVES
-  abbrev turns_of : (ms : List PlanMember) (us : List Under) → AllLed ms → AllUnder more passed lens made ds ms us → List (Turn Asked)
+  abbrev pub turns_of : (ms : List PlanMember) (us : List Under) → AllLed ms → AllUnder more passed lens made ds ms us → List (Turn Asked)
   turns_of [] [] led xs = []
   turns_of [] (u ∷ us) led xs = []
   turns_of (m ∷ ms) [] led xs = []
   turns_of (m ∷ ms) (u ∷ us) led xs = record { pick = xs.0.next.pick; share = u.share; news = u.news } ∷ turns_of ms us led.1 xs.1
 
-  all_turn : (ms : List PlanMember) (us : List Under) (led : AllLed ms) (xs : AllUnder more passed lens made ds ms us) → AllTurn more passed lens made ds ms (turns_of ms us led xs)
+  pub all_turn : (ms : List PlanMember) (us : List Under) (led : AllLed ms) (xs : AllUnder more passed lens made ds ms us) → AllTurn more passed lens made ds ms (turns_of ms us led xs)
   all_turn [] [] led xs = tt
   all_turn [] (u ∷ us) led xs = absurd xs
   all_turn (m ∷ ms) [] led xs = absurd xs
   all_turn (m ∷ ms) (u ∷ us) led xs = (turns_for m u led.0 xs.0, all_turn ms us led.1 xs.1)
 
   -- which of them a lost frame carried, where these are given up
-  abbrev carried : Bool → Fate → List Under → List Bool
+  abbrev pub carried : Bool → Fate → List Under → List Bool
   carried gives Pass us = []
   carried gives (Lost after) [] = []
   carried gives (Lost after) (u ∷ us) = (gives && u.share.under) ∷ carried gives (Lost after) us
 
   -- so they are led on, and are what the master shows
-  record LedOn (gives : Bool) (recover : ℕ) (f : Frame Body) (fate : Fate) (ms : List PlanMember) (us : List Under) (ns : List PlanMember) : Type 0 where
-    led : AllLed ns
-    same : AllSame ms ns
-    shown : AllBehind more passed gives recover made f fate ms us ns
+  pub record LedOn (gives : Bool) (recover : ℕ) (f : Frame Body) (fate : Fate) (ms : List PlanMember) (us : List Under) (ns : List PlanMember) : Type 0 where
+    pub led : AllLed ns
+    pub same : AllSame ms ns
+    pub shown : AllBehind more passed gives recover made f fate ms us ns
 
-  led_back : (gives : Bool) (recover : ℕ) (f : Frame Body) (place : ℕ) (ms : List PlanMember) (us : List Under) (es : List Raw.Datagram) (led : AllLed ms) (xs : AllUnder more passed lens made ds ms us) →
+  pub led_back : (gives : Bool) (recover : ℕ) (f : Frame Body) (place : ℕ) (ms : List PlanMember) (us : List Under) (es : List Raw.Datagram) (led : AllLed ms) (xs : AllUnder more passed lens made ds ms us) →
       LedOn gives recover f Pass ms us (behind_frame more passed made f Pass place ms (turns_of ms us led xs) es)
   led_back gives recover f place [] [] es led xs = record { led = tt; same = tt; shown = tt }
   led_back gives recover f place [] (u ∷ us) es led xs = absurd xs
@@ -136,7 +136,7 @@ module _ (more : Body → Bool) (passed : Asked → Bool) (lens : ℕ → Lens) 
   shown_given true recover n spot l e f = λ i. record { spot = e i; life = gives_up recover (e i) made (f i) }
   shown_given false recover n spot l e f = λ i. record { spot = e i; life = f i }
 
-  led_lost : (gives : Bool) (recover after : ℕ) (f : Frame Body) (place : ℕ) (ms : List PlanMember) (us : List Under) (es : List Raw.Datagram) (led : AllLed ms) (xs : AllUnder more passed lens made ds ms us) →
+  pub led_lost : (gives : Bool) (recover after : ℕ) (f : Frame Body) (place : ℕ) (ms : List PlanMember) (us : List Under) (es : List Raw.Datagram) (led : AllLed ms) (xs : AllUnder more passed lens made ds ms us) →
       LedOn gives recover f (Lost after) ms us (given_up recover made (behind_frame more passed made f (Lost after) place ms (turns_of ms us led xs) es) (carried gives (Lost after) us))
   led_lost gives recover after f place [] [] es led xs = record { led = tt; same = tt; shown = tt }
   led_lost gives recover after f place [] (u ∷ us) es led xs = absurd xs

@@ -6,7 +6,7 @@ mod Clocking
 mod Counting
 mod Deciding
 mod Fated
-mod Leading
+pub mod Leading
 mod Losing
 mod Lost
 mod Meeting
@@ -16,7 +16,7 @@ mod Returning
 mod Running
 mod Same
 pub mod Stating
-mod Tallying
+pub mod Tallying
 mod Toured
 mod Touring
 mod Waiting

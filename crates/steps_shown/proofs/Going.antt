@@ -25,7 +25,7 @@ use Rattle.steps_shown.proofs.Standing.{Awaits, awaits_of, steps_stand, frame_st
 
 module _ {S : Type 0} (u : Running S) (boot : Bool) (lens : ℕ → Lens) (p : Plan) where
   -- the step that follows, where the pace has one
-  step_on : (k : Opening) → IsPlan boot lens p → k.state ≡ p.start → (n : Node S) (before pace : Bool) → IsClosed u boot lens p k n → (pace ≡ true → MayStep u boot n) → StandsFor before k n.registers →
+  pub step_on : (k : Opening) → IsPlan boot lens p → k.state ≡ p.start → (n : Node S) (before pace : Bool) → IsClosed u boot lens p k n → (pace ≡ true → MayStep u boot n) → StandsFor before k n.registers →
       StandsFor (pace || before) k (if pace then stepped u n else n).registers
   step_on k plan opens n before true closed may s = steps_stand u boot lens p plan k opens n before closed (may refl) s
   step_on k plan opens n before false closed may s = s

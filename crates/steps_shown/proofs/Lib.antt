@@ -1,6 +1,6 @@
-mod Asking
-mod Going
-mod Meeting
+pub mod Asking
+pub mod Going
+pub mod Meeting
 mod Reading
 mod Showing
-mod Standing
+pub mod Standing

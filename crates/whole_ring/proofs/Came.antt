@@ -140,6 +140,7 @@ beside_one a b _ _ (Beside.later u v ds es k) x y e f = absurd (beside_none a b 
 pub record Came (lens : ℕ → Lens) (p : Plan) (n : ℕ) (r : Esc.Registers) (came : Option (Bool × Option Found)) : Type 0 where
   pub access : Raw.Datagram
   pub is : IsAccess p n access
+  pub first : access.head.counter ≡ 0
   pub came_is : came ≡ Some (not ((datagram_seen lens (datagram_after r access)).counter == 0), (datagram_seen lens (datagram_after r access)).found)
 
 module _ (lens : ℕ → Lens) (p : Plan) (n place : ℕ) (at : IsTurn n) (near : place < 16) (r : Esc.Registers) (called : (r.station ≡ 0) ⊎ (r.station ≡ p.station)) (meets : (ds : List Raw.Datagram) → JustOnWay p n place place ds → JustOne p n r ds) where
@@ -170,10 +171,14 @@ module _ (lens : ℕ → Lens) (p : Plan) (n place : ℕ) (at : IsTurn n) (near 
     found_same : (datagram_seen lens (through qs (datagram_after r (through bs d)))).found ≡ (datagram_seen lens (datagram_after r (through bs d))).found
     found_same = sym (ap (λ x. (datagram_seen lens x).found) both.1) ∙ back_seen.found ∙ ap (λ x. (datagram_seen lens (datagram_after r x)).found) both.0
 
+    -- as no slave has met it
+    first_met : (through bs d).head.counter ≡ 0
+    first_met = keeps_counter p n place 0 bs d at near (omega (arith, at_place)) apart sent.on ∙ sent.first
+
     few_done : one_or_none (datagram_seen lens (datagram_after r (through bs d))).counter
     few_done =
         let x = through bs d in
-        let zero_ : x.head.counter ≡ 0 = keeps_counter p n place 0 bs d at near (omega (arith, at_place)) apart sent.on ∙ sent.first in
+        let zero_ : x.head.counter ≡ 0 = first_met in
         seen_few (access_of (lens (station_of (datagram_after r x).head.command (datagram_after r x).head.adp)) (datagram_after r x).head.command (datagram_after r x).head.ado (datagram_after r x).body) (datagram_after r x).head.counter
         (counter_at r x.head x.body (if is_meant r x.head then row_of r x.head.ado (length x.body) else None) zero_ (one_way p n x.head.command at is_access.command))
 
@@ -181,6 +186,7 @@ module _ (lens : ℕ → Lens) (p : Plan) (n place : ℕ) (at : IsTurn n) (near 
     came_here = record {
       access = through bs d;
       is = is_access;
+      first = first_met;
       came_is = ap₂ (λ (c : ℕ) (f : Option Found). Some (c == 1, f)) counter_same found_same ∙ ap (λ (b : Bool). Some (b, (datagram_seen lens (datagram_after r (through bs d))).found)) (same_done (datagram_seen lens (datagram_after r (through bs d))).counter few_done);
     }
 

@@ -33,13 +33,13 @@ use Rattle.whole_ring.proofs.Nodes.{met_all, frame_met_all}
 use Rattle.whole_ring.proofs.Turning as One
 
 module _ {S V A Q R : Type 0} where
-  abbrev node_in : Member S V A Q R → Node S
+  abbrev pub node_in : Member S V A Q R → Node S
   node_in m = m.node
 
-  abbrev pace_in : Member S V A Q R → ℕ
+  abbrev pub pace_in : Member S V A Q R → ℕ
   pace_in m = m.pace
 
-  abbrev seat_of : Member S V A Q R → Seat S
+  abbrev pub seat_of : Member S V A Q R → Seat S
   seat_of m = seat_at m.services m.plan m.life.stand m.node
 
   -- lists of a ring around one slave
@@ -47,7 +47,7 @@ module _ {S V A Q R : Type 0} where
   split_map g [] m cs = refl
   split_map g (b ∷ bs) m cs = ap (λ l. g b ∷ l) (split_map g bs m cs)
 
-  many : {X : Type 0} (g : Member S V A Q R → X) (ms : List (Member S V A Q R)) → length (map g ms) ≡ length ms
+  pub many : {X : Type 0} (g : Member S V A Q R → X) (ms : List (Member S V A Q R)) → length (map g ms) ≡ length ms
   many g [] = refl
   many g (m ∷ ms) = ap suc (many g ms)
 
@@ -55,15 +55,15 @@ module _ {S V A Q R : Type 0} where
   nodes_same [] = refl
   nodes_same (m ∷ ms) = ap (λ l. m.node ∷ l) (nodes_same ms)
 
-  joined : (bs : List (Member S V A Q R)) (m : Member S V A Q R) (cs : List (Member S V A Q R)) → (bs ++ m ∷ []) ++ cs ≡ bs ++ m ∷ cs
+  pub joined : (bs : List (Member S V A Q R)) (m : Member S V A Q R) (cs : List (Member S V A Q R)) → (bs ++ m ∷ []) ++ cs ≡ bs ++ m ∷ cs
   joined [] m cs = refl
   joined (b ∷ bs) m cs = ap (λ l. b ∷ l) (joined bs m cs)
 
-  one_more : (bs : List (Member S V A Q R)) (m : Member S V A Q R) → length (bs ++ m ∷ []) ≡ suc (length bs)
+  pub one_more : (bs : List (Member S V A Q R)) (m : Member S V A Q R) → length (bs ++ m ∷ []) ≡ suc (length bs)
   one_more [] m = refl
   one_more (b ∷ bs) m = ap suc (one_more bs m)
 
-  comes_past : (bs : List (Member S V A Q R)) (m : Member S V A Q R) (ds : List Raw.Datagram) → come_to (map node_in (bs ++ m ∷ [])) ds ≡ datagrams_after m.node.registers (come_to (map node_in bs) ds)
+  pub comes_past : (bs : List (Member S V A Q R)) (m : Member S V A Q R) (ds : List Raw.Datagram) → come_to (map node_in (bs ++ m ∷ [])) ds ≡ datagrams_after m.node.registers (come_to (map node_in bs) ds)
   comes_past [] m ds = refl
   comes_past (b ∷ bs) m ds = comes_past bs m (datagrams_after b.node.registers ds)
 
@@ -73,16 +73,16 @@ module _ {S V A Q R : Type 0} where
   seats_elsewhere p stand (m ∷ ms) other =
       (ap₂ (λ (a b : ℕ). a == b) (Seated.plan_station p stand) (Seated.plan_station m.plan m.life.stand) ∙ other.0, seats_elsewhere p stand ms other.1)
 
-  seats_distinct : (ms : List (Member S V A Q R)) → AreDistinct ms → Seats.AreDistinct (map seat_of ms)
+  pub seats_distinct : (ms : List (Member S V A Q R)) → AreDistinct ms → Seats.AreDistinct (map seat_of ms)
   seats_distinct [] distinct = tt
   seats_distinct (m ∷ ms) distinct = (seats_elsewhere m.plan m.life.stand ms distinct.0, seats_distinct ms distinct.1)
 
-abbrev fate_in : {S : Type 0} → RingState (Node S) → Fate
+abbrev pub fate_in : {S : Type 0} → RingState (Node S) → Fate
 fate_in ring = fate_at ring.lose ring.number
 
 module _ {S V A Q R : Type 0} (lens : ℕ → Lens) (step : Node S → Node S) (fits : Spot → S → Type 0) (more : Body → Bool) (passed : Q → Bool) (fs : List (Frame Body)) (ring : RingState (Node S)) (octets : List ℕ) (gs : List Raw.Datagram) (is_frame : IsFrame octets (chained gs)) where
   -- what is known of each slave is what the ring's law asks for
-  seats_known : (place : ℕ) (ms : List (Member S V A Q R)) → AllLived lens step fits fs place ms → AllSeats lens (map seat_of ms)
+  pub seats_known : (place : ℕ) (ms : List (Member S V A Q R)) → AllLived lens step fits fs place ms → AllSeats lens (map seat_of ms)
   seats_known place [] all = tt
   seats_known place (m ∷ ms) all = (
     record {
@@ -103,7 +103,7 @@ module _ {S V A Q R : Type 0} (lens : ℕ → Lens) (step : Node S → Node S) (
       subst (λ (k : ℕ). ComesAs (plan_at m.plan m.life.stand) m.life.stand k 0 (chained gs)) is.at
       (comes_as lens m.plan m.spot is.whole.station out back m.life.stand a.share gs (let e = is.at in omega (arith, e, near)) is.whole.plan.station has)
 
-  all_come : (place : ℕ) (ms : List (Member S V A Q R)) (turns : List (Turn Q)) → place + length ms < 17 → AllLived lens step fits fs place ms → AllTurn more passed lens (length fs) gs ms turns → AllCome place 0 (map seat_of ms) (chained gs)
+  pub all_come : (place : ℕ) (ms : List (Member S V A Q R)) (turns : List (Turn Q)) → place + length ms < 17 → AllLived lens step fits fs place ms → AllTurn more passed lens (length fs) gs ms turns → AllCome place 0 (map seat_of ms) (chained gs)
   all_come place [] turns few all asks = tt
   all_come place (m ∷ ms) [] few all asks = absurd asks
   all_come place (m ∷ ms) (a ∷ turns) few all asks = (comes_to place m a (omega (arith, few)) all.0 asks.0, all_come (suc place) ms turns (omega (arith, few)) all.1 asks.1)
@@ -139,11 +139,11 @@ module _ {S V A Q R : Type 0} (lens : ℕ → Lens) (step : Node S → Node S) (
   -- EACH SLAVE among the others
   module _ (all : List (Member S V A Q R)) (r : IsRing lens step fits fs ring all) (meet : AllMeet (map seat_of all) (chained gs)) where
     module _ (bs : List (Member S V A Q R)) (m : Member S V A Q R) (cs : List (Member S V A Q R)) (a : Turn Q) (whole : bs ++ m ∷ cs ≡ all) (is : MemberIs lens step fits fs (length bs) m) (x : TurnsFor more passed lens (length fs) gs m a) where
-      abbrev w : Behind S V A Q R
+      abbrev pub w : Behind S V A Q R
       w = m.services
 
       -- the frame as it is for the slave
-      abbrev t : RingFrame S
+      abbrev pub t : RingFrame S
       t = record {
         ring = ring;
         octets = octets;
@@ -163,23 +163,23 @@ module _ {S V A Q R : Type 0} (lens : ℕ → Lens) (step : Node S → Node S) (
       size : length bs + suc (length cs) ≡ length all
       size = sym (length-append bs (m ∷ cs)) ∙ ap length whole
 
-      near : m.spot.place < 16
+      pub near : m.spot.place < 16
       near = let e = is.at in let s = size in let f = r.few in omega (arith, e, s, f)
 
-      few : length (map node_in cs) < 16
+      pub few : length (map node_in cs) < 16
       few = let e = many node_in cs in let s = size in let f = r.few in omega (arith, e, s, f)
 
-      asked : Asked w.lens gs (record { spot = m.spot; life = next_life more passed (length fs) w m.life a }) a.share
+      pub asked : Asked w.lens gs (record { spot = m.spot; life = next_life more passed (length fs) w m.life a }) a.share
       asked = subst (λ (k : ℕ → Lens). Asked k gs (record { spot = m.spot; life = next_life more passed (length fs) w m.life a }) a.share) (sym is.lens_is) x.asked
 
-      comes : FrameComes w m.plan m.spot m.life.stand t
+      pub comes : FrameComes w m.plan m.spot m.life.stand t
       comes = Seated.comes w m.plan m.spot m.life.stand t (map seat_of bs) (map seat_of cs) (nodes_same bs) (nodes_same cs) (many node_in bs ∙ sym is.at) is.named
           (subst (λ l. Seats.AreDistinct l) (ap (map seat_of) (sym whole) ∙ split_map seat_of bs m cs) (seats_distinct all r.distinct))
           (subst (λ l. AllMeet l (chained gs)) (ap (map seat_of) (sym whole) ∙ split_map seat_of bs m cs) meet)
           (comes_to m.spot.place m a near (record { whole = is.whole; lived = is.lived; at = refl; lens_is = is.lens_is; named = is.named; serves = is.serves; server = is.server; room = is.room; boots = is.boots }) x)
           (λ now. One.roomy w m.clearing m.plan m.spot is.whole m.first fs t near few m.life is.lived step (fits m.spot) is.serves is.server is.room)
 
-      node_is : node_behind w.running t ≡ turned w.running m.pace (length fs) (met (is_met_at (length bs) (fate_in ring)) m.node (come_to (map node_in bs) (chained gs)))
+      pub node_is : node_behind w.running t ≡ turned w.running m.pace (length fs) (met (is_met_at (length bs) (fate_in ring)) m.node (come_to (map node_in bs) (chained gs)))
       node_is = ap₂ (λ (number place : ℕ). turned w.running m.pace number (met (is_met_at place (fate_in ring)) m.node (come_to (map node_in bs) (chained gs)))) r.number (many node_in bs)
 
       member_on : MemberIs lens step fits (fs ++ frame_at lens ring octets ∷ []) (length bs) (record m {

@@ -1,6 +1,6 @@
 -- ONE SLAVE OF THE RING by a frame: its life is lived on.
 use Rattle.std.proofs.Common.{◌≡◌, ◌⊎◌, inl, inr, ℕ, suc, ◌+◌, ◌<◌, ◌==◌, Bool, true, false, List, [], ◌∷◌, ◌++◌, length, refl, ap, ap₂, sym, ◌∙◌, subst, arith}
-use Rattle.std.specs.Prelude.{Option, Some, None, not}
+use Rattle.std.specs.Prelude.{Option, Some, None, not, ⊤}
 use Rattle.life_frames.specs.of_datagrams.Datagram as Raw
 use Rattle.life_frames.specs.of_datagrams.Frame.{chained}
 use Rattle.whole_lives.specs.of_frame_pass.Passing.{datagram_after, datagrams_after}
@@ -76,6 +76,15 @@ plan_known w c p spot whole fs n from e (Stand.Opens o) (OpensAs.over cl again e
 plan_known w c p spot whole fs n from e Stand.Open now = whole.plan
 plan_known w c p spot whole fs n from e Stand.Gone now = whole.plan
 
+-- an access of an opening that came back, which no slave before had met
+abbrev pub CameSo : {S V A Q R : Type 0} → Behind S V A Q R → Plan → Opening → RingFrame S → Option (Bool × Option Found) → Type 0
+CameSo w p o t None = ⊤
+CameSo w p o t (Some came) = (k : Whole.Came w p o t came) × (k.access.head.counter ≡ 0)
+
+came_of_so : {S V A Q R : Type 0} (w : Behind S V A Q R) (p : Plan) (o : Opening) (t : RingFrame S) (came : Option (Bool × Option Found)) → CameSo w p o t came → CameAs w p o t came
+came_of_so w p o t None k = tt
+came_of_so w p o t (Some came) k = k.0
+
 module _ {S V A Q R : Type 0} (w : Behind S V A Q R) (c : Clearing V A) (p : Plan) (spot : Spot) (whole : IsWhole w c p spot) (first : A) (fs : List (Frame Body)) (t : RingFrame S) (near : spot.place < 16) (few : length t.behind < 16) where
   module _ (l : Life Body Q R) (i : IsLived w c p spot first l fs t.node) (step : Node S → Node S) (fits : S → Type 0) (serves : Serves step fits w p.back) (server : fits t.node.server) (room : in_len t.node.registers ≡ p.back) where
     -- THE SERVER behind the frame, and the room that it has
@@ -107,12 +116,12 @@ module _ {S V A Q R : Type 0} (w : Behind S V A Q R) (c : Clearing V A) (p : Pla
       has_for : (stand : Stand) → l.stand ≡ stand → FrameFor w.lens spot stand a.share gs
       has_for stand e = subst (λ (st : Stand). FrameFor w.lens spot st a.share gs) (next_stand more passed (length fs) w l a ∙ e) asked.has
 
-      abbrev came : Option (Bool × Option Found)
+      abbrev pub came : Option (Bool × Option Found)
       came = came_at a.share.under a.share.at (frame_of w.lens t).back
 
       -- THE ACCESS of an opening
-      came_as : (o : Opening) → l.stand ≡ Stand.Opens o → CameAs w p o t came
-      came_as o e = go (fate_of t) refl
+      pub came_so : (o : Opening) → l.stand ≡ Stand.Opens o → CameSo w p o t came
+      came_so o e = go (fate_of t) refl
         where
           now : StandsAs w p spot i.from l.era fs (Stand.Opens o) t.node
           now = subst (λ (st : Stand). StandsAs w p spot i.from l.era fs st t.node) e i.now
@@ -127,8 +136,8 @@ module _ {S V A Q R : Type 0} (w : Behind S V A Q R) (c : Clearing V A) (p : Pla
           back_at fate is = back_is w.running w.lens t ∙ ap (λ (x : Fate). datagrams_seen w.lens (returned x t.before t.node t.behind t.datagrams)) is
 
           by : fate_of t ≡ Pass → ((a.share.under ≡ false) × AllNotFor (plan_to p o.state) spot.place 0 (chained gs)) ⊎ ((a.share.under ≡ true) × Placed (plan_to p o.state) spot.place a.share.at (IsSent (plan_to p o.state) (turn_of o) spot.place) (chained gs)) →
-              CameAs w p o t (came_at a.share.under a.share.at (frame_of w.lens t).back)
-          by back (inl (not_, others)) = subst (λ (b : Bool). CameAs w p o t (came_at b a.share.at (frame_of w.lens t).back)) (sym not_) tt
+              CameSo w p o t (came_at a.share.under a.share.at (frame_of w.lens t).back)
+          by back (inl (not_, others)) = subst (λ (b : Bool). CameSo w p o t (came_at b a.share.at (frame_of w.lens t).back)) (sym not_) tt
           by back (inr (is, x)) =
               let reached : is_reached t ≡ true = ap (λ (fate : Fate). is_met_at (length t.before) fate) back in
               let ds_is : t.datagrams ≡ x.front ++ x.gram ∷ x.behind = chain ∙ x.split in
@@ -146,21 +155,24 @@ module _ {S V A Q R : Type 0} (w : Behind S V A Q R) (c : Clearing V A) (p : Pla
               (k.meets spot.place (all_after (registers_of t.before) (x.front ++ x.gram ∷ x.behind)) near
               (subst (λ (m : ℕ). JustOnWay (plan_to p o.state) n spot.place m (all_after (registers_of t.before) (x.front ++ x.gram ∷ x.behind))) (let e : 0 + length (registers_of t.before) ≡ length (registers_of t.before) = omega arith in e ∙ at_place)
               (Way.just_on_way (plan_to p o.state) n spot.place 0 (registers_of t.before) (x.front ++ x.gram ∷ x.behind) k.turn near (omega (arith, at_place)) first_ (just_of (plan_to p o.state) n spot.place x.front x.gram x.behind x.before x.is x.after)))) in
-              subst (λ (v : Option (Bool × Option Found)). CameAs w p o t v) (sym value)
-              (record { access = found.access; back = record { came = back; just = just; back = record { access = found.is; done_is = refl; found_is = refl } }; ready = λ cleared. serves.ready o.state (node_behind w.running t).server fits_behind cleared })
+              subst (λ (v : Option (Bool × Option Found)). CameSo w p o t v) (sym value)
+              (record { access = found.access; back = record { came = back; just = just; back = record { access = found.is; done_is = refl; found_is = refl } }; ready = λ cleared. serves.ready o.state (node_behind w.running t).server fits_behind cleared }, found.first)
 
-          go : (fate : Fate) → fate_of t ≡ fate → CameAs w p o t (came_at a.share.under a.share.at (frame_of w.lens t).back)
+          go : (fate : Fate) → fate_of t ≡ fate → CameSo w p o t (came_at a.share.under a.share.at (frame_of w.lens t).back)
           go Pass is = by is (opening_in w.lens p spot whole.station whole.plan.lens_out whole.plan.lens_back o a.share gs near (has_for (Stand.Opens o) e))
-          go (Lost after) is = subst (λ (v : Option (Bool × Option Found)). CameAs w p o t v) (sym (ap (λ l. came_at a.share.under a.share.at l) (back_at (Lost after) is) ∙ came_none a.share.under a.share.at)) tt
+          go (Lost after) is = subst (λ (v : Option (Bool × Option Found)). CameSo w p o t v) (sym (ap (λ l. came_at a.share.under a.share.at l) (back_at (Lost after) is) ∙ came_none a.share.under a.share.at)) tt
 
-      asks_open : l.stand ≡ Stand.Open → AsksOpen spot.station (era_before w more passed spot fs t a.pick a.news l.era) (seen w.lens t.octets)
+      came_as : (o : Opening) → l.stand ≡ Stand.Opens o → CameAs w p o t came
+      came_as o e = came_of_so w p o t came (came_so o e)
+
+      pub asks_open : l.stand ≡ Stand.Open → AsksOpen spot.station (era_before w more passed spot fs t a.pick a.news l.era) (seen w.lens t.octets)
       asks_open e =
           let there : AsksOpen spot.station (next_life more passed (length fs) w l a).era (datagrams_seen w.lens gs) = asked.asks (next_stand more passed (length fs) w l a ∙ e) in
           let next : AsksOpen spot.station (era_before w more passed spot fs t a.pick a.news l.era) (datagrams_seen w.lens gs) =
           subst (λ (st : Stand). AsksOpen spot.station (life_next w.exchange.speech w.states.acknowledged more passed (length fs) l st a.pick).era (datagrams_seen w.lens gs)) e there in
           subst (λ ds. AsksOpen spot.station (era_before w more passed spot fs t a.pick a.news l.era) ds) (sym (sent_is w.lens t ∙ ap (datagrams_seen w.lens) chain ∙ Octets.seen_chained w.lens gs)) next
 
-      turns_as : (stand : Stand) → l.stand ≡ stand → TurnsAs w more passed p spot fs t a.pick a.news came l.era stand
+      pub turns_as : (stand : Stand) → l.stand ≡ stand → TurnsAs w more passed p spot fs t a.pick a.news came l.era stand
       turns_as (Stand.Opens o) e = came_as o e
       turns_as Stand.Open e = record {
         asks = asks_open e;
@@ -169,7 +181,7 @@ module _ {S V A Q R : Type 0} (w : Behind S V A Q R) (c : Clearing V A) (p : Pla
       }
       turns_as Stand.Gone e = tt
 
-      same_life : (fate : RingFate) → Whole.life_by w more passed spot fs t a.pick a.news came fate l l.stand ≡ life_by more passed (length fs) (frame_of w.lens t) fate w spot l a
+      pub same_life : (fate : RingFate) → Whole.life_by w more passed spot fs t a.pick a.news came fate l l.stand ≡ life_by more passed (length fs) (frame_of w.lens t) fate w spot l a
       same_life RingFate.Back = refl
       same_life (RingFate.Lost after) = refl
 
