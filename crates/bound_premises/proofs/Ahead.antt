@@ -78,7 +78,7 @@ module _ (lens : ℕ → Lens) (recover retry made : ℕ) (f : Exchanged) (gives
   kept_opening : (after : ℕ) (ds : List Raw.Datagram) (a : Leads) (u : Turn) → IsTurn lens made ds a u → is_opening_lead a ≡ true → f.fate ≡ Lost after → gives ≡ false → is_opening_lead (lead_of u) ≡ true
   kept_opening after ds a u t is fate none =
       subst (λ z. is_opening (life_behind lens recover retry gives made f z u.lived u.share).life.stand ≡ true) (sym fate)
-        (lost_opening (speech_at lens u.lived.spot) made u.lived.spot (seen lens f.sent) (gives && u.share.under) recover u.lived.life u.lived.life.stand (ap (λ g. g && u.share.under) none) refl (turn_opening ds a u t is))
+      (lost_opening (speech_at lens u.lived.spot) made u.lived.spot (seen lens f.sent) (gives && u.share.under) recover u.lived.life u.lived.life.stand (ap (λ g. g && u.share.under) none) refl (turn_opening ds a u t is))
 
   -- ---- all of them
   pub out_stays : (ds : List Raw.Datagram) (as' : List Leads) (us : List Turn) → AllTurn lens made ds as' us → (k : ℕ) → holds_at is_opening_lead as' k ≡ true → holds_at (λ u. u.share.under) us k ≡ false → holds_at is_opening_lead (map (led_behind lens recover retry gives made f) us) k ≡ true

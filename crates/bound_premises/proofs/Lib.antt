@@ -1,4 +1,5 @@
 mod Ahead
+mod Asks
 mod News
 mod Places
 mod Tours

@@ -17,12 +17,14 @@ use Rattle.segment_ring.specs.declared.wire.Fate.TheVariants.{Pass, Lost}
 use Rattle.run_frames.specs.Led.{AreLed, unders, first_clocked, behind_lost, behind_back, still_led, waits_led, leads_behind}
 use Rattle.run_frames.specs.Orders.{is_in, opened_on, last_of}
 use Rattle.run_frames.specs.Runs.{Progress, nothing_sent}
-use Rattle.run_frames.specs.Toured.{IsToured}
+use Rattle.run_frames.specs.Answers.{AllAsk}
+use Rattle.run_frames.specs.Toured.{IsToured, AskIn}
 use Rattle.run_frames.specs.Tours.{IsVisited, PlacesOf, again_behind, last_lost}
 use Rattle.run_frames.specs.Waits.{all_anew}
 use Rattle.run_frames.proofs.Leading.{SeenIs, all_led_lost, all_led_back}
 use Rattle.visit_orders.specs.Toured as Visits
 use Rattle.visit_orders.specs.Toured.{tour_behind}
+use Rattle.bound_premises.proofs.Asks.{asks_same}
 use Rattle.bound_premises.proofs.Ahead.{out_stays, kept_stays, alone, not_in}
 use Rattle.bound_premises.proofs.Places.{Slave, lives_same, long_same, opened_same, places_are, comes_again, shares_are, under_same, last_round, last_first}
 
@@ -34,12 +36,16 @@ at_or_beyond n k l = elim (cases_order n k) [
 ]
 
 module _ (lens : ℕ → Lens) (recover retry slowest : ℕ) (first : List Leads) (paces : List ℕ) where
+  -- a run of one tour each frame of which asks by the inward half first
+  abbrev pub AskedTour : List Exchanged → Option (List ℕ) → ℕ → List Leads → Progress → List Slave → Type 0
+  AskedTour fs again missed as' p cs = (r : IsToured lens recover retry slowest first paces fs again missed as' p cs) × AskIn r
+
   -- the tour as it is counted, and where it stands: in the first bring-up nobody was carried last, those ahead are brought up yet, and it is the
   -- first of them that comes again
   pub record Bridge (fs : List Exchanged) (t : Tour) (as' : List Leads) : Type 0 where
     pub progress : Progress
     pub slaves : List Slave
-    pub toured : IsToured lens recover retry slowest first paces fs t.again t.missed as' progress slaves
+    pub asked : AskedTour fs t.again t.missed as' progress slaves
     pub opened : progress.opened ≡ t.opened
     pub last : progress.last ≡ t.last
     pub frames : progress.frames ≡ length fs
@@ -62,7 +68,7 @@ module _ (lens : ℕ → Lens) (recover retry slowest : ℕ) (first : List Leads
   mapped g (s ∷ ss) = ap suc (mapped g ss)
 
   module _ (seen_is : SeenIs) (fs : List Exchanged) (t : Tour) (as' : List Leads) (f : Exchanged) (us : List Turn) (visit : List ℕ) (b : Bridge fs t as') (l : IsLedFrame lens (length fs) f.sent as' us)
-      (o : IsOfTour (λ u. turn_share u) (λ k. holds_at is_live_lead as' k) (frame_size f.sent) (λ k. area_at lens as' k) t us (length (seen lens f.sent)) visit) where
+      (o : IsOfTour (λ u. turn_share u) (λ k. holds_at is_live_lead as' k) (frame_size f.sent) (λ k. area_at lens as' k) t us (length (seen lens f.sent)) visit) (asks : AllAsk (seen lens f.sent) us) where
     abbrev p : Progress
     p = b.progress
 
@@ -152,11 +158,11 @@ module _ (lens : ℕ → Lens) (recover retry slowest : ℕ) (first : List Leads
         let last = last_first t.opened (length lives) t.last ps (omega (arith, less, long_lives)) o.first.some in record {
           progress = record { frames = suc p.frames; lost = p.lost; still = p.still; opened = opened_on p.opened (behind_back lens recover retry slowest p.frames f us cs); last = None; waits = all_anew cs };
           slaves = behind_back lens recover retry slowest p.frames f us cs;
-          toured = subst
-            (λ m. IsToured lens recover retry slowest first paces (fs ++ f ∷ []) None m lives
+          asked = subst
+              (λ m. AskedTour (fs ++ f ∷ []) None m lives
               (record { frames = suc p.frames; lost = p.lost; still = p.still; opened = opened_on p.opened (behind_back lens recover retry slowest p.frames f us cs); last = None; waits = all_anew cs }) (behind_back lens recover retry slowest p.frames f us cs))
-            (ap (λ z. missed_behind lens recover retry z t.missed) fate)
-            (IsToured.opening fs t.again t.missed as' p cs f us ps b.toured l fate (omega (arith, less, b.opened)) visited);
+              (ap (λ z. missed_behind lens recover retry z t.missed) fate)
+              (IsToured.opening fs t.again t.missed as' p cs f us ps b.asked.0 l fate (omega (arith, less, b.opened)) visited, (asks, b.asked.1));
           opened = opened_on_is (behind_back lens recover retry slowest p.frames f us cs) led;
           last = last;
           frames = more fs f p.frames b.frames;
@@ -171,11 +177,11 @@ module _ (lens : ℕ → Lens) (recover retry slowest : ℕ) (first : List Leads
         let led = led_back fate in record {
           progress = record { frames = suc p.frames; lost = p.lost; still = still_led lens recover retry slowest p f us cs; opened = p.opened; last = last_of p.last ps; waits = waits_led lens recover retry slowest p f us cs };
           slaves = behind_back lens recover retry slowest p.frames f us cs;
-          toured = subst
-            (λ m. IsToured lens recover retry slowest first paces (fs ++ f ∷ []) None m lives
+          asked = subst
+              (λ m. AskedTour (fs ++ f ∷ []) None m lives
               (record { frames = suc p.frames; lost = p.lost; still = still_led lens recover retry slowest p f us cs; opened = p.opened; last = last_of p.last ps; waits = waits_led lens recover retry slowest p f us cs }) (behind_back lens recover retry slowest p.frames f us cs))
-            (ap (λ z. missed_behind lens recover retry z t.missed) fate)
-            (IsToured.round fs t.again t.missed as' p cs f us ps b.toured l fate (omega (arith, over, b.opened)) visited);
+              (ap (λ z. missed_behind lens recover retry z t.missed) fate)
+              (IsToured.round fs t.again t.missed as' p cs f us ps b.asked.0 l fate (omega (arith, over, b.opened)) visited, (asks, b.asked.1));
           opened = b.opened ∙ sym (opened_over over);
           last = ap (λ z. last_of z ps) b.last ∙ last_round t.opened (length lives) t.last ps (omega (arith, over, long_lives));
           frames = more fs f p.frames b.frames;
@@ -195,11 +201,11 @@ module _ (lens : ℕ → Lens) (recover retry slowest : ℕ) (first : List Leads
     led_lost : (after : ℕ) → f.fate ≡ Lost after → AreLed lives lost_slaves
     led_lost after fate = subst (λ n. AreLed lives (behind_lost lens recover retry slowest gives n f us cs)) (sym b.frames) (all_led_lost seen_is lens recover retry (length fs) f gives after l.datagrams (seen lens f.back) cs as' us b.led l.each fate)
 
-    lost_toured : (after : ℕ) → f.fate ≡ Lost after → IsToured lens recover retry slowest first paces (fs ++ f ∷ []) (again_behind gives ps) (missed_behind lens recover retry (Lost after) t.missed) lives lost_progress lost_slaves
+    lost_toured : (after : ℕ) → f.fate ≡ Lost after → AskedTour (fs ++ f ∷ []) (again_behind gives ps) (missed_behind lens recover retry (Lost after) t.missed) lives lost_progress lost_slaves
     lost_toured after fate = subst
-        (λ m. IsToured lens recover retry slowest first paces (fs ++ f ∷ []) (again_behind gives ps) m lives lost_progress lost_slaves)
+        (λ m. AskedTour (fs ++ f ∷ []) (again_behind gives ps) m lives lost_progress lost_slaves)
         (ap (λ z. missed_behind lens recover retry z t.missed) fate)
-        (IsToured.lost fs t.again t.missed as' p cs f us after ps b.toured l fate visited)
+        (IsToured.lost fs t.again t.missed as' p cs f us after ps b.asked.0 l fate visited, b.asked.1)
 
     -- the slaves come again
     stays_ahead : (after : ℕ) → f.fate ≡ Lost after → gives ≡ false → (k : ℕ) → t.opened ≤ k → k < length lives → holds_at is_opening_lead lives k ≡ true
@@ -229,8 +235,8 @@ module _ (lens : ℕ → Lens) (recover retry slowest : ℕ) (first : List Leads
         let led = led_lost after fate in record {
           progress = lost_progress;
           slaves = lost_slaves;
-          toured = subst (λ m. IsToured lens recover retry slowest first paces (fs ++ f ∷ []) (Some ps) m lives lost_progress lost_slaves) (ap (λ z. if z then t.missed + 1 else 0) few)
-            (subst (λ g. IsToured lens recover retry slowest first paces (fs ++ f ∷ []) (again_behind g ps) (missed_behind lens recover retry (Lost after) t.missed) lives lost_progress lost_slaves) none (lost_toured after fate));
+          asked = subst (λ m. AskedTour (fs ++ f ∷ []) (Some ps) m lives lost_progress lost_slaves) (ap (λ z. if z then t.missed + 1 else 0) few)
+              (subst (λ g. AskedTour (fs ++ f ∷ []) (again_behind g ps) (missed_behind lens recover retry (Lost after) t.missed) lives lost_progress lost_slaves) none (lost_toured after fate));
           opened = opened_on_is lost_slaves led ∙ opened_stays after fate none;
           last = last_again none;
           frames = more fs f p.frames b.frames;
@@ -254,8 +260,8 @@ module _ (lens : ℕ → Lens) (recover retry slowest : ℕ) (first : List Leads
         let led = led_lost after fate in record {
           progress = lost_progress;
           slaves = lost_slaves;
-          toured = subst (λ m. IsToured lens recover retry slowest first paces (fs ++ f ∷ []) None m lives lost_progress lost_slaves) (ap (λ z. if z then t.missed + 1 else 0) many)
-            (subst (λ g. IsToured lens recover retry slowest first paces (fs ++ f ∷ []) (again_behind g ps) (missed_behind lens recover retry (Lost after) t.missed) lives lost_progress lost_slaves) all (lost_toured after fate));
+          asked = subst (λ m. AskedTour (fs ++ f ∷ []) None m lives lost_progress lost_slaves) (ap (λ z. if z then t.missed + 1 else 0) many)
+              (subst (λ g. AskedTour (fs ++ f ∷ []) (again_behind g ps) (missed_behind lens recover retry (Lost after) t.missed) lives lost_progress lost_slaves) all (lost_toured after fate));
           opened = opened_on_is lost_slaves led;
           last = last_given all;
           frames = more fs f p.frames b.frames;
@@ -289,7 +295,7 @@ module _ (lens : ℕ → Lens) (recover retry slowest : ℕ) (first : List Leads
     bridged fs t as' Visits.IsToured.start = record {
       progress = nothing_sent None (first_clocked first paces);
       slaves = first_clocked first paces;
-      toured = IsToured.start;
+      asked = (IsToured.start, tt);
       opened = refl;
       last = refl;
       frames = refl;
@@ -298,4 +304,4 @@ module _ (lens : ℕ → Lens) (recover retry slowest : ℕ) (first : List Leads
       ahead = λ k from within. news k within;
       comes = λ same e. absurd (cc);
     }
-    bridged gs s bs (Visits.IsToured.on fs t as' f us visit r l o) = one_more seen_is fs t as' f us visit (bridged fs t as' r) l o
+    bridged gs s bs (Visits.IsToured.on fs t as' f us visit r l o) = one_more seen_is fs t as' f us visit (bridged fs t as' r) l o.visits (asks_same (seen lens f.sent) us o.asks)

@@ -9,15 +9,17 @@ use Rattle.master_node.specs.of_master_tour.Toured.{Tour}
 use Rattle.run_frames.specs.Clocks.{Clocked}
 use Rattle.run_frames.specs.Led.{AreLed}
 use Rattle.run_frames.specs.Runs.{Progress}
-use Rattle.run_frames.specs.Toured.{IsToured}
+use Rattle.run_frames.specs.Toured.{IsToured, AskIn}
 use Rattle.segment_plan.specs.Bound.{slowest}
 use Rattle.segment_plan.specs.declared.plan.Scenario.{Scenario}
 
--- how far the run has come, and its slaves with the clocks of their processors: its frames are visits of one tour, which stands where the master's does
+-- how far the run has come, and its slaves with the clocks of their processors: its frames are visits of one tour, which stands where the master's does,
+-- and ask by the inward half first
 pub record IsCounted (plan : Scenario) (fs : List Exchanged) (t : Tour) (leads : List Leads) : Type 0 where
   pub progress : Progress
   pub slaves : List (Clocked Body Asked Reply)
   pub toured : IsToured (lens_of plan.slaves) plan.recover plan.retry (slowest plan.paces) (first_leads plan) plan.paces fs t.again t.missed leads progress slaves
+  pub asks : AskIn toured
   pub opened : progress.opened ≡ t.opened
   pub frames : progress.frames ≡ length fs
   pub led : AreLed leads slaves

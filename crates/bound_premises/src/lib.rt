@@ -13,7 +13,7 @@ ghost use Rattle.visit_orders.specs.Toured.{IsToured};
 ghost use Rattle.bound_premises.specs.Tours.{IsCounted};
 
 /// THE FRAMES OF A MASTER'S TOUR ARE THE VISITS THAT THE COUNT OF FRAMES SPEAKS OF, frame by frame, with the slaves that come again, as many that have
-/// ended their first bring-up, and as many frames lost in a row.
+/// ended their first bring-up, and as many frames lost in a row; and each asks by the inward half first.
 pub fn toured_law()
     ensures { (plan : Scenario) (fs : List Exchanged) (t : Tour) (leads : List Leads) → IsPlan plan → IsToured (lens_of plan.slaves) plan.recover plan.retry (first_leads plan) fs t leads → IsCounted plan fs t leads }
 {

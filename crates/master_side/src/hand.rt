@@ -1,8 +1,10 @@
 //! What the newest service by mails of a slave has to offer.
 
 ghost use Rattle.std.specs.Prelude.{◌≡◌};
+ghost use Rattle.master_side.specs.Heard.{view_in};
 
 use mailbox_mail::{Kind, MailView};
+use mailbox_master::GotView;
 
 /// What a mail that was accepted is to the service in hand.
 #[derive(Clone, Copy, Debug, PartialEq, Eq)]
@@ -15,6 +17,16 @@ pub enum Heard {
     Last,
     /// A mail that the service does not await: nothing more is known of it.
     Foreign,
+}
+
+// The mail that was accepted.
+pub(crate) fn view_in<'a>(got: Option<GotView<'a>>) -> Option<MailView<'a>>
+    ensures { result ≡ view_in got.entry }
+{
+    match got {
+        Some(GotView::Mail(mail)) => Some(mail),
+        _ => None,
+    }
 }
 
 /// The newest service by mails of a slave, and the one that is laid ready to follow it. What it shows of its

@@ -10,15 +10,14 @@ ghost use Rattle.frame_view.specs.View.{found_of, state_found};
 ghost use Rattle.master_duty.specs.Stages.{stage_of};
 ghost use Rattle.master_duty.specs.Mets.{progress_of, KeepsTarget};
 ghost use Rattle.master_duty.specs.Reply.{Reply};
-ghost use Rattle.master_side.specs.Carried.{Asks, is_errand, duty_left};
-ghost use Rattle.master_side.specs.Heard.{view_in};
+ghost use Rattle.master_side.specs.Carried.{Asks, is_errand, duty_left, in_hand, is_by_half, is_behind_errand};
 
 use crate::carried::{Carried, Target, Wish};
-use crate::hand::{Hand, Heard};
+use crate::hand::{Hand, Heard, view_in};
 use crate::passing::{Passing, empty, heard, is_full, status_passed, told, written};
 use ec_fields::u16_at;
 use mailbox_mail::MailView;
-use mailbox_master::{GotView, InwardHalf, OutwardSeat, new_inward};
+use mailbox_master::{InwardHalf, OutwardSeat, new_inward};
 use master_duty::{Duty, Met};
 
 /// One slave as its master has it while it is open.
@@ -66,6 +65,8 @@ pub struct Side<H: Hand> {
     pub ghost in_most: { nat_le (in_area_len inn) area ≡ true },
     pub ghost most: { nat_le area 1486 ≡ true },
     pub ghost paced: { nat_le 1 pace ≡ true },
+    pub ghost by_half: { is_by_half carried (in_half_of inn).state ≡ true },
+    pub ghost behind: { is_behind_errand (in_hand duty) carried ≡ true },
 }
 
 impl<H: Hand> Side<H> {
@@ -448,16 +449,6 @@ impl<H: Hand> Side<H> {
             Carried::Inward => self.inward_back(counter, octets, made),
             Carried::Full | Carried::Control | Carried::Status => self.errand_back(counter, octets),
         }
-    }
-}
-
-// The mail that was accepted.
-fn view_in<'a>(got: Option<GotView<'a>>) -> Option<MailView<'a>>
-    ensures { result ≡ view_in got.entry }
-{
-    match got {
-        Some(GotView::Mail(mail)) => Some(mail),
-        _ => None,
     }
 }
 

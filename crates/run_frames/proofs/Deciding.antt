@@ -52,6 +52,29 @@ decide slaves pace n frames lost r q g h p s still some grows how few = by (nat_
             last true k less is o = (let won = leb-true (suc g) h k in Counts.gains refl refl (omega (arith, won, some)) is less (o ∙ ap (λ (z : Bool). if z then 0 else suc still) k))
             last false k less is o = (let won = leb-false (suc g) h k in Counts.nothing refl refl (omega (arith, won, grows)) is less (o ∙ ap (λ (z : Bool). if z then 0 else suc still) k) few)
 
+-- one that gained nothing, with nothing to repair, may count as lost
+idles : (slaves pace n frames lost r q g h p s still : ℕ) → g ≤ h → ((suc r ≤ q) × (suc g ≤ h) × (s ≤ broken slaves pace)) ⊎ ((q ≡ r) × ((s ≡ 0) ⊎ (suc s ≤ p))) → still_of r q g h p still ≡ suc still →
+    Counts slaves pace (tally frames lost (g - n) r p still) (tally (suc frames) (suc lost) (h - n) q s 0)
+idles slaves pace n frames lost r q g h p s still grows how nothing = by (nat_lt r q) refl nothing
+  where
+    by : (b : Bool) → nat_lt r q ≡ b → (if b then 0 else if nat_lt 0 p then still else if nat_lt g h then 0 else suc still) ≡ suc still → Counts slaves pace (tally frames lost (g - n) r p still) (tally (suc frames) (suc lost) (h - n) q s 0)
+    by true e o = absurd (let bad : 0 ≡ suc still = o in omega (arith, bad))
+    by false e o = at (nat_lt 0 p) refl o
+      where
+        at : (b : Bool) → nat_lt 0 p ≡ b → (if b then still else if nat_lt g h then 0 else suc still) ≡ suc still → Counts slaves pace (tally frames lost (g - n) r p still) (tally (suc frames) (suc lost) (h - n) q s 0)
+        at true f o = absurd (let bad : still ≡ suc still = o in omega (arith, bad))
+        at false f o = last (nat_lt g h) refl o
+          where
+            last : (c : Bool) → nat_lt g h ≡ c → (if c then 0 else suc still) ≡ suc still → Counts slaves pace (tally frames lost (g - n) r p still) (tally (suc frames) (suc lost) (h - n) q s 0)
+            last true k o = absurd (let bad : 0 ≡ suc still = o in omega (arith, bad))
+            last false k o =
+                let same : h ≡ g = (let won = leb-false (suc g) h k in omega (arith, won, grows)) in
+                let none : p ≡ 0 = (let less = leb-false 1 p f in omega (arith, less)) in
+                elim how [
+                  | inl more ↦ absurd (let less = leb-false (suc r) q e in omega (arith, less, more.0))
+                  | inr kept ↦ Counts.lost refl refl (ap (λ z. z - n) same) kept.0 (elim kept.1 [ inl zero' ↦ omega (arith, zero') | inr nearer ↦ omega (arith, nearer, none) ]) refl
+                ]
+
 -- each has gained 1 or more
 pub all_some : {M Q R : Type 0} (slowest : ℕ) (cs : List (Clocked M Q R)) → AllClocked slowest cs → length cs ≤ gains_all cs
 all_some slowest [] k = omega arith
@@ -78,10 +101,13 @@ module _ {M Q R : Type 0} (facts : Known M Q R) (x : Spot → Speech M Q R) (ack
   abbrev now : ℕ
   now = repair_of slowest (length as') opened last number as'
 
-  -- by what becomes of the repairs
-  frame_counts : (next : Option ℕ) → AllClocked slowest as' → AllUnder x acknowledged more passed number sent as' us →
-      ((suc (reopened_all as') ≤ reopened_all bs) × (suc (gains_all as') ≤ gains_all bs) × (repair_of slowest (length as') later next (suc number) bs ≤ broken (length as') slowest))
-      ⊎ ((reopened_all bs ≡ reopened_all as') × ((repair_of slowest (length as') later next (suc number) bs ≡ 0) ⊎ (suc (repair_of slowest (length as') later next (suc number) bs) ≤ now))) →
+  -- what becomes of the repairs
+  abbrev How : Option ℕ → Type 0
+  How next = ((suc (reopened_all as') ≤ reopened_all bs) × (suc (gains_all as') ≤ gains_all bs) × (repair_of slowest (length as') later next (suc number) bs ≤ broken (length as') slowest))
+      ⊎ ((reopened_all bs ≡ reopened_all as') × ((repair_of slowest (length as') later next (suc number) bs ≡ 0) ⊎ (suc (repair_of slowest (length as') later next (suc number) bs) ≤ now)))
+
+  -- by that
+  frame_counts : (next : Option ℕ) → AllClocked slowest as' → AllUnder x acknowledged more passed number sent as' us → How next →
       still_behind now as' bs still ≤ quiet (length as') slowest →
       Counts (length as') slowest (tally_of slowest (length as') opened last number lost still as') (tally_of slowest (length as') later next (suc number) lost (still_behind now as' bs still) bs)
   frame_counts next k t how few =
@@ -92,11 +118,9 @@ module _ {M Q R : Type 0} (facts : Known M Q R) (x : Spot → Speech M Q R) (ack
       (sym (as_many facts x acknowledged more passed number sent back as' us t)) one
 
   -- BEHIND THE FIRST BRING-UP
-  pub round_counts : (ps : List ℕ) → AllClocked slowest as' → AllUnder x acknowledged more passed number sent as' us → AllBring back as' us → length as' ≤ opened → length as' ≤ later → IsRound (length as') last as' us ps →
-      still_behind now as' bs still ≤ quiet (length as') slowest →
-      Counts (length as') slowest (tally_of slowest (length as') opened last number lost still as') (tally_of slowest (length as') later (last_of last ps) (suc number) lost (still_behind now as' bs still) bs)
-  round_counts ps k t b over more' r few = frame_counts (last_of last ps) k t (by (side_by_side facts x acknowledged more passed number sent back slowest (length as') last (last_of last ps) 0 as' us (omega arith) k t b
-      (round_near facts x acknowledged more passed number sent back (length as') last (last_of last ps) as' us ps refl r refl))) few
+  round_how : (ps : List ℕ) → AllClocked slowest as' → AllUnder x acknowledged more passed number sent as' us → AllBring back as' us → length as' ≤ opened → length as' ≤ later → IsRound (length as') last as' us ps → How (last_of last ps)
+  round_how ps k t b over more' r = by (side_by_side facts x acknowledged more passed number sent back slowest (length as') last (last_of last ps) 0 as' us (omega arith) k t b
+      (round_near facts x acknowledged more passed number sent back (length as') last (last_of last ps) as' us ps refl r refl))
     where
       before : now ≡ repair (length as') (in_round slowest (length as') last number 0 as')
       before = repair_round slowest (length as') opened last number as' over
@@ -107,9 +131,7 @@ module _ {M Q R : Type 0} (facts : Known M Q R) (x : Spot → Speech M Q R) (ack
       most : repair (length as') (in_round slowest (length as') (last_of last ps) (suc number) 0 bs) ≤ broken (length as') slowest
       most = all_most slowest (length as') (last_of last ps) (suc number) 0 bs (omega (arith, as_many facts x acknowledged more passed number sent back as' us t)) (back_clocked_all facts x acknowledged more passed number sent back slowest as' us k t b)
 
-      by : AllMet facts x acknowledged more passed number sent back slowest (length as') last (last_of last ps) 0 as' bs →
-          ((suc (reopened_all as') ≤ reopened_all bs) × (suc (gains_all as') ≤ gains_all bs) × (repair_of slowest (length as') later (last_of last ps) (suc number) bs ≤ broken (length as') slowest))
-          ⊎ ((reopened_all bs ≡ reopened_all as') × ((repair_of slowest (length as') later (last_of last ps) (suc number) bs ≡ 0) ⊎ (suc (repair_of slowest (length as') later (last_of last ps) (suc number) bs) ≤ now)))
+      by : AllMet facts x acknowledged more passed number sent back slowest (length as') last (last_of last ps) 0 as' bs → How (last_of last ps)
       by (AllMet.anew r' g) = inl (r', g, omega (arith, behind, most))
       by (AllMet.nearer r' m) = inr (
         r',
@@ -118,6 +140,21 @@ module _ {M Q R : Type 0} (facts : Known M Q R) (x : Spot → Speech M Q R) (ack
           | inr less ↦ inr (omega (arith, less, before, behind))
         ],
       )
+
+  pub round_counts : (ps : List ℕ) → AllClocked slowest as' → AllUnder x acknowledged more passed number sent as' us → AllBring back as' us → length as' ≤ opened → length as' ≤ later → IsRound (length as') last as' us ps →
+      still_behind now as' bs still ≤ quiet (length as') slowest →
+      Counts (length as') slowest (tally_of slowest (length as') opened last number lost still as') (tally_of slowest (length as') later (last_of last ps) (suc number) lost (still_behind now as' bs still) bs)
+  round_counts ps k t b over more' r few = frame_counts (last_of last ps) k t (round_how ps k t b over more' r) few
+
+  -- one with which a packet of the host came in counts as lost
+  pub enters_counts : (ps : List ℕ) → AllClocked slowest as' → AllUnder x acknowledged more passed number sent as' us → AllBring back as' us → length as' ≤ opened → length as' ≤ later → IsRound (length as') last as' us ps →
+      still_behind now as' bs still ≡ suc still → Counts (length as') slowest (tally_of slowest (length as') opened last number lost still as') (tally_of slowest (length as') later (last_of last ps) (suc number) (suc lost) 0 bs)
+  enters_counts ps k t b over more' r nothing =
+      let one = idles (length as') slowest (length as') number lost (reopened_all as') (reopened_all bs) (gains_all as') (gains_all bs) now (repair_of slowest (length as') later (last_of last ps) (suc number) bs) still
+      (all_grow facts x acknowledged more passed number sent back as' us t) (round_how ps k t b over more' r) nothing in
+      subst (λ z. Counts (length as') slowest (tally_of slowest (length as') opened last number lost still as')
+      (record { frames = suc number; lost = suc lost; gains = gains_all bs - z; reopened = reopened_all bs; repair = repair_of slowest (length as') later (last_of last ps) (suc number) bs; still = 0 }))
+      (sym (as_many facts x acknowledged more passed number sent back as' us t)) one
 
   -- IN THE FIRST BRING-UP
   pub opening_counts : (next : Option ℕ) → AllClocked slowest as' → AllUnder x acknowledged more passed number sent as' us → AllBring back as' us → opened < length as' → IsOpening us → (length as' ≤ later → AllRepaired bs) →

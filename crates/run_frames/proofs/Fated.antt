@@ -1,17 +1,15 @@
 -- No more frames are lost than the schedule has.
-use Rattle.std.proofs.Common.{◌≡◌, ℕ, zero, suc, ◌+◌, ◌<◌, ◌≤◌, ◌==◌, Bool, true, false, List, [], ◌∷◌, ◌++◌, length, refl, ap, arith, if◌then◌else◌, eqb-true}
+use Rattle.std.proofs.Common.{◌≡◌, ℕ, zero, suc, ◌+◌, ◌<◌, ◌≤◌, ◌==◌, Bool, true, false, List, [], ◌∷◌, length, refl, ap, arith, if◌then◌else◌, eqb-true}
 use Rattle.link_mails.specs.Body.{Body}
 use Rattle.life_measure.specs.Gains.{gains}
 use Rattle.life_runs.specs.Led.{Exchanged, Leads}
-use Rattle.frame_view.specs.View.{Lens}
 use Rattle.master_duty.specs.Reply.{Reply}
 use Rattle.master_hand.specs.Spoken.{Asked}
 use Rattle.segment_ring.specs.Schedule.{fate_at}
 use Rattle.segment_ring.specs.declared.wire.Fate.TheVariants.{Lost}
 use Rattle.run_frames.specs.Clocks.{Clocked, reopened, gains_all, reopened_all}
 use Rattle.run_frames.specs.Fates.{AreFated, lost_by, lost_of, gained_in}
-use Rattle.run_frames.specs.Led.{AreLed, IsTallied}
-use Rattle.run_frames.specs.Runs.{Progress}
+use Rattle.run_frames.specs.Led.{AreLed}
 
 -- so many of these frames are those of a row, from a number on
 abbrev hit : Bool → ℕ
@@ -66,21 +64,6 @@ fated lose number (f ∷ fs) a = omega (arith, ap lost_by a.0, fated lose (suc n
 
 pub few_lost : (lose : List (ℕ × ℕ)) (fs : List Exchanged) → AreFated lose 0 fs → lost_of fs ≤ length lose
 few_lost lose fs a = omega (arith, fated lose 0 fs a, few_scheduled lose 0 (length fs))
-
--- one frame more
-lost_more : (fs : List Exchanged) (f : Exchanged) → lost_of (fs ++ f ∷ []) ≡ lost_of fs + lost_by f.fate
-lost_more [] f = omega arith
-lost_more (e ∷ fs) f = omega (arith, lost_more fs f)
-
--- THE COUNT of them
-pub lost_is : (lens : ℕ → Lens) (recover retry slowest : ℕ) (first : List Leads) (paces : List ℕ) (fs : List Exchanged) (missed : ℕ) (as' : List Leads) (p : Progress) (cs : List (Clocked Body Asked Reply)) → IsTallied lens recover retry slowest first paces fs missed as' p cs → p.lost ≡ lost_of fs
-lost_is lens recover retry slowest first paces fs missed as' p cs IsTallied.start = refl
-lost_is lens recover retry slowest first paces gs missed' bs q ds (IsTallied.lost fs missed as' p cs f us after next r l fate one) =
-    omega (arith, lost_is lens recover retry slowest first paces fs missed as' p cs r, lost_more fs f, ap lost_by fate)
-lost_is lens recover retry slowest first paces gs missed' bs q ds (IsTallied.opening fs missed as' p cs f us next r l fate b under one) =
-    omega (arith, lost_is lens recover retry slowest first paces fs missed as' p cs r, lost_more fs f, ap lost_by fate)
-lost_is lens recover retry slowest first paces gs missed' bs q ds (IsTallied.round fs missed as' p cs f us ps r l fate b over round waits) =
-    omega (arith, lost_is lens recover retry slowest first paces fs missed as' p cs r, lost_more fs f, ap lost_by fate)
 
 -- WHAT IS GAINED, by the lives
 pub gained_is : (as' : List Leads) (cs : List (Clocked Body Asked Reply)) → AreLed as' cs → gains_all cs + reopened_all cs ≡ gained_in as'

@@ -10,7 +10,7 @@ use Rattle.run_frames.specs.Runs.{Progress, IsRun, many}
 use Rattle.run_frames.specs.Waits.{all_anew, waits_behind}
 use Rattle.run_frames.proofs.Bringing.{FirstFrom, new_opens, opened_more, all_ended, carries_one, carries_opening, first_lost, first_back}
 use Rattle.run_frames.proofs.Counting.{new_is, lost_counts, lost_clocked_all}
-use Rattle.run_frames.proofs.Deciding.{round_counts, opening_counts, opening_still, still_is}
+use Rattle.run_frames.proofs.Deciding.{round_counts, enters_counts, opening_counts, opening_still, still_is}
 use Rattle.run_frames.proofs.Returning.{Known, back_clocked_all, as_many, as_many_under, live_before, round_near}
 use Rattle.run_frames.proofs.Same.{GainsLost, as_many_lost}
 use Rattle.run_frames.proofs.Waiting.{AllWaited, LiveBefore, anew_waited, all_waited_on, some_few}
@@ -116,4 +116,20 @@ module _ {M Q R : Type 0} (facts : Known M Q R) (lost' : GainsLost M Q R) (x : S
         none = λ l. absurd (omega (arith, l, many', over));
         ring = λ l. absurd (omega (arith, l, many', over));
         waited = waited';
+      }
+  holds q cs (IsRun.enters p as' us sent back ps r t b over round nothing) =
+      let h = holds p as' r in
+      let bs = all_back x acknowledged more passed p.frames back as' us in
+      let k = back_clocked_all facts x acknowledged more passed p.frames sent back slowest as' us h.clocked t b in
+      let many' = as_many facts x acknowledged more passed p.frames sent back as' us t in
+      let c = enters_counts facts x acknowledged more passed slowest p.opened p.opened p.frames p.lost p.still p.last sent back as' us ps h.clocked t b over over round nothing in
+      record {
+        clocked = k;
+        long = many' ∙ h.long;
+        counted = Counted.more (tallied p as') (tallied q bs) h.counted
+            (subst (λ n. Counts n slowest (tally_of slowest n p.opened p.last p.frames p.lost p.still as') (tally_of slowest n p.opened (last_of p.last ps) (suc p.frames) (suc p.lost) 0 bs)) h.long c);
+        few = omega arith;
+        none = λ l. refl;
+        ring = λ l. absurd (omega (arith, l, many', over));
+        waited = anew_waited slowest (length first) (last_of p.last ps) (suc p.frames) 0 bs as' many' k;
       }

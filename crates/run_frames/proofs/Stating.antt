@@ -185,6 +185,7 @@ module _ {M Q R : Type 0} (x : Spot → Speech M Q R) (acknowledged : Q → Bool
   run_came recover slowest first q cs (IsRun.lost p as' us gives sent next r t one) = each_lost gives recover p.frames sent as' us t (run_came recover slowest first p as' r)
   run_came recover slowest first q cs (IsRun.opening p as' us sent back next r t b under one) = each_back p.frames sent back as' us t (run_came recover slowest first p as' r)
   run_came recover slowest first q cs (IsRun.round p as' us sent back ps r t b over round some) = each_back p.frames sent back as' us t (run_came recover slowest first p as' r)
+  run_came recover slowest first q cs (IsRun.enters p as' us sent back ps r t b over round nothing) = each_back p.frames sent back as' us t (run_came recover slowest first p as' r)
 
   -- OVER A RUN
   pub few_reopened : (recover slowest : ℕ) (first : List (Clocked M Q R)) (p : Runs.Progress) (cs : List (Clocked M Q R)) → IsRun x acknowledged more passed recover slowest first p cs → reopened_all cs ≤ states_all cs

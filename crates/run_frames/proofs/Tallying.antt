@@ -78,6 +78,18 @@ module _ (seen_is : SeenIs) (lens : ℕ → Lens) (recover retry slowest : ℕ) 
             (all_led_back seen_is lens recover retry p.frames f (gives_up_at lens recover retry missed) l'.datagrams cs as' us k.slaves l'.each fate);
         frames = one_more fs f p.frames k.frames;
       }
+  tallied gs missed' bs q ds (IsTallied.enters fs missed as' p cs f us ps r l fate b over round nothing) =
+      let k = tallied fs missed as' p cs r in
+      let l' = subst (λ n. IsLedFrame lens n f.sent as' us) (sym k.frames) l in
+      let view = led_view seen_is lens recover retry p.frames f l'.datagrams l'.frame in
+      record {
+        led = IsLed.on fs missed as' f us k.led l;
+        run = IsRun.enters p cs (unders (seen lens f.back) us) (seen lens f.sent) (seen lens f.back) ps k.run
+            (all_under seen_is lens recover retry p.frames f l'.datagrams (seen lens f.back) cs as' us k.slaves view l'.each) b over round nothing;
+        slaves = subst (λ n. AreLed (leads_behind lens recover retry slowest missed n f us) (behind_back lens recover retry slowest p.frames f us cs)) k.frames
+            (all_led_back seen_is lens recover retry p.frames f (gives_up_at lens recover retry missed) l'.datagrams cs as' us k.slaves l'.each fate);
+        frames = one_more fs f p.frames k.frames;
+      }
 
 -- ---- a plan's slaves before the first frame
 above : (most : ℕ) (paces : List ℕ) → most ≤ slowest_of most paces

@@ -107,3 +107,11 @@ module _ (seen_is : SeenIs) (lens : ℕ → Lens) (recover retry slowest : ℕ) 
         tallied = IsTallied.round fs missed as' p cs f us ps h.tallied l fate (brings fs missed as' p cs f us k l (last_returned lens fs f back fate) asks.0 answers.0) over (rounds (length cs) p.opened p.last cs (unders (seen lens f.back) us) ps over visit v.under) waits.0;
         same = tt;
       }
+  toured gs again' missed' bs q ds (IsToured.enters fs again missed as' p cs f us ps r l fate over v nothing) back asks answers waits =
+      let h = toured fs again missed as' p cs r (front_returned lens fs f back) asks.1 answers.1 waits in
+      let k = tallied seen_is lens recover retry slowest first paces begins fs missed as' p cs h.tallied in
+      let visit = visit_is again (length cs) p.opened p.last cs ps h.same v.places in
+      record {
+        tallied = IsTallied.enters fs missed as' p cs f us ps h.tallied l fate (brings fs missed as' p cs f us k l (last_returned lens fs f back fate) asks.0 answers.0) over (rounds (length cs) p.opened p.last cs (unders (seen lens f.back) us) ps over visit v.under) nothing;
+        same = tt;
+      }

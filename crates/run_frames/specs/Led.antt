@@ -58,7 +58,8 @@ module _ (lens : ℕ → Lens) (recover retry slowest : ℕ) where
 
   -- A RUN THAT A MASTER LEADS, frame by frame, with what the count of its frames asks for: in the first bring-up a frame carries the
   -- slave that is brought up, and behind it one that came back the first live slaves of a round; it brings each that it
-  -- carries what its access asks for; and behind one that gained nothing, with nothing to repair, some slave waits yet
+  -- carries what its access asks for; and behind one that gained nothing, with nothing to repair, some slave waits yet, or a
+  -- packet of the host came in with it, and it counts as lost
   pub data IsTallied (first : List Leads) (paces : List ℕ) : List Exchanged → ℕ → List Leads → Progress → List (Clocked Body Asked Reply) → Type 0 where
     start : IsTallied first paces [] 0 first (nothing_sent None (first_clocked first paces)) (first_clocked first paces)
     lost : (fs : List Exchanged) (missed : ℕ) (as' : List Leads) (p : Progress) (cs : List (Clocked Body Asked Reply)) (f : Exchanged) (us : List Turn) (after : ℕ) (next : Option ℕ) → IsTallied first paces fs missed as' p cs →
@@ -74,3 +75,7 @@ module _ (lens : ℕ → Lens) (recover retry slowest : ℕ) where
         (still_led p f us cs ≡ suc p.still → SomeWaits (behind_back p.frames f us cs) (waits_led p f us cs)) →
         IsTallied first paces (fs ++ f ∷ []) (missed_behind lens recover retry f.fate missed) (leads_behind missed (length fs) f us)
         (record { frames = suc p.frames; lost = p.lost; still = still_led p f us cs; opened = p.opened; last = last_of p.last ps; waits = waits_led p f us cs }) (behind_back p.frames f us cs)
+    enters : (fs : List Exchanged) (missed : ℕ) (as' : List Leads) (p : Progress) (cs : List (Clocked Body Asked Reply)) (f : Exchanged) (us : List Turn) (ps : List ℕ) → IsTallied first paces fs missed as' p cs →
+        IsLedFrame lens (length fs) f.sent as' us → f.fate ≡ Pass → AllBring (seen lens f.back) cs (unders (seen lens f.back) us) → length cs ≤ p.opened → IsRound (length cs) p.last cs (unders (seen lens f.back) us) ps → still_led p f us cs ≡ suc p.still →
+        IsTallied first paces (fs ++ f ∷ []) (missed_behind lens recover retry f.fate missed) (leads_behind missed (length fs) f us)
+        (record { frames = suc p.frames; lost = suc p.lost; still = 0; opened = p.opened; last = last_of p.last ps; waits = all_anew cs }) (behind_back p.frames f us cs)

@@ -16,7 +16,8 @@ use Rattle.run_frames.specs.Tours.{IsVisited, again_behind, last_lost}
 use Rattle.run_frames.specs.Waits.{all_anew, SomeWaits}
 
 module _ (lens : ℕ → Lens) (recover retry slowest : ℕ) where
-  -- frame by frame, with the slaves that come again: each is a visit of the tour, whether it is lost or comes back, in the first bring-up and behind it
+  -- frame by frame, with the slaves that come again: each is a visit of the tour, whether it is lost or comes back, in the first bring-up and behind it;
+  -- and one that gained nothing, with nothing to repair, may be one with which a packet of the host came in, and then counts as lost
   pub data IsToured (first : List Leads) (paces : List ℕ) : List Exchanged → Option (List ℕ) → ℕ → List Leads → Progress → List (Clocked Body Asked Reply) → Type 0 where
     start : IsToured first paces [] None 0 first (nothing_sent None (first_clocked first paces)) (first_clocked first paces)
     lost : (fs : List Exchanged) (again : Option (List ℕ)) (missed : ℕ) (as' : List Leads) (p : Progress) (cs : List (Clocked Body Asked Reply)) (f : Exchanged) (us : List Turn) (after : ℕ) (ps : List ℕ) → IsToured first paces fs again missed as' p cs →
@@ -32,6 +33,10 @@ module _ (lens : ℕ → Lens) (recover retry slowest : ℕ) where
         IsLedFrame lens (length fs) f.sent as' us → f.fate ≡ Pass → length cs ≤ p.opened → IsVisited again (length cs) p.opened p.last cs (unders (seen lens f.back) us) ps →
         IsToured first paces (fs ++ f ∷ []) None (missed_behind lens recover retry f.fate missed) (leads_behind lens recover retry slowest missed (length fs) f us)
         (record { frames = suc p.frames; lost = p.lost; still = still_led lens recover retry slowest p f us cs; opened = p.opened; last = last_of p.last ps; waits = waits_led lens recover retry slowest p f us cs }) (behind_back lens recover retry slowest p.frames f us cs)
+    enters : (fs : List Exchanged) (again : Option (List ℕ)) (missed : ℕ) (as' : List Leads) (p : Progress) (cs : List (Clocked Body Asked Reply)) (f : Exchanged) (us : List Turn) (ps : List ℕ) → IsToured first paces fs again missed as' p cs →
+        IsLedFrame lens (length fs) f.sent as' us → f.fate ≡ Pass → length cs ≤ p.opened → IsVisited again (length cs) p.opened p.last cs (unders (seen lens f.back) us) ps → still_led lens recover retry slowest p f us cs ≡ suc p.still →
+        IsToured first paces (fs ++ f ∷ []) None (missed_behind lens recover retry f.fate missed) (leads_behind lens recover retry slowest missed (length fs) f us)
+        (record { frames = suc p.frames; lost = suc p.lost; still = 0; opened = p.opened; last = last_of p.last ps; waits = all_anew cs }) (behind_back lens recover retry slowest p.frames f us cs)
 
 module _ {lens : ℕ → Lens} {recover retry slowest : ℕ} {first : List Leads} {paces : List ℕ} where
   -- EACH FRAME THAT CAME BACK asked by the inward half first
@@ -40,6 +45,7 @@ module _ {lens : ℕ → Lens} {recover retry slowest : ℕ} {first : List Leads
   AskIn (IsToured.lost fs again missed as' p cs f us after ps run led fate visit) = AskIn run
   AskIn (IsToured.opening fs again missed as' p cs f us ps run led fate under visit) = AllAsk (seen lens f.sent) us × AskIn run
   AskIn (IsToured.round fs again missed as' p cs f us ps run led fate over visit) = AllAsk (seen lens f.sent) us × AskIn run
+  AskIn (IsToured.enters fs again missed as' p cs f us ps run led fate over visit nothing) = AllAsk (seen lens f.sent) us × AskIn run
 
   -- and each slave answered by it what awaits a step
   abbrev pub AnswerIn : {fs : List Exchanged} {again : Option (List ℕ)} {missed : ℕ} {as' : List Leads} {p : Progress} {cs : List (Clocked Body Asked Reply)} → IsToured lens recover retry slowest first paces fs again missed as' p cs → Type 0
@@ -47,11 +53,13 @@ module _ {lens : ℕ → Lens} {recover retry slowest : ℕ} {first : List Leads
   AnswerIn (IsToured.lost fs again missed as' p cs f us after ps run led fate visit) = AnswerIn run
   AnswerIn (IsToured.opening fs again missed as' p cs f us ps run led fate under visit) = AllAnswer (seen lens f.back) cs us × AnswerIn run
   AnswerIn (IsToured.round fs again missed as' p cs f us ps run led fate over visit) = AllAnswer (seen lens f.back) cs us × AnswerIn run
+  AnswerIn (IsToured.enters fs again missed as' p cs f us ps run led fate over visit nothing) = AllAnswer (seen lens f.back) cs us × AnswerIn run
 
-  -- BEHIND EACH FRAME THAT GAINED NOTHING, with nothing to repair, some slave waits yet
+  -- BEHIND EACH FRAME THAT GAINED NOTHING, with nothing to repair, some slave waits yet, unless a packet of the host came in with it
   abbrev pub WaitIn : {fs : List Exchanged} {again : Option (List ℕ)} {missed : ℕ} {as' : List Leads} {p : Progress} {cs : List (Clocked Body Asked Reply)} → IsToured lens recover retry slowest first paces fs again missed as' p cs → Type 0
   WaitIn IsToured.start = ⊤
   WaitIn (IsToured.lost fs again missed as' p cs f us after ps run led fate visit) = WaitIn run
   WaitIn (IsToured.opening fs again missed as' p cs f us ps run led fate under visit) = WaitIn run
   WaitIn (IsToured.round fs again missed as' p cs f us ps run led fate over visit) =
       (still_led lens recover retry slowest p f us cs ≡ suc p.still → SomeWaits (behind_back lens recover retry slowest p.frames f us cs) (waits_led lens recover retry slowest p f us cs)) × WaitIn run
+  WaitIn (IsToured.enters fs again missed as' p cs f us ps run led fate over visit nothing) = WaitIn run

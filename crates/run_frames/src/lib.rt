@@ -21,7 +21,7 @@ ghost use Rattle.run_frames.specs.Brings.{AllBring};
 ghost use Rattle.run_frames.specs.Clocks.{Clocked, gains_all, reopened_all, repair_of, still_behind, tally_of};
 ghost use Rattle.run_frames.specs.Goes.{Under, AllUnder, AllClocked, OneUnder, all_back, all_lost};
 ghost use Rattle.run_frames.specs.Orders.{IsOpening, IsRound, AllRepaired, last_of};
-ghost use Rattle.run_frames.specs.Fates.{AreFated, gained_in};
+ghost use Rattle.run_frames.specs.Fates.{AreFated, gained_in, lost_of};
 ghost use Rattle.run_frames.specs.Led.{AreLed, IsTallied};
 ghost use Rattle.run_frames.specs.Runs.{Progress, IsRun};
 ghost use Rattle.run_frames.specs.States.{states_all};
@@ -83,15 +83,17 @@ pub fn led_counts()
         IsLed (lens_of plan.slaves) plan.recover plan.retry (first_leads plan) fs missed as' × AreLed as' cs × (p.frames ≡ length fs) }
     ensures counted { (plan : Scenario) (fs : List Exchanged) (missed : ℕ) (as' : List Leads) (p : Progress) (cs : List (Clocked Body Asked Reply)) → IsPlan plan → IsTallied (lens_of plan.slaves) plan.recover plan.retry (slowest plan.paces) (first_leads plan) plan.paces fs missed as' p cs →
         Counted (length plan.slaves) (slowest plan.paces) (new_tally (length plan.slaves * (5 + slowest plan.paces))) (tally_of (slowest plan.paces) (length plan.slaves) p.opened p.last p.frames p.lost p.still cs) }
-    ensures within { (plan : Scenario) (fs : List Exchanged) (missed work : ℕ) (as' : List Leads) (p : Progress) (cs : List (Clocked Body Asked Reply)) → IsPlan plan → IsTallied (lens_of plan.slaves) plan.recover plan.retry (slowest plan.paces) (first_leads plan) plan.paces fs missed as' p cs →
-        AreFated plan.lose 0 fs → gained_in as' ≤ length plan.slaves + work → length fs < 16 * slowest plan.paces * (length plan.slaves + 1) * (work + length plan.lose + 2 * length plan.slaves) }
+    // Besides the frames that the schedule loses `entered` more count as lost: those with which a packet of the host came in and nothing was gained.
+    ensures within { (plan : Scenario) (fs : List Exchanged) (missed work entered : ℕ) (as' : List Leads) (p : Progress) (cs : List (Clocked Body Asked Reply)) → IsPlan plan → IsTallied (lens_of plan.slaves) plan.recover plan.retry (slowest plan.paces) (first_leads plan) plan.paces fs missed as' p cs →
+        AreFated plan.lose 0 fs → gained_in as' ≤ length plan.slaves + work → p.lost ≤ lost_of fs + entered → length fs < 16 * slowest plan.paces * (length plan.slaves + 1) * (work + entered + length plan.lose + 2 * length plan.slaves) }
 {
     frame_view::seen_is();
 }
 
 /// A RUN THAT A MASTER LEADS COUNTS, where its frames are visits of one tour: in the first bring-up of the slave that is brought up, behind it of the first
 /// live slaves of a round, and behind a lost frame of those that it carried, unless they were given up. What came back of each is the return of what was
-/// sent; it asked by the inward half first, and each slave answered what awaits a step behind one; and while nothing is gained some slave waits yet.
+/// sent; it asked by the inward half first, and each slave answered what awaits a step behind one; and while nothing is gained some slave waits yet,
+/// unless a packet of the host came in.
 pub fn toured_law()
     ensures { (plan : Scenario) (fs : List Exchanged) (again : Option (List ℕ)) (missed : ℕ) (as' : List Leads) (p : Progress) (cs : List (Clocked Body Asked Reply)) → IsPlan plan →
         (run : IsToured (lens_of plan.slaves) plan.recover plan.retry (slowest plan.paces) (first_leads plan) plan.paces fs again missed as' p cs) → AllReturned (lens_of plan.slaves) fs → AskIn run → AnswerIn run → WaitIn run →

@@ -19,6 +19,7 @@ use Rattle.master_node.specs.of_life_runs.Led.{new_leads}
 use Rattle.master_node.specs.of_life_model.Lives.{Spot}
 use Rattle.master_node.specs.Brought.{HasBrought}
 use Rattle.master_node.specs.Shows.{MasterShows, MasterUnder, IsLead, IsUnder, is_live_lead}
+use Rattle.master_node.specs.Asks.{AllAsk}
 use Rattle.master_node.specs.Toured.{tour_of, turn_share}
 use Rattle.master_node.specs.Told.{HasLeads}
 use Rattle.master_node.proofs.Lists.{both_map}
@@ -165,7 +166,8 @@ module _ (m0 m1 m2 : MasterNode) (f : Exchanged) (result : Next)
     (idle : (result ≡ nexts.Idle) ↔ (has_live m0 ≡ false))
     (led : result ≡ nexts.Frame → (lens : ℕ → Lens) (recover retry missed number : ℕ) (as' : List Leads) → MasterShows lens recover retry m0 missed as' → (us : List Turn) × IsLedFrame lens number f.sent as' us × MasterUnder lens recover retry m1 f.sent missed us)
     (visits : result ≡ nexts.Frame → (lens : ℕ → Lens) (recover retry missed : ℕ) (as' : List Leads) (us : List Turn) → MasterShows lens recover retry m0 missed as' → MasterUnder lens recover retry m1 f.sent missed us →
-    (tour_of m1 ≡ tour_of m0) × IsOfTour (λ u. turn_share u) (λ k. holds_at is_live_lead as' k) (frame_size f.sent) (λ k. area_at lens as' k) (tour_of m0) us (length (seen lens f.sent)) m1.tour.visit.items) where
+    (tour_of m1 ≡ tour_of m0) × IsOfTour (λ u. turn_share u) (λ k. holds_at is_live_lead as' k) (frame_size f.sent) (λ k. area_at lens as' k) (tour_of m0) us (length (seen lens f.sent)) m1.tour.visit.items)
+    (asks : result ≡ nexts.Frame → (lens : ℕ → Lens) (recover retry missed : ℕ) (us : List Turn) → MasterUnder lens recover retry m1 f.sent missed us → AllAsk (seen lens f.sent) us) where
   -- where some slave is live there is one
   made_by : (r : Next) → result ≡ r → has_live m0 ≡ true → result ≡ nexts.Frame
   made_by nexts.Frame e live = e
@@ -187,6 +189,9 @@ module _ (m0 m1 m2 : MasterNode) (f : Exchanged) (result : Next)
     visited : (tour_of m1 ≡ tour_of m0) × IsOfTour (λ u. turn_share u) (λ k. holds_at is_live_lead l.leads k) (frame_size f.sent) (λ k. area_at lens l.leads k) (tour_of m0) made.0 (length (seen lens f.sent)) m1.tour.visit.items
     visited = visits (made_by result refl live) lens plan.recover plan.retry l.missed l.leads made.0 l.shows made.2
 
+    asked : AllAsk (seen lens f.sent) made.0
+    asked = asks (made_by result refl live) lens plan.recover plan.retry l.missed made.0 made.2
+
     -- where the tour stands behind it
     abbrev tour : ℕ → Tour → Tour
     tour missed t = tour_behind plan.retry f.fate (lives_behind lens plan.recover plan.retry missed (length fs) f made.0) t m1.tour.visit.items
@@ -194,7 +199,7 @@ module _ (m0 m1 m2 : MasterNode) (f : Exchanged) (result : Next)
     toured_on : TouredTo plan (fs ++ f ∷ []) (tour l.missed (tour_of m0)) (leads made.0)
     toured_on =
         subst (λ (n : ℕ). TouredTo plan (fs ++ f ∷ []) (tour n (tour_of m0)) (lives_behind lens plan.recover plan.retry n (length fs) f made.0)) l.shows.missed_is
-        (IsToured.on fs (tour_of m0) l.leads f made.0 m1.tour.visit.items l.toured made.1 visited.1)
+        (IsToured.on fs (tour_of m0) l.leads f made.0 m1.tour.visit.items l.toured made.1 (record { visits = visited.1; asks = asked }))
 
     pub led_on : AreLed plan (fs ++ f ∷ [])
     led_on = record { missed = _; leads = leads made.0; lives = IsLed.on fs l.missed l.leads f made.0 l.lives made.1; tour = tour l.missed (tour_of m0); toured = toured_on }

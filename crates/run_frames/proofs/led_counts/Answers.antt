@@ -1,4 +1,4 @@
-use Rattle.std.proofs.Common.{subst, arith}
+use Rattle.std.proofs.Common.{◌≡◌, subst, arith}
 use Rattle.std.specs.Prelude.{◌≤◌, ◌<◌, ◌+◌, ◌*◌, length}
 use Rattle.life_measure.proofs.Paying.{within}
 use Rattle.life_measure.specs.Tally.{Counted, new_tally}
@@ -11,7 +11,7 @@ use Rattle.segment_plan.specs.Bound.{slowest}
 use Rattle.run_frames.specs.Clocks.{tally_of}
 use Rattle.run_frames.specs.Led.{first_clocked}
 use Rattle.run_frames.proofs.Deciding.{all_some}
-use Rattle.run_frames.proofs.Fated.{few_lost, lost_is, gained_is}
+use Rattle.run_frames.proofs.Fated.{few_lost, gained_is}
 use Rattle.run_frames.proofs.Returning.{known, gains_lost}
 use Rattle.run_frames.proofs.Running.{holds}
 use Rattle.run_frames.proofs.Tallying.{tallied, first_of_plan, some_slowest}
@@ -31,13 +31,14 @@ returns-clause-counted c = λ plan fs missed as' p cs is t.
     subst (λ n. Counted n (slowest plan.paces) (new_tally (n * (5 + slowest plan.paces))) (tally_of (slowest plan.paces) n p.opened p.last p.frames p.lost p.still cs)) b.3 h.counted
 
 pub returns-clause-within : goal.returns-clause-within
-returns-clause-within c = λ plan fs missed work as' p cs is t fated enough.
+returns-clause-within c = λ plan fs missed work entered as' p cs is t fated enough entering.
     let b = first_of_plan plan.services plan.slaves plan.paces is.laid.paces is.laid.pace in
     let k = tallied c.seen_is.ensures (lens_of plan.slaves) plan.recover plan.retry (slowest plan.paces) (first_leads plan) plan.paces (b.0, b.1, b.2) fs missed as' p cs t in
     let h = holds (known Body Asked Reply) (gains_lost Body Asked Reply) (speech_at (lens_of plan.slaves)) acknowledged is_followed is_passed plan.recover (slowest plan.paces) (first_clocked (first_leads plan) plan.paces) p cs k.run in
     let counted = subst (λ n. Counted n (slowest plan.paces) (new_tally (n * (5 + slowest plan.paces))) (tally_of (slowest plan.paces) n p.opened p.last p.frames p.lost p.still cs)) b.3 h.counted in
-    let few : p.lost ≤ length plan.lose = omega (arith, lost_is (lens_of plan.slaves) plan.recover plan.retry (slowest plan.paces) (first_leads plan) plan.paces fs missed as' p cs t, few_lost plan.lose fs fated) in
+    let few : p.lost ≤ entered + length plan.lose = omega (arith, entering, few_lost plan.lose fs fated) in
     let least = all_some (slowest plan.paces) cs h.clocked in
-    let all = within (length plan.slaves) (slowest plan.paces) (length plan.slaves * (5 + slowest plan.paces)) work (length plan.lose) (tally_of (slowest plan.paces) (length plan.slaves) p.opened p.last p.frames p.lost p.still cs)
+    let all = within (length plan.slaves) (slowest plan.paces) (length plan.slaves * (5 + slowest plan.paces)) work (entered + length plan.lose) (tally_of (slowest plan.paces) (length plan.slaves) p.opened p.last p.frames p.lost p.still cs)
     is.laid.some_slave (some_slowest plan.paces (omega (arith, is.laid.paces, is.laid.some_slave)) is.laid.pace) (omega arith) counted (omega (arith, h.long, b.3, least, gained_is as' cs k.slaves, enough)) few in
-    subst (λ n. n < 16 * slowest plan.paces * (length plan.slaves + 1) * (work + length plan.lose + 2 * length plan.slaves)) k.frames all
+    let sum : work + (entered + length plan.lose) + 2 * length plan.slaves ≡ work + entered + length plan.lose + 2 * length plan.slaves = omega arith in
+    subst (λ n. n < 16 * slowest plan.paces * (length plan.slaves + 1) * (work + entered + length plan.lose + 2 * length plan.slaves)) k.frames (subst (λ z. p.frames < 16 * slowest plan.paces * (length plan.slaves + 1) * z) sum all)

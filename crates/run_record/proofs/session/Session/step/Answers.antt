@@ -72,7 +72,7 @@ returns-clause-ok c =
         leads = λ plan fs recover counts live l.
             let live : has_live c.self.inside.master ≡ true = ap (λ (s : SessionState). has_live s.master) c.self.view_is ∙ live in
             let same : Leading plan c.self.inside.master c.self.inside.log.notes fs = subst (λ (s : SessionState). Leading plan s.master s.notes fs) (sym c.self.view_is) l in
-            leads_on c.self.inside.master c.next.new.self c.tell.new.master (exchanged f) c.next.result c.next.ensures.idle c.next.ensures.led c.next.ensures.toured plan fs live c.self.inside.log.notes same
+            leads_on c.self.inside.master c.next.new.self c.tell.new.master (exchanged f) c.next.result c.next.ensures.idle c.next.ensures.led c.next.ensures.toured c.next.ensures.asks plan fs live c.self.inside.log.notes same
             (λ number us frame under. c.tell.ensures.leads (lens_of plan.slaves) plan.recover plan.retry same.missed number us (exchanged f) refl refl under
             (λ pass. returned (lens_of plan.slaves) c.self.inside.ring (exchanged f) number same.leads us c.exchange-fate.ensures.fate c.exchange-fate.ensures.back frame pass))
             (λ number us frame under. c.tell.ensures.toured (lens_of plan.slaves) plan.recover plan.retry same.missed number us (exchanged f) refl refl under
@@ -102,4 +102,4 @@ returns-clause-err c =
     (λ plan fs live l.
     let live : has_live c.self.inside.master ≡ true = ap (λ (s : SessionState). has_live s.master) c.self.view_is ∙ live in
     let same : Leading plan c.self.inside.master c.self.inside.log.notes fs = subst (λ (s : SessionState). Leading plan s.master s.notes fs) (sym c.self.view_is) l in
-    led_on c.self.inside.master c.next.new.self c.tell.new.master (exchanged f) c.next.result c.next.ensures.idle c.next.ensures.led c.next.ensures.toured plan fs live c.self.inside.log.notes same))
+    led_on c.self.inside.master c.next.new.self c.tell.new.master (exchanged f) c.next.result c.next.ensures.idle c.next.ensures.led c.next.ensures.toured c.next.ensures.asks plan fs live c.self.inside.log.notes same))
