@@ -4,9 +4,9 @@ use Rattle.datagrams.specs.Datagram as Raw
 use Rattle.datagrams.specs.Frame.{IsFrame, chained}
 use Rattle.frame_view.specs.Seen.{seen}
 use Rattle.frame_view.specs.View.{Lens}
-use Rattle.life_frames.specs.Shares.{came_at}
+use Rattle.life_frames.specs.Shares.{came_at, Asked as FrameHas}
 use Rattle.life_measure.specs.Repairs.{way_of}
-use Rattle.life_model.specs.Lives.{Spot, Life, Opening, Stand}
+use Rattle.life_model.specs.Lives.{Spot, Life, Era, Opening, Stand, life_next}
 use Rattle.life_model.specs.Own.{own}
 use Rattle.link_mails.specs.Body.{Body}
 use Rattle.run_frames.specs.Answers.{EachAsks, EachAnswers, OpeningAnswers}
@@ -16,7 +16,7 @@ use Rattle.segment_model.specs.Slaves.{Datagram, Found}
 use Rattle.segment_ring.specs.Ring.{RingState, ring_returned}
 use Rattle.segment_ring.specs.declared.wire.Fate.{Fate}
 use Rattle.segment_ring.specs.declared.wire.Fate.TheVariants.{Pass, Lost}
-use Rattle.slave_clocks.specs.Stands.{StandsTo, CameFirst, Asked}
+use Rattle.slave_clocks.specs.Stands.{StandsTo, CameFirst}
 use Rattle.slave_clocks.proofs.Answering as Answering
 use Rattle.slave_clocks.proofs.Turns as Clocks
 use Rattle.slave_lives.specs.Lived.{Behind, RingFrame, node_behind, frame_of}
@@ -54,14 +54,14 @@ module _ {S V A Q R : Type 0} (lens : ℕ → Lens) (step : Node S → Node S) (
     comes : Whole.FrameComes w m.plan m.spot m.life.stand t
     comes = Members.comes lens step fits more passed fs ring octets gs is_frame all r meet bs m cs a whole is x
 
-    asked : _
+    asked : FrameHas w.lens gs (record { spot = m.spot; life = next_life more passed (length fs) w m.life a }) a.share
     asked = Members.asked lens step fits more passed fs ring octets gs is_frame all r meet bs m cs a whole is x
 
     abbrev came : Option (Bool × Option Found)
     came = came_at a.share.under a.share.at (frame_of w.lens t).back
 
-    turns : Whole.TurnsAs w more passed m.plan m.spot fs t a.pick a.news came m.life.era m.life.stand
-    turns = One.turns_as w m.clearing m.plan m.spot is.whole m.first fs t near few m.life is.lived step (fits m.spot) is.serves is.server is.room more passed a gs refl comes asked is.boots x.boots m.life.stand refl
+    its_turn : Whole.TurnsAs w more passed m.plan m.spot fs t a.pick a.news came m.life.era m.life.stand
+    its_turn = One.turns_as w m.clearing m.plan m.spot is.whole m.first fs t near few m.life is.lived step (fits m.spot) is.serves is.server is.room more passed a gs refl comes asked is.boots x.boots m.life.stand refl
 
     came_so : (o : Opening) → m.life.stand ≡ Stand.Opens o → CameSo w m.plan o t came
     came_so = One.came_so w m.clearing m.plan m.spot is.whole m.first fs t near few m.life is.lived step (fits m.spot) is.serves is.server is.room more passed a gs refl comes asked is.boots x.boots
@@ -83,7 +83,7 @@ module _ {S V A Q R : Type 0} (lens : ℕ → Lens) (step : Node S → Node S) (
         (subst (λ (number : ℕ). Right (life_by more passed (length fs) (frame_at w.lens ring octets) (fate_seen (fate_in ring)) w m.spot m.life a) number (node_behind w.running t)) r.number
         (subst (λ (k : Life Body Q R). Right k ring.number (node_behind w.running t))
           (One.same_life w m.clearing m.plan m.spot is.whole m.first fs t near few m.life is.lived step (fits m.spot) is.serves is.server is.room more passed a gs refl comes asked is.boots x.boots (frame_of w.lens t).fate)
-          (Clocks.turns w m.clearing m.plan m.spot is.whole m.first m.life fs t more passed a.pick a.news came is.lived b comes turns prior))))
+          (Clocks.turns w m.clearing m.plan m.spot is.whole m.first m.life fs t more passed a.pick a.news came is.lived b comes its_turn prior))))
 
     -- WHAT IT ANSWERS
     abbrev before : Life Body Q R
@@ -97,18 +97,18 @@ module _ {S V A Q R : Type 0} (lens : ℕ → Lens) (step : Node S → Node S) (
     by_stand (Stand.Opens o) e pass now f y s asks = Answering.opening_answers w m.plan m.spot is.lived.from m.life.era fs o t b now s came (first_of o e)
     by_stand Stand.Open e pass now f y s asks =
         let era_is : before.era ≡ Whole.era_before w more passed m.spot fs t a.pick a.news m.life.era = next_open e in
-        subst (λ (z : _). EachAnswers b z.side.halves.inn.state z.side.halves.inn.bit (own m.spot.station (frame_of w.lens t).back)) (sym era_is)
+        subst (λ (z : Era Body Q R). EachAnswers b z.side.halves.inn.state z.side.halves.inn.bit (own m.spot.station (frame_of w.lens t).back)) (sym era_is)
           (Answering.half_answers w m.clearing m.plan m.spot is.whole is.lived.from m.life.era fs t more passed a.pick a.news now.lives.epoch f y.asks b s pass
-            (subst (λ (z : _). EachAsks z.side.halves.inn.state z.side.halves.inn.bit (own m.spot.station (seen w.lens octets))) era_is (asks refl)))
+            (subst (λ (z : Era Body Q R). EachAsks z.side.halves.inn.state z.side.halves.inn.bit (own m.spot.station (seen w.lens octets))) era_is (asks refl)))
       where
         next_open : m.life.stand ≡ Stand.Open → before.era ≡ Whole.era_before w more passed m.spot fs t a.pick a.news m.life.era
-        next_open e = ap (λ (z : Stand). (Rattle.life_model.specs.Lives.life_next w.exchange.speech w.states.acknowledged more passed (length fs) m.life z a.pick).era) e
+        next_open e = ap (λ (z : Stand). (life_next w.exchange.speech w.states.acknowledged more passed (length fs) m.life z a.pick).era) e
     by_stand Stand.Gone e pass now f y s asks = tt
 
     pub one_answers : fate_in ring ≡ Pass → AsksAs (seen lens octets) m.spot before m.life.stand → AnswersAs (seen lens (ring_returned node_passed ring octets)) b m.spot before a.share m.life.stand
     one_answers pass asks =
         subst (λ (k : ℕ → Lens). AnswersAs (seen k (ring_returned node_passed ring octets)) b m.spot before a.share m.life.stand) is.lens_is
-          (by_stand m.life.stand refl pass is.lived.now comes turns prior (subst (λ (k : ℕ → Lens). AsksAs (seen k octets) m.spot before m.life.stand) (sym is.lens_is) asks))
+          (by_stand m.life.stand refl pass is.lived.now comes its_turn prior (subst (λ (k : ℕ → Lens). AsksAs (seen k octets) m.spot before m.life.stand) (sym is.lens_is) asks))
 
   -- ---- all of them
   pub each_stand : (bs cs : List (Member S V A Q R)) (turns : List (Turn Q)) (clocks : List Bool) → bs ++ cs ≡ all → AllLived lens step fits fs (length bs) cs → AllTurn more passed lens (length fs) gs cs turns → AllStand clocks cs →

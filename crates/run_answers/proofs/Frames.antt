@@ -99,7 +99,7 @@ module _ (seen_is : SeenIs) (plan : Scenario) (is : Plan.IsPlan plan) (known : I
 
   pub record On (ds : List Slave) : Type 0 where
     pub lived : AreLived plan (fs ++ f ∷ []) (map (Led.led_behind (lens_of plan.slaves) plan.recover plan.retry (gives_up_at (lens_of plan.slaves) plan.recover plan.retry missed) (length fs) f) us)
-    pub pairs : AllPair ds lived.members
+    pub paired : AllPair ds lived.members
 
   frame_is : frame_at lens ring f.sent ≡ frame_seen lens f
   frame_is = λ i. record { sent = seen lens f.sent; fate = fate_seen (sym w.fate i); back = seen lens (sym w.back i) }
@@ -120,7 +120,7 @@ module _ (seen_is : SeenIs) (plan : Scenario) (is : Plan.IsPlan plan) (known : I
           led = all_led;
           shown = shows;
         };
-        pairs = pairs_on plan made 0 plan.slaves cs ds x.members ns leads (subst (λ (n : ℕ). RunOn n cs ds) (frames ∙ sym many) run) pairs same now shows stand;
+        paired = pairs_on plan made 0 plan.slaves cs ds x.members ns leads (subst (λ (n : ℕ). RunOn n cs ds) (frames ∙ sym many) run) pairs same now shows stand;
       }
 
   long : length (unders (seen lens f.back) us) ≡ length cs

@@ -93,8 +93,8 @@ pairs_on plan made place (spec ∷ ss) (c ∷ cs) (d ∷ ds) (m ∷ ms) (n ∷ n
 
 -- a give-up answers for nothing
 pub given_all : (recover made : ℕ) (bs : List Bool) (ms ns : List PlanMember) (carried : List Bool) → AllStand (clocks_on made bs ms ns) ns → AllStand (clocks_on made bs ms (given_up recover made ns carried)) (given_up recover made ns carried)
-given_all recover made bs ms ns [] k = k
-given_all recover made bs ms [] (g ∷ gs) k = k
+given_all recover made bs ms [] carried k = k
+given_all recover made bs ms (n ∷ ns) [] k = k
 given_all recover made [] ms (n ∷ ns) (g ∷ gs) k = absurd k
 given_all recover made (b ∷ bs) [] (n ∷ ns) (g ∷ gs) k = absurd k
 given_all recover made (b ∷ bs) (m ∷ ms) (n ∷ ns) (g ∷ gs) k = (one g, given_all recover made bs ms ns gs k.1)

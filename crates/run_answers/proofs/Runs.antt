@@ -44,7 +44,7 @@ module _ (seen_is : SeenIs) (plan : Scenario) (is : Plan.IsPlan plan) (known : I
       let on = lost_on seen_is plan is known slowest fs missed as' f us h.lived l (last_round (ring_of plan) fs f round) p.frames cs h.pairs h.led h.frames after fate in
       record {
         lived = on.lived;
-        pairs = on.pairs;
+        pairs = on.paired;
         led = subst (λ (n : ℕ). AreLed (leads_behind lens plan.recover plan.retry slowest missed (length fs) f us) (behind_lost lens plan.recover plan.retry slowest (gives_up_at lens plan.recover plan.retry missed) n f us cs)) (sym h.frames)
             (all_led_lost seen_is lens plan.recover plan.retry (length fs) f (gives_up_at lens plan.recover plan.retry missed) after l.datagrams _ cs as' us h.led l.each fate);
         frames = one_more fs f p.frames h.frames;
@@ -54,7 +54,7 @@ module _ (seen_is : SeenIs) (plan : Scenario) (is : Plan.IsPlan plan) (known : I
       let on = back_on seen_is plan is known slowest fs missed as' f us h.lived l (last_round (ring_of plan) fs f round) p.frames cs h.pairs h.led h.frames fate in
       record {
         lived = on.lived;
-        pairs = on.pairs;
+        pairs = on.paired;
         led = subst (λ (n : ℕ). AreLed (leads_behind lens plan.recover plan.retry slowest missed (length fs) f us) (behind_back lens plan.recover plan.retry slowest n f us cs)) (sym h.frames)
             (all_led_back seen_is lens plan.recover plan.retry (length fs) f (gives_up_at lens plan.recover plan.retry missed) l.datagrams cs as' us h.led l.each fate);
         frames = one_more fs f p.frames h.frames;
@@ -64,7 +64,7 @@ module _ (seen_is : SeenIs) (plan : Scenario) (is : Plan.IsPlan plan) (known : I
       let on = back_on seen_is plan is known slowest fs missed as' f us h.lived l (last_round (ring_of plan) fs f round) p.frames cs h.pairs h.led h.frames fate in
       record {
         lived = on.lived;
-        pairs = on.pairs;
+        pairs = on.paired;
         led = subst (λ (n : ℕ). AreLed (leads_behind lens plan.recover plan.retry slowest missed (length fs) f us) (behind_back lens plan.recover plan.retry slowest n f us cs)) (sym h.frames)
             (all_led_back seen_is lens plan.recover plan.retry (length fs) f (gives_up_at lens plan.recover plan.retry missed) l.datagrams cs as' us h.led l.each fate);
         frames = one_more fs f p.frames h.frames;

@@ -43,7 +43,7 @@ module _ {S V A Q R : Type 0} where
   seat_of m = seat_at m.services m.plan m.life.stand m.node
 
   -- lists of a ring around one slave
-  split_map : {X : Type 0} (g : Member S V A Q R → X) (bs : List (Member S V A Q R)) (m : Member S V A Q R) (cs : List (Member S V A Q R)) → map g (bs ++ m ∷ cs) ≡ map g bs ++ g m ∷ map g cs
+  pub split_map : {X : Type 0} (g : Member S V A Q R → X) (bs : List (Member S V A Q R)) (m : Member S V A Q R) (cs : List (Member S V A Q R)) → map g (bs ++ m ∷ cs) ≡ map g bs ++ g m ∷ map g cs
   split_map g [] m cs = refl
   split_map g (b ∷ bs) m cs = ap (λ l. g b ∷ l) (split_map g bs m cs)
 
