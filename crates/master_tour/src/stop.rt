@@ -137,16 +137,21 @@ impl<H: Hand> Stop<H> {
     ghost use Rattle.master_tour.specs.Under.{Under};
     ghost use Rattle.master_tour.specs.Cursor.{IsAtOne};
     ghost use Rattle.master_tour.specs.Goes.{is_live, is_opened};
-    ghost use Rattle.master_tour.specs.Stands.{StopShows, FollowShows, IsMet, IsSpot, StandUnder, came_at, given_where, stand_gram, StandMeant, NextShows, HoldShows};
+    ghost use Rattle.master_tour.specs.Stands.{StopShows, FollowShows, IsMet, IsSpot, StandUnder, came_at, given_where, stand_gram, StandMeant, NextShows, HoldShows, Counts};
     ghost use Rattle.std.specs.Prelude.{is_some, ◌&&◌, ◌+◌};
     ghost use Rattle.master_side.specs.Again.{HasNoRoom, IsOnWay, Repeats, area_of, sent_len};
     ghost use Rattle.master_tour.specs.Rooms.{LosesAgain, StopRepeats, Visits, stop_len};
     ghost use Rattle.life_frames.specs.of_segment_model.Returned.{Returns};
     ghost use Rattle.al_state.specs.declared.bringing.BringStep.{BringStep};
     ghost use Rattle.std.specs.Prelude.{None, ◌%◌};
-    ghost use Rattle.life_frames.specs.of_life_model.Lives.{Life, Spot, life_back, life_lost, reopens, gives_up};
-    ghost use Rattle.life_frames.specs.of_segment_model.Record.{News};
+    ghost use Rattle.life_frames.specs.of_life_model.Lives.{Life, Spot, passes, life_next, life_back, life_lost, reopens, gives_up};
+    ghost use Rattle.life_frames.specs.of_segment_model.Record.{News, Kept};
+    ghost use Rattle.life_frames.specs.of_segment_model.Ends as Ends;
     ghost use Rattle.life_frames.specs.of_segment_model.Slaves.{Found};
+    ghost use Rattle.life_frames.specs.of_task_model.Accounts as Accounts;
+    ghost use Rattle.master_side.specs.Passing.{PassingShows, IsKept, passing_behind, counts_at, news_back, news_lost};
+    ghost use Rattle.master_side.specs.declared.passing.Passing.{Passing};
+    ghost use Rattle.master_tour.specs.Passing.{StandPassing, StandKept};
     ghost use Rattle.life_frames.specs.of_task_model.Accounts.{new_account};
     ghost use Rattle.master_side.specs.Shown.{new_side};
     ghost use Rattle.std.specs.Prelude.{Bool, Option, Some, if◌then◌else◌};
@@ -180,6 +185,10 @@ impl<H: Hand> Stop<H> {
         ensures stand { self.new.stand ≡ self.old.stand }
         ensures script { H.script self.new.side.hand ≡ H.script self.old.side.hand }
         ensures unpassed { self.old.side.passing ≡ None → self.new.side.passing ≡ None }
+        ensures passing { (x : Speech Body H.Asked Reply) (lens : ℕ → Lens) (kept : Kept) (p : Option Ends.Passing) (back : List (Datagram Body)) (d : Seats.Side Body H.Asked Reply) (a : Account H.Asked Reply) → back ≡ seen lens octets.now →
+            SideShows (H.shows self.old.side.hand x) self.old.side.out self.old.side.inn self.old.side.fresh self.old.side.duty d a → IsKept kept d → PassingShows (H.awaits self.old.side.hand) self.old.side.passing p →
+            Under self.old.side.station self.old.at self.old.under self.old.side.carried d.halves (duty_access a.hand) back →
+            PassingShows (H.awaits self.new.side.hand) self.new.side.passing (passes x H.acknowledged H.more H.passed p (news_back self.old.side.station kept (counts_at self.old.side.read_at self.old.side.pace made) back)) }
         ensures brought { self.old.side.heard ≡ None → (x : Speech Body H.Asked Reply) (lens : ℕ → Lens) (back : List (Datagram Body)) (d : Seats.Side Body H.Asked Reply) (a : Account H.Asked Reply) → back ≡ seen lens octets.now →
             SideShows (H.shows self.old.side.hand x) self.old.side.out self.old.side.inn self.old.side.fresh self.old.side.duty d a →
             Under self.old.side.station self.old.at self.old.under self.old.side.carried d.halves (duty_access a.hand) back →
@@ -211,6 +220,10 @@ impl<H: Hand> Stop<H> {
         ensures stand { self.new.stand ≡ self.old.stand }
         ensures script { H.script self.new.side.hand ≡ H.script self.old.side.hand }
         ensures unpassed { self.old.side.passing ≡ None → self.new.side.passing ≡ None }
+        ensures passing { (x : Speech Body H.Asked Reply) (kept : Kept) (p : Option Ends.Passing) (sent : List (Datagram Body)) (d : Seats.Side Body H.Asked Reply) (a : Account H.Asked Reply) →
+            SideShows (H.shows self.old.side.hand x) self.old.side.out self.old.side.inn self.old.side.fresh self.old.side.duty d a → IsKept kept d → PassingShows (H.awaits self.old.side.hand) self.old.side.passing p →
+            Under self.old.side.station self.old.at self.old.under self.old.side.carried d.halves (duty_access a.hand) sent →
+            PassingShows (H.awaits self.new.side.hand) self.new.side.passing (passes x H.acknowledged H.more H.passed p (news_lost self.old.side.station kept sent)) }
         ensures join { H.join self.new.side.hand ≡ H.join self.old.side.hand }
         ensures again { IsOnWay self.old.side → self.old.under ≡ true → Repeats self.new.side × (sent_len self.new.side ≤ sent_len self.old.side) }
     {
@@ -230,6 +243,7 @@ impl<H: Hand> Stop<H> {
         ensures link { SameLink self.old.side.out self.old.side.inn self.old.side.station self.old.side.area self.new.side.out self.new.side.inn self.new.side.station self.new.side.area }
         ensures script { H.script self.new.side.hand ≡ H.script self.old.side.hand }
         ensures unpassed { self.old.side.passing ≡ None → self.new.side.passing ≡ None }
+        ensures passing { is_cleared ≡ true → self.new.side.passing ≡ None }
         ensures heard { self.new.side.heard ≡ self.old.side.heard }
         ensures join { H.join self.new.side.hand ≡ (if is_cleared then H.unjoined else H.join self.old.side.hand) }
     {
@@ -249,6 +263,9 @@ impl<H: Hand> Stop<H> {
         ensures sized { IsSized (Stand.Opening up) self.old.side.out.len (in_area_len self.old.side.inn) → IsSized self.new.stand self.new.side.out.len (in_area_len self.new.side.inn) }
         ensures script { H.script self.new.side.hand ≡ H.script self.old.side.hand }
         ensures unpassed { self.old.side.passing ≡ None → self.new.side.passing ≡ None }
+        ensures passing { self.old.stand ≡ Stand.Opening up → (x : Speech Body H.Asked Reply) (frame recover : ℕ) (spot : Spot) (news : List (News Body)) (back : List (Datagram Body)) (came : Bool × Option Found) (l : Life Body H.Asked Reply) →
+            IsMet up counter body.now came → StopShows (λ d a. SideShows (H.shows self.old.side.hand x) self.old.side.out self.old.side.inn self.old.side.fresh self.old.side.duty d a) recover spot self.old.stand self.old.spare l → StandPassing self.old.stand (H.awaits self.old.side.hand) self.old.side.passing l →
+            StandPassing self.new.stand (H.awaits self.new.side.hand) self.new.side.passing (life_back x H.acknowledged H.more H.passed frame spot news back (Some came) l l.stand) }
         ensures heard { self.new.side.heard ≡ self.old.side.heard }
         ensures join { H.join self.new.side.hand ≡ join_behind H.unjoined self.new.news (H.join self.old.side.hand) }
     {
@@ -274,6 +291,9 @@ impl<H: Hand> Stop<H> {
         ensures sized { self.old.stand ≡ Stand.Opening up → IsSized self.old.stand self.old.side.out.len (in_area_len self.old.side.inn) → IsSized self.new.stand self.new.side.out.len (in_area_len self.new.side.inn) }
         ensures script { H.script self.new.side.hand ≡ H.script self.old.side.hand }
         ensures unpassed { self.old.side.passing ≡ None → self.new.side.passing ≡ None }
+        ensures passing { self.old.stand ≡ Stand.Opening up → (x : Speech Body H.Asked Reply) (number recover : ℕ) (spot : Spot) (lens : ℕ → Lens) (ns : List (News Body)) (sent : List (Datagram Body)) (l : Life Body H.Asked Reply) →
+            Returns sent (seen lens octets.now) → StandUnder lens self.old.side.station self.old.at self.old.under self.old.side.carried self.old.stand l sent → StopShows (λ d a. SideShows (H.shows self.old.side.hand x) self.old.side.out self.old.side.inn self.old.side.fresh self.old.side.duty d a) recover spot self.old.stand self.old.spare l → StandPassing self.old.stand (H.awaits self.old.side.hand) self.old.side.passing l →
+            StandPassing self.new.stand (H.awaits self.new.side.hand) self.new.side.passing (life_back x H.acknowledged H.more H.passed number spot ns (seen lens octets.now) (came_at self.old.under self.old.at (seen lens octets.now)) l l.stand) }
         ensures heard { self.new.side.heard ≡ self.old.side.heard }
         ensures join { self.old.news ≡ None → H.join self.new.side.hand ≡ join_behind H.unjoined self.new.news (H.join self.old.side.hand) }
     {
@@ -292,6 +312,7 @@ impl<H: Hand> Stop<H> {
         ensures lives { self.old.stand ≡ Stand.Open → (x : Speech Body H.Asked Reply) (recover : ℕ) (spot : Spot) (l : Life Body H.Asked Reply) → IsSpot spot self.old.side.station self.old.place self.old.start → StopShows (λ d a. SideShows (H.shows self.old.side.hand x) self.old.side.out self.old.side.inn self.old.side.fresh self.old.side.duty d a) recover spot self.old.stand self.old.spare l →
             StopShows (λ d a. SideShows (H.shows self.new.side.hand x) self.new.side.out self.new.side.inn self.new.side.fresh self.new.side.duty d a) recover spot self.new.stand self.new.spare (reopens l l.era.account.hand) }
         ensures kept { (self.new.place ≡ self.old.place) × (self.new.start ≡ self.old.start) × (self.new.spare ≡ self.old.spare) × (self.new.news ≡ self.old.news) }
+        ensures passing { (l : Life Body H.Asked Reply) (hand : Option Accounts.Duty) (awaits : Bool) (p : Option Passing) → StandPassing self.old.stand awaits p l → StandPassing self.new.stand awaits p (reopens l hand) }
         ensures sized { IsSized self.old.stand self.old.side.out.len (in_area_len self.old.side.inn) → IsSized self.new.stand self.new.side.out.len (in_area_len self.new.side.inn) }
     {
         let Some(duty) = self.side.state_in_hand() else {
@@ -330,6 +351,10 @@ impl<H: Hand> Stop<H> {
         ensures sized { IsSized self.old.stand self.old.side.out.len (in_area_len self.old.side.inn) → IsSized self.new.stand self.new.side.out.len (in_area_len self.new.side.inn) }
         ensures script { H.script self.new.side.hand ≡ H.script self.old.side.hand }
         ensures unpassed { self.old.side.passing ≡ None → self.new.side.passing ≡ None }
+        ensures passing { self.old.stand ≡ Stand.Open → (x : Speech Body H.Asked Reply) (number recover : ℕ) (spot : Spot) (lens : ℕ → Lens) (kept : Kept) (sent : List (Datagram Body)) (l : Life Body H.Asked Reply) →
+            IsSpot spot self.old.side.station self.old.place self.old.start → Returns sent (seen lens octets.now) → StandUnder lens self.old.side.station self.old.at self.old.under self.old.side.carried self.old.stand l sent → StopShows (λ d a. SideShows (H.shows self.old.side.hand x) self.old.side.out self.old.side.inn self.old.side.fresh self.old.side.duty d a) recover spot self.old.stand self.old.spare l →
+            StandKept self.old.stand kept l → StandPassing self.old.stand (H.awaits self.old.side.hand) self.old.side.passing l →
+            StandPassing self.new.stand (H.awaits self.new.side.hand) self.new.side.passing (life_back x H.acknowledged H.more H.passed number spot (news_back self.old.side.station kept (counts_at self.old.side.read_at self.old.side.pace made) (seen lens octets.now)) (seen lens octets.now) (came_at self.old.under self.old.at (seen lens octets.now)) l l.stand) }
         ensures brought { self.old.stand ≡ Stand.Open → self.old.side.heard ≡ None → (x : Speech Body H.Asked Reply) (recover : ℕ) (spot : Spot) (lens : ℕ → Lens) (sent : List (Datagram Body)) (l : Life Body H.Asked Reply) →
             IsSpot spot self.old.side.station self.old.place self.old.start → Returns sent (seen lens octets.now) → StandUnder lens self.old.side.station self.old.at self.old.under self.old.side.carried self.old.stand l sent → StopShows (λ d a. SideShows (H.shows self.old.side.hand x) self.old.side.out self.old.side.inn self.old.side.fresh self.old.side.duty d a) recover spot self.old.stand self.old.spare l →
             Brought (H.brings self.new.side.hand) self.new.side.heard (accepted_in spot l (seen lens octets.now)) }
@@ -355,6 +380,10 @@ impl<H: Hand> Stop<H> {
         ensures sized { IsSized self.old.stand self.old.side.out.len (in_area_len self.old.side.inn) → IsSized self.new.stand self.new.side.out.len (in_area_len self.new.side.inn) }
         ensures script { H.script self.new.side.hand ≡ H.script self.old.side.hand }
         ensures unpassed { self.old.side.passing ≡ None → self.new.side.passing ≡ None }
+        ensures passing { (x : Speech Body H.Asked Reply) (number recover : ℕ) (spot : Spot) (lens : ℕ → Lens) (kept : Kept) (sent : List (Datagram Body)) (l : Life Body H.Asked Reply) →
+            IsSpot spot self.old.side.station self.old.place self.old.start → Returns sent (seen lens octets.now) → StandUnder lens self.old.side.station self.old.at self.old.under self.old.side.carried self.old.stand l sent → StopShows (λ d a. SideShows (H.shows self.old.side.hand x) self.old.side.out self.old.side.inn self.old.side.fresh self.old.side.duty d a) recover spot self.old.stand self.old.spare l →
+            StandKept self.old.stand kept l → StandPassing self.old.stand (H.awaits self.old.side.hand) self.old.side.passing l →
+            StandPassing self.new.stand (H.awaits self.new.side.hand) self.new.side.passing (life_back x H.acknowledged H.more H.passed number spot (news_back self.old.side.station kept (counts_at self.old.side.read_at self.old.side.pace made) (seen lens octets.now)) (seen lens octets.now) (came_at self.old.under self.old.at (seen lens octets.now)) l l.stand) }
         ensures brought { (x : Speech Body H.Asked Reply) (recover : ℕ) (spot : Spot) (lens : ℕ → Lens) (sent : List (Datagram Body)) (l : Life Body H.Asked Reply) →
             IsSpot spot self.old.side.station self.old.place self.old.start → Returns sent (seen lens octets.now) → StandUnder lens self.old.side.station self.old.at self.old.under self.old.side.carried self.old.stand l sent → StopShows (λ d a. SideShows (H.shows self.old.side.hand x) self.old.side.out self.old.side.inn self.old.side.fresh self.old.side.duty d a) recover spot self.old.stand self.old.spare l →
             Brought (H.brings self.new.side.hand) self.new.side.heard (accepted_in spot l (seen lens octets.now)) }
@@ -383,6 +412,10 @@ impl<H: Hand> Stop<H> {
         ensures sized { IsSized self.old.stand self.old.side.out.len (in_area_len self.old.side.inn) → IsSized self.new.stand self.new.side.out.len (in_area_len self.new.side.inn) }
         ensures script { H.script self.new.side.hand ≡ H.script self.old.side.hand }
         ensures unpassed { self.old.side.passing ≡ None → self.new.side.passing ≡ None }
+        ensures passing { (x : Speech Body H.Asked Reply) (recover : ℕ) (spot : Spot) (lens : ℕ → Lens) (kept : Kept) (octets : List ℕ) (l : Life Body H.Asked Reply) →
+            IsSpot spot self.old.side.station self.old.place self.old.start → StandUnder lens self.old.side.station self.old.at self.old.under self.old.side.carried self.old.stand l (seen lens octets) → StopShows (λ d a. SideShows (H.shows self.old.side.hand x) self.old.side.out self.old.side.inn self.old.side.fresh self.old.side.duty d a) recover spot self.old.stand self.old.spare l →
+            StandKept self.old.stand kept l → StandPassing self.old.stand (H.awaits self.old.side.hand) self.old.side.passing l →
+            StandPassing self.new.stand (H.awaits self.new.side.hand) self.new.side.passing (life_lost x H.acknowledged H.more H.passed spot (news_lost self.old.side.station kept (seen lens octets)) (seen lens octets) l l.stand) }
         ensures join { H.join self.new.side.hand ≡ H.join self.old.side.hand }
         ensures again { LosesAgain self.old self.new }
     {
@@ -404,6 +437,7 @@ impl<H: Hand> Stop<H> {
         ensures sized { IsSized self.old.stand self.old.side.out.len (in_area_len self.old.side.inn) → IsSized self.new.stand self.new.side.out.len (in_area_len self.new.side.inn) }
         ensures script { H.script self.new.side.hand ≡ H.script self.old.side.hand }
         ensures unpassed { self.old.side.passing ≡ None → self.new.side.passing ≡ None }
+        ensures passing { (awaits : Bool) (p : Option Passing) (l : Life Body H.Asked Reply) → StandPassing self.new.stand awaits p l }
     {
         self.news = Some(Turned::GivenUp);
         if self.spare == 0 {
@@ -427,6 +461,10 @@ impl<H: Hand> Stop<H> {
         ensures sized { IsSized self.old.stand self.old.side.out.len (in_area_len self.old.side.inn) → IsSized self.new.stand self.new.side.out.len (in_area_len self.new.side.inn) }
         ensures script { H.script self.new.side.hand ≡ H.script self.old.side.hand }
         ensures unpassed { self.old.side.passing ≡ None → self.new.side.passing ≡ None }
+        ensures passing { (x : Speech Body H.Asked Reply) (number recover : ℕ) (spot : Spot) (lens : ℕ → Lens) (kept : Kept) (octets : List ℕ) (l : Life Body H.Asked Reply) →
+            IsSpot spot self.old.side.station self.old.place self.old.start → StandUnder lens self.old.side.station self.old.at self.old.under self.old.side.carried self.old.stand l (seen lens octets) → StopShows (λ d a. SideShows (H.shows self.old.side.hand x) self.old.side.out self.old.side.inn self.old.side.fresh self.old.side.duty d a) recover spot self.old.stand self.old.spare l →
+            StandKept self.old.stand kept l → StandPassing self.old.stand (H.awaits self.old.side.hand) self.old.side.passing l →
+            StandPassing self.new.stand (H.awaits self.new.side.hand) self.new.side.passing (given_where (gives && self.old.under) recover spot number (life_lost x H.acknowledged H.more H.passed spot (news_lost self.old.side.station kept (seen lens octets)) (seen lens octets) l l.stand)) }
         ensures join { (gives && self.old.under) ≡ false → H.join self.new.side.hand ≡ H.join self.old.side.hand }
         ensures again { gives ≡ false → LosesAgain self.old self.new }
     {
@@ -447,6 +485,7 @@ impl<H: Hand> Stop<H> {
         ensures link { SameLink self.old.side.out self.old.side.inn self.old.side.station self.old.side.area self.new.side.out self.new.side.inn self.new.side.station self.new.side.area }
         ensures stand { self.new.stand ≡ self.old.stand }
         ensures passing { self.new.side.passing ≡ self.old.side.passing }
+        ensures awaits { H.awaits self.old.side.hand ≡ true → H.awaits self.new.side.hand ≡ true }
         ensures most { result ≤ 1486 }
         ensures script { H.script self.new.side.hand ≡ H.script self.old.side.hand }
         ensures join { H.join self.new.side.hand ≡ H.join self.old.side.hand }
@@ -492,6 +531,7 @@ impl<H: Hand> Stop<H> {
         ensures ready { takes_ready result wish ≡ true → is_some (H.ready self.old.side.hand) ≡ true }
         ensures script { H.script self.new.side.hand ≡ (if takes_ready result wish then H.behind self.old.side.hand else H.script self.old.side.hand) }
         ensures unpassed { self.old.side.passing ≡ None → (takes_ready result wish ≡ true → (q : H.Asked) → H.ready self.old.side.hand ≡ Some q → H.passed q ≡ false) → self.new.side.passing ≡ None }
+        ensures passing { (p : Option Ends.Passing) → PassingShows (H.awaits self.old.side.hand) self.old.side.passing p → PassingShows (H.awaits self.new.side.hand) self.new.side.passing (passing_behind H.passed p (wish_begun result wish (H.ready self.old.side.hand))) }
         ensures join { H.join self.new.side.hand ≡ H.join self.old.side.hand }
         ensures room { Repeats self.old.side → (self.new.under ≡ false → HasNoRoom frame.old.items (sent_len self.old.side)) × (self.new.under ≡ true → sent_len self.new.side ≤ sent_len self.old.side) }
         ensures area { self.new.under ≡ false → HasNoRoom frame.old.items (area_of self.old.side) }
@@ -545,6 +585,9 @@ impl<H: Hand> Stop<H> {
         ensures ready { takes_ready result wish ≡ true → is_some (H.ready self.old.side.hand) ≡ true }
         ensures script { H.script self.new.side.hand ≡ (if takes_ready result wish then H.behind self.old.side.hand else H.script self.old.side.hand) }
         ensures unpassed { self.old.side.passing ≡ None → (takes_ready result wish ≡ true → (q : H.Asked) → H.ready self.old.side.hand ≡ Some q → H.passed q ≡ false) → self.new.side.passing ≡ None }
+        ensures passing { (x : Speech Body H.Asked Reply) (made recover : ℕ) (spot : Spot) (hold : Bool) (l : Life Body H.Asked Reply) → StopShows (λ d a. SideShows (H.shows self.old.side.hand x) self.old.side.out self.old.side.inn self.old.side.fresh self.old.side.duty d a) recover spot self.old.stand self.old.spare l → StandPassing self.old.stand (H.awaits self.old.side.hand) self.old.side.passing l →
+            (let n = life_next x H.acknowledged H.more H.passed made l l.stand (record { begin = wish_begun result wish (H.ready self.old.side.hand); hold = hold }) in
+            Counts made (wish_begun result wish (H.ready self.old.side.hand)) l n → StandPassing self.new.stand (H.awaits self.new.side.hand) self.new.side.passing n) }
         ensures join { H.join self.new.side.hand ≡ H.join self.old.side.hand }
         ensures room { Visits frame.old.items frame.new.items self.old self.new }
     {
