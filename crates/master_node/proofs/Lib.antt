@@ -20,6 +20,7 @@ pub mod Says
 pub mod Stoods
 pub mod Joineds
 pub mod Toureds
+pub mod Asking
 pub mod Forwards
 pub mod Rooms
 pub mod Fits

@@ -27,6 +27,7 @@ pub mod First
 pub mod Filling
 pub mod Joined
 pub mod Toured
+pub mod Asks
 pub mod Forwards
 pub mod Rooms
 pub mod Ports

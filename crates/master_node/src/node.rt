@@ -72,6 +72,7 @@ impl MasterNode {
     ghost use Rattle.master_side.specs.Again.{HasNoRoom};
     ghost use Rattle.master_tour.specs.Sizes.{frame_size};
     ghost use Rattle.master_node.specs.Rooms.{SendsSame, Takes, area_at, area_in};
+    ghost use Rattle.master_node.specs.Asks.{AllAsk};
     ghost use Rattle.master_node.specs.Toured.{StaysPut, TakesPart, IsBare, HasVisited, stop_share, turn_share, tour_of};
     ghost use Rattle.std.specs.Prelude.{drop};
     ghost use Rattle.master_hand.specs.declared.laying.Laid.{Laid};
@@ -358,7 +359,8 @@ impl MasterNode {
 
     /// Makes the next frame; `Idle` exactly where no slave is live. The frame has just the datagrams that the lives of the slaves ask for, and
     /// what came into hand of each is next of its script, or a packet. It carries the slaves of its visit of the tour, in this order: behind a lost frame
-    /// just the same again; of a round the first, and it leaves out none that would fit.
+    /// just the same again; of a round the first, and it leaves out none that would fit. Of an open slave whose last read was lost it has no datagram but the
+    /// one by which that read is repeated.
     pub fn next(&mut self, into: &mut FrameBuf) -> Next
         ensures idle { (result ≡ Next.Idle) ↔ (list_any (λ s. is_live s.stand) self.old.tour.stops.items ≡ false) }
         ensures posts { vec_len self.new.posts ≡ vec_len self.old.posts }
@@ -366,6 +368,7 @@ impl MasterNode {
             (us : List Turn) × IsLedFrame lens number into.new.items as' us × MasterUnder lens recover retry self.new into.new.items missed us }
         ensures toured { result ≡ Next.Frame → (lens : ℕ → Lens) (recover retry missed : ℕ) (as' : List Leads) (us : List Turn) → MasterShows lens recover retry self.old missed as' → MasterUnder lens recover retry self.new into.new.items missed us →
             (tour_of self.new ≡ tour_of self.old) × IsOfTour (λ u. turn_share u) (λ k. holds_at is_live_lead as' k) (frame_size into.new.items) (λ k. area_at lens as' k) (tour_of self.old) us (length (seen lens into.new.items)) self.new.tour.visit.items }
+        ensures asks { result ≡ Next.Frame → (lens : ℕ → Lens) (recover retry missed : ℕ) (us : List Turn) → MasterUnder lens recover retry self.new into.new.items missed us → AllAsk (seen lens into.new.items) us }
         ensures joins { JoinsKept self.old self.new }
         ensures happened { HappensSo self.old.lan self.new.lan }
     {

@@ -104,6 +104,24 @@ is_errand Carried.Full = true
 is_errand Carried.Control = true
 is_errand Carried.Status = true
 
+-- a state service is past its drain
+abbrev pub is_past : Option Duty → Bool
+is_past None = false
+is_past (Some duty) = is_some (errand_of duty.stage)
+
+-- and then an access for it is under way
+abbrev pub is_behind_errand : Option Duty → Carried → Bool
+is_behind_errand duty carried = if is_past duty then is_errand carried else true
+
+-- THE INWARD HALF COMES FIRST: any other datagram is sent only where that half is clear
+abbrev pub is_by_half : Carried → InState → Bool
+is_by_half Carried.Nothing s = true
+is_by_half Carried.Write s = is_clear s
+is_by_half Carried.Inward s = true
+is_by_half Carried.Full s = is_clear s
+is_by_half Carried.Control s = is_clear s
+is_by_half Carried.Status s = is_clear s
+
 -- the inward half reads mailbox 1
 abbrev pub is_read : InState → Bool
 is_read InState.Clear = true

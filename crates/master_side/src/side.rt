@@ -1,6 +1,6 @@
 ghost use Rattle.std.specs.Prelude.{◌≡◌, ℕ, nat_le, true};
 ghost use Rattle.mailbox_master.specs.Any.{in_area_len, in_half_of, in_station};
-ghost use Rattle.master_side.specs.Carried.{is_errand};
+ghost use Rattle.master_side.specs.Carried.{in_hand, is_behind_errand, is_by_half, is_errand};
 
 use crate::back::{duty_left, duty_met, view_in};
 use crate::carried::{Carried, Target, Wish};
@@ -55,6 +55,8 @@ pub struct Side<H: Hand> {
     pub ghost in_most: { nat_le (in_area_len inn) area ≡ true },
     pub ghost most: { nat_le area 1486 ≡ true },
     pub ghost paced: { nat_le 1 pace ≡ true },
+    pub ghost by_half: { is_by_half carried (in_half_of inn).state ≡ true },
+    pub ghost behind: { is_behind_errand (in_hand duty) carried ≡ true },
 }
 
 impl<H: Hand> Side<H> {

@@ -171,9 +171,9 @@ module _ (plan : Scenario) (is : IsPlan plan) (comes : ComeOf plan) where
   placed _ _ _ IsToured.start = record { last = tt; again = tt }
   placed _ _ _ (IsToured.on fs t as' f us visit r l o) =
       let h = placed fs t as' r in
-      let below : AllBelow (length (stops_of plan)) o.places = subst (λ n. AllBelow n o.places) (long (length fs) as' f.sent us (come fs t as' r) l) (have_below us 0 o.places o.carries.each) in
+      let below : AllBelow (length (stops_of plan)) o.visits.places = subst (λ n. AllBelow n o.visits.places) (long (length fs) as' f.sent us (come fs t as' r) l) (have_below us 0 o.visits.places o.visits.carries.each) in
       behind_placed (stops_of plan) plan.retry f.fate (lives_behind lens plan.recover plan.retry t.missed (length fs) f us) t visit h
-      (subst (λ v. AllBelow (length (stops_of plan)) v) (sym o.comes) (visit_below (length (stops_of plan)) t.again o.places h.again below))
+      (subst (λ v. AllBelow (length (stops_of plan)) v) (sym o.visits.comes) (visit_below (length (stops_of plan)) t.again o.visits.places h.again below))
 
   one_visit : (made : ℕ) (t : Tour) (as' : List Leads) (f : Exchanged) (us : List Turn) (visit : List ℕ) → AllCome plan 0 plan.slaves as' → Placed (stops_of plan) t → IsLedFrame lens made f.sent as' us →
       IsOfTour (λ u. turn_share u) (λ k. holds_at is_live_lead as' k) (frame_size f.sent) (λ k. area_at lens as' k) t us (length (seen lens f.sent)) visit → IsVisit plan t as' f
@@ -187,4 +187,4 @@ module _ (plan : Scenario) (is : IsPlan plan) (comes : ComeOf plan) where
 
   pub all_visit : (fs : List Exchanged) (t : Tour) (as' : List Leads) (r : Toured fs t as') → AllVisit plan r
   all_visit _ _ _ IsToured.start = tt
-  all_visit _ _ _ (IsToured.on fs t as' f us visit r l o) = (all_visit fs t as' r, one_visit (length fs) t as' f us visit (come fs t as' r) (placed fs t as' r) l o)
+  all_visit _ _ _ (IsToured.on fs t as' f us visit r l o) = (all_visit fs t as' r, one_visit (length fs) t as' f us visit (come fs t as' r) (placed fs t as' r) l o.visits)

@@ -6,17 +6,11 @@ use Rattle.master_node.specs.of_frame_view.View.{Lens}
 use Rattle.master_node.specs.of_life_model.Tours.{Member, is_live_in, round}
 use Rattle.master_node.specs.of_life_runs.Led.{Leads, Exchanged, IsLed, missed_behind, Turn, IsLedFrame}
 use Rattle.master_node.specs.of_master_tour.Orders.{start_of, round_left, visited_of}
-use Rattle.master_node.specs.of_master_tour.Toured.{Tour, visit_of, IsOfTour}
-use Rattle.master_node.specs.of_frame_view.Seen.{seen}
-use Rattle.master_node.specs.Shows.{is_live_lead}
-use Rattle.master_node.specs.Toured.{turn_share}
-use Rattle.master_node.specs.Rooms.{area_at}
-use Rattle.master_node.specs.of_master_tour.Goes.{holds_at}
-use Rattle.master_node.specs.of_master_tour.Sizes.{frame_size}
+use Rattle.master_node.specs.of_master_tour.Toured.{Tour, visit_of}
 use Rattle.master_node.specs.of_segment_model.Visits.{Stop}
 use Rattle.master_node.specs.of_segment_ring.declared.wire.Fate.{Fate}
 use Rattle.master_node.specs.of_segment_ring.declared.wire.Fate.TheVariants.{Pass, Lost}
-use Rattle.visit_orders.specs.Toured.{IsToured, lives_behind, tour_behind, stations_of, visit_stations}
+use Rattle.visit_orders.specs.Toured.{IsToured, IsTourFrame, lives_behind, tour_behind, stations_of, visit_stations}
 use Rattle.visit_orders.specs.Visits.{AreOf, AreApart, IsPlace, stop_at, stops_at, stations_at, last_station}
 use Rattle.visit_orders.proofs.Orders.{round_as, drop_here}
 
@@ -79,7 +73,7 @@ visit_by_stations ring members live None opened last a d p h = go (nat_lt opened
 
 -- ONE FRAME MORE of a tour
 pub toured_on : (lens : ℕ → Lens) (recover retry : ℕ) (first : List Leads) (fs : List Exchanged) (as' : List Leads) (us : List Turn) (f : Exchanged) (t under behind : Tour) (visit : List ℕ) (fate : Fate) → IsToured lens recover retry first fs t as' → IsLedFrame lens (length fs) f.sent as' us →
-    under ≡ t → IsOfTour (λ u. turn_share u) (λ k. holds_at is_live_lead as' k) (frame_size f.sent) (λ k. area_at lens as' k) t us (length (seen lens f.sent)) visit → f.fate ≡ fate → behind ≡ tour_behind retry fate (lives_behind lens recover retry t.missed (length fs) f us) under visit →
+    under ≡ t → IsTourFrame lens as' f.sent us t visit → f.fate ≡ fate → behind ≡ tour_behind retry fate (lives_behind lens recover retry t.missed (length fs) f us) under visit →
     IsToured lens recover retry first (fs ++ f ∷ []) behind (lives_behind lens recover retry t.missed (length fs) f us)
 toured_on lens recover retry first fs as' us f t under behind visit fate r l e o is b =
     let lives = lives_behind lens recover retry t.missed (length fs) f us in

@@ -4,6 +4,7 @@ use Rattle.master_node.specs.of_frame_view.View.{Lens}
 use Rattle.master_node.specs.of_frame_view.Seen.{seen}
 use Rattle.master_node.specs.of_life_runs.Led.{Exchanged, Leads, Turn, IsLedFrame, led_behind, gives_up_at}
 use Rattle.master_node.specs.Shows.{is_live_lead, is_opening_lead}
+use Rattle.master_node.specs.Asks.{AllAsk}
 use Rattle.master_node.specs.Toured.{turn_share}
 use Rattle.master_node.specs.Rooms.{area_at}
 use Rattle.master_node.specs.of_master_tour.Goes.{holds_at}
@@ -19,6 +20,11 @@ abbrev pub tour_behind : ℕ → Fate → List Leads → Tour → List ℕ → T
 tour_behind retry Pass as' t visit = goes_on is_opening_lead as' t visit
 tour_behind retry (Lost after) as' t visit = lost_on is_opening_lead retry as' t visit
 
+-- A FRAME OF THE TOUR carries the slaves of its visit, and asks by the inward half first
+pub record IsTourFrame (lens : ℕ → Lens) (as' : List Leads) (octets : List ℕ) (us : List Turn) (t : Tour) (visit : List ℕ) : Type 0 where
+  pub visits : IsOfTour (λ u. turn_share u) (λ k. holds_at is_live_lead as' k) (frame_size octets) (λ k. area_at lens as' k) t us (length (seen lens octets)) visit
+  pub asks : AllAsk (seen lens octets) us
+
 module _ (lens : ℕ → Lens) (recover retry : ℕ) where
   -- the lives behind a frame, where so many were lost in a row before it
   abbrev pub lives_behind : ℕ → ℕ → Exchanged → List Turn → List Leads
@@ -27,7 +33,7 @@ module _ (lens : ℕ → Lens) (recover retry : ℕ) where
   -- THE FRAMES OF A RUN, one after the other, the tour and the lives behind them: each frame carries the slaves of its visit
   pub data IsToured (first : List Leads) : List Exchanged → Tour → List Leads → Type 0 where
     start : IsToured first [] new_tour first
-    on : (fs : List Exchanged) (t : Tour) (as' : List Leads) (f : Exchanged) (us : List Turn) (visit : List ℕ) → IsToured first fs t as' → IsLedFrame lens (length fs) f.sent as' us → IsOfTour (λ u. turn_share u) (λ k. holds_at is_live_lead as' k) (frame_size f.sent) (λ k. area_at lens as' k) t us (length (seen lens f.sent)) visit →
+    on : (fs : List Exchanged) (t : Tour) (as' : List Leads) (f : Exchanged) (us : List Turn) (visit : List ℕ) → IsToured first fs t as' → IsLedFrame lens (length fs) f.sent as' us → IsTourFrame lens as' f.sent us t visit →
         IsToured first (fs ++ f ∷ []) (tour_behind retry f.fate (lives_behind t.missed (length fs) f us) t visit) (lives_behind t.missed (length fs) f us)
 
 -- the slaves stand at their places of the ring, from this one on

@@ -15,18 +15,15 @@ ghost use Rattle.master_node.specs.of_master_tour.Toured.{Tour, visit_of};
 ghost use Rattle.master_node.specs.of_frame_view.Seen.{seen};
 ghost use Rattle.master_node.specs.of_life_runs.Led.{Turn, IsLedFrame};
 ghost use Rattle.master_node.specs.Toured.{turn_share};
-ghost use Rattle.master_node.specs.of_master_tour.Sizes.{frame_size};
-ghost use Rattle.master_node.specs.Rooms.{area_at};
 ghost use Rattle.master_node.specs.of_master_tour.Toured.{IsOfTour};
 ghost use Rattle.master_node.specs.of_segment_model.Visits.{carried};
 ghost use Rattle.std.specs.Prelude.{◌++◌};
-ghost use Rattle.master_node.specs.Shows.{is_live_lead, is_opening_lead};
+ghost use Rattle.master_node.specs.Shows.{is_opening_lead};
 ghost use Rattle.master_node.specs.Toured.{tour_of};
 ghost use Rattle.master_node.specs.declared.node.MasterNode.{MasterNode};
-ghost use Rattle.master_node.specs.of_master_tour.Goes.{holds_at};
 ghost use Rattle.master_node.specs.of_master_tour.Toured.{new_tour, goes_on, lost_on};
 ghost use Rattle.master_node.specs.of_segment_ring.declared.wire.Fate.{Fate};
-ghost use Rattle.visit_orders.specs.Toured.{IsToured, AreAt, lives_behind, stations_of, visit_stations};
+ghost use Rattle.visit_orders.specs.Toured.{IsToured, IsTourFrame, AreAt, lives_behind, stations_of, visit_stations};
 
 /// BEHIND THE FIRST BRING-UP a frame is a visit of the tour where the master goes through the places of its round as it does: it carries the live
 /// slaves one behind the other, at least one, and ends before the first that may not fit.
@@ -64,9 +61,9 @@ pub fn stations_law()
 pub fn master_law()
     ensures begins { (lens : ℕ → Lens) (recover retry : ℕ) (first : List Leads) (m : MasterNode) → tour_of m ≡ new_tour → IsToured lens recover retry first [] (tour_of m) first }
     ensures returns { (lens : ℕ → Lens) (recover retry : ℕ) (first : List Leads) (fs : List Exchanged) (as' : List Leads) (us : List Turn) (f : Exchanged) (m under behind : MasterNode) → IsToured lens recover retry first fs (tour_of m) as' → IsLedFrame lens (length fs) f.sent as' us →
-        tour_of under ≡ tour_of m → IsOfTour (λ u. turn_share u) (λ k. holds_at is_live_lead as' k) (frame_size f.sent) (λ k. area_at lens as' k) (tour_of m) us (length (seen lens f.sent)) under.tour.visit.items → f.fate ≡ Fate.Pass → tour_of behind ≡ goes_on is_opening_lead (lives_behind lens recover retry m.tour.missed (length fs) f us) (tour_of under) under.tour.visit.items →
+        tour_of under ≡ tour_of m → IsTourFrame lens as' f.sent us (tour_of m) under.tour.visit.items → f.fate ≡ Fate.Pass → tour_of behind ≡ goes_on is_opening_lead (lives_behind lens recover retry m.tour.missed (length fs) f us) (tour_of under) under.tour.visit.items →
         IsToured lens recover retry first (fs ++ f ∷ []) (tour_of behind) (lives_behind lens recover retry m.tour.missed (length fs) f us) }
     ensures loses { (lens : ℕ → Lens) (recover retry : ℕ) (first : List Leads) (fs : List Exchanged) (as' : List Leads) (us : List Turn) (f : Exchanged) (after : ℕ) (m under behind : MasterNode) → IsToured lens recover retry first fs (tour_of m) as' → IsLedFrame lens (length fs) f.sent as' us →
-        tour_of under ≡ tour_of m → IsOfTour (λ u. turn_share u) (λ k. holds_at is_live_lead as' k) (frame_size f.sent) (λ k. area_at lens as' k) (tour_of m) us (length (seen lens f.sent)) under.tour.visit.items → f.fate ≡ Fate.Lost after → tour_of behind ≡ lost_on is_opening_lead retry (lives_behind lens recover retry m.tour.missed (length fs) f us) (tour_of under) under.tour.visit.items →
+        tour_of under ≡ tour_of m → IsTourFrame lens as' f.sent us (tour_of m) under.tour.visit.items → f.fate ≡ Fate.Lost after → tour_of behind ≡ lost_on is_opening_lead retry (lives_behind lens recover retry m.tour.missed (length fs) f us) (tour_of under) under.tour.visit.items →
         IsToured lens recover retry first (fs ++ f ∷ []) (tour_of behind) (lives_behind lens recover retry m.tour.missed (length fs) f us) }
 {}

@@ -5,6 +5,7 @@ use Rattle.master_tour.specs.Goes.{is_live, holds_at}
 use Rattle.master_node.proofs.Sents.{shows_same}
 use Rattle.master_tour.specs.Walks.{EachPair}
 use Rattle.master_tour.proofs.Walks.{each_same}
+use Rattle.master_node.proofs.Asking.{all_ask}
 use Rattle.master_node.proofs.Toureds.{turns_tour, tour_by}
 use Rattle.master_node.specs.Shows.{is_live_lead}
 use Rattle.master_node.specs.Toured.{stop_share, tour_of}
@@ -37,6 +38,9 @@ returns-clause-toured c = λ h lens recover retry missed as' us x y.
       turns_tour lens recover c.make.new.into.items (λ k. holds_at is_live_lead as' k) (frame_size c.make.new.into.items) (λ k. area_at lens as' k) (tour_of m) us c.make.new.self.tour.stops.items (length (seen lens c.make.new.into.items)) c.make.new.self.tour.visit.items y.each
           (subst (λ z. IsOfTour (λ s. stop_share s) (λ k. holds_at is_live_lead as' k) (frame_size c.make.new.into.items) (λ k. area_at lens as' k) z c.make.new.self.tour.stops.items (length (seen lens c.make.new.into.items)) c.make.new.self.tour.visit.items) same w.4),
     )
+
+pub returns-clause-asks : goal.returns-clause-asks
+returns-clause-asks c = λ h lens recover retry missed us y. all_ask lens recover c.make.new.into.items us c.make.new.self.tour.stops.items y.each
 
 pub returns-clause-happened : goal.returns-clause-happened
 returns-clause-happened c = happens_so 17 _ _ _ (omega arith) c.begins.ensures.so c.begins.ensures.none (happens_then 1 16 _ _ _ c.admit.ensures.lan c.make.ensures.lan)
