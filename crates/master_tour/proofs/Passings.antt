@@ -230,3 +230,8 @@ module _ {Q : Type 0} (x : Speech Body Q Reply) (acknowledged : Q → Bool) (mor
           passing_begins x acknowledged more passed q l.era.account (account_next x acknowledged made l.era.side l.era.account (granted q pick)) (granted q pick).begin ≡ passing_behind passed q begin
       go None k e = begins_so None l.era.account (account_next x acknowledged made l.era.side l.era.account pick) made begin e
       go (Some q) k e = sym (ap (passing_behind passed (Some q)) (k refl))
+
+-- the side has a mail that is passed on where the life does
+pub passing_waits : (awaits : Bool) (p : Option Passing) (q : Option Ends.Passing) → PassingShows awaits p q → is_some q ≡ true → is_some p ≡ true
+passing_waits awaits None q s e = absurd (let t : is_some (passing_seen None) ≡ true = ap (λ (o : Option Ends.Passing). is_some o) (sym s.is) ∙ e in cc)
+passing_waits awaits (Some p) q s e = refl
