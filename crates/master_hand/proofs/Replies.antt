@@ -1,5 +1,5 @@
 -- What a reply is to a mail that is passed on: others follow it, or it is the last.
-use Rattle.std.proofs.Common.{◌≡◌, List, [], ◌∷◌, Bool, true, false, Option, Some, None, refl, sym, ap, ◌∙◌, subst}
+use Rattle.std.proofs.Common.{◌≡◌, List, [], ◌∷◌, Bool, true, false, Option, Some, None, refl, sym, ap, ◌∙◌}
 use Rattle.std.specs.Prelude.{◌&&◌, not, is_some, is_none, if◌then◌else◌, Err}
 use Rattle.mailbox_mail.specs.declared.outcome.Took.{Took}
 use Rattle.mailbox_mail.specs.declared.mail.MailFault.TheVariants.{Short}
@@ -11,7 +11,7 @@ use Rattle.master_side.specs.Passing.{told_as, goes_on}
 use Rattle.master_hand.specs.Spoken.{Asked, sdo, file, drive, net, passed, emission, is_followed, is_passed, hand_speech, passed_ends}
 use Rattle.master_hand.specs.Passed.{at_end, passed_awaits}
 use Rattle.master_hand.specs.Talk.{Talking, which_of, is_mail, client_awaits, Begins, IsSent, ClientTook}
-use Rattle.master_hand.specs.Shown.{Shows, is_awaiting, awaits_reply, course_behind, heard_as}
+use Rattle.master_hand.specs.Shown.{is_awaiting, awaits_reply, course_behind, heard_as}
 use Rattle.master_hand.specs.declared.course.Course.{Course}
 use Rattle.master_hand.specs.declared.clients.Which.{Which}
 use Rattle.master_hand.specs.declared.passed.Content.{Content}

@@ -38,24 +38,24 @@ Bodies = List (News Body)
 -- only its own datagrams tell a slave something
 told_mine : (station last : ℕ) (ds : Grams) → all_told station last (grams ds) ≡ all_told station last (grams (mine station ds))
 told_mine station last [] = refl
-told_mine station last (d ∷ ds) = go (d.gram.station == station) refl
+told_mine station last (d ∷ ds) = go (d.gram.station == station) refl (λ k. told_mine station k ds)
   where
-    go : (z : Bool) → (d.gram.station == station) ≡ z → all_told station last (grams (d ∷ ds)) ≡ all_told station last (grams (mine station (d ∷ ds)))
-    go true e = ap (λ l. (if d.gram.station == station then mail_told last d.gram.ask else []) ++ l) (told_mine station (if d.gram.station == station then last_told last d.gram.ask else last) ds)
+    go : (z : Bool) → (d.gram.station == station) ≡ z → ((k : ℕ) → all_told station k (grams ds) ≡ all_told station k (grams (mine station ds))) → all_told station last (grams (d ∷ ds)) ≡ all_told station last (grams (mine station (d ∷ ds)))
+    go true e ih = ap (λ l. (if d.gram.station == station then mail_told last d.gram.ask else []) ++ l) (ih (if d.gram.station == station then last_told last d.gram.ask else last))
         ∙ sym (ap (λ (z : Bool). all_told station last (grams (if z then d ∷ mine station ds else mine station ds))) e)
-    go false e = (λ i. (if e i then mail_told last d.gram.ask else []) ++ all_told station (if e i then last_told last d.gram.ask else last) (grams ds))
-        ∙ told_mine station last ds ∙ sym (ap (λ (z : Bool). all_told station last (grams (if z then d ∷ mine station ds else mine station ds))) e)
+    go false e ih = (λ i. (if e i then mail_told last d.gram.ask else []) ++ all_told station (if e i then last_told last d.gram.ask else last) (grams ds))
+        ∙ ih last ∙ sym (ap (λ (z : Bool). all_told station last (grams (if z then d ∷ mine station ds else mine station ds))) e)
 
 back_mine : (station last : ℕ) (ds : Grams) → SameAim station ds → back_news station last ds ≡ back_news station last (mine station ds)
 back_mine station last [] a = refl
-back_mine station last (d ∷ ds) a = go (d.gram.station == station) refl
+back_mine station last (d ∷ ds) a = go (d.gram.station == station) refl (λ k. back_mine station k ds a.1)
   where
-    go : (z : Bool) → (d.gram.station == station) ≡ z → back_news station last (d ∷ ds) ≡ back_news station last (mine station (d ∷ ds))
-    go true e = ap (λ l. datagram_news station last d ++ l) (back_mine station (if d.gram.station == station then last_heard last d.gram.ask d.gram else last) ds a.1)
+    go : (z : Bool) → (d.gram.station == station) ≡ z → ((k : ℕ) → back_news station k ds ≡ back_news station k (mine station ds)) → back_news station last (d ∷ ds) ≡ back_news station last (mine station (d ∷ ds))
+    go true e ih = ap (λ l. datagram_news station last d ++ l) (ih (if d.gram.station == station then last_heard last d.gram.ask d.gram else last))
         ∙ sym (ap (λ (z : Bool). back_news station last (if z then d ∷ mine station ds else mine station ds)) e)
-    go false e = (λ i. ((if e i then gram_news last d.gram.ask d.gram else []) ++ (if (a.0 ∙ e) i then (if d.counter == 0 then [] else found_news d.found) else []))
+    go false e ih = (λ i. ((if e i then gram_news last d.gram.ask d.gram else []) ++ (if (a.0 ∙ e) i then (if d.counter == 0 then [] else found_news d.found) else []))
             ++ back_news station (if e i then last_heard last d.gram.ask d.gram else last) ds)
-        ∙ back_mine station last ds a.1 ∙ sym (ap (λ (z : Bool). back_news station last (if z then d ∷ mine station ds else mine station ds)) e)
+        ∙ ih last ∙ sym (ap (λ (z : Bool). back_news station last (if z then d ∷ mine station ds else mine station ds)) e)
 
 back_own : (station : ℕ) (kept : Kept) (counts : Bool) (ds : Grams) → SameAim station ds → news_back station kept counts ds ≡ news_back station kept counts (mine station ds)
 back_own station kept counts ds a = ap (λ (ns : Bodies). if counts then ns else without_empty ns) (λ i. map (λ m. News.Told m) (told_mine station kept.told ds i) ++ back_mine station kept.heard ds a i)
@@ -125,6 +125,10 @@ reopens_stays stand awaits p l hand s = same_era stand awaits p l (reopens l han
 pub still_says : {Q : Type 0} (stand : Stand) (up : BringUp) (awaits : Bool) (p : Option Passing) (l : Life Body Q Reply) → stand ≡ Stand.Opening up → is_still up ≡ true → StandPassing stand awaits p l
 still_says stand up awaits p l e s = subst (λ z. StandPassing z awaits p l) (sym e) (λ f. absurd (let t : true ≡ false = sym s ∙ f in cc))
 
+none_awaits : (awaits : Bool) (p : Option Passing) → p ≡ None → is_some p ≡ true → awaits ≡ true
+none_awaits awaits None e t = absurd (cc)
+none_awaits awaits (Some p) e t = absurd (cc)
+
 still_same : (awaits awaits' : Bool) (p p' : Option Passing) (q : Option Ends.Passing) → (p' ≡ p) × (awaits ≡ true → awaits' ≡ true) → PassingShows awaits p q → PassingShows awaits' p' q
 still_same awaits awaits' p p' q (e, a) s = record { is = s.is ∙ ap passing_seen (sym e); awaited = λ t. a (s.awaited (ap (λ (o : Option Passing). is_some o) (sym e) ∙ t)) }
 
@@ -139,7 +143,7 @@ module _ {Q : Type 0} (x : Speech Body Q Reply) (acknowledged : Q → Bool) (mor
   turned_passing frame l up next own m ends clears awaits awaits' p p' (Turns.cleared u c s n t e) keeps renews h =
       subst (λ z. StandPassing (if ends then Stand.Open else Stand.Opening next) awaits' p' z) (sym e)
       (subst (λ (z : Bool). StandPassing (if z then Stand.Open else Stand.Opening next) awaits' p' (record { past = l.past ++ l.era ∷ []; era = new_era (Some frame); stand = Lives.Stand.Opens (opening_of next own); gave = l.gave })) (sym u)
-      (λ f. record { is = ap passing_seen (sym (renews c)); awaited = λ k. absurd (let t : is_some None ≡ true = ap is_some (sym (renews c)) ∙ k in cc) }))
+      (λ f. record { is = ap passing_seen (sym (renews c)); awaited = none_awaits awaits' p' (renews c) }))
   turned_passing frame l up next own m ends clears awaits awaits' p p' (Turns.on u c n t e) keeps renews h =
       subst (λ z. StandPassing (if ends then Stand.Open else Stand.Opening next) awaits' p' z) (sym e)
       (subst (λ (z : Bool). StandPassing (if z then Stand.Open else Stand.Opening next) awaits' p' (record l { stand = Lives.Stand.Opens (opening_of next own) })) (sym u)

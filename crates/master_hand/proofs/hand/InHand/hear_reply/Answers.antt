@@ -9,8 +9,7 @@ use Rattle.master_hand.specs.Spoken.{hand_speech}
 use Rattle.master_hand.specs.Talk.{ClientTook}
 use Rattle.master_hand.specs.declared.course.Course.{Course}
 use Rattle.master_hand.proofs.Hands.{took_shown}
-use Rattle.std.proofs.Common.{◌≡◌, true, ap, ◌∙◌}
-use Rattle.mailbox_mail.specs.declared.outcome.Took.{Took}
+use Rattle.std.proofs.Common.{ap, ◌∙◌}
 use Rattle.master_side.specs.declared.hand.Heard.{Heard}
 use Rattle.master_side.specs.Passing.{goes_on}
 use Rattle.master_hand.specs.Shown.{awaits_reply}

@@ -4,7 +4,7 @@ use Rattle.master_hand.specs.Talk.{is_askable}
 use Rattle.master_hand.specs.Laying.{ready_of}
 use Rattle.master_hand.specs.declared.course.Course.{Course}
 use Rattle.master_hand.proofs.Hands.{begins_shown}
-use Rattle.master_hand.proofs.Replies.{begins_awaits, none_awaits}
+use Rattle.master_hand.proofs.Replies.{begins_awaits}
 use Rattle.master_hand.proofs.hand.InHandHand.begin.Goals as goal
 
 pub returns-in-Some-clause-begun : goal.returns-in-Some-clause-begun
