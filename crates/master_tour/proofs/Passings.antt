@@ -11,10 +11,9 @@ use Rattle.life_frames.specs.of_life_model.Lives
 use Rattle.life_frames.specs.of_life_model.Lives.{Life, Era, Spot, granted, passing_begins, passes, opening_back, opens, new_era, reopens, reopens_at, returns_to_init, reopening, opens_state, era_back, life_next, life_back, life_lost, gives_up}
 use Rattle.life_frames.specs.of_link_mails.Body.{Body}
 use Rattle.life_frames.specs.of_link_model.Link.{Halves}
-use Rattle.life_frames.specs.of_link_model.Segment.{RingFate}
 use Rattle.life_frames.specs.of_segment_model.Ends as Ends
-use Rattle.life_frames.specs.of_segment_model.Record.{News, Kept, frame_news, without_empty, all_told, back_news, datagram_news, mail_told, last_told, gram_news, last_heard, found_news, is_for}
-use Rattle.life_frames.specs.of_segment_model.Slaves.{Datagram, Address, Access, Found, grams}
+use Rattle.life_frames.specs.of_segment_model.Record.{News, Kept, without_empty, all_told, back_news, datagram_news, mail_told, last_told, gram_news, last_heard, found_news}
+use Rattle.life_frames.specs.of_segment_model.Slaves.{Datagram, Access, Found, grams}
 use Rattle.life_frames.specs.of_segment_model.Seats.{Side}
 use Rattle.life_frames.specs.of_state_exchange.Stated.{Service}
 use Rattle.life_frames.specs.of_task_model.Accounts
@@ -54,7 +53,7 @@ back_mine station last (d ∷ ds) a = go (d.gram.station == station) refl (λ k.
     go true e ih = ap (λ l. datagram_news station last d ++ l) (ih (if d.gram.station == station then last_heard last d.gram.ask d.gram else last))
         ∙ sym (ap (λ (z : Bool). back_news station last (if z then d ∷ mine station ds else mine station ds)) e)
     go false e ih = (λ i. ((if e i then gram_news last d.gram.ask d.gram else []) ++ (if (a.0 ∙ e) i then (if d.counter == 0 then [] else found_news d.found) else []))
-            ++ back_news station (if e i then last_heard last d.gram.ask d.gram else last) ds)
+        ++ back_news station (if e i then last_heard last d.gram.ask d.gram else last) ds)
         ∙ ih last ∙ sym (ap (λ (z : Bool). back_news station last (if z then d ∷ mine station ds else mine station ds)) e)
 
 back_own : (station : ℕ) (kept : Kept) (counts : Bool) (ds : Grams) → SameAim station ds → news_back station kept counts ds ≡ news_back station kept counts (mine station ds)

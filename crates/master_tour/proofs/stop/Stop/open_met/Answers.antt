@@ -17,7 +17,7 @@ use Rattle.master_tour.proofs.Unders.{SameAim, aims, under_back}
 use Rattle.master_tour.specs.Brings.{accepted_at, accepted_in}
 use Rattle.master_tour.proofs.Backs.{own_back, own_accepted, open_follows}
 use Rattle.master_tour.proofs.Joins.{still_joins}
-use Rattle.master_side.specs.Passing.{PassingShows, counts_at, news_back}
+use Rattle.master_side.specs.Passing.{counts_at, news_back}
 use Rattle.master_tour.specs.Passing.{StandPassing, StandKept}
 use Rattle.master_tour.proofs.Passings.{open_passing}
 use Rattle.master_tour.proofs.stop.Stop.open_met.Goals as goal

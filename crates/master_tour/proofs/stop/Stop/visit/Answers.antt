@@ -8,7 +8,6 @@ use Rattle.master_side.specs.Sent.{visit_gram}
 use Rattle.master_tour.specs.Stands.{StopShows, StandShows, StandMeant, stand_gram, is_open}
 use Rattle.master_tour.proofs.Visits.{still_next, open_next}
 use Rattle.master_tour.proofs.Rooms.{visit_gone, visit_full, visit_opens, visit_open}
-use Rattle.life_frames.specs.of_life_model.Lives.{life_next}
 use Rattle.master_tour.specs.Passing.{StandPassing}
 use Rattle.master_tour.proofs.Passings.{gone_passing, next_still, next_open, passing_waits}
 use Rattle.master_tour.proofs.stop.Stop.visit.Goals as goal
