@@ -26,3 +26,6 @@ pub mod Rooms
 pub mod Fits
 pub mod Leaves
 pub mod Happenings
+pub mod Downs
+pub mod Made
+pub mod Arrivals

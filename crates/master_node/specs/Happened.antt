@@ -55,6 +55,8 @@ pub record Comes (port : ℕ) (packet : ArrayVec ℕ) (l l' : Lan) : Type 0 wher
   pub many : length l'.switch.ports ≡ length l.switch.ports
   pub host : l'.host ≡ l.host
   pub entered : l'.entered ≡ l.entered
+  pub ports : l'.ports ≡ l.ports
+  pub full : 17 ≤ length l.happened → l'.happened ≡ l.happened
 
 -- SO MUCH MORE HAPPENS IN A STEP, at most: where the list of the step has room for it, the switch goes with what it has
 pub record Happens (more : ℕ) (l l' : Lan) : Type 0 where

@@ -32,3 +32,6 @@ pub mod Forwards
 pub mod Rooms
 pub mod Ports
 pub mod Happened
+pub mod Downs
+pub mod Made
+pub mod Arrivals

@@ -61,6 +61,7 @@ impl Happenings {
     pub fn put(&mut self, row: Happening)
         ensures all { length self.old < 17 → self.new ≡ self.old ++ row ∷ [] }
         ensures few { length self.new ≤ length self.old + 1 }
+        ensures full { 17 ≤ length self.old → self.new ≡ self.old }
     {
         if self.count < self.rows.len() {
             self.rows[self.count] = row;

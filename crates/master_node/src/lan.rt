@@ -98,10 +98,14 @@ fn has_host(ports: Ports) -> bool
 }
 
 impl Lan {
-    ghost use Rattle.std.specs.Prelude.{◌≡◌, [], IfOk};
+    ghost use Rattle.std.specs.Prelude.{◌≡◌, ◌∷◌, [], IfOk};
     ghost use Rattle.segment_plan.specs.Sound.{IsPlan};
     ghost use Rattle.master_node.specs.Ports.{ports_of};
+    ghost use Rattle.std.specs.Prelude.{true};
     ghost use Rattle.master_node.specs.Happened.{HasHappened, Happens, HappensSo, Comes};
+    ghost use Rattle.master_node.specs.Downs.{Lists, down_by};
+    ghost use Rattle.master_node.specs.Arrivals.{arrive_by};
+    ghost use Rattle.master_node.specs.Made.{Makes};
 
     /// A switch with a port for the host and one for each slave that serves EoE, all of them up, and the packets of the host.
     pub fn new(alloc: Global, plan: &Scenario) -> Result<Lan, NoMemory>
@@ -162,6 +166,7 @@ impl Lan {
     pub fn begins(&mut self)
         ensures so { HappensSo self.old self.new }
         ensures none { self.new.happened ≡ [] }
+        ensures ports { self.new.ports ≡ self.old.ports }
     {
         self.happened.clear();
     }
@@ -175,7 +180,8 @@ impl Lan {
 
     /// The next packet of the host comes in.
     pub fn enter(&mut self)
-        ensures { Happens 1 self.old self.new }
+        ensures happens { Happens 1 self.old self.new }
+        ensures made { Makes self.old self.new }
     {
         if self.entered >= self.host.len() {
             return;
@@ -187,7 +193,8 @@ impl Lan {
 
     /// A packet comes in from a slave.
     pub fn came(&mut self, slave: usize, packet: Packet)
-        ensures { Happens 1 self.old self.new }
+        ensures happens { Happens 1 self.old self.new }
+        ensures listed { Lists (arrive_by (port_by (slice_get self.old.ports.items slave)) (packet.items ∷ [])) self.old self.new }
     {
         if packet.len() < LEAST {
             return;
@@ -215,6 +222,7 @@ impl Lan {
         ensures oldest { IfSome result (λ p. slice_get (forwarded self.old.switch self.old.ports.items slave) 0 ≡ Some p) }
         ensures goes_on { forwarded self.new.switch self.new.ports.items slave ≡ drop 1 (forwarded self.old.switch self.old.ports.items slave) }
         ensures happens { Happens 1 self.old self.new }
+        ensures made { Makes self.old self.new }
     {
         let port = self.port(slave)?;
         let packet = self.switch.begun(port)?;
@@ -231,7 +239,8 @@ impl Lan {
 
     /// A slave's port goes down.
     pub fn down(&mut self, slave: usize)
-        ensures { Happens 1 self.old self.new }
+        ensures happens { Happens 1 self.old self.new }
+        ensures listed { Lists (down_by (port_by (slice_get self.old.ports.items slave)) true) self.old self.new }
     {
         if let Some(port) = self.port(slave) {
             self.switch.down(port);

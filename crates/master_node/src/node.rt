@@ -78,6 +78,7 @@ impl MasterNode {
     ghost use Rattle.master_hand.specs.declared.laying.Laid.{Laid};
     ghost use Rattle.master_node.specs.Forwards.{forwarded};
     ghost use Rattle.master_node.specs.Happened.{Happens, HappensSo};
+    ghost use Rattle.master_node.specs.Made.{Makes, AreOfMaking};
 
     // Whether a slave is live.
     pub(crate) fn has_live(&self) -> bool
@@ -100,6 +101,7 @@ impl MasterNode {
     fn admit(&mut self)
         ensures same { (self.new.posts ≡ self.old.posts) × (self.new.tour ≡ self.old.tour) }
         ensures lan { Happens 1 self.old.lan self.new.lan }
+        ensures made { Makes self.old.lan self.new.lan }
     {
         if self.tour.opened < self.tour.stops.len() || !self.lan.has_host() {
             return;
@@ -137,6 +139,7 @@ impl MasterNode {
         ensures oldest { StepsAt (λ s t. t.side.hand.laying.laid ≡ Laid.Packet → slice_get (forwarded self.old.lan.switch self.old.lan.ports.items place) 0 ≡ Some (record { items = t.side.hand.laying.packet })) place self.old.tour.stops.items self.new.tour.stops.items }
         ensures goes_on { forwarded self.new.lan.switch self.new.lan.ports.items place ≡ drop 1 (forwarded self.old.lan.switch self.old.lan.ports.items place) }
         ensures lan { Happens 1 self.old.lan self.new.lan }
+        ensures made { Makes self.old.lan self.new.lan }
     {
         let post = &mut self.posts[place];
         post.next = Work::Packet;
@@ -201,6 +204,7 @@ impl MasterNode {
         ensures laid { StepsAt (λ s t. StopStays s t × IsLaid (Some coming) t.side.hand.laying.laid) place self.old.tour.stops.items self.new.tour.stops.items }
         ensures kept { TourKept self.old self.new × (All WaitsNone self.old.posts.items → All WaitsNone self.new.posts.items) }
         ensures lan { Happens 1 self.old.lan self.new.lan }
+        ensures made { Makes self.old.lan self.new.lan }
     {
         match coming {
             Coming::Packet => self.lay_packet(place),
@@ -218,6 +222,7 @@ impl MasterNode {
         ensures kept { TourKept self.old self.new × (All WaitsNone self.old.posts.items → All WaitsNone self.new.posts.items) }
         ensures joins { JoinsKept self.old self.new }
         ensures lan { Happens 1 self.old.lan self.new.lan }
+        ensures made { Makes self.old.lan self.new.lan }
     {
         match coming {
             None => {}
@@ -305,6 +310,7 @@ impl MasterNode {
         ensures room { self.new.tour.count ≡ self.old.tour.count → holds_at (λ s. is_live s.stand) self.new.tour.stops.items place ≡ true → HasNoRoom into.new.items (area_in self.new.tour.stops.items place) }
         ensures takes { StepsAt (λ s t. Takes into.old.items into.new.items (nat_lt self.old.tour.count self.new.tour.count) s t) place self.old.tour.stops.items self.new.tour.stops.items }
         ensures lan { Happens 1 self.old.lan self.new.lan }
+        ensures made { Makes self.old.lan self.new.lan }
     {
         let index = (self.made % 256) as u8;
         let coming = self.coming(place);
@@ -328,6 +334,7 @@ impl MasterNode {
         ensures filled { (lens : ℕ → Lens) (recover made : ℕ) (as' : List Leads) → AreDistinct (map lived_of as') → IsEmpty lens recover made self.old into.old.items as' → IsFilled lens recover made self.new into.new.items as' }
         ensures joins { JoinsKept self.old self.new }
         ensures lan { Happens 16 self.old.lan self.new.lan }
+        ensures made { Makes self.old.lan self.new.lan }
     {
         for _ in 0..SLAVES {
             let Some(place) = self.tour.due() else {
@@ -351,6 +358,7 @@ impl MasterNode {
             IsOfTour (λ s. stop_share s) (λ k. holds_at is_live_lead as' k) (frame_size into.new.items) (λ k. area_at lens as' k) (tour_of self.old) self.new.tour.stops.items (length (seen lens into.new.items)) self.new.tour.visit.items }
         ensures joins { JoinsKept self.old self.new }
         ensures lan { Happens 16 self.old.lan self.new.lan }
+        ensures made { Makes self.old.lan self.new.lan }
     {
         self.tour.begin(into);
         self.fill(into);
@@ -371,6 +379,7 @@ impl MasterNode {
         ensures asks { result ≡ Next.Frame → (lens : ℕ → Lens) (recover retry missed : ℕ) (us : List Turn) → MasterUnder lens recover retry self.new into.new.items missed us → AllAsk (seen lens into.new.items) us }
         ensures joins { JoinsKept self.old self.new }
         ensures happened { HappensSo self.old.lan self.new.lan }
+        ensures made { (self.new.lan.ports ≡ self.old.lan.ports) × AreOfMaking self.new.lan.happened }
     {
         self.list.clear();
         self.lan.begins();

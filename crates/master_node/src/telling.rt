@@ -1,6 +1,7 @@
 //! What the return or the loss of a frame brings.
 
 ghost use Rattle.std.specs.Prelude.{◌≡◌, ◌<◌, vec_len};
+ghost use Rattle.master_node.specs.Downs.{is_given_up};
 
 use crate::event::Event;
 use crate::node::MasterNode;
@@ -12,8 +13,19 @@ use master_duty::Met;
 use master_side::Heard;
 use master_tour::Turned;
 
+// Whether a frame turned a slave into one that is given up.
+fn is_given_up(news: Option<Turned>) -> bool
+    ensures { result ≡ is_given_up news }
+{
+    matches!(news, Some(Turned::GivenUp))
+}
+
 impl MasterNode {
-    ghost use Rattle.std.specs.Prelude.{◌≡◌, ℕ, Option, List, map};
+    ghost use Rattle.std.specs.Prelude.{◌≡◌, ◌<◌, ◌&&◌, not, ℕ, Option, List, map, length, slice_get};
+    ghost use Rattle.master_tour.specs.Goes.{is_live, holds_at};
+    ghost use Rattle.master_node.specs.Arrivals.{arrive_by, arrivals_in, packets_of, kept_at, heard_at, completed_at, ComeIn};
+    ghost use Rattle.master_node.specs.Downs.{Lists, down_by, downs_in, is_given_up, gives_at, GoDown};
+    ghost use Rattle.master_node.specs.Forwards.{port_by};
     ghost use Rattle.eoe.specs.declared.joining.Unfinished.{Unfinished};
     ghost use Rattle.life_runs.specs.of_frame_view.View.{Lens};
     ghost use Rattle.life_runs.specs.of_frame_view.Seen.{seen};
@@ -45,12 +57,13 @@ impl MasterNode {
         });
     }
 
-    // The slave emitted an emergency, or the last fragment of a packet.
+    // The mail heard last was an emergency, or the last fragment of a packet, or neither.
     fn emitted(&mut self, place: usize)
         requires { place < vec_len self.old.posts }
         ensures posts { vec_len self.new.posts ≡ vec_len self.old.posts }
         ensures kept { NodeKept self.old self.new }
         ensures lan { Happens 1 self.old.lan self.new.lan }
+        ensures listed { Lists (arrive_by (port_by (slice_get self.old.lan.ports.items place)) (kept_at self.old.tour.stops.items place)) self.old.lan self.new.lan }
     {
         let hand = &self.tour.stops[place].side.hand;
         if let Some(octets) = hand.emergency() {
@@ -97,9 +110,10 @@ impl MasterNode {
         ensures posts { vec_len self.new.posts ≡ vec_len self.old.posts }
         ensures kept { NodeKept self.old self.new }
         ensures lan { Happens 1 self.old.lan self.new.lan }
+        ensures listed { Lists (arrive_by (port_by (slice_get self.old.lan.ports.items place)) (kept_at self.old.tour.stops.items place)) self.old.lan self.new.lan }
     {
+        self.emitted(place);
         if matches!(what, Heard::Emission) {
-            self.emitted(place);
             return;
         }
         match self.posts[place].work {
@@ -197,6 +211,7 @@ impl MasterNode {
         ensures posts { vec_len self.new.posts ≡ vec_len self.old.posts }
         ensures kept { NodeKept self.old self.new }
         ensures lan { Happens 1 self.old.lan self.new.lan }
+        ensures listed { Lists (arrive_by (port_by (slice_get self.old.lan.ports.items place)) (packets_of what (kept_at self.old.tour.stops.items place))) self.old.lan self.new.lan }
     {
         if let Some(what) = what {
             self.heard(place, what);
@@ -209,6 +224,7 @@ impl MasterNode {
         ensures posts { vec_len self.new.posts ≡ vec_len self.old.posts }
         ensures kept { NodeKept self.old self.new }
         ensures lan { Happens 1 self.old.lan self.new.lan }
+        ensures listed { Lists (arrive_by (port_by (slice_get self.old.lan.ports.items place)) (heard_at self.old.tour.stops.items place)) self.old.lan self.new.lan }
     {
         let what = self.tour.stops[place].side.heard;
         self.heard_where(place, what);
@@ -216,26 +232,28 @@ impl MasterNode {
         self.turned(place);
     }
 
-    // The same of the one with this number among those that it carried.
-    fn carried_back(&mut self, k: usize)
+    // The same of the one at this place, where a slave stands there.
+    fn back_at(&mut self, place: usize)
         ensures posts { vec_len self.new.posts ≡ vec_len self.old.posts }
         ensures kept { NodeKept self.old self.new }
         ensures lan { Happens 1 self.old.lan self.new.lan }
+        ensures listed { Lists (arrive_by (port_by (slice_get self.old.lan.ports.items place)) (heard_at self.old.tour.stops.items place)) self.old.lan self.new.lan }
     {
-        match self.tour.visit.get(k) {
-            Some(&place) if place < self.posts.len() => self.back(place),
-            _ => {}
+        if place < self.posts.len() {
+            self.back(place);
         }
     }
 
-    // What it brought of all of them.
+    // What it brought of all that it carried.
     fn all_back(&mut self)
         ensures posts { vec_len self.new.posts ≡ vec_len self.old.posts }
         ensures kept { NodeKept self.old self.new }
         ensures lan { Happens 16 self.old.lan self.new.lan }
+        ensures listed { Lists (arrivals_in self.old.lan.ports.items (λ p. heard_at self.old.tour.stops.items p) self.old.tour.visit.items) self.old.lan self.new.lan }
     {
         for k in 0..self.tour.visit.len() {
-            self.carried_back(k);
+            let place = self.tour.visit.as_slice()[k];
+            self.back_at(place);
         }
     }
 
@@ -250,6 +268,8 @@ impl MasterNode {
         ensures joined { (lens : ℕ → Lens) (recover retry missed number : ℕ) (octets : List ℕ) (us : List Turn) (befores : List (Option Unfinished)) (f : Exchanged) → f.fate ≡ Fate.Pass → f.back ≡ frame.now.items → MasterUnder lens recover retry self.old octets missed us → Returns (seen lens octets) (seen lens frame.now.items) →
             HasUnfinished self.old (map stand_under us) befores → HasCompleted self.new us befores (seen lens frame.now.items) × HasUnfinished self.new (map stand_before (map (led_behind lens recover retry (gives_up_at lens recover retry missed) number f) us)) (unfinished_after (mails_back (seen lens frame.now.items)) us befores) }
         ensures happened { HappensSo self.old.lan self.new.lan }
+        ensures arrivals { (lens : ℕ → Lens) (recover retry missed : ℕ) (octets : List ℕ) (us : List Turn) (befores : List (Option Unfinished)) → MasterUnder lens recover retry self.old octets missed us → Returns (seen lens octets) (seen lens frame.now.items) →
+            HasUnfinished self.old (map stand_under us) befores → ComeIn self.old (λ p. completed_at (seen lens frame.now.items) us befores p) self.new }
     {
         self.list.ends();
         self.lan.begins();
@@ -263,6 +283,7 @@ impl MasterNode {
         ensures posts { vec_len self.new.posts ≡ vec_len self.old.posts }
         ensures kept { NodeKept self.old self.new }
         ensures lan { self.new.lan ≡ self.old.lan }
+        ensures tour { self.new.tour ≡ self.old.tour }
     {
         self.posts[place].drop_all();
     }
@@ -273,6 +294,8 @@ impl MasterNode {
         ensures posts { vec_len self.new.posts ≡ vec_len self.old.posts }
         ensures kept { NodeKept self.old self.new }
         ensures lan { Happens 1 self.old.lan self.new.lan }
+        ensures tour { self.new.tour ≡ self.old.tour }
+        ensures listed { Lists (down_by (port_by (slice_get self.old.lan.ports.items place)) (holds_at (λ s. not (is_live s.stand)) self.old.tour.stops.items place)) self.old.lan self.new.lan }
     {
         if !self.tour.stops[place].is_live() {
             self.lan.down(place);
@@ -285,8 +308,10 @@ impl MasterNode {
         ensures posts { vec_len self.new.posts ≡ vec_len self.old.posts }
         ensures kept { NodeKept self.old self.new }
         ensures lan { Happens 1 self.old.lan self.new.lan }
+        ensures tour { self.new.tour ≡ self.old.tour }
+        ensures listed { Lists (down_by (port_by (slice_get self.old.lan.ports.items place)) (gives_at self.old.tour.stops.items place)) self.old.lan self.new.lan }
     {
-        if !matches!(self.tour.stops[place].news, Some(Turned::GivenUp)) {
+        if !is_given_up(self.tour.stops[place].news) {
             return;
         }
         self.dropped(place);
@@ -296,15 +321,16 @@ impl MasterNode {
         self.down_where(place);
     }
 
-    // The one with this number among those that the frame carried, where it was.
-    fn carried_given_up(&mut self, k: usize)
+    // The one at this place, where a slave stands there.
+    fn given_up_at(&mut self, place: usize)
         ensures posts { vec_len self.new.posts ≡ vec_len self.old.posts }
         ensures kept { NodeKept self.old self.new }
         ensures lan { Happens 1 self.old.lan self.new.lan }
+        ensures tour { self.new.tour ≡ self.old.tour }
+        ensures listed { Lists (down_by (port_by (slice_get self.old.lan.ports.items place)) (gives_at self.old.tour.stops.items place)) self.old.lan self.new.lan }
     {
-        match self.tour.visit.get(k) {
-            Some(&place) if place < self.posts.len() => self.given_up(place),
-            _ => {}
+        if place < self.posts.len() {
+            self.given_up(place);
         }
     }
 
@@ -313,9 +339,11 @@ impl MasterNode {
         ensures posts { vec_len self.new.posts ≡ vec_len self.old.posts }
         ensures kept { NodeKept self.old self.new }
         ensures lan { Happens 16 self.old.lan self.new.lan }
+        ensures listed { Lists (downs_in self.old.lan.ports.items (λ p. gives_at self.old.tour.stops.items p) self.old.tour.visit.items) self.old.lan self.new.lan }
     {
         for k in 0..self.tour.visit.len() {
-            self.carried_given_up(k);
+            let place = self.tour.visit.as_slice()[k];
+            self.given_up_at(place);
         }
     }
 
@@ -329,6 +357,8 @@ impl MasterNode {
         ensures toured { (lens : ℕ → Lens) (recover retry missed number after : ℕ) (octets : List ℕ) (us : List Turn) (f : Exchanged) → f.fate ≡ Fate.Lost after → f.sent ≡ octets → MasterUnder lens recover retry self.old octets missed us →
             tour_of self.new ≡ lost_on is_opening_lead retry (map (led_behind lens recover retry (gives_up_at lens recover retry missed) number f) us) (tour_of self.old) self.old.tour.visit.items }
         ensures happened { HappensSo self.old.lan self.new.lan }
+        ensures downs { (lens : ℕ → Lens) (recover retry missed number after : ℕ) (octets : List ℕ) (us : List Turn) (f : Exchanged) → f.fate ≡ Fate.Lost after → f.sent ≡ octets → MasterUnder lens recover retry self.old octets missed us →
+            GoDown self.old us (map (led_behind lens recover retry (gives_up_at lens recover retry missed) number f) us) self.new }
     {
         self.list.ends();
         self.lan.begins();

@@ -15,6 +15,7 @@ use Rattle.run_book.specs.declared.book.Ending.{Ending}
 use Rattle.run_book.specs.declared.book.Ending.TheVariants as endings
 use Rattle.run_record.specs.Led.{LedBook, exchanged}
 use Rattle.run_record.specs.Replay.{first_ring, ring_after}
+use Rattle.run_record.specs.Switched.{HasPackets}
 use Rattle.segment_plan.specs.declared.plan.Scenario.{Scenario}
 
 -- WHERE A RUN IS OVER: done, all of each slave is done; with a slave given up, nothing is left of those that weren't given up for good
@@ -42,6 +43,8 @@ pub record IsPromised (plan : Scenario) (book : Book) : Type 0 where
   pub epochs : book.ending ≢ endings.NoMemory → AllCaused led.leads book.slaves
   -- and of each slave just the emergencies among the mails that its life accepted over these frames are reported, each with the frame that brought it
   pub emergencies : book.ending ≢ endings.NoMemory → AllHaveEmergencies (heard_in led.lives) book.slaves
+  -- and the host received just the packets that the events of the book's switch forward to its port; those that came in there are the first of the plan's
+  pub packets : book.ending ≢ endings.NoMemory → HasPackets plan book
   -- and the frames are the visits of one tour: each is addressed to the first slaves of its visit, in order, and to no other
   pub visits : AllVisit plan led.toured
   -- and where no more frames in a row are lost than the retry limit no slave is given up: where nothing is left to do all is done

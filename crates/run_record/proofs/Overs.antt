@@ -29,6 +29,7 @@ use Rattle.run_record.proofs.Reporting.{all_booked, all_spent, all_epochs}
 use Rattle.run_record.proofs.Ends.{rest_so, all_done, gaves_of_rows}
 use Rattle.run_record.proofs.Heard.{heard_of_rows}
 use Rattle.run_record.proofs.Switched.{has_packets}
+use Rattle.run_record.proofs.Underway.{many}
 
 -- the lives that frames lead to, with the emergencies that are noted of them
 abbrev HeardLives : Scenario → ℕ → List Leads → List (List Emergency) → List SentFrame → Type 0
@@ -40,7 +41,7 @@ not_done e = absurd (cc)
 not_given : endings.GivenUp ≡ endings.NoMemory → ⊥
 not_given e = absurd (cc)
 
-module _ (plan : Scenario) (s : SessionState) (b b' : Book) (h : IsUnderway plan 0 s b) (l : Leading plan s.master s.notes (map exchanged b.frames)) (switched : IsSwitched s.ports plan.host s.master.lan b) (frames : b'.frames ≡ b.frames) (kept : SameSwitch b b') (same : length s.notes ≡ length s.ring.nodes) where
+module _ (plan : Scenario) (s : SessionState) (b b' : Book) (h : IsUnderway plan 0 s b) (l : Leading plan s.master s.notes (map exchanged b.frames)) (switched : IsSwitched s.ports plan.host s.ring.number s.master.lan b) (frames : b'.frames ≡ b.frames) (kept : SameSwitch b b') (same : length s.notes ≡ length s.ring.nodes) where
   abbrev lens : ℕ → Lens
   lens = lens_of plan.slaves
 
@@ -83,7 +84,7 @@ module _ (plan : Scenario) (s : SessionState) (b b' : Book) (h : IsUnderway plan
     unsent = λ ok. subst (λ (rs : List SlaveBook). AllBoth IsSpent l.leads rs) (sym (rows ok)) (all_spent s.recover l.leads s.ring.nodes s.notes same l.told);
     epochs = λ ok. subst (λ (rs : List SlaveBook). AllBoth HasEpochs l.leads rs) (sym (rows ok)) (all_epochs s.recover l.leads s.ring.nodes s.notes same l.told);
     heard = λ ok. ap emergencies_in (rows ok) ∙ heard_of_rows s.recover s.ring.nodes s.notes same ∙ both.1;
-    packets = λ ok. has_packets plan s.ports s.master.lan b b' h.ports kept switched;
+    packets = λ ok. has_packets plan s.ports s.ring.number s.master.lan b b' h.ports (sym (ap length frames ∙ many plan 0 s b h)) kept switched;
     rests = elim answers [
       | inl is ↦ subst (λ (e : Ending). RestBy lens e l.leads b'.slaves) (sym is) (rest_by ending settled so left cut (λ ok. rows (λ none. ok (sym is ∙ none))))
       | inr none ↦ subst (λ (e : Ending). RestBy lens e l.leads b'.slaves) (sym none) tt

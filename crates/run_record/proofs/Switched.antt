@@ -17,7 +17,7 @@ use Rattle.run_book.specs.declared.book.Book.{Book}
 use Rattle.segment_plan.specs.declared.plan.Scenario.{Scenario}
 use Rattle.run_record.specs.declared.standing.Log.{Log}
 use Rattle.run_record.specs.Session.{SessionState, first_session, SameSlaves}
-use Rattle.run_record.specs.Switched.{octets_of, HasNoted, NotesSwitch, SameSwitch, IsSwitched, HasPackets}
+use Rattle.run_record.specs.Switched.{octets_of, Stamp, rows_of, numbers_of, stamp, stamped, NeverFall, HasNoted, NotesSwitch, SameSwitch, IsSwitched, HasPackets}
 
 -- ---- at a port
 
@@ -32,72 +32,113 @@ all_last : (ports : ℕ) (rows more : List Happening) → All (λ (r : Happening
 all_last ports [] more a = a
 all_last ports (r ∷ rows) more a = all_last ports rows more (All-tail (IsAt ports) r (rows ++ more) a)
 
+-- ---- numbers
+
+rows_stamped : (sent : ℕ) (rows : List Happening) → rows_of (stamped sent rows) ≡ rows
+rows_stamped sent [] = refl
+rows_stamped sent (r ∷ rows) = ap (λ z. r ∷ z) (rows_stamped sent rows)
+
+rows_more : (sent : ℕ) (before : List Stamp) (rows : List Happening) → rows_of (before ++ stamped sent rows) ≡ rows_of before ++ rows
+rows_more sent before rows = map-append (λ (s : Stamp). s.row) before (stamped sent rows) ∙ ap (λ z. rows_of before ++ z) (rows_stamped sent rows)
+
+numbers_more : (sent : ℕ) (before : List Stamp) (rows : List Happening) → numbers_of (before ++ stamped sent rows) ≡ numbers_of before ++ numbers_of (stamped sent rows)
+numbers_more sent before rows = map-append (λ (s : Stamp). s.sent) before (stamped sent rows)
+
+fall_below : (low mid high : ℕ) (ns : List ℕ) → low ≤ mid → NeverFall mid high ns → NeverFall low high ns
+fall_below low mid high [] l f = omega (arith, l, f)
+fall_below low mid high (n ∷ ns) l f = (let first = f.0 in omega (arith, l, first), f.1)
+
+fall_on : (low mid high : ℕ) (ns ms : List ℕ) → NeverFall low mid ns → NeverFall mid high ms → NeverFall low high (ns ++ ms)
+fall_on low mid high [] ms f g = fall_below low mid high ms f g
+fall_on low mid high (n ∷ ns) ms f g = (f.0, fall_on n mid high ns ms f.1 g)
+
+fall_stamped : (low sent : ℕ) (rows : List Happening) → low ≤ sent → NeverFall low sent (numbers_of (stamped sent rows))
+fall_stamped low sent [] l = l
+fall_stamped low sent (r ∷ rows) l = (l, fall_stamped sent sent rows (omega arith))
+
 -- ---- one more
 
-pub noted_more : (before : List Happening) (r : Happening) (b b' : Book) → b'.switch ≡ b.switch ++ r.event ∷ [] → length b'.switched ≡ length b.switched + 1 → b'.host ≡ b.host ++ octets_of (handed_by r) → HasNoted before b → HasNoted (before ++ r ∷ []) b'
-noted_more before r b b' e f g h = record {
-  switch = e ∙ ap (λ z. z ++ r.event ∷ []) h.switch ∙ sym (events_push before r);
-  many = f ∙ ap (λ n. n + 1) h.many ∙ sym (length-append before (r ∷ []));
-  host = g ∙ ap (λ z. z ++ octets_of (handed_by r)) h.host ∙ sym (ap octets_of (handed_push before r) ∙ map-append (λ (p : ArrayVec ℕ). p.items) (handed_in before) (handed_by r));
-}
+pub noted_more : (before : List Stamp) (sent : ℕ) (r : Happening) (b b' : Book) → b'.switch ≡ b.switch ++ r.event ∷ [] → b'.switched ≡ b.switched ++ sent ∷ [] → b'.host ≡ b.host ++ octets_of (handed_by r) → HasNoted before b → HasNoted (before ++ stamped sent (r ∷ [])) b'
+noted_more before sent r b b' e f g h =
+    let rows : rows_of (before ++ stamped sent (r ∷ [])) ≡ rows_of before ++ r ∷ [] = rows_more sent before (r ∷ []) in
+    record {
+      switch = e ∙ ap (λ z. z ++ r.event ∷ []) h.switch ∙ sym (events_push (rows_of before) r) ∙ sym (ap events_of rows);
+      switched = f ∙ ap (λ z. z ++ sent ∷ []) h.switched ∙ sym (numbers_more sent before (r ∷ []));
+      host = g ∙ ap (λ z. z ++ octets_of (handed_by r)) h.host ∙ sym (ap octets_of (handed_push (rows_of before) r) ∙ map-append (λ (p : ArrayVec ℕ). p.items) (handed_in (rows_of before)) (handed_by r))
+          ∙ sym (ap (λ z. octets_of (handed_in z)) rows);
+    }
 
 -- so far in a loop over them
-abbrev pub NotesTo : ℕ → List Happening → ℕ → Book → Book → Type 0
-NotesTo ports rows k b b' = (before : List Happening) → All (λ (r : Happening). IsAtPort ports r.event) rows → HasNoted before b → HasNoted (before ++ take k rows) b'
+abbrev pub NotesTo : ℕ → ℕ → List Happening → ℕ → Book → Book → Type 0
+NotesTo ports sent rows k b b' = (before : List Stamp) → All (λ (r : Happening). IsAtPort ports r.event) rows → HasNoted before b → HasNoted (before ++ stamped sent (take k rows)) b'
 
-pub notes_first : (ports : ℕ) (rows : List Happening) (b : Book) → NotesTo ports rows 0 b b
-notes_first ports rows b = λ before all h. subst (λ z. HasNoted z b) (sym (append-nil before)) h
+pub notes_first : (ports sent : ℕ) (rows : List Happening) (b : Book) → NotesTo ports sent rows 0 b b
+notes_first ports sent rows b = λ before all h. subst (λ z. HasNoted z b) (sym (append-nil before)) h
 
-pub notes_next : (ports : ℕ) (rows : List Happening) (k : ℕ) (r : Happening) (b b1 b2 : Book) → k < length rows → r ≡ get_or rows k r → NotesTo ports rows k b b1 → NotesSwitch ports (r ∷ []) b1 b2 → NotesTo ports rows (k + 1) b b2
-notes_next ports rows k r b b1 b2 inside is so one = λ before all h.
+pub notes_next : (ports sent : ℕ) (rows : List Happening) (k : ℕ) (r : Happening) (b b1 b2 : Book) → k < length rows → r ≡ get_or rows k r → NotesTo ports sent rows k b b1 → NotesSwitch ports sent (r ∷ []) b1 b2 → NotesTo ports sent rows (k + 1) b b2
+notes_next ports sent rows k r b b1 b2 inside is so one = λ before all h.
     let here : IsAtPort ports r.event = subst (λ (q : Happening). IsAtPort ports q.event) (sym is) (All-get_or (IsAt ports) rows k r inside all) in
     let more : take (k + 1) rows ≡ take k rows ++ r ∷ [] = ap (λ n. take n rows) (add-one k) ∙ take-suc rows k r inside ∙ ap (λ z. take k rows ++ z ∷ []) (sym is) in
-    subst (λ z. HasNoted z b2) (append_assoc before (take k rows) (r ∷ []) ∙ ap (λ z. before ++ z) (sym more))
-    (one (before ++ take k rows) (All-cons (IsAt ports) r [] here (All-nil (IsAt ports))) (so before all h))
+    let stamps : stamped sent (take (k + 1) rows) ≡ stamped sent (take k rows) ++ stamped sent (r ∷ []) = ap (λ z. stamped sent z) more ∙ map-append (λ (q : Happening). stamp sent q) (take k rows) (r ∷ []) in
+    subst (λ z. HasNoted z b2) (append_assoc before (stamped sent (take k rows)) (stamped sent (r ∷ [])) ∙ ap (λ z. before ++ z) (sym stamps))
+    (one (before ++ stamped sent (take k rows)) (All-cons (IsAt ports) r [] here (All-nil (IsAt ports))) (so before all h))
 
-pub notes_last : (ports : ℕ) (rows : List Happening) (k : ℕ) (b b' : Book) → length rows ≤ k → NotesTo ports rows k b b' → NotesSwitch ports rows b b'
-notes_last ports rows k b b' over so = λ before all h. subst (λ z. HasNoted (before ++ z) b') (take_all k rows over) (so before all h)
+pub notes_last : (ports sent : ℕ) (rows : List Happening) (k : ℕ) (b b' : Book) → length rows ≤ k → NotesTo ports sent rows k b b' → NotesSwitch ports sent rows b b'
+notes_last ports sent rows k b b' over so = λ before all h. subst (λ z. HasNoted (before ++ stamped sent z) b') (take_all k rows over) (so before all h)
 
 -- the ports are those of the log, whichever of its moments
-pub switch_at : (a b : Log) (rows : List Happening) (x y : Book) → SameSlaves a b → NotesSwitch (1 + length b.ports) rows x y → NotesSwitch (1 + length a.ports) rows x y
-switch_at a b rows x y same notes = subst (λ (n : ℕ). NotesSwitch (1 + n) rows x y) (ap length same.ports) notes
+pub switch_at : (a b : Log) (sent : ℕ) (rows : List Happening) (x y : Book) → SameSlaves a b → NotesSwitch (1 + length b.ports) sent rows x y → NotesSwitch (1 + length a.ports) sent rows x y
+switch_at a b sent rows x y same notes = subst (λ (n : ℕ). NotesSwitch (1 + n) sent rows x y) (ap length same.ports) notes
 
 -- ---- a session
 
-pub noted_same : (rows : List Happening) (b b' : Book) → SameSwitch b b' → HasNoted rows b → HasNoted rows b'
-noted_same rows b b' s h = record { switch = s.switch ∙ h.switch; many = ap length s.switched ∙ h.many; host = s.host ∙ h.host }
+pub noted_same : (stamps : List Stamp) (b b' : Book) → SameSwitch b b' → HasNoted stamps b → HasNoted stamps b'
+noted_same stamps b b' s h = record { switch = s.switch ∙ h.switch; switched = s.switched ∙ h.switched; host = s.host ∙ h.host }
 
-pub switched_same : (ports : ℕ) (host : List (ArrayVec ℕ)) (l : Lan) (b b' : Book) → SameSwitch b b' → IsSwitched ports host l b → IsSwitched ports host l b'
-switched_same ports host l b b' s x = record { rows = x.rows; noted = noted_same x.rows b b' s x.noted; happened = x.happened }
+pub switched_same : (ports : ℕ) (host : List (ArrayVec ℕ)) (sent : ℕ) (l : Lan) (b b' : Book) → SameSwitch b b' → IsSwitched ports host sent l b → IsSwitched ports host sent l b'
+switched_same ports host sent l b b' s x = record { stamps = x.stamps; noted = noted_same x.stamps b b' s x.noted; numbers = x.numbers; happened = x.happened }
 
-pub switched_on : (ports : ℕ) (host : List (ArrayVec ℕ)) (l l' : Lan) (b b' : Book) → HappensSo l l' → NotesSwitch ports l'.happened b b' → IsSwitched ports host l b → IsSwitched ports host l' b'
-switched_on ports host l l' b b' h n x =
-    let y = h ports host x.rows x.happened in
+pub switched_on : (ports : ℕ) (host : List (ArrayVec ℕ)) (sent sent' : ℕ) (l l' : Lan) (b b' : Book) → sent ≤ sent' → HappensSo l l' → NotesSwitch ports sent' l'.happened b b' → IsSwitched ports host sent l b → IsSwitched ports host sent' l' b'
+switched_on ports host sent sent' l l' b b' le h n x =
+    let y = h ports host (rows_of x.stamps) x.happened in
     record {
-      rows = x.rows ++ l'.happened;
-      noted = n x.rows (all_last ports x.rows l'.happened (all_rows ports (x.rows ++ l'.happened) y.at_port)) x.noted;
-      happened = y;
+      stamps = x.stamps ++ stamped sent' l'.happened;
+      noted = n x.stamps (all_last ports (rows_of x.stamps) l'.happened (all_rows ports (rows_of x.stamps ++ l'.happened) y.at_port)) x.noted;
+      numbers = subst (λ z. NeverFall 0 sent' z) (sym (numbers_more sent' x.stamps l'.happened))
+          (fall_on 0 sent sent' (numbers_of x.stamps) (numbers_of (stamped sent' l'.happened)) x.numbers (fall_stamped sent sent' l'.happened le));
+      happened = subst (λ z. HasHappened ports host z l') (sym (rows_more sent' x.stamps l'.happened)) y;
     }
 
+-- a step of the session: with this number as its frame is made, with one more behind it
+pub switched_step :
+    (ports : ℕ) (host : List (ArrayVec ℕ)) (sent : ℕ) (l m l' : Lan) (b b1 b2 b3 : Book) → HappensSo l m → NotesSwitch ports sent m.happened b b1 → SameSwitch b1 b2 → HappensSo m l' → NotesSwitch ports (sent + 1) l'.happened b2 b3
+    → IsSwitched ports host sent l b → IsSwitched ports host (sent + 1) l' b3
+switched_step ports host sent l m l' b b1 b2 b3 made before same back behind x =
+    switched_on ports host sent (sent + 1) m l' b2 b3 (omega arith) back behind (switched_same ports host sent m b1 b2 same (switched_on ports host sent sent l m b b1 (omega arith) made before x))
+
 -- before the first frame
-pub switched_new : (plan : Scenario) (grams : ℕ) (s : SessionState) (b : Book) → s ≡ first_session plan grams s.master → IsNew b → HasHappened (ports_of plan.slaves) plan.host [] s.master.lan → IsSwitched s.ports plan.host s.master.lan b
+pub switched_new : (plan : Scenario) (grams : ℕ) (s : SessionState) (b : Book) → s ≡ first_session plan grams s.master → IsNew b → HasHappened (ports_of plan.slaves) plan.host [] s.master.lan → IsSwitched s.ports plan.host s.ring.number s.master.lan b
 switched_new plan grams s b first new h = record {
-  rows = [];
-  noted = record { switch = new.switch; many = ap length new.switched; host = new.host };
+  stamps = [];
+  noted = record { switch = new.switch; switched = new.switched; host = new.host };
+  numbers = omega arith;
   happened = subst (λ (n : ℕ). HasHappened n plan.host [] s.master.lan) (sym (ap (λ (t : SessionState). t.ports) first)) h;
 }
 
 -- ---- the book
 
-pub has_packets : (plan : Scenario) (ports : ℕ) (l : Lan) (b b' : Book) → ports ≡ ports_of plan.slaves → SameSwitch b b' → IsSwitched ports plan.host l b → HasPackets plan b'
-has_packets plan ports l b b' many s x =
-    let switch : b'.switch ≡ events_of x.rows = s.switch ∙ x.noted.switch in
+pub has_packets : (plan : Scenario) (ports sent : ℕ) (l : Lan) (b b' : Book) → ports ≡ ports_of plan.slaves → sent ≡ length b'.frames → SameSwitch b b' → IsSwitched ports plan.host sent l b → HasPackets plan b'
+has_packets plan ports sent l b b' many frames s x =
+    let switch : b'.switch ≡ events_of (rows_of x.stamps) = s.switch ∙ x.noted.switch in
+    let numbers : b'.switched ≡ numbers_of x.stamps = s.switched ∙ x.noted.switched in
     record {
-      packets = handed_in x.rows;
+      packets = handed_in (rows_of x.stamps);
       others = x.happened.others;
       forwards = (λ i. (switched (sym many i) (switch i)).forwards) ∙ x.happened.handed;
       host = s.host ∙ x.noted.host;
       rest = drop l.entered l.host;
       entered = ap (λ z. z ++ drop l.entered l.host) (ap (λ z. arrivals_at 0 z) switch ∙ x.happened.entered) ∙ take-append-drop l.entered l.host ∙ x.happened.own;
-      many = ap length s.switched ∙ x.noted.many ∙ sym (length-map x.rows (λ (r : Happening). r.event)) ∙ ap length (sym switch);
+      many = ap length numbers ∙ length-map x.stamps (λ (t : Stamp). t.sent)
+          ∙ sym (ap length switch ∙ length-map (rows_of x.stamps) (λ (r : Happening). r.event) ∙ length-map x.stamps (λ (t : Stamp). t.row));
+      numbers = subst (λ n. NeverFall 0 n b'.switched) frames (subst (λ z. NeverFall 0 sent z) (sym numbers) x.numbers);
     }

@@ -185,9 +185,9 @@ LeadsOn s s' f = (plan : Scenario) (fs : List Exchanged) → s.recover ≡ plan.
 abbrev pub LedOn : SessionState → SentFrame → Type 0
 LedOn s f = (plan : Scenario) (fs : List Exchanged) → has_live s.master ≡ true → Leading plan s.master s.notes fs → AreLed plan (fs ++ exchanged f ∷ [])
 
--- the packets of the book stay those of the master's switch
+-- the packets of the book stay those of the master's switch, and each event has the number of the frames that had been sent then
 abbrev pub SwitchesOn : SessionState → Book → SessionState → Book → Type 0
-SwitchesOn s b s' b' = (host : List (ArrayVec ℕ)) → IsSwitched s.ports host s.master.lan b → IsSwitched s'.ports host s'.master.lan b'
+SwitchesOn s b s' b' = (host : List (ArrayVec ℕ)) → IsSwitched s.ports host s.ring.number s.master.lan b → IsSwitched s'.ports host s'.ring.number s'.master.lan b'
 
 -- ONE STEP: one frame more stands in the book, as the ring before gives it, and the ring is the one behind that frame
 pub record Steps (s : SessionState) (b : Book) (s' : SessionState) (b' : Book) (f : SentFrame) : Type 0 where

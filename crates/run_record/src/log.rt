@@ -198,7 +198,7 @@ impl Log {
         ensures heard { OnOk result (emergencies_noted self.new.notes ≡ emergencies_noted self.old.notes) }
         ensures told { OnOk result (KeepsReports self.old.notes self.new.notes) }
         ensures frames { SameFrames (1 + length self.old.ports) book.old book.new }
-        ensures switch { OnOk result (NotesSwitch (1 + length self.old.ports) master.now.lan.happened book.old book.new) }
+        ensures switch { OnOk result (NotesSwitch (1 + length self.old.ports) moment.sent master.now.lan.happened book.old book.new) }
     {
         self.note_events(alloc, master, moment)?;
         self.note_happened(alloc, moment, master.happened(), book)

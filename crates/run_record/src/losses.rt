@@ -107,7 +107,7 @@ impl Log {
         ensures gave { OnOk result (GaveBy fate moment.frame master.now self.old self.new) }
         ensures heard { OnOk result (HeardBy fate moment.frame master.now self.old self.new) }
         ensures told { OnOk result (ReportsBy fate moment.frame master.now self.old self.new) }
-        ensures switch { OnOk result (NotesSwitch (1 + length self.old.ports) master.now.lan.happened book.old book.new) }
+        ensures switch { OnOk result (NotesSwitch (1 + length self.old.ports) moment.sent master.now.lan.happened book.old book.new) }
     {
         self.note(alloc, master, moment, book)?;
         self.note_fate(alloc, master, fate, moment.frame)

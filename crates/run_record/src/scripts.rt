@@ -64,7 +64,7 @@ impl Log {
         ensures heard { OnOk result (emergencies_noted self.new.notes ≡ emergencies_noted self.old.notes) }
         ensures frames { SameFrames (1 + length self.old.ports) book.old book.new }
         ensures told { OnOk result (TurnsAll moment.frame master.now (ReportsOn self.old.notes self.new.notes)) }
-        ensures switch { OnOk result (NotesSwitch (1 + length self.old.ports) master.now.lan.happened book.old book.new) }
+        ensures switch { OnOk result (NotesSwitch (1 + length self.old.ports) moment.sent master.now.lan.happened book.old book.new) }
     {
         self.note_scripts(master, moment.frame)?;
         self.note(alloc, master, moment, book)

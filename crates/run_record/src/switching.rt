@@ -61,7 +61,7 @@ impl Log {
         ensures heard { emergencies_noted self.new.notes ≡ emergencies_noted self.old.notes }
         ensures told { KeepsReports self.old.notes self.new.notes }
         ensures frames { SameFrames (1 + length self.old.ports) book.old book.new }
-        ensures switch { OnOk result (NotesSwitch (1 + length self.old.ports) rows.now book.old book.new) }
+        ensures switch { OnOk result (NotesSwitch (1 + length self.old.ports) moment.sent rows.now book.old book.new) }
     {
         for row in rows {
             self.note_switch(alloc, moment, row, book)?;
@@ -81,7 +81,7 @@ impl Log {
         ensures heard { emergencies_noted self.new.notes ≡ emergencies_noted self.old.notes }
         ensures told { KeepsReports self.old.notes self.new.notes }
         ensures frames { SameFrames (1 + length self.old.ports) book.old book.new }
-        ensures switch { OnOk result (NotesSwitch (1 + length self.old.ports) (row.now ∷ []) book.old book.new) }
+        ensures switch { OnOk result (NotesSwitch (1 + length self.old.ports) moment.sent (row.now ∷ []) book.old book.new) }
     {
         if !self.is_at_port(&row.event) {
             return Ok(());

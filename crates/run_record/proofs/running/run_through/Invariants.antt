@@ -15,7 +15,7 @@ invariant-loop-settled l = record {
   settled : OnTrue l.settled (are_at_rest (session_rows l.session) ≡ true);
   left : OnTrue l.settled (IsLeftBy l.session.master);
   busy : OnFalse l.settled ((are_at_rest (session_rows l.session) ≡ false) ⊎ (has_live l.session.master ≡ true));
-  switched : IsSwitched l.session.ports l.plan.host l.session.master.lan l.book;
+  switched : IsSwitched l.session.ports l.plan.host l.session.ring.number l.session.master.lan l.book;
   leading : Leading l.plan l.session.master l.session.notes (map exchanged l.book.frames);
 }
 

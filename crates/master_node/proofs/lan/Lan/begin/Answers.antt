@@ -1,6 +1,7 @@
 use Rattle.std.proofs.Common.{refl, Some, sym, ◌∙◌}
 use Rattle.master_node.proofs.Forwards.{taken_from}
 use Rattle.master_node.proofs.Happenings.{happens_same, begun_none, begun_goes}
+use Rattle.master_node.proofs.Made.{makes_one, makes_none, makes_same}
 use Rattle.master_node.proofs.lan.Lan.begin.Goals as goal
 
 pub returns-in_err-packet-clause-happens : goal.returns-in_err-packet-clause-happens
@@ -19,3 +20,15 @@ returns-then-len-lt-LEAST-clause-happens c = begun_goes c.in_ok-port.port _ _ c.
 
 pub returns-clause-happens : goal.returns-clause-happens
 returns-clause-happens c = begun_goes c.in_ok-port.port _ _ c.in_ok-port.ensures.inside c.begun.ensures.goes_on c.begun.ensures.ports refl refl c.put.ensures.few c.put.ensures.all
+
+pub returns-then-len-lt-LEAST-clause-made : goal.returns-then-len-lt-LEAST-clause-made
+returns-then-len-lt-LEAST-clause-made c = makes_one _ _ _ tt refl c.put.ensures.all c.put.ensures.full
+
+pub returns-clause-made : goal.returns-clause-made
+returns-clause-made c = makes_one _ _ _ tt refl c.put.ensures.all c.put.ensures.full
+
+pub returns-in_err-packet-clause-made : goal.returns-in_err-packet-clause-made
+returns-in_err-packet-clause-made c = makes_same _ _ refl refl
+
+pub returns-in_err-port-clause-made : goal.returns-in_err-port-clause-made
+returns-in_err-port-clause-made c = makes_none _ _ refl

@@ -3,6 +3,7 @@ use Rattle.arrayvec.specs.ArrayVec.{ArrayVec}
 use Rattle.master_node.specs.declared.lan.Lan.{Lan}
 use Rattle.master_node.proofs.Happenings.{from_host}
 use Rattle.master_node.proofs.Ports.{long_here}
+use Rattle.master_node.proofs.Made.{makes_one}
 use Rattle.master_node.proofs.lan.Lan.enter.Goals as goal
 
 abbrev packet_by : List ℕ → ArrayVec ℕ
@@ -22,9 +23,12 @@ pub arrive-requires-clause-long : goal.arrive-requires-clause-long
 arrive-requires-clause-long c =
     copy_long c.args.self.now c.as_slice.result.now c.index-as_slice-self.result c.copy-packet.result (omega (arith, c.len.ensures)) c.copy-packet.ensures c.index-as_slice-self.is c.as_slice.ensures
 
-pub returns : goal.returns
-returns c =
+pub returns-clause-happens : goal.returns-clause-happens
+returns-clause-happens c =
     let l = c.args.self.now in
     from_host c.copy-packet.result l _ c.arrive.new.self refl refl refl refl (omega (arith, c.len.ensures))
     (copy_is l.host c.as_slice.result.now l.entered c.index-as_slice-self.result c.copy-packet.result c.copy-packet.ensures c.index-as_slice-self.is c.as_slice.ensures)
     (copy_long l c.as_slice.result.now c.index-as_slice-self.result c.copy-packet.result (omega (arith, c.len.ensures)) c.copy-packet.ensures c.index-as_slice-self.is c.as_slice.ensures) c.arrive.ensures
+
+pub returns-clause-made : goal.returns-clause-made
+returns-clause-made c = makes_one _ _ _ refl c.arrive.ensures.ports c.arrive.ensures.listed c.arrive.ensures.full

@@ -1,13 +1,45 @@
-use Rattle.std.proofs.Common.{refl, ◌∙◌, arith}
+use Rattle.std.proofs.Common.{◌≡◌, ◌<◌, refl, ◌∙◌, arith, ap, sym, length, get_or}
+use Rattle.std.specs.Prelude.{slice_get}
+use Rattle.std.proofs.lemmas.List.{take_all}
+use Rattle.master_node.specs.Arrivals.{arrive_by, arrivals_in, heard_at}
+use Rattle.master_node.specs.Forwards.{port_by}
 use Rattle.master_node.proofs.Tells.{node_refl, node_then}
+use Rattle.master_node.proofs.Arrivals.{arrivals_next, heard_kept}
+use Rattle.master_node.proofs.Downs.{lists_none, lists_then, lists_as}
 use Rattle.master_node.proofs.Happenings.{happens_none, happens_then, happens_more}
 use Rattle.master_node.proofs.node.MasterNode.all_back.Goals as goal
 
 pub loop-k-init : goal.loop-k-init
-loop-k-init c = (refl, node_refl c.args.self.now, happens_none 0 _ _ refl)
+loop-k-init c = record { posts = refl; kept = node_refl c.args.self.now; lan = happens_none 0 _ _ refl; listed = lists_none _ _ _ refl refl }
 
 pub loop-k-preserved : goal.loop-k-preserved
-loop-k-preserved c = (c.carried_back.ensures.posts ∙ c.loop-k.invariant.0, node_then _ _ _ c.carried_back.ensures.kept c.loop-k.invariant.1, happens_then c.loop-k.k 1 _ _ _ c.loop-k.invariant.2 c.carried_back.ensures.lan)
+loop-k-preserved c =
+    let m = c.args.self.now in
+    let k = c.loop-k.k in
+    let inv = c.loop-k.invariant in
+    let step = c.back_at.ensures in
+    let same : m.tour.visit.items ≡ c.as_slice.result.now = sym (c.as_slice.ensures.value ∙ ap (λ z. z.items) inv.kept.tour.visit) in
+    let inside : k < length m.tour.visit.items = omega (arith, c.loop-k-test.true, c.len-k-end.ensures.value) in
+    let place = get_or c.as_slice.result.now k 0 in
+    let heard : heard_at m.tour.stops.items place ≡ heard_at c.loop-k.self.tour.stops.items place = sym (heard_kept m.tour.stops.items c.loop-k.self.tour.stops.items inv.kept.each place) in
+    record {
+      posts = step.posts ∙ inv.posts;
+      kept = node_then _ _ _ step.kept inv.kept;
+      lan = happens_then k 1 _ _ _ inv.lan step.lan;
+      listed = lists_as _ _ _ _ (arrivals_next m.lan.ports.items (λ p. heard_at m.tour.stops.items p) m.tour.visit.items k 0 inside)
+          (lists_then _ _ _ _ _ inv.listed
+          (lists_as _ _ _ _
+          ((λ i. arrive_by (port_by (slice_get (sym inv.listed.ports i).items (get_or (same i) k 0))) (heard_at m.tour.stops.items (get_or (same i) k 0)))
+          ∙ ap (λ z. arrive_by (port_by (slice_get c.loop-k.self.lan.ports.items place)) z) heard)
+          step.listed));
+    }
 
 pub returns-clause-lan : goal.returns-clause-lan
-returns-clause-lan c = happens_more c.loop-k.k 16 _ _ (omega arith) c.loop-k.invariant.2
+returns-clause-lan c = happens_more c.loop-k.k 16 _ _ (omega arith) c.loop-k.invariant.lan
+
+pub returns-clause-listed : goal.returns-clause-listed
+returns-clause-listed c =
+    let m = c.args.self.now in
+    lists_as _ _ _ _
+    (ap (λ z. arrivals_in m.lan.ports.items (λ p. heard_at m.tour.stops.items p) z) (sym (take_all c.loop-k.k m.tour.visit.items (omega (arith, c.loop-k-test.false, c.len-k-end.ensures.value)))))
+    c.loop-k.invariant.listed

@@ -1,4 +1,9 @@
-use Rattle.std.proofs.Common.{◌∙◌}
+use Rattle.std.proofs.Common.{◌<◌, ◌∙◌, ap, arith, length}
+use Rattle.std.specs.Prelude.{slice_get}
+use Rattle.master_node.specs.Arrivals.{arrive_by}
+use Rattle.master_node.specs.Forwards.{port_by}
+use Rattle.master_node.proofs.Arrivals.{heard_here}
+use Rattle.master_node.proofs.Downs.{lists_as, lists_on}
 use Rattle.master_node.proofs.Tells.{node_then}
 use Rattle.master_node.proofs.Happenings.{happens_on}
 use Rattle.master_node.proofs.node.MasterNode.back.Goals as goal
@@ -8,3 +13,10 @@ returns-clause-kept c = node_then _ _ _ c.turned.ensures.kept (node_then _ _ _ c
 
 pub returns-clause-lan : goal.returns-clause-lan
 returns-clause-lan c = happens_on 1 _ _ _ (c.turned.ensures.lan ∙ c.over.ensures.lan) c.heard_where.ensures.lan
+
+pub returns-clause-listed : goal.returns-clause-listed
+returns-clause-listed c =
+    let m = c.args.self.now in
+    let l : c.args.place < length m.tour.stops.items = omega (arith, c.requires, m.paired, m.tour.stops.ok.0) in
+    lists_on _ _ _ _ (c.turned.ensures.lan ∙ c.over.ensures.lan)
+    (lists_as _ _ _ _ (ap (λ z. arrive_by (port_by (slice_get m.lan.ports.items c.args.place)) z) (heard_here m.tour.stops.items c.args.place c.index.result.now l c.index.ensures)) c.heard_where.ensures.listed)

@@ -10,6 +10,7 @@ use Rattle.std.proofs.Common.{ℕ}
 use Rattle.master_node.proofs.Leaves.{few_stops}
 use Rattle.master_node.proofs.Toureds.{counts_more, visiting_first, visiting_more, visiting_still, visiting_same, visiting_last}
 use Rattle.master_node.proofs.Happenings.{happens_none, happens_then, happens_more}
+use Rattle.master_node.proofs.Made.{makes_none, makes_then}
 use Rattle.master_node.proofs.node.MasterNode.fill.Goals as goal
 
 pub returns-in_default-clause-on : goal.returns-in_default-clause-on
@@ -56,7 +57,7 @@ returns-clause-filled c = λ lens recover made as' d x.
     fills_last lens recover made as' c.loop.counter c.loop.self c.loop.into.items (let t = c.loop-test.false in omega (arith, t)) (c.loop.invariant.3 lens recover made as' d x)
 
 pub loop-init : goal.loop-init
-loop-init c = (c.requires, refl, on_same c.args.self.now, (λ lens recover made as' d x. fills_first lens recover made as' c.args.self.now c.args.into.now.items x), each_same _ c.args.self.now.tour.stops.items (λ s. refl), (λ b short. (visiting_first c.args.into.now.items c.args.self.now short b, b.count)), happens_none 0 _ _ refl)
+loop-init c = (c.requires, refl, on_same c.args.self.now, (λ lens recover made as' d x. fills_first lens recover made as' c.args.self.now c.args.into.now.items x), each_same _ c.args.self.now.tour.stops.items (λ s. refl), (λ b short. (visiting_first c.args.into.now.items c.args.self.now short b, b.count)), happens_none 0 _ _ refl, makes_none _ _ refl)
 
 pub loop-preserved : goal.loop-preserved
 loop-preserved c = (
@@ -93,6 +94,7 @@ loop-preserved c = (
         omega (arith, more, was, same),
       )),
   happens_then c.loop.counter 1 _ _ _ c.loop.invariant.6 c.visit.ensures.lan,
+  makes_then _ _ _ c.loop.invariant.7 c.visit.ensures.made,
 )
 
 pub returns-in_default-clause-joins : goal.returns-in_default-clause-joins
@@ -174,3 +176,15 @@ returns-then-self-count-clause-lan c = happens_more (c.loop.counter + 1) 16 _ _ 
 
 pub returns-clause-lan : goal.returns-clause-lan
 returns-clause-lan c = happens_more c.loop.counter 16 _ _ (omega arith) c.loop.invariant.6
+
+pub returns-in_default-clause-made : goal.returns-in_default-clause-made
+returns-in_default-clause-made c = c.loop.invariant.7
+
+pub returns-then-not-visit-clause-made : goal.returns-then-not-visit-clause-made
+returns-then-not-visit-clause-made c = makes_then _ _ _ c.loop.invariant.7 c.visit.ensures.made
+
+pub returns-then-self-count-clause-made : goal.returns-then-self-count-clause-made
+returns-then-self-count-clause-made c = makes_then _ _ _ c.loop.invariant.7 c.visit.ensures.made
+
+pub returns-clause-made : goal.returns-clause-made
+returns-clause-made c = c.loop.invariant.7

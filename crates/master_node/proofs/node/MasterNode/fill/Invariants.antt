@@ -13,6 +13,7 @@ use Rattle.master_node.specs.Shows.{lived_of}
 use Rattle.master_node.proofs.Filleds.{Fills}
 use Rattle.master_node.specs.Toured.{IsBare}
 use Rattle.master_node.proofs.Toureds.{Visiting}
+use Rattle.master_node.specs.Made.{Makes}
 use Rattle.master_node.proofs.node.MasterNode.fill.Given as goal
 
 abbrev pub invariant-loop : goal.invariant-loop
@@ -21,4 +22,4 @@ invariant-loop l =
     × ((lens : ℕ → Lens) (recover made : ℕ) (as' : List Leads) → AreDistinct (map lived_of as') → IsEmpty lens recover made l.initial.self l.initial.into.items as' → Fills lens recover made as' l.counter l.self l.into.items)
     × JoinsKept l.initial.self l.self
     × (IsBare l.initial.self → length l.initial.into.items ≡ 16 → Visiting l.into.items l.initial.self l.self × (l.self.tour.count ≡ l.counter))
-    × Happens l.counter l.initial.self.lan l.self.lan
+    × Happens l.counter l.initial.self.lan l.self.lan × Makes l.initial.self.lan l.self.lan

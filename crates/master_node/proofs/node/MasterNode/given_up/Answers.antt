@@ -1,4 +1,9 @@
-use Rattle.std.proofs.Common.{refl}
+use Rattle.std.proofs.Common.{◌≡◌, ◌<◌, refl, ap, sym, ◌∙◌, arith, length, true, false}
+use Rattle.std.specs.Prelude.{◌&&◌, not, slice_get}
+use Rattle.master_tour.specs.Goes.{is_live, holds_at}
+use Rattle.master_node.specs.Downs.{is_given_up, down_by}
+use Rattle.master_node.specs.Forwards.{port_by}
+use Rattle.master_node.proofs.Downs.{lists_as, lists_from, lists_none, down_not, here_is}
 use Rattle.master_node.proofs.Tells.{node_then, node_told, node_refl}
 use Rattle.master_node.proofs.Happenings.{happens_none, happens_from}
 use Rattle.master_node.proofs.node.MasterNode.given_up.Goals as goal
@@ -6,11 +11,34 @@ use Rattle.master_node.proofs.node.MasterNode.given_up.Goals as goal
 pub returns-clause-kept : goal.returns-clause-kept
 returns-clause-kept c = node_then _ _ _ c.down_where.ensures.kept (node_then _ _ _ (node_told _ _ refl refl refl) c.dropped.ensures.kept)
 
-pub returns-then-not-matches-clause-kept : goal.returns-then-not-matches-clause-kept
-returns-then-not-matches-clause-kept c = node_refl _
+pub returns-then-not-is_given_up-clause-kept : goal.returns-then-not-is_given_up-clause-kept
+returns-then-not-is_given_up-clause-kept c = node_refl _
 
 pub returns-clause-lan : goal.returns-clause-lan
 returns-clause-lan c = happens_from 1 _ _ _ c.dropped.ensures.lan c.down_where.ensures.lan
 
-pub returns-then-not-matches-clause-lan : goal.returns-then-not-matches-clause-lan
-returns-then-not-matches-clause-lan c = happens_none 1 _ _ refl
+pub returns-then-not-is_given_up-clause-lan : goal.returns-then-not-is_given_up-clause-lan
+returns-then-not-is_given_up-clause-lan c = happens_none 1 _ _ refl
+
+pub returns-clause-listed : goal.returns-clause-listed
+returns-clause-listed c =
+    let m = c.args.self.now in
+    let p = c.args.place in
+    let l : p < length m.tour.stops.items = omega (arith, c.requires, m.paired, m.tour.stops.ok.0) in
+    let given : holds_at (λ s. is_given_up s.news) m.tour.stops.items p ≡ true =
+    here_is (λ s. is_given_up s.news) m.tour.stops.items p c.index.result.now true l c.index.ensures (sym c.is_given_up.ensures ∙ c.if-not-is_given_up.false) in
+    lists_as _ _ _ _
+    (ap (λ z. down_by (port_by (slice_get m.lan.ports.items p)) (z && holds_at (λ s. not (is_live s.stand)) m.tour.stops.items p)) given
+    ∙ (λ i. down_by (port_by (slice_get (sym c.dropped.ensures.lan i).ports.items p)) (holds_at (λ s. not (is_live s.stand)) (sym c.dropped.ensures.tour i).stops.items p)))
+    (lists_from _ _ _ _ c.dropped.ensures.lan c.down_where.ensures.listed)
+
+pub returns-then-not-is_given_up-clause-listed : goal.returns-then-not-is_given_up-clause-listed
+returns-then-not-is_given_up-clause-listed c =
+    let m = c.args.self.now in
+    let p = c.args.place in
+    let l : p < length m.tour.stops.items = omega (arith, c.requires, m.paired, m.tour.stops.ok.0) in
+    lists_none _ _ _
+    (down_not _ _
+    (ap (λ z. z && holds_at (λ s. not (is_live s.stand)) m.tour.stops.items p)
+    (here_is (λ s. is_given_up s.news) m.tour.stops.items p c.index.result.now false l c.index.ensures (sym c.is_given_up.ensures ∙ c.if-not-is_given_up.true))))
+    refl

@@ -1,5 +1,22 @@
+use Rattle.std.proofs.Common.{refl, ap, ◌∙◌}
+use Rattle.std.specs.Prelude.{slice_get}
+use Rattle.master_node.specs.Arrivals.{arrive_by, packets_of, kept_at}
+use Rattle.master_node.specs.Forwards.{port_by}
 use Rattle.master_node.proofs.Tells.{node_refl}
+use Rattle.master_node.proofs.Arrivals.{arrive_none}
+use Rattle.master_node.proofs.Downs.{lists_as, lists_none}
 use Rattle.master_node.proofs.node.MasterNode.heard_where.Goals as goal
 
 pub returns-in_default-clause-kept : goal.returns-in_default-clause-kept
 returns-in_default-clause-kept c = node_refl _
+
+pub returns-in-Some-clause-listed : goal.returns-in-Some-clause-listed
+returns-in-Some-clause-listed c =
+    let m = c.args.self.now in
+    lists_as _ _ _ _ (ap (λ z. arrive_by (port_by (slice_get m.lan.ports.items c.args.place)) (packets_of z (kept_at m.tour.stops.items c.args.place))) c.in-Some.is) c.heard.ensures.listed
+
+pub returns-in_default-clause-listed : goal.returns-in_default-clause-listed
+returns-in_default-clause-listed c =
+    let m = c.args.self.now in
+    let port = port_by (slice_get m.lan.ports.items c.args.place) in
+    lists_none _ _ _ (ap (λ z. arrive_by port (packets_of z (kept_at m.tour.stops.items c.args.place))) c.in_default.is ∙ arrive_none port) refl

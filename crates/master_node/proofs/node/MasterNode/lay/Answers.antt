@@ -8,6 +8,7 @@ use Rattle.std.proofs.Common.{ap, refl}
 use Rattle.master_tour.proofs.Walks.{each_same}
 use Rattle.master_node.proofs.Lists.{steps_each}
 use Rattle.master_node.proofs.Happenings.{happens_none}
+use Rattle.master_node.proofs.Made.{makes_none}
 use Rattle.master_node.proofs.node.MasterNode.lay.Goals as goal
 
 pub returns-in-None-clause-laid : goal.returns-in-None-clause-laid
@@ -29,3 +30,6 @@ returns-in-Some-clause-joins c = steps_each _ _ c.args.place c.args.self.now.tou
 
 pub returns-in-None-clause-lan : goal.returns-in-None-clause-lan
 returns-in-None-clause-lan c = happens_none 1 _ _ refl
+
+pub returns-in-None-clause-made : goal.returns-in-None-clause-made
+returns-in-None-clause-made c = makes_none _ _ refl

@@ -6,6 +6,7 @@ use Rattle.master_node.specs.Kept.{StopStays}
 use Rattle.master_node.proofs.Kepts.{stop_same, tour_same}
 use Rattle.master_node.proofs.Lists.{steps_same, steps_map}
 use Rattle.master_node.proofs.Happenings.{happens_none}
+use Rattle.master_node.proofs.Made.{makes_none}
 use Rattle.master_node.proofs.node.MasterNode.lay_coming.Goals as goal
 
 pub returns-in-Packet-clause-laid : goal.returns-in-Packet-clause-laid
@@ -48,3 +49,12 @@ returns-in-Script-clause-lan c = happens_none 1 _ _ c.lay_script.ensures.lan
 
 pub returns-in-State-clause-lan : goal.returns-in-State-clause-lan
 returns-in-State-clause-lan c = happens_none 1 _ _ c.lay_state.ensures.lan
+
+pub returns-in-Mail-clause-made : goal.returns-in-Mail-clause-made
+returns-in-Mail-clause-made c = makes_none _ _ c.lay_mail.ensures.lan
+
+pub returns-in-Script-clause-made : goal.returns-in-Script-clause-made
+returns-in-Script-clause-made c = makes_none _ _ c.lay_script.ensures.lan
+
+pub returns-in-State-clause-made : goal.returns-in-State-clause-made
+returns-in-State-clause-made c = makes_none _ _ c.lay_state.ensures.lan

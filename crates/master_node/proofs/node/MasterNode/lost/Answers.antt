@@ -23,6 +23,11 @@ use Rattle.master_node.proofs.Joineds.{lost_unfinished, three_on, three_kept, th
 use Rattle.master_node.specs.Rooms.{FitAgain}
 use Rattle.master_node.proofs.Fits.{again_lost}
 use Rattle.master_node.proofs.Happenings.{happens_so}
+use Rattle.std.proofs.Common.{ℕ, true}
+use Rattle.master_node.specs.Downs.{downs_in, gives_at, goes_down, is_given_up}
+use Rattle.master_node.specs.Shows.{is_led, is_live_turn, is_live_lead, side_shows}
+use Rattle.master_tour.specs.Goes.{is_live}
+use Rattle.master_node.proofs.Downs.{lists_all, lists_as, downs_few, downs_same, goes_at, gone_is, live_is, under_live, both_true}
 use Rattle.master_node.proofs.node.MasterNode.lost.Goals as goal
 
 pub returns-clause-leads : goal.returns-clause-leads
@@ -76,3 +81,34 @@ returns-clause-toured c = λ lens recover retry missed number after octets us f 
 
 pub returns-clause-happened : goal.returns-clause-happened
 returns-clause-happened c = happens_so 16 _ _ _ (omega arith) c.begins.ensures.so c.begins.ensures.none c.all_given_up.ensures.lan
+
+pub returns-clause-downs : goal.returns-clause-downs
+returns-clause-downs c = λ lens recover retry missed number after octets us f p b u.
+    let m = c.args.self.now in
+    let ss = m.tour.stops.items in
+    let ts = c.lost.new.self.stops.items in
+    let gives = not (nat_lt missed retry) in
+    let given = not (nat_lt m.tour.missed m.tour.retry) in
+    let comes : nat_lt m.tour.missed m.tour.retry ≡ nat_lt missed retry = λ i. nat_lt (u.missed_is i) (u.retry_is i) in
+    let on = led_behind lens recover retry gives number f in
+    let goes = goes_at (λ v s. IsUnder lens recover octets v s) _ on is_live_turn is_live_lead (λ t. is_given_up t.news) (λ t. not (is_live t.stand))
+    (λ v s t i q.
+    let l = v.lived.life in
+    let spot = v.lived.spot in
+    let x = speech_at lens spot in
+    let follows = q.0 x is_followed is_passed number recover spot [] l i.lead.lives.planned.stands i.way i.lead.lives.shown in
+    subst (λ (a : Lived Asked Reply). (is_given_up t.news && not (is_live t.stand)) ≡ (is_led l.stand && not (is_led a.life.stand))) (life_lost_is lens recover retry gives given number f octets after v s p b (ap not (sym comes)) i)
+    (gone_is x recover number spot (seen lens octets) (given && s.under) l t.news (is_live t.stand)
+    (λ e. under_live _ spot lens s.side.station s.at s.under s.side.carried s.stand l (seen lens octets) i.lead.lives.shown.stood i.way (both_true given s.under e))
+    follows.told (live_is _ spot t.stand _ follows.shown.stood)))
+    us ss ts u.each (c.lost.ensures.lives lens octets) in
+    let ports = c.begins.ensures.ports in
+    let visit = c.lost.ensures.tour.0 in
+    let listed = c.all_given_up.ensures.listed in
+    let down = λ (k : ℕ). goes_down us (map on us) k in
+    let same : downs_in c.begins.new.self.ports.items (λ k. gives_at ts k) c.lost.new.self.visit.items ≡ downs_in m.lan.ports.items down m.tour.visit.items =
+    (λ i. downs_in (ports i).items (λ k. gives_at ts k) (visit i).items) ∙ downs_same m.lan.ports.items (λ k. gives_at ts k) down goes m.tour.visit.items in
+    record {
+      ports = listed.ports ∙ ports;
+      events = lists_all _ _ _ (omega (arith, downs_few m.lan.ports.items down m.tour.visit.items, u.fits.few)) c.begins.ensures.none (lists_as _ _ _ _ (sym same) listed);
+    }

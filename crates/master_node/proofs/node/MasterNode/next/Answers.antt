@@ -13,6 +13,7 @@ use Rattle.master_tour.specs.Toured.{IsOfTour}
 use Rattle.master_tour.specs.Sizes.{frame_size}
 use Rattle.master_node.specs.Rooms.{area_at}
 use Rattle.master_node.proofs.Happenings.{happens_so, happens_then}
+use Rattle.master_node.proofs.Made.{makes_all, makes_then, makes_none}
 use Rattle.master_node.proofs.node.MasterNode.next.Goals as goal
 
 pub returns-clause-led : goal.returns-clause-led
@@ -44,3 +45,11 @@ returns-clause-asks c = λ h lens recover retry missed us y. all_ask lens recove
 
 pub returns-clause-happened : goal.returns-clause-happened
 returns-clause-happened c = happens_so 17 _ _ _ (omega arith) c.begins.ensures.so c.begins.ensures.none (happens_then 1 16 _ _ _ c.admit.ensures.lan c.make.ensures.lan)
+
+pub returns-clause-made : goal.returns-clause-made
+returns-clause-made c =
+    let made = makes_then _ _ _ c.admit.ensures.made c.make.ensures.made in
+    (made.ports ∙ c.begins.ensures.ports, makes_all _ _ c.begins.ensures.none made)
+
+pub returns-then-not-has_live-clause-made : goal.returns-then-not-has_live-clause-made
+returns-then-not-has_live-clause-made c = (c.begins.ensures.ports, makes_all c.begins.new.self c.begins.new.self c.begins.ensures.none (makes_none c.begins.new.self c.begins.new.self refl))

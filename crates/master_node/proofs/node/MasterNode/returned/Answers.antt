@@ -1,4 +1,4 @@
-use Rattle.std.proofs.Common.{[], refl, ap, ◌∙◌, arith}
+use Rattle.std.proofs.Common.{[], refl, ap, ◌∙◌, arith, length}
 use Rattle.std.specs.Prelude.{map}
 use Rattle.life_runs.specs.of_frame_view.Seen.{seen}
 use Rattle.life_runs.specs.Led.{speech_at, gives_up_at, led_behind}
@@ -20,9 +20,13 @@ use Rattle.master_hand.specs.Joins.{unfinished_behind}
 use Rattle.master_tour.specs.Joins.{join_at}
 use Rattle.master_tour.specs.Stands.{came_at}
 use Rattle.master_node.specs.Joined.{IsUnfinished, StopCompleted, stand_before, stand_under, mails_back}
-use Rattle.master_node.proofs.Joineds.{back_unfinished, completed_at, three_on, three_kept, three_map, three_of, three_after, pair_both, completed_kept}
+use Rattle.master_node.proofs.Joineds.{back_unfinished, completed_at as completed_at_stop, three_on, three_kept, three_map, three_of, three_after, pair_both, completed_kept}
 use Rattle.master_node.proofs.Lefts.{true_false}
 use Rattle.master_node.proofs.Happenings.{happens_so}
+use Rattle.std.proofs.Common.{◌≡◌, ℕ, sym}
+use Rattle.master_node.specs.Arrivals.{arrivals_in, heard_at, completed_at}
+use Rattle.master_node.proofs.Arrivals.{arrivals_few, arrivals_same, heard_few, heard_completed}
+use Rattle.master_node.proofs.Downs.{lists_all, lists_as}
 use Rattle.master_node.proofs.node.MasterNode.returned.Goals as goal
 
 pub returns-clause-leads : goal.returns-clause-leads
@@ -65,7 +69,7 @@ returns-clause-joined c = λ lens recover retry missed number octets us befores 
     let ms = mails_back back v in
     let joins = q.1 (speech_at lens spot) recover spot l i.lead.lives.planned.stands i.way i.lead.lives.shown in
     let follows = q.0.0 (speech_at lens spot) is_followed is_passed number recover spot [] l i.lead.lives.planned.stands i.way i.lead.lives.shown in (
-      completed_at t.side.hand.found t.side.heard spot.station l.era.side.halves back l.stand s.side.hand.found.join j ms refl w joins.completes,
+      completed_at_stop t.side.hand.found t.side.heard spot.station l.era.side.halves back l.stand s.side.hand.found.join j ms refl w joins.completes,
       subst (λ (a : Lived Asked Reply). IsUnfinished a.life.stand t.side.hand.found.join (join_at None unfinished_behind l.stand j ms)) (life_back_is lens recover retry gives number f octets c.args.frame.now.items v s p b i)
           (back_unfinished (speech_at lens spot) acknowledged is_followed is_passed number spot [] back (came_at s.under s.at back) l l.stand t.news t.side.hand.found.join s.side.hand.found.join j ms refl refl w joins.join follows.told),
     ))
@@ -88,3 +92,28 @@ returns-clause-toured c = λ lens recover retry missed number octets us f p b u 
 
 pub returns-clause-happened : goal.returns-clause-happened
 returns-clause-happened c = happens_so 16 _ _ _ (omega arith) c.begins.ensures.so c.begins.ensures.none c.all_back.ensures.lan
+
+pub returns-clause-arrivals : goal.returns-clause-arrivals
+returns-clause-arrivals c = λ lens recover retry missed octets us befores u r h.
+    let m = c.args.self.now in
+    let ss = m.tour.stops.items in
+    let ts = c.returned.new.self.stops.items in
+    let back = seen lens c.args.frame.now.items in
+    let there = three_on (λ v s. IsUnder lens recover octets v s) (λ v j s. IsUnfinished (stand_under v) s.side.hand.found.join j) _ (λ v j t. StopCompleted back v j t)
+    (λ v j s t i w q.
+    let l = v.lived.life in
+    let spot = v.lived.spot in
+    let joins = q (speech_at lens spot) recover spot l i.lead.lives.planned.stands i.way i.lead.lives.shown in
+    completed_at_stop t.side.hand.found t.side.heard spot.station l.era.side.halves back l.stand s.side.hand.found.join j (mails_back back v) refl w joins.completes)
+    us befores ss ts u.each (three_of stand_under (λ z j s. IsUnfinished z s.side.hand.found.join j) us befores ss h) (c.returned.ensures.joined lens (seen lens octets) r u.sent) in
+    let ports = c.begins.ensures.ports in
+    let visit = c.returned.ensures.tour.0 in
+    let listed = c.all_back.ensures.listed in
+    let packets = λ (k : ℕ). completed_at back us befores k in
+    let same : arrivals_in c.begins.new.self.ports.items (λ k. heard_at ts k) c.returned.new.self.visit.items ≡ arrivals_in m.lan.ports.items packets m.tour.visit.items =
+    (λ i. arrivals_in (ports i).items (λ k. heard_at ts k) (visit i).items) ∙ arrivals_same m.lan.ports.items (λ k. heard_at ts k) packets (λ k. heard_completed back us befores ts there k) m.tour.visit.items in
+    record {
+      ports = listed.ports ∙ ports;
+      events = lists_all _ _ _ (omega (arith, arrivals_few m.lan.ports.items (λ k. heard_at ts k) (λ k. heard_few ts k) m.tour.visit.items, ap length (arrivals_same m.lan.ports.items (λ k. heard_at ts k) packets (λ k. heard_completed back us befores ts there k) m.tour.visit.items), u.fits.few))
+          c.begins.ensures.none (lists_as _ _ _ _ (sym same) listed);
+    }

@@ -30,6 +30,7 @@ use Rattle.master_node.proofs.Fits.{sends_again, sends_len, stays_sends, takes_b
 use Rattle.master_node.proofs.Lists.{steps_trans}
 use Rattle.master_node.proofs.Rooms.{steps_room, looks_full, visits_full}
 use Rattle.master_node.proofs.Happenings.{happens_none, happens_on}
+use Rattle.master_node.proofs.Made.{makes_none, makes_on}
 use Rattle.master_node.proofs.node.MasterNode.visit.Goals as goal
 
 pub returns-then-not-fits-clause-led : goal.returns-then-not-fits-clause-led
@@ -204,3 +205,9 @@ returns-then-not-fits-clause-lan c = happens_none 1 _ _ refl
 
 pub returns-clause-lan : goal.returns-clause-lan
 returns-clause-lan c = happens_on 1 _ _ _ c.came.ensures.lan c.lay.ensures.lan
+
+pub returns-then-not-fits-clause-made : goal.returns-then-not-fits-clause-made
+returns-then-not-fits-clause-made c = makes_none _ _ refl
+
+pub returns-clause-made : goal.returns-clause-made
+returns-clause-made c = makes_on _ _ _ c.came.ensures.lan c.lay.ensures.made

@@ -1,4 +1,4 @@
-use Rattle.std.proofs.Common.{◌≡◌, refl, sym, true, ℕ, List, ◌+◌, ◌++◌, ◌∷◌, [], length, vec_len, ap, ◌∙◌, subst, arith}
+use Rattle.std.proofs.Common.{◌≡◌, refl, sym, true, ℕ, suc, List, ◌+◌, ◌++◌, ◌∷◌, [], length, vec_len, ap, ◌∙◌, subst, arith}
 use Rattle.segment_ring.specs.Ring.{RingState}
 use Rattle.slave_node.specs.of_slave_steps.Node.{Node}
 use Rattle.slave_server.specs.declared.server.SlaveServer.{SlaveServer}
@@ -10,7 +10,7 @@ use Rattle.run_record.specs.Replay.{behind, IsRecorded}
 use Rattle.run_record.specs.Session.{SessionState, SameFrames, KeepsRest, has_live}
 use Rattle.run_record.proofs.Kept.{rest_more}
 use Rattle.run_record.specs.Switched.{IsSwitched, NotesSwitch}
-use Rattle.run_record.proofs.Switched.{switched_on, switched_same}
+use Rattle.run_record.proofs.Switched.{switched_step}
 use Rattle.std.proofs.lemmas.Result.{on_ok_weaker}
 use Rattle.run_record.proofs.Steps.{any_err, on_ok_both, holds_on, no_frame, one_frame}
 use Rattle.run_record.proofs.session.Session.step.Goals as goal
@@ -62,13 +62,17 @@ returns-clause-ok c =
         rest = subst (λ (n : ℕ). KeepsRest n c.args.book.now c.note_behind.new.book) before
             (rest_more ports c.note_before.ensures.frames.rest (rest_more ports (c.put_frame.ensures.rest ports) (subst (λ (n : ℕ). KeepsRest n c.put_frame.new.book c.note_behind.new.book) same c.note_behind.ensures.frames.rest)));
         switch = λ host x.
-            let many : 1 + length c.note_behind.new.self.ports ≡ c.args.self.now.ports = ap (λ (l : List ℕ). 1 + length l) c.note_behind.ensures.slaves.ports ∙ same ∙ before in
-            let first = switched_on ports host c.self.inside.master.lan c.next.new.self.lan c.args.book.now c.note_before.new.book c.next.ensures.happened c.in_ok-note_before.ensures.switch
-            (subst (λ (n : ℕ). IsSwitched n host c.self.inside.master.lan c.args.book.now) (sym before) (subst (λ (s : SessionState). IsSwitched c.args.self.now.ports host s.master.lan c.args.book.now) (sym c.self.view_is) x)) in
-            subst (λ (n : ℕ). IsSwitched n host c.tell.new.master.lan c.note_behind.new.book) (sym many)
-            (subst (λ (n : ℕ). IsSwitched n host c.tell.new.master.lan c.note_behind.new.book) before
-            (switched_on ports host c.next.new.self.lan c.tell.new.master.lan c.put_frame.new.book c.note_behind.new.book c.tell.ensures.happened (subst (λ (n : ℕ). NotesSwitch n c.tell.new.master.lan.happened c.put_frame.new.book c.note_behind.new.book) same both.1.1.1)
-            (switched_same ports host c.next.new.self.lan c.note_before.new.book c.put_frame.new.book c.put_frame.ensures.switch first)));
+            let number = c.self.invariant.0 in
+            let next : c.exchange-fate.new.self.number ≡ suc c.self.inside.ring.number = ap (λ (r : RingState (Node SlaveServer)). r.number) c.exchange-fate.ensures.wire in
+            let after : c.self.inside.number + 1 ≡ c.exchange-fate.new.self.number = omega (arith, number, next) in
+            let last : 1 + length c.note_behind.new.self.ports ≡ ports = ap (λ (l : List ℕ). 1 + length l) c.note_behind.ensures.slaves.ports ∙ same in
+            subst (λ (n : ℕ). IsSwitched n host c.exchange-fate.new.self.number c.tell.new.master.lan c.note_behind.new.book) (sym last)
+            (subst (λ (n : ℕ). IsSwitched ports host n c.tell.new.master.lan c.note_behind.new.book) after
+            (switched_step ports host c.self.inside.number c.self.inside.master.lan c.next.new.self.lan c.tell.new.master.lan c.args.book.now c.note_before.new.book c.put_frame.new.book c.note_behind.new.book
+            c.next.ensures.happened c.in_ok-note_before.ensures.switch c.put_frame.ensures.switch c.tell.ensures.happened
+            (subst (λ (n : ℕ). NotesSwitch n (c.self.inside.number + 1) c.tell.new.master.lan.happened c.put_frame.new.book c.note_behind.new.book) same both.1.1.1)
+            (subst (λ (n : ℕ). IsSwitched ports host n c.self.inside.master.lan c.args.book.now) (sym number)
+            (subst (λ (s : SessionState). IsSwitched s.ports host s.ring.number s.master.lan c.args.book.now) (sym c.self.view_is) x))));
         leads = λ plan fs recover counts live l.
             let live : has_live c.self.inside.master ≡ true = ap (λ (s : SessionState). has_live s.master) c.self.view_is ∙ live in
             let same : Leading plan c.self.inside.master c.self.inside.log.notes fs = subst (λ (s : SessionState). Leading plan s.master s.notes fs) (sym c.self.view_is) l in

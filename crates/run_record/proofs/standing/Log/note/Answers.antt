@@ -24,6 +24,6 @@ returns-clause-frames c = at_log c.note_events.ensures.slaves c.note_happened.en
 pub returns-clause-switch : goal.returns-clause-switch
 returns-clause-switch c =
     on_ok_weaker c.note_happened.result
-    (λ notes. switch_at c.args.self.now c.note_events.new.self c.args.master.now.lan.happened c.args.book.now c.note_happened.new.book c.note_events.ensures.slaves
-    (subst (λ rows. NotesSwitch (1 + length c.note_events.new.self.ports) rows c.args.book.now c.note_happened.new.book) c.happened.ensures notes))
+    (λ notes. switch_at c.args.self.now c.note_events.new.self c.args.moment.sent c.args.master.now.lan.happened c.args.book.now c.note_happened.new.book c.note_events.ensures.slaves
+    (subst (λ rows. NotesSwitch (1 + length c.note_events.new.self.ports) c.args.moment.sent rows c.args.book.now c.note_happened.new.book) c.happened.ensures notes))
     c.note_happened.ensures.switch

@@ -10,7 +10,7 @@ loop-row-init c = record {
   heard = refl;
   told = λ as' r. r;
   frames = record { frames = refl; rest = record { slaves = refl; grams = refl; replies = refl; serving = refl; at_port = λ all. all } };
-  switch = notes_first (1 + length c.args.self.now.ports) c.args.rows.now c.args.book.now;
+  switch = notes_first (1 + length c.args.self.now.ports) c.args.moment.sent c.args.rows.now c.args.book.now;
 }
 
 pub loop-row-preserved : goal.loop-row-preserved
@@ -23,8 +23,8 @@ loop-row-preserved c =
       heard = c.note_switch.ensures.heard ∙ inv.heard;
       told = λ as' r. c.note_switch.ensures.told as' (inv.told as' r);
       frames = frames_more ports inv.frames (at_log inv.slaves c.note_switch.ensures.frames);
-      switch = notes_next ports c.args.rows.now c.loop-row.row-index c.row-item.result c.args.book.now c.loop-row.book c.note_switch.new.book c.loop-row-test.true c.row-item.is inv.switch
-          (switch_at c.args.self.now c.loop-row.self (c.row-item.result ∷ []) c.loop-row.book c.note_switch.new.book inv.slaves c.in_ok-note_switch.ensures.switch);
+      switch = notes_next ports c.args.moment.sent c.args.rows.now c.loop-row.row-index c.row-item.result c.args.book.now c.loop-row.book c.note_switch.new.book c.loop-row-test.true c.row-item.is inv.switch
+          (switch_at c.args.self.now c.loop-row.self c.args.moment.sent (c.row-item.result ∷ []) c.loop-row.book c.note_switch.new.book inv.slaves c.in_ok-note_switch.ensures.switch);
     }
 
 pub returns-in_err-note_switch-clause-slaves : goal.returns-in_err-note_switch-clause-slaves
@@ -45,4 +45,4 @@ returns-in_err-note_switch-clause-frames c =
 
 pub returns-clause-switch : goal.returns-clause-switch
 returns-clause-switch c =
-    notes_last (1 + length c.args.self.now.ports) c.args.rows.now c.loop-row.row-index c.args.book.now c.loop-row.book c.loop-row-test.false c.loop-row.invariant.switch
+    notes_last (1 + length c.args.self.now.ports) c.args.moment.sent c.args.rows.now c.loop-row.row-index c.args.book.now c.loop-row.book c.loop-row-test.false c.loop-row.invariant.switch

@@ -13,5 +13,5 @@ invariant-loop-row l = record {
   heard : emergencies_noted l.self.notes ≡ emergencies_noted l.initial.self.notes;
   told : KeepsReports l.initial.self.notes l.self.notes;
   frames : SameFrames (1 + length l.initial.self.ports) l.initial.book l.book;
-  switch : NotesTo (1 + length l.initial.self.ports) l.rows l.row-index l.initial.book l.book;
+  switch : NotesTo (1 + length l.initial.self.ports) l.moment.sent l.rows l.row-index l.initial.book l.book;
 }

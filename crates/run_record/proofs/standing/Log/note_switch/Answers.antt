@@ -1,4 +1,4 @@
-use Rattle.std.proofs.Common.{◌≡◌, true, false, ◌+◌, ◌++◌, ◌∷◌, [], length, length-append, sym, ap, ◌∙◌}
+use Rattle.std.proofs.Common.{◌≡◌, true, false, ◌+◌, ◌++◌, ◌∷◌, [], length, sym, ap, ◌∙◌}
 use Rattle.std.proofs.lemmas.List.Elements.{All-head}
 use Rattle.std.proofs.lemmas.Result.{on_ok_weaker}
 use Rattle.run_record.proofs.Switched.{IsAt, noted_more}
@@ -13,8 +13,8 @@ returns-then-not-is_at_port-clause-switch c = λ before all h.
 pub returns-clause-switch : goal.returns-clause-switch
 returns-clause-switch c =
     on_ok_weaker c.note_handed.result
-    (λ handed. λ before all h. noted_more before c.args.row.now c.args.book.now _
+    (λ handed. λ before all h. noted_more before c.args.moment.sent c.args.row.now c.args.book.now _
     (c.in_ok-add.ensures.ok ∙ ap (λ e. c.args.book.now.switch ++ e ∷ []) c.copy_of_event.ensures)
-    (ap length c.in_ok-add-2.ensures.ok ∙ length-append c.args.book.now.switched (c.args.moment.sent ∷ []))
+    c.in_ok-add-2.ensures.ok
     handed h)
     c.note_handed.ensures

@@ -1,0 +1,22 @@
+use Rattle.std.proofs.Common.{refl, ap, ◌∙◌, arith, length, ◌≤◌}
+use Rattle.std.specs.Prelude.{slice_get}
+use Rattle.master_node.specs.Arrivals.{arrive_by}
+use Rattle.master_node.specs.Forwards.{port_by}
+use Rattle.master_node.proofs.Tells.{node_refl}
+use Rattle.master_node.proofs.Arrivals.{arrive_none, heard_beyond}
+use Rattle.master_node.proofs.Downs.{lists_none}
+use Rattle.master_node.proofs.Happenings.{happens_none}
+use Rattle.master_node.proofs.node.MasterNode.back_at.Goals as goal
+
+pub returns-else-place-len-clause-kept : goal.returns-else-place-len-clause-kept
+returns-else-place-len-clause-kept c = node_refl _
+
+pub returns-else-place-len-clause-lan : goal.returns-else-place-len-clause-lan
+returns-else-place-len-clause-lan c = happens_none 1 _ _ refl
+
+pub returns-else-place-len-clause-listed : goal.returns-else-place-len-clause-listed
+returns-else-place-len-clause-listed c =
+    let m = c.args.self.now in
+    let p = c.args.place in
+    let l : length m.tour.stops.items ≤ p = omega (arith, c.if-place-len.false, c.len.ensures, m.paired, m.tour.stops.ok.0) in
+    lists_none _ _ _ (ap (λ z. arrive_by (port_by (slice_get m.lan.ports.items p)) z) (heard_beyond m.tour.stops.items p l) ∙ arrive_none (port_by (slice_get m.lan.ports.items p))) refl

@@ -1,0 +1,4 @@
+pub mod Ports
+pub mod Lives
+pub mod Runs
+pub mod Carries

@@ -1,0 +1,16 @@
+use Rattle.port_events.proofs.Carries.{carries_all, listed_on}
+use Rattle.port_events.proofs.Runs.{run_downs, run_arrivals}
+use Rattle.port_events.proofs.port_law.Goals as goal
+
+pub returns-clause-downs : goal.returns-clause-downs
+returns-clause-downs c = λ lens recover retry missed ports first as' fs led es k port own live x. run_downs lens recover retry ports k port own led es live x
+
+pub returns-clause-arrivals : goal.returns-clause-arrivals
+returns-clause-arrivals c = λ lens recover retry missed ports first as' fs led es k port own x. run_arrivals lens recover retry ports k port own led es x
+
+pub returns-clause-carries : goal.returns-clause-carries
+returns-clause-carries c = λ lens recover retry ports number f as' us live size area t many visit js frame of once back. carries_all lens recover retry ports number f as' us frame live size area t many visit of once back js
+
+pub returns-clause-goes_on : goal.returns-clause-goes_on
+returns-clause-goes_on c = λ lens recover retry missed ports first as' fs led f us frame m n es same making arrives downs carries before.
+    listed_on lens recover retry ports first fs missed as' led f us frame m n same making arrives downs carries es before
