@@ -45,7 +45,7 @@ unmoved Course.Closed which c ms frame now e h = has_stays (hand_speech c.areas)
 unmoved Course.Astray which c ms frame now e h = hearing_emission (hand_speech c.areas) (IsOf which) (λ hs. None) false now frame ms e h
 
 -- no reply without a mail
-none_ends : (areas : Areas) (q : Asked) → ends areas q [] ≡ None
+pub none_ends : (areas : Areas) (q : Asked) → ends areas q [] ≡ None
 none_ends areas (sdo q) = ap replied (ends_none areas.out q)
 none_ends areas (file (FoeMeaning.read name pass)) = refl
 none_ends areas (file (FoeMeaning.write name pass bytes)) = refl

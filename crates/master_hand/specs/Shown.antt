@@ -1,10 +1,11 @@
 -- What the master's hand shows of the newest row of a slave.
-use Rattle.std.specs.Prelude.{◌≡◌, Bool, true, false, is_some, [], Option, None}
+use Rattle.std.specs.Prelude.{◌≡◌, ◌&&◌, Bool, true, false, is_some, is_none, [], Option, None}
 use Rattle.foe_client.specs.of_exchange_model.Exchange.{Speech}
 use Rattle.foe_client.specs.of_exchange_model.Rows.{Row}
 use Rattle.master_side.specs.of_link_mails.Body.{Body}
 use Rattle.mailbox_mail.specs.declared.outcome.Took.{Took}
 use Rattle.master_side.specs.of_master_duty.Reply.{Reply}
+use Rattle.master_side.specs.declared.hand.Heard.{Heard}
 use Rattle.master_hand.specs.Spoken.{Asked, hand_speech}
 use Rattle.master_hand.specs.Grips.{Going, Hearing, HasIt}
 use Rattle.master_hand.specs.Talk.{Talking, IsOf, is_mail, client_later, client_awaits}
@@ -58,6 +59,16 @@ abbrev pub is_awaiting : Course → Bool
 is_awaiting Course.Goes = true
 is_awaiting Course.Mute = true
 is_awaiting _ = false
+
+-- what a mail that replies is to the newest service
+abbrev pub heard_as : Took → Heard
+heard_as Took.More = Heard.More
+heard_as Took.Done = Heard.Last
+heard_as Took.Foreign = Heard.Foreign
+
+-- the newest service is a mail that is passed on, and its last reply was not heard yet
+abbrev pub awaits_reply : Course → Which → Talking → Bool
+awaits_reply course which c = is_awaiting course && (is_mail which && is_none (client_awaits which c []))
 
 -- the same service in hand
 pub record SameHand (course : Course) (which : Which) (c : Talking) (course' : Course) (which' : Which) (c' : Talking) : Type 0 where

@@ -1,5 +1,5 @@
 ghost use Rattle.std.specs.Prelude.{◌≡◌, true};
-ghost use Rattle.master_hand.specs.Shown.{is_answered, course_behind};
+ghost use Rattle.master_hand.specs.Shown.{is_answered, course_behind, heard_as};
 
 use crate::clients::{Clients, Which};
 use crate::course::Course;
@@ -37,12 +37,13 @@ impl InHand {
     ghost use Rattle.master_side.specs.of_link_mails.Body.{Body};
     ghost use Rattle.segment_plan.specs.Sound.{IsService};
     ghost use Rattle.master_side.specs.of_master_duty.Reply.{Reply};
-    ghost use Rattle.master_hand.specs.Spoken.{Asked, emission, hand_speech};
+    ghost use Rattle.master_side.specs.Passing.{told_as, goes_on};
+    ghost use Rattle.master_hand.specs.Spoken.{Asked, emission, is_followed, hand_speech};
     ghost use Rattle.master_hand.specs.Passed.{body_of};
     ghost use Rattle.master_hand.specs.Talk.{client_later, is_handed};
     ghost use Rattle.master_hand.specs.Brings.{emergency_kept};
     ghost use Rattle.master_hand.specs.Joins.{packet_kept};
-    ghost use Rattle.master_hand.specs.Shown.{Shows, HandShows, is_awaiting};
+    ghost use Rattle.master_hand.specs.Shown.{Shows, HandShows, awaits_reply, is_awaiting};
     ghost use Rattle.master_hand.specs.declared.course.Course.{Course};
     ghost use Rattle.master_hand.specs.declared.laying.Laid.{Laid};
 
@@ -94,6 +95,8 @@ impl InHand {
             HandShows self.new.course self.new.which self.new.clients (option_map (λ r. row_heard (hand_speech self.old.clients.areas) frame (body_of (mail_seen mail.now) ∷ []) r) now) }
         ensures areas { self.new.clients.areas ≡ self.old.clients.areas }
         ensures laying { self.new.laying ≡ self.old.laying }
+        ensures tells { awaits_reply self.old.course self.old.which self.old.clients ≡ true → result ≡ told_as false (is_followed (body_of (mail_seen mail.now))) }
+        ensures awaits { awaits_reply self.old.course self.old.which self.old.clients ≡ true → goes_on result ≡ true → awaits_reply self.new.course self.new.which self.new.clients ≡ true }
         ensures found { emergency_kept self.old.found ≡ None → emergency_kept self.new.found ≡ None }
         ensures join { self.new.found.join ≡ self.old.found.join }
         ensures packet { packet_kept self.old.found ≡ None → packet_kept self.new.found ≡ None }
@@ -137,7 +140,9 @@ fn course_behind(left: bool, took: Took) -> Course
 }
 
 // What such a mail is to the service.
-fn heard_of(took: Took) -> Heard {
+fn heard_of(took: Took) -> Heard
+    ensures { result ≡ heard_as took }
+{
     match took {
         Took::More => Heard::More,
         Took::Done => Heard::Last,
@@ -146,14 +151,14 @@ fn heard_of(took: Took) -> Heard {
 }
 
 impl Hand for InHand {
-    ghost use Rattle.master_hand.specs.Spoken.{Asked, acknowledged, is_passed};
+    ghost use Rattle.master_hand.specs.Spoken.{Asked, acknowledged, is_followed, is_passed};
     ghost use Rattle.master_hand.specs.Passed.{mail_of};
     ghost use Rattle.master_hand.specs.Laying.{ready_of, Scripted, scripted, scripted_behind};
     ghost use Rattle.std.specs.Prelude.{Option, None};
     ghost use Rattle.eoe.specs.declared.joining.Unfinished.{Unfinished};
     ghost use Rattle.master_hand.specs.Brings.{Brings};
     ghost use Rattle.master_hand.specs.Joins.{unfinished_behind, Completes};
-    ghost use Rattle.master_hand.specs.Shown.{Shows, is_passing};
+    ghost use Rattle.master_hand.specs.Shown.{Shows, is_passing, awaits_reply};
     ghost use Rattle.master_hand.specs.Quiet.{quiet_shown};
 
     ghost Asked = { Asked };
@@ -177,6 +182,10 @@ impl Hand for InHand {
     ghost passed = { is_passed };
 
     ghost passes = { λ h. is_passing h.course h.which };
+
+    ghost awaits = { λ h. awaits_reply h.course h.which h.clients };
+
+    ghost more = { is_followed };
 
     ghost brings = { λ h b. Brings h.found b };
 

@@ -1,5 +1,5 @@
 -- Behind a lost frame a slave's next datagram is no longer than the one that was lost.
-use Rattle.std.proofs.Common.{◌≡◌, ◌≤◌, ℕ, Bool, true, false, Option, Some, None, length, replicate, refl, sym, ap, ◌∙◌, subst, arith, leb-true, leb-false, nat_le}
+use Rattle.std.proofs.Common.{◌≡◌, ◌≤◌, ℕ, Bool, true, false, Option, Some, None, length, refl, sym, ap, ◌∙◌, subst, arith, leb-true, leb-false, nat_le}
 use Rattle.std.specs.Prelude.{◌&&◌, not, is_some, if◌then◌else◌}
 use Rattle.std.proofs.lemmas.List.{length-replicate}
 use Rattle.mailbox_mail.specs.declared.mail.Mail.{Mail}

@@ -55,7 +55,7 @@ abbrev Rows : Type 0 → Type 0
 Rows Q = Option (Row Body Q Reply)
 
 -- what came back of a datagram of its link
-record GramBack (counter : ℕ) (octets : List ℕ) (ask : Ask Body) (g : Gram Body) : Type 0 where
+pub record GramBack (counter : ℕ) (octets : List ℕ) (ask : Ask Body) (g : Gram Body) : Type 0 where
   pub counted : g.counter ≡ counter
   pub mail : g.mail ≡ link_mail_in ask counter octets
   pub acknowledge : g.acknowledge ≡ acknowledge_in ask octets
@@ -126,11 +126,11 @@ heard_got (Some (GotView.Bad fault)) g e = ap heard_accepted e
     heard_accepted None = []
     heard_accepted (Some k) = accepted_by k
 
-heard_nothing : (got : Option GotView) → option_map got_seen got ≡ None → heard_of (view_in got) ≡ []
+pub heard_nothing : (got : Option GotView) → option_map got_seen got ≡ None → heard_of (view_in got) ≡ []
 heard_nothing None e = refl
 heard_nothing (Some g) e = absurd (cc)
 
-in_accept_is : (h : Halves Body) (s : InState) (bit : Bool) (counter : ℕ) (octets : List ℕ) (g : Gram Body) (got : Option GotView) → GramBack counter octets (in_ask s bit) g → option_map got_seen got ≡ in_got h.inn s counter octets →
+pub in_accept_is : (h : Halves Body) (s : InState) (bit : Bool) (counter : ℕ) (octets : List ℕ) (g : Gram Body) (got : Option GotView) → GramBack counter octets (in_ask s bit) g → option_map got_seen got ≡ in_got h.inn s counter octets →
     halves_accept h (in_ask s bit) g ≡ heard_of (view_in got)
 in_accept_is h InState.Clear bit counter octets g got b e = ap (news h.inn.last) (back_is counter octets g b) ∙ sym (got_by-accepts h.inn.last counter (mail_read octets)) ∙ sym (heard_got got (got_by h.inn.last counter (mail_read octets)) e)
 in_accept_is h InState.Doubt bit counter octets g got b e = sym (heard_nothing got e)
@@ -159,13 +159,13 @@ not_equal a b n = go (a == b) refl
 mine : {T : Type 0} (station : ℕ) (b : Datagram Body) (t e : T) → b.gram.station ≡ station → (if b.gram.station == station then t else e) ≡ t
 mine station b t e k = ap (λ (z : Bool). if z then t else e) (eq-eqb b.gram.station station k)
 
-in_counter : (s : InState) (bit : Bool) (counter : ℕ) → link_counter (in_ask s bit) counter ≡ counter
+pub in_counter : (s : InState) (bit : Bool) (counter : ℕ) → link_counter (in_ask s bit) counter ≡ counter
 in_counter InState.Clear bit counter = refl
 in_counter InState.Doubt bit counter = refl
 in_counter InState.Asked bit counter = refl
 in_counter InState.Refetch bit counter = refl
 
-gram_back : (counter : ℕ) (octets : List ℕ) (b : Datagram Body) (ask : Ask Body) → IsBack counter octets b → b.gram.ask ≡ ask → link_counter ask counter ≡ counter → GramBack counter octets ask b.gram
+pub gram_back : (counter : ℕ) (octets : List ℕ) (b : Datagram Body) (ask : Ask Body) → IsBack counter octets b → b.gram.ask ≡ ask → link_counter ask counter ≡ counter → GramBack counter octets ask b.gram
 gram_back counter octets b ask i e n = record { counted = i.counted ∙ ap (λ z. link_counter z counter) e ∙ n; mail = i.mail ∙ ap (λ z. link_mail_in z counter octets) e; acknowledge = i.acknowledge ∙ ap (λ z. acknowledge_in z octets) e }
 
 -- ITS ACCOUNT

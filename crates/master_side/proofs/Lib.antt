@@ -2,3 +2,5 @@ pub mod Begins
 pub mod Backs
 pub mod Grams
 pub mod Agains
+pub mod Passings
+pub mod Tellings

@@ -9,4 +9,5 @@ pub mod Carried
 pub mod Sent
 pub mod Heard
 pub mod Passes
+pub mod Passing
 pub mod Again

@@ -1,10 +1,8 @@
 //! What the newest service by mails of a slave has to offer.
 
 ghost use Rattle.std.specs.Prelude.{◌≡◌};
-ghost use Rattle.master_side.specs.Heard.{view_in};
 
 use mailbox_mail::{Kind, MailView};
-use mailbox_master::GotView;
 
 /// What a mail that was accepted is to the service in hand.
 #[derive(Clone, Copy, Debug, PartialEq, Eq)]
@@ -17,16 +15,6 @@ pub enum Heard {
     Last,
     /// A mail that the service does not await: nothing more is known of it.
     Foreign,
-}
-
-// The mail that was accepted.
-pub(crate) fn view_in<'a>(got: Option<GotView<'a>>) -> Option<MailView<'a>>
-    ensures { result ≡ view_in got.entry }
-{
-    match got {
-        Some(GotView::Mail(mail)) => Some(mail),
-        _ => None,
-    }
 }
 
 /// The newest service by mails of a slave, and the one that is laid ready to follow it. What it shows of its
@@ -42,6 +30,7 @@ pub trait Hand {
     ghost use Rattle.master_duty.specs.of_task_model.Accounts.{is_free, is_acknowledged};
     ghost use Rattle.master_duty.specs.Reply.{Reply};
     ghost use Rattle.master_side.specs.Fits.{Tells};
+    ghost use Rattle.master_side.specs.Passing.{told_as, goes_on};
 
     ghost Asked: { Type 0 };
 
@@ -67,6 +56,11 @@ pub trait Hand {
 
     ghost passes: { Self → Bool };
 
+    // Its last reply was not heard yet; and a reply that is not the last.
+    ghost awaits: { Self → Bool };
+
+    ghost more: { Body → Bool };
+
     // What the mail that was heard last brought beside a reply of the service in hand.
     ghost brings: { Self → Body → Type 0 };
 
@@ -89,6 +83,7 @@ pub trait Hand {
         ensures none { (x : Speech Body Asked Reply) (now : Option (Row Body Asked Reply)) → shows self.old x now → ready self.old ≡ None → shows self.new x now }
         ensures script { script self.new ≡ (if result then behind self.old else script self.old) }
         ensures passes { (q : Asked) → ready self.old ≡ Some q → passes self.new ≡ passed q }
+        ensures awaits { (q : Asked) → ready self.old ≡ Some q → passed q ≡ true → awaits self.new ≡ true }
         ensures join { join self.new ≡ join self.old }
         ensures room { room self.new ≡ room self.old };
 
@@ -98,6 +93,7 @@ pub trait Hand {
         ensures local { result ≡ true → (taken self.new).address ≡ 0 }
         ensures fits { result ≡ true → 6 + length (taken self.new).body.items ≤ room self.old }
         ensures held { (x : Speech Body Asked Reply) (now : Option (Row Body Asked Reply)) → shows self.old x now → Tells result (taken self.new) x now (shows self.new x) }
+        ensures awaits { awaits self.old ≡ true → awaits self.new ≡ true }
         ensures script { script self.new ≡ script self.old }
         ensures join { join self.new ≡ join self.old }
         ensures room { room self.new ≡ room self.old };
@@ -114,6 +110,8 @@ pub trait Hand {
     fn hear(&mut self, mail: &MailView) -> Heard
         requires { length mail.now.body.now ≤ 1480 }
         ensures shown { (x : Speech Body Asked Reply) (frame : ℕ) (now : Option (Row Body Asked Reply)) → shows self.old x now → shows self.new x (option_map (λ r. row_heard x frame (Ok (uncounted (mail_seen mail.now)) ∷ []) r) now) }
+        ensures tells { (x : Speech Body Asked Reply) (now : Option (Row Body Asked Reply)) → shows self.old x now → awaits self.old ≡ true → (let b = Ok (uncounted (mail_seen mail.now)) in result ≡ told_as (x.emission b) (more b)) }
+        ensures awaits { awaits self.old ≡ true → goes_on result ≡ true → awaits self.new ≡ true }
         ensures brings { brings self.new (Ok (uncounted (mail_seen mail.now))) }
         ensures join { join self.new ≡ joined (join self.old) (Ok (uncounted (mail_seen mail.now))) }
         ensures completed { completed self.new (join self.old) (Ok (uncounted (mail_seen mail.now))) }

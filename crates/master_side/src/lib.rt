@@ -2,6 +2,7 @@
 //! hand, the state service in hand, and the order of the datagrams of its visits.
 #![tactic(auto)]
 
+mod back;
 mod carried;
 mod hand;
 mod passing;

@@ -204,6 +204,8 @@ impl<H: Hand> Side<H> {
         ensures link { SameLink self.old.out self.old.inn self.old.station self.old.area self.new.out self.new.inn self.new.station self.new.area }
         ensures script { H.script self.new.hand ≡ H.script self.old.hand }
         ensures passing { self.new.passing ≡ self.old.passing }
+        ensures awaits { H.awaits self.old.hand ≡ true → H.awaits self.new.hand ≡ true }
+        ensures read { (self.new.read_at ≡ self.old.read_at) × (self.new.pace ≡ self.old.pace) }
         ensures most { result ≤ 1486 }
         ensures join { H.join self.new.hand ≡ H.join self.old.hand }
         ensures area { result ≤ area_of self.old }
@@ -230,6 +232,7 @@ impl<H: Hand> Side<H> {
         ensures room { length frame.old.items ≡ 16 → result ≡ true }
         ensures kept { SameSide self.old.out self.old.inn self.old.fresh self.old.duty self.new.out self.new.inn self.new.fresh self.new.duty }
         ensures hand { (self.new.hand ≡ self.old.hand) × (self.new.passing ≡ self.old.passing) }
+        ensures read { (self.new.read_at ≡ self.old.read_at) × (self.new.pace ≡ self.old.pace) }
         ensures link { (self.new.station ≡ self.old.station) × (self.new.area ≡ self.old.area) }
         ensures long { result ≡ false → HasNoRoom frame.old.items (next_len self.old) }
         ensures area { result ≡ false → HasNoRoom frame.old.items (area_of self.old) }

@@ -1,21 +1,11 @@
-ghost use Rattle.std.specs.Prelude.{◌≡◌, ◌==◌, ◌∷◌, [], true, false, length, nat_le, Some, None, ℕ, Option};
-ghost use Rattle.ec_fields.specs.Fields.{number_at};
-ghost use Rattle.mailbox_master.specs.Any.{in_station, in_area_len, in_half_of};
-ghost use Rattle.frame_view.specs.of_link_mails.Body.{Body};
-ghost use Rattle.frame_view.specs.of_link_model.Link.{Halves};
-ghost use Rattle.frame_view.specs.of_link_model.Frames.{Ask};
-ghost use Rattle.frame_view.specs.of_segment_model.Slaves.{Access};
-ghost use Rattle.master_duty.specs.of_task_model.Accounts.{access_done};
-ghost use Rattle.frame_view.specs.View.{found_of, state_found};
-ghost use Rattle.master_duty.specs.Stages.{stage_of};
-ghost use Rattle.master_duty.specs.Mets.{progress_of, KeepsTarget};
-ghost use Rattle.master_duty.specs.Reply.{Reply};
-ghost use Rattle.master_side.specs.Carried.{Asks, is_errand, duty_left, in_hand, is_by_half, is_behind_errand};
+ghost use Rattle.std.specs.Prelude.{◌≡◌, ℕ, nat_le, true};
+ghost use Rattle.mailbox_master.specs.Any.{in_area_len, in_half_of, in_station};
+ghost use Rattle.master_side.specs.Carried.{in_hand, is_behind_errand, is_by_half, is_errand};
 
+use crate::back::{duty_left, duty_met, view_in};
 use crate::carried::{Carried, Target, Wish};
-use crate::hand::{Hand, Heard, view_in};
-use crate::passing::{Passing, empty, heard, is_full, status_passed, told, written};
-use ec_fields::u16_at;
+use crate::hand::{Hand, Heard};
+use crate::passing::{Passing, empty, heard, status_passed, told, written};
 use mailbox_mail::MailView;
 use mailbox_master::{InwardHalf, OutwardSeat, new_inward};
 use master_duty::{Duty, Met};
@@ -70,12 +60,15 @@ pub struct Side<H: Hand> {
 }
 
 impl<H: Hand> Side<H> {
-    ghost use Rattle.std.specs.Prelude.{◌≡◌, ◌≤◌, ℕ, Bool, true, false, List, [], ◌∷◌, Option, Some, None, IfSome, is_none, is_some, option_map, length, if◌then◌else◌};
+    ghost use Rattle.std.specs.Prelude.{◌≡◌, ◌≤◌, ◌==◌, ◌&&◌, not, ℕ, Bool, true, false, List, [], ◌∷◌, map, Option, Some, None, IfSome, is_none, is_some, option_map, length, if◌then◌else◌};
     ghost use Rattle.frame_view.specs.of_exchange_model.Exchange.{Speech};
     ghost use Rattle.frame_view.specs.of_exchange_model.Rows.{Row, row_heard};
     ghost use Rattle.frame_view.specs.of_segment_model.Slaves.{Datagram, grams};
     ghost use Rattle.frame_view.specs.of_link_model.Frames.{all_accepted};
     ghost use Rattle.frame_view.specs.of_segment_model.Seats as Seats;
+    ghost use Rattle.frame_view.specs.of_segment_model.Ends as Ends;
+    ghost use Rattle.frame_view.specs.of_segment_model.Record.{News, Kept};
+    ghost use Rattle.life_model.specs.Lives.{passes};
     ghost use Rattle.frame_view.specs.of_link_mails.Body.{Body};
     ghost use Rattle.master_duty.specs.of_task_model.Accounts.{Account, new_account, duty_access, account_back, is_free, is_acknowledged};
     ghost use Rattle.mailbox_master.specs.Any.{in_half_of, in_area_len};
@@ -85,7 +78,8 @@ impl<H: Hand> Side<H> {
     ghost use Rattle.master_duty.specs.declared.stage.Stage.{Stage};
     ghost use Rattle.master_side.specs.Carried.{Meant, IsBack, in_hand, is_errand, paused_after, turn_after, one};
     ghost use Rattle.master_side.specs.Sent.{SameLink};
-    ghost use Rattle.master_side.specs.Passes.{told_by};
+    ghost use Rattle.master_side.specs.Passes.{told_by, empty_by};
+    ghost use Rattle.master_side.specs.Passing.{PassingShows, IsKept, passing_behind, counts_at, read_behind, news_back, news_lost};
     ghost use Rattle.master_side.specs.Again.{HoldsOn, IsOnWay, Repeats, SendsAtMost, sent_len};
     ghost use Rattle.master_side.specs.Heard.{heard_of, Brought, HasJoined};
     ghost use Rattle.master_side.specs.Shown.{SideShows, Holds, Begins, Picked, new_side, wish_begun, takes_ready};
@@ -104,6 +98,7 @@ impl<H: Hand> Side<H> {
         ensures shown { (x : Speech Body H.Asked Reply) → H.shows hand x None → SideShows (H.shows result.hand x) result.out result.inn result.fresh result.duty new_side new_account }
         ensures link { (result.out.len ≡ out_len) × (in_area_len result.inn ≡ in_len) × (result.station ≡ station) }
         ensures hand { (result.hand ≡ hand) × (result.passing ≡ None) }
+        ensures read { (result.read_at ≡ None) × (result.pace ≡ pace) }
     {
         Side {
             station,
@@ -132,6 +127,7 @@ impl<H: Hand> Side<H> {
         ensures link { SameLink self.old.out self.old.inn self.old.station self.old.area self.new.out self.new.inn self.new.station self.new.area }
         ensures script { H.script self.new.hand ≡ H.script self.old.hand }
         ensures passing { self.new.passing ≡ None }
+        ensures read { (self.new.read_at ≡ None) × (self.new.pace ≡ self.old.pace) }
         ensures heard { self.new.heard ≡ self.old.heard }
         ensures join { H.join self.new.hand ≡ H.unjoined }
     {
@@ -154,6 +150,8 @@ impl<H: Hand> Side<H> {
         ensures link { SameLink self.old.out self.old.inn self.old.station self.old.area self.new.out self.new.inn self.new.station self.new.area }
         ensures script { H.script self.new.hand ≡ H.script self.old.hand }
         ensures passing { self.new.passing ≡ self.old.passing }
+        ensures awaits { H.awaits self.old.hand ≡ true → H.awaits self.new.hand ≡ true }
+        ensures read { (self.new.read_at ≡ self.old.read_at) × (self.new.pace ≡ self.old.pace) }
         ensures join { H.join self.new.hand ≡ H.join self.old.hand }
         ensures on { HoldsOn self.old self.new }
     {
@@ -197,6 +195,8 @@ impl<H: Hand> Side<H> {
         ensures did { result ≡ is_some (H.ready self.old.hand) }
         ensures script { H.script self.new.hand ≡ (if result then H.behind self.old.hand else H.script self.old.hand) }
         ensures unpassed { (result ≡ true → (q : H.Asked) → H.ready self.old.hand ≡ Some q → H.passed q ≡ false) → self.new.passing ≡ None }
+        ensures passing { PassingShows (H.awaits self.new.hand) self.new.passing (passing_behind H.passed None (wish_begun result (Some Wish.Mails) (H.ready self.old.hand))) }
+        ensures read { (self.new.read_at ≡ self.old.read_at) × (self.new.pace ≡ self.old.pace) }
         ensures join { H.join self.new.hand ≡ H.join self.old.hand }
         ensures again { in_hand self.old.duty ≡ None → self.old.passing ≡ None → Repeats self.old → SendsAtMost (sent_len self.old) self.new }
     {
@@ -214,6 +214,7 @@ impl<H: Hand> Side<H> {
             Begins x H.acknowledged made d a (Some (Service.State target.state)) (λ e b. SideShows (H.shows self.new.hand x) self.new.out self.new.inn self.new.fresh self.new.duty e b) }
         ensures link { SameLink self.old.out self.old.inn self.old.station self.old.area self.new.out self.new.inn self.new.station self.new.area }
         ensures kept { (self.new.hand ≡ self.old.hand) × (self.new.passing ≡ self.old.passing) }
+        ensures read { (self.new.read_at ≡ self.old.read_at) × (self.new.pace ≡ self.old.pace) }
         ensures again { in_hand self.old.duty ≡ None → self.old.passing ≡ None → Repeats self.old → SendsAtMost (sent_len self.old) self.new }
     {
         let duty = Duty::new(target.state);
@@ -230,6 +231,8 @@ impl<H: Hand> Side<H> {
         ensures ready { takes_ready result wish ≡ true → is_some (H.ready self.old.hand) ≡ true }
         ensures script { H.script self.new.hand ≡ (if takes_ready result wish then H.behind self.old.hand else H.script self.old.hand) }
         ensures unpassed { self.old.passing ≡ None → (takes_ready result wish ≡ true → (q : H.Asked) → H.ready self.old.hand ≡ Some q → H.passed q ≡ false) → self.new.passing ≡ None }
+        ensures passing { (p : Option Ends.Passing) → PassingShows (H.awaits self.old.hand) self.old.passing p → PassingShows (H.awaits self.new.hand) self.new.passing (passing_behind H.passed p (wish_begun result wish (H.ready self.old.hand))) }
+        ensures read { (self.new.read_at ≡ self.old.read_at) × (self.new.pace ≡ self.old.pace) }
         ensures join { H.join self.new.hand ≡ H.join self.old.hand }
         ensures again { Repeats self.old → SendsAtMost (sent_len self.old) self.new }
     {
@@ -260,6 +263,8 @@ impl<H: Hand> Side<H> {
         ensures ready { takes_ready result wish ≡ true → is_some (H.ready self.old.hand) ≡ true }
         ensures script { H.script self.new.hand ≡ (if takes_ready result wish then H.behind self.old.hand else H.script self.old.hand) }
         ensures unpassed { self.old.passing ≡ None → (takes_ready result wish ≡ true → (q : H.Asked) → H.ready self.old.hand ≡ Some q → H.passed q ≡ false) → self.new.passing ≡ None }
+        ensures passing { (p : Option Ends.Passing) → PassingShows (H.awaits self.old.hand) self.old.passing p → PassingShows (H.awaits self.new.hand) self.new.passing (passing_behind H.passed p (wish_begun result wish (H.ready self.old.hand))) }
+        ensures read { (self.new.read_at ≡ self.old.read_at) × (self.new.pace ≡ self.old.pace) }
         ensures join { H.join self.new.hand ≡ H.join self.old.hand }
         ensures again { Repeats self.old → SendsAtMost (sent_len self.old) self.new }
     {
@@ -276,6 +281,10 @@ impl<H: Hand> Side<H> {
         ensures carried { self.new.carried ≡ self.old.carried }
         ensures script { H.script self.new.hand ≡ H.script self.old.hand }
         ensures unpassed { self.old.passing ≡ None → self.new.passing ≡ None }
+        ensures passing { (x : Speech Body H.Asked Reply) (kept : Kept) (p : Option Ends.Passing) (b : Datagram Body) (d : Seats.Side Body H.Asked Reply) (a : Account H.Asked Reply) → SideShows (H.shows self.old.hand x) self.old.out self.old.inn self.old.fresh self.old.duty d a → IsKept kept d → PassingShows (H.awaits self.old.hand) self.old.passing p →
+            Meant self.old.station self.old.carried d.halves (duty_access a.hand) b →
+            PassingShows (H.awaits self.new.hand) self.new.passing (passes x H.acknowledged H.more H.passed p (news_lost self.old.station kept (one b))) }
+        ensures read { (self.new.read_at ≡ self.old.read_at) × (self.new.pace ≡ self.old.pace) }
         ensures join { H.join self.new.hand ≡ H.join self.old.hand }
         ensures again { IsOnWay self.old → Repeats self.new × (sent_len self.new ≤ sent_len self.old) }
     {
@@ -292,6 +301,7 @@ impl<H: Hand> Side<H> {
         ensures kept { (self.new.out ≡ self.old.out) × (self.new.inn ≡ self.old.inn) × (self.new.hand ≡ self.old.hand) × (self.new.duty ≡ self.old.duty) × (self.new.station ≡ self.old.station) × (self.new.area ≡ self.old.area) × (self.new.carried ≡ self.old.carried) }
         ensures unpassed { self.old.passing ≡ None → self.new.passing ≡ None }
         ensures way { (self.new.turn ≡ self.old.turn) × (self.new.paused ≡ self.old.paused) × (self.new.passing ≡ told_by self.old.passing self.old.fresh) }
+        ensures read { (self.new.read_at ≡ self.old.read_at) × (self.new.pace ≡ self.old.pace) }
     {
         let passing = told(self.passing, self.fresh);
         self.passing = passing;
@@ -309,6 +319,10 @@ impl<H: Hand> Side<H> {
         ensures turn { self.new.turn ≡ turn_after self.old.carried (in_half_of self.old.inn).state counter self.old.turn }
         ensures script { H.script self.new.hand ≡ H.script self.old.hand }
         ensures unpassed { self.old.passing ≡ None → self.new.passing ≡ None }
+        ensures passing { (x : Speech Body H.Asked Reply) (kept : Kept) (p : Option Ends.Passing) (counts : Bool) (octets : List ℕ) (b : Datagram Body) (d : Seats.Side Body H.Asked Reply) (a : Account H.Asked Reply) → SideShows (H.shows self.old.hand x) self.old.out self.old.inn self.old.fresh self.old.duty d a → IsKept kept d → PassingShows (H.awaits self.old.hand) self.old.passing p →
+            Meant self.old.station self.old.carried d.halves (duty_access a.hand) b → IsBack counter octets b →
+            PassingShows (H.awaits self.new.hand) self.new.passing (passes x H.acknowledged H.more H.passed p (news_back self.old.station kept counts (one b))) }
+        ensures read { (self.new.read_at ≡ self.old.read_at) × (self.new.pace ≡ self.old.pace) }
         ensures brought { self.old.heard ≡ None → (x : Speech Body H.Asked Reply) (octets : List ℕ) (b : Datagram Body) (d : Seats.Side Body H.Asked Reply) (a : Account H.Asked Reply) → SideShows (H.shows self.old.hand x) self.old.out self.old.inn self.old.fresh self.old.duty d a →
             Meant self.old.station self.old.carried d.halves (duty_access a.hand) b → IsBack counter octets b →
             Brought (H.brings self.new.hand) self.new.heard (all_accepted self.old.station d.halves (grams (one b))) }
@@ -332,6 +346,9 @@ impl<H: Hand> Side<H> {
         ensures pace { (self.new.paused ≡ self.old.paused) × (self.new.turn ≡ self.old.turn) }
         ensures script { H.script self.new.hand ≡ H.script self.old.hand }
         ensures unpassed { self.old.passing ≡ None → self.new.passing ≡ None }
+        ensures passing { (x : Speech Body H.Asked Reply) (p : Option Ends.Passing) (now : Option (Row Body H.Asked Reply)) → H.shows self.old.hand x now → PassingShows (H.awaits self.old.hand) self.old.passing p →
+            PassingShows (H.awaits self.new.hand) self.new.passing (passes x H.acknowledged H.more H.passed p (map (λ m. News.Heard m) (heard_of mail.entry))) }
+        ensures read { (self.new.read_at ≡ self.old.read_at) × (self.new.pace ≡ self.old.pace) }
         ensures brought { self.old.heard ≡ None → Brought (H.brings self.new.hand) self.new.heard (heard_of mail.entry) }
         ensures joined { self.old.heard ≡ None → HasJoined H.joined (H.completed self.new.hand) (H.join self.old.hand) (H.join self.new.hand) self.new.heard (heard_of mail.entry) }
     {
@@ -350,6 +367,8 @@ impl<H: Hand> Side<H> {
         ensures link { SameLink self.old.out self.old.inn self.old.station self.old.area self.new.out self.new.inn self.new.station self.new.area }
         ensures pace { (self.new.paused ≡ self.old.paused) × (self.new.turn ≡ self.old.turn) }
         ensures unpassed { self.old.passing ≡ None → self.new.passing ≡ None }
+        ensures passing { self.new.passing ≡ (if was_read && (counter == 0 && counts_at self.old.read_at self.old.pace made) then empty_by self.old.passing else self.old.passing) }
+        ensures read { (self.new.pace ≡ self.old.pace) × (self.new.read_at ≡ (if was_read && not (counter == 0) then Some made else self.old.read_at)) }
     {
         if !was_read {
             return;
@@ -379,6 +398,10 @@ impl<H: Hand> Side<H> {
         ensures turn { self.new.turn ≡ turn_after self.old.carried (in_half_of self.old.inn).state counter self.old.turn }
         ensures script { H.script self.new.hand ≡ H.script self.old.hand }
         ensures unpassed { self.old.passing ≡ None → self.new.passing ≡ None }
+        ensures passing { (x : Speech Body H.Asked Reply) (kept : Kept) (p : Option Ends.Passing) (b : Datagram Body) (d : Seats.Side Body H.Asked Reply) (a : Account H.Asked Reply) → SideShows (H.shows self.old.hand x) self.old.out self.old.inn self.old.fresh self.old.duty d a → IsKept kept d → PassingShows (H.awaits self.old.hand) self.old.passing p →
+            Meant self.old.station self.old.carried d.halves (duty_access a.hand) b → IsBack counter octets.now b →
+            PassingShows (H.awaits self.new.hand) self.new.passing (passes x H.acknowledged H.more H.passed p (news_back self.old.station kept (counts_at self.old.read_at self.old.pace made) (one b))) }
+        ensures read { (self.new.pace ≡ self.old.pace) × (self.new.read_at ≡ read_behind self.old.carried (in_half_of self.old.inn).state counter made self.old.read_at) }
         ensures brought { self.old.heard ≡ None → (x : Speech Body H.Asked Reply) (b : Datagram Body) (d : Seats.Side Body H.Asked Reply) (a : Account H.Asked Reply) → SideShows (H.shows self.old.hand x) self.old.out self.old.inn self.old.fresh self.old.duty d a →
             Meant self.old.station self.old.carried d.halves (duty_access a.hand) b → IsBack counter octets.now b →
             Brought (H.brings self.new.hand) self.new.heard (all_accepted self.old.station d.halves (grams (one b))) }
@@ -407,6 +430,10 @@ impl<H: Hand> Side<H> {
         ensures turn { self.new.turn ≡ turn_after self.old.carried (in_half_of self.old.inn).state counter self.old.turn }
         ensures script { H.script self.new.hand ≡ H.script self.old.hand }
         ensures unpassed { self.old.passing ≡ None → self.new.passing ≡ None }
+        ensures passing { (x : Speech Body H.Asked Reply) (kept : Kept) (p : Option Ends.Passing) (counts : Bool) (b : Datagram Body) (d : Seats.Side Body H.Asked Reply) (a : Account H.Asked Reply) → SideShows (H.shows self.old.hand x) self.old.out self.old.inn self.old.fresh self.old.duty d a → IsKept kept d → PassingShows (H.awaits self.old.hand) self.old.passing p →
+            Meant self.old.station self.old.carried d.halves (duty_access a.hand) b → IsBack counter octets.now b →
+            PassingShows (H.awaits self.new.hand) self.new.passing (passes x H.acknowledged H.more H.passed p (news_back self.old.station kept counts (one b))) }
+        ensures read { (self.new.read_at ≡ self.old.read_at) × (self.new.pace ≡ self.old.pace) }
         ensures brought { self.old.heard ≡ None → (x : Speech Body H.Asked Reply) (b : Datagram Body) (d : Seats.Side Body H.Asked Reply) (a : Account H.Asked Reply) → SideShows (H.shows self.old.hand x) self.old.out self.old.inn self.old.fresh self.old.duty d a →
             Meant self.old.station self.old.carried d.halves (duty_access a.hand) b → IsBack counter octets.now b →
             Brought (H.brings self.new.hand) self.new.heard (all_accepted self.old.station d.halves (grams (one b))) }
@@ -436,6 +463,10 @@ impl<H: Hand> Side<H> {
         ensures turn { self.new.turn ≡ turn_after self.old.carried (in_half_of self.old.inn).state counter self.old.turn }
         ensures script { H.script self.new.hand ≡ H.script self.old.hand }
         ensures unpassed { self.old.passing ≡ None → self.new.passing ≡ None }
+        ensures passing { (x : Speech Body H.Asked Reply) (kept : Kept) (p : Option Ends.Passing) (b : Datagram Body) (d : Seats.Side Body H.Asked Reply) (a : Account H.Asked Reply) → SideShows (H.shows self.old.hand x) self.old.out self.old.inn self.old.fresh self.old.duty d a → IsKept kept d → PassingShows (H.awaits self.old.hand) self.old.passing p →
+            Meant self.old.station self.old.carried d.halves (duty_access a.hand) b → IsBack counter octets.now b →
+            PassingShows (H.awaits self.new.hand) self.new.passing (passes x H.acknowledged H.more H.passed p (news_back self.old.station kept (counts_at self.old.read_at self.old.pace made) (one b))) }
+        ensures read { (self.new.pace ≡ self.old.pace) × (self.new.read_at ≡ read_behind self.old.carried (in_half_of self.old.inn).state counter made self.old.read_at) }
         ensures brought { self.old.heard ≡ None → (x : Speech Body H.Asked Reply) (b : Datagram Body) (d : Seats.Side Body H.Asked Reply) (a : Account H.Asked Reply) → SideShows (H.shows self.old.hand x) self.old.out self.old.inn self.old.fresh self.old.duty d a →
             Meant self.old.station self.old.carried d.halves (duty_access a.hand) b → IsBack counter octets.now b →
             Brought (H.brings self.new.hand) self.new.heard (all_accepted self.old.station d.halves (grams (one b))) }
@@ -450,42 +481,4 @@ impl<H: Hand> Side<H> {
             Carried::Full | Carried::Control | Carried::Status => self.errand_back(counter, octets),
         }
     }
-}
-
-// What is left of a state service.
-fn duty_left(met: Met) -> Option<Duty>
-    ensures { result ≡ duty_left met }
-{
-    match met {
-        Met::On(duty) => Some(duty),
-        Met::Reached | Met::Refused(_) => None,
-    }
-}
-
-// What an access that was done makes of a state service.
-fn duty_met(duty: Duty, carried: Carried, octets: &[u8]) -> Met
-    requires { is_errand carried ≡ true }
-    ensures done { (h : Halves Body) (due : Option Access) (ask : Ask Body) (access : Access) (counter : ℕ) → Asks carried h due ask access → (counter == 0) ≡ false → (access ≡ Access.ReadState → length octets.now ≡ 6) → progress_of {R = Reply} result ≡ access_done duty.target (stage_of duty.stage) access (found_of access counter octets.now) }
-    ensures kept { KeepsTarget duty.target result }
-{
-    match carried {
-        Carried::Full => duty.full_shown(is_full(octets)),
-        Carried::Control => duty.word_written(),
-        _ => status_met(duty, octets),
-    }
-}
-
-// What a status that was read makes of it: none that a slave has leaves it.
-fn status_met(duty: Duty, octets: &[u8]) -> Met
-    ensures done { length octets.now ≡ 6 → progress_of {R = Reply} result ≡ access_done duty.target (stage_of duty.stage) Access.ReadState (state_found (number_at 2 octets.now 0) (number_at 2 octets.now 4)) }
-    ensures kept { KeepsTarget duty.target result }
-{
-    if octets.len() < 6 {
-        return Met::On(duty);
-    }
-    let word = u16_at(octets, 0);
-    if word >= 32 {
-        return Met::On(duty);
-    }
-    duty.status_shown(word, u16_at(octets, 4))
 }

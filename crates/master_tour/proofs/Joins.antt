@@ -1,5 +1,5 @@
 -- What is joined of the mails accepted, where none was.
-use Rattle.std.proofs.Common.{◌≡◌, [], List, Option, Some, None, refl, sym, ap, ◌∙◌, subst, true, false}
+use Rattle.std.proofs.Common.{◌≡◌, [], List, Option, None, refl, sym, ap, ◌∙◌, subst, true, false}
 use Rattle.std.specs.Prelude.{Bool, if◌then◌else◌}
 use Rattle.life_frames.specs.of_link_mails.Body.{Body}
 use Rattle.master_side.specs.Heard.{Brought, HasJoined, joined_by}

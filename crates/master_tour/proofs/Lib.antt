@@ -13,6 +13,7 @@ pub mod Orders
 pub mod Firsts
 pub mod Counts
 pub mod Unpassed
+pub mod Passings
 pub mod Goes
 pub mod Joins
 pub mod Sizes

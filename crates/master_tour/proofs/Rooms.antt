@@ -9,7 +9,7 @@ use Rattle.master_side.proofs.Agains.{least_area}
 use Rattle.master_tour.specs.Goes.{is_live}
 use Rattle.master_tour.specs.declared.stop.Stand.{Stand}
 use Rattle.master_tour.specs.declared.stop.Stop.{Stop}
-use Rattle.master_tour.specs.Rooms.{LosesAgain, Looks, StandOnWay, StandRepeats, StopRepeats, Visits, stand_len, stop_len}
+use Rattle.master_tour.specs.Rooms.{Looks, StandOnWay, StandRepeats, StopRepeats, Visits, stand_len, stop_len}
 
 no_room : (octets : List ℕ) (n m room : ℕ) → n ≤ m → room ≡ 1514 - length octets - 12 → room < n → HasNoRoom octets m
 no_room octets n m room l e r = omega (arith, l, e, r)

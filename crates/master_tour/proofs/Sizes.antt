@@ -1,5 +1,5 @@
 -- The length in the header of a frame that is sent is that of its datagrams.
-use Rattle.std.proofs.Common.{◌≡◌, ◌≤◌, ◌+◌, ◌-◌, ◌*◌, ◌%◌, ◌/◌, ◌^◌, ℕ, List, length, sym, ap, ◌∙◌, arith}
+use Rattle.std.proofs.Common.{◌≡◌, ◌≤◌, ◌+◌, ◌-◌, ◌*◌, ◌%◌, ◌/◌, ◌^◌, ℕ, List, length, ap, ◌∙◌, arith}
 use Rattle.datagrams.specs.Datagram.{Datagram}
 use Rattle.datagrams.specs.Frame.{IsBegun, chained, frame_text, text_of}
 use Rattle.master_tour.specs.Sizes.{frame_size}

@@ -3,6 +3,7 @@ pub mod Under
 pub mod Walks
 pub mod Cursor
 pub mod Stands
+pub mod Passing
 pub mod Made
 pub mod Brings
 pub mod Joins

@@ -2,9 +2,11 @@
 //! what the frame's return or loss makes of each.
 #![tactic(auto)]
 
+mod behind;
 mod cursor;
 mod stop;
 mod tour;
+mod visiting;
 
 pub use cursor::Cursor;
 pub use stop::{Stand, Stop, Turned};

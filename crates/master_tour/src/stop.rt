@@ -1,16 +1,14 @@
 ghost use Rattle.std.specs.Prelude.{◌≡◌, ◌≤◌, ◌+◌, ℕ, All, take, drop, true, nat_lt, nat_le};
 ghost use Rattle.datagrams.specs.Frame.{IsPart};
 ghost use Rattle.std.specs.Prelude.{length};
-ghost use Rattle.al_state.specs.BringUp.{octets_of};
 ghost use Rattle.std.specs.Prelude.{false, if◌then◌else◌, not, ◌&&◌};
 ghost use Rattle.al_state.specs.BringUp.{is_behind_init};
 ghost use Rattle.master_tour.specs.Stands.{turned_by};
 
 use crate::cursor::Cursor;
-use al_state::{BringStep, BringUp, access, came_back, cleared, reopen_new};
-use arrayvec::ArrayVec;
-use datagrams::{FrameBuf, Head, Part};
-use master_side::{Hand, Side, Wish};
+use al_state::{BringStep, BringUp, came_back, cleared, reopen_new};
+use datagrams::Part;
+use master_side::{Hand, Side};
 
 /// How the master stands to a slave.
 #[derive(Clone, Copy, Debug)]
@@ -97,18 +95,6 @@ fn body_of(octets: &[u8], part: Part) -> &[u8]
     &rest[..part.head.len as usize]
 }
 
-// How many octets the access of an opening has.
-fn access_len(up: &BringUp) -> usize
-    ensures is { result ≡ length (octets_of up.now) }
-    ensures most { result ≤ 8 }
-{
-    match up.step {
-        BringStep::Return | BringStep::Address | BringStep::Start => 2,
-        BringStep::Watch | BringStep::Await => 6,
-        BringStep::OutOff | BringStep::InOff | BringStep::OutManager | BringStep::InManager => 8,
-    }
-}
-
 impl<H: Hand> Stop<H> {
     ghost use Rattle.std.specs.Prelude.{◌≡◌, ◌≤◌, ◌<◌, ◌-◌, ◌++◌, ◌∷◌, [], ℕ, List, map, All, length, true, false};
     ghost use Rattle.datagrams.specs.Datagram as Raw;
@@ -137,16 +123,21 @@ impl<H: Hand> Stop<H> {
     ghost use Rattle.master_tour.specs.Under.{Under};
     ghost use Rattle.master_tour.specs.Cursor.{IsAtOne};
     ghost use Rattle.master_tour.specs.Goes.{is_live, is_opened};
-    ghost use Rattle.master_tour.specs.Stands.{StopShows, FollowShows, IsMet, IsSpot, StandUnder, came_at, given_where, stand_gram, StandMeant, NextShows, HoldShows};
+    ghost use Rattle.master_tour.specs.Stands.{StopShows, FollowShows, IsMet, IsSpot, StandUnder, came_at, given_where, stand_gram, StandMeant, NextShows, HoldShows, Counts};
     ghost use Rattle.std.specs.Prelude.{is_some, ◌&&◌, ◌+◌};
     ghost use Rattle.master_side.specs.Again.{HasNoRoom, IsOnWay, Repeats, area_of, sent_len};
     ghost use Rattle.master_tour.specs.Rooms.{LosesAgain, StopRepeats, Visits, stop_len};
     ghost use Rattle.life_frames.specs.of_segment_model.Returned.{Returns};
     ghost use Rattle.al_state.specs.declared.bringing.BringStep.{BringStep};
     ghost use Rattle.std.specs.Prelude.{None, ◌%◌};
-    ghost use Rattle.life_frames.specs.of_life_model.Lives.{Life, Spot, life_back, life_lost, reopens, gives_up};
-    ghost use Rattle.life_frames.specs.of_segment_model.Record.{News};
+    ghost use Rattle.life_frames.specs.of_life_model.Lives.{Life, Spot, passes, life_next, life_back, life_lost, reopens, gives_up};
+    ghost use Rattle.life_frames.specs.of_segment_model.Record.{News, Kept};
+    ghost use Rattle.life_frames.specs.of_segment_model.Ends as Ends;
     ghost use Rattle.life_frames.specs.of_segment_model.Slaves.{Found};
+    ghost use Rattle.life_frames.specs.of_task_model.Accounts as Accounts;
+    ghost use Rattle.master_side.specs.Passing.{PassingShows, IsKept, passing_behind, counts_at, news_back, news_lost};
+    ghost use Rattle.master_side.specs.declared.passing.Passing.{Passing};
+    ghost use Rattle.master_tour.specs.Passing.{StandPassing, StandKept};
     ghost use Rattle.life_frames.specs.of_task_model.Accounts.{new_account};
     ghost use Rattle.master_side.specs.Shown.{new_side};
     ghost use Rattle.std.specs.Prelude.{Bool, Option, Some, if◌then◌else◌};
@@ -180,6 +171,10 @@ impl<H: Hand> Stop<H> {
         ensures stand { self.new.stand ≡ self.old.stand }
         ensures script { H.script self.new.side.hand ≡ H.script self.old.side.hand }
         ensures unpassed { self.old.side.passing ≡ None → self.new.side.passing ≡ None }
+        ensures passing { (x : Speech Body H.Asked Reply) (lens : ℕ → Lens) (kept : Kept) (p : Option Ends.Passing) (back : List (Datagram Body)) (d : Seats.Side Body H.Asked Reply) (a : Account H.Asked Reply) → back ≡ seen lens octets.now →
+            SideShows (H.shows self.old.side.hand x) self.old.side.out self.old.side.inn self.old.side.fresh self.old.side.duty d a → IsKept kept d → PassingShows (H.awaits self.old.side.hand) self.old.side.passing p →
+            Under self.old.side.station self.old.at self.old.under self.old.side.carried d.halves (duty_access a.hand) back →
+            PassingShows (H.awaits self.new.side.hand) self.new.side.passing (passes x H.acknowledged H.more H.passed p (news_back self.old.side.station kept (counts_at self.old.side.read_at self.old.side.pace made) back)) }
         ensures brought { self.old.side.heard ≡ None → (x : Speech Body H.Asked Reply) (lens : ℕ → Lens) (back : List (Datagram Body)) (d : Seats.Side Body H.Asked Reply) (a : Account H.Asked Reply) → back ≡ seen lens octets.now →
             SideShows (H.shows self.old.side.hand x) self.old.side.out self.old.side.inn self.old.side.fresh self.old.side.duty d a →
             Under self.old.side.station self.old.at self.old.under self.old.side.carried d.halves (duty_access a.hand) back →
@@ -211,6 +206,10 @@ impl<H: Hand> Stop<H> {
         ensures stand { self.new.stand ≡ self.old.stand }
         ensures script { H.script self.new.side.hand ≡ H.script self.old.side.hand }
         ensures unpassed { self.old.side.passing ≡ None → self.new.side.passing ≡ None }
+        ensures passing { (x : Speech Body H.Asked Reply) (kept : Kept) (p : Option Ends.Passing) (sent : List (Datagram Body)) (d : Seats.Side Body H.Asked Reply) (a : Account H.Asked Reply) →
+            SideShows (H.shows self.old.side.hand x) self.old.side.out self.old.side.inn self.old.side.fresh self.old.side.duty d a → IsKept kept d → PassingShows (H.awaits self.old.side.hand) self.old.side.passing p →
+            Under self.old.side.station self.old.at self.old.under self.old.side.carried d.halves (duty_access a.hand) sent →
+            PassingShows (H.awaits self.new.side.hand) self.new.side.passing (passes x H.acknowledged H.more H.passed p (news_lost self.old.side.station kept sent)) }
         ensures join { H.join self.new.side.hand ≡ H.join self.old.side.hand }
         ensures again { IsOnWay self.old.side → self.old.under ≡ true → Repeats self.new.side × (sent_len self.new.side ≤ sent_len self.old.side) }
     {
@@ -230,6 +229,7 @@ impl<H: Hand> Stop<H> {
         ensures link { SameLink self.old.side.out self.old.side.inn self.old.side.station self.old.side.area self.new.side.out self.new.side.inn self.new.side.station self.new.side.area }
         ensures script { H.script self.new.side.hand ≡ H.script self.old.side.hand }
         ensures unpassed { self.old.side.passing ≡ None → self.new.side.passing ≡ None }
+        ensures passing { is_cleared ≡ true → self.new.side.passing ≡ None }
         ensures heard { self.new.side.heard ≡ self.old.side.heard }
         ensures join { H.join self.new.side.hand ≡ (if is_cleared then H.unjoined else H.join self.old.side.hand) }
     {
@@ -249,6 +249,9 @@ impl<H: Hand> Stop<H> {
         ensures sized { IsSized (Stand.Opening up) self.old.side.out.len (in_area_len self.old.side.inn) → IsSized self.new.stand self.new.side.out.len (in_area_len self.new.side.inn) }
         ensures script { H.script self.new.side.hand ≡ H.script self.old.side.hand }
         ensures unpassed { self.old.side.passing ≡ None → self.new.side.passing ≡ None }
+        ensures passing { self.old.stand ≡ Stand.Opening up → (x : Speech Body H.Asked Reply) (frame recover : ℕ) (spot : Spot) (news : List (News Body)) (back : List (Datagram Body)) (came : Bool × Option Found) (l : Life Body H.Asked Reply) →
+            IsMet up counter body.now came → StopShows (λ d a. SideShows (H.shows self.old.side.hand x) self.old.side.out self.old.side.inn self.old.side.fresh self.old.side.duty d a) recover spot self.old.stand self.old.spare l → StandPassing self.old.stand (H.awaits self.old.side.hand) self.old.side.passing l →
+            StandPassing self.new.stand (H.awaits self.new.side.hand) self.new.side.passing (life_back x H.acknowledged H.more H.passed frame spot news back (Some came) l l.stand) }
         ensures heard { self.new.side.heard ≡ self.old.side.heard }
         ensures join { H.join self.new.side.hand ≡ join_behind H.unjoined self.new.news (H.join self.old.side.hand) }
     {
@@ -274,6 +277,9 @@ impl<H: Hand> Stop<H> {
         ensures sized { self.old.stand ≡ Stand.Opening up → IsSized self.old.stand self.old.side.out.len (in_area_len self.old.side.inn) → IsSized self.new.stand self.new.side.out.len (in_area_len self.new.side.inn) }
         ensures script { H.script self.new.side.hand ≡ H.script self.old.side.hand }
         ensures unpassed { self.old.side.passing ≡ None → self.new.side.passing ≡ None }
+        ensures passing { self.old.stand ≡ Stand.Opening up → (x : Speech Body H.Asked Reply) (number recover : ℕ) (spot : Spot) (lens : ℕ → Lens) (ns : List (News Body)) (sent : List (Datagram Body)) (l : Life Body H.Asked Reply) →
+            Returns sent (seen lens octets.now) → StandUnder lens self.old.side.station self.old.at self.old.under self.old.side.carried self.old.stand l sent → StopShows (λ d a. SideShows (H.shows self.old.side.hand x) self.old.side.out self.old.side.inn self.old.side.fresh self.old.side.duty d a) recover spot self.old.stand self.old.spare l → StandPassing self.old.stand (H.awaits self.old.side.hand) self.old.side.passing l →
+            StandPassing self.new.stand (H.awaits self.new.side.hand) self.new.side.passing (life_back x H.acknowledged H.more H.passed number spot ns (seen lens octets.now) (came_at self.old.under self.old.at (seen lens octets.now)) l l.stand) }
         ensures heard { self.new.side.heard ≡ self.old.side.heard }
         ensures join { self.old.news ≡ None → H.join self.new.side.hand ≡ join_behind H.unjoined self.new.news (H.join self.old.side.hand) }
     {
@@ -292,6 +298,7 @@ impl<H: Hand> Stop<H> {
         ensures lives { self.old.stand ≡ Stand.Open → (x : Speech Body H.Asked Reply) (recover : ℕ) (spot : Spot) (l : Life Body H.Asked Reply) → IsSpot spot self.old.side.station self.old.place self.old.start → StopShows (λ d a. SideShows (H.shows self.old.side.hand x) self.old.side.out self.old.side.inn self.old.side.fresh self.old.side.duty d a) recover spot self.old.stand self.old.spare l →
             StopShows (λ d a. SideShows (H.shows self.new.side.hand x) self.new.side.out self.new.side.inn self.new.side.fresh self.new.side.duty d a) recover spot self.new.stand self.new.spare (reopens l l.era.account.hand) }
         ensures kept { (self.new.place ≡ self.old.place) × (self.new.start ≡ self.old.start) × (self.new.spare ≡ self.old.spare) × (self.new.news ≡ self.old.news) }
+        ensures passing { (l : Life Body H.Asked Reply) (hand : Option Accounts.Duty) (awaits : Bool) (p : Option Passing) → StandPassing self.old.stand awaits p l → StandPassing self.new.stand awaits p (reopens l hand) }
         ensures sized { IsSized self.old.stand self.old.side.out.len (in_area_len self.old.side.inn) → IsSized self.new.stand self.new.side.out.len (in_area_len self.new.side.inn) }
     {
         let Some(duty) = self.side.state_in_hand() else {
@@ -330,6 +337,10 @@ impl<H: Hand> Stop<H> {
         ensures sized { IsSized self.old.stand self.old.side.out.len (in_area_len self.old.side.inn) → IsSized self.new.stand self.new.side.out.len (in_area_len self.new.side.inn) }
         ensures script { H.script self.new.side.hand ≡ H.script self.old.side.hand }
         ensures unpassed { self.old.side.passing ≡ None → self.new.side.passing ≡ None }
+        ensures passing { self.old.stand ≡ Stand.Open → (x : Speech Body H.Asked Reply) (number recover : ℕ) (spot : Spot) (lens : ℕ → Lens) (kept : Kept) (sent : List (Datagram Body)) (l : Life Body H.Asked Reply) →
+            IsSpot spot self.old.side.station self.old.place self.old.start → Returns sent (seen lens octets.now) → StandUnder lens self.old.side.station self.old.at self.old.under self.old.side.carried self.old.stand l sent → StopShows (λ d a. SideShows (H.shows self.old.side.hand x) self.old.side.out self.old.side.inn self.old.side.fresh self.old.side.duty d a) recover spot self.old.stand self.old.spare l →
+            StandKept self.old.stand kept l → StandPassing self.old.stand (H.awaits self.old.side.hand) self.old.side.passing l →
+            StandPassing self.new.stand (H.awaits self.new.side.hand) self.new.side.passing (life_back x H.acknowledged H.more H.passed number spot (news_back self.old.side.station kept (counts_at self.old.side.read_at self.old.side.pace made) (seen lens octets.now)) (seen lens octets.now) (came_at self.old.under self.old.at (seen lens octets.now)) l l.stand) }
         ensures brought { self.old.stand ≡ Stand.Open → self.old.side.heard ≡ None → (x : Speech Body H.Asked Reply) (recover : ℕ) (spot : Spot) (lens : ℕ → Lens) (sent : List (Datagram Body)) (l : Life Body H.Asked Reply) →
             IsSpot spot self.old.side.station self.old.place self.old.start → Returns sent (seen lens octets.now) → StandUnder lens self.old.side.station self.old.at self.old.under self.old.side.carried self.old.stand l sent → StopShows (λ d a. SideShows (H.shows self.old.side.hand x) self.old.side.out self.old.side.inn self.old.side.fresh self.old.side.duty d a) recover spot self.old.stand self.old.spare l →
             Brought (H.brings self.new.side.hand) self.new.side.heard (accepted_in spot l (seen lens octets.now)) }
@@ -355,6 +366,10 @@ impl<H: Hand> Stop<H> {
         ensures sized { IsSized self.old.stand self.old.side.out.len (in_area_len self.old.side.inn) → IsSized self.new.stand self.new.side.out.len (in_area_len self.new.side.inn) }
         ensures script { H.script self.new.side.hand ≡ H.script self.old.side.hand }
         ensures unpassed { self.old.side.passing ≡ None → self.new.side.passing ≡ None }
+        ensures passing { (x : Speech Body H.Asked Reply) (number recover : ℕ) (spot : Spot) (lens : ℕ → Lens) (kept : Kept) (sent : List (Datagram Body)) (l : Life Body H.Asked Reply) →
+            IsSpot spot self.old.side.station self.old.place self.old.start → Returns sent (seen lens octets.now) → StandUnder lens self.old.side.station self.old.at self.old.under self.old.side.carried self.old.stand l sent → StopShows (λ d a. SideShows (H.shows self.old.side.hand x) self.old.side.out self.old.side.inn self.old.side.fresh self.old.side.duty d a) recover spot self.old.stand self.old.spare l →
+            StandKept self.old.stand kept l → StandPassing self.old.stand (H.awaits self.old.side.hand) self.old.side.passing l →
+            StandPassing self.new.stand (H.awaits self.new.side.hand) self.new.side.passing (life_back x H.acknowledged H.more H.passed number spot (news_back self.old.side.station kept (counts_at self.old.side.read_at self.old.side.pace made) (seen lens octets.now)) (seen lens octets.now) (came_at self.old.under self.old.at (seen lens octets.now)) l l.stand) }
         ensures brought { (x : Speech Body H.Asked Reply) (recover : ℕ) (spot : Spot) (lens : ℕ → Lens) (sent : List (Datagram Body)) (l : Life Body H.Asked Reply) →
             IsSpot spot self.old.side.station self.old.place self.old.start → Returns sent (seen lens octets.now) → StandUnder lens self.old.side.station self.old.at self.old.under self.old.side.carried self.old.stand l sent → StopShows (λ d a. SideShows (H.shows self.old.side.hand x) self.old.side.out self.old.side.inn self.old.side.fresh self.old.side.duty d a) recover spot self.old.stand self.old.spare l →
             Brought (H.brings self.new.side.hand) self.new.side.heard (accepted_in spot l (seen lens octets.now)) }
@@ -383,6 +398,10 @@ impl<H: Hand> Stop<H> {
         ensures sized { IsSized self.old.stand self.old.side.out.len (in_area_len self.old.side.inn) → IsSized self.new.stand self.new.side.out.len (in_area_len self.new.side.inn) }
         ensures script { H.script self.new.side.hand ≡ H.script self.old.side.hand }
         ensures unpassed { self.old.side.passing ≡ None → self.new.side.passing ≡ None }
+        ensures passing { (x : Speech Body H.Asked Reply) (recover : ℕ) (spot : Spot) (lens : ℕ → Lens) (kept : Kept) (octets : List ℕ) (l : Life Body H.Asked Reply) →
+            IsSpot spot self.old.side.station self.old.place self.old.start → StandUnder lens self.old.side.station self.old.at self.old.under self.old.side.carried self.old.stand l (seen lens octets) → StopShows (λ d a. SideShows (H.shows self.old.side.hand x) self.old.side.out self.old.side.inn self.old.side.fresh self.old.side.duty d a) recover spot self.old.stand self.old.spare l →
+            StandKept self.old.stand kept l → StandPassing self.old.stand (H.awaits self.old.side.hand) self.old.side.passing l →
+            StandPassing self.new.stand (H.awaits self.new.side.hand) self.new.side.passing (life_lost x H.acknowledged H.more H.passed spot (news_lost self.old.side.station kept (seen lens octets)) (seen lens octets) l l.stand) }
         ensures join { H.join self.new.side.hand ≡ H.join self.old.side.hand }
         ensures again { LosesAgain self.old self.new }
     {
@@ -404,6 +423,7 @@ impl<H: Hand> Stop<H> {
         ensures sized { IsSized self.old.stand self.old.side.out.len (in_area_len self.old.side.inn) → IsSized self.new.stand self.new.side.out.len (in_area_len self.new.side.inn) }
         ensures script { H.script self.new.side.hand ≡ H.script self.old.side.hand }
         ensures unpassed { self.old.side.passing ≡ None → self.new.side.passing ≡ None }
+        ensures passing { (awaits : Bool) (p : Option Passing) (l : Life Body H.Asked Reply) → StandPassing self.new.stand awaits p l }
     {
         self.news = Some(Turned::GivenUp);
         if self.spare == 0 {
@@ -427,6 +447,10 @@ impl<H: Hand> Stop<H> {
         ensures sized { IsSized self.old.stand self.old.side.out.len (in_area_len self.old.side.inn) → IsSized self.new.stand self.new.side.out.len (in_area_len self.new.side.inn) }
         ensures script { H.script self.new.side.hand ≡ H.script self.old.side.hand }
         ensures unpassed { self.old.side.passing ≡ None → self.new.side.passing ≡ None }
+        ensures passing { (x : Speech Body H.Asked Reply) (number recover : ℕ) (spot : Spot) (lens : ℕ → Lens) (kept : Kept) (octets : List ℕ) (l : Life Body H.Asked Reply) →
+            IsSpot spot self.old.side.station self.old.place self.old.start → StandUnder lens self.old.side.station self.old.at self.old.under self.old.side.carried self.old.stand l (seen lens octets) → StopShows (λ d a. SideShows (H.shows self.old.side.hand x) self.old.side.out self.old.side.inn self.old.side.fresh self.old.side.duty d a) recover spot self.old.stand self.old.spare l →
+            StandKept self.old.stand kept l → StandPassing self.old.stand (H.awaits self.old.side.hand) self.old.side.passing l →
+            StandPassing self.new.stand (H.awaits self.new.side.hand) self.new.side.passing (given_where (gives && self.old.under) recover spot number (life_lost x H.acknowledged H.more H.passed spot (news_lost self.old.side.station kept (seen lens octets)) (seen lens octets) l l.stand)) }
         ensures join { (gives && self.old.under) ≡ false → H.join self.new.side.hand ≡ H.join self.old.side.hand }
         ensures again { gives ≡ false → LosesAgain self.old self.new }
     {
@@ -436,129 +460,6 @@ impl<H: Hand> Stop<H> {
         }
         if self.under {
             self.give_up();
-        }
-    }
-
-    /// How many octets the datagram of a visit with this wish has.
-    pub fn ahead(&mut self, wish: Option<Wish>) -> usize
-        ensures lives { (x : Speech Body H.Asked Reply) (more : Body → Bool) (passed : H.Asked → Bool) (made recover : ℕ) (spot : Spot) (l : Life Body H.Asked Reply) → StopShows (λ d a. SideShows (H.shows self.old.side.hand x) self.old.side.out self.old.side.inn self.old.side.fresh self.old.side.duty d a) recover spot self.old.stand self.old.spare l →
-            HoldShows x H.acknowledged more passed made l (StopShows (λ d a. SideShows (H.shows self.new.side.hand x) self.new.side.out self.new.side.inn self.new.side.fresh self.new.side.duty d a) recover spot self.new.stand self.new.spare) }
-        ensures kept { (self.new.place ≡ self.old.place) × (self.new.start ≡ self.old.start) × (self.new.spare ≡ self.old.spare) × (self.new.under ≡ self.old.under) × (self.new.at ≡ self.old.at) }
-        ensures link { SameLink self.old.side.out self.old.side.inn self.old.side.station self.old.side.area self.new.side.out self.new.side.inn self.new.side.station self.new.side.area }
-        ensures stand { self.new.stand ≡ self.old.stand }
-        ensures passing { self.new.side.passing ≡ self.old.side.passing }
-        ensures most { result ≤ 1486 }
-        ensures script { H.script self.new.side.hand ≡ H.script self.old.side.hand }
-        ensures join { H.join self.new.side.hand ≡ H.join self.old.side.hand }
-        ensures area { result ≤ area_of self.old.side }
-        ensures again { StopRepeats self.old → StopRepeats self.new × (stop_len self.new ≡ stop_len self.old) × (result ≤ stop_len self.old) }
-    {
-        match self.stand {
-            Stand::Gone => 0,
-            Stand::Opening(up) => access_len(&up),
-            Stand::Open => self.side.ahead(wish),
-        }
-    }
-
-    /// A service comes into hand where one may, and the datagram of this visit stands next in the frame, as the
-    /// datagram number `at` of it, with this index, if the frame has room for it: `under` says so. Tells whether a service came into hand.
-    pub fn open_visit(
-        &mut self,
-        wish: Option<Wish>,
-        at: usize,
-        index: u8,
-        frame: &mut FrameBuf,
-    ) -> bool
-        requires few { at < 16 }
-        requires begun { (ds : List Raw.Datagram) × IsBegun frame.old.items ds }
-        ensures shown { (x : Speech Body H.Asked Reply) (made : ℕ) (lens : ℕ → Lens) (d : Seats.Side Body H.Asked Reply) (a : Account H.Asked Reply) → (lens self.old.side.station).out ≡ self.old.side.out.len → (lens self.old.side.station).back ≡ in_area_len self.old.side.inn →
-            SideShows (H.shows self.old.side.hand x) self.old.side.out self.old.side.inn self.old.side.fresh self.old.side.duty d a →
-            Picked x H.acknowledged made d a (wish_begun result wish (H.ready self.old.side.hand)) (λ e b. SideShows (H.shows self.new.side.hand x) self.new.side.out self.new.side.inn self.new.side.fresh self.new.side.duty e b ×
-            (self.new.under ≡ true → Meant self.old.side.station self.new.side.carried e.halves (duty_access b.hand) (datagram_seen lens (visit_gram self.new.side.station index self.new.side.out self.new.side.inn self.new.side.duty self.new.side.carried)))) }
-        ensures still { is_some self.old.side.passing ≡ true → result ≡ false }
-        ensures waits { is_some self.old.side.passing ≡ true → (x : Speech Body H.Asked Reply) (lens : ℕ → Lens) (d : Seats.Side Body H.Asked Reply) (a : Account H.Asked Reply) → (lens self.old.side.station).out ≡ self.old.side.out.len → (lens self.old.side.station).back ≡ in_area_len self.old.side.inn →
-            SideShows (H.shows self.old.side.hand x) self.old.side.out self.old.side.inn self.old.side.fresh self.old.side.duty d a →
-            Holds x d (λ e. SideShows (H.shows self.new.side.hand x) self.new.side.out self.new.side.inn self.new.side.fresh self.new.side.duty e a ×
-            (self.new.under ≡ true → Meant self.old.side.station self.new.side.carried e.halves (duty_access a.hand) (datagram_seen lens (visit_gram self.new.side.station index self.new.side.out self.new.side.inn self.new.side.duty self.new.side.carried)))) }
-        ensures begun { (ds : List Raw.Datagram) → IsBegun frame.old.items ds → self.new.under ≡ true → IsBegun frame.new.items (ds ++ visit_gram self.new.side.station index self.new.side.out self.new.side.inn self.new.side.duty self.new.side.carried ∷ []) }
-        ensures sent { self.new.under ≡ true → IsSent self.old.side.area (visit_gram self.new.side.station index self.new.side.out self.new.side.inn self.new.side.duty self.new.side.carried) }
-        ensures full { self.new.under ≡ false → frame.new.items ≡ frame.old.items }
-        ensures link { SameLink self.old.side.out self.old.side.inn self.old.side.station self.old.side.area self.new.side.out self.new.side.inn self.new.side.station self.new.side.area }
-        ensures stand { self.new.stand ≡ self.old.stand }
-        ensures kept { (self.new.place ≡ self.old.place) × (self.new.start ≡ self.old.start) × (self.new.spare ≡ self.old.spare) × (self.new.news ≡ self.old.news) }
-        ensures at { self.new.at ≡ at }
-        ensures order { self.new.under ≡ true → self.new.side.carried ≡ Carried.Full → (in_half_of self.new.side.inn).state ≡ InState.Clear }
-        ensures first { length frame.old.items ≡ 16 → self.new.under ≡ true }
-        ensures ready { takes_ready result wish ≡ true → is_some (H.ready self.old.side.hand) ≡ true }
-        ensures script { H.script self.new.side.hand ≡ (if takes_ready result wish then H.behind self.old.side.hand else H.script self.old.side.hand) }
-        ensures unpassed { self.old.side.passing ≡ None → (takes_ready result wish ≡ true → (q : H.Asked) → H.ready self.old.side.hand ≡ Some q → H.passed q ≡ false) → self.new.side.passing ≡ None }
-        ensures join { H.join self.new.side.hand ≡ H.join self.old.side.hand }
-        ensures room { Repeats self.old.side → (self.new.under ≡ false → HasNoRoom frame.old.items (sent_len self.old.side)) × (self.new.under ≡ true → sent_len self.new.side ≤ sent_len self.old.side) }
-        ensures area { self.new.under ≡ false → HasNoRoom frame.old.items (area_of self.old.side) }
-        ensures way { self.new.under ≡ true → IsOnWay self.new.side × (length frame.new.items ≡ length frame.old.items + (12 + sent_len self.new.side)) }
-    {
-        let began = self.side.choose(wish);
-        let placed = self.side.add_datagram(index, frame);
-        self.at = at;
-        self.under = placed;
-        began
-    }
-
-    /// The access of its opening stands next in the frame, as the datagram number `at` of it, with this index.
-    pub fn opening_visit(&mut self, up: &BringUp, at: usize, index: u8, frame: &mut FrameBuf)
-        requires few { at < 16 }
-        requires begun { (ds : List Raw.Datagram) × IsBegun frame.old.items ds }
-        requires room { length (octets_of up.now) ≤ 1514 - length frame.old.items - 12 }
-        ensures begun { (ds : List Raw.Datagram) → IsBegun frame.old.items ds → IsBegun frame.new.items (ds ++ datagram_of (head_of up.now index) (octets_of up.now) ∷ []) }
-        ensures side { self.new.side ≡ self.old.side }
-        ensures stand { self.new.stand ≡ self.old.stand }
-        ensures kept { (self.new.place ≡ self.old.place) × (self.new.start ≡ self.old.start) × (self.new.spare ≡ self.old.spare) × (self.new.news ≡ self.old.news) }
-        ensures at { (self.new.at ≡ at) × (self.new.under ≡ true) }
-        ensures grows { length frame.new.items ≡ length frame.old.items + (12 + length (octets_of up.now)) }
-    {
-        let mut head = Head::default();
-        let mut body = ArrayVec::new();
-        access(up, index, &mut head, &mut body);
-        datagrams::add(frame, &head, body.as_slice());
-        self.at = at;
-        self.under = true;
-    }
-
-    /// The datagram of this visit stands next in the frame, as the datagram number `at` of it, with this index, if the frame has room for
-    /// it: `under` says so. It is that of its opening, or while it is open that of a visit. Tells whether a service came into hand.
-    pub fn visit(&mut self, wish: Option<Wish>, at: usize, index: u8, frame: &mut FrameBuf) -> bool
-        requires few { at < 16 }
-        requires begun { (ds : List Raw.Datagram) × IsBegun frame.old.items ds }
-        ensures lives { (x : Speech Body H.Asked Reply) (more : Body → Bool) (passed : H.Asked → Bool) (made recover : ℕ) (spot : Spot) (lens : ℕ → Lens) (l : Life Body H.Asked Reply) →
-            (lens self.old.side.station).out ≡ self.old.side.out.len → (lens self.old.side.station).back ≡ in_area_len self.old.side.inn → IsSpot spot self.old.side.station self.old.place self.old.start → is_some l.era.passing ≡ is_some self.old.side.passing → StopShows (λ d a. SideShows (H.shows self.old.side.hand x) self.old.side.out self.old.side.inn self.old.side.fresh self.old.side.duty d a) recover spot self.old.stand self.old.spare l →
-            NextShows x H.acknowledged more passed made l (wish_begun result wish (H.ready self.old.side.hand)) (λ n. StopShows (λ d a. SideShows (H.shows self.new.side.hand x) self.new.side.out self.new.side.inn self.new.side.fresh self.new.side.duty d a) recover spot self.new.stand self.new.spare n ×
-            (self.new.under ≡ true → StandMeant lens self.new.side.station index self.new.side.carried self.new.stand n (datagram_seen lens (stand_gram self.new.side.station index self.new.stand self.new.side.out self.new.side.inn self.new.side.duty self.new.side.carried)))) }
-        ensures begun { (ds : List Raw.Datagram) → IsBegun frame.old.items ds → self.new.under ≡ true → IsBegun frame.new.items (ds ++ (stand_gram self.new.side.station index self.new.stand self.new.side.out self.new.side.inn self.new.side.duty self.new.side.carried) ∷ []) }
-        ensures full { self.new.under ≡ false → frame.new.items ≡ frame.old.items }
-        ensures at { self.new.under ≡ true → self.new.at ≡ at }
-        ensures stand { self.new.stand ≡ self.old.stand }
-        ensures kept { (self.new.place ≡ self.old.place) × (self.new.start ≡ self.old.start) × (self.new.spare ≡ self.old.spare) × (self.new.news ≡ self.old.news) }
-        ensures station { self.new.side.station ≡ self.old.side.station }
-        ensures link { SameLink self.old.side.out self.old.side.inn self.old.side.station self.old.side.area self.new.side.out self.new.side.inn self.new.side.station self.new.side.area }
-        ensures order { self.new.under ≡ true → IsClearFor self.new.stand self.new.side.carried self.new.side.inn }
-        ensures first { length frame.old.items ≡ 16 → is_live self.old.stand ≡ true → self.new.under ≡ true }
-        ensures ready { takes_ready result wish ≡ true → is_some (H.ready self.old.side.hand) ≡ true }
-        ensures script { H.script self.new.side.hand ≡ (if takes_ready result wish then H.behind self.old.side.hand else H.script self.old.side.hand) }
-        ensures unpassed { self.old.side.passing ≡ None → (takes_ready result wish ≡ true → (q : H.Asked) → H.ready self.old.side.hand ≡ Some q → H.passed q ≡ false) → self.new.side.passing ≡ None }
-        ensures join { H.join self.new.side.hand ≡ H.join self.old.side.hand }
-        ensures room { Visits frame.old.items frame.new.items self.old self.new }
-    {
-        self.under = false;
-        match self.stand {
-            Stand::Gone => false,
-            Stand::Opening(up) => {
-                if access_len(&up) > datagrams::room(frame) {
-                    return false;
-                }
-                self.opening_visit(&up, at, index, frame);
-                false
-            }
-            Stand::Open => self.open_visit(wish, at, index, frame),
         }
     }
 }

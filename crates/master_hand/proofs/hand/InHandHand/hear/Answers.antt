@@ -2,6 +2,9 @@ use Rattle.std.proofs.Common.{sym, ◌∙◌}
 use Rattle.mailbox_mail.specs.View.{mail_seen}
 use Rattle.master_hand.specs.Passed.{body_of}
 use Rattle.master_hand.proofs.Hands.{emission_shown, heard_shown}
+use Rattle.master_hand.specs.Spoken.{is_followed}
+use Rattle.std.proofs.Common.{true, false}
+use Rattle.master_hand.proofs.Replies.{emission_tells}
 use Rattle.master_hand.proofs.hand.InHandHand.hear.Goals as goal
 
 pub returns-then-hear-clause-shown : goal.returns-then-hear-clause-shown
@@ -12,3 +15,13 @@ pub returns-in-Goes-clause-shown : goal.returns-in-Goes-clause-shown
 returns-in-Goes-clause-shown c = λ x frame now h.
     heard_shown c.hear_reply.new.self.course c.hear_reply.new.self.which c.args.self.now.clients c.hear_reply.new.self.clients (body_of (mail_seen c.args.mail.now)) x frame now h.0 c.hear_reply.ensures.areas
     (c.hear_reply.ensures.shown frame now (sym c.hear.ensures.emits ∙ c.if-hear.false) h.1)
+
+pub returns-then-hear-clause-tells : goal.returns-then-hear-clause-tells
+returns-then-hear-clause-tells c = λ x now h a.
+    let b = body_of (mail_seen c.args.mail.now) in
+    emission_tells x c.args.self.now.clients.areas b true (is_followed b) h.0 (sym c.if-hear.true ∙ c.hear.ensures.emits)
+
+pub returns-in-Goes-clause-tells : goal.returns-in-Goes-clause-tells
+returns-in-Goes-clause-tells c = λ x now h a.
+    let b = body_of (mail_seen c.args.mail.now) in
+    c.hear_reply.ensures.tells a ∙ emission_tells x c.args.self.now.clients.areas b false (is_followed b) h.0 (sym c.if-hear.false ∙ c.hear.ensures.emits)

@@ -1,6 +1,9 @@
-use Rattle.std.proofs.Common.{◌≡◌, true, sym, subst, ap, ◌∙◌, Option, Some}
+use Rattle.std.proofs.Common.{◌≡◌, true, sym, subst, ap, ◌∙◌, Option, Some, None}
 use Rattle.master_side.specs.declared.carried.Wish.{Wish}
 use Rattle.master_side.specs.Shown.{SideShows, Begins, wish_begun, takes_ready}
+use Rattle.frame_view.specs.of_segment_model.Ends as Ends
+use Rattle.master_side.specs.Passing.{PassingShows, passing_seen, passing_behind}
+use Rattle.master_side.proofs.Passings.{still_shows}
 use Rattle.master_side.proofs.Agains.{again_most}
 use Rattle.master_side.proofs.side.Side.begin.Goals as goal
 
@@ -38,3 +41,22 @@ returns-in-Mails-clause-again g c = λ r. let f = c.is_free.ensures.bare c.if-no
 
 pub returns-in-State-clause-again : goal.returns-in-State-clause-again
 returns-in-State-clause-again g c = λ r. let f = c.is_free.ensures.bare c.if-not-is_free.false in c.begin_state.ensures.again f.0 f.1 r
+
+pub returns-in-Mails-clause-passing : goal.returns-in-Mails-clause-passing
+returns-in-Mails-clause-passing g c = λ p s.
+    let ready = g.H.Hand.ready c.args.self.now.hand in
+    let passed = g.H.Hand.passed in
+    let new = c.begin_mails.new.self in
+    let e : c.args.wish ≡ Some Wish.Mails = c.in-Some.is ∙ ap Some c.in-Mails.is in
+    let n : p ≡ None = s.is ∙ ap passing_seen (c.is_free.ensures.bare c.if-not-is_free.false).1 in
+    subst (λ (w : Option Wish). PassingShows (g.H.Hand.awaits new.hand) new.passing (passing_behind passed p (wish_begun c.begin_mails.result w ready))) (sym e)
+    (subst (λ (q : Option Ends.Passing). PassingShows (g.H.Hand.awaits new.hand) new.passing (passing_behind passed q (wish_begun c.begin_mails.result (Some Wish.Mails) ready))) (sym n) c.begin_mails.ensures.passing)
+
+pub returns-in-State-clause-passing : goal.returns-in-State-clause-passing
+returns-in-State-clause-passing g c = λ p s.
+    let old = c.args.self.now in
+    let new = c.begin_state.new.self in
+    let k = c.begin_state.ensures.kept in
+    let e : c.args.wish ≡ Some (Wish.State c.in-State.target) = c.in-Some.is ∙ ap Some c.in-State.is in
+    subst (λ (w : Option Wish). PassingShows (g.H.Hand.awaits new.hand) new.passing (passing_behind g.H.Hand.passed p (wish_begun true w (g.H.Hand.ready old.hand)))) (sym e)
+    (still_shows (g.H.Hand.awaits old.hand) (g.H.Hand.awaits new.hand) old.passing new.passing p (λ t. subst (λ h. g.H.Hand.awaits h ≡ true) (sym k.0) t) k.1 s)

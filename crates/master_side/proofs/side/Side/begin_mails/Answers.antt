@@ -1,6 +1,12 @@
-use Rattle.std.proofs.Common.{sym, ◌∙◌, true, false}
+use Rattle.std.proofs.Common.{sym, subst, ◌∙◌, true, false}
 use Rattle.master_side.proofs.Agains.{mails_most, never}
 use Rattle.master_side.proofs.Begins.{begins_ready, none_passed}
+use Rattle.std.specs.Prelude.{Some, None, Option}
+use Rattle.master_side.specs.Passing.{PassingShows, passing_behind}
+use Rattle.master_side.specs.Shown.{wish_begun}
+use Rattle.master_side.specs.declared.carried.Wish.{Wish}
+use Rattle.master_side.specs.declared.passing.Passing.{Passing}
+use Rattle.master_side.proofs.Passings.{begun_waits, begun_other, begun_none}
 use Rattle.master_side.proofs.side.Side.begin_mails.Goals.{then-began, else-began, then-passed, else-passed}
 use Rattle.master_side.proofs.side.Side.begin_mails.Goals as goal
 
@@ -25,4 +31,24 @@ returns-clause-again g c = λ n p r held h.
     elim c.if-passed.branch [
       | then-passed w ↦ mails_most c.args.self.now _ true w.passing-is n p r held h
       | else-passed w ↦ mails_most c.args.self.now _ false w.passing-is n p r held h
+    ]
+
+pub returns-clause-passing : goal.returns-clause-passing
+returns-clause-passing g c =
+    let ready = g.H.Hand.ready c.args.self.now.hand in
+    let hand = c.begin-began.new.self in
+    let awaits = g.H.Hand.awaits hand in
+    let passed = g.H.Hand.passed in
+    let life = passing_behind passed None (wish_begun c.begin-began.result (Some Wish.Mails) ready) in
+    elim c.if-passed.branch [
+      | then-passed w ↦ elim c.if-began.branch [
+        | then-began v ↦ subst (λ (p : Option Passing). PassingShows awaits p life) (sym w.passing-is)
+            (begun_waits passed ready c.begin-began.result (g.H.Hand.passes hand) awaits c.begin-began.ensures.did c.begin-began.ensures.passes c.begin-began.ensures.awaits v.if-began.true (sym v.is_passed-passed.ensures ∙ sym v.passed-is ∙ w.if-passed.true))
+        | else-began v ↦ absurd (never (sym w.if-passed.true ∙ v.passed-is ∙ v.if-began.false))
+      ]
+      | else-passed w ↦ elim c.if-began.branch [
+        | then-began v ↦ subst (λ (p : Option Passing). PassingShows awaits p life) (sym w.passing-is)
+            (begun_other passed ready c.begin-began.result (g.H.Hand.passes hand) awaits c.begin-began.ensures.passes (sym v.is_passed-passed.ensures ∙ sym v.passed-is ∙ w.if-passed.false))
+        | else-began v ↦ subst (λ (p : Option Passing). PassingShows awaits p life) (sym w.passing-is) (begun_none passed ready c.begin-began.result awaits v.if-began.false)
+      ]
     ]

@@ -2,6 +2,7 @@ use Rattle.std.proofs.Common.{sym, subst}
 use Rattle.master_side.specs.Shown.{SideShows}
 use Rattle.master_side.proofs.Begins.{picked}
 use Rattle.master_side.proofs.Agains.{holds_most}
+use Rattle.master_side.proofs.Passings.{still_shows}
 use Rattle.master_side.proofs.side.Side.choose.Goals as goal
 
 pub returns-clause-picked : goal.returns-clause-picked
@@ -12,3 +13,9 @@ returns-clause-waits g c = λ p x d a s. c.hold_next.ensures.shown x d a (subst 
 
 pub returns-clause-again : goal.returns-clause-again
 returns-clause-again g c = λ r. holds_most c.begin-began.new.self c.hold_next.new.self _ c.hold_next.ensures.on (c.begin-began.ensures.again r)
+
+pub returns-clause-passing : goal.returns-clause-passing
+returns-clause-passing g c = λ p s.
+    let mid = c.begin-began.new.self in
+    let new = c.hold_next.new.self in
+    still_shows (g.H.Hand.awaits mid.hand) (g.H.Hand.awaits new.hand) mid.passing new.passing _ c.hold_next.ensures.awaits c.hold_next.ensures.passing (c.begin-began.ensures.passing p s)

@@ -1,4 +1,4 @@
-use Rattle.std.proofs.Common.{subst, sym, ap, ◌∙◌, List, Option}
+use Rattle.std.proofs.Common.{◌≡◌, true, subst, sym, ap, ◌∙◌, List, Option}
 use Rattle.std.specs.Prelude.{option_map}
 use Rattle.frame_view.specs.of_exchange_model.Rows.{row_heard}
 use Rattle.frame_view.specs.of_segment_model.Seats.{side_back}
@@ -10,6 +10,15 @@ use Rattle.frame_view.specs.of_link_mails.Body.{Body}
 use Rattle.mailbox_master.specs.Any.{in_half_of}
 use Rattle.master_side.specs.Heard.{heard_of, Brought, HasJoined}
 use Rattle.master_side.proofs.Backs.{inward_back, inward_accepts, kept_side, view_short}
+use Rattle.std.specs.Prelude.{◌&&◌, ◌==◌, if◌then◌else◌, map}
+use Rattle.frame_view.specs.of_link_model.Link.{Halves}
+use Rattle.frame_view.specs.of_segment_model.Record.{News}
+use Rattle.life_model.specs.Lives.{passes}
+use Rattle.master_side.specs.Passes.{empty_by}
+use Rattle.master_side.specs.Passing.{PassingShows, passing_seen, counts_at}
+use Rattle.frame_view.specs.of_segment_model.Ends as Ends
+use Rattle.master_side.proofs.Passings.{read_shows}
+use Rattle.master_side.proofs.Tellings.{inward_seen}
 use Rattle.master_side.proofs.side.Side.inward_back.Goals as goal
 
 pub returns-clause-shown : goal.returns-clause-shown
@@ -45,3 +54,20 @@ returns-clause-joined g c = λ n x b d a s w i.
     subst (λ (ms : List Body). HasJoined g.H.Hand.joined (g.H.Hand.completed new.hand) (g.H.Hand.join args.hand) (g.H.Hand.join new.hand) new.heard ms) (ap heard_of c.view_in.ensures ∙ sym accepts)
     (subst (λ z. HasJoined g.H.Hand.joined (g.H.Hand.completed new.hand) (g.H.Hand.join z) (g.H.Hand.join new.hand) new.heard (heard_of c.view_in.result)) c.read_done.ensures.kept.4
     (c.hear.ensures.joined (c.read_done.ensures.kept.5 ∙ n)))
+
+pub returns-clause-passing : goal.returns-clause-passing
+returns-clause-passing g c = λ x kept p b d a s k h w i.
+    let args = c.args.self.now in
+    let mid = c.read_done.new.self in
+    let new = c.hear.new.self in
+    let r = c.read_done.ensures.kept in
+    let counts = counts_at args.read_at args.pace c.args.made in
+    let empty = c.is_some-was_read.result && (c.args.counter == 0 && counts) in
+    let after = passing_seen (if empty then empty_by args.passing else args.passing) in
+    let meant = subst (λ (k : Carried). Meant args.station k d.halves (duty_access a.hand) b) c.requires w in
+    let read = read_shows args.passing mid.passing empty (g.H.Hand.awaits mid.hand) c.read_done.ensures.passing (λ t. subst (λ z. g.H.Hand.awaits z ≡ true) (sym r.4) (h.awaited t)) in
+    let row = subst (λ z. g.H.Hand.shows z x d.now) (sym r.4) s.row in
+    let is = inward_seen x g.H.Hand.acknowledged g.H.Hand.more g.H.Hand.passed args.station kept b d a args.passing counts c.is_some-was_read.result p c.args.counter c.args.octets.now (in_half_of args.inn) c.returned-got.result k
+    (ap (λ (h : Halves Body). h.inn) s.halves) c.is_some-was_read.ensures c.returned-got.ensures.got meant i h.is
+    ∙ ap (λ (o : Option MailView). passes x g.H.Hand.acknowledged g.H.Hand.more g.H.Hand.passed after (map (λ m. News.Heard m) (heard_of o))) (sym c.view_in.ensures) in
+    subst (λ (q : Option Ends.Passing). PassingShows (g.H.Hand.awaits new.hand) new.passing q) (sym is) (c.hear.ensures.passing x after d.now row read)

@@ -8,6 +8,7 @@ use Rattle.master_tour.specs.Brings.{accepted_at, accepted_in}
 use Rattle.master_tour.specs.Stands.{StopShows, came_at}
 use Rattle.master_tour.proofs.Backs.{gone_follows}
 use Rattle.master_tour.proofs.Joins.{turned_joins}
+use Rattle.master_tour.proofs.Passings.{gone_passing}
 use Rattle.master_tour.proofs.stop.Stop.back.Goals as goal
 
 pub returns-in-Gone-clause-lives : goal.returns-in-Gone-clause-lives
@@ -62,3 +63,12 @@ returns-in-Opening-clause-joined g c = λ x recover spot lens sent l sp r u sh.
 
 pub returns-in-Open-clause-joined : goal.returns-in-Open-clause-joined
 returns-in-Open-clause-joined g c = λ x recover spot lens sent l sp r u sh. c.open_met.ensures.joined c.in-Open.is refl refl x recover spot lens sent l sp r u sh
+
+pub returns-in-Gone-clause-passing : goal.returns-in-Gone-clause-passing
+returns-in-Gone-clause-passing g c = λ x number recover spot lens kept sent l sp r u sh k h. gone_passing x g.H.Hand.acknowledged g.H.Hand.more g.H.Hand.passed c.args.self.now.stand _ _ _ c.in-Gone.is
+
+pub returns-in-Opening-clause-passing : goal.returns-in-Opening-clause-passing
+returns-in-Opening-clause-passing g c = λ x number recover spot lens kept sent l sp r u sh k h. c.opening_back.ensures.passing c.in-Opening.is x number recover spot lens _ sent l r u sh h
+
+pub returns-in-Open-clause-passing : goal.returns-in-Open-clause-passing
+returns-in-Open-clause-passing g c = λ x number recover spot lens kept sent l sp r u sh k h. c.open_met.ensures.passing c.in-Open.is x number recover spot lens kept sent l sp r u sh k h

@@ -7,6 +7,9 @@ use Rattle.master_side.specs.Shown.{SideShows}
 use Rattle.master_tour.specs.Stands.{StopShows, FollowShows, StandUnder, is_open}
 use Rattle.master_tour.proofs.Backs.{still_follows, lost_follows, own_lost, seen_aims}
 use Rattle.master_tour.proofs.Rooms.{loses_gone, loses_opens, loses_open}
+use Rattle.master_side.specs.Passing.{news_lost}
+use Rattle.master_tour.specs.Passing.{StandPassing, StandKept}
+use Rattle.master_tour.proofs.Passings.{lost_still, lost_open}
 use Rattle.master_tour.proofs.stop.Stop.lost.Goals as goal
 
 pub returns-in-Gone-clause-lives : goal.returns-in-Gone-clause-lives
@@ -46,3 +49,27 @@ returns-in-Opening-clause-again g c = let t = c.args.self.now in loses_opens t.s
 
 pub returns-in-Open-clause-again : goal.returns-in-Open-clause-again
 returns-in-Open-clause-again g c = let t = c.args.self.now in loses_open t.stand c.open_lost.new.self.stand t.side c.open_lost.new.self.side t.under c.in-Open.is (c.open_lost.ensures.stand ∙ c.in-Open.is) c.open_lost.ensures.again
+
+pub returns-in-Gone-clause-passing : goal.returns-in-Gone-clause-passing
+returns-in-Gone-clause-passing g c = λ x recover spot lens kept octets l sp u sh k h.
+    let t = c.args.self.now in
+    let w = c.args.self.now.side in
+    let stood = (subst (λ z. StopShows (λ d a. SideShows (g.H.Hand.shows w.hand x) w.out w.inn w.fresh w.duty d a) recover spot z t.spare l) c.in-Gone.is sh).stood in
+    lost_still x g.H.Hand.acknowledged g.H.Hand.more g.H.Hand.passed spot (news_lost w.station kept (seen lens octets)) (seen lens octets) l t.stand (g.H.Hand.awaits w.hand) w.passing (ap is_open stood) h
+
+pub returns-in-Opening-clause-passing : goal.returns-in-Opening-clause-passing
+returns-in-Opening-clause-passing g c = λ x recover spot lens kept octets l sp u sh k h.
+    let t = c.args.self.now in
+    let w = c.args.self.now.side in
+    let stood = (subst (λ z. StopShows (λ d a. SideShows (g.H.Hand.shows w.hand x) w.out w.inn w.fresh w.duty d a) recover spot z t.spare l) c.in-Opening.is sh).stood in
+    lost_still x g.H.Hand.acknowledged g.H.Hand.more g.H.Hand.passed spot (news_lost w.station kept (seen lens octets)) (seen lens octets) l t.stand (g.H.Hand.awaits w.hand) w.passing (ap is_open stood.stand) h
+
+pub returns-in-Open-clause-passing : goal.returns-in-Open-clause-passing
+returns-in-Open-clause-passing g c = λ x recover spot lens kept octets l sp u sh k h.
+    let t = c.args.self.now in
+    let w = c.args.self.now.side in
+    let v = c.open_lost.new.self in
+    let sent = seen lens octets in
+    let stood = (subst (λ z. StopShows (λ d a. SideShows (g.H.Hand.shows w.hand x) w.out w.inn w.fresh w.duty d a) recover spot z t.spare l) c.in-Open.is sh).stood in
+    lost_open x g.H.Hand.acknowledged g.H.Hand.more g.H.Hand.passed spot (news_lost w.station kept sent) sent l v.stand (g.H.Hand.awaits v.side.hand) v.side.passing stood.0 (c.open_lost.ensures.stand ∙ c.in-Open.is)
+    (c.open_lost.ensures.passing x kept l.era.passing sent l.era.side l.era.account stood.1 (subst (λ z. StandKept z kept l) c.in-Open.is k) (subst (λ z. StandPassing z (g.H.Hand.awaits w.hand) w.passing l) c.in-Open.is h) (subst (λ z. StandUnder lens w.station t.at t.under w.carried z l sent) c.in-Open.is u))

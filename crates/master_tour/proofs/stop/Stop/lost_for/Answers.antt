@@ -7,6 +7,8 @@ use Rattle.master_side.specs.Shown.{SideShows}
 use Rattle.master_tour.specs.Stands.{FollowShows, given_where}
 use Rattle.master_tour.proofs.Backs.{gave_turned, lost_gave}
 use Rattle.std.proofs.Common.{◌≡◌, true, false}
+use Rattle.master_side.specs.Passing.{news_lost}
+use Rattle.master_tour.specs.Passing.{StandPassing}
 use Rattle.master_tour.proofs.stop.Stop.lost_for.Goals as goal
 
 pub returns-then-not-gives-clause-lives : goal.returns-then-not-gives-clause-lives
@@ -45,3 +47,20 @@ returns-else-self-clause-again g c = λ n. absurd (let d : false ≡ true = sym 
 
 pub returns-then-self-clause-again : goal.returns-then-self-clause-again
 returns-then-self-clause-again g c = λ n. absurd (let d : false ≡ true = sym n ∙ c.if-not-gives.false in cc)
+
+pub returns-then-not-gives-clause-passing : goal.returns-then-not-gives-clause-passing
+returns-then-not-gives-clause-passing g c = λ x number recover spot lens kept octets l sp u sh k h.
+    let t = c.args.self.now in
+    let f = c.lost.new.self in
+    let m = life_lost x g.H.Hand.acknowledged g.H.Hand.more g.H.Hand.passed spot (news_lost t.side.station kept (seen lens octets)) (seen lens octets) l l.stand in
+    subst (λ z. StandPassing f.stand (g.H.Hand.awaits f.side.hand) f.side.passing (given_where (z && t.under) recover spot number m)) (sym c.if-not-gives.true) (c.lost.ensures.passing x recover spot lens kept octets l sp u sh k h)
+
+pub returns-else-self-clause-passing : goal.returns-else-self-clause-passing
+returns-else-self-clause-passing g c = λ x number recover spot lens kept octets l sp u sh k h.
+    let t = c.args.self.now in
+    let f = c.lost.new.self in
+    let m = life_lost x g.H.Hand.acknowledged g.H.Hand.more g.H.Hand.passed spot (news_lost t.side.station kept (seen lens octets)) (seen lens octets) l l.stand in
+    subst (λ z. StandPassing f.stand (g.H.Hand.awaits f.side.hand) f.side.passing (given_where z recover spot number m)) (sym (ap (λ z. z && t.under) c.if-not-gives.false ∙ sym c.lost.ensures.under ∙ c.if-self.false)) (c.lost.ensures.passing x recover spot lens kept octets l sp u sh k h)
+
+pub returns-then-self-clause-passing : goal.returns-then-self-clause-passing
+returns-then-self-clause-passing g c = λ x number recover spot lens kept octets l sp u sh k h. c.give_up.ensures.passing _ _ _

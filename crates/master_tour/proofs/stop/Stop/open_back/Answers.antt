@@ -11,6 +11,9 @@ use Rattle.master_tour.specs.Under.{no_part}
 use Rattle.master_tour.proofs.Unders.{SameAim, aims, none_back, nothing_under, short_under, has_back, accepted_as, has_accepted}
 use Rattle.master_tour.proofs.Cursors.{stands_part, stands_in, parts_length, seen_parts}
 use Rattle.master_tour.proofs.Joins.{nothing_joined}
+use Rattle.life_frames.specs.of_life_model.Lives.{passes}
+use Rattle.master_side.specs.Passing.{PassingShows, counts_at}
+use Rattle.master_tour.proofs.Passings.{has_told, nothing_told}
 use Rattle.master_tour.proofs.stop.Stop.open_back.Goals as goal
 
 pub body_of-body-requires : goal.body_of-body-requires
@@ -90,3 +93,31 @@ returns-then-seek-clause-joined g c = λ n x lens back d a e s u.
     let here = stands_in ds c.seek.new.self.number c.seek.new.self.part no_part (c.seek.ensures.stands ds c.requires.frame.1) ∙ ap (λ n. get_or (parts_of 16 ds) n no_part) (c.seek.ensures.at c.if-seek.true) in
     has_accepted (λ ms. HasJoined g.H.Hand.joined (g.H.Hand.completed y.hand) (g.H.Hand.join w.hand) (g.H.Hand.join y.hand) y.heard ms) w.station c.args.self.now.at c.args.self.now.under w.carried (duty_access a.hand) lens c.args.octets.now c.body_of-body.result.now (parts_of 16 ds) _ no_part back d.halves c.if-not-self.false here c.body_of-body.ensures is u
     (λ b m i. c.returned.ensures.joined n x b d a s m i)
+
+pub returns-then-not-self-clause-passing : goal.returns-then-not-self-clause-passing
+returns-then-not-self-clause-passing g c = λ x lens kept p back d a e s k h u.
+    let w = c.args.self.now.side in
+    let ds = c.requires.frame.0 in
+    let is = e ∙ seen_parts lens c.args.octets.now ds c.requires.frame.1 in
+    nothing_told x g.H.Hand.acknowledged g.H.Hand.more g.H.Hand.passed w.station kept (counts_at w.read_at w.pace c.args.made) back (g.H.Hand.awaits w.hand) w.passing p (subst (SameAim w.station) (sym is) (aims lens c.args.octets.now w.station (parts_of 16 ds) c.args.self.now.named))
+    (nothing_under w.station c.args.self.now.at c.args.self.now.under w.carried d.halves (duty_access a.hand) back c.if-not-self.true u) h
+
+pub returns-else-seek-clause-passing : goal.returns-else-seek-clause-passing
+returns-else-seek-clause-passing g c = λ x lens kept p back d a e s k h u.
+    let w = c.args.self.now.side in
+    let ds = c.requires.frame.0 in
+    let is = e ∙ seen_parts lens c.args.octets.now ds c.requires.frame.1 in
+    let short = subst (λ n. n ≤ c.args.self.now.at) (sym (parts_length 16 ds)) (c.seek.ensures.none c.if-seek.false ds c.requires.frame.1) in
+    nothing_told x g.H.Hand.acknowledged g.H.Hand.more g.H.Hand.passed w.station kept (counts_at w.read_at w.pace c.args.made) back (g.H.Hand.awaits w.hand) w.passing p (subst (SameAim w.station) (sym is) (aims lens c.args.octets.now w.station (parts_of 16 ds) c.args.self.now.named))
+    (short_under w.station c.args.self.now.at c.args.self.now.under w.carried d.halves (duty_access a.hand) (part_seen lens c.args.octets.now) (parts_of 16 ds) back is short u) h
+
+pub returns-then-seek-clause-passing : goal.returns-then-seek-clause-passing
+returns-then-seek-clause-passing g c = λ x lens kept p back d a e s k h u.
+    let w = c.args.self.now.side in
+    let y = c.returned.new.self in
+    let ds = c.requires.frame.0 in
+    let is = e ∙ seen_parts lens c.args.octets.now ds c.requires.frame.1 in
+    let here = stands_in ds c.seek.new.self.number c.seek.new.self.part no_part (c.seek.ensures.stands ds c.requires.frame.1) ∙ ap (λ n. get_or (parts_of 16 ds) n no_part) (c.seek.ensures.at c.if-seek.true) in
+    has_told (λ ns. PassingShows (g.H.Hand.awaits y.hand) y.passing (passes x g.H.Hand.acknowledged g.H.Hand.more g.H.Hand.passed p ns)) w.station c.args.self.now.at kept (counts_at w.read_at w.pace c.args.made) c.args.self.now.under w.carried (duty_access a.hand) lens c.args.octets.now c.body_of-body.result.now (parts_of 16 ds) _ no_part back d.halves
+    c.if-not-self.false here c.body_of-body.ensures is (subst (SameAim w.station) (sym is) (aims lens c.args.octets.now w.station (parts_of 16 ds) c.args.self.now.named)) u
+    (λ b m i. c.returned.ensures.passing x kept p b d a s k h m i)

@@ -17,6 +17,9 @@ use Rattle.master_tour.proofs.Unders.{SameAim, aims, under_back}
 use Rattle.master_tour.specs.Brings.{accepted_at, accepted_in}
 use Rattle.master_tour.proofs.Backs.{own_back, own_accepted, open_follows}
 use Rattle.master_tour.proofs.Joins.{still_joins}
+use Rattle.master_side.specs.Passing.{counts_at, news_back}
+use Rattle.master_tour.specs.Passing.{StandPassing, StandKept}
+use Rattle.master_tour.proofs.Passings.{open_passing}
 use Rattle.master_tour.proofs.stop.Stop.open_met.Goals as goal
 
 pub returns-clause-lives : goal.returns-clause-lives
@@ -83,3 +86,21 @@ returns-clause-joined g c = λ o q n x recover spot lens sent l sp r u sh.
     let there_now = subst (λ (z : Lives.Stand). HasJoined g.H.Hand.joined (g.H.Hand.completed m.hand) (g.H.Hand.join w.hand) (g.H.Hand.join m.hand) m.heard (accepted_at spot.station h back z)) (sym stood.0) there in
     let kept = subst (λ z. HasJoined g.H.Hand.joined (g.H.Hand.completed z.hand) (g.H.Hand.join w.hand) (g.H.Hand.join z.hand) z.heard (accepted_in spot l back)) (sym c.reopen.ensures.side) there_now in
     still_joins g.H.Hand.unjoined g.H.Hand.joined _ c.reopen.new.self.news _ _ _ _ (c.reopen.ensures.kept.3 ∙ c.open_back.ensures.kept.3 ∙ q) kept
+
+pub returns-clause-passing : goal.returns-clause-passing
+returns-clause-passing g c = λ o x number recover spot lens kept sent l sp r u sh k h.
+    let t = c.args.self.now in
+    let w = c.args.self.now.side in
+    let v = c.open_back.new.self in
+    let m = c.open_back.new.self.side in
+    let f = c.reopen.new.self in
+    let back = seen lens c.args.octets.now in
+    let ns = news_back w.station kept (counts_at w.read_at w.pace c.args.made) back in
+    let stood = (subst (λ z. StopShows (λ d a. SideShows (g.H.Hand.shows w.hand x) w.out w.inn w.fresh w.duty d a) recover spot z t.spare l) o sh).stood in
+    let under = under_back w.station t.at t.under w.carried l.era.side.halves (duty_access l.era.account.hand) sent back r (subst (λ z. StandUnder lens w.station t.at t.under w.carried z l sent) o u) in
+    let now = era_back x g.H.Hand.acknowledged g.H.Hand.more g.H.Hand.passed spot.station number ns back l.era in
+    let first = c.open_back.ensures.passing x lens kept l.era.passing back l.era.side l.era.account refl stood.1 (subst (λ z. StandKept z kept l) o k) (subst (λ z. StandPassing z (g.H.Hand.awaits w.hand) w.passing l) o h) under in
+    let there = subst (λ z. StandPassing z (g.H.Hand.awaits m.hand) m.passing (record l { era = now })) (sym (c.open_back.ensures.stand ∙ o)) first in
+    open_passing x g.H.Hand.acknowledged g.H.Hand.more g.H.Hand.passed number spot ns back l (came_at t.under t.at back) f.stand (g.H.Hand.awaits f.side.hand) f.side.passing stood.0
+    (subst (λ z. StandPassing f.stand (g.H.Hand.awaits z.hand) z.passing (Lives.reopens (record l { era = now }) now.account.hand)) (sym c.reopen.ensures.side)
+    (c.reopen.ensures.passing (record l { era = now }) now.account.hand (g.H.Hand.awaits m.hand) m.passing there))

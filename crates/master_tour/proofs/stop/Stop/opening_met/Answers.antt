@@ -7,6 +7,9 @@ use Rattle.master_tour.proofs.Openings.{opening_follows}
 use Rattle.std.proofs.Common.{ap}
 use Rattle.master_tour.specs.Joins.{join_behind}
 use Rattle.master_tour.proofs.Joins.{cleared_join}
+use Rattle.std.proofs.Common.{◌≡◌, true}
+use Rattle.master_tour.specs.Passing.{StandPassing}
+use Rattle.master_tour.proofs.Passings.{opening_passing}
 use Rattle.master_tour.proofs.stop.Stop.opening_met.Goals as goal
 
 pub returns-clause-lives : goal.returns-clause-lives
@@ -27,3 +30,16 @@ returns-clause-join g c =
     let none = g.H.Hand.unjoined in
     let old = g.H.Hand.join c.args.self.now.side.hand in
     c.renew_where.ensures.join ∙ cleared_join none old c.clears-is_cleared.result c.came_back-is_up.result ∙ sym (ap (λ t. join_behind none t old) (c.renew_where.ensures.kept.2 ∙ c.news_of-self.ensures))
+
+pub returns-clause-passing : goal.returns-clause-passing
+returns-clause-passing g c = λ o x frame recover spot news back came l met sh h.
+    let k = c.renew_where.ensures.kept in
+    let w = c.args.self.now.side in
+    let y = c.renew_where.new.self.side in
+    opening_passing x g.H.Hand.acknowledged g.H.Hand.more g.H.Hand.passed (λ d a. SideShows (g.H.Hand.shows w.hand x) w.out w.inn w.fresh w.duty d a) frame recover spot c.args.self.now.spare c.args.up c.came_back-is_up.new.up l news back
+    came c.args.counter c.args.body.now c.came_back-is_up.result c.clears-is_cleared.result (g.H.Hand.awaits w.hand) (g.H.Hand.awaits y.hand) w.passing y.passing c.renew_where.new.self.stand c.came_back-is_up.ensures.goes_on c.came_back-is_up.ensures.shown c.clears-is_cleared.ensures
+    (k.0 ∙ c.stand_behind-self.ensures) met
+    (subst (λ z. StopShows (λ d a. SideShows (g.H.Hand.shows w.hand x) w.out w.inn w.fresh w.duty d a) recover spot z c.args.self.now.spare l) o sh)
+    (λ e. (ap (λ z. z.passing) (c.renew_where.ensures.still e), λ t. subst (λ z. g.H.Hand.awaits z.hand ≡ true) (sym (c.renew_where.ensures.still e)) t))
+    (λ e. c.renew_where.ensures.passing e)
+    (subst (λ z. StandPassing z (g.H.Hand.awaits w.hand) w.passing l) o h)

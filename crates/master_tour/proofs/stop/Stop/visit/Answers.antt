@@ -8,6 +8,8 @@ use Rattle.master_side.specs.Sent.{visit_gram}
 use Rattle.master_tour.specs.Stands.{StopShows, StandShows, StandMeant, stand_gram, is_open}
 use Rattle.master_tour.proofs.Visits.{still_next, open_next}
 use Rattle.master_tour.proofs.Rooms.{visit_gone, visit_full, visit_opens, visit_open}
+use Rattle.master_tour.specs.Passing.{StandPassing}
+use Rattle.master_tour.proofs.Passings.{gone_passing, next_still, next_open, passing_waits}
 use Rattle.master_tour.proofs.stop.Stop.visit.Goals as goal
 
 pub returns-in-Gone-clause-lives : goal.returns-in-Gone-clause-lives
@@ -70,3 +72,35 @@ returns-else-access_len-room-clause-room g c = let k = c.opening_visit.ensures i
 
 pub returns-in-Open-clause-room : goal.returns-in-Open-clause-room
 returns-in-Open-clause-room g c = let k = c.open_visit.ensures in visit_open c.args.frame.now.items c.args.self.now c.open_visit.new.self c.open_visit.new.frame.items c.in-Open.is (k.stand ∙ c.in-Open.is) k.area k.room k.way k.full
+
+pub returns-in-Gone-clause-passing : goal.returns-in-Gone-clause-passing
+returns-in-Gone-clause-passing g c = λ x made recover spot hold l sh h counts. gone_passing x g.H.Hand.acknowledged g.H.Hand.more g.H.Hand.passed c.args.self.now.stand _ _ _ c.in-Gone.is
+
+pub returns-then-access_len-room-clause-passing : goal.returns-then-access_len-room-clause-passing
+returns-then-access_len-room-clause-passing g c = λ x made recover spot hold l sh h counts.
+    let t = c.args.self.now in
+    let s = c.args.self.now.side in
+    let stood = (subst (λ z. StopShows (λ d a. SideShows (g.H.Hand.shows s.hand x) s.out s.inn s.fresh s.duty d a) recover spot z t.spare l) c.in-Opening.is sh).stood in
+    next_still x g.H.Hand.acknowledged g.H.Hand.more g.H.Hand.passed made l _ t.stand (g.H.Hand.awaits s.hand) s.passing (ap is_open stood.stand) h
+
+pub returns-else-access_len-room-clause-passing : goal.returns-else-access_len-room-clause-passing
+returns-else-access_len-room-clause-passing g c = λ x made recover spot hold l sh h counts.
+    let t = c.args.self.now in
+    let s = c.args.self.now.side in
+    let n = c.opening_visit.new.self in
+    let k = c.opening_visit.ensures in
+    let stood = (subst (λ z. StopShows (λ d a. SideShows (g.H.Hand.shows s.hand x) s.out s.inn s.fresh s.duty d a) recover spot z t.spare l) c.in-Opening.is sh).stood in
+    next_still x g.H.Hand.acknowledged g.H.Hand.more g.H.Hand.passed made l _ n.stand (g.H.Hand.awaits n.side.hand) n.side.passing (ap is_open stood.stand)
+    (subst (λ z. StandPassing n.stand (g.H.Hand.awaits z.hand) z.passing l) (sym k.side) (subst (λ z. StandPassing z (g.H.Hand.awaits s.hand) s.passing l) (sym k.stand) h))
+
+pub returns-in-Open-clause-passing : goal.returns-in-Open-clause-passing
+returns-in-Open-clause-passing g c = λ x made recover spot hold l sh h counts.
+    let t = c.args.self.now in
+    let s = c.args.self.now.side in
+    let n = c.open_visit.new.self in
+    let k = c.open_visit.ensures in
+    let stood = (subst (λ z. StopShows (λ d a. SideShows (g.H.Hand.shows s.hand x) s.out s.inn s.fresh s.duty d a) recover spot z t.spare l) c.in-Open.is sh).stood in
+    let was = subst (λ z. StandPassing z (g.H.Hand.awaits s.hand) s.passing l) c.in-Open.is h in
+    next_open x g.H.Hand.acknowledged g.H.Hand.more g.H.Hand.passed made l (wish_begun c.open_visit.result c.args.wish (g.H.Hand.ready s.hand)) hold n.stand (g.H.Hand.awaits n.side.hand) n.side.passing stood.0 (k.stand ∙ c.in-Open.is)
+    (λ p. ap (λ (z : Bool). wish_begun z c.args.wish (g.H.Hand.ready s.hand)) (k.still (passing_waits (g.H.Hand.awaits s.hand) s.passing l.era.passing was p)))
+    counts (k.passing l.era.passing was)

@@ -17,6 +17,9 @@ use Rattle.life_frames.specs.of_frame_view.Seen.{seen}
 use Rattle.master_tour.proofs.Cursors.{seen_none}
 use Rattle.master_tour.proofs.Frames.{none_returns}
 use Rattle.master_tour.proofs.Walks.{each_map, each_same}
+use Rattle.life_frames.specs.of_segment_model.Record.{Kept}
+use Rattle.master_side.specs.Passing.{counts_at, news_back}
+use Rattle.master_tour.specs.Passing.{StandPassing, StandKept}
 use Rattle.master_tour.proofs.tour.Tour.hear.Goals as goal
 
 pub returns-then-is_none : goal.returns-then-is_none
@@ -30,6 +33,9 @@ returns-then-is_none g c = record {
   tour = c.all_back.ensures.tour;
   kept = c.all_back.ensures.kept;
   stays = c.all_back.ensures.stays;
+  passing = λ lens sent a n.
+      subst (λ octets. EachPair (λ s t. (x : Speech Body g.H.Hand.Asked Reply) (number recover : ℕ) (spot : Spot) (kept : Kept) (k : Life Body g.H.Hand.Asked Reply) → IsSpot spot s.side.station s.place s.start → StandUnder lens s.side.station s.at s.under s.side.carried s.stand k sent → StopShows (λ d a. SideShows (g.H.Hand.shows s.side.hand x) s.side.out s.side.inn s.side.fresh s.side.duty d a) recover spot s.stand s.spare k → StandKept s.stand kept k → StandPassing s.stand (g.H.Hand.awaits s.side.hand) s.side.passing k → StandPassing t.stand (g.H.Hand.awaits t.side.hand) t.side.passing (life_back x g.H.Hand.acknowledged g.H.Hand.more g.H.Hand.passed number spot (news_back s.side.station kept (counts_at s.side.read_at s.side.pace c.args.made) (seen lens octets)) (seen lens octets) (came_at s.under s.at (seen lens octets)) k k.stand)) c.args.self.now.stops.items c.all_back.new.self.stops.items) c.as_slice-octets.ensures.value
+      (each_map _ _ c.args.self.now.stops.items c.all_back.new.self.stops.items (λ s t p. p lens sent (subst (λ z. Returns sent (seen lens z)) (sym c.as_slice-octets.ensures.value) a)) c.all_back.ensures.passing);
   brought = λ lens sent a n.
       subst (λ octets. EachPair (λ s t. (x : Speech Body g.H.Hand.Asked Reply) (recover : ℕ) (spot : Spot) (k : Life Body g.H.Hand.Asked Reply) →
       IsSpot spot s.side.station s.place s.start → StandUnder lens s.side.station s.at s.under s.side.carried s.stand k sent → StopShows (λ d a. SideShows (g.H.Hand.shows s.side.hand x) s.side.out s.side.inn s.side.fresh s.side.duty d a) recover spot s.stand s.spare k →
@@ -50,6 +56,8 @@ returns-else-is_none g c = record {
   tour = (refl, refl, refl, refl, refl, refl);
   kept = each_same _ c.args.self.now.stops.items (λ s. (record { out_is = refl; in_is = refl; station_is = refl; area_is = refl }, λ h. h));
   stays = each_same _ c.args.self.now.stops.items (λ s. (refl, λ h. h));
+  passing = λ lens sent a n.
+      absurd (none_returns sent (seen lens c.args.frame.now.items) n a (seen_none lens c.args.frame.now.items c.as_slice-octets.result.now c.fault.result c.as_slice-octets.ensures.value c.fault.ensures.fault c.if-is_none.ensures));
   brought = λ lens sent a n.
       absurd (none_returns sent (seen lens c.args.frame.now.items) n a (seen_none lens c.args.frame.now.items c.as_slice-octets.result.now c.fault.result c.as_slice-octets.ensures.value c.fault.ensures.fault c.if-is_none.ensures));
   joined = λ lens sent a n.

@@ -45,3 +45,9 @@ pub returns-clause-again : goal.returns-clause-again
 returns-clause-again g c =
     let t = c.args.self.now in
     each_map (λ s u. not (nat_lt t.missed t.retry) ≡ false → LosesAgain s u) (λ s u. nat_lt t.missed t.retry ≡ true → LosesAgain s u) t.stops.items c.all_lost.new.self.stops.items (λ s u p e. p (ap not e)) c.all_lost.ensures.again
+
+pub returns-then-comes_again-clause-passing : goal.returns-then-comes_again-clause-passing
+returns-then-comes_again-clause-passing g c = λ lens octets. each_map _ _ c.args.self.now.stops.items c.all_lost.new.self.stops.items (λ s t p. p lens octets) c.all_lost.ensures.passing
+
+pub returns-clause-passing : goal.returns-clause-passing
+returns-clause-passing g c = λ lens octets. each_map _ _ c.args.self.now.stops.items c.all_lost.new.self.stops.items (λ s t p. p lens octets) c.all_lost.ensures.passing

@@ -24,6 +24,9 @@ use Rattle.master_tour.proofs.Steps.{frame_grows}
 use Rattle.master_tour.proofs.Mades.{made_visit, made_other, grown_of}
 use Rattle.master_tour.proofs.Walks.{steps_set, at_place}
 use Rattle.master_tour.specs.Rooms.{Visits}
+use Rattle.life_frames.specs.of_life_model.Lives.{life_next}
+use Rattle.master_tour.specs.Stands.{Counts}
+use Rattle.master_tour.specs.Passing.{StandPassing}
 use Rattle.master_tour.proofs.tour.Tour.visit.Goals as goal
 
 pub returns-clause-lives : goal.returns-clause-lives
@@ -94,3 +97,8 @@ pub returns-clause-room : goal.returns-clause-room
 returns-clause-room g c =
     subst (λ z. StepsAt (λ s t. Visits c.args.frame.now.items c.visit-began.new.frame.items s t) c.args.place c.args.self.now.stops.items z.items) (sym c.carry_where.ensures.stops)
     (steps_set (λ s t. Visits c.args.frame.now.items c.visit-began.new.frame.items s t) c.args.place c.args.self.now.stops.items c.index_mut.result.now c.visit-began.new.self c.requires.inside c.index_mut.ensures.value c.visit-began.ensures.room)
+
+pub returns-clause-passing : goal.returns-clause-passing
+returns-clause-passing g c =
+    subst (λ z. StepsAt (λ s t. (x : Speech Body g.H.Hand.Asked Reply) (made recover : ℕ) (spot : Spot) (hold : Bool) (l : Life Body g.H.Hand.Asked Reply) → StopShows (λ d a. SideShows (g.H.Hand.shows s.side.hand x) s.side.out s.side.inn s.side.fresh s.side.duty d a) recover spot s.stand s.spare l → StandPassing s.stand (g.H.Hand.awaits s.side.hand) s.side.passing l → (let n = life_next x g.H.Hand.acknowledged g.H.Hand.more g.H.Hand.passed made l l.stand (record { begin = wish_begun c.visit-began.result c.args.wish (g.H.Hand.ready s.side.hand); hold = hold }) in Counts made (wish_begun c.visit-began.result c.args.wish (g.H.Hand.ready s.side.hand)) l n → StandPassing t.stand (g.H.Hand.awaits t.side.hand) t.side.passing n)) c.args.place c.args.self.now.stops.items z.items) (sym c.carry_where.ensures.stops)
+    (steps_set (λ s t. (x : Speech Body g.H.Hand.Asked Reply) (made recover : ℕ) (spot : Spot) (hold : Bool) (l : Life Body g.H.Hand.Asked Reply) → StopShows (λ d a. SideShows (g.H.Hand.shows s.side.hand x) s.side.out s.side.inn s.side.fresh s.side.duty d a) recover spot s.stand s.spare l → StandPassing s.stand (g.H.Hand.awaits s.side.hand) s.side.passing l → (let n = life_next x g.H.Hand.acknowledged g.H.Hand.more g.H.Hand.passed made l l.stand (record { begin = wish_begun c.visit-began.result c.args.wish (g.H.Hand.ready s.side.hand); hold = hold }) in Counts made (wish_begun c.visit-began.result c.args.wish (g.H.Hand.ready s.side.hand)) l n → StandPassing t.stand (g.H.Hand.awaits t.side.hand) t.side.passing n)) c.args.place c.args.self.now.stops.items c.index_mut.result.now c.visit-began.new.self c.requires.inside c.index_mut.ensures.value (λ x made recover spot hold l sh h counts. c.visit-began.ensures.passing x made recover spot hold l sh h counts))

@@ -5,7 +5,7 @@ use Rattle.master_side.specs.Carried.{Asks}
 use Rattle.frame_view.specs.View.{found_of}
 use Rattle.master_duty.specs.of_task_model.Accounts.{access_done}
 use Rattle.master_duty.specs.Stages.{stage_of}
-use Rattle.master_side.proofs.side.duty_met.Goals as goal
+use Rattle.master_side.proofs.back.duty_met.Goals as goal
 
 pub returns-in-Control-clause-done : goal.returns-in-Control-clause-done
 returns-in-Control-clause-done c = λ h due ask access counter w n l.

@@ -1,0 +1,109 @@
+-- What a reply is to a mail that is passed on: others follow it, or it is the last.
+use Rattle.std.proofs.Common.{◌≡◌, List, [], ◌∷◌, Bool, true, false, Option, Some, None, refl, sym, ap, ◌∙◌}
+use Rattle.std.specs.Prelude.{◌&&◌, not, is_some, is_none, if◌then◌else◌, Err}
+use Rattle.mailbox_mail.specs.declared.outcome.Took.{Took}
+use Rattle.mailbox_mail.specs.declared.mail.MailFault.TheVariants.{Short}
+use Rattle.foe_client.specs.of_exchange_model.Areas.{Areas}
+use Rattle.foe_client.specs.of_exchange_model.Exchange.{Speech}
+use Rattle.master_side.specs.of_link_mails.Body.{Body}
+use Rattle.master_side.specs.of_master_duty.Reply.{Reply}
+use Rattle.master_side.specs.Passing.{told_as, goes_on}
+use Rattle.master_hand.specs.Spoken.{Asked, sdo, file, drive, net, passed, emission, is_followed, is_passed, hand_speech, passed_ends}
+use Rattle.master_hand.specs.Passed.{at_end, passed_awaits}
+use Rattle.master_hand.specs.Talk.{Talking, which_of, is_mail, client_awaits, Begins, IsSent, ClientTook}
+use Rattle.master_hand.specs.Shown.{is_awaiting, awaits_reply, course_behind, heard_as}
+use Rattle.master_hand.specs.declared.course.Course.{Course}
+use Rattle.master_hand.specs.declared.clients.Which.{Which}
+use Rattle.master_hand.specs.declared.passed.Content.{Content}
+use Rattle.master_hand.specs.declared.passed.PassedMail.{PassedMail}
+use Rattle.master_hand.proofs.Hands.{none_ends}
+
+both_left : (a b : Bool) → a && b ≡ true → a ≡ true
+both_left true b e = refl
+both_left false b e = e
+
+both_right : (a b : Bool) → a && b ≡ true → b ≡ true
+both_right true b e = e
+both_right false b e = absurd (cc)
+
+passed_mail : (q : Asked) → is_passed q ≡ true → is_mail (which_of q) ≡ true
+passed_mail (sdo q) e = absurd (cc)
+passed_mail (file q) e = absurd (cc)
+passed_mail (drive q) e = absurd (cc)
+passed_mail (net q) e = absurd (cc)
+passed_mail (passed m) e = refl
+
+some_is : (q p : Asked) → Some q ≡ Some p → q ≡ p
+some_is q p e = cc
+
+-- a mail that is passed on came into hand
+pub begins_awaits : (old c : Talking) (which : Which) (course : Course) (asked : Option Asked) (q : Asked) → Begins (Some which) asked old c → course ≡ Course.Goes → asked ≡ Some q → is_passed q ≡ true → awaits_reply course which c ≡ true
+begins_awaits old c which course asked q (p, e, s) w a t =
+    let same : p ≡ q = some_is p q (sym e ∙ a) in
+    let mail : is_mail which ≡ true = ap is_mail (sym s.kind) ∙ passed_mail p (ap is_passed same ∙ t) in
+    let none : is_none (client_awaits which c []) ≡ true = ap (λ (o : Option Reply). is_none o) (s.replies [] ∙ none_ends old.areas p) in
+    (λ i. is_awaiting (w i) && (mail i && none i))
+
+pub none_awaits : (old c : Talking) (asked : Option Asked) (q : Asked) (goal : Bool) → Begins None asked old c → asked ≡ Some q → goal ≡ true
+none_awaits old c asked q goal b e = absurd (let t : None ≡ Some q = sym b.0 ∙ e in cc)
+
+-- its mail is taken to be held
+pub sent_awaits : (b : Bool) (course : Course) (which : Which) (old new : Talking) (held : Content) → IsSent b which old held new → awaits_reply course which old ≡ true → awaits_reply course which new ≡ true
+sent_awaits true course which old new held s e = ap (λ (o : Option Reply). is_awaiting course && (is_mail which && is_none o)) (s.replies []) ∙ e
+sent_awaits false course which old new held s e = ap (λ c. awaits_reply course which c) s ∙ e
+
+-- A REPLY that is taken is followed by others, or is the last
+open_awaits : (p : PassedMail) (over : Bool) (hs : List Body) → p.over ≡ over → is_none (passed_awaits p []) ≡ true → passed_awaits p hs ≡ passed_ends hs
+open_awaits p true hs e n = absurd (let t : is_none (passed_awaits p []) ≡ false = ap (λ (b : Bool). is_none (if b then at_end [] else passed_ends [])) e in cc)
+open_awaits p false hs e n = ap (λ (b : Bool). if b then at_end hs else passed_ends hs) e
+
+took_passed : (took : Took) (old new : Talking) (b : Body) (followed : Bool) → is_followed b ≡ followed → is_none (client_awaits Which.Passed old []) ≡ true → ClientTook took Which.Passed old b new → heard_as took ≡ told_as false followed
+took_passed Took.More old new b true f n t = refl
+took_passed Took.More old new b false f n t = absurd (
+    let is : None ≡ passed_ends (b ∷ []) = sym t.1 ∙ t.0.replies [] ∙ open_awaits old.passed old.passed.over (b ∷ []) refl n in
+    let some : passed_ends (b ∷ []) ≡ Some None = ap (λ (z : Bool). if not z then Some None else None) f in
+    let bad : None ≡ Some None = is ∙ some in cc)
+took_passed Took.Done old new b false f n t = refl
+took_passed Took.Done old new b true f n t = absurd (
+    let is : client_awaits Which.Passed new [] ≡ passed_ends (b ∷ []) = t.0.replies [] ∙ open_awaits old.passed old.passed.over (b ∷ []) refl n in
+    let none : passed_ends (b ∷ []) ≡ None = ap (λ (z : Bool). if not z then Some None else None) f in
+    let bad : false ≡ true = sym (ap (λ (o : Option Reply). is_some o) (is ∙ none)) ∙ t.1 in cc)
+took_passed Took.Foreign old new b true f n t = absurd (
+    let last : List Body = Err Short ∷ [] in
+    let is : None ≡ passed_ends (b ∷ last) = sym (t.0 last) ∙ open_awaits old.passed old.passed.over (b ∷ last) refl n in
+    let some : passed_ends (b ∷ last) ≡ Some None = ap (λ (z : Bool). if (if z then true else false) then Some None else None) f in
+    let bad : None ≡ Some None = is ∙ some in cc)
+took_passed Took.Foreign old new b false f n t = absurd (
+    let is : None ≡ passed_ends (b ∷ []) = sym (t.0 []) ∙ open_awaits old.passed old.passed.over (b ∷ []) refl n in
+    let some : passed_ends (b ∷ []) ≡ Some None = ap (λ (z : Bool). if not z then Some None else None) f in
+    let bad : None ≡ Some None = is ∙ some in cc)
+
+took_mail : (took : Took) (which : Which) (old new : Talking) (b : Body) → is_mail which ≡ true → is_none (client_awaits which old []) ≡ true → ClientTook took which old b new → heard_as took ≡ told_as false (is_followed b)
+took_mail took Which.Coe old new b e n t = absurd (cc)
+took_mail took Which.ReadFile old new b e n t = absurd (cc)
+took_mail took Which.WriteFile old new b e n t = absurd (cc)
+took_mail took Which.Soe old new b e n t = absurd (cc)
+took_mail took Which.Address old new b e n t = absurd (cc)
+took_mail took Which.Packet old new b e n t = absurd (cc)
+took_mail took Which.Passed old new b e n t = took_passed took old new b (is_followed b) refl n t
+
+pub took_tells : (took : Took) (course : Course) (which : Which) (old new : Talking) (b : Body) → awaits_reply course which old ≡ true → ClientTook took which old b new → heard_as took ≡ told_as false (is_followed b)
+took_tells took course which old new b a t =
+    let m = both_right (is_awaiting course) (is_mail which && is_none (client_awaits which old [])) a in
+    took_mail took which old new b (both_left (is_mail which) (is_none (client_awaits which old [])) m) (both_right (is_mail which) (is_none (client_awaits which old [])) m) t
+
+-- more of it is awaited then
+pub took_awaits : (took : Took) (left : Bool) (course : Course) (which : Which) (old new : Talking) (b : Body) → awaits_reply course which old ≡ true → ClientTook took which old b new → goes_on (heard_as took) ≡ true → awaits_reply (course_behind left took) which new ≡ true
+took_awaits Took.More left course which old new b a t g =
+    let m = both_right (is_awaiting course) (is_mail which && is_none (client_awaits which old [])) a in
+    (λ i. awaiting left i && (both_left (is_mail which) (is_none (client_awaits which old [])) m i && is_none (t.1 i)))
+  where
+    awaiting : (l : Bool) → is_awaiting (course_behind l Took.More) ≡ true
+    awaiting true = refl
+    awaiting false = refl
+took_awaits Took.Done left course which old new b a t g = absurd (cc)
+took_awaits Took.Foreign left course which old new b a t g = absurd (cc)
+
+-- what is heard, by the slave's speech
+pub emission_tells : (x : Speech Body Asked Reply) (areas : Areas) (b : Body) (e more : Bool) → x ≡ hand_speech areas → e ≡ emission b → told_as e more ≡ told_as (x.emission b) more
+emission_tells x areas b e more s k = ap (λ z. told_as z more) (k ∙ ap (λ (y : Speech Body Asked Reply). y.emission b) (sym s))

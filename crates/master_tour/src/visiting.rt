@@ -1,0 +1,199 @@
+//! A slave's visit: what comes into hand, and its datagram in the frame that is made.
+
+ghost use Rattle.std.specs.Prelude.{◌≡◌, ◌≤◌, length};
+ghost use Rattle.al_state.specs.BringUp.{octets_of};
+
+use crate::stop::{Stand, Stop};
+use al_state::{BringStep, BringUp, access};
+use arrayvec::ArrayVec;
+use datagrams::{FrameBuf, Head};
+use master_side::{Hand, Wish};
+
+// How many octets the access of an opening has.
+fn access_len(up: &BringUp) -> usize
+    ensures is { result ≡ length (octets_of up.now) }
+    ensures most { result ≤ 8 }
+{
+    match up.step {
+        BringStep::Return | BringStep::Address | BringStep::Start => 2,
+        BringStep::Watch | BringStep::Await => 6,
+        BringStep::OutOff | BringStep::InOff | BringStep::OutManager | BringStep::InManager => 8,
+    }
+}
+
+impl<H: Hand> Stop<H> {
+    ghost use Rattle.std.specs.Prelude.{◌≡◌, ◌≤◌, ◌<◌, ◌-◌, ◌++◌, ◌∷◌, [], ℕ, List, map, All, length, true, false};
+    ghost use Rattle.datagrams.specs.Datagram as Raw;
+    ghost use Rattle.datagrams.specs.Frame.{IsPart, IsBegun, IsFrame};
+    ghost use Rattle.life_frames.specs.of_exchange_model.Exchange.{Speech};
+    ghost use Rattle.life_frames.specs.of_link_mails.Body.{Body};
+    ghost use Rattle.life_frames.specs.of_segment_model.Slaves.{Datagram, grams};
+    ghost use Rattle.life_frames.specs.of_link_model.Frames.{all_accepted};
+    ghost use Rattle.master_side.specs.Heard.{Brought, HasJoined};
+    ghost use Rattle.master_tour.specs.Brings.{accepted_in};
+    ghost use Rattle.master_tour.specs.Joins.{Joins, join_behind};
+    ghost use Rattle.life_frames.specs.of_segment_model.Seats as Seats;
+    ghost use Rattle.life_frames.specs.of_task_model.Accounts.{Account, duty_access, account_back};
+    ghost use Rattle.life_frames.specs.of_frame_view.View.{Lens, datagram_seen};
+    ghost use Rattle.life_frames.specs.of_frame_view.Seen.{seen};
+    ghost use Rattle.master_side.specs.of_mailbox_master.Any.{in_half_of, in_area_len};
+    ghost use Rattle.life_frames.specs.of_link_model.Master.{InState};
+    ghost use Rattle.master_side.specs.of_master_duty.Reply.{Reply};
+    ghost use Rattle.master_side.specs.declared.carried.Carried.{Carried};
+    ghost use Rattle.master_side.specs.Carried.{Meant};
+    ghost use Rattle.master_tour.specs.Made.{IsClearFor, IsSized};
+    ghost use Rattle.master_side.specs.Sent.{IsSent, SameLink, visit_gram};
+    ghost use Rattle.master_side.specs.Shown.{SideShows, Holds, Picked, wish_begun, takes_ready};
+    ghost use Rattle.datagrams.specs.Frame.{datagram_of};
+    ghost use Rattle.al_state.specs.BringUp.{head_of, octets_of};
+    ghost use Rattle.master_tour.specs.Under.{Under};
+    ghost use Rattle.master_tour.specs.Cursor.{IsAtOne};
+    ghost use Rattle.master_tour.specs.Goes.{is_live, is_opened};
+    ghost use Rattle.master_tour.specs.Stands.{StopShows, FollowShows, IsMet, IsSpot, StandUnder, came_at, given_where, stand_gram, StandMeant, NextShows, HoldShows, Counts};
+    ghost use Rattle.std.specs.Prelude.{is_some, ◌&&◌, ◌+◌};
+    ghost use Rattle.master_side.specs.Again.{HasNoRoom, IsOnWay, Repeats, area_of, sent_len};
+    ghost use Rattle.master_tour.specs.Rooms.{LosesAgain, StopRepeats, Visits, stop_len};
+    ghost use Rattle.life_frames.specs.of_segment_model.Returned.{Returns};
+    ghost use Rattle.al_state.specs.declared.bringing.BringStep.{BringStep};
+    ghost use Rattle.std.specs.Prelude.{None, ◌%◌};
+    ghost use Rattle.life_frames.specs.of_life_model.Lives.{Life, Spot, passes, life_next, life_back, life_lost, reopens, gives_up};
+    ghost use Rattle.life_frames.specs.of_segment_model.Record.{News, Kept};
+    ghost use Rattle.life_frames.specs.of_segment_model.Ends as Ends;
+    ghost use Rattle.life_frames.specs.of_segment_model.Slaves.{Found};
+    ghost use Rattle.life_frames.specs.of_task_model.Accounts as Accounts;
+    ghost use Rattle.master_side.specs.Passing.{PassingShows, IsKept, passing_behind, counts_at, news_back, news_lost};
+    ghost use Rattle.master_side.specs.declared.passing.Passing.{Passing};
+    ghost use Rattle.master_tour.specs.Passing.{StandPassing, StandKept};
+    ghost use Rattle.life_frames.specs.of_task_model.Accounts.{new_account};
+    ghost use Rattle.master_side.specs.Shown.{new_side};
+    ghost use Rattle.std.specs.Prelude.{Bool, Option, Some, if◌then◌else◌};
+    ghost use Rattle.master_tour.specs.declared.stop.Stand.{Stand};
+
+    /// How many octets the datagram of a visit with this wish has.
+    pub fn ahead(&mut self, wish: Option<Wish>) -> usize
+        ensures lives { (x : Speech Body H.Asked Reply) (more : Body → Bool) (passed : H.Asked → Bool) (made recover : ℕ) (spot : Spot) (l : Life Body H.Asked Reply) → StopShows (λ d a. SideShows (H.shows self.old.side.hand x) self.old.side.out self.old.side.inn self.old.side.fresh self.old.side.duty d a) recover spot self.old.stand self.old.spare l →
+            HoldShows x H.acknowledged more passed made l (StopShows (λ d a. SideShows (H.shows self.new.side.hand x) self.new.side.out self.new.side.inn self.new.side.fresh self.new.side.duty d a) recover spot self.new.stand self.new.spare) }
+        ensures kept { (self.new.place ≡ self.old.place) × (self.new.start ≡ self.old.start) × (self.new.spare ≡ self.old.spare) × (self.new.under ≡ self.old.under) × (self.new.at ≡ self.old.at) }
+        ensures link { SameLink self.old.side.out self.old.side.inn self.old.side.station self.old.side.area self.new.side.out self.new.side.inn self.new.side.station self.new.side.area }
+        ensures stand { self.new.stand ≡ self.old.stand }
+        ensures passing { self.new.side.passing ≡ self.old.side.passing }
+        ensures awaits { H.awaits self.old.side.hand ≡ true → H.awaits self.new.side.hand ≡ true }
+        ensures most { result ≤ 1486 }
+        ensures script { H.script self.new.side.hand ≡ H.script self.old.side.hand }
+        ensures join { H.join self.new.side.hand ≡ H.join self.old.side.hand }
+        ensures area { result ≤ area_of self.old.side }
+        ensures again { StopRepeats self.old → StopRepeats self.new × (stop_len self.new ≡ stop_len self.old) × (result ≤ stop_len self.old) }
+    {
+        match self.stand {
+            Stand::Gone => 0,
+            Stand::Opening(up) => access_len(&up),
+            Stand::Open => self.side.ahead(wish),
+        }
+    }
+
+    /// A service comes into hand where one may, and the datagram of this visit stands next in the frame, as the
+    /// datagram number `at` of it, with this index, if the frame has room for it: `under` says so. Tells whether a service came into hand.
+    pub fn open_visit(
+        &mut self,
+        wish: Option<Wish>,
+        at: usize,
+        index: u8,
+        frame: &mut FrameBuf,
+    ) -> bool
+        requires few { at < 16 }
+        requires begun { (ds : List Raw.Datagram) × IsBegun frame.old.items ds }
+        ensures shown { (x : Speech Body H.Asked Reply) (made : ℕ) (lens : ℕ → Lens) (d : Seats.Side Body H.Asked Reply) (a : Account H.Asked Reply) → (lens self.old.side.station).out ≡ self.old.side.out.len → (lens self.old.side.station).back ≡ in_area_len self.old.side.inn →
+            SideShows (H.shows self.old.side.hand x) self.old.side.out self.old.side.inn self.old.side.fresh self.old.side.duty d a →
+            Picked x H.acknowledged made d a (wish_begun result wish (H.ready self.old.side.hand)) (λ e b. SideShows (H.shows self.new.side.hand x) self.new.side.out self.new.side.inn self.new.side.fresh self.new.side.duty e b ×
+            (self.new.under ≡ true → Meant self.old.side.station self.new.side.carried e.halves (duty_access b.hand) (datagram_seen lens (visit_gram self.new.side.station index self.new.side.out self.new.side.inn self.new.side.duty self.new.side.carried)))) }
+        ensures still { is_some self.old.side.passing ≡ true → result ≡ false }
+        ensures waits { is_some self.old.side.passing ≡ true → (x : Speech Body H.Asked Reply) (lens : ℕ → Lens) (d : Seats.Side Body H.Asked Reply) (a : Account H.Asked Reply) → (lens self.old.side.station).out ≡ self.old.side.out.len → (lens self.old.side.station).back ≡ in_area_len self.old.side.inn →
+            SideShows (H.shows self.old.side.hand x) self.old.side.out self.old.side.inn self.old.side.fresh self.old.side.duty d a →
+            Holds x d (λ e. SideShows (H.shows self.new.side.hand x) self.new.side.out self.new.side.inn self.new.side.fresh self.new.side.duty e a ×
+            (self.new.under ≡ true → Meant self.old.side.station self.new.side.carried e.halves (duty_access a.hand) (datagram_seen lens (visit_gram self.new.side.station index self.new.side.out self.new.side.inn self.new.side.duty self.new.side.carried)))) }
+        ensures begun { (ds : List Raw.Datagram) → IsBegun frame.old.items ds → self.new.under ≡ true → IsBegun frame.new.items (ds ++ visit_gram self.new.side.station index self.new.side.out self.new.side.inn self.new.side.duty self.new.side.carried ∷ []) }
+        ensures sent { self.new.under ≡ true → IsSent self.old.side.area (visit_gram self.new.side.station index self.new.side.out self.new.side.inn self.new.side.duty self.new.side.carried) }
+        ensures full { self.new.under ≡ false → frame.new.items ≡ frame.old.items }
+        ensures link { SameLink self.old.side.out self.old.side.inn self.old.side.station self.old.side.area self.new.side.out self.new.side.inn self.new.side.station self.new.side.area }
+        ensures stand { self.new.stand ≡ self.old.stand }
+        ensures kept { (self.new.place ≡ self.old.place) × (self.new.start ≡ self.old.start) × (self.new.spare ≡ self.old.spare) × (self.new.news ≡ self.old.news) }
+        ensures at { self.new.at ≡ at }
+        ensures order { self.new.under ≡ true → self.new.side.carried ≡ Carried.Full → (in_half_of self.new.side.inn).state ≡ InState.Clear }
+        ensures first { length frame.old.items ≡ 16 → self.new.under ≡ true }
+        ensures ready { takes_ready result wish ≡ true → is_some (H.ready self.old.side.hand) ≡ true }
+        ensures script { H.script self.new.side.hand ≡ (if takes_ready result wish then H.behind self.old.side.hand else H.script self.old.side.hand) }
+        ensures unpassed { self.old.side.passing ≡ None → (takes_ready result wish ≡ true → (q : H.Asked) → H.ready self.old.side.hand ≡ Some q → H.passed q ≡ false) → self.new.side.passing ≡ None }
+        ensures passing { (p : Option Ends.Passing) → PassingShows (H.awaits self.old.side.hand) self.old.side.passing p → PassingShows (H.awaits self.new.side.hand) self.new.side.passing (passing_behind H.passed p (wish_begun result wish (H.ready self.old.side.hand))) }
+        ensures join { H.join self.new.side.hand ≡ H.join self.old.side.hand }
+        ensures room { Repeats self.old.side → (self.new.under ≡ false → HasNoRoom frame.old.items (sent_len self.old.side)) × (self.new.under ≡ true → sent_len self.new.side ≤ sent_len self.old.side) }
+        ensures area { self.new.under ≡ false → HasNoRoom frame.old.items (area_of self.old.side) }
+        ensures way { self.new.under ≡ true → IsOnWay self.new.side × (length frame.new.items ≡ length frame.old.items + (12 + sent_len self.new.side)) }
+    {
+        let began = self.side.choose(wish);
+        let placed = self.side.add_datagram(index, frame);
+        self.at = at;
+        self.under = placed;
+        began
+    }
+
+    /// The access of its opening stands next in the frame, as the datagram number `at` of it, with this index.
+    pub fn opening_visit(&mut self, up: &BringUp, at: usize, index: u8, frame: &mut FrameBuf)
+        requires few { at < 16 }
+        requires begun { (ds : List Raw.Datagram) × IsBegun frame.old.items ds }
+        requires room { length (octets_of up.now) ≤ 1514 - length frame.old.items - 12 }
+        ensures begun { (ds : List Raw.Datagram) → IsBegun frame.old.items ds → IsBegun frame.new.items (ds ++ datagram_of (head_of up.now index) (octets_of up.now) ∷ []) }
+        ensures side { self.new.side ≡ self.old.side }
+        ensures stand { self.new.stand ≡ self.old.stand }
+        ensures kept { (self.new.place ≡ self.old.place) × (self.new.start ≡ self.old.start) × (self.new.spare ≡ self.old.spare) × (self.new.news ≡ self.old.news) }
+        ensures at { (self.new.at ≡ at) × (self.new.under ≡ true) }
+        ensures grows { length frame.new.items ≡ length frame.old.items + (12 + length (octets_of up.now)) }
+    {
+        let mut head = Head::default();
+        let mut body = ArrayVec::new();
+        access(up, index, &mut head, &mut body);
+        datagrams::add(frame, &head, body.as_slice());
+        self.at = at;
+        self.under = true;
+    }
+
+    /// The datagram of this visit stands next in the frame, as the datagram number `at` of it, with this index, if the frame has room for
+    /// it: `under` says so. It is that of its opening, or while it is open that of a visit. Tells whether a service came into hand.
+    pub fn visit(&mut self, wish: Option<Wish>, at: usize, index: u8, frame: &mut FrameBuf) -> bool
+        requires few { at < 16 }
+        requires begun { (ds : List Raw.Datagram) × IsBegun frame.old.items ds }
+        ensures lives { (x : Speech Body H.Asked Reply) (more : Body → Bool) (passed : H.Asked → Bool) (made recover : ℕ) (spot : Spot) (lens : ℕ → Lens) (l : Life Body H.Asked Reply) →
+            (lens self.old.side.station).out ≡ self.old.side.out.len → (lens self.old.side.station).back ≡ in_area_len self.old.side.inn → IsSpot spot self.old.side.station self.old.place self.old.start → is_some l.era.passing ≡ is_some self.old.side.passing → StopShows (λ d a. SideShows (H.shows self.old.side.hand x) self.old.side.out self.old.side.inn self.old.side.fresh self.old.side.duty d a) recover spot self.old.stand self.old.spare l →
+            NextShows x H.acknowledged more passed made l (wish_begun result wish (H.ready self.old.side.hand)) (λ n. StopShows (λ d a. SideShows (H.shows self.new.side.hand x) self.new.side.out self.new.side.inn self.new.side.fresh self.new.side.duty d a) recover spot self.new.stand self.new.spare n ×
+            (self.new.under ≡ true → StandMeant lens self.new.side.station index self.new.side.carried self.new.stand n (datagram_seen lens (stand_gram self.new.side.station index self.new.stand self.new.side.out self.new.side.inn self.new.side.duty self.new.side.carried)))) }
+        ensures begun { (ds : List Raw.Datagram) → IsBegun frame.old.items ds → self.new.under ≡ true → IsBegun frame.new.items (ds ++ (stand_gram self.new.side.station index self.new.stand self.new.side.out self.new.side.inn self.new.side.duty self.new.side.carried) ∷ []) }
+        ensures full { self.new.under ≡ false → frame.new.items ≡ frame.old.items }
+        ensures at { self.new.under ≡ true → self.new.at ≡ at }
+        ensures stand { self.new.stand ≡ self.old.stand }
+        ensures kept { (self.new.place ≡ self.old.place) × (self.new.start ≡ self.old.start) × (self.new.spare ≡ self.old.spare) × (self.new.news ≡ self.old.news) }
+        ensures station { self.new.side.station ≡ self.old.side.station }
+        ensures link { SameLink self.old.side.out self.old.side.inn self.old.side.station self.old.side.area self.new.side.out self.new.side.inn self.new.side.station self.new.side.area }
+        ensures order { self.new.under ≡ true → IsClearFor self.new.stand self.new.side.carried self.new.side.inn }
+        ensures first { length frame.old.items ≡ 16 → is_live self.old.stand ≡ true → self.new.under ≡ true }
+        ensures ready { takes_ready result wish ≡ true → is_some (H.ready self.old.side.hand) ≡ true }
+        ensures script { H.script self.new.side.hand ≡ (if takes_ready result wish then H.behind self.old.side.hand else H.script self.old.side.hand) }
+        ensures unpassed { self.old.side.passing ≡ None → (takes_ready result wish ≡ true → (q : H.Asked) → H.ready self.old.side.hand ≡ Some q → H.passed q ≡ false) → self.new.side.passing ≡ None }
+        ensures passing { (x : Speech Body H.Asked Reply) (made recover : ℕ) (spot : Spot) (hold : Bool) (l : Life Body H.Asked Reply) → StopShows (λ d a. SideShows (H.shows self.old.side.hand x) self.old.side.out self.old.side.inn self.old.side.fresh self.old.side.duty d a) recover spot self.old.stand self.old.spare l → StandPassing self.old.stand (H.awaits self.old.side.hand) self.old.side.passing l →
+            (let n = life_next x H.acknowledged H.more H.passed made l l.stand (record { begin = wish_begun result wish (H.ready self.old.side.hand); hold = hold }) in
+            Counts made (wish_begun result wish (H.ready self.old.side.hand)) l n → StandPassing self.new.stand (H.awaits self.new.side.hand) self.new.side.passing n) }
+        ensures join { H.join self.new.side.hand ≡ H.join self.old.side.hand }
+        ensures room { Visits frame.old.items frame.new.items self.old self.new }
+    {
+        self.under = false;
+        match self.stand {
+            Stand::Gone => false,
+            Stand::Opening(up) => {
+                if access_len(&up) > datagrams::room(frame) {
+                    return false;
+                }
+                self.opening_visit(&up, at, index, frame);
+                false
+            }
+            Stand::Open => self.open_visit(wish, at, index, frame),
+        }
+    }
+}
