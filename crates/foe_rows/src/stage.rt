@@ -1,15 +1,15 @@
-ghost use Rattle.std.specs.Prelude.{◌≡◌, true, IfOk};
+ghost use Rattle.std.specs.Prelude.{◌≡◌, true, IfOk, None};
 ghost use Rattle.foe_codec.specs.Message.{is_name};
-ghost use Rattle.foe_server.specs.Serving.{Serves};
 
+use anyhow::{Result, bail};
 use arrayvec::ArrayVec;
-use ec_fields::{NoMemory, Octets, buffer_of};
+use ec_fields::{Octets, buffer_of};
 use file_store::{FileSpec, Store};
 use foe_client::FoeClient;
 use foe_server::FoeServer;
 use mailbox_mail::{ReplyKind, Took};
 use std::alloc::Global;
-use std::process::Abort;
+use std::marker::Model;
 
 /// What a service came to: its reply, how many mails the client sent and the server gave, and the body of the client's last mail.
 #[derive(Drop)]
@@ -22,54 +22,63 @@ pub struct Course {
 
 /// A client and a server over one store with one file, `a`, which may be read and written; and what the client read last.
 #[derive(Drop)]
-pub struct Bench {
+pub struct Stage {
     client: FoeClient,
     server: FoeServer,
     pub store: Store,
     pub value: Octets,
 }
 
-impl Bench {
+impl Model for Stage {
+    ghost use Rattle.file_store.specs.Stored.{Stored};
+    ghost use Rattle.foe_server.specs.Serving.{Serves};
+
+    ghost Value = { Stored };
+
+    ghost view = { λ b. b.store };
+
+    ghost invariant = { λ b. Serves b.server b.store };
+}
+
+/// A store of so many blocks with one file, `a`, that may be read and written, is so often busy and has these octets.
+pub fn store_with(alloc: Global, blocks: u32, busy: u8, bytes: &[u8]) -> Result<Store>
+    ensures { IfOk result (λ store. store.part ≡ None) }
+{
+    if blocks > 1024 || busy > 15 {
+        bail!("no such store");
+    }
+    let mut store = Store::new(alloc, blocks)?;
+    let spec = FileSpec {
+        name: buffer_of(b"a"),
+        pass: 0,
+        read: true,
+        write: true,
+        boot: false,
+        busy,
+    };
+    if bytes.len().div_ceil(128) > store.free() as usize {
+        bail!("no room");
+    }
+    store.insert(spec, bytes)?;
+    Ok(store)
+}
+
+impl Stage {
     /// Mailboxes of these lengths, and a store of so many blocks, whose file is empty and so often busy.
-    pub fn new(
-        rt: &impl Abort,
-        alloc: Global,
-        out: u16,
-        back: u16,
-        blocks: u32,
-        busy: u8,
-    ) -> Result<Bench, NoMemory>
-        ensures { IfOk result (λ bench. Serves bench.server bench.store) }
-    {
-        assert!(rt; blocks <= 1024);
-        assert!(rt; busy <= 15);
-        assert!(rt; 64 <= out);
-        assert!(rt; out <= 1486);
-        assert!(rt; 64 <= back);
-        assert!(rt; back <= 1486);
-        let mut store = Store::new(alloc, blocks)?;
-        let spec = FileSpec {
-            name: buffer_of(b"a"),
-            pass: 0,
-            read: true,
-            write: true,
-            boot: false,
-            busy,
-        };
-        store.insert(spec, &[])?;
-        Ok(Bench {
+    pub fn new(alloc: Global, out: u16, back: u16, blocks: u32, busy: u8) -> Result<Stage> {
+        if out < 64 || out > 1486 || back < 64 || back > 1486 {
+            bail!("no mailboxes");
+        }
+        Ok(Stage {
             client: FoeClient::new(alloc, out, back)?,
             server: FoeServer::new(alloc, out, back)?,
-            store,
+            store: store_with(alloc, blocks, busy, &[])?,
             value: Octets::new(alloc),
         })
     }
 
     // One mail of the client, and what comes back. `false` where the client has none.
-    fn turn(&mut self, course: &mut Course) -> Result<bool, NoMemory>
-        requires serves { Serves self.old.server self.old.store }
-        ensures serves { Serves self.new.server self.new.store }
-    {
+    fn turn(&mut self, course: &mut Course) -> Result<bool> {
         if !self.client.next_mail(&mut course.last) {
             return Ok(false);
         }
@@ -87,10 +96,7 @@ impl Bench {
     }
 
     // The mails of the service that was begun, until the client has no mail left.
-    fn carry(&mut self) -> Result<Course, NoMemory>
-        requires serves { Serves self.old.server self.old.store }
-        ensures serves { Serves self.new.server self.new.store }
-    {
+    fn carry(&mut self) -> Result<Course> {
         let mut course = Course {
             reply: None,
             sent: 0,
@@ -107,20 +113,17 @@ impl Bench {
     }
 
     /// Writes the file `a`.
-    pub fn write(&mut self, rt: &impl Abort, bytes: &[u8]) -> Result<Course, NoMemory>
-        requires serves { Serves self.old.server self.old.store }
-        ensures serves { Serves self.new.server self.new.store }
-    {
-        assert!(rt; bytes.len() <= 131_072);
+    pub fn write(&mut self, bytes: &[u8]) -> Result<Course> {
+        if bytes.len() > 131_072 {
+            bail!("a file of more octets");
+        }
         self.client.start_write(b"a", 0, bytes);
         self.carry()
     }
 
     /// Reads a file.
-    pub fn read(&mut self, name: &[u8]) -> Result<Course, NoMemory>
+    pub fn read(&mut self, name: &[u8]) -> Result<Course>
         requires named { is_name name.now ≡ true }
-        requires serves { Serves self.old.server self.old.store }
-        ensures serves { Serves self.new.server self.new.store }
     {
         self.client.start_read(name, 0);
         self.carry()

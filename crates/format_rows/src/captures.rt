@@ -1,95 +1,84 @@
-use ec_fields::{NoMemory, Octets};
+use anyhow::{Result, bail};
+use ec_fields::Octets;
 use pcap_frames::{PcapFault, Stamp, read, write_head, write_packet};
+use row_table::{Bench, digits_of, octets_in};
+use std::alloc::Global;
 
-const HEAD: [u8; 24] = [
-    0xD4, 0xC3, 0xB2, 0xA1, 0x02, 0x00, 0x04, 0x00, 0, 0, 0, 0, 0, 0, 0, 0, 0xFF, 0xFF, 0, 0, 0x01,
-    0, 0, 0,
-];
+/// Captures: one that is saved, whole and cut, and octets from outside.
+#[derive(Drop)]
+pub struct CaptureBench {
+    saved: Octets,
+}
 
-const SWAPPED: [u8; 24] = [
-    0xA1, 0xB2, 0xC3, 0xD4, 0x00, 0x02, 0x00, 0x04, 7, 7, 7, 7, 7, 7, 7, 7, 0, 0, 0xFF, 0xFF, 0, 0,
-    0, 0x01,
-];
-
-// The outcome of a file: how many packets, or the fault.
-fn outcome(rt: &impl AllocGlobal, bytes: &[u8]) -> Result<(bool, usize), PcapFault> {
-    match read(rt.alloc(), bytes) {
+// Whether a file's times are nanoseconds and how many packets it has, or its fault.
+fn outcome(alloc: Global, octets: &[u8]) -> Result<(bool, usize), PcapFault> {
+    match read(alloc, octets) {
         Ok(capture) => Ok((capture.nanos, capture.packets.len())),
         Err(fault) => Err(fault),
     }
 }
 
-// Ten packets of 60 octets, in 784 octets, cut at each length.
-#[test]
-fn cuts_a_saved_capture(rt: HostRuntime) -> Result<(), NoMemory> {
-    let mut saved = Octets::new(rt.alloc());
-    write_head(&mut saved)?;
-    for part in 0..10 {
-        write_packet(&mut saved, Stamp { seconds: 0, part }, &[0; 60])?;
-    }
-    let bytes = saved.bytes();
-    assert_eq!(rt; bytes.len(), 784);
-    assert!(rt; bytes.iter().take(24).eq(HEAD.iter()));
-    for (k, _) in bytes.iter().enumerate() {
-        let wanted = if k < 24 {
-            Err(PcapFault::Short { at: k })
-        } else if (k - 24) % 76 == 0 {
-            Ok((false, (k - 24) / 76))
-        } else {
-            Err(PcapFault::RecordCut {
-                at: 24 + 76 * ((k - 24) / 76),
-            })
-        };
-        assert_eq!(rt; outcome(&rt, &bytes[..k]), wanted, "cut at {k}");
-    }
-    let Ok(capture) = read(rt.alloc(), bytes) else {
-        panic!(rt; "the capture reads")
-    };
-    let Some(last) = capture.packets.get(9) else {
-        panic!(rt; "the capture has ten packets")
-    };
-    assert_eq!(rt;
-        last.stamp,
-        Stamp {
-            seconds: 0,
-            part: 9
+impl CaptureBench {
+    /// Nothing is saved.
+    pub fn new(alloc: Global) -> CaptureBench {
+        CaptureBench {
+            saved: Octets::new(alloc),
         }
-    );
-    assert_eq!(rt; last.from, 724);
-    assert_eq!(rt; last.len, 60);
-    assert_eq!(rt; last.original, 60);
-    Ok(())
+    }
+
+    // Saves packets of 60 octets, one a microsecond, and tells the length and the header.
+    fn save(&mut self, alloc: Global, packets: u32) -> Result<String> {
+        self.saved.clear();
+        write_head(&mut self.saved)?;
+        for part in 0..packets {
+            write_packet(&mut self.saved, Stamp { seconds: 0, part }, &[0; 60])?;
+        }
+        let octets = self.saved.bytes();
+        let len = octets.len();
+        let head = digits_of(alloc, &octets[..len.min(24)])?;
+        Ok(format!(in alloc; "{len} {head}")?)
+    }
+
+    // The outcome of what was saved, cut at each of these lengths: the one that they have in common.
+    fn cut(&self, alloc: Global, from: usize, to: usize) -> Result<String> {
+        let octets = self.saved.bytes();
+        if from > octets.len() || to > octets.len() {
+            bail!("nothing to cut");
+        }
+        let first = outcome(alloc, &octets[..from]);
+        for len in from..to {
+            let other = outcome(alloc, &octets[..len]);
+            if other != first {
+                return Ok(format!(in alloc; "{first:?} and at {len} {other:?}")?);
+            }
+        }
+        Ok(format!(in alloc; "{first:?}")?)
+    }
+
+    // A packet of what was saved.
+    fn packet(&self, alloc: Global, at: usize) -> Result<String> {
+        match read(alloc, self.saved.bytes()) {
+            Ok(capture) => {
+                let packet = capture.packets.get(at);
+                Ok(format!(in alloc; "{packet:?}")?)
+            }
+            Err(fault) => Ok(format!(in alloc; "{fault:?}")?),
+        }
+    }
 }
 
-#[test]
-fn reads_each_header(rt: HostRuntime) {
-    let mut nanos = HEAD;
-    nanos[0] = 0x4D;
-    nanos[1] = 0x3C;
-    let mut magic = HEAD;
-    magic[3] = 0xA2;
-    let mut version = SWAPPED;
-    version[7] = 5;
-    let mut link = HEAD;
-    link[20] = 2;
-    for (octets, wanted) in [
-        (HEAD, Ok((false, 0))),
-        (SWAPPED, Ok((false, 0))),
-        (nanos, Ok((true, 0))),
-        (magic, Err(PcapFault::Magic)),
-        (version, Err(PcapFault::Version)),
-        (link, Err(PcapFault::LinkType)),
-    ] {
-        assert_eq!(rt; outcome(&rt, &octets), wanted);
+impl Bench for CaptureBench {
+    fn found(&mut self, alloc: Global, asked: &str) -> Result<String> {
+        let mut words = asked.split(' ');
+        match (words.next(), words.next(), words.next()) {
+            (Some("save"), Some(packets), None) => self.save(alloc, packets.parse()?),
+            (Some("cut"), Some(from), Some(to)) => self.cut(alloc, from.parse()?, to.parse()?),
+            (Some("packet"), Some(at), None) => self.packet(alloc, at.parse()?),
+            (Some("read"), Some(text), None) => {
+                let read = outcome(alloc, octets_in(alloc, text)?.bytes());
+                Ok(format!(in alloc; "{read:?}")?)
+            }
+            _ => bail!("no call: {asked}"),
+        }
     }
-    let mut long = [0; 40];
-    long[..24].copy_from_slice(&SWAPPED);
-    long[33] = 4;
-    long[35] = 1;
-    assert_eq!(rt;
-        outcome(&rt, &long),
-        Err(PcapFault::RecordTooLong { at: 24 })
-    );
-    long[35] = 0;
-    assert_eq!(rt; outcome(&rt, &long), Err(PcapFault::RecordCut { at: 24 }));
 }

@@ -1,151 +1,212 @@
+ghost use Rattle.std.specs.Prelude.{◌≤◌, length, OnTrue};
+ghost use Rattle.eoe.specs.Message.{IsFragment, IsSpellable};
+
+use anyhow::{Result, bail};
 use arrayvec::ArrayVec;
 use ec_fields::buffer_of;
 use eoe::{
-    Came, Eoe, EoeFault, Fragment, FragmentView, Joined, Packet, Reassembler, cut, first_block,
+    Came, Eoe, Fragment, FragmentView, Fragmenter, Joined, Packet, Reassembler, cut, first_block,
     is_block, read, write,
 };
+use row_table::{Bench, digits_of, octets_in};
+use std::alloc::Global;
 
-// A packet of 1,514 octets in areas of 64 octets.
-#[test]
-fn cuts_the_greatest_packet(rt: HostRuntime) {
-    let packet: Packet = buffer_of(&[0x5A; 1514]);
-    let mut fragments = cut(&packet, 64, 0);
-    let mut joined = Reassembler::new();
-    let mut whole = Packet::new();
-    for number in 0u8..48 {
-        let Some(fragment) = fragments.next() else {
-            panic!(rt; "fragment {number} is there")
-        };
-        assert_eq!(rt; fragment.bytes.len(), if number == 47 { 10 } else { 32 });
-        assert_eq!(rt; fragment.number, number);
-        assert_eq!(rt; fragment.offset, if number == 0 { 48 } else { number });
-        assert_eq!(rt; fragment.last, number == 47);
-        match joined.take(&fragment) {
-            Joined::More => assert!(rt; number < 47),
-            Joined::Whole(packet) => whole = packet,
-            Joined::Dropped => panic!(rt; "fragment {number} is awaited"),
+/// EoE messages, and a packet that is cut and joined again.
+#[derive(Drop)]
+pub struct EoeBench {
+    packet: Packet,
+    fragments: Fragmenter,
+    joined: Reassembler,
+    whole: Packet,
+}
+
+// A fragment but for its octets.
+#[derive(Drop)]
+struct Head {
+    number: u8,
+    offset: u8,
+    frame: u8,
+    last: bool,
+    stamped: bool,
+}
+
+// Whether a fragment has a spelling.
+fn is_fragment(fragment: &Fragment) -> bool
+    ensures { OnTrue result (IsFragment fragment.now) }
+{
+    let fits = fragment.number < 64 && fragment.offset < 64 && fragment.frame < 16;
+    fits && (fragment.last || fragment.bytes.len() % 32 == 0)
+}
+
+// Whether a message has a spelling.
+fn is_spellable(message: &Eoe) -> bool
+    ensures { OnTrue result (IsSpellable message.now) }
+{
+    match message {
+        Eoe::Fragment(fragment) => is_fragment(fragment),
+        _ => true,
+    }
+}
+
+// What is written of what a body reads as.
+fn written_back(alloc: Global, octets: &[u8]) -> Result<String>
+    requires { length octets.now ≤ 1480 }
+{
+    let Ok(message) = read(octets) else {
+        bail!("no message");
+    };
+    if !is_spellable(&message) {
+        bail!("a message of no spelling");
+    }
+    let mut body = ArrayVec::new();
+    write(&message, &mut body);
+    digits_of(alloc, body.as_slice())
+}
+
+// A message, or an address block.
+fn found_in(alloc: Global, call: &str, octets: &[u8]) -> Result<String> {
+    if octets.len() > 1480 {
+        bail!("too long");
+    }
+    match call {
+        "read" => {
+            let message = read(octets);
+            Ok(format!(in alloc; "{message:?}")?)
+        }
+        "back" => written_back(alloc, octets),
+        "block" => {
+            let holds = is_block(octets);
+            Ok(format!(in alloc; "{holds}")?)
+        }
+        _ => bail!("no call: {call}"),
+    }
+}
+
+// The head of a fragment in five words, and its octets.
+fn head_in(words: &str) -> Result<(Head, &str)> {
+    let mut words = words.split(' ');
+    match (
+        words.next(),
+        words.next(),
+        words.next(),
+        words.next(),
+        words.next(),
+        words.next(),
+    ) {
+        (Some(number), Some(offset), Some(frame), Some(last), Some(stamped), Some(octets)) => {
+            let head = Head {
+                number: number.parse()?,
+                offset: offset.parse()?,
+                frame: frame.parse()?,
+                last: last.parse()?,
+                stamped: stamped.parse()?,
+            };
+            Ok((head, octets))
+        }
+        _ => bail!("no fragment"),
+    }
+}
+
+impl EoeBench {
+    /// Nothing is cut, and no fragment is awaited.
+    pub fn new() -> EoeBench {
+        let packet = Packet::new();
+        EoeBench {
+            fragments: cut(&packet, 64, 0),
+            packet,
+            joined: Reassembler::new(),
+            whole: Packet::new(),
         }
     }
-    assert_eq!(rt; fragments.next().is_none(), true);
-    assert_eq!(rt; whole.as_slice() == packet.as_slice(), true);
-}
 
-#[test]
-fn spells_messages(rt: HostRuntime) {
-    let first = Fragment {
-        last: false,
-        stamped: false,
-        number: 0,
-        offset: 48,
-        frame: 0,
-        bytes: buffer_of(&[]),
-    };
-    let last = Fragment {
-        last: true,
-        stamped: false,
-        number: 47,
-        offset: 47,
-        frame: 0,
-        bytes: buffer_of(&[9]),
-    };
-    let messages: [(Eoe, &[u8]); 6] = [
-        (Eoe::Fragment(first), &[0x00, 0x00, 0x00, 0x0C]),
-        (Eoe::Fragment(last), &[0x00, 0x01, 0xEF, 0x0B, 9]),
-        (
-            Eoe::SetIp(buffer_of(&[0; 4])),
-            &[0x02, 0x01, 0, 0, 0, 0, 0, 0],
-        ),
-        (Eoe::SetIpAnswer(1), &[0x03, 0x01, 1, 0]),
-        (Eoe::GetIp, &[0x06, 0x01, 0, 0]),
-        (
-            Eoe::GetIpAnswer {
-                result_code: 0,
-                block: buffer_of(&[0; 4]),
-            },
-            &[0x07, 0x01, 0, 0, 0, 0, 0, 0],
-        ),
-    ];
-    for (message, octets) in &messages {
-        let mut body = ArrayVec::new();
-        write(message, &mut body);
-        assert_eq!(rt; body.as_slice() == *octets, true);
-        assert_eq!(rt; matches!(read(octets), Ok(back) if back == *message), true);
+    // Cuts a packet for areas of 64 octets.
+    fn begin(&mut self, alloc: Global, octets: &[u8]) -> Result<String> {
+        if octets.len() > 1514 {
+            bail!("a packet of more octets");
+        }
+        self.packet = buffer_of(octets);
+        self.fragments = cut(&self.packet, 64, 0);
+        self.joined = Reassembler::new();
+        Ok(format!(in alloc; "begun")?)
     }
-    assert_eq!(rt; read(&[0, 0, 0]).err(), Some(EoeFault::Short));
-    assert_eq!(rt; read(&[4, 0, 0, 0]).err(), Some(EoeFault::WrongType));
-    assert_eq!(rt; read(&[0, 0, 0, 0, 1]).err(), Some(EoeFault::Offset));
-    assert_eq!(rt; read(&[0xF0, 5, 0, 0, 1]).is_ok(), true);
-}
 
-#[test]
-fn awaits_the_next_fragment(rt: HostRuntime) {
-    let part = |number: u8, offset: u8, frame: u8, last: bool, stamped: bool| Fragment {
-        last,
-        stamped,
-        number,
-        offset,
-        frame,
-        bytes: buffer_of(&[7; 32]),
-    };
-    for (second, wanted) in [
-        (part(1, 1, 3, true, false), 64),
-        (part(1, 1, 3, true, true), 60),
-        (part(1, 1, 4, true, false), 0),
-        (part(2, 1, 3, true, false), 0),
-        (part(1, 2, 3, true, false), 0),
-    ] {
-        let mut joined = Reassembler::new();
-        assert_eq!(rt;
-            joined.take(&part(0, 2, 3, false, false)) == Joined::More,
-            true
-        );
-        let len = match joined.take(&second) {
-            Joined::Whole(packet) => packet.len(),
-            _ => 0,
+    // The next fragment, and what it is to the reassembler.
+    fn next(&mut self, alloc: Global) -> Result<String> {
+        let Some(fragment) = self.fragments.next() else {
+            return Ok(format!(in alloc; "none")?);
         };
-        assert_eq!(rt; len, wanted);
+        let (number, offset, len) = (fragment.number, fragment.offset, fragment.bytes.len());
+        let last = fragment.last;
+        let came = match self.joined.take(&fragment) {
+            Joined::More => "more",
+            Joined::Whole(whole) if whole.as_slice() == self.packet.as_slice() => "the packet",
+            Joined::Whole(_) => "another packet",
+            Joined::Dropped => "dropped",
+        };
+        Ok(format!(in alloc; "{number} {offset} {last} {len} {came}")?)
     }
-}
 
-// 48 blocks are awaited: octets behind those that a packet may have are dropped, and a last fragment
-// ends no packet then.
-#[test]
-fn drops_what_outgrows_a_packet(rt: HostRuntime) {
-    let mut joined = Reassembler::new();
-    let mut whole = Packet::new();
-    for number in 0u8..49 {
+    // A fragment of 32 octets at most, and the length of the packet that it completes.
+    fn take(&mut self, alloc: Global, words: &str) -> Result<String> {
+        let (head, text) = head_in(words)?;
+        let octets = octets_in(alloc, text)?;
+        if octets.len() > 32 {
+            bail!("a fragment of more octets");
+        }
+        let fragment = Fragment {
+            last: head.last,
+            stamped: head.stamped,
+            number: head.number,
+            offset: head.offset,
+            frame: head.frame,
+            bytes: buffer_of(octets.bytes()),
+        };
+        match self.joined.take(&fragment) {
+            Joined::More => Ok(format!(in alloc; "more")?),
+            Joined::Whole(packet) => {
+                let len = packet.len();
+                Ok(format!(in alloc; "whole {len}")?)
+            }
+            Joined::Dropped => Ok(format!(in alloc; "dropped")?),
+        }
+    }
+
+    // The same in place, and the length of the last packet that was completed so.
+    fn take_into(&mut self, alloc: Global, words: &str) -> Result<String> {
+        let (head, text) = head_in(words)?;
+        let octets = octets_in(alloc, text)?;
         let fragment = FragmentView {
-            last: number == 48,
-            stamped: false,
-            number,
-            offset: if number == 0 { 48 } else { number },
-            frame: 3,
-            bytes: if number == 48 { &[6; 14] } else { &[5; 32] },
+            last: head.last,
+            stamped: head.stamped,
+            number: head.number,
+            offset: head.offset,
+            frame: head.frame,
+            bytes: octets.bytes(),
         };
-        let came = joined.take_into(fragment, &mut whole);
-        let wanted = if number == 48 {
-            Came::Dropped
-        } else {
-            Came::More
+        let came = match self.joined.take_into(fragment, &mut self.whole) {
+            Came::More => "more",
+            Came::Whole => "whole",
+            Came::Dropped => "dropped",
         };
-        assert_eq!(rt; came, wanted);
+        let len = self.whole.len();
+        Ok(format!(in alloc; "{came} {len}")?)
     }
-    assert_eq!(rt; whole.len(), 0);
 }
 
-#[test]
-fn tells_address_blocks(rt: HostRuntime) {
-    let blocks: [(&[u8], bool); 7] = [
-        (&[0, 0, 0, 0], true),
-        (&[1, 0, 0, 0, 2, 0, 0, 0, 0, 1], true),
-        (&[3, 0, 0, 0, 2, 0, 0, 0, 0, 1, 192, 168, 0, 1], true),
-        (&[2, 0, 0, 0, 192, 168, 0, 1], false),
-        (&[1, 0, 1, 0, 2, 0, 0, 0, 0, 1], false),
-        (&[1, 0, 0, 0, 2, 0, 0, 0, 0], false),
-        (&[0, 0, 0], false),
-    ];
-    for (octets, wanted) in &blocks {
-        assert_eq!(rt; is_block(octets), *wanted);
+impl Bench for EoeBench {
+    fn found(&mut self, alloc: Global, asked: &str) -> Result<String> {
+        match asked.split_once(' ') {
+            None if asked == "next" => self.next(alloc),
+            None if asked == "first_block" => digits_of(alloc, first_block().as_slice()),
+            None if asked == "afresh" => {
+                self.joined = Reassembler::new();
+                Ok(format!(in alloc; "begun")?)
+            }
+            Some(("cut", text)) => self.begin(alloc, octets_in(alloc, text)?.bytes()),
+            Some(("take", words)) => self.take(alloc, words),
+            Some(("take_into", words)) => self.take_into(alloc, words),
+            Some((call, text)) => found_in(alloc, call, octets_in(alloc, text)?.bytes()),
+            None => bail!("no call: {asked}"),
+        }
     }
-    assert_eq!(rt; is_block(first_block().as_slice()), true);
 }

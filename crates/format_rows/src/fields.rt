@@ -1,36 +1,87 @@
-use ec_fields::*;
-use std::test::Fail;
+use anyhow::{Result, bail};
+use ec_fields::{Octets, Rows, Transfer, bits, put_bits, put_u16, put_u32, u8_at, u16_at, u32_at};
+use row_table::{Bench, digits_of, octets_in};
+use std::alloc::Global;
 
-#[test]
-fn lists_grow_where_memory_is_left(rt: HostRuntime) -> Result<(), Fail> {
-    let mut octets = Octets::copy_of(rt.alloc(), b"ab")?;
-    octets.add(b"cd")?;
-    assert_eq!(rt; octets.bytes(), b"abcd".as_slice());
-    let mut rows = Rows::new(rt.alloc());
-    assert_eq!(rt; rows.push(octets.len()), Ok(()));
-    assert_eq!(rt; rows.push(7), Ok(()));
-    assert!(rt; rows.len() == 2);
-    *rows.at_mut(1) = 9;
-    assert_eq!(rt; rows.as_slice(), [4, 9].as_slice());
-    assert_eq!(rt; rows.pop(), Some(9));
-    let mut transfer = Transfer::new(rt.alloc(), 3)?;
-    assert!(rt; transfer.add(b"ab"));
-    assert!(rt; !transfer.add(b"cd"));
-    assert!(rt; transfer.add(b"c"));
-    assert_eq!(rt; transfer.bytes(), b"abc".as_slice());
-    Ok(())
+/// Octets, rows and fields.
+#[derive(Drop)]
+pub struct FieldBench;
+
+// Octets with more behind them.
+fn grown(alloc: Global, first: &Octets, more: &Octets) -> Result<String> {
+    let mut octets = Octets::copy_of(alloc, first.bytes())?;
+    octets.add(more.bytes())?;
+    digits_of(alloc, octets.bytes())
 }
 
-#[test]
-fn fields_are_octets_in_place(rt: HostRuntime) {
+// Rows of two numbers, of which the second is changed, and what stands and is removed then.
+fn rows_of(alloc: Global, first: usize, second: usize, other: usize) -> Result<String> {
+    let mut rows = Rows::new(alloc);
+    if rows.push(first).is_err() || rows.push(second).is_err() {
+        bail!("no memory");
+    }
+    *rows.at_mut(1) = other;
+    let (len, text) = (rows.len(), format!(in alloc; "{rows:?}")?);
+    let last = rows.pop();
+    Ok(format!(in alloc; "{len} {text} {last:?}")?)
+}
+
+// A transfer of three octets at most, to which three parts are added.
+fn transferred(alloc: Global, first: &Octets, second: &Octets, third: &Octets) -> Result<String> {
+    let mut transfer = Transfer::new(alloc, 3)?;
+    let fits = [
+        transfer.add(first.bytes()),
+        transfer.add(second.bytes()),
+        transfer.add(third.bytes()),
+    ];
+    let digits = digits_of(alloc, transfer.bytes())?;
+    Ok(format!(in alloc; "{fits:?} {digits}")?)
+}
+
+// Eight octets with a number of two octets at place 1 and one of four at place 3, and what is read there.
+fn put(alloc: Global, word: u16, long: u32) -> Result<String> {
     let mut octets = [0xEE; 8];
-    put_u16(&mut octets, 1, 0x1234);
-    put_u32(&mut octets, 3, 0xA1B2_C3D4);
-    assert_eq!(rt; octets, [0xEE, 0x34, 0x12, 0xD4, 0xC3, 0xB2, 0xA1, 0xEE]);
-    assert_eq!(rt;
-        (u8_at(&octets, 0), u16_at(&octets, 1), u32_at(&octets, 3)),
-        (0xEE, 0x1234, 0xA1B2_C3D4)
-    );
-    assert_eq!(rt; (bits(0x810E, 0, 11), bits(0x810E, 15, 1)), (0x10E, 1));
-    assert_eq!(rt; put_bits(0x810E, 12, 3, 5), 0xD10E);
+    put_u16(&mut octets, 1, word);
+    put_u32(&mut octets, 3, long);
+    let digits = digits_of(alloc, &octets)?;
+    let read = (u8_at(&octets, 0), u16_at(&octets, 1), u32_at(&octets, 3));
+    Ok(format!(in alloc; "{digits} {read:?}")?)
+}
+
+// Bits of a word, and the word with others there.
+fn bits_in(alloc: Global, word: u16, at: u32, count: u32) -> Result<String> {
+    if at > 15 || count > 15 || at + count > 16 {
+        bail!("no bits of a word");
+    }
+    let found = bits(word, at, count);
+    Ok(format!(in alloc; "{found}")?)
+}
+
+impl Bench for FieldBench {
+    fn found(&mut self, alloc: Global, asked: &str) -> Result<String> {
+        let mut words = asked.split(' ');
+        match (words.next(), words.next(), words.next(), words.next()) {
+            (Some("octets"), Some(first), Some(more), None) => {
+                grown(alloc, &octets_in(alloc, first)?, &octets_in(alloc, more)?)
+            }
+            (Some("rows"), Some(first), Some(second), Some(other)) => {
+                rows_of(alloc, first.parse()?, second.parse()?, other.parse()?)
+            }
+            (Some("transfer"), Some(first), Some(second), Some(third)) => transferred(
+                alloc,
+                &octets_in(alloc, first)?,
+                &octets_in(alloc, second)?,
+                &octets_in(alloc, third)?,
+            ),
+            (Some("put"), Some(word), Some(long), None) => put(alloc, word.parse()?, long.parse()?),
+            (Some("bits"), Some(word), Some(at), Some(count)) => {
+                bits_in(alloc, word.parse()?, at.parse()?, count.parse()?)
+            }
+            (Some("put_bits"), Some(word), None, None) => {
+                let put = put_bits(word.parse()?, 12, 3, 5);
+                Ok(format!(in alloc; "{put}")?)
+            }
+            _ => bail!("no call: {asked}"),
+        }
+    }
 }

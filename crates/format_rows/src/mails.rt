@@ -1,110 +1,87 @@
-use ec_fields::buffer_of;
-use mailbox_mail::*;
-use std::test::Fail;
+use anyhow::{Result, bail};
+use ec_fields::{Octets, buffer_of};
+use mailbox_mail::{Kind, Mail, error_mail, next_counter, read, read_into, write, write_head};
+use row_table::{Bench, digits_of, octets_in};
+use std::alloc::Global;
 
-// A download of four octets, an upload's abort, a last download segment and a list's second part.
-const MAILS: [(u8, &[u8], &[u8]); 4] = [
-    (
-        1,
-        &[0x00, 0x20, 0x23, 0x00, 0x20, 0x01, 0x01, 0x02, 0x03, 0x04],
-        &[
-            0x0A, 0x00, 0x00, 0x00, 0x00, 0x13, 0x00, 0x20, 0x23, 0x00, 0x20, 0x01, 0x01, 0x02,
-            0x03, 0x04,
-        ],
-    ),
-    (
-        1,
-        &[0x00, 0x20, 0x80, 0x00, 0x30, 0x00, 0x00, 0x00, 0x02, 0x06],
-        &[
-            0x0A, 0x00, 0x00, 0x00, 0x00, 0x13, 0x00, 0x20, 0x80, 0x00, 0x30, 0x00, 0x00, 0x00,
-            0x02, 0x06,
-        ],
-    ),
-    (
-        2,
-        &[0x00, 0x20, 0x0D, 0xAA, 0x00, 0x00, 0x00, 0x00, 0x00, 0x00],
-        &[
-            0x0A, 0x00, 0x00, 0x00, 0x00, 0x23, 0x00, 0x20, 0x0D, 0xAA, 0x00, 0x00, 0x00, 0x00,
-            0x00, 0x00,
-        ],
-    ),
-    (
-        2,
-        &[
-            0x00, 0x80, 0x02, 0x00, 0x00, 0x00, 0x19, 0x20, 0x1A, 0x20, 0x1B, 0x20, 0x1C, 0x20,
-            0x1D, 0x20, 0x00, 0x2F,
-        ],
-        &[
-            0x12, 0x00, 0x00, 0x00, 0x00, 0x23, 0x00, 0x80, 0x02, 0x00, 0x00, 0x00, 0x19, 0x20,
-            0x1A, 0x20, 0x1B, 0x20, 0x1C, 0x20, 0x1D, 0x20, 0x00, 0x2F,
-        ],
-    ),
-];
+/// Mails in areas of octets.
+#[derive(Drop)]
+pub struct MailBench;
 
-#[test]
-fn mails_are_written_and_read(rt: HostRuntime) -> Result<(), Fail> {
-    for (counter, body, octets) in MAILS {
-        assert!(rt; counter <= 7 && body.len() <= 58);
-        let mail = Mail {
-            address: 0,
-            kind: Kind::CoE,
-            counter,
-            body: buffer_of(body),
-        };
-        let mut area = [0xEE; 64];
-        write(&mail, &mut area);
-        assert!(rt; octets.len() == body.len() + 6);
-        assert_eq!(rt; &area[..octets.len()], octets);
-        assert!(rt; area[octets.len()..].iter().all(|octet| *octet == 0));
-        let mut in_place = [0xEE; 64];
-        in_place[6..octets.len()].copy_from_slice(body);
-        write_head(mail.head(), body.len(), &mut in_place);
-        assert_eq!(rt; &in_place[..octets.len()], octets);
-        assert!(rt; in_place[octets.len()..].iter().all(|octet| *octet == 0xEE));
-        let mut kept = Ok(error_mail(1));
-        read_into(&area, &mut kept);
-        assert_eq!(rt; kept.as_ref(), Ok(&mail));
-        assert_eq!(rt; read(&area), Ok(mail));
+// An area of 64 octets with a mail of CoE.
+fn written(alloc: Global, counter: u8, body: &Octets) -> Result<String> {
+    if counter > 7 || body.len() > 58 {
+        bail!("no mail");
     }
-    Ok(())
-}
-
-// Channel, priority and bit 7 of the counter's octet are ignored; each fault in its order.
-#[test]
-fn areas_are_judged_in_order(rt: HostRuntime) {
-    let marked = read(&[0x01, 0x00, 0x01, 0x10, 0xC5, 0xF3, 0x40, 0xFF]);
-    let plain = Mail {
-        address: 0x1001,
+    let mail = Mail {
+        address: 0,
         kind: Kind::CoE,
-        counter: 7,
-        body: buffer_of(&[0x40]),
+        counter,
+        body: buffer_of(body.bytes()),
     };
-    assert_eq!(rt; marked, Ok(plain));
-    let faults: [(&[u8], MailFault); 4] = [
-        (&[0x09, 0x00, 0x00, 0x00, 0x00], MailFault::Short),
-        (
-            &[0x03, 0x00, 0, 0, 0, 0x09, 0, 0],
-            MailFault::LengthPastArea,
-        ),
-        (&[0x02, 0x00, 0, 0, 0, 0x09, 0, 0], MailFault::UnknownKind),
-        (&[0x00, 0x00, 0, 0, 0, 0x0E], MailFault::UnknownKind),
-    ];
-    for (area, fault) in faults {
-        assert_eq!(rt; read(area), Err(fault));
-    }
-    let long = [0xFFu8; 1486];
-    assert_eq!(rt; read(&long), Err(MailFault::LengthPastArea));
+    let mut area = [0xEE; 64];
+    write(&mail, &mut area);
+    digits_of(alloc, &area)
 }
 
-#[test]
-fn counters_run_from_1_to_7(rt: HostRuntime) {
-    let mut counter = 0;
-    for want in [1, 2, 3, 4, 5, 6, 7, 1] {
-        assert!(rt; counter <= 7);
-        counter = next_counter(counter);
-        assert_eq!(rt; counter, want);
+// The same area, where the body stands in its place and the head alone is written.
+fn headed(alloc: Global, counter: u8, body: &Octets) -> Result<String> {
+    if counter > 7 || body.len() > 58 {
+        bail!("no mail");
     }
+    let mail = Mail {
+        address: 0,
+        kind: Kind::CoE,
+        counter,
+        body: buffer_of(body.bytes()),
+    };
+    let mut area = [0xEE; 64];
+    area[6..6 + body.len()].copy_from_slice(body.bytes());
+    write_head(mail.head(), body.len(), &mut area);
+    digits_of(alloc, &area)
+}
+
+// A mailbox error.
+fn refused(alloc: Global, detail: u16) -> Result<String> {
     let mut area = [0; 10];
-    write(&error_mail(5), &mut area);
-    assert_eq!(rt; area, [4, 0, 0, 0, 0, 0, 1, 0, 5, 0]);
+    write(&error_mail(detail), &mut area);
+    digits_of(alloc, &area)
+}
+
+// The counter behind one.
+fn counted(alloc: Global, counter: u8) -> Result<String> {
+    if counter > 7 {
+        bail!("no counter");
+    }
+    let next = next_counter(counter);
+    Ok(format!(in alloc; "{next}")?)
+}
+
+// What an area reads as, at once and in place of another mail.
+fn read_twice(alloc: Global, area: &[u8]) -> Result<String> {
+    let mail = read(area);
+    let mut kept = Ok(error_mail(1));
+    read_into(area, &mut kept);
+    if kept != mail {
+        return Ok(format!(in alloc; "{mail:?} and in its place {kept:?}")?);
+    }
+    Ok(format!(in alloc; "{mail:?}")?)
+}
+
+impl Bench for MailBench {
+    fn found(&mut self, alloc: Global, asked: &str) -> Result<String> {
+        let mut words = asked.split(' ');
+        match (words.next(), words.next(), words.next()) {
+            (Some("read"), Some(text), None) => read_twice(alloc, octets_in(alloc, text)?.bytes()),
+            (Some("write"), Some(counter), Some(text)) => {
+                written(alloc, counter.parse()?, &octets_in(alloc, text)?)
+            }
+            (Some("head"), Some(counter), Some(text)) => {
+                headed(alloc, counter.parse()?, &octets_in(alloc, text)?)
+            }
+            (Some("next"), Some(counter), None) => counted(alloc, counter.parse()?),
+            (Some("error"), Some(detail), None) => refused(alloc, detail.parse()?),
+            _ => bail!("no call: {asked}"),
+        }
+    }
 }

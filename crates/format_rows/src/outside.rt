@@ -1,74 +1,83 @@
-use ec_fields::{Octets, Rows};
-use ec_outside::*;
+use crate::disk::DiskBench;
+use anyhow::{Result, bail};
+use ec_fields::Rows;
+use ec_outside::{MemFiles, MemSink, Sink, SureSink};
+use row_table::{Bench, digits_of, octets_in};
 use std::alloc::Global;
-use std::fs;
-use std::test::Fail;
 
-fn numbers(alloc: Global, all: &[u64]) -> Result<Rows<u64>, Fail> {
+/// Files and sinks in memory.
+#[derive(Drop)]
+pub struct OutsideBench {
+    disk: DiskBench<MemFiles>,
+    sink: MemSink,
+    sure: SureSink,
+}
+
+// Numbers of calls, between commas.
+fn numbers(alloc: Global, text: &str) -> Result<Rows<u64>> {
     let mut rows = Rows::new(alloc);
-    for number in all {
-        if rows.push(*number).is_err() {
-            return Err(Fail::from(ec_fields::NoMemory));
-        }
+    for number in text.split(',') {
+        rows.add(number.parse()?)?;
     }
     Ok(rows)
 }
 
-#[test]
-fn files_in_memory_hold_what_was_saved(rt: HostRuntime) -> Result<(), Fail> {
-    let mut files = MemFiles::new(rt.alloc(), numbers(rt.alloc(), &[1, 3])?);
-    files.add("a", b"first")?;
-    files.add("b", b"second")?;
-    files.add("a", b"third")?;
-    let mut into = Octets::copy_of(rt.alloc(), b"stale")?;
-    assert_eq!(rt; files.load("a", 5, &mut into), Ok(Loaded::Found));
-    assert_eq!(rt; into.bytes(), b"third".as_slice());
-    assert_eq!(rt; files.load("a", 5, &mut into), Err(FilesErr::Failed));
-    assert_eq!(rt; files.load("b", 5, &mut into), Ok(Loaded::TooLong));
-    assert_eq!(rt; into.len(), 0);
-    assert_eq!(rt; files.save("b", b"x"), Err(FilesErr::Failed));
-    assert_eq!(rt; files.save("b", b"x"), Ok(()));
-    assert_eq!(rt; files.save("d", b"y"), Ok(()));
-    assert_eq!(rt; files.get("b").ok_or("absent")?, b"x".as_slice());
-    assert_eq!(rt; files.get("d").ok_or("absent")?, b"y".as_slice());
-    assert!(rt; files.get("e").is_none());
-    assert_eq!(rt; files.load("e", 5, &mut into), Ok(Loaded::Absent));
-    Ok(())
+impl OutsideBench {
+    /// No file and no octets, and no call fails.
+    pub fn new(alloc: Global) -> Result<OutsideBench> {
+        Ok(OutsideBench {
+            disk: DiskBench::new(alloc, MemFiles::new(alloc, Rows::new(alloc)))?,
+            sink: MemSink::new(alloc, Rows::new(alloc)),
+            sure: SureSink::new(alloc),
+        })
+    }
+
+    // A file as it stands.
+    fn file(&self, alloc: Global, name: &str) -> Result<String> {
+        match self.disk.files.get(name) {
+            Some(octets) => digits_of(alloc, octets),
+            None => Ok(format!(in alloc; "none")?),
+        }
+    }
+
+    // A call of the sinks, or a file as it stands.
+    fn told(&mut self, alloc: Global, call: &str, text: &str) -> Result<String> {
+        match call {
+            "get" => self.file(alloc, text),
+            "put" => {
+                let put = self.sink.put(octets_in(alloc, text)?.bytes());
+                Ok(format!(in alloc; "{put:?}")?)
+            }
+            "put_surely" => {
+                let put = self.sure.put(octets_in(alloc, text)?.bytes());
+                Ok(format!(in alloc; "{put:?}")?)
+            }
+            "sink" => {
+                self.sink = MemSink::new(alloc, numbers(alloc, text)?);
+                Ok(format!(in alloc; "new")?)
+            }
+            "files" => {
+                let files = MemFiles::new(alloc, numbers(alloc, text)?);
+                self.disk = DiskBench::new(alloc, files)?;
+                Ok(format!(in alloc; "new")?)
+            }
+            _ => bail!("no call: {call}"),
+        }
+    }
 }
 
-#[test]
-fn sinks_in_memory_hold_what_was_put(rt: HostRuntime) -> Result<(), Fail> {
-    let mut sink = MemSink::new(rt.alloc(), numbers(rt.alloc(), &[1])?);
-    assert_eq!(rt; sink.put(b"a line\n"), Ok(()));
-    assert_eq!(rt; sink.put(b"lost\n"), Err(SinkErr::Failed));
-    assert_eq!(rt; sink.put(b"another\n"), Ok(()));
-    assert_eq!(rt; sink.bytes(), b"a line\nanother\n".as_slice());
-    let mut sure = SureSink::new(rt.alloc());
-    assert_eq!(rt; sure.put(b"kept"), Ok(()));
-    assert_eq!(rt; sure.bytes(), b"kept".as_slice());
-    Ok(())
-}
-
-#[test]
-fn the_disk_keeps_a_file(rt: HostRuntime) -> Result<(), Fail> {
-    let mut disk = DiskFiles::new(&rt);
-    let mut into = Octets::copy_of(rt.alloc(), b"stale")?;
-    assert_eq!(rt; disk.load("kept.bin", 9, &mut into), Ok(Loaded::Absent));
-    assert_eq!(rt; disk.save("kept.bin", b"nine octs"), Ok(()));
-    assert_eq!(rt; disk.load("kept.bin", 9, &mut into), Ok(Loaded::Found));
-    assert_eq!(rt; into.bytes(), b"nine octs".as_slice());
-    assert_eq!(rt; disk.load("kept.bin", 8, &mut into), Ok(Loaded::TooLong));
-    assert_eq!(rt; into.len(), 0);
-    assert_eq!(rt;
-        disk.load("kept.bin/below", 8, &mut into),
-        Err(FilesErr::Failed)
-    );
-    fs::remove_file(&rt, "kept.bin")?;
-    Ok(())
-}
-
-#[test]
-fn the_standard_output_takes_a_line(rt: HostRuntime) {
-    let mut sink = StdSink::new(&rt);
-    assert_eq!(rt; sink.put(b"a line of the test\n"), Ok(()));
+impl Bench for OutsideBench {
+    fn found(&mut self, alloc: Global, asked: &str) -> Result<String> {
+        let mut words = asked.split(' ');
+        match (words.next(), words.next(), words.next()) {
+            (Some("written"), None, None) => digits_of(alloc, self.sink.bytes()),
+            (Some("surely_written"), None, None) => digits_of(alloc, self.sure.bytes()),
+            (Some("add"), Some(name), Some(text)) => {
+                self.disk.files.add(name, octets_in(alloc, text)?.bytes())?;
+                Ok(format!(in alloc; "added")?)
+            }
+            (Some(call), Some(text), None) => self.told(alloc, call, text),
+            _ => self.disk.found(alloc, asked),
+        }
+    }
 }

@@ -1,72 +1,104 @@
-ghost use Rattle.std.specs.Prelude.{◌≡◌, length};
+ghost use Rattle.std.specs.Prelude.{◌≤◌, length, IfOk};
 
-use ec_fields::{NoMemory, buffer_of};
+use anyhow::{Result, bail};
+use ec_fields::buffer_of;
 use eoe::Packet;
-use eoe_switch::{Ports, Switch};
+use eoe_switch::Switch;
+use row_table::{Bench, digits_of, octets_in};
+use std::alloc::Global;
+use std::marker::Model;
 
-const GROUP: [u8; 6] = [0xFF, 0xFF, 0xFF, 0xFF, 0xFF, 0xFF];
+/// A switch, and how many ports it has.
+#[derive(Drop)]
+pub struct SwitchBench {
+    switch: Switch,
+    ports: u32,
+}
 
-const HOST: [u8; 6] = [0x02, 0, 0, 0, 0, 0x01];
+impl Model for SwitchBench {
+    ghost use Rattle.std.specs.Prelude.{◌≡◌, length};
+    ghost use Rattle.eoe_switch.specs.Switch.{Switched};
 
-const A: [u8; 6] = [0x02, 0, 0, 0, 0, 0xA1];
+    ghost Value = { Switched };
 
-const B: [u8; 6] = [0x02, 0, 0, 0, 0, 0xB1];
+    ghost view = { λ b. b.switch };
 
-fn packet(to: [u8; 6], from: [u8; 6]) -> Packet
-    ensures { length result.items ≡ 16 }
+    ghost invariant = { λ b. length b.switch.ports ≡ b.ports };
+}
+
+// A packet of at least 14 octets.
+fn packet_in(alloc: Global, text: &str) -> Result<Packet>
+    ensures { IfOk result (λ packet. 14 ≤ length packet.items) }
 {
-    let [a, b, c, d, e, f] = to;
-    let [g, h, i, j, k, l] = from;
-    buffer_of(&[a, b, c, d, e, f, g, h, i, j, k, l, 0x88, 0xB5, 0xAB, 0xCD])
+    let octets = octets_in(alloc, text)?;
+    if octets.len() < 14 || octets.len() > 1514 {
+        bail!("no packet: {text}");
+    }
+    Ok(buffer_of(octets.bytes()))
 }
 
-// The host and two slaves. Each row: where a packet comes in, its destination and source, and the
-// ports that take it.
-#[test]
-fn learns_and_forwards(rt: HostRuntime) -> Result<(), NoMemory> {
-    let mut switch = Switch::new(rt.alloc(), 3)?;
-    for (port, to, from, taken) in [
-        (0, GROUP, HOST, 0b110),
-        (1, HOST, A, 0b001),
-        (2, HOST, B, 0b001),
-        (1, A, A, 0),
-        (0, B, HOST, 0b100),
-        (2, A, A, 0),
-        (0, A, HOST, 0b100),
-        (1, GROUP, GROUP, 0b101),
-    ] {
-        assert!(rt; port < 3);
-        let answer = switch.arrive(port, &packet(to, from));
-        assert_eq!(rt; answer.0, Ports { bits: taken });
-        assert_eq!(rt; answer.1, Ports { bits: 0 });
+impl SwitchBench {
+    /// A switch with one port.
+    pub fn new(alloc: Global) -> Result<SwitchBench> {
+        let switch = Switch::new(alloc, 1)?;
+        Ok(SwitchBench { switch, ports: 1 })
     }
-    assert_eq!(rt; switch.waiting(0), 0);
-    assert_eq!(rt; switch.waiting(1), 1);
-    assert_eq!(rt; switch.waiting(2), 4);
-    switch.down(1);
-    assert_eq!(rt; switch.waiting(1), 0);
-    assert_eq!(rt;
-        switch.arrive(2, &packet(GROUP, B)).0,
-        Ports { bits: 0b001 }
-    );
-    Ok(())
+
+    // A new switch with so many ports.
+    fn begin(&mut self, alloc: Global, ports: u32) -> Result<String> {
+        if ports < 1 || ports > 17 {
+            bail!("no such switch");
+        }
+        let switch = Switch::new(alloc, ports)?;
+        *self = SwitchBench { switch, ports };
+        Ok(format!(in alloc; "new")?)
+    }
+
+    // The ports that take a packet and those that drop it, as sums of powers of two.
+    fn arrive(&mut self, alloc: Global, port: u32, text: &str) -> Result<String> {
+        let packet = packet_in(alloc, text)?;
+        if port >= self.ports {
+            bail!("no such port");
+        }
+        let (taken, dropped) = self.switch.arrive(port, &packet);
+        let (taken, dropped) = (taken.bits, dropped.bits);
+        Ok(format!(in alloc; "{taken} {dropped}")?)
+    }
+
+    // A port goes down.
+    fn down(&mut self, alloc: Global, port: u32) -> Result<String> {
+        if port >= self.ports {
+            bail!("no such port");
+        }
+        self.switch.down(port);
+        Ok(format!(in alloc; "down")?)
+    }
+
+    // The oldest packet at a port is begun.
+    fn begun(&mut self, alloc: Global, port: u32) -> Result<String> {
+        if port >= self.ports {
+            bail!("no such port");
+        }
+        match self.switch.begun(port) {
+            Some(packet) => digits_of(alloc, packet.as_slice()),
+            None => Ok(format!(in alloc; "none")?),
+        }
+    }
 }
 
-#[test]
-fn drops_the_ninth(rt: HostRuntime) -> Result<(), NoMemory> {
-    let mut switch = Switch::new(rt.alloc(), 2)?;
-    for number in 0..9 {
-        let answer = switch.arrive(0, &packet([0x02, 0, 0, 0, 1, number], HOST));
-        let taken = if number < 8 { 0b10 } else { 0 };
-        assert_eq!(rt; answer.0, Ports { bits: taken });
-        assert_eq!(rt; answer.1, Ports { bits: 0b10 - taken });
+impl Bench for SwitchBench {
+    fn found(&mut self, alloc: Global, asked: &str) -> Result<String> {
+        let mut words = asked.split(' ');
+        match (words.next(), words.next(), words.next()) {
+            (Some("new"), Some(ports), None) => self.begin(alloc, ports.parse()?),
+            (Some("arrive"), Some(port), Some(text)) => self.arrive(alloc, port.parse()?, text),
+            (Some("down"), Some(port), None) => self.down(alloc, port.parse()?),
+            (Some("begun"), Some(port), None) => self.begun(alloc, port.parse()?),
+            (Some("waiting"), Some(port), None) => {
+                let waiting = self.switch.waiting(port.parse()?);
+                Ok(format!(in alloc; "{waiting}")?)
+            }
+            _ => bail!("no call: {asked}"),
+        }
     }
-    for number in 0..8 {
-        let Some(oldest) = switch.begun(1) else {
-            panic!(rt; "packet {number} waits")
-        };
-        assert_eq!(rt; oldest.as_slice().get(5).copied(), Some(number));
-    }
-    assert_eq!(rt; switch.begun(1).is_none(), true);
-    Ok(())
 }

@@ -1,11 +1,13 @@
 ghost use Rattle.std.specs.Prelude.{◌<◌, ◌^◌, length};
 ghost use Rattle.esc_registers.specs.Access.{KeepsLengths};
 
+use anyhow::Result;
 use datagrams::{Command, Head};
-use ec_fields::NoMemory;
 use esc_registers::Esc;
 use mailbox_mail::{Mail, MailFault, error_mail};
 use mailbox_slave::{Server, SlaveBox};
+use row_table::digits_of;
+use std::alloc::Global;
 
 // A server that refuses each mail by a mailbox error.
 #[derive(Drop)]
@@ -43,8 +45,10 @@ impl Server for Refusing {
     }
 }
 
+/// Manager 0 with an area of 64 octets.
 const MANAGER: [u8; 8] = [0x00, 0x10, 0x40, 0x00, 0x26, 0x00, 0x01, 0x00];
 
+// A write of the slave, and its counter.
 fn write(esc: &mut Esc, ado: u16, octets: &mut [u8]) -> u16
     requires { length octets.old < 2 ^ 16 }
     ensures { KeepsLengths esc.old esc.new }
@@ -59,27 +63,83 @@ fn write(esc: &mut Esc, ado: u16, octets: &mut [u8]) -> u16
     head.counter
 }
 
-// The mail is taken once, and its repetition is removed.
-#[test]
-fn a_mail_is_taken_once(rt: HostRuntime) -> Result<(), NoMemory> {
-    let mut esc = Esc::new(rt.alloc(), 64, 64)?;
+/// Counters of the writes of manager and mail, and how many mails were taken; the mail is taken once, and its repetition is removed.
+pub fn taken_once(alloc: Global) -> Result<String> {
+    let mut esc = Esc::new(alloc, 64, 64)?;
     let mut slave_box = SlaveBox::new();
     let mut server = Refusing {
         taken: 0,
         answers: false,
     };
     let mut manager = MANAGER;
-    assert_eq!(rt; write(&mut esc, 0x0800, &mut manager), 1);
+    let opened = write(&mut esc, 0x0800, &mut manager);
     let mut area = [0; 64];
     area[5] = 0x13;
-    assert_eq!(rt; write(&mut esc, 0x1000, &mut area), 1);
-    assert_eq!(rt; write(&mut esc, 0x1000, &mut area), 0);
+    let first = write(&mut esc, 0x1000, &mut area);
+    let full = write(&mut esc, 0x1000, &mut area);
     slave_box.look(&mut esc);
     slave_box.serve(&mut esc, &mut server, 2);
-    assert_eq!(rt; server.taken, 1);
-    assert_eq!(rt; write(&mut esc, 0x1000, &mut area), 1);
+    let taken = server.taken;
+    let second = write(&mut esc, 0x1000, &mut area);
     slave_box.step(&mut esc, &mut server, 2);
-    assert_eq!(rt; server.taken, 1);
-    assert!(rt; esc.out_area().is_none() && esc.in_full() && !slave_box.at_rest());
-    Ok(())
+    let again = server.taken;
+    let (empty, answer) = (esc.out_area().is_none(), esc.in_full());
+    let rest = slave_box.at_rest();
+    Ok(format!(in alloc;
+        "{opened} {first} {full} {taken} {second} {again} {empty} {answer} {rest}"
+    )?)
+}
+
+// Opens mailbox 1 with this octet of activation, over a counter, which comes back.
+fn open_in(esc: &mut Esc, activate: u8, counter: u16) -> u16
+    ensures { KeepsLengths esc.old esc.new }
+{
+    let mut head = Head {
+        command: Command::Fpwr,
+        ado: 0x0808,
+        len: 8,
+        counter,
+        ..Head::default()
+    };
+    esc.pass(
+        &mut head,
+        &mut [0x00, 0x18, 0x40, 0x00, 0x22, 0x00, activate, 0x00],
+    );
+    head.counter
+}
+
+// Reads mailbox 1 over a counter, which comes back.
+fn read_in(esc: &mut Esc, area: &mut [u8; 64], counter: u16) -> u16 {
+    let mut head = Head {
+        command: Command::Fprd,
+        ado: 0x1800,
+        len: 64,
+        counter,
+        ..Head::default()
+    };
+    esc.pass(&mut head, area);
+    head.counter
+}
+
+/// A mail stands until its manager is enabled, whose counter wraps; a repeat is asked and acknowledged; a second mail is read once.
+pub fn offered_once(alloc: Global) -> Result<String> {
+    let mut esc = Esc::new(alloc, 64, 64)?;
+    let mail = error_mail(2);
+    esc.place_in(&mail);
+    let placed = esc.in_full();
+    let opened = open_in(&mut esc, 0, 0xFFFF);
+    let kept = esc.in_full();
+    let _ = open_in(&mut esc, 3, opened);
+    let (gone, asked) = (esc.in_full(), esc.repeat_asked());
+    esc.acknowledge();
+    let (acknowledged, none) = (esc.repeat_asked(), esc.out_area().is_none());
+    esc.place_in(&mail);
+    let mut area = [0; 64];
+    let first = read_in(&mut esc, &mut area, 0);
+    let second = read_in(&mut esc, &mut area, first);
+    let digits = digits_of(alloc, &area[..10])?;
+    let right = esc.areas_right();
+    Ok(format!(in alloc;
+        "{placed} {opened} {kept} {gone} {asked} {acknowledged} {none} {second} {digits} {right}"
+    )?)
 }

@@ -1,134 +1,100 @@
-use ec_fields::{NoMemory, Rows, buffer_of};
-use mailbox_law::LinkFate::{LostBefore, LostBehind, Pass};
-use mailbox_law::LinkStep::{Give, Hold, In, Out, Pdi};
-use mailbox_law::{LinkRun, LinkStep, World, all_fit, run_link, run_world};
+use anyhow::{Result, bail};
+use ec_fields::{Rows, buffer_of};
+use mailbox_law::{LinkFate, LinkStep, all_fit, run_link, run_world};
 use mailbox_mail::{Kind, Mail};
+use row_table::Bench;
 use std::alloc::Global;
-use std::process::Abort;
 
-fn mail(octet: u8) -> Mail {
-    Mail {
+/// Runs of a link over lists of steps.
+#[derive(Drop)]
+pub struct LinkBench;
+
+// A mail of one octet.
+fn mail_in(text: &str) -> Result<Mail> {
+    let octet: u8 = text.parse()?;
+    Ok(Mail {
         address: 0,
         kind: Kind::CoE,
         counter: 0,
         body: buffer_of(&[octet]),
+    })
+}
+
+// What becomes of a datagram.
+fn fate_in(text: &str) -> Result<LinkFate> {
+    match text {
+        "pass" => Ok(LinkFate::Pass),
+        "before" => Ok(LinkFate::LostBefore),
+        "behind" => Ok(LinkFate::LostBehind),
+        _ => bail!("no fate: {text}"),
     }
+}
+
+// A step.
+fn step_in(text: &str) -> Result<LinkStep> {
+    match text.split_once(':') {
+        None if text == "pdi" => Ok(LinkStep::Pdi),
+        Some(("hold", octet)) => Ok(LinkStep::Hold(mail_in(octet)?)),
+        Some(("give", octet)) => Ok(LinkStep::Give(mail_in(octet)?)),
+        Some(("out", fate)) => Ok(LinkStep::Out(fate_in(fate)?)),
+        Some(("in", fate)) => Ok(LinkStep::In(fate_in(fate)?)),
+        _ => bail!("no step: {text}"),
+    }
+}
+
+// The steps of a list.
+fn steps_in(alloc: Global, text: &str) -> Result<Vec<LinkStep>> {
+    let mut steps = Vec::new(alloc);
+    for step in text.split(' ') {
+        steps.push(step_in(step)?)?;
+    }
+    Ok(steps)
 }
 
 // The counter and the first octet of each mail.
-fn are(rt: &impl Abort, mails: &Rows<Mail>, want: &[(u8, u8)]) {
-    assert_eq!(rt; mails.len(), want.len());
-    for (mail, (counter, octet)) in mails.as_slice().iter().zip(want) {
-        assert_eq!(rt; mail.counter, *counter);
-        assert_eq!(rt; mail.body.as_slice().first(), Some(octet));
+fn told(alloc: Global, mails: &Rows<Mail>) -> Result<String> {
+    let mut text = String::new(alloc);
+    for mail in mails.as_slice() {
+        let (counter, octet) = (mail.counter, mail.body.as_slice().first());
+        write!(text, "({counter} {octet:?})")?;
     }
+    Ok(text)
 }
 
-fn run(rt: &impl Abort, alloc: Global, steps: &[LinkStep]) -> Result<LinkRun, NoMemory> {
-    assert!(rt; all_fit(steps, 64, 1486));
-    run_link(alloc, steps, 64, 1486)
-}
-
-// A write not met, a write met and lost, and a second mail that has to wait while the first is held.
-#[test]
-fn a_lost_write_is_taken_once(rt: HostRuntime) -> Result<(), NoMemory> {
-    for fate in [LostBefore, LostBehind] {
-        let steps = [
-            Hold(mail(1)),
-            Out(fate),
-            Pdi,
-            Hold(mail(9)),
-            Out(Pass),
-            Pdi,
-            Out(Pass),
-            Hold(mail(2)),
-            Out(Pass),
-            Pdi,
-        ];
-        let came = run(&rt, rt.alloc(), &steps)?;
-        are(&rt, &came.held, &[(0, 1), (0, 2)]);
-        are(&rt, &came.taken, &[(0, 1), (0, 2)]);
+// The mails that the master took up and those that the slave took, or those given to the slave and those that the master accepted.
+fn run(alloc: Global, call: &str, text: &str) -> Result<String> {
+    let steps = steps_in(alloc, text)?;
+    if !all_fit(steps.as_slice(), 64, 1486) {
+        bail!("a mail of more octets");
     }
-    Ok(())
+    let came = run_link(alloc, steps.as_slice(), 64, 1486)?;
+    let (from, to) = match call {
+        "outward" => (told(alloc, &came.held)?, told(alloc, &came.taken)?),
+        "inward" => (told(alloc, &came.offered)?, told(alloc, &came.accepted)?),
+        _ => bail!("no call: {call}"),
+    };
+    Ok(format!(in alloc; "{from} {to}")?)
 }
 
-// A read lost before the slave or behind it, the repeat request lost too, and a newer mail that is withdrawn and comes
-// behind the repeat with its own counter.
-#[test]
-fn a_lost_read_is_accepted_once(rt: HostRuntime) -> Result<(), NoMemory> {
-    for (read, request) in [
-        (LostBefore, Pass),
-        (LostBehind, Pass),
-        (LostBehind, LostBefore),
-        (LostBehind, LostBehind),
-    ] {
-        let steps = [
-            Give(mail(2)),
-            Pdi,
-            In(read),
-            Give(mail(3)),
-            Pdi,
-            In(request),
-            Pdi,
-            In(Pass),
-            Pdi,
-            In(Pass),
-            Pdi,
-            In(Pass),
-            Pdi,
-            In(Pass),
-            Pdi,
-            In(Pass),
-            Pdi,
-            In(Pass),
-        ];
-        let came = run(&rt, rt.alloc(), &steps)?;
-        are(&rt, &came.offered, &[(0, 2), (0, 3)]);
-        are(&rt, &came.accepted, &[(1, 2), (2, 3)]);
+// Whether mailbox 1 is full, mailbox 0 too, the areas are right, the outward half is idle, and the slave's box at rest.
+fn stands(alloc: Global, text: &str) -> Result<String> {
+    let steps = steps_in(alloc, text)?;
+    if !all_fit(steps.as_slice(), 64, 64) {
+        bail!("a mail of more octets");
     }
-    Ok(())
+    let world = run_world(alloc, steps.as_slice(), 64, 64)?;
+    let (given, written) = (world.esc.in_full(), world.esc.out_area().is_some());
+    let (right, idle) = (world.esc.areas_right(), world.outward.is_idle());
+    let rest = world.slave_box.at_rest();
+    Ok(format!(in alloc; "{given} {written} {right} {idle} {rest}")?)
 }
 
-// Mail 8 has counter 1 again.
-#[test]
-fn the_counter_wraps(rt: HostRuntime) -> Result<(), NoMemory> {
-    let mut steps = Vec::new(rt.alloc());
-    for octet in 1..9 {
-        steps.push(Give(mail(octet)))?;
-        steps.push(Pdi)?;
-        steps.push(In(Pass))?;
+impl Bench for LinkBench {
+    fn found(&mut self, alloc: Global, asked: &str) -> Result<String> {
+        match asked.split_once(' ') {
+            Some(("stands", text)) => stands(alloc, text),
+            Some((call, text)) => run(alloc, call, text),
+            None => bail!("no call: {asked}"),
+        }
     }
-    let came = run(&rt, rt.alloc(), steps.as_slice())?;
-    let want = [
-        (1, 1),
-        (2, 2),
-        (3, 3),
-        (4, 4),
-        (5, 5),
-        (6, 6),
-        (7, 7),
-        (1, 8),
-    ];
-    are(&rt, &came.accepted, &want);
-    Ok(())
-}
-
-fn world(rt: &impl Abort, alloc: Global, steps: &[LinkStep]) -> Result<World, NoMemory> {
-    assert!(rt; all_fit(steps, 64, 64));
-    run_world(alloc, steps, 64, 64)
-}
-
-// A mail offered stands in mailbox 1 until it is read, and a mail written in mailbox 0 until it is taken.
-#[test]
-fn the_mailboxes_fill_and_empty(rt: HostRuntime) -> Result<(), NoMemory> {
-    let steps = [Give(mail(1)), Pdi, Hold(mail(2)), Out(Pass)];
-    let full = world(&rt, rt.alloc(), &steps)?;
-    assert!(rt; full.esc.in_full() && full.esc.out_area().is_some() && full.esc.areas_right());
-    assert!(rt; full.outward.is_idle() && !full.slave_box.at_rest());
-    let steps = [Give(mail(1)), Pdi, Hold(mail(2)), Out(Pass), In(Pass), Pdi];
-    let empty = world(&rt, rt.alloc(), &steps)?;
-    assert!(rt;
-        !empty.esc.in_full() && empty.esc.out_area().is_none() && empty.slave_box.at_rest()
-    );
-    Ok(())
 }

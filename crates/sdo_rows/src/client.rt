@@ -1,158 +1,128 @@
+use anyhow::{Result, bail};
 use arrayvec::ArrayVec;
 use coe_client::CoeClient;
 use ec_fields::{Octets, buffer_of};
 use mailbox_mail::{Kind, Mail, ReplyKind, Took};
 use object_dictionary::SdoService;
-use std::process::Abort;
-use std::test::Fail;
+use row_table::{Bench, digits_of, octets_in};
+use std::alloc::Global;
 
-fn sends(rt: &impl Abort, client: &mut CoeClient, head: &[u8], len: usize) {
-    let mut body = ArrayVec::new();
-    assert!(rt; client.has_next());
-    assert!(rt; client.next_mail(&mut body));
-    assert!(rt; body.len() == len);
-    assert!(rt; head.len() <= len);
-    assert_eq!(rt; &body.as_slice()[..head.len()], head);
-    sends_nothing(rt, client);
+/// A client that is told what comes.
+#[derive(Drop)]
+pub struct ClientBench {
+    client: CoeClient,
 }
 
-fn sends_nothing(rt: &impl Abort, client: &mut CoeClient) {
-    let mut body = ArrayVec::new();
-    assert!(rt; !client.has_next());
-    assert!(rt; !client.next_mail(&mut body));
-}
-
-fn takes(rt: &impl Abort, client: &mut CoeClient, body: &[u8], took: Took) {
-    assert!(rt; body.len() <= 1480);
-    let body = buffer_of(body);
-    let mail = Mail {
-        address: 0,
-        kind: Kind::CoE,
-        counter: 1,
-        body,
-    };
-    assert_eq!(rt; client.take(&mail), took);
-}
-
-#[test]
-fn a_value_of_49_octets_goes_in_two_mails_and_comes_back(rt: HostRuntime) -> Result<(), Fail> {
-    let mut client = CoeClient::new(rt.alloc(), 64, 64)?;
-    let bytes = Octets::copy_of(rt.alloc(), &[0xAA; 49])?;
-    assert!(rt; bytes.len() <= 16_384);
-    let service = SdoService::Download {
-        index: 0x2002,
-        sub: 1,
-        bytes,
-    };
-    client.start(&service);
-    sends(
-        &rt,
-        &mut client,
-        &[
-            0x00, 0x20, 0x21, 0x02, 0x20, 0x01, 0x31, 0x00, 0x00, 0x00, 0xAA,
-        ],
-        58,
-    );
-    takes(
-        &rt,
-        &mut client,
-        &[0x00, 0x30, 0x60, 0x02, 0x20, 0x02, 0, 0, 0, 0],
-        Took::Foreign,
-    );
-    takes(
-        &rt,
-        &mut client,
-        &[0x00, 0x30, 0x60, 0x02, 0x20, 0x01, 0, 0, 0, 0],
-        Took::More,
-    );
-    sends(
-        &rt,
-        &mut client,
-        &[0x00, 0x20, 0x0D, 0xAA, 0, 0, 0, 0, 0, 0],
-        10,
-    );
-    takes(
-        &rt,
-        &mut client,
-        &[0x00, 0x30, 0x30, 0, 0, 0, 0, 0, 0, 0],
-        Took::Foreign,
-    );
-    takes(
-        &rt,
-        &mut client,
-        &[0x00, 0x30, 0x20, 0, 0, 0, 0, 0, 0, 0],
-        Took::Done,
-    );
-    client.start(&SdoService::Upload {
-        index: 0x2002,
-        sub: 1,
-    });
-    sends(
-        &rt,
-        &mut client,
-        &[0x00, 0x20, 0x40, 0x02, 0x20, 0x01, 0, 0, 0, 0],
-        10,
-    );
-    takes(
-        &rt,
-        &mut client,
-        &[0x00, 0x30, 0x41, 0x02, 0x20, 0x01, 2, 0, 0, 0, 7],
-        Took::More,
-    );
-    sends(&rt, &mut client, &[0x00, 0x20, 0x60], 10);
-    takes(
-        &rt,
-        &mut client,
-        &[0x00, 0x30, 0x0D, 9, 0, 0, 0, 0, 0, 0],
-        Took::Done,
-    );
-    Ok(())
-}
-
-#[test]
-fn a_reply_is_told_with_its_value(rt: HostRuntime) -> Result<(), Fail> {
-    let mut client = CoeClient::new(rt.alloc(), 64, 64)?;
-    client.start(&SdoService::List { kind: 1 });
-    let body = buffer_of(&[0x00, 0x80, 0x02, 0x00, 0x00, 0x00, 0x01, 0x00, 0x00, 0x20]);
-    let mail = Mail {
-        address: 0,
-        kind: Kind::CoE,
-        counter: 1,
-        body,
-    };
-    if let Took::Done = client.take(&mail) {
-        let mut value = Octets::new(rt.alloc());
-        client.value(&mut value)?;
-        assert_eq!(rt; client.reply(), ReplyKind::Value);
-        assert_eq!(rt; value.bytes(), [1, 0, 0, 0x20].as_slice());
-        return Ok(());
+// A reply, and the value of one that has a value.
+fn told_of(alloc: Global, reply: ReplyKind, value: &[u8]) -> Result<String> {
+    match reply {
+        ReplyKind::Value => {
+            let digits = digits_of(alloc, value)?;
+            Ok(format!(in alloc; "Value {digits}")?)
+        }
+        other => Ok(format!(in alloc; "{other:?}")?),
     }
-    Err("the list is done")?
 }
 
-// An upload of 100 octets whose first part has come, and whose first segment was not yet asked for, is given up by the slave.
-#[test]
-fn no_mail_is_left_behind_done(rt: HostRuntime) -> Result<(), Fail> {
-    let mut client = CoeClient::new(rt.alloc(), 64, 64)?;
-    client.start(&SdoService::Upload {
-        index: 0x2002,
-        sub: 1,
-    });
-    let request = [0x00, 0x20, 0x40, 0x02, 0x20, 0x01, 0, 0, 0, 0];
-    sends(&rt, &mut client, &request, 10);
-    let mut first = [0xAA; 58];
-    for (octet, head) in first
-        .iter_mut()
-        .zip([0x00, 0x30, 0x41, 0x02, 0x20, 0x01, 100, 0, 0, 0])
-    {
-        *octet = head;
+impl ClientBench {
+    /// A client through mailboxes of 64 octets.
+    pub fn new(alloc: Global) -> Result<ClientBench> {
+        let client = CoeClient::new(alloc, 64, 64)?;
+        Ok(ClientBench { client })
     }
-    takes(&rt, &mut client, &first, Took::More);
-    assert!(rt; client.has_next());
-    let abort = [0x00, 0x20, 0x80, 0x02, 0x20, 0x01, 0, 0, 4, 5];
-    takes(&rt, &mut client, &abort, Took::Done);
-    assert!(rt; client.is_done());
-    assert_eq!(rt; client.reply(), ReplyKind::Abort(0x0504_0000));
-    sends_nothing(&rt, &mut client);
-    Ok(())
+
+    // A download of an entry.
+    fn download(&mut self, alloc: Global, index: u16, sub: u8, text: &str) -> Result<String> {
+        let bytes = octets_in(alloc, text)?;
+        if bytes.len() > 16_384 {
+            bail!("a value of more octets");
+        }
+        self.client
+            .start(&SdoService::Download { index, sub, bytes });
+        Ok(format!(in alloc; "begun")?)
+    }
+
+    // A service that asks.
+    fn begin(&mut self, alloc: Global, service: SdoService) -> Result<String> {
+        if !matches!(service, SdoService::Upload { .. } | SdoService::List { .. }) {
+            bail!("no service that asks");
+        }
+        self.client.start(&service);
+        Ok(format!(in alloc; "begun")?)
+    }
+
+    // The one mail that goes, by its length and its first octets.
+    fn send(&mut self, alloc: Global, head: usize) -> Result<String> {
+        let mut body = ArrayVec::new();
+        let mut other = ArrayVec::new();
+        if !self.client.next_mail(&mut body) {
+            return Ok(format!(in alloc; "none")?);
+        }
+        let octets = body.as_slice();
+        let len = octets.len();
+        let digits = digits_of(alloc, &octets[..head.min(len)])?;
+        if self.client.has_next() || self.client.next_mail(&mut other) {
+            return Ok(format!(in alloc; "{len} {digits} and another")?);
+        }
+        Ok(format!(in alloc; "{len} {digits}")?)
+    }
+
+    // What a mail is to the client, and where it ends the service and is asked for, the reply.
+    fn take(&mut self, alloc: Global, text: &str, told: bool) -> Result<String> {
+        let octets = octets_in(alloc, text)?;
+        if octets.len() > 1480 {
+            bail!("no mail: {text}");
+        }
+        let mail = Mail {
+            address: 0,
+            kind: Kind::CoE,
+            counter: 1,
+            body: buffer_of(octets.bytes()),
+        };
+        let took = self.client.take(&mail);
+        match took {
+            Took::Done if told => {
+                let reply = self.client.reply();
+                let mut value = Octets::new(alloc);
+                self.client.value(&mut value)?;
+                told_of(alloc, reply, value.bytes())
+            }
+            _ => Ok(format!(in alloc; "{took:?}")?),
+        }
+    }
+}
+
+impl Bench for ClientBench {
+    fn found(&mut self, alloc: Global, asked: &str) -> Result<String> {
+        let mut words = asked.split(' ');
+        match (words.next(), words.next(), words.next(), words.next()) {
+            (Some("new"), None, None, None) => {
+                *self = ClientBench::new(alloc)?;
+                Ok(format!(in alloc; "new")?)
+            }
+            (Some("has_next"), None, None, None) => {
+                let has = self.client.has_next();
+                Ok(format!(in alloc; "{has}")?)
+            }
+            (Some("is_done"), None, None, None) => {
+                let done = self.client.is_done();
+                Ok(format!(in alloc; "{done}")?)
+            }
+            (Some("send"), Some(head), None, None) => self.send(alloc, head.parse()?),
+            (Some("take"), Some(text), None, None) => self.take(alloc, text, false),
+            (Some("end"), Some(text), None, None) => self.take(alloc, text, true),
+            (Some("list"), Some(kind), None, None) => {
+                let kind = kind.parse()?;
+                self.begin(alloc, SdoService::List { kind })
+            }
+            (Some("upload"), Some(index), Some(sub), None) => {
+                let (index, sub) = (index.parse()?, sub.parse()?);
+                self.begin(alloc, SdoService::Upload { index, sub })
+            }
+            (Some("download"), Some(index), Some(sub), Some(text)) => {
+                self.download(alloc, index.parse()?, sub.parse()?, text)
+            }
+            _ => bail!("no call: {asked}"),
+        }
+    }
 }

@@ -1,140 +1,62 @@
-ghost use Rattle.std.specs.Prelude.{◌≡◌, ◌==◌, ◌&&◌, not, nat_lt, true, [], ◌∷◌, length, if◌then◌else◌, Ok, Err, Some, None};
-
+use crate::cell::Cell;
+use anyhow::{Result, bail};
 use arrayvec::ArrayVec;
-use coe_server::{CoeServer, Dictionary, Question, Target};
-use ec_fields::{Transfer, buffer_of};
+use coe_server::CoeServer;
 use mailbox_mail::Kind;
-use std::process::Abort;
-use std::test::Fail;
+use row_table::{Bench, digits_of, octets_in};
+use std::alloc::Global;
 
-// One entry, 2002:01, of at most 200 octets, and the emergency's.
+/// A server through mailboxes of 64 octets, over one entry and the emergency's.
 #[derive(Drop)]
-struct Cell {
-    bytes: ArrayVec<u8, 200>,
+pub struct ServerBench {
+    server: CoeServer,
+    objects: Cell,
 }
 
-fn is_at(target: Target, index: u16) -> bool
-    ensures { result ≡ (target.index == index && target.sub == 1 && not target.all) }
-{
-    target.index == index && target.sub == 1 && !target.all
-}
+impl ServerBench {
+    /// The entry has no octets.
+    pub fn new(alloc: Global) -> Result<ServerBench> {
+        Ok(ServerBench {
+            server: CoeServer::new(alloc, false, 64)?,
+            objects: Cell {
+                bytes: ArrayVec::new(),
+            },
+        })
+    }
 
-impl Dictionary for Cell {
-    ghost tables = { λ al. record {
-      valid = λ s. true;
-      check = λ s t size. if t.index == 0x2002 && t.sub == 1 && not t.all then (if nat_lt 200 size then Some 0x06070012 else None)
-          else if t.index == 0x2F00 && t.sub == 1 && not t.all then (if size == 8 then None else Some 0x06070012) else Some 0x06020000;
-      download = λ s t bytes. if t.index == 0x2002 && t.sub == 1 && not t.all then (if nat_lt 200 (length bytes) then Err 0x06070012 else Ok (record { bytes = record { items = bytes } }))
-          else if t.index == 0x2F00 && t.sub == 1 && not t.all then (if length bytes == 8 then Ok s else Err 0x06070012) else Err 0x06020000;
-      upload = λ s t. Ok s.bytes.items;
-      info = λ s a. Ok (1 ∷ 0 ∷ 2 ∷ 32 ∷ []);
-      packet = λ s octets. (s, []);
-    } };
-
-    fn check(&self, target: Target, size: u32, _al: u8) -> Option<u32> {
-        if is_at(target, 0x2002) {
-            if size > 200 { Some(0x0607_0012) } else { None }
-        } else if is_at(target, 0x2F00) {
-            if size == 8 { None } else { Some(0x0607_0012) }
-        } else {
-            Some(0x0602_0000)
+    // The next mail.
+    fn next(&mut self, alloc: Global) -> Result<String> {
+        if !self.server.waiting() {
+            return Ok(format!(in alloc; "none")?);
+        }
+        let mail = self.server.next();
+        let digits = digits_of(alloc, mail.body.as_slice())?;
+        match mail.kind {
+            Kind::CoE => Ok(digits),
+            other => Ok(format!(in alloc; "{other:?} {digits}")?),
         }
     }
 
-    fn download(&mut self, target: Target, bytes: &[u8], _al: u8) -> Option<u32> {
-        if is_at(target, 0x2002) {
-            if bytes.len() > 200 {
-                return Some(0x0607_0012);
-            }
-            self.bytes = buffer_of(bytes);
-            return None;
+    // Whether a mail counts as a service, and the body of its answer.
+    fn take(&mut self, alloc: Global, text: &str) -> Result<String> {
+        let octets = octets_in(alloc, text)?;
+        if octets.len() > 1480 {
+            bail!("no mail: {text}");
         }
-        if !is_at(target, 0x2F00) {
-            return Some(0x0602_0000);
-        }
-        if bytes.len() == 8 {
-            None
-        } else {
-            Some(0x0607_0012)
-        }
-    }
-
-    fn upload(&self, _target: Target, _al: u8, into: &mut Transfer) -> Option<u32> {
-        into.clear();
-        let _fits = into.add(self.bytes.as_slice());
-        None
-    }
-
-    fn info(&self, _question: Question, _al: u8, into: &mut Transfer) -> Option<u32> {
-        into.clear();
-        let _fits = into.add(&[1, 0, 2, 32]);
-        None
+        let counts = self.server.take(&mut self.objects, 2, octets.bytes());
+        let answer = self.next(alloc)?;
+        Ok(format!(in alloc; "{counts} {answer}")?)
     }
 }
 
-fn answers(
-    rt: &impl Abort,
-    server: &mut CoeServer,
-    objects: &mut Cell,
-    body: &[u8],
-    counts: bool,
-    answer: &[u8],
-) {
-    assert!(rt; body.len() <= 1480);
-    assert!(rt; server.take(objects, 2, body) == counts);
-    assert!(rt; server.waiting());
-    let mail = server.next();
-    assert_eq!(rt; mail.kind, Kind::CoE);
-    assert_eq!(rt; mail.body.as_slice(), answer);
-}
-
-#[test]
-fn a_value_comes_in_two_mails_and_an_emergency_goes_behind_its_answer(
-    rt: HostRuntime,
-) -> Result<(), Fail> {
-    let mut server = CoeServer::new(rt.alloc(), false, 64)?;
-    let mut objects = Cell {
-        bytes: ArrayVec::new(),
-    };
-    let first = [0x00, 0x20, 0x21, 0x02, 0x20, 0x01, 9, 0, 0, 0, 1, 2, 3];
-    answers(
-        &rt,
-        &mut server,
-        &mut objects,
-        &first,
-        false,
-        &[0x00, 0x30, 0x60, 0x02, 0x20, 0x01, 0, 0, 0, 0],
-    );
-    assert!(rt; objects.bytes.is_empty());
-    let last = [0x00, 0x20, 0x03, 4, 5, 6, 7, 8, 9, 0];
-    answers(
-        &rt,
-        &mut server,
-        &mut objects,
-        &last,
-        true,
-        &[0x00, 0x30, 0x20, 0, 0, 0, 0, 0, 0, 0],
-    );
-    assert_eq!(rt;
-        objects.bytes.as_slice(),
-        [1, 2, 3, 4, 5, 6, 7, 8, 9].as_slice()
-    );
-    let emergency = [
-        0x00, 0x20, 0x21, 0x00, 0x2F, 0x01, 8, 0, 0, 0, 0, 0x81, 5, 0, 0, 0, 0, 0,
-    ];
-    answers(
-        &rt,
-        &mut server,
-        &mut objects,
-        &emergency,
-        true,
-        &[0x00, 0x30, 0x60, 0x00, 0x2F, 0x01, 0, 0, 0, 0],
-    );
-    assert!(rt; server.waiting());
-    assert_eq!(rt;
-        server.next().body.as_slice(),
-        [0x00, 0x10, 0, 0x81, 5, 0, 0, 0, 0, 0].as_slice()
-    );
-    assert!(rt; !server.waiting());
-    Ok(())
+impl Bench for ServerBench {
+    fn found(&mut self, alloc: Global, asked: &str) -> Result<String> {
+        let mut words = asked.split(' ');
+        match (words.next(), words.next()) {
+            (Some("take"), Some(text)) => self.take(alloc, text),
+            (Some("next"), None) => self.next(alloc),
+            (Some("stored"), None) => digits_of(alloc, self.objects.bytes.as_slice()),
+            _ => bail!("no call: {asked}"),
+        }
+    }
 }

@@ -1,29 +1,47 @@
+use anyhow::{Result, bail};
 use arrayvec::ArrayVec;
 use coe_values::{Slot, Values};
 use ec_fields::Transfer;
-use std::test::Fail;
+use row_table::{Bench, digits_of};
+use std::alloc::Global;
 
-// Each value is begun anew again and again at its full length, while the other stays.
-#[test]
-fn both_values_stay_whole(rt: HostRuntime) -> Result<(), Fail> {
+/// The two values of a server, whose memory they share.
+#[derive(Drop)]
+pub struct ValueBench;
+
+// Begins each value anew and again at its full length, while the other stays.
+fn begin_anew(values: &mut Values) {
     let long = [5; 8192];
-    let mut values = Values::new(rt.alloc())?;
-    let mut whole = Transfer::new(rt.alloc(), 16_384)?;
-    for _ in 0..3 {
-        values.begin(Slot::Told, &long);
-        values.append(Slot::Told, &long);
-        values.begin(Slot::Value, &[1, 2, 3]);
-        values.append(Slot::Value, &long);
-        values.append(Slot::Value, &long[..8189]);
+    values.begin(Slot::Told, &long);
+    values.append(Slot::Told, &long);
+    values.begin(Slot::Value, &[1, 2, 3]);
+    values.append(Slot::Value, &long);
+    values.append(Slot::Value, &long[..8189]);
+}
+
+// Both lengths behind so many rounds, three octets of the value, its length where it is copied, and the other begun anew.
+fn rounds(alloc: Global, count: u32) -> Result<String> {
+    let mut values = Values::new(alloc)?;
+    let mut whole = Transfer::new(alloc, 16_384)?;
+    for _ in 0..count {
+        begin_anew(&mut values);
     }
-    assert!(rt; values.len(Slot::Value) == 16_384);
-    assert!(rt; values.len(Slot::Told) == 16_384);
+    let (first, second) = (values.len(Slot::Value), values.len(Slot::Told));
     let part: ArrayVec<u8, 4> = values.part(Slot::Value, 2, 3);
-    assert_eq!(rt; part.as_slice(), [3, 5, 5].as_slice());
+    let digits = digits_of(alloc, part.as_slice())?;
     values.begin(Slot::Told, &[9]);
     values.copy_to(Slot::Value, &mut whole);
-    assert!(rt; whole.bytes().len() == 16_384);
+    let len = whole.bytes().len();
     values.copy_to(Slot::Told, &mut whole);
-    assert_eq!(rt; whole.bytes(), [9].as_slice());
-    Ok(())
+    let told = digits_of(alloc, whole.bytes())?;
+    Ok(format!(in alloc; "{first} {second} {digits} {len} {told}")?)
+}
+
+impl Bench for ValueBench {
+    fn found(&mut self, alloc: Global, asked: &str) -> Result<String> {
+        match asked.split_once(' ') {
+            Some(("rounds", count)) => rounds(alloc, count.parse()?),
+            _ => bail!("no call: {asked}"),
+        }
+    }
 }

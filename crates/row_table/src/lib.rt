@@ -1,0 +1,8 @@
+//! Tables of rows, a line each: what a row asks, ` = `, and what is to be found for it. A line that begins with `#` is no row.
+#![tactic(auto)]
+
+mod octets;
+mod table;
+
+pub use octets::{digits_of, octets_in};
+pub use table::{Bench, tell};

@@ -1,0 +1,41 @@
+use anyhow::{Result, bail};
+use std::alloc::Global;
+use std::fs;
+use std::rt::Files;
+
+/// What the rows of a table are asked of, one behind the other.
+pub trait Bench {
+    /// What is found for a row.
+    fn found(&mut self, alloc: Global, asked: &str) -> Result<String>;
+}
+
+// How many rows of a table hold, or the first that doesn't.
+fn told<B: Bench>(alloc: Global, name: &str, table: &str, bench: &mut B) -> Result<String> {
+    let mut count = 0_usize;
+    for line in table.lines() {
+        if line.starts_with('#') {
+            continue;
+        }
+        let Some((asked, wanted)) = line.split_once(" = ") else {
+            bail!("no row: {line}");
+        };
+        let found = bench.found(alloc, asked)?;
+        if found.as_str() != wanted {
+            return Ok(format!(in alloc; "{name}: {asked}: {found} and not {wanted}")?);
+        }
+        count = count.saturating_add(1);
+    }
+    Ok(format!(in alloc; "{name}: {count} rows hold")?)
+}
+
+/// Prints how many rows of the table of this name hold, or the first that doesn't.
+pub fn tell<R: AllocGlobal + Files + Print, B: Bench>(
+    rt: &R,
+    name: &str,
+    bench: &mut B,
+) -> Result<()> {
+    let table = fs::read_to_string(rt, name)?;
+    let line = told(rt.alloc(), name, table.as_str(), bench)?;
+    println!(rt; "{line}")?;
+    Ok(())
+}

@@ -1,0 +1,24 @@
+//! CoE between client and server, mail by mail, by tables of rows in files of their names: the values, both sides, and both over one dictionary.
+#![tactic(auto)]
+
+mod carried;
+mod cell;
+mod client;
+mod server;
+mod stage;
+mod values;
+
+use anyhow::Result;
+use carried::CarriedBench;
+use client::ClientBench;
+use row_table::tell;
+use server::ServerBench;
+use values::ValueBench;
+
+fn main(rt: HostRuntime) -> Result<()> {
+    let alloc = rt.alloc();
+    tell(&rt, "values", &mut ValueBench)?;
+    tell(&rt, "client", &mut ClientBench::new(alloc)?)?;
+    tell(&rt, "server", &mut ServerBench::new(alloc)?)?;
+    tell(&rt, "carried", &mut CarriedBench::new(alloc)?)
+}
