@@ -224,9 +224,7 @@ impl Desk {
             }
             Event::GivenUp { slave } => self.give_up(alloc, *slave),
             Event::Emergency { .. } => Ok(()),
-            Event::Answered { .. }
-            | Event::Cleared { .. }
-            | Event::Opened { .. } => Ok(()),
+            Event::Answered { .. } | Event::Cleared { .. } | Event::Opened { .. } => Ok(()),
         }
     }
 
