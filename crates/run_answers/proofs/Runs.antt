@@ -69,6 +69,16 @@ module _ (seen_is : SeenIs) (plan : Scenario) (is : Plan.IsPlan plan) (known : I
             (all_led_back seen_is lens plan.recover plan.retry (length fs) f (gives_up_at lens plan.recover plan.retry missed) l.datagrams cs as' us h.led l.each fate);
         frames = one_more fs f p.frames h.frames;
       }
+  holds gs again' missed' bs q ds (IsToured.enters fs again missed as' p cs f us ps r l fate over v nothing) round =
+      let h = holds fs again missed as' p cs r (front_round (ring_of plan) fs f round) in
+      let on = back_on seen_is plan is known slowest fs missed as' f us h.lived l (last_round (ring_of plan) fs f round) p.frames cs h.pairs h.led h.frames fate in
+      record {
+        lived = on.lived;
+        pairs = on.paired;
+        led = subst (λ (n : ℕ). AreLed (leads_behind lens plan.recover plan.retry slowest missed (length fs) f us) (behind_back lens plan.recover plan.retry slowest n f us cs)) (sym h.frames)
+            (all_led_back seen_is lens plan.recover plan.retry (length fs) f (gives_up_at lens plan.recover plan.retry missed) l.datagrams cs as' us h.led l.each fate);
+        frames = one_more fs f p.frames h.frames;
+      }
 
   -- EACH FRAME THAT CAME BACK IS ANSWERED
   pub answered : (fs : List Exchanged) (again : Option (List ℕ)) (missed : ℕ) (as' : List Leads) (p : Progress) (cs : List Slave) → (t : Run fs again missed as' p cs) → AllRound (ring_of plan) fs → AskIn t → AnswerIn t
@@ -80,6 +90,11 @@ module _ (seen_is : SeenIs) (plan : Scenario) (is : Plan.IsPlan plan) (known : I
         answered fs again missed as' p cs r (front_round (ring_of plan) fs f round) asks.1,
       )
   answered gs again' missed' bs q ds (IsToured.round fs again missed as' p cs f us ps r l fate over v) round asks =
+      let h = holds fs again missed as' p cs r (front_round (ring_of plan) fs f round) in (
+        answers seen_is plan is known slowest fs missed as' f us h.lived l (last_round (ring_of plan) fs f round) p.frames cs h.pairs h.led h.frames fate asks.0,
+        answered fs again missed as' p cs r (front_round (ring_of plan) fs f round) asks.1,
+      )
+  answered gs again' missed' bs q ds (IsToured.enters fs again missed as' p cs f us ps r l fate over v nothing) round asks =
       let h = holds fs again missed as' p cs r (front_round (ring_of plan) fs f round) in (
         answers seen_is plan is known slowest fs missed as' f us h.lived l (last_round (ring_of plan) fs f round) p.frames cs h.pairs h.led h.frames fate asks.0,
         answered fs again missed as' p cs r (front_round (ring_of plan) fs f round) asks.1,
