@@ -82,8 +82,8 @@ module _ {S V A Q R : Type 0} (lens : ℕ → Lens) (step : Node S → Node S) (
         (subst (λ (k : ℕ → Lens). Right (life_by more passed (length fs) (frame_at k ring octets) (fate_seen (fate_in ring)) w m.spot m.life a) (length fs) (node_behind w.running t)) is.lens_is
         (subst (λ (number : ℕ). Right (life_by more passed (length fs) (frame_at w.lens ring octets) (fate_seen (fate_in ring)) w m.spot m.life a) number (node_behind w.running t)) r.number
         (subst (λ (k : Life Body Q R). Right k ring.number (node_behind w.running t))
-          (One.same_life w m.clearing m.plan m.spot is.whole m.first fs t near few m.life is.lived step (fits m.spot) is.serves is.server is.room more passed a gs refl comes asked is.boots x.boots (frame_of w.lens t).fate)
-          (Clocks.turns w m.clearing m.plan m.spot is.whole m.first m.life fs t more passed a.pick a.news came is.lived b comes its_turn prior))))
+        (One.same_life w m.clearing m.plan m.spot is.whole m.first fs t near few m.life is.lived step (fits m.spot) is.serves is.server is.room more passed a gs refl comes asked is.boots x.boots (frame_of w.lens t).fate)
+        (Clocks.turns w m.clearing m.plan m.spot is.whole m.first m.life fs t more passed a.pick a.news came is.lived b comes its_turn prior))))
 
     -- WHAT IT ANSWERS
     abbrev before : Life Body Q R
@@ -98,8 +98,8 @@ module _ {S V A Q R : Type 0} (lens : ℕ → Lens) (step : Node S → Node S) (
     by_stand Stand.Open e pass now f y s asks =
         let era_is : before.era ≡ Whole.era_before w more passed m.spot fs t a.pick a.news m.life.era = next_open e in
         subst (λ (z : Era Body Q R). EachAnswers b z.side.halves.inn.state z.side.halves.inn.bit (own m.spot.station (frame_of w.lens t).back)) (sym era_is)
-          (Answering.half_answers w m.clearing m.plan m.spot is.whole is.lived.from m.life.era fs t more passed a.pick a.news now.lives.epoch f y.asks b s pass
-            (subst (λ (z : Era Body Q R). EachAsks z.side.halves.inn.state z.side.halves.inn.bit (own m.spot.station (seen w.lens octets))) era_is (asks refl)))
+        (Answering.half_answers w m.clearing m.plan m.spot is.whole is.lived.from m.life.era fs t more passed a.pick a.news now.lives.epoch f y.asks b s pass
+        (subst (λ (z : Era Body Q R). EachAsks z.side.halves.inn.state z.side.halves.inn.bit (own m.spot.station (seen w.lens octets))) era_is (asks refl)))
       where
         next_open : m.life.stand ≡ Stand.Open → before.era ≡ Whole.era_before w more passed m.spot fs t a.pick a.news m.life.era
         next_open e = ap (λ (z : Stand). (life_next w.exchange.speech w.states.acknowledged more passed (length fs) m.life z a.pick).era) e
@@ -108,7 +108,7 @@ module _ {S V A Q R : Type 0} (lens : ℕ → Lens) (step : Node S → Node S) (
     pub one_answers : fate_in ring ≡ Pass → AsksAs (seen lens octets) m.spot before m.life.stand → AnswersAs (seen lens (ring_returned node_passed ring octets)) b m.spot before a.share m.life.stand
     one_answers pass asks =
         subst (λ (k : ℕ → Lens). AnswersAs (seen k (ring_returned node_passed ring octets)) b m.spot before a.share m.life.stand) is.lens_is
-          (by_stand m.life.stand refl pass is.lived.now comes its_turn prior (subst (λ (k : ℕ → Lens). AsksAs (seen k octets) m.spot before m.life.stand) (sym is.lens_is) asks))
+        (by_stand m.life.stand refl pass is.lived.now comes its_turn prior (subst (λ (k : ℕ → Lens). AsksAs (seen k octets) m.spot before m.life.stand) (sym is.lens_is) asks))
 
   -- ---- all of them
   pub each_stand : (bs cs : List (Member S V A Q R)) (turns : List (Turn Q)) (clocks : List Bool) → bs ++ cs ≡ all → AllLived lens step fits fs (length bs) cs → AllTurn more passed lens (length fs) gs cs turns → AllStand clocks cs →

@@ -151,7 +151,7 @@ module _ (seen_is : SeenIs) (plan : Scenario) (is : Plan.IsPlan plan) (known : I
       by Pass e r s g =
           let k = Ring.led_back is_followed is_passed lens made y.datagrams gives plan.recover sent_frame 0 x.members (map under_of us) (chained y.datagrams) x.led xs in
           on_by (behind_back lens plan.recover plan.retry slowest number f us cs) (members_behind Pass) r k.led k.same (g (members_behind Pass) k.shown) s
-            (run_back (speech_at lens) acknowledged is_followed is_passed number (seen lens f.back) cs (unders (seen lens f.back) us) long) now
+          (run_back (speech_at lens) acknowledged is_followed is_passed number (seen lens f.back) cs (unders (seen lens f.back) us) long) now
 
   -- IT WAS LOST
   pub lost_on : (after : ℕ) → f.fate ≡ Lost after → On (behind_lost (lens_of plan.slaves) plan.recover plan.retry slowest (gives_up_at (lens_of plan.slaves) plan.recover plan.retry missed) number f us cs)
@@ -168,9 +168,9 @@ module _ (seen_is : SeenIs) (plan : Scenario) (is : Plan.IsPlan plan) (known : I
           let k = Ring.led_lost is_followed is_passed lens made y.datagrams gives plan.recover later sent_frame 0 x.members (map under_of us) (chained y.datagrams) x.led xs in
           let ns = given_up plan.recover made (members_behind (Lost later)) carried in
           on_by (behind_lost lens plan.recover plan.retry slowest gives number f us cs) ns
-            (Begins.ring_given lens step (FitsPlan plan.slaves) (gs ++ sent_frame ∷ []) plan.recover made (ring_behind node_passed step ring f.sent) (members_behind (Lost later)) carried r)
-            k.led k.same (g ns k.shown) (given_all plan.recover made (clocks cs) x.members (members_behind (Lost later)) carried s)
-            (run_lost (speech_at lens) acknowledged is_followed is_passed number gives plan.recover (seen lens f.sent) cs (unders (seen lens f.back) us) long) now
+          (Begins.ring_given lens step (FitsPlan plan.slaves) (gs ++ sent_frame ∷ []) plan.recover made (ring_behind node_passed step ring f.sent) (members_behind (Lost later)) carried r)
+          k.led k.same (g ns k.shown) (given_all plan.recover made (clocks cs) x.members (members_behind (Lost later)) carried s)
+          (run_lost (speech_at lens) acknowledged is_followed is_passed number gives plan.recover (seen lens f.sent) cs (unders (seen lens f.back) us) long) now
 
   -- WHAT THE SLAVES ANSWER
   all_asked : (ms : List PlanMember) (ts : List Turn) (k : AllLed ms) (z : AllUnder is_followed is_passed lens made y.datagrams ms (map under_of ts)) → AllAsk (seen lens f.sent) ts →
@@ -208,4 +208,4 @@ module _ (seen_is : SeenIs) (plan : Scenario) (is : Plan.IsPlan plan) (known : I
       let given = each_answers lens step (FitsPlan plan.slaves) is_followed is_passed gs ring f.sent y.datagrams y.frame x.members x.lives (meets lens step (FitsPlan plan.slaves) is_followed is_passed gs ring f.sent y.datagrams y.frame x.members turns x.lives turned) (sym w.fate ∙ fate) [] x.members turns (clocks cs) refl x.lives.each turned (all_stand cs x.members pairs)
       (all_asked x.members us x.led xs asks) in
       all_answer (seen lens f.back) cs x.members us x.led xs pairs
-        (subst (λ (octets : List ℕ). AllAnswered is_followed is_passed made (seen lens octets) (clocks cs) x.members turns) (sym w.back) given)
+      (subst (λ (octets : List ℕ). AllAnswered is_followed is_passed made (seen lens octets) (clocks cs) x.members turns) (sym w.back) given)

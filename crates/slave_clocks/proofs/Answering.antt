@@ -95,12 +95,12 @@ module _ {S V A Q R : Type 0} (w : Behind S V A Q R) (c : Clearing V A) (p : Pla
   by_state InState.Refetch s a = none_refetch stepped half.inn.bit back
   by_state InState.Doubt s a = each_met stepped half.inn.bit back
       (subst (λ gs. AllMet gs) (sym back_grams)
-        (just_one spot.station (in_ask InState.Doubt half.inn.bit) refl (λ l. AllMet l) slave.node tt (λ g zero. (ap (λ n. (n + 1) % 65536 == 0) zero, tt)) half.out.holding half.inn (grams (own_seen w.lens spot.station t.datagrams))
-          (sent_so w c p spot whole from e fs t more passed pick news lives f asks) (own_here w.lens spot.station t.datagrams) (asks_doubt half.inn.bit (own_seen w.lens spot.station t.datagrams) a)))
+      (just_one spot.station (in_ask InState.Doubt half.inn.bit) refl (λ l. AllMet l) slave.node tt (λ g zero. (ap (λ n. (n + 1) % 65536 == 0) zero, tt)) half.out.holding half.inn (grams (own_seen w.lens spot.station t.datagrams))
+      (sent_so w c p spot whole from e fs t more passed pick news lives f asks) (own_here w.lens spot.station t.datagrams) (asks_doubt half.inn.bit (own_seen w.lens spot.station t.datagrams) a)))
   by_state InState.Asked s a = each_read stepped half.inn.bit (acknowledge_of t.node.registers) (bit_is s) back
       (subst (λ gs. AllRead (acknowledge_of t.node.registers) gs) (sym back_grams)
-        (just_one spot.station (in_ask InState.Asked half.inn.bit) refl (λ l. AllRead (acknowledge_of t.node.registers) l) slave.node tt (λ g zero. (ap (λ n. (n + 1) % 65536 == 0) zero, refl, tt)) half.out.holding half.inn (grams (own_seen w.lens spot.station t.datagrams))
-          (sent_so w c p spot whole from e fs t more passed pick news lives f asks) (own_here w.lens spot.station t.datagrams) (asks_asked half.inn.bit (own_seen w.lens spot.station t.datagrams) a)))
+      (just_one spot.station (in_ask InState.Asked half.inn.bit) refl (λ l. AllRead (acknowledge_of t.node.registers) l) slave.node tt (λ g zero. (ap (λ n. (n + 1) % 65536 == 0) zero, refl, tt)) half.out.holding half.inn (grams (own_seen w.lens spot.station t.datagrams))
+      (sent_so w c p spot whole from e fs t more passed pick news lives f asks) (own_here w.lens spot.station t.datagrams) (asks_asked half.inn.bit (own_seen w.lens spot.station t.datagrams) a)))
 
   pub half_answers : EachAsks half.inn.state half.inn.bit (own spot.station (seen w.lens t.octets)) → EachAnswers stepped half.inn.state half.inn.bit (own spot.station (frame_of w.lens t).back)
   half_answers a = by_state half.inn.state refl (subst (λ ds. EachAsks half.inn.state half.inn.bit ds) (mine_is w c p spot whole from e fs t more passed pick news lives f asks) a)

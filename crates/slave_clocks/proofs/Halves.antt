@@ -170,8 +170,8 @@ module _ {S V A Q R : Type 0} (w : Behind S V A Q R) (c : Clearing V A) (p : Pla
       let ds = own_seen w.lens spot.station t.datagrams in
       let goes = all_back spot.station half.inn (in_side t.node.kept r) half.out.holding (Some half.inn) (grams ds) sent_so (own_here w.lens spot.station t.datagrams) half slave.node (refl, refl) (first half.inn (in_side t.node.kept r) asked) in
       subst (λ (b : Bool). On (era_behind w more passed spot fs t pick news (fate_seen Pass) e).side.halves.inn (met b t.node comes).registers) (sym reached)
-        (subst (λ (gs : List (Gram Body)). On (halves_after spot.station half gs).inn (registers_after r comes)) (sym (ap grams (back_mine is) ∙ grams_same spot.station slave ds))
-          (subst (λ (n : Node Body (Serving V Body)). GoesOn half.inn (in_side t.node.kept r) (halves_after spot.station half (grams_after spot.station slave.node (grams ds))).inn n.inn) (met_mine reached) goes))
+      (subst (λ (gs : List (Gram Body)). On (halves_after spot.station half gs).inn (registers_after r comes)) (sym (ap grams (back_mine is) ∙ grams_same spot.station slave ds))
+      (subst (λ (n : Node Body (Serving V Body)). GoesOn half.inn (in_side t.node.kept r) (halves_after spot.station half (grams_after spot.station slave.node (grams ds))).inn n.inn) (met_mine reached) goes))
   half_goes asked (Lost after) is = subst (λ (gs : List (Datagram Body)). On (halves_without spot.station half (grams gs)).inn (node_met t).registers) (sym mine_is) (by (is_reached t) refl)
     where
       by : (b : Bool) → is_reached t ≡ b → On (halves_without spot.station half (grams (own_seen w.lens spot.station t.datagrams))).inn (met b t.node comes).registers

@@ -113,7 +113,7 @@ module _ {S V A Q R : Type 0} (w : Behind S V A Q R) (c : Clearing V A) (p : Pla
           (Arrived.freezes w.running w.boot w.lens (plan_to p o.state) next t.node (come_to t.before t.datagrams) (open_up from e l) again (inr (ap suc one)) just) in
           let stands : StandsFor false next (node_met t).registers = watch_stands w.running w.boot w.lens (plan_to p o.state) plan next refl (node_met t) frozen again (ap suc one) in
           subst (λ b. StandsFor b next (node_behind w.running t).registers) (plain (is_in_pace t.pace t.ring.number))
-            (step_on w.running w.boot w.lens (plan_to p o.state) next plan refl (node_met t) false (is_in_pace t.pace t.ring.number) frozen may_step stands)
+          (step_on w.running w.boot w.lens (plan_to p o.state) next plan refl (node_met t) false (is_in_pace t.pace t.ring.number) frozen may_step stands)
         where
           plain : (b : Bool) → (b || false) ≡ b
           plain true = refl

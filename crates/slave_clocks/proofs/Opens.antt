@@ -43,8 +43,8 @@ module _ {S V A Q R : Type 0} (w : Behind S V A Q R) (c : Clearing V A) (p : Pla
       let k : Life Body Q R = record l { era = era fate } in
       let same = is_same (way_of 1 1 l) (way_of 1 1 k) in
       subst (λ (s : Stand). StandsTo (stepped_behind t.pace t.ring.number same stepped) k s (node_behind w.running t).registers) (sym stand)
-        (stands_on w c p spot whole from l.era fs t more passed pick news lives f a.asks stepped same prior (era fate).side.halves.inn
-          (subst (λ (z : RingFate). GoesOn (era_before w more passed spot fs t pick news l.era).side.halves.inn (in_side t.node.kept t.node.registers) (era z).side.halves.inn (in_side t.node.kept (node_met t).registers)) is (half_goes w c p spot whole from l.era fs t more passed pick news lives f a.asks asked_first (fate_of t) refl)) (same_before fate))
+      (stands_on w c p spot whole from l.era fs t more passed pick news lives f a.asks stepped same prior (era fate).side.halves.inn
+      (subst (λ (z : RingFate). GoesOn (era_before w more passed spot fs t pick news l.era).side.halves.inn (in_side t.node.kept t.node.registers) (era z).side.halves.inn (in_side t.node.kept (node_met t).registers)) is (half_goes w c p spot whole from l.era fs t more passed pick news lives f a.asks asked_first (fate_of t) refl)) (same_before fate))
 
   anew : (state : ℕ) → Clocked (record l { era = era RingFate.Back; stand = reopening state true })
   anew state = nothing_awaited (record { again = true; step = 1; state = state; own = true }) _ (node_behind w.running t).registers refl
