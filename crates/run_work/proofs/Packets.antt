@@ -1,6 +1,7 @@
 -- The packets of a run, counted once: those that enter the switch, each with what it leads to.
 use Rattle.std.proofs.Common.{◌≡◌, ℕ, ◌+◌, ◌*◌, ◌≤◌, Option, Some, None, List, [], ◌∷◌, length, take, refl, sym, ap, ap₂, ◌∙◌, arith}
-use Rattle.std.specs.Prelude.{sum_by, slice_get, unwrap_or, option_map}
+use Rattle.std.specs.Prelude.{All, sum_by, slice_get, unwrap_or, option_map}
+use Rattle.std.proofs.lemmas.List.Elements.{All-head, All-tail}
 use Rattle.std.proofs.Math.Nat.{mul-le-mul_right}
 use Rattle.std.proofs.lemmas.List.Sums.{sum_by-cons}
 use Rattle.arrayvec.specs.ArrayVec.{ArrayVec}
@@ -8,6 +9,7 @@ use Rattle.life_runs.specs.Led.{Leads}
 use Rattle.packet_work.specs.Packets.{cuts}
 use Rattle.plan_counts.specs.Split.{own_work, entering, split_work}
 use Rattle.script_work.specs.Begun.{work_begun, addressed, work_in}
+use Rattle.segment_plan.specs.Sound.{IsPacket}
 use Rattle.segment_plan.specs.Bound.{spread, work_of, addressed_work, services_work, host_work}
 use Rattle.segment_plan.specs.declared.service.Service as Plan
 use Rattle.segment_plan.specs.declared.slave.SlaveSpec.{SlaveSpec}
@@ -61,8 +63,17 @@ host_parts n (packet ∷ host) =
     ∙ sym (spread_out (cut packet) (host_cuts host) (square n))
     ∙ ap (λ count. count * square n) (sym (sum_by-cons cut packet host))
 
--- WHAT ENTERS COMES TO NO MORE THAN ITS SQUARE, and what came into hand is of what was written and sent back
-pub within_square : (n host begun entered packets work : ℕ) → entered ≤ host + begun → entered + packets ≤ work → work ≤ entered * square n → begun + packets ≤ host * square n + begun * square n
+-- each packet of the host counts one at least
+pub host_many : (host : List (ArrayVec ℕ)) → All IsPacket host → length host ≤ host_cuts host
+host_many [] each = omega arith
+host_many (packet ∷ host) each =
+    let least = (All-head IsPacket packet host each).0 in
+    let one : 1 ≤ cuts packet.items = omega (arith, least) in
+    let sum : host_cuts (packet ∷ host) ≡ cuts packet.items + host_cuts host = sum_by-cons (λ (packet : ArrayVec ℕ). cuts packet.items) packet host in
+    omega (arith, one, sum, host_many host (All-tail IsPacket packet host each))
+
+-- WHAT ENTERS COMES TO NO MORE THAN ITS SQUARE, and what came into hand is of what was written and sent back; that the host's packets came in besides
+pub within_square : (n host begun entered packets work : ℕ) → entered ≤ host + begun → entered + packets ≤ work → work ≤ entered * square n → begun + packets + host ≤ host * square n + begun * square n
 within_square n host begun entered packets work enters written most =
     let more : ℕ = n * n + 2 * n in
     let whole : entered * square n ≡ entered + entered * more = omega arith in

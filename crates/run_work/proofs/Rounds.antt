@@ -57,3 +57,5 @@ module _ (law : RingReturns) (lens : ℕ → Lens) (recover retry slowest : ℕ)
       more_returned lens fs f (toured_returned fs again missed as' p cs r (front_round ring fs f round)) (one_returned fs f l.datagrams l.frame (last_round ring fs f round))
   toured_returned gs again' missed' bs q ds (IsToured.round fs again missed as' p cs f us ps r l fate over v) round =
       more_returned lens fs f (toured_returned fs again missed as' p cs r (front_round ring fs f round)) (one_returned fs f l.datagrams l.frame (last_round ring fs f round))
+  toured_returned gs again' missed' bs q ds (IsToured.enters fs again missed as' p cs f us ps r l fate over v nothing) round =
+      more_returned lens fs f (toured_returned fs again missed as' p cs r (front_round ring fs f round)) (one_returned fs f l.datagrams l.frame (last_round ring fs f round))

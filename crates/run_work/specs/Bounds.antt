@@ -1,5 +1,5 @@
 -- THE FRAMES OF A PLAN'S RUN, and how many they may be.
-use Rattle.std.specs.Prelude.{ℕ, ◌+◌, ◌*◌, Option, List, length}
+use Rattle.std.specs.Prelude.{ℕ, ◌+◌, ◌*◌, ◌≤◌, Option, List, length}
 use Rattle.life_runs.specs.First.{lens_of, first_leads}
 use Rattle.life_runs.specs.Led.{Exchanged, Leads}
 use Rattle.link_mails.specs.Body.{Body}
@@ -7,6 +7,7 @@ use Rattle.master_duty.specs.Reply.{Reply}
 use Rattle.master_hand.specs.Spoken.{Asked}
 use Rattle.plan_ring.specs.Round.{ring_of, AllRound}
 use Rattle.run_frames.specs.Clocks.{Clocked}
+use Rattle.run_frames.specs.Fates.{lost_of}
 use Rattle.run_frames.specs.Runs.{Progress}
 use Rattle.run_frames.specs.Toured.{IsToured, AskIn, AnswerIn, WaitIn}
 use Rattle.plan_counts.specs.Split.{own_work}
@@ -15,14 +16,15 @@ use Rattle.segment_plan.specs.Bound.{slowest}
 use Rattle.segment_plan.specs.declared.plan.Scenario.{Scenario}
 
 -- A RUN OF A PLAN behind these frames: its master leads the slaves by them, they are the visits of one tour and count with the plan's paces; each that
--- came back asked by the inward half first, and each slave answered what awaits a step; while nothing is gained some slave waits yet; and they went
--- round its ring
+-- came back asked by the inward half first, and each slave answered what awaits a step; while nothing is gained some slave waits yet, but for as many
+-- frames as the host has packets; and they went round its ring
 pub record IsPlanRun (plan : Scenario) (fs : List Exchanged) (missed : ℕ) (leads : List Leads) (p : Progress) (cs : List (Clocked Body Asked Reply)) : Type 0 where
   pub again : Option (List ℕ)
   pub toured : IsToured (lens_of plan.slaves) plan.recover plan.retry (slowest plan.paces) (first_leads plan) plan.paces fs again missed leads p cs
   pub asks : AskIn toured
   pub answers : AnswerIn toured
   pub waits : WaitIn toured
+  pub enters : p.lost ≤ lost_of fs + length plan.host
   pub round : AllRound (ring_of plan) fs
 
 -- the frame bound of a plan, with so much for the packets that enter the switch and those that come into hand

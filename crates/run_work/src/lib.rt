@@ -65,10 +65,11 @@ pub fn run_work()
 }
 
 /// THE PACKETS OF A RUN COUNT NO MORE THAN THE FRAME BOUND HAS FOR THEM, where they are those of one switch: what downloads emit and what comes into hand
-/// is together within what the host's packets count, and what a download counts for the one that it emits. So each is counted once.
+/// is together within what the host's packets count, and what a download counts for the one that it emits. So each is counted once, and each of the host's
+/// once more, for the frame with which it comes in.
 pub fn switched_law()
     ensures { (plan : Scenario) → IsPlan plan → (fs : List Exchanged) (missed : ℕ) (leads : List Leads) → IsLed (lens_of plan.slaves) plan.recover plan.retry (first_leads plan) fs missed leads → AreSwitched plan leads →
-        work_in own_work plan.slaves plan.services + (cuts_begun plan.slaves leads + packets_begun plan.slaves leads) ≤ services_work plan.slaves plan.services + host_work (length plan.slaves) plan.host }
+        work_in own_work plan.slaves plan.services + (cuts_begun plan.slaves leads + packets_begun plan.slaves leads) + length plan.host ≤ services_work plan.slaves plan.services + host_work (length plan.slaves) plan.host }
 {
     plan_counts::plan_counts();
     script_work::script_law();
@@ -91,9 +92,9 @@ pub fn tallied_law()
 /// THE FRAMES OF A RUN, of a plan that was read, that its master led by visits of one tour and that went round its ring, are fewer than the frame bound:
 /// whatever frames are lost and whoever is given up.
 pub fn run_bound()
-    // Of any packets: with what they take that came into hand, and the fragments of what downloads emit.
+    // Of any packets: with what they take that came into hand, the fragments of what downloads emit, and one for each of the host's.
     ensures within { (plan : Scenario) (fs : List Exchanged) (missed : ℕ) (leads : List Leads) (p : Progress) (cs : List (Clocked Body Asked Reply)) →
-        IsPlan plan → IsKnown plan → IsPlanRun plan fs missed leads p cs → length fs < bound_with plan (cuts_begun plan.slaves leads + packets_begun plan.slaves leads) }
+        IsPlan plan → IsKnown plan → IsPlanRun plan fs missed leads p cs → length fs < bound_with plan (cuts_begun plan.slaves leads + packets_begun plan.slaves leads + length plan.host) }
     // And where the packets are those of one switch, the frame bound itself.
     ensures switched { (plan : Scenario) (fs : List Exchanged) (missed : ℕ) (leads : List Leads) (p : Progress) (cs : List (Clocked Body Asked Reply)) →
         IsPlan plan → IsKnown plan → IsPlanRun plan fs missed leads p cs → AreSwitched plan leads → length fs < bound_of plan 0 }

@@ -4,7 +4,7 @@ use Rattle.life_runs.specs.First.{lens_of}
 use Rattle.plan_counts.specs.Split.{entering}
 use Rattle.run_work.specs.Switched.{cuts_begun, host_cuts}
 use Rattle.run_work.specs.Together.{packets_begun}
-use Rattle.run_work.proofs.Packets.{square, work_parts, host_parts, within_square}
+use Rattle.run_work.proofs.Packets.{square, work_parts, host_parts, host_many, within_square}
 use Rattle.run_work.proofs.switched_law.Goals as goal
 
 pub returns : goal.returns
@@ -14,4 +14,4 @@ returns c = λ plan is fs missed leads led packets.
     let begun = c.script_law.ensures (λ slave service. entering service) (lens_of plan.slaves) plan.recover plan.retry plan fs missed leads led in
     let all = within_square n (host_cuts plan.host) (cuts_begun plan.slaves leads) packets.world.entered (packets_begun plan.slaves leads) packets.world.work packets.entered packets.written most in
     let split = work_parts plan.slaves (λ s service. c.plan_counts.ensures.split n s service) plan.services in
-    omega (arith, all, split, host_parts n plan.host, mul-le-mul_right (square n) begun)
+    omega (arith, all, split, host_parts n plan.host, host_many plan.host is.laid.host, mul-le-mul_right (square n) begun)
