@@ -1,12 +1,11 @@
 -- One frame of the run, for the slaves as they are counted and those of the ring.
 use Rattle.std.proofs.Common.{◌≡◌, ℕ, suc, Bool, List, [], ◌∷◌, ◌++◌, map, length, refl, sym, ap, ◌∙◌, subst}
 use Rattle.std.proofs.lemmas.List.{length-map, map-append}
-use Rattle.datagrams.specs.Datagram as Raw
-use Rattle.datagrams.specs.Frame.{IsFrame, chained}
+use Rattle.datagrams.specs.Frame.{chained}
 use Rattle.frame_view.specs.Seen.{seen}
 use Rattle.frame_view.specs.View.{Lens}
 use Rattle.life_frames.specs.Shares.{Lived}
-use Rattle.life_model.specs.Lives.{Life, Stand}
+use Rattle.life_model.specs.Lives.{Stand}
 use Rattle.life_model.specs.Own.{own}
 use Rattle.life_runs.specs.First.{lens_of}
 use Rattle.life_runs.specs.Led as Led
@@ -14,9 +13,8 @@ use Rattle.life_runs.specs.Led.{Exchanged, Leads, Turn, IsLedFrame, AllTurn, is_
 use Rattle.link_mails.specs.Body.{Body}
 use Rattle.master_duty.specs.Reply.{Reply}
 use Rattle.master_hand.specs.Spoken.{Asked, acknowledged, is_followed}
-use Rattle.plan_ring.specs.Lives.{IsKnown, AllShown, AreLived}
-use Rattle.plan_ring.specs.Master as Master
-use Rattle.plan_ring.specs.Master.{AllLed, AllUnder, AllSame, AllBehind, lived_of}
+use Rattle.plan_ring.specs.Lives.{IsKnown, AreLived}
+use Rattle.plan_ring.specs.Master.{AllLed, AllUnder, AllSame, AllBehind}
 use Rattle.plan_ring.specs.Plan.{PlanMember, FitsPlan, step}
 use Rattle.plan_ring.specs.Round.{ring_of, behind, WentRound, ring_after, frame_seen, all_seen}
 use Rattle.plan_ring.proofs.Known.{AllBoot, all_boot}
@@ -32,7 +30,7 @@ use Rattle.segment_model.specs.Record.{Frame}
 use Rattle.segment_model.specs.Slaves.{Datagram}
 use Rattle.segment_plan.specs.Sound as Plan
 use Rattle.segment_plan.specs.declared.plan.Scenario.{Scenario}
-use Rattle.segment_ring.specs.Ring.{RingState, ring_behind, ring_returned}
+use Rattle.segment_ring.specs.Ring.{RingState, ring_behind}
 use Rattle.segment_ring.specs.Schedule.{fate_at}
 use Rattle.segment_ring.specs.declared.wire.Fate.{Fate}
 use Rattle.segment_ring.specs.declared.wire.Fate.TheVariants.{Pass, Lost}
@@ -44,7 +42,7 @@ use Rattle.whole_ring.specs.Turning as Whole
 use Rattle.whole_ring.specs.Turning.{frame_at, behind_frame, given_up, next_life}
 use Rattle.whole_ring.proofs.Begins as Begins
 use Rattle.whole_ring.proofs.Members as Members
-use Rattle.run_answers.proofs.Pairs.{Slave, AllPair, IsPair, clocks, all_stand, RunOn, run_back, run_lost, pairs_on, given_all}
+use Rattle.run_answers.proofs.Pairs.{Slave, AllPair, clocks, all_stand, RunOn, run_back, run_lost, pairs_on, given_all}
 
 module _ (seen_is : SeenIs) (plan : Scenario) (is : Plan.IsPlan plan) (known : IsKnown plan) (slowest : ℕ) (fs : List Exchanged) (missed : ℕ) (as' : List Leads) (f : Exchanged) (us : List Turn) (x : AreLived plan fs as') (y : IsLedFrame (lens_of plan.slaves) (length fs) f.sent as' us) (w : WentRound (ring_after (ring_of plan) fs) f)
     (number : ℕ) (cs : List Slave) (pairs : AllPair cs x.members) (led : AreLed as' cs) (frames : number ≡ length fs) where

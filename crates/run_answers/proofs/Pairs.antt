@@ -1,12 +1,12 @@
 -- The slaves as they are counted, and those of the ring: the same lives, and clocks that are right.
-use Rattle.std.proofs.Common.{◌≡◌, ℕ, suc, ◌&&◌, Bool, true, false, Option, List, [], ◌∷◌, map, length, refl, sym, ap, ap₂, ◌∙◌, subst, if◌then◌else◌}
+use Rattle.std.proofs.Common.{◌≡◌, ℕ, suc, Bool, true, false, List, [], ◌∷◌, map, length, refl, sym, ap, ◌∙◌, subst, if◌then◌else◌}
 use Rattle.std.specs.Prelude.{⊤}
 use Rattle.exchange_model.specs.Exchange.{Speech}
 use Rattle.life_frames.specs.Shares.{Lived}
 use Rattle.life_measure.specs.Repairs.{way_of}
-use Rattle.life_model.specs.Lives.{Spot, Life, Stand, gives_up}
-use Rattle.life_runs.specs.First.{first_leads, leads_from}
-use Rattle.life_runs.specs.Led.{Leads, Turn}
+use Rattle.life_model.specs.Lives.{Spot, Life, gives_up}
+use Rattle.life_runs.specs.First.{leads_from}
+use Rattle.life_runs.specs.Led.{Leads}
 use Rattle.link_mails.specs.Body.{Body}
 use Rattle.master_duty.specs.Reply.{Reply}
 use Rattle.master_hand.specs.Spoken.{Asked}

@@ -1,8 +1,8 @@
 -- Frame by frame.
-use Rattle.std.proofs.Common.{◌≡◌, ℕ, suc, ◌+◌, Option, List, [], ◌∷◌, ◌++◌, map, length, refl, sym, ap, ◌∙◌, subst, arith, length-append}
+use Rattle.std.proofs.Common.{◌≡◌, ℕ, suc, ◌+◌, Option, List, [], ◌∷◌, ◌++◌, length, refl, sym, ap, ◌∙◌, subst, arith, length-append}
 use Rattle.frame_view.specs.View.{Lens}
 use Rattle.life_runs.specs.First.{lens_of, first_leads}
-use Rattle.life_runs.specs.Led.{Exchanged, Leads, IsLedFrame, gives_up_at}
+use Rattle.life_runs.specs.Led.{Exchanged, Leads, gives_up_at}
 use Rattle.plan_ring.specs.Lives.{IsKnown, AreLived}
 use Rattle.plan_ring.specs.Round.{ring_of, AllRound}
 use Rattle.plan_ring.proofs.Lives.{front_round, last_round}

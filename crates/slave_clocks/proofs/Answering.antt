@@ -1,6 +1,5 @@
 -- What a slave answers by a frame that came back.
-use Rattle.std.proofs.Common.{◌≡◌, ℕ, ◌+◌, ◌%◌, ◌==◌, ◌&&◌, not, cond, Bool, true, false, Option, Some, None, List, [], ◌∷◌, refl, sym, ap, ap₂, ◌∙◌, subst, if◌then◌else◌}
-use Rattle.datagrams.specs.Datagram as Raw
+use Rattle.std.proofs.Common.{◌≡◌, ◌+◌, ◌%◌, ◌==◌, ◌&&◌, Bool, true, false, Option, Some, List, [], ◌∷◌, refl, sym, ap, ap₂, ◌∙◌, subst}
 use Rattle.frame_view.specs.Seen.{seen}
 use Rattle.frames_seen.specs.Own.{own_seen}
 use Rattle.frames_seen.specs.Slaves.{registers_seen, slave_of}
@@ -11,17 +10,16 @@ use Rattle.life_model.specs.Eras.{Clearing}
 use Rattle.life_model.specs.Lives.{Spot, Era, Opening, AsksOpen, Stand, is_shown}
 use Rattle.life_model.specs.Own.{own}
 use Rattle.link_mails.specs.Body.{Body}
-use Rattle.link_model.specs.Frames.{grams_after, gram_meets, in_ask}
+use Rattle.link_model.specs.Frames.{grams_after, in_ask}
 use Rattle.link_model.specs.Link.{Halves}
 use Rattle.link_model.specs.Mails.{differs}
 use Rattle.link_model.specs.Master.{InHalf, InState}
-use Rattle.mailbox_slave.specs.Node.{in_side}
 use Rattle.mailbox_slave.specs.Registers.{acknowledge_of}
-use Rattle.run_frames.specs.Answers.{AsksHalf, EachAsks, HalfAnswers, EachAnswers, OpeningAnswers}
+use Rattle.run_frames.specs.Answers.{EachAsks, EachAnswers, OpeningAnswers}
 use Rattle.segment_model.specs.Record.{Frame, News}
 use Rattle.segment_model.specs.Slaves.{Datagram, Found, Slave, grams}
-use Rattle.segment_ring.specs.declared.wire.Fate.TheVariants.{Pass, Lost}
-use Rattle.slave_lives.specs.Lived.{Behind, RingFrame, LivesEra, AccessBack, fate_of, frame_of}
+use Rattle.segment_ring.specs.declared.wire.Fate.TheVariants.{Pass}
+use Rattle.slave_lives.specs.Lived.{Behind, RingFrame, LivesEra, fate_of, frame_of}
 use Rattle.slave_lives.specs.Opening.{Plan}
 use Rattle.slave_lives.specs.Stands.{Closing}
 use Rattle.steps_shown.specs.Shown.{StandsFor}

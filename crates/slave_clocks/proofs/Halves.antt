@@ -1,6 +1,5 @@
 -- An open slave, by a frame: where the acknowledge of the repeat request is awaited, the request stands.
-use Rattle.std.proofs.Common.{◌≡◌, ◌⊎◌, inl, inr, ℕ, suc, ◌==◌, ◌&&◌, Bool, true, false, Option, Some, None, List, [], ◌∷◌, ◌++◌, refl, sym, ap, ap₂, ◌∙◌, subst, if◌then◌else◌, length}
-use Rattle.std.specs.Prelude.{◌||◌}
+use Rattle.std.proofs.Common.{◌≡◌, ℕ, ◌==◌, ◌&&◌, Bool, true, false, Option, Some, None, List, [], ◌∷◌, ◌++◌, refl, sym, ap, ◌∙◌, subst, if◌then◌else◌, length}
 use Rattle.datagrams.specs.Datagram as Raw
 use Rattle.datagrams.specs.declared.command.Command.{Command}
 use Rattle.datagrams.specs.declared.command.Command.TheVariants.{Aprd, Apwr, Aprw, Fprd, Fpwr, Fprw}
@@ -10,9 +9,9 @@ use Rattle.exchange_model.specs.Exchange.{Speech}
 use Rattle.exchange_model.specs.Rows.{Row, begun}
 use Rattle.frame_pass.specs.Passing.{registers_after, datagrams_after}
 use Rattle.frame_view.specs.Seen.{seen, datagrams_seen}
-use Rattle.frame_view.specs.View.{Lens, datagram_seen, station_of}
+use Rattle.frame_view.specs.View.{Lens, station_of}
 use Rattle.frames_seen.specs.Own.{own_of, own_seen, is_to, IsAlone}
-use Rattle.frames_seen.specs.Ring.{all_after, AllApart, IsRingMet}
+use Rattle.frames_seen.specs.Ring.{AllApart, IsRingMet}
 use Rattle.frames_seen.specs.Slaves.{registers_seen, slave_of}
 use Rattle.frames_seen.specs.Spoken.{AllSpoken}
 use Rattle.frames_seen.proofs.Rings as FrameRings
@@ -26,9 +25,8 @@ use Rattle.link_model.specs.Frames as Link
 use Rattle.link_model.specs.Frames.{Gram, IsSent, node_after, grams_after, gram_meets, halves_after, halves_without}
 use Rattle.link_model.specs.Link.{Halves}
 use Rattle.link_model.specs.Master.{InHalf, InState}
-use Rattle.link_model.specs.Slave.{InSide, Node}
+use Rattle.link_model.specs.Slave.{Node}
 use Rattle.mailbox_slave.specs.Node.{node_of, in_side}
-use Rattle.mailbox_slave.specs.Registers.{in_len, request_of, acknowledge_of}
 use Rattle.segment_model.specs.Record.{Frame, News}
 use Rattle.segment_model.specs.Seats.{Side, side_begins, side_holds, side_next, is_over, Choice, next_mail}
 use Rattle.segment_model.specs.Slaves.{Datagram, Serving, Slave, grams, slave_after, slave_meets, frame_after}
@@ -37,20 +35,19 @@ use Rattle.segment_ring.specs.declared.wire.Fate.{Fate}
 use Rattle.segment_ring.specs.declared.wire.Fate.TheVariants.{Pass, Lost}
 use Rattle.run_frames.specs.Goes.{stepped_behind}
 use Rattle.slave_lives.specs.Lived.{Behind, RingFrame, LivesEra, fate_of, is_reached, node_met, node_behind, frame_of, returned, IsForOpen}
-use Rattle.slave_lives.specs.Nodes.{IsRunning, stepped}
+use Rattle.slave_lives.specs.Nodes.{stepped}
 use Rattle.slave_lives.specs.Opening.{Plan}
 use Rattle.slave_lives.specs.Rings.{registers_of, come_to, come_back, met, is_met_at, fate_seen}
 use Rattle.slave_lives.proofs.Owned.{own_is}
 use Rattle.slave_lives.proofs.RingFrames.{met_runs}
 use Rattle.slave_lives.proofs.RingLives.{sent_is, back_is}
-use Rattle.slave_steps.specs.Node as Running
 use Rattle.steps_shown.proofs.Asking.{acknowledges}
 use Rattle.task_model.specs.Accounts.{Pick, mails_choice}
 use Rattle.whole_lives.specs.Turns.{FrameComes, era_before, era_behind}
 use Rattle.whole_lives.specs.Whole.{IsWhole}
 use Rattle.whole_lives.proofs.Still.{own_comes}
 use Rattle.slave_clocks.specs.Stands.{Asked}
-use Rattle.slave_clocks.proofs.Ways.{clock_in, clock_out}
+use Rattle.slave_clocks.proofs.Ways.{clock_out}
 
 -- ---- what comes into hand leaves the inward half
 begins_same : {M Q R : Type 0} (x : Speech M Q R) (frame : ℕ) (d : Side M Q R) (now : Option (Row M Q R)) (begin : Option Q) → (side_begins x frame d now begin).halves.inn ≡ d.halves.inn

@@ -1,22 +1,22 @@
 -- A slave that is opened, by a frame: its access stays in hand, or the next one is.
-use Rattle.std.proofs.Common.{◌≡◌, ◌⊎◌, inl, inr, ℕ, suc, ◌==◌, ◌&&◌, ◌<◌, Bool, true, false, Option, Some, None, List, [], ◌∷◌, ◌++◌, refl, sym, ap, ap₂, ◌∙◌, subst, if◌then◌else◌, arith, length}
+use Rattle.std.proofs.Common.{◌≡◌, inr, ℕ, suc, ◌==◌, ◌&&◌, Bool, true, false, Option, List, refl, sym, ap, ap₂, ◌∙◌, subst, length}
 use Rattle.std.specs.Prelude.{◌||◌}
-use Rattle.std.proofs.lemmas.Bool.{ne_eqb, and_parts}
+use Rattle.std.proofs.lemmas.Bool.{ne_eqb}
 use Rattle.ec_fields.specs.Fields.{bits_of}
 use Rattle.esc_registers.specs.declared.registers.Registers as Esc
 use Rattle.al_state.specs.Request.{is_state}
 use Rattle.frames_seen.specs.Slaves.{registers_seen}
-use Rattle.life_measure.specs.Repairs.{awaits_at, awaited}
+use Rattle.life_measure.specs.Repairs.{awaits_at}
 use Rattle.life_model.specs.Eras.{Clearing}
-use Rattle.life_model.specs.Lives.{Spot, Era, Life, Opening, Stand, shows_clear, last_step}
+use Rattle.life_model.specs.Lives.{Spot, Era, Opening, Stand, shows_clear, last_step}
 use Rattle.link_mails.specs.Body.{Body}
 use Rattle.segment_model.specs.Record.{Frame}
 use Rattle.segment_model.specs.Slaves.{Found}
 use Rattle.segment_ring.specs.Ring.{is_in_pace}
 use Rattle.segment_ring.specs.declared.wire.Fate.{Fate}
 use Rattle.run_frames.specs.Goes.{stepped_behind}
-use Rattle.slave_lives.specs.Lived.{Behind, RingFrame, ClosedFrame, AccessBack, is_reached, node_met, node_behind}
-use Rattle.slave_lives.specs.Nodes.{IsRunning, stepped}
+use Rattle.slave_lives.specs.Lived.{Behind, RingFrame, ClosedFrame, is_reached, node_met, node_behind}
+use Rattle.slave_lives.specs.Nodes.{IsRunning}
 use Rattle.slave_lives.specs.Opening.{Plan, IsPlan, JustOne}
 use Rattle.slave_lives.specs.Rings.{come_to, met, is_met_at}
 use Rattle.slave_lives.specs.Stands.{IsClosed, Closing, MayStep, OpenUp}
@@ -24,14 +24,13 @@ use Rattle.slave_lives.proofs.Arrives as Arrived
 use Rattle.slave_lives.proofs.Closing as Closed
 use Rattle.slave_lives.proofs.RingFrames.{met_runs}
 use Rattle.slave_lives.proofs.Words.{state_in}
-use Rattle.slave_steps.specs.Node.{Node}
-use Rattle.steps_shown.specs.Shown.{Shows, Waits, StandsFor}
+use Rattle.steps_shown.specs.Shown.{StandsFor}
 use Rattle.steps_shown.proofs.Going.{stays_on, goes_on, step_on}
 use Rattle.steps_shown.proofs.Standing.{watch_stands}
 use Rattle.whole_lives.specs.Turns.{FrameComes, Came}
 use Rattle.whole_lives.specs.Whole.{IsWhole, LivesStill, OpensAs, plan_to}
 use Rattle.whole_lives.proofs.Kept.{met_boot}
-use Rattle.slave_clocks.proofs.Ways.{clock_in, clock_out}
+use Rattle.slave_clocks.proofs.Ways.{clock_out}
 
 -- an access that awaits no step answers for nothing
 pub nothing_awaited : (o : Opening) (b : Bool) (r : Esc.Registers) → awaits_at o.again o.step ≡ false → StandsFor b o r

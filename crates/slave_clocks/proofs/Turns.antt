@@ -6,7 +6,7 @@ use Rattle.life_measure.specs.Repairs.{way_of, stand_way, opening_way, awaits_at
 use Rattle.life_model.specs.Eras.{Clearing}
 use Rattle.life_model.specs.Lives.{Spot, Era, Life, Opening, Stand, shows_clear, last_step, is_shown, clears, opens, steps_on, opening_back, gives_up, reopening}
 use Rattle.link_mails.specs.Body.{Body}
-use Rattle.link_model.specs.Master.{InHalf, InState}
+use Rattle.link_model.specs.Master.{InState}
 use Rattle.link_model.specs.Segment.{RingFate}
 use Rattle.run_frames.specs.Goes.{is_same, stepped_behind}
 use Rattle.segment_model.specs.Record.{Frame, News}
@@ -17,7 +17,7 @@ use Rattle.steps_shown.specs.Shown.{StandsFor}
 use Rattle.task_model.specs.Accounts.{Pick}
 use Rattle.whole_lives.specs.Turns.{FrameComes, TurnsAs, CameAs, Came, life_by}
 use Rattle.whole_lives.specs.Whole.{IsWhole, IsLived, OpensAs, StandsAs}
-use Rattle.slave_clocks.specs.Stands.{Asked, StandsTo}
+use Rattle.slave_clocks.specs.Stands.{StandsTo}
 use Rattle.slave_clocks.proofs.Opened.{nothing_awaited, stays, goes}
 use Rattle.slave_clocks.proofs.Opens.{open_turns}
 use Rattle.slave_clocks.proofs.Ways.{itself, next_other}
