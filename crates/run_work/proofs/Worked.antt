@@ -14,7 +14,7 @@ use Rattle.run_work.specs.Together.{packets_begun}
 
 -- a run of it, of which nothing was sent
 nothing : (plan : Scenario) → (let cs = first_clocked (first_leads plan) plan.paces in IsPlanRun plan [] 0 (first_leads plan) (nothing_sent None cs) cs)
-nothing plan = record { again = None; toured = IsToured.start; asks = tt; answers = tt; waits = tt; enters = omega arith; round = tt }
+nothing plan = record { again = None; toured = IsToured.start; asks = tt; waits = tt; enters = omega arith; round = tt }
 
 -- no packet came into hand, and none entered a switch
 no_packets : (rows : List (ℕ × Plan.Service)) (place : ℕ) (ss : List SlaveSpec) → packets_begun ss (leads_from rows place ss) ≡ 0

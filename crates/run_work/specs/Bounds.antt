@@ -9,20 +9,19 @@ use Rattle.plan_ring.specs.Round.{ring_of, AllRound}
 use Rattle.run_frames.specs.Clocks.{Clocked}
 use Rattle.run_frames.specs.Fates.{lost_of}
 use Rattle.run_frames.specs.Runs.{Progress}
-use Rattle.run_frames.specs.Toured.{IsToured, AskIn, AnswerIn, WaitIn}
+use Rattle.run_frames.specs.Toured.{IsToured, AskIn, WaitIn}
 use Rattle.plan_counts.specs.Split.{own_work}
 use Rattle.script_work.specs.Begun.{work_in}
 use Rattle.segment_plan.specs.Bound.{slowest}
 use Rattle.segment_plan.specs.declared.plan.Scenario.{Scenario}
 
 -- A RUN OF A PLAN behind these frames: its master leads the slaves by them, they are the visits of one tour and count with the plan's paces; each that
--- came back asked by the inward half first, and each slave answered what awaits a step; while nothing is gained some slave waits yet, but for as many
--- frames as the host has packets; and they went round its ring
+-- came back asked by the inward half first; while nothing is gained some slave waits yet, but for as many frames as the host has packets; and they went
+-- round its ring
 pub record IsPlanRun (plan : Scenario) (fs : List Exchanged) (missed : ℕ) (leads : List Leads) (p : Progress) (cs : List (Clocked Body Asked Reply)) : Type 0 where
   pub again : Option (List ℕ)
   pub toured : IsToured (lens_of plan.slaves) plan.recover plan.retry (slowest plan.paces) (first_leads plan) plan.paces fs again missed leads p cs
   pub asks : AskIn toured
-  pub answers : AnswerIn toured
   pub waits : WaitIn toured
   pub enters : p.lost ≤ lost_of fs + length plan.host
   pub round : AllRound (ring_of plan) fs

@@ -81,11 +81,13 @@ pub fn fates_law()
     ensures { (plan : Scenario) (fs : List Exchanged) → AllRound (ring_of plan) fs → AreFated plan.lose 0 fs }
 {}
 
-/// WHAT CAME BACK OF A RUN'S FRAMES, which went round the ring of its plan, is the return of what was sent; so its frames are tallied.
+/// WHAT CAME BACK OF A RUN'S FRAMES, which went round the ring of its plan, is the return of what was sent, and each slave answered by it what awaits a
+/// step; so its frames are tallied.
 pub fn tallied_law()
-    ensures { (plan : Scenario) (fs : List Exchanged) (missed : ℕ) (leads : List Leads) (p : Progress) (cs : List (Clocked Body Asked Reply)) → IsPlan plan → IsPlanRun plan fs missed leads p cs →
+    ensures { (plan : Scenario) (fs : List Exchanged) (missed : ℕ) (leads : List Leads) (p : Progress) (cs : List (Clocked Body Asked Reply)) → IsPlan plan → IsKnown plan → IsPlanRun plan fs missed leads p cs →
         IsTallied (lens_of plan.slaves) plan.recover plan.retry (slowest plan.paces) (first_leads plan) plan.paces fs missed leads p cs }
 {
+    run_answers::answer_law();
     run_frames::toured_law();
 }
 

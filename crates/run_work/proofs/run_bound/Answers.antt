@@ -8,7 +8,7 @@ use Rattle.run_work.proofs.run_bound.Goals as goal
 
 pub returns-clause-within : goal.returns-clause-within
 returns-clause-within c = λ plan fs missed leads p cs is known run.
-    let tallied = c.tallied_law.ensures plan fs missed leads p cs is run in
+    let tallied = c.tallied_law.ensures plan fs missed leads p cs is known run in
     let led = (c.led_counts.ensures.led plan fs missed leads p cs is tallied).0 in
     let gained = c.run_work.ensures plan is known fs missed leads led run.round in
     let packets = cuts_begun plan.slaves leads + packets_begun plan.slaves leads in
@@ -19,7 +19,7 @@ returns-clause-within c = λ plan fs missed leads p cs is known run.
 
 pub returns-clause-switched : goal.returns-clause-switched
 returns-clause-switched c = λ plan fs missed leads p cs is known run packets.
-    let tallied = c.tallied_law.ensures plan fs missed leads p cs is run in
+    let tallied = c.tallied_law.ensures plan fs missed leads p cs is known run in
     let led = (c.led_counts.ensures.led plan fs missed leads p cs is tallied).0 in
     let gained = c.run_work.ensures plan is known fs missed leads led run.round in
     let few = c.switched_law.ensures plan is fs missed leads led packets in
@@ -30,7 +30,7 @@ returns-clause-switched c = λ plan fs missed leads p cs is known run packets.
 
 pub returns-clause-uncut : goal.returns-clause-uncut
 returns-clause-uncut c = λ plan fs missed leads p cs budget is known run packets enough same.
-    let tallied = c.tallied_law.ensures plan fs missed leads p cs is run in
+    let tallied = c.tallied_law.ensures plan fs missed leads p cs is known run in
     let led = (c.led_counts.ensures.led plan fs missed leads p cs is tallied).0 in
     let gained = c.run_work.ensures plan is known fs missed leads led run.round in
     let few = c.switched_law.ensures plan is fs missed leads led packets in
