@@ -1,0 +1,1 @@
+pub use Rattle.master_side.specs as of_master_side
