@@ -1,4 +1,5 @@
-ghost use Rattle.std.specs.Prelude.{◌≡◌, ◌≤◌, length, OnTrue, true};
+ghost use Rattle.std.specs.Prelude.{◌≡◌, true};
+ghost use Rattle.std.specs.Bool.{OnTrue};
 ghost use Rattle.foe_codec.specs.Message.{is_name};
 
 use anyhow::{Result, bail};

@@ -1,4 +1,5 @@
-ghost use Rattle.std.specs.Prelude.{◌≤◌, length, OnTrue};
+ghost use Rattle.std.specs.Prelude.{◌≤◌, length};
+ghost use Rattle.std.specs.Bool.{OnTrue};
 ghost use Rattle.coe_codec.specs.Writing.{HasSpelling};
 
 use anyhow::{Result, bail};

@@ -1,4 +1,5 @@
-ghost use Rattle.std.specs.Prelude.{◌≤◌, length, OnTrue};
+ghost use Rattle.std.specs.Prelude.{◌≤◌, length};
+ghost use Rattle.std.specs.Bool.{OnTrue};
 ghost use Rattle.eoe.specs.Message.{IsFragment, IsSpellable};
 
 use anyhow::{Result, bail};

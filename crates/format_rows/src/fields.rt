@@ -50,7 +50,7 @@ fn put(alloc: Global, word: u16, long: u32) -> Result<String> {
 
 // Bits of a word, and the word with others there.
 fn bits_in(alloc: Global, word: u16, at: u32, count: u32) -> Result<String> {
-    if at > 15 || count > 15 || at + count > 16 {
+    if at > 15 || count < 1 || count > 15 || at + count > 16 {
         bail!("no bits of a word");
     }
     let found = bits(word, at, count);
