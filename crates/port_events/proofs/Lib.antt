@@ -2,3 +2,4 @@ pub mod Ports
 pub mod Lives
 pub mod Runs
 pub mod Carries
+pub mod Owns

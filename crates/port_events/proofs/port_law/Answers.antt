@@ -1,4 +1,5 @@
 use Rattle.port_events.proofs.Carries.{carries_all, listed_on}
+use Rattle.port_events.proofs.Owns.{own_port}
 use Rattle.port_events.proofs.Runs.{run_downs, run_arrivals}
 use Rattle.port_events.proofs.port_law.Goals as goal
 
@@ -14,3 +15,6 @@ returns-clause-carries c = λ lens recover retry ports number f as' us live size
 pub returns-clause-goes_on : goal.returns-clause-goes_on
 returns-clause-goes_on c = λ lens recover retry missed ports first as' fs led f us frame m n es same making arrives downs carries before.
     listed_on lens recover retry ports first fs missed as' led f us frame m n same making arrives downs carries es before
+
+pub returns-clause-own : goal.returns-clause-own
+returns-clause-own c = λ slaves k port e. own_port slaves k port e
