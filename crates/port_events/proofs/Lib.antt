@@ -3,3 +3,4 @@ pub mod Lives
 pub mod Runs
 pub mod Carries
 pub mod Owns
+pub mod Unfinished
