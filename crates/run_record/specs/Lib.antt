@@ -11,3 +11,4 @@ pub mod Session
 pub mod Ran
 pub use Rattle.life_heard.specs.Heard as AcceptedMails
 pub mod Switched
+pub mod Forwarded

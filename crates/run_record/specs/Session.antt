@@ -30,6 +30,7 @@ use Rattle.segment_ring.specs.declared.wire.Fate.{Fate}
 use Rattle.segment_ring.specs.declared.wire.Fate.TheVariants.{Pass, Lost}
 use Rattle.run_record.specs.Led.{exchanged, gaves_noted, Leading, AreLed}
 use Rattle.run_record.specs.Replay.{first_ring, behind, IsRecorded}
+use Rattle.run_record.specs.Forwarded.{Forwards}
 use Rattle.run_record.specs.Switched.{IsSwitched}
 
 -- a session: the ring with its slaves, what became of each slave, their stations and the lengths of their mailboxes, the mails that are
@@ -189,6 +190,11 @@ LedOn s f = (plan : Scenario) (fs : List Exchanged) → has_live s.master ≡ tr
 abbrev pub SwitchesOn : SessionState → Book → SessionState → Book → Type 0
 SwitchesOn s b s' b' = (host : List (ArrayVec ℕ)) → IsSwitched s.ports host s.ring.number s.master.lan b → IsSwitched s'.ports host s'.ring.number s'.master.lan b'
 
+-- ONE FRAME MORE IS LISTED: what it brings of the slaves' packets and takes of their ports stands in the book
+abbrev pub ForwardsOn : SessionState → Book → SessionState → Book → SentFrame → Type 0
+ForwardsOn s b s' b' f = (plan : Scenario) (fs : List Exchanged) (host : List (ArrayVec ℕ)) → s.recover ≡ plan.recover → length fs ≡ s.ring.number → has_live s.master ≡ true → IsSwitched s.ports host s.ring.number s.master.lan b →
+    Forwards plan s.master s.notes fs b → Forwards plan s'.master s'.notes (fs ++ exchanged f ∷ []) b'
+
 -- ONE STEP: one frame more stands in the book, as the ring before gives it, and the ring is the one behind that frame
 pub record Steps (s : SessionState) (b : Book) (s' : SessionState) (b' : Book) (f : SentFrame) : Type 0 where
   pub put : b'.frames ≡ b.frames ++ f ∷ []
@@ -204,6 +210,7 @@ pub record Steps (s : SessionState) (b : Book) (s' : SessionState) (b' : Book) (
   pub rest : KeepsRest s.ports b b'
   pub leads : LeadsOn s s' f
   pub switch : SwitchesOn s b s' b'
+  pub forwards : ForwardsOn s b s' b' f
 
 -- a mail as it is passed on, with the key of its asker
 abbrev pub asked_mail : ℕ → Mail → AskedMail
