@@ -4,6 +4,7 @@ pub mod Asking
 pub mod Befores
 pub mod Budgets
 pub mod Firsts
+pub mod Forwards
 pub mod Gones
 pub mod Heard
 pub mod Kept

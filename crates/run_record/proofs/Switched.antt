@@ -116,6 +116,21 @@ pub switched_step :
 switched_step ports host sent l m l' b b1 b2 b3 made before same back behind x =
     switched_on ports host sent (sent + 1) m l' b2 b3 (omega arith) back behind (switched_same ports host sent m b1 b2 same (switched_on ports host sent sent l m b b1 (omega arith) made before x))
 
+-- the events are those before, then those that happened
+switch_more : (ports : ℕ) (host : List (ArrayVec ℕ)) (sent sent' : ℕ) (l l' : Lan) (b b' : Book) → HappensSo l l' → NotesSwitch ports sent' l'.happened b b' → IsSwitched ports host sent l b → b'.switch ≡ b.switch ++ events_of l'.happened
+switch_more ports host sent sent' l l' b b' h n x =
+    let y = h ports host (rows_of x.stamps) x.happened in
+    let noted : HasNoted (x.stamps ++ stamped sent' l'.happened) b' = n x.stamps (all_last ports (rows_of x.stamps) l'.happened (all_rows ports (rows_of x.stamps ++ l'.happened) y.at_port)) x.noted in
+    noted.switch ∙ ap (λ z. events_of z) (rows_more sent' x.stamps l'.happened) ∙ map-append (λ (r : Happening). r.event) (rows_of x.stamps) l'.happened ∙ ap (λ z. z ++ events_of l'.happened) (sym x.noted.switch)
+
+-- over a step
+pub switch_grown :
+    (ports : ℕ) (host : List (ArrayVec ℕ)) (sent : ℕ) (l m l' : Lan) (b b1 b2 b3 : Book) → HappensSo l m → NotesSwitch ports sent m.happened b b1 → SameSwitch b1 b2 → HappensSo m l' → NotesSwitch ports (sent + 1) l'.happened b2 b3
+    → IsSwitched ports host sent l b → b3.switch ≡ b.switch ++ (events_of m.happened ++ events_of l'.happened)
+switch_grown ports host sent l m l' b b1 b2 b3 made before same back behind x =
+    switch_more ports host sent (sent + 1) m l' b2 b3 back behind (switched_same ports host sent m b1 b2 same (switched_on ports host sent sent l m b b1 (omega arith) made before x))
+    ∙ ap (λ z. z ++ events_of l'.happened) (same.switch ∙ switch_more ports host sent sent l m b b1 made before x) ∙ append_assoc b.switch (events_of m.happened) (events_of l'.happened)
+
 -- before the first frame
 pub switched_new : (plan : Scenario) (grams : ℕ) (s : SessionState) (b : Book) → s ≡ first_session plan grams s.master → IsNew b → HasHappened (ports_of plan.slaves) plan.host [] s.master.lan → IsSwitched s.ports plan.host s.ring.number s.master.lan b
 switched_new plan grams s b first new h = record {

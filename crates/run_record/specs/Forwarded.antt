@@ -1,21 +1,16 @@
 -- WHAT CAME IN OF SLAVES and which of their ports went down, as the events of a book's switch have it.
-use Rattle.std.specs.Prelude.{◌≡◌, ℕ, List, map}
+use Rattle.std.specs.Prelude.{◌≡◌, ℕ, List, [], map}
 use Rattle.eoe_switch.specs.declared.switching.SwitchEvent.{SwitchEvent}
-use Rattle.master_node.specs.of_life_runs.First.{lens_of}
 use Rattle.master_node.specs.of_life_runs.Led.{Exchanged, Leads}
 use Rattle.master_node.specs.Joined.{HasUnfinished, stand_before}
 use Rattle.master_node.specs.Ports.{ports_behind}
 use Rattle.master_node.specs.declared.node.MasterNode.{MasterNode}
-use Rattle.port_events.specs.Listed.{Listed, unfinished_of}
+use Rattle.port_events.specs.Listed.{unfinished_of}
 use Rattle.port_events.specs.of_packets_heard.Heard.{joined_in}
 use Rattle.run_book.specs.declared.book.Book.{Book}
-use Rattle.run_record.specs.Led.{LeadTo, Leading}
+use Rattle.run_record.specs.Led.{LeadTo, ListsAll, Leading}
 use Rattle.run_record.specs.declared.notes.Notes.{Notes}
 use Rattle.segment_plan.specs.declared.plan.Scenario.{Scenario}
-
--- THE EVENTS OF A SWITCH ARE JUST THOSE THAT THE FRAMES LIST, by the ports that the plan gives its slaves
-abbrev pub ListsAll : (plan : Scenario) {fs : List Exchanged} {missed : ℕ} {leads : List Leads} → LeadTo plan fs missed leads → List SwitchEvent → Type 0
-ListsAll plan lives es = Listed (lens_of plan.slaves) plan.recover plan.retry (ports_behind 0 plan.slaves) lives es
 
 -- A MASTER'S SWITCH behind these frames: its slaves have the ports of the plan, and what is unfinished of their packets is by their lives
 pub record IsForwarded (plan : Scenario) (m : MasterNode) {fs : List Exchanged} {missed : ℕ} {leads : List Leads} (lives : LeadTo plan fs missed leads) (es : List SwitchEvent) : Type 0 where
@@ -27,3 +22,7 @@ pub record IsForwarded (plan : Scenario) (m : MasterNode) {fs : List Exchanged} 
 pub record Forwards (plan : Scenario) (m : MasterNode) (notes : List Notes) (fs : List Exchanged) (b : Book) : Type 0 where
   pub leading : Leading plan m notes fs
   pub forwarded : IsForwarded plan m leading.lives b.switch
+
+-- before its first frame, with any book whose switch has no event yet
+abbrev pub ForwardsFirst : Scenario → MasterNode → List Notes → Type 0
+ForwardsFirst plan m notes = (b : Book) → b.switch ≡ [] → Forwards plan m notes [] b
