@@ -1,3 +1,4 @@
+pub use Rattle.port_events.specs as of_port_events
 pub use Rattle.script_answers.specs as of_script_answers
 pub use Rattle.visit_orders.specs as of_visit_orders
 pub mod Notes
