@@ -4,7 +4,8 @@ ghost use Rattle.segment_plan.specs.declared.slave.SlaveSpec.{SlaveSpec as Spec}
 ghost use Rattle.segment_plan.specs.Sound.{IsPlan};
 ghost use Rattle.segment_plan.specs.Sound.{IsPacket};
 ghost use Rattle.master_node.specs.Ported.{are_ports, are_long};
-ghost use Rattle.master_node.specs.Ports.{ports_of};
+ghost use Rattle.std.specs.Prelude.{◌++◌, ◌∷◌};
+ghost use Rattle.master_node.specs.Ports.{ports_of, port_where, ports_behind};
 ghost use Rattle.master_node.specs.Forwards.{port_by, forwarded};
 
 use crate::happened::{Happening, Happenings};
@@ -45,6 +46,7 @@ fn with_port(ports: &mut ArrayVec<Option<u32>, 16>, last: u32, serves: bool) -> 
     ensures few { result ≤ last + 1 }
     ensures next { length ports.old.items < 16 → result ≡ (if serves then last + 1 else last) }
     ensures long { length ports.old.items < 16 → length ports.new.items ≡ length ports.old.items + 1 }
+    ensures is { length ports.old.items < 16 → ports.new.items ≡ ports.old.items ++ port_where serves last ∷ [] }
 {
     if ports.len() >= 16 {
         return last;
@@ -63,6 +65,7 @@ fn ports_of(slaves: &[SlaveSpec]) -> (ArrayVec<Option<u32>, 16>, u32)
     ensures ports { are_ports (result.1 + 1) result.0.items ≡ true }
     ensures few { result.1 ≤ 16 }
     ensures many { result.1 + 1 ≡ ports_of slaves.now }
+    ensures each { result.0.items ≡ ports_behind 0 slaves.now }
 {
     let mut ports = ArrayVec::new();
     let mut last = HOST;
@@ -100,7 +103,7 @@ fn has_host(ports: Ports) -> bool
 impl Lan {
     ghost use Rattle.std.specs.Prelude.{◌≡◌, ◌∷◌, [], IfOk};
     ghost use Rattle.segment_plan.specs.Sound.{IsPlan};
-    ghost use Rattle.master_node.specs.Ports.{ports_of};
+    ghost use Rattle.master_node.specs.Ports.{ports_of, ports_behind};
     ghost use Rattle.std.specs.Prelude.{true};
     ghost use Rattle.master_node.specs.Happened.{HasHappened, Happens, HappensSo, Comes};
     ghost use Rattle.master_node.specs.Downs.{Lists, down_by};
@@ -112,6 +115,7 @@ impl Lan {
         requires { IsPlan plan.now }
         ensures switch { IfOk result (λ lan. lan.switch ≡ first_switch (length lan.switch.ports)) }
         ensures begins { IfOk result (λ lan. HasHappened (ports_of plan.now.slaves) plan.now.host [] lan) }
+        ensures ports { IfOk result (λ lan. lan.ports.items ≡ ports_behind 0 plan.now.slaves) }
     {
         let (ports, last) = ports_of(plan.slaves.as_slice());
         let switch = Switch::new(alloc, last + 1)?;

@@ -128,7 +128,7 @@ impl MasterNode {
     ghost use Rattle.eoe_switch.specs.Switch.{first_switch};
     ghost use Rattle.std.specs.Prelude.{[]};
     ghost use Rattle.master_node.specs.Happened.{HasHappened};
-    ghost use Rattle.master_node.specs.Ports.{ports_of};
+    ghost use Rattle.master_node.specs.Ports.{ports_of, ports_behind};
     ghost use Rattle.master_tour.specs.Toured.{new_tour};
     ghost use Rattle.master_node.specs.Toured.{tour_of};
 
@@ -140,6 +140,7 @@ impl MasterNode {
         ensures tour { IfOk result (λ master. tour_of master ≡ new_tour) }
         ensures switch { IfOk result (λ master. master.lan.switch ≡ first_switch (length master.lan.switch.ports)) }
         ensures begins { IfOk result (λ master. HasHappened (ports_of plan.now.slaves) plan.now.host [] master.lan) }
+        ensures ports { IfOk result (λ master. master.lan.ports.items ≡ ports_behind 0 plan.now.slaves) }
         ensures leads { IfOk result (λ master. MasterShows (lens_of plan.now.slaves) plan.now.recover plan.now.retry master 0 (first_leads plan.now)) }
         ensures joined { IfOk result (λ master. HasUnfinished master (map stand_before (first_leads plan.now)) (map (λ spec. None) plan.now.slaves)) }
     {

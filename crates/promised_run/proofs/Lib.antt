@@ -6,4 +6,5 @@ mod Epochs
 mod Emergencies
 mod Visits
 mod Few
+mod Ports
 mod Overs

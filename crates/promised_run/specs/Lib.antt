@@ -4,6 +4,7 @@ pub mod Epochs
 pub mod Emergencies
 pub mod Visits
 pub mod Few
+pub mod Ports
 pub mod Promised
 pub use Rattle.run_record.specs.Ran
 pub use Rattle.run_record.specs.Session

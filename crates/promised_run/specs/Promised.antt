@@ -7,6 +7,7 @@ use Rattle.run_promises.specs.Rest.{NothingIsLeft, AllIsDone}
 use Rattle.promised_run.specs.Emergencies.{AllHaveEmergencies}
 use Rattle.promised_run.specs.Epochs.{AllCaused}
 use Rattle.promised_run.specs.Few.{AreFewLost, OutlivesLosses}
+use Rattle.promised_run.specs.Ports.{AllHavePorts}
 use Rattle.promised_run.specs.Reported.{AllReported}
 use Rattle.promised_run.specs.Unsent.{AllUnsent}
 use Rattle.promised_run.specs.Visits.{AllVisit}
@@ -45,6 +46,9 @@ pub record IsPromised (plan : Scenario) (book : Book) : Type 0 where
   pub emergencies : book.ending ≢ endings.NoMemory → AllHaveEmergencies (heard_in led.lives) book.slaves
   -- and the host received just the packets that the events of the book's switch forward to its port; those that came in there are the first of the plan's
   pub packets : book.ending ≢ endings.NoMemory → HasPackets plan book
+  -- and at the port of each slave that has one just those packets came in that the mails which its life accepted complete, in order, each whole; and it went down
+  -- once where the slave was given up for good, and never else
+  pub ports : book.ending ≢ endings.NoMemory → AllHavePorts plan led.lives book
   -- and the frames are the visits of one tour: each is addressed to the first slaves of its visit, in order, and to no other
   pub visits : AllVisit plan led.toured
   -- and where no more frames in a row are lost than the retry limit no slave is given up: where nothing is left to do all is done

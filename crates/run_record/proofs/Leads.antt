@@ -1,5 +1,5 @@
 -- A master goes on leading its slaves, frame by frame, and what is noted of their give-ups goes with it.
-use Rattle.std.proofs.Common.{◌≡◌, ℕ, suc, ◌+◌, Bool, true, false, List, [], ◌∷◌, ◌++◌, map, length, length-append, refl, sym, ap, ◌∙◌, subst, arith}
+use Rattle.std.proofs.Common.{◌≡◌, ℕ, suc, ◌+◌, Bool, true, false, None, List, [], ◌∷◌, ◌++◌, map, length, length-append, refl, sym, ap, ◌∙◌, subst, arith}
 use Rattle.std.specs.Prelude.{◌↔◌, ◌&&◌, nat_lt, if◌then◌else◌}
 use Rattle.std.proofs.lemmas.Bool.{lt-ltb, le-ltb}
 use Rattle.std.proofs.lemmas.List.{map-append}
@@ -17,7 +17,13 @@ use Rattle.master_node.specs.of_master_duty.Reply.{Reply}
 use Rattle.master_node.specs.of_master_hand.Spoken.{Asked, acknowledged, is_followed}
 use Rattle.master_node.specs.of_life_runs.Led.{new_leads}
 use Rattle.master_node.specs.of_life_model.Lives.{Spot}
+use Rattle.master_node.specs.Arrivals.{completed_at, ComeIn}
 use Rattle.master_node.specs.Brought.{HasBrought}
+use Rattle.master_node.specs.Downs.{GoDown}
+use Rattle.master_node.specs.Happened.{events_of}
+use Rattle.master_node.specs.Joined.{HasUnfinished, JoinsKept, stand_before, stand_under, unfinished_after}
+use Rattle.master_node.specs.Made.{AreOfMaking}
+use Rattle.master_node.specs.Ports.{ports_behind}
 use Rattle.master_node.specs.Shows.{MasterShows, MasterUnder, IsLead, IsUnder, is_live_lead}
 use Rattle.master_node.specs.Asks.{AllAsk}
 use Rattle.master_node.specs.Toured.{tour_of, turn_share}
@@ -32,6 +38,9 @@ use Rattle.master_node.specs.of_master_tour.Goes.{holds_at}
 use Rattle.master_node.specs.of_master_tour.Sizes.{frame_size}
 use Rattle.master_node.specs.of_master_tour.Toured.{Tour, IsOfTour, new_tour}
 use Rattle.master_node.proofs.Counts.{counted, turn_gave, back_gave, lost_gave}
+use Rattle.port_events.specs.Listed.{unfinished_of}
+use Rattle.port_events.specs.of_packets_heard.Heard.{Joined, joined_in, joined_none, mails_by}
+use Rattle.run_book.specs.declared.book.Book.{Book}
 use Rattle.run_book.specs.declared.book.SentFrame.{SentFrame}
 use Rattle.master_node.specs.of_segment_model.Returned.{Returns}
 use Rattle.segment_plan.specs.declared.plan.Scenario.{Scenario}
@@ -46,6 +55,7 @@ use Rattle.slave_node.specs.of_slave_steps.Node.{Node, node_passed}
 use Rattle.ring_returns.proofs.Returned as Returned
 use Rattle.run_record.specs.declared.notes.Notes.{Notes}
 use Rattle.run_record.specs.declared.standing.Log.{Log}
+use Rattle.run_record.specs.Forwarded.{IsForwarded, Forwards, ForwardsFirst}
 use Rattle.run_record.specs.Led.{exchanged, gaves_noted, TouredTo, Leading, AreLed}
 use Rattle.run_record.specs.Heard.{emergencies_noted, HeardBy}
 use Rattle.run_record.specs.Notes.{new_notes}
@@ -58,6 +68,7 @@ use Rattle.script_answers.specs.Steps.{TurnsSo, PassesSo, LosesSo}
 use Rattle.script_answers.proofs.Losses.{passes_so, loses_so}
 use Rattle.script_answers.proofs.Turns.{turns_so}
 use Rattle.run_record.proofs.Befores.{AllBefore, turns_before, all_before}
+use Rattle.run_record.proofs.Forwards.{forwarded_on}
 use Rattle.run_record.proofs.Gaves.{with_more}
 use Rattle.run_record.proofs.Heard.{first_heard}
 use Rattle.visit_orders.specs.Toured.{IsToured, tour_behind, lives_behind}
@@ -95,6 +106,19 @@ begins plan m notes shown first tour = record {
   told = subst (λ (ns : List Notes). AllReport (first_leads plan) ns) (sym first) (first_reports plan.services 0 0 plan.slaves refl);
   heard = ap emergencies_noted first ∙ first_heard plan.services 0 0 plan.slaves;
   toured = subst (λ (t : Tour). TouredTo plan [] t (first_leads plan)) (sym tour) IsToured.start;
+}
+
+-- and nothing happened at its switch
+none_unfinished : (services : List (ℕ × Plan.Service)) (place : ℕ) (ss : List SlaveSpec) → unfinished_of (joined_none (leads_from services place ss)) ≡ map (λ spec. None) ss
+none_unfinished services place [] = refl
+none_unfinished services place (s ∷ ss) = ap (λ z. None ∷ z) (none_unfinished services (suc place) ss)
+
+pub first_forwards : (plan : Scenario) (m : MasterNode) (notes : List Notes) → MasterShows (lens_of plan.slaves) plan.recover plan.retry m 0 (first_leads plan) → notes ≡ first_notes plan.services 0 plan.slaves → tour_of m ≡ new_tour → m.lan.ports.items ≡ ports_behind 0 plan.slaves →
+    HasUnfinished m (map stand_before (first_leads plan)) (map (λ spec. None) plan.slaves) → ForwardsFirst plan m notes
+unfolding begins
+first_forwards plan m notes shown first tour ports none = λ b empty. record {
+  leading = begins plan m notes shown first tour;
+  forwarded = record { ports = ports; unfinished = subst (λ z. HasUnfinished m (map stand_before (first_leads plan)) z) (sym (none_unfinished plan.services 0 plan.slaves)) none; listed = empty };
 }
 
 -- GIVE-UPS over a frame
@@ -285,14 +309,30 @@ module _ (m0 m1 m2 : MasterNode) (f : Exchanged) (result : Next)
         toured = subst (λ (t : Tour). TouredTo plan (fs ++ f ∷ []) t (leads made.0)) (sym (goes (length fs) made.0 made.1 made.2 ∙ ap (tour l.missed) visited.0)) toured_on;
       }
 
+      -- and so do the events of its switch
+      module _ (b b' : Book) (joins : JoinsKept m0 m1) (making : (m1.lan.ports ≡ m0.lan.ports) × AreOfMaking m1.lan.happened) (back : f.fate ≡ Fates.Pass → (us : List Turn) → IsLedFrame lens (length fs) f.sent l.leads us → Returns (seen lens f.sent) (seen lens f.back))
+          (joined : (us : List Turn) (js : List Joined) → IsLedFrame lens (length fs) f.sent l.leads us → MasterUnder lens plan.recover plan.retry m1 f.sent l.missed us → HasUnfinished m1 (map stand_under us) (unfinished_of js) →
+          HasUnfinished m2 (map stand_before (lives_behind lens plan.recover plan.retry l.missed (length fs) f us)) (unfinished_after (λ u. mails_by lens f f.fate u) us (unfinished_of js)))
+          (arrivals : f.fate ≡ Fates.Pass → (us : List Turn) (js : List Joined) → IsLedFrame lens (length fs) f.sent l.leads us → MasterUnder lens plan.recover plan.retry m1 f.sent l.missed us → HasUnfinished m1 (map stand_under us) (unfinished_of js) →
+          ComeIn m1 (λ k. completed_at (seen lens f.back) us (unfinished_of js) k) m2)
+          (downs : (after : ℕ) → f.fate ≡ Fates.Lost after → (us : List Turn) → MasterUnder lens plan.recover plan.retry m1 f.sent l.missed us → GoDown m1 us (lives_behind lens plan.recover plan.retry l.missed (length fs) f us) m2)
+          (grown : b'.switch ≡ b.switch ++ (events_of m1.lan.happened ++ events_of m2.lan.happened)) (w : IsForwarded plan m0 l.lives b.switch) where
+        pub forwards_on : Forwards plan m2 r'.notes (fs ++ f ∷ []) b'
+        unfolding leads_on
+        forwards_on = record {
+          leading = leads_on;
+          forwarded = forwarded_on plan fs l.missed l.leads l.lives f made.0 made.1 m0 m1 m2 made.2 visited.1 joins making (λ pass. back pass made.0 made.1) (λ h. joined made.0 (joined_in l.lives) made.1 made.2 h)
+              (λ pass h. arrivals pass made.0 (joined_in l.lives) made.1 made.2 h) (λ after lost. downs after lost made.0 made.2) b.switch b'.switch grown w;
+        }
+
 -- what the ring gave back of a frame of the master's is its return
 pub returned : (lens : ℕ → Lens) (ring : RingState (Node SlaveServer)) (f : Exchanged) (number : ℕ) (as' : List Leads) (us : List Turn) → f.fate ≡ fate_at ring.lose ring.number → f.back ≡ ring_returned node_passed ring f.sent → IsLedFrame lens number f.sent as' us → f.fate ≡ Fates.Pass →
     Returns (seen lens f.sent) (seen lens f.back)
 returned lens ring f number as' us fate back frame pass = subst (λ (octets : List ℕ). Returns (seen lens f.sent) (seen lens octets)) (sym back) (Returned.ring_back lens ring f.sent _ frame.frame (sym fate ∙ pass))
 
 -- THE FRAMES of a book
-pub one_frame_more : (plan : Scenario) (m : MasterNode) (notes : List Notes) (fs : List SentFrame) (f : SentFrame) (gs : List SentFrame) → gs ≡ fs ++ f ∷ [] → Leading plan m notes (map exchanged fs ++ exchanged f ∷ []) → Leading plan m notes (map exchanged gs)
-one_frame_more plan m notes fs f gs put l = subst (λ (k : List Exchanged). Leading plan m notes k) (sym (ap (map exchanged) put ∙ map-append exchanged fs (f ∷ []))) l
+pub one_frame_more : (plan : Scenario) (m : MasterNode) (notes : List Notes) (fs : List SentFrame) (f : SentFrame) (gs : List SentFrame) (b : Book) → gs ≡ fs ++ f ∷ [] → Forwards plan m notes (map exchanged fs ++ exchanged f ∷ []) b → Forwards plan m notes (map exchanged gs) b
+one_frame_more plan m notes fs f gs b put w = subst (λ (k : List Exchanged). Forwards plan m notes k b) (sym (ap (map exchanged) put ∙ map-append exchanged fs (f ∷ []))) w
 
 pub one_led_more : (plan : Scenario) (fs : List SentFrame) (f : SentFrame) (gs : List SentFrame) → gs ≡ fs ++ f ∷ [] → AreLed plan (map exchanged fs ++ exchanged f ∷ []) → AreLed plan (map exchanged gs)
 one_led_more plan fs f gs put l = subst (λ (k : List Exchanged). AreLed plan k) (sym (ap (map exchanged) put ∙ map-append exchanged fs (f ∷ []))) l
@@ -304,5 +344,5 @@ none_led plan fs none = subst (λ (gs : List SentFrame). AreLed plan (map exchan
 pub same_led : (plan : Scenario) (fs gs : List SentFrame) → gs ≡ fs → AreLed plan (map exchanged fs) → AreLed plan (map exchanged gs)
 same_led plan fs gs same led = subst (λ (hs : List SentFrame). AreLed plan (map exchanged hs)) (sym same) led
 
-pub first_leading : (plan : Scenario) (m : MasterNode) (notes : List Notes) (fs : List SentFrame) → fs ≡ [] → Leading plan m notes [] → Leading plan m notes (map exchanged fs)
-first_leading plan m notes fs none leading = subst (λ (gs : List SentFrame). Leading plan m notes (map exchanged gs)) (sym none) leading
+pub first_leading : (plan : Scenario) (m : MasterNode) (notes : List Notes) (fs : List SentFrame) (b : Book) → fs ≡ [] → Forwards plan m notes [] b → Forwards plan m notes (map exchanged fs) b
+first_leading plan m notes fs b none w = subst (λ (gs : List SentFrame). Forwards plan m notes (map exchanged gs) b) (sym none) w

@@ -1,9 +1,11 @@
+pub use Rattle.port_events.proofs as of_port_events
 pub use Rattle.script_answers.proofs as of_script_answers
 pub use Rattle.visit_orders.proofs as of_visit_orders
 pub mod Asking
 pub mod Befores
 pub mod Budgets
 pub mod Firsts
+pub mod Forwards
 pub mod Gones
 pub mod Heard
 pub mod Kept

@@ -2,6 +2,7 @@
 use Rattle.std.proofs.Common.{◌≡◌, ◌⊎◌, inl, inr, ℕ, Bool, true, false, List, map, length, ap, sym, ◌∙◌, subst}
 use Rattle.std.specs.Prelude.{◌≢◌}
 use Rattle.std.specs.Bool.{OnTrue, OnFalse}
+use Rattle.eoe_switch.specs.declared.switching.SwitchEvent.{SwitchEvent}
 use Rattle.master_node.specs.of_frame_view.View.{Lens}
 use Rattle.master_node.specs.of_life_frames.Shares.{AllBoth}
 use Rattle.life_heard.specs.Heard.{AllNoted, heard_in}
@@ -17,7 +18,8 @@ use Rattle.run_book.specs.declared.book.Ending.TheVariants as endings
 use Rattle.run_book.specs.declared.book.SentFrame.{SentFrame}
 use Rattle.run_book.specs.declared.book.SlaveBook.{SlaveBook}
 use Rattle.segment_plan.specs.declared.plan.Scenario.{Scenario}
-use Rattle.run_record.specs.Led.{exchanged, gaves_in, Leading, LeadTo, TouredTo, RestsSo, RestBy, LedBook}
+use Rattle.run_record.specs.Forwarded.{Forwards}
+use Rattle.run_record.specs.Led.{exchanged, gaves_in, Leading, LeadTo, ListsAll, TouredTo, RestsSo, RestBy, LedBook}
 use Rattle.run_record.specs.Ran.{IsUnderway, EndsSo}
 use Rattle.run_record.specs.Session.{SessionState, session_rows, are_at_rest, some_given_up, IsLeftBy}
 use Rattle.run_record.specs.Reports.{IsBooked}
@@ -31,9 +33,9 @@ use Rattle.run_record.proofs.Heard.{heard_of_rows}
 use Rattle.run_record.proofs.Switched.{has_packets}
 use Rattle.run_record.proofs.Underway.{many}
 
--- the lives that frames lead to, with the emergencies that are noted of them
-abbrev HeardLives : Scenario → ℕ → List Leads → List (List Emergency) → List SentFrame → Type 0
-HeardLives plan missed leads notes frames = (lives : LeadTo plan (map exchanged frames) missed leads) × AllNoted (heard_in lives) notes
+-- the lives that frames lead to, with the emergencies that are noted of them and the events that they list
+abbrev HeardLives : Scenario → ℕ → List Leads → List (List Emergency) → List SwitchEvent → List SentFrame → Type 0
+HeardLives plan missed leads notes es frames = (lives : LeadTo plan (map exchanged frames) missed leads) × AllNoted (heard_in lives) notes × ListsAll plan lives es
 
 not_done : endings.Done ≡ endings.NoMemory → ⊥
 not_done e = absurd (cc)
@@ -41,9 +43,12 @@ not_done e = absurd (cc)
 not_given : endings.GivenUp ≡ endings.NoMemory → ⊥
 not_given e = absurd (cc)
 
-module _ (plan : Scenario) (s : SessionState) (b b' : Book) (h : IsUnderway plan 0 s b) (l : Leading plan s.master s.notes (map exchanged b.frames)) (switched : IsSwitched s.ports plan.host s.ring.number s.master.lan b) (frames : b'.frames ≡ b.frames) (kept : SameSwitch b b') (same : length s.notes ≡ length s.ring.nodes) where
+module _ (plan : Scenario) (s : SessionState) (b b' : Book) (h : IsUnderway plan 0 s b) (w : Forwards plan s.master s.notes (map exchanged b.frames) b) (switched : IsSwitched s.ports plan.host s.ring.number s.master.lan b) (frames : b'.frames ≡ b.frames) (kept : SameSwitch b b') (same : length s.notes ≡ length s.ring.nodes) where
   abbrev lens : ℕ → Lens
   lens = lens_of plan.slaves
+
+  abbrev l : Leading plan s.master s.notes (map exchanged b.frames)
+  l = w.leading
 
   has_gaves : b'.slaves ≡ session_rows s → gaves_in b'.slaves ≡ map gave_of l.leads
   has_gaves rows = ap gaves_in rows ∙ gaves_of_rows s.recover s.ring.nodes s.notes same ∙ l.gave
@@ -68,8 +73,8 @@ module _ (plan : Scenario) (s : SessionState) (b b' : Book) (h : IsUnderway plan
   rest_by endings.Unfinished settled so left cut rows = tt
 
   -- the lives, by the frames of the book
-  both : HeardLives plan l.missed l.leads (emergencies_noted s.notes) b'.frames
-  both = subst (λ (fs : List SentFrame). HeardLives plan l.missed l.leads (emergencies_noted s.notes) fs) (sym frames) (l.lives, l.heard)
+  both : HeardLives plan l.missed l.leads (emergencies_noted s.notes) b.switch b'.frames
+  both = subst (λ (fs : List SentFrame). HeardLives plan l.missed l.leads (emergencies_noted s.notes) b.switch fs) (sym frames) (l.lives, l.heard, w.forwarded.listed)
 
   -- however it ends
   pub led_book : (ending result : Ending) (settled : Bool) → EndsSo s ending → OnTrue settled (IsLeftBy s.master) → OnFalse settled (ending ≡ endings.BudgetSpent) → (result ≡ ending) ⊎ (result ≡ endings.NoMemory) → (result ≢ endings.NoMemory → b'.slaves ≡ session_rows s) → LedBook plan b' result
@@ -85,6 +90,7 @@ module _ (plan : Scenario) (s : SessionState) (b b' : Book) (h : IsUnderway plan
     epochs = λ ok. subst (λ (rs : List SlaveBook). AllBoth HasEpochs l.leads rs) (sym (rows ok)) (all_epochs s.recover l.leads s.ring.nodes s.notes same l.told);
     heard = λ ok. ap emergencies_in (rows ok) ∙ heard_of_rows s.recover s.ring.nodes s.notes same ∙ both.1;
     packets = λ ok. has_packets plan s.ports s.ring.number s.master.lan b b' h.ports (sym (ap length frames ∙ many plan 0 s b h)) kept switched;
+    listed = λ ok. subst (λ (es : List SwitchEvent). ListsAll plan both.0 es) (sym kept.switch) both.2;
     rests = elim answers [
       | inl is ↦ subst (λ (e : Ending). RestBy lens e l.leads b'.slaves) (sym is) (rest_by ending settled so left cut (λ ok. rows (λ none. ok (sym is ∙ none))))
       | inr none ↦ subst (λ (e : Ending). RestBy lens e l.leads b'.slaves) (sym none) tt

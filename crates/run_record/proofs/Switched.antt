@@ -1,12 +1,11 @@
 -- What is noted of the switch, one thing after the other.
-use Rattle.std.proofs.Common.{◌≡◌, ℕ, ◌+◌, ◌<◌, ◌≤◌, List, [], ◌∷◌, ◌++◌, refl, sym, ap, subst, ◌∙◌, arith, length, take, drop, map, get_or, append_assoc, append-nil, add-one, length-append}
+use Rattle.std.proofs.Common.{◌≡◌, ℕ, ◌+◌, ◌<◌, ◌≤◌, List, [], ◌∷◌, ◌++◌, refl, sym, ap, subst, ◌∙◌, arith, length, take, drop, get_or, append_assoc, append-nil, add-one}
 use Rattle.std.specs.Prelude.{All}
 use Rattle.std.proofs.lemmas.List.{map-append, length-map, take-append-drop, take_all}
 use Rattle.std.proofs.lemmas.List.Elements.{All-nil, All-cons, All-head, All-tail, All-get_or}
 use Rattle.std.proofs.Math.Seq.{take-suc}
 use Rattle.arrayvec.specs.ArrayVec.{ArrayVec}
-use Rattle.eoe_switch.specs.Switch.{Flow, switched}
-use Rattle.eoe_switch.specs.declared.switching.SwitchEvent.{SwitchEvent}
+use Rattle.eoe_switch.specs.Switch.{switched}
 use Rattle.master_node.proofs.Happenings.{events_push, handed_push}
 use Rattle.master_node.specs.Happened.{events_of, handed_by, handed_in, arrivals_at, HasHappened, HappensSo}
 use Rattle.master_node.specs.declared.happened.Happening.{Happening}
@@ -115,6 +114,21 @@ pub switched_step :
     → IsSwitched ports host sent l b → IsSwitched ports host (sent + 1) l' b3
 switched_step ports host sent l m l' b b1 b2 b3 made before same back behind x =
     switched_on ports host sent (sent + 1) m l' b2 b3 (omega arith) back behind (switched_same ports host sent m b1 b2 same (switched_on ports host sent sent l m b b1 (omega arith) made before x))
+
+-- the events are those before, then those that happened
+switch_more : (ports : ℕ) (host : List (ArrayVec ℕ)) (sent sent' : ℕ) (l l' : Lan) (b b' : Book) → HappensSo l l' → NotesSwitch ports sent' l'.happened b b' → IsSwitched ports host sent l b → b'.switch ≡ b.switch ++ events_of l'.happened
+switch_more ports host sent sent' l l' b b' h n x =
+    let y = h ports host (rows_of x.stamps) x.happened in
+    let noted : HasNoted (x.stamps ++ stamped sent' l'.happened) b' = n x.stamps (all_last ports (rows_of x.stamps) l'.happened (all_rows ports (rows_of x.stamps ++ l'.happened) y.at_port)) x.noted in
+    noted.switch ∙ ap (λ z. events_of z) (rows_more sent' x.stamps l'.happened) ∙ map-append (λ (r : Happening). r.event) (rows_of x.stamps) l'.happened ∙ ap (λ z. z ++ events_of l'.happened) (sym x.noted.switch)
+
+-- over a step
+pub switch_grown :
+    (ports : ℕ) (host : List (ArrayVec ℕ)) (sent : ℕ) (l m l' : Lan) (b b1 b2 b3 : Book) → HappensSo l m → NotesSwitch ports sent m.happened b b1 → SameSwitch b1 b2 → HappensSo m l' → NotesSwitch ports (sent + 1) l'.happened b2 b3
+    → IsSwitched ports host sent l b → b3.switch ≡ b.switch ++ (events_of m.happened ++ events_of l'.happened)
+switch_grown ports host sent l m l' b b1 b2 b3 made before same back behind x =
+    switch_more ports host sent (sent + 1) m l' b2 b3 back behind (switched_same ports host sent m b1 b2 same (switched_on ports host sent sent l m b b1 (omega arith) made before x))
+    ∙ ap (λ z. z ++ events_of l'.happened) (same.switch ∙ switch_more ports host sent sent l m b b1 made before x) ∙ append_assoc b.switch (events_of m.happened) (events_of l'.happened)
 
 -- before the first frame
 pub switched_new : (plan : Scenario) (grams : ℕ) (s : SessionState) (b : Book) → s ≡ first_session plan grams s.master → IsNew b → HasHappened (ports_of plan.slaves) plan.host [] s.master.lan → IsSwitched s.ports plan.host s.ring.number s.master.lan b

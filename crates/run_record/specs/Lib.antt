@@ -1,3 +1,4 @@
+pub use Rattle.port_events.specs as of_port_events
 pub use Rattle.script_answers.specs as of_script_answers
 pub use Rattle.visit_orders.specs as of_visit_orders
 pub mod Notes
@@ -11,3 +12,4 @@ pub mod Session
 pub mod Ran
 pub use Rattle.life_heard.specs.Heard as AcceptedMails
 pub mod Switched
+pub mod Forwarded

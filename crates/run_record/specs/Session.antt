@@ -30,6 +30,7 @@ use Rattle.segment_ring.specs.declared.wire.Fate.{Fate}
 use Rattle.segment_ring.specs.declared.wire.Fate.TheVariants.{Pass, Lost}
 use Rattle.run_record.specs.Led.{exchanged, gaves_noted, Leading, AreLed}
 use Rattle.run_record.specs.Replay.{first_ring, behind, IsRecorded}
+use Rattle.run_record.specs.Forwarded.{Forwards}
 use Rattle.run_record.specs.Switched.{IsSwitched}
 
 -- a session: the ring with its slaves, what became of each slave, their stations and the lengths of their mailboxes, the mails that are
@@ -176,11 +177,6 @@ has_live m = list_any (λ s. is_live s.stand) m.tour.stops.items
 abbrev pub IsLeftBy : MasterNode → Type 0
 IsLeftBy m = (lens : ℕ → Lens) (recover retry missed : ℕ) (leads : List Leads) → MasterShows lens recover retry m missed leads → AllPlaced leads → AllLeft lens leads
 
--- ONE FRAME MORE IS LED, where some slave is live: a master that leads goes on so, and what is noted of give-ups goes with it
-abbrev pub LeadsOn : SessionState → SessionState → SentFrame → Type 0
-LeadsOn s s' f = (plan : Scenario) (fs : List Exchanged) → s.recover ≡ plan.recover → length fs ≡ s.ring.number → has_live s.master ≡ true → Leading plan s.master s.notes fs →
-    Leading plan s'.master s'.notes (fs ++ exchanged f ∷ [])
-
 -- it is led, whatever is noted of it
 abbrev pub LedOn : SessionState → SentFrame → Type 0
 LedOn s f = (plan : Scenario) (fs : List Exchanged) → has_live s.master ≡ true → Leading plan s.master s.notes fs → AreLed plan (fs ++ exchanged f ∷ [])
@@ -188,6 +184,11 @@ LedOn s f = (plan : Scenario) (fs : List Exchanged) → has_live s.master ≡ tr
 -- the packets of the book stay those of the master's switch, and each event has the number of the frames that had been sent then
 abbrev pub SwitchesOn : SessionState → Book → SessionState → Book → Type 0
 SwitchesOn s b s' b' = (host : List (ArrayVec ℕ)) → IsSwitched s.ports host s.ring.number s.master.lan b → IsSwitched s'.ports host s'.ring.number s'.master.lan b'
+
+-- ONE FRAME MORE IS LED, where some slave is live: a master that leads goes on so, what is noted of give-ups goes with it, and so do the events of its switch
+abbrev pub ForwardsOn : SessionState → Book → SessionState → Book → SentFrame → Type 0
+ForwardsOn s b s' b' f = (plan : Scenario) (fs : List Exchanged) (host : List (ArrayVec ℕ)) → s.recover ≡ plan.recover → length fs ≡ s.ring.number → has_live s.master ≡ true → IsSwitched s.ports host s.ring.number s.master.lan b →
+    Forwards plan s.master s.notes fs b → Forwards plan s'.master s'.notes (fs ++ exchanged f ∷ []) b'
 
 -- ONE STEP: one frame more stands in the book, as the ring before gives it, and the ring is the one behind that frame
 pub record Steps (s : SessionState) (b : Book) (s' : SessionState) (b' : Book) (f : SentFrame) : Type 0 where
@@ -202,8 +203,8 @@ pub record Steps (s : SessionState) (b : Book) (s' : SessionState) (b' : Book) (
   pub budget : s'.budget ≡ s.budget
   pub serving : s'.serving ≡ s.serving
   pub rest : KeepsRest s.ports b b'
-  pub leads : LeadsOn s s' f
   pub switch : SwitchesOn s b s' b'
+  pub forwards : ForwardsOn s b s' b' f
 
 -- a mail as it is passed on, with the key of its asker
 abbrev pub asked_mail : ℕ → Mail → AskedMail

@@ -10,7 +10,12 @@ ghost use Rattle.master_node.specs.of_frame_view.View.{Lens};
 ghost use Rattle.master_node.specs.of_frame_view.Seen.{seen};
 ghost use Rattle.master_node.specs.of_life_runs.Led.{Exchanged, Turn, led_behind, gives_up_at, missed_behind};
 ghost use Rattle.master_node.specs.Brought.{HasBrought};
+ghost use Rattle.master_node.specs.Arrivals.{completed_at, ComeIn};
+ghost use Rattle.master_node.specs.Downs.{GoDown};
 ghost use Rattle.master_node.specs.Happened.{HasHappened, HappensSo};
+ghost use Rattle.master_node.specs.Joined.{HasUnfinished, stand_before, stand_under, unfinished_after};
+ghost use Rattle.port_events.specs.Listed.{unfinished_of};
+ghost use Rattle.port_events.specs.of_packets_heard.Heard.{Joined, mails_by};
 ghost use Rattle.master_node.specs.Listed.{listed};
 ghost use Rattle.master_node.specs.Shows.{MasterShows, MasterUnder};
 ghost use Rattle.master_node.specs.Toured.{tour_of};
@@ -18,7 +23,7 @@ ghost use Rattle.master_node.specs.of_segment_model.Returned.{Returns};
 ghost use Rattle.segment_ring.specs.declared.wire.Fate.TheVariants as Fates;
 ghost use Rattle.visit_orders.specs.Toured.{tour_behind, lives_behind};
 ghost use Rattle.run_book.specs.Ports.{ports_of};
-ghost use Rattle.run_record.specs.Led.{Leading};
+ghost use Rattle.run_record.specs.Forwarded.{ForwardsFirst};
 ghost use Rattle.run_record.specs.Switched.{SameSwitch};
 ghost use Rattle.run_record.specs.Replay.{first_ring};
 ghost use Rattle.run_record.specs.Session.{budget_of, smaller_bound, slave_row, rests_at, slave_rows, session_rows, first_session, are_at_rest, some_given_up, has_live, IsLeftBy, KeepsRest, Steps, Stops, Asks};
@@ -213,6 +218,11 @@ fn tell(master: &mut MasterNode, fate: Fate, back: &FrameBuf)
     ensures brought { fate ≡ Fates.Pass → (lens : ℕ → Lens) (recover retry missed : ℕ) (octets : List ℕ) (us : List Turn) → MasterUnder lens recover retry master.old octets missed us → Returns (seen lens octets) (seen lens back.now.items) →
         HasBrought master.new us (seen lens back.now.items) }
     ensures happened { HappensSo master.old.lan master.new.lan }
+    ensures joined { (lens : ℕ → Lens) (recover retry missed number : ℕ) (us : List Turn) (js : List Joined) (f : Exchanged) → f.fate ≡ fate → f.back ≡ back.now.items → MasterUnder lens recover retry master.old f.sent missed us → (fate ≡ Fates.Pass → Returns (seen lens f.sent) (seen lens back.now.items)) →
+        HasUnfinished master.old (map stand_under us) (unfinished_of js) → HasUnfinished master.new (map stand_before (lives_behind lens recover retry missed number f us)) (unfinished_after (λ u. mails_by lens f f.fate u) us (unfinished_of js)) }
+    ensures arrivals { fate ≡ Fates.Pass → (lens : ℕ → Lens) (recover retry missed : ℕ) (octets : List ℕ) (us : List Turn) (js : List Joined) → MasterUnder lens recover retry master.old octets missed us → Returns (seen lens octets) (seen lens back.now.items) →
+        HasUnfinished master.old (map stand_under us) (unfinished_of js) → ComeIn master.old (λ k. completed_at (seen lens back.now.items) us (unfinished_of js) k) master.new }
+    ensures downs { (after : ℕ) → fate ≡ Fates.Lost after → (lens : ℕ → Lens) (recover retry missed number : ℕ) (us : List Turn) (f : Exchanged) → f.fate ≡ fate → MasterUnder lens recover retry master.old f.sent missed us → GoDown master.old us (lives_behind lens recover retry missed number f us) master.new }
 {
     match fate {
         Fate::Pass => master.returned(back),
@@ -225,7 +235,7 @@ impl Session {
     pub fn begin(alloc: Global, plan: &Scenario, grams: u32) -> Result<Session, NoMemory>
         requires { IsPlan plan.now }
         ensures session { IfOk result (λ session. session ≡ first_session plan.now grams session.master) }
-        ensures leads { IfOk result (λ session. Leading plan.now session.master session.notes []) }
+        ensures forwards { IfOk result (λ session. ForwardsFirst plan.now session.master session.notes) }
         ensures switch { IfOk result (λ session. HasHappened (ports_of plan.now.slaves) plan.now.host [] session.master.lan) }
     {
         Ok(Session {

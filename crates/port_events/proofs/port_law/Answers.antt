@@ -1,5 +1,7 @@
 use Rattle.port_events.proofs.Carries.{carries_all, listed_on}
+use Rattle.port_events.proofs.Owns.{own_port}
 use Rattle.port_events.proofs.Runs.{run_downs, run_arrivals}
+use Rattle.port_events.proofs.Unfinished.{under_way, joined_so}
 use Rattle.port_events.proofs.port_law.Goals as goal
 
 pub returns-clause-downs : goal.returns-clause-downs
@@ -14,3 +16,12 @@ returns-clause-carries c = λ lens recover retry ports number f as' us live size
 pub returns-clause-goes_on : goal.returns-clause-goes_on
 returns-clause-goes_on c = λ lens recover retry missed ports first as' fs led f us frame m n es same making arrives downs carries before.
     listed_on lens recover retry ports first fs missed as' led f us frame m n same making arrives downs carries es before
+
+pub returns-clause-own : goal.returns-clause-own
+returns-clause-own c = λ slaves k port e. own_port slaves k port e
+
+pub returns-clause-under_way : goal.returns-clause-under_way
+returns-clause-under_way c = λ lens made ds as' us m n befores t k h. under_way lens made ds as' us m n befores t k h
+
+pub returns-clause-joined : goal.returns-clause-joined
+returns-clause-joined c = λ lens f js us e. joined_so lens f js us e

@@ -39,7 +39,7 @@ pub returns-in_err-step-clause-cut : goal.returns-in_err-step-clause-cut
 returns-in_err-step-clause-cut c =
     let plan = c.args.plan.now in
     let s = c.loop-settled.session in
-    let leading = c.loop-settled.invariant.leading in
+    let leading = c.loop-settled.invariant.forwards.leading in
     any_err c.from_residual-in_err-step.result
     (elim c.in_err-step.ensures.err.frames [
       | inl same ↦ same_led plan c.loop-settled.book.frames c.step.new.book.frames same (record { missed = leading.missed; leads = leading.leads; lives = leading.lives; tour = tour_of s.master; toured = leading.toured })
@@ -61,7 +61,7 @@ loop-settled-init c =
       left = c.settled-settled.ensures.left;
       busy = c.settled-settled.ensures.busy;
       switched = switched_new plan 0 s c.args.book.now begins.session new begins.switch;
-      leading = first_leading plan s.master s.notes c.args.book.now.frames new.frames begins.leads;
+      forwards = first_leading plan s.master s.notes c.args.book.now.frames c.args.book.now new.frames (begins.forwards c.args.book.now new.switch);
     }
 
 pub loop-settled-preserved : goal.loop-settled-preserved
@@ -79,8 +79,9 @@ loop-settled-preserved c =
       left = c.settled-settled-in-loop-settled.ensures.left;
       busy = c.settled-settled-in-loop-settled.ensures.busy;
       switched = step.1.switch c.args.plan.now.host c.loop-settled.invariant.switched;
-      leading = one_frame_more c.args.plan.now c.step.new.self.master c.step.new.self.notes c.loop-settled.book.frames step.0 c.step.new.book.frames step.1.put
-          (step.1.leads c.args.plan.now (map exchanged c.loop-settled.book.frames) under.recover (length-map c.loop-settled.book.frames exchanged ∙ many c.args.plan.now 0 s c.loop-settled.book under) (live_so c.args.plan.now s c.loop-settled.book c.loop-settled.settled under c.loop-settled.invariant.leading (search rules) c.loop-settled.invariant.busy) c.loop-settled.invariant.leading);
+      forwards = one_frame_more c.args.plan.now c.step.new.self.master c.step.new.self.notes c.loop-settled.book.frames step.0 c.step.new.book.frames c.step.new.book step.1.put
+          (step.1.forwards c.args.plan.now (map exchanged c.loop-settled.book.frames) c.args.plan.now.host under.recover (length-map c.loop-settled.book.frames exchanged ∙ many c.args.plan.now 0 s c.loop-settled.book under)
+          (live_so c.args.plan.now s c.loop-settled.book c.loop-settled.settled under c.loop-settled.invariant.forwards.leading (search rules) c.loop-settled.invariant.busy) c.loop-settled.invariant.switched c.loop-settled.invariant.forwards);
     }
 
 pub returns-clause-frames : goal.returns-clause-frames
@@ -102,5 +103,5 @@ pub returns-clause-led : goal.returns-clause-led
 returns-clause-led c =
     let s = c.loop-settled.session in
     let invariant = c.loop-settled.invariant in
-    led_book c.args.plan.now s c.loop-settled.book c.finish.new.book invariant.underway invariant.leading invariant.switched c.finish.ensures.frames c.finish.ensures.same c.finish.ensures.many c.ending_of-ending.result c.finish.result c.loop-settled.settled
+    led_book c.args.plan.now s c.loop-settled.book c.finish.new.book invariant.underway invariant.forwards invariant.switched c.finish.ensures.frames c.finish.ensures.same c.finish.ensures.many c.ending_of-ending.result c.finish.result c.loop-settled.settled
     c.ending_of-ending.ensures.ends invariant.left c.ending_of-ending.ensures.cut c.finish.ensures.answers c.finish.ensures.rows

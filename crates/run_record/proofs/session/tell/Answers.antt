@@ -5,6 +5,11 @@ use Rattle.master_node.specs.Toured.{tour_of}
 use Rattle.segment_ring.specs.declared.wire.Fate.{Fate}
 use Rattle.segment_ring.specs.declared.wire.Fate.TheVariants as Fates
 use Rattle.visit_orders.specs.Toured.{tour_behind, lives_behind}
+use Rattle.std.proofs.Common.{List}
+use Rattle.master_node.specs.of_frame_view.Seen.{seen}
+use Rattle.master_node.specs.Joined.{HasUnfinished, stand_before, unfinished_after, mails_back}
+use Rattle.port_events.specs.Listed.{unfinished_of}
+use Rattle.port_events.specs.of_packets_heard.Heard.{mails_by}
 use Rattle.run_record.proofs.session.tell.Goals as goal
 
 pub returns-in-Pass-clause-leads : goal.returns-in-Pass-clause-leads
@@ -37,3 +42,29 @@ returns-in-Pass-clause-happened c = c.returned.ensures.happened
 
 pub returns-in-Lost-clause-happened : goal.returns-in-Lost-clause-happened
 returns-in-Lost-clause-happened c = c.lost.ensures.happened
+
+pub returns-in-Pass-clause-joined : goal.returns-in-Pass-clause-joined
+returns-in-Pass-clause-joined c = λ lens recover retry missed number us js f fate back under returns h.
+    let pass : f.fate ≡ Fates.Pass = fate ∙ c.in-Pass.is in
+    subst (λ (k : Fate). HasUnfinished c.returned.new.self (map stand_before (lives_behind lens recover retry missed number f us)) (unfinished_after (λ u. mails_by lens f k u) us (unfinished_of js))) (sym pass)
+    (subst (λ (o : List ℕ). HasUnfinished c.returned.new.self (map stand_before (lives_behind lens recover retry missed number f us)) (unfinished_after (mails_back (seen lens o)) us (unfinished_of js))) (sym back)
+    (c.returned.ensures.joined lens recover retry missed number f.sent us (unfinished_of js) f pass back under (returns c.in-Pass.is) h).1)
+
+pub returns-in-Lost-clause-joined : goal.returns-in-Lost-clause-joined
+returns-in-Lost-clause-joined c = λ lens recover retry missed number us js f fate back under returns h.
+    let lost : f.fate ≡ Fates.Lost c.in-Lost.after = fate ∙ c.in-Lost.is in
+    subst (λ (k : Fate). HasUnfinished c.lost.new.self (map stand_before (lives_behind lens recover retry missed number f us)) (unfinished_after (λ u. mails_by lens f k u) us (unfinished_of js))) (sym lost)
+    (c.lost.ensures.joined lens recover retry missed number c.in-Lost.after f.sent us (unfinished_of js) f lost refl under h)
+
+pub returns-in-Pass-clause-arrivals : goal.returns-in-Pass-clause-arrivals
+returns-in-Pass-clause-arrivals c = λ pass lens recover retry missed octets us js under back h. c.returned.ensures.arrivals lens recover retry missed octets us (unfinished_of js) under back h
+
+pub returns-in-Lost-clause-arrivals : goal.returns-in-Lost-clause-arrivals
+returns-in-Lost-clause-arrivals c = λ pass. absurd (let bad : Fates.Lost c.in-Lost.after ≡ Fates.Pass = sym c.in-Lost.is ∙ pass in cc)
+
+pub returns-in-Pass-clause-downs : goal.returns-in-Pass-clause-downs
+returns-in-Pass-clause-downs c = λ after lost. absurd (let bad : Fates.Pass ≡ Fates.Lost after = sym c.in-Pass.is ∙ lost in cc)
+
+pub returns-in-Lost-clause-downs : goal.returns-in-Lost-clause-downs
+returns-in-Lost-clause-downs c = λ after lost lens recover retry missed number us f fate under.
+    c.lost.ensures.downs lens recover retry missed number after f.sent us f (fate ∙ lost) refl under

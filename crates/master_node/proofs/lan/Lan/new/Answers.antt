@@ -3,7 +3,7 @@ use Rattle.arrayvec.specs.ArrayVec.{ArrayVec}
 use Rattle.eoe_switch.specs.Switch.{Switched, first_switch}
 use Rattle.segment_plan.specs.declared.slave.SlaveSpec.{SlaveSpec}
 use Rattle.master_node.specs.Ported.{are_long}
-use Rattle.master_node.specs.Ports.{ports_of}
+use Rattle.master_node.specs.Ports.{ports_of, ports_behind}
 use Rattle.master_node.proofs.Happenings.{happened_none}
 use Rattle.master_node.proofs.Ports.{long_all}
 use Rattle.master_node.proofs.lan.Lan.new.Goals as goal
@@ -18,3 +18,6 @@ returns-clause-begins c =
     let many : c.ports_of-ports.result.1 + 1 ≡ ports_of plan.slaves = c.ports_of-ports.ensures.many ∙ ap (λ (z : List SlaveSpec). ports_of z) c.as_slice.ensures in
     happened_none (ports_of plan.slaves) plan.host _ (omega arith) (c.switch.view_is ∙ c.in_ok-switch.ensures.first ∙ ap (λ n. first_switch n) many)
     (ap (λ (z : Switched). length z.ports) c.switch.view_is ∙ c.in_ok-switch.ensures.ports ∙ many) (c.in_ok-host.ensures ∙ c.as_slice-2.ensures) refl
+
+pub returns-clause-ports : goal.returns-clause-ports
+returns-clause-ports c = c.ports_of-ports.ensures.each ∙ ap (λ (z : List SlaveSpec). ports_behind 0 z) c.as_slice.ensures

@@ -5,12 +5,13 @@ use Rattle.slave_server.specs.declared.server.SlaveServer.{SlaveServer}
 use Rattle.run_book.specs.declared.book.SentFrame.{SentFrame}
 use Rattle.master_node.specs.of_life_runs.First.{lens_of}
 use Rattle.run_record.specs.Led.{exchanged, Leading}
-use Rattle.run_record.proofs.Leads.{leads_on, led_on, returned}
+use Rattle.run_record.specs.Forwarded.{Forwards}
+use Rattle.run_record.proofs.Leads.{forwards_on, led_on, returned}
 use Rattle.run_record.specs.Replay.{behind, IsRecorded}
 use Rattle.run_record.specs.Session.{SessionState, SameFrames, KeepsRest, has_live}
 use Rattle.run_record.proofs.Kept.{rest_more}
 use Rattle.run_record.specs.Switched.{IsSwitched, NotesSwitch}
-use Rattle.run_record.proofs.Switched.{switched_step}
+use Rattle.run_record.proofs.Switched.{switched_step, switch_grown}
 use Rattle.std.proofs.lemmas.Result.{on_ok_weaker}
 use Rattle.run_record.proofs.Steps.{any_err, on_ok_both, holds_on, no_frame, one_frame}
 use Rattle.run_record.proofs.session.Session.step.Goals as goal
@@ -73,20 +74,35 @@ returns-clause-ok c =
             (subst (λ (n : ℕ). NotesSwitch n (c.self.inside.number + 1) c.tell.new.master.lan.happened c.put_frame.new.book c.note_behind.new.book) same both.1.1.1)
             (subst (λ (n : ℕ). IsSwitched ports host n c.self.inside.master.lan c.args.book.now) (sym number)
             (subst (λ (s : SessionState). IsSwitched s.ports host s.ring.number s.master.lan c.args.book.now) (sym c.self.view_is) x))));
-        leads = λ plan fs recover counts live l.
+        forwards = λ plan fs host recover counts live x w.
             let live : has_live c.self.inside.master ≡ true = ap (λ (s : SessionState). has_live s.master) c.self.view_is ∙ live in
-            let same : Leading plan c.self.inside.master c.self.inside.log.notes fs = subst (λ (s : SessionState). Leading plan s.master s.notes fs) (sym c.self.view_is) l in
-            leads_on c.self.inside.master c.next.new.self c.tell.new.master (exchanged f) c.next.result c.next.ensures.idle c.next.ensures.led c.next.ensures.toured c.next.ensures.asks plan fs live c.self.inside.log.notes same
-            (λ number us frame under. c.tell.ensures.leads (lens_of plan.slaves) plan.recover plan.retry same.missed number us (exchanged f) refl refl under
-            (λ pass. returned (lens_of plan.slaves) c.self.inside.ring (exchanged f) number same.leads us c.exchange-fate.ensures.fate c.exchange-fate.ensures.back frame pass))
-            (λ number us frame under. c.tell.ensures.toured (lens_of plan.slaves) plan.recover plan.retry same.missed number us (exchanged f) refl refl under
-            (λ pass. returned (lens_of plan.slaves) c.self.inside.ring (exchanged f) number same.leads us c.exchange-fate.ensures.fate c.exchange-fate.ensures.back frame pass))
-            c.self.inside.number (counts ∙ sym (ap (λ (s : SessionState). s.ring.number) c.self.view_is) ∙ sym c.self.invariant.0) c.note_before.new.self c.note_behind.new.self
+            let mine : Forwards plan c.self.inside.master c.self.inside.log.notes fs c.args.book.now = subst (λ (s : SessionState). Forwards plan s.master s.notes fs c.args.book.now) (sym c.self.view_is) w in
+            let number = c.self.invariant.0 in
+            let l : Leading plan c.self.inside.master c.self.inside.log.notes fs = mine.leading in
+            forwards_on c.self.inside.master c.next.new.self c.tell.new.master (exchanged f) c.next.result c.next.ensures.idle c.next.ensures.led c.next.ensures.toured c.next.ensures.asks plan fs live c.self.inside.log.notes l
+            (λ number us frame under. c.tell.ensures.leads (lens_of plan.slaves) plan.recover plan.retry l.missed number us (exchanged f) refl refl under
+            (λ pass. returned (lens_of plan.slaves) c.self.inside.ring (exchanged f) number l.leads us c.exchange-fate.ensures.fate c.exchange-fate.ensures.back frame pass))
+            (λ number us frame under. c.tell.ensures.toured (lens_of plan.slaves) plan.recover plan.retry l.missed number us (exchanged f) refl refl under
+            (λ pass. returned (lens_of plan.slaves) c.self.inside.ring (exchanged f) number l.leads us c.exchange-fate.ensures.fate c.exchange-fate.ensures.back frame pass))
+            c.self.inside.number (counts ∙ sym (ap (λ (s : SessionState). s.ring.number) c.self.view_is) ∙ sym number) c.note_before.new.self c.note_behind.new.self
             (c.note_before.ensures.slaves.recover ∙ ap (λ (s : SessionState). s.recover) c.self.view_is ∙ recover) c.in_ok-note_before.ensures.gave both.0
             c.in_ok-note_before.ensures.told both.1.0
-            (λ pass us frame under. c.tell.ensures.brought pass (lens_of plan.slaves) plan.recover plan.retry same.missed c.next.new.into.items us under
-            (returned (lens_of plan.slaves) c.self.inside.ring (exchanged f) (length fs) same.leads us c.exchange-fate.ensures.fate c.exchange-fate.ensures.back frame pass))
-            c.in_ok-note_before.ensures.heard both.1.1.0;
+            (λ pass us frame under. c.tell.ensures.brought pass (lens_of plan.slaves) plan.recover plan.retry l.missed c.next.new.into.items us under
+            (returned (lens_of plan.slaves) c.self.inside.ring (exchanged f) (length fs) l.leads us c.exchange-fate.ensures.fate c.exchange-fate.ensures.back frame pass))
+            c.in_ok-note_before.ensures.heard both.1.1.0
+            c.args.book.now c.note_behind.new.book c.next.ensures.joins c.next.ensures.made
+            (λ pass us frame. returned (lens_of plan.slaves) c.self.inside.ring (exchanged f) (length fs) l.leads us c.exchange-fate.ensures.fate c.exchange-fate.ensures.back frame pass)
+            (λ us js frame under h. c.tell.ensures.joined (lens_of plan.slaves) plan.recover plan.retry l.missed (length fs) us js (exchanged f) refl refl under
+            (λ pass. returned (lens_of plan.slaves) c.self.inside.ring (exchanged f) (length fs) l.leads us c.exchange-fate.ensures.fate c.exchange-fate.ensures.back frame pass) h)
+            (λ pass us js frame under h. c.tell.ensures.arrivals pass (lens_of plan.slaves) plan.recover plan.retry l.missed c.next.new.into.items us js under
+            (returned (lens_of plan.slaves) c.self.inside.ring (exchanged f) (length fs) l.leads us c.exchange-fate.ensures.fate c.exchange-fate.ensures.back frame pass) h)
+            (λ after lost us under. c.tell.ensures.downs after lost (lens_of plan.slaves) plan.recover plan.retry l.missed (length fs) us (exchanged f) refl under)
+            (switch_grown ports host c.self.inside.number c.self.inside.master.lan c.next.new.self.lan c.tell.new.master.lan c.args.book.now c.note_before.new.book c.put_frame.new.book c.note_behind.new.book
+            c.next.ensures.happened c.in_ok-note_before.ensures.switch c.put_frame.ensures.switch c.tell.ensures.happened
+            (subst (λ (n : ℕ). NotesSwitch n (c.self.inside.number + 1) c.tell.new.master.lan.happened c.put_frame.new.book c.note_behind.new.book) same both.1.1.1)
+            (subst (λ (n : ℕ). IsSwitched ports host n c.self.inside.master.lan c.args.book.now) (sym number)
+            (subst (λ (s : SessionState). IsSwitched s.ports host s.ring.number s.master.lan c.args.book.now) (sym c.self.view_is) x)))
+            mine.forwarded;
       },
     ))
     (on_ok_both _ _ c.note_behind.result c.note_behind.ensures.gave (on_ok_both _ _ c.note_behind.result c.note_behind.ensures.told (on_ok_both _ _ c.note_behind.result c.note_behind.ensures.heard c.note_behind.ensures.switch)))
