@@ -78,7 +78,6 @@ taken_follows t f at x q u l h =
   where
     longer : Port
     longer = record q { queue = q.queue ++ x ∷ [] }
-
     room = if nat_lt (length q.queue) 8 then record { port = longer; offered = Taken } else record { port = q; offered = Full }
 
     go : (b : Bool) → Follows t (grown (if b then record { port = longer; offered = Taken } else record { port = q; offered = Full }).offered at x f) (if b then record { port = longer; offered = Taken } else record { port = q; offered = Full }).port
