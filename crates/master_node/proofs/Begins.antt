@@ -3,7 +3,7 @@ use Rattle.std.proofs.Common.{◌≡◌, ◌⊎◌, inl, inr, ◌<◌, ◌==◌,
 use Rattle.std.specs.Prelude.{nat_lt, ◌+◌, if◌then◌else◌, is_some, map, slice_get}
 use Rattle.std.proofs.lemmas.Bool.{eq-eqb, eqb-true}
 use Rattle.arrayvec.specs.ArrayVec.{ArrayVec}
-use Rattle.eoe_switch.specs.Switch.{Switched, queue_at}
+use Rattle.eoe_switch.specs.Switch.{Switched}
 use Rattle.eoe_switch.specs.declared.switching.SwitchEvent.{SwitchEvent}
 use Rattle.life_runs.specs.of_frame_view.View.{Lens}
 use Rattle.life_runs.specs.of_life_frames.Shares.{AllFrom, IsElsewhere, AreDistinct}
@@ -19,12 +19,11 @@ use Rattle.master_side.specs.Shown.{wish_begun, wished, takes_ready}
 use Rattle.master_side.specs.declared.carried.Wish.{Wish}
 use Rattle.master_side.specs.declared.hand.Hand.{Ghosts}
 use Rattle.master_tour.specs.Made.{is_in}
-use Rattle.master_tour.specs.Orders.{AreOnce}
 use Rattle.master_tour.specs.of_life_model.Lives.{Spot}
 use Rattle.master_tour.specs.Walks.{StepsAt}
 use Rattle.master_tour.specs.declared.stop.Stop.{Stop}
 use Rattle.segment_plan.specs.declared.service.Service as Plan
-use Rattle.master_node.specs.Begins.{Taken, switch_on, switch_behind, oldest_at, oldest_by, taken_by, taken_in, packet_asked, begins_by, begins_in, begun_of, begun_for, HasTaken, TakesOn, taken_for, taken_where, LaysOldest, HasBegun, PacketsBegin}
+use Rattle.master_node.specs.Begins.{Taken, switch_on, switch_behind, oldest_by, taken_by, taken_in, begins_by, begins_in, begun_of, begun_for, HasTaken, TakesOn, taken_where, LaysOldest, HasBegun, PacketsBegin}
 use Rattle.master_node.specs.Coming.{IsComing, IsLaid, next_of, wish_of}
 use Rattle.master_node.specs.Filling.{IsAmong}
 use Rattle.master_node.specs.Forwards.{port_by, waiting_by}

@@ -1,5 +1,5 @@
 -- What happens at the switch, one thing after the other.
-use Rattle.std.proofs.Common.{◌≡◌, ℕ, zero, suc, ◌+◌, ◌*◌, ◌^◌, ◌%◌, ◌<◌, ◌≤◌, List, [], ◌∷◌, ◌++◌, Bool, true, false, Option, Some, None, refl, sym, ap, subst, ◌∙◌, arith, length, take, drop, map, get_or, replicate, append_assoc, append-nil, add-one}
+use Rattle.std.proofs.Common.{◌≡◌, ℕ, zero, suc, ◌+◌, ◌*◌, ◌^◌, ◌%◌, ◌<◌, ◌≤◌, List, [], ◌∷◌, ◌++◌, Bool, false, Option, Some, None, refl, sym, ap, subst, ◌∙◌, arith, length, take, drop, get_or, replicate, append_assoc, append-nil, add-one}
 use Rattle.std.specs.Prelude.{◌==◌, if◌then◌else◌, All, slice_get, slice_set}
 use Rattle.std.proofs.lemmas.List.Elements.{All-nil, All-push}
 use Rattle.std.proofs.Math.Nat.{pow-succ'}
@@ -15,7 +15,7 @@ use Rattle.eoe_switch.specs.declared.port.Route.{Route}
 use Rattle.eoe_switch.specs.declared.switching.SwitchEvent.{SwitchEvent}
 use Rattle.eoe_switch.specs.declared.switching.SwitchEvent.TheVariants.{Arrive, Begun, Down}
 use Rattle.master_node.specs.Begins.{switch_on}
-use Rattle.master_node.specs.Happened.{events_of, packet_of, handed_by, handed_in, arrived_by, arrivals_at, HasHappened, Comes, Happens, HappensSo}
+use Rattle.master_node.specs.Happened.{events_of, handed_by, handed_in, arrived_by, arrivals_at, HasHappened, Comes, Happens, HappensSo}
 use Rattle.master_node.specs.Ports.{IsAtPort}
 use Rattle.master_node.specs.declared.happened.Happening.{Happening}
 use Rattle.master_node.specs.declared.lan.Lan.{Lan}

@@ -3,7 +3,7 @@ use Rattle.arrayvec.specs.ArrayVec.{ArrayVec}
 use Rattle.master_node.specs.declared.lan.Lan.{Lan}
 use Rattle.master_node.proofs.Happenings.{from_host}
 use Rattle.master_node.proofs.Ports.{long_here}
-use Rattle.master_node.proofs.Begins.{takes_one, takes_none}
+use Rattle.master_node.proofs.Begins.{takes_one}
 use Rattle.master_node.proofs.Made.{makes_one}
 use Rattle.master_node.proofs.lan.Lan.enter.Goals as goal
 

@@ -6,7 +6,6 @@ use Rattle.master_node.proofs.Filleds.{fills_first, fills_last, fills_same, fill
 use Rattle.master_tour.specs.Walks.{EachPair}
 use Rattle.master_tour.proofs.Walks.{each_same}
 use Rattle.master_node.proofs.Lists.{each_trans}
-use Rattle.std.proofs.Common.{ℕ}
 use Rattle.master_node.proofs.Leaves.{few_stops}
 use Rattle.master_node.proofs.Toureds.{counts_more, visiting_first, visiting_more, visiting_still, visiting_same, visiting_last}
 use Rattle.master_node.proofs.Happenings.{happens_none, happens_then, happens_more}
