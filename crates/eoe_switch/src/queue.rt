@@ -1,4 +1,5 @@
 ghost use Rattle.std.specs.Prelude.{◌≡◌, ◌≤◌, [], ◌∷◌, ◌++◌, length, nat_lt, if◌then◌else◌, IfOk, slice_get, drop};
+ghost use Rattle.std.specs.Option.{option_copied};
 
 use circular_buffer::HeapCircularBuffer;
 use ec_fields::NoMemory;
@@ -41,6 +42,13 @@ impl Queue {
         ensures few { result ≤ 8 }
     {
         self.ring.len()
+    }
+
+    /// The oldest packet, `None` exactly where none waits. It goes on waiting.
+    pub fn oldest(&self) -> Option<&Packet>
+        ensures { option_copied result ≡ slice_get self.now 0 }
+    {
+        self.ring.front()
     }
 
     /// Appends a packet; `false` exactly where 8 wait already, and then nothing changed.

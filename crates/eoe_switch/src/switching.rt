@@ -1,4 +1,5 @@
 ghost use Rattle.std.specs.Prelude.{◌≡◌, ◌^◌, ◌+◌, ◌<◌, ◌≤◌, length, [], IfOk, slice_get};
+ghost use Rattle.std.specs.Option.{option_copied};
 ghost use Rattle.eoe_switch.specs.Switch.{Switched, first_ports, ports_behind, bits_of_taken, bits_of_full, bit_where, learned_from, route_of, first_switch, arrived, queue_at, begun_at, downed_at};
 
 use crate::addresses::{Learned, address_at, learn, port_of};
@@ -172,6 +173,16 @@ impl Switch {
         learn_source(&mut self.learned, port, packet);
         let route = route(&self.learned, port, packet);
         offer_all(&mut self.ports, route, packet)
+    }
+
+    /// The oldest packet that waits at a port, `None` exactly where none waits. It goes on waiting.
+    pub fn oldest(&self, port: u32) -> Option<&Packet>
+        ensures { option_copied result ≡ slice_get (queue_at self.now port) 0 }
+    {
+        match self.ports.get(port as usize) {
+            Some(port) => port.queue.oldest(),
+            None => None,
+        }
     }
 
     /// Hands out the oldest packet that waits at a port, `None` exactly where none waits.

@@ -3,6 +3,7 @@ use Rattle.std.proofs.Common.{◌≡◌, ◌⊎◌, inl, inr, ◌<◌, ◌≤◌
 use Rattle.std.specs.Prelude.{nat_lt, map, All}
 use Rattle.std.specs.List.{list_any}
 use Rattle.std.proofs.lemmas.Bool.{lt-ltb, le-ltb}
+use Rattle.eoe_switch.specs.Switch.{Switched}
 use Rattle.life_runs.specs.of_frame_view.View.{Lens}
 use Rattle.life_runs.specs.of_life_frames.Shares.{AllFrom}
 use Rattle.life_runs.specs.Led.{Leads}
@@ -14,6 +15,7 @@ use Rattle.master_node.specs.Filling.{IsAmong, StopFills, IsFilling, IsEmpty, Is
 use Rattle.master_node.specs.Kept.{TourOn}
 use Rattle.master_node.specs.Shows.{WaitsNone, HoldsFirst, IsAlone, ComeAgain, lived_of, is_live_lead}
 use Rattle.master_node.specs.declared.node.MasterNode.{MasterNode}
+use Rattle.master_node.proofs.Begins.{begun_on}
 use Rattle.master_node.proofs.Lefts.{true_false, without, without_not, without_fewer, without_other, below, below_in, in_first, in_last, in_more, not_in, once_more, left_alone}
 
 -- where the tour stands, but for the visits that were passed
@@ -26,6 +28,7 @@ pub record SameTour (m n : MasterNode) : Type 0 where
   pub last : n.tour.last ≡ m.tour.last
   pub made : n.made ≡ m.made
   pub posts : n.posts ≡ m.posts
+  pub lan : n.lan ≡ m.lan
 
 -- before any datagram stands in the frame
 pub record NoneYet (m : MasterNode) (octets : List ℕ) (as' : List Leads) : Type 0 where
@@ -37,9 +40,9 @@ pub record NoneYet (m : MasterNode) (octets : List ℕ) (as' : List Leads) : Typ
   pub lives : (k : ℕ) → holds_at (λ s. is_live s.stand) m.tour.stops.items k ≡ holds_at is_live_lead as' k
 
 -- BEHIND SO MANY VISITS
-pub record Fills (lens : ℕ → Lens) (recover made : ℕ) (as' : List Leads) (n : ℕ) (m : MasterNode) (octets : List ℕ) : Type 0 where
+pub record Fills (lens : ℕ → Lens) (recover made : ℕ) (from : Switched) (as' : List Leads) (n : ℕ) (m : MasterNode) (octets : List ℕ) : Type 0 where
   pub left : List ℕ
-  pub filling : IsFilling lens recover made left m octets as'
+  pub filling : IsFilling lens recover made from left m octets as'
   pub most : (k : ℕ) → is_in k (visits_left m.tour.again m.tour.visit.items m.tour.opened (length m.tour.stops.items) m.tour.last m.tour.passed) ≡ true → is_in k left ≡ true
   pub apart : m.tour.opened < length as' → (k : ℕ) → k < length as' → (k ≡ m.tour.opened → ⊥) → is_in k left ≡ true
   pub once : AreOnce m.tour.visit.items
@@ -58,8 +61,8 @@ from_length P i [] (s ∷ ss) p = absurd p
 from_length P i (a ∷ as') [] p = absurd p
 from_length P i (a ∷ as') (s ∷ ss) p = ap suc (from_length P (suc i) as' ss p.1)
 
-pub many : (lens : ℕ → Lens) (recover made : ℕ) (left : List ℕ) (m : MasterNode) (octets : List ℕ) (as' : List Leads) → IsFilling lens recover made left m octets as' → length m.tour.stops.items ≡ length as'
-many lens recover made left m octets as' f = from_length (λ i a s. IsAmong lens f.begun left i a s) 0 as' m.tour.stops.items f.among
+pub many : (lens : ℕ → Lens) (recover made : ℕ) (from : Switched) (left : List ℕ) (m : MasterNode) (octets : List ℕ) (as' : List Leads) → IsFilling lens recover made from left m octets as' → length m.tour.stops.items ≡ length as'
+many lens recover made from left m octets as' f = from_length (λ i a s. IsAmong lens f.begun left i a s) 0 as' m.tour.stops.items f.among
 
 -- the number of datagrams behind a visit
 pub count_behind : {S : Type 0} (P : S → S → Type 0) (under : S → Bool) (n c i : ℕ) (xs ys : List S) → ((s t : S) → P s t → (under t ≡ true → c ≡ n + 1) × (under t ≡ false → c ≡ n)) → StepsAt P i xs ys → (c ≡ n) ⊎ (c ≡ n + 1)
@@ -74,14 +77,15 @@ count_behind P under n c zero (x ∷ xs) (y ∷ ys) h e = go (under y) refl
     go false u = inl ((h x y e.0).1 u)
 count_behind P under n c (suc i) (x ∷ xs) (y ∷ ys) h e = count_behind P under n c i xs ys h e.1
 
-module _ (lens : ℕ → Lens) (recover made : ℕ) (as' : List Leads) where
-  pub filling_same : (left : List ℕ) (m n : MasterNode) (octets : List ℕ) → SameTour m n → IsFilling lens recover made left m octets as' → IsFilling lens recover made left n octets as'
+module _ (lens : ℕ → Lens) (recover made : ℕ) (from : Switched) (as' : List Leads) where
+  pub filling_same : (left : List ℕ) (m n : MasterNode) (octets : List ℕ) → SameTour m n → IsFilling lens recover made from left m octets as' → IsFilling lens recover made from left n octets as'
   filling_same left m n octets k f = record {
     begun = f.begun;
     frame = subst (λ z. FrameMade (λ ds i a s. StopFills lens recover made f.begun (n.made % 256) left ds i a s) octets n.tour.count (map lived_of as') z.items) (sym k.stops)
         (subst (λ z. FrameMade (λ ds i a s. StopFills lens recover made f.begun (n.made % 256) left ds i a s) octets z (map lived_of as') m.tour.stops.items) (sym k.count)
         (subst (λ z. FrameMade (λ ds i a s. StopFills lens recover made f.begun (z % 256) left ds i a s) octets m.tour.count (map lived_of as') m.tour.stops.items) (sym k.made) f.frame));
     among = subst (λ z. AllFrom (λ i a s. IsAmong lens f.begun left i a s) 0 as' z.items) (sym k.stops) f.among;
+    packets = begun_on from left f.begun as' m.lan n.lan k.lan f.packets;
   }
 
   -- before the first visit
@@ -97,7 +101,7 @@ module _ (lens : ℕ → Lens) (recover made : ℕ) (as' : List Leads) where
   alone_of true visit opened a b = (a refl).alone
   alone_of false visit opened a b = λ l k e. absurd (nothing_in visit (b refl) k e)
 
-  pub fills_first : (m : MasterNode) (octets : List ℕ) → IsEmpty lens recover made m octets as' → Fills lens recover made as' 0 m octets
+  pub fills_first : (m : MasterNode) (octets : List ℕ) → IsEmpty lens recover made from m octets as' → Fills lens recover made from as' 0 m octets
   fills_first m octets e =
       let rest = visits_left m.tour.again m.tour.visit.items m.tour.opened (length m.tour.stops.items) m.tour.last m.tour.passed in
       let left = below (length as') ++ rest in
@@ -118,7 +122,7 @@ module _ (lens : ℕ → Lens) (recover made : ℕ) (as' : List Leads) where
       }
 
   -- behind the last one
-  pub fills_last : (n : ℕ) (m : MasterNode) (octets : List ℕ) → 1 ≤ n → Fills lens recover made as' n m octets → IsFilled lens recover made m octets as'
+  pub fills_last : (n : ℕ) (m : MasterNode) (octets : List ℕ) → 1 ≤ n → Fills lens recover made from as' n m octets → IsFilled lens recover made from m octets as'
   fills_last n m octets l f = record {
     left = f.left;
     filling = f.filling;
@@ -128,7 +132,7 @@ module _ (lens : ℕ → Lens) (recover made : ℕ) (as' : List Leads) where
     comes = record { once = f.once; first = f.first l; alone = f.alone };
   }
 
-  pub filled_same : (m n : MasterNode) (octets : List ℕ) → SameTour m n → IsFilled lens recover made m octets as' → IsFilled lens recover made n octets as'
+  pub filled_same : (m n : MasterNode) (octets : List ℕ) → SameTour m n → IsFilled lens recover made from m octets as' → IsFilled lens recover made from n octets as'
   filled_same m n octets k f = record {
     left = f.left;
     filling = filling_same f.left m n octets k f.filling;
@@ -138,7 +142,7 @@ module _ (lens : ℕ → Lens) (recover made : ℕ) (as' : List Leads) where
     comes = subst (λ z. ComeAgain is_live_lead z.items n.tour.opened as') (sym k.visit) (subst (λ z. ComeAgain is_live_lead m.tour.visit.items z as') (sym k.opened) f.comes);
   }
 
-  pub fills_same : (k : ℕ) (m n : MasterNode) (octets : List ℕ) → SameTour m n → Fills lens recover made as' k m octets → 1 ≤ k → IsFilled lens recover made n octets as'
+  pub fills_same : (k : ℕ) (m n : MasterNode) (octets : List ℕ) → SameTour m n → Fills lens recover made from as' k m octets → 1 ≤ k → IsFilled lens recover made from n octets as'
   fills_same k m n octets s f l = filled_same m n octets s (fills_last k m octets l f)
 
   -- the places that a frame carries
@@ -190,13 +194,13 @@ module _ (lens : ℕ → Lens) (recover made : ℕ) (as' : List Leads) where
   left_same false visit visit' opened count last passed e = refl
 
   -- ONE VISIT MORE: of the slave at this place, which comes next
-  module _ (n : ℕ) (m m1 m2 : MasterNode) (octets octets2 : List ℕ) (p : ℕ) (f : Fills lens recover made as' n m octets) (k : SameTour m m1)
+  module _ (n : ℕ) (m m1 m2 : MasterNode) (octets octets2 : List ℕ) (p : ℕ) (f : Fills lens recover made from as' n m octets) (k : SameTour m m1)
       (due : (m.tour.again ≡ true → AreOnce m.tour.visit.items) → IsNextOf p (visits_left m.tour.again m.tour.visit.items m.tour.opened (length m.tour.stops.items) m.tour.last m.tour.passed) (visits_left m.tour.again m.tour.visit.items m.tour.opened (length m.tour.stops.items) m.tour.last m1.tour.passed))
       (leads : m.tour.count ≡ 0 → m.tour.passed ≡ 0 → BeginsLive (λ s. is_live s.stand) m.tour.again m.tour.visit.items m.tour.opened m.tour.stops.items → list_any (λ s. is_live s.stand) m.tour.stops.items ≡ true → holds_at (λ s. is_live s.stand) m.tour.stops.items p ≡ true)
       (space : m1.tour.count < 16) (on : TourOn m1 m2) (passed : m2.tour.passed ≡ m1.tour.passed) (quiets : All WaitsNone m1.posts.items → All WaitsNone m2.posts.items)
       (carries : (m1.tour.again ≡ false → length m1.tour.visit.items < 16) → IsCarried (nat_lt m1.tour.count m2.tour.count) m1.tour.again p m1.tour.visit.items m2.tour.visit.items)
       (counts : (m2.tour.count ≡ m1.tour.count) ⊎ (m2.tour.count ≡ m1.tour.count + 1)) (adds : length octets ≡ 16 → holds_at (λ s. is_live s.stand) m1.tour.stops.items p ≡ true → m2.tour.count ≡ m1.tour.count + 1)
-      (led : (left next : List ℕ) → All WaitsNone m1.posts.items → is_in p left ≡ true → is_in p next ≡ false → ((j : ℕ) → is_in j next ≡ true → is_in j left ≡ true) → IsFilling lens recover made left m1 octets as' → IsFilling lens recover made next m2 octets2 as') where
+      (led : (left next : List ℕ) → All WaitsNone m1.posts.items → is_in p left ≡ true → is_in p next ≡ false → ((j : ℕ) → is_in j next ≡ true → is_in j left ≡ true) → IsFilling lens recover made from left m1 octets as' → IsFilling lens recover made from next m2 octets2 as') where
     comes_next : IsNextOf p (visits_left m.tour.again m.tour.visit.items m.tour.opened (length m.tour.stops.items) m.tour.last m.tour.passed) (visits_left m.tour.again m.tour.visit.items m.tour.opened (length m.tour.stops.items) m.tour.last m1.tour.passed)
     comes_next = due (λ e. f.once)
 
@@ -206,7 +210,7 @@ module _ (lens : ℕ → Lens) (recover made : ℕ) (as' : List Leads) where
     quiet1 : All WaitsNone m1.posts.items
     quiet1 = subst (λ z. All WaitsNone z.items) (sym k.posts) f.quiet
 
-    filling2 : IsFilling lens recover made (without p f.left) m2 octets2 as'
+    filling2 : IsFilling lens recover made from (without p f.left) m2 octets2 as'
     filling2 = led f.left (without p f.left) quiet1 at (without_not p f.left) (λ j e. without_fewer p j f.left e) (filling_same f.left m m1 octets k f.filling)
 
     count1 : m1.tour.count ≡ m.tour.count
@@ -227,7 +231,7 @@ module _ (lens : ℕ → Lens) (recover made : ℕ) (as' : List Leads) where
 
     same_left : visits_left m2.tour.again m2.tour.visit.items m2.tour.opened (length m2.tour.stops.items) m2.tour.last m2.tour.passed ≡ visits_left m.tour.again m.tour.visit.items m.tour.opened (length m.tour.stops.items) m.tour.last m1.tour.passed
     same_left =
-        (λ i. visits_left (again2 i) m2.tour.visit.items (opened2 i) ((many lens recover made (without p f.left) m2 octets2 as' filling2 ∙ sym (many lens recover made f.left m octets as' f.filling)) i) ((on.last ∙ k.last) i) (passed i))
+        (λ i. visits_left (again2 i) m2.tour.visit.items (opened2 i) ((many lens recover made from (without p f.left) m2 octets2 as' filling2 ∙ sym (many lens recover made from f.left m octets as' f.filling)) i) ((on.last ∙ k.last) i) (passed i))
         ∙ left_same m.tour.again m.tour.visit.items m2.tour.visit.items m.tour.opened (length m.tour.stops.items) m.tour.last m1.tour.passed (carried_again p m.tour.visit.items f.left (nat_lt m.tour.count m2.tour.count) m.tour.again m2.tour.visit.items carried)
 
     not_before : m.tour.again ≡ false → is_in p m.tour.visit.items ≡ false
@@ -235,7 +239,7 @@ module _ (lens : ℕ → Lens) (recover made : ℕ) (as' : List Leads) where
 
     is_opened_one : m.tour.opened < length as' → p ≡ m.tour.opened
     is_opened_one l =
-        let w = many lens recover made f.left m octets as' f.filling in
+        let w = many lens recover made from f.left m octets as' f.filling in
         left_alone m.tour.again m.tour.visit.items m.tour.opened (length m.tour.stops.items) m.tour.last m.tour.passed (omega (arith, l, w)) (f.alone l) p comes_next.among
 
     adds_one : n ≡ 0 → m2.tour.count ≡ m1.tour.count + 1
@@ -266,7 +270,7 @@ module _ (lens : ℕ → Lens) (recover made : ℕ) (as' : List Leads) where
         grows (inl e) = let w = f.some l in omega (arith, w, e, count1)
         grows (inr e) = omega (arith, e)
 
-    pub fills_more : Fills lens recover made as' (n + 1) m2 octets2
+    pub fills_more : Fills lens recover made from as' (n + 1) m2 octets2
     fills_more = record {
       left = without p f.left;
       filling = filling2;
@@ -294,10 +298,10 @@ module _ (lens : ℕ → Lens) (recover made : ℕ) (as' : List Leads) where
     }
 
   -- one that the frame has no room for
-  pub fills_still : (n : ℕ) (m m1 m2 : MasterNode) (octets octets2 : List ℕ) (p : ℕ) → 1 ≤ n → (f : Fills lens recover made as' n m octets) → SameTour m m1 → is_in p f.left ≡ true → TourOn m1 m2 → (All WaitsNone m1.posts.items → All WaitsNone m2.posts.items) →
+  pub fills_still : (n : ℕ) (m m1 m2 : MasterNode) (octets octets2 : List ℕ) (p : ℕ) → 1 ≤ n → (f : Fills lens recover made from as' n m octets) → SameTour m m1 → is_in p f.left ≡ true → TourOn m1 m2 → (All WaitsNone m1.posts.items → All WaitsNone m2.posts.items) →
       m2.tour.count ≡ m1.tour.count → m2.tour.visit ≡ m1.tour.visit →
-      ((left next : List ℕ) → All WaitsNone m1.posts.items → is_in p left ≡ true → is_in p next ≡ false → ((j : ℕ) → is_in j next ≡ true → is_in j left ≡ true) → IsFilling lens recover made left m1 octets as' → IsFilling lens recover made left m2 octets2 as') →
-      IsFilled lens recover made m2 octets2 as'
+      ((left next : List ℕ) → All WaitsNone m1.posts.items → is_in p left ≡ true → is_in p next ≡ false → ((j : ℕ) → is_in j next ≡ true → is_in j left ≡ true) → IsFilling lens recover made from left m1 octets as' → IsFilling lens recover made from left m2 octets2 as') →
+      IsFilled lens recover made from m2 octets2 as'
   fills_still n m m1 m2 octets octets2 p l f k at on quiets count visit led =
       let quiet1 = subst (λ z. All WaitsNone z.items) (sym k.posts) f.quiet in
       let opened2 = on.opened ∙ k.opened in

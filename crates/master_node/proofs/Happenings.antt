@@ -1,5 +1,5 @@
 -- What happens at the switch, one thing after the other.
-use Rattle.std.proofs.Common.{◌≡◌, ℕ, zero, suc, ◌+◌, ◌*◌, ◌^◌, ◌%◌, ◌<◌, ◌≤◌, List, [], ◌∷◌, ◌++◌, Bool, true, false, Option, Some, None, refl, sym, ap, subst, ◌∙◌, arith, length, take, drop, map, get_or, replicate, append_assoc, append-nil, add-one}
+use Rattle.std.proofs.Common.{◌≡◌, ℕ, zero, suc, ◌+◌, ◌*◌, ◌^◌, ◌%◌, ◌<◌, ◌≤◌, List, [], ◌∷◌, ◌++◌, Bool, false, Option, Some, None, refl, sym, ap, subst, ◌∙◌, arith, length, take, drop, get_or, replicate, append_assoc, append-nil, add-one}
 use Rattle.std.specs.Prelude.{◌==◌, if◌then◌else◌, All, slice_get, slice_set}
 use Rattle.std.proofs.lemmas.List.Elements.{All-nil, All-push}
 use Rattle.std.proofs.Math.Nat.{pow-succ'}
@@ -14,7 +14,8 @@ use Rattle.eoe_switch.specs.declared.port.Port.{Port}
 use Rattle.eoe_switch.specs.declared.port.Route.{Route}
 use Rattle.eoe_switch.specs.declared.switching.SwitchEvent.{SwitchEvent}
 use Rattle.eoe_switch.specs.declared.switching.SwitchEvent.TheVariants.{Arrive, Begun, Down}
-use Rattle.master_node.specs.Happened.{events_of, packet_of, handed_by, handed_in, arrived_by, arrivals_at, HasHappened, Comes, Happens, HappensSo}
+use Rattle.master_node.specs.Begins.{switch_on}
+use Rattle.master_node.specs.Happened.{events_of, handed_by, handed_in, arrived_by, arrivals_at, HasHappened, Comes, Happens, HappensSo}
 use Rattle.master_node.specs.Ports.{IsAtPort}
 use Rattle.master_node.specs.declared.happened.Happening.{Happening}
 use Rattle.master_node.specs.declared.lan.Lan.{Lan}
@@ -76,12 +77,7 @@ forward_first route packet (p ∷ ps) fs h rest e l =
           ∙ ap (λ z. z ∷ forwards_behind route packet 1 ps rest) (first_taken (offered route 0 packet p).offered (bits_of_taken route packet 1 ps) even.0 h packet even.1),
     )
 
--- the switch behind an event, and what that forwards to the host
-abbrev pub switch_on : Switched → SwitchEvent → Switched
-switch_on s (Arrive port packet) = (arrived s port packet).switch
-switch_on s (Begun port) = begun_at s port
-switch_on s (Down port) = downed_at s port
-
+-- what an event forwards to the host
 abbrev pub to_first : Switched → SwitchEvent → List (ArrayVec ℕ)
 to_first s (Arrive port packet) = if (arrived s port packet).taken % 2 == 1 then packet ∷ [] else []
 to_first s (Begun port) = []

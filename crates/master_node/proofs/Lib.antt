@@ -29,3 +29,4 @@ pub mod Happenings
 pub mod Downs
 pub mod Made
 pub mod Arrivals
+pub mod Begins

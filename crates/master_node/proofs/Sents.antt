@@ -33,6 +33,7 @@ use Rattle.segment_plan.specs.declared.service.Service as Plan
 use Rattle.master_duty.specs.of_state_exchange.Stated.{Service}
 use Rattle.master_duty.specs.of_task_model.Accounts.{Account, Pick}
 use Rattle.master_node.specs.Rooms.{FitAgain}
+use Rattle.master_node.specs.Begins.{begun_for, begun_of}
 use Rattle.master_node.specs.Filling.{IsAmong}
 use Rattle.master_node.specs.declared.node.MasterNode.{MasterNode}
 use Rattle.master_node.specs.Shows.{MasterShows, WaitsNone, is_led, lived_of, turned_of, is_live_lead, is_opening_lead, is_live_turn, is_opening_turn, is_carried, side_shows, HoldsFirst, ComeAgain, GoesOn, GoesUnder, IsLived, IsLead, IsUnder}
@@ -194,6 +195,13 @@ module _ {G : Ghosts InHand} (lens : ℕ → Lens) (recover made : ℕ) (begun :
   turns_all left i (a ∷ as') [] ss m t = absurd t
   turns_all left i (a ∷ as') (b ∷ bs) [] m t = absurd t
   turns_all left i (a ∷ as') (b ∷ bs) (s ∷ ss) m t = (turn_is left i a b s m.0 t.0, turns_all left (suc i) as' bs ss m.1 t.1)
+
+  pub begun_turns : (as' : List Leads) (bs : List (Lived Asked Reply)) (ss : List (Stop InHand G)) → AllThree (λ a b s. Sends a b s) (map lived_of as') bs ss → (k : ℕ) → begun_of (turns as' bs ss) k ≡ begun_for begun as' k
+  begun_turns [] bs ss t k = refl
+  begun_turns (a ∷ as') [] ss t k = absurd t
+  begun_turns (a ∷ as') (b ∷ bs) [] t k = absurd t
+  begun_turns (a ∷ as') (b ∷ bs) (s ∷ ss) t zero = refl
+  begun_turns (a ∷ as') (b ∷ bs) (s ∷ ss) t (suc k) = begun_turns as' bs ss t.1 k
 
   pub under_all : (left : List ℕ) (i : ℕ) (as' : List Leads) (bs : List (Lived Asked Reply)) (ss : List (Stop InHand G)) → AllFrom (λ j a s. IsAmong lens begun left j a s) i as' ss → AllThree (λ a b s. Sends a b s) (map lived_of as') bs ss → AllBoth (λ u s. IsUnder lens recover octets u s) (turns as' bs ss) ss
   under_all left i [] [] [] m t = tt

@@ -17,11 +17,15 @@ use Rattle.master_tour.specs.Walks.{EachPair, StepsAt}
 use Rattle.master_tour.specs.declared.stop.Stop.{Stop}
 use Rattle.segment_plan.specs.declared.service.Service as Plan
 use Rattle.master_duty.specs.of_state_exchange.Stated.{Service}
+use Rattle.master_node.specs.Begins.{LaysOldest, begins_by, taken_where}
 use Rattle.master_node.specs.Coming.{IsComing, IsLaid, PassesBy, CameBy, next_of, wish_of}
 use Rattle.master_node.specs.Filling.{IsAmong, StopFills}
+use Rattle.master_node.specs.Forwards.{port_by}
 use Rattle.master_node.specs.Kept.{StopKept, StopStays}
 use Rattle.master_node.specs.Shows.{lived_of}
 use Rattle.master_node.specs.declared.coming.Coming.{Coming}
+use Rattle.master_node.specs.declared.lan.Lan.{Lan}
+use Rattle.master_node.proofs.Begins.{leaves_here, spot_at, spot_here, steps_any}
 use Rattle.master_node.proofs.Cames.{NumberBehind, came_by, ready_unpassed, got_inside}
 use Rattle.master_node.proofs.Fills.{from_each, frame_each, fills_kept, begun_at, begun_here, begun_comes, among_step}
 use Rattle.master_node.proofs.Kepts.{stop_same}
@@ -168,6 +172,17 @@ module _ {G : Ghosts InHand} (coming : Option Coming) (result : Bool) (place : �
 
   all_here : StepsAt (λ s v. s.place ≡ here) place s0 s4
   all_here = steps_map (λ s v. Goes coming result (slice_get s2 place) s v) (λ s v. s.place ≡ here) place s0 s4 (λ s v g. sym g.laid.fitted.place ∙ sym (ap place_of g.visited.is)) all_go
+
+  pub spot : (lens : ℕ → Lens) (begun : ℕ → Option (Service Asked)) (left : List ℕ) (as' : List Leads) → AllFrom (λ i a s. IsAmong lens begun left i a s) 0 as' s0 → spot_at as' place ≡ Some here
+  spot lens begun left as' m = spot_here lens begun left here 0 place as' s0 s4 m all_here
+
+  -- WHAT LEAVES THE SWITCH is what came into hand
+  pub leaves : (l : Lan) → StepsAt (λ s t. LaysOldest l place coming t) place s1 s2 → taken_where result l place coming ≡ begins_by (port_by (slice_get l.ports.items place)) what
+  leaves l oldest =
+      let same = taken_where result l place coming ≡ begins_by (port_by (slice_get l.ports.items place)) what in
+      steps_any same place s2 s3
+      (steps_mid (λ s t. LaysOldest l place coming t) (λ s t. Visited coming result (slice_get s2 place) s t) (λ s t. same) place s1 s2 s3
+      (λ r s t a b. leaves_here l place coming result s b.comes b.laid b.began.ready a ∙ ap (λ z. begins_by (port_by (slice_get l.ports.items place)) (came_of z)) (sym b.is)) oldest all_visited)
 
   pub among : (lens : ℕ → Lens) (begun : ℕ → Option (Service Asked)) (left next : List ℕ) (as' : List Leads) → ((k : ℕ) → is_in k next ≡ true → is_in k left ≡ true) → is_in place left ≡ true → is_in place next ≡ false → AreDistinct (map lived_of as') →
       AllFrom (λ i a s. IsAmong lens begun left i a s) 0 as' s0 → AllFrom (λ i a s. IsAmong lens (now begun) next i a s) 0 as' s4

@@ -34,4 +34,5 @@ pub mod Ports
 pub mod Happened
 pub mod Downs
 pub mod Made
+pub mod Begins
 pub mod Arrivals

@@ -109,6 +109,7 @@ impl Lan {
     ghost use Rattle.master_node.specs.Downs.{Lists, down_by};
     ghost use Rattle.master_node.specs.Arrivals.{arrive_by};
     ghost use Rattle.master_node.specs.Made.{Makes};
+    ghost use Rattle.master_node.specs.Begins.{TakesOn, oldest_by};
 
     /// A switch with a port for the host and one for each slave that serves EoE, all of them up, and the packets of the host.
     pub fn new(alloc: Global, plan: &Scenario) -> Result<Lan, NoMemory>
@@ -171,6 +172,7 @@ impl Lan {
         ensures so { HappensSo self.old self.new }
         ensures none { self.new.happened ≡ [] }
         ensures ports { self.new.ports ≡ self.old.ports }
+        ensures switch { self.new.switch ≡ self.old.switch }
     {
         self.happened.clear();
     }
@@ -186,6 +188,7 @@ impl Lan {
     pub fn enter(&mut self)
         ensures happens { Happens 1 self.old self.new }
         ensures made { Makes self.old self.new }
+        ensures takes { TakesOn [] self.old self.new }
     {
         if self.entered >= self.host.len() {
             return;
@@ -220,25 +223,34 @@ impl Lan {
         self.happened.put(Happening { event, handed });
     }
 
-    /// The oldest packet that waits at a slave's port.
-    pub fn begin(&mut self, slave: usize) -> Option<Packet>
-        ensures long { IfSome result (λ p. 14 ≤ length p.items) }
-        ensures oldest { IfSome result (λ p. slice_get (forwarded self.old.switch self.old.ports.items slave) 0 ≡ Some p) }
-        ensures goes_on { forwarded self.new.switch self.new.ports.items slave ≡ drop 1 (forwarded self.old.switch self.old.ports.items slave) }
-        ensures happens { Happens 1 self.old self.new }
-        ensures made { Makes self.old self.new }
+    /// The oldest packet that waits at a slave's port. It goes on waiting.
+    pub fn oldest(&self, slave: usize) -> Option<&Packet>
+        ensures long { IfSome result (λ p. 14 ≤ length p.now.items) }
+        ensures oldest { IfSome result (λ p. slice_get (forwarded self.now.switch self.now.ports.items slave) 0 ≡ Some p.now) }
     {
         let port = self.port(slave)?;
-        let packet = self.switch.begun(port)?;
-        let event = SwitchEvent::Begun { port };
-        self.happened.put(Happening {
-            event,
-            handed: false,
-        });
+        let packet = self.switch.oldest(port)?;
         if packet.len() < LEAST {
             return None;
         }
         Some(packet)
+    }
+
+    /// It begins, and waits no longer.
+    pub fn begin(&mut self, slave: usize)
+        ensures goes_on { forwarded self.new.switch self.new.ports.items slave ≡ drop 1 (forwarded self.old.switch self.old.ports.items slave) }
+        ensures happens { Happens 1 self.old self.new }
+        ensures made { Makes self.old self.new }
+        ensures takes { TakesOn (oldest_by self.old.switch (port_by (slice_get self.old.ports.items slave))) self.old self.new }
+    {
+        if let Some(port) = self.port(slave) {
+            self.switch.begun(port);
+            let event = SwitchEvent::Begun { port };
+            self.happened.put(Happening {
+                event,
+                handed: false,
+            });
+        }
     }
 
     /// A slave's port goes down.

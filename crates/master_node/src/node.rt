@@ -74,11 +74,10 @@ impl MasterNode {
     ghost use Rattle.master_node.specs.Rooms.{SendsSame, Takes, area_at, area_in};
     ghost use Rattle.master_node.specs.Asks.{AllAsk};
     ghost use Rattle.master_node.specs.Toured.{StaysPut, TakesPart, IsBare, HasVisited, stop_share, turn_share, tour_of};
-    ghost use Rattle.std.specs.Prelude.{drop};
-    ghost use Rattle.master_hand.specs.declared.laying.Laid.{Laid};
-    ghost use Rattle.master_node.specs.Forwards.{forwarded};
     ghost use Rattle.master_node.specs.Happened.{Happens, HappensSo};
     ghost use Rattle.master_node.specs.Made.{Makes, AreOfMaking};
+    ghost use Rattle.eoe_switch.specs.Switch.{Switched};
+    ghost use Rattle.master_node.specs.Begins.{HasTaken, IsOldest, LaysOldest, PacketsBegin, TakesOn, taken_for, taken_where};
 
     // Whether a slave is live.
     pub(crate) fn has_live(&self) -> bool
@@ -102,6 +101,7 @@ impl MasterNode {
         ensures same { (self.new.posts ≡ self.old.posts) × (self.new.tour ≡ self.old.tour) }
         ensures lan { Happens 1 self.old.lan self.new.lan }
         ensures made { Makes self.old.lan self.new.lan }
+        ensures takes { TakesOn [] self.old.lan self.new.lan }
     {
         if self.tour.opened < self.tour.stops.len() || !self.lan.has_host() {
             return;
@@ -130,23 +130,21 @@ impl MasterNode {
         scripted(&stop.side.hand)
     }
 
-    // The oldest packet that waits at the slave's port is laid ready.
+    // The oldest packet that waits at the slave's port is laid ready; it goes on waiting there.
     fn lay_packet(&mut self, place: usize)
         requires { place < vec_len self.old.posts }
         ensures posts { vec_len self.new.posts ≡ vec_len self.old.posts }
         ensures laid { StepsAt (λ s t. StopStays s t × IsLaid (Some Coming.Packet) t.side.hand.laying.laid) place self.old.tour.stops.items self.new.tour.stops.items }
         ensures kept { TourKept self.old self.new × (All WaitsNone self.old.posts.items → All WaitsNone self.new.posts.items) }
-        ensures oldest { StepsAt (λ s t. t.side.hand.laying.laid ≡ Laid.Packet → slice_get (forwarded self.old.lan.switch self.old.lan.ports.items place) 0 ≡ Some (record { items = t.side.hand.laying.packet })) place self.old.tour.stops.items self.new.tour.stops.items }
-        ensures goes_on { forwarded self.new.lan.switch self.new.lan.ports.items place ≡ drop 1 (forwarded self.old.lan.switch self.old.lan.ports.items place) }
-        ensures lan { Happens 1 self.old.lan self.new.lan }
-        ensures made { Makes self.old.lan self.new.lan }
+        ensures oldest { StepsAt (λ s t. IsOldest self.old.lan place t) place self.old.tour.stops.items self.new.tour.stops.items }
+        ensures lan { self.new.lan ≡ self.old.lan }
     {
         let post = &mut self.posts[place];
         post.next = Work::Packet;
         post.origin = Origin::Forward(post.forwards);
         post.forwards = post.forwards.wrapping_add(1);
-        match self.lan.begin(place) {
-            Some(packet) => lay_packet(&mut self.tour.stops[place].side, &packet),
+        match self.lan.oldest(place) {
+            Some(packet) => lay_packet(&mut self.tour.stops[place].side, packet),
             None => lay_nothing(&mut self.tour.stops[place].side),
         }
     }
@@ -203,8 +201,8 @@ impl MasterNode {
         ensures posts { vec_len self.new.posts ≡ vec_len self.old.posts }
         ensures laid { StepsAt (λ s t. StopStays s t × IsLaid (Some coming) t.side.hand.laying.laid) place self.old.tour.stops.items self.new.tour.stops.items }
         ensures kept { TourKept self.old self.new × (All WaitsNone self.old.posts.items → All WaitsNone self.new.posts.items) }
-        ensures lan { Happens 1 self.old.lan self.new.lan }
-        ensures made { Makes self.old.lan self.new.lan }
+        ensures oldest { StepsAt (λ s t. LaysOldest self.old.lan place (Some coming) t) place self.old.tour.stops.items self.new.tour.stops.items }
+        ensures lan { self.new.lan ≡ self.old.lan }
     {
         match coming {
             Coming::Packet => self.lay_packet(place),
@@ -221,8 +219,8 @@ impl MasterNode {
         ensures laid { StepsAt (λ s t. StopStays s t × IsLaid coming t.side.hand.laying.laid) place self.old.tour.stops.items self.new.tour.stops.items }
         ensures kept { TourKept self.old self.new × (All WaitsNone self.old.posts.items → All WaitsNone self.new.posts.items) }
         ensures joins { JoinsKept self.old self.new }
-        ensures lan { Happens 1 self.old.lan self.new.lan }
-        ensures made { Makes self.old.lan self.new.lan }
+        ensures oldest { StepsAt (λ s t. LaysOldest self.old.lan place coming t) place self.old.tour.stops.items self.new.tour.stops.items }
+        ensures lan { self.new.lan ≡ self.old.lan }
     {
         match coming {
             None => {}
@@ -230,7 +228,7 @@ impl MasterNode {
         }
     }
 
-    // A change of state that came into hand is passed by in the script.
+    // A change of state that came into hand is passed by in the script, and a packet waits no longer.
     fn pass_by(&mut self, place: usize, coming: Coming)
         requires { place < vec_len self.old.posts }
         ensures begun { StepsAt (λ s t. PassesBy (Some coming) s t) place self.old.tour.stops.items self.new.tour.stops.items }
@@ -239,11 +237,13 @@ impl MasterNode {
         ensures posts { self.new.posts ≡ self.old.posts }
         ensures joins { JoinsKept self.old self.new }
         ensures sends { StepsAt (λ s t. SendsSame s t) place self.old.tour.stops.items self.new.tour.stops.items }
-        ensures lan { self.new.lan ≡ self.old.lan }
+        ensures lan { Happens 1 self.old.lan self.new.lan }
+        ensures made { Makes self.old.lan self.new.lan }
+        ensures takes { TakesOn (taken_for self.old.lan place (Some coming)) self.old.lan self.new.lan }
     {
         match coming {
             Coming::State(_) => pass_by(&mut self.tour.stops[place].side),
-            Coming::Packet => {}
+            Coming::Packet => self.lan.begin(place),
             Coming::Mail => {}
             Coming::Script => {}
         }
@@ -258,7 +258,9 @@ impl MasterNode {
         ensures kept { TourKept self.old self.new × (All WaitsNone self.old.posts.items → All WaitsNone self.new.posts.items) }
         ensures joins { JoinsKept self.old self.new }
         ensures sends { StepsAt (λ s t. SendsSame s t) place self.old.tour.stops.items self.new.tour.stops.items }
-        ensures lan { self.new.lan ≡ self.old.lan }
+        ensures lan { Happens 1 self.old.lan self.new.lan }
+        ensures made { Makes self.old.lan self.new.lan }
+        ensures takes { TakesOn (taken_for self.old.lan place coming) self.old.lan self.new.lan }
     {
         let post = &mut self.posts[place];
         post.work = post.next;
@@ -283,7 +285,9 @@ impl MasterNode {
         ensures kept { TourKept self.old self.new × (All WaitsNone self.old.posts.items → All WaitsNone self.new.posts.items) }
         ensures joins { JoinsKept self.old self.new }
         ensures sends { StepsAt (λ s t. SendsSame s t) place self.old.tour.stops.items self.new.tour.stops.items }
-        ensures lan { self.new.lan ≡ self.old.lan }
+        ensures lan { Happens 1 self.old.lan self.new.lan }
+        ensures made { Makes self.old.lan self.new.lan }
+        ensures takes { TakesOn (taken_where began self.old.lan place coming) self.old.lan self.new.lan }
     {
         if began {
             self.begun(place, coming);
@@ -304,8 +308,8 @@ impl MasterNode {
         ensures counts { (self.new.tour.count ≡ self.old.tour.count) ⊎ (self.new.tour.count ≡ self.old.tour.count + 1) }
         ensures still { result ≡ false → (self.new.tour.count ≡ self.old.tour.count) × (self.new.tour.visit ≡ self.old.tour.visit) }
         ensures first { length into.old.items ≡ 16 → holds_at (λ s. is_live s.stand) self.old.tour.stops.items place ≡ true → (result ≡ true) × (self.new.tour.count ≡ self.old.tour.count + 1) }
-        ensures led { (lens : ℕ → Lens) (recover made : ℕ) (left next : List ℕ) (as' : List Leads) → All WaitsNone self.old.posts.items → AreDistinct (map lived_of as') → is_in place left ≡ true → is_in place next ≡ false → ((k : ℕ) → is_in k next ≡ true → is_in k left ≡ true) →
-            IsFilling lens recover made left self.old into.old.items as' → IsFilling lens recover made (if result then next else left) self.new into.new.items as' }
+        ensures led { (lens : ℕ → Lens) (recover made : ℕ) (from : Switched) (left next : List ℕ) (as' : List Leads) → length self.old.lan.happened < 17 → All WaitsNone self.old.posts.items → AreDistinct (map lived_of as') → is_in place left ≡ true → is_in place next ≡ false → ((k : ℕ) → is_in k next ≡ true → is_in k left ≡ true) →
+            IsFilling lens recover made from left self.old into.old.items as' → IsFilling lens recover made from (if result then next else left) self.new into.new.items as' }
         ensures joins { JoinsKept self.old self.new }
         ensures room { self.new.tour.count ≡ self.old.tour.count → holds_at (λ s. is_live s.stand) self.new.tour.stops.items place ≡ true → HasNoRoom into.new.items (area_in self.new.tour.stops.items place) }
         ensures takes { StepsAt (λ s t. Takes into.old.items into.new.items (nat_lt self.old.tour.count self.new.tour.count) s t) place self.old.tour.stops.items self.new.tour.stops.items }
@@ -331,7 +335,7 @@ impl MasterNode {
         ensures posts { vec_len self.new.posts ≡ vec_len self.old.posts }
         ensures on { TourOn self.old self.new }
         ensures visited { IsBare self.old → length into.old.items ≡ 16 → HasVisited into.new.items self.old self.new }
-        ensures filled { (lens : ℕ → Lens) (recover made : ℕ) (as' : List Leads) → AreDistinct (map lived_of as') → IsEmpty lens recover made self.old into.old.items as' → IsFilled lens recover made self.new into.new.items as' }
+        ensures filled { (lens : ℕ → Lens) (recover made : ℕ) (from : Switched) (as' : List Leads) → AreDistinct (map lived_of as') → IsEmpty lens recover made from self.old into.old.items as' → IsFilled lens recover made from self.new into.new.items as' }
         ensures joins { JoinsKept self.old self.new }
         ensures lan { Happens 16 self.old.lan self.new.lan }
         ensures made { Makes self.old.lan self.new.lan }
@@ -353,8 +357,8 @@ impl MasterNode {
     // The next frame is made, of the slaves that it carries.
     fn make(&mut self, into: &mut FrameBuf)
         ensures posts { vec_len self.new.posts ≡ vec_len self.old.posts }
-        ensures led { (lens : ℕ → Lens) (recover retry missed number : ℕ) (as' : List Leads) → list_any (λ s. is_live s.stand) self.old.tour.stops.items ≡ true → MasterShows lens recover retry self.old missed as' →
-            (us : List Turn) × IsLedFrame lens number into.new.items as' us × MasterUnder lens recover retry self.new into.new.items missed us × (tour_of self.new ≡ tour_of self.old) ×
+        ensures led { (lens : ℕ → Lens) (recover retry missed number : ℕ) (from : Switched) (as' : List Leads) → length self.old.lan.happened ≤ 1 → HasTaken from [] self.old.lan → list_any (λ s. is_live s.stand) self.old.tour.stops.items ≡ true → MasterShows lens recover retry self.old missed as' →
+            (us : List Turn) × IsLedFrame lens number into.new.items as' us × MasterUnder lens recover retry self.new into.new.items missed us × PacketsBegin from us self.new.lan × (tour_of self.new ≡ tour_of self.old) ×
             IsOfTour (λ s. stop_share s) (λ k. holds_at is_live_lead as' k) (frame_size into.new.items) (λ k. area_at lens as' k) (tour_of self.old) self.new.tour.stops.items (length (seen lens into.new.items)) self.new.tour.visit.items }
         ensures joins { JoinsKept self.old self.new }
         ensures lan { Happens 16 self.old.lan self.new.lan }
@@ -368,12 +372,14 @@ impl MasterNode {
     /// Makes the next frame; `Idle` exactly where no slave is live. The frame has just the datagrams that the lives of the slaves ask for, and
     /// what came into hand of each is next of its script, or a packet. It carries the slaves of its visit of the tour, in this order: behind a lost frame
     /// just the same again; of a round the first, and it leaves out none that would fit. Of an open slave whose last read was lost it has no datagram but the
-    /// one by which that read is repeated.
+    /// one by which that read is repeated. The packets that came into hand are just those that leave their ports of the switch, each the oldest there.
     pub fn next(&mut self, into: &mut FrameBuf) -> Next
         ensures idle { (result ≡ Next.Idle) ↔ (list_any (λ s. is_live s.stand) self.old.tour.stops.items ≡ false) }
         ensures posts { vec_len self.new.posts ≡ vec_len self.old.posts }
         ensures led { result ≡ Next.Frame → (lens : ℕ → Lens) (recover retry missed number : ℕ) (as' : List Leads) → MasterShows lens recover retry self.old missed as' →
             (us : List Turn) × IsLedFrame lens number into.new.items as' us × MasterUnder lens recover retry self.new into.new.items missed us }
+        ensures begun { result ≡ Next.Frame → (lens : ℕ → Lens) (recover retry missed number : ℕ) (as' : List Leads) → MasterShows lens recover retry self.old missed as' →
+            (us : List Turn) × IsLedFrame lens number into.new.items as' us × MasterUnder lens recover retry self.new into.new.items missed us × PacketsBegin self.old.lan.switch us self.new.lan }
         ensures toured { result ≡ Next.Frame → (lens : ℕ → Lens) (recover retry missed : ℕ) (as' : List Leads) (us : List Turn) → MasterShows lens recover retry self.old missed as' → MasterUnder lens recover retry self.new into.new.items missed us →
             (tour_of self.new ≡ tour_of self.old) × IsOfTour (λ u. turn_share u) (λ k. holds_at is_live_lead as' k) (frame_size into.new.items) (λ k. area_at lens as' k) (tour_of self.old) us (length (seen lens into.new.items)) self.new.tour.visit.items }
         ensures asks { result ≡ Next.Frame → (lens : ℕ → Lens) (recover retry missed : ℕ) (us : List Turn) → MasterUnder lens recover retry self.new into.new.items missed us → AllAsk (seen lens into.new.items) us }

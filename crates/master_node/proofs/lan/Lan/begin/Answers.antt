@@ -1,34 +1,35 @@
-use Rattle.std.proofs.Common.{refl, Some, sym, ◌∙◌}
-use Rattle.master_node.proofs.Forwards.{taken_from}
-use Rattle.master_node.proofs.Happenings.{happens_same, begun_none, begun_goes}
-use Rattle.master_node.proofs.Made.{makes_one, makes_none, makes_same}
+use Rattle.std.proofs.Common.{refl, sym, ap, ◌∙◌}
+use Rattle.master_node.specs.Begins.{oldest_by}
+use Rattle.master_node.proofs.Begins.{takes_one, takes_none}
+use Rattle.master_node.proofs.Forwards.{taken_from, none_from}
+use Rattle.master_node.proofs.Happenings.{happens_none, begun_goes}
+use Rattle.master_node.proofs.Made.{makes_one, makes_none}
 use Rattle.master_node.proofs.lan.Lan.begin.Goals as goal
 
-pub returns-in_err-packet-clause-happens : goal.returns-in_err-packet-clause-happens
-returns-in_err-packet-clause-happens c =
+pub returns-in-Some-clause-goes_on : goal.returns-in-Some-clause-goes_on
+returns-in-Some-clause-goes_on c = taken_from _ _ _ c.in-Some.port (sym c.in-Some.ensures.is) c.begun.ensures.goes_on
+
+pub returns-in-Some-clause-happens : goal.returns-in-Some-clause-happens
+returns-in-Some-clause-happens c = begun_goes c.in-Some.port _ _ c.in-Some.ensures.inside c.begun.ensures.goes_on c.begun.ensures.ports refl refl c.put.ensures.few c.put.ensures.all
+
+pub returns-in-Some-clause-made : goal.returns-in-Some-clause-made
+returns-in-Some-clause-made c = makes_one _ _ _ tt refl c.put.ensures.all c.put.ensures.full
+
+pub returns-in-Some-clause-takes : goal.returns-in-Some-clause-takes
+returns-in-Some-clause-takes c =
     let s = c.args.self.now.switch in
-    happens_same 1 _ _ (record { switch = c.begun.ensures.goes_on ∙ begun_none s c.in_ok-port.port (sym c.in_err-packet.was ∙ c.begun.ensures.oldest); host = refl; entered = refl }) refl
+    takes_one _ _ _ _ refl c.put.ensures.all c.begun.ensures.goes_on (ap (λ z. oldest_by s z) c.in-Some.ensures.is)
 
-pub returns-then-len-lt-LEAST-clause-goes_on : goal.returns-then-len-lt-LEAST-clause-goes_on
-returns-then-len-lt-LEAST-clause-goes_on c = taken_from _ _ _ c.in_ok-port.port (sym c.port.ensures.is ∙ c.in_ok-port.was) c.begun.ensures.goes_on
+pub returns-in_default-clause-goes_on : goal.returns-in_default-clause-goes_on
+returns-in_default-clause-goes_on c = none_from c.args.self.now.switch _ (sym c.port.ensures.is ∙ c.in_default.is)
 
-pub returns-clause-goes_on : goal.returns-clause-goes_on
-returns-clause-goes_on c = taken_from _ _ _ c.in_ok-port.port (sym c.port.ensures.is ∙ c.in_ok-port.was) c.begun.ensures.goes_on
+pub returns-in_default-clause-happens : goal.returns-in_default-clause-happens
+returns-in_default-clause-happens c = happens_none 1 _ _ refl
 
-pub returns-then-len-lt-LEAST-clause-happens : goal.returns-then-len-lt-LEAST-clause-happens
-returns-then-len-lt-LEAST-clause-happens c = begun_goes c.in_ok-port.port _ _ c.in_ok-port.ensures.inside c.begun.ensures.goes_on c.begun.ensures.ports refl refl c.put.ensures.few c.put.ensures.all
+pub returns-in_default-clause-made : goal.returns-in_default-clause-made
+returns-in_default-clause-made c = makes_none _ _ refl
 
-pub returns-clause-happens : goal.returns-clause-happens
-returns-clause-happens c = begun_goes c.in_ok-port.port _ _ c.in_ok-port.ensures.inside c.begun.ensures.goes_on c.begun.ensures.ports refl refl c.put.ensures.few c.put.ensures.all
-
-pub returns-then-len-lt-LEAST-clause-made : goal.returns-then-len-lt-LEAST-clause-made
-returns-then-len-lt-LEAST-clause-made c = makes_one _ _ _ tt refl c.put.ensures.all c.put.ensures.full
-
-pub returns-clause-made : goal.returns-clause-made
-returns-clause-made c = makes_one _ _ _ tt refl c.put.ensures.all c.put.ensures.full
-
-pub returns-in_err-packet-clause-made : goal.returns-in_err-packet-clause-made
-returns-in_err-packet-clause-made c = makes_same _ _ refl refl
-
-pub returns-in_err-port-clause-made : goal.returns-in_err-port-clause-made
-returns-in_err-port-clause-made c = makes_none _ _ refl
+pub returns-in_default-clause-takes : goal.returns-in_default-clause-takes
+returns-in_default-clause-takes c =
+    let s = c.args.self.now.switch in
+    takes_none _ _ _ (ap (λ z. oldest_by s z) (sym c.in_default.is ∙ c.port.ensures.is)) refl

@@ -3,6 +3,7 @@ use Rattle.arrayvec.specs.ArrayVec.{ArrayVec}
 use Rattle.master_node.specs.declared.lan.Lan.{Lan}
 use Rattle.master_node.proofs.Happenings.{from_host}
 use Rattle.master_node.proofs.Ports.{long_here}
+use Rattle.master_node.proofs.Begins.{takes_one}
 use Rattle.master_node.proofs.Made.{makes_one}
 use Rattle.master_node.proofs.lan.Lan.enter.Goals as goal
 
@@ -32,3 +33,6 @@ returns-clause-happens c =
 
 pub returns-clause-made : goal.returns-clause-made
 returns-clause-made c = makes_one _ _ _ refl c.arrive.ensures.ports c.arrive.ensures.listed c.arrive.ensures.full
+
+pub returns-clause-takes : goal.returns-clause-takes
+returns-clause-takes c = takes_one _ _ _ _ c.arrive.ensures.ports c.arrive.ensures.listed c.arrive.ensures.switch refl

@@ -1,11 +1,15 @@
-use Rattle.std.proofs.Common.{◌<◌, refl, sym, subst, arith, length}
+use Rattle.std.proofs.Common.{◌<◌, refl, sym, ap, subst, arith, length}
 use Rattle.master_tour.specs.Walks.{StepsAt}
+use Rattle.master_node.specs.Begins.{TakesOn, taken_for}
 use Rattle.master_node.specs.Coming.{PassesBy}
 use Rattle.master_node.proofs.Kepts.{stop_same}
 use Rattle.master_node.proofs.Lists.{steps_same}
 use Rattle.std.proofs.Common.{refl}
 use Rattle.master_tour.proofs.Walks.{each_same}
 use Rattle.master_node.proofs.Rooms.{sends_same}
+use Rattle.master_node.proofs.Begins.{takes_none}
+use Rattle.master_node.proofs.Happenings.{happens_none}
+use Rattle.master_node.proofs.Made.{makes_none}
 use Rattle.master_node.proofs.node.MasterNode.begun.Goals as goal
 
 pub returns-in-None-clause-begun : goal.returns-in-None-clause-begun
@@ -35,3 +39,19 @@ returns-in-None-clause-sends c =
     let m = c.args.self.now in
     let l : c.args.place < length m.tour.stops.items = omega (arith, c.requires, m.paired, m.tour.stops.ok.0) in
     steps_same _ c.args.place m.tour.stops.items l (λ s. sends_same s)
+
+pub returns-in-None-clause-takes : goal.returns-in-None-clause-takes
+returns-in-None-clause-takes c =
+    let m = c.args.self.now in
+    takes_none _ m.lan m.lan (ap (λ z. taken_for m.lan c.args.place z) (sym c.in-None.is)) refl
+
+pub returns-in-Some-clause-takes : goal.returns-in-Some-clause-takes
+returns-in-Some-clause-takes c =
+    let m = c.args.self.now in
+    subst (λ z. TakesOn (taken_for m.lan c.args.place z) m.lan c.pass_by.new.self.lan) (sym c.in-Some.is) c.pass_by.ensures.takes
+
+pub returns-in-None-clause-lan : goal.returns-in-None-clause-lan
+returns-in-None-clause-lan c = happens_none 1 _ _ refl
+
+pub returns-in-None-clause-made : goal.returns-in-None-clause-made
+returns-in-None-clause-made c = makes_none _ _ refl

@@ -1,11 +1,15 @@
-use Rattle.std.proofs.Common.{◌<◌, refl, sym, subst, arith, length}
+use Rattle.std.proofs.Common.{◌<◌, refl, sym, ap, subst, arith, length}
 use Rattle.master_tour.specs.Walks.{StepsAt}
+use Rattle.master_node.specs.Begins.{TakesOn, taken_where}
 use Rattle.master_node.specs.Coming.{CameBy}
 use Rattle.master_node.proofs.Kepts.{stop_same}
 use Rattle.master_node.proofs.Lists.{steps_same}
 use Rattle.std.proofs.Common.{refl}
 use Rattle.master_tour.proofs.Walks.{each_same}
 use Rattle.master_node.proofs.Rooms.{sends_same}
+use Rattle.master_node.proofs.Begins.{takes_none}
+use Rattle.master_node.proofs.Happenings.{happens_none}
+use Rattle.master_node.proofs.Made.{makes_none}
 use Rattle.master_node.proofs.node.MasterNode.came.Goals as goal
 
 pub returns-then-began-clause-came : goal.returns-then-began-clause-came
@@ -35,3 +39,19 @@ returns-else-began-clause-sends c =
     let m = c.args.self.now in
     let l : c.args.place < length m.tour.stops.items = omega (arith, c.requires, m.paired, m.tour.stops.ok.0) in
     steps_same _ c.args.place m.tour.stops.items l (λ s. sends_same s)
+
+pub returns-then-began-clause-takes : goal.returns-then-began-clause-takes
+returns-then-began-clause-takes c =
+    let m = c.args.self.now in
+    subst (λ z. TakesOn (taken_where z m.lan c.args.place c.args.coming) m.lan c.begun.new.self.lan) (sym c.if-began.true) c.begun.ensures.takes
+
+pub returns-else-began-clause-takes : goal.returns-else-began-clause-takes
+returns-else-began-clause-takes c =
+    let m = c.args.self.now in
+    takes_none _ m.lan m.lan (ap (λ z. taken_where z m.lan c.args.place c.args.coming) (sym c.if-began.false)) refl
+
+pub returns-else-began-clause-lan : goal.returns-else-began-clause-lan
+returns-else-began-clause-lan c = happens_none 1 _ _ refl
+
+pub returns-else-began-clause-made : goal.returns-else-began-clause-made
+returns-else-began-clause-made c = makes_none _ _ refl

@@ -6,7 +6,6 @@ use Rattle.master_node.proofs.Filleds.{fills_first, fills_last, fills_same, fill
 use Rattle.master_tour.specs.Walks.{EachPair}
 use Rattle.master_tour.proofs.Walks.{each_same}
 use Rattle.master_node.proofs.Lists.{each_trans}
-use Rattle.std.proofs.Common.{ℕ}
 use Rattle.master_node.proofs.Leaves.{few_stops}
 use Rattle.master_node.proofs.Toureds.{counts_more, visiting_first, visiting_more, visiting_still, visiting_same, visiting_last}
 use Rattle.master_node.proofs.Happenings.{happens_none, happens_then, happens_more}
@@ -19,11 +18,11 @@ returns-in_default-clause-on c =
     on_on c.args.self.now c.loop.self _ c.loop.invariant.2 (record { again = e.kept.1; opened = e.kept.3; last = e.kept.4; missed = e.rest.0; retry = e.rest.1; made = refl })
 
 pub returns-in_default-clause-filled : goal.returns-in_default-clause-filled
-returns-in_default-clause-filled c = λ lens recover made as' d x.
+returns-in_default-clause-filled c = λ lens recover made from as' d x.
     let e = c.due.ensures in
-    let f = c.loop.invariant.3 lens recover made as' d x in
+    let f = c.loop.invariant.3 lens recover made from as' d x in
     let none : c.due.result ≡ None = cc in
-    fills_same lens recover made as' c.loop.counter c.loop.self _ c.loop.into.items (record { stops = e.stops; count = e.kept.0; again = e.kept.1; visit = e.kept.2; opened = e.kept.3; last = e.kept.4; made = refl; posts = refl }) f
+    fills_same lens recover made from as' c.loop.counter c.loop.self _ c.loop.into.items (record { stops = e.stops; count = e.kept.0; again = e.kept.1; visit = e.kept.2; opened = e.kept.3; last = e.kept.4; made = refl; posts = refl; lan = refl }) f
     (some_count c.loop.counter (λ z. let y = f.none z in passes_some (λ s. is_live s.stand) c.loop.self.tour.stops.items c.due.result none (e.first y.count y.passed y.begins y.some)))
 
 pub returns-then-not-visit-clause-on : goal.returns-then-not-visit-clause-on
@@ -33,31 +32,31 @@ returns-then-not-visit-clause-on c =
     (record { again = c.visit.ensures.on.0.again ∙ e.kept.1; opened = c.visit.ensures.on.0.opened ∙ e.kept.3; last = c.visit.ensures.on.0.last ∙ e.kept.4; missed = c.visit.ensures.on.0.missed ∙ e.rest.0; retry = c.visit.ensures.on.0.retry ∙ e.rest.1; made = c.visit.ensures.on.0.made })
 
 pub returns-then-not-visit-clause-filled : goal.returns-then-not-visit-clause-filled
-returns-then-not-visit-clause-filled c = λ lens recover made as' d x.
+returns-then-not-visit-clause-filled c = λ lens recover made from as' d x.
     let e = c.due.ensures in
     let v = c.visit.ensures in
-    let f = c.loop.invariant.3 lens recover made as' d x in
+    let f = c.loop.invariant.3 lens recover made from as' d x in
     let p = c.in-Some.place in
     let is : c.due.result ≡ Some p = cc in
     let no : c.visit.result ≡ false = cc in
     let next = e.left p is (λ a. f.once) in
-    fills_still lens recover made as' c.loop.counter c.loop.self _ c.visit.new.self c.loop.into.items c.visit.new.into.items p
+    fills_still lens recover made from as' c.loop.counter c.loop.self _ c.visit.new.self c.loop.into.items c.visit.new.into.items p
     (some_count c.loop.counter (λ z.
     let y = f.none z in
     let yes = (v.first y.short (subst (λ w. holds_at (λ s. is_live s.stand) w.items p ≡ true) (sym e.stops) (passes_at (λ s. is_live s.stand) c.loop.self.tour.stops.items c.due.result p is (e.first y.count y.passed y.begins y.some)))).0 in
     (let w : true ≡ false = sym yes ∙ no in cc)))
-    f (record { stops = e.stops; count = e.kept.0; again = e.kept.1; visit = e.kept.2; opened = e.kept.3; last = e.kept.4; made = refl; posts = refl }) (f.most p next.among) v.on.0 v.quiet (v.still no).0 (v.still no).1
-    (λ left other q a o s g. subst (λ (z : Bool). IsFilling lens recover made (if z then other else left) c.visit.new.self c.visit.new.into.items as') no (v.led lens recover made left other as' q d a o s g))
+    f (record { stops = e.stops; count = e.kept.0; again = e.kept.1; visit = e.kept.2; opened = e.kept.3; last = e.kept.4; made = refl; posts = refl; lan = refl }) (f.most p next.among) v.on.0 v.quiet (v.still no).0 (v.still no).1
+    (λ left other q a o s g. subst (λ (z : Bool). IsFilling lens recover made from (if z then other else left) c.visit.new.self c.visit.new.into.items as') no (v.led lens recover made from left other as' (let w = x.room in let h = c.loop.invariant.6.few in let t = c.loop-test.true in omega (arith, w, h, t)) q d a o s g))
 
 pub returns-clause-on : goal.returns-clause-on
 returns-clause-on c = c.loop.invariant.2
 
 pub returns-clause-filled : goal.returns-clause-filled
-returns-clause-filled c = λ lens recover made as' d x.
-    fills_last lens recover made as' c.loop.counter c.loop.self c.loop.into.items (let t = c.loop-test.false in omega (arith, t)) (c.loop.invariant.3 lens recover made as' d x)
+returns-clause-filled c = λ lens recover made from as' d x.
+    fills_last lens recover made from as' c.loop.counter c.loop.self c.loop.into.items (let t = c.loop-test.false in omega (arith, t)) (c.loop.invariant.3 lens recover made from as' d x)
 
 pub loop-init : goal.loop-init
-loop-init c = (c.requires, refl, on_same c.args.self.now, (λ lens recover made as' d x. fills_first lens recover made as' c.args.self.now c.args.into.now.items x), each_same _ c.args.self.now.tour.stops.items (λ s. refl), (λ b short. (visiting_first c.args.into.now.items c.args.self.now short b, b.count)), happens_none 0 _ _ refl, makes_none _ _ refl)
+loop-init c = (c.requires, refl, on_same c.args.self.now, (λ lens recover made from as' d x. fills_first lens recover made from as' c.args.self.now c.args.into.now.items x), each_same _ c.args.self.now.tour.stops.items (λ s. refl), (λ b short. (visiting_first c.args.into.now.items c.args.self.now short b, b.count)), happens_none 0 _ _ refl, makes_none _ _ refl)
 
 pub loop-preserved : goal.loop-preserved
 loop-preserved c = (
@@ -66,18 +65,18 @@ loop-preserved c = (
   (let e = c.due.ensures in
       on_on c.args.self.now c.loop.self c.visit.new.self c.loop.invariant.2
       (record { again = c.visit.ensures.on.0.again ∙ e.kept.1; opened = c.visit.ensures.on.0.opened ∙ e.kept.3; last = c.visit.ensures.on.0.last ∙ e.kept.4; missed = c.visit.ensures.on.0.missed ∙ e.rest.0; retry = c.visit.ensures.on.0.retry ∙ e.rest.1; made = c.visit.ensures.on.0.made })),
-  (λ lens recover made as' d x.
+  (λ lens recover made from as' d x.
       let e = c.due.ensures in
       let v = c.visit.ensures in
-      let f = c.loop.invariant.3 lens recover made as' d x in
+      let f = c.loop.invariant.3 lens recover made from as' d x in
       let p = c.in-Some.place in
       let is : c.due.result ≡ Some p = cc in
       let yes : c.visit.result ≡ true = cc in
-      fills_more lens recover made as' c.loop.counter c.loop.self _ c.visit.new.self c.loop.into.items c.visit.new.into.items p f
-      (record { stops = e.stops; count = e.kept.0; again = e.kept.1; visit = e.kept.2; opened = e.kept.3; last = e.kept.4; made = refl; posts = refl })
+      fills_more lens recover made from as' c.loop.counter c.loop.self _ c.visit.new.self c.loop.into.items c.visit.new.into.items p f
+      (record { stops = e.stops; count = e.kept.0; again = e.kept.1; visit = e.kept.2; opened = e.kept.3; last = e.kept.4; made = refl; posts = refl; lan = refl })
       (λ a. e.left p is a) (λ a b g h. passes_at (λ s. is_live s.stand) c.loop.self.tour.stops.items c.due.result p is (e.first a b g h))
       (c.in-Some.ensures.few) v.on.0 v.on.1 v.quiet v.visits v.counts (λ a b. (v.first a b).1)
-      (λ left other q a o s g. subst (λ (z : Bool). IsFilling lens recover made (if z then other else left) c.visit.new.self c.visit.new.into.items as') yes (v.led lens recover made left other as' q d a o s g))),
+      (λ left other q a o s g. subst (λ (z : Bool). IsFilling lens recover made from (if z then other else left) c.visit.new.self c.visit.new.into.items as') yes (v.led lens recover made from left other as' (let w = x.room in let h = c.loop.invariant.6.few in let t = c.loop-test.true in omega (arith, w, h, t)) q d a o s g))),
   each_trans (λ s t. t.side.hand.found.join ≡ s.side.hand.found.join) c.args.self.now.tour.stops.items c.loop.self.tour.stops.items c.visit.new.self.tour.stops.items (λ x y z a b. b ∙ a) c.loop.invariant.4
       (subst (λ z. EachPair (λ s t. t.side.hand.found.join ≡ s.side.hand.found.join) z.items c.visit.new.self.tour.stops.items) c.due.ensures.stops c.visit.ensures.joins),
   (λ b short.
@@ -119,7 +118,7 @@ returns-in_default-clause-visited c = λ b short.
     let none : c.due.result ≡ None = cc in
     let was = (c.loop.invariant.5 b short).1 in
     let test = c.loop-test.true in
-    visiting_same c.loop.into.items c.args.self.now c.loop.self _ (few_stops c.args.self.now) (omega (arith, was, test)) c.loop.invariant.2 (record { stops = e.stops; count = e.kept.0; again = e.kept.1; visit = e.kept.2; opened = e.kept.3; last = e.kept.4; made = refl; posts = refl }) (e.none none) (e.ends none)
+    visiting_same c.loop.into.items c.args.self.now c.loop.self _ (few_stops c.args.self.now) (omega (arith, was, test)) c.loop.invariant.2 (record { stops = e.stops; count = e.kept.0; again = e.kept.1; visit = e.kept.2; opened = e.kept.3; last = e.kept.4; made = refl; posts = refl; lan = refl }) (e.none none) (e.ends none)
     (c.loop.invariant.5 b short).0
 
 pub returns-then-not-visit-clause-visited : goal.returns-then-not-visit-clause-visited
@@ -151,19 +150,19 @@ returns-then-self-count-clause-visited c = λ b short.
     (e.order p is).1 (c.in-Some.ensures.few) v.on.1 v.visits v.shares v.takes (v.room still) still
 
 pub returns-then-self-count-clause-filled : goal.returns-then-self-count-clause-filled
-returns-then-self-count-clause-filled c = λ lens recover made as' d x.
+returns-then-self-count-clause-filled c = λ lens recover made from as' d x.
     let e = c.due.ensures in
     let v = c.visit.ensures in
-    let f = c.loop.invariant.3 lens recover made as' d x in
+    let f = c.loop.invariant.3 lens recover made from as' d x in
     let p = c.in-Some.place in
     let is : c.due.result ≡ Some p = cc in
     let yes : c.visit.result ≡ true = cc in
-    fills_last lens recover made as' (c.loop.counter + 1) c.visit.new.self c.visit.new.into.items (omega arith)
-    (fills_more lens recover made as' c.loop.counter c.loop.self _ c.visit.new.self c.loop.into.items c.visit.new.into.items p f
-    (record { stops = e.stops; count = e.kept.0; again = e.kept.1; visit = e.kept.2; opened = e.kept.3; last = e.kept.4; made = refl; posts = refl })
+    fills_last lens recover made from as' (c.loop.counter + 1) c.visit.new.self c.visit.new.into.items (omega arith)
+    (fills_more lens recover made from as' c.loop.counter c.loop.self _ c.visit.new.self c.loop.into.items c.visit.new.into.items p f
+    (record { stops = e.stops; count = e.kept.0; again = e.kept.1; visit = e.kept.2; opened = e.kept.3; last = e.kept.4; made = refl; posts = refl; lan = refl })
     (λ a. e.left p is a) (λ a b g h. passes_at (λ s. is_live s.stand) c.loop.self.tour.stops.items c.due.result p is (e.first a b g h))
     (c.in-Some.ensures.few) v.on.0 v.on.1 v.quiet v.visits v.counts (λ a b. (v.first a b).1)
-    (λ left other q a o s g. subst (λ (z : Bool). IsFilling lens recover made (if z then other else left) c.visit.new.self c.visit.new.into.items as') yes (v.led lens recover made left other as' q d a o s g)))
+    (λ left other q a o s g. subst (λ (z : Bool). IsFilling lens recover made from (if z then other else left) c.visit.new.self c.visit.new.into.items as') yes (v.led lens recover made from left other as' (let w = x.room in let h = c.loop.invariant.6.few in let t = c.loop-test.true in omega (arith, w, h, t)) q d a o s g)))
 
 pub returns-in_default-clause-lan : goal.returns-in_default-clause-lan
 returns-in_default-clause-lan c = happens_more c.loop.counter 16 _ _ (omega arith) c.loop.invariant.6

@@ -1,5 +1,6 @@
 use Rattle.std.proofs.Common.{◌<◌, sym, subst, arith, length}
 use Rattle.master_tour.specs.Walks.{StepsAt}
+use Rattle.master_node.specs.Begins.{LaysOldest}
 use Rattle.master_node.specs.Coming.{IsLaid}
 use Rattle.master_node.specs.Kept.{StopStays}
 use Rattle.master_node.proofs.Kepts.{stop_same}
@@ -7,8 +8,6 @@ use Rattle.master_node.proofs.Lists.{steps_same}
 use Rattle.std.proofs.Common.{ap, refl}
 use Rattle.master_tour.proofs.Walks.{each_same}
 use Rattle.master_node.proofs.Lists.{steps_each}
-use Rattle.master_node.proofs.Happenings.{happens_none}
-use Rattle.master_node.proofs.Made.{makes_none}
 use Rattle.master_node.proofs.node.MasterNode.lay.Goals as goal
 
 pub returns-in-None-clause-laid : goal.returns-in-None-clause-laid
@@ -28,8 +27,13 @@ returns-in-None-clause-joins c = each_same _ c.args.self.now.tour.stops.items (�
 pub returns-in-Some-clause-joins : goal.returns-in-Some-clause-joins
 returns-in-Some-clause-joins c = steps_each _ _ c.args.place c.args.self.now.tour.stops.items c.lay_coming.new.self.tour.stops.items (λ s. refl) (λ s t p. ap (λ z. z.join) p.0.side.found) c.lay_coming.ensures.laid
 
-pub returns-in-None-clause-lan : goal.returns-in-None-clause-lan
-returns-in-None-clause-lan c = happens_none 1 _ _ refl
+pub returns-in-None-clause-oldest : goal.returns-in-None-clause-oldest
+returns-in-None-clause-oldest c =
+    let m = c.args.self.now in
+    let l : c.args.place < length m.tour.stops.items = omega (arith, c.requires, m.paired, m.tour.stops.ok.0) in
+    subst (λ z. StepsAt (λ s t. LaysOldest m.lan c.args.place z t) c.args.place m.tour.stops.items m.tour.stops.items) (sym c.in-None.is) (steps_same _ c.args.place m.tour.stops.items l (λ s. tt))
 
-pub returns-in-None-clause-made : goal.returns-in-None-clause-made
-returns-in-None-clause-made c = makes_none _ _ refl
+pub returns-in-Some-clause-oldest : goal.returns-in-Some-clause-oldest
+returns-in-Some-clause-oldest c =
+    let m = c.args.self.now in
+    subst (λ z. StepsAt (λ s t. LaysOldest m.lan c.args.place z t) c.args.place m.tour.stops.items c.lay_coming.new.self.tour.stops.items) (sym c.in-Some.is) c.lay_coming.ensures.oldest

@@ -1,12 +1,11 @@
 use Rattle.std.proofs.Common.{◌<◌, sym, subst, arith, length, Some}
 use Rattle.std.specs.Prelude.{⊤}
 use Rattle.master_tour.specs.Walks.{StepsAt}
+use Rattle.master_node.specs.Begins.{LaysOldest}
 use Rattle.master_node.specs.Coming.{IsLaid}
 use Rattle.master_node.specs.Kept.{StopStays}
 use Rattle.master_node.proofs.Kepts.{stop_same, tour_same}
 use Rattle.master_node.proofs.Lists.{steps_same, steps_map}
-use Rattle.master_node.proofs.Happenings.{happens_none}
-use Rattle.master_node.proofs.Made.{makes_none}
 use Rattle.master_node.proofs.node.MasterNode.lay_coming.Goals as goal
 
 pub returns-in-Packet-clause-laid : goal.returns-in-Packet-clause-laid
@@ -41,20 +40,24 @@ returns-in-State-clause-laid c =
 pub returns-in-State-clause-kept : goal.returns-in-State-clause-kept
 returns-in-State-clause-kept c = (tour_same c.args.self.now c.lay_state.new.self c.lay_state.ensures.tour.0 c.lay_state.ensures.tour.1, c.lay_state.ensures.quiet)
 
-pub returns-in-Mail-clause-lan : goal.returns-in-Mail-clause-lan
-returns-in-Mail-clause-lan c = happens_none 1 _ _ c.lay_mail.ensures.lan
+pub returns-in-Packet-clause-oldest : goal.returns-in-Packet-clause-oldest
+returns-in-Packet-clause-oldest c =
+    let m = c.args.self.now in
+    subst (λ z. StepsAt (λ s t. LaysOldest m.lan c.args.place (Some z) t) c.args.place m.tour.stops.items c.lay_packet.new.self.tour.stops.items) (sym c.in-Packet.is) c.lay_packet.ensures.oldest
 
-pub returns-in-Script-clause-lan : goal.returns-in-Script-clause-lan
-returns-in-Script-clause-lan c = happens_none 1 _ _ c.lay_script.ensures.lan
+pub returns-in-Mail-clause-oldest : goal.returns-in-Mail-clause-oldest
+returns-in-Mail-clause-oldest c =
+    let m = c.args.self.now in
+    subst (λ z. StepsAt (λ s t. LaysOldest m.lan c.args.place (Some z) t) c.args.place m.tour.stops.items c.lay_mail.new.self.tour.stops.items) (sym c.in-Mail.is) (steps_map _ _ c.args.place m.tour.stops.items c.lay_mail.new.self.tour.stops.items (λ s t k. tt) c.lay_mail.ensures.laid)
 
-pub returns-in-State-clause-lan : goal.returns-in-State-clause-lan
-returns-in-State-clause-lan c = happens_none 1 _ _ c.lay_state.ensures.lan
+pub returns-in-Script-clause-oldest : goal.returns-in-Script-clause-oldest
+returns-in-Script-clause-oldest c =
+    let m = c.args.self.now in
+    subst (λ z. StepsAt (λ s t. LaysOldest m.lan c.args.place (Some z) t) c.args.place m.tour.stops.items c.lay_script.new.self.tour.stops.items) (sym c.in-Script.is) (steps_map _ _ c.args.place m.tour.stops.items c.lay_script.new.self.tour.stops.items (λ s t k. tt) c.lay_script.ensures.laid)
 
-pub returns-in-Mail-clause-made : goal.returns-in-Mail-clause-made
-returns-in-Mail-clause-made c = makes_none _ _ c.lay_mail.ensures.lan
-
-pub returns-in-Script-clause-made : goal.returns-in-Script-clause-made
-returns-in-Script-clause-made c = makes_none _ _ c.lay_script.ensures.lan
-
-pub returns-in-State-clause-made : goal.returns-in-State-clause-made
-returns-in-State-clause-made c = makes_none _ _ c.lay_state.ensures.lan
+pub returns-in-State-clause-oldest : goal.returns-in-State-clause-oldest
+returns-in-State-clause-oldest c =
+    let m = c.args.self.now in
+    let l : c.args.place < length m.tour.stops.items = omega (arith, c.requires, m.paired, m.tour.stops.ok.0) in
+    subst (λ z. StepsAt (λ s t. LaysOldest m.lan c.args.place (Some z) t) c.args.place m.tour.stops.items c.lay_state.new.self.tour.stops.items) (sym c.in-State.is)
+    (subst (λ z. StepsAt (λ s t. ⊤) c.args.place m.tour.stops.items z.stops.items) (sym c.lay_state.ensures.tour.0) (steps_same _ c.args.place m.tour.stops.items l (λ s. tt)))

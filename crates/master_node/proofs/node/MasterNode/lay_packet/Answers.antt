@@ -1,7 +1,6 @@
 use Rattle.std.proofs.Common.{◌≡◌, ◌∙◌, ◌<◌, Some, inl, inr, refl, sym, ap, arith, length}
-use Rattle.std.specs.Prelude.{slice_get}
 use Rattle.master_hand.specs.declared.laying.Laid.{Laid}
-use Rattle.master_node.specs.Forwards.{forwarded}
+use Rattle.master_node.specs.Begins.{IsOldest}
 use Rattle.master_tour.proofs.Walks.{steps_set}
 use Rattle.master_node.proofs.Kepts.{stop_side}
 use Rattle.master_node.proofs.node.MasterNode.lay_packet.Goals as goal
@@ -22,12 +21,12 @@ pub returns-in-Some-clause-oldest : goal.returns-in-Some-clause-oldest
 returns-in-Some-clause-oldest c =
     let m = c.args.self.now in
     let l : c.args.place < length m.tour.stops.items = omega (arith, c.requires, m.paired, m.tour.stops.ok.0) in
-    steps_set (λ s t. t.side.hand.laying.laid ≡ Laid.Packet → slice_get (forwarded m.lan.switch m.lan.ports.items c.args.place) 0 ≡ Some (record { items = t.side.hand.laying.packet })) c.args.place m.tour.stops.items c.index_mut.result.now _ l c.index_mut.ensures.value
+    steps_set (λ s t. IsOldest m.lan c.args.place t) c.args.place m.tour.stops.items c.index_mut.result.now _ l c.index_mut.ensures.value
     (λ e. c.in-Some.ensures.oldest ∙ ap (λ z. Some (record { items = z })) (sym c.lay_packet.ensures.packet))
 
 pub returns-in-None-clause-oldest : goal.returns-in-None-clause-oldest
 returns-in-None-clause-oldest c =
     let m = c.args.self.now in
     let l : c.args.place < length m.tour.stops.items = omega (arith, c.requires, m.paired, m.tour.stops.ok.0) in
-    steps_set (λ s t. t.side.hand.laying.laid ≡ Laid.Packet → slice_get (forwarded m.lan.switch m.lan.ports.items c.args.place) 0 ≡ Some (record { items = t.side.hand.laying.packet })) c.args.place m.tour.stops.items c.index_mut-in-None.result.now _ l c.index_mut-in-None.ensures.value
+    steps_set (λ s t. IsOldest m.lan c.args.place t) c.args.place m.tour.stops.items c.index_mut-in-None.result.now _ l c.index_mut-in-None.ensures.value
     (λ e. absurd (let bad : Laid.Nothing ≡ Laid.Packet = sym c.lay_nothing.ensures.laid ∙ e in cc))

@@ -8,9 +8,10 @@ use Rattle.master_tour.specs.Made.{FrameMade, is_in}
 use Rattle.master_duty.specs.of_state_exchange.Stated.{Service}
 use Rattle.master_node.specs.Filling.{IsAmong, StopFills}
 use Rattle.master_node.specs.Shows.{IsLead, GoesOn, lived_of, is_live_lead}
+use Rattle.master_node.proofs.Begins.{begun_nothing, packets_begin}
 use Rattle.master_node.proofs.Fills.{from_map}
 use Rattle.master_node.proofs.Lists.{both_map, both_holds, both_length}
-use Rattle.master_node.proofs.Sents.{stand_lives, each_holds, each_any, begins_live, both_from, lead_among, turns, turns_all, under_all, same_all, distinct_same, goes_under, sent_is, sent_some, sent_many, goes_begun, some_not}
+use Rattle.master_node.proofs.Sents.{stand_lives, each_holds, each_any, begins_live, both_from, lead_among, turns, turns_all, begun_turns, under_all, same_all, distinct_same, goes_under, sent_is, sent_some, sent_many, goes_begun, some_not}
 use Rattle.master_tour.proofs.Steps as Steps
 use Rattle.master_tour.proofs.Walks.{each_map}
 use Rattle.master_node.proofs.Lists.{each_trans}
@@ -22,7 +23,7 @@ use Rattle.master_node.proofs.Toureds.{each_none, tour_same, of_tour}
 use Rattle.master_node.proofs.node.MasterNode.make.Goals as goal
 
 pub returns-clause-led : goal.returns-clause-led
-returns-clause-led c = λ lens recover retry missed number as' some x.
+returns-clause-led c = λ lens recover retry missed number from as' room taken some x.
     let m = c.args.self.now in
     let e = c.begin.ensures in
     let t1 = c.begin.new.self in
@@ -36,11 +37,12 @@ returns-clause-led c = λ lens recover retry missed number as' some x.
     let alive : (k : ℕ) → holds_at (λ s. is_live s.stand) ts k ≡ holds_at is_live_lead as' k =
     λ k. each_holds _ (λ s. is_live s.stand) (λ s t p. ap is_live p.1) ss ts e.each k ∙ both_holds (λ a s. IsLead lens recover a s) is_live_lead (λ s. is_live s.stand) (λ a s l. stand_lives lens recover a.lived s l.lives) as' ss x.each k in
     let goes = goes_begun m.tour.again t1.again m.tour.visit.items t1.visit.items m.tour.opened t1.opened as' e.tour.0 e.tour.1 (λ a. ap (λ z. z.items) (e.again a)) x.goes in
-    let f = c.fill.ensures.filled lens recover number as' x.distinct (record {
+    let f = c.fill.ensures.filled lens recover number from as' x.distinct (record {
       filling = λ left. record {
         begun = nothing;
         frame = subst (λ n. FrameMade (λ ds i a s. StopFills lens recover number nothing index left ds i a s) c.begin.new.frame.items n lives ts) (sym e.count) (e.made (speech_at lens) is_followed is_passed number recover index lens left lives nothing (λ k. refl) before);
         among = both_from (λ a s. IsLead lens recover a s) _ (λ i a s. IsAmong lens nothing left i a s) (λ i a s t l p. lead_among lens recover left i a s t l p.0 p.2) 0 as' ss ts x.each e.each;
+        packets = begun_nothing from left as' m.lan taken;
       };
       quiet = x.quiet;
       count = e.count;
@@ -52,6 +54,7 @@ returns-clause-led c = λ lens recover retry missed number as' some x.
       again = goes.comes;
       anew = λ a. e.anew (sym e.tour.0 ∙ a);
       many = many;
+      room = room;
     }) in
     let on = c.fill.ensures.on in
     let into = c.fill.new.into.items in
@@ -87,6 +90,7 @@ returns-clause-led c = λ lens recover retry missed number as' some x.
         sent = sent_some lens octets z.datagrams z.frame;
         fits = fit_under into _ c.fill.new.self c.fill.ensures.begun.1.fits v;
       },
+      packets_begin from f.left begun as' (turns lens recover number begun octets z.datagrams is as' z.lives t2.stops.items) c.fill.new.self.lan (λ k. begun_turns lens recover number begun octets z.datagrams is as' z.lives t2.stops.items z.each k) f.filling.packets,
       tour_same into m _ c.fill.new.self v e.tour.0 visits e.tour.1 e.tour.2 e.tour.3 on,
       of_tour into m _ c.fill.new.self v e.tour.0 visits e.tour.1 e.tour.2 e.tour.3 on (λ k. holds_at is_live_lead as' k) alive (λ k. v.alive k ∙ alive k) (frame_size octets) (λ k. area_at lens as' k) (c.finish-some.ensures.size yes) areas (length (seen lens octets)) (sent_many lens octets f.filling.frame.datagrams (c.finish-some.ensures.reads yes f.filling.frame.datagrams f.filling.frame.begun f.filling.frame.long f.filling.frame.named) ∙ f.filling.frame.long) f.some,
     )

@@ -1,4 +1,5 @@
-use Rattle.std.proofs.Common.{◌≡◌, ◌∙◌, true, refl, sym, subst, length, arith}
+use Rattle.std.proofs.Common.{◌≡◌, ◌∙◌, true, [], refl, sym, ap, subst, length, arith}
+use Rattle.master_node.proofs.Begins.{has_none}
 use Rattle.life_runs.specs.of_frame_view.Seen.{seen}
 use Rattle.std.specs.List.{list_any}
 use Rattle.master_tour.specs.Goes.{is_live, holds_at}
@@ -19,8 +20,18 @@ use Rattle.master_node.proofs.node.MasterNode.next.Goals as goal
 pub returns-clause-led : goal.returns-clause-led
 returns-clause-led c = λ h lens recover retry missed number as' x.
     let live : c.has_live.result ≡ true = cc in
-    let w = c.make.ensures.led lens recover retry missed number as' (subst (λ z. list_any (λ s. is_live s.stand) z.stops.items ≡ true) (sym c.admit.ensures.same.1) (sym c.has_live.ensures ∙ live)) (shows_same lens recover retry missed as' _ c.admit.new.self c.admit.ensures.same.1 c.admit.ensures.same.0 x) in
+    let none = ap length c.begins.ensures.none in
+    let admitted = c.admit.ensures.lan in
+    let w = c.make.ensures.led lens recover retry missed number c.args.self.now.lan.switch as' (omega (arith, admitted.few, none)) (c.admit.ensures.takes.takes _ [] (omega (arith, none)) (has_none _ _ c.begins.ensures.switch c.begins.ensures.none)) (subst (λ z. list_any (λ s. is_live s.stand) z.stops.items ≡ true) (sym c.admit.ensures.same.1) (sym c.has_live.ensures ∙ live)) (shows_same lens recover retry missed as' _ c.admit.new.self c.admit.ensures.same.1 c.admit.ensures.same.0 x) in
     (w.0, w.1, record { each = w.2.each; distinct = w.2.distinct; quiet = w.2.quiet; goes = w.2.goes; missed_is = w.2.missed_is; retry_is = w.2.retry_is; sent = w.2.sent; fits = w.2.fits })
+
+pub returns-clause-begun : goal.returns-clause-begun
+returns-clause-begun c = λ h lens recover retry missed number as' x.
+    let live : c.has_live.result ≡ true = cc in
+    let none = ap length c.begins.ensures.none in
+    let admitted = c.admit.ensures.lan in
+    let w = c.make.ensures.led lens recover retry missed number c.args.self.now.lan.switch as' (omega (arith, admitted.few, none)) (c.admit.ensures.takes.takes _ [] (omega (arith, none)) (has_none _ _ c.begins.ensures.switch c.begins.ensures.none)) (subst (λ z. list_any (λ s. is_live s.stand) z.stops.items ≡ true) (sym c.admit.ensures.same.1) (sym c.has_live.ensures ∙ live)) (shows_same lens recover retry missed as' _ c.admit.new.self c.admit.ensures.same.1 c.admit.ensures.same.0 x) in
+    (w.0, w.1, record { each = w.2.each; distinct = w.2.distinct; quiet = w.2.quiet; goes = w.2.goes; missed_is = w.2.missed_is; retry_is = w.2.retry_is; sent = w.2.sent; fits = w.2.fits }, w.3)
 
 pub returns-then-not-has_live-clause-joins : goal.returns-then-not-has_live-clause-joins
 returns-then-not-has_live-clause-joins c = each_same _ c.args.self.now.tour.stops.items (λ s. refl)
@@ -33,11 +44,13 @@ returns-clause-toured c = λ h lens recover retry missed as' us x y.
     let m = c.args.self.now in
     let n = c.admit.new.self in
     let live : c.has_live.result ≡ true = cc in
-    let w = c.make.ensures.led lens recover retry missed 0 as' (subst (λ z. list_any (λ s. is_live s.stand) z.stops.items ≡ true) (sym c.admit.ensures.same.1) (sym c.has_live.ensures ∙ live)) (shows_same lens recover retry missed as' _ n c.admit.ensures.same.1 c.admit.ensures.same.0 x) in
+    let none = ap length c.begins.ensures.none in
+    let admitted = c.admit.ensures.lan in
+    let w = c.make.ensures.led lens recover retry missed 0 m.lan.switch as' (omega (arith, admitted.few, none)) (c.admit.ensures.takes.takes _ [] (omega (arith, none)) (has_none _ _ c.begins.ensures.switch c.begins.ensures.none)) (subst (λ z. list_any (λ s. is_live s.stand) z.stops.items ≡ true) (sym c.admit.ensures.same.1) (sym c.has_live.ensures ∙ live)) (shows_same lens recover retry missed as' _ n c.admit.ensures.same.1 c.admit.ensures.same.0 x) in
     let same : tour_of n ≡ tour_of m = tour_by m n m.tour refl c.admit.ensures.same.1 in (
-      w.3 ∙ same,
+      w.4 ∙ same,
       turns_tour lens recover c.make.new.into.items (λ k. holds_at is_live_lead as' k) (frame_size c.make.new.into.items) (λ k. area_at lens as' k) (tour_of m) us c.make.new.self.tour.stops.items (length (seen lens c.make.new.into.items)) c.make.new.self.tour.visit.items y.each
-          (subst (λ z. IsOfTour (λ s. stop_share s) (λ k. holds_at is_live_lead as' k) (frame_size c.make.new.into.items) (λ k. area_at lens as' k) z c.make.new.self.tour.stops.items (length (seen lens c.make.new.into.items)) c.make.new.self.tour.visit.items) same w.4),
+          (subst (λ z. IsOfTour (λ s. stop_share s) (λ k. holds_at is_live_lead as' k) (frame_size c.make.new.into.items) (λ k. area_at lens as' k) z c.make.new.self.tour.stops.items (length (seen lens c.make.new.into.items)) c.make.new.self.tour.visit.items) same w.5),
     )
 
 pub returns-clause-asks : goal.returns-clause-asks

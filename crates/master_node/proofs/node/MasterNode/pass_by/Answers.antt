@@ -1,6 +1,7 @@
 use Rattle.std.proofs.Common.{◌≡◌, ◌<◌, refl, sym, subst, arith, length, Some}
 use Rattle.master_tour.specs.Walks.{StepsAt}
 use Rattle.master_tour.proofs.Walks.{steps_set}
+use Rattle.master_node.specs.Begins.{TakesOn, taken_for}
 use Rattle.master_node.specs.Coming.{PassesBy}
 use Rattle.master_node.proofs.Kepts.{stop_side, stop_same}
 use Rattle.master_node.proofs.Lists.{steps_same}
@@ -9,6 +10,9 @@ use Rattle.std.proofs.Common.{ap}
 use Rattle.master_tour.proofs.Walks.{each_same}
 use Rattle.master_node.proofs.Lists.{steps_each}
 use Rattle.master_node.proofs.Rooms.{sends_same}
+use Rattle.master_node.proofs.Begins.{takes_none}
+use Rattle.master_node.proofs.Happenings.{happens_none}
+use Rattle.master_node.proofs.Made.{makes_none}
 use Rattle.master_node.proofs.node.MasterNode.pass_by.Goals as goal
 
 pub returns-in-State-clause-begun : goal.returns-in-State-clause-begun
@@ -102,3 +106,41 @@ returns-in-Script-clause-sends c =
     let m = c.args.self.now in
     let l : c.args.place < length m.tour.stops.items = omega (arith, c.requires, m.paired, m.tour.stops.ok.0) in
     steps_same _ c.args.place m.tour.stops.items l (λ s. sends_same s)
+
+pub returns-in-Packet-clause-takes : goal.returns-in-Packet-clause-takes
+returns-in-Packet-clause-takes c =
+    let m = c.args.self.now in
+    subst (λ z. TakesOn (taken_for m.lan c.args.place (Some z)) m.lan c.begin.new.self) (sym c.in-Packet.is) c.begin.ensures.takes
+
+pub returns-in-Mail-clause-takes : goal.returns-in-Mail-clause-takes
+returns-in-Mail-clause-takes c =
+    let m = c.args.self.now in
+    takes_none _ m.lan m.lan (ap (λ z. taken_for m.lan c.args.place (Some z)) (sym c.in-Mail.is)) refl
+
+pub returns-in-Script-clause-takes : goal.returns-in-Script-clause-takes
+returns-in-Script-clause-takes c =
+    let m = c.args.self.now in
+    takes_none _ m.lan m.lan (ap (λ z. taken_for m.lan c.args.place (Some z)) (sym c.in-Script.is)) refl
+
+pub returns-in-State-clause-takes : goal.returns-in-State-clause-takes
+returns-in-State-clause-takes c =
+    let m = c.args.self.now in
+    takes_none _ m.lan m.lan (ap (λ z. taken_for m.lan c.args.place (Some z)) (sym c.in-State.is)) refl
+
+pub returns-in-Mail-clause-lan : goal.returns-in-Mail-clause-lan
+returns-in-Mail-clause-lan c = happens_none 1 _ _ refl
+
+pub returns-in-Script-clause-lan : goal.returns-in-Script-clause-lan
+returns-in-Script-clause-lan c = happens_none 1 _ _ refl
+
+pub returns-in-State-clause-lan : goal.returns-in-State-clause-lan
+returns-in-State-clause-lan c = happens_none 1 _ _ refl
+
+pub returns-in-Mail-clause-made : goal.returns-in-Mail-clause-made
+returns-in-Mail-clause-made c = makes_none _ _ refl
+
+pub returns-in-Script-clause-made : goal.returns-in-Script-clause-made
+returns-in-Script-clause-made c = makes_none _ _ refl
+
+pub returns-in-State-clause-made : goal.returns-in-State-clause-made
+returns-in-State-clause-made c = makes_none _ _ refl

@@ -18,7 +18,9 @@ use Rattle.master_node.specs.Filling.{StopFills}
 use Rattle.master_node.specs.Shows.{lived_of}
 use Rattle.master_node.proofs.Lists.{steps_map, steps_holds, steps_each, each_trans}
 use Rattle.master_node.proofs.Filleds.{count_behind}
-use Rattle.master_node.proofs.Visits.{Fitted, Began, now, comes, frame, among, among_fitted}
+use Rattle.master_node.proofs.Visits.{Fitted, Began, here, what, now, comes, frame, spot, leaves, among, among_fitted}
+use Rattle.master_node.proofs.Begins.{begun_step}
+use Rattle.master_node.specs.Begins.{TakesOn, taken_where}
 use Rattle.std.proofs.Common.{◌∙◌}
 use Rattle.master_node.proofs.Lists.{steps_each, each_trans}
 use Rattle.std.proofs.Common.{true}
@@ -29,12 +31,12 @@ use Rattle.master_node.specs.Rooms.{SendsSame, Takes}
 use Rattle.master_node.proofs.Fits.{sends_again, sends_len, stays_sends, takes_before, takes_not, takes_visit}
 use Rattle.master_node.proofs.Lists.{steps_trans}
 use Rattle.master_node.proofs.Rooms.{steps_room, looks_full, visits_full}
-use Rattle.master_node.proofs.Happenings.{happens_none, happens_on}
-use Rattle.master_node.proofs.Made.{makes_none, makes_on}
+use Rattle.master_node.proofs.Happenings.{happens_none, happens_from}
+use Rattle.master_node.proofs.Made.{makes_none, makes_then}
 use Rattle.master_node.proofs.node.MasterNode.visit.Goals as goal
 
 pub returns-then-not-fits-clause-led : goal.returns-then-not-fits-clause-led
-returns-then-not-fits-clause-led c = λ lens recover made left next as' quiet d at over fewer f.
+returns-then-not-fits-clause-led c = λ lens recover made from left next as' room quiet d at over fewer f.
     let m = c.args.self.now in
     let e = c.fits.ensures in
     let s0 = m.tour.stops.items in
@@ -45,6 +47,7 @@ returns-then-not-fits-clause-led c = λ lens recover made left next as' quiet d 
       frame = subst (λ n. FrameMade (λ ds i a s. StopFills lens recover made f.begun (m.made % 256) left ds i a s) c.args.into.now.items n (map lived_of as') s1) (sym e.count)
           (e.made (speech_at lens) is_followed is_passed made recover (m.made % 256) m.tour.count lens left (map lived_of as') c.args.into.now.items f.begun d at f.frame);
       among = among_fitted lens f.begun left as' c.args.place s0 s1 fitted f.among;
+      packets = f.packets;
     }
 
 pub returns-clause-first : goal.returns-clause-first
@@ -58,7 +61,7 @@ returns-clause-first c = λ e live.
     (refl, c.came.ensures.kept.0.count ∙ c.visit-began.ensures.first e (second ∙ first ∙ live) ∙ ap (λ n. n + 1) (c.lay.ensures.kept.0.count ∙ c.fits.ensures.count))
 
 pub returns-clause-led : goal.returns-clause-led
-returns-clause-led c = λ lens recover made left next as' quiet d at over fewer f.
+returns-clause-led c = λ lens recover made from left next as' room quiet d at over fewer f.
     let m = c.args.self.now in
     let e = c.fits.ensures in
     let v = c.visit-began.ensures in
@@ -88,6 +91,9 @@ returns-clause-led c = λ lens recover made left next as' quiet d at over fewer 
       frame = subst (λ n. FrameMade (λ ds i a s. StopFills lens recover made begun (c.came.new.self.made % 256) next ds i a s) c.visit-began.new.frame.items n (map lived_of as') s4) (sym c.came.ensures.kept.0.count)
           (subst (λ k. FrameMade (λ ds i a s. StopFills lens recover made begun k next ds i a s) c.visit-began.new.frame.items c.visit-began.new.self.count (map lived_of as') s4) (sym same) made_frame);
       among = among coming r place s0 s1 s2 s3 s4 rooms coms fitted laid began came lens f.begun left next as' fewer at over d f.among;
+      packets = begun_step from left next f.begun as' m.lan c.came.new.self.lan place (here coming r place s0 s1 s2 s3 s4 rooms coms fitted laid began came) (what coming r place s0 s1 s2 s3 s4 rooms coms fitted laid began came)
+          (taken_where r m.lan place coming) d (spot coming r place s0 s1 s2 s3 s4 rooms coms fitted laid began came lens f.begun left as' f.among) room at over fewer
+          (leaves coming r place s0 s1 s2 s3 s4 rooms coms fitted laid began came m.lan c.lay.ensures.oldest) (subst (λ z. TakesOn (taken_where r z place coming) z c.came.new.self.lan) c.lay.ensures.lan c.came.ensures.takes) f.packets;
     }
 
 pub returns-then-not-fits-clause-counts : goal.returns-then-not-fits-clause-counts
@@ -204,10 +210,10 @@ pub returns-then-not-fits-clause-lan : goal.returns-then-not-fits-clause-lan
 returns-then-not-fits-clause-lan c = happens_none 1 _ _ refl
 
 pub returns-clause-lan : goal.returns-clause-lan
-returns-clause-lan c = happens_on 1 _ _ _ c.came.ensures.lan c.lay.ensures.lan
+returns-clause-lan c = happens_from 1 _ _ _ c.lay.ensures.lan c.came.ensures.lan
 
 pub returns-then-not-fits-clause-made : goal.returns-then-not-fits-clause-made
 returns-then-not-fits-clause-made c = makes_none _ _ refl
 
 pub returns-clause-made : goal.returns-clause-made
-returns-clause-made c = makes_on _ _ _ c.came.ensures.lan c.lay.ensures.made
+returns-clause-made c = makes_then _ _ _ (makes_none _ _ c.lay.ensures.lan) c.came.ensures.made

@@ -1,0 +1,16 @@
+use Rattle.master_node.specs.Downs.{goes_down}
+use Rattle.master_node.specs.Happened.{events_of}
+use Rattle.packets_begun.specs.Over.{AreBegun}
+use Rattle.packets_begun.proofs.Runs.{run_begun, run_first, none_behind, begun_on}
+use Rattle.packets_begun.proofs.begun_law.Goals as goal
+
+pub returns-clause-begun : goal.returns-clause-begun
+returns-clause-begun c = λ lens recover retry missed ports many first as' fs led es k port own x. run_begun ports many k port own led es x
+
+pub returns-clause-forwarded : goal.returns-clause-forwarded
+returns-clause-forwarded c = λ lens recover retry missed ports many first as' fs led es k port own l x. run_first ports many k port own led es l x
+
+pub returns-clause-goes_on : goal.returns-clause-goes_on
+returns-clause-goes_on c = λ lens recover retry missed ports many first as' fs led f us frame m n packets leads es same begins arrives downs before.
+    begun_on (λ old. AreBegun ports many led old) ports many us m.lan n.lan es (events_of n.lan.happened) before same begins
+    (none_behind m.lan.ports.items packets (goes_down us leads) m.tour.visit.items (events_of n.lan.happened) f.fate (λ e. (arrives e).events) (λ after e. (downs after e).events))
