@@ -1,3 +1,6 @@
+mod Choosing
+mod Returning
 mod Steps
+mod Visited
 mod Visiting
 mod Waiting
