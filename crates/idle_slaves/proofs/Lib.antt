@@ -1,4 +1,5 @@
 mod Choosing
+mod Frames
 mod Returning
 mod Steps
 mod Visited

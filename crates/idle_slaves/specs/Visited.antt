@@ -13,7 +13,7 @@ use Rattle.segment_model.specs.Record.{is_for}
 use Rattle.segment_model.specs.Slaves.{Datagram, Access, Found}
 use Rattle.state_exchange.specs.Stated.{Service}
 use Rattle.task_model.specs.Accounts.{Duty, Pick, Stage}
-use Rattle.idle_slaves.specs.Waiting.{Wanted, Memory, Coming, MayCome, IsWaiting, IsSpent, link_by, wanted_by, memory_by}
+use Rattle.idle_slaves.specs.Waiting.{Wanted, Memory, Coming, MayCome, IsWaiting, IsSpent, link_by, wanted_by}
 
 -- what a slave's visits are for, by the state service in hand: none, or one that drains
 abbrev pub IsFor : Wanted → Option Duty → Type 0
@@ -24,6 +24,15 @@ IsFor Wanted.Drains hand = (duty : Duty) × (hand ≡ Some duty) × (duty.stage 
 abbrev pub visit_for : Option Duty → Memory → Bool → Visit
 visit_for None m holding = mails_visit m.paused holding
 visit_for (Some duty) m holding = drain_visit m.turn
+
+-- what the master remembers before it: a state service that came into hand first reads the status of mailbox 0
+abbrev pub memory_next : Option Duty → Option Duty → Memory → Memory
+memory_next None (Some duty) m = record m { turn = false }
+memory_next _ _ m = m
+
+-- by the lives before and behind what came into hand
+abbrev pub memory_of : {M Q R : Type 0} → Life M Q R → Life M Q R → Memory → Memory
+memory_of old l m = memory_next old.era.account.hand l.era.account.hand m
 
 -- of a life
 abbrev pub life_visit : {M Q R : Type 0} → Life M Q R → Memory → Visit
@@ -65,18 +74,15 @@ pub record Waiting {M Q R S : Type 0} (v : Server M S) (l : Life M Q R) (n : Nod
   pub waits : IsWaiting v link wanted m t
   pub shows : Shows l n link wanted
 
--- before a visit, with what came into hand
-pub record Chosen {M Q R S : Type 0} (v : Server M S) (l : Life M Q R) (n : Node M S) (m : Memory) (t : Waits) : Type 0 where
+-- before a visit: the life as it was, and with what came into hand
+pub record Chosen {M Q R S : Type 0} (v : Server M S) (old l : Life M Q R) (n : Node M S) (m : Memory) (t : Waits) : Type 0 where
   pub link : Link M S
   pub wanted : Wanted
   pub waits : IsWaiting v link wanted m t
+  pub was : Shows old n link wanted
   pub coming : Coming M
   pub may : MayCome coming wanted m link.halves.out.holding
   pub shows : Shows l n (link_by v link coming) (wanted_by wanted coming)
-
--- what the master remembers then
-abbrev pub memory_at : {M Q R S : Type 0} → {v : Server M S} {l : Life M Q R} {n : Node M S} {m : Memory} {t : Waits} → Chosen v l n m t → Memory
-memory_at {m = m} c = memory_by m c.coming
 
 -- A LIFE WHOSE SLAVE IS SPENT: no mail is held, no state service is in hand, and the slave has nothing left
 pub record LifeSpent {M Q R S : Type 0} (v : Server M S) (l : Life M Q R) (n : Node M S) : Type 0 where

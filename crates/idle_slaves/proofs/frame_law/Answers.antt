@@ -2,7 +2,7 @@ use Rattle.std.proofs.Common.{subst, sym, ap, ◌≡◌, ◌∙◌}
 use Rattle.life_measure.specs.Gains.{gains}
 use Rattle.life_model.specs.Lives.{life_back}
 use Rattle.idle_slaves.specs.Waiting.{memory_behind, tried}
-use Rattle.idle_slaves.specs.Visited.{Waiting, life_visit, memory_at}
+use Rattle.idle_slaves.specs.Visited.{Waiting, life_visit, memory_of}
 use Rattle.idle_slaves.proofs.Choosing.{chosen}
 use Rattle.idle_slaves.proofs.Visited.{on, same_node, second, none, stepped, life_spent}
 use Rattle.idle_slaves.proofs.frame_law.Goals as goal
@@ -11,17 +11,17 @@ pub returns-clause-comes : goal.returns-clause-comes
 returns-clause-comes g c = λ v x acknowledged more passed frame l n m t pick k unpassed unpaused. chosen v l n m t k x acknowledged more passed frame pick unpassed unpaused
 
 pub returns-clause-visited : goal.returns-clause-visited
-returns-clause-visited g c = λ v x acknowledged more passed frame spot news back came l n m t c row b same.
-    subst (λ s. Waiting v (life_back x acknowledged more passed frame spot news back came l s) n (memory_behind (memory_at c) (life_visit l (memory_at c))) (tried t)) (sym c.shows.stands)
-    (on v x acknowledged more passed frame spot news back came l n m t c row b (ap (λ s. gains (life_back x acknowledged more passed frame spot news back came l s)) (sym c.shows.stands) ∙ same))
+returns-clause-visited g c = λ v x acknowledged more passed frame spot news back came old l n m t c row b same.
+    subst (λ s. Waiting v (life_back x acknowledged more passed frame spot news back came l s) n (memory_behind (memory_of old l m) (life_visit l (memory_of old l m))) (tried t)) (sym c.shows.stands)
+    (on v x acknowledged more passed frame spot news back came l n m t old c row b (ap (λ s. gains (life_back x acknowledged more passed frame spot news back came l s)) (sym c.shows.stands) ∙ same))
 
 pub returns-clause-same : goal.returns-clause-same
-returns-clause-same g c = λ v x acknowledged more passed frame spot news back came l n m t c row b same.
-    same_node v x acknowledged more passed frame spot news back came l n m t c row b (ap (λ s. gains (life_back x acknowledged more passed frame spot news back came l s)) (sym c.shows.stands) ∙ same)
+returns-clause-same g c = λ v x acknowledged more passed frame spot news back came old l n m t c row b same.
+    same_node v x acknowledged more passed frame spot news back came l n m t old c row b (ap (λ s. gains (life_back x acknowledged more passed frame spot news back came l s)) (sym c.shows.stands) ∙ same)
 
 pub returns-clause-idle : goal.returns-clause-idle
-returns-clause-idle g c = λ v x acknowledged more passed frame spot news back came l n m t c row b same one.
-    second v x acknowledged more passed frame spot news back came l n m t c row b (ap (λ s. gains (life_back x acknowledged more passed frame spot news back came l s)) (sym c.shows.stands) ∙ same) one
+returns-clause-idle g c = λ v x acknowledged more passed frame spot news back came old l n m t c row b same one.
+    second v x acknowledged more passed frame spot news back came l n m t old c row b (ap (λ s. gains (life_back x acknowledged more passed frame spot news back came l s)) (sym c.shows.stands) ∙ same) one
 
 pub returns-clause-passed : goal.returns-clause-passed
 returns-clause-passed g c = λ v x acknowledged more passed frame spot news back came l n m t k empty.
