@@ -1,0 +1,162 @@
+-- What comes into hand with a visit, by its master's choice.
+use Rattle.std.proofs.Common.{◌≡◌, ◌⊎◌, ℕ, Bool, true, false, Option, Some, None, List, [], ◌∷◌, ◌++◌, refl, sym, ap, ◌∙◌, subst, if◌then◌else◌, inl, inr}
+use Rattle.std.specs.Prelude.{◌&&◌}
+use Rattle.exchange_model.specs.Exchange.{Speech}
+use Rattle.exchange_model.specs.Rows.{Row, begun, left}
+use Rattle.life_model.specs.Lives.{Life, Stand, life_next, granted}
+use Rattle.link_model.specs.Link.{Halves, Link, Event, happens, held_after}
+use Rattle.link_model.specs.Mails.{LinkMail}
+use Rattle.link_model.specs.Master.{out_hold}
+use Rattle.link_model.specs.Slave.{Node, Server}
+use Rattle.run_frames.specs.Waits.{Waits}
+use Rattle.segment_model.specs.Seats.{Side, Choice, side_begins, side_holds, side_next, next_mail, first_left, is_over, is_none_left}
+use Rattle.state_exchange.specs.Stated.{Service}
+use Rattle.task_model.specs.Accounts.{Account, Duty, Pick, Stage, account_begins, account_next, mails_begin, mails_choice, is_free, is_acknowledged, starts, state_begins}
+use Rattle.idle_slaves.specs.Waiting.{Wanted, Memory, Coming, MayCome, IsWaiting, link_by, wanted_by}
+use Rattle.idle_slaves.specs.Visited.{IsFor, IsUnpaused, Shows, Waiting, Chosen}
+
+-- A MAIL IS TAKEN UP where none is held, or the halves stay
+pub data Holds {M : Type 0} (h k : Halves M) : Type 0 where
+  stays : k ≡ h → Holds h k
+  one : (body : M) → h.out.holding ≡ None → k ≡ record h { out = out_hold h.out body } → Holds h k
+
+begins_halves : {M Q R : Type 0} (x : Speech M Q R) (frame : ℕ) (d : Side M Q R) (now : Option (Row M Q R)) (begin : Option Q) → (side_begins x frame d now begin).halves ≡ d.halves
+begins_halves x frame d now None = refl
+begins_halves x frame d None (Some q) = go (x.valid q)
+  where
+    go : (b : Bool) → (if b then record d { now = Some (begun q frame) } else d).halves ≡ d.halves
+    go true = refl
+    go false = refl
+begins_halves x frame d (Some r) (Some q) = go (x.valid q && is_over x d.halves.out.holding d.fresh r)
+  where
+    go : (b : Bool) → (if b then record d { past = d.past ++ r ∷ []; now = Some (begun q frame) } else d).halves ≡ d.halves
+    go true = refl
+    go false = refl
+
+takes : {M Q R : Type 0} (x : Speech M Q R) (d : Side M Q R) (now : Option (Row M Q R)) (holding : Option (LinkMail M)) (hold : Bool) → d.halves.out.holding ≡ holding → Holds d.halves (side_holds d (next_mail x now holding hold)).halves
+takes x d now holding false e = Holds.stays refl
+takes x d None holding true e = Holds.stays refl
+takes x d (Some r) (Some m) true e = Holds.stays refl
+takes {M} x d (Some r) None true e = go (left x r)
+  where
+    go : (ms : List M) → Holds d.halves (side_holds d (first_left ms)).halves
+    go [] = Holds.stays refl
+    go (m ∷ ms) = Holds.one m e refl
+
+pub side_takes : {M Q R : Type 0} (x : Speech M Q R) (frame : ℕ) (d : Side M Q R) (c : Choice Q) → Holds d.halves (side_next x frame d c).halves
+side_takes x frame d c =
+    let e = side_begins x frame d d.now c.begin in
+    subst (λ h. Holds h (side_next x frame d c).halves) (begins_halves x frame d d.now c.begin) (takes x e e.now e.halves.out.holding c.hold refl)
+
+-- none, where the row is over
+over_none : {M Q R : Type 0} (x : Speech M Q R) (d : Side M Q R) (now : Option (Row M Q R)) (holding : Option (LinkMail M)) (hold : Bool) → is_free x d now ≡ true → (side_holds d (next_mail x now holding hold)).halves ≡ d.halves
+over_none x d now holding false e = refl
+over_none x d None holding true e = refl
+over_none x d (Some r) (Some m) true e = refl
+over_none {M} x d (Some r) None true e = go (left x r) _ e
+  where
+    go : (ms : List M) (rest : Bool) → (is_none_left ms && rest) ≡ true → (side_holds d (first_left ms)).halves ≡ d.halves
+    go [] rest f = refl
+    go (m ∷ ms) rest f = absurd (let no : false ≡ true = f in cc)
+
+-- A STATE SERVICE COMES INTO HAND, with no mail, or none does
+abbrev Chooses : {M Q R : Type 0} → Speech M Q R → ℕ → Side M Q R → Account Q R → Pick Q → Account Q R → Type 0
+Chooses x frame d a p b = (b.hand ≡ a.hand) ⊎ ((target : ℕ) × (a.hand ≡ None) × (p.begin ≡ Some (Service.State target)) × (b.hand ≡ Some (record { target = target; frame = frame; stage = Stage.Drains })) × ((side_next x frame d (mails_choice a p)).halves ≡ d.halves))
+
+and_first : (a b : Bool) → (a && b) ≡ true → a ≡ true
+and_first true b e = refl
+and_first false b e = e
+
+no_state : {M Q R : Type 0} (x : Speech M Q R) (frame : ℕ) (d : Side M Q R) (a : Account Q R) (target : ℕ) (hold : Bool) → a.hand ≡ None → is_free x d d.now ≡ true →
+    (side_next x frame d (mails_choice a (record { begin = Some (Service.State target); hold = hold }))).halves ≡ d.halves
+no_state x frame d a target hold e free =
+    subst (λ z. (let f = side_begins x frame d d.now (mails_begin z (Some (Service.State target))) in (side_holds f (next_mail x f.now f.halves.out.holding hold)).halves) ≡ d.halves) (sym e) (over_none x d d.now d.halves.out.holding hold free)
+
+choose : {M Q R : Type 0} (x : Speech M Q R) (acknowledged : Q → Bool) (frame : ℕ) (d : Side M Q R) (a : Account Q R) (hand : Option Duty) (begin : Option (Service Q)) (hold : Bool) → a.hand ≡ hand →
+    Chooses x frame d a (record { begin = begin; hold = hold }) (account_begins x acknowledged frame d a hand begin)
+choose x acknowledged frame d a hand None hold e = inl refl
+choose x acknowledged frame d a (Some duty) (Some wish) hold e = inl refl
+choose {M} {Q} {R} x acknowledged frame d a None (Some (Service.Mails q)) hold e = go (x.valid q && is_free x d d.now)
+  where
+    go : (b : Bool) → Chooses x frame d a (record { begin = Some (Service.Mails q); hold = hold }) (if b then record a { started = starts a (Service.Mails q) frame } else a)
+    go true = inl refl
+    go false = inl refl
+choose {M} {Q} {R} x acknowledged frame d a None (Some (Service.State target)) hold e = go (is_free x d d.now && is_acknowledged acknowledged d d.now) refl
+  where
+    go : (b : Bool) → (is_free x d d.now && is_acknowledged acknowledged d d.now) ≡ b → Chooses x frame d a (record { begin = Some (Service.State target); hold = hold }) (if b then state_begins a target frame else a)
+    go true f = inr (target, e, refl, refl, no_state x frame d a target hold e (and_first (is_free x d d.now) (is_acknowledged acknowledged d d.now) f))
+    go false f = inl refl
+
+-- ---- THE LINK
+same_for : (q : Wanted) (a b : Option Duty) → b ≡ a → IsFor q a → IsFor q b
+same_for q a b e f = subst (λ z. IsFor q z) (sym e) f
+
+not_drains : {X : Type 0} (q : Wanted) (a : Option Duty) → a ≡ None → IsFor q a → (q ≡ Wanted.Mails → X) → X
+not_drains Wanted.Mails a e f k = k refl
+not_drains Wanted.Drains a e (duty, is, stage) k = absurd (let no : Some duty ≡ None = sym is ∙ e in cc)
+
+held_halves : {B S : Type 0} (w : Link B S) (holding : Option (LinkMail B)) (body : B) → holding ≡ None → (held_after w holding body).halves ≡ record w.halves { out = out_hold w.halves.out body }
+held_halves w None body e = refl
+held_halves w (Some m) body e = absurd (cc)
+
+held_node : {B S : Type 0} (w : Link B S) (holding : Option (LinkMail B)) (body : B) → (held_after w holding body).node ≡ w.node
+held_node w None body = refl
+held_node w (Some m) body = refl
+
+module _ {M Q R S : Type 0} (v : Server M S) (l : Life M Q R) (n : Node M S) (m : Memory) (t : Waits) (k : Waiting v l n m t) where
+  abbrev w : Link M S
+  w = k.link
+
+  -- a mail, or nothing
+  with_mail : (j : Life M Q R) → j.stand ≡ Stand.Open → j.era.account.hand ≡ l.era.account.hand → Holds l.era.side.halves j.era.side.halves → Chosen v l j n m t
+  with_mail j stands_open hand (Holds.stays same) = record {
+    link = w;
+    wanted = k.wanted;
+    waits = k.waits;
+    was = k.shows;
+    coming = Coming.Nothing;
+    may = tt;
+    shows = record { halves = k.shows.halves ∙ sym same; node = k.shows.node; hand = same_for k.wanted l.era.account.hand j.era.account.hand hand k.shows.hand; stands = stands_open };
+  }
+  with_mail j stands_open hand (Holds.one body none same) =
+      let free : w.halves.out.holding ≡ None = ap (λ h. h.out.holding) k.shows.halves ∙ none in
+      record {
+        link = w;
+        wanted = k.wanted;
+        waits = k.waits;
+        was = k.shows;
+        coming = Coming.Mail body;
+        may = free;
+        shows = record {
+          halves = held_halves w w.halves.out.holding body free ∙ ap (λ (h : Halves M). record h { out = out_hold h.out body }) k.shows.halves ∙ sym same;
+          node = held_node w w.halves.out.holding body ∙ k.shows.node;
+          hand = same_for k.wanted l.era.account.hand j.era.account.hand hand k.shows.hand;
+          stands = stands_open;
+        };
+      }
+
+  -- a state service
+  with_state : (j : Life M Q R) (target frame : ℕ) → j.stand ≡ Stand.Open → l.era.account.hand ≡ None → m.paused ≡ false → j.era.account.hand ≡ Some (record { target = target; frame = frame; stage = Stage.Drains }) → j.era.side.halves ≡ l.era.side.halves → Chosen v l j n m t
+  with_state j target frame stands_open none unpaused hand same = not_drains k.wanted l.era.account.hand none k.shows.hand (λ q. record {
+    link = w;
+    wanted = k.wanted;
+    waits = k.waits;
+    was = k.shows;
+    coming = Coming.State;
+    may = (q, unpaused);
+    shows = record { halves = k.shows.halves ∙ sym same; node = k.shows.node; hand = (record { target = target; frame = frame; stage = Stage.Drains }, hand, refl); stands = stands_open };
+  })
+
+  chosen_by : (j : Life M Q R) (x : Speech M Q R) (frame : ℕ) (p : Pick Q) → IsUnpaused p m → j.stand ≡ Stand.Open → j.era.side.halves ≡ (side_next x frame l.era.side (mails_choice l.era.account p)).halves → Chooses x frame l.era.side l.era.account p j.era.account → Chosen v l j n m t
+  chosen_by j x frame p unpaused stands_open halves (inl hand) = with_mail j stands_open hand (subst (λ h. Holds l.era.side.halves h) (sym halves) (side_takes x frame l.era.side (mails_choice l.era.account p)))
+  chosen_by j x frame p unpaused stands_open halves (inr (target, none, begin, hand, same)) = with_state j target frame stands_open none (unpaused target begin) hand (halves ∙ same)
+
+  -- by the choice that is granted
+  chosen_at : (x : Speech M Q R) (acknowledged : Q → Bool) (more : M → Bool) (passed : Q → Bool) (frame : ℕ) (pick : Pick Q) → l.era.passing ≡ None → IsUnpaused pick m → Chosen v l (life_next x acknowledged more passed frame l Stand.Open pick) n m t
+  chosen_at x acknowledged more passed frame pick none unpaused =
+      let p = granted l.era.passing pick in
+      let same : p ≡ pick = ap (λ z. granted z pick) none in
+      chosen_by (life_next x acknowledged more passed frame l Stand.Open pick) x frame p (subst (λ z. IsUnpaused z m) (sym same) unpaused) k.shows.stands refl (choose x acknowledged frame l.era.side l.era.account l.era.account.hand p.begin p.hold refl)
+
+  pub chosen : (x : Speech M Q R) (acknowledged : Q → Bool) (more : M → Bool) (passed : Q → Bool) (frame : ℕ) (pick : Pick Q) → l.era.passing ≡ None → IsUnpaused pick m → Chosen v l (life_next x acknowledged more passed frame l l.stand pick) n m t
+  chosen x acknowledged more passed frame pick none unpaused = subst (λ s. Chosen v l (life_next x acknowledged more passed frame l s pick) n m t) (sym k.shows.stands) (chosen_at x acknowledged more passed frame pick none unpaused)

@@ -1,0 +1,7 @@
+mod Choosing
+mod Frames
+mod Returning
+mod Steps
+mod Visited
+mod Visiting
+mod Waiting

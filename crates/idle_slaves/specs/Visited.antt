@@ -1,0 +1,91 @@
+-- ONE VISIT OF AN OPEN SLAVE, by its master's life of it: what came into hand with it, and what its datagram brought.
+use Rattle.std.specs.Prelude.{◌≡◌, ◌==◌, ℕ, is_some, Bool, true, false, Option, Some, None, List, [], ◌∷◌}
+use Rattle.exchange_model.specs.Rows.{Row}
+use Rattle.life_measure.specs.Visits.{Visit, mails_visit, drain_visit}
+use Rattle.life_model.specs.Lives.{Life, Stand}
+use Rattle.life_model.specs.Own.{own}
+use Rattle.link_model.specs.Frames.{Ask, mail_back}
+use Rattle.link_model.specs.Link.{Halves, Link, write_counter}
+use Rattle.link_model.specs.Mails.{LinkMail}
+use Rattle.link_model.specs.Slave.{Node, Server}
+use Rattle.run_frames.specs.Waits.{Waits}
+use Rattle.segment_model.specs.Record.{is_for}
+use Rattle.segment_model.specs.Slaves.{Datagram, Access, Found}
+use Rattle.state_exchange.specs.Stated.{Service}
+use Rattle.task_model.specs.Accounts.{Duty, Pick, Stage}
+use Rattle.idle_slaves.specs.Waiting.{Wanted, Memory, Coming, MayCome, IsWaiting, IsSpent, link_by, wanted_by}
+
+-- what a slave's visits are for, by the state service in hand: none, or one that drains
+abbrev pub IsFor : Wanted → Option Duty → Type 0
+IsFor Wanted.Mails hand = hand ≡ None
+IsFor Wanted.Drains hand = (duty : Duty) × (hand ≡ Some duty) × (duty.stage ≡ Stage.Drains)
+
+-- the next visit, by that
+abbrev pub visit_for : Option Duty → Memory → Bool → Visit
+visit_for None m holding = mails_visit m.paused holding
+visit_for (Some duty) m holding = drain_visit m.turn
+
+-- what the master remembers before it: a state service that came into hand first reads the status of mailbox 0
+abbrev pub memory_next : Option Duty → Option Duty → Memory → Memory
+memory_next None (Some duty) m = record m { turn = false }
+memory_next _ _ m = m
+
+-- by the lives before and behind what came into hand
+abbrev pub memory_of : {M Q R : Type 0} → Life M Q R → Life M Q R → Memory → Memory
+memory_of old l m = memory_next old.era.account.hand l.era.account.hand m
+
+-- of a life
+abbrev pub life_visit : {M Q R : Type 0} → Life M Q R → Memory → Visit
+life_visit l m = visit_for l.era.account.hand m (is_some l.era.side.halves.out.holding)
+
+-- A LIFE AND ITS SLAVE AS A LINK: the slave is open, and no state service has drained
+pub record Shows {M Q R S : Type 0} (l : Life M Q R) (n : Node M S) (w : Link M S) (q : Wanted) : Type 0 where
+  pub halves : w.halves ≡ l.era.side.halves
+  pub node : w.node ≡ n
+  pub hand : IsFor q l.era.account.hand
+  pub stands : l.stand ≡ Stand.Open
+
+-- a datagram as the slave met it, by what the visit was: it found a mailbox as it stands
+abbrev pub Meets : {M S : Type 0} → Node M S → Halves M → Visit → Datagram M → Type 0
+Meets n h Visit.Write d = (m : LinkMail _) × (h.out.holding ≡ Some m) × (d.gram.ask ≡ Ask.WriteMail m) × (d.gram.counter ≡ write_counter n.out.box) × (d.access ≡ Access.Elsewhere)
+Meets n h Visit.Read d = (d.gram.ask ≡ Ask.ReadMail) × (mail_back d.gram ≡ n.inn.box) × (d.access ≡ Access.Elsewhere)
+Meets n h Visit.Full d = (d.gram.ask ≡ Ask.Other) × (d.access ≡ Access.ReadFull) × ((d.counter == 0) ≡ false) × (d.found ≡ Some (Found.Full (is_some n.out.box)))
+
+-- THE VISIT'S DATAGRAM CAME BACK: the only one to the slave's station
+pub record CameBack {M S : Type 0} (station : ℕ) (n : Node M S) (h : Halves M) (visit : Visit) (back : List (Datagram M)) : Type 0 where
+  pub datagram : Datagram M
+  pub one : own station back ≡ datagram ∷ []
+  pub station_is : datagram.gram.station ≡ station
+  pub address : is_for station datagram.address ≡ true
+  pub meets : Meets n h visit datagram
+
+-- a mail stands in mailbox 1 only where a service has come into hand
+abbrev pub HasRow : {M Q R S : Type 0} → Life M Q R → Node M S → Type 0
+HasRow {M} {Q} {R} l n = (b : LinkMail M) → n.inn.box ≡ Some b → (r : Row M Q R) × (l.era.side.now ≡ Some r)
+
+-- a state service doesn't come into hand behind a write in vain
+abbrev pub IsUnpaused : {Q : Type 0} → Pick Q → Memory → Type 0
+IsUnpaused pick m = (target : ℕ) → pick.begin ≡ Some (Service.State target) → m.paused ≡ false
+
+-- A SLAVE THAT WAITS, since something was gained last: its life and its node are such a link
+pub record Waiting {M Q R S : Type 0} (v : Server M S) (l : Life M Q R) (n : Node M S) (m : Memory) (t : Waits) : Type 0 where
+  pub link : Link M S
+  pub wanted : Wanted
+  pub waits : IsWaiting v link wanted m t
+  pub shows : Shows l n link wanted
+
+-- before a visit: the life as it was, and with what came into hand
+pub record Chosen {M Q R S : Type 0} (v : Server M S) (old l : Life M Q R) (n : Node M S) (m : Memory) (t : Waits) : Type 0 where
+  pub link : Link M S
+  pub wanted : Wanted
+  pub waits : IsWaiting v link wanted m t
+  pub was : Shows old n link wanted
+  pub coming : Coming M
+  pub may : MayCome coming wanted m link.halves.out.holding
+  pub shows : Shows l n (link_by v link coming) (wanted_by wanted coming)
+
+-- A LIFE WHOSE SLAVE IS SPENT: no mail is held, no state service is in hand, and the slave has nothing left
+pub record LifeSpent {M Q R S : Type 0} (v : Server M S) (l : Life M Q R) (n : Node M S) : Type 0 where
+  pub link : Link M S
+  pub shows : Shows l n link Wanted.Mails
+  pub spent : IsSpent v link

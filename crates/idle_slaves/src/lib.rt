@@ -1,0 +1,58 @@
+//! Slaves that were visited in vain: of which nothing is left to gain. Definitions and laws, no running code: the functions here do nothing, and their
+//! contracts state the laws.
+#![tactic(auto)]
+
+ghost use Rattle.std.specs.Prelude.{◌≡◌, ◌≤◌, ℕ, true, Bool, Option, None, List, []};
+ghost use Rattle.exchange_model.specs.Exchange.{Speech};
+ghost use Rattle.life_measure.specs.Gains.{gains};
+ghost use Rattle.life_model.specs.Lives.{Life, Spot, life_next, life_back};
+ghost use Rattle.life_model.specs.Own.{own};
+ghost use Rattle.link_model.specs.Frames.{node_meets};
+ghost use Rattle.link_model.specs.Link.{Link};
+ghost use Rattle.link_model.specs.Slave.{Node, Server, processor_step};
+ghost use Rattle.run_frames.specs.Clocks.{Clocked};
+ghost use Rattle.run_frames.specs.Goes.{Under, back_life};
+ghost use Rattle.run_frames.specs.Waits.{Waits, waits_on};
+ghost use Rattle.segment_model.specs.Record.{News};
+ghost use Rattle.segment_model.specs.Slaves.{Datagram, Found};
+ghost use Rattle.task_model.specs.Accounts.{Pick};
+ghost use Rattle.idle_slaves.specs.Waiting.{Wanted, Memory, Coming, MayCome, IsVain, IsWaiting, IsSpent, IsIdle, memory_behind, tried};
+ghost use Rattle.idle_slaves.specs.Frames.{InVain, node_on, memory_on};
+ghost use Rattle.idle_slaves.specs.Visited.{Waiting, Chosen, CameBack, HasRow, IsUnpaused, LifeSpent, life_visit, memory_of};
+
+/// A SLAVE THAT WAS VISITED TWICE IN VAIN behind a step of its processor, since something was gained last, is spent: no mail is held for it, both mailboxes
+/// are empty, it has nothing to offer, and no state service drains.
+pub fn waiting_law<B, S>()
+    ensures spent { (v : Server B S) (w : Link B S) (q : Wanted) (m : Memory) (t : Waits) → IsWaiting v w q m t → 2 ≤ t.tries → IsSpent v w × (q ≡ Wanted.Mails) }
+    // It was so before the second of these visits, with which nothing came into hand.
+    ensures idle { (v : Server B S) (w : Link B S) (q : Wanted) (m : Memory) (t : Waits) (c : Coming B) → IsWaiting v w q m t → 1 ≤ t.tries → MayCome c q m w.halves.out.holding → IsVain v w q m c → IsIdle v w q c }
+{}
+
+/// BY EACH FRAME THAT CAME BACK AND GAINED NOTHING an open slave waits on, with nothing in doubt and no state service past its drain: where something came
+/// into hand with a visit, where the visit's datagram came back, where the frame had none for it, and by a step of its processor.
+pub fn frame_law<M, Q, R, S>()
+    ensures comes { (v : Server M S) (x : Speech M Q R) (acknowledged : Q → Bool) (more : M → Bool) (passed : Q → Bool) (frame : ℕ) (l : Life M Q R) (n : Node M S) (m : Memory) (t : Waits) (pick : Pick Q) →
+        Waiting v l n m t → l.era.passing ≡ None → IsUnpaused pick m → Chosen v l (life_next x acknowledged more passed frame l l.stand pick) n m t }
+    ensures visited { (v : Server M S) (x : Speech M Q R) (acknowledged : Q → Bool) (more : M → Bool) (passed : Q → Bool) (frame : ℕ) (spot : Spot) (news : List (News M)) (back : List (Datagram M)) (came : Option (Bool × Option Found)) (old l : Life M Q R) (n : Node M S) (m : Memory) (t : Waits) →
+        Chosen v old l n m t → HasRow l n → let visit = life_visit l (memory_of old l m) in CameBack spot.station n l.era.side.halves visit back → let k = life_back x acknowledged more passed frame spot news back came l l.stand in gains k ≡ gains l →
+        Waiting v k n (memory_behind (memory_of old l m) visit) (tried t) }
+    // Such a visit leaves the slave as it was.
+    ensures same { (v : Server M S) (x : Speech M Q R) (acknowledged : Q → Bool) (more : M → Bool) (passed : Q → Bool) (frame : ℕ) (spot : Spot) (news : List (News M)) (back : List (Datagram M)) (came : Option (Bool × Option Found)) (old l : Life M Q R) (n : Node M S) (m : Memory) (t : Waits) →
+        Chosen v old l n m t → HasRow l n → (b : CameBack spot.station n l.era.side.halves (life_visit l (memory_of old l m)) back) → gains (life_back x acknowledged more passed frame spot news back came l l.stand) ≡ gains l → node_meets n b.datagram.gram.ask ≡ n }
+    // Where it was the second one behind a step, the slave was spent before it, and with what came into hand.
+    ensures idle { (v : Server M S) (x : Speech M Q R) (acknowledged : Q → Bool) (more : M → Bool) (passed : Q → Bool) (frame : ℕ) (spot : Spot) (news : List (News M)) (back : List (Datagram M)) (came : Option (Bool × Option Found)) (old l : Life M Q R) (n : Node M S) (m : Memory) (t : Waits) →
+        Chosen v old l n m t → HasRow l n → CameBack spot.station n l.era.side.halves (life_visit l (memory_of old l m)) back → gains (life_back x acknowledged more passed frame spot news back came l l.stand) ≡ gains l → 1 ≤ t.tries → LifeSpent v old n × LifeSpent v l n }
+    ensures passed { (v : Server M S) (x : Speech M Q R) (acknowledged : Q → Bool) (more : M → Bool) (passed : Q → Bool) (frame : ℕ) (spot : Spot) (news : List (News M)) (back : List (Datagram M)) (came : Option (Bool × Option Found)) (l : Life M Q R) (n : Node M S) (m : Memory) (t : Waits) →
+        Waiting v l n m t → own spot.station back ≡ [] → Waiting v (life_back x acknowledged more passed frame spot news back came l l.stand) n m t }
+    ensures steps { (v : Server M S) (l : Life M Q R) (n : Node M S) (m : Memory) (t : Waits) → Waiting v l n m t → Waiting v l (processor_step v n) m (record t { stepped = true }) }
+    ensures spent { (v : Server M S) (l : Life M Q R) (n : Node M S) (m : Memory) (t : Waits) → Waiting v l n m t → 2 ≤ t.tries → LifeSpent v l n }
+{}
+
+/// AS A RUN'S FRAMES ARE COUNTED: an open slave waits on by each frame that came back with nothing gained, by the steps of its processor, and where it was
+/// visited twice behind a step since something was gained, it was spent before the frame.
+pub fn wait_law<M, Q, R, S>()
+    ensures on { (v : Server M S) (x : Spot → Speech M Q R) (acknowledged : Q → Bool) (more : M → Bool) (passed : Q → Bool) (number : ℕ) (back : List (Datagram M)) (a : Clocked M Q R) (u : Under M Q R) (n : Node M S) (m : Memory) (t : Waits) →
+        Waiting v a.life n m t → InVain x acknowledged more passed number back a u n m → Waiting v (back_life x acknowledged more passed number back a u) (node_on v number a n) (memory_on a u m) (waits_on number a u t) }
+    ensures spent { (v : Server M S) (x : Spot → Speech M Q R) (acknowledged : Q → Bool) (more : M → Bool) (passed : Q → Bool) (number : ℕ) (back : List (Datagram M)) (a : Clocked M Q R) (u : Under M Q R) (n : Node M S) (m : Memory) (t : Waits) →
+        Waiting v a.life n m t → InVain x acknowledged more passed number back a u n m → 2 ≤ (waits_on number a u t).tries → LifeSpent v a.life n }
+{}
