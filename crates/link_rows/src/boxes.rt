@@ -1,7 +1,7 @@
 ghost use Rattle.std.specs.Prelude.{◌<◌, ◌^◌, length};
 ghost use Rattle.esc_registers.specs.Access.{KeepsLengths};
 
-use anyhow::Result;
+use anyhow::{Result, bail};
 use datagrams::{Command, Head};
 use esc_registers::Esc;
 use mailbox_mail::{Mail, MailFault, error_mail};
@@ -80,6 +80,9 @@ pub fn taken_once(alloc: Global) -> Result<String> {
     slave_box.look(&mut esc);
     slave_box.serve(&mut esc, &mut server, 2);
     let taken = server.taken;
+    if taken == u8::MAX {
+        bail!("255 mails were taken");
+    }
     let second = write(&mut esc, 0x1000, &mut area);
     slave_box.step(&mut esc, &mut server, 2);
     let again = server.taken;
