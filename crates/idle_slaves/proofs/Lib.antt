@@ -1,6 +1,7 @@
 mod Choosing
 mod Frames
 mod Returning
+mod Rows
 mod Steps
 mod Visited
 mod Visiting

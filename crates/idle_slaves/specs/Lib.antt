@@ -1,3 +1,4 @@
 pub mod Frames
+pub mod Rows
 pub mod Visited
 pub mod Waiting
