@@ -1,5 +1,6 @@
 mod Choosing
 mod Frames
+mod Phases
 mod Returning
 mod Rows
 mod Steps

@@ -16,7 +16,10 @@ ghost use Rattle.run_frames.specs.Clocks.{Clocked};
 ghost use Rattle.run_frames.specs.Goes.{Under, back_life};
 ghost use Rattle.run_frames.specs.Waits.{Waits, waits_on};
 ghost use Rattle.segment_model.specs.Record.{News};
-ghost use Rattle.segment_model.specs.Slaves.{Datagram, Found};
+ghost use Rattle.segment_model.specs.Slaves.{Datagram, Found, Registers};
+ghost use Rattle.state_model.specs.Promises.{IsTable};
+ghost use Rattle.state_model.specs.States.{Table, Phase, Event, run, carry, new_states};
+ghost use Rattle.idle_slaves.specs.Phases.{IsSeen, HandSeen, TakesOn};
 ghost use Rattle.task_model.specs.Accounts.{Pick};
 ghost use Rattle.idle_slaves.specs.Waiting.{Wanted, Memory, Coming, MayCome, IsVain, IsWaiting, IsSpent, IsIdle, memory_behind, tried};
 ghost use Rattle.segment_model.specs.Seats.{is_over};
@@ -66,4 +69,11 @@ pub fn wait_law<M, Q, R, S>()
 pub fn row_law<V, A, M, Q, R>()
     ensures { (x : Exchange V A M Q R) → IsLawful x → NeverWaits x → (v : V) → x.ready v ≡ true → (front last : List (Row M Q R)) (now : Row M Q R) (held taken accepted : List M) → Moment x v front last now held taken accepted →
         taken ≡ held → accepted ≡ given x.serve v taken → left x.speech now ≡ [] → ((frame : ℕ) → answer_after frame now.answer (x.speech.ends now.service (plain x.speech.emission now.heard)) ≡ now.answer) → is_over x.speech None false now ≡ true }
+{}
+
+/// BEHIND A STEP each visit takes a state service on that is past its drain, whatever came and was lost before: the status that it awaits stands, its target or
+/// an error flag, or that the flag is gone.
+pub fn phase_law<M, R>()
+    ensures stands { (table : Table) (start : ℕ) → IsTable table start → (r : Registers) (es : List Event) → let w = run table (new_states {M = M} {R = R} r start) es in HandSeen w.hand (carry table w.registers) }
+    ensures gains { (target : ℕ) (phase : Phase) (r : Registers) → IsSeen target phase r → TakesOn R target phase r }
 {}
