@@ -1,6 +1,8 @@
 mod Choosing
 mod Frames
+mod Phases
 mod Returning
+mod Rows
 mod Steps
 mod Visited
 mod Visiting

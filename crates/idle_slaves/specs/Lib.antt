@@ -1,3 +1,5 @@
 pub mod Frames
+pub mod Phases
+pub mod Rows
 pub mod Visited
 pub mod Waiting

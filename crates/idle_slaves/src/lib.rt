@@ -2,8 +2,10 @@
 //! contracts state the laws.
 #![tactic(auto)]
 
-ghost use Rattle.std.specs.Prelude.{◌≡◌, ◌≤◌, ℕ, true, Bool, Option, None, List, []};
-ghost use Rattle.exchange_model.specs.Exchange.{Speech};
+ghost use Rattle.std.specs.Prelude.{◌≡◌, ◌≤◌, ℕ, true, false, Bool, Option, None, List, []};
+ghost use Rattle.exchange_model.specs.Exchange.{Exchange, Speech, IsLawful, given, plain};
+ghost use Rattle.exchange_model.specs.Laws.{Moment};
+ghost use Rattle.exchange_model.specs.Rows.{Row, answer_after, left};
 ghost use Rattle.life_measure.specs.Gains.{gains};
 ghost use Rattle.life_model.specs.Lives.{Life, Spot, life_next, life_back};
 ghost use Rattle.life_model.specs.Own.{own};
@@ -14,9 +16,14 @@ ghost use Rattle.run_frames.specs.Clocks.{Clocked};
 ghost use Rattle.run_frames.specs.Goes.{Under, back_life};
 ghost use Rattle.run_frames.specs.Waits.{Waits, waits_on};
 ghost use Rattle.segment_model.specs.Record.{News};
-ghost use Rattle.segment_model.specs.Slaves.{Datagram, Found};
+ghost use Rattle.segment_model.specs.Slaves.{Datagram, Found, Registers};
+ghost use Rattle.state_model.specs.Promises.{IsTable};
+ghost use Rattle.state_model.specs.States.{Table, Phase, Event, run, carry, new_states};
+ghost use Rattle.idle_slaves.specs.Phases.{IsSeen, HandSeen, TakesOn};
 ghost use Rattle.task_model.specs.Accounts.{Pick};
 ghost use Rattle.idle_slaves.specs.Waiting.{Wanted, Memory, Coming, MayCome, IsVain, IsWaiting, IsSpent, IsIdle, memory_behind, tried};
+ghost use Rattle.segment_model.specs.Seats.{is_over};
+ghost use Rattle.idle_slaves.specs.Rows.{NeverWaits};
 ghost use Rattle.idle_slaves.specs.Frames.{InVain, node_on, memory_on};
 ghost use Rattle.idle_slaves.specs.Visited.{Waiting, Chosen, CameBack, HasRow, IsUnpaused, LifeSpent, life_visit, memory_of};
 
@@ -55,4 +62,18 @@ pub fn wait_law<M, Q, R, S>()
         Waiting v a.life n m t → InVain x acknowledged more passed number back a u n m → Waiting v (back_life x acknowledged more passed number back a u) (node_on v number a n) (memory_on a u m) (waits_on number a u t) }
     ensures spent { (v : Server M S) (x : Spot → Speech M Q R) (acknowledged : Q → Bool) (more : M → Bool) (passed : Q → Bool) (number : ℕ) (back : List (Datagram M)) (a : Clocked M Q R) (u : Under M Q R) (n : Node M S) (m : Memory) (t : Waits) →
         Waiting v a.life n m t → InVain x acknowledged more passed number back a u n m → 2 ≤ (waits_on number a u t).tries → LifeSpent v a.life n }
+{}
+
+/// A SERVICE IN HAND IS OVER where nothing is left to tell, all that was held for it was taken and all that was given was heard, if its client never waits in
+/// vain: so of a slave that is spent no service is in hand.
+pub fn row_law<V, A, M, Q, R>()
+    ensures { (x : Exchange V A M Q R) → IsLawful x → NeverWaits x → (v : V) → x.ready v ≡ true → (front last : List (Row M Q R)) (now : Row M Q R) (held taken accepted : List M) → Moment x v front last now held taken accepted →
+        taken ≡ held → accepted ≡ given x.serve v taken → left x.speech now ≡ [] → ((frame : ℕ) → answer_after frame now.answer (x.speech.ends now.service (plain x.speech.emission now.heard)) ≡ now.answer) → is_over x.speech None false now ≡ true }
+{}
+
+/// BEHIND A STEP each visit takes a state service on that is past its drain, whatever came and was lost before: the status that it awaits stands, its target or
+/// an error flag, or that the flag is gone.
+pub fn phase_law<M, R>()
+    ensures stands { (table : Table) (start : ℕ) → IsTable table start → (r : Registers) (es : List Event) → let w = run table (new_states {M = M} {R = R} r start) es in HandSeen w.hand (carry table w.registers) }
+    ensures gains { (target : ℕ) (phase : Phase) (r : Registers) → IsSeen target phase r → TakesOn R target phase r }
 {}

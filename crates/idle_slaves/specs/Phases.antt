@@ -1,0 +1,35 @@
+-- A STATE SERVICE PAST ITS DRAIN, and the registers of its slave: behind a step the status that it awaits stands.
+use Rattle.std.specs.Prelude.{◌≡◌, ◌⊎◌, ℕ, suc, ◌≤◌, true, false, Option, Some, None, ⊤}
+use Rattle.life_measure.specs.Gains.{phase_gains, progress_gains}
+use Rattle.segment_model.specs.Slaves.{Registers}
+use Rattle.state_model.specs.States.{Phase, Hand, reads, phase_written, shown}
+use Rattle.task_model.specs.Accounts.{turn_progress}
+
+-- THE STATUS THAT TAKES IT ON STANDS: its target or an error flag; or that flag is gone
+abbrev pub IsSeen : ℕ → Phase → Registers → Type 0
+IsSeen target Phase.Ask r = ⊤
+IsSeen target Phase.Await r = r.refused ≡ None → r.state ≡ target
+IsSeen target (Phase.Acknowledge state code) r = ⊤
+IsSeen target (Phase.Recover code) r = r.refused ≡ None
+
+-- or the word that leads to it waits in the slave
+abbrev pub IsLed : ℕ → Phase → Registers → Type 0
+IsLed target Phase.Ask r = ⊤
+IsLed target Phase.Await r = r.control ≡ Some (target, false)
+IsLed target (Phase.Acknowledge state code) r = ⊤
+IsLed target (Phase.Recover code) r = r.control ≡ Some (r.state, true)
+
+-- one of both, for the service in hand
+abbrev pub HandLed : {M : Type 0} → Option (Hand M) → Registers → Type 0
+HandLed None r = ⊤
+HandLed (Some h) r = IsSeen h.target h.phase r ⊎ IsLed h.target h.phase r
+
+-- it stands, for the service in hand
+abbrev pub HandSeen : {M : Type 0} → Option (Hand M) → Registers → Type 0
+HandSeen None r = ⊤
+HandSeen (Some h) r = IsSeen h.target h.phase r
+
+-- A VISIT TAKES THE SERVICE ON: the write of its word that was done, and the read of a status
+pub record TakesOn (R : Type 0) (target : ℕ) (phase : Phase) (r : Registers) : Type 0 where
+  pub word : reads phase ≡ false → suc (phase_gains phase) ≤ phase_gains (phase_written phase)
+  pub status : reads phase ≡ true → suc (phase_gains phase) ≤ progress_gains {R = R} (turn_progress (shown target phase r.state r.refused))
