@@ -4,7 +4,7 @@ use Rattle.std.specs.Prelude.{◌==◌, ◌||◌, not, nat_lt, if◌then◌else�
 use Rattle.std.proofs.lemmas.Bool.Decides.{nat_tests}
 use Rattle.std.proofs.lemmas.Grind.{common_steps}
 use Rattle.arrayvec.specs.ArrayVec.{ArrayVec}
-use Rattle.eoe_switch.specs.Ports.{is_known_target, is_target, taken_at, offered}
+use Rattle.eoe_switch.specs.Ports.{AtPort, is_known_target, is_target, taken_at, offered}
 use Rattle.eoe_switch.specs.Switch.{Switched, Flow, first_port, first_ports, first_switch, ports_behind, bit_where, route_of, learned_from, arrived, queue_of, queue_at, changed, begun_at, downed_at, forwards_behind, flow_behind, flow_of, switched}
 use Rattle.eoe_switch.specs.declared.port.Offered.{Offered}
 use Rattle.eoe_switch.specs.declared.port.Offered.TheVariants.{Not, Taken, Full}
@@ -71,16 +71,24 @@ at_zero at l = grind (arith, common_steps)
 not_follows : (t f : Packets) (at : ℕ) (x : ArrayVec ℕ) (q : Port) → Follows t f q → Follows t (grown Not at x f) q
 not_follows t f at x q h = h
 
+-- what became of it, where this holds and where it doesn't
+abbrev either_of : Bool → AtPort → AtPort → AtPort
+either_of b x y = if b then x else y
+
+abbrev FollowsOn : Packets → Packets → ℕ → ArrayVec ℕ → AtPort → Type 0
+FollowsOn t f at x o = Follows t (grown o.offered at x f) o.port
+
 -- a packet that goes there waits behind the others, or is dropped
-taken_follows : (t f : Packets) (at : ℕ) (x : ArrayVec ℕ) (q : Port) → q.up ≡ true → 1 ≤ at → Follows t f q → Follows t (grown (taken_at at x q).offered at x f) (taken_at at x q).port
-taken_follows t f at x q u l h =
-    subst (λ (b : Bool). Follows t (grown (if b then record { port = q; offered = Taken } else room).offered at x f) (if b then record { port = q; offered = Taken } else room).port) (sym (at_zero at l)) (go (nat_lt (length q.queue) 8))
+taken_follows : (t f : Packets) (at : ℕ) (x : ArrayVec ℕ) (q : Port) → q.up ≡ true → 1 ≤ at → Follows t f q → FollowsOn t f at x (taken_at at x q)
+taken_follows t f at x q u l h = subst (λ (b : Bool). FollowsOn t f at x (either_of b (record { port = q; offered = Taken }) room)) (sym (at_zero at l)) (go (nat_lt (length q.queue) 8))
   where
     longer : Port
     longer = record q { queue = q.queue ++ x ∷ [] }
-    room = if nat_lt (length q.queue) 8 then record { port = longer; offered = Taken } else record { port = q; offered = Full }
 
-    go : (b : Bool) → Follows t (grown (if b then record { port = longer; offered = Taken } else record { port = q; offered = Full }).offered at x f) (if b then record { port = longer; offered = Taken } else record { port = q; offered = Full }).port
+    room : AtPort
+    room = either_of (nat_lt (length q.queue) 8) (record { port = longer; offered = Taken }) (record { port = q; offered = Full })
+
+    go : (b : Bool) → FollowsOn t f at x (either_of b (record { port = longer; offered = Taken }) (record { port = q; offered = Full }))
     go true = record {
       left = h.left ++ x ∷ [];
       all = ap (λ (b : Bool). if b then f else f ++ x ∷ []) (power_some at) ∙ ap (λ z. z ++ x ∷ []) h.all ∙ append_assoc t h.left (x ∷ []);
@@ -89,7 +97,7 @@ taken_follows t f at x q u l h =
     }
     go false = h
 
-offered_follows : (t f : Packets) (route : Route) (at : ℕ) (x : ArrayVec ℕ) (q : Port) → 1 ≤ at → Follows t f q → Follows t (grown (offered route at x q).offered at x f) (offered route at x q).port
+offered_follows : (t f : Packets) (route : Route) (at : ℕ) (x : ArrayVec ℕ) (q : Port) → 1 ≤ at → Follows t f q → FollowsOn t f at x (offered route at x q)
 offered_follows t f route at x q l h = go (is_target route at q.up) refl
   where
     down_not : (b u : Bool) → u ≡ false → (if b || not u then false else is_known_target route.known at) ≡ true → ⊥
@@ -101,9 +109,9 @@ offered_follows t f route at x q l h = go (is_target route at q.up) refl
     by_up true e k = e
     by_up false e k = absurd (down_not (at == route.from) q.up e k)
 
-    go : (b : Bool) → is_target route at q.up ≡ b → Follows t (grown (if is_target route at q.up then taken_at at x q else record { port = q; offered = Not }).offered at x f) (if is_target route at q.up then taken_at at x q else record { port = q; offered = Not }).port
-    go true e = subst (λ (b : Bool). Follows t (grown (if b then taken_at at x q else record { port = q; offered = Not }).offered at x f) (if b then taken_at at x q else record { port = q; offered = Not }).port) (sym e) (taken_follows t f at x q (by_up q.up refl e) l h)
-    go false e = subst (λ (b : Bool). Follows t (grown (if b then taken_at at x q else record { port = q; offered = Not }).offered at x f) (if b then taken_at at x q else record { port = q; offered = Not }).port) (sym e) h
+    go : (b : Bool) → is_target route at q.up ≡ b → FollowsOn t f at x (either_of (is_target route at q.up) (taken_at at x q) (record { port = q; offered = Not }))
+    go true e = subst (λ (b : Bool). FollowsOn t f at x (either_of b (taken_at at x q) (record { port = q; offered = Not }))) (sym e) (taken_follows t f at x q (by_up q.up refl e) l h)
+    go false e = subst (λ (b : Bool). FollowsOn t f at x (either_of b (taken_at at x q) (record { port = q; offered = Not }))) (sym e) h
 
 -- the oldest is taken
 abbrev first_of : Option (ArrayVec ℕ) → Packets
@@ -187,7 +195,7 @@ module _ (p : ℕ) (behind : 1 ≤ p) where
   event_follows flow (Arrive port x) t h =
       let s = flow.switch in
       let route = route_of (learned_from s.learned port x.items) port x.items in
-      subst (λ z. FollowsAt p (ports_behind route x 0 s.ports) (forwards_behind route x 0 s.ports flow.forwards) z) (sym (append-nil t)) (arrives_at route x 0 p s.ports flow.forwards t behind h)
+      subst (λ z. FollowsAt p (ports_behind route x 0 s.ports) (forwards_behind route x 0 s.ports flow.forwards) z) (sym (append-nil t)) (arrives_at route x 0 p s.ports flow.forwards t (omega (arith, behind)) h)
   event_follows flow (Begun j) t h = go (j == p) refl
     where
       after : Port → Port

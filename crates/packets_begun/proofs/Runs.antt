@@ -237,27 +237,27 @@ length_both : (xs ys : List (ArrayVec ℕ)) → length (xs ++ ys) ≡ length xs 
 length_both [] ys = omega arith
 length_both (x ∷ xs) ys = let rest = length_both xs ys in omega (arith, rest)
 
+-- what one frame more takes
+frame_takes : (ports : List (Option ℕ)) (many : ℕ) (us : List Turn) (before : List SwitchEvent → Type 0) (es : List SwitchEvent) (x : BegunOn before ports many us es) → taken_in (first_switch many) es ≡ taken_in (first_switch many) x.old ++ begins_in ports (begun_of us) x.visited
+frame_takes ports many us before es x =
+    let s0 = first_switch many in
+    let s1 = switch_behind s0 x.old in
+    let is : (switched many x.old).switch ≡ s1 = flow_switch _ x.old in
+    ap (λ z. taken_in s0 z) x.whole ∙ taken_append s0 x.old (x.making ++ x.behind) ∙ ap (λ z. taken_in s0 x.old ++ z)
+    (taken_append s1 x.making x.behind ∙ (λ i. (ap (λ z. taken_in z x.making) (sym is) ∙ x.taken) i ++ none_taken (switch_behind s1 x.making) x.behind x.none i) ∙ append-nil (begins_in ports (begun_of us) x.visited))
+
 -- ---- OVER A RUN
 module _ {lens : ℕ → Lens} {recover retry : ℕ} (ports : List (Option ℕ)) (many k p : ℕ) (own : IsOwn ports k p) where
-  -- what one frame more takes
-  frame_takes : (us : List Turn) (before : List SwitchEvent → Type 0) (es : List SwitchEvent) (x : BegunOn before ports many us es) → taken_in (first_switch many) es ≡ taken_in (first_switch many) x.old ++ begins_in ports (begun_of us) x.visited
-  frame_takes us before es x =
-      let s0 = first_switch many in
-      let s1 = switch_behind s0 x.old in
-      let is : (switched many x.old).switch ≡ s1 = flow_switch _ x.old in
-      ap (λ z. taken_in s0 z) x.whole ∙ taken_append s0 x.old (x.making ++ x.behind) ∙ ap (λ z. taken_in s0 x.old ++ z)
-      (taken_append s1 x.making x.behind ∙ (λ i. (ap (λ z. taken_in z x.making) (sym is) ∙ x.taken) i ++ none_taken (switch_behind s1 x.making) x.behind x.none i) ∙ append-nil (begins_in ports (begun_of us) x.visited))
-
   pub run_all : {first : List Leads} {fs : List Exchanged} {missed : ℕ} {as' : List Leads} (led : IsLed lens recover retry first fs missed as') (es : List SwitchEvent) → AreBegun ports many led es → all_at p (taken_in (first_switch many) es) ≡ packets_begun led k
   run_all IsLed.start es x = ap (λ z. all_at p (taken_in (first_switch many) z)) x
   run_all (IsLed.on fs missed as' f us led frame) es x =
-      ap (λ z. all_at p z) (frame_takes us (λ old. AreBegun ports many led old) es x) ∙ all_append p (taken_in (first_switch many) x.old) (begins_in ports (begun_of us) x.visited)
+      ap (λ z. all_at p z) (frame_takes ports many us (λ old. AreBegun ports many led old) es x) ∙ all_append p (taken_in (first_switch many) x.old) (begins_in ports (begun_of us) x.visited)
       ∙ (λ i. run_all led x.old x.was i ++ frame_all ports k p own (begun_of us) x.visited x.once x.others i)
 
   pub run_many : {first : List Leads} {fs : List Exchanged} {missed : ℕ} {as' : List Leads} (led : IsLed lens recover retry first fs missed as') (es : List SwitchEvent) → AreBegun ports many led es → many_at p (taken_in (first_switch many) es) ≡ length (packets_begun led k)
   run_many IsLed.start es x = ap (λ z. many_at p (taken_in (first_switch many) z)) x
   run_many (IsLed.on fs missed as' f us led frame) es x =
-      ap (λ z. many_at p z) (frame_takes us (λ old. AreBegun ports many led old) es x) ∙ many_append p (taken_in (first_switch many) x.old) (begins_in ports (begun_of us) x.visited)
+      ap (λ z. many_at p z) (frame_takes ports many us (λ old. AreBegun ports many led old) es x) ∙ many_append p (taken_in (first_switch many) x.old) (begins_in ports (begun_of us) x.visited)
       ∙ (λ i. run_many led x.old x.was i + frame_many ports k p own (begun_of us) x.visited x.once x.others i) ∙ sym (length_both (packets_begun led k) (packet_begun (begun_of us k)))
 
   pub run_begun : {first : List Leads} {fs : List Exchanged} {missed : ℕ} {as' : List Leads} (led : IsLed lens recover retry first fs missed as') (es : List SwitchEvent) → AreBegun ports many led es → begun_at p es ≡ length (packets_begun led k)
@@ -270,7 +270,7 @@ module _ {lens : ℕ → Lens} {recover retry : ℕ} (ports : List (Option ℕ))
       (w.0, w.1 ∙ ap (λ z. z ++ w.0) (run_all led es x))
 
 -- ---- ONE FRAME MORE, as a master lists it
-none_behind : (ports : List (Option ℕ)) (packets : ℕ → List (List ℕ)) (goes : ℕ → Bool) (visit : List ℕ) (es : List SwitchEvent) (fate : Fate) → (fate ≡ Pass → es ≡ arrivals_in ports packets visit) → ((after : ℕ) → fate ≡ Lost after → es ≡ downs_in ports goes visit) → All IsNoBegun es
+pub none_behind : (ports : List (Option ℕ)) (packets : ℕ → List (List ℕ)) (goes : ℕ → Bool) (visit : List ℕ) (es : List SwitchEvent) (fate : Fate) → (fate ≡ Pass → es ≡ arrivals_in ports packets visit) → ((after : ℕ) → fate ≡ Lost after → es ≡ downs_in ports goes visit) → All IsNoBegun es
 none_behind ports packets goes visit es Pass a d = subst (λ z. All IsNoBegun z) (sym (a refl)) (arrivals_none ports packets visit)
 none_behind ports packets goes visit es (Lost after) a d = subst (λ z. All IsNoBegun z) (sym (d after refl)) (downs_none ports goes visit)
 
