@@ -262,18 +262,6 @@ none_waits l place (Some Coming.Mail) true s d f e = f
 none_waits l place (Some Coming.Script) true s d f e = f
 none_waits l place (Some (Coming.State target)) true s d f e = f
 
--- whatever comes where none waits
-pub first_any : (l : Lan) (place : ℕ) (coming : Option Coming) → forwarded l.switch l.ports.items place ≡ [] → PacketFirst l place coming
-first_any l place None e = tt
-first_any l place (Some Coming.Packet) e = tt
-first_any l place (Some Coming.Mail) e = e
-first_any l place (Some Coming.Script) e = e
-first_any l place (Some (Coming.State target)) e = e
-
-pub none_there : (ps : List (ArrayVec ℕ)) → nat_lt 0 (length ps) ≡ false → ps ≡ []
-none_there [] e = refl
-none_there (p ∷ ps) e = absurd (cc)
-
 -- what is so of each is so
 pub steps_any : {S : Type 0} (Q : Type 0) (i : ℕ) (xs ys : List S) → StepsAt (λ x y. Q) i xs ys → Q
 steps_any Q zero [] ys e = absurd e
