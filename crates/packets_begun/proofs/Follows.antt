@@ -1,6 +1,6 @@
 -- The packets taken at a port are the first of those that were forwarded to it.
 use Rattle.std.proofs.Common.{◌≡◌, ◌≤◌, ◌<◌, ℕ, zero, suc, ◌+◌, ◌*◌, ◌^◌, Bool, true, false, Option, Some, None, List, [], ◌∷◌, ◌++◌, refl, sym, ap, subst, ◌∙◌, arith, length, drop, replicate, append_assoc, append-nil}
-use Rattle.std.specs.Prelude.{◌==◌, ◌||◌, not, nat_lt, if◌then◌else◌, slice_get, slice_set}
+use Rattle.std.specs.Prelude.{⊤, ◌==◌, ◌||◌, not, nat_lt, if◌then◌else◌, slice_get, slice_set}
 use Rattle.std.proofs.lemmas.Bool.Decides.{nat_tests}
 use Rattle.std.proofs.lemmas.Grind.{common_steps}
 use Rattle.arrayvec.specs.ArrayVec.{ArrayVec}
@@ -274,3 +274,71 @@ pub first_taken : (n p : ℕ) (es : List SwitchEvent) → 1 ≤ p → p < n → 
 first_taken n p es l m =
     left_at p (switched n es).switch.ports (switched n es).forwards (all_at p (taken_in (first_switch n) es))
     (flow_follows p l (record { switch = first_switch n; forwards = replicate n []; drops = 0 }) es [] (first_follows n p m))
+
+-- ---- a port that is down, at which nothing waits
+abbrev IsClosed : ℕ → List Port → Type 0
+IsClosed p [] = ⊤
+IsClosed zero (q ∷ qs) = (q.up ≡ false) × (q.queue ≡ [])
+IsClosed (suc p) (q ∷ qs) = IsClosed p qs
+
+-- nothing goes there
+offered_closed : (route : Route) (at : ℕ) (x : ArrayVec ℕ) (q : Port) → (q.up ≡ false) × (q.queue ≡ []) → ((offered route at x q).port.up ≡ false) × ((offered route at x q).port.queue ≡ [])
+offered_closed route at x q c = go (is_target route at q.up) (not_there (at == route.from) q.up c.0)
+  where
+    not_there : (b u : Bool) → u ≡ false → (if b || not u then false else is_known_target route.known at) ≡ true → ⊥
+    not_there true u e k = absurd (cc)
+    not_there false true e k = absurd (cc)
+    not_there false false e k = absurd (cc)
+
+    go : (b : Bool) → (b ≡ true → ⊥) → ((either_of b (taken_at at x q) (record { port = q; offered = Not })).port.up ≡ false) × ((either_of b (taken_at at x q) (record { port = q; offered = Not })).port.queue ≡ [])
+    go true n = absurd (n refl)
+    go false n = c
+
+arrives_closed : (route : Route) (x : ArrayVec ℕ) (at p : ℕ) (qs : List Port) → IsClosed p qs → IsClosed p (ports_behind route x at qs)
+arrives_closed route x at p [] c = tt
+arrives_closed route x at zero (q ∷ qs) c = offered_closed route at x q c
+arrives_closed route x at (suc p) (q ∷ qs) c = arrives_closed route x (at + 1) p qs c
+
+changed_closed : (g : Port → Port) (j p : ℕ) (qs : List Port) → ((q : Port) → (q.up ≡ false) × (q.queue ≡ []) → ((g q).up ≡ false) × ((g q).queue ≡ [])) → IsClosed p qs → IsClosed p (changed g qs j (slice_get qs j))
+changed_closed g j p [] h c = tt
+changed_closed g zero zero (q ∷ qs) h c = h q c
+changed_closed g zero (suc p) (q ∷ qs) h c = c
+changed_closed g (suc j) zero (q ∷ qs) h c = subst (λ z. IsClosed zero z) (sym (changed_behind g q qs j (slice_get qs j))) c
+changed_closed g (suc j) (suc p) (q ∷ qs) h c = subst (λ z. IsClosed (suc p) z) (sym (changed_behind g q qs j (slice_get qs j))) (changed_closed g j p qs h c)
+
+-- it stays so
+event_closed : (p : ℕ) (s : Switched) (e : SwitchEvent) → IsClosed p s.ports → IsClosed p (switch_on s e).ports
+event_closed p s (Arrive port x) c = arrives_closed (route_of (learned_from s.learned port x.items) port x.items) x 0 p s.ports c
+event_closed p s (Begun j) c = changed_closed (λ (q : Port). record q { queue = drop 1 q.queue }) j p s.ports (λ q d. (d.0, ap (λ (z : Packets). drop 1 z) d.1)) c
+event_closed p s (Down j) c = changed_closed (λ (q : Port). record { up = false; queue = [] }) j p s.ports (λ q d. (refl, refl)) c
+
+-- and nothing is taken
+closed_queue : (p : ℕ) (qs : List Port) → IsClosed p qs → queue_of (slice_get qs p) ≡ []
+closed_queue p [] c = refl
+closed_queue zero (q ∷ qs) c = c.1
+closed_queue (suc p) (q ∷ qs) c = closed_queue p qs c
+
+closed_taken : (p : ℕ) (s : Switched) (e : SwitchEvent) → IsClosed p s.ports → all_at p (taken_by s e) ≡ []
+closed_taken p s (Arrive port x) c = refl
+closed_taken p s (Begun j) c = go (j == p) refl (slice_get (queue_at s j) 0) refl
+  where
+    none : (b : Bool) → (j == p) ≡ b → (o : Option (ArrayVec ℕ)) → slice_get (queue_at s j) 0 ≡ o → one_at p (Some j) o ≡ []
+    none b e None f = refl
+    none true e (Some x) f =
+        let q : queue_at s j ≡ [] = ap (λ z. queue_of (slice_get s.ports z)) (equal_port j p e) ∙ closed_queue p s.ports c in
+        absurd (let w = sym (ap (λ (z : Packets). slice_get z 0) q) ∙ f in cc)
+    none false e (Some x) f = ap (λ (b : Bool). if b then x ∷ [] else []) e
+
+    go : (b : Bool) → (j == p) ≡ b → (o : Option (ArrayVec ℕ)) → slice_get (queue_at s j) 0 ≡ o → one_at p (Some j) (slice_get (queue_at s j) 0) ++ [] ≡ []
+    go b e o f = append-nil (one_at p (Some j) (slice_get (queue_at s j) 0)) ∙ ap (λ z. one_at p (Some j) z) f ∙ none b e o f
+closed_taken p s (Down j) c = refl
+
+pub closed_none : (p : ℕ) (s : Switched) (es : List SwitchEvent) → IsClosed p s.ports → all_at p (taken_in s es) ≡ []
+closed_none p s [] c = refl
+closed_none p s (e ∷ es) c =
+    all_append p (taken_by s e) (taken_in (switch_on s e) es) ∙ (λ i. closed_taken p s e c i ++ closed_none p (switch_on s e) es (event_closed p s e c) i)
+
+pub down_closed : (p : ℕ) (qs : List Port) → IsClosed p (changed (λ (q : Port). record { up = false; queue = [] }) qs p (slice_get qs p))
+down_closed p [] = tt
+down_closed zero (q ∷ qs) = (refl, refl)
+down_closed (suc p) (q ∷ qs) = subst (λ z. IsClosed (suc p) z) (sym (changed_behind (λ (q : Port). record { up = false; queue = [] }) q qs p (slice_get qs p))) (down_closed p qs)
