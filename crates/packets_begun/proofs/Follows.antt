@@ -1,11 +1,11 @@
 -- The packets taken at a port are the first of those that were forwarded to it.
-use Rattle.std.proofs.Common.{◌≡◌, ◌≤◌, ◌<◌, ℕ, zero, suc, ◌+◌, ◌*◌, ◌^◌, Bool, true, false, Option, Some, None, List, [], ◌∷◌, ◌++◌, refl, sym, ap, subst, ◌∙◌, arith, length, drop, replicate, append_assoc, append-nil}
-use Rattle.std.specs.Prelude.{⊤, ◌==◌, ◌||◌, not, nat_lt, if◌then◌else◌, slice_get, slice_set}
+use Rattle.std.proofs.Common.{◌≡◌, ◌≤◌, ◌<◌, ℕ, zero, suc, ◌+◌, ◌^◌, Bool, true, false, Option, Some, None, List, [], ◌∷◌, ◌++◌, refl, sym, ap, subst, ◌∙◌, arith, length, drop, replicate, append_assoc, append-nil}
+use Rattle.std.specs.Prelude.{⊤, ◌==◌, ◌||◌, not, nat_lt, if◌then◌else◌, slice_get}
 use Rattle.std.proofs.lemmas.Bool.Decides.{nat_tests}
 use Rattle.std.proofs.lemmas.Grind.{common_steps}
 use Rattle.arrayvec.specs.ArrayVec.{ArrayVec}
 use Rattle.eoe_switch.specs.Ports.{AtPort, is_known_target, is_target, taken_at, offered}
-use Rattle.eoe_switch.specs.Switch.{Switched, Flow, first_port, first_ports, first_switch, ports_behind, bit_where, route_of, learned_from, arrived, queue_of, queue_at, changed, begun_at, downed_at, forwards_behind, flow_behind, flow_of, switched}
+use Rattle.eoe_switch.specs.Switch.{Switched, Flow, first_port, first_switch, ports_behind, bit_where, route_of, learned_from, queue_of, queue_at, changed, forwards_behind, flow_behind, flow_of, switched}
 use Rattle.eoe_switch.specs.declared.port.Offered.{Offered}
 use Rattle.eoe_switch.specs.declared.port.Offered.TheVariants.{Not, Taken, Full}
 use Rattle.eoe_switch.specs.declared.port.Port.{Port}

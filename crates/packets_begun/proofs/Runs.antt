@@ -1,5 +1,5 @@
 -- The packets that begin at a slave's port over a run.
-use Rattle.std.proofs.Common.{◌≡◌, ◌≤◌, ◌<◌, ℕ, zero, suc, ◌+◌, Bool, true, false, Option, Some, None, List, [], ◌∷◌, ◌++◌, refl, sym, ap, subst, ◌∙◌, arith, length, append_assoc, append-nil}
+use Rattle.std.proofs.Common.{◌≡◌, ◌≤◌, ◌<◌, ℕ, ◌+◌, Bool, true, false, Option, Some, None, List, [], ◌∷◌, ◌++◌, refl, sym, ap, subst, ◌∙◌, arith, length, append-nil}
 use Rattle.std.specs.Prelude.{◌==◌, if◌then◌else◌, slice_get, All}
 use Rattle.std.proofs.lemmas.Bool.Decides.{nat_tests}
 use Rattle.std.proofs.lemmas.List.Elements.{All-nil, All-cons, All-head, All-tail}
@@ -9,17 +9,16 @@ use Rattle.eoe_switch.specs.declared.switching.SwitchEvent.{SwitchEvent}
 use Rattle.eoe_switch.specs.declared.switching.SwitchEvent.TheVariants.{Arrive, Begun, Down}
 use Rattle.life_runs.specs.of_frame_view.View.{Lens}
 use Rattle.life_runs.specs.of_life_frames.of_state_exchange.Stated.{Service}
-use Rattle.life_runs.specs.Led.{Exchanged, Leads, Turn, IsLed, IsLedFrame}
+use Rattle.life_runs.specs.Led.{Exchanged, Leads, Turn, IsLed}
 use Rattle.master_hand.specs.of_eoe_model.Client as EoeClient
 use Rattle.master_hand.specs.Spoken.{Asked, sdo, file, drive, net, passed}
-use Rattle.master_node.specs.Arrivals.{ComeIn, arrive_where, arrive_at, arrive_by, arrivals_in}
+use Rattle.master_node.specs.Arrivals.{arrive_where, arrive_at, arrive_by, arrivals_in}
 use Rattle.master_node.specs.Begins as Begins
 use Rattle.master_node.specs.Begins.{PacketsBegin, begins_by, begins_in, begun_of, oldest_at, packet_asked, switch_behind, switch_on, taken_by, taken_in}
-use Rattle.master_node.specs.Downs.{GoDown, down_by, downs_in}
+use Rattle.master_node.specs.Downs.{down_by, downs_in}
 use Rattle.master_node.specs.Forwards.{port_by, waiting_by}
 use Rattle.master_node.specs.Happened.{events_of}
 use Rattle.master_node.specs.declared.lan.Lan.{Lan}
-use Rattle.master_node.specs.declared.node.MasterNode.{MasterNode}
 use Rattle.master_tour.specs.Made.{is_in}
 use Rattle.master_tour.specs.Orders.{AreOnce}
 use Rattle.packets_begun.specs.Over.{AreBegun, BegunOn, IsNoBegun, begun_at, begun_by_event, forwarded_to, packet_begun, packet_of, packets_begun}
