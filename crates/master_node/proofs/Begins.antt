@@ -23,10 +23,10 @@ use Rattle.master_tour.specs.of_life_model.Lives.{Spot}
 use Rattle.master_tour.specs.Walks.{StepsAt}
 use Rattle.master_tour.specs.declared.stop.Stop.{Stop}
 use Rattle.segment_plan.specs.declared.service.Service as Plan
-use Rattle.master_node.specs.Begins.{Taken, switch_on, switch_behind, oldest_by, taken_by, taken_in, begins_by, begins_in, begun_of, begun_for, HasTaken, TakesOn, taken_where, LaysOldest, HasBegun, PacketsBegin}
+use Rattle.master_node.specs.Begins.{Taken, switch_on, switch_behind, oldest_by, taken_by, taken_in, begins_by, begins_in, begun_of, begun_for, HasTaken, TakesOn, taken_where, LaysOldest, NoneMore, PacketFirst, begins_other, HasBegun, PacketsBegin}
 use Rattle.master_node.specs.Coming.{IsComing, IsLaid, next_of, wish_of}
 use Rattle.master_node.specs.Filling.{IsAmong}
-use Rattle.master_node.specs.Forwards.{port_by, waiting_by}
+use Rattle.master_node.specs.Forwards.{forwarded, port_by, waiting_by}
 use Rattle.master_node.specs.Happened.{events_of}
 use Rattle.master_node.specs.Shows.{lived_of}
 use Rattle.master_node.specs.declared.coming.Coming.{Coming}
@@ -102,6 +102,7 @@ begun_nothing from left as' l h = record {
   over = λ k e. absurd (cc);
   took = h;
   others = λ k port e. ap (λ z. begins_by port z) (nothing_for as' k);
+  quiet = λ k e. absurd (let w = sym (ap (λ z. begins_other z) (nothing_for as' k)) ∙ e in cc);
 }
 
 pub begun_on : (from : Switched) (left : List ℕ) (begun : ℕ → Option (Service Asked)) (as' : List Leads) (l l' : Lan) → l' ≡ l → HasBegun from left begun as' l → HasBegun from left begun as' l'
@@ -162,8 +163,8 @@ module _ (begun : ℕ → Option (Service Asked)) (h : ℕ) (b : Option (Service
 
 -- THE VISIT of the slave at a place goes on with it
 pub begun_step : (from : Switched) (left next : List ℕ) (begun : ℕ → Option (Service Asked)) (as' : List Leads) (l l' : Lan) (p h : ℕ) (b : Option (Service Asked)) (more : List Taken) → AreDistinct (map lived_of as') → spot_at as' p ≡ Some h → length l.happened < 17 →
-    is_in p left ≡ true → is_in p next ≡ false → ((k : ℕ) → is_in k next ≡ true → is_in k left ≡ true) → more ≡ begins_by (port_by (slice_get l.ports.items p)) b → TakesOn more l l' → HasBegun from left begun as' l → HasBegun from next (begun_at begun h b) as' l'
-begun_step from left next begun as' l l' p h b more d e room at over fewer m t x =
+    is_in p left ≡ true → is_in p next ≡ false → ((k : ℕ) → is_in k next ≡ true → is_in k left ≡ true) → more ≡ begins_by (port_by (slice_get l.ports.items p)) b → TakesOn more l l' → NoneMore l l' → (begins_other b ≡ true → forwarded l.switch l.ports.items p ≡ []) → HasBegun from left begun as' l → HasBegun from next (begun_at begun h b) as' l'
+begun_step from left next begun as' l l' p h b more d e room at over fewer m t less waits x =
     let now = begun_at begun h b in
     let new : is_in p x.visited ≡ false = not_in p x.visited (λ w. true_false (is_in p left) at (x.over p w)) in
     let apart : (k : ℕ) → is_in k x.visited ≡ true → k ≡ p → ⊥ = λ k w q. true_false (is_in p x.visited) (subst (λ z. is_in z x.visited ≡ true) q w) new in
@@ -181,7 +182,16 @@ begun_step from left next begun as' l l' p h b more d e room at over fewer m t x
           let out : is_in k x.visited ≡ false = not_in k x.visited (λ v. true_false (is_in k (x.visited ++ p ∷ [])) (in_first k x.visited (p ∷ []) v) w) in
           let not_p : k ≡ p → ⊥ = λ q. true_false (is_in k (x.visited ++ p ∷ [])) (in_last k x.visited (p ∷ []) (in_here k p [] (eq-eqb k p q))) w in
           ap (λ z. begins_by port z) (at_other begun h b as' p k d e not_p) ∙ x.others k port out;
+      quiet = λ k w. less k (was_quiet k (k == p) refl w);
     }
+  where
+    was_quiet : (k : ℕ) (z : Bool) → (k == p) ≡ z → begins_other (begun_for (begun_at begun h b) as' k) ≡ true → forwarded l.switch l.ports.items k ≡ []
+    was_quiet k true f w =
+        let q = eqb-true k p f in
+        let same : begun_for (begun_at begun h b) as' k ≡ b = ap (λ j. begun_for (begun_at begun h b) as' j) q ∙ at_place begun h b as' p e in
+        subst (λ j. forwarded l.switch l.ports.items j ≡ []) (sym q) (waits (ap (λ z. begins_other z) (sym same) ∙ w))
+    was_quiet k false f w =
+        x.quiet k (ap (λ z. begins_other z) (sym (at_other begun h b as' p k d e (λ q. true_false (k == p) (eq-eqb k p q) f))) ∙ w)
 
 -- the turns of a frame
 pub packets_begin : (from : Switched) (left : List ℕ) (begun : ℕ → Option (Service Asked)) (as' : List Leads) (us : List Turn) (l : Lan) → ((k : ℕ) → begun_of us k ≡ begun_for begun as' k) → HasBegun from left begun as' l → PacketsBegin from us l
@@ -190,6 +200,7 @@ packets_begin from left begun as' us l h x = record {
   once = x.once;
   taken = x.took.taken_is ∙ begins_same l.ports.items (begun_for begun as') (begun_of us) x.visited (λ k e. h k);
   others = λ k port e. ap (λ z. begins_by port z) (h k) ∙ x.others k port e;
+  quiet = λ k e. x.quiet k (ap (λ z. begins_other z) (sym (h k)) ∙ e);
 }
 
 -- ---- what leaves the switch
@@ -236,6 +247,20 @@ leaves_here l place (Some Coming.Script) true s c d r o =
     let w = s.side.hand.laying in
     sym (ap (λ z. begins_by (port_by (slice_get l.ports.items place)) (wished Wish.Mails (ready_by z w))) d ∙ next_not w.areas.out (port_by (slice_get l.ports.items place)) (slice_get w.script w.number))
 leaves_here l place (Some (Coming.State target)) true s c d r o = refl
+
+-- where another service came none waits
+packet_only : (w : Waiting) → (w.laid ≡ Laid.Packet) ⊎ (w.laid ≡ Laid.Nothing) → begins_other (wished Wish.Mails (ready_of w)) ≡ true → ⊥
+packet_only w (inl k) e = let f = sym (ap (λ z. begins_other (wished Wish.Mails (ready_by z w))) k) ∙ e in cc
+packet_only w (inr k) e = let f = sym (ap (λ z. begins_other (wished Wish.Mails (ready_by z w))) k) ∙ e in cc
+
+pub none_waits : {G : Ghosts InHand} (l : Lan) (place : ℕ) (coming : Option Coming) (result : Bool) (s : Stop InHand G) → IsLaid coming s.side.hand.laying.laid → PacketFirst l place coming → begins_other (wish_begun result (wish_of coming) (ready_of s.side.hand.laying)) ≡ true →
+    forwarded l.switch l.ports.items place ≡ []
+none_waits l place coming false s d f e = absurd (cc)
+none_waits l place None true s d f e = absurd (cc)
+none_waits l place (Some Coming.Packet) true s d f e = absurd (packet_only s.side.hand.laying d e)
+none_waits l place (Some Coming.Mail) true s d f e = f
+none_waits l place (Some Coming.Script) true s d f e = f
+none_waits l place (Some (Coming.State target)) true s d f e = f
 
 -- what is so of each is so
 pub steps_any : {S : Type 0} (Q : Type 0) (i : ℕ) (xs ys : List S) → StepsAt (λ x y. Q) i xs ys → Q

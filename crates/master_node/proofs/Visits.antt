@@ -1,5 +1,5 @@
 -- A VISIT: what comes into hand of one slave, and what stays of all others.
-use Rattle.std.proofs.Common.{◌≡◌, ◌<◌, ℕ, suc, Bool, true, false, Option, Some, None, List, refl, sym, ap, ◌∙◌, subst, arith, length}
+use Rattle.std.proofs.Common.{◌≡◌, ◌<◌, ℕ, suc, Bool, true, false, Option, Some, None, List, [], refl, sym, ap, ◌∙◌, subst, arith, length}
 use Rattle.std.specs.Prelude.{is_some, slice_get, map, IfSome, if◌then◌else◌}
 use Rattle.life_runs.specs.of_frame_view.View.{Lens}
 use Rattle.life_runs.specs.of_life_frames.Shares.{Lived, AllFrom, AreDistinct}
@@ -17,15 +17,15 @@ use Rattle.master_tour.specs.Walks.{EachPair, StepsAt}
 use Rattle.master_tour.specs.declared.stop.Stop.{Stop}
 use Rattle.segment_plan.specs.declared.service.Service as Plan
 use Rattle.master_duty.specs.of_state_exchange.Stated.{Service}
-use Rattle.master_node.specs.Begins.{LaysOldest, begins_by, taken_where}
+use Rattle.master_node.specs.Begins.{LaysOldest, PacketFirst, begins_by, begins_other, taken_where}
 use Rattle.master_node.specs.Coming.{IsComing, IsLaid, PassesBy, CameBy, next_of, wish_of}
 use Rattle.master_node.specs.Filling.{IsAmong, StopFills}
-use Rattle.master_node.specs.Forwards.{port_by}
+use Rattle.master_node.specs.Forwards.{forwarded, port_by}
 use Rattle.master_node.specs.Kept.{StopKept, StopStays}
 use Rattle.master_node.specs.Shows.{lived_of}
 use Rattle.master_node.specs.declared.coming.Coming.{Coming}
 use Rattle.master_node.specs.declared.lan.Lan.{Lan}
-use Rattle.master_node.proofs.Begins.{leaves_here, spot_at, spot_here, steps_any}
+use Rattle.master_node.proofs.Begins.{leaves_here, none_waits, spot_at, spot_here, steps_any}
 use Rattle.master_node.proofs.Cames.{NumberBehind, came_by, ready_unpassed, got_inside}
 use Rattle.master_node.proofs.Fills.{from_each, frame_each, fills_kept, begun_at, begun_here, begun_comes, among_step}
 use Rattle.master_node.proofs.Kepts.{stop_same}
@@ -183,6 +183,13 @@ module _ {G : Ghosts InHand} (coming : Option Coming) (result : Bool) (place : �
       steps_any same place s2 s3
       (steps_mid (λ s t. LaysOldest l place coming t) (λ s t. Visited coming result (slice_get s2 place) s t) (λ s t. same) place s1 s2 s3
       (λ r s t a b. leaves_here l place coming result s b.comes b.laid b.began.ready a ∙ ap (λ z. begins_by (port_by (slice_get l.ports.items place)) (came_of z)) (sym b.is)) oldest all_visited)
+
+  -- and none waits there, where that is no packet
+  pub waits_none : (l : Lan) → PacketFirst l place coming → begins_other what ≡ true → forwarded l.switch l.ports.items place ≡ []
+  waits_none l first e =
+      let none = forwarded l.switch l.ports.items place ≡ [] in
+      steps_any none place s2 s3
+      (steps_map (λ s t. Visited coming result (slice_get s2 place) s t) (λ s t. none) place s2 s3 (λ s t b. none_waits l place coming result s b.laid first (ap (λ z. begins_other (came_of z)) (sym b.is) ∙ e)) all_visited)
 
   pub among : (lens : ℕ → Lens) (begun : ℕ → Option (Service Asked)) (left next : List ℕ) (as' : List Leads) → ((k : ℕ) → is_in k next ≡ true → is_in k left ≡ true) → is_in place left ≡ true → is_in place next ≡ false → AreDistinct (map lived_of as') →
       AllFrom (λ i a s. IsAmong lens begun left i a s) 0 as' s0 → AllFrom (λ i a s. IsAmong lens (now begun) next i a s) 0 as' s4

@@ -123,6 +123,34 @@ LaysOldest l place (Some Coming.Mail) t = ⊤
 LaysOldest l place (Some Coming.Script) t = ⊤
 LaysOldest l place (Some (Coming.State target)) t = ⊤
 
+-- where no packet waits for a slave none does behind
+abbrev pub NoneMore : Lan → Lan → Type 0
+NoneMore l l' = (k : ℕ) → forwarded l.switch l.ports.items k ≡ [] → forwarded l'.switch l'.ports.items k ≡ []
+
+-- packets come first: nothing else may come while one waits for the slave at a place
+abbrev pub PacketFirst : Lan → ℕ → Option Coming → Type 0
+PacketFirst l place None = ⊤
+PacketFirst l place (Some Coming.Packet) = ⊤
+PacketFirst l place (Some Coming.Mail) = forwarded l.switch l.ports.items place ≡ []
+PacketFirst l place (Some Coming.Script) = forwarded l.switch l.ports.items place ≡ []
+PacketFirst l place (Some (Coming.State target)) = forwarded l.switch l.ports.items place ≡ []
+
+-- a service that is no packet
+abbrev pub is_other : Asked → Bool
+is_other (sdo q) = true
+is_other (file q) = true
+is_other (drive q) = true
+is_other (net (EoeClient.set_ip block)) = true
+is_other (net EoeClient.get_ip) = true
+is_other (net (EoeClient.packet octets frame)) = false
+is_other (passed m) = true
+
+-- such a one came into hand
+abbrev pub begins_other : Option (Service Asked) → Bool
+begins_other None = false
+begins_other (Some (Service.Mails q)) = is_other q
+begins_other (Some (Service.State target)) = true
+
 -- WHAT HAS BEGUN SO FAR while a frame is made, where the visits of these places are still to come
 pub record HasBegun (from : Switched) (left : List ℕ) (begun : ℕ → Option (Service Asked)) (as' : List Leads) (l : Lan) : Type 0 where
   pub visited : List ℕ
@@ -130,11 +158,13 @@ pub record HasBegun (from : Switched) (left : List ℕ) (begun : ℕ → Option 
   pub over : (k : ℕ) → is_in k visited ≡ true → is_in k left ≡ false
   pub took : HasTaken from (begins_in l.ports.items (begun_for begun as') visited) l
   pub others : (k : ℕ) (port : Option ℕ) → is_in k visited ≡ false → begins_by port (begun_for begun as' k) ≡ []
+  pub quiet : (k : ℕ) → begins_other (begun_for begun as' k) ≡ true → forwarded l.switch l.ports.items k ≡ []
 
 -- JUST THE PACKETS THAT CAME INTO HAND BEGIN, of the slaves that were visited, in order, each slave once: each is the oldest that waits at the port of its
--- slave, as the switch then stands
+-- slave, as the switch then stands; and where another service came into hand none waits there
 pub record PacketsBegin (from : Switched) (us : List Turn) (l : Lan) : Type 0 where
   pub visited : List ℕ
   pub once : AreOnce visited
   pub taken : taken_in from (events_of l.happened) ≡ begins_in l.ports.items (begun_of us) visited
   pub others : (k : ℕ) (port : Option ℕ) → is_in k visited ≡ false → begins_by port (begun_of us k) ≡ []
+  pub quiet : (k : ℕ) → begins_other (begun_of us k) ≡ true → forwarded l.switch l.ports.items k ≡ []

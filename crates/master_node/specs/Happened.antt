@@ -1,7 +1,7 @@
 -- WHAT HAPPENED AT THE SWITCH from its beginning on, and the switch that a master has behind it.
-use Rattle.std.specs.Prelude.{◌≡◌, ◌≤◌, ◌<◌, ℕ, ◌+◌, ◌%◌, ◌==◌, if◌then◌else◌, List, [], ◌∷◌, ◌++◌, map, take, length, All}
+use Rattle.std.specs.Prelude.{◌≡◌, ◌≤◌, ◌<◌, ℕ, ◌+◌, ◌%◌, ◌==◌, Bool, if◌then◌else◌, List, [], ◌∷◌, ◌++◌, map, take, length, All}
 use Rattle.arrayvec.specs.ArrayVec.{ArrayVec}
-use Rattle.eoe_switch.specs.Switch.{switched, arrived}
+use Rattle.eoe_switch.specs.Switch.{Switched, switched, arrived}
 use Rattle.eoe_switch.specs.declared.switching.SwitchEvent.{SwitchEvent}
 use Rattle.eoe_switch.specs.declared.switching.SwitchEvent.TheVariants.{Arrive, Begun, Down}
 use Rattle.master_node.specs.Ports.{IsAtPort}

@@ -109,7 +109,7 @@ impl Lan {
     ghost use Rattle.master_node.specs.Downs.{Lists, down_by};
     ghost use Rattle.master_node.specs.Arrivals.{arrive_by};
     ghost use Rattle.master_node.specs.Made.{Makes};
-    ghost use Rattle.master_node.specs.Begins.{TakesOn, oldest_by};
+    ghost use Rattle.master_node.specs.Begins.{NoneMore, TakesOn, oldest_by};
 
     /// A switch with a port for the host and one for each slave that serves EoE, all of them up, and the packets of the host.
     pub fn new(alloc: Global, plan: &Scenario) -> Result<Lan, NoMemory>
@@ -242,6 +242,7 @@ impl Lan {
         ensures happens { Happens 1 self.old self.new }
         ensures made { Makes self.old self.new }
         ensures takes { TakesOn (oldest_by self.old.switch (port_by (slice_get self.old.ports.items slave))) self.old self.new }
+        ensures fewer { NoneMore self.old self.new }
     {
         if let Some(port) = self.port(slave) {
             self.switch.begun(port);

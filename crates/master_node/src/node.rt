@@ -77,7 +77,7 @@ impl MasterNode {
     ghost use Rattle.master_node.specs.Happened.{Happens, HappensSo};
     ghost use Rattle.master_node.specs.Made.{Makes, AreOfMaking};
     ghost use Rattle.eoe_switch.specs.Switch.{Switched};
-    ghost use Rattle.master_node.specs.Begins.{HasTaken, IsOldest, LaysOldest, PacketsBegin, TakesOn, taken_for, taken_where};
+    ghost use Rattle.master_node.specs.Begins.{HasTaken, IsOldest, LaysOldest, NoneMore, PacketFirst, PacketsBegin, TakesOn, taken_for, taken_where};
 
     // Whether a slave is live.
     pub(crate) fn has_live(&self) -> bool
@@ -115,7 +115,8 @@ impl MasterNode {
     // something in hand takes nothing.
     fn coming(&self, place: usize) -> Option<Coming>
         requires { place < vec_len self.now.posts }
-        ensures { All WaitsNone self.now.posts.items → IfSome (slice_get self.now.tour.stops.items place) (λ s. IsComing (next_of s) result) }
+        ensures comes { All WaitsNone self.now.posts.items → IfSome (slice_get self.now.tour.stops.items place) (λ s. IsComing (next_of s) result) }
+        ensures first { PacketFirst self.now.lan place result }
     {
         let stop = &self.tour.stops[place];
         if !matches!(stop.stand, Stand::Open) || !stop.side.is_free() {
@@ -240,6 +241,7 @@ impl MasterNode {
         ensures lan { Happens 1 self.old.lan self.new.lan }
         ensures made { Makes self.old.lan self.new.lan }
         ensures takes { TakesOn (taken_for self.old.lan place (Some coming)) self.old.lan self.new.lan }
+        ensures fewer { NoneMore self.old.lan self.new.lan }
     {
         match coming {
             Coming::State(_) => pass_by(&mut self.tour.stops[place].side),
@@ -261,6 +263,7 @@ impl MasterNode {
         ensures lan { Happens 1 self.old.lan self.new.lan }
         ensures made { Makes self.old.lan self.new.lan }
         ensures takes { TakesOn (taken_for self.old.lan place coming) self.old.lan self.new.lan }
+        ensures fewer { NoneMore self.old.lan self.new.lan }
     {
         let post = &mut self.posts[place];
         post.work = post.next;
@@ -288,6 +291,7 @@ impl MasterNode {
         ensures lan { Happens 1 self.old.lan self.new.lan }
         ensures made { Makes self.old.lan self.new.lan }
         ensures takes { TakesOn (taken_where began self.old.lan place coming) self.old.lan self.new.lan }
+        ensures fewer { NoneMore self.old.lan self.new.lan }
     {
         if began {
             self.begun(place, coming);

@@ -1,11 +1,11 @@
 -- The packets taken at a port are the first of those that were forwarded to it.
-use Rattle.std.proofs.Common.{◌≡◌, ◌≤◌, ◌<◌, ℕ, zero, suc, ◌+◌, ◌*◌, ◌^◌, Bool, true, false, Option, Some, None, List, [], ◌∷◌, ◌++◌, refl, sym, ap, subst, ◌∙◌, arith, length, drop, replicate, append_assoc, append-nil}
-use Rattle.std.specs.Prelude.{◌==◌, ◌||◌, not, nat_lt, if◌then◌else◌, slice_get, slice_set}
+use Rattle.std.proofs.Common.{◌≡◌, ◌≤◌, ◌<◌, ℕ, zero, suc, ◌+◌, ◌^◌, Bool, true, false, Option, Some, None, List, [], ◌∷◌, ◌++◌, refl, sym, ap, subst, ◌∙◌, arith, length, drop, replicate, append_assoc, append-nil}
+use Rattle.std.specs.Prelude.{⊤, ◌==◌, ◌||◌, not, nat_lt, if◌then◌else◌, slice_get}
 use Rattle.std.proofs.lemmas.Bool.Decides.{nat_tests}
 use Rattle.std.proofs.lemmas.Grind.{common_steps}
 use Rattle.arrayvec.specs.ArrayVec.{ArrayVec}
-use Rattle.eoe_switch.specs.Ports.{is_known_target, is_target, taken_at, offered}
-use Rattle.eoe_switch.specs.Switch.{Switched, Flow, first_port, first_ports, first_switch, ports_behind, bit_where, route_of, learned_from, arrived, queue_of, queue_at, changed, begun_at, downed_at, forwards_behind, flow_behind, flow_of, switched}
+use Rattle.eoe_switch.specs.Ports.{AtPort, is_known_target, is_target, taken_at, offered}
+use Rattle.eoe_switch.specs.Switch.{Switched, Flow, first_port, first_switch, ports_behind, bit_where, route_of, learned_from, queue_of, queue_at, changed, forwards_behind, flow_behind, flow_of, switched}
 use Rattle.eoe_switch.specs.declared.port.Offered.{Offered}
 use Rattle.eoe_switch.specs.declared.port.Offered.TheVariants.{Not, Taken, Full}
 use Rattle.eoe_switch.specs.declared.port.Port.{Port}
@@ -71,16 +71,24 @@ at_zero at l = grind (arith, common_steps)
 not_follows : (t f : Packets) (at : ℕ) (x : ArrayVec ℕ) (q : Port) → Follows t f q → Follows t (grown Not at x f) q
 not_follows t f at x q h = h
 
+-- what became of it, where this holds and where it doesn't
+abbrev either_of : Bool → AtPort → AtPort → AtPort
+either_of b x y = if b then x else y
+
+abbrev FollowsOn : Packets → Packets → ℕ → ArrayVec ℕ → AtPort → Type 0
+FollowsOn t f at x o = Follows t (grown o.offered at x f) o.port
+
 -- a packet that goes there waits behind the others, or is dropped
-taken_follows : (t f : Packets) (at : ℕ) (x : ArrayVec ℕ) (q : Port) → q.up ≡ true → 1 ≤ at → Follows t f q → Follows t (grown (taken_at at x q).offered at x f) (taken_at at x q).port
-taken_follows t f at x q u l h =
-    subst (λ (b : Bool). Follows t (grown (if b then record { port = q; offered = Taken } else room).offered at x f) (if b then record { port = q; offered = Taken } else room).port) (sym (at_zero at l)) (go (nat_lt (length q.queue) 8))
+taken_follows : (t f : Packets) (at : ℕ) (x : ArrayVec ℕ) (q : Port) → q.up ≡ true → 1 ≤ at → Follows t f q → FollowsOn t f at x (taken_at at x q)
+taken_follows t f at x q u l h = subst (λ (b : Bool). FollowsOn t f at x (either_of b (record { port = q; offered = Taken }) room)) (sym (at_zero at l)) (go (nat_lt (length q.queue) 8))
   where
     longer : Port
     longer = record q { queue = q.queue ++ x ∷ [] }
-    room = if nat_lt (length q.queue) 8 then record { port = longer; offered = Taken } else record { port = q; offered = Full }
 
-    go : (b : Bool) → Follows t (grown (if b then record { port = longer; offered = Taken } else record { port = q; offered = Full }).offered at x f) (if b then record { port = longer; offered = Taken } else record { port = q; offered = Full }).port
+    room : AtPort
+    room = either_of (nat_lt (length q.queue) 8) (record { port = longer; offered = Taken }) (record { port = q; offered = Full })
+
+    go : (b : Bool) → FollowsOn t f at x (either_of b (record { port = longer; offered = Taken }) (record { port = q; offered = Full }))
     go true = record {
       left = h.left ++ x ∷ [];
       all = ap (λ (b : Bool). if b then f else f ++ x ∷ []) (power_some at) ∙ ap (λ z. z ++ x ∷ []) h.all ∙ append_assoc t h.left (x ∷ []);
@@ -89,7 +97,7 @@ taken_follows t f at x q u l h =
     }
     go false = h
 
-offered_follows : (t f : Packets) (route : Route) (at : ℕ) (x : ArrayVec ℕ) (q : Port) → 1 ≤ at → Follows t f q → Follows t (grown (offered route at x q).offered at x f) (offered route at x q).port
+offered_follows : (t f : Packets) (route : Route) (at : ℕ) (x : ArrayVec ℕ) (q : Port) → 1 ≤ at → Follows t f q → FollowsOn t f at x (offered route at x q)
 offered_follows t f route at x q l h = go (is_target route at q.up) refl
   where
     down_not : (b u : Bool) → u ≡ false → (if b || not u then false else is_known_target route.known at) ≡ true → ⊥
@@ -101,9 +109,9 @@ offered_follows t f route at x q l h = go (is_target route at q.up) refl
     by_up true e k = e
     by_up false e k = absurd (down_not (at == route.from) q.up e k)
 
-    go : (b : Bool) → is_target route at q.up ≡ b → Follows t (grown (if is_target route at q.up then taken_at at x q else record { port = q; offered = Not }).offered at x f) (if is_target route at q.up then taken_at at x q else record { port = q; offered = Not }).port
-    go true e = subst (λ (b : Bool). Follows t (grown (if b then taken_at at x q else record { port = q; offered = Not }).offered at x f) (if b then taken_at at x q else record { port = q; offered = Not }).port) (sym e) (taken_follows t f at x q (by_up q.up refl e) l h)
-    go false e = subst (λ (b : Bool). Follows t (grown (if b then taken_at at x q else record { port = q; offered = Not }).offered at x f) (if b then taken_at at x q else record { port = q; offered = Not }).port) (sym e) h
+    go : (b : Bool) → is_target route at q.up ≡ b → FollowsOn t f at x (either_of (is_target route at q.up) (taken_at at x q) (record { port = q; offered = Not }))
+    go true e = subst (λ (b : Bool). FollowsOn t f at x (either_of b (taken_at at x q) (record { port = q; offered = Not }))) (sym e) (taken_follows t f at x q (by_up q.up refl e) l h)
+    go false e = subst (λ (b : Bool). FollowsOn t f at x (either_of b (taken_at at x q) (record { port = q; offered = Not }))) (sym e) h
 
 -- the oldest is taken
 abbrev first_of : Option (ArrayVec ℕ) → Packets
@@ -187,7 +195,7 @@ module _ (p : ℕ) (behind : 1 ≤ p) where
   event_follows flow (Arrive port x) t h =
       let s = flow.switch in
       let route = route_of (learned_from s.learned port x.items) port x.items in
-      subst (λ z. FollowsAt p (ports_behind route x 0 s.ports) (forwards_behind route x 0 s.ports flow.forwards) z) (sym (append-nil t)) (arrives_at route x 0 p s.ports flow.forwards t behind h)
+      subst (λ z. FollowsAt p (ports_behind route x 0 s.ports) (forwards_behind route x 0 s.ports flow.forwards) z) (sym (append-nil t)) (arrives_at route x 0 p s.ports flow.forwards t (omega (arith, behind)) h)
   event_follows flow (Begun j) t h = go (j == p) refl
     where
       after : Port → Port
@@ -266,3 +274,71 @@ pub first_taken : (n p : ℕ) (es : List SwitchEvent) → 1 ≤ p → p < n → 
 first_taken n p es l m =
     left_at p (switched n es).switch.ports (switched n es).forwards (all_at p (taken_in (first_switch n) es))
     (flow_follows p l (record { switch = first_switch n; forwards = replicate n []; drops = 0 }) es [] (first_follows n p m))
+
+-- ---- a port that is down, at which nothing waits
+abbrev IsClosed : ℕ → List Port → Type 0
+IsClosed p [] = ⊤
+IsClosed zero (q ∷ qs) = (q.up ≡ false) × (q.queue ≡ [])
+IsClosed (suc p) (q ∷ qs) = IsClosed p qs
+
+-- nothing goes there
+offered_closed : (route : Route) (at : ℕ) (x : ArrayVec ℕ) (q : Port) → (q.up ≡ false) × (q.queue ≡ []) → ((offered route at x q).port.up ≡ false) × ((offered route at x q).port.queue ≡ [])
+offered_closed route at x q c = go (is_target route at q.up) (not_there (at == route.from) q.up c.0)
+  where
+    not_there : (b u : Bool) → u ≡ false → (if b || not u then false else is_known_target route.known at) ≡ true → ⊥
+    not_there true u e k = absurd (cc)
+    not_there false true e k = absurd (cc)
+    not_there false false e k = absurd (cc)
+
+    go : (b : Bool) → (b ≡ true → ⊥) → ((either_of b (taken_at at x q) (record { port = q; offered = Not })).port.up ≡ false) × ((either_of b (taken_at at x q) (record { port = q; offered = Not })).port.queue ≡ [])
+    go true n = absurd (n refl)
+    go false n = c
+
+arrives_closed : (route : Route) (x : ArrayVec ℕ) (at p : ℕ) (qs : List Port) → IsClosed p qs → IsClosed p (ports_behind route x at qs)
+arrives_closed route x at p [] c = tt
+arrives_closed route x at zero (q ∷ qs) c = offered_closed route at x q c
+arrives_closed route x at (suc p) (q ∷ qs) c = arrives_closed route x (at + 1) p qs c
+
+changed_closed : (g : Port → Port) (j p : ℕ) (qs : List Port) → ((q : Port) → (q.up ≡ false) × (q.queue ≡ []) → ((g q).up ≡ false) × ((g q).queue ≡ [])) → IsClosed p qs → IsClosed p (changed g qs j (slice_get qs j))
+changed_closed g j p [] h c = tt
+changed_closed g zero zero (q ∷ qs) h c = h q c
+changed_closed g zero (suc p) (q ∷ qs) h c = c
+changed_closed g (suc j) zero (q ∷ qs) h c = subst (λ z. IsClosed zero z) (sym (changed_behind g q qs j (slice_get qs j))) c
+changed_closed g (suc j) (suc p) (q ∷ qs) h c = subst (λ z. IsClosed (suc p) z) (sym (changed_behind g q qs j (slice_get qs j))) (changed_closed g j p qs h c)
+
+-- it stays so
+event_closed : (p : ℕ) (s : Switched) (e : SwitchEvent) → IsClosed p s.ports → IsClosed p (switch_on s e).ports
+event_closed p s (Arrive port x) c = arrives_closed (route_of (learned_from s.learned port x.items) port x.items) x 0 p s.ports c
+event_closed p s (Begun j) c = changed_closed (λ (q : Port). record q { queue = drop 1 q.queue }) j p s.ports (λ q d. (d.0, ap (λ (z : Packets). drop 1 z) d.1)) c
+event_closed p s (Down j) c = changed_closed (λ (q : Port). record { up = false; queue = [] }) j p s.ports (λ q d. (refl, refl)) c
+
+-- and nothing is taken
+closed_queue : (p : ℕ) (qs : List Port) → IsClosed p qs → queue_of (slice_get qs p) ≡ []
+closed_queue p [] c = refl
+closed_queue zero (q ∷ qs) c = c.1
+closed_queue (suc p) (q ∷ qs) c = closed_queue p qs c
+
+closed_taken : (p : ℕ) (s : Switched) (e : SwitchEvent) → IsClosed p s.ports → all_at p (taken_by s e) ≡ []
+closed_taken p s (Arrive port x) c = refl
+closed_taken p s (Begun j) c = go (j == p) refl (slice_get (queue_at s j) 0) refl
+  where
+    none : (b : Bool) → (j == p) ≡ b → (o : Option (ArrayVec ℕ)) → slice_get (queue_at s j) 0 ≡ o → one_at p (Some j) o ≡ []
+    none b e None f = refl
+    none true e (Some x) f =
+        let q : queue_at s j ≡ [] = ap (λ z. queue_of (slice_get s.ports z)) (equal_port j p e) ∙ closed_queue p s.ports c in
+        absurd (let w = sym (ap (λ (z : Packets). slice_get z 0) q) ∙ f in cc)
+    none false e (Some x) f = ap (λ (b : Bool). if b then x ∷ [] else []) e
+
+    go : (b : Bool) → (j == p) ≡ b → (o : Option (ArrayVec ℕ)) → slice_get (queue_at s j) 0 ≡ o → one_at p (Some j) (slice_get (queue_at s j) 0) ++ [] ≡ []
+    go b e o f = append-nil (one_at p (Some j) (slice_get (queue_at s j) 0)) ∙ ap (λ z. one_at p (Some j) z) f ∙ none b e o f
+closed_taken p s (Down j) c = refl
+
+pub closed_none : (p : ℕ) (s : Switched) (es : List SwitchEvent) → IsClosed p s.ports → all_at p (taken_in s es) ≡ []
+closed_none p s [] c = refl
+closed_none p s (e ∷ es) c =
+    all_append p (taken_by s e) (taken_in (switch_on s e) es) ∙ (λ i. closed_taken p s e c i ++ closed_none p (switch_on s e) es (event_closed p s e c) i)
+
+pub down_closed : (p : ℕ) (qs : List Port) → IsClosed p (changed (λ (q : Port). record { up = false; queue = [] }) qs p (slice_get qs p))
+down_closed p [] = tt
+down_closed zero (q ∷ qs) = (refl, refl)
+down_closed (suc p) (q ∷ qs) = subst (λ z. IsClosed (suc p) z) (sym (changed_behind (λ (q : Port). record { up = false; queue = [] }) q qs p (slice_get qs p))) (down_closed p qs)

@@ -1,29 +1,28 @@
 -- The packets that begin at a slave's port over a run.
-use Rattle.std.proofs.Common.{◌≡◌, ◌≤◌, ◌<◌, ℕ, zero, suc, ◌+◌, Bool, true, false, Option, Some, None, List, [], ◌∷◌, ◌++◌, refl, sym, ap, subst, ◌∙◌, arith, length, append_assoc, append-nil}
+use Rattle.std.proofs.Common.{◌≡◌, ◌≤◌, ◌<◌, ℕ, ◌+◌, Bool, true, false, Option, Some, None, List, [], ◌∷◌, ◌++◌, refl, sym, ap, subst, ◌∙◌, arith, length, append-nil}
 use Rattle.std.specs.Prelude.{◌==◌, if◌then◌else◌, slice_get, All}
 use Rattle.std.proofs.lemmas.Bool.Decides.{nat_tests}
 use Rattle.std.proofs.lemmas.List.Elements.{All-nil, All-cons, All-head, All-tail}
 use Rattle.arrayvec.specs.ArrayVec.{ArrayVec}
-use Rattle.eoe_switch.specs.Switch.{Switched, first_switch, switched}
+use Rattle.eoe_switch.specs.Switch.{Switched, downed_at, first_switch, switched}
 use Rattle.eoe_switch.specs.declared.switching.SwitchEvent.{SwitchEvent}
 use Rattle.eoe_switch.specs.declared.switching.SwitchEvent.TheVariants.{Arrive, Begun, Down}
 use Rattle.life_runs.specs.of_frame_view.View.{Lens}
 use Rattle.life_runs.specs.of_life_frames.of_state_exchange.Stated.{Service}
-use Rattle.life_runs.specs.Led.{Exchanged, Leads, Turn, IsLed, IsLedFrame}
+use Rattle.life_runs.specs.Led.{Exchanged, Leads, Turn, IsLed}
 use Rattle.master_hand.specs.of_eoe_model.Client as EoeClient
 use Rattle.master_hand.specs.Spoken.{Asked, sdo, file, drive, net, passed}
-use Rattle.master_node.specs.Arrivals.{ComeIn, arrive_where, arrive_at, arrive_by, arrivals_in}
+use Rattle.master_node.specs.Arrivals.{arrive_where, arrive_at, arrive_by, arrivals_in}
 use Rattle.master_node.specs.Begins as Begins
 use Rattle.master_node.specs.Begins.{PacketsBegin, begins_by, begins_in, begun_of, oldest_at, packet_asked, switch_behind, switch_on, taken_by, taken_in}
-use Rattle.master_node.specs.Downs.{GoDown, down_by, downs_in}
-use Rattle.master_node.specs.Forwards.{port_by}
+use Rattle.master_node.specs.Downs.{down_by, downs_in}
+use Rattle.master_node.specs.Forwards.{port_by, waiting_by}
 use Rattle.master_node.specs.Happened.{events_of}
 use Rattle.master_node.specs.declared.lan.Lan.{Lan}
-use Rattle.master_node.specs.declared.node.MasterNode.{MasterNode}
 use Rattle.master_tour.specs.Made.{is_in}
 use Rattle.master_tour.specs.Orders.{AreOnce}
 use Rattle.packets_begun.specs.Over.{AreBegun, BegunOn, IsNoBegun, begun_at, begun_by_event, forwarded_to, packet_begun, packet_of, packets_begun}
-use Rattle.packets_begun.proofs.Follows.{all_append, all_at, first_taken, flow_switch, taken_append}
+use Rattle.packets_begun.proofs.Follows.{all_append, all_at, closed_none, down_closed, first_taken, flow_switch, taken_append}
 use Rattle.port_events.specs.Listed.{IsOwn}
 use Rattle.segment_ring.specs.declared.wire.Fate.{Fate}
 use Rattle.segment_ring.specs.declared.wire.Fate.TheVariants.{Pass, Lost}
@@ -50,6 +49,29 @@ events_many : (p : ℕ) (s : Switched) (es : List SwitchEvent) → begun_at p es
 events_many p s [] = refl
 events_many p s (e ∷ es) =
     (λ i. many_by p s e i + events_many p (switch_on s e) es i) ∙ sym (many_append p (taken_by s e) (taken_in (switch_on s e) es))
+
+length_both : (xs ys : List (ArrayVec ℕ)) → length (xs ++ ys) ≡ length xs + length ys
+length_both [] ys = omega arith
+length_both (x ∷ xs) ys = let rest = length_both xs ys in omega (arith, rest)
+
+-- no more packets than that
+few_packets : (p : ℕ) (ts : List Begins.Taken) → length (all_at p ts) ≤ many_at p ts
+few_packets p [] = omega arith
+few_packets p (t ∷ ts) =
+    let here = one t.port t.packet in
+    let rest = few_packets p ts in
+    let both = length_both (all_at p (t ∷ [])) (all_at p ts) in
+    let is = ap (λ z. length z) (all_append p (t ∷ []) ts) in
+    omega (arith, here, rest, both, is)
+  where
+    at_port : (q : ℕ) (x : ArrayVec ℕ) (b : Bool) → length ((if b then x ∷ [] else []) ++ []) ≤ (if b then 1 else 0)
+    at_port q x true = omega arith
+    at_port q x false = omega arith
+
+    one : (o : Option ℕ) (packet : Option (ArrayVec ℕ)) → length (all_at p (record { port = o; packet = packet } ∷ [])) ≤ one_for p o
+    one None packet = omega arith
+    one (Some q) None = omega arith
+    one (Some q) (Some x) = at_port q x (q == p)
 
 -- ---- what a frame's return or loss takes: nothing
 no_taken : (s : Switched) (e : SwitchEvent) → IsNoBegun e → taken_by s e ≡ []
@@ -233,31 +255,27 @@ module _ (ports : List (Option ℕ)) (k p : ℕ) (own : IsOwn ports k p) (b : �
   pub frame_many : (ps : List ℕ) → AreOnce ps → ((q : ℕ) (port : Option ℕ) → is_in q ps ≡ false → begins_by port (b q) ≡ []) → many_at p (begins_in ports b ps) ≡ length (packet_begun (b k))
   frame_many ps once h = visit_many ps once ∙ ap (λ z. length z) (left_out ps h)
 
-length_both : (xs ys : List (ArrayVec ℕ)) → length (xs ++ ys) ≡ length xs + length ys
-length_both [] ys = omega arith
-length_both (x ∷ xs) ys = let rest = length_both xs ys in omega (arith, rest)
+-- what one frame more takes
+frame_takes : (ports : List (Option ℕ)) (many : ℕ) (us : List Turn) (before : List SwitchEvent → Type 0) (es : List SwitchEvent) (x : BegunOn before ports many us es) → taken_in (first_switch many) es ≡ taken_in (first_switch many) x.old ++ begins_in ports (begun_of us) x.visited
+frame_takes ports many us before es x =
+    let s0 = first_switch many in
+    let s1 = switch_behind s0 x.old in
+    let is : (switched many x.old).switch ≡ s1 = flow_switch _ x.old in
+    ap (λ z. taken_in s0 z) x.whole ∙ taken_append s0 x.old (x.making ++ x.behind) ∙ ap (λ z. taken_in s0 x.old ++ z)
+    (taken_append s1 x.making x.behind ∙ (λ i. (ap (λ z. taken_in z x.making) (sym is) ∙ x.taken) i ++ none_taken (switch_behind s1 x.making) x.behind x.none i) ∙ append-nil (begins_in ports (begun_of us) x.visited))
 
 -- ---- OVER A RUN
 module _ {lens : ℕ → Lens} {recover retry : ℕ} (ports : List (Option ℕ)) (many k p : ℕ) (own : IsOwn ports k p) where
-  -- what one frame more takes
-  frame_takes : (us : List Turn) (before : List SwitchEvent → Type 0) (es : List SwitchEvent) (x : BegunOn before ports many us es) → taken_in (first_switch many) es ≡ taken_in (first_switch many) x.old ++ begins_in ports (begun_of us) x.visited
-  frame_takes us before es x =
-      let s0 = first_switch many in
-      let s1 = switch_behind s0 x.old in
-      let is : (switched many x.old).switch ≡ s1 = flow_switch _ x.old in
-      ap (λ z. taken_in s0 z) x.whole ∙ taken_append s0 x.old (x.making ++ x.behind) ∙ ap (λ z. taken_in s0 x.old ++ z)
-      (taken_append s1 x.making x.behind ∙ (λ i. (ap (λ z. taken_in z x.making) (sym is) ∙ x.taken) i ++ none_taken (switch_behind s1 x.making) x.behind x.none i) ∙ append-nil (begins_in ports (begun_of us) x.visited))
-
   pub run_all : {first : List Leads} {fs : List Exchanged} {missed : ℕ} {as' : List Leads} (led : IsLed lens recover retry first fs missed as') (es : List SwitchEvent) → AreBegun ports many led es → all_at p (taken_in (first_switch many) es) ≡ packets_begun led k
   run_all IsLed.start es x = ap (λ z. all_at p (taken_in (first_switch many) z)) x
   run_all (IsLed.on fs missed as' f us led frame) es x =
-      ap (λ z. all_at p z) (frame_takes us (λ old. AreBegun ports many led old) es x) ∙ all_append p (taken_in (first_switch many) x.old) (begins_in ports (begun_of us) x.visited)
+      ap (λ z. all_at p z) (frame_takes ports many us (λ old. AreBegun ports many led old) es x) ∙ all_append p (taken_in (first_switch many) x.old) (begins_in ports (begun_of us) x.visited)
       ∙ (λ i. run_all led x.old x.was i ++ frame_all ports k p own (begun_of us) x.visited x.once x.others i)
 
   pub run_many : {first : List Leads} {fs : List Exchanged} {missed : ℕ} {as' : List Leads} (led : IsLed lens recover retry first fs missed as') (es : List SwitchEvent) → AreBegun ports many led es → many_at p (taken_in (first_switch many) es) ≡ length (packets_begun led k)
   run_many IsLed.start es x = ap (λ z. many_at p (taken_in (first_switch many) z)) x
   run_many (IsLed.on fs missed as' f us led frame) es x =
-      ap (λ z. many_at p z) (frame_takes us (λ old. AreBegun ports many led old) es x) ∙ many_append p (taken_in (first_switch many) x.old) (begins_in ports (begun_of us) x.visited)
+      ap (λ z. many_at p z) (frame_takes ports many us (λ old. AreBegun ports many led old) es x) ∙ many_append p (taken_in (first_switch many) x.old) (begins_in ports (begun_of us) x.visited)
       ∙ (λ i. run_many led x.old x.was i + frame_many ports k p own (begun_of us) x.visited x.once x.others i) ∙ sym (length_both (packets_begun led k) (packet_begun (begun_of us k)))
 
   pub run_begun : {first : List Leads} {fs : List Exchanged} {missed : ℕ} {as' : List Leads} (led : IsLed lens recover retry first fs missed as') (es : List SwitchEvent) → AreBegun ports many led es → begun_at p es ≡ length (packets_begun led k)
@@ -269,14 +287,28 @@ module _ {lens : ℕ → Lens} {recover retry : ℕ} (ports : List (Option ℕ))
       let w = first_taken many p es own.behind l in
       (w.0, w.1 ∙ ap (λ z. z ++ w.0) (run_all led es x))
 
+  -- none begins behind the port's going down
+  pub run_last : {first : List Leads} {fs : List Exchanged} {missed : ℕ} {as' : List Leads} (led : IsLed lens recover retry first fs missed as') (es xs ys : List SwitchEvent) → AreBegun ports many led es → es ≡ xs ++ Down p ∷ ys → begun_at p ys ≡ 0
+  run_last led es xs ys x whole =
+      let s0 = first_switch many in
+      let s1 = switch_behind s0 xs in
+      let s2 = downed_at s1 p in
+      let split : taken_in s0 es ≡ taken_in s0 xs ++ taken_in s2 ys = ap (λ z. taken_in s0 z) whole ∙ taken_append s0 xs (Down p ∷ ys) in
+      let packets : all_at p (taken_in s0 es) ≡ all_at p (taken_in s0 xs) = ap (λ z. all_at p z) split ∙ all_append p (taken_in s0 xs) (taken_in s2 ys) ∙ ap (λ z. all_at p (taken_in s0 xs) ++ z) (closed_none p s2 ys (down_closed p s1.ports)) ∙ append-nil (all_at p (taken_in s0 xs)) in
+      let count : many_at p (taken_in s0 es) ≡ many_at p (taken_in s0 xs) + many_at p (taken_in s2 ys) = ap (λ z. many_at p z) split ∙ many_append p (taken_in s0 xs) (taken_in s2 ys) in
+      let same : many_at p (taken_in s0 es) ≡ length (all_at p (taken_in s0 xs)) = run_many led es x ∙ ap (λ z. length z) (sym (run_all led es x) ∙ packets) in
+      let few = few_packets p (taken_in s0 xs) in
+      let is = events_many p s2 ys in
+      omega (arith, count, same, few, is)
+
 -- ---- ONE FRAME MORE, as a master lists it
-none_behind : (ports : List (Option ℕ)) (packets : ℕ → List (List ℕ)) (goes : ℕ → Bool) (visit : List ℕ) (es : List SwitchEvent) (fate : Fate) → (fate ≡ Pass → es ≡ arrivals_in ports packets visit) → ((after : ℕ) → fate ≡ Lost after → es ≡ downs_in ports goes visit) → All IsNoBegun es
+pub none_behind : (ports : List (Option ℕ)) (packets : ℕ → List (List ℕ)) (goes : ℕ → Bool) (visit : List ℕ) (es : List SwitchEvent) (fate : Fate) → (fate ≡ Pass → es ≡ arrivals_in ports packets visit) → ((after : ℕ) → fate ≡ Lost after → es ≡ downs_in ports goes visit) → All IsNoBegun es
 none_behind ports packets goes visit es Pass a d = subst (λ z. All IsNoBegun z) (sym (a refl)) (arrivals_none ports packets visit)
 none_behind ports packets goes visit es (Lost after) a d = subst (λ z. All IsNoBegun z) (sym (d after refl)) (downs_none ports goes visit)
 
-pub begun_on : (before : List SwitchEvent → Type 0) (ports : List (Option ℕ)) (many : ℕ) (us : List Turn) (m n : Lan) (old behind : List SwitchEvent) → before old → m.ports.items ≡ ports → PacketsBegin (switched many old).switch us m → All IsNoBegun behind →
+pub begun_on : (before : List SwitchEvent → Type 0) (ports : List (Option ℕ)) (many : ℕ) (us : List Turn) (m n : Lan) (old behind : List SwitchEvent) → before old → m.ports.items ≡ ports → PacketsBegin (switched many old).switch us m → (switched many (old ++ events_of m.happened)).switch ≡ m.switch → All IsNoBegun behind →
     BegunOn before ports many us (old ++ (events_of m.happened ++ behind))
-begun_on before ports many us m n old behind was same x none = record {
+begun_on before ports many us m n old behind was same x stands none = record {
   old = old;
   was = was;
   making = events_of m.happened;
@@ -284,6 +316,7 @@ begun_on before ports many us m n old behind was same x none = record {
   once = x.once;
   taken = x.taken ∙ ap (λ z. begins_in z (begun_of us) x.visited) same;
   others = x.others;
+  quiet = λ k e. (λ i. waiting_by (stands i) (port_by (slice_get (sym same i) k))) ∙ x.quiet k e;
   behind = behind;
   none = none;
   whole = refl;

@@ -1,5 +1,5 @@
 -- THE PACKETS THAT BEGIN over the frames of a run.
-use Rattle.std.specs.Prelude.{◌≡◌, ℕ, zero, suc, ◌+◌, ◌==◌, false, if◌then◌else◌, Option, Some, None, List, [], ◌∷◌, ◌++◌, All, ⊤}
+use Rattle.std.specs.Prelude.{◌≡◌, ℕ, zero, suc, ◌+◌, ◌==◌, true, false, if◌then◌else◌, Option, Some, None, List, [], ◌∷◌, ◌++◌, slice_get, All, ⊤}
 use Rattle.arrayvec.specs.ArrayVec.{ArrayVec}
 use Rattle.eoe_switch.specs.Switch.{switched}
 use Rattle.eoe_switch.specs.declared.switching.SwitchEvent.{SwitchEvent}
@@ -8,7 +8,8 @@ use Rattle.life_runs.specs.of_frame_view.View.{Lens}
 use Rattle.life_runs.specs.Led.{Exchanged, Leads, Turn, IsLed}
 use Rattle.master_hand.specs.of_eoe_model.Client as EoeClient
 use Rattle.master_hand.specs.Spoken.{Asked, sdo, file, drive, net, passed}
-use Rattle.master_node.specs.Begins.{begins_by, begins_in, begun_of, taken_in}
+use Rattle.master_node.specs.Begins.{begins_by, begins_in, begins_other, begun_of, taken_in}
+use Rattle.master_node.specs.Forwards.{port_by, waiting_by}
 use Rattle.life_runs.specs.of_life_frames.of_state_exchange.Stated.{Service}
 use Rattle.master_tour.specs.Made.{is_in}
 use Rattle.master_tour.specs.Orders.{AreOnce}
@@ -58,7 +59,7 @@ IsNoBegun (Begun at) = ⊥
 IsNoBegun (Down at) = ⊤
 
 -- ONE FRAME MORE: while it is made just the packets begin that came into hand, each the oldest at the port of its slave, of a switch with so many ports that the
--- events before it made; and none does by its return or its loss
+-- events before it made; where another service came into hand none waits at the slave's port then; and none begins by the frame's return or its loss
 pub record BegunOn (before : List SwitchEvent → Type 0) (ports : List (Option ℕ)) (many : ℕ) (us : List Turn) (es : List SwitchEvent) : Type 0 where
   pub old : List SwitchEvent
   pub was : before old
@@ -67,6 +68,7 @@ pub record BegunOn (before : List SwitchEvent → Type 0) (ports : List (Option 
   pub once : AreOnce visited
   pub taken : taken_in (switched many old).switch making ≡ begins_in ports (begun_of us) visited
   pub others : (k : ℕ) (port : Option ℕ) → is_in k visited ≡ false → begins_by port (begun_of us k) ≡ []
+  pub quiet : (k : ℕ) → begins_other (begun_of us k) ≡ true → waiting_by (switched many (old ++ making)).switch (port_by (slice_get ports k)) ≡ []
   pub behind : List SwitchEvent
   pub none : All IsNoBegun behind
   pub whole : es ≡ old ++ (making ++ behind)

@@ -1,7 +1,9 @@
 use Rattle.std.proofs.Common.{refl, sym, ap, ◌∙◌}
+use Rattle.std.specs.Prelude.{slice_get}
 use Rattle.master_node.specs.Begins.{oldest_by}
+use Rattle.master_node.specs.Forwards.{port_by}
 use Rattle.master_node.proofs.Begins.{takes_one, takes_none}
-use Rattle.master_node.proofs.Forwards.{taken_from, none_from}
+use Rattle.master_node.proofs.Forwards.{taken_from, none_from, fewer_from}
 use Rattle.master_node.proofs.Happenings.{happens_none, begun_goes}
 use Rattle.master_node.proofs.Made.{makes_one, makes_none}
 use Rattle.master_node.proofs.lan.Lan.begin.Goals as goal
@@ -33,3 +35,9 @@ pub returns-in_default-clause-takes : goal.returns-in_default-clause-takes
 returns-in_default-clause-takes c =
     let s = c.args.self.now.switch in
     takes_none _ _ _ (ap (λ z. oldest_by s z) (sym c.in_default.is ∙ c.port.ensures.is)) refl
+
+pub returns-in-Some-clause-fewer : goal.returns-in-Some-clause-fewer
+returns-in-Some-clause-fewer c = λ k e. fewer_from c.args.self.now.switch _ (port_by (slice_get c.args.self.now.ports.items k)) c.in-Some.port c.begun.ensures.goes_on e
+
+pub returns-in_default-clause-fewer : goal.returns-in_default-clause-fewer
+returns-in_default-clause-fewer c = λ k e. e

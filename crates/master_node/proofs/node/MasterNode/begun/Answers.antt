@@ -55,3 +55,6 @@ returns-in-None-clause-lan c = happens_none 1 _ _ refl
 
 pub returns-in-None-clause-made : goal.returns-in-None-clause-made
 returns-in-None-clause-made c = makes_none _ _ refl
+
+pub returns-in-None-clause-fewer : goal.returns-in-None-clause-fewer
+returns-in-None-clause-fewer c = λ k e. e

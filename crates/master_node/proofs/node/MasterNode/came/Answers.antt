@@ -55,3 +55,6 @@ returns-else-began-clause-lan c = happens_none 1 _ _ refl
 
 pub returns-else-began-clause-made : goal.returns-else-began-clause-made
 returns-else-began-clause-made c = makes_none _ _ refl
+
+pub returns-else-began-clause-fewer : goal.returns-else-began-clause-fewer
+returns-else-began-clause-fewer c = λ k e. e

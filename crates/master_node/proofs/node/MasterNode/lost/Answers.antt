@@ -23,9 +23,9 @@ use Rattle.master_node.proofs.Joineds.{lost_unfinished, three_on, three_kept, th
 use Rattle.master_node.specs.Rooms.{FitAgain}
 use Rattle.master_node.proofs.Fits.{again_lost}
 use Rattle.master_node.proofs.Happenings.{happens_so}
-use Rattle.std.proofs.Common.{ℕ}
+use Rattle.std.proofs.Common.{ℕ, true}
 use Rattle.master_node.specs.Downs.{downs_in, gives_at, goes_down, is_given_up}
-use Rattle.master_node.specs.Shows.{is_led, is_live_turn, is_live_lead}
+use Rattle.master_node.specs.Shows.{is_led, is_live_turn, is_live_lead, side_shows}
 use Rattle.master_tour.specs.Goes.{is_live}
 use Rattle.master_node.proofs.Downs.{lists_all, lists_as, downs_few, downs_same, goes_at, gone_is, live_is, under_live, both_true}
 use Rattle.master_node.proofs.node.MasterNode.lost.Goals as goal

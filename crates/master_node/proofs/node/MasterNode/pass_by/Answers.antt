@@ -144,3 +144,12 @@ returns-in-Script-clause-made c = makes_none _ _ refl
 
 pub returns-in-State-clause-made : goal.returns-in-State-clause-made
 returns-in-State-clause-made c = makes_none _ _ refl
+
+pub returns-in-Mail-clause-fewer : goal.returns-in-Mail-clause-fewer
+returns-in-Mail-clause-fewer c = λ k e. e
+
+pub returns-in-Script-clause-fewer : goal.returns-in-Script-clause-fewer
+returns-in-Script-clause-fewer c = λ k e. e
+
+pub returns-in-State-clause-fewer : goal.returns-in-State-clause-fewer
+returns-in-State-clause-fewer c = λ k e. e

@@ -18,9 +18,9 @@ use Rattle.master_node.specs.Filling.{StopFills}
 use Rattle.master_node.specs.Shows.{lived_of}
 use Rattle.master_node.proofs.Lists.{steps_map, steps_holds, steps_each, each_trans}
 use Rattle.master_node.proofs.Filleds.{count_behind}
-use Rattle.master_node.proofs.Visits.{Fitted, Began, here, what, now, comes, frame, spot, leaves, among, among_fitted}
+use Rattle.master_node.proofs.Visits.{Fitted, Began, here, what, now, comes, frame, spot, leaves, waits_none, among, among_fitted}
 use Rattle.master_node.proofs.Begins.{begun_step}
-use Rattle.master_node.specs.Begins.{TakesOn, taken_where}
+use Rattle.master_node.specs.Begins.{NoneMore, TakesOn, taken_where}
 use Rattle.std.proofs.Common.{◌∙◌}
 use Rattle.master_node.proofs.Lists.{steps_each, each_trans}
 use Rattle.std.proofs.Common.{true}
@@ -77,7 +77,7 @@ returns-clause-led c = λ lens recover made from left next as' room quiet d at o
     let began = subst (λ z. StepsAt (λ s t. Began r z s t) place s2 s3) c.wish_of-wish.ensures
     (steps_map _ (λ s t. Began r c.wish_of-wish.result s t) place s2 s3 (λ s t p. record { place = p.0.4; out = p.1.0.0.out_is; ready = p.1.1.0; script = p.1.1.1; unpassed = p.1.1.2 }) (steps_both _ _ place s2 s3 v.lives (steps_both _ _ place s2 s3 v.step v.began))) in
     let rooms : (s : Stop InHand Impl.ghosts) → s.side.out.len ≡ s.side.hand.laying.areas.out = λ s. s.side.room ∙ ap (λ z. z.out) (sym s.side.hand.one_slave) in
-    let coms = c.coming-coming.ensures quiet in
+    let coms = c.coming-coming.ensures.comes quiet in
     let laid = c.lay.ensures.laid in
     let came = c.came.ensures.came in
     let index = m.made % 256 in
@@ -93,7 +93,8 @@ returns-clause-led c = λ lens recover made from left next as' room quiet d at o
       among = among coming r place s0 s1 s2 s3 s4 rooms coms fitted laid began came lens f.begun left next as' fewer at over d f.among;
       packets = begun_step from left next f.begun as' m.lan c.came.new.self.lan place (here coming r place s0 s1 s2 s3 s4 rooms coms fitted laid began came) (what coming r place s0 s1 s2 s3 s4 rooms coms fitted laid began came)
           (taken_where r m.lan place coming) d (spot coming r place s0 s1 s2 s3 s4 rooms coms fitted laid began came lens f.begun left as' f.among) room at over fewer
-          (leaves coming r place s0 s1 s2 s3 s4 rooms coms fitted laid began came m.lan c.lay.ensures.oldest) (subst (λ z. TakesOn (taken_where r z place coming) z c.came.new.self.lan) c.lay.ensures.lan c.came.ensures.takes) f.packets;
+          (leaves coming r place s0 s1 s2 s3 s4 rooms coms fitted laid began came m.lan c.lay.ensures.oldest) (subst (λ z. TakesOn (taken_where r z place coming) z c.came.new.self.lan) c.lay.ensures.lan c.came.ensures.takes) (subst (λ z. NoneMore z c.came.new.self.lan) c.lay.ensures.lan c.came.ensures.fewer)
+          (waits_none coming r place s0 s1 s2 s3 s4 rooms coms fitted laid began came m.lan c.coming-coming.ensures.first) f.packets;
     }
 
 pub returns-then-not-fits-clause-counts : goal.returns-then-not-fits-clause-counts
