@@ -1,5 +1,6 @@
 mod Choosing
 mod Frames
+mod Going
 mod Phases
 mod Returning
 mod Rows

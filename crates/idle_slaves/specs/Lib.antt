@@ -1,4 +1,5 @@
 pub mod Frames
+pub mod Going
 pub mod Phases
 pub mod Rows
 pub mod Visited

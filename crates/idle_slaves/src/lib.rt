@@ -19,6 +19,7 @@ ghost use Rattle.segment_model.specs.Record.{News};
 ghost use Rattle.segment_model.specs.Slaves.{Datagram, Found, Registers};
 ghost use Rattle.state_model.specs.Promises.{IsTable};
 ghost use Rattle.state_model.specs.States.{Table, Phase, Event, run, carry, new_states};
+ghost use Rattle.idle_slaves.specs.Going.{Going, AccessVain, registers_on};
 ghost use Rattle.idle_slaves.specs.Phases.{IsSeen, HandSeen, TakesOn};
 ghost use Rattle.task_model.specs.Accounts.{Pick};
 ghost use Rattle.idle_slaves.specs.Waiting.{Wanted, Memory, Coming, MayCome, IsVain, IsWaiting, IsSpent, IsIdle, memory_behind, tried};
@@ -76,4 +77,11 @@ pub fn row_law<V, A, M, Q, R>()
 pub fn phase_law<M, R>()
     ensures stands { (table : Table) (start : ℕ) → IsTable table start → (r : Registers) (es : List Event) → let w = run table (new_states {M = M} {R = R} r start) es in HandSeen w.hand (carry table w.registers) }
     ensures gains { (target : ℕ) (phase : Phase) (r : Registers) → IsSeen target phase r → TakesOn R target phase r }
+{}
+
+/// A STATE SERVICE PAST ITS DRAIN IS NEVER VISITED IN VAIN behind a step, as a run's frames are counted, but where it returns its slave to Init: by each frame
+/// that came back with nothing gained it goes on so.
+pub fn going_law<M, Q, R>()
+    ensures { (table : Table) (x : Spot → Speech M Q R) (acknowledged : Q → Bool) (more : M → Bool) (passed : Q → Bool) (number : ℕ) (back : List (Datagram M)) (a : Clocked M Q R) (u : Under M Q R) (r : Registers) (t : Waits) →
+        (g : Going table a.life r t) → AccessVain x acknowledged more passed number back a u g.duty g.phase r → Going table (back_life x acknowledged more passed number back a u) (registers_on table number a r) (waits_on number a u t) }
 {}
