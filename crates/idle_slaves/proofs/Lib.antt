@@ -3,6 +3,7 @@ mod Frames
 mod Going
 mod Phases
 mod Returning
+mod Rings
 mod Rows
 mod Steps
 mod Visited

@@ -1,6 +1,7 @@
 pub mod Frames
 pub mod Going
 pub mod Phases
+pub mod Rings
 pub mod Rows
 pub mod Visited
 pub mod Waiting

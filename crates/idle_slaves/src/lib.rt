@@ -2,19 +2,21 @@
 //! contracts state the laws.
 #![tactic(auto)]
 
-ghost use Rattle.std.specs.Prelude.{◌≡◌, ◌≤◌, ℕ, true, false, Bool, Option, None, List, []};
+ghost use Rattle.std.specs.Prelude.{◌≡◌, ◌≤◌, ◌⊎◌, ℕ, true, false, Bool, Option, None, List, []};
 ghost use Rattle.exchange_model.specs.Exchange.{Exchange, Speech, IsLawful, given, plain};
 ghost use Rattle.exchange_model.specs.Laws.{Moment};
 ghost use Rattle.exchange_model.specs.Rows.{Row, answer_after, left};
 ghost use Rattle.life_measure.specs.Gains.{gains};
+ghost use Rattle.life_measure.specs.Repairs.{way_of};
+ghost use Rattle.link_model.specs.Agree.{Agrees};
 ghost use Rattle.life_model.specs.Lives.{Life, Spot, life_next, life_back};
 ghost use Rattle.life_model.specs.Own.{own};
 ghost use Rattle.link_model.specs.Frames.{node_meets};
 ghost use Rattle.link_model.specs.Link.{Link};
 ghost use Rattle.link_model.specs.Slave.{Node, Server, processor_step};
 ghost use Rattle.run_frames.specs.Clocks.{Clocked};
-ghost use Rattle.run_frames.specs.Goes.{Under, back_life};
-ghost use Rattle.run_frames.specs.Waits.{Waits, waits_on};
+ghost use Rattle.run_frames.specs.Goes.{Under, back_life, all_back};
+ghost use Rattle.run_frames.specs.Waits.{Waits, new_waits, waits_on, all_on, SomeWaits};
 ghost use Rattle.segment_model.specs.Record.{News};
 ghost use Rattle.segment_model.specs.Slaves.{Datagram, Found, Registers};
 ghost use Rattle.state_model.specs.Promises.{IsTable};
@@ -25,8 +27,9 @@ ghost use Rattle.task_model.specs.Accounts.{Pick};
 ghost use Rattle.idle_slaves.specs.Waiting.{Wanted, Memory, Coming, MayCome, IsVain, IsWaiting, IsSpent, IsIdle, memory_behind, tried};
 ghost use Rattle.segment_model.specs.Seats.{is_over};
 ghost use Rattle.idle_slaves.specs.Rows.{NeverWaits};
+ghost use Rattle.idle_slaves.specs.Rings.{Kept, AllVain, AllStay, AllSpent};
 ghost use Rattle.idle_slaves.specs.Frames.{InVain, node_on, memory_on};
-ghost use Rattle.idle_slaves.specs.Visited.{Waiting, Chosen, CameBack, HasRow, IsUnpaused, LifeSpent, life_visit, memory_of};
+ghost use Rattle.idle_slaves.specs.Visited.{Waiting, Shows, Chosen, CameBack, HasRow, IsUnpaused, LifeSpent, life_visit, memory_of};
 
 /// A SLAVE THAT WAS VISITED TWICE IN VAIN behind a step of its processor, since something was gained last, is spent: no mail is held for it, both mailboxes
 /// are empty, it has nothing to offer, and no state service drains.
@@ -84,4 +87,15 @@ pub fn phase_law<M, R>()
 pub fn going_law<M, Q, R>()
     ensures { (table : Table) (x : Spot → Speech M Q R) (acknowledged : Q → Bool) (more : M → Bool) (passed : Q → Bool) (number : ℕ) (back : List (Datagram M)) (a : Clocked M Q R) (u : Under M Q R) (r : Registers) (t : Waits) →
         (g : Going table a.life r t) → AccessVain x acknowledged more passed number back a u g.duty g.phase r → Going table (back_life x acknowledged more passed number back a u) (registers_on table number a r) (waits_on number a u t) }
+{}
+
+/// OF A RING SOME SLAVE WAITS YET behind a frame that came back and gained nothing, with nothing to repair; or each that wasn't given up for good was spent
+/// before it. All stand so behind it as before.
+pub fn ring_law<M, Q, R, S>()
+    // Where something was gained, an open slave with nothing to repair begins to wait.
+    ensures begins { (v : Server M S) (l : Life M Q R) (n : Node M S) (w : Link M S) (q : Wanted) (m : Memory) → Agrees w → Shows l n w q → way_of 1 1 l ≡ None → Waiting v l n m new_waits }
+    ensures some { (x : Spot → Speech M Q R) (acknowledged : Q → Bool) (more : M → Bool) (passed : Q → Bool) (number : ℕ) (back : List (Datagram M)) (ss : List (Kept M S)) (clocked : List (Clocked M Q R)) (us : List (Under M Q R)) (ts : List Waits) →
+        AllVain x acknowledged more passed number back ss clocked us ts → SomeWaits (all_back x acknowledged more passed number back clocked us) (all_on number clocked us ts) ⊎ AllSpent ss clocked }
+    ensures stay { (x : Spot → Speech M Q R) (acknowledged : Q → Bool) (more : M → Bool) (passed : Q → Bool) (number : ℕ) (back : List (Datagram M)) (ss : List (Kept M S)) (clocked : List (Clocked M Q R)) (us : List (Under M Q R)) (ts : List Waits) →
+        AllVain x acknowledged more passed number back ss clocked us ts → AllStay x acknowledged more passed number back ss clocked us ts }
 {}
