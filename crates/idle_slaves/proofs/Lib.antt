@@ -1,6 +1,7 @@
 mod Choosing
 mod Frames
 mod Going
+mod Links
 mod Phases
 mod Returning
 mod Rings

@@ -1,5 +1,6 @@
 pub mod Frames
 pub mod Going
+pub mod Links
 pub mod Phases
 pub mod Rings
 pub mod Rows

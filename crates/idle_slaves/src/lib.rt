@@ -9,7 +9,12 @@ ghost use Rattle.exchange_model.specs.Rows.{Row, answer_after, left};
 ghost use Rattle.life_measure.specs.Gains.{gains};
 ghost use Rattle.life_measure.specs.Repairs.{way_of};
 ghost use Rattle.link_model.specs.Agree.{Agrees};
-ghost use Rattle.life_model.specs.Lives.{Life, Spot, life_next, life_back};
+ghost use Rattle.life_model.specs.Lives.{Life, Spot, Era, life_next, life_back};
+ghost use Rattle.life_model.specs.Eras.{EraIs};
+ghost use Rattle.state_exchange.specs.Stated.{Stated, IsStated};
+ghost use Rattle.segment_model.specs.Record.{Frame};
+ghost use Rattle.segment_model.specs.Slaves.{Processor, Slave};
+ghost use Rattle.idle_slaves.specs.Links.{HasLink};
 ghost use Rattle.life_model.specs.Own.{own};
 ghost use Rattle.link_model.specs.Frames.{node_meets};
 ghost use Rattle.link_model.specs.Link.{Link};
@@ -98,4 +103,10 @@ pub fn ring_law<M, Q, R, S>()
         AllVain x acknowledged more passed number back ss clocked us ts → SomeWaits (all_back x acknowledged more passed number back clocked us) (all_on number clocked us ts) ⊎ AllSpent ss clocked }
     ensures stay { (x : Spot → Speech M Q R) (acknowledged : Q → Bool) (more : M → Bool) (passed : Q → Bool) (number : ℕ) (back : List (Datagram M)) (ss : List (Kept M S)) (clocked : List (Clocked M Q R)) (us : List (Under M Q R)) (ts : List Waits) →
         AllVain x acknowledged more passed number back ss clocked us ts → AllStay x acknowledged more passed number back ss clocked us ts }
+{}
+
+/// AN OPEN EPOCH HAS A LINK of its master's halves and its slave's mailboxes that agrees, so where nothing is in doubt its slave begins to wait.
+pub fn link_law<V, A, M, Q, R>()
+    ensures { (x : Exchange V A M Q R) (s : Stated V A Q) (processor : Processor V) (table : ℕ → Table) (spot : Spot) (e : Era M Q R) (opened last : ℕ) (fs : List (Frame M)) (v : V) (r : Registers) (slave : Slave V M) →
+        IsLawful x → IsStated x s → EraIs x s processor table spot e opened last fs v r slave → HasLink e.side slave }
 {}
