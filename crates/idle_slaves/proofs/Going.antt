@@ -10,11 +10,10 @@ use Rattle.run_frames.specs.Clocks.{Clocked}
 use Rattle.run_frames.specs.Goes.{Under, back_life}
 use Rattle.run_frames.specs.Waits.{Waits, waits_on}
 use Rattle.segment_model.specs.Ends.{Outcome}
-use Rattle.segment_model.specs.Record.{is_for}
 use Rattle.segment_model.specs.Seats.{Side}
 use Rattle.segment_model.specs.Slaves.{Registers, Datagram, Access, Found}
 use Rattle.state_exchange.specs.Stated.{Service}
-use Rattle.state_model.specs.States.{Table, Phase, Hand, States, Event, Turn, happens, reads, shown, run, carry, new_states, phase_written}
+use Rattle.state_model.specs.States.{Table, Phase, States, Event, Turn, happens, reads, shown, run, carry, new_states, phase_written}
 use Rattle.task_model.specs.Accounts.{Account, Duty, Stage, Pick, Progress, account_begins, account_back, account_met, account_by, access_done, phase_access, turn_progress}
 use Rattle.idle_slaves.specs.Going.{IsCome, Going, AccessCame, AccessVain, registers_on}
 use Rattle.idle_slaves.specs.Phases.{IsSeen, HandSeen, TakesOn}

@@ -10,3 +10,4 @@ mod Steps
 mod Visited
 mod Visiting
 mod Waiting
+mod Worked

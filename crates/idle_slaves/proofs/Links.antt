@@ -1,5 +1,5 @@
 -- A session of one slave keeps its link.
-use Rattle.std.proofs.Common.{◌≡◌, ℕ, false, Bool, List, [], ◌∷◌, refl, sym, ap, subst}
+use Rattle.std.proofs.Common.{ℕ, false, Bool, List, [], ◌∷◌, refl, subst}
 use Rattle.exchange_model.specs.Exchange.{Exchange, IsLawful}
 use Rattle.life_model.specs.Eras.{EraIs, era_frames, planned}
 use Rattle.life_model.specs.Lives.{Spot, Era}

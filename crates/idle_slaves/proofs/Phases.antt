@@ -8,7 +8,7 @@ use Rattle.segment_model.specs.Slaves.{Registers}
 use Rattle.state_model.specs.Promises.{IsTable, state_closed}
 use Rattle.state_model.specs.States.{Table, Phase, Hand, States, Event, Turn, happens, run, begins, writes, looks, returned, turned, shown, reads, word_of, word_met, phase_written, carry, word_carried, decided, new_states}
 use Rattle.state_model.proofs.Kept.{HoldsAt, happens_holds, new_holds}
-use Rattle.state_model.proofs.Words.{Fresh, Changed, Denied, Flag, Cleared, InHand, Kept}
+use Rattle.state_model.proofs.Words.{Flag, Cleared, InHand, Kept}
 use Rattle.task_model.specs.Accounts.{turn_progress}
 use Rattle.idle_slaves.specs.Phases.{IsSeen, IsLed, HandLed, HandSeen, TakesOn}
 

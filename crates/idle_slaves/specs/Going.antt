@@ -1,5 +1,5 @@
 -- AN OPEN SLAVE WITH A STATE SERVICE PAST ITS DRAIN, frame by frame of a run.
-use Rattle.std.specs.Prelude.{◌≡◌, ℕ, suc, ◌%◌, ◌==◌, Bool, true, false, if◌then◌else◌, Option, Some, List, [], ◌∷◌}
+use Rattle.std.specs.Prelude.{◌≡◌, ℕ, suc, ◌%◌, ◌==◌, Bool, true, false, if◌then◌else◌, Some, List, [], ◌∷◌}
 use Rattle.exchange_model.specs.Exchange.{Speech}
 use Rattle.life_measure.specs.Gains.{gains}
 use Rattle.life_model.specs.Lives.{Life, Spot, Stand, life_next, returns_to_init}
