@@ -13,10 +13,10 @@ use Rattle.segment_model.specs.Ends.{Outcome}
 use Rattle.segment_model.specs.Seats.{Side}
 use Rattle.segment_model.specs.Slaves.{Registers, Datagram, Access, Found}
 use Rattle.state_exchange.specs.Stated.{Service}
-use Rattle.state_model.specs.States.{Table, Phase, States, Event, Turn, happens, reads, shown, run, carry, new_states, phase_written}
+use Rattle.state_model.specs.States.{Table, Phase, States, Event, Turn, happens, reads, shown, run, carry, phase_written}
 use Rattle.task_model.specs.Accounts.{Account, Duty, Stage, Pick, Progress, account_begins, account_back, account_met, account_by, access_done, phase_access, turn_progress}
 use Rattle.idle_slaves.specs.Going.{IsCome, Going, AccessCame, AccessVain, registers_on}
-use Rattle.idle_slaves.specs.Phases.{IsSeen, HandSeen, TakesOn}
+use Rattle.idle_slaves.specs.Phases.{IsSeen, HandSeen, TakesOn, idle_states}
 use Rattle.idle_slaves.proofs.Phases.{behind_step, takes_on}
 
 -- ---- THE REGISTERS behind a step
@@ -26,11 +26,12 @@ run_more table w (e ∷ es) = run_more table (happens table w e) es
 
 come_step : (M R : Type 0) (table : Table) (target : ℕ) (phase : Phase) (r : Registers) → IsCome M R table target phase r → IsCome M R table target phase (carry table r)
 come_step M R table target phase r c =
-    let more = run_more table (new_states {M = M} {R = R} c.first c.start) c.events in
+    let more = run_more table (idle_states {M = M} {R = R} c.first) c.events in
     record {
       start = c.start;
       sits = c.sits;
       first = c.first;
+      rests = c.rests;
       events = c.events ++ Event.Step ∷ [];
       hand = c.hand;
       is = ap (λ z. z.hand) more ∙ c.is;
@@ -41,10 +42,10 @@ come_step M R table target phase r c =
 
 seen_step : (M R : Type 0) (table : Table) (target : ℕ) (phase : Phase) (r : Registers) → IsCome M R table target phase r → IsSeen target phase (carry table r)
 seen_step M R table target phase r c =
-    let all = behind_step M R table c.start c.sits c.first c.events in
-    let one : HandSeen (Some c.hand) (carry table (run table (new_states {M = M} {R = R} c.first c.start) c.events).registers) = subst (λ h. HandSeen h (carry table (run table (new_states {M = M} {R = R} c.first c.start) c.events).registers)) c.is all in
-    subst (λ z. IsSeen target phase (carry table z)) c.registers (subst (λ p. IsSeen target p (carry table (run table (new_states {M = M} {R = R} c.first c.start) c.events).registers)) c.phase_is
-    (subst (λ n. IsSeen n c.hand.phase (carry table (run table (new_states {M = M} {R = R} c.first c.start) c.events).registers)) c.target_is one))
+    let all = behind_step M R table c.start c.sits c.first c.rests c.events in
+    let one : HandSeen (Some c.hand) (carry table (run table (idle_states {M = M} {R = R} c.first) c.events).registers) = subst (λ h. HandSeen h (carry table (run table (idle_states {M = M} {R = R} c.first) c.events).registers)) c.is all in
+    subst (λ z. IsSeen target phase (carry table z)) c.registers (subst (λ p. IsSeen target p (carry table (run table (idle_states {M = M} {R = R} c.first) c.events).registers)) c.phase_is
+    (subst (λ n. IsSeen n c.hand.phase (carry table (run table (idle_states {M = M} {R = R} c.first) c.events).registers)) c.target_is one))
 
 -- ---- WHAT THE ACCESS MAKES OF THE SERVICE
 abbrev Made : (R M : Type 0) → Duty → Datagram M → Progress R

@@ -10,21 +10,22 @@ use Rattle.run_frames.specs.Waits.{Waits}
 use Rattle.segment_model.specs.Record.{is_for}
 use Rattle.segment_model.specs.Slaves.{Registers, Datagram, Found}
 use Rattle.state_model.specs.Promises.{IsTable}
-use Rattle.state_model.specs.States.{Table, Phase, Hand, Event, reads, run, carry, new_states}
+use Rattle.state_model.specs.States.{Table, Phase, Hand, Event, reads, run, carry}
 use Rattle.task_model.specs.Accounts.{Duty, Stage, Pick, phase_access}
-use Rattle.idle_slaves.specs.Phases.{IsSeen}
+use Rattle.idle_slaves.specs.Phases.{IsSeen, Rests, idle_states}
 
 -- a state service in this phase and its slave's registers are come to by events of state services, whatever was lost
 pub record IsCome (M R : Type 0) (table : Table) (target : ℕ) (phase : Phase) (r : Registers) : Type 0 where
   pub start : ℕ
   pub sits : IsTable table start
   pub first : Registers
+  pub rests : Rests start first
   pub events : List Event
   pub hand : Hand M
-  pub is : (run table (new_states {M = M} {R = R} first start) events).hand ≡ Some hand
+  pub is : (run table (idle_states {M = M} {R = R} first) events).hand ≡ Some hand
   pub target_is : hand.target ≡ target
   pub phase_is : hand.phase ≡ phase
-  pub registers : (run table (new_states {M = M} {R = R} first start) events).registers ≡ r
+  pub registers : (run table (idle_states {M = M} {R = R} first) events).registers ≡ r
 
 -- THE SERVICE GOES ON, and returns its slave not to Init: since something was gained no visit came behind a step of the slave, and behind one the status
 -- stands that it awaits

@@ -25,9 +25,9 @@ ghost use Rattle.run_frames.specs.Waits.{Waits, new_waits, waits_on, all_on, Som
 ghost use Rattle.segment_model.specs.Record.{News};
 ghost use Rattle.segment_model.specs.Slaves.{Datagram, Found, Registers};
 ghost use Rattle.state_model.specs.Promises.{IsTable};
-ghost use Rattle.state_model.specs.States.{Table, Phase, Event, run, carry, new_states};
+ghost use Rattle.state_model.specs.States.{Table, Phase, Event, run, carry};
 ghost use Rattle.idle_slaves.specs.Going.{Going, AccessVain, registers_on};
-ghost use Rattle.idle_slaves.specs.Phases.{IsSeen, HandSeen, TakesOn};
+ghost use Rattle.idle_slaves.specs.Phases.{IsSeen, HandSeen, TakesOn, Rests, idle_states};
 ghost use Rattle.task_model.specs.Accounts.{Pick};
 ghost use Rattle.idle_slaves.specs.Waiting.{Wanted, Memory, Coming, MayCome, IsVain, IsWaiting, IsSpent, IsIdle, memory_behind, tried};
 ghost use Rattle.segment_model.specs.Seats.{is_over};
@@ -83,7 +83,7 @@ pub fn row_law<V, A, M, Q, R>()
 /// BEHIND A STEP each visit takes a state service on that is past its drain, whatever came and was lost before: the status that it awaits stands, its target or
 /// an error flag, or that the flag is gone.
 pub fn phase_law<M, R>()
-    ensures stands { (table : Table) (start : ℕ) → IsTable table start → (r : Registers) (es : List Event) → let w = run table (new_states {M = M} {R = R} r start) es in HandSeen w.hand (carry table w.registers) }
+    ensures stands { (table : Table) (start : ℕ) → IsTable table start → (r : Registers) → Rests start r → (es : List Event) → let w = run table (idle_states {M = M} {R = R} r) es in HandSeen w.hand (carry table w.registers) }
     ensures gains { (target : ℕ) (phase : Phase) (r : Registers) → IsSeen target phase r → TakesOn R target phase r }
 {}
 
