@@ -5,6 +5,7 @@ mod Links
 mod Phases
 mod Returning
 mod Rings
+mod Rowless
 mod Rows
 mod Steps
 mod Visited

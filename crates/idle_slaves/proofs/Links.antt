@@ -8,12 +8,13 @@ use Rattle.segment_model.specs.Seats.{Seat, Side, Planned, link_of, sides_of, ri
 use Rattle.segment_model.specs.Slaves.{Processor, Registers, Ring, Slave}
 use Rattle.state_exchange.specs.Stated.{Stated, IsStated}
 use Rattle.state_model.specs.States.{Table}
-use Rattle.task_model.proofs.Sessions.{Whole, session_keeps}
+use Rattle.task_model.proofs.Sessions.{Whole, holds, session_keeps}
 use Rattle.task_model.proofs.Walks.{EachOne}
 use Rattle.task_model.specs.Accounts.{Account}
 use Rattle.task_model.specs.Promise.{EachTask}
 use Rattle.task_model.specs.Tasks.{IsTasked, IsTaskPlan, run, new_tasks}
 use Rattle.idle_slaves.specs.Links.{HasLink}
+use Rattle.idle_slaves.proofs.Rowless.{has_row}
 
 module _ {V A M Q R : Type 0} (x : Exchange V A M Q R) (law : IsLawful x) (s : Stated V A Q) (stated : IsStated x s) (processor : Processor V) (table : ℕ → Table) where
   abbrev more : M → Bool
@@ -28,7 +29,17 @@ module _ {V A M Q R : Type 0} (x : Exchange V A M Q R) (law : IsLawful x) (s : S
     each_link fs (p ∷ qs) [] accounts h = absurd h
     each_link fs (p ∷ qs) (t ∷ ss) [] h = absurd h
     each_link fs (p ∷ qs) (t ∷ ss) (a ∷ accounts) h = (
-      (h.0.is.placed.station, h.0.is.placed.station, λ answers. record { link = link_of t; agrees = h.0.agrees; halves = refl; node = refl }),
+      (
+        h.0.is.placed.station,
+        h.0.is.placed.station,
+        λ answers. record {
+          link = link_of t;
+          agrees = h.0.agrees;
+          halves = refl;
+          node = refl;
+          row = has_row x law s (table p.station) stated more p.registers.state (h.0.is.brought answers).sits fs t a (holds x law s stated processor table more plan.tells fs p t a h.0 answers);
+        },
+      ),
       each_link fs qs ss accounts h.1,
     )
 
