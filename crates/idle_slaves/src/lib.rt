@@ -13,7 +13,7 @@ ghost use Rattle.life_model.specs.Lives.{Life, Spot, Era, life_next, life_back};
 ghost use Rattle.life_model.specs.Eras.{EraIs};
 ghost use Rattle.state_exchange.specs.Stated.{Stated, IsStated};
 ghost use Rattle.segment_model.specs.Record.{Frame};
-ghost use Rattle.segment_model.specs.Slaves.{Processor, Slave};
+ghost use Rattle.segment_model.specs.Slaves.{Processor, Slave, serving};
 ghost use Rattle.idle_slaves.specs.Links.{HasLink};
 ghost use Rattle.life_model.specs.Own.{own};
 ghost use Rattle.link_model.specs.Frames.{node_meets};
@@ -34,7 +34,7 @@ ghost use Rattle.segment_model.specs.Seats.{is_over};
 ghost use Rattle.idle_slaves.specs.Rows.{NeverWaits};
 ghost use Rattle.idle_slaves.specs.Rings.{Kept, AllVain, AllStay, AllSpent};
 ghost use Rattle.idle_slaves.specs.Frames.{InVain, node_on, memory_on};
-ghost use Rattle.idle_slaves.specs.Visited.{Waiting, Shows, Chosen, CameBack, HasRow, IsUnpaused, LifeSpent, life_visit, memory_of};
+ghost use Rattle.idle_slaves.specs.Visited.{Waiting, Shows, Chosen, CameBack, HasRow, IsUnpaused, LifeSpent, IsLeft, life_visit, memory_of};
 
 /// A SLAVE THAT WAS VISITED TWICE IN VAIN behind a step of its processor, since something was gained last, is spent: no mail is held for it, both mailboxes
 /// are empty, it has nothing to offer, and no state service drains.
@@ -109,4 +109,10 @@ pub fn ring_law<M, Q, R, S>()
 pub fn link_law<V, A, M, Q, R>()
     ensures { (x : Exchange V A M Q R) (s : Stated V A Q) (processor : Processor V) (table : ℕ → Table) (spot : Spot) (e : Era M Q R) (opened last : ℕ) (fs : List (Frame M)) (v : V) (r : Registers) (slave : Slave V M) →
         IsLawful x → IsStated x s → EraIs x s processor table spot e opened last fs v r slave → HasLink e.side slave }
+{}
+
+/// A SLAVE THAT IS SPENT is settled, with nothing held and no state service in hand: so where besides its service by mails is over (`row_law`) its master wants
+/// nothing of it.
+pub fn left_law<V, A, M, Q, R>()
+    ensures { (x : Exchange V A M Q R) (l : Life M Q R) (n : Slave V M) → LifeSpent (serving x) l n.node → IsLeft l n }
 {}
