@@ -4,16 +4,16 @@ use Rattle.std.specs.Prelude.{◌&&◌}
 use Rattle.exchange_model.specs.Exchange.{Speech}
 use Rattle.exchange_model.specs.Rows.{Row, begun, left}
 use Rattle.life_model.specs.Lives.{Life, Stand, life_next, granted}
-use Rattle.link_model.specs.Link.{Halves, Link, Event, happens, held_after}
+use Rattle.link_model.specs.Link.{Halves, Link, held_after}
 use Rattle.link_model.specs.Mails.{LinkMail}
 use Rattle.link_model.specs.Master.{out_hold}
 use Rattle.link_model.specs.Slave.{Node, Server}
 use Rattle.run_frames.specs.Waits.{Waits}
 use Rattle.segment_model.specs.Seats.{Side, Choice, side_begins, side_holds, side_next, next_mail, first_left, is_over, is_none_left}
 use Rattle.state_exchange.specs.Stated.{Service}
-use Rattle.task_model.specs.Accounts.{Account, Duty, Pick, Stage, account_begins, account_next, mails_begin, mails_choice, is_free, is_acknowledged, starts, state_begins}
-use Rattle.idle_slaves.specs.Waiting.{Wanted, Memory, Coming, MayCome, IsWaiting, link_by, wanted_by}
-use Rattle.idle_slaves.specs.Visited.{IsFor, IsUnpaused, Shows, Waiting, Chosen}
+use Rattle.task_model.specs.Accounts.{Account, Duty, Pick, Stage, account_begins, mails_begin, mails_choice, is_free, is_acknowledged, starts, state_begins}
+use Rattle.idle_slaves.specs.Waiting.{Wanted, Memory, Coming}
+use Rattle.idle_slaves.specs.Visited.{IsFor, IsUnpaused, Waiting, Chosen}
 
 -- A MAIL IS TAKEN UP where none is held, or the halves stay
 pub data Holds {M : Type 0} (h k : Halves M) : Type 0 where

@@ -4,14 +4,14 @@ use Rattle.std.specs.Prelude.{◌&&◌}
 use Rattle.exchange_model.specs.Exchange.{Speech}
 use Rattle.life_measure.specs.Gains.{gains}
 use Rattle.life_measure.proofs.Gaining.{next_same}
-use Rattle.life_model.specs.Lives.{Life, Spot, Stand, life_next, life_back}
+use Rattle.life_model.specs.Lives.{Life, Spot, Stand, life_back}
 use Rattle.link_model.specs.Slave.{Node, Server, processor_step}
 use Rattle.run_frames.specs.Clocks.{Clocked}
 use Rattle.run_frames.specs.Goes.{Under, back_life}
 use Rattle.run_frames.specs.Waits.{Waits, waits_on}
 use Rattle.segment_model.specs.Slaves.{Datagram}
 use Rattle.idle_slaves.specs.Frames.{InVain, node_on, memory_on}
-use Rattle.idle_slaves.specs.Visited.{CameBack, Waiting, Chosen, LifeSpent, life_visit, memory_of}
+use Rattle.idle_slaves.specs.Visited.{Waiting, Chosen, LifeSpent, life_visit, memory_of}
 use Rattle.idle_slaves.specs.Waiting.{Memory, memory_behind, tried}
 use Rattle.idle_slaves.proofs.Choosing.{chosen}
 use Rattle.idle_slaves.proofs.Visited.{on, second, none, stepped, life_spent}

@@ -1,9 +1,15 @@
 mod Choosing
 mod Frames
+mod Going
+mod Links
 mod Phases
 mod Returning
+mod Rings
+mod Rowless
 mod Rows
+mod Settled
 mod Steps
 mod Visited
 mod Visiting
 mod Waiting
+mod Worked

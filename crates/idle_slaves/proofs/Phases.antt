@@ -6,11 +6,11 @@ use Rattle.segment_model.specs.Ends.{Outcome}
 use Rattle.segment_model.specs.Record.{News}
 use Rattle.segment_model.specs.Slaves.{Registers}
 use Rattle.state_model.specs.Promises.{IsTable, state_closed}
-use Rattle.state_model.specs.States.{Table, Phase, Hand, States, Event, Turn, happens, run, begins, writes, looks, returned, turned, shown, reads, word_of, word_met, phase_written, carry, word_carried, decided, new_states}
-use Rattle.state_model.proofs.Kept.{HoldsAt, happens_holds, new_holds}
-use Rattle.state_model.proofs.Words.{Fresh, Changed, Denied, Flag, Cleared, InHand, Kept}
+use Rattle.state_model.specs.States.{Table, Phase, Hand, States, Event, Turn, happens, run, begins, writes, looks, returned, turned, shown, reads, word_of, word_met, phase_written, carry, word_carried, decided}
+use Rattle.state_model.proofs.Kept.{HoldsAt, happens_holds}
+use Rattle.state_model.proofs.Words.{Flag, Cleared, InHand, Kept}
 use Rattle.task_model.specs.Accounts.{turn_progress}
-use Rattle.idle_slaves.specs.Phases.{IsSeen, IsLed, HandLed, HandSeen, TakesOn}
+use Rattle.idle_slaves.specs.Phases.{IsSeen, IsLed, HandLed, HandSeen, Rests, TakesOn, idle_states}
 
 module _ (table : Table) where
   -- ---- A STEP
@@ -170,10 +170,10 @@ module _ (table : Table) where
     run_both w [] b = b
     run_both w (e ∷ es) b = run_both (happens table w e) es (record { holds = happens_holds table stays start w e b.holds; led = happens_led w e b.holds b.led })
 
-pub behind_step : (M R : Type 0) (table : Table) (start : ℕ) → IsTable table start → (r : Registers) (es : List Event) → (let w = run table (new_states {M = M} {R = R} r start) es in HandSeen w.hand (carry table w.registers))
-behind_step M R table start is r es =
-    let new = new_states {M = M} {R = R} r start in
-    let b = run_both table is.stays start new es (record { holds = new_holds table is.stays start r is.sits; led = tt }) in
+pub behind_step : (M R : Type 0) (table : Table) (start : ℕ) → IsTable table start → (r : Registers) → Rests start r → (es : List Event) → (let w = run table (idle_states {M = M} {R = R} r) es in HandSeen w.hand (carry table w.registers))
+behind_step M R table start is r rests es =
+    let new = idle_states {M = M} {R = R} r in
+    let b = run_both table is.stays start new es (record { holds = record { told = tt; sits = is.sits; kept = record { state = rests.state; refused = rests.refused; word = rests.word }; reads = tt }; led = tt }) in
     steps_seen table is.stays start (run table new es) b.holds b.led
 
 -- ---- WHAT A VISIT GAINS

@@ -8,12 +8,12 @@ use Rattle.life_measure.proofs.Gaining.{written_gains, heard_gains, state_gains}
 use Rattle.life_model.specs.Lives.{Era, Life, Spot, Stand, life_back, era_back, reopens, reopens_at}
 use Rattle.life_model.specs.Own.{own}
 use Rattle.link_model.specs.Agree.{Agrees, InAgree}
-use Rattle.link_model.specs.Frames.{Ask, Gram, mail_back, halves_after, halves_answered, halves_accept, all_accepted, node_meets}
+use Rattle.link_model.specs.Frames.{Ask, mail_back, halves_after, halves_answered, halves_accept, all_accepted, node_meets}
 use Rattle.link_model.specs.Gains.{write_gain, read_gain}
 use Rattle.link_model.specs.Link.{Halves, Link, write_counter, written}
 use Rattle.link_model.specs.Mails.{LinkMail, differs, news}
-use Rattle.link_model.specs.Master.{InHalf, InState, read_answered}
-use Rattle.link_model.specs.Slave.{InSide, Node, OutSide}
+use Rattle.link_model.specs.Master.{InState, read_answered}
+use Rattle.link_model.specs.Slave.{Node}
 use Rattle.link_model.proofs.Gains.{clear_news}
 use Rattle.segment_model.specs.Record.{News, is_for}
 use Rattle.segment_model.specs.Slaves.{Datagram, Access, Found, grams}

@@ -1,5 +1,5 @@
 -- A service in hand is over where nothing is left to tell, to take and to hear.
-use Rattle.std.proofs.Common.{◌≡◌, ℕ, Bool, true, false, is_none, is_some, Option, Some, None, List, [], ◌∷◌, ◌++◌, length, refl, sym, ap, ◌∙◌, subst, append-nil, if◌then◌else◌}
+use Rattle.std.proofs.Common.{◌≡◌, ℕ, Bool, true, false, is_none, is_some, Option, Some, None, List, [], ◌++◌, length, refl, sym, ap, ◌∙◌, append-nil, if◌then◌else◌}
 use Rattle.std.specs.Prelude.{◌&&◌, not, drop}
 use Rattle.exchange_model.specs.Exchange.{Exchange, IsLawful, after, given, plain}
 use Rattle.exchange_model.specs.Laws.{Moment}

@@ -1,11 +1,10 @@
 -- A slave that waits, visit by visit.
-use Rattle.std.proofs.Common.{◌≡◌, ◌≤◌, ℕ, Bool, true, false, is_some, Option, Some, None, List, [], refl, sym, ap, ◌∙◌, subst}
+use Rattle.std.proofs.Common.{◌≡◌, ◌≤◌, ℕ, Bool, true, false, is_some, Option, Some, None, List, [], sym, ap, ◌∙◌, subst}
 use Rattle.exchange_model.specs.Exchange.{Speech}
 use Rattle.life_measure.specs.Gains.{gains}
-use Rattle.life_measure.specs.Visits.{Visit, mails_visit, drain_visit, visit_gain, visited}
+use Rattle.life_measure.specs.Visits.{Visit, mails_visit, visit_gain, visited}
 use Rattle.life_model.specs.Lives.{Life, Spot, Stand, life_back}
 use Rattle.life_model.specs.Own.{own}
-use Rattle.link_model.specs.Agree.{Agrees}
 use Rattle.link_model.specs.Frames.{node_meets}
 use Rattle.link_model.specs.Link.{Halves, Link, Event, happens}
 use Rattle.link_model.specs.Master.{InState}

@@ -1,8 +1,8 @@
 -- A STATE SERVICE PAST ITS DRAIN, and the registers of its slave: behind a step the status that it awaits stands.
-use Rattle.std.specs.Prelude.{◌≡◌, ◌⊎◌, ℕ, suc, ◌≤◌, true, false, Option, Some, None, ⊤}
+use Rattle.std.specs.Prelude.{◌≡◌, ◌⊎◌, ℕ, suc, ◌≤◌, Bool, true, false, Option, Some, None, [], ⊤}
 use Rattle.life_measure.specs.Gains.{phase_gains, progress_gains}
 use Rattle.segment_model.specs.Slaves.{Registers}
-use Rattle.state_model.specs.States.{Phase, Hand, reads, phase_written, shown}
+use Rattle.state_model.specs.States.{States, Phase, Hand, reads, phase_written, shown}
 use Rattle.task_model.specs.Accounts.{turn_progress}
 
 -- THE STATUS THAT TAKES IT ON STANDS: its target or an error flag; or that flag is gone
@@ -33,3 +33,13 @@ HandSeen (Some h) r = IsSeen h.target h.phase r
 pub record TakesOn (R : Type 0) (target : ℕ) (phase : Phase) (r : Registers) : Type 0 where
   pub word : reads phase ≡ false → suc (phase_gains phase) ≤ phase_gains (phase_written phase)
   pub status : reads phase ≡ true → suc (phase_gains phase) ≤ progress_gains {R = R} (turn_progress (shown target phase r.state r.refused))
+
+-- A SLAVE IN THIS STATE, of which nothing is asked: no error flag stands, and a word that waits asks for the state that stands, as a slow slave's may
+pub record Rests (start : ℕ) (r : Registers) : Type 0 where
+  pub state : r.state ≡ start
+  pub refused : r.refused ≡ None
+  pub word : (word : ℕ × Bool) → r.control ≡ Some word → word.0 ≡ start
+
+-- before any state service
+abbrev pub idle_states : {M R : Type 0} → Registers → States M R
+idle_states r = record { registers = r; hand = None; closed = [] }

@@ -7,10 +7,12 @@ use Rattle.life_model.specs.Own.{own}
 use Rattle.link_model.specs.Frames.{Ask, mail_back}
 use Rattle.link_model.specs.Link.{Halves, Link, write_counter}
 use Rattle.link_model.specs.Mails.{LinkMail}
+use Rattle.link_model.specs.Master.{InState}
 use Rattle.link_model.specs.Slave.{Node, Server}
 use Rattle.run_frames.specs.Waits.{Waits}
 use Rattle.segment_model.specs.Record.{is_for}
-use Rattle.segment_model.specs.Slaves.{Datagram, Access, Found}
+use Rattle.segment_model.specs.Laws.{IsSettled}
+use Rattle.segment_model.specs.Slaves.{Datagram, Access, Found, Slave}
 use Rattle.state_exchange.specs.Stated.{Service}
 use Rattle.task_model.specs.Accounts.{Duty, Pick, Stage}
 use Rattle.idle_slaves.specs.Waiting.{Wanted, Memory, Coming, MayCome, IsWaiting, IsSpent, link_by, wanted_by}
@@ -89,3 +91,10 @@ pub record LifeSpent {M Q R S : Type 0} (v : Server M S) (l : Life M Q R) (n : N
   pub link : Link M S
   pub shows : Shows l n link Wanted.Mails
   pub spent : IsSpent v link
+
+-- WHAT IS LEFT of a slave then: it is settled, and its master has no mail and no state service in hand and nothing in doubt
+pub record IsLeft {V M Q R : Type 0} (l : Life M Q R) (n : Slave V M) : Type 0 where
+  pub settled : IsSettled n
+  pub hand : l.era.account.hand ≡ None
+  pub held : l.era.side.halves.out.holding ≡ None
+  pub clear : l.era.side.halves.inn.state ≡ InState.Clear

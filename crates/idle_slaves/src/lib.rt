@@ -2,30 +2,39 @@
 //! contracts state the laws.
 #![tactic(auto)]
 
-ghost use Rattle.std.specs.Prelude.{◌≡◌, ◌≤◌, ℕ, true, false, Bool, Option, None, List, []};
+ghost use Rattle.std.specs.Prelude.{◌≡◌, ◌≤◌, ◌⊎◌, ℕ, true, false, Bool, Option, None, List, []};
 ghost use Rattle.exchange_model.specs.Exchange.{Exchange, Speech, IsLawful, given, plain};
 ghost use Rattle.exchange_model.specs.Laws.{Moment};
 ghost use Rattle.exchange_model.specs.Rows.{Row, answer_after, left};
 ghost use Rattle.life_measure.specs.Gains.{gains};
-ghost use Rattle.life_model.specs.Lives.{Life, Spot, life_next, life_back};
+ghost use Rattle.life_measure.specs.Repairs.{way_of};
+ghost use Rattle.link_model.specs.Agree.{Agrees};
+ghost use Rattle.life_model.specs.Lives.{Life, Spot, Era, life_next, life_back};
+ghost use Rattle.life_model.specs.Eras.{EraIs};
+ghost use Rattle.state_exchange.specs.Stated.{Stated, IsStated};
+ghost use Rattle.segment_model.specs.Record.{Frame};
+ghost use Rattle.segment_model.specs.Slaves.{Processor, Slave, serving};
+ghost use Rattle.idle_slaves.specs.Links.{HasLink};
 ghost use Rattle.life_model.specs.Own.{own};
 ghost use Rattle.link_model.specs.Frames.{node_meets};
 ghost use Rattle.link_model.specs.Link.{Link};
 ghost use Rattle.link_model.specs.Slave.{Node, Server, processor_step};
 ghost use Rattle.run_frames.specs.Clocks.{Clocked};
-ghost use Rattle.run_frames.specs.Goes.{Under, back_life};
-ghost use Rattle.run_frames.specs.Waits.{Waits, waits_on};
+ghost use Rattle.run_frames.specs.Goes.{Under, back_life, all_back};
+ghost use Rattle.run_frames.specs.Waits.{Waits, new_waits, waits_on, all_on, SomeWaits};
 ghost use Rattle.segment_model.specs.Record.{News};
 ghost use Rattle.segment_model.specs.Slaves.{Datagram, Found, Registers};
 ghost use Rattle.state_model.specs.Promises.{IsTable};
-ghost use Rattle.state_model.specs.States.{Table, Phase, Event, run, carry, new_states};
-ghost use Rattle.idle_slaves.specs.Phases.{IsSeen, HandSeen, TakesOn};
+ghost use Rattle.state_model.specs.States.{Table, Phase, Event, run, carry};
+ghost use Rattle.idle_slaves.specs.Going.{Going, AccessVain, registers_on};
+ghost use Rattle.idle_slaves.specs.Phases.{IsSeen, HandSeen, TakesOn, Rests, idle_states};
 ghost use Rattle.task_model.specs.Accounts.{Pick};
 ghost use Rattle.idle_slaves.specs.Waiting.{Wanted, Memory, Coming, MayCome, IsVain, IsWaiting, IsSpent, IsIdle, memory_behind, tried};
 ghost use Rattle.segment_model.specs.Seats.{is_over};
 ghost use Rattle.idle_slaves.specs.Rows.{NeverWaits};
+ghost use Rattle.idle_slaves.specs.Rings.{Kept, AllVain, AllStay, AllSpent};
 ghost use Rattle.idle_slaves.specs.Frames.{InVain, node_on, memory_on};
-ghost use Rattle.idle_slaves.specs.Visited.{Waiting, Chosen, CameBack, HasRow, IsUnpaused, LifeSpent, life_visit, memory_of};
+ghost use Rattle.idle_slaves.specs.Visited.{Waiting, Shows, Chosen, CameBack, HasRow, IsUnpaused, LifeSpent, IsLeft, life_visit, memory_of};
 
 /// A SLAVE THAT WAS VISITED TWICE IN VAIN behind a step of its processor, since something was gained last, is spent: no mail is held for it, both mailboxes
 /// are empty, it has nothing to offer, and no state service drains.
@@ -74,6 +83,36 @@ pub fn row_law<V, A, M, Q, R>()
 /// BEHIND A STEP each visit takes a state service on that is past its drain, whatever came and was lost before: the status that it awaits stands, its target or
 /// an error flag, or that the flag is gone.
 pub fn phase_law<M, R>()
-    ensures stands { (table : Table) (start : ℕ) → IsTable table start → (r : Registers) (es : List Event) → let w = run table (new_states {M = M} {R = R} r start) es in HandSeen w.hand (carry table w.registers) }
+    ensures stands { (table : Table) (start : ℕ) → IsTable table start → (r : Registers) → Rests start r → (es : List Event) → let w = run table (idle_states {M = M} {R = R} r) es in HandSeen w.hand (carry table w.registers) }
     ensures gains { (target : ℕ) (phase : Phase) (r : Registers) → IsSeen target phase r → TakesOn R target phase r }
+{}
+
+/// A STATE SERVICE PAST ITS DRAIN IS NEVER VISITED IN VAIN behind a step, as a run's frames are counted, but where it returns its slave to Init: by each frame
+/// that came back with nothing gained it goes on so.
+pub fn going_law<M, Q, R>()
+    ensures { (table : Table) (x : Spot → Speech M Q R) (acknowledged : Q → Bool) (more : M → Bool) (passed : Q → Bool) (number : ℕ) (back : List (Datagram M)) (a : Clocked M Q R) (u : Under M Q R) (r : Registers) (t : Waits) →
+        (g : Going table a.life r t) → AccessVain x acknowledged more passed number back a u g.duty g.phase r → Going table (back_life x acknowledged more passed number back a u) (registers_on table number a r) (waits_on number a u t) }
+{}
+
+/// OF A RING SOME SLAVE WAITS YET behind a frame that came back and gained nothing, with nothing to repair; or each that wasn't given up for good was spent
+/// before it. All stand so behind it as before.
+pub fn ring_law<M, Q, R, S>()
+    // Where something was gained, an open slave with nothing to repair begins to wait.
+    ensures begins { (v : Server M S) (l : Life M Q R) (n : Node M S) (w : Link M S) (q : Wanted) (m : Memory) → Agrees w → Shows l n w q → way_of 1 1 l ≡ None → Waiting v l n m new_waits }
+    ensures some { (x : Spot → Speech M Q R) (acknowledged : Q → Bool) (more : M → Bool) (passed : Q → Bool) (number : ℕ) (back : List (Datagram M)) (ss : List (Kept M S)) (clocked : List (Clocked M Q R)) (us : List (Under M Q R)) (ts : List Waits) →
+        AllVain x acknowledged more passed number back ss clocked us ts → SomeWaits (all_back x acknowledged more passed number back clocked us) (all_on number clocked us ts) ⊎ AllSpent ss clocked }
+    ensures stay { (x : Spot → Speech M Q R) (acknowledged : Q → Bool) (more : M → Bool) (passed : Q → Bool) (number : ℕ) (back : List (Datagram M)) (ss : List (Kept M S)) (clocked : List (Clocked M Q R)) (us : List (Under M Q R)) (ts : List Waits) →
+        AllVain x acknowledged more passed number back ss clocked us ts → AllStay x acknowledged more passed number back ss clocked us ts }
+{}
+
+/// AN OPEN EPOCH HAS A LINK of its master's halves and its slave's mailboxes that agrees, so where nothing is in doubt its slave begins to wait.
+pub fn link_law<V, A, M, Q, R>()
+    ensures { (x : Exchange V A M Q R) (s : Stated V A Q) (processor : Processor V) (table : ℕ → Table) (spot : Spot) (e : Era M Q R) (opened last : ℕ) (fs : List (Frame M)) (v : V) (r : Registers) (slave : Slave V M) →
+        IsLawful x → IsStated x s → EraIs x s processor table spot e opened last fs v r slave → HasLink e.side slave }
+{}
+
+/// A SLAVE THAT IS SPENT is settled, with nothing held and no state service in hand: so where besides its service by mails is over (`row_law`) its master wants
+/// nothing of it.
+pub fn left_law<V, A, M, Q, R>()
+    ensures { (x : Exchange V A M Q R) (l : Life M Q R) (n : Slave V M) → LifeSpent (serving x) l n.node → IsLeft l n }
 {}

@@ -1,0 +1,49 @@
+-- Worked visits: a slave with nothing to say, behind a step, and one that waits with a mail.
+use Rattle.std.proofs.Common.{◌≡◌, ℕ, false, true, None, refl, arith}
+use Rattle.std.specs.Prelude.{⊤}
+use Rattle.link_model.specs.Link.{Link, Event, happens, new_link}
+use Rattle.link_model.specs.Slave.{Server}
+use Rattle.link_model.proofs.Law.{new_agrees}
+use Rattle.life_measure.specs.Visits.{Visit, visit_gain, visited}
+use Rattle.run_frames.specs.Waits.{new_waits}
+use Rattle.idle_slaves.specs.Waiting.{Wanted, Memory, Coming, IsWaiting, IsSpent, link_by, visit_with}
+use Rattle.idle_slaves.proofs.Waiting.{spent}
+
+abbrev quiet : Server ℕ ⊤
+quiet = record { take = λ s body. s; next = λ s. None; rest = λ s. s }
+
+abbrev fresh : Memory
+fresh = record { paused = false; turn = false }
+
+-- as it is opened, and behind a step
+abbrev opened : Link ℕ ⊤
+opened = new_link tt
+
+abbrev stepped : Link ℕ ⊤
+stepped = happens quiet opened Event.Pdi
+
+-- two reads of an empty mailbox 1
+abbrev once : Link ℕ ⊤
+once = visited quiet stepped Visit.Read
+
+abbrev twice : Link ℕ ⊤
+twice = visited quiet once Visit.Read
+
+waits : IsWaiting quiet twice Wanted.Mails fresh (record { stepped = true; tries = 2 })
+waits = IsWaiting.visits once Wanted.Mails fresh (record { stepped = true; tries = 1 }) Coming.Nothing
+    (IsWaiting.visits stepped Wanted.Mails fresh (record { stepped = true; tries = 0 }) Coming.Nothing
+    (IsWaiting.steps opened Wanted.Mails fresh new_waits (IsWaiting.new opened Wanted.Mails fresh (new_agrees tt) refl)) tt refl) tt refl
+
+is_spent : IsSpent quiet twice
+is_spent = (spent quiet twice Wanted.Mails fresh (record { stepped = true; tries = 2 }) waits (omega arith)).0
+
+-- a mail that comes into hand is written, and that is no visit in vain
+writes : visit_with quiet stepped Wanted.Mails fresh (Coming.Mail 7) ≡ Visit.Write
+writes = refl
+
+gains : visit_gain (link_by quiet stepped (Coming.Mail 7)) Visit.Write ≡ 1
+gains = refl
+
+-- a state service sees mailbox 0 empty at once
+sees : visit_with quiet stepped Wanted.Mails fresh Coming.State ≡ Visit.Full
+sees = refl
