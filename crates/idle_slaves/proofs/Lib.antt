@@ -7,6 +7,7 @@ mod Returning
 mod Rings
 mod Rowless
 mod Rows
+mod Runs
 mod Settled
 mod Steps
 mod Visited

@@ -4,5 +4,6 @@ pub mod Links
 pub mod Phases
 pub mod Rings
 pub mod Rows
+pub mod Runs
 pub mod Visited
 pub mod Waiting

@@ -31,6 +31,14 @@ ghost use Rattle.idle_slaves.specs.Phases.{IsSeen, HandSeen, TakesOn, Rests, idl
 ghost use Rattle.task_model.specs.Accounts.{Pick};
 ghost use Rattle.idle_slaves.specs.Waiting.{Wanted, Memory, Coming, MayCome, IsVain, IsWaiting, IsSpent, IsIdle, memory_behind, tried};
 ghost use Rattle.segment_model.specs.Seats.{is_over};
+ghost use Rattle.frame_view.specs.View.{Lens};
+ghost use Rattle.life_runs.specs.Led.{Exchanged, Leads};
+ghost use Rattle.link_mails.specs.Body.{Body};
+ghost use Rattle.master_duty.specs.Reply.{Reply};
+ghost use Rattle.master_hand.specs.Spoken.{Asked};
+ghost use Rattle.run_frames.specs.Runs.{Progress};
+ghost use Rattle.run_frames.specs.Toured.{IsToured, WaitIn};
+ghost use Rattle.idle_slaves.specs.Runs.{VainIn};
 ghost use Rattle.idle_slaves.specs.Rows.{NeverWaits};
 ghost use Rattle.idle_slaves.specs.Rings.{Kept, AllVain, AllStay, AllSpent};
 ghost use Rattle.idle_slaves.specs.Frames.{InVain, node_on, memory_on};
@@ -115,4 +123,11 @@ pub fn link_law<V, A, M, Q, R>()
 /// nothing of it.
 pub fn left_law<V, A, M, Q, R>()
     ensures { (x : Exchange V A M Q R) (l : Life M Q R) (n : Slave V M) → LifeSpent (serving x) l n.node → IsLeft l n }
+{}
+
+/// SOME SLAVE WAITS YET behind each frame of a run that gained nothing, where each such frame was in vain of each slave and not each was spent before it: this is
+/// what the count of a run's frames asks for (`WaitIn`).
+pub fn wait_in_law<S>()
+    ensures { (lens : ℕ → Lens) (recover retry slowest : ℕ) (first : List Leads) (paces : List ℕ) (fs : List Exchanged) (again : Option (List ℕ)) (missed : ℕ) (leads : List Leads) (p : Progress) (cs : List (Clocked Body Asked Reply)) →
+        (run : IsToured lens recover retry slowest first paces fs again missed leads p cs) → VainIn S run → WaitIn run }
 {}
