@@ -24,8 +24,7 @@ accepted_at [] k = []
 accepted_at (t ∷ ts) zero = ended t.past t.now
 accepted_at (t ∷ ts) (suc k) = accepted_at ts k
 
--- WHAT BEGAN AT A PORT of a switch with so many, by its events: as many packets as these, and these are the first of those that were forwarded there, in order;
--- behind the port's going down none began
+-- WHAT BEGAN AT A PORT of a switch with so many: as many packets as these, the first of those forwarded there, in order; and none behind its going down
 pub record HasBegunAt (packets : List (ArrayVec ℕ)) (many port : ℕ) (es : List SwitchEvent) : Type 0 where
   pub begun : begun_at port es ≡ length packets
   pub left : List (ArrayVec ℕ)
@@ -39,8 +38,7 @@ pub record HasPort (mails : List (List Body)) (stays : Bool) (in_hand : List (Ar
   pub downs : downs_at port book.switch ≡ (if stays then 0 else 1)
   pub begun : HasBegunAt in_hand many port book.switch
 
--- THE PORTS OF A PLAN'S SLAVES: each that has one, by the mails that its life accepted over the frames, whether it was given up for good, and the packets that came into
--- its hand
+-- THE PORTS OF A PLAN'S SLAVES: each that has one, by the mails that its life accepted, whether it was given up for good, and the packets that came into hand of it
 abbrev pub AllHavePorts : (plan : Scenario) {fs : List Exchanged} {missed : ℕ} {leads : List Leads} → LeadTo plan fs missed leads → Book → Type 0
 AllHavePorts plan {leads = leads} lives book =
     (k port : ℕ) → port_by (slice_get (ports_behind 0 plan.slaves) k) ≡ Some port → HasPort (accepted_at (times_in lives) k) (holds_at is_live_lead leads k) (packets_begun lives k) (ports_of plan.slaves) port book
