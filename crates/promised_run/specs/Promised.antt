@@ -47,7 +47,8 @@ pub record IsPromised (plan : Scenario) (book : Book) : Type 0 where
   -- and the host received just the packets that the events of the book's switch forward to its port; those that came in there are the first of the plan's
   pub packets : book.ending ≢ endings.NoMemory → HasPackets plan book
   -- and at the port of each slave that has one just those packets came in that the mails which its life accepted complete, in order, each whole; and it went down
-  -- once where the slave was given up for good, and never else
+  -- once where the slave was given up for good, and never else; as many packets began there as came into hand of the slave, the first of those that the events
+  -- forward there, in order, and none behind its going down
   pub ports : book.ending ≢ endings.NoMemory → AllHavePorts plan led.lives book
   -- and the frames are the visits of one tour: each is addressed to the first slaves of its visit, in order, and to no other
   pub visits : AllVisit plan led.toured

@@ -4,6 +4,7 @@ use Rattle.std.specs.Prelude.{◌↔◌, ◌&&◌, nat_lt, if◌then◌else◌}
 use Rattle.std.proofs.lemmas.Bool.{lt-ltb, le-ltb}
 use Rattle.std.proofs.lemmas.List.{map-append}
 use Rattle.datagrams.specs.Datagram as Raw
+use Rattle.eoe_switch.specs.Switch.{switched}
 use Rattle.master_node.specs.of_frame_view.View.{Lens}
 use Rattle.master_node.specs.of_frame_view.Seen.{seen}
 use Rattle.master_node.specs.of_life_frames.Shares.{AllBoth, Lived, came_at, given_where}
@@ -18,12 +19,13 @@ use Rattle.master_node.specs.of_master_hand.Spoken.{Asked, acknowledged, is_foll
 use Rattle.master_node.specs.of_life_runs.Led.{new_leads}
 use Rattle.master_node.specs.of_life_model.Lives.{Spot}
 use Rattle.master_node.specs.Arrivals.{completed_at, ComeIn}
+use Rattle.master_node.specs.Begins.{PacketsBegin}
 use Rattle.master_node.specs.Brought.{HasBrought}
 use Rattle.master_node.specs.Downs.{GoDown}
 use Rattle.master_node.specs.Happened.{events_of}
 use Rattle.master_node.specs.Joined.{HasUnfinished, JoinsKept, stand_before, stand_under, unfinished_after}
 use Rattle.master_node.specs.Made.{AreOfMaking}
-use Rattle.master_node.specs.Ports.{ports_behind}
+use Rattle.master_node.specs.Ports.{ports_behind, ports_of}
 use Rattle.master_node.specs.Shows.{MasterShows, MasterUnder, IsLead, IsUnder, is_live_lead}
 use Rattle.master_node.specs.Asks.{AllAsk}
 use Rattle.master_node.specs.Toured.{tour_of, turn_share}
@@ -118,7 +120,7 @@ pub first_forwards : (plan : Scenario) (m : MasterNode) (notes : List Notes) →
 unfolding begins
 first_forwards plan m notes shown first tour ports none = λ b empty. record {
   leading = begins plan m notes shown first tour;
-  forwarded = record { ports = ports; unfinished = subst (λ z. HasUnfinished m (map stand_before (first_leads plan)) z) (sym (none_unfinished plan.services 0 plan.slaves)) none; listed = empty };
+  forwarded = record { ports = ports; unfinished = subst (λ z. HasUnfinished m (map stand_before (first_leads plan)) z) (sym (none_unfinished plan.services 0 plan.slaves)) none; listed = empty; begun = empty };
 }
 
 -- GIVE-UPS over a frame
@@ -188,7 +190,8 @@ module _ (lens : ℕ → Lens) (recover retry : ℕ) (gives : Bool) (made : ℕ)
 -- ONE FRAME: what the master says of it before, and of its return or loss
 module _ (m0 m1 m2 : MasterNode) (f : Exchanged) (result : Next)
     (idle : (result ≡ nexts.Idle) ↔ (has_live m0 ≡ false))
-    (led : result ≡ nexts.Frame → (lens : ℕ → Lens) (recover retry missed number : ℕ) (as' : List Leads) → MasterShows lens recover retry m0 missed as' → (us : List Turn) × IsLedFrame lens number f.sent as' us × MasterUnder lens recover retry m1 f.sent missed us)
+    (led : result ≡ nexts.Frame → (lens : ℕ → Lens) (recover retry missed number : ℕ) (as' : List Leads) → MasterShows lens recover retry m0 missed as' →
+    (us : List Turn) × IsLedFrame lens number f.sent as' us × MasterUnder lens recover retry m1 f.sent missed us × PacketsBegin m0.lan.switch us m1.lan)
     (visits : result ≡ nexts.Frame → (lens : ℕ → Lens) (recover retry missed : ℕ) (as' : List Leads) (us : List Turn) → MasterShows lens recover retry m0 missed as' → MasterUnder lens recover retry m1 f.sent missed us →
     (tour_of m1 ≡ tour_of m0) × IsOfTour (λ u. turn_share u) (λ k. holds_at is_live_lead as' k) (frame_size f.sent) (λ k. area_at lens as' k) (tour_of m0) us (length (seen lens f.sent)) m1.tour.visit.items)
     (asks : result ≡ nexts.Frame → (lens : ℕ → Lens) (recover retry missed : ℕ) (us : List Turn) → MasterUnder lens recover retry m1 f.sent missed us → AllAsk (seen lens f.sent) us) where
@@ -201,7 +204,7 @@ module _ (m0 m1 m2 : MasterNode) (f : Exchanged) (result : Next)
     abbrev lens : ℕ → Lens
     lens = lens_of plan.slaves
 
-    made : (us : List Turn) × IsLedFrame lens (length fs) f.sent l.leads us × MasterUnder lens plan.recover plan.retry m1 f.sent l.missed us
+    made : (us : List Turn) × IsLedFrame lens (length fs) f.sent l.leads us × MasterUnder lens plan.recover plan.retry m1 f.sent l.missed us × PacketsBegin m0.lan.switch us m1.lan
     made = led (made_by result refl live) lens plan.recover plan.retry l.missed (length fs) l.leads l.shows
 
     abbrev gives : Bool
@@ -316,13 +319,14 @@ module _ (m0 m1 m2 : MasterNode) (f : Exchanged) (result : Next)
           (arrivals : f.fate ≡ Fates.Pass → (us : List Turn) (js : List Joined) → IsLedFrame lens (length fs) f.sent l.leads us → MasterUnder lens plan.recover plan.retry m1 f.sent l.missed us → HasUnfinished m1 (map stand_under us) (unfinished_of js) →
           ComeIn m1 (λ k. completed_at (seen lens f.back) us (unfinished_of js) k) m2)
           (downs : (after : ℕ) → f.fate ≡ Fates.Lost after → (us : List Turn) → MasterUnder lens plan.recover plan.retry m1 f.sent l.missed us → GoDown m1 us (lives_behind lens plan.recover plan.retry l.missed (length fs) f us) m2)
-          (grown : b'.switch ≡ b.switch ++ (events_of m1.lan.happened ++ events_of m2.lan.happened)) (w : IsForwarded plan m0 l.lives b.switch) where
+          (grown : b'.switch ≡ b.switch ++ (events_of m1.lan.happened ++ events_of m2.lan.happened)) (w : IsForwarded plan m0 l.lives b.switch)
+          (stood : (switched (ports_of plan.slaves) b.switch).switch ≡ m0.lan.switch) (stands : (switched (ports_of plan.slaves) (b.switch ++ events_of m1.lan.happened)).switch ≡ m1.lan.switch) where
         pub forwards_on : Forwards plan m2 r'.notes (fs ++ f ∷ []) b'
         unfolding leads_on
         forwards_on = record {
           leading = leads_on;
           forwarded = forwarded_on plan fs l.missed l.leads l.lives f made.0 made.1 m0 m1 m2 made.2 visited.1 joins making (λ pass. back pass made.0 made.1) (λ h. joined made.0 (joined_in l.lives) made.1 made.2 h)
-              (λ pass h. arrivals pass made.0 (joined_in l.lives) made.1 made.2 h) (λ after lost. downs after lost made.0 made.2) b.switch b'.switch grown w;
+              (λ pass h. arrivals pass made.0 (joined_in l.lives) made.1 made.2 h) (λ after lost. downs after lost made.0 made.2) b.switch b'.switch grown w made.3 stood stands;
         }
 
 -- what the ring gave back of a frame of the master's is its return

@@ -1,3 +1,4 @@
+pub use Rattle.packets_begun.proofs as of_packets_begun
 pub use Rattle.port_events.proofs as of_port_events
 pub use Rattle.script_answers.proofs as of_script_answers
 pub use Rattle.visit_orders.proofs as of_visit_orders

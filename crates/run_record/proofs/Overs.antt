@@ -19,7 +19,7 @@ use Rattle.run_book.specs.declared.book.SentFrame.{SentFrame}
 use Rattle.run_book.specs.declared.book.SlaveBook.{SlaveBook}
 use Rattle.segment_plan.specs.declared.plan.Scenario.{Scenario}
 use Rattle.run_record.specs.Forwarded.{Forwards}
-use Rattle.run_record.specs.Led.{exchanged, gaves_in, Leading, LeadTo, ListsAll, TouredTo, RestsSo, RestBy, LedBook}
+use Rattle.run_record.specs.Led.{exchanged, gaves_in, Leading, LeadTo, ListsAll, BeginsAll, TouredTo, RestsSo, RestBy, LedBook}
 use Rattle.run_record.specs.Ran.{IsUnderway, EndsSo}
 use Rattle.run_record.specs.Session.{SessionState, session_rows, are_at_rest, some_given_up, IsLeftBy}
 use Rattle.run_record.specs.Reports.{IsBooked}
@@ -35,7 +35,7 @@ use Rattle.run_record.proofs.Underway.{many}
 
 -- the lives that frames lead to, with the emergencies that are noted of them and the events that they list
 abbrev HeardLives : Scenario → ℕ → List Leads → List (List Emergency) → List SwitchEvent → List SentFrame → Type 0
-HeardLives plan missed leads notes es frames = (lives : LeadTo plan (map exchanged frames) missed leads) × AllNoted (heard_in lives) notes × ListsAll plan lives es
+HeardLives plan missed leads notes es frames = (lives : LeadTo plan (map exchanged frames) missed leads) × AllNoted (heard_in lives) notes × ListsAll plan lives es × BeginsAll plan lives es
 
 not_done : endings.Done ≡ endings.NoMemory → ⊥
 not_done e = absurd (cc)
@@ -74,7 +74,7 @@ module _ (plan : Scenario) (s : SessionState) (b b' : Book) (h : IsUnderway plan
 
   -- the lives, by the frames of the book
   both : HeardLives plan l.missed l.leads (emergencies_noted s.notes) b.switch b'.frames
-  both = subst (λ (fs : List SentFrame). HeardLives plan l.missed l.leads (emergencies_noted s.notes) b.switch fs) (sym frames) (l.lives, l.heard, w.forwarded.listed)
+  both = subst (λ (fs : List SentFrame). HeardLives plan l.missed l.leads (emergencies_noted s.notes) b.switch fs) (sym frames) (l.lives, l.heard, w.forwarded.listed, w.forwarded.begun)
 
   -- however it ends
   pub led_book : (ending result : Ending) (settled : Bool) → EndsSo s ending → OnTrue settled (IsLeftBy s.master) → OnFalse settled (ending ≡ endings.BudgetSpent) → (result ≡ ending) ⊎ (result ≡ endings.NoMemory) → (result ≢ endings.NoMemory → b'.slaves ≡ session_rows s) → LedBook plan b' result
@@ -91,6 +91,7 @@ module _ (plan : Scenario) (s : SessionState) (b b' : Book) (h : IsUnderway plan
     heard = λ ok. ap emergencies_in (rows ok) ∙ heard_of_rows s.recover s.ring.nodes s.notes same ∙ both.1;
     packets = λ ok. has_packets plan s.ports s.ring.number s.master.lan b b' h.ports (sym (ap length frames ∙ many plan 0 s b h)) kept switched;
     listed = λ ok. subst (λ (es : List SwitchEvent). ListsAll plan both.0 es) (sym kept.switch) both.2;
+    begun = λ ok. subst (λ (es : List SwitchEvent). BeginsAll plan both.0 es) (sym kept.switch) both.3;
     rests = elim answers [
       | inl is ↦ subst (λ (e : Ending). RestBy lens e l.leads b'.slaves) (sym is) (rest_by ending settled so left cut (λ ok. rows (λ none. ok (sym is ∙ none))))
       | inr none ↦ subst (λ (e : Ending). RestBy lens e l.leads b'.slaves) (sym none) tt

@@ -130,6 +130,16 @@ switch_grown ports host sent l m l' b b1 b2 b3 made before same back behind x =
     switch_more ports host sent (sent + 1) m l' b2 b3 back behind (switched_same ports host sent m b1 b2 same (switched_on ports host sent sent l m b b1 (omega arith) made before x))
     ∙ ap (λ z. z ++ events_of l'.happened) (same.switch ∙ switch_more ports host sent sent l m b b1 made before x) ∙ append_assoc b.switch (events_of m.happened) (events_of l'.happened)
 
+-- the switch that the events of a book make is the master's
+pub switch_stood : (ports : ℕ) (host : List (ArrayVec ℕ)) (sent : ℕ) (l : Lan) (b : Book) → IsSwitched ports host sent l b → (switched ports b.switch).switch ≡ l.switch
+switch_stood ports host sent l b x = ap (λ z. (switched ports z).switch) x.noted.switch ∙ x.happened.switch
+
+-- so it is behind what happens next
+pub switch_stands : (ports : ℕ) (host : List (ArrayVec ℕ)) (sent : ℕ) (l l' : Lan) (b : Book) → HappensSo l l' → IsSwitched ports host sent l b → (switched ports (b.switch ++ events_of l'.happened)).switch ≡ l'.switch
+switch_stands ports host sent l l' b h x =
+    ap (λ z. (switched ports z).switch) (ap (λ z. z ++ events_of l'.happened) x.noted.switch ∙ sym (map-append (λ (r : Happening). r.event) (rows_of x.stamps) l'.happened))
+    ∙ (h ports host (rows_of x.stamps) x.happened).switch
+
 -- before the first frame
 pub switched_new : (plan : Scenario) (grams : ℕ) (s : SessionState) (b : Book) → s ≡ first_session plan grams s.master → IsNew b → HasHappened (ports_of plan.slaves) plan.host [] s.master.lan → IsSwitched s.ports plan.host s.ring.number s.master.lan b
 switched_new plan grams s b first new h = record {

@@ -1,4 +1,4 @@
--- WHAT CAME IN OF SLAVES and which of their ports went down, as the events of a book's switch have it.
+-- WHAT CAME IN OF SLAVES, what began at their ports and which of these went down, as the events of a book's switch have it.
 use Rattle.std.specs.Prelude.{◌≡◌, ℕ, List, [], map}
 use Rattle.eoe_switch.specs.declared.switching.SwitchEvent.{SwitchEvent}
 use Rattle.master_node.specs.of_life_runs.Led.{Exchanged, Leads}
@@ -8,15 +8,16 @@ use Rattle.master_node.specs.declared.node.MasterNode.{MasterNode}
 use Rattle.port_events.specs.Listed.{unfinished_of}
 use Rattle.port_events.specs.of_packets_heard.Heard.{joined_in}
 use Rattle.run_book.specs.declared.book.Book.{Book}
-use Rattle.run_record.specs.Led.{LeadTo, ListsAll, Leading}
+use Rattle.run_record.specs.Led.{LeadTo, ListsAll, BeginsAll, Leading}
 use Rattle.run_record.specs.declared.notes.Notes.{Notes}
 use Rattle.segment_plan.specs.declared.plan.Scenario.{Scenario}
 
--- A MASTER'S SWITCH behind these frames: its slaves have the ports of the plan, and what is unfinished of their packets is by their lives
+-- A MASTER'S SWITCH behind these frames: its slaves have the ports of the plan, what is unfinished of their packets is by their lives, and what began there came into hand
 pub record IsForwarded (plan : Scenario) (m : MasterNode) {fs : List Exchanged} {missed : ℕ} {leads : List Leads} (lives : LeadTo plan fs missed leads) (es : List SwitchEvent) : Type 0 where
   pub ports : m.lan.ports.items ≡ ports_behind 0 plan.slaves
   pub unfinished : HasUnfinished m (map stand_before leads) (unfinished_of (joined_in lives))
   pub listed : ListsAll plan lives es
+  pub begun : BeginsAll plan lives es
 
 -- A MASTER THAT LEADS, and its book
 pub record Forwards (plan : Scenario) (m : MasterNode) (notes : List Notes) (fs : List Exchanged) (b : Book) : Type 0 where

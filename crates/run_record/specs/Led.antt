@@ -8,12 +8,13 @@ use Rattle.life_heard.specs.Heard.{AllNoted, heard_in}
 use Rattle.master_node.specs.of_life_model.Lives.{Stand}
 use Rattle.master_node.specs.of_life_runs.First.{lens_of, first_leads}
 use Rattle.master_node.specs.of_life_runs.Led.{Exchanged, Leads, IsLed}
-use Rattle.master_node.specs.Ports.{ports_behind}
+use Rattle.master_node.specs.Ports.{ports_behind, ports_of}
 use Rattle.master_node.specs.Shows.{MasterShows}
 use Rattle.master_node.specs.Toured.{tour_of}
 use Rattle.master_node.specs.Wants.{gave_of, IsIdle}
 use Rattle.master_node.specs.declared.node.MasterNode.{MasterNode}
 use Rattle.master_node.specs.of_master_tour.Toured.{Tour}
+use Rattle.packets_begun.specs.Over.{AreBegun}
 use Rattle.port_events.specs.Listed.{Listed}
 use Rattle.run_book.specs.declared.book.Book.{Book}
 use Rattle.run_book.specs.declared.book.Ending.{Ending}
@@ -42,6 +43,10 @@ LeadTo plan fs missed leads = IsLed (lens_of plan.slaves) plan.recover plan.retr
 -- THE EVENTS OF A SWITCH ARE JUST THOSE THAT THE FRAMES LIST, by the ports that the plan gives its slaves
 abbrev pub ListsAll : (plan : Scenario) {fs : List Exchanged} {missed : ℕ} {leads : List Leads} → LeadTo plan fs missed leads → List SwitchEvent → Type 0
 ListsAll plan lives es = Listed (lens_of plan.slaves) plan.recover plan.retry (ports_behind 0 plan.slaves) lives es
+
+-- JUST THE PACKETS BEGIN THAT CAME INTO HAND, frame by frame, each the oldest at the port of its slave
+abbrev pub BeginsAll : (plan : Scenario) {fs : List Exchanged} {missed : ℕ} {leads : List Leads} → LeadTo plan fs missed leads → List SwitchEvent → Type 0
+BeginsAll plan lives es = AreBegun (ports_behind 0 plan.slaves) (ports_of plan.slaves) lives es
 
 -- THEY ARE THE VISITS OF ONE TOUR, from its begin on, which stands so behind them
 abbrev pub TouredTo : Scenario → List Exchanged → Tour → List Leads → Type 0
@@ -98,7 +103,8 @@ RestBy lens endings.Unfinished leads rows = ⊤
 -- THE BOOK OF A RUN and the lives that its frames lead to: each slave was given up at just the frames that the book has; of its script just the services
 -- stand in the book that came into hand, each with its frame, and each reply is that of its row; of the mails that its life accepted just the emergencies
 -- stand there, each with the frame that brought it; and nothing is left of it where the run is over. The frames are the visits of one tour. And the packets of
--- the host are those that the events of the switch make, and these events are just those that the frames list
+-- the host are those that the events of the switch make, and these events are just those that the frames list; of the slaves' ports just the packets began that
+-- came into hand
 pub record LedBook (plan : Scenario) (book : Book) (ending : Ending) : Type 0 where
   pub missed : ℕ
   pub leads : List Leads
@@ -113,3 +119,4 @@ pub record LedBook (plan : Scenario) (book : Book) (ending : Ending) : Type 0 wh
   pub rests : RestBy (lens_of plan.slaves) ending leads book.slaves
   pub packets : ending ≢ endings.NoMemory → HasPackets plan book
   pub listed : ending ≢ endings.NoMemory → ListsAll plan lives book.switch
+  pub begun : ending ≢ endings.NoMemory → BeginsAll plan lives book.switch

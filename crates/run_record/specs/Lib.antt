@@ -1,3 +1,6 @@
+pub use Rattle.arrayvec.specs as of_arrayvec
+pub use Rattle.eoe_switch.specs as of_eoe_switch
+pub use Rattle.packets_begun.specs as of_packets_begun
 pub use Rattle.port_events.specs as of_port_events
 pub use Rattle.script_answers.specs as of_script_answers
 pub use Rattle.visit_orders.specs as of_visit_orders

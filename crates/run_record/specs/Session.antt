@@ -187,7 +187,7 @@ SwitchesOn s b s' b' = (host : List (ArrayVec ℕ)) → IsSwitched s.ports host 
 
 -- ONE FRAME MORE IS LED, where some slave is live: a master that leads goes on so, what is noted of give-ups goes with it, and so do the events of its switch
 abbrev pub ForwardsOn : SessionState → Book → SessionState → Book → SentFrame → Type 0
-ForwardsOn s b s' b' f = (plan : Scenario) (fs : List Exchanged) (host : List (ArrayVec ℕ)) → s.recover ≡ plan.recover → length fs ≡ s.ring.number → has_live s.master ≡ true → IsSwitched s.ports host s.ring.number s.master.lan b →
+ForwardsOn s b s' b' f = (plan : Scenario) (fs : List Exchanged) (host : List (ArrayVec ℕ)) → s.recover ≡ plan.recover → s.ports ≡ ports_of plan.slaves → length fs ≡ s.ring.number → has_live s.master ≡ true → IsSwitched s.ports host s.ring.number s.master.lan b →
     Forwards plan s.master s.notes fs b → Forwards plan s'.master s'.notes (fs ++ exchanged f ∷ []) b'
 
 -- ONE STEP: one frame more stands in the book, as the ring before gives it, and the ring is the one behind that frame

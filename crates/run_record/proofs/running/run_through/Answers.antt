@@ -80,7 +80,7 @@ loop-settled-preserved c =
       busy = c.settled-settled-in-loop-settled.ensures.busy;
       switched = step.1.switch c.args.plan.now.host c.loop-settled.invariant.switched;
       forwards = one_frame_more c.args.plan.now c.step.new.self.master c.step.new.self.notes c.loop-settled.book.frames step.0 c.step.new.book.frames c.step.new.book step.1.put
-          (step.1.forwards c.args.plan.now (map exchanged c.loop-settled.book.frames) c.args.plan.now.host under.recover (length-map c.loop-settled.book.frames exchanged ∙ many c.args.plan.now 0 s c.loop-settled.book under)
+          (step.1.forwards c.args.plan.now (map exchanged c.loop-settled.book.frames) c.args.plan.now.host under.recover under.ports (length-map c.loop-settled.book.frames exchanged ∙ many c.args.plan.now 0 s c.loop-settled.book under)
           (live_so c.args.plan.now s c.loop-settled.book c.loop-settled.settled under c.loop-settled.invariant.forwards.leading (search rules) c.loop-settled.invariant.busy) c.loop-settled.invariant.switched c.loop-settled.invariant.forwards);
     }
 

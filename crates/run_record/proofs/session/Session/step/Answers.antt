@@ -1,8 +1,11 @@
 use Rattle.std.proofs.Common.{◌≡◌, refl, sym, true, ℕ, suc, List, ◌+◌, ◌++◌, ◌∷◌, [], length, vec_len, ap, ◌∙◌, subst, arith}
+use Rattle.eoe_switch.specs.Switch.{switched}
 use Rattle.segment_ring.specs.Ring.{RingState}
 use Rattle.slave_node.specs.of_slave_steps.Node.{Node}
 use Rattle.slave_server.specs.declared.server.SlaveServer.{SlaveServer}
+use Rattle.run_book.specs.Ports.{ports_of}
 use Rattle.run_book.specs.declared.book.SentFrame.{SentFrame}
+use Rattle.master_node.specs.Happened.{events_of}
 use Rattle.master_node.specs.of_life_runs.First.{lens_of}
 use Rattle.run_record.specs.Led.{exchanged, Leading}
 use Rattle.run_record.specs.Forwarded.{Forwards}
@@ -11,7 +14,7 @@ use Rattle.run_record.specs.Replay.{behind, IsRecorded}
 use Rattle.run_record.specs.Session.{SessionState, SameFrames, KeepsRest, has_live}
 use Rattle.run_record.proofs.Kept.{rest_more}
 use Rattle.run_record.specs.Switched.{IsSwitched, NotesSwitch}
-use Rattle.run_record.proofs.Switched.{switched_step, switch_grown}
+use Rattle.run_record.proofs.Switched.{switched_step, switch_grown, switch_stands, switch_stood}
 use Rattle.std.proofs.lemmas.Result.{on_ok_weaker}
 use Rattle.run_record.proofs.Steps.{any_err, on_ok_both, holds_on, no_frame, one_frame}
 use Rattle.run_record.proofs.session.Session.step.Goals as goal
@@ -74,12 +77,15 @@ returns-clause-ok c =
             (subst (λ (n : ℕ). NotesSwitch n (c.self.inside.number + 1) c.tell.new.master.lan.happened c.put_frame.new.book c.note_behind.new.book) same both.1.1.1)
             (subst (λ (n : ℕ). IsSwitched ports host n c.self.inside.master.lan c.args.book.now) (sym number)
             (subst (λ (s : SessionState). IsSwitched s.ports host s.ring.number s.master.lan c.args.book.now) (sym c.self.view_is) x))));
-        forwards = λ plan fs host recover counts live x w.
+        forwards = λ plan fs host recover many counts live x w.
             let live : has_live c.self.inside.master ≡ true = ap (λ (s : SessionState). has_live s.master) c.self.view_is ∙ live in
             let mine : Forwards plan c.self.inside.master c.self.inside.log.notes fs c.args.book.now = subst (λ (s : SessionState). Forwards plan s.master s.notes fs c.args.book.now) (sym c.self.view_is) w in
             let number = c.self.invariant.0 in
             let l : Leading plan c.self.inside.master c.self.inside.log.notes fs = mine.leading in
-            forwards_on c.self.inside.master c.next.new.self c.tell.new.master (exchanged f) c.next.result c.next.ensures.idle c.next.ensures.led c.next.ensures.toured c.next.ensures.asks plan fs live c.self.inside.log.notes l
+            let now : IsSwitched ports host c.self.inside.number c.self.inside.master.lan c.args.book.now =
+            subst (λ (n : ℕ). IsSwitched ports host n c.self.inside.master.lan c.args.book.now) (sym number) (subst (λ (s : SessionState). IsSwitched s.ports host s.ring.number s.master.lan c.args.book.now) (sym c.self.view_is) x) in
+            let all : ports ≡ ports_of plan.slaves = before ∙ many in
+            forwards_on c.self.inside.master c.next.new.self c.tell.new.master (exchanged f) c.next.result c.next.ensures.idle c.next.ensures.begun c.next.ensures.toured c.next.ensures.asks plan fs live c.self.inside.log.notes l
             (λ number us frame under. c.tell.ensures.leads (lens_of plan.slaves) plan.recover plan.retry l.missed number us (exchanged f) refl refl under
             (λ pass. returned (lens_of plan.slaves) c.self.inside.ring (exchanged f) number l.leads us c.exchange-fate.ensures.fate c.exchange-fate.ensures.back frame pass))
             (λ number us frame under. c.tell.ensures.toured (lens_of plan.slaves) plan.recover plan.retry l.missed number us (exchanged f) refl refl under
@@ -99,10 +105,11 @@ returns-clause-ok c =
             (λ after lost us under. c.tell.ensures.downs after lost (lens_of plan.slaves) plan.recover plan.retry l.missed (length fs) us (exchanged f) refl under)
             (switch_grown ports host c.self.inside.number c.self.inside.master.lan c.next.new.self.lan c.tell.new.master.lan c.args.book.now c.note_before.new.book c.put_frame.new.book c.note_behind.new.book
             c.next.ensures.happened c.in_ok-note_before.ensures.switch c.put_frame.ensures.switch c.tell.ensures.happened
-            (subst (λ (n : ℕ). NotesSwitch n (c.self.inside.number + 1) c.tell.new.master.lan.happened c.put_frame.new.book c.note_behind.new.book) same both.1.1.1)
-            (subst (λ (n : ℕ). IsSwitched ports host n c.self.inside.master.lan c.args.book.now) (sym number)
-            (subst (λ (s : SessionState). IsSwitched s.ports host s.ring.number s.master.lan c.args.book.now) (sym c.self.view_is) x)))
-            mine.forwarded;
+            (subst (λ (n : ℕ). NotesSwitch n (c.self.inside.number + 1) c.tell.new.master.lan.happened c.put_frame.new.book c.note_behind.new.book) same both.1.1.1) now)
+            mine.forwarded
+            (subst (λ (n : ℕ). (switched n c.args.book.now.switch).switch ≡ c.self.inside.master.lan.switch) all (switch_stood ports host c.self.inside.number c.self.inside.master.lan c.args.book.now now))
+            (subst (λ (n : ℕ). (switched n (c.args.book.now.switch ++ events_of c.next.new.self.lan.happened)).switch ≡ c.next.new.self.lan.switch) all
+            (switch_stands ports host c.self.inside.number c.self.inside.master.lan c.next.new.self.lan c.args.book.now c.next.ensures.happened now));
       },
     ))
     (on_ok_both _ _ c.note_behind.result c.note_behind.ensures.gave (on_ok_both _ _ c.note_behind.result c.note_behind.ensures.told (on_ok_both _ _ c.note_behind.result c.note_behind.ensures.heard c.note_behind.ensures.switch)))
@@ -122,4 +129,4 @@ returns-clause-err c =
     (λ plan fs live l.
     let live : has_live c.self.inside.master ≡ true = ap (λ (s : SessionState). has_live s.master) c.self.view_is ∙ live in
     let same : Leading plan c.self.inside.master c.self.inside.log.notes fs = subst (λ (s : SessionState). Leading plan s.master s.notes fs) (sym c.self.view_is) l in
-    led_on c.self.inside.master c.next.new.self c.tell.new.master (exchanged f) c.next.result c.next.ensures.idle c.next.ensures.led c.next.ensures.toured c.next.ensures.asks plan fs live c.self.inside.log.notes same))
+    led_on c.self.inside.master c.next.new.self c.tell.new.master (exchanged f) c.next.result c.next.ensures.idle c.next.ensures.begun c.next.ensures.toured c.next.ensures.asks plan fs live c.self.inside.log.notes same))
