@@ -1,7 +1,7 @@
 -- WHAT HAPPENED AT THE SWITCH from its beginning on, and the switch that a master has behind it.
-use Rattle.std.specs.Prelude.{◌≡◌, ◌≤◌, ◌<◌, ℕ, ◌+◌, ◌%◌, ◌==◌, Bool, if◌then◌else◌, List, [], ◌∷◌, ◌++◌, map, take, length, All}
+use Rattle.std.specs.Prelude.{◌≡◌, ◌≤◌, ◌<◌, ℕ, ◌+◌, ◌%◌, ◌==◌, Bool, if◌then◌else◌, List, [], ◌∷◌, ◌++◌, map, take, length, replicate, All, ⊤}
 use Rattle.arrayvec.specs.ArrayVec.{ArrayVec}
-use Rattle.eoe_switch.specs.Switch.{Switched, switched, arrived}
+use Rattle.eoe_switch.specs.Switch.{Switched, Flow, first_switch, flow_behind, switched, arrived, queue_at}
 use Rattle.eoe_switch.specs.declared.switching.SwitchEvent.{SwitchEvent}
 use Rattle.eoe_switch.specs.declared.switching.SwitchEvent.TheVariants.{Arrive, Begun, Down}
 use Rattle.master_node.specs.Ports.{IsAtPort}
@@ -36,14 +36,35 @@ abbrev pub arrivals_at : ℕ → List SwitchEvent → List (ArrayVec ℕ)
 arrivals_at port [] = []
 arrivals_at port (e ∷ es) = arrived_by port e ++ arrivals_at port es
 
+-- no packet waits at any port of a switch
+abbrev pub NoneWaits : Switched → Type 0
+NoneWaits s = (port : ℕ) → queue_at s port ≡ []
+
+-- a new switch with so many ports, by which nothing was forwarded
+abbrev pub first_flow : ℕ → Flow
+first_flow ports = record { switch = first_switch ports; forwards = replicate ports []; drops = 0 }
+
+-- where a packet of the host comes in, none waits
+abbrev pub HostWaitsAt : Switched → SwitchEvent → Type 0
+HostWaitsAt s (Arrive port packet) = port ≡ 0 → NoneWaits s
+HostWaitsAt s (Begun port) = ⊤
+HostWaitsAt s (Down port) = ⊤
+
+-- THE HOST WAITS: each of its packets comes in where none waits at any port, by the events before it
+abbrev pub HostWaits : Flow → List SwitchEvent → Type 0
+HostWaits flow [] = ⊤
+HostWaits flow (e ∷ es) = HostWaitsAt flow.switch e × HostWaits (flow_behind flow e) es
+
 -- THE SWITCH BEHIND ALL THIS: it is what the events make of a new switch with so many ports; the host was handed just the packets that they forward to the
--- first port, which is its own; those that came in there are the first of the host's packets, in order; and each event is at one of the ports
+-- first port, which is its own; those that came in there are the first of the host's packets, in order, each where none waited; and each event is at one of the
+-- ports
 pub record HasHappened (ports : ℕ) (host : List (ArrayVec ℕ)) (rows : List Happening) (l : Lan) : Type 0 where
   pub switch : (switched ports (events_of rows)).switch ≡ l.switch
   pub others : List (List (ArrayVec ℕ))
   pub handed : (switched ports (events_of rows)).forwards ≡ handed_in rows ∷ others
   pub entered : arrivals_at 0 (events_of rows) ≡ take l.entered l.host
   pub own : l.host ≡ host
+  pub waits : HostWaits (first_flow ports) (events_of rows)
   pub at_port : All (IsAtPort ports) (events_of rows)
   pub many : length l.switch.ports ≡ ports
 

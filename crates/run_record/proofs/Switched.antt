@@ -1,5 +1,5 @@
 -- What is noted of the switch, one thing after the other.
-use Rattle.std.proofs.Common.{◌≡◌, ℕ, ◌+◌, ◌<◌, ◌≤◌, List, [], ◌∷◌, ◌++◌, refl, sym, ap, subst, ◌∙◌, arith, length, take, drop, map, get_or, append_assoc, append-nil, add-one, length-append}
+use Rattle.std.proofs.Common.{◌≡◌, ℕ, ◌+◌, ◌<◌, ◌≤◌, List, [], ◌∷◌, ◌++◌, refl, sym, ap, subst, ◌∙◌, arith, length, take, drop, map, get_or, append_assoc, append-nil, add-one}
 use Rattle.std.specs.Prelude.{All}
 use Rattle.std.proofs.lemmas.List.{map-append, length-map, take-append-drop, take_all}
 use Rattle.std.proofs.lemmas.List.Elements.{All-nil, All-cons, All-head, All-tail, All-get_or}
@@ -8,7 +8,7 @@ use Rattle.arrayvec.specs.ArrayVec.{ArrayVec}
 use Rattle.eoe_switch.specs.Switch.{Flow, switched}
 use Rattle.eoe_switch.specs.declared.switching.SwitchEvent.{SwitchEvent}
 use Rattle.master_node.proofs.Happenings.{events_push, handed_push}
-use Rattle.master_node.specs.Happened.{events_of, handed_by, handed_in, arrivals_at, HasHappened, HappensSo}
+use Rattle.master_node.specs.Happened.{events_of, handed_by, handed_in, arrivals_at, first_flow, HostWaits, HasHappened, HappensSo}
 use Rattle.master_node.specs.declared.happened.Happening.{Happening}
 use Rattle.master_node.specs.declared.lan.Lan.{Lan}
 use Rattle.run_book.specs.Book.{IsNew}
@@ -153,6 +153,7 @@ has_packets plan ports sent l b b' many frames s x =
       host = s.host ∙ x.noted.host;
       rest = drop l.entered l.host;
       entered = ap (λ z. z ++ drop l.entered l.host) (ap (λ z. arrivals_at 0 z) switch ∙ x.happened.entered) ∙ take-append-drop l.entered l.host ∙ x.happened.own;
+      waits = subst (λ z. HostWaits (first_flow (ports_of plan.slaves)) z) (sym switch) (subst (λ n. HostWaits (first_flow n) (events_of (rows_of x.stamps))) many x.happened.waits);
       many = ap length numbers ∙ length-map x.stamps (λ (t : Stamp). t.sent)
           ∙ sym (ap length switch ∙ length-map (rows_of x.stamps) (λ (r : Happening). r.event) ∙ length-map x.stamps (λ (t : Stamp). t.row));
       numbers = subst (λ n. NeverFall 0 n b'.switched) frames (subst (λ z. NeverFall 0 sent z) (sym numbers) x.numbers);
