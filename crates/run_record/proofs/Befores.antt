@@ -1,12 +1,11 @@
 -- ALL THAT STANDS IN THE LIVES behind some frames was before the next one.
-use Rattle.std.proofs.Common.{◌≡◌, ◌<◌, ℕ, suc, ◌+◌, Bool, List, [], ◌∷◌, ◌++◌, map, length, length-append, refl, sym, ◌∙◌, subst, arith}
+use Rattle.std.proofs.Common.{◌≡◌, ◌<◌, ℕ, suc, Bool, List, [], ◌∷◌, ◌++◌, map, length, length-append, subst, arith}
 use Rattle.std.specs.Prelude.{⊤}
-use Rattle.std.specs.List.{All}
 use Rattle.std.proofs.lemmas.List.Elements.{All-nil}
 use Rattle.datagrams.specs.Datagram as Raw
 use Rattle.master_node.specs.of_frame_view.View.{Lens}
 use Rattle.master_node.specs.of_life_model.Lives.{Era}
-use Rattle.master_node.specs.of_life_runs.First.{lens_of, first_leads, leads_from}
+use Rattle.master_node.specs.of_life_runs.First.{lens_of, leads_from}
 use Rattle.master_node.specs.of_life_runs.Led.{Exchanged, Leads, Turn, AllTurn, IsLed, life_behind, led_behind, gives_up_at}
 use Rattle.slave_node.specs.of_link_mails.Body.{Body}
 use Rattle.master_node.specs.of_master_duty.Reply.{Reply}
