@@ -1,5 +1,5 @@
 -- THE PORT OF A SLAVE over a run: what came in there, and when it went down.
-use Rattle.std.specs.Prelude.{◌≡◌, ℕ, zero, suc, Bool, if◌then◌else◌, Option, Some, List, [], ◌∷◌, slice_get}
+use Rattle.std.specs.Prelude.{◌≡◌, ℕ, zero, suc, Bool, if◌then◌else◌, Some, List, [], ◌∷◌, slice_get}
 use Rattle.life_runs.specs.Led.{Exchanged, Leads}
 use Rattle.run_book.specs.declared.book.Book.{Book}
 use Rattle.run_book.specs.of_link_mails.Body.{Body}
