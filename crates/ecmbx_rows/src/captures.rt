@@ -1,43 +1,44 @@
-use crate::stage::{files_with, make_call, numbers, put_by, saved, strings};
-use anyhow::{Result, bail};
+use crate::stage::{SLAVE, call, numbers, saved};
 use ec_outside::{MemFiles, MemSink};
 use ecmbx_call::Status;
 use std::alloc::Global;
+use std::test::Fail;
 
 /// How many octets a header has, and a packet of 60 octets with its own.
 const HEAD: usize = 24;
 
 const PACKET: usize = 76;
 
-/// The header of a capture.
-const BEGIN: [u8; HEAD] = [
-    0xD4, 0xC3, 0xB2, 0xA1, 2, 0, 4, 0, 0, 0, 0, 0, 0, 0, 0, 0, 0xFF, 0xFF, 0, 0, 1, 0, 0, 0,
-];
-
-/// The text of the first packets of a bring-up.
-const TEXT: &[u8] =
-    b"packet 0 at 0.000000 length 60\ndatagram apwr 00 0000:0010 length 2 counter 0\npacket 1 at 0.000000 length 60\ndatagram apwr 00 0001:0010 length 2 counter 1\n";
-
-// Decodes octets, which is to end so.
-fn decoded(alloc: Global, octets: &[u8], status: Status) -> Result<MemSink> {
-    let mut files = files_with(alloc, "a.pcap", octets)?;
-    put_by(alloc, &["decode", "a.pcap"], &mut files, status)
+/// Decodes octets: the status and the text.
+fn decoded(alloc: Global, octets: &[u8], out: &mut MemSink) -> Result<Status, Fail> {
+    let mut files = MemFiles::new(alloc, numbers(alloc, None)?);
+    files.add("a.pcap", octets)?;
+    call(alloc, &["decode", "a.pcap"], &mut files, out)
 }
 
-// The capture of a bring-up begins as the format says, has ten packets, and is decoded.
-fn check_whole(alloc: Global, octets: &[u8]) -> Result<()> {
-    if octets.len() != HEAD + 10 * PACKET || !octets.starts_with(&BEGIN) {
-        bail!("another capture");
-    }
-    let out = decoded(alloc, octets, Status::Done)?;
-    if !out.bytes().starts_with(TEXT) || !out.bytes().ends_with(b"packets 10\n") {
-        bail!("a capture is decoded otherwise");
-    }
+/// The capture of a bring-up begins as the format says, has ten packets, and is decoded.
+#[test]
+fn a_capture_is_saved_and_decoded(rt: HostRuntime) -> Result<(), Fail> {
+    let alloc = rt.alloc();
+    let files = saved(alloc, SLAVE)?;
+    let octets = files.get("a.pcap").unwrap_or(b"");
+    assert_eq!(rt; octets.len(), HEAD + 10 * PACKET);
+    assert!(rt;
+        octets.starts_with(
+            b"\xD4\xC3\xB2\xA1\x02\x00\x04\x00\x00\x00\x00\x00\x00\x00\x00\x00\xFF\xFF\x00\x00\x01\x00\x00\x00"
+        )
+    );
+    let mut out = MemSink::new(alloc, numbers(alloc, None)?);
+    assert_eq!(rt; decoded(alloc, octets, &mut out)?, Status::Done);
+    let text =
+        b"packet 0 at 0.000000 length 60\ndatagram apwr 00 0000:0010 length 2 counter 0\npacket 1 at 0.000000 length 60\ndatagram apwr 00 0001:0010 length 2 counter 1\n";
+    assert!(rt; out.bytes().starts_with(text));
+    assert!(rt; out.bytes().ends_with(b"packets 10\n"));
     Ok(())
 }
 
-// What a capture of this length is to give: its status and how its text ends.
-fn expected(alloc: Global, len: usize) -> Result<(Status, String)> {
+/// What a capture of this length is to give: its status and how its text ends.
+fn expected(alloc: Global, len: usize) -> Result<(Status, String), Fail> {
     if len < HEAD {
         return Ok((Status::Refused, format!(in alloc; "refused P1 at {len}\n")?));
     }
@@ -45,56 +46,50 @@ fn expected(alloc: Global, len: usize) -> Result<(Status, String)> {
     if (len - HEAD) % PACKET == 0 {
         return Ok((Status::Done, format!(in alloc; "packets {whole}\n")?));
     }
-    let at = len - (len - HEAD) % PACKET;
+    let at = HEAD + PACKET * whole;
     Ok((Status::Refused, format!(in alloc; "refused P5 at {at}\n")?))
 }
 
-// A capture cut at each length is refused where its packet is cut, and accepted between two.
-fn check_cut(alloc: Global, octets: &[u8]) -> Result<()> {
-    for len in 0..octets.len() {
-        let (status, end) = expected(alloc, len)?;
-        let out = decoded(alloc, &octets[..len], status)?;
-        if !out.bytes().ends_with(end.as_bytes()) {
-            bail!("a capture of {len} octets has another text");
-        }
-    }
-    Ok(())
-}
-
-// A save that fails ends the call, and nothing is put.
-fn check_failed_save(alloc: Global, scenario: &str) -> Result<()> {
-    let mut files = MemFiles::new(alloc, numbers(alloc, Some(1))?);
-    files.add("scenario.toml", scenario.as_bytes())?;
-    let words = ["run", "scenario.toml", "a.pcap"];
-    let out = put_by(alloc, &words, &mut files, Status::FileFault)?;
-    if !out.bytes().is_empty() {
-        bail!("something is put behind a save that failed");
-    }
-    Ok(())
-}
-
-// A failing put keeps the lines before it, and the capture.
-fn check_failed_put(alloc: Global, scenario: &str, put: u64) -> Result<()> {
-    let words = strings(alloc, &["run", "scenario.toml", "a.pcap"])?;
-    let mut files = files_with(alloc, "scenario.toml", scenario.as_bytes())?;
-    let mut out = MemSink::new(alloc, numbers(alloc, Some(put))?);
-    let status = make_call(alloc, words.as_slice(), &mut files, &mut out)?;
-    let lines = out.bytes().iter().filter(|octet| **octet == b'\n').count();
-    if status != Status::SinkFault || lines as u64 != put || files.get("a.pcap").is_none() {
-        bail!("put {put} fails otherwise");
-    }
-    Ok(())
-}
-
-/// The capture of a slave's bring-up, whole and cut, and the faults behind its run.
-pub fn check(alloc: Global, scenario: &str) -> Result<()> {
-    let files = saved(alloc, scenario)?;
+/// A capture cut at each length is refused where its packet is cut, and accepted between two.
+#[test]
+fn cut_captures_are_refused_at_their_place(rt: HostRuntime) -> Result<(), Fail> {
+    let alloc = rt.alloc();
+    let files = saved(alloc, SLAVE)?;
     let octets = files.get("a.pcap").unwrap_or(b"");
-    check_whole(alloc, octets)?;
-    check_cut(alloc, octets)?;
-    check_failed_save(alloc, scenario)?;
+    for len in 0..octets.len() {
+        let mut out = MemSink::new(alloc, numbers(alloc, None)?);
+        let status = decoded(alloc, &octets[..len], &mut out)?;
+        let (wanted, end) = expected(alloc, len)?;
+        assert_eq!(rt; status, wanted);
+        assert!(rt; out.bytes().ends_with(end.as_bytes()));
+    }
+    Ok(())
+}
+
+/// A save that fails ends the call, and nothing is put; a failing put keeps the lines before it.
+#[test]
+fn faults_behind_a_run_are_told(rt: HostRuntime) -> Result<(), Fail> {
+    let alloc = rt.alloc();
+    let words: &[&str] = &["run", "scenario.toml", "a.pcap"];
+    let mut files = MemFiles::new(alloc, numbers(alloc, Some(1))?);
+    files.add("scenario.toml", SLAVE.as_bytes())?;
+    let mut out = MemSink::new(alloc, numbers(alloc, None)?);
+    assert_eq!(rt;
+        call(alloc, words, &mut files, &mut out)?,
+        Status::FileFault
+    );
+    assert!(rt; out.bytes().is_empty());
     for put in 0..4_u64 {
-        check_failed_put(alloc, scenario, put)?;
+        let mut files = MemFiles::new(alloc, numbers(alloc, None)?);
+        files.add("scenario.toml", SLAVE.as_bytes())?;
+        let mut out = MemSink::new(alloc, numbers(alloc, Some(put))?);
+        assert_eq!(rt;
+            call(alloc, words, &mut files, &mut out)?,
+            Status::SinkFault
+        );
+        let lines = out.bytes().iter().filter(|octet| **octet == b'\n').count();
+        assert_eq!(rt; lines, put as usize);
+        assert!(rt; files.get("a.pcap").is_some());
     }
     Ok(())
 }

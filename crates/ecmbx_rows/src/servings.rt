@@ -1,9 +1,9 @@
-use crate::stage::{files_with, numbers, sink, strings};
-use anyhow::{Result, bail};
+use crate::stage::{SLAVE, call_over, numbers};
 use ec_fields::{Octets, Rows};
-use ec_outside::{MemPort, Peer, PortItem};
-use ecmbx_call::{Book, Status, ecmbx};
+use ec_outside::{MemFiles, MemPort, MemSink, Peer, PortItem};
+use ecmbx_call::Status;
 use std::alloc::Global;
+use std::test::Fail;
 
 /// A datagram, by the port of its peer.
 type Row<'a> = (u16, &'a [u8]);
@@ -32,13 +32,12 @@ const SENT: [Row<'static>; 3] = [
     (5001, VALUE),
 ];
 
-// A port that hears them, whose call of this number fails.
-fn port_of(alloc: Global, failing: Option<u64>) -> Result<MemPort> {
+fn port_of(alloc: Global, grams: &[Row<'_>], failing: Option<u64>) -> Result<MemPort, Fail> {
     let mut items = Rows::new(alloc);
-    for (port, octets) in HEARD {
+    for (port, octets) in grams {
         let from = Peer {
             ip: 0x7F00_0001,
-            port,
+            port: *port,
         };
         let bytes = Octets::copy_of(alloc, octets)?;
         items.add(PortItem::Gram { from, bytes })?;
@@ -47,62 +46,56 @@ fn port_of(alloc: Global, failing: Option<u64>) -> Result<MemPort> {
 }
 
 // What a port sent, compared with what it should have.
-fn check_sent(port: &MemPort, wanted: &[Row<'_>]) -> Result<()> {
+fn check_sent(port: &MemPort, wanted: &[Row<'_>]) -> Result<(), Fail> {
     if port.sent().len() != wanted.len() {
-        bail!("another number of datagrams is sent");
+        return Err(Fail::new(format_args!("{} sent", port.sent().len())));
     }
     for (sent, (peer, octets)) in port.sent().as_slice().iter().zip(wanted) {
         if sent.to.port != *peer || sent.bytes.bytes() != *octets {
-            bail!("another datagram to {peer}");
+            return Err(Fail::new(format_args!("another datagram to {peer}")));
         }
     }
     Ok(())
 }
 
-// A serving of the slave to the datagrams, where the port's call of this number fails.
+/// A serving of the slave to the datagrams, where the port's call of this number fails.
 fn check_serving(
     alloc: Global,
-    scenario: &str,
     failing: Option<u64>,
     status: Status,
-    text: &[u8],
+    text: &str,
     wanted: &[Row<'_>],
-) -> Result<()> {
-    let words = strings(alloc, &["serve", "scenario.toml", "5"])?;
-    let mut files = files_with(alloc, "scenario.toml", scenario.as_bytes())?;
-    let mut out = sink(alloc);
-    let mut port = port_of(alloc, failing)?;
-    let mut book = Book::new(alloc);
-    let ended = ecmbx(
-        alloc,
-        words.as_slice(),
-        &mut files,
-        &mut out,
-        &mut port,
-        &mut book,
-    );
-    if ended != status || out.bytes() != text {
-        bail!("a serving ends as {ended:?}, or has another text");
+) -> Result<(), Fail> {
+    let mut files = MemFiles::new(alloc, numbers(alloc, None)?);
+    files.add("scenario.toml", SLAVE.as_bytes())?;
+    let mut out = MemSink::new(alloc, numbers(alloc, None)?);
+    let mut port = port_of(alloc, &HEARD, failing)?;
+    let words = &["serve", "scenario.toml", "5"];
+    let ended = call_over(alloc, words, &mut files, &mut out, &mut port)?;
+    if ended != status {
+        return Err(Fail::new(format_args!("{ended:?}")));
+    }
+    if out.bytes() != text.as_bytes() {
+        return Err(Fail::new(format_args!("another text")));
     }
     check_sent(&port, wanted)
 }
 
 /// Each asker gets its own reply, the station that no slave has an error; a port that fails at once ends the serving.
-pub fn check(alloc: Global, scenario: &str) -> Result<()> {
+#[test]
+fn requests_are_answered(rt: HostRuntime) -> Result<(), Fail> {
     check_serving(
-        alloc,
-        scenario,
+        rt.alloc(),
         None,
         Status::Done,
-        b"frames 11 lost 0\nslave 0 plc station 1001 state 2 handled 2 packets 0\ndropped 0\ngateway heard 5 answered 3\nstatus 0 done\n",
+        "frames 11 lost 0\nslave 0 plc station 1001 state 2 handled 2 packets 0\ndropped 0\ngateway heard 5 answered 3\nstatus 0 done\n",
         &SENT,
     )?;
     check_serving(
-        alloc,
-        scenario,
+        rt.alloc(),
         Some(0),
         Status::PortFault,
-        b"frames 0 lost 0\nslave 0 plc station 1001 state 1 handled 0 packets 0\ndropped 0\ngateway heard 0 answered 0\nstatus 9 port fault\n",
+        "frames 0 lost 0\nslave 0 plc station 1001 state 1 handled 0 packets 0\ndropped 0\ngateway heard 0 answered 0\nstatus 9 port fault\n",
         &[],
     )
 }
