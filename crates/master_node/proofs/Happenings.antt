@@ -15,7 +15,7 @@ use Rattle.eoe_switch.specs.declared.port.Route.{Route}
 use Rattle.eoe_switch.specs.declared.switching.SwitchEvent.{SwitchEvent}
 use Rattle.eoe_switch.specs.declared.switching.SwitchEvent.TheVariants.{Arrive, Begun, Down}
 use Rattle.master_node.specs.Begins.{switch_on}
-use Rattle.master_node.specs.Happened.{events_of, handed_by, handed_in, arrived_by, arrivals_at, HasHappened, Comes, Happens, HappensSo}
+use Rattle.master_node.specs.Happened.{events_of, handed_by, handed_in, arrived_by, arrivals_at, NoneWaits, HasHappened, Comes, Happens, HappensSo}
 use Rattle.master_node.specs.Ports.{IsAtPort}
 use Rattle.master_node.specs.declared.happened.Happening.{Happening}
 use Rattle.master_node.specs.declared.lan.Lan.{Lan}
@@ -38,6 +38,22 @@ pub arrivals_push : (port : ℕ) (es : List SwitchEvent) (e : SwitchEvent) → a
 arrivals_push port [] e = append-nil (arrived_by port e)
 arrivals_push port (d ∷ es) e =
     ap (λ z. arrived_by port d ++ z) (arrivals_push port es e) ∙ sym (append_assoc (arrived_by port d) (arrivals_at port es) (arrived_by port e))
+
+-- where a packet of the host comes in none waits, from a switch and what was forwarded on: so it is with one event more
+waits_push :
+    (flow : Flow) (es : List SwitchEvent) (e : SwitchEvent)
+    → ((before after : List SwitchEvent) (packet : ArrayVec ℕ) → es ≡ before ++ Arrive 0 packet ∷ after → NoneWaits (flow_of flow before).switch)
+    → ((packet : ArrayVec ℕ) → e ≡ Arrive 0 packet → NoneWaits (flow_of flow es).switch)
+    → (before after : List SwitchEvent) (packet : ArrayVec ℕ) → es ++ e ∷ [] ≡ before ++ Arrive 0 packet ∷ after → NoneWaits (flow_of flow before).switch
+waits_push flow [] e h w [] after packet is = let same : e ≡ Arrive 0 packet = cc in w packet same
+waits_push flow [] e h w (b ∷ []) after packet is = absurd (cc)
+waits_push flow [] e h w (b ∷ c ∷ before) after packet is = absurd (cc)
+waits_push flow (d ∷ es) e h w [] after packet is = let same : d ≡ Arrive 0 packet = cc in h [] es packet (ap (λ z. z ∷ es) same)
+waits_push flow (d ∷ es) e h w (b ∷ before) after packet is =
+    let same : d ≡ b = cc in
+    let rest : es ++ e ∷ [] ≡ before ++ Arrive 0 packet ∷ after = cc in
+    subst (λ z. NoneWaits (flow_of (flow_behind flow z) before).switch) same
+    (waits_push (flow_behind flow d) es e (λ before' after' packet' is'. h (d ∷ before') after' packet' (ap (λ z. d ∷ z) is')) w before after packet rest)
 
 -- ---- what is forwarded to the host
 
@@ -104,6 +120,7 @@ pub record GoesOn (l l' : Lan) (r : Happening) : Type 0 where
   pub ports : length l'.switch.ports ≡ length l.switch.ports
   pub own : l'.host ≡ l.host
   pub entered : take l'.entered l'.host ≡ take l.entered l.host ++ arrived_by 0 r.event
+  pub waits : (packet : ArrayVec ℕ) → r.event ≡ Arrive 0 packet → NoneWaits l.switch
 
 pub happened_push : (ports : ℕ) (host : List (ArrayVec ℕ)) (rows : List Happening) (l l' : Lan) (r : Happening) → 1 ≤ length l.switch.ports → GoesOn l l' r → HasHappened ports host rows l → HasHappened ports host (rows ++ r ∷ []) l'
 happened_push ports host rows l l' r some g x =
@@ -120,6 +137,7 @@ happened_push ports host rows l l' r some g x =
       own = g.own ∙ x.own;
       at_port = subst (λ z. All (IsAtPort ports) z) (sym (events_push rows r)) (All-push (IsAtPort ports) es r.event x.at_port (subst (λ n. IsAtPort n r.event) x.many g.at_port));
       many = g.ports ∙ x.many;
+      waits = λ before after packet is. waits_push _ es r.event x.waits (λ p e. subst NoneWaits (sym x.switch) (g.waits p e)) before after packet (sym (events_push rows r) ∙ is);
     }
 
 pub happens_one : (l l' : Lan) (r : Happening) → length l'.happened ≤ length l.happened + 1 → (length l.happened < 17 → l'.happened ≡ l.happened ++ r ∷ []) → GoesOn l l' r → Happens 1 l l'
@@ -135,10 +153,15 @@ first_of : (n : ℕ) (x : List (ArrayVec ℕ)) → 1 ≤ n → (rest : List (Lis
 first_of zero x l = absurd (omega arith)
 first_of (suc n) x l = (replicate n x, refl)
 
+-- of no events
+none_before : (ports : ℕ) (before after : List SwitchEvent) (packet : ArrayVec ℕ) → [] ≡ before ++ Arrive 0 packet ∷ after → NoneWaits (switched ports before).switch
+none_before ports [] after packet is = absurd (cc)
+none_before ports (b ∷ before) after packet is = absurd (cc)
+
 pub happened_none : (ports : ℕ) (host : List (ArrayVec ℕ)) (l : Lan) → 1 ≤ ports → l.switch ≡ first_switch ports → length l.switch.ports ≡ ports → l.host ≡ host → l.entered ≡ 0 → HasHappened ports host [] l
 happened_none ports host l some s many h e =
     let first = first_of ports [] some in
-    record { switch = sym s; others = first.0; handed = first.1; entered = sym (ap (λ n. take n l.host) e); own = h; at_port = All-nil (IsAtPort ports); many = many }
+    record { switch = sym s; others = first.0; handed = first.1; entered = sym (ap (λ n. take n l.host) e); own = h; at_port = All-nil (IsAtPort ports); many = many; waits = none_before ports }
 
 -- ---- nothing more
 
@@ -157,6 +180,7 @@ happened_same ports host rows rows' l l' s e x = subst (λ z. HasHappened ports 
   own = s.host ∙ x.own;
   at_port = x.at_port;
   many = ap (λ (z : Switched). length z.ports) s.switch ∙ x.many;
+  waits = x.waits;
 })
 
 pub happens_same : (more : ℕ) (l l' : Lan) → SameLan l l' → l'.happened ≡ l.happened → Happens more l l'
@@ -202,8 +226,8 @@ abbrev came_row : ℕ → ArrayVec ℕ → Lan → Happening
 came_row port packet l = record { event = Arrive port packet; handed = (arrived l.switch port packet).taken % 2 == 1 }
 
 pub came_goes : (port : ℕ) (packet : ArrayVec ℕ) (l l' m : Lan) → l.switch ≡ m.switch → l.happened ≡ m.happened → l.host ≡ m.host → port < length l.switch.ports → 14 ≤ length packet.items →
-    take l'.entered l'.host ≡ take m.entered m.host ++ arrived_by 0 (Arrive port packet) → Comes port packet l l' → Happens 1 m l'
-came_goes port packet l l' m sw hs ho at long came c =
+    take l'.entered l'.host ≡ take m.entered m.host ++ arrived_by 0 (Arrive port packet) → (port ≡ 0 → NoneWaits m.switch) → Comes port packet l l' → Happens 1 m l'
+came_goes port packet l l' m sw hs ho at long came waits c =
     happens_one m l' (came_row port packet m) (subst (λ (z : List Happening). length l'.happened ≤ length z + 1) hs c.few)
     (λ room. c.listed (subst (λ (z : List Happening). length z < 17) (sym hs) room) ∙ (λ i. hs i ++ record { event = Arrive port packet; handed = (arrived (sw i) port packet).taken % 2 == 1 } ∷ []))
     (record {
@@ -213,6 +237,7 @@ came_goes port packet l l' m sw hs ho at long came c =
       ports = c.many ∙ ap (λ (z : Switched). length z.ports) sw;
       own = c.host ∙ ho;
       entered = came;
+      waits = λ p e. let first : port ≡ 0 = cc in waits first;
     })
 
 behind_first : (port : ℕ) → 1 ≤ port → (port == 0) ≡ false
@@ -225,28 +250,28 @@ away port packet l = ap (λ (z : Bool). if z then packet ∷ [] else []) (behind
 pub from_slave : (port : ℕ) (packet : ArrayVec ℕ) (l l' : Lan) → 1 ≤ port → port < length l.switch.ports → 14 ≤ length packet.items → Comes port packet l l' → Happens 1 l l'
 from_slave port packet l l' behind inside long c =
     came_goes port packet l l' l refl refl refl inside long
-    ((λ i. take (c.entered i) (c.host i)) ∙ sym (append-nil (take l.entered l.host)) ∙ ap (λ z. take l.entered l.host ++ z) (sym (away port packet behind))) c
+    ((λ i. take (c.entered i) (c.host i)) ∙ sym (append-nil (take l.entered l.host)) ∙ ap (λ z. take l.entered l.host ++ z) (sym (away port packet behind))) (λ first. absurd (omega (arith, behind, first))) c
 
--- the next one of the host comes in at its port; `m` is the switch before that was counted
+-- the next one of the host comes in at its port, where none waits; `m` is the switch before that was counted
 pub from_host : (packet : ArrayVec ℕ) (m l l' : Lan) → l.switch ≡ m.switch → l.happened ≡ m.happened → l.host ≡ m.host → l.entered ≡ m.entered + 1 → m.entered < length m.host → packet ≡ get_or m.host m.entered packet → 14 ≤ length packet.items →
-    Comes 0 packet l l' → Happens 1 m l'
-from_host packet m l l' sw hs ho en inside is long c =
+    NoneWaits m.switch → Comes 0 packet l l' → Happens 1 m l'
+from_host packet m l l' sw hs ho en inside is long none c =
     came_goes 0 packet l l' m sw hs ho l.host_port long
-    ((λ i. take (c.entered i) (c.host i)) ∙ (λ i. take (en i) (ho i)) ∙ ap (λ n. take n m.host) (add-one m.entered) ∙ take-suc m.host m.entered packet inside ∙ ap (λ z. take m.entered m.host ++ z ∷ []) (sym is)) c
+    ((λ i. take (c.entered i) (c.host i)) ∙ (λ i. take (en i) (ho i)) ∙ ap (λ n. take n m.host) (add-one m.entered) ∙ take-suc m.host m.entered packet inside ∙ ap (λ z. take m.entered m.host ++ z ∷ []) (sym is)) (λ first. none) c
 
 -- the oldest begins, where one waits
 pub begun_goes : (port : ℕ) (l l' : Lan) → port < length l.switch.ports → l'.switch ≡ begun_at l.switch port → length l'.switch.ports ≡ length l.switch.ports → l'.host ≡ l.host → l'.entered ≡ l.entered →
     length l'.happened ≤ length l.happened + 1 → (length l.happened < 17 → l'.happened ≡ l.happened ++ record { event = Begun port; handed = false } ∷ []) → Happens 1 l l'
 begun_goes port l l' at s p h e few listed =
     happens_one l l' (record { event = Begun port; handed = false }) few listed
-    (record { switch = s; marked = refl; at_port = at; ports = p; own = h; entered = (λ i. take (e i) (h i)) ∙ sym (append-nil (take l.entered l.host)) })
+    (record { switch = s; marked = refl; at_port = at; ports = p; own = h; entered = (λ i. take (e i) (h i)) ∙ sym (append-nil (take l.entered l.host)); waits = λ p e. absurd (cc) })
 
 -- a port goes down
 pub down_goes : (port : ℕ) (l l' : Lan) → port < length l.switch.ports → l'.switch ≡ downed_at l.switch port → length l'.switch.ports ≡ length l.switch.ports → l'.host ≡ l.host → l'.entered ≡ l.entered →
     length l'.happened ≤ length l.happened + 1 → (length l.happened < 17 → l'.happened ≡ l.happened ++ record { event = Down port; handed = false } ∷ []) → Happens 1 l l'
 down_goes port l l' at s p h e few listed =
     happens_one l l' (record { event = Down port; handed = false }) few listed
-    (record { switch = s; marked = refl; at_port = at; ports = p; own = h; entered = (λ i. take (e i) (h i)) ∙ sym (append-nil (take l.entered l.host)) })
+    (record { switch = s; marked = refl; at_port = at; ports = p; own = h; entered = (λ i. take (e i) (h i)) ∙ sym (append-nil (take l.entered l.host)); waits = λ p e. absurd (cc) })
 
 -- where none waits nothing is taken
 none_first : (q : List (ArrayVec ℕ)) → None ≡ slice_get q 0 → q ≡ []

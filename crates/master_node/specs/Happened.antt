@@ -1,7 +1,7 @@
 -- WHAT HAPPENED AT THE SWITCH from its beginning on, and the switch that a master has behind it.
 use Rattle.std.specs.Prelude.{◌≡◌, ◌≤◌, ◌<◌, ℕ, ◌+◌, ◌%◌, ◌==◌, Bool, if◌then◌else◌, List, [], ◌∷◌, ◌++◌, map, take, length, All}
 use Rattle.arrayvec.specs.ArrayVec.{ArrayVec}
-use Rattle.eoe_switch.specs.Switch.{Switched, switched, arrived}
+use Rattle.eoe_switch.specs.Switch.{Switched, switched, arrived, queue_at}
 use Rattle.eoe_switch.specs.declared.switching.SwitchEvent.{SwitchEvent}
 use Rattle.eoe_switch.specs.declared.switching.SwitchEvent.TheVariants.{Arrive, Begun, Down}
 use Rattle.master_node.specs.Ports.{IsAtPort}
@@ -36,8 +36,17 @@ abbrev pub arrivals_at : ℕ → List SwitchEvent → List (ArrayVec ℕ)
 arrivals_at port [] = []
 arrivals_at port (e ∷ es) = arrived_by port e ++ arrivals_at port es
 
+-- no packet waits at any port of a switch
+abbrev pub NoneWaits : Switched → Type 0
+NoneWaits s = (port : ℕ) → queue_at s port ≡ []
+
+-- THE HOST WAITS: where one of its packets comes in, none waits at any port, by the events before it
+abbrev pub HostWaits : ℕ → List SwitchEvent → Type 0
+HostWaits ports es = (before after : List SwitchEvent) (packet : ArrayVec ℕ) → es ≡ before ++ Arrive 0 packet ∷ after → NoneWaits (switched ports before).switch
+
 -- THE SWITCH BEHIND ALL THIS: it is what the events make of a new switch with so many ports; the host was handed just the packets that they forward to the
--- first port, which is its own; those that came in there are the first of the host's packets, in order; and each event is at one of the ports
+-- first port, which is its own; those that came in there are the first of the host's packets, in order, each where none waited; and each event is at one of
+-- the ports
 pub record HasHappened (ports : ℕ) (host : List (ArrayVec ℕ)) (rows : List Happening) (l : Lan) : Type 0 where
   pub switch : (switched ports (events_of rows)).switch ≡ l.switch
   pub others : List (List (ArrayVec ℕ))
@@ -46,6 +55,7 @@ pub record HasHappened (ports : ℕ) (host : List (ArrayVec ℕ)) (rows : List H
   pub own : l.host ≡ host
   pub at_port : All (IsAtPort ports) (events_of rows)
   pub many : length l.switch.ports ≡ ports
+  pub waits : HostWaits ports (events_of rows)
 
 -- A PACKET COMES IN at a port: so it stands in the list of the step, where that has room for it, marked where it is forwarded to the host
 pub record Comes (port : ℕ) (packet : ArrayVec ℕ) (l l' : Lan) : Type 0 where

@@ -19,6 +19,9 @@ use std::alloc::Global;
 /// The port of the host.
 const HOST: u32 = 0;
 
+/// The most ports: the host's, and one for each slave.
+const PORTS: u32 = 17;
+
 /// The least octets of a packet: its two addresses and its EtherType.
 const LEAST: usize = 14;
 
@@ -35,6 +38,7 @@ pub struct Lan {
     happened: Happenings,
     ghost ported: { are_ports (length switch.ports) ports.items ≡ true },
     ghost host_port: { 1 ≤ length switch.ports },
+    ghost few: { length switch.ports ≤ 17 },
     ghost long: { are_long host ≡ true },
 }
 
@@ -105,11 +109,12 @@ impl Lan {
     ghost use Rattle.segment_plan.specs.Sound.{IsPlan};
     ghost use Rattle.master_node.specs.Ports.{ports_of, ports_behind};
     ghost use Rattle.std.specs.Prelude.{true};
-    ghost use Rattle.master_node.specs.Happened.{HasHappened, Happens, HappensSo, Comes};
+    ghost use Rattle.master_node.specs.Happened.{HasHappened, Happens, HappensSo, Comes, NoneWaits};
     ghost use Rattle.master_node.specs.Downs.{Lists, down_by};
     ghost use Rattle.master_node.specs.Arrivals.{arrive_by};
     ghost use Rattle.master_node.specs.Made.{Makes};
     ghost use Rattle.master_node.specs.Begins.{NoneMore, TakesOn, oldest_by};
+    ghost use Rattle.std.specs.Bool.{OnTrue};
 
     /// A switch with a port for the host and one for each slave that serves EoE, all of them up, and the packets of the host.
     pub fn new(alloc: Global, plan: &Scenario) -> Result<Lan, NoMemory>
@@ -153,9 +158,11 @@ impl Lan {
     }
 
     /// Whether no packet waits at any port.
-    pub fn is_quiet(&self) -> bool {
-        for slave in 0..self.ports.len() {
-            if self.waits(slave) {
+    pub fn is_quiet(&self) -> bool
+        ensures { OnTrue result (NoneWaits self.now.switch) }
+    {
+        for port in 0..PORTS {
+            if self.switch.waiting(port) > 0 {
                 return false;
             }
         }
@@ -184,8 +191,9 @@ impl Lan {
         self.happened.all()
     }
 
-    /// The next packet of the host comes in.
+    /// The next packet of the host comes in, where none waits.
     pub fn enter(&mut self)
+        requires { NoneWaits self.old.switch }
         ensures happens { Happens 1 self.old self.new }
         ensures made { Makes self.old self.new }
         ensures takes { TakesOn [] self.old self.new }

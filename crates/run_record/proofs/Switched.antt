@@ -7,7 +7,7 @@ use Rattle.std.proofs.Math.Seq.{take-suc}
 use Rattle.arrayvec.specs.ArrayVec.{ArrayVec}
 use Rattle.eoe_switch.specs.Switch.{switched}
 use Rattle.master_node.proofs.Happenings.{events_push, handed_push}
-use Rattle.master_node.specs.Happened.{events_of, handed_by, handed_in, arrivals_at, HasHappened, HappensSo}
+use Rattle.master_node.specs.Happened.{events_of, handed_by, handed_in, arrivals_at, NoneWaits, HasHappened, HappensSo}
 use Rattle.master_node.specs.declared.happened.Happening.{Happening}
 use Rattle.master_node.specs.declared.lan.Lan.{Lan}
 use Rattle.run_book.specs.Book.{IsNew}
@@ -165,4 +165,5 @@ has_packets plan ports sent l b b' many frames s x =
       many = ap length numbers ∙ length-map x.stamps (λ (t : Stamp). t.sent)
           ∙ sym (ap length switch ∙ length-map (rows_of x.stamps) (λ (r : Happening). r.event) ∙ length-map x.stamps (λ (t : Stamp). t.row));
       numbers = subst (λ n. NeverFall 0 n b'.switched) frames (subst (λ z. NeverFall 0 sent z) (sym numbers) x.numbers);
+      waits = λ before after packet is. subst (λ n. NoneWaits (switched n before).switch) many (x.happened.waits before after packet (sym switch ∙ is));
     }

@@ -2,7 +2,7 @@
 use Rattle.std.specs.Prelude.{◌≡◌, ◌≤◌, ℕ, List, [], ◌∷◌, ◌++◌, map, length, All}
 use Rattle.arrayvec.specs.ArrayVec.{ArrayVec}
 use Rattle.eoe_switch.specs.Switch.{switched}
-use Rattle.master_node.specs.Happened.{events_of, handed_in, arrivals_at, HasHappened}
+use Rattle.master_node.specs.Happened.{events_of, handed_in, arrivals_at, HostWaits, HasHappened}
 use Rattle.master_node.specs.declared.happened.Happening.{Happening}
 use Rattle.master_node.specs.declared.lan.Lan.{Lan}
 use Rattle.run_book.specs.Ports.{ports_of, IsAtPort}
@@ -63,7 +63,8 @@ pub record IsSwitched (ports : ℕ) (host : List (ArrayVec ℕ)) (sent : ℕ) (l
   pub happened : HasHappened ports host (rows_of stamps) l
 
 -- THE PACKETS OF THE BOOK OF A PLAN: the host received just those that the events of the switch forward to the first port, which is its own, in order; those that came
--- in there are the first of the plan's packets, in order; and each event has its number of frames, which don't fall and are no more than were sent
+-- in there are the first of the plan's packets, in order, each where no packet waited at any port; and each event has its number of frames, which don't fall and are
+-- no more than were sent
 pub record HasPackets (plan : Scenario) (book : Book) : Type 0 where
   pub packets : List (ArrayVec ℕ)
   pub others : List (List (ArrayVec ℕ))
@@ -73,3 +74,4 @@ pub record HasPackets (plan : Scenario) (book : Book) : Type 0 where
   pub entered : arrivals_at 0 book.switch ++ rest ≡ plan.host
   pub many : length book.switched ≡ length book.switch
   pub numbers : NeverFall 0 (length book.frames) book.switched
+  pub waits : HostWaits (ports_of plan.slaves) book.switch

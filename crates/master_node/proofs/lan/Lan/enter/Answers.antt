@@ -29,7 +29,7 @@ returns-clause-happens c =
     let l = c.args.self.now in
     from_host c.copy-packet.result l _ c.arrive.new.self refl refl refl refl (omega (arith, c.len.ensures))
     (copy_is l.host c.as_slice.result.now l.entered c.index-as_slice-self.result c.copy-packet.result c.copy-packet.ensures c.index-as_slice-self.is c.as_slice.ensures)
-    (copy_long l c.as_slice.result.now c.index-as_slice-self.result c.copy-packet.result (omega (arith, c.len.ensures)) c.copy-packet.ensures c.index-as_slice-self.is c.as_slice.ensures) c.arrive.ensures
+    (copy_long l c.as_slice.result.now c.index-as_slice-self.result c.copy-packet.result (omega (arith, c.len.ensures)) c.copy-packet.ensures c.index-as_slice-self.is c.as_slice.ensures) c.requires c.arrive.ensures
 
 pub returns-clause-made : goal.returns-clause-made
 returns-clause-made c = makes_one _ _ _ refl c.arrive.ensures.ports c.arrive.ensures.listed c.arrive.ensures.full
