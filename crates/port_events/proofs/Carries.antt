@@ -104,7 +104,7 @@ module _ (lens : ℕ → Lens) (recover retry : ℕ) (ports : List (Option ℕ))
   carries_all = record { once = once; all = all_in; quiet = λ k out. none_by f.fate refl k out }
 
 -- ONE FRAME MORE, by what the master lists of it
-events_making : (rows : List Happening) → AreOfMaking rows → All IsOfMaking (events_of rows)
+pub events_making : (rows : List Happening) → AreOfMaking rows → All IsOfMaking (events_of rows)
 events_making [] a = All-nil IsOfMaking
 events_making (r ∷ rows) a = All-cons IsOfMaking r.event (events_of rows) (All-head (λ (q : Happening). IsOfMaking q.event) r rows a) (events_making rows (All-tail (λ (q : Happening). IsOfMaking q.event) r rows a))
 

@@ -57,7 +57,7 @@ module _ (lens : ℕ → Lens) (recover retry : ℕ) (ports : List (Option ℕ))
   more_there f Pass j js u us k = refl
   more_there f (Lost after) j js u us k = refl
 
-  packets_more : (f : Exchanged) (js : List Joined) (us : List Turn) (k : ℕ) → packets_at (joined_on lens f js us) k ≡ packets_at js k ++ packets_by lens recover retry ports f f.fate us js k
+  pub packets_more : (f : Exchanged) (js : List Joined) (us : List Turn) (k : ℕ) → packets_at (joined_on lens f js us) k ≡ packets_at js k ++ packets_by lens recover retry ports f f.fate us js k
   packets_more f [] us k = none_joined f f.fate us k
   packets_more f (j ∷ js) [] k = sym (append-nil (packets_at (j ∷ js) k)) ∙ ap (λ z. packets_at (j ∷ js) k ++ z) (sym (no_more f f.fate (j ∷ js) k))
   packets_more f (j ∷ js) (u ∷ us) zero = ap (λ z. j.packets ++ z) (more_here f f.fate j js u us)

@@ -1,5 +1,6 @@
 -- What comes in of slaves and which of their ports go down, over one frame, as the events of a book's switch have it.
 use Rattle.std.proofs.Common.{◌≡◌, ℕ, suc, ◌++◌, Option, List, [], ◌∷◌, map, length, refl, sym, ap, subst, ◌∙◌}
+use Rattle.std.specs.Prelude.{All}
 use Rattle.arrayvec.specs.ArrayVec.{ArrayVec}
 use Rattle.eoe_switch.specs.Switch.{Switched, switched}
 use Rattle.eoe_switch.specs.declared.switching.SwitchEvent.{SwitchEvent}
@@ -26,7 +27,10 @@ use Rattle.master_node.specs.Rooms.{area_at}
 use Rattle.master_node.specs.Shows.{MasterUnder, is_live_lead}
 use Rattle.master_node.specs.Toured.{tour_of, turn_share}
 use Rattle.master_node.specs.declared.node.MasterNode.{MasterNode}
+use Rattle.packets_begun.proofs.Numbers.{numbered_on}
 use Rattle.packets_begun.proofs.Runs.{begun_on, none_behind}
+use Rattle.packets_begun.specs.Numbers.{each_with}
+use Rattle.packets_begun.specs.Over.{IsNoBegun}
 use Rattle.port_events.proofs.Carries.{carries_all, listed_on}
 use Rattle.port_events.proofs.Unfinished.{under_way, joined_so}
 use Rattle.port_events.specs.Listed.{CarriesAll, packets_by, unfinished_of}
@@ -35,7 +39,7 @@ use Rattle.segment_plan.specs.declared.plan.Scenario.{Scenario}
 use Rattle.segment_ring.specs.declared.wire.Fate.{Fate}
 use Rattle.segment_ring.specs.declared.wire.Fate.TheVariants as Fates
 use Rattle.run_record.specs.Forwarded.{IsForwarded}
-use Rattle.run_record.specs.Led.{LeadTo, ListsAll, BeginsAll}
+use Rattle.run_record.specs.Led.{LeadTo, ListsAll, BeginsAll, NumbersAll}
 use Rattle.visit_orders.specs.Toured.{lives_behind}
 
 -- as many slaves
@@ -64,7 +68,8 @@ module _ (plan : Scenario) (fs : List Exchanged) (missed : ℕ) (as' : List Lead
 
   module _ (joined : HasUnfinished m1 (map stand_under us) (unfinished_of (joined_in lives)) → HasUnfinished m2 (map stand_before behind) (unfinished_after (λ u. mails_by lens f f.fate u) us (unfinished_of (joined_in lives))))
       (arrivals : f.fate ≡ Fates.Pass → HasUnfinished m1 (map stand_under us) (unfinished_of (joined_in lives)) → ComeIn m1 (λ k. completed_at (seen lens f.back) us (unfinished_of (joined_in lives)) k) m2)
-      (downs : (after : ℕ) → f.fate ≡ Fates.Lost after → GoDown m1 us behind m2) (es es' : List SwitchEvent) (grown : es' ≡ es ++ (events_of m1.lan.happened ++ events_of m2.lan.happened)) (w : IsForwarded plan m0 lives es)
+      (downs : (after : ℕ) → f.fate ≡ Fates.Lost after → GoDown m1 us behind m2) (es es' : List SwitchEvent) (grown : es' ≡ es ++ (events_of m1.lan.happened ++ events_of m2.lan.happened)) (ns ns' : List ℕ)
+      (counted : ns' ≡ ns ++ (each_with (length fs) (events_of m1.lan.happened) ++ each_with (suc (length fs)) (events_of m2.lan.happened))) (w : IsForwarded plan m0 lives es ns)
       (begins : PacketsBegin m0.lan.switch us m1.lan) (stood : (switched (ports_of plan.slaves) es).switch ≡ m0.lan.switch) (stands : (switched (ports_of plan.slaves) (es ++ events_of m1.lan.happened)).switch ≡ m1.lan.switch) where
     half : HasUnfinished m1 (map stand_under us) (unfinished_of (joined_in lives))
     half = under_way lens (length fs) frame.datagrams as' us m0 m1 (unfinished_of (joined_in lives)) frame.each joins w.unfinished
@@ -82,20 +87,31 @@ module _ (plan : Scenario) (fs : List Exchanged) (missed : ℕ) (as' : List Lead
         subst (λ (z : List SwitchEvent). ListsAll plan (IsLed.on fs missed as' f us lives frame) z) (sym grown)
         (listed_on lens plan.recover plan.retry ports (first_leads plan) fs missed as' lives f us frame m1 m2 same making.1 (λ pass. arrivals pass half) downs carries es w.listed)
 
+    begins_so : PacketsBegin (switched (ports_of plan.slaves) es).switch us m1.lan
+    begins_so = subst (λ (s : Switched). PacketsBegin s us m1.lan) (sym stood) begins
+
+    none_so : All IsNoBegun (events_of m2.lan.happened)
+    none_so = none_behind m1.lan.ports.items (λ k. completed_at (seen lens f.back) us (unfinished_of (joined_in lives)) k) (goes_down us behind) m1.tour.visit.items (events_of m2.lan.happened) f.fate (λ e. (arrivals e half).events) (λ after e. (downs after e).events)
+
     begun : BeginsAll plan (IsLed.on fs missed as' f us lives frame) es'
     begun =
         subst (λ (z : List SwitchEvent). BeginsAll plan (IsLed.on fs missed as' f us lives frame) z) (sym grown)
-        (begun_on (λ old. BeginsAll plan lives old) ports (ports_of plan.slaves) us m1.lan m2.lan es (events_of m2.lan.happened) w.begun same (subst (λ (s : Switched). PacketsBegin s us m1.lan) (sym stood) begins) stands
-        (none_behind m1.lan.ports.items (λ k. completed_at (seen lens f.back) us (unfinished_of (joined_in lives)) k) (goes_down us behind) m1.tour.visit.items (events_of m2.lan.happened) f.fate (λ e. (arrivals e half).events) (λ after e. (downs after e).events)))
+        (begun_on (λ old. BeginsAll plan lives old) ports (ports_of plan.slaves) us m1.lan m2.lan es (events_of m2.lan.happened) w.begun same begins_so stands none_so)
+
+    numbered : NumbersAll plan (IsLed.on fs missed as' f us lives frame) es' ns'
+    numbered =
+        subst (λ (z : List SwitchEvent). NumbersAll plan (IsLed.on fs missed as' f us lives frame) z ns') (sym grown)
+        (numbered_on ports (ports_of plan.slaves) lives f us frame m1.lan m2.lan es (events_of m2.lan.happened) ns ns' w.listed w.begun w.numbered same making.1 begins_so stands none_so counted)
 
     kept : (fate : Fate) → f.fate ≡ fate → m2.lan.ports ≡ m1.lan.ports
     kept Fates.Pass e = (arrivals e half).ports
     kept (Fates.Lost after) e = (downs after e).ports
 
-    pub forwarded_on : IsForwarded plan m2 (IsLed.on fs missed as' f us lives frame) es'
+    pub forwarded_on : IsForwarded plan m2 (IsLed.on fs missed as' f us lives frame) es' ns'
     forwarded_on = record {
       ports = ap (λ (p : ArrayVec (Option ℕ)). p.items) (kept f.fate refl) ∙ same;
       unfinished = subst (λ z. HasUnfinished m2 (map stand_before behind) z) (sym (joined_so lens f (joined_in lives) us (as_many us (joined_in lives) m1.tour.stops.items half))) (joined half);
       listed = listed;
       begun = begun;
+      numbered = numbered;
     }

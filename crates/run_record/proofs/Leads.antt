@@ -40,6 +40,7 @@ use Rattle.master_node.specs.of_master_tour.Goes.{holds_at}
 use Rattle.master_node.specs.of_master_tour.Sizes.{frame_size}
 use Rattle.master_node.specs.of_master_tour.Toured.{Tour, IsOfTour, new_tour}
 use Rattle.master_node.proofs.Counts.{counted, turn_gave, back_gave, lost_gave}
+use Rattle.packets_begun.specs.Numbers.{each_with}
 use Rattle.port_events.specs.Listed.{unfinished_of}
 use Rattle.port_events.specs.of_packets_heard.Heard.{Joined, joined_in, joined_none, mails_by}
 use Rattle.run_book.specs.declared.book.Book.{Book}
@@ -118,9 +119,9 @@ none_unfinished services place (s ∷ ss) = ap (λ z. None ∷ z) (none_unfinish
 pub first_forwards : (plan : Scenario) (m : MasterNode) (notes : List Notes) → MasterShows (lens_of plan.slaves) plan.recover plan.retry m 0 (first_leads plan) → notes ≡ first_notes plan.services 0 plan.slaves → tour_of m ≡ new_tour → m.lan.ports.items ≡ ports_behind 0 plan.slaves →
     HasUnfinished m (map stand_before (first_leads plan)) (map (λ spec. None) plan.slaves) → ForwardsFirst plan m notes
 unfolding begins
-first_forwards plan m notes shown first tour ports none = λ b empty. record {
+first_forwards plan m notes shown first tour ports none = λ b empty bare. record {
   leading = begins plan m notes shown first tour;
-  forwarded = record { ports = ports; unfinished = subst (λ z. HasUnfinished m (map stand_before (first_leads plan)) z) (sym (none_unfinished plan.services 0 plan.slaves)) none; listed = empty; begun = empty };
+  forwarded = record { ports = ports; unfinished = subst (λ z. HasUnfinished m (map stand_before (first_leads plan)) z) (sym (none_unfinished plan.services 0 plan.slaves)) none; listed = empty; begun = empty; numbered = (empty, bare) };
 }
 
 -- GIVE-UPS over a frame
@@ -319,14 +320,16 @@ module _ (m0 m1 m2 : MasterNode) (f : Exchanged) (result : Next)
           (arrivals : f.fate ≡ Fates.Pass → (us : List Turn) (js : List Joined) → IsLedFrame lens (length fs) f.sent l.leads us → MasterUnder lens plan.recover plan.retry m1 f.sent l.missed us → HasUnfinished m1 (map stand_under us) (unfinished_of js) →
           ComeIn m1 (λ k. completed_at (seen lens f.back) us (unfinished_of js) k) m2)
           (downs : (after : ℕ) → f.fate ≡ Fates.Lost after → (us : List Turn) → MasterUnder lens plan.recover plan.retry m1 f.sent l.missed us → GoDown m1 us (lives_behind lens plan.recover plan.retry l.missed (length fs) f us) m2)
-          (grown : b'.switch ≡ b.switch ++ (events_of m1.lan.happened ++ events_of m2.lan.happened)) (w : IsForwarded plan m0 l.lives b.switch)
+          (grown : b'.switch ≡ b.switch ++ (events_of m1.lan.happened ++ events_of m2.lan.happened))
+          (counted : b'.switched ≡ b.switched ++ (each_with frame (events_of m1.lan.happened) ++ each_with (suc frame) (events_of m2.lan.happened))) (w : IsForwarded plan m0 l.lives b.switch b.switched)
           (stood : (switched (ports_of plan.slaves) b.switch).switch ≡ m0.lan.switch) (stands : (switched (ports_of plan.slaves) (b.switch ++ events_of m1.lan.happened)).switch ≡ m1.lan.switch) where
         pub forwards_on : Forwards plan m2 r'.notes (fs ++ f ∷ []) b'
         unfolding leads_on
         forwards_on = record {
           leading = leads_on;
           forwarded = forwarded_on plan fs l.missed l.leads l.lives f made.0 made.1 m0 m1 m2 made.2 visited.1 joins making (λ pass. back pass made.0 made.1) (λ h. joined made.0 (joined_in l.lives) made.1 made.2 h)
-              (λ pass h. arrivals pass made.0 (joined_in l.lives) made.1 made.2 h) (λ after lost. downs after lost made.0 made.2) b.switch b'.switch grown w made.3 stood stands;
+              (λ pass h. arrivals pass made.0 (joined_in l.lives) made.1 made.2 h) (λ after lost. downs after lost made.0 made.2) b.switch b'.switch grown b.switched b'.switched
+              (counted ∙ ap (λ (n : ℕ). b.switched ++ (each_with n (events_of m1.lan.happened) ++ each_with (suc n) (events_of m2.lan.happened))) (sym counts)) w made.3 stood stands;
         }
 
 -- what the ring gave back of a frame of the master's is its return

@@ -26,3 +26,4 @@ pub mod Epochs
 pub mod Reports
 pub mod Reporting
 pub mod Switched
+pub mod Numbered

@@ -19,7 +19,7 @@ use Rattle.run_book.specs.declared.book.SentFrame.{SentFrame}
 use Rattle.run_book.specs.declared.book.SlaveBook.{SlaveBook}
 use Rattle.segment_plan.specs.declared.plan.Scenario.{Scenario}
 use Rattle.run_record.specs.Forwarded.{Forwards}
-use Rattle.run_record.specs.Led.{exchanged, gaves_in, Leading, LeadTo, ListsAll, BeginsAll, TouredTo, RestsSo, RestBy, LedBook}
+use Rattle.run_record.specs.Led.{exchanged, gaves_in, Leading, LeadTo, ListsAll, BeginsAll, NumbersAll, TouredTo, RestsSo, RestBy, LedBook}
 use Rattle.run_record.specs.Ran.{IsUnderway, EndsSo}
 use Rattle.run_record.specs.Session.{SessionState, session_rows, are_at_rest, some_given_up, IsLeftBy}
 use Rattle.run_record.specs.Reports.{IsBooked}
@@ -33,9 +33,9 @@ use Rattle.run_record.proofs.Heard.{heard_of_rows}
 use Rattle.run_record.proofs.Switched.{has_packets}
 use Rattle.run_record.proofs.Underway.{many}
 
--- the lives that frames lead to, with the emergencies that are noted of them and the events that they list
-abbrev HeardLives : Scenario → ℕ → List Leads → List (List Emergency) → List SwitchEvent → List SentFrame → Type 0
-HeardLives plan missed leads notes es frames = (lives : LeadTo plan (map exchanged frames) missed leads) × AllNoted (heard_in lives) notes × ListsAll plan lives es × BeginsAll plan lives es
+-- the lives that frames lead to, with the emergencies that are noted of them and the events that they list, each with its number
+abbrev HeardLives : Scenario → ℕ → List Leads → List (List Emergency) → List SwitchEvent → List ℕ → List SentFrame → Type 0
+HeardLives plan missed leads notes es ns frames = (lives : LeadTo plan (map exchanged frames) missed leads) × AllNoted (heard_in lives) notes × ListsAll plan lives es × BeginsAll plan lives es × NumbersAll plan lives es ns
 
 not_done : endings.Done ≡ endings.NoMemory → ⊥
 not_done e = absurd (cc)
@@ -73,8 +73,8 @@ module _ (plan : Scenario) (s : SessionState) (b b' : Book) (h : IsUnderway plan
   rest_by endings.Unfinished settled so left cut rows = tt
 
   -- the lives, by the frames of the book
-  both : HeardLives plan l.missed l.leads (emergencies_noted s.notes) b.switch b'.frames
-  both = subst (λ (fs : List SentFrame). HeardLives plan l.missed l.leads (emergencies_noted s.notes) b.switch fs) (sym frames) (l.lives, l.heard, w.forwarded.listed, w.forwarded.begun)
+  both : HeardLives plan l.missed l.leads (emergencies_noted s.notes) b.switch b.switched b'.frames
+  both = subst (λ (fs : List SentFrame). HeardLives plan l.missed l.leads (emergencies_noted s.notes) b.switch b.switched fs) (sym frames) (l.lives, l.heard, w.forwarded.listed, w.forwarded.begun, w.forwarded.numbered)
 
   -- however it ends
   pub led_book : (ending result : Ending) (settled : Bool) → EndsSo s ending → OnTrue settled (IsLeftBy s.master) → OnFalse settled (ending ≡ endings.BudgetSpent) → (result ≡ ending) ⊎ (result ≡ endings.NoMemory) → (result ≢ endings.NoMemory → b'.slaves ≡ session_rows s) → LedBook plan b' result
@@ -92,6 +92,7 @@ module _ (plan : Scenario) (s : SessionState) (b b' : Book) (h : IsUnderway plan
     packets = λ ok. has_packets plan s.ports s.ring.number s.master.lan b b' h.ports (sym (ap length frames ∙ many plan 0 s b h)) kept switched;
     listed = λ ok. subst (λ (es : List SwitchEvent). ListsAll plan both.0 es) (sym kept.switch) both.2;
     begun = λ ok. subst (λ (es : List SwitchEvent). BeginsAll plan both.0 es) (sym kept.switch) both.3;
+    numbered = λ ok. subst (λ (ns : List ℕ). NumbersAll plan both.0 b'.switch ns) (sym kept.switched) (subst (λ (es : List SwitchEvent). NumbersAll plan both.0 es b.switched) (sym kept.switch) both.4);
     rests = elim answers [
       | inl is ↦ subst (λ (e : Ending). RestBy lens e l.leads b'.slaves) (sym is) (rest_by ending settled so left cut (λ ok. rows (λ none. ok (sym is ∙ none))))
       | inr none ↦ subst (λ (e : Ending). RestBy lens e l.leads b'.slaves) (sym none) tt

@@ -23,11 +23,11 @@ use Rattle.run_record.specs.Switched.{octets_of, Stamp, rows_of, numbers_of, sta
 abbrev pub IsAt : ℕ → Happening → Type 0
 IsAt ports r = IsAtPort ports r.event
 
-all_rows : (ports : ℕ) (rows : List Happening) → All (IsAtPort ports) (events_of rows) → All (λ (r : Happening). IsAtPort ports r.event) rows
+pub all_rows : (ports : ℕ) (rows : List Happening) → All (IsAtPort ports) (events_of rows) → All (λ (r : Happening). IsAtPort ports r.event) rows
 all_rows ports [] a = All-nil (IsAt ports)
 all_rows ports (r ∷ rows) a = All-cons (IsAt ports) r rows (All-head (IsAtPort ports) r.event (events_of rows) a) (all_rows ports rows (All-tail (IsAtPort ports) r.event (events_of rows) a))
 
-all_last : (ports : ℕ) (rows more : List Happening) → All (λ (r : Happening). IsAtPort ports r.event) (rows ++ more) → All (λ (r : Happening). IsAtPort ports r.event) more
+pub all_last : (ports : ℕ) (rows more : List Happening) → All (λ (r : Happening). IsAtPort ports r.event) (rows ++ more) → All (λ (r : Happening). IsAtPort ports r.event) more
 all_last ports [] more a = a
 all_last ports (r ∷ rows) more a = all_last ports rows more (All-tail (IsAt ports) r (rows ++ more) a)
 
@@ -40,7 +40,7 @@ rows_stamped sent (r ∷ rows) = ap (λ z. r ∷ z) (rows_stamped sent rows)
 rows_more : (sent : ℕ) (before : List Stamp) (rows : List Happening) → rows_of (before ++ stamped sent rows) ≡ rows_of before ++ rows
 rows_more sent before rows = map-append (λ (s : Stamp). s.row) before (stamped sent rows) ∙ ap (λ z. rows_of before ++ z) (rows_stamped sent rows)
 
-numbers_more : (sent : ℕ) (before : List Stamp) (rows : List Happening) → numbers_of (before ++ stamped sent rows) ≡ numbers_of before ++ numbers_of (stamped sent rows)
+pub numbers_more : (sent : ℕ) (before : List Stamp) (rows : List Happening) → numbers_of (before ++ stamped sent rows) ≡ numbers_of before ++ numbers_of (stamped sent rows)
 numbers_more sent before rows = map-append (λ (s : Stamp). s.sent) before (stamped sent rows)
 
 fall_below : (low mid high : ℕ) (ns : List ℕ) → low ≤ mid → NeverFall mid high ns → NeverFall low high ns

@@ -8,22 +8,24 @@ use Rattle.master_node.specs.declared.node.MasterNode.{MasterNode}
 use Rattle.port_events.specs.Listed.{unfinished_of}
 use Rattle.port_events.specs.of_packets_heard.Heard.{joined_in}
 use Rattle.run_book.specs.declared.book.Book.{Book}
-use Rattle.run_record.specs.Led.{LeadTo, ListsAll, BeginsAll, Leading}
+use Rattle.run_record.specs.Led.{LeadTo, ListsAll, BeginsAll, NumbersAll, Leading}
 use Rattle.run_record.specs.declared.notes.Notes.{Notes}
 use Rattle.segment_plan.specs.declared.plan.Scenario.{Scenario}
 
--- A MASTER'S SWITCH behind these frames: its slaves have the ports of the plan, what is unfinished of their packets is by their lives, and what began there came into hand
-pub record IsForwarded (plan : Scenario) (m : MasterNode) {fs : List Exchanged} {missed : ℕ} {leads : List Leads} (lives : LeadTo plan fs missed leads) (es : List SwitchEvent) : Type 0 where
+-- A MASTER'S SWITCH behind these frames: its slaves have the ports of the plan, what is unfinished of their packets is by their lives, what began there came into hand,
+-- and each event has its number
+pub record IsForwarded (plan : Scenario) (m : MasterNode) {fs : List Exchanged} {missed : ℕ} {leads : List Leads} (lives : LeadTo plan fs missed leads) (es : List SwitchEvent) (ns : List ℕ) : Type 0 where
   pub ports : m.lan.ports.items ≡ ports_behind 0 plan.slaves
   pub unfinished : HasUnfinished m (map stand_before leads) (unfinished_of (joined_in lives))
   pub listed : ListsAll plan lives es
   pub begun : BeginsAll plan lives es
+  pub numbered : NumbersAll plan lives es ns
 
 -- A MASTER THAT LEADS, and its book
 pub record Forwards (plan : Scenario) (m : MasterNode) (notes : List Notes) (fs : List Exchanged) (b : Book) : Type 0 where
   pub leading : Leading plan m notes fs
-  pub forwarded : IsForwarded plan m leading.lives b.switch
+  pub forwarded : IsForwarded plan m leading.lives b.switch b.switched
 
 -- before its first frame, with any book whose switch has no event yet
 abbrev pub ForwardsFirst : Scenario → MasterNode → List Notes → Type 0
-ForwardsFirst plan m notes = (b : Book) → b.switch ≡ [] → Forwards plan m notes [] b
+ForwardsFirst plan m notes = (b : Book) → b.switch ≡ [] → b.switched ≡ [] → Forwards plan m notes [] b

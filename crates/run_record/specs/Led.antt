@@ -14,6 +14,7 @@ use Rattle.master_node.specs.Toured.{tour_of}
 use Rattle.master_node.specs.Wants.{gave_of, IsIdle}
 use Rattle.master_node.specs.declared.node.MasterNode.{MasterNode}
 use Rattle.master_node.specs.of_master_tour.Toured.{Tour}
+use Rattle.packets_begun.specs.Numbers.{Numbered}
 use Rattle.packets_begun.specs.Over.{AreBegun}
 use Rattle.port_events.specs.Listed.{Listed}
 use Rattle.run_book.specs.declared.book.Book.{Book}
@@ -47,6 +48,10 @@ ListsAll plan lives es = Listed (lens_of plan.slaves) plan.recover plan.retry (p
 -- JUST THE PACKETS BEGIN THAT CAME INTO HAND, frame by frame, each the oldest at the port of its slave
 abbrev pub BeginsAll : (plan : Scenario) {fs : List Exchanged} {missed : ℕ} {leads : List Leads} → LeadTo plan fs missed leads → List SwitchEvent → Type 0
 BeginsAll plan lives es = AreBegun (ports_behind 0 plan.slaves) (ports_of plan.slaves) lives es
+
+-- EACH EVENT HAS ITS NUMBER: how many frames had been sent when it came, frame by frame
+abbrev pub NumbersAll : (plan : Scenario) {fs : List Exchanged} {missed : ℕ} {leads : List Leads} → LeadTo plan fs missed leads → List SwitchEvent → List ℕ → Type 0
+NumbersAll plan lives es ns = Numbered (ports_behind 0 plan.slaves) (ports_of plan.slaves) lives es ns
 
 -- THEY ARE THE VISITS OF ONE TOUR, from its begin on, which stands so behind them
 abbrev pub TouredTo : Scenario → List Exchanged → Tour → List Leads → Type 0
@@ -104,7 +109,7 @@ RestBy lens endings.Unfinished leads rows = ⊤
 -- stand in the book that came into hand, each with its frame, and each reply is that of its row; of the mails that its life accepted just the emergencies
 -- stand there, each with the frame that brought it; and nothing is left of it where the run is over. The frames are the visits of one tour. And the packets of
 -- the host are those that the events of the switch make, and these events are just those that the frames list; of the slaves' ports just the packets began that
--- came into hand
+-- came into hand; and each event has its number, by the frame that made it
 pub record LedBook (plan : Scenario) (book : Book) (ending : Ending) : Type 0 where
   pub missed : ℕ
   pub leads : List Leads
@@ -120,3 +125,4 @@ pub record LedBook (plan : Scenario) (book : Book) (ending : Ending) : Type 0 wh
   pub packets : ending ≢ endings.NoMemory → HasPackets plan book
   pub listed : ending ≢ endings.NoMemory → ListsAll plan lives book.switch
   pub begun : ending ≢ endings.NoMemory → BeginsAll plan lives book.switch
+  pub numbered : ending ≢ endings.NoMemory → NumbersAll plan lives book.switch book.switched

@@ -61,7 +61,7 @@ loop-settled-init c =
       left = c.settled-settled.ensures.left;
       busy = c.settled-settled.ensures.busy;
       switched = switched_new plan 0 s c.args.book.now begins.session new begins.switch;
-      forwards = first_leading plan s.master s.notes c.args.book.now.frames c.args.book.now new.frames (begins.forwards c.args.book.now new.switch);
+      forwards = first_leading plan s.master s.notes c.args.book.now.frames c.args.book.now new.frames (begins.forwards c.args.book.now new.switch new.switched);
     }
 
 pub loop-settled-preserved : goal.loop-settled-preserved
