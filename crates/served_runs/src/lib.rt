@@ -1,0 +1,14 @@
+//! A serving as its master leads it: the lives of its slaves, with mails that are passed on. Definitions and a law, no running code: the function here does
+//! nothing, and its contract states the law.
+#![tactic(auto)]
+
+ghost use Rattle.std.specs.Prelude.{◌≡◌, ℕ, None, List, All};
+ghost use Rattle.life_runs.specs.of_frame_view.View.{Lens};
+ghost use Rattle.life_runs.specs.Led.{Exchanged, Leads, IsLed};
+ghost use Rattle.served_runs.specs.Served.{Serves, IsServedLed, IsRunOf, all_serve};
+
+/// A RUN IS A SERVING to which no mail is asked: of the same frames and the same lives, whatever the paces of its slaves are.
+pub fn run_served_law()
+    ensures { (lens : ℕ → Lens) (recover retry : ℕ) (paces : List ℕ) (first : List Leads) (fs : List Exchanged) (missed : ℕ) (as' : List Leads) → All (λ a. a.lived.life.era.passing ≡ None) first → IsLed lens recover retry first fs missed as' →
+        (ws : List Serves) × IsServedLed lens recover retry (all_serve paces first) fs missed ws × IsRunOf ws as' }
+{}
