@@ -1,2 +1,4 @@
 pub mod Quiet
 pub mod Rows
+pub mod Tells
+pub mod Telling

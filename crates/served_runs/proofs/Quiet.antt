@@ -23,6 +23,7 @@ use Rattle.life_frames.specs.of_segment_model.Ends.{Passing}
 use Rattle.life_frames.specs.of_segment_model.Slaves.{Datagram, Found}
 use Rattle.life_frames.specs.of_state_exchange.Stated.{Service}
 use Rattle.master_tour.proofs.Unpassed.{unpassed_next, unpassed_back, unpassed_lost}
+use Rattle.served_runs.specs.Told.{Passed}
 use Rattle.served_runs.specs.Served.{Serves, ServedTurn, ServedComes, IsServedTurn, AllServedTurn, IsServedLed, IsQuiet, IsRunOf, all_serve, gives_it, served_behind, served_life}
 
 -- no script passes a mail on
@@ -51,12 +52,12 @@ comes_own room script n m _ (Comes.mails s p at asked) q e = (let same : p ≡ q
 comes_own room script n m _ (Comes.state target at) q e = absurd (cc)
 comes_own room script n m _ (Comes.packet octets frame) q e = (let same : net (EoeClient.packet octets frame) ≡ q = cc in ap is_passed (sym same))
 
--- what comes into hand of a run may come into hand of a serving; the key of the mail in hand is forgotten with the next service
-abbrev key_behind : Option ℕ → Option (Service Asked) → Option ℕ
-key_behind key None = key
-key_behind key (Some s) = None
+-- what comes into hand of a run may come into hand of a serving; the mail passed on last is forgotten with the next service
+abbrev hand_behind : Option Passed → Option (Service Asked) → Option Passed
+hand_behind hand None = hand
+hand_behind hand (Some s) = None
 
-comes_so : (room : ℕ) (script : List Plan.Service) (w : Serves) (n m : ℕ) (b : Option (Service Asked)) → Comes room script n b m → ServedComes room script w.waits w.key n b m w.waits (key_behind w.key b)
+comes_so : (room : ℕ) (script : List Plan.Service) (w : Serves) (n m : ℕ) (b : Option (Service Asked)) → Comes room script n b m → ServedComes room script w.waits w.hand n b m w.waits (hand_behind w.hand b)
 comes_so room script w n m _ Comes.none = ServedComes.none
 comes_so room script w n m _ (Comes.mails s q at asked) = ServedComes.own (Service.Mails q) m (Comes.mails s q at asked)
 comes_so room script w n m _ (Comes.state target at) = ServedComes.own (Service.State (target % 16)) m (Comes.state target at)
@@ -102,7 +103,7 @@ module _ (lens : ℕ → Lens) where
       ap (λ (l : Life Body Asked Reply). l.era.passing) t.next.life
       ∙ unpassed_next (speech_at lens a.lived.spot) acknowledged is_followed is_passed made a.lived.life a.lived.life.stand t.next.pick e (λ q w. comes_own (lens a.lived.spot.station).out a.script a.number u.number u.begun t.comes q (sym t.begun ∙ w))
 
-  one_turn : (made : ℕ) (ds : List Raw.Datagram) (w : Serves) (u : Turn) → IsTurn lens made ds w.lead u → IsServedTurn lens made ds w (record { turn = u; pace = w.pace; waits = w.waits; key = key_behind w.key u.begun; kept = w.kept; counts = w.counts })
+  one_turn : (made : ℕ) (ds : List Raw.Datagram) (w : Serves) (u : Turn) → IsTurn lens made ds w.lead u → IsServedTurn lens made ds w (record { turn = u; pace = w.pace; waits = w.waits; hand = hand_behind w.hand u.begun; kept = w.kept; counts = w.counts })
   one_turn made ds w u t = record {
     script = t.script;
     comes = comes_so (lens w.lead.lived.spot.station).out w.lead.script w w.lead.number u.number u.begun t.comes;
@@ -124,7 +125,7 @@ module _ (lens : ℕ → Lens) where
   all_turns made ds (w ∷ ws) (a ∷ as') (u ∷ us) r t =
       let rest = all_turns made ds ws as' us r.1 t.1 in
       record {
-        turns = record { turn = u; pace = w.pace; waits = w.waits; key = key_behind w.key u.begun; kept = w.kept; counts = w.counts } ∷ rest.turns;
+        turns = record { turn = u; pace = w.pace; waits = w.waits; hand = hand_behind w.hand u.begun; kept = w.kept; counts = w.counts } ∷ rest.turns;
         each = (one_turn made ds w u (subst (λ b. IsTurn lens made ds b u) (sym r.0.lead) t.0), rest.each);
         quiet = (record { turn = refl; waits = r.0.waits; unpassed = turn_unpassed made ds a u t.0 r.0.unpassed }, rest.quiet);
       }

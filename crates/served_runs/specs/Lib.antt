@@ -1,3 +1,3 @@
 pub use Rattle.life_runs.specs as of_life_runs
-pub mod Served
 pub mod Told
+pub mod Served

@@ -19,20 +19,22 @@ use Rattle.life_runs.specs.Led.{Comes, Exchanged, Leads, Took, Turn, gives_up_at
 use Rattle.life_frames.specs.of_link_model.Segment.{RingFate}
 use Rattle.life_frames.specs.of_segment_model.Record.{Frame, Kept, nothing_kept}
 use Rattle.life_frames.specs.of_state_exchange.Stated.{Service}
+use Rattle.master_tour.specs.Brings.{accepted_in}
 use Rattle.news_kept.specs.Counts.{counts_on, kept_on}
+use Rattle.served_runs.specs.Told.{Passed, TellsOwn, told_on}
 
 -- a mail that waits to be passed on, and the key of its asker
 pub record Keyed : Type 0 where
   pub key : ℕ
   pub mail : Mail
 
--- A SLAVE OF A SERVING: as a run has it, with its pace; the mails that wait, the oldest first, and the key of the one in hand that was passed on last; the
--- record's counters of its epoch, and whether an empty read counts
+-- A SLAVE OF A SERVING: as a run has it, with its pace; the mails that wait, the oldest first, and the one that was passed on last; the record's counters of
+-- its epoch, and whether an empty read counts
 pub record Serves : Type 0 where
   pub lead : Leads
   pub pace : ℕ
   pub waits : List Keyed
-  pub key : Option ℕ
+  pub hand : Option Passed
   pub kept : Kept
   pub counts : Bool
 
@@ -41,15 +43,15 @@ pub record ServedTurn : Type 0 where
   pub turn : Turn
   pub pace : ℕ
   pub waits : List Keyed
-  pub key : Option ℕ
+  pub hand : Option Passed
   pub kept : Kept
   pub counts : Bool
 
 -- WHAT COMES INTO HAND: nothing, the next service of the script, or a packet, as in a run; or the oldest of the mails that wait, which is passed on
-pub data ServedComes (room : ℕ) (script : List Plan.Service) (waits : List Keyed) (key : Option ℕ) (n : ℕ) : Option (Service Spoken.Asked) → ℕ → List Keyed → Option ℕ → Type 0 where
-  none : ServedComes room script waits key n None n waits key
-  own : (s : Service Spoken.Asked) (m : ℕ) → Comes room script n (Some s) m → ServedComes room script waits key n (Some s) m waits None
-  mail : (k : Keyed) (rest : List Keyed) → waits ≡ k ∷ rest → ServedComes room script waits key n (Some (Service.Mails (passed k.mail))) n rest (Some k.key)
+pub data ServedComes (room : ℕ) (script : List Plan.Service) (waits : List Keyed) (hand : Option Passed) (n : ℕ) : Option (Service Spoken.Asked) → ℕ → List Keyed → Option Passed → Type 0 where
+  none : ServedComes room script waits hand n None n waits hand
+  own : (s : Service Spoken.Asked) (m : ℕ) → Comes room script n (Some s) m → ServedComes room script waits hand n (Some s) m waits None
+  mail : (k : Keyed) (rest : List Keyed) → waits ≡ k ∷ rest → ServedComes room script waits hand n (Some (Service.Mails (passed k.mail))) n rest (Some (record { key = k.key; mail = k.mail; told = [] }))
 
 -- A MAIL IS ASKED of the slave at a place: it waits behind those that do
 abbrev pub asked_at : ℕ → Keyed → List Serves → List Serves
@@ -67,7 +69,7 @@ module _ (lens : ℕ → Lens) where
   -- A SLAVE BEFORE A FRAME, as in a run, but for what may come into hand
   pub record IsServedTurn (made : ℕ) (ds : List Raw.Datagram) (w : Serves) (v : ServedTurn) : Type 0 where
     pub script : v.turn.script ≡ w.lead.script
-    pub comes : ServedComes (lens w.lead.lived.spot.station).out w.lead.script w.waits w.key w.lead.number v.turn.begun v.turn.number v.waits v.key
+    pub comes : ServedComes (lens w.lead.lived.spot.station).out w.lead.script w.waits w.hand w.lead.number v.turn.begun v.turn.number v.waits v.hand
     pub next : IsNext (speech_at lens w.lead.lived.spot) acknowledged is_followed is_passed made w.lead.lived v.turn.lived
     pub begun : next.pick.begin ≡ v.turn.begun
     pub took : Took made w.lead.lived.life.era.account v.turn.lived.life.era.account v.turn.begun
@@ -101,6 +103,11 @@ module _ (lens : ℕ → Lens) where
     recorded f Pass = record { sent = seen lens f.back; fate = RingFate.Back; back = seen lens f.back }
     recorded f (Lost after) = record { sent = seen lens f.sent; fate = RingFate.Lost 0; back = [] }
 
+    -- the mails that the slave's master accepts by it
+    abbrev pub accepted_by : Exchanged → Fate → ServedTurn → List Body
+    accepted_by f Pass v = accepted_in v.turn.lived.spot v.turn.lived.life (seen lens f.back)
+    accepted_by f (Lost after) v = []
+
     -- a lost frame by which the slave is given up
     abbrev pub gives_it : Bool → Fate → ServedTurn → Bool
     gives_it gives Pass v = false
@@ -112,7 +119,7 @@ module _ (lens : ℕ → Lens) where
       lead = record { script = v.turn.script; number = v.turn.number; lived = served_life gives made f f.fate v };
       pace = v.pace;
       waits = if gives_it gives f.fate v then [] else v.waits;
-      key = if gives_it gives f.fate v then None else v.key;
+      hand = if gives_it gives f.fate v then None else told_on v.turn.lived.life.era.passing (accepted_by f f.fate v) v.hand;
       kept = kept_on v.turn.lived.life.stand v.turn.lived.spot.station v.kept (recorded f f.fate);
       counts = counts_on v.turn.lived.life.stand v.turn.lived.spot.station v.pace made (recorded f f.fate).back v.counts;
     }
@@ -126,7 +133,7 @@ module _ (lens : ℕ → Lens) where
 
 -- a slave before the first frame
 abbrev pub new_serves : ℕ → Leads → Serves
-new_serves pace lead = record { lead = lead; pace = pace; waits = []; key = None; kept = nothing_kept; counts = true }
+new_serves pace lead = record { lead = lead; pace = pace; waits = []; hand = None; kept = nothing_kept; counts = true }
 
 -- all of them, each with its pace
 abbrev pub all_serve : List ℕ → List Leads → List Serves
@@ -143,3 +150,7 @@ pub record IsQuiet (w : Serves) (a : Leads) : Type 0 where
 -- each of these
 abbrev pub IsRunOf : List Serves → List Leads → Type 0
 IsRunOf ws as' = AllBoth IsQuiet ws as'
+
+-- of a slave: what was told of the mail that was passed on last are its own replies
+abbrev pub TellsSo : Serves → Type 0
+TellsSo w = (p : Passed) → w.hand ≡ Some p → TellsOwn p w.lead.lived.life.era.passing w.lead.lived.life.era.side.now

@@ -1,33 +1,35 @@
--- WHAT IS TOLD UNDER A KEY: the replies that frames bring of the mail in hand which was passed on under it.
-use Rattle.std.specs.Prelude.{ℕ, Option, Some, None, List, [], map}
+-- WHAT IS TOLD of a mail that is passed on: its replies, as frames bring them.
+use Rattle.std.specs.Prelude.{◌≡◌, ℕ, true, is_some, Option, Some, None, List, [], ◌++◌}
 use Rattle.life_frames.specs.of_exchange_model.Exchange.{plain}
+use Rattle.life_frames.specs.of_exchange_model.Rows.{Row}
 use Rattle.life_frames.specs.of_segment_model.Ends.{Passing}
-use Rattle.life_runs.specs.of_frame_view.View.{Lens}
-use Rattle.life_runs.specs.of_frame_view.Seen.{seen}
 use Rattle.life_runs.specs.of_link_mails.Body.{Body}
-use Rattle.life_runs.specs.of_master_hand.Spoken.{emission}
-use Rattle.life_runs.specs.of_segment_ring.declared.wire.Fate.{Fate}
-use Rattle.life_runs.specs.of_segment_ring.declared.wire.Fate.TheVariants.{Pass, Lost}
-use Rattle.life_runs.specs.Led.{Exchanged}
-use Rattle.master_tour.specs.Brings.{accepted_in}
-use Rattle.served_runs.specs.Served.{ServedTurn}
+use Rattle.life_runs.specs.of_mailbox_mail.declared.mail.Mail.{Mail}
+use Rattle.life_runs.specs.of_master_duty.Reply.{Reply}
+use Rattle.life_runs.specs.of_master_hand.Spoken.{Asked, passed, emission}
 
--- what is told under a key
-pub record Told : Type 0 where
+-- THE MAIL THAT WAS PASSED ON LAST, as long as no other service has come into hand: the key of its asker, and what was told under it so far
+pub record Passed : Type 0 where
   pub key : ℕ
-  pub mail : Body
+  pub mail : Mail
+  pub told : List Body
 
--- a mail is told under a key
-abbrev pub told_as : ℕ → Body → Told
-told_as key m = record { key = key; mail = m }
+-- the replies among these mails, while it isn't over
+abbrev pub replies_in : Option Passing → List Body → List Body
+replies_in (Some passing) ms = plain emission ms
+replies_in None ms = []
 
--- these mails, but for those that reply to nothing, while a mail is in hand that is passed on
-abbrev pub replies_for : Option ℕ → Option Passing → List Body → List Told
-replies_for (Some key) (Some passing) ms = map (told_as key) (plain emission ms)
-replies_for (Some key) None ms = []
-replies_for None passing ms = []
+-- behind a frame by which these mails were accepted: their replies are told too
+abbrev pub told_on : Option Passing → List Body → Option Passed → Option Passed
+told_on passing ms None = None
+told_on passing ms (Some p) = Some (record p { told = p.told ++ replies_in passing ms })
 
--- WHAT A FRAME TELLS that came back: the replies among the mails that the slave's master accepted of it; a lost one tells nothing
-abbrev pub told_by : (ℕ → Lens) → Exchanged → Fate → ServedTurn → List Told
-told_by lens f Pass v = replies_for v.key v.turn.lived.life.era.passing (accepted_in v.turn.lived.spot v.turn.lived.life (seen lens f.back))
-told_by lens f (Lost after) v = []
+-- WHAT WAS TOLD ARE ITS OWN REPLIES, in order: it is the newest service of its slave, and they are the first of the replies that were heard for it; all of
+-- them while it isn't over
+pub record TellsOwn (p : Passed) (passing : Option Passing) (now : Option (Row Body Asked Reply)) : Type 0 where
+  pub row : Row Body Asked Reply
+  pub is : now ≡ Some row
+  pub service : row.service ≡ passed p.mail
+  pub rest : List Body
+  pub heard : plain emission row.heard ≡ p.told ++ rest
+  pub all : is_some passing ≡ true → rest ≡ []

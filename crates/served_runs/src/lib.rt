@@ -5,10 +5,16 @@
 ghost use Rattle.std.specs.Prelude.{◌≡◌, ℕ, None, List, All};
 ghost use Rattle.life_runs.specs.of_frame_view.View.{Lens};
 ghost use Rattle.life_runs.specs.Led.{Exchanged, Leads, IsLed};
-ghost use Rattle.served_runs.specs.Served.{Serves, IsServedLed, IsRunOf, all_serve};
+ghost use Rattle.served_runs.specs.Served.{Serves, IsServedLed, IsRunOf, TellsSo, all_serve};
 
 /// A RUN IS A SERVING to which no mail is asked: of the same frames and the same lives, whatever the paces of its slaves are.
 pub fn run_served_law()
     ensures { (lens : ℕ → Lens) (recover retry : ℕ) (paces : List ℕ) (first : List Leads) (fs : List Exchanged) (missed : ℕ) (as' : List Leads) → All (λ a. a.lived.life.era.passing ≡ None) first → IsLed lens recover retry first fs missed as' →
         (ws : List Serves) × IsServedLed lens recover retry (all_serve paces first) fs missed ws × IsRunOf ws as' }
+{}
+
+/// WHAT IS TOLD UNDER A KEY ARE THE REPLIES OF ITS SLAVE TO ITS MAIL: over all frames of a serving, of the mail that was passed on last to each slave what was
+/// told are the first replies that were heard for it, in order, and all of them while it isn't over.
+pub fn told_law()
+    ensures { (lens : ℕ → Lens) (recover retry : ℕ) (paces : List ℕ) (first : List Leads) (fs : List Exchanged) (missed : ℕ) (ws : List Serves) → IsServedLed lens recover retry (all_serve paces first) fs missed ws → All TellsSo ws }
 {}
