@@ -2,3 +2,4 @@ pub mod Quiet
 pub mod Rows
 pub mod Tells
 pub mod Telling
+pub mod Came

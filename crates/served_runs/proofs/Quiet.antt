@@ -103,7 +103,7 @@ module _ (lens : ℕ → Lens) where
       ap (λ (l : Life Body Asked Reply). l.era.passing) t.next.life
       ∙ unpassed_next (speech_at lens a.lived.spot) acknowledged is_followed is_passed made a.lived.life a.lived.life.stand t.next.pick e (λ q w. comes_own (lens a.lived.spot.station).out a.script a.number u.number u.begun t.comes q (sym t.begun ∙ w))
 
-  one_turn : (made : ℕ) (ds : List Raw.Datagram) (w : Serves) (u : Turn) → IsTurn lens made ds w.lead u → IsServedTurn lens made ds w (record { turn = u; pace = w.pace; waits = w.waits; hand = hand_behind w.hand u.begun; kept = w.kept; counts = w.counts })
+  one_turn : (made : ℕ) (ds : List Raw.Datagram) (w : Serves) (u : Turn) → IsTurn lens made ds w.lead u → IsServedTurn lens made ds w (record { turn = u; pace = w.pace; asked = w.asked; waits = w.waits; hand = hand_behind w.hand u.begun; kept = w.kept; counts = w.counts })
   one_turn made ds w u t = record {
     script = t.script;
     comes = comes_so (lens w.lead.lived.spot.station).out w.lead.script w w.lead.number u.number u.begun t.comes;
@@ -111,6 +111,7 @@ module _ (lens : ℕ → Lens) where
     begun = t.begun;
     took = t.took;
     asked = t.asked;
+    same = refl;
     pace = refl;
     kept = refl;
     counts = refl;
@@ -125,7 +126,7 @@ module _ (lens : ℕ → Lens) where
   all_turns made ds (w ∷ ws) (a ∷ as') (u ∷ us) r t =
       let rest = all_turns made ds ws as' us r.1 t.1 in
       record {
-        turns = record { turn = u; pace = w.pace; waits = w.waits; hand = hand_behind w.hand u.begun; kept = w.kept; counts = w.counts } ∷ rest.turns;
+        turns = record { turn = u; pace = w.pace; asked = w.asked; waits = w.waits; hand = hand_behind w.hand u.begun; kept = w.kept; counts = w.counts } ∷ rest.turns;
         each = (one_turn made ds w u (subst (λ b. IsTurn lens made ds b u) (sym r.0.lead) t.0), rest.each);
         quiet = (record { turn = refl; waits = r.0.waits; unpassed = turn_unpassed made ds a u t.0 r.0.unpassed }, rest.quiet);
       }

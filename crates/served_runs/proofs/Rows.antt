@@ -11,11 +11,11 @@ use Rattle.served_runs.specs.Served.{Keyed, ServedComes, asked_at, new_serves}
 use Rattle.served_runs.specs.Told.{Passed, told_on}
 
 -- of two slaves the second gets a mail
-asks_second : (k : Keyed) (a b : Leads) → asked_at 1 k (new_serves 1 a ∷ new_serves 2 b ∷ []) ≡ new_serves 1 a ∷ (record (new_serves 2 b) { waits = k ∷ [] }) ∷ []
+asks_second : (k : Keyed) (a b : Leads) → asked_at 1 k (new_serves 1 a ∷ new_serves 2 b ∷ []) ≡ new_serves 1 a ∷ (record (new_serves 2 b) { asked = k ∷ []; waits = k ∷ [] }) ∷ []
 asks_second k a b = refl
 
 -- one more waits behind it
-asks_behind : (k l : Keyed) (a : Leads) → asked_at 0 l (asked_at 0 k (new_serves 1 a ∷ [])) ≡ (record (new_serves 1 a) { waits = k ∷ l ∷ [] }) ∷ []
+asks_behind : (k l : Keyed) (a : Leads) → asked_at 0 l (asked_at 0 k (new_serves 1 a ∷ [])) ≡ (record (new_serves 1 a) { asked = k ∷ l ∷ []; waits = k ∷ l ∷ [] }) ∷ []
 asks_behind k l a = refl
 
 -- the oldest comes into hand, under its key

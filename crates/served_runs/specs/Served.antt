@@ -28,11 +28,12 @@ pub record Keyed : Type 0 where
   pub key : ℕ
   pub mail : Mail
 
--- A SLAVE OF A SERVING: as a run has it, with its pace; the mails that wait, the oldest first, and the one that was passed on last; the record's counters of
--- its epoch, and whether an empty read counts
+-- A SLAVE OF A SERVING: as a run has it, with its pace; all mails that were asked of it, those that wait, the oldest first, and the one that was passed on
+-- last; the record's counters of its epoch, and whether an empty read counts
 pub record Serves : Type 0 where
   pub lead : Leads
   pub pace : ℕ
+  pub asked : List Keyed
   pub waits : List Keyed
   pub hand : Option Passed
   pub kept : Kept
@@ -42,6 +43,7 @@ pub record Serves : Type 0 where
 pub record ServedTurn : Type 0 where
   pub turn : Turn
   pub pace : ℕ
+  pub asked : List Keyed
   pub waits : List Keyed
   pub hand : Option Passed
   pub kept : Kept
@@ -56,7 +58,7 @@ pub data ServedComes (room : ℕ) (script : List Plan.Service) (waits : List Key
 -- A MAIL IS ASKED of the slave at a place: it waits behind those that do
 abbrev pub asked_at : ℕ → Keyed → List Serves → List Serves
 asked_at place k [] = []
-asked_at zero k (w ∷ ws) = (record w { waits = w.waits ++ k ∷ [] }) ∷ ws
+asked_at zero k (w ∷ ws) = (record w { asked = w.asked ++ k ∷ []; waits = w.waits ++ k ∷ [] }) ∷ ws
 asked_at (suc place) k (w ∷ ws) = w ∷ asked_at place k ws
 
 -- fewer mails than may wait do at a place
@@ -74,6 +76,7 @@ module _ (lens : ℕ → Lens) where
     pub begun : next.pick.begin ≡ v.turn.begun
     pub took : Took made w.lead.lived.life.era.account v.turn.lived.life.era.account v.turn.begun
     pub asked : Asked lens ds v.turn.lived v.turn.share
+    pub same : v.asked ≡ w.asked
     pub pace : v.pace ≡ w.pace
     pub kept : v.kept ≡ w.kept
     pub counts : v.counts ≡ w.counts
@@ -118,6 +121,7 @@ module _ (lens : ℕ → Lens) where
     served_behind gives made f v = record {
       lead = record { script = v.turn.script; number = v.turn.number; lived = served_life gives made f f.fate v };
       pace = v.pace;
+      asked = v.asked;
       waits = if gives_it gives f.fate v then [] else v.waits;
       hand = if gives_it gives f.fate v then None else told_on v.turn.lived.life.era.passing (accepted_by f f.fate v) v.hand;
       kept = kept_on v.turn.lived.life.stand v.turn.lived.spot.station v.kept (recorded f f.fate);
@@ -133,7 +137,7 @@ module _ (lens : ℕ → Lens) where
 
 -- a slave before the first frame
 abbrev pub new_serves : ℕ → Leads → Serves
-new_serves pace lead = record { lead = lead; pace = pace; waits = []; hand = None; kept = nothing_kept; counts = true }
+new_serves pace lead = record { lead = lead; pace = pace; asked = []; waits = []; hand = None; kept = nothing_kept; counts = true }
 
 -- all of them, each with its pace
 abbrev pub all_serve : List ℕ → List Leads → List Serves
