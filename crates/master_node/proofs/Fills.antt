@@ -58,7 +58,7 @@ fills_kept lens recover made begun index n left ds i a s t k m =
       took = m.took;
       lives = lives_kept lens recover n (record { spot = a.spot; life = m.life }) s t k m.lives;
       idle = m.idle;
-      waits = λ e. m.waits e ∙ ap is_some (sym k.side.passing);
+      waits = λ e o. m.waits e (sym k.stand ∙ o) ∙ ap is_some (sym k.side.passing);
       bare = λ e. k.under ∙ m.bare e;
       has = subst (λ (z : Type 0). z) (sym path) m.has;
     }

@@ -141,7 +141,7 @@ module _ {Q : Type 0} (x : Speech Body Q Reply) (acknowledged : Q → Bool) (mor
         took = counts_none x acknowledged more passed made m.life m.life.stand h.hold ∙ m.took ∙ ap (λ z. a.life.era.account.started ++ started_by made z) none;
         lives = record { planned = planned_on lens a.spot station station' place place' start start' stand stand' out.len out'.len (in_area_len inn) (in_area_len inn') b c d e f g m.lives.planned; shown = h.shown };
         idle = λ t. w.idle refl;
-        waits = λ t. ap is_some (passing_stays x acknowledged more passed made m.life m.life.stand h.hold) ∙ m.waits k ∙ ap is_some (sym p);
+        waits = λ t o. ap is_some (passing_stays x acknowledged more passed made m.life m.life.stand h.hold) ∙ m.waits k (sym e ∙ o) ∙ ap is_some (sym p);
         bare = λ t. u ∙ m.bare k;
         has = StopHas.none (u ∙ m.bare k) (none_yet lens index a.spot station stand out inn duty carried under at ds m.life (m.bare k) m.has);
       }
@@ -211,7 +211,7 @@ module _ {Q : Type 0} (x : Speech Body Q Reply) (acknowledged : Q → Bool) (mor
 
 -- BEFORE ANY VISIT of a frame a slave has no datagram in it
 pub made_first : {Q : Type 0} (x : Speech Body Q Reply) (acknowledged : Q → Bool) (more : Body → Bool) (passed : Q → Bool) (made : ℕ) (lens : ℕ → Lens) (recover index : ℕ) (shows : Side Body Q Reply → Account Q Reply → Type 0) (station place start : ℕ) (stand : Stand) (spare : ℕ) (out : OutLink (Option Mail)) (inn : InwardHalf) (duty : Option Met) (carried : Carried) (passing : Option Side.Passing) (under : Bool) (at : ℕ) (left : List ℕ) (begun : ℕ → Option (Service Q)) (i : ℕ) (a : Lived Q Reply) →
-    ((k : ℕ) → begun k ≡ None) → under ≡ false → is_some a.life.era.passing ≡ is_some passing → StopLives lens recover shows station place start stand spare out.len (in_area_len inn) a → StopMade x acknowledged more passed made begun lens recover index shows station place start stand spare out inn duty carried passing under at left [] i a
+    ((k : ℕ) → begun k ≡ None) → under ≡ false → (stand ≡ Stand.Open → is_some a.life.era.passing ≡ is_some passing) → StopLives lens recover shows station place start stand spare out.len (in_area_len inn) a → StopMade x acknowledged more passed made begun lens recover index shows station place start stand spare out inn duty carried passing under at left [] i a
 made_first x acknowledged more passed made lens recover index shows station place start stand spare out inn duty carried passing under at left begun i a n u w v = record {
   life = a.life;
   pick = record { begin = None; hold = false };

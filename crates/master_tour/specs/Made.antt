@@ -75,7 +75,7 @@ pub record StopMade {Q : Type 0} (x : Speech Body Q Reply) (acknowledged : Q →
   pub took : Counts made pick.begin a.life life
   pub lives : StopLives lens recover shows station place start stand spare out.len (in_area_len inn) (record { spot = a.spot; life = life })
   pub idle : is_in i left ≡ true → pick.begin ≡ None
-  pub waits : is_in i left ≡ true → is_some life.era.passing ≡ is_some passing
+  pub waits : is_in i left ≡ true → stand ≡ Stand.Open → is_some life.era.passing ≡ is_some passing
   pub bare : is_in i left ≡ true → under ≡ false
   pub has : StopHas lens index a.spot station stand out inn duty carried under at ds life
 

@@ -32,7 +32,7 @@ returns-clause-led c = λ lens recover retry missed number from as' room taken s
     let index = m.made % 256 in
     let lives = map lived_of as' in
     let nothing : ℕ → Option (Service Asked) = λ k. None in
-    let before = both_map lived_of (λ a s. IsLead lens recover a s) _ (λ a s l. (l.lives, ap is_some l.own ∙ sym (ap is_some l.unpassed))) as' ss x.each in
+    let before = both_map lived_of (λ a s. IsLead lens recover a s) _ (λ a s l. (l.lives, λ o. ap is_some l.own ∙ sym (ap is_some l.unpassed))) as' ss x.each in
     let many : length ts ≡ length as' = e.long ∙ sym (both_length (λ a s. IsLead lens recover a s) as' ss x.each) in
     let alive : (k : ℕ) → holds_at (λ s. is_live s.stand) ts k ≡ holds_at is_live_lead as' k =
     λ k. each_holds _ (λ s. is_live s.stand) (λ s t p. ap is_live p.1) ss ts e.each k ∙ both_holds (λ a s. IsLead lens recover a s) is_live_lead (λ s. is_live s.stand) (λ a s l. stand_lives lens recover a.lived s l.lives) as' ss x.each k in

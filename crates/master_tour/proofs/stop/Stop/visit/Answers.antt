@@ -50,7 +50,7 @@ returns-in-Open-clause-lives g c = λ x more passed made recover spot lens l a b
     let stood = (subst (λ z. StopShows (λ d a. SideShows (g.H.Hand.shows s.hand x) s.out s.inn s.fresh s.duty d a) recover spot z t.spare l) c.in-Open.is sh).stood in
     open_next x g.H.Hand.acknowledged more passed made l (is_some s.passing) _
     (λ e r. SideShows (g.H.Hand.shows n.side.hand x) n.side.out n.side.inn n.side.fresh n.side.duty e r × (n.under ≡ true → Meant s.station n.side.carried e.halves (duty_access r.hand) (datagram_seen lens (visit_gram n.side.station c.args.index n.side.out n.side.inn n.side.duty n.side.carried)))) _
-    stood.0 w (λ p. ap (λ (z : Bool). wish_begun z c.args.wish (g.H.Hand.ready s.hand)) (k.still p)) (k.shown x made lens l.era.side l.era.account a b stood.1) (λ p. k.waits p x lens l.era.side l.era.account a b stood.1)
+    stood.0 (w c.in-Open.is) (λ p. ap (λ (z : Bool). wish_begun z c.args.wish (g.H.Hand.ready s.hand)) (k.still p)) (k.shown x made lens l.era.side l.era.account a b stood.1) (λ p. k.waits p x lens l.era.side l.era.account a b stood.1)
     (λ era r. (
       record {
         stood = subst (λ z. StandShows (λ d a. SideShows (g.H.Hand.shows n.side.hand x) n.side.out n.side.inn n.side.fresh n.side.duty d a) spot z (record l { era = era })) (sym is) (stood.0, r.0);

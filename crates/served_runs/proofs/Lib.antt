@@ -1,0 +1,5 @@
+pub mod Quiet
+pub mod Rows
+pub mod Tells
+pub mod Telling
+pub mod Came

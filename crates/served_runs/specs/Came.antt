@@ -1,0 +1,27 @@
+-- WHAT CAME INTO HAND OF A SLAVE OF A SERVING: the services of its script, packets, and the mails that were passed on to it.
+use Rattle.std.specs.Prelude.{◌≡◌, ℕ, Some, List, [], ◌∷◌, ◌++◌}
+use Rattle.book_model.specs.Script.{life_started}
+use Rattle.life_frames.specs.of_state_exchange.Stated.{Service}
+use Rattle.life_runs.specs.of_frame_view.View.{Lens}
+use Rattle.life_runs.specs.of_master_hand.Spoken.{Asked, passed}
+use Rattle.life_runs.specs.of_segment_plan.declared.service.Service as Plan
+use Rattle.life_runs.specs.Led.{Comes, Leads}
+use Rattle.served_runs.specs.Served.{Keyed, Serves}
+
+-- THE NEXT OF THE SCRIPT, a packet, or the next of these mails, one by one, and so many of the script; `room` is the length of the slave's mailbox 0
+pub data ServedCame (room : ℕ) (script : List Plan.Service) : ℕ → List Keyed → List (Service Asked) → Type 0 where
+  none : ServedCame room script 0 [] []
+  own : (n m : ℕ) (ks : List Keyed) (qs : List (Service Asked)) (q : Service Asked) → ServedCame room script n ks qs → Comes room script n (Some q) m → ServedCame room script m ks (qs ++ q ∷ [])
+  mail : (n : ℕ) (ks : List Keyed) (qs : List (Service Asked)) (k : Keyed) → ServedCame room script n ks qs → ServedCame room script n (ks ++ k ∷ []) (qs ++ Service.Mails (passed k.mail) ∷ [])
+
+-- OVER ALL EPOCHS OF ITS LIFE: none of the script is skipped; and of a slave that was never given up the mails that were passed on and those that wait are all
+-- that were asked, in order
+pub record HasServed (lens : ℕ → Lens) (w : Serves) : Type 0 where
+  pub mails : List Keyed
+  pub came : ServedCame (lens w.lead.lived.spot.station).out w.lead.script w.lead.number mails (life_started w.lead.lived.life)
+  pub all : w.lead.lived.life.gave ≡ [] → w.asked ≡ mails ++ w.waits
+
+-- nothing came into hand of a slave
+pub record IsFresh (a : Leads) : Type 0 where
+  pub number : a.number ≡ 0
+  pub started : life_started a.lived.life ≡ []
