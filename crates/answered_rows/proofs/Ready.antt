@@ -7,7 +7,7 @@ use Rattle.link_model.specs.Mails.{LinkMail}
 use Rattle.segment_model.specs.Seats.{Side, is_over, is_none_left, side_back, side_begins, side_holds, side_next, next_mail}
 use Rattle.segment_model.specs.Slaves.{Datagram}
 use Rattle.state_exchange.specs.Stated.{Service}
-use Rattle.task_model.specs.Accounts.{Account, Duty, account_begins, is_free, is_acknowledged, mails_begin, starts}
+use Rattle.task_model.specs.Accounts.{Account, Duty, account_begins, is_free, is_acknowledged, mails_begin, starts, state_begins}
 use Rattle.answered_rows.specs.Moments.{IsFree, HeldStill, NowAnswered}
 
 and_parts : (a b : Bool) → (a && b) ≡ true → (a ≡ true) × (b ≡ true)
@@ -133,3 +133,18 @@ module _ {V A M Q R : Type 0} (x : Exchange V A M Q R) (law : IsLawful x) (ackno
       let began = side_begins x.speech frame e.side e.side.now (Some q) in
       let may = took_free frame e.side e.account q (x.speech.valid q && is_free x.speech e.side e.side.now) took in
       new_told frame station back began q (began_now frame e.side e.side.now q may) (next_mail x.speech began.now began.halves.out.holding hold) h free
+
+-- ---- A STATE SERVICE BEGAN: it might
+module _ {M Q R : Type 0} (x : Speech M Q R) (acknowledged : Q → Bool) (frame : ℕ) (d : Side M Q R) (a : Account Q R) (target : ℕ) where
+  same_not : a.started ≡ starts a (Service.State target) frame → ⊥
+  same_not e = absurd (omega (arith, ap length e, length-append a.started (record { service = Service.State target; frame = frame } ∷ [])))
+
+  took_state : (b : Bool) → (if b then state_begins a target frame else a).started ≡ starts a (Service.State target) frame → b ≡ true
+  took_state true e = refl
+  took_state false e = absurd (same_not e)
+
+  pub state_free : (hand : Option Duty) → (account_begins x acknowledged frame d a hand (Some (Service.State target))).started ≡ starts a (Service.State target) frame → (hand ≡ None) × IsFree x acknowledged d
+  state_free (Some duty) took = absurd (same_not took)
+  state_free None took =
+      let both = and_parts (is_free x d d.now) (is_acknowledged acknowledged d d.now) (took_state (is_free x d d.now && is_acknowledged acknowledged d d.now) took) in
+      (refl, record { free = both.0; done = both.1 })
