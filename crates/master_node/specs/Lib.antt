@@ -28,6 +28,7 @@ pub mod Filling
 pub mod Joined
 pub mod Toured
 pub mod Asks
+pub mod Appends
 pub mod Forwards
 pub mod Rooms
 pub mod Ports

@@ -54,6 +54,7 @@ impl MasterNode {
     ghost use Rattle.std.specs.Prelude.{All, IfSome, Some, slice_get};
     ghost use Rattle.master_tour.specs.Walks.{StepsAt};
     ghost use Rattle.master_node.specs.declared.coming.Coming.{Coming};
+    ghost use Rattle.master_node.specs.Appends.{AppendsMail};
     ghost use Rattle.master_node.specs.Shows.{WaitsNone};
     ghost use Rattle.master_node.specs.Kept.{StopStays, TourKept, TourOn};
     ghost use Rattle.master_node.specs.Coming.{next_of, IsComing, IsLaid, PassesBy, CameBy};
@@ -445,11 +446,14 @@ impl MasterNode {
         self.tour.stops[slave as usize].is_live()
     }
 
-    /// A mail waits to be passed on to a slave; `false` exactly where 64 do already. `key` names its asker.
+    /// A mail waits to be passed on to a slave, behind those that do; `false` exactly where 64 do already, and then nothing changed. `key` names its asker.
     pub fn ask(&mut self, slave: u32, key: usize, mail: &Mail) -> bool
         requires { slave < vec_len self.old.posts }
         ensures full { (result ≡ false) ↔ (waiting_at self.old.posts.items slave ≡ 64) }
         ensures posts { vec_len self.new.posts ≡ vec_len self.old.posts }
+        ensures waits { waiting_at self.old.posts.items slave < 64 → StepsAt (λ p q. AppendsMail key mail.now p.mails.items q.mails.items) slave self.old.posts.items self.new.posts.items }
+        ensures stays { result ≡ false → StepsAt (λ p q. q ≡ p) slave self.old.posts.items self.new.posts.items }
+        ensures kept { (self.new.tour ≡ self.old.tour) × (self.new.lan ≡ self.old.lan) × (self.new.made ≡ self.old.made) }
     {
         self.posts[slave as usize].ask(key, mail)
     }

@@ -64,6 +64,9 @@ pub fn bare(mail: &Mail) -> Mail
 }
 
 impl Post {
+    ghost use Rattle.std.specs.Prelude.{◌≡◌, ◌<◌, length};
+    ghost use Rattle.master_node.specs.Appends.{AppendsMail};
+
     /// Nothing is in hand and no mail waits. The memory for 64 mails is taken here.
     pub fn new(alloc: Global) -> Result<Post, NoMemory>
         ensures { IfOk result (λ p. (p.mails.items ≡ []) × (p.work ≡ Work.Nothing) × (p.forwards ≡ 0) × (p.oldest ≡ 0)) }
@@ -91,6 +94,7 @@ impl Post {
     pub fn ask(&mut self, key: usize, mail: &Mail) -> bool
         ensures full { (result ≡ false) ↔ (length self.old.mails.items ≡ 64) }
         ensures same { result ≡ false → self.new ≡ self.old }
+        ensures appends { length self.old.mails.items < 64 → AppendsMail key mail.now self.old.mails.items self.new.mails.items }
     {
         if self.mails.is_full() {
             return false;

@@ -1,4 +1,4 @@
--- Worked rows: a mail that is asked, comes into hand, is told of, and is dropped where its slave is given up.
+-- Worked rows: mails that are asked, come into hand and are told of; and when an empty read counts.
 use Rattle.std.proofs.Common.{◌≡◌, ℕ, true, false, Option, Some, None, List, [], ◌∷◌, ◌++◌, refl}
 use Rattle.life_runs.specs.of_link_mails.Body.{Body}
 use Rattle.life_runs.specs.of_master_hand.Spoken.{passed}

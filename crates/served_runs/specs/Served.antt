@@ -1,6 +1,6 @@
 -- A MASTER LEADS THE LIVES OF ITS SLAVES ALSO WHILE MAILS ARE PASSED ON: besides what a run has of each slave there are the mails that wait to be passed
 -- on, the one in hand, and by what the record tells which mails of its epoch are new and whether an empty read of mailbox 1 counts.
-use Rattle.std.specs.Prelude.{◌≡◌, ◌<◌, ℕ, zero, suc, ◌&&◌, Bool, true, false, Option, Some, None, List, [], ◌∷◌, ◌++◌, map, length, ⊤, if◌then◌else◌}
+use Rattle.std.specs.Prelude.{◌≡◌, ◌<◌, ◌≤◌, ◌+◌, ℕ, zero, suc, ◌&&◌, Bool, true, false, Option, Some, None, List, [], ◌∷◌, ◌++◌, map, length, ⊤, if◌then◌else◌}
 use Rattle.life_runs.specs.of_datagrams.Datagram as Raw
 use Rattle.life_runs.specs.of_datagrams.Frame.{IsFrame, chained}
 use Rattle.life_runs.specs.of_frame_view.View.{Lens}
@@ -61,13 +61,13 @@ asked_at place k [] = []
 asked_at zero k (w ∷ ws) = (record w { asked = w.asked ++ k ∷ []; waits = w.waits ++ k ∷ [] }) ∷ ws
 asked_at (suc place) k (w ∷ ws) = w ∷ asked_at place k ws
 
--- fewer mails than may wait do at a place
-abbrev pub HasRoom : ℕ → List Serves → Type 0
-HasRoom place [] = ⊥
-HasRoom zero (w ∷ ws) = length w.waits < 64
-HasRoom (suc place) (w ∷ ws) = HasRoom place ws
-
 module _ (lens : ℕ → Lens) where
+  -- A MAIL MAY BE ASKED of the slave at a place: fewer wait there than may, and it fits the slave's mailbox
+  abbrev pub MayAsk : ℕ → Keyed → List Serves → Type 0
+  MayAsk place k [] = ⊥
+  MayAsk zero k (w ∷ ws) = (length w.waits < 64) × (6 + length k.mail.body.items ≤ (lens w.lead.lived.spot.station).out)
+  MayAsk (suc place) k (w ∷ ws) = MayAsk place k ws
+
   -- A SLAVE BEFORE A FRAME, as in a run, but for what may come into hand
   pub record IsServedTurn (made : ℕ) (ds : List Raw.Datagram) (w : Serves) (v : ServedTurn) : Type 0 where
     pub script : v.turn.script ≡ w.lead.script
@@ -131,7 +131,7 @@ module _ (lens : ℕ → Lens) where
     -- THE FRAMES OF A SERVING, one after the other, with mails that are asked between them, and the lives behind
     pub data IsServedLed (first : List Serves) : List Exchanged → ℕ → List Serves → Type 0 where
       start : IsServedLed first [] 0 first
-      asks : (fs : List Exchanged) (missed : ℕ) (ws : List Serves) (place : ℕ) (k : Keyed) → IsServedLed first fs missed ws → HasRoom place ws → IsServedLed first fs missed (asked_at place k ws)
+      asks : (fs : List Exchanged) (missed : ℕ) (ws : List Serves) (place : ℕ) (k : Keyed) → IsServedLed first fs missed ws → MayAsk place k ws → IsServedLed first fs missed (asked_at place k ws)
       on : (fs : List Exchanged) (missed : ℕ) (ws : List Serves) (f : Exchanged) (vs : List ServedTurn) → IsServedLed first fs missed ws → IsServedFrame (length fs) f.sent ws vs →
           IsServedLed first (fs ++ f ∷ []) (missed_behind lens recover retry f.fate missed) (map (served_behind (gives_up_at lens recover retry missed) (length fs) f) vs)
 
