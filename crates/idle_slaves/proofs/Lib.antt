@@ -1,16 +1,16 @@
-mod Choosing
-mod Frames
-mod Going
-mod Links
-mod Phases
-mod Returning
-mod Rings
-mod Rowless
-mod Rows
-mod Runs
-mod Settled
-mod Steps
-mod Visited
-mod Visiting
-mod Waiting
-mod Worked
+pub mod Choosing
+pub mod Frames
+pub mod Going
+pub mod Links
+pub mod Phases
+pub mod Returning
+pub mod Rings
+pub mod Rowless
+pub mod Rows
+pub mod Runs
+pub mod Settled
+pub mod Steps
+pub mod Visited
+pub mod Visiting
+pub mod Waiting
+pub mod Worked
