@@ -94,18 +94,18 @@ module _ (plan : Scenario) (is : Plan.IsPlan plan) (known : IsKnown plan) (fs : 
   abbrev Back : List (Datagram Body)
   Back = seen lens f.back
 
+  record IsMetBy (m n : PlanMember) (v : Behind Serving (InState Server) (InState (Station Core)) Asked Reply) (station number : ℕ) : Type 0 where
+    back_is : own station (seen lens (ring_returned node_passed ring f.sent)) ≡ frame_after station (node_seen v m.node) (own station (seen lens f.sent))
+    slave : node_seen v n.node ≡ (let z = slave_after station (node_seen v m.node) (own station (seen lens f.sent)) in if is_in_pace m.pace number then slave_steps v.exchange v.processor z else z)
+
   one : (place : ℕ) (s : SlaveSpec) (m n : PlanMember) (a : Leads) → IsShown plan place s m a → OpenMet (seen lens f.sent) (seen lens (ring_returned node_passed ring f.sent)) made m n.node → IsMet lens (seen lens f.sent) Back (length fs) m.pace s m.node n.node
   one place s m n a sh o =
       let station : m.spot.station ≡ s.station = ap (λ (z : Spot). z.station) sh.is.spot in
-      let as_plan : IsMetBy m.services m.spot.station made = record { back_is = o.back; slave = o.node } in
-      let k : IsMetBy (asked (profile_of s) s.boot lens) s.station (length fs) =
-      subst (λ (z : ℕ). IsMetBy (asked (profile_of s) s.boot lens) s.station z) many
-      (subst (λ (z : ℕ). IsMetBy (asked (profile_of s) s.boot lens) z made) station (subst (λ (z : Behind Serving (InState Server) (InState (Station Core)) Asked Reply). IsMetBy z m.spot.station made) sh.is.services as_plan)) in
+      let as_plan : IsMetBy m n m.services m.spot.station made = record { back_is = o.back; slave = o.node } in
+      let k : IsMetBy m n (asked (profile_of s) s.boot lens) s.station (length fs) =
+      subst (λ (z : ℕ). IsMetBy m n (asked (profile_of s) s.boot lens) s.station z) many
+      (subst (λ (z : ℕ). IsMetBy m n (asked (profile_of s) s.boot lens) z made) station (subst (λ (z : Behind Serving (InState Server) (InState (Station Core)) Asked Reply). IsMetBy m n z m.spot.station made) sh.is.services as_plan)) in
       record { back_is = ap (λ octets. own s.station (seen lens octets)) w.back ∙ k.back_is; slave = k.slave }
-    where
-      record IsMetBy (v : Behind Serving (InState Server) (InState (Station Core)) Asked Reply) (station number : ℕ) : Type 0 where
-        back_is : own station (seen lens (ring_returned node_passed ring f.sent)) ≡ frame_after station (node_seen v m.node) (own station (seen lens f.sent))
-        slave : node_seen v n.node ≡ (let z = slave_after station (node_seen v m.node) (own station (seen lens f.sent)) in if is_in_pace m.pace number then slave_steps v.exchange v.processor z else z)
 
   all : (place : ℕ) (ss : List SlaveSpec) (ms ns : List PlanMember) (bs : List Leads) → AllShown plan place ss ms bs → AllOpenMet (seen lens f.sent) (seen lens (ring_returned node_passed ring f.sent)) made ms ns →
       AllMet lens (seen lens f.sent) Back (length fs) ss bs (map (λ (m : PlanMember). m.pace) ms) (map (λ (m : PlanMember). m.node) ms) (map (λ (m : PlanMember). m.node) ns)

@@ -1,3 +1,3 @@
-mod Events
-mod Comes
-mod Steps
+pub mod Events
+pub mod Comes
+pub mod Steps
