@@ -1,5 +1,5 @@
 -- What comes into hand with a visit, by its master's choice.
-use Rattle.std.proofs.Common.{◌≡◌, ◌⊎◌, ℕ, Bool, true, false, Option, Some, None, List, [], ◌∷◌, ◌++◌, refl, sym, ap, ◌∙◌, subst, if◌then◌else◌, inl, inr}
+use Rattle.std.proofs.Common.{◌≡◌, ◌⊎◌, ◌≤◌, ℕ, Bool, true, false, Option, Some, None, List, [], ◌∷◌, ◌++◌, refl, sym, ap, ◌∙◌, subst, if◌then◌else◌, inl, inr}
 use Rattle.std.specs.Prelude.{◌&&◌}
 use Rattle.exchange_model.specs.Exchange.{Speech}
 use Rattle.exchange_model.specs.Rows.{Row, begun, left}
@@ -136,7 +136,7 @@ module _ {M Q R S : Type 0} (v : Server M S) (l : Life M Q R) (n : Node M S) (m 
       }
 
   -- a state service
-  with_state : (j : Life M Q R) (target frame : ℕ) → j.stand ≡ Stand.Open → l.era.account.hand ≡ None → m.paused ≡ false → j.era.account.hand ≡ Some (record { target = target; frame = frame; stage = Stage.Drains }) → j.era.side.halves ≡ l.era.side.halves → Chosen v l j n m t
+  with_state : (j : Life M Q R) (target frame : ℕ) → j.stand ≡ Stand.Open → l.era.account.hand ≡ None → (1 ≤ t.tries → m.paused ≡ false) → j.era.account.hand ≡ Some (record { target = target; frame = frame; stage = Stage.Drains }) → j.era.side.halves ≡ l.era.side.halves → Chosen v l j n m t
   with_state j target frame stands_open none unpaused hand same = not_drains k.wanted l.era.account.hand none k.shows.hand (λ q. record {
     link = w;
     wanted = k.wanted;
@@ -147,16 +147,16 @@ module _ {M Q R S : Type 0} (v : Server M S) (l : Life M Q R) (n : Node M S) (m 
     shows = record { halves = k.shows.halves ∙ sym same; node = k.shows.node; hand = (record { target = target; frame = frame; stage = Stage.Drains }, hand, refl); stands = stands_open };
   })
 
-  chosen_by : (j : Life M Q R) (x : Speech M Q R) (frame : ℕ) (p : Pick Q) → IsUnpaused p m → j.stand ≡ Stand.Open → j.era.side.halves ≡ (side_next x frame l.era.side (mails_choice l.era.account p)).halves → Chooses x frame l.era.side l.era.account p j.era.account → Chosen v l j n m t
+  chosen_by : (j : Life M Q R) (x : Speech M Q R) (frame : ℕ) (p : Pick Q) → IsUnpaused p m t → j.stand ≡ Stand.Open → j.era.side.halves ≡ (side_next x frame l.era.side (mails_choice l.era.account p)).halves → Chooses x frame l.era.side l.era.account p j.era.account → Chosen v l j n m t
   chosen_by j x frame p unpaused stands_open halves (inl hand) = with_mail j stands_open hand (subst (λ h. Holds l.era.side.halves h) (sym halves) (side_takes x frame l.era.side (mails_choice l.era.account p)))
   chosen_by j x frame p unpaused stands_open halves (inr (target, none, begin, hand, same)) = with_state j target frame stands_open none (unpaused target begin) hand (halves ∙ same)
 
   -- by the choice that is granted
-  chosen_at : (x : Speech M Q R) (acknowledged : Q → Bool) (more : M → Bool) (passed : Q → Bool) (frame : ℕ) (pick : Pick Q) → l.era.passing ≡ None → IsUnpaused pick m → Chosen v l (life_next x acknowledged more passed frame l Stand.Open pick) n m t
+  chosen_at : (x : Speech M Q R) (acknowledged : Q → Bool) (more : M → Bool) (passed : Q → Bool) (frame : ℕ) (pick : Pick Q) → l.era.passing ≡ None → IsUnpaused pick m t → Chosen v l (life_next x acknowledged more passed frame l Stand.Open pick) n m t
   chosen_at x acknowledged more passed frame pick none unpaused =
       let p = granted l.era.passing pick in
       let same : p ≡ pick = ap (λ z. granted z pick) none in
-      chosen_by (life_next x acknowledged more passed frame l Stand.Open pick) x frame p (subst (λ z. IsUnpaused z m) (sym same) unpaused) k.shows.stands refl (choose x acknowledged frame l.era.side l.era.account l.era.account.hand p.begin p.hold refl)
+      chosen_by (life_next x acknowledged more passed frame l Stand.Open pick) x frame p (subst (λ z. IsUnpaused z m t) (sym same) unpaused) k.shows.stands refl (choose x acknowledged frame l.era.side l.era.account l.era.account.hand p.begin p.hold refl)
 
-  pub chosen : (x : Speech M Q R) (acknowledged : Q → Bool) (more : M → Bool) (passed : Q → Bool) (frame : ℕ) (pick : Pick Q) → l.era.passing ≡ None → IsUnpaused pick m → Chosen v l (life_next x acknowledged more passed frame l l.stand pick) n m t
+  pub chosen : (x : Speech M Q R) (acknowledged : Q → Bool) (more : M → Bool) (passed : Q → Bool) (frame : ℕ) (pick : Pick Q) → l.era.passing ≡ None → IsUnpaused pick m t → Chosen v l (life_next x acknowledged more passed frame l l.stand pick) n m t
   chosen x acknowledged more passed frame pick none unpaused = subst (λ s. Chosen v l (life_next x acknowledged more passed frame l s pick) n m t) (sym k.shows.stands) (chosen_at x acknowledged more passed frame pick none unpaused)

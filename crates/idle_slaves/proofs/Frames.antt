@@ -17,7 +17,7 @@ use Rattle.idle_slaves.proofs.Choosing.{chosen}
 use Rattle.idle_slaves.proofs.Visited.{on, second, none, stepped, life_spent}
 
 module _ {M Q R S : Type 0} (v : Server M S) (x : Spot → Speech M Q R) (acknowledged : Q → Bool) (more : M → Bool) (passed : Q → Bool) (number : ℕ) (back : List (Datagram M)) (a : Clocked M Q R) (u : Under M Q R) (n : Node M S) (m : Memory) (t : Waits)
-    (k : Waiting v a.life n m t) (i : InVain x acknowledged more passed number back a u n m) where
+    (k : Waiting v a.life n m t) (i : InVain x acknowledged more passed number back a u n m t) where
   abbrev behind : Life M Q R
   behind = back_life x acknowledged more passed number back a u
 

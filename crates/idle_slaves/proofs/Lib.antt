@@ -10,6 +10,7 @@ pub mod Rows
 pub mod Runs
 pub mod Settled
 pub mod Steps
+pub mod Taken
 pub mod Visited
 pub mod Visiting
 pub mod Waiting

@@ -39,10 +39,10 @@ no_change : (q : Wanted) (old new : Option Duty) (m : Memory) → IsFor q old �
 no_change Wanted.Mails old new m e f = ap (λ z. memory_next z new m) e ∙ ap (λ z. memory_next None z m) f
 no_change Wanted.Drains old new m (duty, is, stage) f = ap (λ z. memory_next z new m) is
 
-memory_is : {B S : Type 0} (v : Server B S) (w : Link B S) (q : Wanted) (c : Coming B) (m : Memory) (old new : Option Duty) → IsFor q old → IsFor (wanted_by q c) new → MayCome c q m w.halves.out.holding → memory_next old new m ≡ memory_by m c
-memory_is v w q Coming.Nothing m old new e f may = no_change q old new m e f
-memory_is v w q (Coming.Mail body) m old new e f may = no_change q old new m e f
-memory_is v w q Coming.State m old new e (duty, is, stage) may = let none : old ≡ None = subst (λ z. IsFor z old) may.0 e in ap (λ z. memory_next z new m) none ∙ ap (λ z. memory_next None z m) is
+memory_is : {B S : Type 0} (v : Server B S) (w : Link B S) (q : Wanted) (c : Coming B) (m : Memory) (t : Waits) (old new : Option Duty) → IsFor q old → IsFor (wanted_by q c) new → MayCome c q m t w.halves.out.holding → memory_next old new m ≡ memory_by m c
+memory_is v w q Coming.Nothing m t old new e f may = no_change q old new m e f
+memory_is v w q (Coming.Mail body) m t old new e f may = no_change q old new m e f
+memory_is v w q Coming.State m t old new e (duty, is, stage) may = let none : old ≡ None = subst (λ z. IsFor z old) may.0 e in ap (λ z. memory_next z new m) none ∙ ap (λ z. memory_next None z m) is
 
 module _ {M Q R S : Type 0} (v : Server M S) (x : Speech M Q R) (acknowledged : Q → Bool) (more : M → Bool) (passed : Q → Bool) (frame : ℕ) (spot : Spot) (ns : List (News M)) (back : List (Datagram M)) (came : Option (Bool × Option Found)) (l : Life M Q R) (n : Node M S) (m : Memory) (t : Waits) where
   abbrev at : Stand → Life M Q R
@@ -72,7 +72,7 @@ module _ {M Q R S : Type 0} (v : Server M S) (x : Speech M Q R) (acknowledged : 
     clear = ap (λ k. k.state) come.inn ∙ link.clear
 
     remembers : mem ≡ memory_by m c.coming
-    remembers = memory_is v c.link c.wanted c.coming m old.era.account.hand l.era.account.hand c.was.hand c.shows.hand c.may
+    remembers = memory_is v c.link c.wanted c.coming m t old.era.account.hand l.era.account.hand c.was.hand c.shows.hand c.may
 
     visits : visit ≡ visit_with v c.link c.wanted m c.coming
     visits = visit_is q l.era.account.hand mem (is_some l.era.side.halves.out.holding) c.shows.hand ∙ ap (λ (h : Halves M). visit_by q mem (is_some h.out.holding)) (sym c.shows.halves) ∙ ap (λ z. visit_by q z (is_some u.halves.out.holding)) remembers

@@ -156,15 +156,15 @@ module _ {B S : Type 0} (v : Server B S) (w : Link B S) (a : Agrees w) (e : w.ha
   drain_holds None body false g = g
   drain_holds (Some m) body turn g = g
 
-  idle_by : (q : Wanted) (m : Memory) (c : Coming B) → After w q m → MayCome c q m w.halves.out.holding → IsVain v w q m c → Twice w q × (c ≡ Coming.Nothing)
-  idle_by Wanted.Mails m Coming.Nothing k may g = let both = mails_nothing m k g in (record { wanted = refl; held = both.0; box = both.1 }, refl)
-  idle_by Wanted.Drains m Coming.Nothing k may g = drain_nothing m k g
-  idle_by Wanted.Mails m (Coming.Mail body) (inl (p, box)) may g = mail_comes w.halves.out.holding body m.paused may p box g
-  idle_by Wanted.Mails m (Coming.Mail body) (inr (p, full, held)) may g = absurd (held may)
-  idle_by Wanted.Drains m (Coming.Mail body) k may g = drain_nothing m k (drain_holds w.halves.out.holding body m.turn g)
-  idle_by Wanted.Mails m Coming.State (inl (p, box)) may g = not_one (visit_gain w Visit.Full) (sees_empty w.node.out.box (clear_settled v w a s e box).3) g
-  idle_by Wanted.Mails m Coming.State (inr (p, full, held)) may g = absurd (let no : true ≡ false = sym p ∙ may.1 in cc)
-  idle_by Wanted.Drains m Coming.State k may g = absurd (let no : Wanted.Drains ≡ Wanted.Mails = may.0 in cc)
+  idle_by : (q : Wanted) (m : Memory) (t : Waits) (c : Coming B) → 1 ≤ t.tries → After w q m → MayCome c q m t w.halves.out.holding → IsVain v w q m c → Twice w q × (c ≡ Coming.Nothing)
+  idle_by Wanted.Mails m t Coming.Nothing one k may g = let both = mails_nothing m k g in (record { wanted = refl; held = both.0; box = both.1 }, refl)
+  idle_by Wanted.Drains m t Coming.Nothing one k may g = drain_nothing m k g
+  idle_by Wanted.Mails m t (Coming.Mail body) one (inl (p, box)) may g = mail_comes w.halves.out.holding body m.paused may p box g
+  idle_by Wanted.Mails m t (Coming.Mail body) one (inr (p, full, held)) may g = absurd (held may)
+  idle_by Wanted.Drains m t (Coming.Mail body) one k may g = drain_nothing m k (drain_holds w.halves.out.holding body m.turn g)
+  idle_by Wanted.Mails m t Coming.State one (inl (p, box)) may g = not_one (visit_gain w Visit.Full) (sees_empty w.node.out.box (clear_settled v w a s e box).3) g
+  idle_by Wanted.Mails m t Coming.State one (inr (p, full, held)) may g = absurd (let no : true ≡ false = sym p ∙ may.1 one in cc)
+  idle_by Wanted.Drains m t Coming.State one k may g = absurd (let no : Wanted.Drains ≡ Wanted.Mails = may.0 in cc)
 
 -- ---- THE VISIT, as it is counted
 tried_none : (b : Bool) (n : ℕ) → (b ≡ false → n ≡ 0) → b ≡ false → (if b then suc n else n) ≡ 0
@@ -175,7 +175,7 @@ tried_more : (b : Bool) (n k : ℕ) → (b ≡ false → n ≡ 0) → suc k ≤ 
 tried_more true n k f le = (refl, omega (arith, le))
 tried_more false n k f le = absurd (let no = f refl in omega (arith, no, le))
 
-module _ {B S : Type 0} (v : Server B S) (w : Link B S) (q : Wanted) (m : Memory) (t : Waits) (c : Coming B) (h : Holds v w q m t) (may : MayCome c q m w.halves.out.holding) (g : IsVain v w q m c) where
+module _ {B S : Type 0} (v : Server B S) (w : Link B S) (q : Wanted) (m : Memory) (t : Waits) (c : Coming B) (h : Holds v w q m t) (may : MayCome c q m t w.halves.out.holding) (g : IsVain v w q m c) where
   abbrev pub u : Link B S
   u = link_by v w c
 
@@ -192,7 +192,7 @@ module _ {B S : Type 0} (v : Server B S) (w : Link B S) (q : Wanted) (m : Memory
   has e = subst (λ n. HasStepped v n) (sym come.node) (h.stepped e)
 
   two : 1 ≤ t.tries → Twice w q × (c ≡ Coming.Nothing)
-  two one = idle_by v w h.agrees h.clear (had_step v w q m t h one) q m c (h.once one) may g
+  two one = idle_by v w h.agrees h.clear (had_step v w q m t h one) q m t c one (h.once one) may g
 
   twice_at : Twice w q → c ≡ Coming.Nothing → Twice (visited v u (visit_with v w q m c)) (wanted_by q c)
   twice_at k e = record {
@@ -229,7 +229,7 @@ spent v w q m t k le =
     let twice = h.twice le in
     (spent_by v w q h.agrees h.clear (had_step v w q m t h (omega (arith, le))) twice, twice.wanted)
 
-pub idle : {B S : Type 0} (v : Server B S) (w : Link B S) (q : Wanted) (m : Memory) (t : Waits) (c : Coming B) → IsWaiting v w q m t → 1 ≤ t.tries → MayCome c q m w.halves.out.holding → IsVain v w q m c → IsIdle v w q c
+pub idle : {B S : Type 0} (v : Server B S) (w : Link B S) (q : Wanted) (m : Memory) (t : Waits) (c : Coming B) → IsWaiting v w q m t → 1 ≤ t.tries → MayCome c q m t w.halves.out.holding → IsVain v w q m c → IsIdle v w q c
 idle v w q m t c k le may g =
     let h = holds v w q m t k in
     let both = two v w q m t c h may g le in

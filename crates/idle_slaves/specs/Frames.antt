@@ -7,6 +7,7 @@ use Rattle.life_model.specs.Own.{own}
 use Rattle.link_model.specs.Slave.{Node, Server, processor_step}
 use Rattle.run_frames.specs.Clocks.{Clocked}
 use Rattle.run_frames.specs.Goes.{Under, back_life}
+use Rattle.run_frames.specs.Waits.{Waits}
 use Rattle.segment_model.specs.Slaves.{Datagram}
 use Rattle.task_model.specs.Accounts.{Pick}
 use Rattle.idle_slaves.specs.Waiting.{Memory, memory_behind}
@@ -22,11 +23,11 @@ memory_on a u m = if u.under then memory_behind (memory_of a.life u.life m) (lif
 
 -- NOTHING WAS GAINED BY IT: what came into hand is the master's choice, of a slave with no mail that is passed on; it had the visit's datagram for the slave,
 -- or none, and then nothing came into hand
-pub record InVain {M Q R S : Type 0} (x : Spot → Speech M Q R) (acknowledged : Q → Bool) (more : M → Bool) (passed : Q → Bool) (number : ℕ) (back : List (Datagram M)) (a : Clocked M Q R) (u : Under M Q R) (n : Node M S) (m : Memory) : Type 0 where
+pub record InVain {M Q R S : Type 0} (x : Spot → Speech M Q R) (acknowledged : Q → Bool) (more : M → Bool) (passed : Q → Bool) (number : ℕ) (back : List (Datagram M)) (a : Clocked M Q R) (u : Under M Q R) (n : Node M S) (m : Memory) (t : Waits) : Type 0 where
   pub pick : Pick Q
   pub life : u.life ≡ life_next (x a.spot) acknowledged more passed number a.life a.life.stand pick
   pub unpassed : a.life.era.passing ≡ None
-  pub unpaused : IsUnpaused pick m
+  pub unpaused : IsUnpaused pick m t
   pub row : HasRow u.life n
   pub visits : u.under ≡ true → CameBack a.spot.station n u.life.era.side.halves (life_visit u.life (memory_of a.life u.life m)) back
   pub none : u.under ≡ false → (u.life ≡ a.life) × (own a.spot.station back ≡ [])

@@ -32,7 +32,7 @@ module _ {M Q R : Type 0} (x : Spot → Speech M Q R) (acknowledged : Q → Bool
   -- NOTHING WAS GAINED OF IT by the frame
   pub data IsVainFor {S : Type 0} (s : Kept M S) (a : Clocked M Q R) (u : Under M Q R) (t : Waits) : Type 0 where
     gone : (pick : Pick Q) → a.life.stand ≡ Stand.Gone → u.life ≡ life_next (x a.spot) acknowledged more passed number a.life a.life.stand pick → IsVainFor s a u t
-    waits : Waiting s.server a.life s.node s.memory t → InVain x acknowledged more passed number back a u s.node s.memory → IsVainFor s a u t
+    waits : Waiting s.server a.life s.node s.memory t → InVain x acknowledged more passed number back a u s.node s.memory t → IsVainFor s a u t
     goes : (g : Going s.table a.life s.registers t) → AccessVain x acknowledged more passed number back a u g.duty g.phase s.registers → IsVainFor s a u t
 
   -- nor of any of these

@@ -1,9 +1,2 @@
 -- A SERVICE IN HAND of a slave that has nothing left.
-use Rattle.std.specs.Prelude.{◌≡◌, true, List, [], ◌++◌, drop, length}
-use Rattle.exchange_model.specs.Exchange.{Exchange, given, plain}
-
--- A CLIENT NEVER WAITS IN VAIN: one that has told a first part of a service's mails, has heard all that replies to it and has none left to tell, has told
--- all. The laws of exchanges don't say so of themselves
-abbrev pub NeverWaits : {V A M Q R : Type 0} → Exchange V A M Q R → Type 0
-NeverWaits {V} {M = M} {Q = Q} x = (v : V) (q : Q) → x.ready v ≡ true → x.speech.valid q ≡ true → (p r : List M) → x.full v q ≡ p ++ r →
-    drop (length p) (x.speech.planned q (plain x.speech.emission (given x.serve v p))) ≡ [] → r ≡ []
+pub use Rattle.never_waits.specs.Waits.{NeverWaits}

@@ -1,5 +1,5 @@
 -- ONE VISIT OF AN OPEN SLAVE, by its master's life of it: what came into hand with it, and what its datagram brought.
-use Rattle.std.specs.Prelude.{◌≡◌, ◌==◌, ℕ, is_some, Bool, true, false, Option, Some, None, List, [], ◌∷◌}
+use Rattle.std.specs.Prelude.{◌≡◌, ◌==◌, ◌≤◌, ℕ, is_some, Bool, true, false, Option, Some, None, List, [], ◌∷◌}
 use Rattle.exchange_model.specs.Rows.{Row}
 use Rattle.life_measure.specs.Visits.{Visit, mails_visit, drain_visit}
 use Rattle.life_model.specs.Lives.{Life, Stand}
@@ -65,9 +65,9 @@ pub record CameBack {M S : Type 0} (station : ℕ) (n : Node M S) (h : Halves M)
 abbrev pub HasRow : {M Q R S : Type 0} → Life M Q R → Node M S → Type 0
 HasRow {M} {Q} {R} l n = (b : LinkMail M) → n.inn.box ≡ Some b → (r : Row M Q R) × (l.era.side.now ≡ Some r)
 
--- a state service doesn't come into hand behind a write in vain
-abbrev pub IsUnpaused : {Q : Type 0} → Pick Q → Memory → Type 0
-IsUnpaused pick m = (target : ℕ) → pick.begin ≡ Some (Service.State target) → m.paused ≡ false
+-- a state service doesn't come into hand behind a write in vain behind a step, with nothing gained since
+abbrev pub IsUnpaused : {Q : Type 0} → Pick Q → Memory → Waits → Type 0
+IsUnpaused pick m t = (target : ℕ) → pick.begin ≡ Some (Service.State target) → 1 ≤ t.tries → m.paused ≡ false
 
 -- A SLAVE THAT WAITS, since something was gained last: its life and its node are such a link
 pub record Waiting {M Q R S : Type 0} (v : Server M S) (l : Life M Q R) (n : Node M S) (m : Memory) (t : Waits) : Type 0 where
@@ -83,7 +83,7 @@ pub record Chosen {M Q R S : Type 0} (v : Server M S) (old l : Life M Q R) (n : 
   pub waits : IsWaiting v link wanted m t
   pub was : Shows old n link wanted
   pub coming : Coming M
-  pub may : MayCome coming wanted m link.halves.out.holding
+  pub may : MayCome coming wanted m t link.halves.out.holding
   pub shows : Shows l n (link_by v link coming) (wanted_by wanted coming)
 
 -- A LIFE WHOSE SLAVE IS SPENT: no mail is held, no state service is in hand, and the slave has nothing left

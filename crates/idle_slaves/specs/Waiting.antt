@@ -1,5 +1,5 @@
 -- AN OPEN SLAVE WITH NOTHING IN DOUBT, since something was gained last: what its visits asked in vain, and the steps that its processor made.
-use Rattle.std.specs.Prelude.{◌≡◌, suc, is_some, Bool, true, false, if◌then◌else◌, Option, None, ⊤}
+use Rattle.std.specs.Prelude.{◌≡◌, ◌≤◌, suc, is_some, Bool, true, false, if◌then◌else◌, Option, None, ⊤}
 use Rattle.life_measure.specs.Visits.{Visit, mails_visit, drain_visit, visit_gain, visited}
 use Rattle.link_model.specs.Agree.{Agrees}
 use Rattle.link_model.specs.Gains.{NothingLeft}
@@ -37,11 +37,11 @@ pub data Coming (B : Type 0) : Type 0 where
   Mail : B → Coming B
   State : Coming B
 
--- a mail is taken up where none is held; a state service comes into hand where none is, and not behind a write in vain
-abbrev pub MayCome : {B : Type 0} → Coming B → Wanted → Memory → Option (LinkMail B) → Type 0
-MayCome Coming.Nothing q m holding = ⊤
-MayCome (Coming.Mail body) q m holding = holding ≡ None
-MayCome Coming.State q m holding = (q ≡ Wanted.Mails) × (m.paused ≡ false)
+-- a mail is taken up where none is held; a state service comes into hand where none is, and not behind a write in vain behind a step
+abbrev pub MayCome : {B : Type 0} → Coming B → Wanted → Memory → Waits → Option (LinkMail B) → Type 0
+MayCome Coming.Nothing q m t holding = ⊤
+MayCome (Coming.Mail body) q m t holding = holding ≡ None
+MayCome Coming.State q m t holding = (q ≡ Wanted.Mails) × (1 ≤ t.tries → m.paused ≡ false)
 
 -- the link then
 abbrev pub link_by : {B S : Type 0} → Server B S → Link B S → Coming B → Link B S
@@ -79,7 +79,7 @@ module _ {B S : Type 0} (v : Server B S) where
     new : (w : Link B S) (q : Wanted) (m : Memory) → Agrees w → w.halves.inn.state ≡ InState.Clear → IsWaiting w q m new_waits
     steps : (w : Link B S) (q : Wanted) (m : Memory) (t : Waits) → IsWaiting w q m t → IsWaiting (happens v w Event.Pdi) q m (record t { stepped = true })
     changes : (w : Link B S) (q : Wanted) (m : Memory) (t : Waits) (f : S → S) → IsWaiting w q m t → v.next (f w.node.server) ≡ v.next w.node.server → IsWaiting (happens v w (Event.Change f)) q m t
-    visits : (w : Link B S) (q : Wanted) (m : Memory) (t : Waits) (c : Coming B) → IsWaiting w q m t → MayCome c q m w.halves.out.holding → IsVain v w q m c →
+    visits : (w : Link B S) (q : Wanted) (m : Memory) (t : Waits) (c : Coming B) → IsWaiting w q m t → MayCome c q m t w.halves.out.holding → IsVain v w q m c →
         IsWaiting (visited v (link_by v w c) (visit_with v w q m c)) (wanted_by q c) (memory_behind (memory_by m c) (visit_with v w q m c)) (tried t)
 
   -- THE SLAVE IS SPENT: no mail is held for it, none stands in a mailbox or is withdrawn, and it has none to offer

@@ -49,14 +49,14 @@ ghost use Rattle.idle_slaves.specs.Visited.{Waiting, Shows, Chosen, CameBack, Ha
 pub fn waiting_law<B, S>()
     ensures spent { (v : Server B S) (w : Link B S) (q : Wanted) (m : Memory) (t : Waits) → IsWaiting v w q m t → 2 ≤ t.tries → IsSpent v w × (q ≡ Wanted.Mails) }
     // It was so before the second of these visits, with which nothing came into hand.
-    ensures idle { (v : Server B S) (w : Link B S) (q : Wanted) (m : Memory) (t : Waits) (c : Coming B) → IsWaiting v w q m t → 1 ≤ t.tries → MayCome c q m w.halves.out.holding → IsVain v w q m c → IsIdle v w q c }
+    ensures idle { (v : Server B S) (w : Link B S) (q : Wanted) (m : Memory) (t : Waits) (c : Coming B) → IsWaiting v w q m t → 1 ≤ t.tries → MayCome c q m t w.halves.out.holding → IsVain v w q m c → IsIdle v w q c }
 {}
 
 /// BY EACH FRAME THAT CAME BACK AND GAINED NOTHING an open slave waits on, with nothing in doubt and no state service past its drain: where something came
 /// into hand with a visit, where the visit's datagram came back, where the frame had none for it, and by a step of its processor.
 pub fn frame_law<M, Q, R, S>()
     ensures comes { (v : Server M S) (x : Speech M Q R) (acknowledged : Q → Bool) (more : M → Bool) (passed : Q → Bool) (frame : ℕ) (l : Life M Q R) (n : Node M S) (m : Memory) (t : Waits) (pick : Pick Q) →
-        Waiting v l n m t → l.era.passing ≡ None → IsUnpaused pick m → Chosen v l (life_next x acknowledged more passed frame l l.stand pick) n m t }
+        Waiting v l n m t → l.era.passing ≡ None → IsUnpaused pick m t → Chosen v l (life_next x acknowledged more passed frame l l.stand pick) n m t }
     ensures visited { (v : Server M S) (x : Speech M Q R) (acknowledged : Q → Bool) (more : M → Bool) (passed : Q → Bool) (frame : ℕ) (spot : Spot) (news : List (News M)) (back : List (Datagram M)) (came : Option (Bool × Option Found)) (old l : Life M Q R) (n : Node M S) (m : Memory) (t : Waits) →
         Chosen v old l n m t → HasRow l n → let visit = life_visit l (memory_of old l m) in CameBack spot.station n l.era.side.halves visit back → let k = life_back x acknowledged more passed frame spot news back came l l.stand in gains k ≡ gains l →
         Waiting v k n (memory_behind (memory_of old l m) visit) (tried t) }
@@ -76,9 +76,9 @@ pub fn frame_law<M, Q, R, S>()
 /// visited twice behind a step since something was gained, it was spent before the frame.
 pub fn wait_law<M, Q, R, S>()
     ensures on { (v : Server M S) (x : Spot → Speech M Q R) (acknowledged : Q → Bool) (more : M → Bool) (passed : Q → Bool) (number : ℕ) (back : List (Datagram M)) (a : Clocked M Q R) (u : Under M Q R) (n : Node M S) (m : Memory) (t : Waits) →
-        Waiting v a.life n m t → InVain x acknowledged more passed number back a u n m → Waiting v (back_life x acknowledged more passed number back a u) (node_on v number a n) (memory_on a u m) (waits_on number a u t) }
+        Waiting v a.life n m t → InVain x acknowledged more passed number back a u n m t → Waiting v (back_life x acknowledged more passed number back a u) (node_on v number a n) (memory_on a u m) (waits_on number a u t) }
     ensures spent { (v : Server M S) (x : Spot → Speech M Q R) (acknowledged : Q → Bool) (more : M → Bool) (passed : Q → Bool) (number : ℕ) (back : List (Datagram M)) (a : Clocked M Q R) (u : Under M Q R) (n : Node M S) (m : Memory) (t : Waits) →
-        Waiting v a.life n m t → InVain x acknowledged more passed number back a u n m → 2 ≤ (waits_on number a u t).tries → LifeSpent v a.life n }
+        Waiting v a.life n m t → InVain x acknowledged more passed number back a u n m t → 2 ≤ (waits_on number a u t).tries → LifeSpent v a.life n }
 {}
 
 /// A SERVICE IN HAND IS OVER where nothing is left to tell, all that was held for it was taken and all that was given was heard, if its client never waits in
@@ -117,6 +117,11 @@ pub fn ring_law<M, Q, R, S>()
 pub fn link_law<V, A, M, Q, R>()
     ensures { (x : Exchange V A M Q R) (s : Stated V A Q) (processor : Processor V) (table : ℕ → Table) (spot : Spot) (e : Era M Q R) (opened last : ℕ) (fs : List (Frame M)) (v : V) (r : Registers) (slave : Slave V M) →
         IsLawful x → IsStated x s → EraIs x s processor table spot e opened last fs v r slave → HasLink e.side slave }
+{}
+
+/// WHAT COMES INTO HAND takes no service away: where a mail stands in mailbox 1, one has come into hand with it too.
+pub fn choice_law<M, Q, R, S>()
+    ensures { (x : Speech M Q R) (acknowledged : Q → Bool) (more : M → Bool) (passed : Q → Bool) (frame : ℕ) (l : Life M Q R) (pick : Pick Q) (n : Node M S) → HasRow l n → HasRow (life_next x acknowledged more passed frame l l.stand pick) n }
 {}
 
 /// A SLAVE THAT IS SPENT is settled, with nothing held and no state service in hand: so where besides its service by mails is over (`row_law`) its master wants

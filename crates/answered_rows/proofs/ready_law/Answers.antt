@@ -1,0 +1,8 @@
+use Rattle.answered_rows.proofs.Laws.{before, begun}
+use Rattle.answered_rows.proofs.ready_law.Goals as goal
+
+pub returns-clause-before : goal.returns-clause-before
+returns-clause-before g c = λ x s processor table spot e opened last fs v r slave law stated is. before x s processor table spot e opened last fs v r slave law stated is
+
+pub returns-clause-begun : goal.returns-clause-begun
+returns-clause-begun g c = λ x acknowledged more passed e frame pick q station back law unpassed hand wish. begun x acknowledged more passed e frame pick q station back law unpassed hand wish

@@ -1,0 +1,2 @@
+pub use Rattle.never_waits.specs as of_never_waits
+pub mod Moments
