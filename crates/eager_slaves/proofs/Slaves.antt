@@ -174,8 +174,8 @@ module _ {V A : Type 0} (ex : Exchange V A Body Asked Reply) (processor : Proces
     -- ---- A SLAVE THAT WAITS
     module _ (m n : Remembered) (next : Option Plan.Service) (begun : Option (Service Asked)) (wish : f.pick.begin ≡ begun) (eager : IsEager (x c.spot) station sent m u.under begun next c.life u.life) (unpaused : IsUnpausedBy m begun) (remembers : RemembersOn station back m n u.under c.life u.life) where
       module _ (t : Waits) (k : Waiting v c.life s.node m.memory t) (link : HasLink c.life.era.side s) where
-        pause_free : IsUnpaused f.pick m.memory
-        pause_free target e = unpaused target (sym wish ∙ e)
+        pause_free : IsUnpaused f.pick m.memory t
+        pause_free target e one = unpaused target (sym wish ∙ e)
 
         chose : Chosen v c.life u.life s.node m.memory t
         chose = subst (λ z. Chosen v c.life z s.node m.memory t) (sym f.life) (chosen v c.life s.node m.memory t k (x c.spot) acknowledged more passed number f.pick f.unpassed pause_free)
@@ -195,7 +195,7 @@ module _ {V A : Type 0} (ex : Exchange V A Body Asked Reply) (processor : Proces
         abbrev came : u.under ≡ true → CameBack station s.node u.life.era.side.halves (life_visit u.life (memory_of c.life u.life m.memory)) back
         came e = let o = f.one clear.stands e in came_back station s f.here o.datagram o.sent_so back u.life.era.side.halves (life_visit u.life (memory_of c.life u.life m.memory)) (back_one o) (asks o)
 
-        vain : (u.under ≡ false → u.life ≡ c.life) → InVain x acknowledged more passed number back c u s.node m.memory
+        vain : (u.under ≡ false → u.life ≡ c.life) → InVain x acknowledged more passed number back c u s.node m.memory t
         vain none = record { pick = f.pick; life = f.life; unpassed = f.unpassed; unpaused = pause_free; row = row; visits = came; none = λ e. (none e, back_none e); same = f.same }
 
         same : gains (life_back (x c.spot) acknowledged more passed number c.spot [] back u.came u.life Stand.Open) ≡ gains u.life
@@ -221,7 +221,7 @@ module _ {V A : Type 0} (ex : Exchange V A Body Asked Reply) (processor : Proces
         not_gone = for_not_gone k.wanted c.life.era.account.hand k.shows.hand
 
         -- behind it the hand is none, or drains yet
-        module _ (i : InVain x acknowledged more passed number back c u s.node m.memory) where
+        module _ (i : InVain x acknowledged more passed number back c u s.node m.memory t) where
           pub waits : Waiting v behind (node_on v number c s.node) (memory_on c u m.memory) (waits_on number c u t)
           waits = waits_so v x acknowledged more passed number back c u s.node m.memory t k i
 
@@ -355,7 +355,7 @@ module _ {V A : Type 0} (ex : Exchange V A Body Asked Reply) (processor : Proces
           stays_so : u.under ≡ false → u.life ≡ c.life
           stays_so e = f.life ∙ same_next (x c.spot) acknowledged more passed number c.life f.pick k.waits.shows.stands f.unpassed (wish ∙ eager.begins e) (λ free r now. k.left free r now)
 
-          i : InVain x acknowledged more passed number back c u s.node m.memory
+          i : InVain x acknowledged more passed number back c u s.node m.memory t
           i = vain t k.waits link stays_so
 
           before : u.under ≡ false → u.life.era.side.halves.out.holding ≡ None → NoneLeft (x c.spot) u.life
@@ -433,7 +433,7 @@ module _ {V A : Type 0} (ex : Exchange V A Body Asked Reply) (processor : Proces
             begun_link = record { link = k.link; wanted = k.wanted; waits = IsWaiting.new k.link k.wanted m.memory k.agrees k.clear; shows = k.shows }
 
             ch : Chosen v c.life u.life k.link.node m.memory new_waits
-            ch = subst (λ z. Chosen v c.life z k.link.node m.memory new_waits) (sym f.life) (chosen v c.life k.link.node m.memory new_waits begun_link (x c.spot) acknowledged more passed number f.pick f.unpassed (pause_free t first link))
+            ch = subst (λ z. Chosen v c.life z k.link.node m.memory new_waits) (sym f.life) (chosen v c.life k.link.node m.memory new_waits begun_link (x c.spot) acknowledged more passed number f.pick f.unpassed (λ target e one. absurd (omega (arith, one))))
 
             old : Holds v ch.link ch.wanted m.memory new_waits
             old = holds v ch.link ch.wanted m.memory new_waits ch.waits
