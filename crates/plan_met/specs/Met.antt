@@ -1,12 +1,15 @@
 -- THE SLAVES OF A PLAN'S RUN, as the sessions of their lives have them.
 use Rattle.std.specs.Prelude.{◌≡◌, ℕ, suc, if◌then◌else◌, List, [], ◌∷◌, ⊤}
+use Rattle.exchange_model.specs.Exchange.{IsLawful}
 use Rattle.frame_view.specs.View.{Lens}
 use Rattle.life_model.specs.Lives.{Era, Stand}
 use Rattle.life_model.specs.Own.{own}
 use Rattle.life_runs.specs.First.{lens_of, spot_of}
-use Rattle.life_runs.specs.Led.{Exchanged, Leads}
+use Rattle.life_runs.specs.Led.{Exchanged, Leads, speech_at}
 use Rattle.link_mails.specs.Body.{Body}
-use Rattle.plan_ring.specs.Asked.{asked}
+use Rattle.master_hand.specs.Spoken.{acknowledged}
+use Rattle.named_lives.specs.Alike.{Alike, InHandIs}
+use Rattle.plan_ring.specs.Asked.{asked, is_service}
 use Rattle.plan_ring.specs.Round.{all_seen}
 use Rattle.segment_model.specs.Slaves.{Datagram, Slave, slave_after, slave_steps, frame_after}
 use Rattle.segment_plan.specs.declared.plan.Scenario.{Scenario}
@@ -19,16 +22,22 @@ use Rattle.slave_server.specs.Serving.{Serving}
 use Rattle.slave_server.specs.Spec.{profile_of}
 use Rattle.slave_steps.specs.Node.{Node}
 use Rattle.state_exchange.specs.Families.{InState}
+use Rattle.state_exchange.specs.Stated.{IsStated}
 use Rattle.whole_lives.specs.Whole.{LivesOpen}
 
 -- a slave's node as its session has it
 abbrev pub slave_at : (ℕ → Lens) → SlaveSpec → Node Serving → Slave (InState Server) Body
 slave_at lens s n = node_seen (asked (profile_of s) s.boot lens) n
 
--- ONE THAT IS OPEN LIVES ITS EPOCH, which began with some application
+-- ONE THAT IS OPEN LIVES ITS EPOCH, which began with some application, by services that owe the laws and of which its master speaks alike
 pub record IsOpenAt (plan : Scenario) (fs : List Exchanged) (place : ℕ) (s : SlaveSpec) (a : Leads) (n : Node Serving) : Type 0 where
   pub from : InState (Station Core)
   pub lives : LivesOpen (asked (profile_of s) s.boot (lens_of plan.slaves)) (spot_of place s) from a.lived.life.era (all_seen (lens_of plan.slaves) fs) n
+  pub lawful : IsLawful (asked (profile_of s) s.boot (lens_of plan.slaves)).exchange
+  pub stated : IsStated (asked (profile_of s) s.boot (lens_of plan.slaves)).exchange (asked (profile_of s) s.boot (lens_of plan.slaves)).states
+  pub alike : Alike is_service (speech_at (lens_of plan.slaves) a.lived.spot) (asked (profile_of s) s.boot (lens_of plan.slaves)).exchange.speech
+  pub row : InHandIs is_service a.lived.life
+  pub last : (asked (profile_of s) s.boot (lens_of plan.slaves)).states.acknowledged ≡ acknowledged
 
 -- and its master leads it at its station
 pub record IsAt (plan : Scenario) (fs : List Exchanged) (place : ℕ) (s : SlaveSpec) (a : Leads) (n : Node Serving) : Type 0 where

@@ -1,0 +1,5 @@
+mod Frees
+mod Begins
+mod One
+mod Lists
+mod Walk
