@@ -1,5 +1,6 @@
 -- One open slave by a frame that came back.
 use Rattle.std.proofs.Common.{◌≡◌, ◌≢◌, ℕ, zero, suc, ◌%◌, ◌==◌, Bool, true, false, List, [], ◌∷◌, length, refl, sym, ap, ap₂, ◌∙◌, subst, if◌then◌else◌}
+use Rattle.datagrams.specs.Datagram as Raw
 use Rattle.ec_fields.specs.Fields.{bits_of}
 use Rattle.esc_registers.specs.declared.registers.Registers as Esc
 use Rattle.frame_pass.specs.Passing.{registers_after, datagrams_after}
@@ -52,7 +53,7 @@ module _ {S V A Q R : Type 0} (w : Behind S V A Q R) (c : Clearing V A) (p : Pla
   abbrev r : Esc.Registers
   r = t.node.registers
 
-  abbrev comes : List _
+  abbrev comes : List Raw.Datagram
   comes = come_to t.before t.datagrams
 
   reached : is_reached t ≡ true

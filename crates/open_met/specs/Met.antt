@@ -20,8 +20,8 @@ slave_on made sent m =
     if is_in_pace m.pace made then slave_steps m.services.exchange m.services.processor s else s
 
 -- WHAT CAME BACK TO ITS STATION is what it made of what was sent there, and its node is that slave
-pub record OpenMet {S V A Q R : Type 0} (sent back : List (Datagram Body)) (made : ℕ) (m : Member S V A Q R) (n : Node S) : Type 0 where
-  pub back : own m.spot.station back ≡ frame_after m.spot.station (slave_in m m.node) (own m.spot.station sent)
+pub record OpenMet {S V A Q R : Type 0} (sent came : List (Datagram Body)) (made : ℕ) (m : Member S V A Q R) (n : Node S) : Type 0 where
+  pub back : own m.spot.station came ≡ frame_after m.spot.station (slave_in m m.node) (own m.spot.station sent)
   pub node : slave_in m n ≡ slave_on made sent m
 
 -- of each that is open
