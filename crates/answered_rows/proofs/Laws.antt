@@ -1,6 +1,6 @@
 -- The laws at the life of a slave.
 use Rattle.std.proofs.Common.{◌≡◌, ℕ, false, Bool, Option, Some, None, List, [], refl, sym, ap, ◌∙◌, subst}
-use Rattle.exchange_model.specs.Exchange.{Exchange, IsLawful}
+use Rattle.exchange_model.specs.Exchange.{Exchange, Speech, IsLawful}
 use Rattle.exchange_model.specs.Rows.{Row, left}
 use Rattle.life_model.specs.Eras.{EraIs}
 use Rattle.life_model.specs.Lives.{Spot, Era, era_next, granted}
@@ -15,7 +15,7 @@ use Rattle.state_model.specs.States.{Table}
 use Rattle.task_model.specs.Accounts.{Account, Pick, account_begins, mails_begin, starts}
 use Rattle.answered_rows.specs.Moments.{IsFree, HasNothing, HeldStill, NowAnswered, NoneLeft}
 use Rattle.answered_rows.proofs.Eras.{of_era}
-use Rattle.answered_rows.proofs.Ready.{ready, begun_none}
+use Rattle.answered_rows.proofs.Ready.{ready, begun_none, state_free}
 use Rattle.answered_rows.proofs.Seats.{answered_known, free}
 
 module _ {V A M Q R : Type 0} (x : Exchange V A M Q R) (s : Stated V A Q) (processor : Processor V) (table : ℕ → Table) (spot : Spot) (e : Era M Q R) (opened last : ℕ) (fs : List (Frame M)) (v : V) (r : Registers) (slave : Slave V M)
@@ -54,11 +54,18 @@ module _ {V A M Q R : Type 0} (x : Exchange V A M Q R) (s : Stated V A Q) (proce
       let Goal : Option Q → Type 0 = λ w. (let d = side_next x.speech frame e.side (record { begin = w; hold = p.hold }) in let k = side_back x.speech frame station back d in HeldStill station back d k → IsFree x.speech s.acknowledged k → IsFree x.speech s.acknowledged e.side) in
       subst Goal (sym wish) (λ g f. ready x.speech s.acknowledged e.side said (λ row now answer has quiet. answered hand row now answer has quiet) frame station back e.side.halves.out.holding p.hold g f) h free_
 
-pub begun : {V A M Q R : Type 0} (x : Exchange V A M Q R) (acknowledged : Q → Bool) (more : M → Bool) (passed : Q → Bool) (e : Era M Q R) (frame : ℕ) (pick : Pick Q) (q : Q) (station : ℕ) (back : List (Datagram M)) → IsLawful x → e.passing ≡ None → e.account.hand ≡ None → pick.begin ≡ Some (Service.Mails q) →
-    (let u = era_next x.speech acknowledged more passed frame e pick in let k = side_back x.speech frame station back u.side in u.account.started ≡ starts e.account (Service.Mails q) frame → HeldStill station back u.side k → IsFree x.speech acknowledged k → ⊥)
-begun {M = M} {Q = Q} x acknowledged more passed e frame pick q station back law unpassed hand wish took h f =
+pub begun : {M Q R : Type 0} (x : Speech M Q R) (acknowledged : Q → Bool) (more : M → Bool) (passed : Q → Bool) (e : Era M Q R) (frame : ℕ) (pick : Pick Q) (q : Q) (station : ℕ) (back : List (Datagram M)) → x.ends q [] ≡ None → e.passing ≡ None → pick.begin ≡ Some (Service.Mails q) →
+    (let u = era_next x acknowledged more passed frame e pick in let k = side_back x frame station back u.side in u.account.started ≡ starts e.account (Service.Mails q) frame → HeldStill station back u.side k → IsFree x acknowledged k → ⊥)
+begun {M} {Q} {R} x acknowledged more passed e frame pick q station back silent unpassed wish took h f =
     let p = granted e.passing pick in
     let began : p.begin ≡ Some (Service.Mails q) = ap (λ z. (granted z pick).begin) unpassed ∙ wish in
-    let Goal : Option (Service Q) → Type 0 = λ b. ((account_begins x.speech acknowledged frame e.side e.account e.account.hand b).started ≡ starts e.account (Service.Mails q) frame →
-    (let u = side_next x.speech frame e.side (record { begin = mails_begin e.account.hand b; hold = p.hold }) in let k = side_back x.speech frame station back u in HeldStill station back u k → IsFree x.speech acknowledged k → ⊥)) in
-    subst Goal (sym began) (begun_none x law acknowledged e frame p.hold q station back e.account.hand hand) took h f
+    let Goal : Option (Service Q) → Type 0 = λ b. ((account_begins x acknowledged frame e.side e.account e.account.hand b).started ≡ starts e.account (Service.Mails q) frame →
+    (let u = side_next x frame e.side (record { begin = mails_begin e.account.hand b; hold = p.hold }) in let k = side_back x frame station back u in HeldStill station back u k → IsFree x acknowledged k → ⊥)) in
+    subst Goal (sym began) (begun_none x acknowledged q silent e frame p.hold station back e.account.hand) took h f
+
+pub state : {M Q R : Type 0} (x : Speech M Q R) (acknowledged : Q → Bool) (more : M → Bool) (passed : Q → Bool) (e : Era M Q R) (frame : ℕ) (pick : Pick Q) (target : ℕ) → e.passing ≡ None → pick.begin ≡ Some (Service.State target) →
+    (era_next x acknowledged more passed frame e pick).account.started ≡ starts e.account (Service.State target) frame → (e.account.hand ≡ None) × IsFree x acknowledged e.side
+state {M} {Q} {R} x acknowledged more passed e frame pick target unpassed wish took =
+    let began : (granted e.passing pick).begin ≡ Some (Service.State target) = ap (λ z. (granted z pick).begin) unpassed ∙ wish in
+    let Goal : Option (Service Q) → Type 0 = λ b. ((account_begins x acknowledged frame e.side e.account e.account.hand b).started ≡ starts e.account (Service.State target) frame → (e.account.hand ≡ None) × IsFree x acknowledged e.side) in
+    subst Goal (sym began) (state_free x acknowledged frame e.side e.account target e.account.hand) took

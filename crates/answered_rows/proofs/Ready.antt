@@ -1,13 +1,13 @@
 -- Whether a service may begin behind a visit that brought nothing.
 use Rattle.std.proofs.Common.{◌≡◌, ◌≢◌, ℕ, ◌&&◌, Bool, true, false, not, is_none, is_some, Option, Some, None, option_map, List, [], ◌∷◌, ◌++◌, length, length-append, refl, sym, ap, ◌∙◌, arith, append-nil, if◌then◌else◌}
-use Rattle.exchange_model.specs.Exchange.{Exchange, Speech, IsLawful, plain}
+use Rattle.exchange_model.specs.Exchange.{Speech, plain}
 use Rattle.exchange_model.specs.Rows.{Row, answer_after, begun, left, row_heard, row_told}
 use Rattle.life_model.specs.Lives.{Era}
 use Rattle.link_model.specs.Mails.{LinkMail}
 use Rattle.segment_model.specs.Seats.{Side, is_over, is_none_left, side_back, side_begins, side_holds, side_next, next_mail}
 use Rattle.segment_model.specs.Slaves.{Datagram}
 use Rattle.state_exchange.specs.Stated.{Service}
-use Rattle.task_model.specs.Accounts.{Account, Duty, account_begins, is_free, is_acknowledged, mails_begin, starts}
+use Rattle.task_model.specs.Accounts.{Account, Duty, account_begins, is_free, is_acknowledged, mails_begin, starts, state_begins}
 use Rattle.answered_rows.specs.Moments.{IsFree, HeldStill, NowAnswered}
 
 and_parts : (a b : Bool) → (a && b) ≡ true → (a ≡ true) × (b ≡ true)
@@ -90,46 +90,62 @@ module _ {M Q R : Type 0} (x : Speech M Q R) (acknowledged : Q → Bool) where
     pub ready : (frame station : ℕ) (back : List (Datagram M)) (holding : Option (LinkMail M)) (hold : Bool) → (let u = side_holds d (next_mail x d.now holding hold) in let k = side_back x frame station back u in HeldStill station back u k → IsFree x acknowledged k → IsFree x acknowledged d)
     ready frame station back holding hold h free = free_at d d.now refl (λ r now. told_by frame station back r now (next_mail x d.now holding hold) h free)
 
-module _ {V A M Q R : Type 0} (x : Exchange V A M Q R) (law : IsLawful x) (acknowledged : Q → Bool) where
-  -- ---- A SERVICE BY MAILS BEGAN: it has no answer
-  new_row : (holding : Option (LinkMail M)) (fresh : Bool) (r : Row M Q R) → holding ≢ None → r.answer ≡ None → is_over x.speech holding fresh r ≡ true → ⊥
+-- ---- A SERVICE BY MAILS BEGAN: it has no answer
+module _ {M Q R : Type 0} (x : Speech M Q R) (acknowledged : Q → Bool) (q : Q) (silent : x.ends q [] ≡ None) where
+  new_row : (holding : Option (LinkMail M)) (fresh : Bool) (r : Row M Q R) → holding ≢ None → r.answer ≡ None → is_over x holding fresh r ≡ true → ⊥
   new_row holding fresh r some none over =
-      go (x.speech.handed r.service) (and_parts (is_none_left (left x.speech r)) (if x.speech.handed r.service then is_none holding else is_some r.answer && not fresh) over).1
+      go (x.handed r.service) (and_parts (is_none_left (left x r)) (if x.handed r.service then is_none holding else is_some r.answer && not fresh) over).1
     where
       go : (b : Bool) → (if b then is_none holding else is_some r.answer && not fresh) ≡ true → ⊥
       go true e = not_held holding some e
       go false e = absurd (let no : false ≡ true = sym (ap (λ (o : Option (R × ℕ)). is_some o && not fresh) none) ∙ e in cc)
 
-  new_behind : (frame station : ℕ) (back : List (Datagram M)) (u : Side M Q R) (r : Row M Q R) → u.now ≡ Some r → r.answer ≡ None → r.heard ≡ [] →
-      (let k = side_back x.speech frame station back u in HeldStill station back u k → IsFree x.speech acknowledged k → ⊥)
-  new_behind frame station back u r now none quiet h free =
-      let k = side_back x.speech frame station back u in
-      let z : k.now ≡ Some (row_heard x.speech frame [] r) = ap (λ ms. option_map (λ r. row_heard x.speech frame ms r) u.now) h.nothing ∙ ap (option_map (λ r. row_heard x.speech frame [] r)) now in
-      let answer : (row_heard x.speech frame [] r).answer ≡ None = ap (λ l. answer_after frame r.answer (x.speech.ends r.service (plain x.speech.emission (l ++ [])))) quiet ∙ ap (answer_after frame r.answer) (law.none r.service) ∙ ap (λ o. answer_after frame o None) none in
-      new_row k.halves.out.holding k.fresh (row_heard x.speech frame [] r) h.held answer (sym (ap (is_free x.speech k) z) ∙ free.free)
+  new_behind : (frame station : ℕ) (back : List (Datagram M)) (u : Side M Q R) (r : Row M Q R) → u.now ≡ Some r → r.service ≡ q → r.answer ≡ None → r.heard ≡ [] →
+      (let k = side_back x frame station back u in HeldStill station back u k → IsFree x acknowledged k → ⊥)
+  new_behind frame station back u r now service none quiet h free =
+      let k = side_back x frame station back u in
+      let z : k.now ≡ Some (row_heard x frame [] r) = ap (λ ms. option_map (λ r. row_heard x frame ms r) u.now) h.nothing ∙ ap (option_map (λ r. row_heard x frame [] r)) now in
+      let answer : (row_heard x frame [] r).answer ≡ None =
+      ap (λ l. answer_after frame r.answer (x.ends r.service (plain x.emission (l ++ [])))) quiet ∙ ap (λ z. answer_after frame r.answer (x.ends z [])) service ∙ ap (answer_after frame r.answer) silent ∙ ap (λ o. answer_after frame o None) none in
+      new_row k.halves.out.holding k.fresh (row_heard x frame [] r) h.held answer (sym (ap (is_free x k) z) ∙ free.free)
 
-  new_told : (frame station : ℕ) (back : List (Datagram M)) (e : Side M Q R) (q : Q) → e.now ≡ Some (begun q frame) → (ms : List M) →
-      (let u = side_holds e ms in let k = side_back x.speech frame station back u in HeldStill station back u k → IsFree x.speech acknowledged k → ⊥)
-  new_told frame station back e q now [] h free = new_behind frame station back e (begun q frame) now refl refl h free
-  new_told frame station back e q now (m ∷ ms) h free = new_behind frame station back (side_holds e (m ∷ ms)) (row_told m (begun q frame)) (ap (option_map (λ z. row_told m z)) now) refl refl h free
+  new_told : (frame station : ℕ) (back : List (Datagram M)) (e : Side M Q R) → e.now ≡ Some (begun q frame) → (ms : List M) →
+      (let u = side_holds e ms in let k = side_back x frame station back u in HeldStill station back u k → IsFree x acknowledged k → ⊥)
+  new_told frame station back e now [] h free = new_behind frame station back e (begun q frame) now refl refl refl h free
+  new_told frame station back e now (m ∷ ms) h free = new_behind frame station back (side_holds e (m ∷ ms)) (row_told m (begun q frame)) (ap (option_map (λ z. row_told m z)) now) refl refl refl h free
 
   -- it came into hand
   not_longer : {X : Type 0} (xs : List X) (y : X) → xs ≡ xs ++ y ∷ [] → ⊥
   not_longer xs y e = absurd (omega (arith, ap length e, length-append xs (y ∷ [])))
 
-  took_free : (frame : ℕ) (d : Side M Q R) (a : Account Q R) (q : Q) (b : Bool) → (if b then record a { started = starts a (Service.Mails q) frame } else a).started ≡ starts a (Service.Mails q) frame → b ≡ true
-  took_free frame d a q true e = refl
-  took_free frame d a q false e = absurd (not_longer a.started (record { service = Service.Mails q; frame = frame }) e)
+  took_free : (frame : ℕ) (a : Account Q R) (b : Bool) → (if b then record a { started = starts a (Service.Mails q) frame } else a).started ≡ starts a (Service.Mails q) frame → b ≡ true
+  took_free frame a true e = refl
+  took_free frame a false e = absurd (not_longer a.started (record { service = Service.Mails q; frame = frame }) e)
 
-  began_now : (frame : ℕ) (d : Side M Q R) (now : Option (Row M Q R)) (q : Q) → (x.speech.valid q && is_free x.speech d now) ≡ true → (side_begins x.speech frame d now (Some q)).now ≡ Some (begun q frame)
-  began_now frame d None q e = ap (λ (b : Bool). (if b then record d { now = Some (begun q frame) } else d).now) (and_parts (x.speech.valid q) true e).0
-  began_now frame d (Some r) q e = ap (λ (b : Bool). (if b then record d { past = d.past ++ r ∷ []; now = Some (begun q frame) } else d).now) e
+  began_now : (frame : ℕ) (d : Side M Q R) (now : Option (Row M Q R)) → (x.valid q && is_free x d now) ≡ true → (side_begins x frame d now (Some q)).now ≡ Some (begun q frame)
+  began_now frame d None e = ap (λ (b : Bool). (if b then record d { now = Some (begun q frame) } else d).now) (and_parts (x.valid q) true e).0
+  began_now frame d (Some r) e = ap (λ (b : Bool). (if b then record d { past = d.past ++ r ∷ []; now = Some (begun q frame) } else d).now) e
 
-  pub begun_none : (e : Era M Q R) (frame : ℕ) (hold : Bool) (q : Q) (station : ℕ) (back : List (Datagram M)) (hand : Option Duty) → hand ≡ None →
-      (account_begins x.speech acknowledged frame e.side e.account hand (Some (Service.Mails q))).started ≡ starts e.account (Service.Mails q) frame →
-      (let u = side_next x.speech frame e.side (record { begin = mails_begin hand (Some (Service.Mails q)); hold = hold }) in let k = side_back x.speech frame station back u in HeldStill station back u k → IsFree x.speech acknowledged k → ⊥)
-  begun_none e frame hold q station back (Some duty) none took h free = absurd (cc)
-  begun_none e frame hold q station back None none took h free =
-      let began = side_begins x.speech frame e.side e.side.now (Some q) in
-      let may = took_free frame e.side e.account q (x.speech.valid q && is_free x.speech e.side e.side.now) took in
-      new_told frame station back began q (began_now frame e.side e.side.now q may) (next_mail x.speech began.now began.halves.out.holding hold) h free
+  pub begun_none : (e : Era M Q R) (frame : ℕ) (hold : Bool) (station : ℕ) (back : List (Datagram M)) (hand : Option Duty) →
+      (account_begins x acknowledged frame e.side e.account hand (Some (Service.Mails q))).started ≡ starts e.account (Service.Mails q) frame →
+      (let u = side_next x frame e.side (record { begin = mails_begin hand (Some (Service.Mails q)); hold = hold }) in let k = side_back x frame station back u in HeldStill station back u k → IsFree x acknowledged k → ⊥)
+  begun_none e frame hold station back (Some duty) took h free = not_longer e.account.started (record { service = Service.Mails q; frame = frame }) took
+  begun_none e frame hold station back None took h free =
+      let began = side_begins x frame e.side e.side.now (Some q) in
+      let may = took_free frame e.account (x.valid q && is_free x e.side e.side.now) took in
+      new_told frame station back began (began_now frame e.side e.side.now may) (next_mail x began.now began.halves.out.holding hold) h free
+
+-- ---- A STATE SERVICE BEGAN: it might
+module _ {M Q R : Type 0} (x : Speech M Q R) (acknowledged : Q → Bool) (frame : ℕ) (d : Side M Q R) (a : Account Q R) (target : ℕ) where
+  same_not : a.started ≡ starts a (Service.State target) frame → ⊥
+  same_not e = absurd (omega (arith, ap length e, length-append a.started (record { service = Service.State target; frame = frame } ∷ [])))
+
+  took_state : (b : Bool) → (if b then state_begins a target frame else a).started ≡ starts a (Service.State target) frame → b ≡ true
+  took_state true e = refl
+  took_state false e = absurd (same_not e)
+
+  pub state_free : (hand : Option Duty) → (account_begins x acknowledged frame d a hand (Some (Service.State target))).started ≡ starts a (Service.State target) frame → (hand ≡ None) × IsFree x acknowledged d
+  state_free (Some duty) took = absurd (same_not took)
+  state_free None took =
+      let both = and_parts (is_free x d d.now) (is_acknowledged acknowledged d d.now) (took_state (is_free x d d.now && is_acknowledged acknowledged d d.now) took) in
+      (refl, record { free = both.0; done = both.1 })

@@ -3,7 +3,7 @@
 #![tactic(auto)]
 
 ghost use Rattle.std.specs.Prelude.{◌≡◌, ◌++◌, ◌∷◌, ℕ, false, Bool, Option, Some, None, List, []};
-ghost use Rattle.exchange_model.specs.Exchange.{Exchange, IsLawful};
+ghost use Rattle.exchange_model.specs.Exchange.{Exchange, Speech, IsLawful};
 ghost use Rattle.exchange_model.specs.Rows.{Row, left};
 ghost use Rattle.life_model.specs.Eras.{EraIs};
 ghost use Rattle.life_model.specs.Lives.{Spot, Era, era_next};
@@ -34,6 +34,9 @@ pub fn ready_law<V, A, M, Q, R>()
     ensures before { (x : Exchange V A M Q R) (s : Stated V A Q) (processor : Processor V) (table : ℕ → Table) (spot : Spot) (e : Era M Q R) (opened last : ℕ) (fs : List (Frame M)) (v : V) (r : Registers) (slave : Slave V M) → IsLawful x → IsStated x s → EraIs x s processor table spot e opened last fs v r slave →
         (more : M → Bool) (passed : Q → Bool) (frame : ℕ) (pick : Pick Q) (station : ℕ) (back : List (Datagram M)) → NowAnswered x.speech e.side → e.account.hand ≡ None → pick.begin ≡ None →
         (let d = (era_next x.speech s.acknowledged more passed frame e pick).side in let k = side_back x.speech frame station back d in HeldStill station back d k → IsFree x.speech s.acknowledged k → IsFree x.speech s.acknowledged e.side) }
-    ensures begun { (x : Exchange V A M Q R) (acknowledged : Q → Bool) (more : M → Bool) (passed : Q → Bool) (e : Era M Q R) (frame : ℕ) (pick : Pick Q) (q : Q) (station : ℕ) (back : List (Datagram M)) → IsLawful x → e.passing ≡ None → e.account.hand ≡ None → pick.begin ≡ Some (Service.Mails q) →
-        (let u = era_next x.speech acknowledged more passed frame e pick in let k = side_back x.speech frame station back u.side in u.account.started ≡ starts e.account (Service.Mails q) frame → HeldStill station back u.side k → IsFree x.speech acknowledged k → ⊥) }
+    ensures begun { (x : Speech M Q R) (acknowledged : Q → Bool) (more : M → Bool) (passed : Q → Bool) (e : Era M Q R) (frame : ℕ) (pick : Pick Q) (q : Q) (station : ℕ) (back : List (Datagram M)) → x.ends q [] ≡ None → e.passing ≡ None → pick.begin ≡ Some (Service.Mails q) →
+        (let u = era_next x acknowledged more passed frame e pick in let k = side_back x frame station back u.side in u.account.started ≡ starts e.account (Service.Mails q) frame → HeldStill station back u.side k → IsFree x acknowledged k → ⊥) }
+    // A state service that comes into hand might.
+    ensures state { (x : Speech M Q R) (acknowledged : Q → Bool) (more : M → Bool) (passed : Q → Bool) (e : Era M Q R) (frame : ℕ) (pick : Pick Q) (target : ℕ) → e.passing ≡ None → pick.begin ≡ Some (Service.State target) →
+        (era_next x acknowledged more passed frame e pick).account.started ≡ starts e.account (Service.State target) frame → (e.account.hand ≡ None) × IsFree x acknowledged e.side }
 {}

@@ -1,0 +1,1 @@
+pub use Rattle.never_waits.specs as of_never_waits

@@ -1,0 +1,77 @@
+-- By a master's rule at a visit: where a state service might begin behind a write in vain, none is left.
+use Rattle.std.proofs.Common.{◌≡◌, ℕ, ◌&&◌, Bool, true, false, Option, Some, None, List, [], ◌∷◌, ◌++◌, length, length-append, refl, sym, ap, ◌∙◌, subst, arith, if◌then◌else◌}
+use Rattle.answered_rows.specs.Moments.{IsFree, HeldStill, NowAnswered}
+use Rattle.answered_rows.proofs.Laws.{answered, begun}
+use Rattle.answered_rows.proofs.Ready.{ready}
+use Rattle.exchange_model.specs.Exchange.{Exchange, Speech, IsLawful}
+use Rattle.exchange_model.specs.Rows.{Row, left}
+use Rattle.held_visits.specs.Held.{Took}
+use Rattle.life_model.specs.Eras.{EraIs}
+use Rattle.life_model.specs.Lives.{Spot, Era, era_next, granted}
+use Rattle.named_lives.specs.Alike.{Alike, RowIs, WishIs}
+use Rattle.named_waits.proofs.Alike.{left_same, in_hand}
+use Rattle.segment_model.specs.Ends.{Passing}
+use Rattle.segment_model.specs.Record.{Frame}
+use Rattle.segment_model.specs.Seats.{Side, side_back, side_next}
+use Rattle.segment_model.specs.Slaves.{Datagram, Processor, Registers, Slave}
+use Rattle.state_exchange.specs.Stated.{Stated, IsStated, Service}
+use Rattle.state_model.specs.States.{Table}
+use Rattle.task_model.specs.Accounts.{Account, Duty, Pick, account_begins, is_free, is_acknowledged, mails_begin, starts, state_begins}
+
+granted_none : {Q : Type 0} (passing : Option Passing) (pick : Pick Q) → pick.begin ≡ None → (granted passing pick).begin ≡ None
+granted_none None pick none = none
+granted_none (Some p) pick none = refl
+
+-- a state service that began is in hand
+module _ {M Q R : Type 0} (x : Speech M Q R) (acknowledged : Q → Bool) (frame : ℕ) (d : Side M Q R) (a : Account Q R) (target : ℕ) where
+  same_not : a.started ≡ starts a (Service.State target) frame → ⊥
+  same_not e = absurd (omega (arith, ap length e, length-append a.started (record { service = Service.State target; frame = frame } ∷ [])))
+
+  some_hand : (b : Bool) → (if b then state_begins a target frame else a).started ≡ starts a (Service.State target) frame → (if b then state_begins a target frame else a).hand ≡ None → ⊥
+  some_hand true e none = absurd (cc)
+  some_hand false e none = same_not e
+
+  state_hand : (hand : Option Duty) → (account_begins x acknowledged frame d a hand (Some (Service.State target))).started ≡ starts a (Service.State target) frame → (account_begins x acknowledged frame d a hand (Some (Service.State target))).hand ≡ None → ⊥
+  state_hand (Some duty) took none = same_not took
+  state_hand None took none = some_hand (is_free x d d.now && is_acknowledged acknowledged d d.now) took none
+
+module _ {V A M Q R : Type 0} (x : Exchange V A M Q R) (s : Stated V A Q) (processor : Processor V) (table : ℕ → Table) (spot : Spot) (e : Era M Q R) (opened last : ℕ) (fs : List (Frame M)) (v : V) (r : Registers) (slave : Slave V M)
+    (law : IsLawful x) (stated : IsStated x s) (lived : EraIs x s processor table spot e opened last fs v r slave) (is : Q → Bool) (y : Speech M Q R) (same : Alike is y x.speech) (row : RowIs is e.side.now) (said : NowAnswered y e.side) (unpassed : e.passing ≡ None) where
+  known : e.account.hand ≡ None → (t : Row M Q R) → e.side.now ≡ Some t → (answer : R × ℕ) → t.answer ≡ Some answer → s.acknowledged t.service ≡ false → (left y t ≡ []) × (e.side.fresh ≡ false)
+  known hand t now answer has quiet =
+      let k = answered x s processor table spot e opened last fs v r slave law stated lived hand t now answer has quiet in
+      (left_same is y x.speech same e.side t (in_hand is y x.speech same e.side e.side.now row t now) ∙ k.0, k.1)
+
+  module _ (more : M → Bool) (passed : Q → Bool) (frame : ℕ) (pick : Pick Q) (station : ℕ) (back : List (Datagram M)) (Left : Type 0) where
+    abbrev u : Era M Q R
+    u = era_next y s.acknowledged more passed frame e pick
+
+    abbrev k : Side M Q R
+    k = side_back y frame station back u.side
+
+    abbrev grant : Pick Q
+    grant = granted e.passing pick
+
+    before : e.account.hand ≡ None → pick.begin ≡ None → HeldStill station back u.side k → IsFree y s.acknowledged k → IsFree y s.acknowledged e.side
+    before hand none h f =
+        let wish : mails_begin e.account.hand grant.begin ≡ None = ap (mails_begin e.account.hand) (granted_none e.passing pick none) in
+        let Goal : Option Q → Type 0 = λ w. (let d = side_next y frame e.side (record { begin = w; hold = grant.hold }) in let j = side_back y frame station back d in HeldStill station back d j → IsFree y s.acknowledged j → IsFree y s.acknowledged e.side) in
+        subst Goal (sym wish) (λ g free. ready y s.acknowledged e.side said (known hand) frame station back e.side.halves.out.holding grant.hold g free) h f
+
+    by_begin : (w : Option (Service Q)) → pick.begin ≡ w → (IsFree y s.acknowledged e.side → e.account.hand ≡ None → pick.begin ≡ None → Left) → Took y s.acknowledged is more passed frame e pick →
+        u.account.hand ≡ None → HeldStill station back u.side k → IsFree y s.acknowledged k → Left
+    by_begin None wish rule took none h f =
+        let hand : e.account.hand ≡ None = sym (ap (λ z. (account_begins y s.acknowledged frame e.side e.account e.account.hand z).hand) (granted_none e.passing pick wish)) ∙ none in
+        rule (before hand wish h f) hand wish
+    by_begin (Some (Service.Mails q)) wish rule took none h f =
+        let one = took (Service.Mails q) wish in
+        absurd (begun y s.acknowledged more passed e frame pick q station back (same.ends q [] one.0 ∙ law.none q) unpassed wish one.1 h f)
+    by_begin (Some (Service.State target)) wish rule took none h f =
+        let began : grant.begin ≡ Some (Service.State target) = ap (λ z. (granted z pick).begin) unpassed ∙ wish in
+        let one = took (Service.State target) wish in
+        absurd (state_hand y s.acknowledged frame e.side e.account target e.account.hand
+            (sym (ap (λ z. (account_begins y s.acknowledged frame e.side e.account e.account.hand z).started) began) ∙ one.1)
+            (sym (ap (λ z. (account_begins y s.acknowledged frame e.side e.account e.account.hand z).hand) began) ∙ none))
+
+    pub ends : (IsFree y s.acknowledged e.side → e.account.hand ≡ None → pick.begin ≡ None → Left) → Took y s.acknowledged is more passed frame e pick → u.account.hand ≡ None → HeldStill station back u.side k → IsFree y s.acknowledged k → Left
+    ends = by_begin pick.begin refl
