@@ -327,7 +327,8 @@ module _ {V A : Type 0} (ex : Exchange V A Body Asked Reply) (processor : Proces
           }
 
       -- ---- WHAT IT IS BEHIND THE FRAME
-      module _ (t : Waits) (next' : Option Plan.Service) (gets : GetsNone m n) (script : next ≡ None → next' ≡ None) (link : HasLink c.life.era.side s) (frees : LifeSpent v c.life s.node → NoneLeft (x c.spot) c.life → MayBegin (x c.spot) c.life) where
+      module _ (t : Waits) (next' : Option Plan.Service) (gets : GetsNone m n) (script : next ≡ None → next' ≡ None) (link : HasLink c.life.era.side s) (frees : LifeSpent v c.life s.node → NoneLeft (x c.spot) c.life → MayBegin (x c.spot) c.life)
+          (settles : u.under ≡ true → IsClear u.life → u.life.era.side.halves.out.holding ≡ None → u.life.era.account.hand ≡ None → begun ≡ None) where
         abbrev on : Waits
         on = waits_on number c u t
 
@@ -380,7 +381,7 @@ module _ {V A : Type 0} (ex : Exchange V A Body Asked Reply) (processor : Proces
           ends_now : u.under ≡ true → 1 ≤ t.tries → IsAtEnd next m
           ends_now e one =
               let spent = second v (x c.spot) acknowledged more passed number c.spot [] back u.came u.life s.node m.memory t c.life (chose t k.waits link) (row t k.waits link) (came t k.waits link e) (same t k.waits link) one in
-              eager.ends e clear_before (frees spent.0 (none_left spent.0)) (sym (ap (λ (h : Halves Body). h.out.holding) spent.1.shows.halves) ∙ spent.1.spent.held) spent.1.shows.hand
+              eager.ends e clear_before (frees spent.0 (none_left spent.0)) (settles e (clear t k.waits link) (sym (ap (λ (h : Halves Body). h.out.holding) spent.1.shows.halves) ∙ spent.1.spent.held) spent.1.shows.hand)
 
           at_end : (under stepped : Bool) → u.under ≡ under → t.stepped ≡ stepped → 2 ≤ (if under && stepped then suc t.tries else t.tries) → IsAtEnd next m
           at_end true true e g two = ends_now e (omega (arith, two))

@@ -68,12 +68,12 @@ pub record IsAtEnd (next : Option Plan.Service) (m : Remembered) : Type 0 where
   pub packet : m.packet ≡ false
 
 -- AT ONE FRAME, from the life `old` to `new` before it: nothing comes into hand without a visit; the datagram of a visit is the one that goes on; behind it
--- no mail is left that could be held, and where a service might begin and nothing is in hand, none is left
+-- no mail is left that could be held, and where a service might begin and none did, none is left
 pub record IsEager (x : Speech Body Asked Reply) (station : ℕ) (sent : List (Datagram Body)) (m : Remembered) (under : Bool) (begun : Option (Service Asked)) (next : Option Plan.Service) (old new : Life Body Asked Reply) : Type 0 where
   pub begins : under ≡ false → begun ≡ None
   pub asks : IsClear new → EachAsksFor new.era.side.halves (memory_of old new m.memory) new.era.account.hand (own station sent)
   pub takes : under ≡ true → IsClear new → new.era.side.halves.out.holding ≡ None → NoneLeft x new
-  pub ends : under ≡ true → IsClear old → MayBegin x old → new.era.side.halves.out.holding ≡ None → new.era.account.hand ≡ None → IsAtEnd next m
+  pub ends : under ≡ true → IsClear old → MayBegin x old → begun ≡ None → IsAtEnd next m
 
 -- what came back of a visit in vain: mailbox 0 was full, or mailbox 1 empty
 abbrev pub IsInVain : Visit → Datagram Body → Type 0
