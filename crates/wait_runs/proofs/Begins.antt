@@ -117,8 +117,8 @@ module _ (plan : Scenario) (fs : List Exchanged) (place : ℕ) (s : SlaveSpec) (
           tries = refl;
         }) clear
       where
-        by : (b : Bool) → (if b then 1 else 0) ≡ 0 → b ≡ false
-        by true e = absurd (let one : 1 ≡ 0 = e in omega (arith, one))
+        by : (b : Bool) → (let n : ℕ = (if b then 1 else 0) in n ≡ 0) → b ≡ false
+        by true e = absurd (omega (arith, e))
         by false e = refl
 
     by_hand : a.lived.life.stand ≡ Stand.Open → a.lived.life.era.side.halves.inn.state ≡ InState.Clear → (h : Option Duty) → a.lived.life.era.account.hand ≡ h → duty_reopens a.lived.life.era.account.hand ≡ 0 → Stands

@@ -1,5 +1,6 @@
 mod Frees
 mod Begins
+mod Took
 mod One
 mod Lists
 mod Walk

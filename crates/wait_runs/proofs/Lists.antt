@@ -2,6 +2,7 @@
 use Rattle.std.proofs.Common.{◌≡◌, ◌⊎◌, ◌≤◌, ◌<◌, ℕ, zero, suc, ◌+◌, Bool, true, false, Option, Some, None, List, [], ◌∷◌, map, length, refl, sym, ap, ◌∙◌, subst, arith, if◌then◌else◌, inl, inr}
 use Rattle.std.specs.Prelude.{slice_get, All, ⊤, nat_lt}
 use Rattle.std.proofs.lemmas.Bool.{le-ltb, ltb-false}
+use Rattle.std.proofs.lemmas.List.Elements.{All-head, All-tail}
 use Rattle.datagrams.specs.Datagram as Raw
 use Rattle.eager_slaves.specs.Eager.{Remembered, AllEager, AllRemember, AllUnpaused, AllGetNone}
 use Rattle.eager_slaves.specs.Standing.{Standing}
@@ -40,11 +41,11 @@ use Rattle.wait_runs.specs.Eager.{AllRest, AllUnpassed}
 use Rattle.wait_runs.proofs.Begins.{begins}
 use Rattle.wait_runs.proofs.One.{stands_on}
 
-abbrev Slave : Type 0
+abbrev pub Slave : Type 0
 Slave = Clocked Body Asked Reply
 
 -- ---- NOTHING WAS GAINED, of none
-still_same : (repair : ℕ) (before behind : List Slave) (still : ℕ) → still_behind repair before behind still ≡ suc still → (repair ≡ 0) × (gains_all behind ≤ gains_all before)
+pub still_same : (repair : ℕ) (before behind : List Slave) (still : ℕ) → still_behind repair before behind still ≡ suc still → (repair ≡ 0) × (gains_all behind ≤ gains_all before)
 still_same repair before behind still e = first (nat_lt (reopened_all before) (reopened_all behind)) e
   where
     third : (b : Bool) → nat_lt (gains_all before) (gains_all behind) ≡ b → (if b then 0 else suc still) ≡ suc still → gains_all behind ≤ gains_all before
@@ -104,7 +105,15 @@ module _ (plan : Scenario) where
   AllStanding _ _ _ _ _ _ = ⊥
 
   abbrev pub NeverAll : List SlaveSpec → Type 0
-  NeverAll ss = All (λ (s : SlaveSpec). NeverWaits (asked (profile_of s) s.boot (lens_of plan.slaves)).exchange) ss
+  NeverAll [] = ⊤
+  NeverAll (s ∷ ss) = NeverWaits (asked (profile_of s) s.boot (lens_of plan.slaves)).exchange × NeverAll ss
+
+  abbrev NeverOne : SlaveSpec → Type 0
+  NeverOne s = NeverWaits (asked (profile_of s) s.boot (lens_of plan.slaves)).exchange
+
+  pub never_all : (ss : List SlaveSpec) → All (λ (s : SlaveSpec). NeverWaits (asked (profile_of s) s.boot (lens_of plan.slaves)).exchange) ss → NeverAll ss
+  never_all [] a = tt
+  never_all (s ∷ ss) a = (All-head NeverOne s ss a, never_all ss (All-tail NeverOne s ss a))
 
   -- ---- where something was gained just now
   pub all_begin : (fs : List Exchanged) (place : ℕ) (sent : List (Datagram Body)) (ss : List SlaveSpec) (as' : List Leads) (cs : List Slave) (us : List Turn) (ns : List (Node Serving)) (ms : List Remembered) → AllOpenAt plan fs place ss as' ns → AreLed as' cs →

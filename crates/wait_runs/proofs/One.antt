@@ -2,35 +2,38 @@
 use Rattle.std.proofs.Common.{◌≡◌, ◌⊎◌, ◌≤◌, ℕ, suc, ◌%◌, ◌==◌, Bool, true, false, Option, Some, None, List, [], length, refl, sym, ap, ◌∙◌, subst, if◌then◌else◌, inl, inr}
 use Rattle.std.specs.Prelude.{slice_get}
 use Rattle.datagrams.specs.Datagram as Raw
-use Rattle.eager_slaves.specs.Eager.{Remembered, NoneLeft, MayBegin, IsAtEnd, IsEager, RemembersOn, IsUnpausedBy, GetsNone}
+use Rattle.eager_slaves.specs.Eager.{Remembered, IsClear, NoneLeft, MayBegin, IsAtEnd, IsEager, RemembersOn, IsUnpausedBy, GetsNone}
 use Rattle.eager_slaves.specs.Standing.{Unvisited, Visited, Standing, IsDone}
 use Rattle.eager_slaves.proofs.Choices.{stand_next}
 use Rattle.eager_slaves.proofs.Sent.{One, one_sent, none_sent}
 use Rattle.eager_slaves.proofs.Slaves as Slaves
 use Rattle.eager_slaves.proofs.Slaves.{Frame}
 use Rattle.exchange_model.specs.Exchange.{Exchange, Speech}
+use Rattle.exchange_model.specs.Rows.{begun}
 use Rattle.frame_view.specs.Seen.{datagrams_seen}
 use Rattle.frame_view.specs.View.{Lens}
 use Rattle.idle_slaves.specs.Going.{Going}
 use Rattle.idle_slaves.specs.Links.{HasLink}
 use Rattle.idle_slaves.specs.Visited.{LifeSpent}
 use Rattle.life_measure.specs.Gains.{gains}
-use Rattle.life_model.specs.Lives.{Life, Spot, Stand, life_next, life_back}
+use Rattle.life_model.specs.Lives.{Life, Spot, Stand, life_next, life_back, granted}
 use Rattle.life_model.specs.Own.{own}
 use Rattle.life_runs.specs.First.{lens_of, spot_of}
-use Rattle.life_runs.specs.Led.{Exchanged, Leads, Turn, IsTurn, Comes, speech_at, is_passed}
+use Rattle.life_runs.specs.Led.{Exchanged, Leads, Turn, IsTurn, Comes, Took, speech_at, is_passed}
 use Rattle.link_mails.specs.Body.{Body}
 use Rattle.link_model.specs.Master.{InState as HalfState}
 use Rattle.master_duty.specs.Reply.{Reply}
 use Rattle.master_hand.specs.Spoken.{Asked, acknowledged, is_followed}
+use Rattle.named_lives.specs.Alike.{Alike, WishIs}
 use Rattle.never_waits.specs.Waits.{NeverWaits}
 use Rattle.plan_met.specs.Met.{slave_at, IsOpenAt, IsAt, IsMet}
-use Rattle.plan_ring.specs.Asked.{asked}
+use Rattle.plan_ring.specs.Asked.{asked, is_service}
 use Rattle.run_frames.specs.Clocks.{Clocked}
 use Rattle.run_frames.specs.Goes.{Under, back_life}
 use Rattle.run_frames.specs.Led.{under_of}
 use Rattle.run_frames.specs.Orders.{is_live}
 use Rattle.run_frames.specs.Waits.{Waits, waits_on}
+use Rattle.segment_model.specs.Seats.{Side, side_next}
 use Rattle.segment_model.specs.Slaves.{Datagram, Slave, serving, slave_after, slave_steps, frame_after}
 use Rattle.segment_plan.specs.declared.plan.Scenario.{Scenario}
 use Rattle.segment_plan.specs.declared.service.Service as Plan
@@ -45,9 +48,11 @@ use Rattle.state_exchange.specs.Families.{InState}
 use Rattle.state_exchange.specs.Stated.{Service}
 use Rattle.state_model.specs.States.{Table}
 use Rattle.states_come.specs.Steps.{StepsAlone}
+use Rattle.task_model.specs.Accounts.{Pick, account_begins, starts, mails_choice}
 use Rattle.wait_runs.specs.Eager.{IsResting}
 use Rattle.wait_runs.proofs.Begins.{link_at, alone_at}
 use Rattle.wait_runs.proofs.Frees.{frees, rests}
+use Rattle.wait_runs.proofs.Took.{first_mail, state_took, mails_took, begun_row, mails_is}
 
 -- a script at its end stays there
 script_end : (room : ℕ) (script : List Plan.Service) (n n' : ℕ) (begun : Option (Service Asked)) → Comes room script n begun n' → slice_get script n ≡ None → slice_get script n' ≡ None
@@ -140,7 +145,7 @@ module _ (plan : Scenario) (fs : List Exchanged) (place number : ℕ) (sent back
     z : IsMet lens sent back number c.pace s n k
     z = met stands_a
 
-    frame : Frame ex (asked (profile_of s) s.boot lens).processor table x acknowledged is_followed is_passed number sent back c v slave slave'
+    abbrev frame : Frame ex (asked (profile_of s) s.boot lens).processor table x acknowledged is_followed is_passed number sent back c v slave slave'
     frame = record {
       pick = turn.next.pick;
       life = life_is;
@@ -161,6 +166,48 @@ module _ (plan : Scenario) (fs : List Exchanged) (place number : ℕ) (sent back
     frees_c = subst (λ (l : Life Body Asked Reply). LifeSpent (serving ex) l slave.node → NoneLeft (x c.spot) l → MayBegin (x c.spot) l) (sym life)
         (subst (λ (y : Spot). LifeSpent (serving ex) a.lived.life slave.node → NoneLeft (x y) a.lived.life → MayBegin (x y) a.lived.life) (sym spot) (frees plan fs place s a n o never))
 
+    -- where nothing is in hand nothing began
+    unpassed_c : c.life.era.passing ≡ None
+    unpassed_c = ap (λ (l : Life Body Asked Reply). l.era.passing) life ∙ unpassed
+
+    wish : (granted c.life.era.passing turn.next.pick).begin ≡ u.begun
+    wish = ap (λ z. (granted z turn.next.pick).begin) unpassed_c ∙ turn.begun
+
+    abbrev pick : Pick Asked
+    pick = granted c.life.era.passing turn.next.pick
+
+    at_open : u.lived.life ≡ life_next (x c.spot) acknowledged is_followed is_passed number c.life Stand.Open turn.next.pick
+    at_open = life_is ∙ ap (λ y. life_next (x c.spot) acknowledged is_followed is_passed number c.life y turn.next.pick) stands
+
+    took : (w : Service Asked) → u.begun ≡ Some w → (account_begins (x c.spot) acknowledged number c.life.era.side c.life.era.account c.life.era.account.hand (Some w)).started ≡ starts c.life.era.account w number
+    took w e =
+        let grew : u.lived.life.era.account.started ≡ starts a.lived.life.era.account w number = subst (λ b. Took number a.lived.life.era.account u.lived.life.era.account b) e turn.took in
+        ap (λ b. (account_begins (x c.spot) acknowledged number c.life.era.side c.life.era.account c.life.era.account.hand b).started) (sym (wish ∙ e)) ∙ ap (λ (l : Life Body Asked Reply). l.era.account.started) (sym at_open) ∙ grew
+        ∙ ap (λ (l : Life Body Asked Reply). starts l.era.account w number) (sym life)
+
+    hand_is : (w : Service Asked) → u.begun ≡ Some w → (account_begins (x c.spot) acknowledged number c.life.era.side c.life.era.account c.life.era.account.hand (Some w)).hand ≡ u.lived.life.era.account.hand
+    hand_is w e = ap (λ b. (account_begins (x c.spot) acknowledged number c.life.era.side c.life.era.account c.life.era.account.hand b).hand) (sym (wish ∙ e)) ∙ ap (λ (l : Life Body Asked Reply). l.era.account.hand) (sym at_open)
+
+    first_left : {X : Type 0} (q : Asked) → u.begun ≡ Some (Service.Mails q) → u.lived.life.era.side.halves.out.holding ≡ None → NoneLeft (x c.spot) u.lived.life → X
+    first_left q e free left_none =
+        let k = mails_took (x c.spot) acknowledged number c.life.era.side c.life.era.account c.life.era.account.hand q (took (Service.Mails q) e) in
+        let side : u.lived.life.era.side ≡ side_next (x c.spot) number c.life.era.side (mails_choice c.life.era.account pick) = ap (λ (l : Life Body Asked Reply). l.era.side) at_open in
+        let now : u.lived.life.era.side.now ≡ Some (begun q number) =
+        ap (λ (d : Side Body Asked Reply). d.now) side
+        ∙ begun_row (x c.spot) acknowledged number c.life.era.side c.life.era.account q pick (wish ∙ e) k (ap (λ (d : Side Body Asked Reply). d.halves.out.holding) (sym side) ∙ free) in
+        let alike : Alike is_service (x c.spot) ex.speech = subst (λ (y : Spot). Alike is_service (x y) ex.speech) (sym spot) o.alike in
+        let is : is_service q ≡ true = mails_is (lens a.lived.spot.station).out a.script a.number q u.begun u.number turn.comes e in
+        first_mail ex o.lawful never o.lives.lives.epoch.server q o.lives.lives.epoch.is.plan.plan.ready.0 (sym (alike.valid q is) ∙ k.valid) (sym (alike.planned q [] is) ∙ left_none (begun q number) now)
+
+    settles : u.share.under ≡ true → IsClear u.lived.life → u.lived.life.era.side.halves.out.holding ≡ None → u.lived.life.era.account.hand ≡ None → u.begun ≡ None
+    settles e clear free none = by u.begun refl
+      where
+        by : (b : Option (Service Asked)) → u.begun ≡ b → b ≡ None
+        by None is = refl
+        by (Some (Service.State target)) is =
+            state_took (x c.spot) acknowledged number c.life.era.side c.life.era.account c.life.era.account.hand target (took (Service.State target) is) (hand_is (Service.State target) is ∙ none)
+        by (Some (Service.Mails q)) is = first_left q is free (eager_c.takes e clear free)
+
     rests_c : IsDone (serving ex) (x c.spot) c.life slave m (slice_get a.script a.number) → Rest
     rests_c d =
         inr (rests plan fs place s a n o never m stands_a
@@ -168,8 +215,8 @@ module _ (plan : Scenario) (fs : List Exchanged) (place number : ℕ) (sent back
 
     visited : (k : Visited (serving ex) (x c.spot) c.life slave.node m.memory t) → (t.stepped ≡ true → slave.registers.control ≡ None) → (2 ≤ t.tries → IsAtEnd (slice_get a.script a.number) m) → Behind × (WaitsYet ⊎ Rest)
     visited k control end = (
-      Slaves.visited_stands ex (asked (profile_of s) s.boot lens).processor table x acknowledged is_followed is_passed number sent back c v slave slave' frame m m' (slice_get a.script a.number) u.begun turn.begun eager_c unpaused remembers_c t (slice_get u.script u.number) gets script link frees_c k control end,
-      elim (Slaves.visited_waits ex (asked (profile_of s) s.boot lens).processor table x acknowledged is_followed is_passed number sent back c v slave slave' frame m m' (slice_get a.script a.number) u.begun turn.begun eager_c unpaused remembers_c t (slice_get u.script u.number) gets script link frees_c k control end) [
+      Slaves.visited_stands ex (asked (profile_of s) s.boot lens).processor table x acknowledged is_followed is_passed number sent back c v slave slave' frame m m' (slice_get a.script a.number) u.begun turn.begun eager_c unpaused remembers_c t (slice_get u.script u.number) gets script link frees_c settles k control end,
+      elim (Slaves.visited_waits ex (asked (profile_of s) s.boot lens).processor table x acknowledged is_followed is_passed number sent back c v slave slave' frame m m' (slice_get a.script a.number) u.begun turn.begun eager_c unpaused remembers_c t (slice_get u.script u.number) gets script link frees_c settles k control end) [
         | inl waits ↦ inl waits
         | inr done ↦ inr (rests_c done)
       ],
@@ -177,12 +224,12 @@ module _ (plan : Scenario) (fs : List Exchanged) (place number : ℕ) (sent back
 
     fresh : (k : Unvisited (serving ex) c.life slave.node t) → (t.stepped ≡ true → slave.registers.control ≡ None) → Behind × (WaitsYet ⊎ Rest)
     fresh k control =
-        let both = Slaves.fresh_stands ex (asked (profile_of s) s.boot lens).processor table x acknowledged is_followed is_passed number sent back c v slave slave' frame m m' (slice_get a.script a.number) u.begun turn.begun eager_c unpaused remembers_c t (slice_get u.script u.number) gets script link frees_c k control in
+        let both = Slaves.fresh_stands ex (asked (profile_of s) s.boot lens).processor table x acknowledged is_followed is_passed number sent back c v slave slave' frame m m' (slice_get a.script a.number) u.begun turn.begun eager_c unpaused remembers_c t (slice_get u.script u.number) gets script link frees_c settles k control in
         (both.0, inl both.1)
 
     going : (g : Going table c.life slave.registers t) → c.life.era.side.halves.inn.state ≡ HalfState.Clear → Behind × (WaitsYet ⊎ Rest)
     going g clear =
-        let both = Slaves.going_stands ex (asked (profile_of s) s.boot lens).processor table x acknowledged is_followed is_passed number sent back c v slave slave' frame m m' (slice_get a.script a.number) u.begun turn.begun eager_c unpaused remembers_c t (slice_get u.script u.number) gets script link frees_c g clear in
+        let both = Slaves.going_stands ex (asked (profile_of s) s.boot lens).processor table x acknowledged is_followed is_passed number sent back c v slave slave' frame m m' (slice_get a.script a.number) u.begun turn.begun eager_c unpaused remembers_c t (slice_get u.script u.number) gets script link frees_c settles g clear in
         (both.0, inl both.1)
 
   -- ---- one that was given up for good

@@ -23,7 +23,7 @@ use Rattle.quiet_rings.proofs.Repairs.{all_repaired, none_repaired}
 use Rattle.run_frames.specs.Clocks.{Clocked, repair_of, still_behind, reopened_all, gains_all}
 use Rattle.run_frames.specs.Goes.{Under, AllUnder, AllClocked, all_back, all_lost}
 use Rattle.run_frames.specs.Led.{AreLed, first_clocked, unders, behind_back, behind_lost, leads_behind, still_led, waits_led}
-use Rattle.run_frames.specs.Orders.{AllRepaired}
+use Rattle.run_frames.specs.Orders.{AllRepaired, opened_on}
 use Rattle.run_frames.specs.Runs.{Progress}
 use Rattle.run_frames.specs.Toured.{IsToured, WaitIn}
 use Rattle.run_frames.specs.Waits.{Waits, new_waits, all_anew, all_on, waits_behind, SomeWaits}
@@ -36,7 +36,7 @@ use Rattle.segment_plan.specs.declared.service.Service as Script
 use Rattle.segment_plan.specs.declared.slave.SlaveSpec.{SlaveSpec}
 use Rattle.segment_ring.specs.declared.wire.Fate.TheVariants.{Pass, Lost}
 use Rattle.wait_runs.specs.Eager.{AllRest, IsEagerFrame, EagerIn, NeverWait}
-use Rattle.wait_runs.proofs.Lists.{Slave, still_same, all_same, AllStanding, all_begin, repaired, all_stand}
+use Rattle.wait_runs.proofs.Lists.{Slave, still_same, all_same, AllStanding, never_all, all_begin, repaired, all_stand}
 
 one_more : (fs : List Exchanged) (f : Exchanged) (n : ℕ) → n ≡ length fs → suc n ≡ length (fs ++ f ∷ [])
 one_more fs f n e = ap suc e ∙ sym (length-append fs (f ∷ []) ∙ (let sum : length fs + 1 ≡ suc (length fs) = omega arith in sum))
@@ -186,7 +186,7 @@ module _ (seen_is : SeenIs) (plan : Scenario) (laws : Laws plan) (never : NeverW
         both : AllStanding plan plan.slaves (leads_behind lens plan.recover plan.retry slowest missed (length fs) f us) on (ring_after (ring_of plan) (fs ++ f ∷ [])).nodes ns (all_on p.frames cs vs p.waits)
             × (SomeWaits on (all_on p.frames cs vs p.waits) ⊎ AllRest (lens_of plan.slaves) plan.slaves ms as' (ring_after (ring_of plan) fs).nodes)
         both = all_stand plan fs p.frames f plan.recover plan.retry (length fs) gives at_frames.datagrams view 0 plan.slaves as' cs us plan.paces (ring_after (ring_of plan) fs).nodes (ring_after (ring_of plan) (fs ++ f ∷ [])).nodes ms ns p.waits
-            opens h.led at_frames.each met h.paced never e.eager e.unpaused e.remembers e.none e.unpassed (all_same x p.frames (seen lens f.sent) (seen lens f.back) cs vs lists same.1) (before p.still refl)
+            opens h.led at_frames.each met h.paced (never_all plan plan.slaves never) e.eager e.unpaused e.remembers e.none e.unpassed (all_same x p.frames (seen lens f.sent) (seen lens f.back) cs vs lists same.1) (before p.still refl)
 
         pub some : SomeWaits on (waits_led (lens_of plan.slaves) plan.recover plan.retry slowest p f us cs)
         some = subst (λ z. SomeWaits on (waits_behind z p.frames cs vs p.waits)) (sym counted) (elim both.1 [ inl waits ↦ waits | inr rest ↦ absurd (e.some rest) ])
@@ -270,15 +270,14 @@ module _ (seen_is : SeenIs) (plan : Scenario) (laws : Laws plan) (never : NeverW
       let k = walks fs again missed as' p cs e.0 r (front_round (ring_of plan) fs f went) e.1 in (lost_on fs missed as' p cs e.0 k.0 f us l after fate ns _ _ _, k.1)
   walks gs again' missed' bs q ds ns (IsToured.opening fs again missed as' p cs f us ps r l fate under v) went e =
       let k = walks fs again missed as' p cs e.0 r (front_round (ring_of plan) fs f went) e.1 in (
-        subst (λ z. Holds (fs ++ f ∷ []) (missed_behind (lens_of plan.slaves) plan.recover plan.retry f.fate missed) (leads_behind lens plan.recover plan.retry slowest missed (length fs) f us) (record { frames = suc p.frames; lost = p.lost; still = z; opened = _; last = None; waits = all_anew cs }) (behind_back lens plan.recover plan.retry slowest p.frames f us cs) ns)
-            (sym (k.0.none under)) (anew_on fs missed as' p cs e.0 k.0 f us l fate ns p.lost _ None),
+        subst (λ z. Holds (fs ++ f ∷ []) (missed_behind (lens_of plan.slaves) plan.recover plan.retry f.fate missed) (leads_behind lens plan.recover plan.retry slowest missed (length fs) f us) (record { frames = suc p.frames; lost = p.lost; still = z; opened = opened_on p.opened (behind_back lens plan.recover plan.retry slowest p.frames f us cs); last = None; waits = all_anew cs }) (behind_back lens plan.recover plan.retry slowest p.frames f us cs) ns)
+            (sym (k.0.none under)) (anew_on fs missed as' p cs e.0 k.0 f us l fate ns p.lost (opened_on p.opened (behind_back lens plan.recover plan.retry slowest p.frames f us cs)) None),
         k.1,
       )
   walks gs again' missed' bs q ds ns (IsToured.round fs again missed as' p cs f us ps r l fate over v) went e =
       let k = walks fs again missed as' p cs e.0 r (front_round (ring_of plan) fs f went) e.2 in (
         round_on fs missed as' p cs e.0 k.0 f us l fate over went ns e.1 _,
-        (λ counted. some fs missed as' p cs e.0 k.0 f us l fate over went ns counted (e.1 counted)),
-        k.1,
+        ((λ counted. some fs missed as' p cs e.0 k.0 f us l fate over went ns counted (e.1 counted)), k.1),
       )
   walks gs again' missed' bs q ds ns (IsToured.enters fs again missed as' p cs f us ps r l fate over v nothing) went e =
       let k = walks fs again missed as' p cs e.0 r (front_round (ring_of plan) fs f went) e.1 in (anew_on fs missed as' p cs e.0 k.0 f us l fate ns (suc p.lost) p.opened _, k.1)
