@@ -1,5 +1,5 @@
 -- By a master's rule at a visit: where a state service might begin behind a write in vain, none is left.
-use Rattle.std.proofs.Common.{◌≡◌, ℕ, ◌&&◌, Bool, true, false, Option, Some, None, List, [], ◌∷◌, ◌++◌, length, length-append, refl, sym, ap, ◌∙◌, subst, arith, if◌then◌else◌}
+use Rattle.std.proofs.Common.{◌≡◌, ℕ, ◌&&◌, Bool, true, false, Option, Some, None, List, [], ◌∷◌, length, length-append, refl, sym, ap, ◌∙◌, subst, arith, if◌then◌else◌}
 use Rattle.answered_rows.specs.Moments.{IsFree, HeldStill, NowAnswered}
 use Rattle.answered_rows.proofs.Laws.{answered, begun}
 use Rattle.answered_rows.proofs.Ready.{ready}
@@ -8,7 +8,7 @@ use Rattle.exchange_model.specs.Rows.{Row, left}
 use Rattle.held_visits.specs.Held.{Took}
 use Rattle.life_model.specs.Eras.{EraIs}
 use Rattle.life_model.specs.Lives.{Spot, Era, era_next, granted}
-use Rattle.named_lives.specs.Alike.{Alike, RowIs, WishIs}
+use Rattle.named_lives.specs.Alike.{Alike, RowIs}
 use Rattle.named_waits.proofs.Alike.{left_same, in_hand}
 use Rattle.segment_model.specs.Ends.{Passing}
 use Rattle.segment_model.specs.Record.{Frame}
@@ -70,8 +70,8 @@ module _ {V A M Q R : Type 0} (x : Exchange V A M Q R) (s : Stated V A Q) (proce
         let began : grant.begin ≡ Some (Service.State target) = ap (λ z. (granted z pick).begin) unpassed ∙ wish in
         let one = took (Service.State target) wish in
         absurd (state_hand y s.acknowledged frame e.side e.account target e.account.hand
-            (sym (ap (λ z. (account_begins y s.acknowledged frame e.side e.account e.account.hand z).started) began) ∙ one.1)
-            (sym (ap (λ z. (account_begins y s.acknowledged frame e.side e.account e.account.hand z).hand) began) ∙ none))
+        (sym (ap (λ z. (account_begins y s.acknowledged frame e.side e.account e.account.hand z).started) began) ∙ one.1)
+        (sym (ap (λ z. (account_begins y s.acknowledged frame e.side e.account e.account.hand z).hand) began) ∙ none))
 
     pub ends : (IsFree y s.acknowledged e.side → e.account.hand ≡ None → pick.begin ≡ None → Left) → Took y s.acknowledged is more passed frame e pick → u.account.hand ≡ None → HeldStill station back u.side k → IsFree y s.acknowledged k → Left
     ends = by_begin pick.begin refl

@@ -1,5 +1,5 @@
 -- Behind a write in vain.
-use Rattle.std.proofs.Common.{◌≡◌, ◌≢◌, ◌≤◌, ℕ, suc, ◌==◌, Bool, true, false, is_some, Option, Some, None, List, [], ◌∷◌, ◌++◌, refl, sym, ap, ◌∙◌, subst, if◌then◌else◌}
+use Rattle.std.proofs.Common.{◌≡◌, ◌≤◌, ℕ, ◌==◌, Bool, true, false, is_some, Option, Some, None, List, [], ◌∷◌, ◌++◌, refl, sym, ap, ◌∙◌, subst, if◌then◌else◌}
 use Rattle.answered_rows.specs.Moments.{IsFree, HeldStill}
 use Rattle.answered_rows.proofs.Laws.{state}
 use Rattle.exchange_model.specs.Exchange.{Speech}
@@ -12,14 +12,14 @@ use Rattle.life_measure.specs.Gains.{gains}
 use Rattle.life_measure.specs.Visits.{Visit, mails_visit}
 use Rattle.life_model.specs.Lives.{Era, Life, Spot, Stand, life_back, era_back, era_next, reopens, reopens_at, reopening, opens_state, returns_to_init}
 use Rattle.life_model.specs.Own.{own}
-use Rattle.link_model.specs.Frames.{Ask, Gram, halves_accept, halves_answered, all_accepted}
+use Rattle.link_model.specs.Frames.{Ask, halves_accept, all_accepted}
 use Rattle.link_model.specs.Link.{Halves, Link}
 use Rattle.link_model.specs.Mails.{LinkMail}
 use Rattle.link_model.specs.Master.{InState}
 use Rattle.link_model.specs.Slave.{Node, Server}
 use Rattle.run_frames.specs.Waits.{Waits}
 use Rattle.segment_model.specs.Record.{News}
-use Rattle.segment_model.specs.Seats.{Side, side_back}
+use Rattle.segment_model.specs.Seats.{side_back}
 use Rattle.segment_model.specs.Slaves.{Datagram, Found, grams}
 use Rattle.state_exchange.specs.Stated.{Service}
 use Rattle.task_model.specs.Accounts.{Duty, Pick, Stage, starts}

@@ -1,9 +1,8 @@
 -- What comes into hand takes no service away.
-use Rattle.std.proofs.Common.{◌≡◌, ℕ, ◌&&◌, Bool, true, false, Option, Some, None, option_map, List, [], ◌∷◌, ◌++◌, refl, sym, ap, ◌∙◌, subst, if◌then◌else◌}
+use Rattle.std.proofs.Common.{◌≡◌, ℕ, ◌&&◌, Bool, true, false, Option, Some, None, option_map, List, [], ◌∷◌, ◌++◌, refl, ap, ◌∙◌, if◌then◌else◌}
 use Rattle.exchange_model.specs.Exchange.{Speech}
 use Rattle.exchange_model.specs.Rows.{Row, begun, row_told}
 use Rattle.life_model.specs.Lives.{Life, Stand, granted, life_next}
-use Rattle.link_model.specs.Mails.{LinkMail}
 use Rattle.link_model.specs.Slave.{Node}
 use Rattle.segment_model.specs.Seats.{Side, Choice, is_over, side_begins, side_holds, side_next, next_mail}
 use Rattle.task_model.specs.Accounts.{Pick, mails_choice}

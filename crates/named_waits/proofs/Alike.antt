@@ -1,5 +1,5 @@
 -- Two clients that speak alike of the service in hand: it is over for both, or for none.
-use Rattle.std.proofs.Common.{◌≡◌, ℕ, Bool, true, Option, Some, None, List, refl, sym, ap, ◌∙◌, subst}
+use Rattle.std.proofs.Common.{◌≡◌, Bool, true, Option, Some, None, List, refl, sym, ap, ◌∙◌, subst}
 use Rattle.std.specs.Prelude.{drop, length}
 use Rattle.answered_rows.specs.Moments.{IsFree, NoneLeft, NowAnswered}
 use Rattle.exchange_model.specs.Exchange.{Speech, plain}

@@ -1,5 +1,5 @@
 -- A client by other names of its services.
-use Rattle.std.proofs.Common.{◌≡◌, ◌&&◌, Bool, true, false, List, [], ◌++◌, refl, sym, ap, ◌∙◌}
+use Rattle.std.proofs.Common.{◌≡◌, ◌&&◌, Bool, true, false, refl, sym, ap, ◌∙◌}
 use Rattle.std.specs.Prelude.{drop, length}
 use Rattle.exchange_model.specs.Exchange.{Exchange, Speech, given, plain}
 use Rattle.named_lives.specs.Named.{Naming, Agrees, named}
