@@ -23,14 +23,7 @@ use Rattle.segment_model.specs.Slaves.{Datagram, Address, Access, Found, Slave, 
 use Rattle.state_model.specs.States.{Phase, reads}
 use Rattle.task_model.specs.Accounts.{Duty, phase_access}
 use Rattle.eager_slaves.specs.Eager.{AsksVisit}
-
--- as it is sent: to the station, and nothing did it yet
-pub record IsSent (station : ℕ) (d : Datagram Body) : Type 0 where
-  pub station_is : d.gram.station ≡ station
-  pub address : d.address ≡ Address.Station station
-  pub gram : d.gram.counter ≡ 0
-  pub counter : d.counter ≡ 0
-  pub found : d.found ≡ None
+use Rattle.eager_slaves.specs.Frames.{IsSent, One}
 
 no_count : (a : Access) (n : ℕ) → n ≡ 0 → register_counter a n ≡ 0
 no_count (Access.SetStation station) n e = e
@@ -75,12 +68,6 @@ open_sent lens station d g =
       counter = no_count x.access d.head.counter g.counter;
       found = not_found x.access d.head.counter d.body g.counter;
     }
-
--- of a frame: it has just that one, or none
-pub record One (station : ℕ) (sent : List (Datagram Body)) : Type 0 where
-  pub datagram : Datagram Body
-  pub is : own station sent ≡ datagram ∷ []
-  pub sent_so : IsSent station datagram
 
 module _ (lens : ℕ → Lens) (ds : List Raw.Datagram) (sent : List (Datagram Body)) (view : sent ≡ datagrams_seen lens ds) (spot : Spot) (share : Share) where
   pub one_sent : (stand : Stand) → stand ≡ Stand.Open → FrameFor lens spot stand share ds → share.under ≡ true → One spot.station sent

@@ -38,11 +38,12 @@ use Rattle.state_model.specs.States.{Table, Phase, carry, word_carried, decided,
 use Rattle.states_come.specs.Steps.{NotGone, StepsAlone}
 use Rattle.task_model.specs.Accounts.{Account, Duty, Stage, Pick, Progress, phase_access, access_done, account_by}
 use Rattle.eager_slaves.specs.Eager.{Remembered, AsksVisit, AsksStage, AsksFor, EachAsksFor, IsClear, NoneLeft, MayBegin, IsAtEnd, IsEager, IsInVain, IsDraining, RemembersOn, IsUnpausedBy, GetsNone}
+use Rattle.eager_slaves.specs.Frames.{IsSent, One, FrameAs}
 use Rattle.eager_slaves.specs.Standing.{Steps, Unvisited, Visited, Standing, IsDone}
 use Rattle.eager_slaves.proofs.Behind as Behind
 use Rattle.eager_slaves.proofs.Behind.{left_heard}
 use Rattle.eager_slaves.proofs.Choices.{stand_next, inn_next, row_next, hand_next, same_next}
-use Rattle.eager_slaves.proofs.Sent.{IsSent, One, met, met_ask, met_station, node_behind, registers_behind, came_back, access_came}
+use Rattle.eager_slaves.proofs.Sent.{met, met_ask, met_station, node_behind, registers_behind, came_back, access_came}
 
 -- ---- small facts
 -- a word that is carried out waits no longer
@@ -114,20 +115,7 @@ module _ {V A : Type 0} (ex : Exchange V A Body Asked Reply) (processor : Proces
   abbrev v : Server Body (Serving V Body)
   v = serving ex
 
-  -- what the frame was for a slave: its choice, its datagrams, and the slave behind them and the step of its pace
-  pub record Frame (c : Clocked Body Asked Reply) (u : Under Body Asked Reply) (s s' : Slave V Body) : Type 0 where
-    pub pick : Pick Asked
-    pub life : u.life ≡ life_next (x c.spot) acknowledged more passed number c.life c.life.stand pick
-    pub unpassed : c.life.era.passing ≡ None
-    pub same : gains (back_life x acknowledged more passed number back c u) ≡ gains c.life
-    pub one : u.life.stand ≡ Stand.Open → u.under ≡ true → One c.spot.station sent
-    pub none : u.under ≡ false → own c.spot.station sent ≡ []
-    pub back_is : own c.spot.station back ≡ frame_after c.spot.station s (own c.spot.station sent)
-    pub slave : s' ≡ (let k = slave_after c.spot.station s (own c.spot.station sent) in if suc number % c.pace == 0 then slave_steps ex processor k else k)
-    pub here : s.registers.station ≡ c.spot.station
-    pub alone : StepsAlone ex processor table c.life.era.account.hand s
-
-  module _ (c : Clocked Body Asked Reply) (u : Under Body Asked Reply) (s s' : Slave V Body) (f : Frame c u s s') where
+  module _ (c : Clocked Body Asked Reply) (u : Under Body Asked Reply) (s s' : Slave V Body) (f : FrameAs ex processor table x acknowledged more passed number sent back c u s s') where
     abbrev station : ℕ
     station = c.spot.station
 
@@ -571,3 +559,10 @@ module _ {V A : Type 0} (ex : Exchange V A Body Asked Reply) (processor : Proces
             Standing.goes (subst (λ r. Going table behind r on) (sym (step_registers (going_left u.under refl))) on_going) (clear_behind u.under refl),
             (ap is_live on_going.stands, omega (arith, on_going.tries)),
           )
+
+        -- ---- HOWEVER IT STOOD, while it is open
+        pub open_stands : c.life.stand ≡ Stand.Open → Standing v table (x c.spot) c.life s m next t → Stands × (WaitsYet ⊎ Done)
+        open_stands stands (Standing.gone e) = absurd (let never : Stand.Gone ≡ Stand.Open = sym e ∙ stands in cc)
+        open_stands stands (Standing.fresh k control) = let both = fresh_stands k control in (both.0, inl both.1)
+        open_stands stands (Standing.waits k control end) = (visited_stands k control end, visited_waits k control end)
+        open_stands stands (Standing.goes g clear) = let both = going_stands g clear in (both.0, inl both.1)

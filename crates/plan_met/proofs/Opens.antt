@@ -43,7 +43,6 @@ module _ (plan : Scenario) (fs : List Exchanged) where
       life_is : m.life ≡ a.lived.life
       life_is = ap (λ (l : Lived Asked Reply). l.life) x.lived
 
-
       spot_is : m.spot ≡ a.lived.spot
       spot_is = ap (λ (l : Lived Asked Reply). l.spot) x.lived
 

@@ -31,9 +31,11 @@ use Rattle.run_frames.specs.Led.{AreLed, under_of, unders}
 use Rattle.run_frames.specs.Orders.{AllRepaired}
 use Rattle.run_frames.specs.Waits.{Waits, new_waits, all_anew, all_on, SomeWaits}
 use Rattle.segment_model.specs.Slaves.{Datagram, serving}
+use Rattle.segment_plan.specs.Sound.{IsSlave}
 use Rattle.segment_plan.specs.declared.plan.Scenario.{Scenario}
 use Rattle.segment_plan.specs.declared.slave.SlaveSpec.{SlaveSpec}
 use Rattle.slave_lives.specs.Lived.{table_of}
+use Rattle.slave_parts.specs.of_slave_model.Profile.{Profile, IsProfile}
 use Rattle.slave_server.specs.Serving.{Serving}
 use Rattle.slave_server.specs.Spec.{profile_of}
 use Rattle.slave_steps.specs.Node.{Node}
@@ -108,12 +110,15 @@ module _ (plan : Scenario) where
   NeverAll [] = ⊤
   NeverAll (s ∷ ss) = NeverWaits (asked (profile_of s) s.boot (lens_of plan.slaves)).exchange × NeverAll ss
 
-  abbrev NeverOne : SlaveSpec → Type 0
-  NeverOne s = NeverWaits (asked (profile_of s) s.boot (lens_of plan.slaves)).exchange
-
-  pub never_all : (ss : List SlaveSpec) → All (λ (s : SlaveSpec). NeverWaits (asked (profile_of s) s.boot (lens_of plan.slaves)).exchange) ss → NeverAll ss
-  never_all [] a = tt
-  never_all (s ∷ ss) a = (All-head NeverOne s ss a, never_all ss (All-tail NeverOne s ss a))
+  -- no client of a plan's slave waits in vain
+  pub never_all : ((p : Profile) → IsProfile p → (boot : Bool) (lens : ℕ → Lens) → NeverWaits (asked p boot lens).exchange) → (ss : List SlaveSpec) → All IsSlave ss → All (λ (s : SlaveSpec). length s.mac ≡ 6) ss → NeverAll ss
+  never_all law [] a b = tt
+  never_all law (s ∷ ss) a b =
+      let slave : IsSlave s = All-head IsSlave s ss a in
+      let mac : length s.mac ≡ 6 = All-head (λ (z : SlaveSpec). length z.mac ≡ 6) s ss b in (
+        law (profile_of s) (record { out_least = slave.out_least; out_most = slave.out_most; back_least = slave.in_least; back_most = slave.in_most; mac = mac }) s.boot (lens_of plan.slaves),
+        never_all law ss (All-tail IsSlave s ss a) (All-tail (λ (z : SlaveSpec). length z.mac ≡ 6) s ss b),
+      )
 
   -- ---- where something was gained just now
   pub all_begin : (fs : List Exchanged) (place : ℕ) (sent : List (Datagram Body)) (ss : List SlaveSpec) (as' : List Leads) (cs : List Slave) (us : List Turn) (ns : List (Node Serving)) (ms : List Remembered) → AllOpenAt plan fs place ss as' ns → AreLed as' cs →
@@ -206,8 +211,10 @@ module _ (plan : Scenario) where
         let pace : c.pace ≡ h = (let both : c.pace ∷ map (λ (z : Slave). z.pace) cs ≡ h ∷ ps = p in cc) in
         let paces : map (λ (z : Slave). z.pace) cs ≡ ps = (let both : c.pace ∷ map (λ (z : Slave). z.pace) cs ≡ h ∷ ps = p in cc) in
         let one = stands_on plan fs place number sent back ds view s a c u n n' m m' w l.0 l.1 t.0 o.0 (λ e. subst (λ z. IsMet lens sent back number z s n n') (sym pace) (met.0 e)) never.0 e.0 q.0 r.0 g.0 b.0 same.0 k.0 in
-        let rest = all_stand (suc place) ss as' cs us ps ns ks ms ms' ts o.1 l.2 t.1 met.1 paces never.1 e.1 q.1 r.1 g.1 b.1 same.1 k.1 in
-        ((one.0, rest.0), elim one.1 [
-          | inl waits ↦ inl (inl waits)
-          | inr done ↦ elim rest.1 [ inl later ↦ inl (inr later) | inr others ↦ inr (done, others) ]
-        ])
+        let rest = all_stand (suc place) ss as' cs us ps ns ks ms ms' ts o.1 l.2 t.1 met.1 paces never.1 e.1 q.1 r.1 g.1 b.1 same.1 k.1 in (
+          (one.0, rest.0),
+          elim one.1 [
+            | inl waits ↦ inl (inl waits)
+            | inr done ↦ elim rest.1 [ inl later ↦ inl (inr later) | inr others ↦ inr (done, others) ]
+          ],
+        )

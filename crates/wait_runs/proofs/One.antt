@@ -5,9 +5,9 @@ use Rattle.datagrams.specs.Datagram as Raw
 use Rattle.eager_slaves.specs.Eager.{Remembered, IsClear, NoneLeft, MayBegin, IsAtEnd, IsEager, RemembersOn, IsUnpausedBy, GetsNone}
 use Rattle.eager_slaves.specs.Standing.{Unvisited, Visited, Standing, IsDone}
 use Rattle.eager_slaves.proofs.Choices.{stand_next}
-use Rattle.eager_slaves.proofs.Sent.{One, one_sent, none_sent}
+use Rattle.eager_slaves.specs.Frames.{One, FrameAs}
+use Rattle.eager_slaves.proofs.Sent.{one_sent, none_sent}
 use Rattle.eager_slaves.proofs.Slaves as Slaves
-use Rattle.eager_slaves.proofs.Slaves.{Frame}
 use Rattle.exchange_model.specs.Exchange.{Exchange, Speech}
 use Rattle.exchange_model.specs.Rows.{begun}
 use Rattle.frame_view.specs.Seen.{datagrams_seen}
@@ -145,7 +145,7 @@ module _ (plan : Scenario) (fs : List Exchanged) (place number : ℕ) (sent back
     z : IsMet lens sent back number c.pace s n k
     z = met stands_a
 
-    abbrev frame : Frame ex (asked (profile_of s) s.boot lens).processor table x acknowledged is_followed is_passed number sent back c v slave slave'
+    abbrev frame : FrameAs ex (asked (profile_of s) s.boot lens).processor table x acknowledged is_followed is_passed number sent back c v slave slave'
     frame = record {
       pick = turn.next.pick;
       life = life_is;

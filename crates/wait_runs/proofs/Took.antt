@@ -26,9 +26,9 @@ first_mail {V} {A} {M} {Q} {R} x law never v q ready valid e = go (x.speech.hand
     go : {X : Type 0} (b : Bool) → x.speech.handed q ≡ b → X
     go true h = absurd (law.some v q ready valid h none)
     go false h = absurd (
-      let reply : x.speech.ends q [] ≡ Some (x.reply (x.app v) q) = sym (ap (λ l. x.speech.ends q (plain x.speech.emission (given x.serve v l))) none) ∙ law.replied v q ready valid h in
-      let no_ : None ≡ Some (x.reply (x.app v) q) = sym (law.none q) ∙ reply in cc
-    )
+        let reply : x.speech.ends q [] ≡ Some (x.reply (x.app v) q) = sym (ap (λ l. x.speech.ends q (plain x.speech.emission (given x.serve v l))) none) ∙ law.replied v q ready valid h in
+        let no_ : None ≡ Some (x.reply (x.app v) q) = sym (law.none q) ∙ reply in cc
+        )
 
 module _ {M Q R : Type 0} (x : Speech M Q R) (acknowledged : Q → Bool) (frame : ℕ) (d : Side M Q R) (a : Account Q R) where
   not_longer : {X : Type 0} (s : Service Q) → a.started ≡ starts a s frame → X

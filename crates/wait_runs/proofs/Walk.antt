@@ -35,8 +35,8 @@ use Rattle.segment_plan.specs.declared.plan.Scenario.{Scenario}
 use Rattle.segment_plan.specs.declared.service.Service as Script
 use Rattle.segment_plan.specs.declared.slave.SlaveSpec.{SlaveSpec}
 use Rattle.segment_ring.specs.declared.wire.Fate.TheVariants.{Pass, Lost}
-use Rattle.wait_runs.specs.Eager.{AllRest, IsEagerFrame, EagerIn, NeverWait}
-use Rattle.wait_runs.proofs.Lists.{Slave, still_same, all_same, AllStanding, never_all, all_begin, repaired, all_stand}
+use Rattle.wait_runs.specs.Eager.{AllRest, IsEagerFrame, EagerIn}
+use Rattle.wait_runs.proofs.Lists.{Slave, still_same, all_same, AllStanding, NeverAll, all_begin, repaired, all_stand}
 
 one_more : (fs : List Exchanged) (f : Exchanged) (n : ℕ) → n ≡ length fs → suc n ≡ length (fs ++ f ∷ [])
 one_more fs f n e = ap suc e ∙ sym (length-append fs (f ∷ []) ∙ (let sum : length fs + 1 ≡ suc (length fs) = omega arith in sum))
@@ -109,7 +109,7 @@ pub record Laws (plan : Scenario) : Type 0 where
   pub meets : (fs : List Exchanged) (as' : List Leads) (f : Exchanged) (us : List Turn) → AreLived plan fs as' → IsLedFrame (lens_of plan.slaves) (length fs) f.sent as' us → WentRound (ring_after (ring_of plan) fs) f → f.fate ≡ Pass →
       AllMet (lens_of plan.slaves) (seen (lens_of plan.slaves) f.sent) (seen (lens_of plan.slaves) f.back) (length fs) plan.slaves as' plan.paces (ring_after (ring_of plan) fs).nodes (ring_after (ring_of plan) (fs ++ f ∷ [])).nodes
 
-module _ (seen_is : SeenIs) (plan : Scenario) (laws : Laws plan) (never : NeverWait plan) (slowest : ℕ) (begins : AreLed (first_leads plan) (first_clocked (first_leads plan) plan.paces)) (clocked : AllClocked slowest (first_clocked (first_leads plan) plan.paces))
+module _ (seen_is : SeenIs) (plan : Scenario) (laws : Laws plan) (never : NeverAll plan plan.slaves) (slowest : ℕ) (begins : AreLed (first_leads plan) (first_clocked (first_leads plan) plan.paces)) (clocked : AllClocked slowest (first_clocked (first_leads plan) plan.paces))
     (paces : map (λ (c : Slave). c.pace) (first_clocked (first_leads plan) plan.paces) ≡ plan.paces) where
   abbrev lens : ℕ → Lens
   lens = lens_of plan.slaves
@@ -186,7 +186,7 @@ module _ (seen_is : SeenIs) (plan : Scenario) (laws : Laws plan) (never : NeverW
         both : AllStanding plan plan.slaves (leads_behind lens plan.recover plan.retry slowest missed (length fs) f us) on (ring_after (ring_of plan) (fs ++ f ∷ [])).nodes ns (all_on p.frames cs vs p.waits)
             × (SomeWaits on (all_on p.frames cs vs p.waits) ⊎ AllRest (lens_of plan.slaves) plan.slaves ms as' (ring_after (ring_of plan) fs).nodes)
         both = all_stand plan fs p.frames f plan.recover plan.retry (length fs) gives at_frames.datagrams view 0 plan.slaves as' cs us plan.paces (ring_after (ring_of plan) fs).nodes (ring_after (ring_of plan) (fs ++ f ∷ [])).nodes ms ns p.waits
-            opens h.led at_frames.each met h.paced (never_all plan plan.slaves never) e.eager e.unpaused e.remembers e.none e.unpassed (all_same x p.frames (seen lens f.sent) (seen lens f.back) cs vs lists same.1) (before p.still refl)
+            opens h.led at_frames.each met h.paced never e.eager e.unpaused e.remembers e.none e.unpassed (all_same x p.frames (seen lens f.sent) (seen lens f.back) cs vs lists same.1) (before p.still refl)
 
         pub some : SomeWaits on (waits_led (lens_of plan.slaves) plan.recover plan.retry slowest p f us cs)
         some = subst (λ z. SomeWaits on (waits_behind z p.frames cs vs p.waits)) (sym counted) (elim both.1 [ inl waits ↦ waits | inr rest ↦ absurd (e.some rest) ])
@@ -200,10 +200,10 @@ module _ (seen_is : SeenIs) (plan : Scenario) (laws : Laws plan) (never : NeverW
       stands_on e one = elim (still_is (repair_of slowest (length cs) p.opened p.last p.frames cs) cs on p.still) [
         | inl zero_is ↦ absurd (omega (arith, zero_is, one))
         | inr (inl (same, repairs)) ↦ absurd (
-          let all = repaired plan plan.slaves as' cs (ring_after (ring_of plan) fs).nodes ms p.waits (h.stands (omega (arith, same, one))) in
-          let none = none_repaired slowest p.opened p.frames p.last cs over all in
-          omega (arith, none, repairs)
-        )
+            let all = repaired plan plan.slaves as' cs (ring_after (ring_of plan) fs).nodes ms p.waits (h.stands (omega (arith, same, one))) in
+            let none = none_repaired slowest p.opened p.frames p.last cs over all in
+            omega (arith, none, repairs)
+            )
         | inr (inr counted) ↦ standing_on counted (e counted)
       ]
 

@@ -1,5 +1,5 @@
 -- A RUN WHOSE MASTER MAKES NO VISIT IN VAIN where more could go on, and no frame where all is done.
-use Rattle.std.specs.Prelude.{◌≡◌, ◌⊎◌, ℕ, suc, Option, None, List, [], ◌∷◌, slice_get, All, ⊤}
+use Rattle.std.specs.Prelude.{◌≡◌, ◌⊎◌, ℕ, suc, Option, None, List, [], ◌∷◌, slice_get, ⊤}
 use Rattle.eager_slaves.specs.Eager.{Remembered, IsClear, MayBegin, IsAtEnd, AllEager, AllRemember, AllUnpaused, AllGetNone}
 use Rattle.frame_view.specs.Seen.{seen}
 use Rattle.frame_view.specs.View.{Lens}
@@ -9,9 +9,7 @@ use Rattle.life_runs.specs.Led.{Exchanged, Leads, Turn, speech_at}
 use Rattle.link_mails.specs.Body.{Body}
 use Rattle.master_duty.specs.Reply.{Reply}
 use Rattle.master_hand.specs.Spoken.{Asked}
-use Rattle.never_waits.specs.Waits.{NeverWaits}
 use Rattle.plan_met.specs.Met.{slave_at}
-use Rattle.plan_ring.specs.Asked.{asked}
 use Rattle.plan_ring.specs.Round.{ring_of, ring_after}
 use Rattle.run_frames.specs.Clocks.{Clocked}
 use Rattle.run_frames.specs.Led.{still_led}
@@ -21,7 +19,6 @@ use Rattle.segment_model.specs.Laws.{IsSettled}
 use Rattle.segment_plan.specs.declared.plan.Scenario.{Scenario}
 use Rattle.segment_plan.specs.declared.slave.SlaveSpec.{SlaveSpec}
 use Rattle.slave_server.specs.Serving.{Serving}
-use Rattle.slave_server.specs.Spec.{profile_of}
 use Rattle.slave_steps.specs.Node.{Node}
 
 -- ALL IS DONE OF A SLAVE: it is open with nothing in doubt, no mail is held, a service might begin but its script is at its end, no packet waits at its port,
@@ -63,7 +60,3 @@ module _ (plan : Scenario) {recover retry slowest : ℕ} {paces : List ℕ} wher
   EagerIn (IsToured.round fs again missed as' p cs f us ps run led fate over visit) ns =
       (ms : List Remembered) × (still_led (lens_of plan.slaves) recover retry slowest p f us cs ≡ suc p.still → IsEagerFrame plan fs f ms ns as' us) × EagerIn run ms
   EagerIn (IsToured.enters fs again missed as' p cs f us ps run led fate over visit nothing) ns = (ms : List Remembered) × EagerIn run ms
-
--- no client of the plan's slaves waits in vain
-abbrev pub NeverWait : Scenario → Type 0
-NeverWait plan = All (λ (s : SlaveSpec). NeverWaits (asked (profile_of s) s.boot (lens_of plan.slaves)).exchange) plan.slaves

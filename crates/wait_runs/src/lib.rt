@@ -17,15 +17,16 @@ ghost use Rattle.run_frames.specs.Toured.{IsToured, WaitIn};
 ghost use Rattle.segment_plan.specs.Bound.{slowest};
 ghost use Rattle.segment_plan.specs.Sound.{IsPlan};
 ghost use Rattle.segment_plan.specs.declared.plan.Scenario.{Scenario};
-ghost use Rattle.wait_runs.specs.Eager.{EagerIn, NeverWait};
+ghost use Rattle.wait_runs.specs.Eager.{EagerIn};
 
 /// SOME SLAVE OF A PLAN'S RUN WAITS YET behind each frame that came back and gained nothing, with nothing to repair and no packet of the host: where its master
-/// makes no visit in vain if more could go on, and no frame if all is done, and no client waits in vain.
+/// makes no visit in vain if more could go on, and no frame if all is done.
 pub fn wait_runs_law()
-    ensures { (plan : Scenario) (fs : List Exchanged) (again : Option (List ℕ)) (missed : ℕ) (leads : List Leads) (p : Progress) (cs : List (Clocked Body Asked Reply)) (ns : List Remembered) → IsPlan plan → IsKnown plan → NeverWait plan →
+    ensures { (plan : Scenario) (fs : List Exchanged) (again : Option (List ℕ)) (missed : ℕ) (leads : List Leads) (p : Progress) (cs : List (Clocked Body Asked Reply)) (ns : List Remembered) → IsPlan plan → IsKnown plan →
         (run : IsToured (lens_of plan.slaves) plan.recover plan.retry (slowest plan.paces) (first_leads plan) plan.paces fs again missed leads p cs) → AllRound (ring_of plan) fs → EagerIn plan run ns → WaitIn run }
 {
     frame_view::seen_is();
     plan_ring::run_lives_law();
     plan_met::plan_met_law();
+    asked_waits::asked_waits_law();
 }
