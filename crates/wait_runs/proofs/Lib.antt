@@ -2,5 +2,5 @@ mod Frees
 mod Begins
 mod Took
 mod One
-mod Lists
+pub mod Lists
 mod Walk
