@@ -1,0 +1,89 @@
+-- A life behind a frame that came back, for its hand, its halves and its row.
+use Rattle.std.proofs.Common.{◌≡◌, ℕ, ◌==◌, Bool, true, false, Option, Some, None, List, [], ◌∷◌, ◌++◌, length, refl, sym, ap, ◌∙◌, subst, if◌then◌else◌, append-nil, eq-eqb}
+use Rattle.std.specs.Prelude.{◌&&◌, not, option_map, drop}
+use Rattle.exchange_model.specs.Exchange.{Speech, plain}
+use Rattle.exchange_model.specs.Rows.{Row, left, row_heard}
+use Rattle.idle_slaves.specs.Visited.{IsFor}
+use Rattle.idle_slaves.specs.Waiting.{Wanted}
+use Rattle.life_model.specs.Lives.{Life, Era, Spot, Stand, life_back, era_back, reopens, reopens_at, reopening, opens_state, returns_to_init}
+use Rattle.life_model.specs.Own.{own}
+use Rattle.link_model.specs.Frames.{Ask, Gram, halves_after, halves_answered, halves_accept, all_accepted, mail_back}
+use Rattle.link_model.specs.Link.{Halves}
+use Rattle.link_model.specs.Mails.{LinkMail, news}
+use Rattle.segment_model.specs.Ends.{Passing}
+use Rattle.segment_model.specs.Record.{News, is_for}
+use Rattle.segment_model.specs.Seats.{Side}
+use Rattle.segment_model.specs.Slaves.{Datagram, Found, grams}
+use Rattle.task_model.specs.Accounts.{Account, Duty, Stage, account_back, account_met, account_by, access_done}
+
+-- a reopening changes how the master stands alone
+reopens_era : {M Q R : Type 0} (l : Life M Q R) (hand : Option Duty) → (reopens l hand).era ≡ l.era
+reopens_era l None = refl
+reopens_era l (Some duty) = go duty.stage
+  where
+    by : (b : Bool) → (if b then record l { stand = reopening (opens_state duty.target) true } else l).era ≡ l.era
+    by true = refl
+    by false = refl
+
+    go : (stage : Stage) → (reopens_at l duty.target stage).era ≡ l.era
+    go Stage.Drains = refl
+    go (Stage.Goes phase) = by (returns_to_init duty.target)
+
+module _ {M Q R : Type 0} (x : Speech M Q R) (acknowledged : Q → Bool) (more : M → Bool) (passed : Q → Bool) (frame : ℕ) (spot : Spot) (back : List (Datagram M)) (came : Option (Bool × Option Found)) (l : Life M Q R) (stands : l.stand ≡ Stand.Open) where
+  abbrev pub behind : Life M Q R
+  behind = life_back x acknowledged more passed frame spot [] back came l l.stand
+
+  abbrev era : Era M Q R
+  era = era_back x acknowledged more passed spot.station frame [] back l.era
+
+  era_is : behind.era ≡ era
+  era_is = ap (λ s. (life_back x acknowledged more passed frame spot [] back came l s).era) stands ∙ reopens_era (record l { era = era }) era.account.hand
+
+  -- no datagram
+  module _ (none : own spot.station back ≡ []) where
+    pub hand_none : behind.era.account.hand ≡ l.era.account.hand
+    hand_none = ap (λ (e : Era M Q R). e.account.hand) era_is ∙ ap (λ ds. (account_back spot.station frame l.era.account ds).hand) none
+
+    pub halves_none : behind.era.side.halves ≡ l.era.side.halves
+    halves_none = ap (λ (e : Era M Q R). e.side.halves) era_is ∙ ap (λ (ds : List (Datagram M)). halves_after spot.station l.era.side.halves (grams ds)) none
+
+    pub now_none : behind.era.side.now ≡ option_map (λ r. row_heard x frame [] r) l.era.side.now
+    now_none = ap (λ (e : Era M Q R). e.side.now) era_is ∙ ap (λ (ds : List (Datagram M)). option_map (λ r. row_heard x frame (all_accepted spot.station l.era.side.halves (grams ds)) r) l.era.side.now) none
+
+  -- one
+  module _ (d : Datagram M) (one : own spot.station back ≡ d ∷ []) (station : d.gram.station ≡ spot.station) where
+    pub halves_one : behind.era.side.halves ≡ halves_answered l.era.side.halves d.gram.ask d.gram
+    halves_one =
+        ap (λ (e : Era M Q R). e.side.halves) era_is ∙ ap (λ (ds : List (Datagram M)). halves_after spot.station l.era.side.halves (grams ds)) one
+        ∙ ap (λ (b : Bool). if b then halves_answered l.era.side.halves d.gram.ask d.gram else l.era.side.halves) (eq-eqb d.gram.station spot.station station)
+
+    pub now_one : halves_accept l.era.side.halves d.gram.ask d.gram ≡ [] → behind.era.side.now ≡ option_map (λ r. row_heard x frame [] r) l.era.side.now
+    now_one nothing =
+        ap (λ (e : Era M Q R). e.side.now) era_is ∙ ap (λ (ds : List (Datagram M)). option_map (λ r. row_heard x frame (all_accepted spot.station l.era.side.halves (grams ds)) r) l.era.side.now) one
+        ∙ ap (λ (b : Bool). option_map (λ r. row_heard x frame ((if b then halves_accept l.era.side.halves d.gram.ask d.gram else []) ++ []) r) l.era.side.now) (eq-eqb d.gram.station spot.station station)
+        ∙ ap (λ ms. option_map (λ r. row_heard x frame (ms ++ []) r) l.era.side.now) nothing
+
+    pub hand_one : (duty : Duty) → l.era.account.hand ≡ Some duty → is_for spot.station d.address ≡ true → (d.counter == 0) ≡ false → behind.era.account.hand ≡ (account_by frame l.era.account duty (access_done duty.target duty.stage d.access d.found)).hand
+    hand_one duty hand address met =
+        ap (λ (e : Era M Q R). e.account.hand) era_is ∙ ap (λ ds. (account_back spot.station frame l.era.account ds).hand) one ∙ ap (λ h. (account_met spot.station frame l.era.account h d).hand) hand
+        ∙ ap (λ (b : Bool). (if b && not (d.counter == 0) then account_by frame l.era.account duty (access_done duty.target duty.stage d.access d.found) else l.era.account).hand) address
+        ∙ ap (λ (b : Bool). (if not b then account_by frame l.era.account duty (access_done duty.target duty.stage d.access d.found) else l.era.account).hand) met
+
+-- nothing was heard: what is left to tell stays
+pub left_heard : {M Q R : Type 0} (x : Speech M Q R) (frame : ℕ) (now new : Option (Row M Q R)) → new ≡ option_map (λ r. row_heard x frame [] r) now → ((r : Row M Q R) → now ≡ Some r → left x r ≡ []) → (r : Row M Q R) → new ≡ Some r → left x r ≡ []
+left_heard x frame None new e none r is = absurd (let no : None ≡ Some r = sym e ∙ is in cc)
+left_heard {M} {Q} {R} x frame (Some old) new e none r is =
+    let heard : row_heard x frame [] old ≡ r = (let both : Some (row_heard x frame [] old) ≡ Some r = sym e ∙ is in cc) in
+    ap (λ (z : Row M Q R). left x z) (sym heard) ∙ ap (λ ms. drop (length old.told) (x.planned old.service (plain x.emission ms))) (append-nil old.heard) ∙ none old refl
+
+-- with no state service past its drain the slave stays open
+pub stand_for : {M Q R : Type 0} (x : Speech M Q R) (acknowledged : Q → Bool) (more : M → Bool) (passed : Q → Bool) (frame : ℕ) (spot : Spot) (back : List (Datagram M)) (came : Option (Bool × Option Found)) (l : Life M Q R) → l.stand ≡ Stand.Open →
+    (q : Wanted) → (let k = life_back x acknowledged more passed frame spot [] back came l l.stand in IsFor q k.era.account.hand → k.stand ≡ Stand.Open)
+stand_for {M} {Q} {R} x acknowledged more passed frame spot back came l stands q hand =
+    let e = era_back x acknowledged more passed spot.station frame [] back l.era in
+    ap (λ s. (life_back x acknowledged more passed frame spot [] back came l s).stand) stands
+    ∙ stays (record l { era = e }) e.account.hand q (subst (λ h. IsFor q h) (ap (λ (z : Era M Q R). z.account.hand) (era_is x acknowledged more passed frame spot back came l stands)) hand) ∙ stands
+  where
+    stays : (k : Life M Q R) (h : Option Duty) (q : Wanted) → IsFor q h → (reopens k h).stand ≡ k.stand
+    stays k h Wanted.Mails none = ap (λ z. (reopens k z).stand) none
+    stays k h Wanted.Drains (duty, is, stage) = ap (λ z. (reopens k z).stand) is ∙ ap (λ z. (reopens_at k duty.target z).stand) stage

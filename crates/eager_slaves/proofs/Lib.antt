@@ -1,0 +1,4 @@
+pub mod Sent
+pub mod Choices
+pub mod Behind
+pub mod Slaves

@@ -1,0 +1,568 @@
+-- ONE SLAVE by a frame that came back and gained nothing of it.
+use Rattle.std.proofs.Common.{◌≡◌, ◌⊎◌, ◌≤◌, ℕ, zero, suc, ◌%◌, ◌==◌, Bool, true, false, is_some, Option, Some, None, List, [], ◌∷◌, refl, sym, ap, ◌∙◌, subst, arith, if◌then◌else◌, inl, inr}
+use Rattle.std.specs.Prelude.{◌&&◌}
+use Rattle.exchange_model.specs.Exchange.{Exchange, Speech}
+use Rattle.idle_slaves.specs.Frames.{InVain, node_on, memory_on}
+use Rattle.idle_slaves.specs.Going.{Going, AccessVain, registers_on}
+use Rattle.idle_slaves.specs.Links.{HasLink}
+use Rattle.idle_slaves.specs.Visited.{IsFor, Shows, Meets, CameBack, HasRow, IsUnpaused, Waiting, Chosen, LifeSpent, visit_for, life_visit, memory_of}
+use Rattle.idle_slaves.specs.Waiting.{Wanted, Memory, IsWaiting, memory_behind, tried, link_by, wanted_by}
+use Rattle.idle_slaves.proofs.Choosing.{chosen}
+use Rattle.idle_slaves.proofs.Frames.{waits_so, was_spent}
+use Rattle.idle_slaves.proofs.Going.{goes_so}
+use Rattle.idle_slaves.proofs.Visited.{second, same_node}
+use Rattle.idle_slaves.proofs.Waiting.{Holds, Comes, holds, comes}
+use Rattle.life_measure.specs.Gains.{gains, phase_gains, stage_gains, progress_gains}
+use Rattle.life_measure.specs.Visits.{Visit, mails_visit, drain_visit}
+use Rattle.life_measure.proofs.Gaining.{next_same, state_gains}
+use Rattle.life_model.specs.Lives.{Life, Era, Spot, Stand, life_next, life_back}
+use Rattle.life_model.specs.Own.{own}
+use Rattle.link_mails.specs.Body.{Body}
+use Rattle.link_model.specs.Agree.{Agrees}
+use Rattle.link_model.specs.Frames.{Ask, Gram, node_meets, halves_answered, halves_accept, mail_back}
+use Rattle.link_model.specs.Link.{Halves, Link, Event, happens, written, write_counter}
+use Rattle.link_model.specs.Mails.{LinkMail, news}
+use Rattle.link_model.specs.Master.{InState, InHalf, OutHalf}
+use Rattle.link_model.specs.Slave.{Node, Server, processor_step}
+use Rattle.master_duty.specs.Reply.{Reply}
+use Rattle.master_hand.specs.Spoken.{Asked}
+use Rattle.run_frames.specs.Clocks.{Clocked}
+use Rattle.run_frames.specs.Goes.{Under, back_life}
+use Rattle.run_frames.specs.Orders.{is_live}
+use Rattle.run_frames.specs.Waits.{Waits, new_waits, waits_on}
+use Rattle.segment_model.specs.Record.{is_for}
+use Rattle.segment_model.specs.Slaves.{Datagram, Access, Found, Serving, Slave, Processor, Registers, serving, slave_after, slave_steps, slave_meets, frame_after, registers_met}
+use Rattle.segment_plan.specs.declared.service.Service as Plan
+use Rattle.state_exchange.specs.Stated.{Service}
+use Rattle.state_model.specs.States.{Table, Phase, carry, word_carried, decided, reads, phase_written}
+use Rattle.states_come.specs.Steps.{NotGone, StepsAlone}
+use Rattle.task_model.specs.Accounts.{Account, Duty, Stage, Pick, Progress, phase_access, access_done, account_by}
+use Rattle.eager_slaves.specs.Eager.{Remembered, AsksVisit, AsksStage, AsksFor, EachAsksFor, IsClear, NoneLeft, MayBegin, IsAtEnd, IsEager, IsInVain, IsDraining, RemembersOn, IsUnpausedBy, GetsNone}
+use Rattle.eager_slaves.specs.Frames.{IsSent, One, FrameAs}
+use Rattle.eager_slaves.specs.Standing.{Steps, Unvisited, Visited, Standing, IsDone}
+use Rattle.eager_slaves.proofs.Behind as Behind
+use Rattle.eager_slaves.proofs.Behind.{left_heard}
+use Rattle.eager_slaves.proofs.Choices.{stand_next, inn_next, row_next, hand_next, same_next}
+use Rattle.eager_slaves.proofs.Sent.{met, met_ask, met_station, node_behind, registers_behind, came_back, access_came}
+
+-- ---- small facts
+-- a word that is carried out waits no longer
+carried_none : (table : Table) (r : Registers) → (carry table r).control ≡ None
+carried_none table r = go r.refused r.control refl
+  where
+    decides : (found : Option ℕ) (target : ℕ) → (decided r target found).control ≡ None
+    decides None target = refl
+    decides (Some code) target = refl
+
+    flag : (b : Bool) (target : ℕ) (found : Option ℕ) → (if b then decided r target found else record r { control = None }).control ≡ None
+    flag true target found = decides found target
+    flag false target found = refl
+
+    go : (refused : Option ℕ) (control : Option (ℕ × Bool)) → r.control ≡ control → (word_carried table r refused control).control ≡ None
+    go None None e = e
+    go (Some code) None e = e
+    go None (Some w) e = decides (table r.state w.0) w.0
+    go (Some code) (Some w) e = flag w.1 w.0 (table r.state w.0)
+
+for_not_gone : (q : Wanted) (hand : Option Duty) → IsFor q hand → NotGone hand
+for_not_gone Wanted.Mails hand e = subst NotGone (sym e) tt
+for_not_gone Wanted.Drains hand (duty, is, stage) = subst NotGone (sym is) (subst (λ (z : Stage). NotGone (Some (record duty { stage = z }))) (sym stage) tt)
+
+for_draining : (q : Wanted) (hand : Option Duty) → IsFor q hand → IsDraining hand
+for_draining Wanted.Mails hand e = subst IsDraining (sym e) tt
+for_draining Wanted.Drains hand (duty, is, stage) = subst IsDraining (sym is) stage
+
+asks_visit : (h : Halves Body) (m : Memory) (hand : Option Duty) (d : Datagram Body) → IsDraining hand → AsksFor h m hand d → AsksVisit h (visit_for hand m (is_some h.out.holding)) d
+asks_visit h m None d drains asks = asks
+asks_visit h m (Some duty) d drains asks = subst (λ stage. AsksStage h m duty.target stage d) drains asks
+
+-- an access of a visit leaves the registers
+visit_registers : (h : Halves Body) (visit : Visit) (d : Datagram Body) (r : Registers) → AsksVisit h visit d → registers_met r d.access ≡ r
+visit_registers h Visit.Write d r (m, held, ask, access) = ap (registers_met r) access
+visit_registers h Visit.Read d r (ask, access) = ap (registers_met r) access
+visit_registers h Visit.Full d r (ask, access) = ap (registers_met r) access
+
+-- a slave behind datagrams that leave it
+untouched : {V : Type 0} (station : ℕ) (s : Slave V Body) (d : Datagram Body) (ds : List (Datagram Body)) → ds ≡ d ∷ [] → (slave_meets station s d).node ≡ s.node → (slave_meets station s d).registers ≡ s.registers → slave_after station s ds ≡ s
+untouched station s d ds one node registers = ap (slave_after station s) one ∙ (λ i. record { node = node i; registers = registers i })
+
+-- a mailbox that is written to and stays as it is was full
+written_full : {V : Type 0} (n : Node Body (Serving V Body)) (m : LinkMail Body) → node_meets n (Ask.WriteMail m) ≡ n → write_counter n.out.box ≡ 0
+written_full {V} n m e = go n.out.box refl (ap (λ (z : Node Body (Serving V Body)). z.out.box) e)
+  where
+    go : (box : Option (LinkMail Body)) → n.out.box ≡ box → (written n.out box m).box ≡ n.out.box → write_counter box ≡ 0
+    go None is same = absurd (let no : Some m ≡ None = same ∙ is in cc)
+    go (Some b) is same = refl
+
+-- one that is read and stays as it is was empty
+read_empty : {V : Type 0} (n : Node Body (Serving V Body)) → node_meets n Ask.ReadMail ≡ n → n.inn.box ≡ None
+read_empty {V} n e = sym (ap (λ (z : Node Body (Serving V Body)). z.inn.box) e)
+
+unvisited_waits : {S : Type 0} (v : Server Body S) (l : Life Body Asked Reply) (n : Node Body S) (t : Waits) (m : Memory) → Unvisited v l n t → Waiting v l n m t
+unvisited_waits {S} v l n t m k = subst (λ (z : ℕ). Waiting v l n m (record { stepped = t.stepped; tries = z })) (sym k.tries) (by n t.stepped k.steps)
+  where
+    by : (n : Node Body S) (b : Bool) → Steps v k.link.node n b → Waiting v l n m (record { stepped = b; tries = 0 })
+    by _ _ Steps.none = record { link = k.link; wanted = k.wanted; waits = IsWaiting.new k.link k.wanted m k.agrees k.clear; shows = k.shows }
+    by _ _ (Steps.more n b s) = let w = by n b s in record {
+      link = happens v w.link Event.Pdi;
+      wanted = w.wanted;
+      waits = IsWaiting.steps w.link w.wanted m (record { stepped = b; tries = 0 }) w.waits;
+      shows = record { halves = w.shows.halves; node = ap (processor_step v) w.shows.node; hand = w.shows.hand; stands = w.shows.stands };
+    }
+
+-- ---- THE FRAME
+module _ {V A : Type 0} (ex : Exchange V A Body Asked Reply) (processor : Processor V) (table : Table) (x : Spot → Speech Body Asked Reply) (acknowledged : Asked → Bool) (more : Body → Bool) (passed : Asked → Bool) (number : ℕ) (sent back : List (Datagram Body)) where
+  abbrev v : Server Body (Serving V Body)
+  v = serving ex
+
+  module _ (c : Clocked Body Asked Reply) (u : Under Body Asked Reply) (s s' : Slave V Body) (f : FrameAs ex processor table x acknowledged more passed number sent back c u s s') where
+    abbrev station : ℕ
+    station = c.spot.station
+
+    abbrev behind : Life Body Asked Reply
+    behind = back_life x acknowledged more passed number back c u
+
+    stand_is : u.life.stand ≡ c.life.stand
+    stand_is = ap (λ (z : Life Body Asked Reply). z.stand) f.life ∙ stand_next (x c.spot) acknowledged more passed number c.life f.pick
+
+    inn_is : u.life.era.side.halves.inn ≡ c.life.era.side.halves.inn
+    inn_is = ap (λ (z : Life Body Asked Reply). z.era.side.halves.inn) f.life ∙ inn_next (x c.spot) acknowledged more passed number c.life f.pick
+
+    back_none : u.under ≡ false → own station back ≡ []
+    back_none out = f.back_is ∙ ap (frame_after station s) (f.none out)
+
+    sent_none : u.under ≡ false → slave_after station s (own station sent) ≡ s
+    sent_none out = ap (slave_after station s) (f.none out)
+
+    back_one : (o : One station sent) → own station back ≡ met station s f.here o.datagram o.sent_so ∷ []
+    back_one o = f.back_is ∙ ap (frame_after station s) o.is
+
+    -- the slave behind the step, where the frame left it
+    step_registers : slave_after station s (own station sent) ≡ s → s'.registers ≡ registers_on table number c s.registers
+    step_registers left = ap (λ (z : Slave V Body). z.registers) f.slave ∙ by (suc number % c.pace == 0)
+      where
+        by : (b : Bool) → (let k = slave_after station s (own station sent) in if b then slave_steps ex processor k else k).registers ≡ (if b then carry table s.registers else s.registers)
+        by true = ap (λ (z : Slave V Body). (slave_steps ex processor z).registers) left ∙ f.alone.registers
+        by false = ap (λ (z : Slave V Body). z.registers) left
+
+    step_node : slave_after station s (own station sent) ≡ s → NotGone c.life.era.account.hand → s'.node ≡ node_on v number c s.node
+    step_node left not_gone = ap (λ (z : Slave V Body). z.node) f.slave ∙ by (suc number % c.pace == 0)
+      where
+        by : (b : Bool) → (let k = slave_after station s (own station sent) in if b then slave_steps ex processor k else k).node ≡ (if b then processor_step v s.node else s.node)
+        by true = ap (λ (z : Slave V Body). (slave_steps ex processor z).node) left ∙ f.alone.node not_gone
+        by false = ap (λ (z : Slave V Body). z.node) left
+
+    step_control : (t : Waits) → s'.registers ≡ registers_on table number c s.registers → (t.stepped ≡ true → s.registers.control ≡ None) → (waits_on number c u t).stepped ≡ true → s'.registers.control ≡ None
+    step_control t registers before stepped = ap (λ (r : Registers). r.control) registers ∙ by (suc number % c.pace == 0) stepped
+      where
+        by : (b : Bool) → (if b then true else t.stepped) ≡ true → (if b then carry table s.registers else s.registers).control ≡ None
+        by true e = carried_none table s.registers
+        by false e = before e
+
+    -- ---- A SLAVE THAT WAITS
+    module _ (m n : Remembered) (next : Option Plan.Service) (begun : Option (Service Asked)) (wish : f.pick.begin ≡ begun) (eager : IsEager (x c.spot) station sent m u.under begun next c.life u.life) (unpaused : IsUnpausedBy m begun) (remembers : RemembersOn station back m n u.under c.life u.life) where
+      module _ (t : Waits) (k : Waiting v c.life s.node m.memory t) (link : HasLink c.life.era.side s) where
+        pause_free : IsUnpaused f.pick m.memory t
+        pause_free target e one = unpaused target (sym wish ∙ e)
+
+        chose : Chosen v c.life u.life s.node m.memory t
+        chose = subst (λ z. Chosen v c.life z s.node m.memory t) (sym f.life) (chosen v c.life s.node m.memory t k (x c.spot) acknowledged more passed number f.pick f.unpassed pause_free)
+
+        clear : IsClear u.life
+        clear = record { stands = chose.shows.stands; clear = ap (λ (h : InHalf). h.state) inn_is ∙ ap (λ (h : Halves Body). h.inn.state) (sym k.shows.halves) ∙ (holds v k.link k.wanted m.memory t k.waits).clear }
+
+        row : HasRow u.life s.node
+        row = subst (λ z. HasRow z s.node) (sym f.life) (row_next (x c.spot) acknowledged more passed number c.life f.pick s.node
+            (link.row (ap (λ (h : InHalf). h.state) (sym inn_is) ∙ clear.clear)))
+
+        -- its visit
+        asks : (o : One station sent) → AsksVisit u.life.era.side.halves (life_visit u.life (memory_of c.life u.life m.memory)) o.datagram
+        asks o = asks_visit u.life.era.side.halves (memory_of c.life u.life m.memory) u.life.era.account.hand o.datagram (for_draining (wanted_by chose.wanted chose.coming) u.life.era.account.hand chose.shows.hand)
+            (subst (λ ds. EachAsksFor u.life.era.side.halves (memory_of c.life u.life m.memory) u.life.era.account.hand ds) o.is (eager.asks clear)).0
+
+        abbrev came : u.under ≡ true → CameBack station s.node u.life.era.side.halves (life_visit u.life (memory_of c.life u.life m.memory)) back
+        came e = let o = f.one clear.stands e in came_back station s f.here o.datagram o.sent_so back u.life.era.side.halves (life_visit u.life (memory_of c.life u.life m.memory)) (back_one o) (asks o)
+
+        vain : (u.under ≡ false → u.life ≡ c.life) → InVain x acknowledged more passed number back c u s.node m.memory t
+        vain none = record { pick = f.pick; life = f.life; unpassed = f.unpassed; unpaused = pause_free; row = row; visits = came; none = λ e. (none e, back_none e); same = f.same }
+
+        same : gains (life_back (x c.spot) acknowledged more passed number c.spot [] back u.came u.life Stand.Open) ≡ gains u.life
+        same =
+            ap (λ z. gains (life_back (x c.spot) acknowledged more passed number c.spot [] back u.came u.life z)) (sym clear.stands) ∙ f.same
+            ∙ sym (next_same (x c.spot) acknowledged more passed number c.life c.life.stand f.pick) ∙ ap gains (sym f.life)
+
+        -- it leaves the slave
+        visit_node : (e : u.under ≡ true) → node_meets s.node (let o = f.one clear.stands e in met station s f.here o.datagram o.sent_so).gram.ask ≡ s.node
+        visit_node e = same_node v (x c.spot) acknowledged more passed number c.spot [] back u.came u.life s.node m.memory t c.life chose row (came e) same
+
+        left_so : (b : Bool) → u.under ≡ b → slave_after station s (own station sent) ≡ s
+        left_so false e = sent_none e
+        left_so true e =
+            let o = f.one clear.stands e in
+            untouched station s o.datagram (own station sent) o.is (node_behind station s f.here o.datagram o.sent_so ∙ visit_node e)
+            (registers_behind station s f.here o.datagram o.sent_so ∙ visit_registers u.life.era.side.halves (life_visit u.life (memory_of c.life u.life m.memory)) o.datagram s.registers (asks o))
+
+        pub left : slave_after station s (own station sent) ≡ s
+        left = left_so u.under refl
+
+        not_gone : NotGone c.life.era.account.hand
+        not_gone = for_not_gone k.wanted c.life.era.account.hand k.shows.hand
+
+        -- behind it the hand is none, or drains yet
+        module _ (i : InVain x acknowledged more passed number back c u s.node m.memory t) where
+          pub waits : Waiting v behind (node_on v number c s.node) (memory_on c u m.memory) (waits_on number c u t)
+          waits = waits_so v x acknowledged more passed number back c u s.node m.memory t k i
+
+          -- where mailbox 0 was to be seen empty, it was full
+          saw_full : (o : One station sent) → u.under ≡ true → (duty : Duty) → u.life.era.account.hand ≡ Some duty → duty.stage ≡ Stage.Drains → (d : Datagram Body) → own station back ≡ d ∷ [] → d.gram.station ≡ station → is_for station d.address ≡ true → d.access ≡ Access.ReadFull →
+              (d.counter == 0) ≡ false → (box : Option (LinkMail Body)) → d.found ≡ Some (Found.Full (is_some box)) → is_some box ≡ true
+          saw_full o e duty hand stage d one is address access counted (Some b) found = refl
+          saw_full o e duty hand stage d one is address access counted None found = never waits.wanted waits.shows.hand
+            where
+              goes : behind.era.account.hand ≡ Some (record duty { stage = Stage.Goes Phase.Ask })
+              goes =
+                  Behind.hand_one (x c.spot) acknowledged more passed number c.spot back u.came u.life clear.stands d one is duty hand address counted
+                  ∙ (λ z. (account_by number u.life.era.account duty (access_done {R = Reply} duty.target (stage z) (access z) (found z))).hand)
+
+              never : (q : Wanted) → IsFor q behind.era.account.hand → is_some (let none : Option (LinkMail Body) = None in none) ≡ true
+              never Wanted.Mails none = absurd (let no : Some (record duty { stage = Stage.Goes Phase.Ask }) ≡ None = sym goes ∙ none in cc)
+              never Wanted.Drains (other, is, drains) =
+                  let same : record duty { stage = Stage.Goes Phase.Ask } ≡ other = (let both : Some (record duty { stage = Stage.Goes Phase.Ask }) ≡ Some other = sym goes ∙ is in cc) in
+                  absurd (let no : Stage.Goes Phase.Ask ≡ Stage.Drains = ap (λ (z : Duty). z.stage) same ∙ drains in cc)
+
+          -- so it was in vain
+          visit_full : (b : Bool) (m' : Memory) → mails_visit m'.paused b ≡ Visit.Full → is_some (let none : Option (LinkMail Body) = None in none) ≡ true
+          visit_full b m' e = by m'.paused b e
+            where
+              by : (p b : Bool) → mails_visit p b ≡ Visit.Full → is_some (let none : Option (LinkMail Body) = None in none) ≡ true
+              by true b e = absurd (let no : Visit.Read ≡ Visit.Full = e in cc)
+              by false true e = absurd (let no : Visit.Write ≡ Visit.Full = e in cc)
+              by false false e = absurd (let no : Visit.Read ≡ Visit.Full = e in cc)
+
+          drains_now : (q : Wanted) → IsFor q u.life.era.account.hand → life_visit u.life (memory_of c.life u.life m.memory) ≡ Visit.Full → (duty : Duty) × (u.life.era.account.hand ≡ Some duty) × (duty.stage ≡ Stage.Drains)
+          drains_now Wanted.Drains k e = k
+          drains_now Wanted.Mails none e = absurd (let no : false ≡ true = visit_full (is_some u.life.era.side.halves.out.holding) (memory_of c.life u.life m.memory) (sym (ap (λ h. visit_for h (memory_of c.life u.life m.memory) (is_some u.life.era.side.halves.out.holding)) none) ∙ e) in cc)
+
+          module _ (e : u.under ≡ true) where
+            abbrev o : One station sent
+            o = f.one clear.stands e
+
+            abbrev d : Datagram Body
+            d = met station s f.here o.datagram o.sent_so
+
+            abbrev visit : Visit
+            visit = life_visit u.life (memory_of c.life u.life m.memory)
+
+            is_vain : (w : Visit) → visit ≡ w → AsksVisit u.life.era.side.halves w o.datagram → Meets s.node u.life.era.side.halves w d → IsInVain w d
+            is_vain Visit.Write is asks (mail, held, ask, counter, access) = ap (λ n. n == 0) (counter ∙ written_full s.node mail (ap (node_meets s.node) (sym ask) ∙ visit_node e))
+            is_vain Visit.Read is asks meets = tt
+            is_vain Visit.Full is asks (ask, access, counted, found) =
+                let k = drains_now (wanted_by chose.wanted chose.coming) chose.shows.hand is in
+                (counted, found ∙ ap (λ z. Some (Found.Full z)) (saw_full o e k.0 k.1 k.2 d (came e).one (came e).station_is (came e).address access counted s.node.out.box found))
+
+            -- the mail held stays held, and nothing is heard
+            same_out : (w : Visit) → visit ≡ w → Meets s.node u.life.era.side.halves w d → IsInVain w d → (halves_answered u.life.era.side.halves d.gram.ask d.gram).out ≡ u.life.era.side.halves.out
+            same_out Visit.Write is (mail, held, ask, counter, access) full =
+                let h = u.life.era.side.halves in
+                ap (λ a. (halves_answered h a d.gram).out) ask ∙ ap (λ (b : Bool). if b then h.out else record h.out { holding = None }) full
+            same_out Visit.Read is (ask, mail, access) full = ap (λ a. (halves_answered u.life.era.side.halves a d.gram).out) ask
+            same_out Visit.Full is (ask, access, counted, found) full = ap (λ a. (halves_answered u.life.era.side.halves a d.gram).out) ask
+
+            hears_none : (w : Visit) → visit ≡ w → Meets s.node u.life.era.side.halves w d → halves_accept u.life.era.side.halves d.gram.ask d.gram ≡ []
+            hears_none Visit.Write is (mail, held, ask, counter, access) = ap (λ a. halves_accept u.life.era.side.halves a d.gram) ask
+            hears_none Visit.Read is (ask, mail, access) =
+                ap (λ a. halves_accept u.life.era.side.halves a d.gram) ask
+                ∙ ap (λ z. news u.life.era.side.halves.inn.last z) (mail ∙ read_empty s.node (ap (node_meets s.node) (sym ask) ∙ visit_node e))
+            hears_none Visit.Full is (ask, access, counted, found) = ap (λ a. halves_accept u.life.era.side.halves a d.gram) ask
+
+            abbrev meets : Meets s.node u.life.era.side.halves visit d
+            meets = (came e).meets
+
+            in_vain : IsInVain visit d
+            in_vain = is_vain visit refl (asks o) meets
+
+            left_visited : behind.era.side.halves.out.holding ≡ None → NoneLeft (x c.spot) behind
+            left_visited free =
+                let halves = Behind.halves_one (x c.spot) acknowledged more passed number c.spot back u.came u.life clear.stands d (came e).one (came e).station_is in
+                let held : u.life.era.side.halves.out.holding ≡ None = ap (λ (z : OutHalf Body). z.holding) (sym (ap (λ (h : Halves Body). h.out) halves ∙ same_out visit refl meets in_vain)) ∙ free in
+                left_heard (x c.spot) number u.life.era.side.now behind.era.side.now
+                (Behind.now_one (x c.spot) acknowledged more passed number c.spot back u.came u.life clear.stands d (came e).one (came e).station_is (hears_none visit refl meets)) (eager.takes e clear held)
+
+            remembers_so : n.memory ≡ memory_behind (memory_of c.life u.life m.memory) visit
+            remembers_so = remembers.visited e clear (for_draining (wanted_by chose.wanted chose.coming) u.life.era.account.hand chose.shows.hand) d (came e).one in_vain
+
+          -- what is remembered is what such a visit leaves
+          memory_is : (b : Bool) → u.under ≡ b → n.memory ≡ (if b then memory_behind (memory_of c.life u.life m.memory) (life_visit u.life (memory_of c.life u.life m.memory)) else m.memory)
+          memory_is true e = remembers_so e
+          memory_is false e = remembers.unvisited e clear.stands
+
+          left_none : u.under ≡ false → (u.life.era.side.halves.out.holding ≡ None → NoneLeft (x c.spot) u.life) → behind.era.side.halves.out.holding ≡ None → NoneLeft (x c.spot) behind
+          left_none e before free =
+              let halves = Behind.halves_none (x c.spot) acknowledged more passed number c.spot back u.came u.life clear.stands (back_none e) in
+              left_heard (x c.spot) number u.life.era.side.now behind.era.side.now (Behind.now_none (x c.spot) acknowledged more passed number c.spot back u.came u.life clear.stands (back_none e))
+              (before (ap (λ (h : Halves Body). h.out.holding) (sym halves) ∙ free))
+
+          left_behind : (b : Bool) → u.under ≡ b → (b ≡ false → u.life.era.side.halves.out.holding ≡ None → NoneLeft (x c.spot) u.life) → behind.era.side.halves.out.holding ≡ None → NoneLeft (x c.spot) behind
+          left_behind true e before = left_visited e
+          left_behind false e before = left_none e (before refl)
+
+          -- VISITED, behind it
+          pub visited_on : (u.under ≡ false → u.life.era.side.halves.out.holding ≡ None → NoneLeft (x c.spot) u.life) → Visited v (x c.spot) behind s'.node n.memory (waits_on number c u t)
+          visited_on before = record {
+            waits = subst (λ z. Waiting v behind z n.memory (waits_on number c u t)) (sym (step_node left not_gone))
+                (subst (λ z. Waiting v behind (node_on v number c s.node) z (waits_on number c u t)) (sym (memory_is u.under refl)) waits);
+            left = left_behind u.under refl (λ e. before e);
+          }
+
+      -- ---- WHAT IT IS BEHIND THE FRAME
+      module _ (t : Waits) (next' : Option Plan.Service) (gets : GetsNone m n) (script : next ≡ None → next' ≡ None) (link : HasLink c.life.era.side s) (frees : LifeSpent v c.life s.node → NoneLeft (x c.spot) c.life → MayBegin (x c.spot) c.life)
+          (settles : u.under ≡ true → IsClear u.life → u.life.era.side.halves.out.holding ≡ None → u.life.era.account.hand ≡ None → begun ≡ None) where
+        abbrev on : Waits
+        on = waits_on number c u t
+
+        abbrev Stands : Type 0
+        Stands = Standing v table (x c.spot) behind s' n next' on
+
+        abbrev WaitsYet : Type 0
+        WaitsYet = (is_live behind.stand ≡ true) × (on.tries ≤ 1)
+
+        abbrev Done : Type 0
+        Done = IsDone v (x c.spot) c.life s m next
+
+        open_waits : (k : Waiting v behind s'.node n.memory on) → on.tries ≤ 1 → WaitsYet
+        open_waits k few = (ap is_live k.shows.stands, few)
+
+        packet_none : IsAtEnd next m → IsAtEnd next' n
+        packet_none e = record { script = script e.script; packet = by n.packet refl }
+          where
+            by : (b : Bool) → n.packet ≡ b → b ≡ false
+            by false is = refl
+            by true is = absurd (let no : true ≡ false = sym (gets is) ∙ e.packet in cc)
+
+        -- ---- it was visited already
+        module _ (k : Visited v (x c.spot) c.life s.node m.memory t) (control : t.stepped ≡ true → s.registers.control ≡ None) (end : 2 ≤ t.tries → IsAtEnd next m) where
+          stays_so : u.under ≡ false → u.life ≡ c.life
+          stays_so e = f.life ∙ same_next (x c.spot) acknowledged more passed number c.life f.pick k.waits.shows.stands f.unpassed (wish ∙ eager.begins e) (λ free r now. k.left free r now)
+
+          i : InVain x acknowledged more passed number back c u s.node m.memory t
+          i = vain t k.waits link stays_so
+
+          before : u.under ≡ false → u.life.era.side.halves.out.holding ≡ None → NoneLeft (x c.spot) u.life
+          before e free = subst (λ z. NoneLeft (x c.spot) z) (sym (stays_so e)) (k.left (ap (λ (z : Life Body Asked Reply). z.era.side.halves.out.holding) (sym (stays_so e)) ∙ free))
+
+          now : Visited v (x c.spot) behind s'.node n.memory on
+          now = visited_on t k.waits link i before
+
+          none_left : LifeSpent v c.life s.node → NoneLeft (x c.spot) c.life
+          none_left spent = k.left (sym (ap (λ (h : Halves Body). h.out.holding) spent.shows.halves) ∙ spent.spent.held)
+
+          was : Holds v k.waits.link k.waits.wanted m.memory t
+          was = holds v k.waits.link k.waits.wanted m.memory t k.waits.waits
+
+          stepped_so : (b : Bool) → t.stepped ≡ b → 1 ≤ t.tries → b ≡ true
+          stepped_so true e one = refl
+          stepped_so false e one = absurd (let none : t.tries ≡ 0 = was.none e in omega (arith, none, one))
+
+          clear_before : IsClear c.life
+          clear_before = record { stands = k.waits.shows.stands; clear = ap (λ (h : Halves Body). h.inn.state) (sym k.waits.shows.halves) ∙ was.clear }
+
+          ends_now : u.under ≡ true → 1 ≤ t.tries → IsAtEnd next m
+          ends_now e one =
+              let spent = second v (x c.spot) acknowledged more passed number c.spot [] back u.came u.life s.node m.memory t c.life (chose t k.waits link) (row t k.waits link) (came t k.waits link e) (same t k.waits link) one in
+              eager.ends e clear_before (frees spent.0 (none_left spent.0)) (settles e (clear t k.waits link) (sym (ap (λ (h : Halves Body). h.out.holding) spent.1.shows.halves) ∙ spent.1.spent.held) spent.1.shows.hand)
+
+          at_end : (under stepped : Bool) → u.under ≡ under → t.stepped ≡ stepped → 2 ≤ (if under && stepped then suc t.tries else t.tries) → IsAtEnd next m
+          at_end true true e g two = ends_now e (omega (arith, two))
+          at_end true false e g two = end two
+          at_end false stepped e g two = end two
+
+          one_of : (under stepped : Bool) → 2 ≤ (if under && stepped then suc t.tries else t.tries) → 1 ≤ t.tries
+          one_of true true two = omega (arith, two)
+          one_of true false two = omega (arith, two)
+          one_of false stepped two = omega (arith, two)
+
+          done : 2 ≤ on.tries → Done
+          done two =
+              let spent = was_spent v x acknowledged more passed number back c u s.node m.memory t k.waits i two in
+              record {
+                spent = spent;
+                left = none_left spent;
+                end = at_end u.under t.stepped refl refl two;
+                control = control (stepped_so t.stepped refl (one_of u.under t.stepped two));
+              }
+
+          pub visited_stands : Stands
+          visited_stands = Standing.waits now (step_control t (step_registers (left t k.waits link)) control) (λ two. packet_none (at_end u.under t.stepped refl refl two))
+
+          pub visited_waits : WaitsYet ⊎ Done
+          visited_waits = by on.tries refl
+            where
+              by : (tries : ℕ) → on.tries ≡ tries → WaitsYet ⊎ Done
+              by zero e = inl (open_waits now.waits (omega (arith, e)))
+              by (suc zero) e = inl (open_waits now.waits (omega (arith, e)))
+              by (suc (suc tries)) e = inr (done (omega (arith, e)))
+
+        -- ---- it was not
+        module _ (k : Unvisited v c.life s.node t) (control : t.stepped ≡ true → s.registers.control ≡ None) where
+          first : Waiting v c.life s.node m.memory t
+          first = unvisited_waits v c.life s.node t m.memory k
+
+          few : (under stepped : Bool) → (if under && stepped then suc t.tries else t.tries) ≤ 1
+          few true true = let e = k.tries in omega (arith, e)
+          few true false = let e = k.tries in omega (arith, e)
+          few false stepped = let e = k.tries in omega (arith, e)
+
+          -- it is visited now
+          visited_now : u.under ≡ true → Visited v (x c.spot) behind s'.node n.memory on
+          visited_now e = visited_on t first link (vain t first link (λ out. absurd (let no : true ≡ false = sym e ∙ out in cc))) (λ out. absurd (let no : true ≡ false = sym e ∙ out in cc))
+
+          -- or it isn't: what came into hand came into hand when something was gained
+          module _ (out : u.under ≡ false) where
+            begun_link : Waiting v c.life k.link.node m.memory new_waits
+            begun_link = record { link = k.link; wanted = k.wanted; waits = IsWaiting.new k.link k.wanted m.memory k.agrees k.clear; shows = k.shows }
+
+            ch : Chosen v c.life u.life k.link.node m.memory new_waits
+            ch = subst (λ z. Chosen v c.life z k.link.node m.memory new_waits) (sym f.life) (chosen v c.life k.link.node m.memory new_waits begun_link (x c.spot) acknowledged more passed number f.pick f.unpassed (λ target e one. absurd (omega (arith, one))))
+
+            old : Holds v ch.link ch.wanted m.memory new_waits
+            old = holds v ch.link ch.wanted m.memory new_waits ch.waits
+
+            abbrev w : Link Body (Serving V Body)
+            w = link_by v ch.link ch.coming
+
+            come : Comes ch.link w
+            come = comes v ch.link ch.coming old.agrees
+
+            abbrev stands : u.life.stand ≡ Stand.Open
+            stands = ch.shows.stands
+
+            hand : behind.era.account.hand ≡ u.life.era.account.hand
+            hand = Behind.hand_none (x c.spot) acknowledged more passed number c.spot back u.came u.life stands (back_none out)
+
+            old_steps : Steps v w.node s.node t.stepped
+            old_steps = subst (λ z. Steps v z s.node t.stepped) (sym (come.node ∙ ch.was.node)) k.steps
+
+            steps_on : (b : Bool) → Steps v w.node (if b then processor_step v s.node else s.node) (if b then true else t.stepped)
+            steps_on true = Steps.more s.node t.stepped old_steps
+            steps_on false = old_steps
+
+            fresh_on : Unvisited v behind s'.node on
+            fresh_on = record {
+              link = w;
+              wanted = wanted_by ch.wanted ch.coming;
+              agrees = come.agrees;
+              clear = ap (λ (h : InHalf). h.state) come.inn ∙ old.clear;
+              shows = record {
+                halves = ch.shows.halves ∙ sym (Behind.halves_none (x c.spot) acknowledged more passed number c.spot back u.came u.life stands (back_none out));
+                node = refl;
+                hand = subst (λ h. IsFor (wanted_by ch.wanted ch.coming) h) (sym hand) ch.shows.hand;
+                stands = Behind.stand_for (x c.spot) acknowledged more passed number c.spot back u.came u.life stands (wanted_by ch.wanted ch.coming) (subst (λ h. IsFor (wanted_by ch.wanted ch.coming) h) (sym hand) ch.shows.hand);
+              };
+              steps = subst (λ z. Steps v w.node z on.stepped) (sym (step_node (sent_none out) (for_not_gone k.wanted c.life.era.account.hand k.shows.hand))) (steps_on (suc number % c.pace == 0));
+              tries = ap (λ (b : Bool). if b && t.stepped then suc t.tries else t.tries) out ∙ k.tries;
+            }
+
+          by_under : (b : Bool) → u.under ≡ b → Stands × WaitsYet
+          by_under true e =
+              let now = visited_now e in (
+                Standing.waits now (step_control t (step_registers (left t first link)) control) (λ two. absurd (let one = few u.under t.stepped in omega (arith, one, two))),
+                open_waits now.waits (few u.under t.stepped),
+              )
+          by_under false e =
+              let now = fresh_on e in (Standing.fresh now (step_control t (step_registers (sent_none e)) control), (ap is_live now.shows.stands, few u.under t.stepped))
+
+          pub fresh_stands : Stands × WaitsYet
+          fresh_stands = by_under u.under refl
+
+        -- ---- a state service goes on
+        module _ (g : Going table c.life s.registers t) (clear : c.life.era.side.halves.inn.state ≡ InState.Clear) where
+          open_next : u.life.stand ≡ Stand.Open
+          open_next = stand_is ∙ g.stands
+
+          hand_now : u.life.era.account.hand ≡ Some g.duty
+          hand_now = ap (λ (z : Life Body Asked Reply). z.era.account.hand) f.life ∙ hand_next (x c.spot) acknowledged more passed number c.life f.pick g.stands g.duty g.hand
+
+          clear_now : IsClear u.life
+          clear_now = record { stands = open_next; clear = ap (λ (h : InHalf). h.state) inn_is ∙ clear }
+
+          asks_access : (o : One station sent) → (o.datagram.gram.ask ≡ Ask.Other) × (o.datagram.access ≡ phase_access g.duty.target g.phase)
+          asks_access o =
+              let asked = (subst (λ ds. EachAsksFor u.life.era.side.halves (memory_of c.life u.life m.memory) u.life.era.account.hand ds) o.is (eager.asks clear_now)).0 in
+              subst (λ stage. AsksStage u.life.era.side.halves (memory_of c.life u.life m.memory) g.duty.target stage o.datagram) g.stage
+              (subst (λ h. AsksFor u.life.era.side.halves (memory_of c.life u.life m.memory) h o.datagram) hand_now asked)
+
+          access_vain : AccessVain x acknowledged more passed number back c u g.duty g.phase s.registers
+          access_vain = record {
+            pick = f.pick;
+            life = f.life;
+            visits = λ e. let o = f.one open_next e in access_came station s f.here o.datagram o.sent_so back g.duty g.phase (back_one o) (asks_access o).1;
+            none = back_none;
+            same = f.same;
+          }
+
+          on_going : Going table behind (registers_on table number c s.registers) on
+          on_going = goes_so table x acknowledged more passed number back c u s.registers t g access_vain
+
+          same_open : gains (life_back (x c.spot) acknowledged more passed number c.spot [] back u.came u.life Stand.Open) ≡ gains u.life
+          same_open =
+              ap (λ z. gains (life_back (x c.spot) acknowledged more passed number c.spot [] back u.came u.life z)) (sym open_next) ∙ f.same
+              ∙ sym (next_same (x c.spot) acknowledged more passed number c.life c.life.stand f.pick) ∙ ap gains (sym f.life)
+
+          -- a control word that was written takes it on
+          word_gains : (p : Phase) → reads p ≡ false → suc (phase_gains p) ≤ phase_gains (phase_written p)
+          word_gains Phase.Ask e = omega arith
+          word_gains Phase.Await e = absurd (cc)
+          word_gains (Phase.Acknowledge state code) e = omega arith
+          word_gains (Phase.Recover code) e = absurd (cc)
+
+          word_made : (p : Phase) (found : Option Found) → reads p ≡ false → access_done {R = Reply} g.duty.target (Stage.Goes p) (phase_access g.duty.target p) found ≡ Progress.On (Stage.Goes (phase_written p))
+          word_made Phase.Ask found e = refl
+          word_made Phase.Await found e = absurd (cc)
+          word_made (Phase.Acknowledge state code) found e = refl
+          word_made (Phase.Recover code) found e = absurd (cc)
+
+          no_word : {X : Type 0} → One station sent → u.under ≡ true → reads g.phase ≡ false → X
+          no_word o e writes =
+              let came = access_came station s f.here o.datagram o.sent_so back g.duty g.phase (back_one o) (asks_access o).1 in
+              let d = came.datagram in
+              let made : access_done {R = Reply} g.duty.target g.duty.stage d.access d.found ≡ Progress.On (Stage.Goes (phase_written g.phase)) =
+              ap (λ z. access_done {R = Reply} g.duty.target z d.access d.found) g.stage ∙ ap (λ z. access_done {R = Reply} g.duty.target (Stage.Goes g.phase) z d.found) came.access ∙ word_made g.phase d.found writes in
+              let more_now : suc (stage_gains g.duty.stage) ≤ progress_gains (access_done {R = Reply} g.duty.target g.duty.stage d.access d.found) =
+              omega (arith, word_gains g.phase writes, ap stage_gains g.stage, ap progress_gains made) in
+              let gained = state_gains (x c.spot) acknowledged more passed number c.spot [] back u.came u.life d g.duty came.one hand_now came.address came.met more_now in
+              absurd (let same = same_open in omega (arith, gained, same))
+
+          access_registers : (o : One station sent) → u.under ≡ true → (p : Phase) → g.phase ≡ p → registers_met s.registers (phase_access g.duty.target p) ≡ s.registers
+          access_registers o e Phase.Await is = refl
+          access_registers o e (Phase.Recover code) is = refl
+          access_registers o e Phase.Ask is = no_word o e (ap reads is)
+          access_registers o e (Phase.Acknowledge state code) is = no_word o e (ap reads is)
+
+          going_left : (b : Bool) → u.under ≡ b → slave_after station s (own station sent) ≡ s
+          going_left false e = sent_none e
+          going_left true e =
+              let o = f.one open_next e in
+              let asked = asks_access o in
+              untouched station s o.datagram (own station sent) o.is (node_behind station s f.here o.datagram o.sent_so ∙ ap (node_meets s.node) (met_ask station s f.here o.datagram o.sent_so ∙ asked.0))
+              (registers_behind station s f.here o.datagram o.sent_so ∙ ap (registers_met s.registers) asked.1 ∙ access_registers o e g.phase refl)
+
+          clear_behind : (b : Bool) → u.under ≡ b → behind.era.side.halves.inn.state ≡ InState.Clear
+          clear_behind false e = ap (λ (h : Halves Body). h.inn.state) (Behind.halves_none (x c.spot) acknowledged more passed number c.spot back u.came u.life open_next (back_none e)) ∙ clear_now.clear
+          clear_behind true e =
+              let o = f.one open_next e in
+              let d = met station s f.here o.datagram o.sent_so in
+              ap (λ (h : Halves Body). h.inn.state) (Behind.halves_one (x c.spot) acknowledged more passed number c.spot back u.came u.life open_next d (back_one o) (met_station station s f.here o.datagram o.sent_so))
+              ∙ ap (λ a. (halves_answered u.life.era.side.halves a d.gram).inn.state) (met_ask station s f.here o.datagram o.sent_so ∙ (asks_access o).0) ∙ clear_now.clear
+
+          pub going_stands : Stands × WaitsYet
+          going_stands = (
+            Standing.goes (subst (λ r. Going table behind r on) (sym (step_registers (going_left u.under refl))) on_going) (clear_behind u.under refl),
+            (ap is_live on_going.stands, omega (arith, on_going.tries)),
+          )
+
+        -- ---- HOWEVER IT STOOD, while it is open
+        pub open_stands : c.life.stand ≡ Stand.Open → Standing v table (x c.spot) c.life s m next t → Stands × (WaitsYet ⊎ Done)
+        open_stands stands (Standing.gone e) = absurd (let never : Stand.Gone ≡ Stand.Open = sym e ∙ stands in cc)
+        open_stands stands (Standing.fresh k control) = let both = fresh_stands k control in (both.0, inl both.1)
+        open_stands stands (Standing.waits k control end) = (visited_stands k control end, visited_waits k control end)
+        open_stands stands (Standing.goes g clear) = let both = going_stands g clear in (both.0, inl both.1)

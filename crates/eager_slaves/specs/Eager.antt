@@ -1,0 +1,123 @@
+-- A MASTER MAKES NO VISIT IN VAIN where more could go on: what its frame asks an open slave with nothing in doubt, and what is left to do behind a visit.
+use Rattle.std.specs.Prelude.{◌≡◌, ◌==◌, Bool, true, false, is_some, Option, Some, None, List, [], ◌∷◌, ℕ, slice_get, ⊤}
+use Rattle.exchange_model.specs.Exchange.{Speech}
+use Rattle.exchange_model.specs.Rows.{Row, left}
+use Rattle.frame_view.specs.View.{Lens}
+use Rattle.idle_slaves.specs.Visited.{life_visit, memory_of}
+use Rattle.idle_slaves.specs.Waiting.{Memory, memory_behind}
+use Rattle.life_measure.specs.Visits.{Visit, mails_visit, drain_visit}
+use Rattle.life_model.specs.Lives.{Life, Stand}
+use Rattle.life_model.specs.Own.{own}
+use Rattle.life_runs.specs.Led.{Leads, Turn, speech_at}
+use Rattle.link_mails.specs.Body.{Body}
+use Rattle.link_model.specs.Frames.{Ask}
+use Rattle.link_model.specs.Link.{Halves}
+use Rattle.link_model.specs.Mails.{LinkMail}
+use Rattle.link_model.specs.Master.{InState}
+use Rattle.master_duty.specs.Reply.{Reply}
+use Rattle.master_hand.specs.Spoken.{Asked, acknowledged}
+use Rattle.segment_model.specs.Slaves.{Datagram, Access, Found}
+use Rattle.segment_plan.specs.declared.service.Service as Plan
+use Rattle.state_exchange.specs.Stated.{Service}
+use Rattle.task_model.specs.Accounts.{Duty, Stage, is_free, is_acknowledged, phase_access}
+
+-- what a master remembers of a slave between two frames: of its visits, and whether a packet waits at its port
+pub record Remembered : Type 0 where
+  pub memory : Memory
+  pub packet : Bool
+
+-- WHAT THE DATAGRAM OF A VISIT ASKS: it writes the mail held, reads mailbox 1, or reads the status of mailbox 0
+abbrev pub AsksVisit : Halves Body → Visit → Datagram Body → Type 0
+AsksVisit h Visit.Write d = (m : LinkMail Body) × (h.out.holding ≡ Some m) × (d.gram.ask ≡ Ask.WriteMail m) × (d.access ≡ Access.Elsewhere)
+AsksVisit h Visit.Read d = (d.gram.ask ≡ Ask.ReadMail) × (d.access ≡ Access.Elsewhere)
+AsksVisit h Visit.Full d = (d.gram.ask ≡ Ask.Other) × (d.access ≡ Access.ReadFull)
+
+-- by the stage of a state service in hand: past its drain it asks by its own access
+abbrev pub AsksStage : Halves Body → Memory → ℕ → Stage → Datagram Body → Type 0
+AsksStage h m target Stage.Drains d = AsksVisit h (drain_visit m.turn) d
+AsksStage h m target (Stage.Goes phase) d = (d.gram.ask ≡ Ask.Other) × (d.access ≡ phase_access target phase)
+
+-- by the state service in hand
+abbrev pub AsksFor : Halves Body → Memory → Option Duty → Datagram Body → Type 0
+AsksFor h m None d = AsksVisit h (mails_visit m.paused (is_some h.out.holding)) d
+AsksFor h m (Some duty) d = AsksStage h m duty.target duty.stage d
+
+-- each of these does
+abbrev pub EachAsksFor : Halves Body → Memory → Option Duty → List (Datagram Body) → Type 0
+EachAsksFor h m hand [] = ⊤
+EachAsksFor h m hand (d ∷ ds) = AsksFor h m hand d × EachAsksFor h m hand ds
+
+-- an open slave with nothing in doubt
+pub record IsClear (l : Life Body Asked Reply) : Type 0 where
+  pub stands : l.stand ≡ Stand.Open
+  pub clear : l.era.side.halves.inn.state ≡ InState.Clear
+
+-- nothing is left to tell of its newest service
+abbrev pub NoneLeft : Speech Body Asked Reply → Life Body Asked Reply → Type 0
+NoneLeft x l = (r : Row Body Asked Reply) → l.era.side.now ≡ Some r → left x r ≡ []
+
+-- a service may begin: none is in hand, and the write of the last one's acknowledgement is done
+pub record MayBegin (x : Speech Body Asked Reply) (l : Life Body Asked Reply) : Type 0 where
+  pub free : is_free x l.era.side l.era.side.now ≡ true
+  pub done : is_acknowledged acknowledged l.era.side l.era.side.now ≡ true
+  pub hand : l.era.account.hand ≡ None
+
+-- its script is at its end, and no packet waits at its port; `next` is the script's next service
+pub record IsAtEnd (next : Option Plan.Service) (m : Remembered) : Type 0 where
+  pub script : next ≡ None
+  pub packet : m.packet ≡ false
+
+-- AT ONE FRAME, from the life `old` to `new` before it: nothing comes into hand without a visit; the datagram of a visit is the one that goes on; behind it
+-- no mail is left that could be held, and where a service might begin and none did, none is left
+pub record IsEager (x : Speech Body Asked Reply) (station : ℕ) (sent : List (Datagram Body)) (m : Remembered) (under : Bool) (begun : Option (Service Asked)) (next : Option Plan.Service) (old new : Life Body Asked Reply) : Type 0 where
+  pub begins : under ≡ false → begun ≡ None
+  pub asks : IsClear new → EachAsksFor new.era.side.halves (memory_of old new m.memory) new.era.account.hand (own station sent)
+  pub takes : under ≡ true → IsClear new → new.era.side.halves.out.holding ≡ None → NoneLeft x new
+  pub ends : under ≡ true → IsClear old → MayBegin x old → begun ≡ None → IsAtEnd next m
+
+-- what came back of a visit in vain: mailbox 0 was full, or mailbox 1 empty
+abbrev pub IsInVain : Visit → Datagram Body → Type 0
+IsInVain Visit.Write d = (d.gram.counter == 0) ≡ true
+IsInVain Visit.Read d = ⊤
+IsInVain Visit.Full d = ((d.counter == 0) ≡ false) × (d.found ≡ Some (Found.Full true))
+
+-- a state service in hand is not past its drain
+abbrev pub IsDraining : Option Duty → Type 0
+IsDraining None = ⊤
+IsDraining (Some duty) = duty.stage ≡ Stage.Drains
+
+-- BEHIND ONE THAT CAME BACK: what is remembered of a visit in vain, or of none
+pub record RemembersOn (station : ℕ) (back : List (Datagram Body)) (m n : Remembered) (under : Bool) (old new : Life Body Asked Reply) : Type 0 where
+  pub visited : under ≡ true → IsClear new → IsDraining new.era.account.hand → (d : Datagram Body) → own station back ≡ d ∷ [] →
+      (let mem = memory_of old new m.memory in let visit = life_visit new mem in IsInVain visit d → n.memory ≡ memory_behind mem visit)
+  pub unvisited : under ≡ false → new.stand ≡ Stand.Open → n.memory ≡ m.memory
+
+-- a state service doesn't come into hand behind a write in vain
+abbrev pub IsUnpausedBy : Remembered → Option (Service Asked) → Type 0
+IsUnpausedBy m begun = (target : ℕ) → begun ≡ Some (Service.State target) → m.memory.paused ≡ false
+
+-- no packet came to its port
+abbrev pub GetsNone : Remembered → Remembered → Type 0
+GetsNone m n = n.packet ≡ true → m.packet ≡ true
+
+-- of all slaves
+abbrev pub AllUnpaused : List Remembered → List Turn → Type 0
+AllUnpaused [] [] = ⊤
+AllUnpaused (m ∷ ms) (u ∷ us) = IsUnpausedBy m u.begun × AllUnpaused ms us
+AllUnpaused _ _ = ⊥
+
+abbrev pub AllGetNone : List Remembered → List Remembered → Type 0
+AllGetNone [] [] = ⊤
+AllGetNone (m ∷ ms) (n ∷ ns) = GetsNone m n × AllGetNone ms ns
+AllGetNone _ _ = ⊥
+
+abbrev pub AllEager : (ℕ → Lens) → List (Datagram Body) → List Remembered → List Leads → List Turn → Type 0
+AllEager lens sent [] [] [] = ⊤
+AllEager lens sent (m ∷ ms) (a ∷ as') (u ∷ us) =
+    IsEager (speech_at lens a.lived.spot) a.lived.spot.station sent m u.share.under u.begun (slice_get a.script a.number) a.lived.life u.lived.life × AllEager lens sent ms as' us
+AllEager lens sent _ _ _ = ⊥
+
+abbrev pub AllRemember : List (Datagram Body) → List Remembered → List Remembered → List Leads → List Turn → Type 0
+AllRemember back [] [] [] [] = ⊤
+AllRemember back (m ∷ ms) (n ∷ ns) (a ∷ as') (u ∷ us) = RemembersOn a.lived.spot.station back m n u.share.under a.lived.life u.lived.life × AllRemember back ms ns as' us
+AllRemember back _ _ _ _ = ⊥

@@ -1,0 +1,3 @@
+pub mod Eager
+pub mod Frames
+pub mod Standing

@@ -1,0 +1,6 @@
+mod Frees
+mod Begins
+mod Took
+mod One
+pub mod Lists
+mod Walk
