@@ -1,5 +1,5 @@
 -- ALL SLAVES OF A PLAN, frame by frame.
-use Rattle.std.proofs.Common.{◌≡◌, ℕ, suc, ◌+◌, ◌≤◌, ◌&&◌, nat_lt, Bool, true, false, All, Option, Some, None, List, [], ◌∷◌, ◌++◌, map, length, refl, sym, ap, ◌∙◌, subst, arith, append-nil}
+use Rattle.std.proofs.Common.{◌≡◌, inr, ℕ, suc, ◌+◌, ◌≤◌, ◌&&◌, nat_lt, ltb-true, Bool, true, false, All, Option, Some, None, List, [], ◌∷◌, ◌++◌, map, length, refl, sym, ap, ◌∙◌, subst, arith, append-nil}
 use Rattle.std.specs.Prelude.{sum_by, ⊤}
 use Rattle.std.proofs.lemmas.List.{length-map, map-append}
 use Rattle.std.proofs.lemmas.List.Elements.{All-head, All-tail}
@@ -13,7 +13,7 @@ use Rattle.frame_view.proofs.Octets.{seen_is, seen_chained}
 use Rattle.life_frames.specs.Shares.{AllBoth}
 use Rattle.life_model.specs.Lives.{Spot, Life, Stand}
 use Rattle.life_runs.specs.First.{lens_of, spot_of, first_leads, leads_from}
-use Rattle.life_runs.specs.Led.{Exchanged, Leads, Turn, IsTurn, AllTurn, IsLed, IsLedFrame, led_behind, gives_up_at}
+use Rattle.life_runs.specs.Led.{Exchanged, Leads, Turn, IsTurn, AllTurn, IsLed, IsLedFrame, led_behind, life_behind, gives_up_at}
 use Rattle.link_mails.specs.Body.{Body}
 use Rattle.master_duty.specs.Reply.{Reply}
 use Rattle.master_hand.specs.Spoken.{Asked, sdo, file, drive, net, passed}
@@ -31,8 +31,10 @@ use Rattle.segment_ring.specs.Ring.{RingState, ring_returned, frame_met}
 use Rattle.segment_ring.specs.Schedule.{fate_at}
 use Rattle.segment_ring.specs.declared.wire.Fate.{Fate}
 use Rattle.segment_ring.specs.declared.wire.Fate.TheVariants.{Pass, Lost}
+use Rattle.coe_model.specs.Meaning as CoeMeaning
+use Rattle.coe_model.specs.Tables.{nowhere}
 use Rattle.eoe_model.specs.Network.{Station}
-use Rattle.slave_model.specs.Application.{station_valid}
+use Rattle.slave_model.specs.Application.{core_valid, station_valid}
 use Rattle.slave_model.specs.Profile.{Protocol, Profile, IsProfile}
 use Rattle.slave_model.proofs.Stations.{left_of, right_of}
 use Rattle.slave_parts.specs.Parts.{Core, Server, parts}
@@ -63,15 +65,15 @@ sends_so weigh p boot lens law = record {
   where
     valid : (s : Station Core) → station_valid parts s ≡ true → MaySend s
     valid s e =
-        let core = left_of (Rattle.slave_model.specs.Application.core_valid parts s.app) (nat_lt s.frame 16) e in
-        record { table = left_of _ _ core; frame = Rattle.std.proofs.Common.ltb-true s.frame 16 (right_of (Rattle.slave_model.specs.Application.core_valid parts s.app) (nat_lt s.frame 16) e) }
+        let core = left_of (core_valid parts s.app) (nat_lt s.frame 16) e in
+        record { table = left_of _ _ core; frame = ltb-true s.frame 16 (right_of (core_valid parts s.app) (nat_lt s.frame 16) e) }
 
     one : (a : InState (Station Core)) (q : Asked) → MaySend a.inner → Sends weigh p.back ((asked p boot lens).exchange.emits a q) (sum_by weigh (asked_sends p q))
     one a (sdo q) may = law.emits a.state a.inner Protocol.CoE q may
     one a (file q) may = law.emits a.state a.inner Protocol.FoE q may
     one a (drive q) may = law.emits a.state a.inner Protocol.SoE q may
     one a (net q) may = law.emits a.state a.inner Protocol.EoE q may
-    one a (passed m) may = law.emits a.state a.inner Protocol.CoE _ may
+    one a (passed m) may = law.emits a.state a.inner Protocol.CoE (CoeMeaning.upload nowhere) may
 
 -- what the laws say
 pub record Laws (weigh : List ℕ → ℕ) : Type 0 where
@@ -126,13 +128,13 @@ module _ (weigh : List ℕ → ℕ) (plan : Scenario) (laws : Laws weigh) (is : 
 
   first_track : (place : ℕ) (ss : List SlaveSpec) → AllTrack [] ss (leads_from plan.services place ss) (times_none (leads_from plan.services place ss))
   first_track place [] = tt
-  first_track place (s ∷ ss) = ((record { all = omega arith }, Rattle.std.proofs.Common.inr (refl, refl)), first_track (suc place) ss)
+  first_track place (s ∷ ss) = ((record { all = omega arith }, inr (refl, refl)), first_track (suc place) ss)
 
   module _ (gives : Bool) (gs : List (Frame Body)) (f : Exchanged) (ds : List Raw.Datagram) (seen_so : seen lens f.sent ≡ datagrams_seen lens ds) (returns : f.fate ≡ Pass → Returns (seen lens f.sent) (seen lens f.back)) (nothing : (after : ℕ) → f.fate ≡ Lost after → seen lens f.back ≡ []) where
     spots : (u : Turn) → (led_behind lens plan.recover plan.retry gives (length gs) f u).lived.spot ≡ u.lived.spot
     spots u = by f.fate
       where
-        by : (fate : Fate) → (Rattle.life_runs.specs.Led.life_behind lens plan.recover plan.retry gives (length gs) f fate u.lived u.share).spot ≡ u.lived.spot
+        by : (fate : Fate) → (life_behind lens plan.recover plan.retry gives (length gs) f fate u.lived u.share).spot ≡ u.lived.spot
         by Pass = refl
         by (Lost after) = refl
 
@@ -178,7 +180,7 @@ module _ (weigh : List ℕ → ℕ) (plan : Scenario) (laws : Laws weigh) (is : 
       let turns : AllTurn lens (length gs) frame.datagrams as' us = subst (λ n. AllTurn lens n frame.datagrams as' us) (sym long) frame.each in
       let all = all_turn (gives_up_at lens plan.recover plan.retry missed) gs f frame.datagrams seen_so (one_returned (ring_after (ring_of plan) fs) f frame.datagrams frame.frame went) (λ after lost. none_back (ring_after (ring_of plan) fs) f after went lost)
       plan.slaves as' us (times_in led) turns (live_at fs missed as' led before) (tracks fs missed as' led before) in
-      subst (λ hs. AllTrack hs plan.slaves (map (led_behind lens plan.recover plan.retry (gives_up_at lens plan.recover plan.retry missed) (length fs) f) us) (times_on lens f (times_in led) us)) (sym (map-append fs (f ∷ []) (frame_seen lens)))
+      subst (λ hs. AllTrack hs plan.slaves (map (led_behind lens plan.recover plan.retry (gives_up_at lens plan.recover plan.retry missed) (length fs) f) us) (times_on lens f (times_in led) us)) (sym (map-append (frame_seen lens) fs (f ∷ [])))
       (subst (λ n. AllTrack (gs ++ frame_seen lens f ∷ []) plan.slaves (map (led_behind lens plan.recover plan.retry (gives_up_at lens plan.recover plan.retry missed) n f) us) (times_on lens f (times_in led) us)) long all)
 
   -- ---- BEHIND ALL FRAMES

@@ -14,7 +14,6 @@ use Rattle.master_hand.specs.Joins.{fragment_in, packets_in}
 use Rattle.master_hand.specs.Spoken.{Asked, sdo, file, drive, net, passed}
 use Rattle.packet_model.specs.Packets.{Emitted, ArePackets, all_fragments, octets_of, parts, IsOwn}
 use Rattle.packet_model.proofs.Parts.{heard_own}
-use Rattle.plan_ring.specs.Asked.{asked, service_of}
 use Rattle.segment_model.specs.Record.{Frame, heard, kept_all, nothing_kept}
 use Rattle.slave_lives.specs.Lived.{Behind, table_of}
 use Rattle.slave_lives.specs.Opening.{Plan}
@@ -82,7 +81,8 @@ module _ (weigh : List ℕ → ℕ) (p : Profile) (wide : 64 ≤ p.back) (joins 
   fold_sends table a k (Service.State target ∷ qs) may =
       let both = with_states w.exchange w.states table in
       let next = both.exec (a, k) (Service.State target) in
-      subst (λ n. Sends weigh p.back (mails (emits_all both next qs)) n) (sym (sum_by-cons most (Service.State target) qs)) (fold_sends table next.0 next.1 qs (so.told _ a may))
+      let same : sum_by most qs ≡ sum_by most (Service.State target ∷ qs) = omega (arith, sum_by-cons most (Service.State target) qs) in
+      subst (λ n. Sends weigh p.back (mails (emits_all both next qs)) n) same (fold_sends table next.0 next.1 qs (so.told _ a may))
 
   -- mails of which the emissions are the first of those
   few_of : (hs ms : List Body) (n : ℕ) → Sends weigh p.back ms n → IsPrefixOf (emitted w.exchange.speech.emission hs) ms → sum_by weigh (packets_in None hs) ≤ n

@@ -86,63 +86,110 @@ at_port n es p = queue_work n (arrivals_at p es)
 -- a packet that came in at a slave's port
 one_at : (n from : ℕ) (packet : ArrayVec ℕ) (last : ℕ) (ss : List SlaveSpec) → last < from → from < last + 1 + count_by (λ (s : SlaveSpec). s.eoe) ss →
     waiting_work n packet.items ≤ ports_sum (λ p. queue_work n (arrived_by p (Arrive from packet))) last ss
-one_at n from packet last [] l m = absurd (omega (arith, l, m))
+one_at n from packet last [] l m = absurd (empty last from l m)
+  where
+    empty : (last from : ℕ) → last < from → from < last + 1 + 0 → ⊥
+    empty last from l m = omega (arith, l, m)
 one_at n from packet last (s ∷ ss) l m = go s.eoe refl
   where
-    here : (b : Bool) → (from == last + 1) ≡ b → waiting_work n packet.items ≤ queue_work n (arrived_by (last + 1) (Arrive from packet)) + ports_sum (λ p. queue_work n (arrived_by p (Arrive from packet))) (last + 1) ss
-    here true e = let is : queue_work n (arrived_by (last + 1) (Arrive from packet)) ≡ waiting_work n packet.items + 0 = ap (λ (b : Bool). queue_work n (if b then packet ∷ [] else [])) e in omega (arith, is)
-    here false e =
-        let other = eqb-false from (last + 1) e in
-        let rest = one_at n from packet (last + 1) ss (beyond from (last + 1) (omega (arith, l)) other) in
-        omega (arith, rest (omega (arith, m, eoe_count s ss, one_most)))
-      where
-        beyond : (a b : ℕ) → b ≤ a → (a ≡ b → ⊥) → b < a
-        beyond a b l other = omega (arith, l, other)
+    w : ℕ
+    w = waiting_work n packet.items
 
-        one_most : (if s.eoe then 1 else 0) ≤ 1
-        one_most = either s.eoe
-          where
-            either : (b : Bool) → (if b then 1 else 0) ≤ 1
-            either true = omega arith
-            either false = omega arith
+    f : ℕ → ℕ
+    f p = queue_work n (arrived_by p (Arrive from packet))
 
-    go : (b : Bool) → s.eoe ≡ b → waiting_work n packet.items ≤ (if b then queue_work n (arrived_by (last + 1) (Arrive from packet)) + ports_sum (λ p. queue_work n (arrived_by p (Arrive from packet))) (last + 1) ss else ports_sum (λ p. queue_work n (arrived_by p (Arrive from packet))) last ss)
-    go true e = here (from == last + 1) refl
-    go false e = one_at n from packet last ss l (omega (arith, m, eoe_count s ss, ap (λ (b : Bool). if b then 1 else 0) e))
+    less : (w a b : ℕ) → w + 0 ≡ a → w ≤ a + b
+    less w a b e = omega (arith, e)
+
+    more : (w a b : ℕ) → w ≤ b → w ≤ a + b
+    more w a b e = omega (arith, e)
+
+    beyond : (a b : ℕ) → b < a → (a ≡ b + 1 → ⊥) → b + 1 < a
+    beyond a b l other = omega (arith, l, other)
+
+    within : (a b c d : ℕ) → a < b + 1 + d → d ≡ 1 + c → a < b + 1 + 1 + c
+    within a b c d l e = omega (arith, l, e)
+
+    below : (a b c d : ℕ) → a < b + 1 + d → d ≡ 0 + c → a < b + 1 + c
+    below a b c d l e = omega (arith, l, e)
+
+    count : (e : Bool) → s.eoe ≡ e → count_by (λ (s : SlaveSpec). s.eoe) (s ∷ ss) ≡ (if e then 1 else 0) + count_by (λ (s : SlaveSpec). s.eoe) ss
+    count e is = eoe_count s ss ∙ ap (λ (b : Bool). (if b then 1 else 0) + count_by (λ (s : SlaveSpec). s.eoe) ss) is
+
+    here : (b : Bool) → s.eoe ≡ true → (from == last + 1) ≡ b → w ≤ f (last + 1) + ports_sum f (last + 1) ss
+    here true is e = less w (f (last + 1)) (ports_sum f (last + 1) ss) (sym (ap (λ (b : Bool). queue_work n (if b then packet ∷ [] else [])) e))
+    here false is e =
+        more w (f (last + 1)) (ports_sum f (last + 1) ss) (one_at n from packet (last + 1) ss (beyond from last l (eqb-false from (last + 1) e)) (within from last (count_by (λ (s : SlaveSpec). s.eoe) ss) (count_by (λ (s : SlaveSpec). s.eoe) (s ∷ ss)) m (count true is)))
+
+    go : (b : Bool) → s.eoe ≡ b → w ≤ (if b then f (last + 1) + ports_sum f (last + 1) ss else ports_sum f last ss)
+    go true e = here (from == last + 1) e refl
+    go false e = one_at n from packet last ss l (below from last (count_by (λ (s : SlaveSpec). s.eoe) ss) (count_by (λ (s : SlaveSpec). s.eoe) (s ∷ ss)) m (count false e))
 
 some_port : (from : ℕ) → (from == 0) ≡ false → 1 ≤ from
 some_port zero e = absurd (cc)
 some_port (suc k) e = omega arith
 
-one_entry : (n : ℕ) (ss : List SlaveSpec) (e : SwitchEvent) → IsAtPort (1 + count_by (λ (s : SlaveSpec). s.eoe) ss) e →
-    entry_work n e ≤ n * queue_work n (arrived_by 0 e) + (n - 1) * ports_sum (λ p. queue_work n (arrived_by p e)) 0 ss
-one_entry n ss (Begun port) at = omega arith
-one_entry n ss (Down port) at = omega arith
-one_entry n ss (Arrive from packet) at = go (from == 0) refl
+-- what a packet comes to that came in, of a slave at so many others
+abbrev entry_by : ℕ → ℕ → SwitchEvent → ℕ
+entry_by n m (Arrive port packet) = (if port == 0 then n else m) * waiting_work n packet.items
+entry_by n m (Begun port) = 0
+entry_by n m (Down port) = 0
+
+abbrev entries_by : ℕ → ℕ → List SwitchEvent → ℕ
+entries_by n m [] = 0
+entries_by n m (e ∷ es) = entry_by n m e + entries_by n m es
+
+same_entries : (n : ℕ) (es : List SwitchEvent) → entries_work n es ≡ entries_by n (n - 1) es
+same_entries n [] = refl
+same_entries n (e ∷ es) = (λ i. one e i + same_entries n es i)
   where
-    go : (b : Bool) → (from == 0) ≡ b → (if b then n else n - 1) * waiting_work n packet.items ≤ n * queue_work n (if b then packet ∷ [] else []) + (n - 1) * ports_sum (λ p. queue_work n (arrived_by p (Arrive from packet))) 0 ss
-    go true e = omega arith
+    one : (e : SwitchEvent) → entry_work n e ≡ entry_by n (n - 1) e
+    one (Arrive port packet) = refl
+    one (Begun port) = refl
+    one (Down port) = refl
+
+slave_one : (n m w s : ℕ) → m * w ≤ m * s → m * w ≤ n * 0 + m * s
+slave_one n m w s l = omega (arith, l)
+
+one_entry : (n m : ℕ) (ss : List SlaveSpec) (e : SwitchEvent) → IsAtPort (1 + count_by (λ (s : SlaveSpec). s.eoe) ss) e →
+    entry_by n m e ≤ n * queue_work n (arrived_by 0 e) + m * ports_sum (λ p. queue_work n (arrived_by p e)) 0 ss
+one_entry n m ss (Begun port) at = omega arith
+one_entry n m ss (Down port) at = omega arith
+one_entry n m ss (Arrive from packet) at = go (from == 0) refl
+  where
+    slaves : ℕ
+    slaves = ports_sum (λ p. queue_work n (arrived_by p (Arrive from packet))) 0 ss
+
+    zeros : (k : ℕ) → n * waiting_work n packet.items ≤ n * (waiting_work n packet.items + 0) + m * k
+    zeros k = omega arith
+
+    go : (b : Bool) → (from == 0) ≡ b → (if b then n else m) * waiting_work n packet.items ≤ n * queue_work n (if b then packet ∷ [] else []) + m * slaves
+    go true e = zeros slaves
     go false e =
         let one = one_at n from packet 0 ss (some_port from e) (omega (arith, at.0)) in
-        omega (arith, mul-le (n - 1) (waiting_work n packet.items) (n - 1) (ports_sum (λ p. queue_work n (arrived_by p (Arrive from packet))) 0 ss) (omega arith) one)
+        slave_one n m (waiting_work n packet.items) slaves (mul-le m (waiting_work n packet.items) m slaves (omega arith) one)
 
-entries_parted : (n a b c d : ℕ) → n * (a + b) + (n - 1) * (c + d) ≡ (n * a + (n - 1) * c) + (n * b + (n - 1) * d)
-entries_parted n a b c d = parted n (n - 1) a b c d
-  where
-    parted : (n m a b c d : ℕ) → n * (a + b) + m * (c + d) ≡ (n * a + m * c) + (n * b + m * d)
-    parted n m a b c d = omega arith
+both_parts : (n m x y a b c d p q : ℕ) → x ≤ n * a + m * c → y ≤ n * b + m * d → p ≡ a + b → q ≡ c + d → x + y ≤ n * p + m * q
+both_parts n m x y a b c d p q l k e f =
+    let whole : n * (a + b) + m * (c + d) ≡ (n * a + m * c) + (n * b + m * d) = omega arith in
+    let first : n * p ≡ n * (a + b) = ap (λ z. n * z) e in
+    let second : m * q ≡ m * (c + d) = ap (λ z. m * z) f in
+    omega (arith, l, k, whole, first, second)
+
+entries_least : (n m : ℕ) (ss : List SlaveSpec) (es : List SwitchEvent) → All (IsAtPort (1 + count_by (λ (s : SlaveSpec). s.eoe) ss)) es →
+    entries_by n m es ≤ n * queue_work n (arrivals_at 0 es) + m * ports_sum (λ p. queue_work n (arrivals_at p es)) 0 ss
+entries_least n m ss [] at = omega arith
+entries_least n m ss (e ∷ es) at =
+    let many = 1 + count_by (λ (s : SlaveSpec). s.eoe) ss in
+    both_parts n m (entry_by n m e) (entries_by n m es) (queue_work n (arrived_by 0 e)) (queue_work n (arrivals_at 0 es)) (ports_sum (λ p. queue_work n (arrived_by p e)) 0 ss) (ports_sum (λ p. queue_work n (arrivals_at p es)) 0 ss)
+    (queue_work n (arrivals_at 0 (e ∷ es))) (ports_sum (λ p. queue_work n (arrivals_at p (e ∷ es))) 0 ss)
+    (one_entry n m ss e (All-head (IsAtPort many) e es at)) (entries_least n m ss es (All-tail (IsAtPort many) e es at))
+    (queue_both n (arrived_by 0 e) (arrivals_at 0 es))
+    (sums_add (λ p. queue_work n (arrivals_at p (e ∷ es))) (λ p. queue_work n (arrived_by p e)) (λ p. queue_work n (arrivals_at p es)) (λ p. queue_both n (arrived_by p e) (arrivals_at p es)) 0 ss)
 
 pub entries_within : (n : ℕ) (ss : List SlaveSpec) (es : List SwitchEvent) → All (IsAtPort (1 + count_by (λ (s : SlaveSpec). s.eoe) ss)) es →
     entries_work n es ≤ n * queue_work n (arrivals_at 0 es) + (n - 1) * ports_sum (λ p. queue_work n (arrivals_at p es)) 0 ss
-entries_within n ss [] at = omega arith
-entries_within n ss (e ∷ es) at =
-    let many = 1 + count_by (λ (s : SlaveSpec). s.eoe) ss in
-    let here = one_entry n ss e (All-head (IsAtPort many) e es at) in
-    let rest = entries_within n ss es (All-tail (IsAtPort many) e es at) in
-    let host = queue_both n (arrived_by 0 e) (arrivals_at 0 es) in
-    let slaves = sums_add (λ p. queue_work n (arrivals_at p (e ∷ es))) (λ p. queue_work n (arrived_by p e)) (λ p. queue_work n (arrivals_at p es)) (λ p. queue_both n (arrived_by p e) (arrivals_at p es)) 0 ss in
-    let all = entries_parted n (queue_work n (arrived_by 0 e)) (queue_work n (arrivals_at 0 es)) (ports_sum (λ p. queue_work n (arrived_by p e)) 0 ss) (ports_sum (λ p. queue_work n (arrivals_at p es)) 0 ss) in
-    omega (arith, here, rest, all, ap (λ k. n * k) host, ap (λ k. (n - 1) * k) slaves)
+entries_within n ss es at = subst (λ z. z ≤ n * queue_work n (arrivals_at 0 es) + (n - 1) * ports_sum (λ p. queue_work n (arrivals_at p es)) 0 ss) (sym (same_entries n es)) (entries_least n (n - 1) ss es at)
 
 pub come_at : (many : ℕ) (es : List SwitchEvent) → All (IsAtPort many) es → AllComeAt many es
 come_at many [] at = tt

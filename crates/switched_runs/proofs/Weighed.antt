@@ -52,49 +52,65 @@ module _ (n : ℕ) (p : Profile) (law : Echoes p.mac) where
       let s = law.same octets echo e in
       let away : waiting_work n echo ≡ cuts echo * 1 = ap (λ (z : Bool). cuts echo * (if z then n + 1 else 1)) s.0 in
       let long : cuts echo ≡ cuts octets = ap (λ z. (z + 31) / 32) s.1 in
-      (omega (arith, away, long), ap (λ (z : Bool). cuts octets * (if z then n + 1 else 1)) (law.may octets echo e))
+      (once (waiting_work n echo) (cuts echo) (cuts octets) away long, ap (λ (z : Bool). cuts octets * (if z then n + 1 else 1)) (law.may octets echo e))
+    where
+      once : (w a b : ℕ) → w ≡ a * 1 → a ≡ b → w ≡ b
+      once w a b e f = omega (arith, e, f)
 
   least_weight : (octets : List ℕ) → cuts octets ≤ waiting_work n octets
-  least_weight octets = go (may_echo octets)
+  least_weight octets = go (may_echo octets) (cuts octets)
     where
-      go : (b : Bool) → cuts octets ≤ cuts octets * (if b then n + 1 else 1)
-      go true = omega (arith, mul-le (cuts octets) 1 (cuts octets) (n + 1) (omega arith) (omega arith))
-      go false = omega arith
+      go : (b : Bool) (c : ℕ) → c ≤ c * (if b then n + 1 else 1)
+      go true c = omega (arith, mul-le c 1 c (n + 1) (omega arith) (omega arith))
+      go false c = omega arith
 
   most_weight : (octets : List ℕ) → waiting_work n octets ≤ cuts octets * (n + 1)
-  most_weight octets = go (may_echo octets)
+  most_weight octets = go (may_echo octets) (cuts octets)
     where
-      go : (b : Bool) → cuts octets * (if b then n + 1 else 1) ≤ cuts octets * (n + 1)
-      go true = omega arith
-      go false = mul-le (cuts octets) 1 (cuts octets) (n + 1) (omega arith) (omega arith)
+      go : (b : Bool) (c : ℕ) → c * (if b then n + 1 else 1) ≤ c * (n + 1)
+      go true c = omega arith
+      go false c = mul-le c 1 c (n + 1) (omega arith) (omega arith)
 
   -- ---- ONE PACKET: it takes its fragments and those of its echo, and comes to as much as it does at a port of n slaves
   one_echo : (octets : List ℕ) (sent : Option (List ℕ)) → echo_of p.mac octets ≡ sent → (echo_mails sent ≡ sum_by (waiting_work n) (as_list sent)) × (cuts octets + n * sum_by (waiting_work n) (as_list sent) ≤ waiting_work n octets)
-  one_echo octets None e = (refl, omega (arith, least_weight octets))
+  one_echo octets None e = (refl, nothing n (cuts octets) (waiting_work n octets) (least_weight octets))
+    where
+      nothing : (n c w : ℕ) → c ≤ w → c + n * 0 ≤ w
+      nothing n c w l = omega (arith, l)
   one_echo octets (Some echo) e =
       let w = echo_weighs octets echo e in
       let one : sum_by (waiting_work n) (echo ∷ []) ≡ waiting_work n echo + 0 = sum_by-cons (waiting_work n) echo [] in
       let long : cuts echo ≡ cuts octets = ap (λ z. (z + 31) / 32) (law.same octets echo e).1 in
-      let whole : sum_by (waiting_work n) (echo ∷ []) ≡ cuts octets = omega (arith, one, w.0) in
-      let times : n * sum_by (waiting_work n) (echo ∷ []) ≡ n * cuts octets = ap (λ k. n * k) whole in
-      let square : cuts octets * (n + 1) ≡ cuts octets + n * cuts octets = omega arith in
-      (omega (arith, whole, long), omega (arith, times, w.1, square))
+      (lengths (cuts echo) (cuts octets) (waiting_work n echo) (sum_by (waiting_work n) (echo ∷ [])) long w.0 one, whole n (cuts octets) (waiting_work n echo) (sum_by (waiting_work n) (echo ∷ [])) (waiting_work n octets) w.0 one w.1)
+    where
+      lengths : (a b c d : ℕ) → a ≡ b → c ≡ b → d ≡ c + 0 → a ≡ d
+      lengths a b c d e f g = omega (arith, e, f, g)
 
-  module _ (k : Shape) (some : 1 ≤ n) where
+      whole : (n c w s x : ℕ) → w ≡ c → s ≡ w + 0 → x ≡ c * (n + 1) → c + n * s ≤ x
+      whole n c w s x e f g =
+          let same : s ≡ c = omega (arith, e, f) in
+          let turned : n * s ≡ n * c = ap (λ z. n * z) same in
+          let parts : c * (n + 1) ≡ c + n * c = omega arith in
+          omega (arith, turned, parts, g)
+
+  module _ (k : Shape) (m : ℕ) (pred : n ≡ suc m) where
     abbrev pub count : Asked → ℕ
     count = asked_most p k
 
-    times : (e : ℕ) → e + (n - 1) * e ≡ n * e
-    times e = go n some
+    times : (e : ℕ) → e + m * e ≡ n * e
+    times e = whole m ∙ ap (λ z. z * e) (sym pred)
       where
-        go : (m : ℕ) → 1 ≤ m → e + (m - 1) * e ≡ m * e
-        go zero l = absurd (omega (arith, l))
-        go (suc m) l = let same : suc m - 1 ≡ m = omega arith in let is : (suc m - 1) * e ≡ m * e = ap (λ z. z * e) same in omega (arith, is)
+        whole : (m : ℕ) → e + m * e ≡ suc m * e
+        whole m = omega arith
 
-    one_packet : (q : Service Asked) → is_packet q ≡ true → service_most count q + (n - 1) * echo_cuts q ≤ weight n q
+    both : (c a e me x w : ℕ) → a ≡ e → e + me ≡ x → c + x ≤ w → (c + a) + me ≤ w
+    both c a e me x w f g l = omega (arith, f, g, l)
+
+    one_packet : (q : Service Asked) → is_packet q ≡ true → service_most count q + m * echo_cuts q ≤ weight n q
     one_packet (Service.Mails (net (EoeClient.packet octets frame))) e =
         let one = one_echo octets (echo_of p.mac octets) refl in
-        omega (arith, one.0, one.1, times (sum_by (waiting_work n) (as_list (echo_of p.mac octets))))
+        let back = sum_by (waiting_work n) (as_list (echo_of p.mac octets)) in
+        both (cuts octets) (echo_mails (echo_of p.mac octets)) back (m * back) (n * back) (waiting_work n octets) one.0 (times back) one.1
     one_packet (Service.Mails (sdo q)) e = absurd (let bad : false ≡ true = e in cc)
     one_packet (Service.Mails (file q)) e = absurd (let bad : false ≡ true = e in cc)
     one_packet (Service.Mails (drive q)) e = absurd (let bad : false ≡ true = e in cc)
@@ -103,31 +119,28 @@ module _ (n : ℕ) (p : Profile) (law : Echoes p.mac) where
     one_packet (Service.Mails (passed m)) e = absurd (let bad : false ≡ true = e in cc)
     one_packet (Service.State target) e = absurd (let bad : false ≡ true = e in cc)
 
-    spread : (a b : ℕ) → (n - 1) * (a + b) ≡ (n - 1) * a + (n - 1) * b
-    spread a b = go (n - 1)
-      where
-        go : (m : ℕ) → m * (a + b) ≡ m * a + m * b
-        go m = omega arith
+    joined : (m a b c d x y p q w : ℕ) → a + m * b ≤ x → c + m * d ≤ y → p ≡ a + c → q ≡ b + d → w ≡ x + y → p + m * q ≤ w
+    joined m a b c d x y p q w l k e f g =
+        let spread : m * (b + d) ≡ m * b + m * d = omega arith in
+        let turned : m * q ≡ m * (b + d) = ap (λ z. m * z) f in
+        omega (arith, l, k, e, g, spread, turned)
+
+    none : (m : ℕ) → 0 + m * 0 ≤ 0
+    none m = omega arith
 
     -- the packets that came into hand
-    pub packets_weigh : (qs : List (Service Asked)) → begun_most count (filter is_packet qs) + (n - 1) * echoes qs ≤ weights n qs
-    packets_weigh [] = omega (arith, spread 0 0)
+    pub packets_weigh : (qs : List (Service Asked)) → begun_most count (filter is_packet qs) + m * echoes qs ≤ weights n qs
+    packets_weigh [] = none m
     packets_weigh (q ∷ qs) = go (is_packet q) refl
       where
-        go : (b : Bool) → is_packet q ≡ b →
-            begun_most count (cond b (q ∷ filter is_packet qs) (filter is_packet qs)) + (n - 1) * sum_by echo_cuts (cond b (q ∷ filter is_packet qs) (filter is_packet qs)) ≤ sum_by (weight n) (cond b (q ∷ filter is_packet qs) (filter is_packet qs))
+        fs : List (Service Asked)
+        fs = filter is_packet qs
+
+        go : (b : Bool) → is_packet q ≡ b → begun_most count (cond b (q ∷ fs) fs) + m * sum_by echo_cuts (cond b (q ∷ fs) fs) ≤ sum_by (weight n) (cond b (q ∷ fs) fs)
         go false e = packets_weigh qs
         go true e =
-            let fs = filter is_packet qs in
-            omega (
-              arith,
-              one_packet q e,
-              packets_weigh qs,
-              sum_by-cons (service_most count) q fs,
-              sum_by-cons (weight n) q fs,
-              ap (λ z. (n - 1) * z) (sum_by-cons echo_cuts q fs),
-              spread (echo_cuts q) (echoes qs),
-            )
+            joined m (service_most count q) (echo_cuts q) (begun_most count fs) (echoes qs) (weight n q) (weights n qs) (begun_most count (q ∷ fs)) (sum_by echo_cuts (q ∷ fs)) (sum_by (weight n) (q ∷ fs))
+            (one_packet q e) (packets_weigh qs) (sum_by-cons (service_most count) q fs) (sum_by-cons echo_cuts q fs) (sum_by-cons (weight n) q fs)
 
   -- ---- ONE OF A SCRIPT sends what its download emits
   download : (index sub : ℕ) (bytes : List ℕ) → sum_by (waiting_work n) (of_emission (emission_of p.has_eoe (record { index = index; sub = sub; all = false }) bytes)) ≤ (n + 1) * sdo_cuts (SdoService.Download index sub bytes)
@@ -136,7 +149,10 @@ module _ (n : ℕ) (p : Profile) (law : Echoes p.mac) where
       go : (a b c d : Bool) → sum_by (waiting_work n) (of_emission (if false || not a then None else if b then Some (emergency bytes) else if c && d then Some (packet bytes) else None)) ≤ (n + 1) * (if d && a then (length bytes + 31) / 32 else 0)
       go false b c d = omega arith
       go true true c d = omega arith
-      go true false true true = let turned : cuts bytes * (n + 1) ≡ (n + 1) * cuts bytes = omega arith in omega (arith, sum_by-cons (waiting_work n) bytes [], most_weight bytes, turned)
+      go true false true true = whole n (cuts bytes) (waiting_work n bytes) (sum_by (waiting_work n) (bytes ∷ [])) (sum_by-cons (waiting_work n) bytes []) (most_weight bytes)
+        where
+          whole : (n c w s : ℕ) → s ≡ w + 0 → w ≤ c * (n + 1) → s ≤ (n + 1) * c
+          whole n c w s e l = let turned : c * (n + 1) ≡ (n + 1) * c = omega arith in omega (arith, e, l, turned)
       go true false true false = omega arith
       go true false false d = omega arith
 
@@ -171,23 +187,23 @@ module _ (n : ℕ) (p : Profile) (law : Echoes p.mac) where
   one_service room (Plan.Service.State target) q e = subst (λ k. echo_cuts k ≤ (n + 1) * 0) (some_is e) (omega arith)
   one_service room (Plan.Service.Forward packet) q e = absurd (let bad : None ≡ Some q = e in cc)
 
-  times_more : (a b : ℕ) → (n + 1) * (a + b) ≡ (n + 1) * a + (n + 1) * b
-  times_more a b = omega arith
+  scripted : (m x y a b p q : ℕ) → x ≤ m * a → y ≤ m * b → p ≡ x + y → q ≡ a + b → p ≤ m * q
+  scripted m x y a b p q l k e f =
+      let spread : m * (a + b) ≡ m * a + m * b = omega arith in
+      let turned : m * q ≡ m * (a + b) = ap (λ z. m * z) f in
+      omega (arith, l, k, e, spread, turned)
 
   those_send : (room : ℕ) (ts : List Plan.Service) (qs : List (Service Asked)) → AreThose room ts qs → sum_by echo_cuts qs ≤ (n + 1) * sum_by entering ts
   those_send room [] [] those = omega arith
   those_send room [] (q ∷ qs) those = absurd those
   those_send room (t ∷ ts) [] those = absurd those
   those_send room (t ∷ ts) (q ∷ qs) those =
-      omega (
-        arith,
-        sum_by-cons echo_cuts q qs,
-        ap (λ z. (n + 1) * z) (sum_by-cons entering t ts),
-        times_more (entering t) (sum_by entering ts),
-        one_service room t q those.0,
-        those_send room ts qs those.1,
-      )
+      scripted (n + 1) (echo_cuts q) (sum_by echo_cuts qs) (entering t) (sum_by entering ts) (sum_by echo_cuts (q ∷ qs)) (sum_by entering (t ∷ ts))
+      (one_service room t q those.0) (those_send room ts qs those.1) (sum_by-cons echo_cuts q qs) (sum_by-cons entering t ts)
+
+  summed : (a b c d : ℕ) → a ≡ b + c → c ≤ d → a ≤ b + d
+  summed a b c d e l = omega (arith, e, l)
 
   -- ALL THAT A SLAVE MAY SEND by the services that came into hand
   pub all_send : (room : ℕ) (ts : List Plan.Service) (qs : List (Service Asked)) → AreThose room ts (filter (λ q. not (is_packet q)) qs) → all_most (waiting_work n) p qs ≤ echoes qs + (n + 1) * sum_by entering ts
-  all_send room ts qs those = omega (arith, parted echo_cuts is_packet qs, those_send room ts (filter (λ q. not (is_packet q)) qs) those)
+  all_send room ts qs those = summed (sum_by echo_cuts qs) (echoes qs) (sum_by echo_cuts (filter (λ q. not (is_packet q)) qs)) ((n + 1) * sum_by entering ts) (parted echo_cuts is_packet qs) (those_send room ts (filter (λ q. not (is_packet q)) qs) those)
