@@ -20,7 +20,7 @@ use Rattle.slave_lives.specs.Opening.{Plan}
 use Rattle.slave_model.specs.Profile.{Protocol, Profile}
 use Rattle.slave_model.specs.Product.{side}
 use Rattle.slave_model.specs.Server.{ServiceOf}
-use Rattle.slave_parts.specs.Parts.{Core, Server, parts}
+use Rattle.slave_parts.specs.Parts.{Core, Server, parts as real_parts}
 use Rattle.slave_server.specs.Serving.{Serving}
 use Rattle.slave_steps.specs.Node.{Node}
 use Rattle.eoe_model.specs.Network.{Station}
@@ -40,8 +40,8 @@ Real = Behind Serving (InState Server) (InState (Station Core)) Asked Reply
 
 -- what a law of slaves says of their services
 pub record Emit (weigh : List ℕ → ℕ) (p : Profile) : Type 0 where
-  pub emits : (al : ℕ) (s : Station Core) (i : Protocol) (q : ServiceOf i) → MaySend s → Sends weigh p.back ((side parts p al i).emits s q) (sum_by weigh (may_send p i q))
-  pub stays : (al : ℕ) (s : Station Core) (i : Protocol) (q : ServiceOf i) → MaySend s → MaySend ((side parts p al i).exec s q)
+  pub emits : (al : ℕ) (s : Station Core) (i : Protocol) (q : ServiceOf i) → MaySend s → Sends weigh p.back ((side real_parts p al i).emits s q) (sum_by weigh (may_send p i q))
+  pub stays : (al : ℕ) (s : Station Core) (i : Protocol) (q : ServiceOf i) → MaySend s → MaySend ((side real_parts p al i).exec s q)
 
 -- SERVICES THAT SEND SO, each at most what it may
 pub record SendSo (weigh : List ℕ → ℕ) (p : Profile) (w : Real) : Type 0 where

@@ -21,5 +21,4 @@ pub fn sent_law()
     plan_ring::run_lives_law();
     packets_heard::packets_law();
     slave_sends::emits_law();
-    ring_returns::ring_return_law();
 }
