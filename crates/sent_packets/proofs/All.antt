@@ -1,5 +1,5 @@
 -- ALL SLAVES OF A PLAN, frame by frame.
-use Rattle.std.proofs.Common.{◌≡◌, inr, ℕ, suc, ◌+◌, ◌≤◌, ◌&&◌, nat_lt, ltb-true, Bool, true, false, All, Option, Some, None, List, [], ◌∷◌, ◌++◌, map, length, refl, sym, ap, ◌∙◌, subst, arith, append-nil}
+use Rattle.std.proofs.Common.{◌≡◌, inr, ℕ, suc, ◌≤◌, nat_lt, ltb-true, Bool, true, All, List, [], ◌∷◌, ◌++◌, map, length, refl, sym, ap, ◌∙◌, subst, arith}
 use Rattle.std.specs.Prelude.{sum_by, ⊤}
 use Rattle.std.proofs.lemmas.List.{length-map, map-append}
 use Rattle.std.proofs.lemmas.List.Elements.{All-head, All-tail}
@@ -12,12 +12,12 @@ use Rattle.frame_view.specs.View.{Lens}
 use Rattle.frame_view.proofs.Octets.{seen_is, seen_chained}
 use Rattle.life_frames.specs.Shares.{AllBoth}
 use Rattle.life_model.specs.Lives.{Spot, Life, Stand}
-use Rattle.life_runs.specs.First.{lens_of, spot_of, first_leads, leads_from}
-use Rattle.life_runs.specs.Led.{Exchanged, Leads, Turn, IsTurn, AllTurn, IsLed, IsLedFrame, led_behind, life_behind, gives_up_at}
+use Rattle.life_runs.specs.First.{lens_of, first_leads, leads_from}
+use Rattle.life_runs.specs.Led.{Exchanged, Leads, Turn, AllTurn, IsLed, led_behind, life_behind, gives_up_at}
 use Rattle.link_mails.specs.Body.{Body}
 use Rattle.master_duty.specs.Reply.{Reply}
 use Rattle.master_hand.specs.Spoken.{Asked, sdo, file, drive, net, passed}
-use Rattle.packets_heard.specs.Heard.{Joined, Times, IsJoined, joined_in, mails_by, times_behind, times_on, times_none, times_in, packets_of, ended}
+use Rattle.packets_heard.specs.Heard.{Joined, Times, IsJoined, joined_in, mails_by, times_behind, times_on, times_none, times_in}
 use Rattle.plan_ring.specs.Asked.{asked, service_of}
 use Rattle.plan_ring.specs.Lives.{IsKnown, IsShown, AllShown, AreLived}
 use Rattle.plan_ring.specs.Plan.{PlanMember, FitsPlan, step}
@@ -37,8 +37,8 @@ use Rattle.eoe_model.specs.Network.{Station}
 use Rattle.slave_model.specs.Application.{core_valid, station_valid}
 use Rattle.slave_model.specs.Profile.{Protocol, Profile, IsProfile}
 use Rattle.slave_model.proofs.Stations.{left_of, right_of}
-use Rattle.slave_parts.specs.Parts.{Core, Server, parts}
-use Rattle.slave_sends.specs.Sends.{MaySend, Sends, may_send, asked_sends, sends_most, all_most}
+use Rattle.slave_parts.specs.Parts.{Core, parts}
+use Rattle.slave_sends.specs.Sends.{MaySend, Sends, asked_sends, sends_most, all_most}
 use Rattle.slave_server.specs.Serving.{Serving}
 use Rattle.slave_server.specs.Spec.{profile_of}
 use Rattle.slave_steps.specs.Node.{Node, node_passed}
@@ -47,10 +47,10 @@ use Rattle.state_exchange.specs.Stated.{Service}
 use Rattle.task_model.specs.Promise.{services_in}
 use Rattle.whole_ring.specs.Members.{MemberIs, AllLived}
 use Rattle.sent_packets.specs.Sent.{AllSend}
-use Rattle.sent_packets.proofs.Epochs.{Real, Emit, SendSo, Joins, live}
+use Rattle.sent_packets.proofs.Epochs.{Emit, SendSo, Joins, live}
 use Rattle.sent_packets.proofs.Live.{IsLive}
 use Rattle.sent_packets.proofs.Owns.{own_fragment}
-use Rattle.sent_packets.proofs.Times.{TracksOpen, TracksShut, TracksAs, Tracks, times_weigh, mails_weigh, ended_weigh, shut_now}
+use Rattle.sent_packets.proofs.Times.{TracksShut, TracksAs, Tracks, ended_weigh, shut_now}
 use Rattle.sent_packets.proofs.Turns.{turn_tracks}
 
 -- ---- the services of a plan's slave send so
@@ -111,9 +111,10 @@ module _ (weigh : List ℕ → ℕ) (plan : Scenario) (laws : Laws weigh) (is : 
   all_live gs place [] (m ∷ ms) as' slaves macs shown i = absurd shown
   all_live gs place (s ∷ ss) [] as' slaves macs shown i = absurd shown
   all_live gs place (s ∷ ss) (m ∷ ms) [] slaves macs shown i = absurd shown
-  all_live gs place (s ∷ ss) (m ∷ ms) (a ∷ as') slaves macs shown i =
-      (one_live gs place s m a (All-head (λ (s : SlaveSpec). IsSlave s) s ss slaves) (All-head (λ (s : SlaveSpec). length s.mac ≡ 6) s ss macs) shown.0 i.0,
-      all_live gs (suc place) ss ms as' (All-tail (λ (s : SlaveSpec). IsSlave s) s ss slaves) (All-tail (λ (s : SlaveSpec). length s.mac ≡ 6) s ss macs) shown.1 i.1)
+  all_live gs place (s ∷ ss) (m ∷ ms) (a ∷ as') slaves macs shown i = (
+    one_live gs place s m a (All-head (λ (s : SlaveSpec). IsSlave s) s ss slaves) (All-head (λ (s : SlaveSpec). length s.mac ≡ 6) s ss macs) shown.0 i.0,
+    all_live gs (suc place) ss ms as' (All-tail (λ (s : SlaveSpec). IsSlave s) s ss slaves) (All-tail (λ (s : SlaveSpec). length s.mac ≡ 6) s ss macs) shown.1 i.1,
+  )
 
   live_at : (fs : List Exchanged) (missed : ℕ) (as' : List Leads) → IsLed lens plan.recover plan.retry (first_leads plan) fs missed as' → AllRound (ring_of plan) fs → AllLive (all_seen lens fs) plan.slaves as'
   live_at fs missed as' led round =
@@ -149,9 +150,10 @@ module _ (weigh : List ℕ → ℕ) (plan : Scenario) (laws : Laws weigh) (is : 
     all_turn (s ∷ ss) (a ∷ as') (u ∷ us) [] y l k = absurd k
     all_turn (s ∷ ss) (a ∷ as') (u ∷ us) (t ∷ ts) y l k =
         let here = turn_tracks weigh (most_of s) lens plan.recover plan.retry gives gs f ds seen_so returns nothing a u t y.0 k.0 l.0 in
-        let spot = sym (y.0.next.spot) ∙ sym (spots u) in
-        (subst (λ (p : Spot). Tracks weigh (most_of s) p (gs ++ frame_seen lens f ∷ []) (led_behind lens plan.recover plan.retry gives (length gs) f u).lived.life (times_behind u.lived.life.stand (mails_by lens f f.fate u) t)) spot here,
-        all_turn ss as' us ts y.1 l.1 k.1)
+        let spot = sym (y.0.next.spot) ∙ sym (spots u) in (
+          subst (λ (p : Spot). Tracks weigh (most_of s) p (gs ++ frame_seen lens f ∷ []) (led_behind lens plan.recover plan.retry gives (length gs) f u).lived.life (times_behind u.lived.life.stand (mails_by lens f f.fate u) t)) spot here,
+          all_turn ss as' us ts y.1 l.1 k.1,
+        )
 
   -- ---- the frames went round
   front_round : (ring : RingState (Node Serving)) (fs : List Exchanged) (f : Exchanged) → AllRound ring (fs ++ f ∷ []) → AllRound ring fs

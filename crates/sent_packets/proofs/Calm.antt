@@ -1,14 +1,13 @@
 -- WHILE A SLAVE IS OPEN a state service that returns it to Init drains, and an opening that has shown Init has nothing in hand.
-use Rattle.std.proofs.Common.{◌≡◌, ◌⊎◌, inl, inr, ℕ, suc, ◌+◌, ◌≤◌, ◌==◌, ◌&&◌, Bool, true, false, not, Option, Some, None, List, [], ◌∷◌, ◌++◌, refl, sym, ap, ◌∙◌, subst, arith, if◌then◌else◌}
-use Rattle.std.specs.Prelude.{is_none, sum_by}
+use Rattle.std.proofs.Common.{◌≡◌, ◌⊎◌, ℕ, ◌≤◌, ◌&&◌, Bool, true, false, Option, Some, None, List, [], ◌∷◌, ◌++◌, refl, sym, ap, ◌∙◌, arith, if◌then◌else◌}
+use Rattle.std.specs.Prelude.{sum_by}
 use Rattle.std.proofs.lemmas.List.Sums.{sum_by-append}
 use Rattle.exchange_model.specs.Exchange.{Speech}
 use Rattle.exchange_model.specs.Rows.{Row}
-use Rattle.link_model.specs.Mails.{LinkMail}
-use Rattle.life_model.specs.Lives.{Era, Life, Opening, Stand, returns_to_init, reopens, reopens_at, reopening, opens_state, granted, era_next}
+use Rattle.life_model.specs.Lives.{Opening, returns_to_init}
 use Rattle.segment_model.specs.Seats.{Side, Choice, side_begins, side_holds, side_next, next_mail, is_over}
 use Rattle.state_exchange.specs.Stated.{Service}
-use Rattle.task_model.specs.Accounts.{Account, Duty, Stage, Pick, Started, account_begins, account_next, mails_choice, is_free, is_acknowledged, state_begins, starts}
+use Rattle.task_model.specs.Accounts.{Account, Duty, Stage, Started, account_begins, is_free, is_acknowledged, state_begins, starts}
 use Rattle.task_model.specs.Promise.{services_in}
 
 -- the state service in hand

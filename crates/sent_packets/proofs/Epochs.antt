@@ -1,5 +1,5 @@
 -- OF AN OPEN SLAVE the packets that its epoch's mails join to are of the services that came into hand in it.
-use Rattle.std.proofs.Common.{◌≡◌, ℕ, zero, suc, ◌<◌, ◌+◌, ◌≤◌, Bool, true, false, Some, None, Option, List, [], ◌∷◌, ◌++◌, map, take, length, refl, sym, ap, ◌∙◌, subst, arith, append-nil, append_assoc}
+use Rattle.std.proofs.Common.{◌≡◌, ℕ, zero, suc, ◌+◌, ◌≤◌, true, false, None, List, [], ◌∷◌, ◌++◌, take, length, refl, sym, ap, ◌∙◌, subst, arith}
 use Rattle.std.specs.Prelude.{sum_by}
 use Rattle.std.proofs.lemmas.List.Sums.{sum_by-cons, sum_by-append}
 use Rattle.eoe.specs.declared.message.Fragment.{Fragment}
@@ -11,10 +11,10 @@ use Rattle.life_model.specs.Lives.{Spot, Life, Stand}
 use Rattle.link_mails.specs.Body.{Body}
 use Rattle.master_duty.specs.Reply.{Reply}
 use Rattle.master_hand.specs.Joins.{fragment_in, packets_in}
-use Rattle.master_hand.specs.Spoken.{Asked, sdo, file, drive, net, passed}
+use Rattle.master_hand.specs.Spoken.{Asked}
 use Rattle.packet_model.specs.Packets.{Emitted, ArePackets, all_fragments, octets_of, parts, IsOwn}
 use Rattle.packet_model.proofs.Parts.{heard_own}
-use Rattle.segment_model.specs.Record.{Frame, heard, kept_all, nothing_kept}
+use Rattle.segment_model.specs.Record.{Frame, heard}
 use Rattle.slave_lives.specs.Lived.{Behind, table_of}
 use Rattle.slave_lives.specs.Opening.{Plan}
 use Rattle.slave_model.specs.Profile.{Protocol, Profile}
@@ -24,10 +24,10 @@ use Rattle.slave_parts.specs.Parts.{Core, Server, parts as real_parts}
 use Rattle.slave_server.specs.Serving.{Serving}
 use Rattle.slave_steps.specs.Node.{Node}
 use Rattle.eoe_model.specs.Network.{Station}
-use Rattle.slave_sends.specs.Sends.{MaySend, Sends, may_send, asked_sends, sends_most, all_most}
+use Rattle.slave_sends.specs.Sends.{MaySend, Sends, may_send, asked_sends, sends_most}
 use Rattle.slave_sends.proofs.Cuts.{parts_append, sends_none, sends_both}
 use Rattle.state_exchange.specs.Families.{InState}
-use Rattle.state_exchange.specs.Stated.{Act, Service, acts, mails, with_states}
+use Rattle.state_exchange.specs.Stated.{Service, acts, mails, with_states}
 use Rattle.state_exchange.proofs.Acts.{mails_acts, mails_append}
 use Rattle.state_model.specs.States.{Table}
 use Rattle.task_model.specs.Promise.{services_in}

@@ -1,6 +1,6 @@
 -- A fragment of a packet is what a slave sends of itself.
-use Rattle.std.proofs.Common.{◌≡◌, ℕ, ◌+◌, ◌%◌, ◌≤◌, ◌&&◌, ◌==◌, nat_lt, nat_le, not, Bool, true, false, Option, Some, None, List, [], ◌∷◌, length, Result, Ok, Err, refl, sym, ap, ◌∙◌, arith, le-ltb, le-leb, if◌then◌else◌}
-use Rattle.std.specs.Prelude.{drop, slice_index}
+use Rattle.std.proofs.Common.{◌≡◌, ℕ, ◌%◌, ◌&&◌, ◌==◌, nat_lt, nat_le, not, Bool, true, false, Option, Some, None, List, [], ◌∷◌, length, Result, Ok, Err, refl, sym, ap, ◌∙◌, arith, le-ltb, le-leb, if◌then◌else◌}
+use Rattle.std.specs.Prelude.{drop}
 use Rattle.ec_fields.specs.Fields.{number_at, bits_of}
 use Rattle.eoe.specs.Message.{fragment_in as spelled_fragment, message_in, eoe_read}
 use Rattle.eoe.specs.declared.message.Eoe.{Eoe}
@@ -14,7 +14,6 @@ use Rattle.eoe_model.specs.Octets as EoeOctets
 use Rattle.eoe_model.specs.Octets.{is_error}
 use Rattle.link_mails.specs.Body.{Body}
 use Rattle.mailbox_mail.specs.declared.mail.Kind.{Kind}
-use Rattle.mailbox_mail.specs.declared.mail.Mail.{Mail}
 use Rattle.master_hand.specs.Joins.{fragment_of, fragment_in}
 use Rattle.slave_model.specs.Product.{emission}
 

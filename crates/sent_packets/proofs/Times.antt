@@ -1,11 +1,11 @@
 -- THE MAILS OF EACH TIME THAT A SLAVE WAS OPEN are those that its epoch heard.
-use Rattle.std.proofs.Common.{◌≡◌, ◌⊎◌, inl, inr, ℕ, zero, suc, ◌+◌, ◌-◌, ◌<◌, ◌≤◌, ◌==◌, ◌&&◌, Bool, true, false, not, Option, Some, None, List, [], ◌∷◌, ◌++◌, map, take, drop, replicate, length, refl, sym, ap, ◌∙◌, subst, arith, append-nil, append_assoc, length-append, if◌then◌else◌}
-use Rattle.std.specs.Prelude.{sum_by, nat_lt, ⊤}
+use Rattle.std.proofs.Common.{◌≡◌, inl, inr, ℕ, zero, suc, ◌+◌, ◌-◌, ◌<◌, ◌≤◌, ◌==◌, ◌&&◌, Bool, true, false, Option, Some, None, List, [], ◌∷◌, ◌++◌, map, take, drop, replicate, length, refl, sym, ap, ◌∙◌, subst, arith, append-nil, length-append, if◌then◌else◌}
+use Rattle.std.specs.Prelude.{sum_by, nat_lt}
 use Rattle.std.proofs.lemmas.Bool.{eqb-true, eqb-false}
 use Rattle.std.proofs.lemmas.List.Sums.{sum_by-append}
-use Rattle.book_model.specs.Script.{eras_started, life_started}
+use Rattle.book_model.specs.Script.{eras_started}
 use Rattle.life_model.specs.Eras.{era_frames}
-use Rattle.life_model.specs.Lives.{Spot, Era, Life, Opening, Stand, shows_clear, last_step, is_shown, opening_back, clears, opens, steps_on, reopens, reopens_at, reopening, opens_state, returns_to_init, gives_up}
+use Rattle.life_model.specs.Lives.{Spot, Era, Life, Opening, Stand, shows_clear, last_step, is_shown, opening_back, clears, opens, steps_on, reopening, gives_up}
 use Rattle.life_model.specs.Own.{own, own_frame, blank}
 use Rattle.life_model.proofs.Eras.{frames_push}
 use Rattle.link_mails.specs.Body.{Body}
@@ -22,7 +22,6 @@ use Rattle.segment_model.proofs.Answers.{news_each-push}
 use Rattle.segment_model.proofs.News.{mails_heard-append, heard_frame, joined-append}
 use Rattle.segment_model.proofs.Openings.{opening_heard}
 use Rattle.state_exchange.specs.Stated.{Service}
-use Rattle.task_model.specs.Accounts.{Account, Duty, Stage}
 use Rattle.task_model.specs.Promise.{services_in}
 use Rattle.sent_packets.proofs.Calm.{IsCalm, IsEarly}
 use Rattle.sent_packets.proofs.Live.{IsLive}

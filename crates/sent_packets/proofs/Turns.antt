@@ -1,30 +1,28 @@
 -- ONE SLAVE BY A FRAME: the mails that its master accepts of it are those that its epoch hears.
-use Rattle.std.proofs.Common.{◌≡◌, ◌⊎◌, inl, inr, ℕ, suc, ◌+◌, ◌<◌, ◌≤◌, ◌==◌, ◌&&◌, Bool, true, false, not, Option, Some, None, List, [], ◌∷◌, ◌++◌, length, refl, sym, ap, ◌∙◌, subst, arith, append-nil, if◌then◌else◌}
+use Rattle.std.proofs.Common.{◌≡◌, ◌⊎◌, inl, inr, ℕ, ◌==◌, ◌&&◌, Bool, true, false, not, Option, Some, None, List, [], ◌∷◌, ◌++◌, length, refl, sym, ap, ◌∙◌, subst, arith, append-nil, if◌then◌else◌}
 use Rattle.std.specs.Prelude.{sum_by, map}
 use Rattle.std.proofs.lemmas.Bool.{eqb-true, eq-eqb}
 use Rattle.book_model.specs.Script.{eras_started}
 use Rattle.datagrams.specs.Datagram as Raw
-use Rattle.datagrams.specs.declared.command.Command.{Command}
 use Rattle.datagrams.specs.declared.command.Command.TheVariants.{Fprd, Fpwr}
 use Rattle.exchange_model.specs.Exchange.{Speech}
 use Rattle.frame_view.specs.Seen.{seen, datagrams_seen}
 use Rattle.frame_view.specs.View.{Lens, ask_of, access_of, read_ask, read_access, datagram_seen, station_of}
-use Rattle.frame_view.proofs.Octets.{seen_is, seen_chained}
-use Rattle.life_frames.specs.Frames.{FrameFor, HasOne, AllNotFor, IsOpenGram, Share}
-use Rattle.life_frames.specs.Shares.{Lived, came_at, given_where}
+use Rattle.life_frames.specs.Frames.{FrameFor, IsOpenGram, Share}
+use Rattle.life_frames.specs.Shares.{came_at, given_where}
 use Rattle.life_frames.proofs.Frames.{own_none, own_one}
 use Rattle.life_model.specs.Lives.{Spot, Era, Life, Stand, era_back, granted, life_next, life_back, life_lost, reopens, reopens_at, reopening, opens_state, returns_to_init}
 use Rattle.life_model.specs.Own.{own}
-use Rattle.life_runs.specs.Led.{Exchanged, Leads, Turn, IsTurn, is_passed, speech_at, life_behind, gives_up_at}
+use Rattle.life_runs.specs.Led.{Exchanged, Leads, Turn, IsTurn, is_passed, speech_at, life_behind}
 use Rattle.link_mails.specs.Body.{Body}
-use Rattle.link_model.specs.Frames.{Ask, Gram, all_accepted, halves_accept, halves_answered}
+use Rattle.link_model.specs.Frames.{Ask, all_accepted, halves_accept}
 use Rattle.link_model.specs.Link.{Halves}
 use Rattle.master_duty.specs.Reply.{Reply}
 use Rattle.master_hand.specs.Spoken.{Asked, acknowledged, is_followed}
-use Rattle.master_tour.specs.Brings.{accepted_at, accepted_in}
-use Rattle.packets_heard.specs.Heard.{Times, ended, mails_by, times_behind}
+use Rattle.master_tour.specs.Brings.{accepted_at}
+use Rattle.packets_heard.specs.Heard.{Times, mails_by, times_behind}
 use Rattle.segment_model.specs.Record.{Frame, is_for}
-use Rattle.segment_model.specs.Returned.{IsReturn, Returns}
+use Rattle.segment_model.specs.Returned.{Returns}
 use Rattle.segment_model.specs.Slaves.{Access, Address, Datagram, grams}
 use Rattle.segment_ring.specs.declared.wire.Fate.{Fate}
 use Rattle.segment_ring.specs.declared.wire.Fate.TheVariants.{Pass, Lost}
@@ -32,9 +30,9 @@ use Rattle.state_exchange.specs.Stated.{Service}
 use Rattle.task_model.specs.Accounts.{Account, Duty, Stage, account_back, account_met, account_by, access_done}
 use Rattle.task_model.specs.Promise.{services_in}
 use Rattle.slave_lives.specs.Rings.{fate_seen}
-use Rattle.sent_packets.proofs.Calm.{IsCalm, IsEarly, begins_more, begins_calm, next_inn}
+use Rattle.sent_packets.proofs.Calm.{IsCalm, begins_more, begins_calm, next_inn}
 use Rattle.sent_packets.proofs.Live.{IsLive}
-use Rattle.sent_packets.proofs.Times.{TracksOpen, TracksShut, TracksAs, Tracks, past_most, now_most, times_weigh, mails_weigh, shut_now, gives_tracks, opening_tracks, shut_stays, gone_tracks, over_shuts, open_tracks}
+use Rattle.sent_packets.proofs.Times.{TracksOpen, TracksShut, TracksAs, Tracks, mails_weigh, shut_now, gives_tracks, opening_tracks, shut_stays, gone_tracks, over_shuts, open_tracks}
 
 -- ---- a datagram that reads mailbox 1 accesses nothing else
 abbrev else_asks : Bool → Bool → Ask Body
