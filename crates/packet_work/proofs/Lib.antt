@@ -1,3 +1,3 @@
 mod Echoes
 mod Sharing
-mod Worlds
+mod Flows

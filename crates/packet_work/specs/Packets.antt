@@ -1,7 +1,6 @@
 -- What a packet comes to.
-use Rattle.std.specs.Prelude.{ℕ, ◌+◌, ◌*◌, ◌-◌, ◌/◌, ◌==◌, ◌&&◌, Bool, if◌then◌else◌, List, [], ◌∷◌, length, slice_index}
+use Rattle.std.specs.Prelude.{ℕ, ◌+◌, ◌*◌, ◌/◌, ◌==◌, ◌&&◌, Bool, if◌then◌else◌, List, [], ◌∷◌, length, slice_index}
 use Rattle.arrayvec.specs.ArrayVec.{ArrayVec}
-use Rattle.eoe_switch.specs.declared.port.Port.{Port}
 
 -- the fragments of a packet, at most
 abbrev pub cuts : List ℕ → ℕ
@@ -15,17 +14,7 @@ may_echo octets = slice_index octets 12 == 0x88 && slice_index octets 13 == 0xB5
 abbrev pub waiting_work : ℕ → List ℕ → ℕ
 waiting_work n octets = cuts octets * (if may_echo octets then n + 1 else 1)
 
--- all that wait at a port
+-- all of these
 abbrev pub queue_work : ℕ → List (ArrayVec ℕ) → ℕ
 queue_work n [] = 0
 queue_work n (p ∷ ps) = waiting_work n p.items + queue_work n ps
-
--- at all ports
-abbrev pub ports_work : ℕ → List Port → ℕ
-ports_work n [] = 0
-ports_work n (p ∷ ps) = queue_work n p.queue + ports_work n ps
-
--- a packet under way from a slave to the switch, with the slave's port: it goes to the other slaves
-abbrev pub flight_work : ℕ → List (ℕ × List ℕ) → ℕ
-flight_work n [] = 0
-flight_work n (f ∷ fs) = (n - 1) * waiting_work n f.1 + flight_work n fs

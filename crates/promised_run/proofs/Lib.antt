@@ -8,3 +8,4 @@ mod Visits
 mod Few
 mod Ports
 mod Overs
+mod Bounded

@@ -1,7 +1,6 @@
 -- A plan before its first frame.
 use Rattle.std.proofs.Common.{◌≡◌, ℕ, suc, None, List, [], ◌∷◌, length, refl, arith}
 use Rattle.life_runs.specs.First.{first_leads, leads_from}
-use Rattle.packet_work.specs.World.{Happened, new_world}
 use Rattle.run_frames.specs.Led.{first_clocked}
 use Rattle.run_frames.specs.Runs.{nothing_sent}
 use Rattle.run_frames.specs.Toured.{IsToured}
@@ -22,4 +21,4 @@ no_packets rows place [] = refl
 no_packets rows place (s ∷ ss) = omega (arith, no_packets rows (suc place) ss)
 
 none_entered : (plan : Scenario) → AreSwitched plan (first_leads plan)
-none_entered plan = record { world = new_world (length plan.slaves); happened = Happened.none; entered = omega arith; written = omega (arith, no_packets plan.services 0 plan.slaves) }
+none_entered plan = record { entered = 0; within = omega arith; most = omega (arith, no_packets plan.services 0 plan.slaves) }

@@ -1,9 +1,8 @@
 -- THE PACKETS OF A RUN AS THOSE OF ONE SWITCH.
-use Rattle.std.specs.Prelude.{ℕ, ◌+◌, ◌≤◌, List, length, sum_by}
+use Rattle.std.specs.Prelude.{ℕ, ◌+◌, ◌*◌, ◌≤◌, List, length, sum_by}
 use Rattle.arrayvec.specs.ArrayVec.{ArrayVec}
 use Rattle.life_runs.specs.Led.{Leads}
 use Rattle.packet_work.specs.Packets.{cuts}
-use Rattle.packet_work.specs.World.{World, Happened, new_world}
 use Rattle.plan_counts.specs.Split.{entering}
 use Rattle.script_work.specs.Begun.{work_begun}
 use Rattle.segment_plan.specs.declared.plan.Scenario.{Scenario}
@@ -18,10 +17,9 @@ cuts_begun slaves leads = work_begun (λ slave service. entering service) slaves
 abbrev pub host_cuts : List (ArrayVec ℕ) → ℕ
 host_cuts host = sum_by (λ (packet : ArrayVec ℕ). cuts packet.items) host
 
--- THE PACKETS THAT CAME INTO HAND ARE THOSE OF ONE SWITCH, by some events of it: no more entered than the host's and what downloads emit that began; and
--- what was written and sent back is as much at least as the packets take that came into hand
+-- THE PACKETS THAT CAME INTO HAND ARE THOSE OF ONE SWITCH: they take no more than what entered it leads to at all slaves, of which no more entered than the
+-- host's packets and what downloads emit that began
 pub record AreSwitched (plan : Scenario) (leads : List Leads) : Type 0 where
-  pub world : World
-  pub happened : Happened (length plan.slaves) (new_world (length plan.slaves)) world
-  pub entered : world.entered ≤ host_cuts plan.host + cuts_begun plan.slaves leads
-  pub written : world.entered + packets_begun plan.slaves leads ≤ world.work
+  pub entered : ℕ
+  pub within : entered ≤ host_cuts plan.host + cuts_begun plan.slaves leads
+  pub most : entered + packets_begun plan.slaves leads ≤ entered * ((length plan.slaves + 1) * (length plan.slaves + 1))

@@ -73,7 +73,6 @@ pub fn switched_law()
 {
     plan_counts::plan_counts();
     script_work::script_law();
-    packet_work::packet_law();
 }
 
 /// FRAMES THAT WENT ROUND THE RING OF A PLAN have the fates of the plan's schedule.

@@ -1,0 +1,7 @@
+mod Live
+mod Owns
+mod Epochs
+mod Calm
+mod Times
+mod Turns
+mod All

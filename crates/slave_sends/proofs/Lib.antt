@@ -1,0 +1,3 @@
+pub mod Cuts
+mod Stays
+mod Emits

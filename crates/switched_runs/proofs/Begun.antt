@@ -1,0 +1,143 @@
+-- THE PACKETS THAT CAME INTO HAND of a slave, by its life and by the frames; of one without a port none did.
+use Rattle.std.proofs.Common.{◌≡◌, ℕ, zero, suc, ◌+◌, ◌*◌, ◌<◌, ◌≤◌, ◌==◌, Bool, true, false, cond, Option, Some, None, List, [], ◌∷◌, ◌++◌, map, length, filter, refl, sym, ap, ◌∙◌, subst, arith, append-nil, if◌then◌else◌}
+use Rattle.std.specs.Prelude.{sum_by, slice_get}
+use Rattle.std.proofs.lemmas.Bool.{eqb-true}
+use Rattle.std.proofs.lemmas.List.Elements.{filter-append}
+use Rattle.std.proofs.lemmas.List.Sums.{sum_by-cons, sum_by-append}
+use Rattle.arrayvec.specs.ArrayVec.{ArrayVec}
+use Rattle.book_model.specs.Script.{life_started}
+use Rattle.datagrams.specs.Datagram as Raw
+use Rattle.eoe_model.specs.Client as EoeClient
+use Rattle.eoe_switch.specs.Switch.{Switched}
+use Rattle.eoe_switch.specs.declared.switching.SwitchEvent.{SwitchEvent}
+use Rattle.eoe_switch.specs.declared.switching.SwitchEvent.TheVariants.{Arrive, Begun, Down}
+use Rattle.frame_view.specs.View.{Lens}
+use Rattle.life_runs.specs.Led.{Exchanged, Leads, Turn, IsTurn, AllTurn, IsLed, led_behind, gives_up_at}
+use Rattle.master_hand.specs.Spoken.{Asked, sdo, file, drive, net, passed}
+use Rattle.master_node.specs.Begins.{Taken, switch_on, oldest_at, taken_by, taken_in, packet_asked, begins_by, begun_of, begins_in}
+use Rattle.master_node.specs.Forwards.{port_by}
+use Rattle.master_tour.specs.Made.{is_in}
+use Rattle.packet_work.specs.Packets.{waiting_work, queue_work}
+use Rattle.packets_begun.specs.Over.{AreBegun, BegunOn, packet_of, packet_begun, packets_begun}
+use Rattle.script_runs.specs.Came.{is_packet}
+use Rattle.script_runs.proofs.Came.{listed, turn_started, behind_same}
+use Rattle.state_exchange.specs.Stated.{Service}
+use Rattle.switched_runs.proofs.Ports.{queue_append}
+
+-- what a packet comes to at a port of one of n slaves, if a service is one
+abbrev pub weight : ℕ → Service Asked → ℕ
+weight n (Service.Mails (sdo q)) = 0
+weight n (Service.Mails (file q)) = 0
+weight n (Service.Mails (drive q)) = 0
+weight n (Service.Mails (net (EoeClient.packet octets frame))) = waiting_work n octets
+weight n (Service.Mails (net (EoeClient.set_ip block))) = 0
+weight n (Service.Mails (net EoeClient.get_ip)) = 0
+weight n (Service.Mails (passed m)) = 0
+weight n (Service.State target) = 0
+
+-- of the packets among services
+abbrev pub weights : ℕ → List (Service Asked) → ℕ
+weights n qs = sum_by (weight n) (filter is_packet qs)
+
+-- the services of the slave at a place
+abbrev pub started_at : List Leads → ℕ → List (Service Asked)
+started_at [] k = []
+started_at (a ∷ as') zero = life_started a.lived.life
+started_at (a ∷ as') (suc k) = started_at as' k
+
+one_weight : (n : ℕ) (b : Option (Service Asked)) → queue_work n (packet_begun b) ≡ weights n (listed b)
+one_weight n None = refl
+one_weight n (Some (Service.Mails (sdo q))) = refl
+one_weight n (Some (Service.Mails (file q))) = refl
+one_weight n (Some (Service.Mails (drive q))) = refl
+one_weight n (Some (Service.Mails (net (EoeClient.packet octets frame)))) = sym (sum_by-cons (weight n) (Service.Mails (net (EoeClient.packet octets frame))) [])
+one_weight n (Some (Service.Mails (net (EoeClient.set_ip block)))) = refl
+one_weight n (Some (Service.Mails (net EoeClient.get_ip))) = refl
+one_weight n (Some (Service.Mails (passed m))) = refl
+one_weight n (Some (Service.State target)) = refl
+
+weights_append : (n : ℕ) (xs ys : List (Service Asked)) → weights n (xs ++ ys) ≡ weights n xs + weights n ys
+weights_append n xs ys = ap (sum_by (weight n)) (filter-append is_packet xs ys) ∙ sum_by-append (weight n) (filter is_packet xs) (filter is_packet ys)
+
+module _ {lens : ℕ → Lens} {recover retry : ℕ} where
+  started_more : (gives : Bool) (made : ℕ) (f : Exchanged) (ds : List Raw.Datagram) (as' : List Leads) (us : List Turn) → AllTurn lens made ds as' us → (k : ℕ) → started_at (map (led_behind lens recover retry gives made f) us) k ≡ started_at as' k ++ listed (begun_of us k)
+  started_more gives made f ds [] [] y k = refl
+  started_more gives made f ds [] (u ∷ us) y k = absurd y
+  started_more gives made f ds (a ∷ as') [] y k = absurd y
+  started_more gives made f ds (a ∷ as') (u ∷ us) y zero = behind_same lens recover retry gives made f u.lived u.share f.fate ∙ turn_started lens made ds a u y.0
+  started_more gives made f ds (a ∷ as') (u ∷ us) y (suc k) = started_more gives made f ds as' us y.1 k
+
+  -- JUST THOSE CAME INTO HAND
+  pub begun_weights : (n : ℕ) (first : List Leads) → ((k : ℕ) → started_at first k ≡ []) → (fs : List Exchanged) (missed : ℕ) (as' : List Leads) (led : IsLed lens recover retry first fs missed as') (k : ℕ) → queue_work n (packets_begun led k) ≡ weights n (started_at as' k)
+  begun_weights n first none _ _ _ IsLed.start k = sym (ap (weights n) (none k))
+  begun_weights n first none _ _ _ (IsLed.on fs missed as' f us led frame) k =
+      queue_append n (packets_begun led k) (packet_begun (begun_of us k))
+      ∙ (λ i. begun_weights n first none fs missed as' led k i + one_weight n (begun_of us k) i)
+      ∙ sym (weights_append n (started_at as' k) (listed (begun_of us k)))
+      ∙ ap (weights n) (sym (started_more (gives_up_at lens recover retry missed) (length fs) f frame.datagrams as' us frame.each k))
+
+-- ---- a slave without a port
+no_port : Option ℕ → ℕ
+no_port None = 1
+no_port (Some port) = 0
+
+portless : List Taken → ℕ
+portless [] = 0
+portless (t ∷ ts) = no_port t.port + portless ts
+
+portless_append : (xs ys : List Taken) → portless (xs ++ ys) ≡ portless xs + portless ys
+portless_append [] ys = refl
+portless_append (x ∷ xs) ys = omega (arith, portless_append xs ys)
+
+taken_ported : (s : Switched) (es : List SwitchEvent) → portless (taken_in s es) ≡ 0
+taken_ported s [] = refl
+taken_ported s (e ∷ es) = omega (arith, portless_append (taken_by s e) (taken_in (switch_on s e) es), one e, taken_ported (switch_on s e) es)
+  where
+    one : (e : SwitchEvent) → portless (taken_by s e) ≡ 0
+    one (Arrive port packet) = refl
+    one (Begun port) = refl
+    one (Down port) = refl
+
+one_portless : (b : Option (Service Asked)) → portless (begins_by None b) ≡ length (packet_begun b)
+one_portless None = refl
+one_portless (Some (Service.Mails (sdo q))) = refl
+one_portless (Some (Service.Mails (file q))) = refl
+one_portless (Some (Service.Mails (drive q))) = refl
+one_portless (Some (Service.Mails (net (EoeClient.packet octets frame)))) = refl
+one_portless (Some (Service.Mails (net (EoeClient.set_ip block)))) = refl
+one_portless (Some (Service.Mails (net EoeClient.get_ip))) = refl
+one_portless (Some (Service.Mails (passed m))) = refl
+one_portless (Some (Service.State target)) = refl
+
+-- what of it began, of the slaves that were visited
+of_visited : (ports : List (Option ℕ)) (begun : ℕ → Option (Service Asked)) (k : ℕ) → port_by (slice_get ports k) ≡ None → (visited : List ℕ) → is_in k visited ≡ true → length (packet_begun (begun k)) ≤ portless (begins_in ports begun visited)
+of_visited ports begun k none [] e = absurd (let bad : false ≡ true = e in cc)
+of_visited ports begun k none (p ∷ ps) e = go (k == p) refl
+  where
+    here : List Taken
+    here = begins_by (port_by (slice_get ports p)) (begun p)
+
+    go : (b : Bool) → (k == p) ≡ b → length (packet_begun (begun k)) ≤ portless (here ++ begins_in ports begun ps)
+    go true f =
+        let same : k ≡ p = eqb-true k p f in
+        let is : portless here ≡ length (packet_begun (begun k)) = ap (λ q. portless (begins_by (port_by (slice_get ports q)) (begun q))) (sym same) ∙ ap (λ (o : Option ℕ). portless (begins_by o (begun k))) none ∙ one_portless (begun k) in
+        omega (arith, portless_append here (begins_in ports begun ps), is)
+    go false f =
+        let rest = of_visited ports begun k none ps (sym (ap (λ (b : Bool). if b then true else is_in k ps) f) ∙ e) in
+        omega (arith, portless_append here (begins_in ports begun ps), rest)
+
+nothing : (xs : List (ArrayVec ℕ)) → length xs ≡ 0 → xs ≡ []
+nothing [] e = refl
+nothing (x ∷ xs) e = absurd (omega (arith, e))
+
+pub none_begun : {lens : ℕ → Lens} {recover retry : ℕ} {first : List Leads} (ports : List (Option ℕ)) (many k : ℕ) → port_by (slice_get ports k) ≡ None → (fs : List Exchanged) (missed : ℕ) (as' : List Leads) (led : IsLed lens recover retry first fs missed as') (es : List SwitchEvent) → AreBegun ports many led es → packets_begun led k ≡ []
+none_begun ports many k none _ _ _ IsLed.start es begun = refl
+none_begun ports many k none _ _ _ (IsLed.on fs missed as' f us led frame) es on =
+    (λ i. none_begun ports many k none fs missed as' led on.old on.was i ++ now (is_in k on.visited) refl i)
+  where
+    now : (b : Bool) → is_in k on.visited ≡ b → packet_begun (begun_of us k) ≡ []
+    now true e =
+        let few = of_visited ports (begun_of us) k none on.visited e in
+        let zero_ = taken_ported _ on.making in
+        nothing (packet_begun (begun_of us k)) (omega (arith, few, zero_, ap portless on.taken))
+    now false e = nothing (packet_begun (begun_of us k)) (sym (one_portless (begun_of us k)) ∙ ap portless (on.others k None e))

@@ -1,0 +1,4 @@
+mod Ports
+mod Begun
+mod Weighed
+mod Switched

@@ -1,0 +1,273 @@
+-- ALL SLAVES: what came into hand is within what entered.
+use Rattle.std.proofs.Common.{◌≡◌, ℕ, zero, suc, ◌+◌, ◌-◌, ◌*◌, ◌<◌, ◌≤◌, Bool, true, false, not, All, Option, Some, None, List, [], ◌∷◌, ◌++◌, take, length, filter, refl, sym, ap, ◌∙◌, subst, arith, if◌then◌else◌}
+use Rattle.std.specs.Prelude.{count_by, slice_get, sum_by, nat_lt}
+use Rattle.std.proofs.Math.Nat.{mul-le-mul_right}
+use Rattle.std.proofs.lemmas.Nat.{mul-le}
+use Rattle.std.proofs.lemmas.List.Elements.{All-head, All-tail}
+use Rattle.std.proofs.lemmas.List.Sums.{sum_by-cons, sum_by-append}
+use Rattle.arrayvec.specs.ArrayVec.{ArrayVec}
+use Rattle.book_model.specs.Script.{life_started}
+use Rattle.eoe_switch.specs.Switch.{switched}
+use Rattle.eoe_switch.specs.declared.switching.SwitchEvent.{SwitchEvent}
+use Rattle.life_counts.specs.Begun.{begun_most}
+use Rattle.life_runs.specs.First.{lens_of, script_for, first_leads, leads_from}
+use Rattle.life_runs.specs.Led.{Exchanged, Leads, IsLed}
+use Rattle.master_node.specs.Forwards.{port_by}
+use Rattle.master_node.specs.Happened.{arrivals_at}
+use Rattle.master_node.specs.Ports.{IsAtPort, port_where, last_where, ports_behind, ports_of}
+use Rattle.packet_work.specs.Flows.{slaves_work, entries_work, AllComeAt}
+use Rattle.packet_work.specs.Packets.{cuts, waiting_work, queue_work}
+use Rattle.packets_begun.specs.Over.{AreBegun, forwarded_to}
+use Rattle.packets_begun.specs.Over as Over
+use Rattle.packets_heard.specs.Heard.{Joined, joined_in}
+use Rattle.plan_counts.specs.Asked.{asked_most}
+use Rattle.plan_counts.specs.Split.{entering}
+use Rattle.port_events.specs.Listed.{IsOwn, Listed, long_where, long_ones, packets_at}
+use Rattle.run_work.specs.Switched.{AreSwitched, cuts_begun, host_cuts}
+use Rattle.run_work.specs.Together.{packets_begun}
+use Rattle.script_runs.specs.Came.{is_packet}
+use Rattle.script_runs.specs.Slaves.{HasCome, AllCome}
+use Rattle.segment_plan.specs.declared.plan.Scenario.{Scenario}
+use Rattle.segment_plan.specs.declared.slave.SlaveSpec.{SlaveSpec}
+use Rattle.sent_packets.specs.Sent.{AllSend}
+use Rattle.service_counts.specs.Shapes.{shape_of}
+use Rattle.slave_sends.specs.Sends.{all_most}
+use Rattle.slave_server.specs.Spec.{core_of, profile_of}
+use Rattle.switched_runs.proofs.Begun.{weight, weights, started_at, begun_weights, none_begun}
+use Rattle.switched_runs.proofs.Ports.{ports_sum, eoe_count, forwards_within, queue_append, entries_within, come_at, few_ports}
+use Rattle.switched_runs.proofs.Weighed.{Echoes, echoes, packets_weigh, all_send}
+
+-- packets that are too short are left out
+long_less : (n : ℕ) (ps : List (List ℕ)) → queue_work n (long_ones ps) ≤ sum_by (waiting_work n) ps
+long_less n [] = omega arith
+long_less n (p ∷ ps) = omega (arith, sum_by-cons (waiting_work n) p ps, queue_append n (long_where (nat_lt (length p) 14) p) (long_ones ps), long_less n ps, one (nat_lt (length p) 14))
+  where
+    one : (b : Bool) → queue_work n (long_where b p) ≤ waiting_work n p
+    one true = omega arith
+    one false = omega arith
+
+-- the packets of the host
+host_least : (n : ℕ) (packets : List (ArrayVec ℕ)) → queue_work n packets ≤ host_cuts packets * (n + 1)
+host_least n [] = omega arith
+host_least n (p ∷ ps) =
+    let sum = sum_by-cons (λ (packet : ArrayVec ℕ). cuts packet.items) p ps in
+    let whole : (cuts p.items + host_cuts ps) * (n + 1) ≡ cuts p.items * (n + 1) + host_cuts ps * (n + 1) = omega arith in
+    omega (arith, host_least n ps, one (Rattle.packet_work.specs.Packets.may_echo p.items), whole, ap (λ z. z * (n + 1)) sum)
+  where
+    one : (b : Bool) → cuts p.items * (if b then n + 1 else 1) ≤ cuts p.items * (n + 1)
+    one true = omega arith
+    one false = mul-le (cuts p.items) 1 (cuts p.items) (n + 1) (omega arith) (omega arith)
+
+-- ---- the sums
+linear : (p me f u ma t h d hk dk w : ℕ) → p + me ≤ f → f ≤ u + ma → ma ≤ me + t → w ≡ (u + hk) + (t + 2 * dk) → h ≤ hk → d ≤ dk → (h + d) + p ≤ w
+linear p me f u ma t h d hk dk w one two three whole host down = omega (arith, one, two, three, whole, host, down)
+
+at_least : (h m : ℕ) → h ≤ h * (suc m + 1)
+at_least h m = mul-le h 1 h (suc m + 1) (omega arith) (omega arith)
+
+spread_out : (m e t : ℕ) → m * (e + t) ≡ m * e + m * t
+spread_out m e t = omega arith
+
+whole_square : (m h d : ℕ) → (h + d) * ((suc m + 1) * (suc m + 1)) ≡ (suc m * (h * (suc m + 1)) + h * (suc m + 1)) + (m * ((suc m + 1) * d) + 2 * (d * (suc m + 1)))
+whole_square m h d = omega arith
+
+square_of : (m p e f a h d : ℕ) → p + m * e ≤ f → f ≤ suc m * (h * (suc m + 1)) + m * a → a ≤ e + (suc m + 1) * d → (h + d) + p ≤ (h + d) * ((suc m + 1) * (suc m + 1))
+square_of m p e f a h d one two three =
+    let third : m * a ≤ m * (e + (suc m + 1) * d) = mul-le m a m (e + (suc m + 1) * d) (omega arith) three in
+    let spread = spread_out m e ((suc m + 1) * d) in
+    linear p (m * e) f (suc m * (h * (suc m + 1))) (m * a) (m * ((suc m + 1) * d)) h d (h * (suc m + 1)) (d * (suc m + 1)) ((h + d) * ((suc m + 1) * (suc m + 1)))
+    one two (le-is third spread) (whole_square m h d) (at_least h m) (at_least d m)
+  where
+    le-is : {a b c : ℕ} → a ≤ b → b ≡ c → a ≤ c
+    le-is l e = subst (λ z. _ ≤ z) e l
+
+square : (n p e f a h d : ℕ) → 1 ≤ n → p + (n - 1) * e ≤ f → f ≤ n * (h * (n + 1)) + (n - 1) * a → a ≤ e + (n + 1) * d → (h + d) + p ≤ (h + d) * ((n + 1) * (n + 1))
+square zero p e f a h d some one two three = absurd (omega (arith, some))
+square (suc m) p e f a h d some one two three =
+    let k : suc m - 1 ≡ m = omega arith in
+    square_of m p e f a h d (subst (λ z. p + z * e ≤ f) k one) (subst (λ z. f ≤ suc m * (h * (suc m + 1)) + z * a) k two) three
+
+-- what the laws say of a run
+module _ (plan : Scenario) (fs : List Exchanged) (missed : ℕ) (leads : List Leads) (led : IsLed (lens_of plan.slaves) plan.recover plan.retry (first_leads plan) fs missed leads) (es : List SwitchEvent) (n : ℕ) where
+  abbrev many : ℕ
+  many = ports_of plan.slaves
+
+  abbrev ports : List (Option ℕ)
+  ports = ports_behind 0 plan.slaves
+
+  pub record Laws : Type 0 where
+    pub own : (k port : ℕ) → port_by (slice_get ports k) ≡ Some port → IsOwn ports k port
+    pub arrivals : (k port : ℕ) → IsOwn ports k port → arrivals_at port es ≡ long_ones (packets_at (joined_in led) k)
+    pub forwarded : (k port : ℕ) → IsOwn ports k port → port < many → (left : List (ArrayVec ℕ)) × (forwarded_to port (switched many es).forwards ≡ Over.packets_begun led k ++ left)
+    pub begun : AreBegun ports many led es
+    pub within : many ≤ n + 1 → AllComeAt many es → slaves_work n (switched many es).forwards ≤ entries_work n es
+    pub echo : (mac : List ℕ) → length mac ≡ 6 → Echoes mac
+
+  module _ (laws : Laws) (some : 1 ≤ n) (least : length plan.slaves ≤ n) where
+    abbrev pub forwards_at : ℕ → ℕ
+    forwards_at p = queue_work n (forwarded_to p (switched many es).forwards)
+
+    abbrev pub come_in_at : ℕ → ℕ
+    come_in_at p = queue_work n (arrivals_at p es)
+
+    nothing_first : (place : ℕ) (ss : List SlaveSpec) (k : ℕ) → started_at (leads_from plan.services place ss) k ≡ []
+    nothing_first place [] k = refl
+    nothing_first place (s ∷ ss) zero = refl
+    nothing_first place (s ∷ ss) (suc k) = nothing_first (suc place) ss k
+
+    -- what came into hand of the slave at a place
+    weighed : (k : ℕ) → queue_work n (Over.packets_begun led k) ≡ weights n (started_at leads k)
+    weighed k = begun_weights n (first_leads plan) (nothing_first 0 plan.slaves) fs missed leads led k
+
+    -- a slave with a port
+    pub record With (s : SlaveSpec) (a : Leads) (port : ℕ) (sent : ℕ) : Type 0 where
+      pub begun : begun_most (asked_most (profile_of s) (shape_of (core_of s))) (filter is_packet (life_started a.lived.life)) + (n - 1) * sent ≤ forwards_at port
+      pub came : come_in_at port ≤ sent + (n + 1) * sum_by entering (take a.number a.script)
+
+    -- it has this place, its life and its packets
+    pub record At (place : ℕ) (s : SlaveSpec) (a : Leads) (j : Joined) : Type 0 where
+      pub mac : length s.mac ≡ 6
+      pub started : started_at leads place ≡ life_started a.lived.life
+      pub joined : packets_at (joined_in led) place ≡ j.packets
+      pub come : HasCome plan place s a
+      pub sends : sum_by (waiting_work n) j.packets ≤ all_most (waiting_work n) (profile_of s) (life_started a.lived.life)
+
+    module _ (place : ℕ) (s : SlaveSpec) (a : Leads) (j : Joined) (x : At place s a j) where
+      abbrev law : Echoes (profile_of s).mac
+      law = laws.echo s.mac x.mac
+
+      abbrev sent : ℕ
+      sent = echoes n (profile_of s) law (life_started a.lived.life)
+
+      abbrev count : ℕ
+      count = begun_most (asked_most (profile_of s) (shape_of (core_of s))) (filter is_packet (life_started a.lived.life))
+
+      weigh : count + (n - 1) * sent ≤ queue_work n (Over.packets_begun led place)
+      weigh =
+          let took = packets_weigh n (profile_of s) law (shape_of (core_of s)) some (life_started a.lived.life) in
+          omega (arith, took, weighed place, ap (weights n) x.started)
+
+      with_port : (port : ℕ) → port_by (slice_get ports place) ≡ Some port → port < many → With s a port sent
+      with_port port has near =
+          let own = laws.own place port has in
+          let first = laws.forwarded place port own near in
+          let front = ap (queue_work n) first.1 ∙ queue_append n (Over.packets_begun led place) first.0 in
+          let came = ap (queue_work n) (laws.arrivals place port own ∙ ap long_ones x.joined) in
+          let sends = all_send n (profile_of s) law (lens_of plan.slaves s.station).out (take a.number (script_for place plan.services)) (life_started a.lived.life) x.come.firsts.those in
+          let scripts : (n + 1) * sum_by entering (take a.number (script_for place plan.services)) ≡ (n + 1) * sum_by entering (take a.number a.script) = ap (λ ts. (n + 1) * sum_by entering (take a.number ts)) (sym x.come.script) in
+          record { begun = omega (arith, weigh, front); came = omega (arith, came, long_less n j.packets, x.sends, sends, scripts) }
+
+      -- one without a port: no packet came into hand
+      without : port_by (slice_get ports place) ≡ None → count ≡ 0
+      without none =
+          let nothing = none_begun ports many place none fs missed leads led es laws.begun in
+          omega (arith, weigh, ap (queue_work n) nothing)
+
+    -- ---- ALL SLAVES, from a place on
+    pub record Sums (last : ℕ) (ss : List SlaveSpec) (as' : List Leads) : Type 0 where
+      pub sent : ℕ
+      pub begun : packets_begun ss as' + (n - 1) * sent ≤ ports_sum forwards_at last ss
+      pub came : ports_sum come_in_at last ss ≤ sent + (n + 1) * cuts_begun ss as'
+
+    abbrev Behind : ℕ → ℕ → List SlaveSpec → List Leads → List Joined → Type 0
+    Behind place last ss as' js =
+        ((i : ℕ) → slice_get ports (place + i) ≡ slice_get (ports_behind last ss) i) × (((i : ℕ) → started_at leads (place + i) ≡ started_at as' i) × ((i : ℕ) → packets_at (joined_in led) (place + i) ≡ packets_at js i))
+
+    -- one slave more
+    more : (place last : ℕ) (s : SlaveSpec) (ss : List SlaveSpec) (a : Leads) (as' : List Leads) (j : Joined) (js : List Joined) → Behind place last (s ∷ ss) (a ∷ as') (j ∷ js) → Behind (suc place) (last_where s.eoe last) ss as' js
+    more place last s ss a as' j js b = ((λ i. next i (λ m. slice_get ports m) ∙ b.0 (suc i)), ((λ i. next i (λ m. started_at leads m) ∙ b.1.0 (suc i)), (λ i. next i (λ m. packets_at (joined_in led) m) ∙ b.1.1 (suc i))))
+      where
+        next : {X : Type 0} (i : ℕ) (f : ℕ → X) → f (suc place + i) ≡ f (place + suc i)
+        next i f = let same : suc place + i ≡ place + suc i = omega arith in ap f same
+
+    parted_sum : (m a b : ℕ) → m * (a + b) ≡ m * a + m * b
+    parted_sum m a b = omega arith
+
+    sums : (place last : ℕ) (ss : List SlaveSpec) (as' : List Leads) (js : List Joined) → All (λ (s : SlaveSpec). length s.mac ≡ 6) ss → AllCome plan place ss as' → AllSend (waiting_work n) ss as' js → last + 1 + count_by (λ (s : SlaveSpec). s.eoe) ss ≤ many → Behind place last ss as' js → Sums last ss as'
+    sums place last [] [] [] macs come sends room b = record { sent = 0; begun = zeros (n - 1); came = omega arith }
+      where
+        zeros : (m : ℕ) → 0 + m * 0 ≤ 0
+        zeros m = omega arith
+    sums place last [] [] (j ∷ js) macs come sends room b = absurd sends
+    sums place last [] (a ∷ as') js macs come sends room b = absurd come
+    sums place last (s ∷ ss) [] js macs come sends room b = absurd come
+    sums place last (s ∷ ss) (a ∷ as') [] macs come sends room b = absurd sends
+    sums place last (s ∷ ss) (a ∷ as') (j ∷ js) macs come sends room b = go s.eoe refl
+      where
+        here : {X : Type 0} (f : ℕ → X) → f place ≡ f (place + 0)
+        here f = let same : place ≡ place + 0 = omega arith in ap f same
+
+        x : At place s a j
+        x = record {
+          mac = All-head (λ (s : SlaveSpec). length s.mac ≡ 6) s ss macs;
+          started = here (λ m. started_at leads m) ∙ b.1.0 0;
+          joined = here (λ m. packets_at (joined_in led) m) ∙ b.1.1 0;
+          come = come.0;
+          sends = sends.0;
+        }
+
+        at : (e : Bool) → s.eoe ≡ e → port_by (slice_get ports place) ≡ port_where e last
+        at e is = ap port_by (here (λ m. slice_get ports m) ∙ b.0 0) ∙ ap (λ (z : Bool). port_where z last) is
+
+        rest : (e : Bool) → s.eoe ≡ e → last_where e last + 1 + count_by (λ (s : SlaveSpec). s.eoe) ss ≤ many → Sums (last_where e last) ss as'
+        rest e is less = sums (suc place) (last_where e last) ss as' js (All-tail (λ (s : SlaveSpec). length s.mac ≡ 6) s ss macs) come.1 sends.1 less
+            (subst (λ (z : Bool). Behind (suc place) (last_where z last) ss as' js) is (more place last s ss a as' j js b))
+
+        entered : ℕ
+        entered = sum_by entering (take a.number a.script)
+
+        go : (e : Bool) → s.eoe ≡ e → Sums last (s ∷ ss) (a ∷ as')
+        go true is =
+            let c = eoe_count s ss in
+            let one : (if s.eoe then 1 else 0) ≡ 1 = ap (λ (z : Bool). if z then 1 else 0) is in
+            let behind = rest true is (omega (arith, room, c, one)) in
+            let w = with_port place s a j x (last + 1) (at true is) (omega (arith, room, c, one)) in
+            let forwards : ports_sum forwards_at last (s ∷ ss) ≡ forwards_at (last + 1) + ports_sum forwards_at (last + 1) ss = ap (λ (z : Bool). if z then forwards_at (last + 1) + ports_sum forwards_at (last + 1) ss else ports_sum forwards_at last ss) is in
+            let comes : ports_sum come_in_at last (s ∷ ss) ≡ come_in_at (last + 1) + ports_sum come_in_at (last + 1) ss = ap (λ (z : Bool). if z then come_in_at (last + 1) + ports_sum come_in_at (last + 1) ss else ports_sum come_in_at last ss) is in
+            record {
+              sent = sent place s a j x + behind.sent;
+              begun = omega (arith, w.begun, behind.begun, forwards, parted_sum (n - 1) (sent place s a j x) behind.sent);
+              came = omega (arith, w.came, behind.came, comes, parted_sum (n + 1) entered (cuts_begun ss as'));
+            }
+        go false is =
+            let c = eoe_count s ss in
+            let none : (if s.eoe then 1 else 0) ≡ 0 = ap (λ (z : Bool). if z then 1 else 0) is in
+            let behind = rest false is (omega (arith, room, c, none)) in
+            let zero_ = without place s a j x (at false is) in
+            let forwards : ports_sum forwards_at last (s ∷ ss) ≡ ports_sum forwards_at last ss = ap (λ (z : Bool). if z then forwards_at (last + 1) + ports_sum forwards_at (last + 1) ss else ports_sum forwards_at last ss) is in
+            let comes : ports_sum come_in_at last (s ∷ ss) ≡ ports_sum come_in_at last ss = ap (λ (z : Bool). if z then come_in_at (last + 1) + ports_sum come_in_at (last + 1) ss else ports_sum come_in_at last ss) is in
+            record {
+              sent = behind.sent;
+              begun = omega (arith, zero_, behind.begun, forwards);
+              came = omega (arith, behind.came, comes, parted_sum (n + 1) entered (cuts_begun ss as'));
+            }
+
+    -- THE PACKETS ARE THOSE OF ONE SWITCH
+    pub record Switches : Type 0 where
+      pub entered : ℕ
+      pub within : entered ≤ host_cuts plan.host + cuts_begun plan.slaves leads
+      pub most : entered + packets_begun plan.slaves leads ≤ entered * ((n + 1) * (n + 1))
+
+    pub switched_so : (rest : List (ArrayVec ℕ)) → All (λ (s : SlaveSpec). length s.mac ≡ 6) plan.slaves → AllCome plan 0 plan.slaves leads → AllSend (waiting_work n) plan.slaves leads (joined_in led) → All (IsAtPort many) es → arrivals_at 0 es ++ rest ≡ plan.host → Switches
+    switched_so rest macs come sends at host =
+        let few : many ≤ n + 1 = omega (arith, few_ports plan.slaves, least) in
+        let within = laws.within few (come_at many es at) in
+        let entries = entries_within n plan.slaves es at in
+        let forwards = forwards_within n (switched many es).forwards plan.slaves in
+        let all = sums 0 0 plan.slaves leads (joined_in led) macs come sends (omega arith) (front (λ m. slice_get ports m), (front (λ m. started_at leads m), front (λ m. packets_at (joined_in led) m))) in
+        let own = host_cuts (arrivals_at 0 es) in
+        let most = host_least n (arrivals_at 0 es) in
+        let times = mul-le n (queue_work n (arrivals_at 0 es)) n (own * (n + 1)) (omega arith) most in
+        let hosts : host_cuts plan.host ≡ own + host_cuts rest = ap host_cuts (sym host) ∙ sum_by-append (λ (packet : ArrayVec ℕ). cuts packet.items) (arrivals_at 0 es) rest in
+        let chain = chained (ports_sum forwards_at 0 plan.slaves) (slaves_work n (switched many es).forwards) (entries_work n es) (n * queue_work n (arrivals_at 0 es)) ((n - 1) * ports_sum come_in_at 0 plan.slaves) (n * (own * (n + 1))) forwards within entries times in
+        record {
+          entered = own + cuts_begun plan.slaves leads;
+          within = omega (arith, hosts);
+          most = square n (packets_begun plan.slaves leads) all.sent (ports_sum forwards_at 0 plan.slaves) (ports_sum come_in_at 0 plan.slaves) own (cuts_begun plan.slaves leads) some all.begun chain all.came;
+        }
+      where
+        front : {X : Type 0} (f : ℕ → X) (i : ℕ) → f (0 + i) ≡ f i
+        front f i = let same : 0 + i ≡ i = omega arith in ap f same
+
+        chained : (a b c x y z : ℕ) → a ≤ b → b ≤ c → c ≤ x + y → x ≤ z → a ≤ z + y
+        chained a b c x y z f g h k = omega (arith, f, g, h, k)

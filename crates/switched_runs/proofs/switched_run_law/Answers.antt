@@ -1,0 +1,25 @@
+use Rattle.std.proofs.Common.{length, arith}
+use Rattle.life_runs.specs.First.{lens_of, first_leads}
+use Rattle.master_node.specs.Ports.{ports_behind, ports_of}
+use Rattle.packet_work.specs.Packets.{waiting_work}
+use Rattle.switched_runs.proofs.Switched.{switched_so}
+use Rattle.switched_runs.proofs.switched_run_law.Goals as goal
+
+pub returns : goal.returns
+returns c = λ plan is known fs missed leads led round es rest at host listed begun.
+    let n = length plan.slaves in
+    let lens = lens_of plan.slaves in
+    let ports = ports_behind 0 plan.slaves in
+    let many = ports_of plan.slaves in
+    let first = first_leads plan in
+    let made = switched_so plan fs missed leads led es n
+    (record {
+      own = λ k port has. c.port_law.ensures.own plan.slaves k port has;
+      arrivals = λ k port own. c.port_law.ensures.arrivals lens plan.recover plan.retry missed ports first leads fs led es k port own listed;
+      forwarded = λ k port own near. c.begun_law.ensures.forwarded lens plan.recover plan.retry missed ports many first leads fs led es k port own near begun;
+      begun = begun;
+      within = λ few come. c.packet_law.ensures.within n many es few come;
+      echo = λ mac six. record { same = λ packet echo e. c.packet_law.ensures.echo mac packet echo six e; may = λ packet echo e. c.packet_law.ensures.may mac packet echo e };
+    })
+    is.laid.some_slave (omega arith) rest known.macs (c.script_run_law.ensures plan fs missed leads led) (c.sent_law.ensures (waiting_work n) plan is known fs missed leads led round) at host in
+    record { entered = made.entered; within = made.within; most = made.most }
