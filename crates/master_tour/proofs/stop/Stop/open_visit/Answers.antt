@@ -48,3 +48,15 @@ returns-clause-room g c = λ r.
       λ n. (let long = c.add_datagram-placed.ensures.long n in omega (arith, most, long)),
       λ y. (let same = (c.add_datagram-placed.ensures.way y).1 in omega (arith, most, same)),
     )
+
+pub returns-clause-recalled : goal.returns-clause-recalled
+returns-clause-recalled g c = ?
+
+pub returns-clause-takes : goal.returns-clause-takes
+returns-clause-takes g c = λ o n k x d a s.
+    let m = c.choose-began.new.self in
+    let t = c.add_datagram-placed.new.self in
+    ?
+
+pub returns-clause-begins : goal.returns-clause-begins
+returns-clause-begins g c = λ o n k h p x d a s f q. c.choose-began.ensures.none x d a k s h p f q n
