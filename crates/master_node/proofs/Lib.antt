@@ -30,3 +30,4 @@ pub mod Downs
 pub mod Made
 pub mod Arrivals
 pub mod Begins
+pub mod Restings

@@ -1,6 +1,6 @@
 -- A MASTER MAKES NO VISIT IN VAIN where more could go on: what it remembers of a slave's visits, what the datagram of a visit asks, and that behind a visit
 -- no mail is left that could be held, and no service that could begin.
-use Rattle.std.specs.Prelude.{◌≡◌, ◌⊎◌, ◌<◌, ◌&&◌, ◌==◌, ℕ, suc, Bool, true, false, is_some, Option, Some, None, List, [], ◌∷◌, map, length, slice_get, ⊤}
+use Rattle.std.specs.Prelude.{◌≡◌, ◌<◌, ◌==◌, ℕ, suc, Bool, true, false, is_some, Option, Some, None, List, [], ◌∷◌, map, length, slice_get, ⊤}
 use Rattle.arrayvec.specs.ArrayVec.{ArrayVec}
 use Rattle.life_measure.specs.Visits.{Visit, mails_visit, drain_visit}
 use Rattle.life_runs.specs.of_frame_view.View.{Lens}
@@ -19,10 +19,10 @@ use Rattle.master_duty.specs.of_segment_model.Slaves.{Datagram, Access, Found}
 use Rattle.master_duty.specs.of_task_model.Accounts.{Duty, Stage, is_free, is_acknowledged, phase_access}
 use Rattle.master_hand.specs.Spoken.{Asked, acknowledged}
 use Rattle.master_hand.specs.Talk.{asked_of}
-use Rattle.master_hand.specs.declared.course.Course.{Course}
+use Rattle.master_hand.specs.Shown.{knows}
 use Rattle.master_hand.specs.declared.hand.InHand.{InHand}
-use Rattle.master_side.specs.Carried.{in_hand}
 use Rattle.master_side.specs.Due.{EachDue}
+pub use Rattle.master_side.specs.Recall.{Recall, recall_by, new_recall}
 use Rattle.master_side.specs.of_link_mails.Body.{Body}
 use Rattle.master_side.specs.declared.hand.Hand.{Ghosts}
 use Rattle.master_tour.specs.Brings.{accepted_in}
@@ -34,25 +34,9 @@ use Rattle.master_node.specs.Forwards.{forwarded}
 use Rattle.master_node.specs.declared.lan.Lan.{Lan}
 use Rattle.master_node.specs.declared.node.MasterNode.{MasterNode}
 
--- WHAT A MASTER REMEMBERS of a slave's visits: whether the last write found mailbox 0 full and no read came back since; whether, where mailbox 0 is to be
--- seen empty, mailbox 1 is read next; and whether its hand knows which mails are left of the service in hand
-pub record Recall : Type 0 where
-  pub paused : Bool
-  pub turn : Bool
-  pub knows : Bool
-
--- a hand knows them unless a reply came that was not due
-abbrev pub knows : Course → Bool
-knows Course.Nothing = true
-knows Course.Goes = true
-knows Course.Answered = true
-knows Course.Mute = false
-knows Course.Closed = false
-knows Course.Astray = false
-
--- of a slave, where the turn counts only while a state service is in hand
+-- WHAT A MASTER REMEMBERS of a slave's visits
 abbrev pub recall_of : {G : Ghosts InHand} → Stop InHand G → Recall
-recall_of s = record { paused = s.side.paused; turn = is_some (in_hand s.side.duty) && s.side.turn; knows = knows s.side.hand.course }
+recall_of s = recall_by s.side.paused s.side.duty s.side.turn (knows s.side.hand.course)
 
 -- of all slaves
 abbrev pub recalls : MasterNode → List Recall
@@ -155,29 +139,6 @@ AllBegin lens l place (m ∷ ms) (a ∷ as') (u ∷ us) = BeginsAll lens l place
 AllBegin lens l place [] [] [] = ⊤
 AllBegin lens l place _ _ _ = ⊥
 
--- THE MASTER WANTS NOTHING of a slave, by its life: it was given up for good; or it is open, no service is in hand and none is left of its script, both
--- halves of its link are idle, and no packet waits at its port
-pub record Rests (lens : ℕ → Lens) (l : Lan) (place : ℕ) (m : Recall) (a : Leads) : Type 0 where
-  pub knows : m.knows ≡ true
-  pub free : MayBegin lens a
-  pub held : a.lived.life.era.side.halves.out.holding ≡ None
-  pub clear : a.lived.life.era.side.halves.inn.state ≡ InState.Clear
-  pub script : slice_get a.script a.number ≡ None
-  pub packet : forwarded l.switch l.ports.items place ≡ []
-
-abbrev pub IsResting : (ℕ → Lens) → Lan → ℕ → Recall → Leads → Type 0
-IsResting lens l place m a = (a.lived.life.stand ≡ Stand.Gone) ⊎ Rests lens l place m a
-
--- of all slaves, from this place on
-abbrev pub AllRest : (ℕ → Lens) → Lan → ℕ → List Recall → List Leads → Type 0
-AllRest lens l place (m ∷ ms) (a ∷ as') = IsResting lens l place m a × AllRest lens l (suc place) ms as'
-AllRest lens l place [] [] = ⊤
-AllRest lens l place _ _ = ⊥
-
--- what is remembered of a slave whose mailboxes are new
-abbrev pub new_recall : Recall
-new_recall = record { paused = false; turn = false; knows = true }
-
 -- WHAT A VISIT LEAVES TO REMEMBER, by what came back of it: a write that was not done pauses, until a read comes back; and behind the status of mailbox 0
 -- mailbox 1 is read next
 abbrev pub paused_behind : Visit → ℕ → Bool → Bool
@@ -201,7 +162,7 @@ pub record RecallsBack (lens : ℕ → Lens) (back : List (Datagram Body)) (u : 
   pub visited : IsClear u → u.share.under ≡ true → (v : Visit) → turn_visit u m ≡ Some v → (d : Datagram Body) → own u.lived.spot.station back ≡ d ∷ [] → IsFull v d →
       (n.paused ≡ paused_behind v d.gram.counter m.paused) × (n.turn ≡ turn_behind v m.turn)
   pub unvisited : u.lived.life.stand ≡ Stand.Open → u.share.under ≡ false → n ≡ m
-  pub knows : m.knows ≡ true → (u.lived.life.stand ≡ Stand.Open → EachDue (speech_at lens u.lived.spot) u.lived.life.era.side.now (accepted_in u.lived.spot u.lived.life back)) → n.knows ≡ true
+  pub known : m.knows ≡ true → (u.lived.life.stand ≡ Stand.Open → EachDue (speech_at lens u.lived.spot) u.lived.life.era.side.now (accepted_in u.lived.spot u.lived.life back)) → n.knows ≡ true
 
 -- of all slaves
 abbrev pub AllRecall : (ℕ → Lens) → List (Datagram Body) → List Turn → List Recall → List Recall → Type 0

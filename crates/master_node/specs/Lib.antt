@@ -38,3 +38,4 @@ pub mod Made
 pub mod Begins
 pub mod Arrivals
 pub mod Eager
+pub mod Resting
