@@ -53,6 +53,11 @@ knows_not course k (inl w) = never (sym (ap knows w) ∙ k)
 knows_not course k (inr (inl w)) = never (sym (ap knows w) ∙ k)
 knows_not course k (inr (inr w)) = never (sym (ap knows w) ∙ k)
 
+-- so a hand that takes up none has none left
+pub rest_other : (course : Course) (which : Which) (c : Talking) (x : Speech Body Asked Reply) (now : Rows) → (course ≡ Course.Nothing) ⊎ ((course ≡ Course.Mute) ⊎ ((course ≡ Course.Closed) ⊎ (course ≡ Course.Astray))) → knows course ≡ true → Shows course which c x now → next_mail x now None true ≡ []
+rest_other course which c x now (inl w) k h = rest_nothing course which c x now w h
+rest_other course which c x now (inr w) k h = absurd (knows_not course k w)
+
 none_left : (ms : List Body) → is_none_left ms ≡ true → ms ≡ []
 none_left [] e = refl
 none_left (m ∷ ms) e = absurd (never e)

@@ -31,3 +31,5 @@ pub mod Made
 pub mod Arrivals
 pub mod Begins
 pub mod Restings
+pub mod Visitings
+pub mod Eagers

@@ -19,13 +19,16 @@ use Rattle.master_duty.specs.of_segment_model.Slaves.{Datagram, Access, Found}
 use Rattle.master_duty.specs.of_task_model.Accounts.{Duty, Stage, is_free, is_acknowledged, phase_access}
 use Rattle.master_hand.specs.Spoken.{Asked, acknowledged}
 use Rattle.master_hand.specs.Talk.{asked_of}
-use Rattle.master_hand.specs.Shown.{knows}
+use Rattle.master_hand.specs.Shown.{Shows, knows}
 use Rattle.master_hand.specs.declared.hand.InHand.{InHand}
 use Rattle.master_side.specs.Due.{EachDue}
 pub use Rattle.master_side.specs.Recall.{Recall, recall_by, new_recall}
 use Rattle.master_side.specs.of_link_mails.Body.{Body}
 use Rattle.master_side.specs.declared.hand.Hand.{Ghosts}
+use Rattle.master_side.specs.Shown.{SideShows}
 use Rattle.master_tour.specs.Brings.{accepted_in}
+use Rattle.master_tour.specs.Recalls.{TakesUp as Holds}
+use Rattle.master_tour.specs.Walks.{EachPair}
 use Rattle.master_tour.specs.of_life_model.Lives.{Stand}
 use Rattle.master_tour.specs.of_life_model.Own.{own}
 use Rattle.master_tour.specs.declared.stop.Stop.{Stop}
@@ -122,6 +125,22 @@ pub record IsAtEnd (lens : ℕ → Lens) (l : Lan) (place : ℕ) (a : Leads) : T
 -- by what came into hand
 abbrev pub BeginsAll : (ℕ → Lens) → Lan → ℕ → Recall → Leads → Turn → Type 0
 BeginsAll lens l place m a u = m.knows ≡ true → MayBegin lens a → u.share.under ≡ true → u.begun ≡ None → IsAtEnd lens l place a
+
+-- AT ITS VISIT each slave that a frame carries has taken up its next mail: behind it none is left that an open slave's hand could take up, where none is held
+abbrev pub StopTakesUp : {G : Ghosts InHand} → Stop InHand G → Type 0
+StopTakesUp s = s.under ≡ true → Holds s.stand s.side.out.state (knows s.side.hand.course) (λ x d a. SideShows (Shows s.side.hand.course s.side.hand.which s.side.hand.clients x) s.side.out s.side.inn s.side.fresh s.side.duty d a)
+
+-- while a frame is made what is remembered stays
+abbrev pub StopGoes : {G : Ghosts InHand} → Stop InHand G → Stop InHand G → Type 0
+StopGoes s t = (recall_of t ≡ recall_of s) × (StopTakesUp s → StopTakesUp t)
+
+-- of each slave
+abbrev pub EagerOn : MasterNode → MasterNode → Type 0
+EagerOn m n = EachPair (λ s t. StopGoes s t) m.tour.stops.items n.tour.stops.items
+
+-- once it is made
+abbrev pub EagerFrom : MasterNode → MasterNode → Type 0
+EagerFrom m n = EachPair (λ s t. (recall_of t ≡ recall_of s) × StopTakesUp t) m.tour.stops.items n.tour.stops.items
 
 -- of all slaves
 abbrev pub AllVisit : List (Datagram Body) → List Recall → List Turn → Type 0

@@ -1,7 +1,7 @@
 use Rattle.std.proofs.Common.{◌≡◌, [], sym, subst, ap, ◌∙◌}
 use Rattle.std.proofs.lemmas.Bool.{OnFalse_at}
 use Rattle.master_hand.specs.Talk.{IsSent, client_later}
-use Rattle.master_hand.proofs.Knowing.{knows_not, rest_nothing, rest_shown, unsent}
+use Rattle.master_hand.proofs.Knowing.{rest_other, rest_shown, unsent}
 use Rattle.master_hand.proofs.Hands.{told_shown}
 use Rattle.master_hand.proofs.Replies.{sent_awaits}
 use Rattle.master_hand.proofs.hand.InHandHand.take_next.Goals as goal
@@ -20,4 +20,4 @@ returns-in-Goes-clause-rest c = λ f k x now h.
     rest_shown old.course old.which c.next_mail.new.self x now c.in-Goes.is (ap (λ z. client_later old.which z []) same ∙ OnFalse_at f c.next_mail.ensures.rest) h
 
 pub returns-in-Nothing-clause-rest : goal.returns-in-Nothing-clause-rest
-returns-in-Nothing-clause-rest c = λ f k x now h. ?
+returns-in-Nothing-clause-rest c = λ f k x now h. rest_other c.args.self.now.course c.args.self.now.which c.args.self.now.clients x now c.in-Nothing.is k h
