@@ -1,6 +1,5 @@
 -- WHERE EACH SLAVE RESTS, by its life, its stop rests too.
 use Rattle.std.proofs.Common.{◌≡◌, inl, inr, ℕ, zero, suc, ◌+◌, Bool, true, false, Option, Some, None, List, [], ◌∷◌, length, get_or, ◌<◌, refl, ap, sym, ◌∙◌, subst, arith}
-use Rattle.std.specs.Option.{option_copied}
 use Rattle.std.specs.Prelude.{IfSome, slice_get, option_map, is_some, map}
 use Rattle.mailbox_mail.specs.declared.mail.Mail.{Mail}
 use Rattle.life_runs.specs.of_frame_view.View.{Lens}
@@ -13,7 +12,7 @@ use Rattle.master_hand.specs.declared.hand.InHand.{InHand}
 use Rattle.master_side.specs.Carried.{in_hand}
 use Rattle.master_side.specs.Shown.{DutyShows}
 use Rattle.master_side.specs.declared.hand.Hand.{Ghosts}
-use Rattle.master_side.specs.of_link_mails.Body.{link_mail}
+use Rattle.master_side.specs.of_link_mails.Body.{Body, link_mail}
 use Rattle.master_tour.specs.Stands.{StandShows}
 use Rattle.master_tour.specs.declared.stop.Stand.{Stand}
 use Rattle.master_tour.specs.declared.stop.Stop.{Stop}
@@ -35,9 +34,9 @@ no_hand None hand e x = refl
 no_hand (Some d) hand e x = absurd (let t = sym e ∙ x.1 in cc)
 
 -- none is copied of none
-pub none_copied : {T : Type 0} (o : Option T) → option_copied o ≡ None → is_some o ≡ false
-none_copied None e = refl
-none_copied (Some t) e = absurd (cc)
+pub none_copied : {S T : Type 0} (o : Option S) (f : S → T) → option_map f o ≡ None → is_some o ≡ false
+none_copied None f e = refl
+none_copied (Some t) f e = absurd (cc)
 
 -- what stands at a place
 pub if_here : {S : Type 0} (P : S → Type 0) (ss : List S) (i : ℕ) (s : S) → i < length ss → s ≡ get_or ss i s → IfSome (slice_get ss i) P → P s
@@ -69,8 +68,8 @@ module _ {G : Ghosts InHand} (lens : ℕ → Lens) (recover : ℕ) (l : Lan) whe
           unpassed = i.unpassed;
           free = r.free.free;
           done = r.free.done;
-          out = out_none s.side.out.state (sym (ap (λ (h : Halves _). h.out.holding) stood.1.halves) ∙ r.held);
-          inn = sym (ap (λ (h : Halves _). h.inn.state) stood.1.halves) ∙ r.clear;
+          out = out_none s.side.out.state (sym (ap (λ (h : Halves Body). h.out.holding) stood.1.halves) ∙ r.held);
+          inn = sym (ap (λ (h : Halves Body). h.inn.state) stood.1.halves) ∙ r.clear;
           script = subst (λ n. slice_get s.side.hand.laying.script n ≡ None) (sym i.number) (subst (λ sc. slice_get sc a.number ≡ None) (sym i.script) r.script);
         },
         r.packet,

@@ -28,4 +28,4 @@ returns-then-not-is_at_rest-clause-rests c = λ r.
     absurd (never (sym rest ∙ c.is_at_rest.ensures.rests r.out r.inn))
 
 pub returns-clause-rests : goal.returns-clause-rests
-returns-clause-rests c = λ r. c.is_some.ensures ∙ none_copied c.scripted.result (c.scripted.ensures ∙ r.script)
+returns-clause-rests c = λ r. c.is_some.ensures ∙ none_copied c.scripted.result (λ z. z.now) (c.scripted.ensures ∙ r.script)

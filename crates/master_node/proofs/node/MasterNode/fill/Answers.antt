@@ -57,7 +57,7 @@ returns-clause-filled c = λ lens recover made from as' d x.
     fills_last lens recover made from as' c.loop.counter c.loop.self c.loop.into.items (let t = c.loop-test.false in omega (arith, t)) (c.loop.invariant.3 lens recover made from as' d x)
 
 pub loop-init : goal.loop-init
-loop-init c = (c.requires, refl, on_same c.args.self.now, (λ lens recover made from as' d x. fills_first lens recover made from as' c.args.self.now c.args.into.now.items x), each_same _ c.args.self.now.tour.stops.items (λ s. refl), (λ b short. (visiting_first c.args.into.now.items c.args.self.now short b, b.count)), happens_none 0 _ _ refl, makes_none _ _ refl, λ quiet b short. (quiet, each_same _ c.args.self.now.tour.stops.items (λ s. (refl, λ h. h))))
+loop-init c = (c.requires, refl, on_same c.args.self.now, (λ lens recover made from as' d x. fills_first lens recover made from as' c.args.self.now c.args.into.now.items x), each_same _ c.args.self.now.tour.stops.items (λ s. refl), (λ b short. (visiting_first c.args.into.now.items c.args.self.now short b, b.count)), happens_none 0 _ _ refl, makes_none _ _ refl, λ quiet b short. (quiet, each_same (λ s t. StopGoes s t) c.args.self.now.tour.stops.items (λ s. (refl, λ h. h))))
 
 pub loop-preserved : goal.loop-preserved
 loop-preserved c = (
