@@ -190,7 +190,7 @@ took_answered false Took.Foreign which old new b t = refl
 took_answered true Took.Foreign which old new b t = refl
 
 -- packets and mails that are passed on end with their last write, and no other service does
-handed_of : (areas : Areas) (q : Asked) → handed areas q ≡ is_handed (which_of q)
+pub handed_of : (areas : Areas) (q : Asked) → handed areas q ≡ is_handed (which_of q)
 handed_of areas (sdo q) = refl
 handed_of areas (file (FoeMeaning.read name pass)) = refl
 handed_of areas (file (FoeMeaning.write name pass bytes)) = refl
@@ -201,7 +201,7 @@ handed_of areas (net EoeClient.get_ip) = refl
 handed_of areas (passed m) = refl
 
 -- and reads of files alone with an acknowledgement
-read_of : (q : Asked) → acknowledged q ≡ is_read (which_of q)
+pub read_of : (q : Asked) → acknowledged q ≡ is_read (which_of q)
 read_of (sdo q) = refl
 read_of (file (FoeMeaning.read name pass)) = refl
 read_of (file (FoeMeaning.write name pass bytes)) = refl

@@ -48,6 +48,15 @@ course_behind true Took.More = Course.Mute
 course_behind true Took.Done = Course.Closed
 course_behind left Took.Foreign = Course.Astray
 
+-- a hand knows which mails are left of the newest service: no reply came that was not due
+abbrev pub knows : Course → Bool
+knows Course.Nothing = true
+knows Course.Goes = true
+knows Course.Answered = true
+knows Course.Mute = false
+knows Course.Closed = false
+knows Course.Astray = false
+
 -- the reply of the newest service is there
 abbrev pub has_reply : Course → Bool
 has_reply Course.Answered = true

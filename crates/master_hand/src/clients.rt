@@ -258,7 +258,8 @@ impl Clients {
 
     // The next mail of a service of CoE.
     fn next_sdo(&mut self, held: &mut Content) -> bool
-        ensures { IsSent result Which.Coe self.old held.new self.new }
+        ensures sent { IsSent result Which.Coe self.old held.new self.new }
+        ensures rest { OnFalse result (client_later Which.Coe self.old [] ≡ []) }
     {
         held.kind = Kind::CoE;
         self.sdo.next_mail(&mut held.body)
@@ -266,7 +267,8 @@ impl Clients {
 
     // The same of FoE.
     fn next_file(&mut self, held: &mut Content) -> bool
-        ensures { IsSent result Which.ReadFile self.old held.new self.new }
+        ensures sent { IsSent result Which.ReadFile self.old held.new self.new }
+        ensures rest { OnFalse result (client_later Which.ReadFile self.old [] ≡ []) }
     {
         held.kind = Kind::FoE;
         self.file.next_mail(&mut held.body)
@@ -274,7 +276,8 @@ impl Clients {
 
     // The same of SoE.
     fn next_drive(&mut self, held: &mut Content) -> bool
-        ensures { IsSent result Which.Soe self.old held.new self.new }
+        ensures sent { IsSent result Which.Soe self.old held.new self.new }
+        ensures rest { OnFalse result (client_later Which.Soe self.old [] ≡ []) }
     {
         held.kind = Kind::SoE;
         self.drive.next_mail(&mut held.body)
@@ -282,7 +285,8 @@ impl Clients {
 
     // The same of an address service.
     fn next_address(&mut self, held: &mut Content) -> bool
-        ensures { IsSent result Which.Address self.old held.new self.new }
+        ensures sent { IsSent result Which.Address self.old held.new self.new }
+        ensures rest { OnFalse result (client_later Which.Address self.old [] ≡ []) }
     {
         held.kind = Kind::EoE;
         self.address.next_mail(&mut held.body)
@@ -290,7 +294,8 @@ impl Clients {
 
     // The next fragment of a packet.
     fn next_fragment(&mut self, held: &mut Content) -> bool
-        ensures { IsSent result Which.Packet self.old held.new self.new }
+        ensures sent { IsSent result Which.Packet self.old held.new self.new }
+        ensures rest { OnFalse result (client_later Which.Packet self.old [] ≡ []) }
     {
         held.kind = Kind::EoE;
         self.packets.next_mail(&mut held.body)
@@ -298,14 +303,16 @@ impl Clients {
 
     // The mail that is passed on.
     fn next_passed(&mut self, held: &mut Content) -> bool
-        ensures { IsSent result Which.Passed self.old held.new self.new }
+        ensures sent { IsSent result Which.Passed self.old held.new self.new }
+        ensures rest { OnFalse result (client_later Which.Passed self.old [] ≡ []) }
     {
         self.passed.next_mail(held)
     }
 
     /// Puts the next mail in place of what `held` has; `false` where none is left.
     pub fn next_mail(&mut self, which: Which, held: &mut Content) -> bool
-        ensures { IsSent result which self.old held.new self.new }
+        ensures sent { IsSent result which self.old held.new self.new }
+        ensures rest { OnFalse result (client_later which self.old [] ≡ []) }
     {
         match which {
             Which::Coe => self.next_sdo(held),

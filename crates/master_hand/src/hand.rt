@@ -43,7 +43,8 @@ impl InHand {
     ghost use Rattle.master_hand.specs.Talk.{client_later, is_handed};
     ghost use Rattle.master_hand.specs.Brings.{emergency_kept};
     ghost use Rattle.master_hand.specs.Joins.{packet_kept};
-    ghost use Rattle.master_hand.specs.Shown.{Shows, HandShows, awaits_reply, is_awaiting};
+    ghost use Rattle.master_side.specs.Due.{IsDue};
+    ghost use Rattle.master_hand.specs.Shown.{Shows, HandShows, awaits_reply, is_awaiting, knows};
     ghost use Rattle.master_hand.specs.declared.course.Course.{Course};
     ghost use Rattle.master_hand.specs.declared.laying.Laid.{Laid};
 
@@ -79,7 +80,8 @@ impl InHand {
     // Whether mails of the newest service are left, or were when a part of its reply came.
     fn is_left(&self) -> bool
         requires { is_awaiting self.now.course ≡ true }
-        ensures { result ≡ false → (self.now.course ≡ Course.Goes) × (client_later self.now.which self.now.clients [] ≡ []) }
+        ensures none { result ≡ false → (self.now.course ≡ Course.Goes) × (client_later self.now.which self.now.clients [] ≡ []) }
+        ensures all { self.now.course ≡ Course.Goes → client_later self.now.which self.now.clients [] ≡ [] → result ≡ false }
     {
         match self.course {
             Course::Goes => self.clients.has_next(self.which),
@@ -99,6 +101,8 @@ impl InHand {
         ensures awaits { awaits_reply self.old.course self.old.which self.old.clients ≡ true → goes_on result ≡ true → awaits_reply self.new.course self.new.which self.new.clients ≡ true }
         ensures found { emergency_kept self.old.found ≡ None → emergency_kept self.new.found ≡ None }
         ensures join { self.new.found.join ≡ self.old.found.join }
+        ensures knows { (now : Option (Row Body Asked Reply)) → emission (body_of (mail_seen mail.now)) ≡ false → HandShows self.old.course self.old.which self.old.clients now → knows self.old.course ≡ true →
+            IsDue (hand_speech self.old.clients.areas) now (body_of (mail_seen mail.now)) → knows self.new.course ≡ true }
         ensures packet { packet_kept self.old.found ≡ None → packet_kept self.new.found ≡ None }
     {
         let left = self.is_left();
@@ -113,6 +117,7 @@ impl InHand {
     fn is_sent(&self, answered: bool, fresh: bool, idle: bool) -> bool
         ensures left { result ≡ true → client_later self.now.which self.now.clients [] ≡ [] }
         ensures done { result ≡ true → (if is_handed self.now.which then idle else answered && not fresh) ≡ true }
+        ensures all { client_later self.now.which self.now.clients [] ≡ [] → (if is_handed self.now.which then idle else answered && not fresh) ≡ true → result ≡ true }
     {
         if self.clients.has_next(self.which) {
             return false;
@@ -158,7 +163,7 @@ impl Hand for InHand {
     ghost use Rattle.eoe.specs.declared.joining.Unfinished.{Unfinished};
     ghost use Rattle.master_hand.specs.Brings.{Brings};
     ghost use Rattle.master_hand.specs.Joins.{unfinished_behind, Completes};
-    ghost use Rattle.master_hand.specs.Shown.{Shows, is_passing, awaits_reply};
+    ghost use Rattle.master_hand.specs.Shown.{Shows, is_passing, awaits_reply, knows};
     ghost use Rattle.master_hand.specs.Quiet.{quiet_shown};
 
     ghost Asked = { Asked };
@@ -186,6 +191,8 @@ impl Hand for InHand {
     ghost awaits = { λ h. awaits_reply h.course h.which h.clients };
 
     ghost more = { is_followed };
+
+    ghost knows = { λ h. knows h.course };
 
     ghost brings = { λ h b. Brings h.found b };
 

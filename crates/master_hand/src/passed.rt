@@ -129,6 +129,7 @@ impl PassedMail {
         ensures sends { OnTrue result (passed_left self.old ≡ Ok (mail_of into.new) ∷ passed_left self.new) }
         ensures body { OnTrue result (into.new.body.items ≡ self.old.content.body.items) }
         ensures same { OnFalse result (self.new ≡ self.old) }
+        ensures rest { OnFalse result (passed_left self.old ≡ []) }
         ensures kept { (self.new.content ≡ self.old.content) × (self.new.over ≡ self.old.over) }
     {
         if !self.unsent {

@@ -64,7 +64,7 @@ for_station station Frmw adp e = absurd (cc)
 for_station station (Other n) adp e = absurd (cc)
 
 -- each of a frame is
-abbrev AreFor : ℕ → Grams → Type 0
+abbrev pub AreFor : ℕ → Grams → Type 0
 AreFor station [] = Unit {0}
 AreFor station (d ∷ ds) = (is_for station d.address ≡ true → (d.gram.station == station) ≡ true) × AreFor station ds
 
@@ -72,7 +72,7 @@ parts_for : (station : ℕ) (lens : ℕ → Lens) (octets : List ℕ) (ps : List
 parts_for station lens octets [] = tt
 parts_for station lens octets (p ∷ ps) = (for_station station p.head.command p.head.adp, parts_for station lens octets ps)
 
-seen_for : (station : ℕ) (lens : ℕ → Lens) (octets : List ℕ) → AreFor station (seen lens octets)
+pub seen_for : (station : ℕ) (lens : ℕ → Lens) (octets : List ℕ) → AreFor station (seen lens octets)
 seen_for station lens octets = go (frame_read octets)
   where
     go : (r : Result Frame FrameFault) → AreFor station (parts_seen lens octets r)

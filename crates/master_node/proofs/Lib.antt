@@ -30,3 +30,6 @@ pub mod Downs
 pub mod Made
 pub mod Arrivals
 pub mod Begins
+pub mod Restings
+pub mod Visitings
+pub mod Eagers

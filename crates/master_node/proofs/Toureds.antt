@@ -305,6 +305,14 @@ module _ (before behind : List ℕ) (m n n2 : MasterNode) (t1 : TourStops) (p : 
   new : is_in p v.places ≡ false
   new = once_mid v.places p (left_of m t1.passed) (subst AreOnce here v.once)
 
+  -- the slave has no datagram of the frame before its visit
+  pub unvisited : holds_at (λ s. s.under) t1.stops.items p ≡ false
+  unvisited = by (holds_at (λ s. s.under) t1.stops.items p) refl
+    where
+      by : (z : Bool) → holds_at (λ s. s.under) t1.stops.items p ≡ z → z ≡ false
+      by false e = refl
+      by true e = absurd (true_false (is_in p v.places) ((subst (λ z. Carries (λ s. stop_share s) z.items v.places) (sym k.stops) v.carries).only p e) new)
+
   later : is_in p (left_of m t1.passed) ≡ false
   later = once_behind v.places p (left_of m t1.passed) (subst AreOnce here v.once)
 

@@ -1,5 +1,6 @@
 pub use Rattle.al_state.specs as of_al_state
 pub use Rattle.datagrams.specs as of_datagrams
+pub use Rattle.life_measure.specs as of_life_measure
 pub use Rattle.life_runs.specs.of_frame_view as of_frame_view
 pub use Rattle.life_runs.specs.of_life_frames as of_life_frames
 pub use Rattle.master_tour.specs.of_life_model as of_life_model
@@ -37,3 +38,5 @@ pub mod Downs
 pub mod Made
 pub mod Begins
 pub mod Arrivals
+pub mod Eager
+pub mod Resting

@@ -170,7 +170,9 @@ impl Lan {
     }
 
     /// Whether a packet of the host has not yet come in.
-    pub fn has_host(&self) -> bool {
+    pub fn has_host(&self) -> bool
+        ensures { result ≡ nat_lt self.now.entered (length self.now.host) }
+    {
         self.entered < self.host.len()
     }
 

@@ -4,6 +4,8 @@ ghost use Rattle.std.specs.Prelude.{◌≡◌, ◌<◌, None, vec_len};
 ghost use Rattle.std.specs.Bool.{OnTrue, OnFalse};
 ghost use Rattle.mailbox_master.specs.of_link_model.Master.{InState};
 ghost use Rattle.mailbox_master.specs.Any.{in_half_of};
+ghost use Rattle.std.specs.Prelude.{true, false};
+ghost use Rattle.master_node.specs.Resting.{SideRests};
 ghost use Rattle.master_node.specs.Wants.{IsQuiet, gave_more};
 
 use crate::node::MasterNode;
@@ -14,14 +16,16 @@ use master_tour::Stand;
 
 // Whether a slave's link is at rest: no mail is held, and nothing is asked again.
 fn is_at_rest(side: &Side<InHand>) -> bool
-    ensures { OnTrue result ((side.now.out.state ≡ None) × ((in_half_of side.now.inn).state ≡ InState.Clear)) }
+    ensures is { OnTrue result ((side.now.out.state ≡ None) × ((in_half_of side.now.inn).state ≡ InState.Clear)) }
+    ensures rests { side.now.out.state ≡ None → (in_half_of side.now.inn).state ≡ InState.Clear → result ≡ true }
 {
     side.out.is_idle() && matches!(side.inn, InwardHalf::Clear(_))
 }
 
 // Whether a slave that is open still wants frames for what it has in hand or for its script.
 fn is_wanting(side: &Side<InHand>) -> bool
-    ensures { OnFalse result (IsQuiet side.now) }
+    ensures quiet { OnFalse result (IsQuiet side.now) }
+    ensures rests { SideRests side.now → result ≡ false }
 {
     if !side.is_free() {
         return true;
@@ -51,11 +55,17 @@ impl MasterNode {
     ghost use Rattle.life_runs.specs.Led.{Leads};
     ghost use Rattle.master_tour.specs.Goes.{is_live, holds_at};
     ghost use Rattle.master_node.specs.Shows.{MasterShows};
+    ghost use Rattle.std.specs.Prelude.{[], false};
+    ghost use Rattle.master_node.specs.Eager.{recalls};
+    ghost use Rattle.master_node.specs.Forwards.{forwarded};
+    ghost use Rattle.master_node.specs.Resting.{AllRest, StopRests};
+    ghost use Rattle.master_node.specs.Shows.{WaitsNone};
     ghost use Rattle.master_node.specs.Wants.{gave_of, IsCounted, AllPlaced, AllLeft, IsQuietBy};
 
     // Whether a packet or a mail waits for a slave.
     fn has_waiting(&self, place: usize) -> bool
         requires { place < vec_len self.now.posts }
+        ensures { All WaitsNone self.now.posts.items → forwarded self.now.lan.switch self.now.lan.ports.items place ≡ [] → result ≡ false }
     {
         self.lan.waits(place) || self.posts[place].has_mail()
     }
@@ -65,6 +75,7 @@ impl MasterNode {
         requires { place < vec_len self.now.posts }
         ensures live { OnTrue result (holds_at (λ s. is_live s.stand) self.now.tour.stops.items place ≡ true) }
         ensures quiet { OnFalse result (IfSome (slice_get self.now.tour.stops.items place) (λ s. IsQuietBy s.stand s.side)) }
+        ensures rests { All WaitsNone self.now.posts.items → IfSome (slice_get self.now.tour.stops.items place) (λ s. StopRests self.now.lan place s) → result ≡ false }
     {
         let stop = &self.tour.stops[place];
         match stop.stand {
@@ -83,6 +94,7 @@ impl MasterNode {
     fn has_wanting(&self) -> bool
         ensures live { OnTrue result (list_any (λ s. is_live s.stand) self.now.tour.stops.items ≡ true) }
         ensures quiet { OnFalse result (All (λ s. IsQuietBy s.stand s.side) self.now.tour.stops.items) }
+        ensures rests { All WaitsNone self.now.posts.items → ((k : ℕ) → IfSome (slice_get self.now.tour.stops.items k) (λ s. StopRests self.now.lan k s)) → result ≡ false }
     {
         for place in 0..self.posts.len() {
             if self.wants_at(place) {
@@ -94,16 +106,19 @@ impl MasterNode {
 
     // Whether a packet of the host has not yet come in while a slave is live.
     fn has_coming(&self) -> bool
-        ensures { OnTrue result (list_any (λ s. is_live s.stand) self.now.tour.stops.items ≡ true) }
+        ensures live { OnTrue result (list_any (λ s. is_live s.stand) self.now.tour.stops.items ≡ true) }
+        ensures none { nat_lt self.now.lan.entered (length self.now.lan.host) ≡ false → result ≡ false }
     {
         self.lan.has_host() && self.has_live()
     }
 
     /// Whether there is something left to do: a live slave is brought up or opened anew, has something in hand, a scripted service, a packet
-    /// or a mail left, or a half of its link that isn't at rest, or a packet of the host has not yet come in while a slave is live.
+    /// or a mail left, or a half of its link that isn't at rest, or a packet of the host has not yet come in while a slave is live. So nothing is where each
+    /// slave was given up for good or rests, and all packets of the host have come in.
     pub fn wants(&self) -> bool
         ensures live { OnTrue result (list_any (λ s. is_live s.stand) self.now.tour.stops.items ≡ true) }
         ensures left { OnFalse result ((lens : ℕ → Lens) (recover retry missed : ℕ) (as' : List Leads) → MasterShows lens recover retry self.now missed as' → AllPlaced as' → AllLeft lens as') }
+        ensures rests { (lens : ℕ → Lens) (recover retry missed : ℕ) (as' : List Leads) → MasterShows lens recover retry self.now missed as' → AllRest lens self.now.lan 0 (recalls self.now) as' → nat_lt self.now.lan.entered (length self.now.lan.host) ≡ false → result ≡ false }
     {
         if self.has_wanting() {
             return true;

@@ -4,3 +4,4 @@ pub mod Grams
 pub mod Agains
 pub mod Passings
 pub mod Tellings
+pub mod Recalls

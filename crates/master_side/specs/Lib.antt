@@ -11,3 +11,5 @@ pub mod Heard
 pub mod Passes
 pub mod Passing
 pub mod Again
+pub mod Due
+pub mod Recall

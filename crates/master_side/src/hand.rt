@@ -26,9 +26,10 @@ pub trait Hand {
     ghost use Rattle.frame_view.specs.of_exchange_model.Exchange.{Speech};
     ghost use Rattle.frame_view.specs.of_exchange_model.Rows.{Row, begun, row_heard};
     ghost use Rattle.frame_view.specs.of_link_mails.Body.{Body, uncounted};
-    ghost use Rattle.frame_view.specs.of_segment_model.Seats.{Side};
+    ghost use Rattle.frame_view.specs.of_segment_model.Seats.{Side, next_mail};
     ghost use Rattle.master_duty.specs.of_task_model.Accounts.{is_free, is_acknowledged};
     ghost use Rattle.master_duty.specs.Reply.{Reply};
+    ghost use Rattle.master_side.specs.Due.{IsDue};
     ghost use Rattle.master_side.specs.Fits.{Tells};
     ghost use Rattle.master_side.specs.Passing.{told_as, goes_on};
 
@@ -61,6 +62,9 @@ pub trait Hand {
 
     ghost more: { Body → Bool };
 
+    // It knows which mails are left of its newest service: no reply came that was not due.
+    ghost knows: { Self → Bool };
+
     // What the mail that was heard last brought beside a reply of the service in hand.
     ghost brings: { Self → Body → Type 0 };
 
@@ -84,6 +88,7 @@ pub trait Hand {
         ensures script { script self.new ≡ (if result then behind self.old else script self.old) }
         ensures passes { (q : Asked) → ready self.old ≡ Some q → passes self.new ≡ passed q }
         ensures awaits { (q : Asked) → ready self.old ≡ Some q → passed q ≡ true → awaits self.new ≡ true }
+        ensures knows { knows self.new ≡ (if result then true else knows self.old) }
         ensures join { join self.new ≡ join self.old }
         ensures room { room self.new ≡ room self.old };
 
@@ -94,6 +99,8 @@ pub trait Hand {
         ensures fits { result ≡ true → 6 + length (taken self.new).body.items ≤ room self.old }
         ensures held { (x : Speech Body Asked Reply) (now : Option (Row Body Asked Reply)) → shows self.old x now → Tells result (taken self.new) x now (shows self.new x) }
         ensures awaits { awaits self.old ≡ true → awaits self.new ≡ true }
+        ensures rest { result ≡ false → knows self.new ≡ true → (x : Speech Body Asked Reply) (now : Option (Row Body Asked Reply)) → shows self.new x now → next_mail x now None true ≡ [] }
+        ensures knows { knows self.new ≡ knows self.old }
         ensures script { script self.new ≡ script self.old }
         ensures join { join self.new ≡ join self.old }
         ensures room { room self.new ≡ room self.old };
@@ -112,6 +119,7 @@ pub trait Hand {
         ensures shown { (x : Speech Body Asked Reply) (frame : ℕ) (now : Option (Row Body Asked Reply)) → shows self.old x now → shows self.new x (option_map (λ r. row_heard x frame (Ok (uncounted (mail_seen mail.now)) ∷ []) r) now) }
         ensures tells { (x : Speech Body Asked Reply) (now : Option (Row Body Asked Reply)) → shows self.old x now → awaits self.old ≡ true → (let b = Ok (uncounted (mail_seen mail.now)) in result ≡ told_as (x.emission b) (more b)) }
         ensures awaits { awaits self.old ≡ true → goes_on result ≡ true → awaits self.new ≡ true }
+        ensures knows { (x : Speech Body Asked Reply) (now : Option (Row Body Asked Reply)) → shows self.old x now → knows self.old ≡ true → IsDue x now (Ok (uncounted (mail_seen mail.now))) → knows self.new ≡ true }
         ensures brings { brings self.new (Ok (uncounted (mail_seen mail.now))) }
         ensures join { join self.new ≡ joined (join self.old) (Ok (uncounted (mail_seen mail.now))) }
         ensures completed { completed self.new (join self.old) (Ok (uncounted (mail_seen mail.now))) }
@@ -120,17 +128,21 @@ pub trait Hand {
 
     /// Whether the newest service is over: the mail held was sent (`fresh` is false), or none is held (`idle`).
     fn is_over(&self, fresh: bool, idle: bool) -> bool
-        ensures free { (x : Speech Body Asked Reply) (d : Side Body Asked Reply) → result ≡ true → d.fresh ≡ fresh → (idle ≡ true → d.halves.out.holding ≡ None) → shows self.now x d.now → is_free x d d.now ≡ true };
+        ensures free { (x : Speech Body Asked Reply) (d : Side Body Asked Reply) → result ≡ true → d.fresh ≡ fresh → (idle ≡ true → d.halves.out.holding ≡ None) → shows self.now x d.now → is_free x d d.now ≡ true }
+        ensures over { (x : Speech Body Asked Reply) (d : Side Body Asked Reply) → knows self.now ≡ true → d.fresh ≡ fresh → (d.halves.out.holding ≡ None → idle ≡ true) → shows self.now x d.now → is_free x d d.now ≡ true → result ≡ true }
+        ensures knows { result ≡ true → knows self.now ≡ true };
 
     /// Whether the write of its last mail is done, where that mail is an acknowledgement.
     fn is_acknowledged(&self, idle: bool) -> bool
-        ensures { (x : Speech Body Asked Reply) (d : Side Body Asked Reply) → result ≡ true → (idle ≡ true → d.halves.out.holding ≡ None) → shows self.now x d.now → is_acknowledged acknowledged d d.now ≡ true };
+        ensures done { (x : Speech Body Asked Reply) (d : Side Body Asked Reply) → result ≡ true → (idle ≡ true → d.halves.out.holding ≡ None) → shows self.now x d.now → is_acknowledged acknowledged d d.now ≡ true }
+        ensures sure { (x : Speech Body Asked Reply) (d : Side Body Asked Reply) → knows self.now ≡ true → (d.halves.out.holding ≡ None → idle ≡ true) → shows self.now x d.now → is_acknowledged acknowledged d d.now ≡ true → result ≡ true };
 
     /// The newest service is forgotten, and the one that was laid ready: the slave is opened anew.
     fn renew(&mut self)
         ensures shown { (x : Speech Body Asked Reply) (now : Option (Row Body Asked Reply)) → shows self.old x now → shows self.new x None }
         ensures script { script self.new ≡ script self.old }
         ensures join { join self.new ≡ unjoined }
+        ensures knows { knows self.new ≡ true }
         ensures room { room self.new ≡ room self.old };
 
     /// Whether the newest service is a mail that is passed on as it is.

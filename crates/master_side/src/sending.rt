@@ -38,6 +38,7 @@ impl<H: Hand> Side<H> {
     ghost use Rattle.master_side.specs.Shown.{SideShows, Holds};
     ghost use Rattle.master_side.specs.Again.{HasNoRoom, IsOnWay, Repeats, area_of, next_len, sent_len};
     ghost use Rattle.master_side.specs.Carried.{in_hand};
+    ghost use Rattle.master_side.specs.Recall.{recall_by};
     ghost use Rattle.master_side.specs.declared.carried.Carried.{Carried};
 
     // The write of the mail held stands next.
@@ -210,6 +211,7 @@ impl<H: Hand> Side<H> {
         ensures join { H.join self.new.hand ≡ H.join self.old.hand }
         ensures area { result ≤ area_of self.old }
         ensures again { Repeats self.old → Repeats self.new × (sent_len self.new ≡ sent_len self.old) × (result ≤ sent_len self.old) }
+        ensures recalled { recall_by self.new.paused self.new.duty self.new.turn (H.knows self.new.hand) ≡ recall_by self.old.paused self.old.duty self.old.turn (H.knows self.old.hand) }
     {
         match wish {
             Some(wish) if self.is_free() => self.first_len(wish),
@@ -238,6 +240,7 @@ impl<H: Hand> Side<H> {
         ensures area { result ≡ false → HasNoRoom frame.old.items (area_of self.old) }
         ensures grows { result ≡ true → length frame.new.items ≡ length frame.old.items + (12 + sent_len self.new) }
         ensures way { result ≡ true → IsOnWay self.new × (sent_len self.new ≡ next_len self.old) }
+        ensures recalled { (self.new.paused ≡ self.old.paused) × (self.new.turn ≡ self.old.turn) }
     {
         self.heard = None;
         if self.len_of(self.choice()) > datagrams::room(frame) {

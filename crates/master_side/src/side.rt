@@ -82,6 +82,9 @@ impl<H: Hand> Side<H> {
     ghost use Rattle.master_side.specs.Passing.{PassingShows, IsKept, passing_behind, counts_at, read_behind, news_back, news_lost};
     ghost use Rattle.master_side.specs.Again.{HoldsOn, IsOnWay, Repeats, SendsAtMost, sent_len};
     ghost use Rattle.master_side.specs.Heard.{heard_of, Brought, HasJoined};
+    ghost use Rattle.frame_view.specs.of_segment_model.Seats.{next_mail};
+    ghost use Rattle.master_side.specs.Due.{EachDue};
+    ghost use Rattle.master_side.specs.Recall.{recall_by, BeginsNone};
     ghost use Rattle.master_side.specs.Shown.{SideShows, Holds, Begins, Picked, new_side, wish_begun, takes_ready};
     ghost use Rattle.master_side.specs.declared.carried.Carried.{Carried};
     ghost use Rattle.master_side.specs.declared.carried.Wish.{Wish};
@@ -130,6 +133,7 @@ impl<H: Hand> Side<H> {
         ensures read { (self.new.read_at ≡ None) × (self.new.pace ≡ self.old.pace) }
         ensures heard { self.new.heard ≡ self.old.heard }
         ensures join { H.join self.new.hand ≡ H.unjoined }
+        ensures recalled { (self.new.paused ≡ false) × (self.new.turn ≡ false) × (H.knows self.new.hand ≡ true) }
     {
         self.out = OutwardSeat::new(self.station, self.out_len);
         self.inn = InwardHalf::Clear(new_inward(self.station, self.in_len));
@@ -154,6 +158,8 @@ impl<H: Hand> Side<H> {
         ensures read { (self.new.read_at ≡ self.old.read_at) × (self.new.pace ≡ self.old.pace) }
         ensures join { H.join self.new.hand ≡ H.join self.old.hand }
         ensures on { HoldsOn self.old self.new }
+        ensures rest { self.new.out.state ≡ None → H.knows self.new.hand ≡ true → (x : Speech Body H.Asked Reply) (d : Seats.Side Body H.Asked Reply) (a : Account H.Asked Reply) → SideShows (H.shows self.new.hand x) self.new.out self.new.inn self.new.fresh self.new.duty d a → next_mail x d.now None true ≡ [] }
+        ensures knows { H.knows self.new.hand ≡ H.knows self.old.hand }
     {
         if !self.out.is_idle() {
             return;
@@ -179,6 +185,8 @@ impl<H: Hand> Side<H> {
         ensures free { (x : Speech Body H.Asked Reply) (d : Seats.Side Body H.Asked Reply) (a : Account H.Asked Reply) → SideShows (H.shows self.now.hand x) self.now.out self.now.inn self.now.fresh self.now.duty d a → result ≡ true → (is_free x d d.now ≡ true) × (is_acknowledged H.acknowledged d d.now ≡ true) × (in_hand self.now.duty ≡ None) }
         ensures waits { is_some self.now.passing ≡ true → result ≡ false }
         ensures bare { result ≡ true → (in_hand self.now.duty ≡ None) × (self.now.passing ≡ None) }
+        ensures may { (x : Speech Body H.Asked Reply) (d : Seats.Side Body H.Asked Reply) (a : Account H.Asked Reply) → H.knows self.now.hand ≡ true → SideShows (H.shows self.now.hand x) self.now.out self.now.inn self.now.fresh self.now.duty d a → in_hand self.now.duty ≡ None → self.now.passing ≡ None → is_free x d d.now ≡ true → is_acknowledged H.acknowledged d d.now ≡ true → result ≡ true }
+        ensures knows { result ≡ true → H.knows self.now.hand ≡ true }
     {
         let idle = self.out.is_idle();
         if self.state_in_hand().is_some() || self.passing.is_some() {
@@ -199,6 +207,7 @@ impl<H: Hand> Side<H> {
         ensures read { (self.new.read_at ≡ self.old.read_at) × (self.new.pace ≡ self.old.pace) }
         ensures join { H.join self.new.hand ≡ H.join self.old.hand }
         ensures again { in_hand self.old.duty ≡ None → self.old.passing ≡ None → Repeats self.old → SendsAtMost (sent_len self.old) self.new }
+        ensures recalled { in_hand self.old.duty ≡ None → H.knows self.old.hand ≡ true → recall_by self.new.paused self.new.duty self.new.turn (H.knows self.new.hand) ≡ recall_by self.old.paused self.old.duty self.old.turn (H.knows self.old.hand) }
     {
         let began = self.hand.begin();
         let passed = began && self.hand.is_passed();
@@ -216,6 +225,7 @@ impl<H: Hand> Side<H> {
         ensures kept { (self.new.hand ≡ self.old.hand) × (self.new.passing ≡ self.old.passing) }
         ensures read { (self.new.read_at ≡ self.old.read_at) × (self.new.pace ≡ self.old.pace) }
         ensures again { in_hand self.old.duty ≡ None → self.old.passing ≡ None → Repeats self.old → SendsAtMost (sent_len self.old) self.new }
+        ensures recalled { in_hand self.old.duty ≡ None → recall_by self.new.paused self.new.duty self.new.turn (H.knows self.new.hand) ≡ recall_by self.old.paused self.old.duty self.old.turn (H.knows self.old.hand) }
     {
         let duty = Duty::new(target.state);
         self.duty = Some(Met::On(duty));
@@ -235,6 +245,8 @@ impl<H: Hand> Side<H> {
         ensures read { (self.new.read_at ≡ self.old.read_at) × (self.new.pace ≡ self.old.pace) }
         ensures join { H.join self.new.hand ≡ H.join self.old.hand }
         ensures again { Repeats self.old → SendsAtMost (sent_len self.old) self.new }
+        ensures recalled { recall_by self.new.paused self.new.duty self.new.turn (H.knows self.new.hand) ≡ recall_by self.old.paused self.old.duty self.old.turn (H.knows self.old.hand) }
+        ensures none { (x : Speech Body H.Asked Reply) (d : Seats.Side Body H.Asked Reply) (a : Account H.Asked Reply) → H.knows self.old.hand ≡ true → SideShows (H.shows self.old.hand x) self.old.out self.old.inn self.old.fresh self.old.duty d a → in_hand self.old.duty ≡ None → self.old.passing ≡ None → is_free x d d.now ≡ true → is_acknowledged H.acknowledged d d.now ≡ true → result ≡ false → BeginsNone wish (H.ready self.old.hand) }
     {
         if !self.is_free() {
             return false;
@@ -267,6 +279,9 @@ impl<H: Hand> Side<H> {
         ensures read { (self.new.read_at ≡ self.old.read_at) × (self.new.pace ≡ self.old.pace) }
         ensures join { H.join self.new.hand ≡ H.join self.old.hand }
         ensures again { Repeats self.old → SendsAtMost (sent_len self.old) self.new }
+        ensures recalled { recall_by self.new.paused self.new.duty self.new.turn (H.knows self.new.hand) ≡ recall_by self.old.paused self.old.duty self.old.turn (H.knows self.old.hand) }
+        ensures none { (x : Speech Body H.Asked Reply) (d : Seats.Side Body H.Asked Reply) (a : Account H.Asked Reply) → H.knows self.old.hand ≡ true → SideShows (H.shows self.old.hand x) self.old.out self.old.inn self.old.fresh self.old.duty d a → in_hand self.old.duty ≡ None → self.old.passing ≡ None → is_free x d d.now ≡ true → is_acknowledged H.acknowledged d d.now ≡ true → result ≡ false → BeginsNone wish (H.ready self.old.hand) }
+        ensures rest { self.new.out.state ≡ None → H.knows self.new.hand ≡ true → (x : Speech Body H.Asked Reply) (d : Seats.Side Body H.Asked Reply) (a : Account H.Asked Reply) → SideShows (H.shows self.new.hand x) self.new.out self.new.inn self.new.fresh self.new.duty d a → next_mail x d.now None true ≡ [] }
     {
         let began = self.begin(wish);
         self.hold_next();
@@ -287,6 +302,7 @@ impl<H: Hand> Side<H> {
         ensures read { (self.new.read_at ≡ self.old.read_at) × (self.new.pace ≡ self.old.pace) }
         ensures join { H.join self.new.hand ≡ H.join self.old.hand }
         ensures again { IsOnWay self.old → Repeats self.new × (sent_len self.new ≤ sent_len self.old) }
+        ensures recalled { (self.new.paused ≡ self.old.paused) × (self.new.turn ≡ self.old.turn) × (self.new.duty ≡ self.old.duty) × (H.knows self.new.hand ≡ H.knows self.old.hand) }
     {
         match self.carried {
             Carried::Write => self.write_lost(),
@@ -329,6 +345,7 @@ impl<H: Hand> Side<H> {
         ensures joined { self.old.heard ≡ None → (x : Speech Body H.Asked Reply) (octets : List ℕ) (b : Datagram Body) (d : Seats.Side Body H.Asked Reply) (a : Account H.Asked Reply) → SideShows (H.shows self.old.hand x) self.old.out self.old.inn self.old.fresh self.old.duty d a →
             Meant self.old.station self.old.carried d.halves (duty_access a.hand) b → IsBack counter octets b →
             HasJoined H.joined (H.completed self.new.hand) (H.join self.old.hand) (H.join self.new.hand) self.new.heard (all_accepted self.old.station d.halves (grams (one b))) }
+        ensures knows { H.knows self.new.hand ≡ H.knows self.old.hand }
     {
         let passing = written(told(self.passing, self.fresh), counter);
         self.passing = passing;
@@ -351,6 +368,7 @@ impl<H: Hand> Side<H> {
         ensures read { (self.new.read_at ≡ self.old.read_at) × (self.new.pace ≡ self.old.pace) }
         ensures brought { self.old.heard ≡ None → Brought (H.brings self.new.hand) self.new.heard (heard_of mail.entry) }
         ensures joined { self.old.heard ≡ None → HasJoined H.joined (H.completed self.new.hand) (H.join self.old.hand) (H.join self.new.hand) self.new.heard (heard_of mail.entry) }
+        ensures knows { (x : Speech Body H.Asked Reply) (now : Option (Row Body H.Asked Reply)) → H.shows self.old.hand x now → H.knows self.old.hand ≡ true → EachDue x now (heard_of mail.entry) → H.knows self.new.hand ≡ true }
     {
         if let Some(mail) = mail {
             let what = self.hand.hear(&mail);
@@ -408,6 +426,8 @@ impl<H: Hand> Side<H> {
         ensures joined { self.old.heard ≡ None → (x : Speech Body H.Asked Reply) (b : Datagram Body) (d : Seats.Side Body H.Asked Reply) (a : Account H.Asked Reply) → SideShows (H.shows self.old.hand x) self.old.out self.old.inn self.old.fresh self.old.duty d a →
             Meant self.old.station self.old.carried d.halves (duty_access a.hand) b → IsBack counter octets.now b →
             HasJoined H.joined (H.completed self.new.hand) (H.join self.old.hand) (H.join self.new.hand) self.new.heard (all_accepted self.old.station d.halves (grams (one b))) }
+        ensures knows { (x : Speech Body H.Asked Reply) (b : Datagram Body) (d : Seats.Side Body H.Asked Reply) (a : Account H.Asked Reply) → SideShows (H.shows self.old.hand x) self.old.out self.old.inn self.old.fresh self.old.duty d a →
+            Meant self.old.station self.old.carried d.halves (duty_access a.hand) b → IsBack counter octets.now b → H.knows self.old.hand ≡ true → EachDue x d.now (all_accepted self.old.station d.halves (grams (one b))) → H.knows self.new.hand ≡ true }
     {
         let got = self.inn.returned(counter, octets);
         let was_read = got.is_some();
@@ -440,6 +460,7 @@ impl<H: Hand> Side<H> {
         ensures joined { self.old.heard ≡ None → (x : Speech Body H.Asked Reply) (b : Datagram Body) (d : Seats.Side Body H.Asked Reply) (a : Account H.Asked Reply) → SideShows (H.shows self.old.hand x) self.old.out self.old.inn self.old.fresh self.old.duty d a →
             Meant self.old.station self.old.carried d.halves (duty_access a.hand) b → IsBack counter octets.now b →
             HasJoined H.joined (H.completed self.new.hand) (H.join self.old.hand) (H.join self.new.hand) self.new.heard (all_accepted self.old.station d.halves (grams (one b))) }
+        ensures knows { H.knows self.new.hand ≡ H.knows self.old.hand }
     {
         if counter == 0 {
             return;
@@ -473,6 +494,8 @@ impl<H: Hand> Side<H> {
         ensures joined { self.old.heard ≡ None → (x : Speech Body H.Asked Reply) (b : Datagram Body) (d : Seats.Side Body H.Asked Reply) (a : Account H.Asked Reply) → SideShows (H.shows self.old.hand x) self.old.out self.old.inn self.old.fresh self.old.duty d a →
             Meant self.old.station self.old.carried d.halves (duty_access a.hand) b → IsBack counter octets.now b →
             HasJoined H.joined (H.completed self.new.hand) (H.join self.old.hand) (H.join self.new.hand) self.new.heard (all_accepted self.old.station d.halves (grams (one b))) }
+        ensures knows { (x : Speech Body H.Asked Reply) (b : Datagram Body) (d : Seats.Side Body H.Asked Reply) (a : Account H.Asked Reply) → SideShows (H.shows self.old.hand x) self.old.out self.old.inn self.old.fresh self.old.duty d a →
+            Meant self.old.station self.old.carried d.halves (duty_access a.hand) b → IsBack counter octets.now b → H.knows self.old.hand ≡ true → EachDue x d.now (all_accepted self.old.station d.halves (grams (one b))) → H.knows self.new.hand ≡ true }
     {
         match self.carried {
             Carried::Nothing => {}

@@ -12,3 +12,4 @@ pub mod Goes
 pub mod Toured
 pub mod Rooms
 pub mod Sizes
+pub mod Recalls

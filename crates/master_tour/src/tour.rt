@@ -69,6 +69,8 @@ impl<H: Hand> Tour<H> {
     ghost use Rattle.std.specs.List.{list_any};
     ghost use Rattle.std.specs.Prelude.{None, filter};
     ghost use Rattle.master_tour.specs.Rooms.{LosesAgain, Looks, Visits};
+    ghost use Rattle.master_side.specs.Recall.{recall_by};
+    ghost use Rattle.master_tour.specs.Recalls.{TakesUp, BeginsAll};
     ghost use Rattle.master_tour.specs.Sizes.{frame_size};
 
     // Each slave hears what came back.
@@ -306,6 +308,7 @@ impl<H: Hand> Tour<H> {
         ensures first { length frame.now.items ≡ 16 → result ≡ true }
         ensures join { StepsAt (λ s t. H.join t.side.hand ≡ H.join s.side.hand) place self.old.stops.items self.new.stops.items }
         ensures room { StepsAt (λ s t. Looks frame.now.items result s t) place self.old.stops.items self.new.stops.items }
+        ensures recalled { StepsAt (λ s t. recall_by t.side.paused t.side.duty t.side.turn (H.knows t.side.hand) ≡ recall_by s.side.paused s.side.duty s.side.turn (H.knows s.side.hand)) place self.old.stops.items self.new.stops.items }
     {
         self.stops[place].ahead(wish) <= datagrams::room(frame)
     }
@@ -342,6 +345,9 @@ impl<H: Hand> Tour<H> {
             (let n = life_next x H.acknowledged H.more H.passed made l l.stand (record { begin = wish_begun result wish (H.ready s.side.hand); hold = hold }) in
             Counts made (wish_begun result wish (H.ready s.side.hand)) l n → StandPassing t.stand (H.awaits t.side.hand) t.side.passing (n))) place self.old.stops.items self.new.stops.items }
         ensures room { StepsAt (λ s t. Visits frame.old.items frame.new.items s t) place self.old.stops.items self.new.stops.items }
+        ensures recalled { StepsAt (λ s t. recall_by t.side.paused t.side.duty t.side.turn (H.knows t.side.hand) ≡ recall_by s.side.paused s.side.duty s.side.turn (H.knows s.side.hand)) place self.old.stops.items self.new.stops.items }
+        ensures takes { StepsAt (λ s t. TakesUp t.stand t.side.out.state (H.knows t.side.hand) (λ x d a. SideShows (H.shows t.side.hand x) t.side.out t.side.inn t.side.fresh t.side.duty d a)) place self.old.stops.items self.new.stops.items }
+        ensures begins { StepsAt (λ s t. BeginsAll s.stand result (H.knows s.side.hand) s.side.duty s.side.passing H.acknowledged (λ x d a. SideShows (H.shows s.side.hand x) s.side.out s.side.inn s.side.fresh s.side.duty d a) wish (H.ready s.side.hand)) place self.old.stops.items self.new.stops.items }
     {
         let at = self.count;
         let began = self.stops[place].visit(wish, at, index, frame);

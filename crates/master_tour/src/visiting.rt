@@ -53,6 +53,8 @@ impl<H: Hand> Stop<H> {
     ghost use Rattle.std.specs.Prelude.{is_some, ◌&&◌, ◌+◌};
     ghost use Rattle.master_side.specs.Again.{HasNoRoom, IsOnWay, Repeats, area_of, sent_len};
     ghost use Rattle.master_tour.specs.Rooms.{LosesAgain, StopRepeats, Visits, stop_len};
+    ghost use Rattle.master_side.specs.Recall.{recall_by};
+    ghost use Rattle.master_tour.specs.Recalls.{TakesUp, BeginsAll};
     ghost use Rattle.life_frames.specs.of_segment_model.Returned.{Returns};
     ghost use Rattle.al_state.specs.declared.bringing.BringStep.{BringStep};
     ghost use Rattle.std.specs.Prelude.{None, ◌%◌};
@@ -83,6 +85,7 @@ impl<H: Hand> Stop<H> {
         ensures join { H.join self.new.side.hand ≡ H.join self.old.side.hand }
         ensures area { result ≤ area_of self.old.side }
         ensures again { StopRepeats self.old → StopRepeats self.new × (stop_len self.new ≡ stop_len self.old) × (result ≤ stop_len self.old) }
+        ensures recalled { recall_by self.new.side.paused self.new.side.duty self.new.side.turn (H.knows self.new.side.hand) ≡ recall_by self.old.side.paused self.old.side.duty self.old.side.turn (H.knows self.old.side.hand) }
     {
         match self.stand {
             Stand::Gone => 0,
@@ -128,6 +131,9 @@ impl<H: Hand> Stop<H> {
         ensures room { Repeats self.old.side → (self.new.under ≡ false → HasNoRoom frame.old.items (sent_len self.old.side)) × (self.new.under ≡ true → sent_len self.new.side ≤ sent_len self.old.side) }
         ensures area { self.new.under ≡ false → HasNoRoom frame.old.items (area_of self.old.side) }
         ensures way { self.new.under ≡ true → IsOnWay self.new.side × (length frame.new.items ≡ length frame.old.items + (12 + sent_len self.new.side)) }
+        ensures recalled { recall_by self.new.side.paused self.new.side.duty self.new.side.turn (H.knows self.new.side.hand) ≡ recall_by self.old.side.paused self.old.side.duty self.old.side.turn (H.knows self.old.side.hand) }
+        ensures takes { TakesUp self.new.stand self.new.side.out.state (H.knows self.new.side.hand) (λ x d a. SideShows (H.shows self.new.side.hand x) self.new.side.out self.new.side.inn self.new.side.fresh self.new.side.duty d a) }
+        ensures begins { BeginsAll self.old.stand result (H.knows self.old.side.hand) self.old.side.duty self.old.side.passing H.acknowledged (λ x d a. SideShows (H.shows self.old.side.hand x) self.old.side.out self.old.side.inn self.old.side.fresh self.old.side.duty d a) wish (H.ready self.old.side.hand) }
     {
         let began = self.side.choose(wish);
         let placed = self.side.add_datagram(index, frame);
@@ -182,6 +188,9 @@ impl<H: Hand> Stop<H> {
             Counts made (wish_begun result wish (H.ready self.old.side.hand)) l n → StandPassing self.new.stand (H.awaits self.new.side.hand) self.new.side.passing n) }
         ensures join { H.join self.new.side.hand ≡ H.join self.old.side.hand }
         ensures room { Visits frame.old.items frame.new.items self.old self.new }
+        ensures recalled { recall_by self.new.side.paused self.new.side.duty self.new.side.turn (H.knows self.new.side.hand) ≡ recall_by self.old.side.paused self.old.side.duty self.old.side.turn (H.knows self.old.side.hand) }
+        ensures takes { TakesUp self.new.stand self.new.side.out.state (H.knows self.new.side.hand) (λ x d a. SideShows (H.shows self.new.side.hand x) self.new.side.out self.new.side.inn self.new.side.fresh self.new.side.duty d a) }
+        ensures begins { BeginsAll self.old.stand result (H.knows self.old.side.hand) self.old.side.duty self.old.side.passing H.acknowledged (λ x d a. SideShows (H.shows self.old.side.hand x) self.old.side.out self.old.side.inn self.old.side.fresh self.old.side.duty d a) wish (H.ready self.old.side.hand) }
     {
         self.under = false;
         match self.stand {

@@ -1,12 +1,19 @@
-use Rattle.std.proofs.Common.{refl, subst}
+use Rattle.std.proofs.Common.{◌≡◌, [], refl, subst, ap}
+use Rattle.std.proofs.lemmas.Bool.{OnFalse_at, OnFalse_from}
+use Rattle.std.specs.Bool.{OnFalse}
+use Rattle.std.specs.Prelude.{map}
 use Rattle.mailbox_mail.specs.declared.mail.Kind.{Kind}
-use Rattle.master_hand.specs.Talk.{Talking, IsSent}
+use Rattle.master_hand.specs.Spoken.{told_net}
+use Rattle.master_hand.specs.Talk.{Talking, IsSent, client_later}
 use Rattle.master_hand.specs.declared.clients.Which.{Which}
 use Rattle.master_hand.specs.contracts.clients.Clients.{the_view}
 use Rattle.master_hand.proofs.Protocols.{address_sent}
 use Rattle.master_hand.proofs.clients.Clients.next_address.Goals as goal
 
-pub returns : goal.returns
-returns c =
+pub returns-clause-sent : goal.returns-clause-sent
+returns-clause-sent c =
     subst (λ (t : Talking). IsSent c.next_mail.result Which.Address t (record { kind = Kind.EoE; body = c.next_mail.new.body }) (record (the_view c.self.inside) { address = c.next_mail.new.self })) c.self.view_is
     (address_sent _ c.next_mail.result (the_view c.self.inside) c.next_mail.new.self (record { kind = Kind.EoE; body = c.next_mail.new.body }) c.next_mail.ensures.sends c.next_mail.ensures.fits c.next_mail.ensures.same c.next_mail.ensures.replies c.self.invariant.5 refl)
+
+pub returns-clause-rest : goal.returns-clause-rest
+returns-clause-rest c = subst (λ (t : Talking). OnFalse c.next_mail.result (client_later Which.Address t [] ≡ [])) c.self.view_is (OnFalse_from c.next_mail.result _ (λ e. ap (λ ms. map told_net ms) (OnFalse_at e c.next_mail.ensures.waits)))

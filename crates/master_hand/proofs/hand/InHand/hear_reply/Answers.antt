@@ -1,4 +1,4 @@
-use Rattle.std.proofs.Common.{[], ◌∷◌, sym, subst}
+use Rattle.std.proofs.Common.{◌≡◌, true, [], ◌∷◌, sym, subst}
 use Rattle.std.specs.Prelude.{option_map}
 use Rattle.foe_client.specs.of_exchange_model.Rows.{row_heard}
 use Rattle.mailbox_mail.specs.declared.mail.Mail.{Mail}
@@ -12,7 +12,8 @@ use Rattle.master_hand.proofs.Hands.{took_shown}
 use Rattle.std.proofs.Common.{ap, ◌∙◌}
 use Rattle.master_side.specs.declared.hand.Heard.{Heard}
 use Rattle.master_side.specs.Passing.{goes_on}
-use Rattle.master_hand.specs.Shown.{awaits_reply}
+use Rattle.master_hand.specs.Shown.{awaits_reply, knows}
+use Rattle.master_hand.proofs.Knowing.{due_knows}
 use Rattle.master_hand.proofs.Replies.{took_tells, took_awaits}
 use Rattle.master_hand.proofs.hand.InHand.hear_reply.Goals as goal
 
@@ -23,7 +24,7 @@ returns-clause-shown c = λ frame now e h.
     let b = body_of (mail_seen c.args.mail.now) in
     let took = subst (λ (m : Mail). ClientTook c.take-took.result old.which old.clients (body_of m) new) c.keep.ensures.mail c.take-took.ensures.took in
     subst (λ (k : Course). HandShows k old.which new (option_map (λ r. row_heard (hand_speech old.clients.areas) frame (b ∷ []) r) now)) (sym c.course_behind-self.ensures)
-    (took_shown c.is_left-left.result c.take-took.result old.course old.which old.clients new b frame now took c.is_left-left.ensures c.take-took.ensures.areas c.requires.awaits e h)
+    (took_shown c.is_left-left.result c.take-took.result old.course old.which old.clients new b frame now took c.is_left-left.ensures.none c.take-took.ensures.areas c.requires.awaits e h)
 
 pub returns-clause-tells : goal.returns-clause-tells
 returns-clause-tells c = λ a.
@@ -41,3 +42,11 @@ returns-clause-awaits c = λ a on.
     let took = subst (λ (m : Mail). ClientTook c.take-took.result old.which old.clients (body_of m) new) c.keep.ensures.mail c.take-took.ensures.took in
     ap (λ k. awaits_reply k old.which new) c.course_behind-self.ensures
     ∙ took_awaits c.take-took.result c.is_left-left.result old.course old.which old.clients new b a took (ap (λ (h : Heard). goes_on h) (sym c.heard_of.ensures) ∙ on)
+
+pub returns-clause-knows : goal.returns-clause-knows
+returns-clause-knows c = λ now e h k d.
+    let old = c.args.self.now in
+    let new = c.take-took.new.self in
+    let b = body_of (mail_seen c.args.mail.now) in
+    let took = subst (λ (m : Mail). ClientTook c.take-took.result old.which old.clients (body_of m) new) c.keep.ensures.mail c.take-took.ensures.took in
+    ap (λ z. knows z) c.course_behind-self.ensures ∙ due_knows c.is_left-left.result c.take-took.result old.course old.which old.clients new b now c.is_left-left.ensures.all c.requires.awaits k e h d took

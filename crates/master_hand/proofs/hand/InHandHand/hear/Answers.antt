@@ -1,4 +1,10 @@
-use Rattle.std.proofs.Common.{sym, ◌∙◌}
+use Rattle.std.proofs.Common.{◌≡◌, sym, ◌∙◌, ap, subst}
+use Rattle.master_side.specs.Due.{IsDue}
+use Rattle.master_side.specs.of_link_mails.Body.{Body}
+use Rattle.foe_client.specs.of_exchange_model.Exchange.{Speech}
+use Rattle.master_side.specs.of_master_duty.Reply.{Reply}
+use Rattle.master_hand.specs.Spoken.{Asked}
+use Rattle.master_hand.proofs.Knowing.{due_answered}
 use Rattle.mailbox_mail.specs.View.{mail_seen}
 use Rattle.master_hand.specs.Passed.{body_of}
 use Rattle.master_hand.proofs.Hands.{emission_shown, heard_shown}
@@ -25,3 +31,13 @@ pub returns-in-Goes-clause-tells : goal.returns-in-Goes-clause-tells
 returns-in-Goes-clause-tells c = λ x now h a.
     let b = body_of (mail_seen c.args.mail.now) in
     c.hear_reply.ensures.tells a ∙ emission_tells x c.args.self.now.clients.areas b false (is_followed b) h.0 (sym c.if-hear.false ∙ c.hear.ensures.emits)
+
+pub returns-in-Goes-clause-knows : goal.returns-in-Goes-clause-knows
+returns-in-Goes-clause-knows c = λ x now h k d.
+    let b = body_of (mail_seen c.args.mail.now) in
+    c.hear_reply.ensures.knows now (sym c.hear.ensures.emits ∙ c.if-hear.false) h.1 k (subst (λ (y : Speech Body Asked Reply). IsDue y now b) h.0 d)
+
+pub returns-in-Answered-clause-knows : goal.returns-in-Answered-clause-knows
+returns-in-Answered-clause-knows c = λ x now h k d.
+    let b = body_of (mail_seen c.args.mail.now) in
+    absurd (due_answered c.args.self.now.course c.args.self.now.which c.args.self.now.clients b x now c.in-Answered.is (ap (λ (y : Speech Body Asked Reply). y.emission b) h.0 ∙ sym c.hear.ensures.emits ∙ c.if-hear.false) h d)

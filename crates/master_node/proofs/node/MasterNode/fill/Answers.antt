@@ -7,7 +7,8 @@ use Rattle.master_tour.specs.Walks.{EachPair}
 use Rattle.master_tour.proofs.Walks.{each_same}
 use Rattle.master_node.proofs.Lists.{each_trans}
 use Rattle.master_node.proofs.Leaves.{few_stops}
-use Rattle.master_node.proofs.Toureds.{counts_more, visiting_first, visiting_more, visiting_still, visiting_same, visiting_last}
+use Rattle.master_node.proofs.Toureds.{counts_more, unvisited, visiting_first, visiting_more, visiting_still, visiting_same, visiting_last}
+use Rattle.master_node.specs.Eager.{StopGoes}
 use Rattle.master_node.proofs.Happenings.{happens_none, happens_then, happens_more}
 use Rattle.master_node.proofs.Made.{makes_none, makes_then}
 use Rattle.master_node.proofs.node.MasterNode.fill.Goals as goal
@@ -56,7 +57,7 @@ returns-clause-filled c = λ lens recover made from as' d x.
     fills_last lens recover made from as' c.loop.counter c.loop.self c.loop.into.items (let t = c.loop-test.false in omega (arith, t)) (c.loop.invariant.3 lens recover made from as' d x)
 
 pub loop-init : goal.loop-init
-loop-init c = (c.requires, refl, on_same c.args.self.now, (λ lens recover made from as' d x. fills_first lens recover made from as' c.args.self.now c.args.into.now.items x), each_same _ c.args.self.now.tour.stops.items (λ s. refl), (λ b short. (visiting_first c.args.into.now.items c.args.self.now short b, b.count)), happens_none 0 _ _ refl, makes_none _ _ refl)
+loop-init c = (c.requires, refl, on_same c.args.self.now, (λ lens recover made from as' d x. fills_first lens recover made from as' c.args.self.now c.args.into.now.items x), each_same _ c.args.self.now.tour.stops.items (λ s. refl), (λ b short. (visiting_first c.args.into.now.items c.args.self.now short b, b.count)), happens_none 0 _ _ refl, makes_none _ _ refl, λ quiet b short. (quiet, each_same (λ s t. StopGoes s t) c.args.self.now.tour.stops.items (λ s. (refl, λ h. h))))
 
 pub loop-preserved : goal.loop-preserved
 loop-preserved c = (
@@ -94,6 +95,18 @@ loop-preserved c = (
       )),
   happens_then c.loop.counter 1 _ _ _ c.loop.invariant.6 c.visit.ensures.lan,
   makes_then _ _ _ c.loop.invariant.7 c.visit.ensures.made,
+  λ quiet b short.
+      let e = c.due.ensures in
+      let v = c.visit.ensures in
+      let p = c.in-Some.place in
+      let is : c.due.result ≡ Some p = cc in
+      let was = c.loop.invariant.8 quiet b short in
+      let none = unvisited c.loop.into.items c.visit.new.into.items c.args.self.now c.loop.self c.visit.new.self c.due.new.self p (c.loop.invariant.5 b short).0 c.loop.invariant.2
+          (record { stops = e.stops; count = e.kept.0; again = e.kept.1; visit = e.kept.2 }) (e.order p is).1 (c.in-Some.ensures.few) v.on.1 v.visits v.shares v.takes in (
+        v.quiet was.0,
+        each_trans (λ s t. StopGoes s t) c.args.self.now.tour.stops.items c.loop.self.tour.stops.items c.visit.new.self.tour.stops.items (λ x y z a h. (h.0 ∙ a.0, λ g. h.1 (a.1 g))) was.1
+            (subst (λ z. EachPair (λ s t. StopGoes s t) z.items c.visit.new.self.tour.stops.items) e.stops (v.eager was.0 none)),
+      ),
 )
 
 pub returns-in_default-clause-joins : goal.returns-in_default-clause-joins
@@ -187,3 +200,34 @@ returns-then-self-count-clause-made c = makes_then _ _ _ c.loop.invariant.7 c.vi
 
 pub returns-clause-made : goal.returns-clause-made
 returns-clause-made c = c.loop.invariant.7
+
+pub returns-in_default-clause-eager : goal.returns-in_default-clause-eager
+returns-in_default-clause-eager c = λ quiet b short.
+    subst (λ z. EachPair (λ s t. StopGoes s t) c.args.self.now.tour.stops.items z.items) (sym c.due.ensures.stops) (c.loop.invariant.8 quiet b short).1
+
+pub returns-then-not-visit-clause-eager : goal.returns-then-not-visit-clause-eager
+returns-then-not-visit-clause-eager c = λ quiet b short.
+    let e = c.due.ensures in
+    let v = c.visit.ensures in
+    let p = c.in-Some.place in
+    let is : c.due.result ≡ Some p = cc in
+    let was = c.loop.invariant.8 quiet b short in
+    let none = unvisited c.loop.into.items c.visit.new.into.items c.args.self.now c.loop.self c.visit.new.self c.due.new.self p (c.loop.invariant.5 b short).0 c.loop.invariant.2
+    (record { stops = e.stops; count = e.kept.0; again = e.kept.1; visit = e.kept.2 }) (e.order p is).1 (c.in-Some.ensures.few) v.on.1 v.visits v.shares v.takes in
+    each_trans (λ s t. StopGoes s t) c.args.self.now.tour.stops.items c.loop.self.tour.stops.items c.visit.new.self.tour.stops.items (λ x y z a h. (h.0 ∙ a.0, λ g. h.1 (a.1 g))) was.1
+    (subst (λ z. EachPair (λ s t. StopGoes s t) z.items c.visit.new.self.tour.stops.items) e.stops (v.eager was.0 none))
+
+pub returns-then-self-count-clause-eager : goal.returns-then-self-count-clause-eager
+returns-then-self-count-clause-eager c = λ quiet b short.
+    let e = c.due.ensures in
+    let v = c.visit.ensures in
+    let p = c.in-Some.place in
+    let is : c.due.result ≡ Some p = cc in
+    let was = c.loop.invariant.8 quiet b short in
+    let none = unvisited c.loop.into.items c.visit.new.into.items c.args.self.now c.loop.self c.visit.new.self c.due.new.self p (c.loop.invariant.5 b short).0 c.loop.invariant.2
+    (record { stops = e.stops; count = e.kept.0; again = e.kept.1; visit = e.kept.2 }) (e.order p is).1 (c.in-Some.ensures.few) v.on.1 v.visits v.shares v.takes in
+    each_trans (λ s t. StopGoes s t) c.args.self.now.tour.stops.items c.loop.self.tour.stops.items c.visit.new.self.tour.stops.items (λ x y z a h. (h.0 ∙ a.0, λ g. h.1 (a.1 g))) was.1
+    (subst (λ z. EachPair (λ s t. StopGoes s t) z.items c.visit.new.self.tour.stops.items) e.stops (v.eager was.0 none))
+
+pub returns-clause-eager : goal.returns-clause-eager
+returns-clause-eager c = λ quiet b short. (c.loop.invariant.8 quiet b short).1

@@ -1,5 +1,5 @@
 use Rattle.std.proofs.Common.{◌≡◌, ℕ, List, length, vec_len}
-use Rattle.std.specs.Prelude.{map}
+use Rattle.std.specs.Prelude.{All, map}
 use Rattle.datagrams.specs.Datagram as Raw
 use Rattle.datagrams.specs.Frame.{IsBegun}
 use Rattle.eoe_switch.specs.Switch.{Switched}
@@ -10,7 +10,8 @@ use Rattle.master_node.specs.Filling.{IsEmpty}
 use Rattle.master_node.specs.Happened.{Happens}
 use Rattle.master_node.specs.Kept.{TourOn}
 use Rattle.master_node.specs.Joined.{JoinsKept}
-use Rattle.master_node.specs.Shows.{lived_of}
+use Rattle.master_node.specs.Eager.{EagerOn}
+use Rattle.master_node.specs.Shows.{WaitsNone, lived_of}
 use Rattle.master_node.proofs.Filleds.{Fills}
 use Rattle.master_node.specs.Toured.{IsBare}
 use Rattle.master_node.proofs.Toureds.{Visiting}
@@ -24,3 +25,4 @@ invariant-loop l =
     × JoinsKept l.initial.self l.self
     × (IsBare l.initial.self → length l.initial.into.items ≡ 16 → Visiting l.into.items l.initial.self l.self × (l.self.tour.count ≡ l.counter))
     × Happens l.counter l.initial.self.lan l.self.lan × Makes l.initial.self.lan l.self.lan
+    × (All WaitsNone l.initial.self.posts.items → IsBare l.initial.self → length l.initial.into.items ≡ 16 → All WaitsNone l.self.posts.items × EagerOn l.initial.self l.self)

@@ -1,4 +1,5 @@
-use Rattle.std.proofs.Common.{◌≡◌, true, false, rules, arith}
+use Rattle.std.proofs.Common.{◌≡◌, ◌∙◌, sym, true, false, rules, arith}
+use Rattle.master_node.proofs.Restings.{never}
 use Rattle.std.proofs.lemmas.Bool.{OnTrue_at, OnFalse_at}
 use Rattle.master_tour.specs.Goes.{is_live}
 use Rattle.master_node.specs.Wants.{IsQuietBy}
@@ -23,3 +24,8 @@ returns-clause-quiet c =
     let m = c.args.self.now in
     none_or_all (λ s. IsQuietBy s.stand s.side) m.tour.stops.items
     (λ k l. c.loop-place.invariant k (omega (arith, l, c.loop-place-test.false, c.len-place-end.ensures, m.paired, m.tour.stops.ok.0)))
+
+pub returns-then-wants_at-clause-rests : goal.returns-then-wants_at-clause-rests
+returns-then-wants_at-clause-rests c = λ w r.
+    let yes : c.wants_at.result ≡ true = search rules in
+    absurd (never (sym (c.wants_at.ensures.rests w (r c.loop-place.place)) ∙ yes))

@@ -19,6 +19,11 @@ use Rattle.master_tour.specs.Sizes.{frame_size}
 use Rattle.master_node.specs.Rooms.{FitAgain, area_at}
 use Rattle.master_node.proofs.Fits.{again_on, side_sends}
 use Rattle.master_node.proofs.Leaves.{areas_from, area_planned, fit_under}
+use Rattle.master_hand.specs.Shown.{knows}
+use Rattle.master_side.specs.Recall.{recall_by}
+use Rattle.master_node.specs.Eager.{StopTakesUp, recall_of}
+use Rattle.master_node.proofs.Eagers.{each_comp}
+use Rattle.master_node.proofs.Lefts.{true_false}
 use Rattle.master_node.proofs.Toureds.{each_none, tour_same, of_tour}
 use Rattle.master_node.proofs.node.MasterNode.make.Goals as goal
 
@@ -100,3 +105,23 @@ returns-clause-joins c =
     let s0 = c.args.self.now.tour.stops.items in
     let s1 = c.begin.new.self.stops.items in
     each_trans (λ s t. t.side.hand.found.join ≡ s.side.hand.found.join) s0 s1 c.fill.new.self.tour.stops.items (λ x y z a b. b ∙ a) (each_map _ _ s0 s1 (λ s t p. ap (λ z. z.hand.found.join) p.0) c.begin.ensures.each) c.fill.ensures.joins
+
+pub returns-clause-eager : goal.returns-clause-eager
+returns-clause-eager c = λ lens recover retry missed as' x.
+    let m = c.args.self.now in
+    let e = c.begin.ensures in
+    let t1 = c.begin.new.self in
+    let ss = m.tour.stops.items in
+    let ts = t1.stops.items in
+    let goes = goes_begun m.tour.again t1.again m.tour.visit.items t1.visit.items m.tour.opened t1.opened as' e.tour.0 e.tour.1 (λ a. ap (λ z. z.items) (e.again a)) x.goes in
+    let on = c.fill.ensures.eager x.quiet (record {
+      count = e.count;
+      passed = e.tour.5;
+      under = each_none _ (λ s. s.under) (λ s t p. p.5) ss ts e.each;
+      again = λ a. (goes.comes a).once;
+      anew = λ a. e.anew (sym e.tour.0 ∙ a);
+      fits = λ a.
+          let was = sym e.tour.0 ∙ a in
+          subst (λ z. FitAgain z ts) (sym (ap (λ z. z.items) (e.again was))) (again_on _ (λ s t p. side_sends s t p.0 p.1) ss ts m.tour.visit.items e.each (x.again was));
+    }) e.empty in
+    each_comp _ _ (λ s t. (recall_of t ≡ recall_of s) × StopTakesUp t) (λ s t u p q. (q.0 ∙ ap (λ z. recall_by z.paused z.duty z.turn (knows z.hand.course)) p.0, q.1 (λ v. absurd (true_false t.under v p.5)))) ss ts c.fill.new.self.tour.stops.items e.each on

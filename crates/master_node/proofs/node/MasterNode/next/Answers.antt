@@ -7,6 +7,10 @@ use Rattle.master_node.proofs.Sents.{shows_same}
 use Rattle.master_tour.specs.Walks.{EachPair}
 use Rattle.master_tour.proofs.Walks.{each_same}
 use Rattle.master_node.proofs.Asking.{all_ask}
+use Rattle.std.specs.Prelude.{map}
+use Rattle.master_node.specs.Eager.{recall_of}
+use Rattle.master_node.proofs.Eagers.{all_take, each_recalls}
+use Rattle.master_node.proofs.Visitings.{all_visit, sent_at}
 use Rattle.master_node.proofs.Toureds.{turns_tour, tour_by}
 use Rattle.master_node.specs.Shows.{is_live_lead}
 use Rattle.master_node.specs.Toured.{stop_share, tour_of}
@@ -66,3 +70,24 @@ returns-clause-made c =
 
 pub returns-then-not-has_live-clause-made : goal.returns-then-not-has_live-clause-made
 returns-then-not-has_live-clause-made c = (c.begins.ensures.ports, makes_all c.begins.new.self c.begins.new.self c.begins.ensures.none (makes_none c.begins.new.self c.begins.new.self refl))
+
+pub returns-clause-visits : goal.returns-clause-visits
+returns-clause-visits c = λ h lens recover retry missed as' us x y.
+    let m = c.args.self.now in
+    let n = c.admit.new.self in
+    let live : c.has_live.result ≡ true = cc in
+    let none = ap length c.begins.ensures.none in
+    let admitted = c.admit.ensures.lan in
+    let w = c.make.ensures.led lens recover retry missed 0 m.lan.switch as' (omega (arith, admitted.few, none)) (c.admit.ensures.takes.takes _ [] (omega (arith, none)) (has_none _ _ c.begins.ensures.switch c.begins.ensures.none)) (subst (λ z. list_any (λ s. is_live s.stand) z.stops.items ≡ true) (sym c.admit.ensures.same.1) (sym c.has_live.ensures ∙ live)) (shows_same lens recover retry missed as' _ n c.admit.ensures.same.1 c.admit.ensures.same.0 x) in
+    all_visit lens recover c.make.new.into.items us c.make.new.self.tour.stops.items (sent_at _ _ _ _ c.make.new.self.tour.stops.items _ _ w.5 y.fits.fit) y.each
+
+pub returns-clause-takes : goal.returns-clause-takes
+returns-clause-takes c = λ h lens recover retry missed as' us x y.
+    let n = c.admit.new.self in
+    all_take lens recover c.make.new.into.items us n.tour.stops.items c.make.new.self.tour.stops.items (c.make.ensures.eager lens recover retry missed as' (shows_same lens recover retry missed as' _ n c.admit.ensures.same.1 c.admit.ensures.same.0 x)) y.each
+
+pub returns-clause-recalled : goal.returns-clause-recalled
+returns-clause-recalled c = λ h lens recover retry missed as' x.
+    let n = c.admit.new.self in
+    each_recalls n.tour.stops.items c.make.new.self.tour.stops.items (c.make.ensures.eager lens recover retry missed as' (shows_same lens recover retry missed as' _ n c.admit.ensures.same.1 c.admit.ensures.same.0 x))
+    ∙ ap (λ z. map (λ s. recall_of s) z.stops.items) c.admit.ensures.same.1

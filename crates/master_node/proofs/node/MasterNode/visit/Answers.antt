@@ -1,6 +1,7 @@
 use Rattle.std.proofs.Common.{◌⊎◌, inl, ◌≡◌, ◌∙◌, ◌+◌, ◌%◌, refl, sym, ap, subst, arith}
 use Rattle.std.specs.Prelude.{map, false, nat_lt, IfSome, slice_get}
 use Rattle.std.proofs.lemmas.Bool.{le-ltb, lt-ltb}
+use Rattle.master_node.proofs.Lefts.{true_false}
 use Rattle.master_node.specs.Toured.{StaysPut, TakesPart}
 use Rattle.master_node.proofs.Toureds.{takes_part, part_steps}
 use Rattle.master_hand.specs.Laying.{ready_of}
@@ -31,6 +32,10 @@ use Rattle.master_node.specs.Rooms.{SendsSame, Takes}
 use Rattle.master_node.proofs.Fits.{sends_again, sends_len, stays_sends, takes_before, takes_not, takes_visit}
 use Rattle.master_node.proofs.Lists.{steps_trans}
 use Rattle.master_node.proofs.Rooms.{steps_room, looks_full, visits_full}
+use Rattle.master_node.proofs.Eagers.{goes_kept, recall_kept, steps_tested}
+use Rattle.master_node.proofs.Visits as Visited
+use Rattle.master_node.specs.Eager.{StopGoes, StopTakesUp, recall_of}
+use Rattle.master_tour.proofs.Walks.{each_map}
 use Rattle.master_node.proofs.Happenings.{happens_none, happens_from}
 use Rattle.master_node.proofs.Made.{makes_none, makes_then}
 use Rattle.master_node.proofs.node.MasterNode.visit.Goals as goal
@@ -218,3 +223,34 @@ returns-then-not-fits-clause-made c = makes_none _ _ refl
 
 pub returns-clause-made : goal.returns-clause-made
 returns-clause-made c = makes_then _ _ _ (makes_none _ _ c.lay.ensures.lan) c.came.ensures.made
+
+pub returns-then-not-fits-clause-eager : goal.returns-then-not-fits-clause-eager
+returns-then-not-fits-clause-eager c = λ quiet under.
+    let e = c.fits.ensures in
+    let s0 = c.args.self.now.tour.stops.items in
+    let s1 = c.fits.new.self.stops.items in
+    steps_each _ (λ s t. StopGoes s t) c.args.place s0 s1 (λ s. (refl, λ h. h)) (λ s t p. (p.0.0, λ h u. absurd (true_false t.under u (p.0.1.3 ∙ p.1))))
+    (steps_tested (λ s. s.under) false _ c.args.place s0 s1 under (steps_both _ _ c.args.place s0 s1 e.recalled e.lives))
+
+pub returns-clause-eager : goal.returns-clause-eager
+returns-clause-eager c = λ quiet under.
+    let e = c.fits.ensures in
+    let v = c.visit-began.ensures in
+    let place = c.args.place in
+    let coming = c.coming-coming.result in
+    let r = c.visit-began.result in
+    let s0 = c.args.self.now.tour.stops.items in
+    let s1 = c.fits.new.self.stops.items in
+    let s2 = c.lay.new.self.tour.stops.items in
+    let s3 = c.visit-began.new.self.stops.items in
+    let s4 = c.came.new.self.tour.stops.items in
+    let fitted = steps_map _ (λ s t. Fitted s t) place s0 s1 (λ s t p. record { place = p.0.1; passing = p.1.2; script = p.1.3; out = p.1.0.out_is }) (steps_both _ _ place s0 s1 e.lives e.step) in
+    let began = subst (λ z. StepsAt (λ s t. Began r z s t) place s2 s3) c.wish_of-wish.ensures
+    (steps_map _ (λ s t. Began r c.wish_of-wish.result s t) place s2 s3 (λ s t p. record { place = p.0.4; out = p.1.0.0.out_is; ready = p.1.1.0; script = p.1.1.1; unpassed = p.1.1.2 }) (steps_both _ _ place s2 s3 v.lives (steps_both _ _ place s2 s3 v.step v.began))) in
+    let rooms : (s : Stop InHand Impl.ghosts) → s.side.out.len ≡ s.side.hand.laying.areas.out = λ s. s.side.room ∙ ap (λ z. z.out) (sym s.side.hand.one_slave) in
+    let kept = Visited.kept coming r place s0 s1 s2 s3 s4 rooms (c.coming-coming.ensures.comes quiet) fitted c.lay.ensures.laid began c.came.ensures.came in
+    let same = λ (s t : Stop InHand Impl.ghosts). recall_of t ≡ recall_of s in
+    let first = steps_trans same same same place s0 s1 s2 (λ x y z a b. b ∙ a) e.recalled (steps_map _ same place s1 s2 (λ s t p. recall_kept _ s t p.0) c.lay.ensures.laid) in
+    let second = steps_trans same _ (λ s t. StopGoes s t) place s0 s2 s3 (λ x y z a b. (b.0 ∙ a, λ h u. b.1)) first (steps_both _ _ place s2 s3 v.recalled v.takes) in
+    each_trans (λ s t. StopGoes s t) s0 s3 s4 (λ x y z a b. (b.0 ∙ a.0, λ h. b.1 (a.1 h))) (steps_each _ (λ s t. StopGoes s t) place s0 s3 (λ s. (refl, λ h. h)) (λ s t p. p) second)
+    (each_map _ (λ s t. StopGoes s t) s3 s4 (λ s t k. goes_kept k.number s t k.kept) kept)

@@ -1,10 +1,12 @@
-use Rattle.std.proofs.Common.{◌≡◌, ◌<◌, true, false, sym, ap, subst, length, rules, arith}
+use Rattle.std.proofs.Common.{◌≡◌, ◌<◌, ◌∙◌, true, false, sym, ap, subst, length, rules, arith}
 use Rattle.std.proofs.lemmas.Bool.{OnTrue_from, OnFalse_from, OnFalse_at}
 use Rattle.master_tour.specs.Goes.{is_live}
 use Rattle.master_tour.specs.declared.stop.Stand.{Stand}
 use Rattle.master_node.specs.Wants.{IsQuietBy}
 use Rattle.master_node.proofs.Places.{tested_here}
 use Rattle.master_node.proofs.Quiets.{quiet_here}
+use Rattle.master_node.proofs.Restings.{if_here, never}
+use Rattle.master_node.specs.Resting.{StandRests, StopRests}
 use Rattle.master_node.proofs.node.MasterNode.wants_at.Goals as goal
 
 pub returns-in-Opening-clause-live : goal.returns-in-Opening-clause-live
@@ -35,4 +37,26 @@ returns-else-is_wanting-clause-quiet c =
     let no : c.is_wanting.result ≡ false = search rules in
     OnFalse_from c.has_waiting.result _
     (λ e. quiet_here (λ s. IsQuietBy s.stand s.side) c.args.self.now.tour.stops.items c.args.place c.index-stop.result.now c.index-stop.ensures
-    (subst (λ (k : Stand). IsQuietBy k c.index-stop.result.now.side) (sym c.in-Open.is) (OnFalse_at no c.is_wanting.ensures)))
+    (subst (λ (k : Stand). IsQuietBy k c.index-stop.result.now.side) (sym c.in-Open.is) (OnFalse_at no c.is_wanting.ensures.quiet)))
+
+pub returns-in-Opening-clause-rests : goal.returns-in-Opening-clause-rests
+returns-in-Opening-clause-rests c = λ w p.
+    let m = c.args.self.now in
+    let l : c.args.place < length m.tour.stops.items = omega (arith, c.requires, m.paired, m.tour.stops.ok.0) in
+    let r = if_here (λ s. StopRests m.lan c.args.place s) m.tour.stops.items c.args.place c.index-stop.result.now l c.index-stop.ensures p in
+    absurd (subst (λ (k : Stand). StandRests m.lan c.args.place k c.index-stop.result.now.side) c.in-Opening.is r)
+
+pub returns-then-is_wanting-clause-rests : goal.returns-then-is_wanting-clause-rests
+returns-then-is_wanting-clause-rests c = λ w p.
+    let m = c.args.self.now in
+    let l : c.args.place < length m.tour.stops.items = omega (arith, c.requires, m.paired, m.tour.stops.ok.0) in
+    let r = if_here (λ s. StopRests m.lan c.args.place s) m.tour.stops.items c.args.place c.index-stop.result.now l c.index-stop.ensures p in
+    let yes : c.is_wanting.result ≡ true = search rules in
+    absurd (never (sym (c.is_wanting.ensures.rests (subst (λ (k : Stand). StandRests m.lan c.args.place k c.index-stop.result.now.side) c.in-Open.is r).0) ∙ yes))
+
+pub returns-else-is_wanting-clause-rests : goal.returns-else-is_wanting-clause-rests
+returns-else-is_wanting-clause-rests c = λ w p.
+    let m = c.args.self.now in
+    let l : c.args.place < length m.tour.stops.items = omega (arith, c.requires, m.paired, m.tour.stops.ok.0) in
+    let r = if_here (λ s. StopRests m.lan c.args.place s) m.tour.stops.items c.args.place c.index-stop.result.now l c.index-stop.ensures p in
+    c.has_waiting.ensures w (subst (λ (k : Stand). StandRests m.lan c.args.place k c.index-stop.result.now.side) c.in-Open.is r).1

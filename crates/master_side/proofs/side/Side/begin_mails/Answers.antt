@@ -1,6 +1,8 @@
-use Rattle.std.proofs.Common.{sym, subst, ◌∙◌, true, false}
+use Rattle.std.proofs.Common.{◌≡◌, sym, subst, ◌∙◌, true, false, Bool, refl}
+use Rattle.std.specs.Prelude.{if◌then◌else◌}
 use Rattle.master_side.proofs.Agains.{mails_most, never}
 use Rattle.master_side.proofs.Begins.{begins_ready, none_passed}
+use Rattle.master_side.proofs.Recalls.{idle_recall}
 use Rattle.std.specs.Prelude.{Some, None, Option}
 use Rattle.master_side.specs.Passing.{PassingShows, passing_behind}
 use Rattle.master_side.specs.Shown.{wish_begun}
@@ -52,3 +54,12 @@ returns-clause-passing g c =
         | else-began v ↦ subst (λ (p : Option Passing). PassingShows awaits p life) (sym w.passing-is) (begun_none passed ready c.begin-began.result awaits v.if-began.false)
       ]
     ]
+
+pub returns-clause-recalled : goal.returns-clause-recalled
+returns-clause-recalled g c = λ n k.
+    let old = c.args.self.now in
+    idle_recall old.paused old.turn false (g.H.Hand.knows old.hand) (g.H.Hand.knows c.begin-began.new.self) old.duty n (c.begin-began.ensures.knows ∙ same c.begin-began.result (g.H.Hand.knows old.hand) k)
+  where
+    same : (b known : Bool) → known ≡ true → (if b then true else known) ≡ known
+    same true known e = sym e
+    same false known e = refl

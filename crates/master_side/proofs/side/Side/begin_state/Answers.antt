@@ -1,5 +1,8 @@
+use Rattle.std.proofs.Common.{Some}
+use Rattle.master_duty.specs.declared.stage.Met.{Met}
 use Rattle.master_side.proofs.Agains.{drains_most}
 use Rattle.master_side.proofs.Begins.{begins_state}
+use Rattle.master_side.proofs.Recalls.{state_recall}
 use Rattle.master_side.proofs.side.Side.begin_state.Goals as goal
 
 pub returns-clause-picked : goal.returns-clause-picked
@@ -8,3 +11,6 @@ returns-clause-picked g c = λ x made d a s free known none.
 
 pub returns-clause-again : goal.returns-clause-again
 returns-clause-again g c = λ n p r held h. drains_most c.args.self.now c.new-duty.result c.new-duty.ensures.stage n p r held
+
+pub returns-clause-recalled : goal.returns-clause-recalled
+returns-clause-recalled g c = λ n. let old = c.args.self.now in state_recall old.paused old.turn (g.H.Hand.knows old.hand) old.duty (Some (Met.On c.new-duty.result)) n

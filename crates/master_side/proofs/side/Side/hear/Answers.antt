@@ -1,4 +1,5 @@
-use Rattle.std.proofs.Common.{sym, subst, Option, [], ◌∷◌}
+use Rattle.std.proofs.Common.{◌≡◌, true, sym, subst, Option, [], ◌∷◌}
+use Rattle.master_side.specs.Due.{EachDue}
 use Rattle.std.specs.Prelude.{option_map}
 use Rattle.frame_view.specs.of_exchange_model.Rows.{row_heard}
 use Rattle.mailbox_mail.specs.declared.mail.MailView.{MailView}
@@ -34,3 +35,7 @@ returns-in_default-clause-passing g c = λ x p now h s.
     let old = c.args.self.now in
     subst (λ (o : Option MailView). PassingShows (g.H.Hand.awaits old.hand) old.passing (passes x g.H.Hand.acknowledged g.H.Hand.more g.H.Hand.passed p (map (λ m. News.Heard m) (heard_of o)))) (sym c.in_default.is)
     (unheard_shows x g.H.Hand.acknowledged g.H.Hand.more g.H.Hand.passed old.passing (g.H.Hand.awaits old.hand) p s)
+
+pub returns-in-Some-clause-knows : goal.returns-in-Some-clause-knows
+returns-in-Some-clause-knows g c = λ x now h k e.
+    c.hear-what.ensures.knows x now h k (subst (λ (o : Option MailView). EachDue x now (heard_of o)) c.in-Some.is e)

@@ -8,6 +8,7 @@ use Rattle.master_duty.specs.of_task_model.Accounts.{duty_access, account_back}
 use Rattle.master_side.specs.Carried.{Meant, one}
 use Rattle.frame_view.specs.of_link_mails.Body.{Body}
 use Rattle.mailbox_master.specs.Any.{in_half_of}
+use Rattle.master_side.specs.Due.{EachDue}
 use Rattle.master_side.specs.Heard.{heard_of, Brought, HasJoined}
 use Rattle.master_side.proofs.Backs.{inward_back, inward_accepts, kept_side, view_short}
 use Rattle.std.specs.Prelude.{◌&&◌, ◌==◌, if◌then◌else◌, map}
@@ -71,3 +72,12 @@ returns-clause-passing g c = λ x kept p b d a s k h w i.
     (ap (λ (h : Halves Body). h.inn) s.halves) c.is_some-was_read.ensures c.returned-got.ensures.got meant i h.is
     ∙ ap (λ (o : Option MailView). passes x g.H.Hand.acknowledged g.H.Hand.more g.H.Hand.passed after (map (λ m. News.Heard m) (heard_of o))) (sym c.view_in.ensures) in
     subst (λ (q : Option Ends.Passing). PassingShows (g.H.Hand.awaits new.hand) new.passing q) (sym is) (c.hear.ensures.passing x after d.now row read)
+
+pub returns-clause-knows : goal.returns-clause-knows
+returns-clause-knows g c = λ x b d a s w i k e.
+    let args = c.args.self.now in
+    let accepts = inward_accepts x (g.H.Hand.shows args.hand x) args.out args.inn args.fresh args.duty d a args.station b c.args.counter c.args.octets.now c.returned-got.result c.returned-got.ensures.got s
+    (subst (λ (k : Carried). Meant args.station k d.halves (duty_access a.hand) b) c.requires w) i in
+    let same = sym c.read_done.ensures.kept.4 in
+    c.hear.ensures.knows x d.now (subst (λ z. g.H.Hand.shows z x d.now) same s.row) (subst (λ z. g.H.Hand.knows z ≡ true) same k)
+    (subst (λ (ms : List Body). EachDue x d.now ms) (accepts ∙ sym (ap heard_of c.view_in.ensures)) e)

@@ -1,3 +1,5 @@
+use Rattle.std.proofs.Common.{◌≡◌}
+use Rattle.master_side.specs.Recall.{recall_by}
 use Rattle.std.proofs.Common.{sym, subst, ap, ◌∙◌}
 use Rattle.life_frames.specs.of_task_model.Accounts.{duty_access}
 use Rattle.master_tour.proofs.Visits.{picked_map, holds_map, same_shown, same_meant}
@@ -48,3 +50,21 @@ returns-clause-room g c = λ r.
       λ n. (let long = c.add_datagram-placed.ensures.long n in omega (arith, most, long)),
       λ y. (let same = (c.add_datagram-placed.ensures.way y).1 in omega (arith, most, same)),
     )
+
+pub returns-clause-recalled : goal.returns-clause-recalled
+returns-clause-recalled g c =
+    let e = c.add_datagram-placed.ensures in
+    let same : recall_by c.add_datagram-placed.new.self.paused c.add_datagram-placed.new.self.duty c.add_datagram-placed.new.self.turn (g.H.Hand.knows c.add_datagram-placed.new.self.hand) ≡ recall_by c.choose-began.new.self.paused c.choose-began.new.self.duty c.choose-began.new.self.turn (g.H.Hand.knows c.choose-began.new.self.hand) =
+    (λ i. recall_by (e.recalled.0 i) (e.kept.duty_is i) (e.recalled.1 i) (g.H.Hand.knows (e.hand.0 i))) in
+    same ∙ c.choose-began.ensures.recalled
+
+pub returns-clause-takes : goal.returns-clause-takes
+returns-clause-takes g c = λ o n k x d a s.
+    let m = c.choose-began.new.self in
+    let t = c.add_datagram-placed.new.self in
+    let e = c.add_datagram-placed.ensures in
+    c.choose-began.ensures.rest (ap (λ z. z.state) (sym e.kept.out_is) ∙ n) (ap g.H.Hand.knows (sym e.hand.0) ∙ k) x d a
+    (same_shown (g.H.Hand.shows t.hand x) (g.H.Hand.shows m.hand x) t.out m.out t.inn m.inn t.fresh m.fresh t.duty m.duty d a (record { out_is = sym e.kept.out_is; in_is = sym e.kept.in_is; fresh_is = sym e.kept.fresh_is; duty_is = sym e.kept.duty_is }) (λ now w. subst (λ h. g.H.Hand.shows h x now) e.hand.0 w) s)
+
+pub returns-clause-begins : goal.returns-clause-begins
+returns-clause-begins g c = λ o n k h p x d a s f q. c.choose-began.ensures.none x d a k s h p f q n

@@ -6,6 +6,7 @@ use Rattle.master_side.specs.Shown.{SideShows, wish_begun}
 use Rattle.master_side.specs.Carried.{Meant}
 use Rattle.master_side.specs.Sent.{visit_gram}
 use Rattle.master_tour.specs.Stands.{StopShows, StandShows, StandMeant, stand_gram, is_open}
+use Rattle.master_side.specs.Recall.{recall_by}
 use Rattle.master_tour.proofs.Visits.{still_next, open_next}
 use Rattle.master_tour.proofs.Rooms.{visit_gone, visit_full, visit_opens, visit_open}
 use Rattle.master_tour.specs.Passing.{StandPassing}
@@ -104,3 +105,24 @@ returns-in-Open-clause-passing g c = λ x made recover spot hold l sh h counts.
     next_open x g.H.Hand.acknowledged g.H.Hand.more g.H.Hand.passed made l (wish_begun c.open_visit.result c.args.wish (g.H.Hand.ready s.hand)) hold n.stand (g.H.Hand.awaits n.side.hand) n.side.passing stood.0 (k.stand ∙ c.in-Open.is)
     (λ p. ap (λ (z : Bool). wish_begun z c.args.wish (g.H.Hand.ready s.hand)) (k.still (passing_waits (g.H.Hand.awaits s.hand) s.passing l.era.passing was p)))
     counts (k.passing l.era.passing was)
+
+pub returns-else-access_len-room-clause-recalled : goal.returns-else-access_len-room-clause-recalled
+returns-else-access_len-room-clause-recalled g c = ap (λ z. recall_by z.paused z.duty z.turn (g.H.Hand.knows z.hand)) c.opening_visit.ensures.side
+
+pub returns-in-Gone-clause-takes : goal.returns-in-Gone-clause-takes
+returns-in-Gone-clause-takes g c = λ o. absurd (let e = sym c.in-Gone.is ∙ o in cc)
+
+pub returns-in-Gone-clause-begins : goal.returns-in-Gone-clause-begins
+returns-in-Gone-clause-begins g c = λ o. absurd (let e = sym c.in-Gone.is ∙ o in cc)
+
+pub returns-then-access_len-room-clause-takes : goal.returns-then-access_len-room-clause-takes
+returns-then-access_len-room-clause-takes g c = λ o. absurd (let e = sym c.in-Opening.is ∙ o in cc)
+
+pub returns-then-access_len-room-clause-begins : goal.returns-then-access_len-room-clause-begins
+returns-then-access_len-room-clause-begins g c = λ o. absurd (let e = sym c.in-Opening.is ∙ o in cc)
+
+pub returns-else-access_len-room-clause-takes : goal.returns-else-access_len-room-clause-takes
+returns-else-access_len-room-clause-takes g c = λ o. absurd (let e = sym c.in-Opening.is ∙ sym c.opening_visit.ensures.stand ∙ o in cc)
+
+pub returns-else-access_len-room-clause-begins : goal.returns-else-access_len-room-clause-begins
+returns-else-access_len-room-clause-begins g c = λ o. absurd (let e = sym c.in-Opening.is ∙ o in cc)

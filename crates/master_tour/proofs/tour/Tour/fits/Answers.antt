@@ -34,3 +34,6 @@ returns-clause-room g c =
     let a = c.ahead.ensures in
     steps_set _ c.args.place c.args.self.now.stops.items c.index_mut.result.now c.ahead.new.self c.requires.inside c.index_mut.ensures.value
     (looks c.args.frame.now.items c.index_mut.result.now c.ahead.new.self c.ahead.result c.room.result a.area a.again c.room.ensures)
+
+pub returns-clause-recalled : goal.returns-clause-recalled
+returns-clause-recalled g c = steps_set _ c.args.place c.args.self.now.stops.items c.index_mut.result.now c.ahead.new.self c.requires.inside c.index_mut.ensures.value c.ahead.ensures.recalled

@@ -1,6 +1,8 @@
 use Rattle.std.proofs.Common.{◌≡◌, ℕ, List, [], ◌∷◌, ◌++◌, true, false, sym, subst}
 use Rattle.std.specs.Prelude.{Bool, is_some}
 use Rattle.datagrams.specs.Datagram as Raw
+use Rattle.master_side.specs.Recall.{recall_by}
+use Rattle.master_tour.specs.Recalls.{TakesUp, BeginsAll}
 use Rattle.datagrams.specs.Frame.{IsBegun}
 use Rattle.life_frames.specs.of_exchange_model.Exchange.{Speech}
 use Rattle.life_frames.specs.of_link_mails.Body.{Body}
@@ -103,3 +105,18 @@ pub returns-clause-passing : goal.returns-clause-passing
 returns-clause-passing g c =
     subst (λ z. StepsAt (λ s t. (x : Speech Body g.H.Hand.Asked Reply) (made recover : ℕ) (spot : Spot) (hold : Bool) (l : Life Body g.H.Hand.Asked Reply) → StopShows (λ d a. SideShows (g.H.Hand.shows s.side.hand x) s.side.out s.side.inn s.side.fresh s.side.duty d a) recover spot s.stand s.spare l → StandPassing s.stand (g.H.Hand.awaits s.side.hand) s.side.passing l → (let n = life_next x g.H.Hand.acknowledged g.H.Hand.more g.H.Hand.passed made l l.stand (record { begin = wish_begun c.visit-began.result c.args.wish (g.H.Hand.ready s.side.hand); hold = hold }) in Counts made (wish_begun c.visit-began.result c.args.wish (g.H.Hand.ready s.side.hand)) l n → StandPassing t.stand (g.H.Hand.awaits t.side.hand) t.side.passing n)) c.args.place c.args.self.now.stops.items z.items) (sym c.carry_where.ensures.stops)
     (steps_set (λ s t. (x : Speech Body g.H.Hand.Asked Reply) (made recover : ℕ) (spot : Spot) (hold : Bool) (l : Life Body g.H.Hand.Asked Reply) → StopShows (λ d a. SideShows (g.H.Hand.shows s.side.hand x) s.side.out s.side.inn s.side.fresh s.side.duty d a) recover spot s.stand s.spare l → StandPassing s.stand (g.H.Hand.awaits s.side.hand) s.side.passing l → (let n = life_next x g.H.Hand.acknowledged g.H.Hand.more g.H.Hand.passed made l l.stand (record { begin = wish_begun c.visit-began.result c.args.wish (g.H.Hand.ready s.side.hand); hold = hold }) in Counts made (wish_begun c.visit-began.result c.args.wish (g.H.Hand.ready s.side.hand)) l n → StandPassing t.stand (g.H.Hand.awaits t.side.hand) t.side.passing n)) c.args.place c.args.self.now.stops.items c.index_mut.result.now c.visit-began.new.self c.requires.inside c.index_mut.ensures.value (λ x made recover spot hold l sh h counts. c.visit-began.ensures.passing x made recover spot hold l sh h counts))
+
+pub returns-clause-recalled : goal.returns-clause-recalled
+returns-clause-recalled g c =
+    subst (λ z. StepsAt (λ s t. recall_by t.side.paused t.side.duty t.side.turn (g.H.Hand.knows t.side.hand) ≡ recall_by s.side.paused s.side.duty s.side.turn (g.H.Hand.knows s.side.hand)) c.args.place c.args.self.now.stops.items z.items) (sym c.carry_where.ensures.stops)
+    (steps_set (λ s t. recall_by t.side.paused t.side.duty t.side.turn (g.H.Hand.knows t.side.hand) ≡ recall_by s.side.paused s.side.duty s.side.turn (g.H.Hand.knows s.side.hand)) c.args.place c.args.self.now.stops.items c.index_mut.result.now c.visit-began.new.self c.requires.inside c.index_mut.ensures.value c.visit-began.ensures.recalled)
+
+pub returns-clause-takes : goal.returns-clause-takes
+returns-clause-takes g c =
+    subst (λ z. StepsAt (λ s t. TakesUp t.stand t.side.out.state (g.H.Hand.knows t.side.hand) (λ x d a. SideShows (g.H.Hand.shows t.side.hand x) t.side.out t.side.inn t.side.fresh t.side.duty d a)) c.args.place c.args.self.now.stops.items z.items) (sym c.carry_where.ensures.stops)
+    (steps_set (λ s t. TakesUp t.stand t.side.out.state (g.H.Hand.knows t.side.hand) (λ x d a. SideShows (g.H.Hand.shows t.side.hand x) t.side.out t.side.inn t.side.fresh t.side.duty d a)) c.args.place c.args.self.now.stops.items c.index_mut.result.now c.visit-began.new.self c.requires.inside c.index_mut.ensures.value c.visit-began.ensures.takes)
+
+pub returns-clause-begins : goal.returns-clause-begins
+returns-clause-begins g c =
+    subst (λ z. StepsAt (λ s t. BeginsAll s.stand c.visit-began.result (g.H.Hand.knows s.side.hand) s.side.duty s.side.passing g.H.Hand.acknowledged (λ x d a. SideShows (g.H.Hand.shows s.side.hand x) s.side.out s.side.inn s.side.fresh s.side.duty d a) c.args.wish (g.H.Hand.ready s.side.hand)) c.args.place c.args.self.now.stops.items z.items) (sym c.carry_where.ensures.stops)
+    (steps_set (λ s t. BeginsAll s.stand c.visit-began.result (g.H.Hand.knows s.side.hand) s.side.duty s.side.passing g.H.Hand.acknowledged (λ x d a. SideShows (g.H.Hand.shows s.side.hand x) s.side.out s.side.inn s.side.fresh s.side.duty d a) c.args.wish (g.H.Hand.ready s.side.hand)) c.args.place c.args.self.now.stops.items c.index_mut.result.now c.visit-began.new.self c.requires.inside c.index_mut.ensures.value c.visit-began.ensures.begins)

@@ -1,0 +1,70 @@
+-- WHAT A MASTER WANTS NOTHING MORE OF, by the lives of its slaves and by what it has of them.
+use Rattle.std.specs.Prelude.{◌≡◌, ◌⊎◌, ℕ, suc, true, None, List, [], ◌∷◌, slice_get, ⊤}
+use Rattle.life_runs.specs.of_frame_view.View.{Lens}
+use Rattle.life_runs.specs.Led.{Leads}
+use Rattle.mailbox_master.specs.Any.{in_half_of}
+use Rattle.mailbox_master.specs.of_link_model.Master.{InState}
+use Rattle.master_duty.specs.Reply.{Reply}
+use Rattle.master_duty.specs.of_exchange_model.Exchange.{Speech}
+use Rattle.master_duty.specs.of_segment_model.Seats
+use Rattle.master_duty.specs.of_task_model.Accounts.{Account, is_free, is_acknowledged}
+use Rattle.master_hand.specs.Shown.{Shows, knows}
+use Rattle.master_hand.specs.Spoken.{Asked, acknowledged}
+use Rattle.master_hand.specs.declared.hand.InHand.{InHand}
+use Rattle.master_side.specs.Carried.{in_hand}
+use Rattle.master_side.specs.Recall.{Recall}
+use Rattle.master_side.specs.Shown.{SideShows}
+use Rattle.master_side.specs.declared.hand.Hand.{Ghosts}
+use Rattle.master_side.specs.declared.side.Side.{Side}
+use Rattle.master_side.specs.of_link_mails.Body.{Body}
+use Rattle.master_tour.specs.declared.stop.Stand as Stands
+use Rattle.master_tour.specs.declared.stop.Stop.{Stop}
+use Rattle.master_tour.specs.of_life_model.Lives.{Stand}
+use Rattle.master_node.specs.Eager.{MayBegin}
+use Rattle.master_node.specs.Forwards.{forwarded}
+use Rattle.master_node.specs.declared.lan.Lan.{Lan}
+
+-- THE MASTER WANTS NOTHING of a slave, by its life: it was given up for good; or it is open, no service is in hand and none is left of its script, both
+-- halves of its link are idle, and no packet waits at its port
+pub record Rests (lens : ℕ → Lens) (l : Lan) (place : ℕ) (m : Recall) (a : Leads) : Type 0 where
+  pub known : m.knows ≡ true
+  pub free : MayBegin lens a
+  pub held : a.lived.life.era.side.halves.out.holding ≡ None
+  pub clear : a.lived.life.era.side.halves.inn.state ≡ InState.Clear
+  pub script : slice_get a.script a.number ≡ None
+  pub packet : forwarded l.switch l.ports.items place ≡ []
+
+-- either
+abbrev pub IsResting : (ℕ → Lens) → Lan → ℕ → Recall → Leads → Type 0
+IsResting lens l place m a = (a.lived.life.stand ≡ Stand.Gone) ⊎ Rests lens l place m a
+
+-- of all slaves, from this place on
+abbrev pub AllRest : (ℕ → Lens) → Lan → ℕ → List Recall → List Leads → Type 0
+AllRest lens l place (m ∷ ms) (a ∷ as') = IsResting lens l place m a × AllRest lens l (suc place) ms as'
+AllRest lens l place [] [] = ⊤
+AllRest lens l place _ _ = ⊥
+
+-- A SIDE THAT RESTS: a service could come into hand, no mail is held and nothing is asked again, and the script is at its end
+pub record SideRests {G : Ghosts InHand} (s : Side InHand G) : Type 0 where
+  pub speech : Speech Body Asked Reply
+  pub side : Seats.Side Body Asked Reply
+  pub account : Account Asked Reply
+  pub shows : SideShows (Shows s.hand.course s.hand.which s.hand.clients speech) s.out s.inn s.fresh s.duty side account
+  pub known : knows s.hand.course ≡ true
+  pub hand : in_hand s.duty ≡ None
+  pub unpassed : s.passing ≡ None
+  pub free : is_free speech side side.now ≡ true
+  pub done : is_acknowledged acknowledged side side.now ≡ true
+  pub out : s.out.state ≡ None
+  pub inn : (in_half_of s.inn).state ≡ InState.Clear
+  pub script : slice_get s.hand.laying.script s.hand.laying.number ≡ None
+
+-- a slave that was given up for good, or is open and rests, with no packet at its port
+abbrev pub StandRests : {G : Ghosts InHand} → Lan → ℕ → Stands.Stand → Side InHand G → Type 0
+StandRests l place (Stands.Stand.Opening up) s = ⊥
+StandRests l place Stands.Stand.Open s = SideRests s × (forwarded l.switch l.ports.items place ≡ [])
+StandRests l place Stands.Stand.Gone s = ⊤
+
+-- of a stop
+abbrev pub StopRests : {G : Ghosts InHand} → Lan → ℕ → Stop InHand G → Type 0
+StopRests l place s = StandRests l place s.stand s.side
