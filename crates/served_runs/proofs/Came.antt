@@ -25,7 +25,7 @@ use Rattle.life_runs.specs.of_segment_plan.declared.service.Service as Plan
 use Rattle.life_runs.specs.of_segment_ring.declared.wire.Fate.{Fate}
 use Rattle.life_runs.specs.of_segment_ring.declared.wire.Fate.TheVariants.{Pass, Lost}
 use Rattle.life_runs.specs.Led.{Exchanged, Leads, Took, gives_up_at, speech_at}
-use Rattle.served_runs.specs.Came.{ServedCame, HasServed, IsFresh}
+use Rattle.served_runs.specs.Came.{ServedCame, HasServed, IsFresh, AreAmong}
 use Rattle.served_runs.specs.Served.{Keyed, Serves, ServedTurn, ServedComes, IsServedTurn, AllServedTurn, IsServedLed, all_serve, asked_at, gives_it, served_behind, served_life}
 use Rattle.served_runs.specs.Told.{Passed}
 
@@ -101,10 +101,30 @@ some_not : {T : Type 0} (xs : List T) (y : T) → xs ++ y ∷ [] ≡ [] → ⊥
 some_not [] y e = cc
 some_not (x ∷ xs) y e = cc
 
+-- one more of both, and none of the last
+more_among : (k : Keyed) (ks ls : List Keyed) → AreAmong ks ls → AreAmong (ks ++ k ∷ []) (ls ++ k ∷ [])
+more_among k _ _ AreAmong.none = AreAmong.takes k [] [] AreAmong.none
+more_among k _ _ (AreAmong.takes l ks ls a) = AreAmong.takes l (ks ++ k ∷ []) (ls ++ k ∷ []) (more_among k ks ls a)
+more_among k _ _ (AreAmong.skips l ks ls a) = AreAmong.skips l (ks ++ k ∷ []) (ls ++ k ∷ []) (more_among k ks ls a)
+
+none_among : (ls : List Keyed) → AreAmong [] ls
+none_among [] = AreAmong.none
+none_among (l ∷ ls) = AreAmong.skips l [] ls (none_among ls)
+
+less_among : (ks rest ms ls : List Keyed) → ms ≡ ks ++ rest → AreAmong ms ls → AreAmong (ks ++ []) ls
+less_among [] rest ms ls e a = none_among ls
+less_among (k ∷ ks) rest _ _ e AreAmong.none = absurd (let bad : [] ≡ k ∷ (ks ++ rest) = e in cc)
+less_among (k ∷ ks) rest _ _ e (AreAmong.takes l ms ls a) =
+    let same : l ≡ k = (let all = e in cc) in
+    let tail : ms ≡ ks ++ rest = (let all = e in cc) in
+    subst (λ z. AreAmong (k ∷ (ks ++ [])) (z ∷ ls)) (sym same) (AreAmong.takes k (ks ++ []) ls (less_among ks rest ms ls tail a))
+less_among (k ∷ ks) rest _ _ e (AreAmong.skips l ms ls a) = AreAmong.skips l (k ∷ (ks ++ [])) ls (less_among (k ∷ ks) rest ms ls e a)
+
 -- the same of a slave before a frame
 record HasServedTurn (lens : ℕ → Lens) (v : ServedTurn) : Type 0 where
   mails : List Keyed
   came : ServedCame (lens v.turn.lived.spot.station).out v.turn.script v.turn.number mails (life_started v.turn.lived.life)
+  among : AreAmong (mails ++ v.waits) v.asked
   all : v.turn.lived.life.gave ≡ [] → v.asked ≡ mails ++ v.waits
 
 module _ (lens : ℕ → Lens) where
@@ -132,14 +152,16 @@ module _ (lens : ℕ → Lens) where
     record One (room : ℕ) (script : List Plan.Service) (m : ℕ) (rest : List Keyed) (b : Option (Service Asked)) : Type 0 where
       mails : List Keyed
       came : ServedCame room script m mails (life_started w.lead.lived.life ++ listed b)
+      among : AreAmong (mails ++ rest) w.asked
       all : w.lead.lived.life.gave ≡ [] → w.asked ≡ mails ++ rest
 
     one : (room n m : ℕ) (script : List Plan.Service) (waits rest : List Keyed) (hand after : Option Passed) (b : Option (Service Asked)) → ServedComes room script waits hand n b m rest after → w.waits ≡ waits → ServedCame room script n h.mails (life_started w.lead.lived.life) → One room script m rest b
-    one room n _ script waits _ hand _ _ ServedComes.none e c = record { mails = h.mails; came = subst (λ qs. ServedCame room script n h.mails qs) (sym (append-nil (life_started w.lead.lived.life))) c; all = λ g. h.all g ∙ ap (λ z. h.mails ++ z) e }
-    one room n _ script waits _ hand _ _ (ServedComes.own s m o) e c = record { mails = h.mails; came = ServedCame.own n m h.mails (life_started w.lead.lived.life) s c o; all = λ g. h.all g ∙ ap (λ z. h.mails ++ z) e }
+    one room n _ script waits _ hand _ _ ServedComes.none e c = record { mails = h.mails; came = subst (λ qs. ServedCame room script n h.mails qs) (sym (append-nil (life_started w.lead.lived.life))) c; among = subst (λ z. AreAmong (h.mails ++ z) w.asked) e h.among; all = λ g. h.all g ∙ ap (λ z. h.mails ++ z) e }
+    one room n _ script waits _ hand _ _ (ServedComes.own s m o) e c = record { mails = h.mails; came = ServedCame.own n m h.mails (life_started w.lead.lived.life) s c o; among = subst (λ z. AreAmong (h.mails ++ z) w.asked) e h.among; all = λ g. h.all g ∙ ap (λ z. h.mails ++ z) e }
     one room n _ script waits _ hand _ _ (ServedComes.mail k rest q) e c = record {
       mails = h.mails ++ k ∷ [];
       came = ServedCame.mail n h.mails (life_started w.lead.lived.life) k c;
+      among = subst (λ z. AreAmong z w.asked) (ap (λ z. h.mails ++ z) (e ∙ q) ∙ sym (append_assoc h.mails (k ∷ []) rest)) h.among;
       all = λ g. h.all g ∙ ap (λ z. h.mails ++ z) (e ∙ q) ∙ sym (append_assoc h.mails (k ∷ []) rest);
     }
 
@@ -151,6 +173,7 @@ module _ (lens : ℕ → Lens) where
           came = subst (λ (spot : Spot). ServedCame (lens spot.station).out v.turn.script v.turn.number x.mails (life_started v.turn.lived.life)) (sym t.next.spot)
               (subst (λ script. ServedCame (lens w.lead.lived.spot.station).out script v.turn.number x.mails (life_started v.turn.lived.life)) (sym t.script)
               (subst (λ qs. ServedCame (lens w.lead.lived.spot.station).out w.lead.script v.turn.number x.mails qs) (sym turn_started) x.came));
+          among = subst (λ z. AreAmong (x.mails ++ v.waits) z) (sym t.same) x.among;
           all = λ g. t.same ∙ x.all (sym gave_is ∙ g);
         }
 
@@ -190,11 +213,16 @@ module _ (lens : ℕ → Lens) where
         by true b = absurd (some_not behind.gave made b)
         by false b = (sym same ∙ b, refl)
 
+    fewer : (z : Bool) (mails waits asked : List Keyed) → AreAmong (mails ++ waits) asked → AreAmong (mails ++ (if z then [] else waits)) asked
+    fewer true mails waits asked a = less_among mails waits (mails ++ waits) asked refl a
+    fewer false mails waits asked a = a
+
     behind_served : (v : ServedTurn) → HasServedTurn lens v → HasServed lens (served_behind lens recover retry gives made f v)
     behind_served v h = record {
       mails = h.mails;
       came = subst (λ (spot : Spot). ServedCame (lens spot.station).out v.turn.script v.turn.number h.mails (life_started (served_life lens recover retry gives made f f.fate v).life)) (sym (spot_same f.fate v))
           (subst (λ qs. ServedCame (lens v.turn.lived.spot.station).out v.turn.script v.turn.number h.mails qs) (sym (life_same f.fate v)) h.came);
+      among = fewer (gives_it lens recover retry gives f.fate v) h.mails v.waits v.asked h.among;
       all = λ g. (let o = waits_on f.fate v g in h.all o.0 ∙ ap (λ z. h.mails ++ z) (sym o.1));
     }
 
@@ -203,7 +231,12 @@ module _ (lens : ℕ → Lens) where
     all_behind (v ∷ vs) h = All-cons (HasServed lens) (served_behind lens recover retry gives made f v) (map (served_behind lens recover retry gives made f) vs) (behind_served v (All-head (HasServedTurn lens) v vs h)) (all_behind vs (All-tail (HasServedTurn lens) v vs h))
 
   asked_one : (k : Keyed) (w : Serves) → HasServed lens w → HasServed lens (record w { asked = w.asked ++ k ∷ []; waits = w.waits ++ k ∷ [] })
-  asked_one k w h = record { mails = h.mails; came = h.came; all = λ g. ap (λ z. z ++ k ∷ []) (h.all g) ∙ append_assoc h.mails w.waits (k ∷ []) }
+  asked_one k w h = record {
+    mails = h.mails;
+    came = h.came;
+    among = subst (λ z. AreAmong z (w.asked ++ k ∷ [])) (append_assoc h.mails w.waits (k ∷ [])) (more_among k (h.mails ++ w.waits) w.asked h.among);
+    all = λ g. ap (λ z. z ++ k ∷ []) (h.all g) ∙ append_assoc h.mails w.waits (k ∷ []);
+  }
 
   asked_served : (place : ℕ) (k : Keyed) (ws : List Serves) → All (HasServed lens) ws → All (HasServed lens) (asked_at place k ws)
   asked_served place k [] h = All-nil (HasServed lens)
@@ -214,6 +247,7 @@ module _ (lens : ℕ → Lens) where
   first_one pace a f = record {
     mails = [];
     came = subst (λ n. ServedCame (lens a.lived.spot.station).out a.script n [] (life_started a.lived.life)) (sym f.number) (subst (λ qs. ServedCame (lens a.lived.spot.station).out a.script 0 [] qs) (sym f.started) ServedCame.none);
+    among = AreAmong.none;
     all = λ g. refl;
   }
 

@@ -14,11 +14,18 @@ pub data ServedCame (room : ℕ) (script : List Plan.Service) : ℕ → List Key
   own : (n m : ℕ) (ks : List Keyed) (qs : List (Service Asked)) (q : Service Asked) → ServedCame room script n ks qs → Comes room script n (Some q) m → ServedCame room script m ks (qs ++ q ∷ [])
   mail : (n : ℕ) (ks : List Keyed) (qs : List (Service Asked)) (k : Keyed) → ServedCame room script n ks qs → ServedCame room script n (ks ++ k ∷ []) (qs ++ Service.Mails (passed k.mail) ∷ [])
 
--- OVER ALL EPOCHS OF ITS LIFE: none of the script is skipped; and of a slave that was never given up the mails that were passed on and those that wait are all
--- that were asked, in order
+-- these are among those, in order, each once
+pub data AreAmong : List Keyed → List Keyed → Type 0 where
+  none : AreAmong [] []
+  takes : (k : Keyed) (ks ls : List Keyed) → AreAmong ks ls → AreAmong (k ∷ ks) (k ∷ ls)
+  skips : (l : Keyed) (ks ls : List Keyed) → AreAmong ks ls → AreAmong ks (l ∷ ls)
+
+-- OVER ALL EPOCHS OF ITS LIFE: none of the script is skipped; the mails that were passed on and those that wait are among those that were asked, in order,
+-- and all of them where the slave was never given up
 pub record HasServed (lens : ℕ → Lens) (w : Serves) : Type 0 where
   pub mails : List Keyed
   pub came : ServedCame (lens w.lead.lived.spot.station).out w.lead.script w.lead.number mails (life_started w.lead.lived.life)
+  pub among : AreAmong (mails ++ w.waits) w.asked
   pub all : w.lead.lived.life.gave ≡ [] → w.asked ≡ mails ++ w.waits
 
 -- nothing came into hand of a slave

@@ -1,5 +1,5 @@
-//! A serving as its master leads it: the lives of its slaves, with mails that are passed on. Definitions and a law, no running code: the function here does
-//! nothing, and its contract states the law.
+//! A serving as its master leads it: the lives of its slaves, with mails that are passed on. Definitions and laws, no running code: the functions here do
+//! nothing, and their contracts state the laws.
 #![tactic(auto)]
 
 ghost use Rattle.std.specs.Prelude.{◌≡◌, ℕ, None, List, All};
@@ -21,7 +21,8 @@ pub fn told_law()
 {}
 
 /// MAILS ARE PASSED ON IN THE ORDER IN WHICH THEY WERE ASKED, each once, and none of a script is skipped for them: over all epochs of each slave's life what came
-/// into hand were the next of its script, packets, and mails, which with those that wait are all that were asked of a slave that was never given up.
+/// into hand were the next of its script, packets, and mails, which with those that wait are among those that were asked of it, in order, and all of them where
+/// the slave was never given up.
 pub fn asked_law()
     ensures { (lens : ℕ → Lens) (recover retry : ℕ) (paces : List ℕ) (first : List Leads) (fs : List Exchanged) (missed : ℕ) (ws : List Serves) → All IsFresh first → IsServedLed lens recover retry (all_serve paces first) fs missed ws → All (HasServed lens) ws }
 {}
