@@ -1,22 +1,21 @@
 -- A slave with nothing to repair, where something was gained just now.
-use Rattle.std.proofs.Common.{◌≡◌, ◌⊎◌, ◌≤◌, ℕ, Bool, true, false, Option, Some, None, List, length, refl, sym, ap, ◌∙◌, subst, arith, if◌then◌else◌}
+use Rattle.std.proofs.Common.{◌≡◌, ℕ, Bool, true, false, Option, Some, None, List, length, refl, sym, ap, ◌∙◌, subst, arith, if◌then◌else◌}
 use Rattle.eager_slaves.specs.Eager.{Remembered}
-use Rattle.eager_slaves.specs.Standing.{Steps, Unvisited, Standing}
+use Rattle.eager_slaves.specs.Standing.{Steps, Standing}
 use Rattle.exchange_model.specs.Exchange.{Exchange, Speech}
 use Rattle.frame_view.specs.View.{Lens}
-use Rattle.idle_slaves.specs.Going.{IsCome, Going}
+use Rattle.idle_slaves.specs.Going.{IsCome}
 use Rattle.idle_slaves.specs.Links.{HasLink}
-use Rattle.idle_slaves.specs.Visited.{IsFor, Shows}
+use Rattle.idle_slaves.specs.Visited.{IsFor}
 use Rattle.idle_slaves.specs.Waiting.{Wanted}
 use Rattle.idle_slaves.proofs.Links.{era_link}
 use Rattle.life_measure.specs.Repairs.{way_of, stand_way, half_way}
 use Rattle.life_model.specs.Lives.{Life, Stand, returns_to_init}
 use Rattle.life_runs.specs.First.{lens_of, spot_of}
-use Rattle.life_runs.specs.Led.{Exchanged, Leads, speech_at}
+use Rattle.life_runs.specs.Led.{Exchanged, Leads}
 use Rattle.link_mails.specs.Body.{Body}
-use Rattle.link_model.specs.Link.{Halves, Link}
+use Rattle.link_model.specs.Link.{Halves}
 use Rattle.link_model.specs.Master.{InState}
-use Rattle.link_model.specs.Slave.{Node as LinkNode, Server as LinkServer}
 use Rattle.master_duty.specs.Reply.{Reply}
 use Rattle.master_hand.specs.Spoken.{Asked}
 use Rattle.plan_met.specs.Met.{slave_at, IsOpenAt}
@@ -25,7 +24,7 @@ use Rattle.plan_ring.specs.Round.{all_seen}
 use Rattle.run_frames.specs.Clocks.{duty_reopens, goes_to_init}
 use Rattle.run_frames.specs.Goes.{HandAt}
 use Rattle.run_frames.specs.Waits.{new_waits}
-use Rattle.segment_model.specs.Slaves.{Serving as LinkServing, Slave, serving}
+use Rattle.segment_model.specs.Slaves.{Slave, serving}
 use Rattle.segment_plan.specs.declared.plan.Scenario.{Scenario}
 use Rattle.segment_plan.specs.declared.service.Service as Plan
 use Rattle.segment_plan.specs.declared.slave.SlaveSpec.{SlaveSpec}

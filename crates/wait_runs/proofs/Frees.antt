@@ -1,9 +1,9 @@
 -- Where nothing is left of an open slave a service might begin, and all is done of it.
-use Rattle.std.proofs.Common.{◌≡◌, ℕ, Bool, true, false, Option, Some, None, List, [], refl, sym, ap, ◌∙◌, subst}
+use Rattle.std.proofs.Common.{◌≡◌, ℕ, Bool, true, Option, Some, None, List, refl, sym, ap, ◌∙◌, subst}
 use Rattle.std.specs.Prelude.{drop, length, slice_get}
-use Rattle.answered_rows.specs.Moments.{NowAnswered, IsFree, HasNothing}
+use Rattle.answered_rows.specs.Moments.{IsFree, HasNothing}
 use Rattle.answered_rows.proofs.Laws as Answered
-use Rattle.eager_slaves.specs.Eager.{Remembered, IsClear, NoneLeft, MayBegin, IsAtEnd}
+use Rattle.eager_slaves.specs.Eager.{Remembered, NoneLeft, MayBegin}
 use Rattle.eager_slaves.specs.Standing.{IsDone}
 use Rattle.exchange_model.specs.Exchange.{Exchange, Speech, plain}
 use Rattle.exchange_model.specs.Rows.{Row, left, answer_after}
@@ -14,10 +14,9 @@ use Rattle.life_model.specs.Lives.{Life, Stand}
 use Rattle.life_runs.specs.First.{lens_of, spot_of}
 use Rattle.life_runs.specs.Led.{Exchanged, Leads, speech_at}
 use Rattle.link_mails.specs.Body.{Body}
-use Rattle.link_model.specs.Link.{Halves}
 use Rattle.master_duty.specs.Reply.{Reply}
-use Rattle.master_hand.specs.Spoken.{Asked, acknowledged}
-use Rattle.named_lives.specs.Alike.{Alike, RowIs, InHandIs}
+use Rattle.master_hand.specs.Spoken.{Asked}
+use Rattle.named_lives.specs.Alike.{Alike, RowIs}
 use Rattle.named_lives.proofs.Alike.{over_same}
 use Rattle.never_waits.specs.Waits.{NeverWaits}
 use Rattle.plan_met.specs.Met.{slave_at, IsOpenAt}

@@ -1,7 +1,7 @@
 -- All slaves of the run by such a frame.
-use Rattle.std.proofs.Common.{◌≡◌, ◌⊎◌, ◌≤◌, ◌<◌, ℕ, zero, suc, ◌+◌, Bool, true, false, Option, Some, None, List, [], ◌∷◌, map, length, refl, sym, ap, ◌∙◌, subst, arith, if◌then◌else◌, inl, inr}
+use Rattle.std.proofs.Common.{◌≡◌, ◌⊎◌, ◌≤◌, ℕ, suc, Bool, true, false, None, List, [], ◌∷◌, map, length, refl, sym, ap, ◌∙◌, subst, arith, if◌then◌else◌, inl, inr}
 use Rattle.std.specs.Prelude.{slice_get, All, ⊤, nat_lt}
-use Rattle.std.proofs.lemmas.Bool.{le-ltb, ltb-false}
+use Rattle.std.proofs.lemmas.Bool.{ltb-false}
 use Rattle.std.proofs.lemmas.List.Elements.{All-head, All-tail}
 use Rattle.datagrams.specs.Datagram as Raw
 use Rattle.eager_slaves.specs.Eager.{Remembered, AllEager, AllRemember, AllUnpaused, AllGetNone}
@@ -27,7 +27,7 @@ use Rattle.plan_ring.specs.Asked.{asked}
 use Rattle.quiet_rings.specs.Hands.{AllHand}
 use Rattle.run_frames.specs.Clocks.{Clocked, gains_all, reopened_all, still_behind}
 use Rattle.run_frames.specs.Goes.{Under, IsUnder, AllUnder, HandAt, back_life, all_back}
-use Rattle.run_frames.specs.Led.{AreLed, under_of, unders}
+use Rattle.run_frames.specs.Led.{AreLed, unders}
 use Rattle.run_frames.specs.Orders.{AllRepaired}
 use Rattle.run_frames.specs.Waits.{Waits, new_waits, all_anew, all_on, SomeWaits}
 use Rattle.segment_model.specs.Slaves.{Datagram, serving}

@@ -1,5 +1,5 @@
 -- One slave of the run by a frame that came back and gained nothing.
-use Rattle.std.proofs.Common.{◌≡◌, ◌⊎◌, ◌≤◌, ℕ, suc, ◌%◌, ◌==◌, Bool, true, false, Option, Some, None, List, [], length, refl, sym, ap, ◌∙◌, subst, if◌then◌else◌, inl, inr}
+use Rattle.std.proofs.Common.{◌≡◌, ◌⊎◌, ◌≤◌, ℕ, suc, ◌%◌, ◌==◌, true, false, Option, Some, None, List, [], refl, sym, ap, ◌∙◌, subst, if◌then◌else◌, inl, inr}
 use Rattle.std.specs.Prelude.{slice_get}
 use Rattle.datagrams.specs.Datagram as Raw
 use Rattle.eager_slaves.specs.Eager.{Remembered, IsClear, NoneLeft, MayBegin, IsAtEnd, IsEager, RemembersOn, IsUnpausedBy, GetsNone}
@@ -18,13 +18,13 @@ use Rattle.idle_slaves.specs.Visited.{LifeSpent}
 use Rattle.life_measure.specs.Gains.{gains}
 use Rattle.life_model.specs.Lives.{Life, Spot, Stand, life_next, life_back, granted}
 use Rattle.life_model.specs.Own.{own}
-use Rattle.life_runs.specs.First.{lens_of, spot_of}
+use Rattle.life_runs.specs.First.{lens_of}
 use Rattle.life_runs.specs.Led.{Exchanged, Leads, Turn, IsTurn, Comes, Took, speech_at, is_passed}
 use Rattle.link_mails.specs.Body.{Body}
 use Rattle.link_model.specs.Master.{InState as HalfState}
 use Rattle.master_duty.specs.Reply.{Reply}
 use Rattle.master_hand.specs.Spoken.{Asked, acknowledged, is_followed}
-use Rattle.named_lives.specs.Alike.{Alike, WishIs}
+use Rattle.named_lives.specs.Alike.{Alike}
 use Rattle.never_waits.specs.Waits.{NeverWaits}
 use Rattle.plan_met.specs.Met.{slave_at, IsOpenAt, IsAt, IsMet}
 use Rattle.plan_ring.specs.Asked.{asked, is_service}

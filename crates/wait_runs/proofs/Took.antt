@@ -1,20 +1,19 @@
 -- What begins is in hand: a state service, or the first mail of a service by mails.
-use Rattle.std.proofs.Common.{◌≡◌, ℕ, suc, ◌+◌, Bool, true, false, Option, Some, None, List, [], ◌∷◌, ◌++◌, length, refl, sym, ap, ◌∙◌, subst, arith, length-append, if◌then◌else◌}
-use Rattle.std.specs.Prelude.{◌&&◌, drop, nat_lt}
+use Rattle.std.proofs.Common.{◌≡◌, ℕ, ◌+◌, Bool, true, false, Option, Some, None, List, [], ◌∷◌, ◌++◌, length, refl, sym, ap, ◌∙◌, subst, arith, length-append, if◌then◌else◌}
+use Rattle.std.specs.Prelude.{◌&&◌, nat_lt}
 use Rattle.exchange_model.specs.Exchange.{Exchange, Speech, IsLawful, given, plain}
-use Rattle.exchange_model.specs.Rows.{Row, begun, left}
+use Rattle.exchange_model.specs.Rows.{Row, begun}
 use Rattle.life_runs.specs.Led.{Comes}
-use Rattle.link_model.specs.Mails.{LinkMail}
 use Rattle.master_hand.specs.Spoken.{Asked, net}
 use Rattle.master_hand.specs.Talk.{asked_of}
 use Rattle.named_lives.specs.Alike.{WishIs}
 use Rattle.never_waits.specs.Waits.{NeverWaits}
 use Rattle.plan_ring.specs.Asked.{is_service}
-use Rattle.segment_model.specs.Seats.{Side, Choice, side_begins, side_holds, side_next, next_mail, is_over}
+use Rattle.segment_model.specs.Seats.{Side, side_begins, side_holds, side_next, next_mail, is_over}
 use Rattle.segment_plan.specs.declared.service.Service as Plan
 use Rattle.slave_parts.specs.of_eoe_model.Client as EoeClient
 use Rattle.state_exchange.specs.Stated.{Service}
-use Rattle.task_model.specs.Accounts.{Account, Duty, Started, Pick, account_begins, account_next, mails_begin, mails_choice, starts, state_begins, is_free, is_acknowledged}
+use Rattle.task_model.specs.Accounts.{Account, Duty, Started, Pick, account_begins, mails_begin, mails_choice, starts, state_begins, is_free, is_acknowledged}
 
 -- a client's first mail
 pub first_mail : {V A M Q R : Type 0} (x : Exchange V A M Q R) → IsLawful x → NeverWaits x → (v : V) (q : Q) → x.ready v ≡ true → x.speech.valid q ≡ true → {X : Type 0} → x.speech.planned q [] ≡ [] → X

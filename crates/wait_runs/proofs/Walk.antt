@@ -1,36 +1,33 @@
 -- Frame by frame.
-use Rattle.std.proofs.Common.{◌≡◌, ◌⊎◌, ◌≤◌, ◌<◌, ℕ, zero, suc, ◌+◌, Bool, true, false, Option, Some, None, List, [], ◌∷◌, ◌++◌, map, length, refl, sym, ap, ◌∙◌, subst, arith, length-append, if◌then◌else◌, inl, inr}
-use Rattle.std.specs.Prelude.{⊤, nat_lt, All}
-use Rattle.std.proofs.lemmas.Bool.{le-ltb, ltb-false, ltb-true}
-use Rattle.datagrams.specs.Frame.{chained}
+use Rattle.std.proofs.Common.{◌≡◌, ◌⊎◌, ◌≤◌, ◌<◌, ℕ, zero, suc, ◌+◌, Bool, true, false, Option, None, List, [], ◌∷◌, ◌++◌, map, length, refl, sym, ap, ◌∙◌, subst, arith, length-append, if◌then◌else◌, inl, inr}
+use Rattle.std.specs.Prelude.{nat_lt}
+use Rattle.std.proofs.lemmas.Bool.{ltb-true}
 use Rattle.eager_slaves.specs.Eager.{Remembered}
 use Rattle.exchange_model.specs.Exchange.{Speech}
 use Rattle.frame_view.specs.Seen.{seen, datagrams_seen}
 use Rattle.frame_view.specs.View.{Lens}
-use Rattle.life_model.specs.Lives.{Spot, Life}
+use Rattle.life_model.specs.Lives.{Spot}
 use Rattle.life_runs.specs.First.{lens_of, first_leads, leads_from}
 use Rattle.life_runs.specs.Led.{Exchanged, Leads, Turn, IsLed, IsLedFrame, speech_at, is_passed, gives_up_at, missed_behind}
 use Rattle.link_mails.specs.Body.{Body}
 use Rattle.master_duty.specs.Reply.{Reply}
 use Rattle.master_hand.specs.Spoken.{Asked, acknowledged, is_followed}
 use Rattle.plan_met.specs.Met.{AllOpenAt, AllMet}
-use Rattle.plan_ring.specs.Lives.{IsKnown, AreLived}
+use Rattle.plan_ring.specs.Lives.{AreLived}
 use Rattle.plan_ring.specs.Round.{ring_of, ring_after, WentRound, AllRound}
 use Rattle.plan_ring.proofs.Lives.{front_round, last_round}
 use Rattle.quiet_rings.specs.Hands.{AllHand}
 use Rattle.quiet_rings.proofs.Hands.{hands_back, hands_lost}
 use Rattle.quiet_rings.proofs.Repairs.{all_repaired, none_repaired}
-use Rattle.run_frames.specs.Clocks.{Clocked, repair_of, still_behind, reopened_all, gains_all}
+use Rattle.run_frames.specs.Clocks.{repair_of, still_behind, reopened_all, gains_all}
 use Rattle.run_frames.specs.Goes.{Under, AllUnder, AllClocked, all_back, all_lost}
 use Rattle.run_frames.specs.Led.{AreLed, first_clocked, unders, behind_back, behind_lost, leads_behind, still_led, waits_led}
-use Rattle.run_frames.specs.Orders.{AllRepaired, opened_on}
+use Rattle.run_frames.specs.Orders.{opened_on}
 use Rattle.run_frames.specs.Runs.{Progress}
 use Rattle.run_frames.specs.Toured.{IsToured, WaitIn}
-use Rattle.run_frames.specs.Waits.{Waits, new_waits, all_anew, all_on, waits_behind, SomeWaits}
+use Rattle.run_frames.specs.Waits.{new_waits, all_anew, all_on, waits_behind, SomeWaits}
 use Rattle.run_frames.proofs.Leading.{SeenIs, led_view, all_under, all_led_lost, all_led_back}
-use Rattle.run_frames.proofs.Tallying.{first_of_plan}
 use Rattle.segment_model.specs.Slaves.{Datagram}
-use Rattle.segment_plan.specs.Sound as Plan
 use Rattle.segment_plan.specs.declared.plan.Scenario.{Scenario}
 use Rattle.segment_plan.specs.declared.service.Service as Script
 use Rattle.segment_plan.specs.declared.slave.SlaveSpec.{SlaveSpec}

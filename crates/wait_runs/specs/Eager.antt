@@ -3,7 +3,7 @@ use Rattle.std.specs.Prelude.{◌≡◌, ◌⊎◌, ℕ, suc, Option, None, List
 use Rattle.eager_slaves.specs.Eager.{Remembered, IsClear, MayBegin, IsAtEnd, AllEager, AllRemember, AllUnpaused, AllGetNone}
 use Rattle.frame_view.specs.Seen.{seen}
 use Rattle.frame_view.specs.View.{Lens}
-use Rattle.life_model.specs.Lives.{Life, Stand}
+use Rattle.life_model.specs.Lives.{Stand}
 use Rattle.life_runs.specs.First.{lens_of, first_leads}
 use Rattle.life_runs.specs.Led.{Exchanged, Leads, Turn, speech_at}
 use Rattle.link_mails.specs.Body.{Body}

@@ -1,4 +1,3 @@
-use Rattle.life_runs.specs.First.{first_leads}
 use Rattle.run_frames.proofs.Tallying.{first_of_plan}
 use Rattle.segment_plan.specs.Bound.{slowest}
 use Rattle.wait_runs.proofs.Lists.{never_all}
