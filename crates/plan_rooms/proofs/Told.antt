@@ -58,14 +58,14 @@ has_room plan is fits = record { rows = rows_may plan.slaves (length plan.slaves
 module _ (slaves : List SlaveSpec) (place : ℕ) (s : SlaveSpec) (at : slice_get slaves place ≡ Some s) where
   pub script_may : (rows : List (ℕ × Plan.Service)) → All (RowMayBegin slaves) rows → (k : ℕ) (service : Plan.Service) → slice_get (script_for place rows) k ≡ Some service → MayBegin s.out_len service
   script_may [] all k service e = absurd (cc)
-  script_may (row ∷ rows) all k service e = go (row.0 == place) refl k e
+  script_may (row ∷ rows) all k service e = go (row.0 == place) refl k e (λ j f. script_may rows (All-tail (RowMayBegin slaves) row rows all) j service f)
     where
       here : (row.0 == place) ≡ true → MayBegin s.out_len row.1
       here is =
           let found : slice_get slaves row.0 ≡ Some s = ap (slice_get slaves) (eqb-true row.0 place is) ∙ at in
           subst (λ (o : Option SlaveSpec). IfSome o (λ slave. MayBegin slave.out_len row.1)) found (All-head (RowMayBegin slaves) row rows all)
 
-      go : (b : Bool) → (row.0 == place) ≡ b → (k : ℕ) → slice_get (if b then row.1 ∷ script_for place rows else script_for place rows) k ≡ Some service → MayBegin s.out_len service
-      go true is zero e = let same : row.1 ≡ service = cc in subst (λ q. MayBegin s.out_len q) same (here is)
-      go true is (suc k) e = script_may rows (All-tail (RowMayBegin slaves) row rows all) k service e
-      go false is k e = script_may rows (All-tail (RowMayBegin slaves) row rows all) k service e
+      go : (b : Bool) → (row.0 == place) ≡ b → (k : ℕ) → slice_get (if b then row.1 ∷ script_for place rows else script_for place rows) k ≡ Some service → ((j : ℕ) → slice_get (script_for place rows) j ≡ Some service → MayBegin s.out_len service) → MayBegin s.out_len service
+      go true is zero e later = let same : row.1 ≡ service = cc in subst (λ q. MayBegin s.out_len q) same (here is)
+      go true is (suc k) e later = later k e
+      go false is k e later = later k e

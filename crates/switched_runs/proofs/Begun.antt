@@ -8,7 +8,7 @@ use Rattle.arrayvec.specs.ArrayVec.{ArrayVec}
 use Rattle.book_model.specs.Script.{life_started}
 use Rattle.datagrams.specs.Datagram as Raw
 use Rattle.eoe_model.specs.Client as EoeClient
-use Rattle.eoe_switch.specs.Switch.{Switched}
+use Rattle.eoe_switch.specs.Switch.{Switched, switched}
 use Rattle.eoe_switch.specs.declared.switching.SwitchEvent.{SwitchEvent}
 use Rattle.eoe_switch.specs.declared.switching.SwitchEvent.TheVariants.{Arrive, Begun, Down}
 use Rattle.frame_view.specs.View.{Lens}
@@ -59,7 +59,7 @@ one_weight n (Some (Service.State target)) = refl
 weights_append : (n : ℕ) (xs ys : List (Service Asked)) → weights n (xs ++ ys) ≡ weights n xs + weights n ys
 weights_append n xs ys = ap (sum_by (weight n)) (filter-append is_packet xs ys) ∙ sum_by-append (weight n) (filter is_packet xs) (filter is_packet ys)
 
-module _ {lens : ℕ → Lens} {recover retry : ℕ} where
+module _ (lens : ℕ → Lens) (recover retry : ℕ) where
   started_more : (gives : Bool) (made : ℕ) (f : Exchanged) (ds : List Raw.Datagram) (as' : List Leads) (us : List Turn) → AllTurn lens made ds as' us → (k : ℕ) → started_at (map (led_behind lens recover retry gives made f) us) k ≡ started_at as' k ++ listed (begun_of us k)
   started_more gives made f ds [] [] y k = refl
   started_more gives made f ds [] (u ∷ us) y k = absurd y
@@ -77,16 +77,16 @@ module _ {lens : ℕ → Lens} {recover retry : ℕ} where
       ∙ ap (weights n) (sym (started_more (gives_up_at lens recover retry missed) (length fs) f frame.datagrams as' us frame.each k))
 
 -- ---- a slave without a port
-no_port : Option ℕ → ℕ
+abbrev no_port : Option ℕ → ℕ
 no_port None = 1
 no_port (Some port) = 0
 
-portless : List Taken → ℕ
+abbrev portless : List Taken → ℕ
 portless [] = 0
 portless (t ∷ ts) = no_port t.port + portless ts
 
 portless_append : (xs ys : List Taken) → portless (xs ++ ys) ≡ portless xs + portless ys
-portless_append [] ys = refl
+portless_append [] ys = omega arith
 portless_append (x ∷ xs) ys = omega (arith, portless_append xs ys)
 
 taken_ported : (s : Switched) (es : List SwitchEvent) → portless (taken_in s es) ≡ 0
@@ -112,18 +112,18 @@ one_portless (Some (Service.State target)) = refl
 -- what of it began, of the slaves that were visited
 of_visited : (ports : List (Option ℕ)) (begun : ℕ → Option (Service Asked)) (k : ℕ) → port_by (slice_get ports k) ≡ None → (visited : List ℕ) → is_in k visited ≡ true → length (packet_begun (begun k)) ≤ portless (begins_in ports begun visited)
 of_visited ports begun k none [] e = absurd (let bad : false ≡ true = e in cc)
-of_visited ports begun k none (p ∷ ps) e = go (k == p) refl
+of_visited ports begun k none (p ∷ ps) e = go (k == p) refl (λ f. of_visited ports begun k none ps f)
   where
     here : List Taken
     here = begins_by (port_by (slice_get ports p)) (begun p)
 
-    go : (b : Bool) → (k == p) ≡ b → length (packet_begun (begun k)) ≤ portless (here ++ begins_in ports begun ps)
-    go true f =
+    go : (b : Bool) → (k == p) ≡ b → (is_in k ps ≡ true → length (packet_begun (begun k)) ≤ portless (begins_in ports begun ps)) → length (packet_begun (begun k)) ≤ portless (here ++ begins_in ports begun ps)
+    go true f later =
         let same : k ≡ p = eqb-true k p f in
         let is : portless here ≡ length (packet_begun (begun k)) = ap (λ q. portless (begins_by (port_by (slice_get ports q)) (begun q))) (sym same) ∙ ap (λ (o : Option ℕ). portless (begins_by o (begun k))) none ∙ one_portless (begun k) in
         omega (arith, portless_append here (begins_in ports begun ps), is)
-    go false f =
-        let rest = of_visited ports begun k none ps (sym (ap (λ (b : Bool). if b then true else is_in k ps) f) ∙ e) in
+    go false f later =
+        let rest = later (sym (ap (λ (b : Bool). if b then true else is_in k ps) f) ∙ e) in
         omega (arith, portless_append here (begins_in ports begun ps), rest)
 
 nothing : (xs : List (ArrayVec ℕ)) → length xs ≡ 0 → xs ≡ []
@@ -138,6 +138,6 @@ none_begun ports many k none _ _ _ (IsLed.on fs missed as' f us led frame) es on
     now : (b : Bool) → is_in k on.visited ≡ b → packet_begun (begun_of us k) ≡ []
     now true e =
         let few = of_visited ports (begun_of us) k none on.visited e in
-        let zero_ = taken_ported _ on.making in
+        let zero_ = taken_ported (switched many on.old).switch on.making in
         nothing (packet_begun (begun_of us k)) (omega (arith, few, zero_, ap portless on.taken))
     now false e = nothing (packet_begun (begun_of us k)) (sym (one_portless (begun_of us k)) ∙ ap portless (on.others k None e))

@@ -3,6 +3,7 @@ use Rattle.std.proofs.Common.{◌≡◌, ℕ, zero, suc, ◌+◌, ◌-◌, ◌*�
 use Rattle.std.specs.Prelude.{count_by, slice_get}
 use Rattle.std.proofs.lemmas.Bool.{eqb-true, eqb-false}
 use Rattle.std.proofs.lemmas.List.Elements.{All-head, All-tail}
+use Rattle.std.proofs.lemmas.List.Sums.{sum_by-cons}
 use Rattle.std.proofs.lemmas.Nat.{mul-le}
 use Rattle.arrayvec.specs.ArrayVec.{ArrayVec}
 use Rattle.eoe_switch.specs.declared.switching.SwitchEvent.{SwitchEvent}
@@ -20,31 +21,32 @@ ports_sum f last [] = 0
 ports_sum f last (s ∷ ss) = if s.eoe then f (last + 1) + ports_sum f (last + 1) ss else ports_sum f last ss
 
 pub eoe_count : (s : SlaveSpec) (ss : List SlaveSpec) → count_by (λ (s : SlaveSpec). s.eoe) (s ∷ ss) ≡ (if s.eoe then 1 else 0) + count_by (λ (s : SlaveSpec). s.eoe) ss
-eoe_count s ss = go s.eoe refl
+eoe_count s ss = sum_by-cons (λ (s : SlaveSpec). cond s.eoe 1 0) s ss ∙ go s.eoe
   where
-    go : (b : Bool) → s.eoe ≡ b → count_by (λ (s : SlaveSpec). s.eoe) (s ∷ ss) ≡ (if b then 1 else 0) + count_by (λ (s : SlaveSpec). s.eoe) ss
-    go true e = rw e (omega arith)
-    go false e = rw e (omega arith)
+    go : (b : Bool) → cond b 1 0 + count_by (λ (s : SlaveSpec). s.eoe) ss ≡ (if b then 1 else 0) + count_by (λ (s : SlaveSpec). s.eoe) ss
+    go true = refl
+    go false = refl
 
 sums_add : (f g h : ℕ → ℕ) → ((p : ℕ) → f p ≡ g p + h p) → (last : ℕ) (ss : List SlaveSpec) → ports_sum f last ss ≡ ports_sum g last ss + ports_sum h last ss
-sums_add f g h each last [] = refl
-sums_add f g h each last (s ∷ ss) = go s.eoe
+sums_add f g h each last [] = omega arith
+sums_add f g h each last (s ∷ ss) = go s.eoe (sums_add f g h each (last + 1) ss) (sums_add f g h each last ss)
   where
-    go : (b : Bool) → (if b then f (last + 1) + ports_sum f (last + 1) ss else ports_sum f last ss)
+    go : (b : Bool) → ports_sum f (last + 1) ss ≡ ports_sum g (last + 1) ss + ports_sum h (last + 1) ss → ports_sum f last ss ≡ ports_sum g last ss + ports_sum h last ss →
+        (if b then f (last + 1) + ports_sum f (last + 1) ss else ports_sum f last ss)
         ≡ (if b then g (last + 1) + ports_sum g (last + 1) ss else ports_sum g last ss) + (if b then h (last + 1) + ports_sum h (last + 1) ss else ports_sum h last ss)
-    go true = omega (arith, each (last + 1), sums_add f g h each (last + 1) ss)
-    go false = sums_add f g h each last ss
+    go true more same = omega (arith, each (last + 1), more)
+    go false more same = same
 
 -- ---- what was forwarded
-first_ports : ℕ → ℕ → List (List (ArrayVec ℕ)) → ℕ
+abbrev first_ports : ℕ → ℕ → List (List (ArrayVec ℕ)) → ℕ
 first_ports n zero fs = 0
 first_ports n (suc k) [] = 0
 first_ports n (suc k) (f ∷ fs) = queue_work n f + first_ports n k fs
 
 first_more : (n k : ℕ) (fs : List (List (ArrayVec ℕ))) → first_ports n (suc k) fs ≡ first_ports n k fs + queue_work n (forwarded_to k fs)
-first_more n zero [] = refl
+first_more n zero [] = omega arith
 first_more n zero (f ∷ fs) = omega arith
-first_more n (suc k) [] = refl
+first_more n (suc k) [] = omega arith
 first_more n (suc k) (f ∷ fs) = omega (arith, first_more n k fs)
 
 first_few : (n k : ℕ) (fs : List (List (ArrayVec ℕ))) → first_ports n k fs ≤ forwards_work n fs
@@ -54,19 +56,24 @@ first_few n (suc k) (f ∷ fs) = omega (arith, first_few n k fs)
 
 sum_first : (n : ℕ) (fs : List (List (ArrayVec ℕ))) (last : ℕ) (ss : List SlaveSpec) → first_ports n (suc last) fs + ports_sum (λ p. queue_work n (forwarded_to p fs)) last ss ≤ forwards_work n fs
 sum_first n fs last [] = omega (arith, first_few n (suc last) fs)
-sum_first n fs last (s ∷ ss) = go s.eoe
+sum_first n fs last (s ∷ ss) = go s.eoe (sum_first n fs (suc last) ss) (sum_first n fs last ss)
   where
+    g : ℕ → ℕ
+    g p = queue_work n (forwarded_to p fs)
+
     next : suc last ≡ last + 1
     next = omega arith
 
-    go : (b : Bool) → first_ports n (suc last) fs + (if b then queue_work n (forwarded_to (last + 1) fs) + ports_sum (λ p. queue_work n (forwarded_to p fs)) (last + 1) ss else ports_sum (λ p. queue_work n (forwarded_to p fs)) last ss) ≤ forwards_work n fs
-    go true =
-        let rest = subst (λ k. first_ports n (suc k) fs + ports_sum (λ p. queue_work n (forwarded_to p fs)) k ss ≤ forwards_work n fs) next (sum_first n fs (suc last) ss) in
-        let more = first_more n (suc last) fs in
-        let same = ap (λ k. queue_work n (forwarded_to k fs)) next in
-        let again = ap (λ k. first_ports n (suc k) fs) next in
-        omega (arith, rest, more, same, again)
-    go false = sum_first n fs last ss
+    summed : (a b c d e f : ℕ) → a + b ≤ f → a ≡ c + d → c + (d + b) ≤ f
+    summed a b c d e f l is = omega (arith, l, is)
+
+    go : (b : Bool) → first_ports n (suc (suc last)) fs + ports_sum g (suc last) ss ≤ forwards_work n fs → first_ports n (suc last) fs + ports_sum g last ss ≤ forwards_work n fs →
+        first_ports n (suc last) fs + (if b then g (last + 1) + ports_sum g (last + 1) ss else ports_sum g last ss) ≤ forwards_work n fs
+    go true more same =
+        let rest = subst (λ k. first_ports n (suc k) fs + ports_sum g k ss ≤ forwards_work n fs) next more in
+        let one = subst (λ k. first_ports n (suc k) fs ≡ first_ports n (suc last) fs + g k) next (first_more n (suc last) fs) in
+        summed (first_ports n (suc (last + 1)) fs) (ports_sum g (last + 1) ss) (first_ports n (suc last) fs) (g (last + 1)) 0 (forwards_work n fs) rest one
+    go false more same = same
 
 pub forwards_within : (n : ℕ) (fs : List (List (ArrayVec ℕ))) (ss : List SlaveSpec) → ports_sum (λ p. queue_work n (forwarded_to p fs)) 0 ss ≤ slaves_work n fs
 forwards_within n [] ss = omega (arith, sum_first n [] 0 ss)
@@ -74,7 +81,7 @@ forwards_within n (host ∷ fs) ss = omega (arith, sum_first n (host ∷ fs) 0 s
 
 -- ---- what came in
 queue_both : (n : ℕ) (xs ys : List (ArrayVec ℕ)) → queue_work n (xs ++ ys) ≡ queue_work n xs + queue_work n ys
-queue_both n [] ys = refl
+queue_both n [] ys = omega arith
 queue_both n (x ∷ xs) ys = omega (arith, queue_both n xs ys)
 
 pub queue_append : (n : ℕ) (xs ys : List (ArrayVec ℕ)) → queue_work n (xs ++ ys) ≡ queue_work n xs + queue_work n ys
@@ -90,7 +97,7 @@ one_at n from packet last [] l m = absurd (empty last from l m)
   where
     empty : (last from : ℕ) → last < from → from < last + 1 + 0 → ⊥
     empty last from l m = omega (arith, l, m)
-one_at n from packet last (s ∷ ss) l m = go s.eoe refl
+one_at n from packet last (s ∷ ss) l m = go s.eoe refl (λ l' m'. one_at n from packet (last + 1) ss l' m') (λ m'. one_at n from packet last ss l m')
   where
     w : ℕ
     w = waiting_work n packet.items
@@ -116,14 +123,20 @@ one_at n from packet last (s ∷ ss) l m = go s.eoe refl
     count : (e : Bool) → s.eoe ≡ e → count_by (λ (s : SlaveSpec). s.eoe) (s ∷ ss) ≡ (if e then 1 else 0) + count_by (λ (s : SlaveSpec). s.eoe) ss
     count e is = eoe_count s ss ∙ ap (λ (b : Bool). (if b then 1 else 0) + count_by (λ (s : SlaveSpec). s.eoe) ss) is
 
-    here : (b : Bool) → s.eoe ≡ true → (from == last + 1) ≡ b → w ≤ f (last + 1) + ports_sum f (last + 1) ss
-    here true is e = less w (f (last + 1)) (ports_sum f (last + 1) ss) (sym (ap (λ (b : Bool). queue_work n (if b then packet ∷ [] else [])) e))
-    here false is e =
-        more w (f (last + 1)) (ports_sum f (last + 1) ss) (one_at n from packet (last + 1) ss (beyond from last l (eqb-false from (last + 1) e)) (within from last (count_by (λ (s : SlaveSpec). s.eoe) ss) (count_by (λ (s : SlaveSpec). s.eoe) (s ∷ ss)) m (count true is)))
+    After : Type 0
+    After = last + 1 < from → from < last + 1 + 1 + count_by (λ (s : SlaveSpec). s.eoe) ss → w ≤ ports_sum f (last + 1) ss
 
-    go : (b : Bool) → s.eoe ≡ b → w ≤ (if b then f (last + 1) + ports_sum f (last + 1) ss else ports_sum f last ss)
-    go true e = here (from == last + 1) e refl
-    go false e = one_at n from packet last ss l (below from last (count_by (λ (s : SlaveSpec). s.eoe) ss) (count_by (λ (s : SlaveSpec). s.eoe) (s ∷ ss)) m (count false e))
+    Same : Type 0
+    Same = from < last + 1 + count_by (λ (s : SlaveSpec). s.eoe) ss → w ≤ ports_sum f last ss
+
+    here : (b : Bool) → s.eoe ≡ true → (from == last + 1) ≡ b → After → w ≤ f (last + 1) + ports_sum f (last + 1) ss
+    here true is e after = less w (f (last + 1)) (ports_sum f (last + 1) ss) (sym (ap (λ (b : Bool). queue_work n (if b then packet ∷ [] else [])) e))
+    here false is e after =
+        more w (f (last + 1)) (ports_sum f (last + 1) ss) (after (beyond from last l (eqb-false from (last + 1) e)) (within from last (count_by (λ (s : SlaveSpec). s.eoe) ss) (count_by (λ (s : SlaveSpec). s.eoe) (s ∷ ss)) m (count true is)))
+
+    go : (b : Bool) → s.eoe ≡ b → After → Same → w ≤ (if b then f (last + 1) + ports_sum f (last + 1) ss else ports_sum f last ss)
+    go true e after same = here (from == last + 1) e refl after
+    go false e after same = same (below from last (count_by (λ (s : SlaveSpec). s.eoe) ss) (count_by (λ (s : SlaveSpec). s.eoe) (s ∷ ss)) m (count false e))
 
 some_port : (from : ℕ) → (from == 0) ≡ false → 1 ≤ from
 some_port zero e = absurd (cc)

@@ -63,7 +63,7 @@ linear : (p me f u ma t h d hk dk w : ℕ) → p + me ≤ f → f ≤ u + ma →
 linear p me f u ma t h d hk dk w one two three whole host down = omega (arith, one, two, three, whole, host, down)
 
 at_least : (h m : ℕ) → h ≤ h * (suc m + 1)
-at_least h m = mul-le h 1 h (suc m + 1) (omega arith) (omega arith)
+at_least h m = omega (arith, mul-le h 1 h (suc m + 1) (omega arith) (omega arith))
 
 spread_out : (m e t : ℕ) → m * (e + t) ≡ m * e + m * t
 spread_out m e t = omega arith
@@ -76,19 +76,14 @@ square_of m p e f a h d one two three =
     let third : m * a ≤ m * (e + (suc m + 1) * d) = mul-le m a m (e + (suc m + 1) * d) (omega arith) three in
     let spread = spread_out m e ((suc m + 1) * d) in
     linear p (m * e) f (suc m * (h * (suc m + 1))) (m * a) (m * ((suc m + 1) * d)) h d (h * (suc m + 1)) (d * (suc m + 1)) ((h + d) * ((suc m + 1) * (suc m + 1)))
-    one two (le-is third spread) (whole_square m h d) (at_least h m) (at_least d m)
-  where
-    le-is : {a b c : ℕ} → a ≤ b → b ≡ c → a ≤ c
-    le-is l e = subst (λ z. _ ≤ z) e l
-
-square : (n p e f a h d : ℕ) → 1 ≤ n → p + (n - 1) * e ≤ f → f ≤ n * (h * (n + 1)) + (n - 1) * a → a ≤ e + (n + 1) * d → (h + d) + p ≤ (h + d) * ((n + 1) * (n + 1))
-square zero p e f a h d some one two three = absurd (omega (arith, some))
-square (suc m) p e f a h d some one two three =
-    let k : suc m - 1 ≡ m = omega arith in
-    square_of m p e f a h d (subst (λ z. p + z * e ≤ f) k one) (subst (λ z. f ≤ suc m * (h * (suc m + 1)) + z * a) k two) three
+    one two (subst (λ z. m * a ≤ z) spread third) (whole_square m h d) (at_least h m) (at_least d m)
 
 -- what the laws say of a run
-module _ (plan : Scenario) (fs : List Exchanged) (missed : ℕ) (leads : List Leads) (led : IsLed (lens_of plan.slaves) plan.recover plan.retry (first_leads plan) fs missed leads) (es : List SwitchEvent) (n : ℕ) where
+module _ (plan : Scenario) (fs : List Exchanged) (missed : ℕ) (leads : List Leads) (led : IsLed (lens_of plan.slaves) plan.recover plan.retry (first_leads plan) fs missed leads) (es : List SwitchEvent) (m : ℕ) where
+  -- so many slaves
+  abbrev pub n : ℕ
+  n = suc m
+
   abbrev many : ℕ
   many = ports_of plan.slaves
 
@@ -103,7 +98,7 @@ module _ (plan : Scenario) (fs : List Exchanged) (missed : ℕ) (leads : List Le
     pub within : many ≤ n + 1 → AllComeAt many es → slaves_work n (switched many es).forwards ≤ entries_work n es
     pub echo : (mac : List ℕ) → length mac ≡ 6 → Echoes mac
 
-  module _ (laws : Laws) (some : 1 ≤ n) (least : length plan.slaves ≤ n) where
+  module _ (laws : Laws) (least : length plan.slaves ≤ n) where
     abbrev pub forwards_at : ℕ → ℕ
     forwards_at p = queue_work n (forwarded_to p (switched many es).forwards)
 
@@ -117,11 +112,11 @@ module _ (plan : Scenario) (fs : List Exchanged) (missed : ℕ) (leads : List Le
 
     -- what came into hand of the slave at a place
     weighed : (k : ℕ) → queue_work n (Over.packets_begun led k) ≡ weights n (started_at leads k)
-    weighed k = begun_weights n (first_leads plan) (nothing_first 0 plan.slaves) fs missed leads led k
+    weighed k = begun_weights (lens_of plan.slaves) plan.recover plan.retry n (first_leads plan) (nothing_first 0 plan.slaves) fs missed leads led k
 
     -- a slave with a port
     pub record With (s : SlaveSpec) (a : Leads) (port : ℕ) (sent : ℕ) : Type 0 where
-      pub begun : begun_most (asked_most (profile_of s) (shape_of (core_of s))) (filter is_packet (life_started a.lived.life)) + (n - 1) * sent ≤ forwards_at port
+      pub begun : begun_most (asked_most (profile_of s) (shape_of (core_of s))) (filter is_packet (life_started a.lived.life)) + m * sent ≤ forwards_at port
       pub came : come_in_at port ≤ sent + (n + 1) * sum_by entering (take a.number a.script)
 
     -- it has this place, its life and its packets
@@ -136,18 +131,18 @@ module _ (plan : Scenario) (fs : List Exchanged) (missed : ℕ) (leads : List Le
       abbrev law : Echoes (profile_of s).mac
       law = laws.echo s.mac x.mac
 
-      abbrev sent : ℕ
-      sent = echoes n (profile_of s) law (life_started a.lived.life)
+      abbrev sent_back : ℕ
+      sent_back = echoes n (profile_of s) law (life_started a.lived.life)
 
       abbrev count : ℕ
       count = begun_most (asked_most (profile_of s) (shape_of (core_of s))) (filter is_packet (life_started a.lived.life))
 
-      weigh : count + (n - 1) * sent ≤ queue_work n (Over.packets_begun led place)
+      weigh : count + m * sent_back ≤ queue_work n (Over.packets_begun led place)
       weigh =
-          let took = packets_weigh n (profile_of s) law (shape_of (core_of s)) some (life_started a.lived.life) in
-          omega (arith, took, weighed place, ap (weights n) x.started)
+          let took = packets_weigh n (profile_of s) law (shape_of (core_of s)) m refl (life_started a.lived.life) in
+          subst (λ z. count + m * sent_back ≤ z) (sym (weighed place ∙ ap (weights n) x.started)) took
 
-      with_port : (port : ℕ) → port_by (slice_get ports place) ≡ Some port → port < many → With s a port sent
+      with_port : (port : ℕ) → port_by (slice_get ports place) ≡ Some port → port < many → With s a port sent_back
       with_port port has near =
           let own = laws.own place port has in
           let first = laws.forwarded place port own near in
@@ -155,18 +150,31 @@ module _ (plan : Scenario) (fs : List Exchanged) (missed : ℕ) (leads : List Le
           let came = ap (queue_work n) (laws.arrivals place port own ∙ ap long_ones x.joined) in
           let sends = all_send n (profile_of s) law (lens_of plan.slaves s.station).out (take a.number (script_for place plan.services)) (life_started a.lived.life) x.come.firsts.those in
           let scripts : (n + 1) * sum_by entering (take a.number (script_for place plan.services)) ≡ (n + 1) * sum_by entering (take a.number a.script) = ap (λ ts. (n + 1) * sum_by entering (take a.number ts)) (sym x.come.script) in
-          record { begun = omega (arith, weigh, front); came = omega (arith, came, long_less n j.packets, x.sends, sends, scripts) }
+          record {
+            begun = first_part (count + m * sent_back) (queue_work n (Over.packets_begun led place)) (queue_work n first.0) (forwards_at port) weigh front;
+            came = all_of (come_in_at port) (queue_work n (long_ones j.packets)) (sum_by (waiting_work n) j.packets) (all_most (waiting_work n) (profile_of s) (life_started a.lived.life)) sent_back
+                ((n + 1) * sum_by entering (take a.number (script_for place plan.services))) ((n + 1) * sum_by entering (take a.number a.script)) came (long_less n j.packets) x.sends sends scripts;
+          }
+        where
+          first_part : (a b c d : ℕ) → a ≤ b → d ≡ b + c → a ≤ d
+          first_part a b c d l e = omega (arith, l, e)
+
+          all_of : (a b c d s e f : ℕ) → a ≡ b → b ≤ c → c ≤ d → d ≤ s + e → e ≡ f → a ≤ s + f
+          all_of a b c d s e f g h i j k = omega (arith, g, h, i, j, k)
 
       -- one without a port: no packet came into hand
       without : port_by (slice_get ports place) ≡ None → count ≡ 0
       without none =
           let nothing = none_begun ports many place none fs missed leads led es laws.begun in
-          omega (arith, weigh, ap (queue_work n) nothing)
+          none_of count (m * sent_back) (queue_work n (Over.packets_begun led place)) weigh (ap (queue_work n) nothing)
+        where
+          none_of : (a b c : ℕ) → a + b ≤ c → c ≡ 0 → a ≡ 0
+          none_of a b c l e = omega (arith, l, e)
 
     -- ---- ALL SLAVES, from a place on
     pub record Sums (last : ℕ) (ss : List SlaveSpec) (as' : List Leads) : Type 0 where
       pub sent : ℕ
-      pub begun : packets_begun ss as' + (n - 1) * sent ≤ ports_sum forwards_at last ss
+      pub begun : packets_begun ss as' + m * sent ≤ ports_sum forwards_at last ss
       pub came : ports_sum come_in_at last ss ≤ sent + (n + 1) * cuts_begun ss as'
 
     abbrev Behind : ℕ → ℕ → List SlaveSpec → List Leads → List Joined → Type 0
@@ -180,19 +188,41 @@ module _ (plan : Scenario) (fs : List Exchanged) (missed : ℕ) (leads : List Le
         next : {X : Type 0} (i : ℕ) (f : ℕ → X) → f (suc place + i) ≡ f (place + suc i)
         next i f = let same : suc place + i ≡ place + suc i = omega arith in ap f same
 
-    parted_sum : (m a b : ℕ) → m * (a + b) ≡ m * a + m * b
-    parted_sum m a b = omega arith
+    first_sum : (k a b c s t f g h : ℕ) → a + k * s ≤ f → b + k * t ≤ g → h ≡ f + g → (a + b) + k * (s + t) ≤ h
+    first_sum k a b c s t f g h l r e =
+        let spread : k * (s + t) ≡ k * s + k * t = omega arith in
+        omega (arith, l, r, e, spread)
+
+    second_sum : (k x y z s t a b : ℕ) → x ≤ s + k * a → y ≤ t + k * b → z ≡ x + y → z ≤ (s + t) + k * (a + b)
+    second_sum k x y z s t a b l r e =
+        let spread : k * (a + b) ≡ k * a + k * b = omega arith in
+        omega (arith, l, r, e, spread)
+
+    no_begun : (a b k t f g : ℕ) → a ≡ 0 → b + k * t ≤ f → g ≡ f → (a + b) + k * t ≤ g
+    no_begun a b k t f g e l i = omega (arith, e, l, i)
+
+    no_come : (y z t k a b : ℕ) → y ≤ t + k * b → z ≡ y → z ≤ t + k * (a + b)
+    no_come y z t k a b l e =
+        let spread : k * (a + b) ≡ k * a + k * b = omega arith in
+        omega (arith, l, e, spread)
+
+    zeros : (k : ℕ) → 0 + k * 0 ≤ 0
+    zeros k = omega arith
+
+    roomy : (last c d e many : ℕ) → last + 1 + d ≤ many → d ≡ e + c → e ≡ 1 → (last + 1 + 1 + c ≤ many) × (last + 1 < many)
+    roomy last c d e many l f g = (omega (arith, l, f, g), omega (arith, l, f, g))
+
+    roomy_on : (last c d e many : ℕ) → last + 1 + d ≤ many → d ≡ e + c → e ≡ 0 → last + 1 + c ≤ many
+    roomy_on last c d e many l f g = omega (arith, l, f, g)
 
     sums : (place last : ℕ) (ss : List SlaveSpec) (as' : List Leads) (js : List Joined) → All (λ (s : SlaveSpec). length s.mac ≡ 6) ss → AllCome plan place ss as' → AllSend (waiting_work n) ss as' js → last + 1 + count_by (λ (s : SlaveSpec). s.eoe) ss ≤ many → Behind place last ss as' js → Sums last ss as'
-    sums place last [] [] [] macs come sends room b = record { sent = 0; begun = zeros (n - 1); came = omega arith }
-      where
-        zeros : (m : ℕ) → 0 + m * 0 ≤ 0
-        zeros m = omega arith
+    sums place last [] [] [] macs come sends room b = record { sent = 0; begun = zeros m; came = omega arith }
     sums place last [] [] (j ∷ js) macs come sends room b = absurd sends
     sums place last [] (a ∷ as') js macs come sends room b = absurd come
     sums place last (s ∷ ss) [] js macs come sends room b = absurd come
     sums place last (s ∷ ss) (a ∷ as') [] macs come sends room b = absurd sends
-    sums place last (s ∷ ss) (a ∷ as') (j ∷ js) macs come sends room b = go s.eoe refl
+    sums place last (s ∷ ss) (a ∷ as') (j ∷ js) macs come sends room b =
+        go s.eoe refl (λ later less behind. sums (suc place) later ss as' js (All-tail (λ (s : SlaveSpec). length s.mac ≡ 6) s ss macs) come.1 sends.1 less behind)
       where
         here : {X : Type 0} (f : ℕ → X) → f place ≡ f (place + 0)
         here f = let same : place ≡ place + 0 = omega arith in ap f same
@@ -209,37 +239,41 @@ module _ (plan : Scenario) (fs : List Exchanged) (missed : ℕ) (leads : List Le
         at : (e : Bool) → s.eoe ≡ e → port_by (slice_get ports place) ≡ port_where e last
         at e is = ap port_by (here (λ m. slice_get ports m) ∙ b.0 0) ∙ ap (λ (z : Bool). port_where z last) is
 
-        rest : (e : Bool) → s.eoe ≡ e → last_where e last + 1 + count_by (λ (s : SlaveSpec). s.eoe) ss ≤ many → Sums (last_where e last) ss as'
-        rest e is less = sums (suc place) (last_where e last) ss as' js (All-tail (λ (s : SlaveSpec). length s.mac ≡ 6) s ss macs) come.1 sends.1 less
-            (subst (λ (z : Bool). Behind (suc place) (last_where z last) ss as' js) is (more place last s ss a as' j js b))
+        Later : Type 0
+        Later = (later : ℕ) → later + 1 + count_by (λ (s : SlaveSpec). s.eoe) ss ≤ many → Behind (suc place) later ss as' js → Sums later ss as'
+
+        rest : Later → (e : Bool) → s.eoe ≡ e → last_where e last + 1 + count_by (λ (s : SlaveSpec). s.eoe) ss ≤ many → Sums (last_where e last) ss as'
+        rest more_of e is less = more_of (last_where e last) less (subst (λ (z : Bool). Behind (suc place) (last_where z last) ss as' js) is (more place last s ss a as' j js b))
 
         entered : ℕ
         entered = sum_by entering (take a.number a.script)
 
-        go : (e : Bool) → s.eoe ≡ e → Sums last (s ∷ ss) (a ∷ as')
-        go true is =
-            let c = eoe_count s ss in
-            let one : (if s.eoe then 1 else 0) ≡ 1 = ap (λ (z : Bool). if z then 1 else 0) is in
-            let behind = rest true is (omega (arith, room, c, one)) in
-            let w = with_port place s a j x (last + 1) (at true is) (omega (arith, room, c, one)) in
-            let forwards : ports_sum forwards_at last (s ∷ ss) ≡ forwards_at (last + 1) + ports_sum forwards_at (last + 1) ss = ap (λ (z : Bool). if z then forwards_at (last + 1) + ports_sum forwards_at (last + 1) ss else ports_sum forwards_at last ss) is in
-            let comes : ports_sum come_in_at last (s ∷ ss) ≡ come_in_at (last + 1) + ports_sum come_in_at (last + 1) ss = ap (λ (z : Bool). if z then come_in_at (last + 1) + ports_sum come_in_at (last + 1) ss else ports_sum come_in_at last ss) is in
+        all_count : ℕ
+        all_count = count_by (λ (s : SlaveSpec). s.eoe) (s ∷ ss)
+
+        rest_count : ℕ
+        rest_count = count_by (λ (s : SlaveSpec). s.eoe) ss
+
+        of : (f : ℕ → ℕ) (e : Bool) → s.eoe ≡ e → ports_sum f last (s ∷ ss) ≡ (if e then f (last + 1) + ports_sum f (last + 1) ss else ports_sum f last ss)
+        of f e is = ap (λ (z : Bool). if z then f (last + 1) + ports_sum f (last + 1) ss else ports_sum f last ss) is
+
+        go : (e : Bool) → s.eoe ≡ e → Later → Sums last (s ∷ ss) (a ∷ as')
+        go true is more_of =
+            let space = roomy last rest_count all_count (if s.eoe then 1 else 0) many room (eoe_count s ss) (ap (λ (z : Bool). if z then 1 else 0) is) in
+            let behind = rest more_of true is space.0 in
+            let w = with_port place s a j x (last + 1) (at true is) space.1 in
+            let own = sent_back place s a j x in
             record {
-              sent = sent place s a j x + behind.sent;
-              begun = omega (arith, w.begun, behind.begun, forwards, parted_sum (n - 1) (sent place s a j x) behind.sent);
-              came = omega (arith, w.came, behind.came, comes, parted_sum (n + 1) entered (cuts_begun ss as'));
+              sent = own + behind.sent;
+              begun = first_sum m (count place s a j x) (packets_begun ss as') 0 own behind.sent (forwards_at (last + 1)) (ports_sum forwards_at (last + 1) ss) (ports_sum forwards_at last (s ∷ ss)) w.begun behind.begun (of forwards_at true is);
+              came = second_sum (n + 1) (come_in_at (last + 1)) (ports_sum come_in_at (last + 1) ss) (ports_sum come_in_at last (s ∷ ss)) own behind.sent entered (cuts_begun ss as') w.came behind.came (of come_in_at true is);
             }
-        go false is =
-            let c = eoe_count s ss in
-            let none : (if s.eoe then 1 else 0) ≡ 0 = ap (λ (z : Bool). if z then 1 else 0) is in
-            let behind = rest false is (omega (arith, room, c, none)) in
-            let zero_ = without place s a j x (at false is) in
-            let forwards : ports_sum forwards_at last (s ∷ ss) ≡ ports_sum forwards_at last ss = ap (λ (z : Bool). if z then forwards_at (last + 1) + ports_sum forwards_at (last + 1) ss else ports_sum forwards_at last ss) is in
-            let comes : ports_sum come_in_at last (s ∷ ss) ≡ ports_sum come_in_at last ss = ap (λ (z : Bool). if z then come_in_at (last + 1) + ports_sum come_in_at (last + 1) ss else ports_sum come_in_at last ss) is in
+        go false is more_of =
+            let behind = rest more_of false is (roomy_on last rest_count all_count (if s.eoe then 1 else 0) many room (eoe_count s ss) (ap (λ (z : Bool). if z then 1 else 0) is)) in
             record {
               sent = behind.sent;
-              begun = omega (arith, zero_, behind.begun, forwards);
-              came = omega (arith, behind.came, comes, parted_sum (n + 1) entered (cuts_begun ss as'));
+              begun = no_begun (count place s a j x) (packets_begun ss as') m behind.sent (ports_sum forwards_at last ss) (ports_sum forwards_at last (s ∷ ss)) (without place s a j x (at false is)) behind.begun (of forwards_at false is);
+              came = no_come (ports_sum come_in_at last ss) (ports_sum come_in_at last (s ∷ ss)) behind.sent (n + 1) entered (cuts_begun ss as') behind.came (of come_in_at false is);
             }
 
     -- THE PACKETS ARE THOSE OF ONE SWITCH
@@ -254,18 +288,23 @@ module _ (plan : Scenario) (fs : List Exchanged) (missed : ℕ) (leads : List Le
         let within = laws.within few (come_at many es at) in
         let entries = entries_within n plan.slaves es at in
         let forwards = forwards_within n (switched many es).forwards plan.slaves in
-        let all = sums 0 0 plan.slaves leads (joined_in led) macs come sends (omega arith) (front (λ m. slice_get ports m), (front (λ m. started_at leads m), front (λ m. packets_at (joined_in led) m))) in
+        let all = sums 0 0 plan.slaves leads (joined_in led) macs come sends same_many (front (λ m. slice_get ports m), (front (λ m. started_at leads m), front (λ m. packets_at (joined_in led) m))) in
         let own = host_cuts (arrivals_at 0 es) in
         let most = host_least n (arrivals_at 0 es) in
         let times = mul-le n (queue_work n (arrivals_at 0 es)) n (own * (n + 1)) (omega arith) most in
         let hosts : host_cuts plan.host ≡ own + host_cuts rest = ap host_cuts (sym host) ∙ sum_by-append (λ (packet : ArrayVec ℕ). cuts packet.items) (arrivals_at 0 es) rest in
-        let chain = chained (ports_sum forwards_at 0 plan.slaves) (slaves_work n (switched many es).forwards) (entries_work n es) (n * queue_work n (arrivals_at 0 es)) ((n - 1) * ports_sum come_in_at 0 plan.slaves) (n * (own * (n + 1))) forwards within entries times in
+        let pred : n - 1 ≡ m = omega arith in
+        let few_entries = subst (λ z. entries_work n es ≤ n * queue_work n (arrivals_at 0 es) + z * ports_sum come_in_at 0 plan.slaves) pred entries in
+        let chain = chained (ports_sum forwards_at 0 plan.slaves) (slaves_work n (switched many es).forwards) (entries_work n es) (n * queue_work n (arrivals_at 0 es)) (m * ports_sum come_in_at 0 plan.slaves) (n * (own * (n + 1))) forwards within few_entries times in
         record {
           entered = own + cuts_begun plan.slaves leads;
           within = omega (arith, hosts);
-          most = square n (packets_begun plan.slaves leads) all.sent (ports_sum forwards_at 0 plan.slaves) (ports_sum come_in_at 0 plan.slaves) own (cuts_begun plan.slaves leads) some all.begun chain all.came;
+          most = square_of m (packets_begun plan.slaves leads) all.sent (ports_sum forwards_at 0 plan.slaves) (ports_sum come_in_at 0 plan.slaves) own (cuts_begun plan.slaves leads) all.begun chain all.came;
         }
       where
+        same_many : 0 + 1 + count_by (λ (s : SlaveSpec). s.eoe) plan.slaves ≤ many
+        same_many = omega arith
+
         front : {X : Type 0} (f : ℕ → X) (i : ℕ) → f (0 + i) ≡ f i
         front f i = let same : 0 + i ≡ i = omega arith in ap f same
 

@@ -131,16 +131,16 @@ module _ (n : ℕ) (p : Profile) (law : Echoes p.mac) where
     -- the packets that came into hand
     pub packets_weigh : (qs : List (Service Asked)) → begun_most count (filter is_packet qs) + m * echoes qs ≤ weights n qs
     packets_weigh [] = none m
-    packets_weigh (q ∷ qs) = go (is_packet q) refl
+    packets_weigh (q ∷ qs) = go (is_packet q) refl (packets_weigh qs)
       where
         fs : List (Service Asked)
         fs = filter is_packet qs
 
-        go : (b : Bool) → is_packet q ≡ b → begun_most count (cond b (q ∷ fs) fs) + m * sum_by echo_cuts (cond b (q ∷ fs) fs) ≤ sum_by (weight n) (cond b (q ∷ fs) fs)
-        go false e = packets_weigh qs
-        go true e =
+        go : (b : Bool) → is_packet q ≡ b → begun_most count fs + m * echoes qs ≤ weights n qs → begun_most count (cond b (q ∷ fs) fs) + m * sum_by echo_cuts (cond b (q ∷ fs) fs) ≤ sum_by (weight n) (cond b (q ∷ fs) fs)
+        go false e rest = rest
+        go true e rest =
             joined m (service_most count q) (echo_cuts q) (begun_most count fs) (echoes qs) (weight n q) (weights n qs) (begun_most count (q ∷ fs)) (sum_by echo_cuts (q ∷ fs)) (sum_by (weight n) (q ∷ fs))
-            (one_packet q e) (packets_weigh qs) (sum_by-cons (service_most count) q fs) (sum_by-cons echo_cuts q fs) (sum_by-cons (weight n) q fs)
+            (one_packet q e) rest (sum_by-cons (service_most count) q fs) (sum_by-cons echo_cuts q fs) (sum_by-cons (weight n) q fs)
 
   -- ---- ONE OF A SCRIPT sends what its download emits
   download : (index sub : ℕ) (bytes : List ℕ) → sum_by (waiting_work n) (of_emission (emission_of p.has_eoe (record { index = index; sub = sub; all = false }) bytes)) ≤ (n + 1) * sdo_cuts (SdoService.Download index sub bytes)
@@ -176,8 +176,8 @@ module _ (n : ℕ) (p : Profile) (law : Echoes p.mac) where
   one_service room (Plan.Service.Sdo service) q e = subst (λ k. echo_cuts k ≤ (n + 1) * sdo_cuts service) (some_is e) (sdo_sends service)
   one_service room (Plan.Service.ReadFile name pass) q e = subst (λ k. echo_cuts k ≤ (n + 1) * 0) (some_is e) (omega arith)
   one_service room (Plan.Service.WriteFile name pass bytes) q e = subst (λ k. echo_cuts k ≤ (n + 1) * 0) (some_is e) (omega arith)
-  one_service room (Plan.Service.ReadIdn drive idn elements) q e = subst (λ k. echo_cuts k ≤ (n + 1) * 0) (some_is e) (omega arith)
-  one_service room (Plan.Service.WriteIdn drive idn elements bytes) q e = subst (λ k. echo_cuts k ≤ (n + 1) * 0) (some_is e) (omega arith)
+  one_service room (Plan.Service.ReadIdn number idn elements) q e = subst (λ k. echo_cuts k ≤ (n + 1) * 0) (some_is e) (omega arith)
+  one_service room (Plan.Service.WriteIdn number idn elements bytes) q e = subst (λ k. echo_cuts k ≤ (n + 1) * 0) (some_is e) (omega arith)
   one_service room (Plan.Service.SetIp block) q e = by_mails (asked_of room (Plan.Service.SetIp block)) ((n + 1) * 0) (λ a is. of (nat_lt room (length block + 10)) a is) q e
     where
       of : (b : Bool) (a : Asked) → (if b then None else Some (net (EoeClient.set_ip block))) ≡ Some a → sum_by (waiting_work n) (asked_sends p a) ≤ (n + 1) * 0
@@ -185,7 +185,7 @@ module _ (n : ℕ) (p : Profile) (law : Echoes p.mac) where
       of false a is = subst (λ k. sum_by (waiting_work n) (asked_sends p k) ≤ (n + 1) * 0) (some_is is) (omega arith)
   one_service room Plan.Service.GetIp q e = subst (λ k. echo_cuts k ≤ (n + 1) * 0) (some_is e) (omega arith)
   one_service room (Plan.Service.State target) q e = subst (λ k. echo_cuts k ≤ (n + 1) * 0) (some_is e) (omega arith)
-  one_service room (Plan.Service.Forward packet) q e = absurd (let bad : None ≡ Some q = e in cc)
+  one_service room (Plan.Service.Forward sent) q e = absurd (let bad : None ≡ Some q = e in cc)
 
   scripted : (m x y a b p q : ℕ) → x ≤ m * a → y ≤ m * b → p ≡ x + y → q ≡ a + b → p ≤ m * q
   scripted m x y a b p q l k e f =

@@ -1,18 +1,21 @@
-use Rattle.std.proofs.Common.{length, arith}
+use Rattle.std.proofs.Common.{◌≡◌, ◌+◌, ◌-◌, ◌*◌, ◌≤◌, suc, length, subst, arith}
 use Rattle.life_runs.specs.First.{lens_of, first_leads}
 use Rattle.master_node.specs.Ports.{ports_behind, ports_of}
 use Rattle.packet_work.specs.Packets.{waiting_work}
+use Rattle.run_work.specs.Together.{packets_begun}
 use Rattle.switched_runs.proofs.Switched.{switched_so}
 use Rattle.switched_runs.proofs.switched_run_law.Goals as goal
 
 pub returns : goal.returns
 returns c = λ plan is known fs missed leads led round es rest at host listed begun.
-    let n = length plan.slaves in
+    let m = length plan.slaves - 1 in
+    let n = suc m in
+    let same : n ≡ length plan.slaves = omega (arith, is.laid.some_slave) in
     let lens = lens_of plan.slaves in
     let ports = ports_behind 0 plan.slaves in
     let many = ports_of plan.slaves in
     let first = first_leads plan in
-    let made = switched_so plan fs missed leads led es n
+    let made = switched_so plan fs missed leads led es m
     (record {
       own = λ k port has. c.port_law.ensures.own plan.slaves k port has;
       arrivals = λ k port own. c.port_law.ensures.arrivals lens plan.recover plan.retry missed ports first leads fs led es k port own listed;
@@ -21,5 +24,5 @@ returns c = λ plan is known fs missed leads led round es rest at host listed be
       within = λ few come. c.packet_law.ensures.within n many es few come;
       echo = λ mac six. record { same = λ packet echo e. c.packet_law.ensures.echo mac packet echo six e; may = λ packet echo e. c.packet_law.ensures.may mac packet echo e };
     })
-    is.laid.some_slave (omega arith) rest known.macs (c.script_run_law.ensures plan fs missed leads led) (c.sent_law.ensures (waiting_work n) plan is known fs missed leads led round) at host in
-    record { entered = made.entered; within = made.within; most = made.most }
+    (omega (arith, same)) rest known.macs (c.script_run_law.ensures plan fs missed leads led) (c.sent_law.ensures (waiting_work n) plan is known fs missed leads led round) at host in
+    record { entered = made.entered; within = made.within; most = subst (λ k. made.entered + packets_begun plan.slaves leads ≤ made.entered * ((k + 1) * (k + 1))) same made.most }
