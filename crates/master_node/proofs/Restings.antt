@@ -56,8 +56,7 @@ module _ {G : Ghosts InHand} (lens : ℕ → Lens) (recover : ℕ) (l : Lan) whe
       let stood = subst (λ (k : Stand). StandShows (λ d b. side_shows lens recover s a.lived.spot d b) a.lived.spot k a.lived.life) e i.lives.shown.stood in
       absurd (let t = sym stood.0 ∙ gone in cc)
   one_rests place a s Stand.Open e i (inr r) =
-      let stood = subst (λ (k : Stand). StandShows (λ d b. side_shows lens recover s a.lived.spot d b) a.lived.spot k a.lived.life) e i.lives.shown.stood in
-      (
+      let stood = subst (λ (k : Stand). StandShows (λ d b. side_shows lens recover s a.lived.spot d b) a.lived.spot k a.lived.life) e i.lives.shown.stood in (
         record {
           speech = speech_at lens a.lived.spot;
           side = a.lived.life.era.side;
@@ -80,10 +79,13 @@ module _ {G : Ghosts InHand} (lens : ℕ → Lens) (recover : ℕ) (l : Lan) whe
   all_from place [] [] x r k = tt
   all_from place [] (s ∷ ss) x r k = absurd x
   all_from place (a ∷ as') [] x r k = absurd x
-  all_from place (a ∷ as') (s ∷ ss) x r zero = one_rests place a s s.stand refl x.0 r.0
+  all_from place (a ∷ as') (s ∷ ss) x r zero = subst (λ n. StopRests l n s) (none place) (one_rests place a s s.stand refl x.0 r.0)
+    where
+      none : (n : ℕ) → n ≡ 0 + n
+      none n = omega arith
   all_from place (a ∷ as') (s ∷ ss) x r (suc k) = subst (λ n. IfSome (slice_get ss k) (λ s. StopRests l n s)) (next k place) (all_from (suc place) as' ss x.1 r.1 k)
     where
-      next : (m n : ℕ) → m + suc n ≡ suc (m + n)
+      next : (m n : ℕ) → m + suc n ≡ suc m + n
       next m n = omega arith
 
   -- of all slaves

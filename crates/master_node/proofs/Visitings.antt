@@ -43,7 +43,7 @@ use Rattle.master_tour.specs.declared.stop.Stand.{Stand}
 use Rattle.master_tour.specs.declared.stop.Stop.{Stop}
 use Rattle.master_node.proofs.Asking.{AreFor, seen_for}
 use Rattle.master_node.proofs.Lefts.{in_first}
-use Rattle.master_node.specs.Eager.{AllVisit, AsksVisit, AsksAccess, AsksSo, EachSo, IsClear, VisitAsks, next_visit, recall_of, stage_visit, turn_visit}
+use Rattle.master_node.specs.Eager.{AllVisit, AsksVisit, AsksAccess, AsksSo, EachSo, IsClear, Recall, VisitAsks, next_visit, recall_of, stage_visit, turn_visit}
 use Rattle.master_node.specs.Rooms.{FitFrom, HoldsAt, IsSentStop, len_in}
 use Rattle.master_node.specs.Shows.{IsUnder, side_shows}
 use Rattle.master_node.specs.Toured.{stop_share}
@@ -59,6 +59,7 @@ asks_mails state paused held h due b clear e holds asks =
     some : (o : Option Mail) → is_some (option_map link_mail o) ≡ is_some o
     some None = refl
     some (Some m) = refl
+
     go : (z : Bool) → Asks (if true && z then Carried.Write else Carried.Inward) h due b.gram.ask b.access → AsksVisit h (if z then Visit.Write else Visit.Read) b
     go true a = (a.0, a.2, a.1, a.3)
     go false a = (a.0 ∙ ap (λ s. in_ask s h.inn.bit) clear, a.1)
@@ -169,3 +170,25 @@ module _ {G : Ghosts InHand} where
       (k : ℕ) → holds_at (λ s. s.under) ss k ≡ true → HoldsAt (λ s. IsSentStop s) ss k
   sent_at live size area t ss many visit o f k h =
       fit_at (λ s. IsSentStop s) ss 1514 16 k visit (ap (λ z. is_in k z) o.comes ∙ in_visit t.again live (length ss) t.opened t.last o.places o.first.rest k o.first.split (o.carries.only k h)) f
+
+-- WORKED ROWS: a mail held is written, unless a write was in vain; a state service first sees mailbox 0 empty, and then has accesses of its own
+abbrev told : Bool → Bool → Recall
+told paused turn = record { paused = paused; turn = turn; knows = true }
+
+writes : next_visit None (told false false) true ≡ Some Visit.Write
+writes = refl
+
+reads_paused : next_visit None (told true false) true ≡ Some Visit.Read
+reads_paused = refl
+
+reads_idle : next_visit None (told false false) false ≡ Some Visit.Read
+reads_idle = refl
+
+drains : next_visit (Some (record { target = 4; frame = 0; stage = Stage.Drains })) (told true false) true ≡ Some Visit.Full
+drains = refl
+
+drains_on : next_visit (Some (record { target = 4; frame = 0; stage = Stage.Drains })) (told true true) true ≡ Some Visit.Read
+drains_on = refl
+
+past : next_visit (Some (record { target = 4; frame = 0; stage = Stage.Goes Phase.Ask })) (told false false) true ≡ None
+past = refl

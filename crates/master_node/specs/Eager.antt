@@ -1,40 +1,30 @@
 -- A MASTER MAKES NO VISIT IN VAIN where more could go on: what it remembers of a slave's visits, what the datagram of a visit asks, and that behind a visit
--- no mail is left that could be held, and no service that could begin.
-use Rattle.std.specs.Prelude.{◌≡◌, ◌<◌, ◌==◌, ℕ, suc, Bool, true, false, is_some, Option, Some, None, List, [], ◌∷◌, map, length, slice_get, ⊤}
-use Rattle.arrayvec.specs.ArrayVec.{ArrayVec}
+-- no mail is left that could be held.
+use Rattle.std.specs.Prelude.{◌≡◌, ℕ, Bool, true, false, is_some, Option, Some, None, List, [], ◌∷◌, map, ⊤}
 use Rattle.life_measure.specs.Visits.{Visit, mails_visit, drain_visit}
 use Rattle.life_runs.specs.of_frame_view.View.{Lens}
-use Rattle.life_runs.specs.of_life_frames.Shares.{AllThree}
-use Rattle.life_runs.specs.Led.{Leads, Turn, speech_at}
+use Rattle.life_runs.specs.Led.{Turn, speech_at}
 use Rattle.life_runs.specs.of_state_model.States.{Phase}
 use Rattle.mailbox_master.specs.of_link_model.Frames.{Ask}
 use Rattle.mailbox_master.specs.of_link_model.Link.{Halves}
 use Rattle.mailbox_master.specs.of_link_model.Mails.{LinkMail}
 use Rattle.mailbox_master.specs.of_link_model.Master.{InState}
 use Rattle.master_duty.specs.Reply.{Reply}
-use Rattle.master_duty.specs.of_exchange_model.Exchange.{Speech}
 use Rattle.master_duty.specs.of_exchange_model.Rows.{Row, left}
-use Rattle.master_duty.specs.of_segment_model.Seats.{Side}
-use Rattle.master_duty.specs.of_segment_model.Slaves.{Datagram, Access, Found}
-use Rattle.master_duty.specs.of_task_model.Accounts.{Duty, Stage, is_free, is_acknowledged, phase_access}
-use Rattle.master_hand.specs.Spoken.{Asked, acknowledged}
-use Rattle.master_hand.specs.Talk.{asked_of}
+use Rattle.master_duty.specs.of_segment_model.Slaves.{Datagram, Access}
+use Rattle.master_duty.specs.of_task_model.Accounts.{Duty, Stage, phase_access}
+use Rattle.master_hand.specs.Spoken.{Asked}
 use Rattle.master_hand.specs.Shown.{Shows, knows}
 use Rattle.master_hand.specs.declared.hand.InHand.{InHand}
-use Rattle.master_side.specs.Due.{EachDue}
-pub use Rattle.master_side.specs.Recall.{Recall, recall_by, new_recall}
+pub use Rattle.master_side.specs.Recall.{Recall, recall_by}
 use Rattle.master_side.specs.of_link_mails.Body.{Body}
 use Rattle.master_side.specs.declared.hand.Hand.{Ghosts}
 use Rattle.master_side.specs.Shown.{SideShows}
-use Rattle.master_tour.specs.Brings.{accepted_in}
 use Rattle.master_tour.specs.Recalls.{TakesUp as Holds}
 use Rattle.master_tour.specs.Walks.{EachPair}
 use Rattle.master_tour.specs.of_life_model.Lives.{Stand}
 use Rattle.master_tour.specs.of_life_model.Own.{own}
 use Rattle.master_tour.specs.declared.stop.Stop.{Stop}
-use Rattle.segment_plan.specs.declared.service.Service as Plan
-use Rattle.master_node.specs.Forwards.{forwarded}
-use Rattle.master_node.specs.declared.lan.Lan.{Lan}
 use Rattle.master_node.specs.declared.node.MasterNode.{MasterNode}
 
 -- WHAT A MASTER REMEMBERS of a slave's visits
@@ -89,10 +79,6 @@ pub record IsClear (u : Turn) : Type 0 where
 abbrev pub VisitAsks : List (Datagram Body) → Recall → Turn → Type 0
 VisitAsks sent m u = IsClear u → EachSo u.lived.life.era.account.hand u.lived.life.era.side.halves (turn_visit u m) (own u.lived.spot.station sent)
 
--- NOTHING BEGINS WITHOUT A VISIT
-abbrev pub BeginsAtVisit : Turn → Type 0
-BeginsAtVisit u = u.share.under ≡ false → u.begun ≡ None
-
 -- nothing is left to tell of the newest service
 abbrev pub NoneLeft : (ℕ → Lens) → Turn → Type 0
 NoneLeft lens u = (r : Row Body Asked Reply) → u.lived.life.era.side.now ≡ Some r → left (speech_at lens u.lived.spot) r ≡ []
@@ -100,31 +86,6 @@ NoneLeft lens u = (r : Row Body Asked Reply) → u.lived.life.era.side.now ≡ S
 -- A MAIL IS TAKEN UP AT A VISIT: behind one of an open slave, with none held, none is left
 abbrev pub TakesUp : (ℕ → Lens) → Recall → Turn → Type 0
 TakesUp lens m u = m.knows ≡ true → u.lived.life.stand ≡ Stand.Open → u.share.under ≡ true → u.lived.life.era.side.halves.out.holding ≡ None → NoneLeft lens u
-
--- a service may begin: the newest is over, with the write of its last acknowledgement
-pub record MayBegin (lens : ℕ → Lens) (a : Leads) : Type 0 where
-  pub stands : a.lived.life.stand ≡ Stand.Open
-  pub free : is_free (speech_at lens a.lived.spot) a.lived.life.era.side a.lived.life.era.side.now ≡ true
-  pub done : is_acknowledged acknowledged a.lived.life.era.side a.lived.life.era.side.now ≡ true
-  pub hand : a.lived.life.era.account.hand ≡ None
-
--- the next service of a script never begins: a packet, or an address block that mailbox 0 has no room for; or there is none
-abbrev pub NeverBegins : ℕ → Option Plan.Service → Type 0
-NeverBegins room None = ⊤
-NeverBegins room (Some s) = (asked_of room s ≡ None) × ((target : ℕ) → s ≡ Plan.Service.State target → ⊥)
-
--- no packet waits at a slave's port, but such as have no EtherType
-abbrev pub NoPacket : Lan → ℕ → Type 0
-NoPacket l place = (p : ArrayVec ℕ) → slice_get (forwarded l.switch l.ports.items place) 0 ≡ Some p → length p.items < 14
-
--- WHAT MAY BEGIN AT A VISIT BEGINS: where nothing did, the script is at its end, and no packet waits
-pub record IsAtEnd (lens : ℕ → Lens) (l : Lan) (place : ℕ) (a : Leads) : Type 0 where
-  pub script : NeverBegins (lens a.lived.spot.station).out (slice_get a.script a.number)
-  pub packet : NoPacket l place
-
--- by what came into hand
-abbrev pub BeginsAll : (ℕ → Lens) → Lan → ℕ → Recall → Leads → Turn → Type 0
-BeginsAll lens l place m a u = m.knows ≡ true → MayBegin lens a → u.share.under ≡ true → u.begun ≡ None → IsAtEnd lens l place a
 
 -- AT ITS VISIT each slave that a frame carries has taken up its next mail: behind it none is left that an open slave's hand could take up, where none is held
 abbrev pub StopTakesUp : {G : Ghosts InHand} → Stop InHand G → Type 0
@@ -142,47 +103,14 @@ EagerOn m n = EachPair (λ s t. StopGoes s t) m.tour.stops.items n.tour.stops.it
 abbrev pub EagerFrom : MasterNode → MasterNode → Type 0
 EagerFrom m n = EachPair (λ s t. (recall_of t ≡ recall_of s) × StopTakesUp t) m.tour.stops.items n.tour.stops.items
 
--- of all slaves
+-- all slaves
 abbrev pub AllVisit : List (Datagram Body) → List Recall → List Turn → Type 0
 AllVisit sent (m ∷ ms) (u ∷ us) = VisitAsks sent m u × AllVisit sent ms us
 AllVisit sent [] [] = ⊤
 AllVisit sent _ _ = ⊥
 
+-- so do all slaves
 abbrev pub AllTakeUp : (ℕ → Lens) → List Recall → List Turn → Type 0
 AllTakeUp lens (m ∷ ms) (u ∷ us) = TakesUp lens m u × AllTakeUp lens ms us
 AllTakeUp lens [] [] = ⊤
 AllTakeUp lens _ _ = ⊥
-
-abbrev pub AllBegin : (ℕ → Lens) → Lan → ℕ → List Recall → List Leads → List Turn → Type 0
-AllBegin lens l place (m ∷ ms) (a ∷ as') (u ∷ us) = BeginsAll lens l place m a u × AllBegin lens l (suc place) ms as' us
-AllBegin lens l place [] [] [] = ⊤
-AllBegin lens l place _ _ _ = ⊥
-
--- WHAT A VISIT LEAVES TO REMEMBER, by what came back of it: a write that was not done pauses, until a read comes back; and behind the status of mailbox 0
--- mailbox 1 is read next
-abbrev pub paused_behind : Visit → ℕ → Bool → Bool
-paused_behind Visit.Write counter paused = counter == 0
-paused_behind Visit.Read counter paused = false
-paused_behind Visit.Full counter paused = paused
-
-abbrev pub turn_behind : Visit → Bool → Bool
-turn_behind Visit.Write turn = turn
-turn_behind Visit.Read turn = false
-turn_behind Visit.Full turn = true
-
--- nothing was gained by it: where it was the status of mailbox 0, that was full
-abbrev pub IsFull : Visit → Datagram Body → Type 0
-IsFull Visit.Write d = ⊤
-IsFull Visit.Read d = ⊤
-IsFull Visit.Full d = ((d.counter == 0) ≡ false) × (d.found ≡ Some (Found.Full true))
-
--- THE SLAVE BEHIND A FRAME THAT CAME BACK SO: what is remembered of it, by what was before
-pub record RecallsBack (lens : ℕ → Lens) (back : List (Datagram Body)) (u : Turn) (m n : Recall) : Type 0 where
-  pub visited : IsClear u → u.share.under ≡ true → (v : Visit) → turn_visit u m ≡ Some v → (d : Datagram Body) → own u.lived.spot.station back ≡ d ∷ [] → IsFull v d →
-      (n.paused ≡ paused_behind v d.gram.counter m.paused) × (n.turn ≡ turn_behind v m.turn)
-  pub unvisited : u.lived.life.stand ≡ Stand.Open → u.share.under ≡ false → n ≡ m
-  pub known : m.knows ≡ true → (u.lived.life.stand ≡ Stand.Open → EachDue (speech_at lens u.lived.spot) u.lived.life.era.side.now (accepted_in u.lived.spot u.lived.life back)) → n.knows ≡ true
-
--- of all slaves
-abbrev pub AllRecall : (ℕ → Lens) → List (Datagram Body) → List Turn → List Recall → List Recall → Type 0
-AllRecall lens back us ms ns = AllThree (λ u m n. RecallsBack lens back u m n) us ms ns

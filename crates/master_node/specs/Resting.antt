@@ -1,7 +1,7 @@
 -- WHAT A MASTER WANTS NOTHING MORE OF, by the lives of its slaves and by what it has of them.
 use Rattle.std.specs.Prelude.{◌≡◌, ◌⊎◌, ℕ, suc, true, None, List, [], ◌∷◌, slice_get, ⊤}
 use Rattle.life_runs.specs.of_frame_view.View.{Lens}
-use Rattle.life_runs.specs.Led.{Leads}
+use Rattle.life_runs.specs.Led.{Leads, speech_at}
 use Rattle.mailbox_master.specs.Any.{in_half_of}
 use Rattle.mailbox_master.specs.of_link_model.Master.{InState}
 use Rattle.master_duty.specs.Reply.{Reply}
@@ -20,9 +20,15 @@ use Rattle.master_side.specs.of_link_mails.Body.{Body}
 use Rattle.master_tour.specs.declared.stop.Stand as Stands
 use Rattle.master_tour.specs.declared.stop.Stop.{Stop}
 use Rattle.master_tour.specs.of_life_model.Lives.{Stand}
-use Rattle.master_node.specs.Eager.{MayBegin}
 use Rattle.master_node.specs.Forwards.{forwarded}
 use Rattle.master_node.specs.declared.lan.Lan.{Lan}
+
+-- a service may begin: the newest is over, with the write of its last acknowledgement
+pub record MayBegin (lens : ℕ → Lens) (a : Leads) : Type 0 where
+  pub stands : a.lived.life.stand ≡ Stand.Open
+  pub free : is_free (speech_at lens a.lived.spot) a.lived.life.era.side a.lived.life.era.side.now ≡ true
+  pub done : is_acknowledged acknowledged a.lived.life.era.side a.lived.life.era.side.now ≡ true
+  pub hand : a.lived.life.era.account.hand ≡ None
 
 -- THE MASTER WANTS NOTHING of a slave, by its life: it was given up for good; or it is open, no service is in hand and none is left of its script, both
 -- halves of its link are idle, and no packet waits at its port

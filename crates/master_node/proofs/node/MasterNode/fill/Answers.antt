@@ -102,7 +102,7 @@ loop-preserved c = (
       let is : c.due.result ≡ Some p = cc in
       let was = c.loop.invariant.8 quiet b short in
       let none = unvisited c.loop.into.items c.visit.new.into.items c.args.self.now c.loop.self c.visit.new.self c.due.new.self p (c.loop.invariant.5 b short).0 c.loop.invariant.2
-          (record { stops = e.stops; count = e.kept.0; again = e.kept.1; visit = e.kept.2 }) (e.order p is).1 (c.in-Some.ensures.few) v.on.1 v.visits v.shares v.takes in (
+      (record { stops = e.stops; count = e.kept.0; again = e.kept.1; visit = e.kept.2 }) (e.order p is).1 (c.in-Some.ensures.few) v.on.1 v.visits v.shares v.takes in (
         v.quiet was.0,
         each_trans (λ s t. StopGoes s t) c.args.self.now.tour.stops.items c.loop.self.tour.stops.items c.visit.new.self.tour.stops.items (λ x y z a h. (h.0 ∙ a.0, λ g. h.1 (a.1 g))) was.1
             (subst (λ z. EachPair (λ s t. StopGoes s t) z.items c.visit.new.self.tour.stops.items) e.stops (v.eager was.0 none)),
