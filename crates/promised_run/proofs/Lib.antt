@@ -7,4 +7,6 @@ mod Emergencies
 mod Visits
 mod Few
 mod Ports
+mod Rows
+mod Numbers
 mod Overs

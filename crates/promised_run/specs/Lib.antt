@@ -5,6 +5,7 @@ pub mod Emergencies
 pub mod Visits
 pub mod Few
 pub mod Ports
+pub mod Numbers
 pub mod Promised
 pub use Rattle.run_record.specs.Ran
 pub use Rattle.run_record.specs.Session
