@@ -7,5 +7,7 @@ mod Emergencies
 mod Visits
 mod Few
 mod Ports
+mod Rows
+mod Numbers
 mod Overs
 mod Bounded

@@ -24,7 +24,7 @@ use Rattle.segment_plan.specs.declared.service.Service as Plan
 use Rattle.segment_plan.specs.declared.slave.SlaveSpec.{SlaveSpec}
 
 -- a slave that has a port is live before the first frame
-first_live : (services : List (ℕ × Plan.Service)) (place : ℕ) (ss : List SlaveSpec) (last k port : ℕ) → port_by (slice_get (ports_behind last ss) k) ≡ Some port → holds_at is_live_lead (leads_from services place ss) k ≡ true
+pub first_live : (services : List (ℕ × Plan.Service)) (place : ℕ) (ss : List SlaveSpec) (last k port : ℕ) → port_by (slice_get (ports_behind last ss) k) ≡ Some port → holds_at is_live_lead (leads_from services place ss) k ≡ true
 first_live services place [] last k port e = absurd (cc)
 first_live services place (s ∷ ss) last zero port e = refl
 first_live services place (s ∷ ss) last (suc k) port e = first_live services (suc place) ss (last_where s.eoe last) k port e

@@ -7,6 +7,7 @@ use Rattle.run_promises.specs.Rest.{NothingIsLeft, AllIsDone}
 use Rattle.promised_run.specs.Emergencies.{AllHaveEmergencies}
 use Rattle.promised_run.specs.Epochs.{AllCaused}
 use Rattle.promised_run.specs.Few.{AreFewLost, OutlivesLosses}
+use Rattle.promised_run.specs.Numbers.{AllHaveNumbers}
 use Rattle.promised_run.specs.Ports.{AllHavePorts}
 use Rattle.promised_run.specs.Reported.{AllReported}
 use Rattle.promised_run.specs.Unsent.{AllUnsent}
@@ -54,3 +55,6 @@ pub record IsPromised (plan : Scenario) (book : Book) : Type 0 where
   pub visits : AllVisit plan led.toured
   -- and where no more frames in a row are lost than the retry limit no slave is given up: where nothing is left to do all is done
   pub outlived : AreFewLost plan.lose plan.retry → book.ending ≢ endings.NoMemory → OutlivesLosses book
+  -- and each event at the port of a slave has its exact number: a packet begins with the frame of its row, one comes in with the number behind the frame that brought
+  -- its last fragment, and the port goes down with the number behind the give-up; and nothing waits there behind the events numbered up to a row of the script
+  pub numbers : book.ending ≢ endings.NoMemory → AllHaveNumbers plan led.lives book
