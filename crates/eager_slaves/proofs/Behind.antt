@@ -7,14 +7,10 @@ use Rattle.idle_slaves.specs.Visited.{IsFor}
 use Rattle.idle_slaves.specs.Waiting.{Wanted}
 use Rattle.life_model.specs.Lives.{Life, Era, Spot, Stand, life_back, era_back, reopens, reopens_at, reopening, opens_state, returns_to_init}
 use Rattle.life_model.specs.Own.{own}
-use Rattle.link_model.specs.Frames.{Ask, Gram, halves_after, halves_answered, halves_accept, all_accepted, mail_back}
-use Rattle.link_model.specs.Link.{Halves}
-use Rattle.link_model.specs.Mails.{LinkMail, news}
-use Rattle.segment_model.specs.Ends.{Passing}
-use Rattle.segment_model.specs.Record.{News, is_for}
-use Rattle.segment_model.specs.Seats.{Side}
+use Rattle.link_model.specs.Frames.{halves_after, halves_answered, halves_accept, all_accepted}
+use Rattle.segment_model.specs.Record.{is_for}
 use Rattle.segment_model.specs.Slaves.{Datagram, Found, grams}
-use Rattle.task_model.specs.Accounts.{Account, Duty, Stage, account_back, account_met, account_by, access_done}
+use Rattle.task_model.specs.Accounts.{Duty, Stage, account_back, account_met, account_by, access_done}
 
 -- a reopening changes how the master stands alone
 reopens_era : {M Q R : Type 0} (l : Life M Q R) (hand : Option Duty) → (reopens l hand).era ≡ l.era

@@ -1,13 +1,12 @@
 -- What comes into hand of an open slave, for its halves and its row.
-use Rattle.std.proofs.Common.{◌≡◌, ℕ, Bool, true, false, Option, Some, None, List, [], ◌∷◌, ◌++◌, refl, sym, ap, ◌∙◌, subst, if◌then◌else◌}
+use Rattle.std.proofs.Common.{◌≡◌, ℕ, Bool, true, false, Option, Some, None, List, [], ◌∷◌, ◌++◌, refl, ap, ◌∙◌, if◌then◌else◌}
 use Rattle.std.specs.Prelude.{◌&&◌, option_map}
 use Rattle.exchange_model.specs.Exchange.{Speech}
 use Rattle.exchange_model.specs.Rows.{Row, begun, left, row_told}
 use Rattle.idle_slaves.specs.Visited.{HasRow}
-use Rattle.life_model.specs.Lives.{Life, Era, Stand, life_next, era_next, granted, passing_begins}
+use Rattle.life_model.specs.Lives.{Life, Stand, life_next, granted, passing_begins}
 use Rattle.link_model.specs.Mails.{LinkMail}
 use Rattle.link_model.specs.Slave.{Node}
-use Rattle.segment_model.specs.Ends.{Passing}
 use Rattle.segment_model.specs.Seats.{Side, Choice, side_begins, side_holds, side_next, next_mail, first_left, is_over}
 use Rattle.state_exchange.specs.Stated.{Service}
 use Rattle.task_model.specs.Accounts.{Account, Duty, Pick, mails_begin, mails_choice, account_begins, account_next}

@@ -1,5 +1,5 @@
 -- THE ONE DATAGRAM OF AN OPEN SLAVE, as it is sent and as it comes back from the slave.
-use Rattle.std.proofs.Common.{◌≡◌, ℕ, suc, ◌==◌, Bool, true, false, is_some, Option, Some, None, List, [], ◌∷◌, refl, sym, ap, ◌∙◌, subst, eq-eqb, inl, inr}
+use Rattle.std.proofs.Common.{◌≡◌, ℕ, ◌==◌, Bool, true, false, Option, Some, None, List, [], ◌∷◌, refl, sym, ap, ◌∙◌, subst, eq-eqb, inl, inr}
 use Rattle.std.specs.Prelude.{◌⊎◌, if◌then◌else◌}
 use Rattle.datagrams.specs.Datagram as Raw
 use Rattle.datagrams.specs.declared.command.Command.{Command}
@@ -8,7 +8,7 @@ use Rattle.frame_view.specs.Seen.{datagrams_seen}
 use Rattle.frame_view.specs.View.{Lens, datagram_seen, address_of, station_of, register_counter, link_counter, found_of}
 use Rattle.idle_slaves.specs.Going.{AccessCame}
 use Rattle.idle_slaves.specs.Visited.{CameBack, Meets}
-use Rattle.life_frames.specs.Frames.{FrameFor, HasOne, GramFor, IsOpenGram, AllNotFor}
+use Rattle.life_frames.specs.Frames.{FrameFor, GramFor, IsOpenGram}
 use Rattle.life_frames.proofs.Frames.{own_none, own_one}
 use Rattle.life_measure.specs.Visits.{Visit}
 use Rattle.life_model.specs.Lives.{Spot, Stand}
@@ -19,7 +19,7 @@ use Rattle.link_model.specs.Frames.{Ask, Gram, gram_meets, mail_back, node_meets
 use Rattle.link_model.specs.Link.{Halves, write_counter}
 use Rattle.link_model.specs.Mails.{LinkMail}
 use Rattle.segment_model.specs.Record.{is_for}
-use Rattle.segment_model.specs.Slaves.{Datagram, Address, Access, Found, Slave, Registers, is_meant, address_behind, datagram_meets, slave_meets, frame_after, slave_after, counter_met, found_met, registers_met}
+use Rattle.segment_model.specs.Slaves.{Datagram, Address, Access, Found, Slave, is_meant, address_behind, datagram_meets, slave_meets, counter_met, found_met, registers_met}
 use Rattle.state_model.specs.States.{Phase, reads}
 use Rattle.task_model.specs.Accounts.{Duty, phase_access}
 use Rattle.eager_slaves.specs.Eager.{AsksVisit}

@@ -5,21 +5,20 @@ use Rattle.exchange_model.specs.Exchange.{Exchange, Speech}
 use Rattle.idle_slaves.specs.Frames.{InVain, node_on, memory_on}
 use Rattle.idle_slaves.specs.Going.{Going, AccessVain, registers_on}
 use Rattle.idle_slaves.specs.Links.{HasLink}
-use Rattle.idle_slaves.specs.Visited.{IsFor, Shows, Meets, CameBack, HasRow, IsUnpaused, Waiting, Chosen, LifeSpent, visit_for, life_visit, memory_of}
-use Rattle.idle_slaves.specs.Waiting.{Wanted, Memory, IsWaiting, memory_behind, tried, link_by, wanted_by}
+use Rattle.idle_slaves.specs.Visited.{IsFor, Meets, CameBack, HasRow, IsUnpaused, Waiting, Chosen, LifeSpent, visit_for, life_visit, memory_of}
+use Rattle.idle_slaves.specs.Waiting.{Wanted, Memory, IsWaiting, memory_behind, link_by, wanted_by}
 use Rattle.idle_slaves.proofs.Choosing.{chosen}
 use Rattle.idle_slaves.proofs.Frames.{waits_so, was_spent}
 use Rattle.idle_slaves.proofs.Going.{goes_so}
 use Rattle.idle_slaves.proofs.Visited.{second, same_node}
 use Rattle.idle_slaves.proofs.Waiting.{Holds, Comes, holds, comes}
 use Rattle.life_measure.specs.Gains.{gains, phase_gains, stage_gains, progress_gains}
-use Rattle.life_measure.specs.Visits.{Visit, mails_visit, drain_visit}
+use Rattle.life_measure.specs.Visits.{Visit, mails_visit}
 use Rattle.life_measure.proofs.Gaining.{next_same, state_gains}
-use Rattle.life_model.specs.Lives.{Life, Era, Spot, Stand, life_next, life_back}
+use Rattle.life_model.specs.Lives.{Life, Spot, Stand, life_back}
 use Rattle.life_model.specs.Own.{own}
 use Rattle.link_mails.specs.Body.{Body}
-use Rattle.link_model.specs.Agree.{Agrees}
-use Rattle.link_model.specs.Frames.{Ask, Gram, node_meets, halves_answered, halves_accept, mail_back}
+use Rattle.link_model.specs.Frames.{Ask, node_meets, halves_answered, halves_accept}
 use Rattle.link_model.specs.Link.{Halves, Link, Event, happens, written, write_counter}
 use Rattle.link_model.specs.Mails.{LinkMail, news}
 use Rattle.link_model.specs.Master.{InState, InHalf, OutHalf}
@@ -35,10 +34,10 @@ use Rattle.segment_model.specs.Slaves.{Datagram, Access, Found, Serving, Slave, 
 use Rattle.segment_plan.specs.declared.service.Service as Plan
 use Rattle.state_exchange.specs.Stated.{Service}
 use Rattle.state_model.specs.States.{Table, Phase, carry, word_carried, decided, reads, phase_written}
-use Rattle.states_come.specs.Steps.{NotGone, StepsAlone}
-use Rattle.task_model.specs.Accounts.{Account, Duty, Stage, Pick, Progress, phase_access, access_done, account_by}
+use Rattle.states_come.specs.Steps.{NotGone}
+use Rattle.task_model.specs.Accounts.{Duty, Stage, Progress, phase_access, access_done, account_by}
 use Rattle.eager_slaves.specs.Eager.{Remembered, AsksVisit, AsksStage, AsksFor, EachAsksFor, IsClear, NoneLeft, MayBegin, IsAtEnd, IsEager, IsInVain, IsDraining, RemembersOn, IsUnpausedBy, GetsNone}
-use Rattle.eager_slaves.specs.Frames.{IsSent, One, FrameAs}
+use Rattle.eager_slaves.specs.Frames.{One, FrameAs}
 use Rattle.eager_slaves.specs.Standing.{Steps, Unvisited, Visited, Standing, IsDone}
 use Rattle.eager_slaves.proofs.Behind as Behind
 use Rattle.eager_slaves.proofs.Behind.{left_heard}

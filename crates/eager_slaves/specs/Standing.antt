@@ -1,5 +1,5 @@
 -- HOW A SLAVE STANDS while frames come back and gain nothing.
-use Rattle.std.specs.Prelude.{◌≡◌, ◌≤◌, ℕ, Bool, true, false, Option, None}
+use Rattle.std.specs.Prelude.{◌≡◌, ◌≤◌, Bool, true, false, Option, None}
 use Rattle.exchange_model.specs.Exchange.{Speech}
 use Rattle.idle_slaves.specs.Going.{Going}
 use Rattle.idle_slaves.specs.Visited.{Shows, Waiting, LifeSpent}

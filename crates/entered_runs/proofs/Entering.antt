@@ -1,16 +1,15 @@
 -- Frame by frame.
-use Rattle.std.proofs.Common.{◌≡◌, ◌⊎◌, ◌≤◌, ℕ, zero, suc, ◌+◌, ◌==◌, Bool, true, false, Option, List, length, refl, sym, ap, ◌∙◌, subst, arith, if◌then◌else◌, inl, inr, eq-eqb}
+use Rattle.std.proofs.Common.{◌≡◌, ◌⊎◌, ◌≤◌, ℕ, suc, ◌+◌, ◌==◌, Bool, true, false, Option, List, length, refl, sym, ap, ◌∙◌, arith, if◌then◌else◌, inl, inr, eq-eqb}
 use Rattle.std.proofs.lemmas.Bool.{eqb-true}
 use Rattle.eager_slaves.specs.Eager.{Remembered}
 use Rattle.life_runs.specs.First.{lens_of, first_leads}
-use Rattle.life_runs.specs.Led.{Exchanged, Leads, Turn}
-use Rattle.run_frames.specs.Clocks.{repair_of, gains_all}
+use Rattle.life_runs.specs.Led.{Exchanged, Leads}
+use Rattle.run_frames.specs.Clocks.{repair_of}
 use Rattle.run_frames.specs.Led.{behind_back, still_led, waits_led}
 use Rattle.run_frames.specs.Runs.{Progress}
-use Rattle.run_frames.specs.Toured.{IsToured, AskIn}
+use Rattle.run_frames.specs.Toured.{IsToured}
 use Rattle.run_frames.specs.Waits.{Waits, all_anew}
 use Rattle.segment_plan.specs.declared.plan.Scenario.{Scenario}
-use Rattle.wait_runs.specs.Eager.{IsEagerFrame, EagerIn}
 use Rattle.wait_runs.proofs.Lists.{Slave, still_same}
 use Rattle.entered_runs.specs.Entered.{marks, EagerBut, Entered}
 
