@@ -1,12 +1,11 @@
 -- What a reader tells of a plan rules out that a service has no room.
-use Rattle.std.proofs.Common.{◌≡◌, ◌≢◌, ℕ, zero, suc, ◌+◌, ◌<◌, ◌≤◌, ◌==◌, nat_le, Bool, true, false, All, Option, Some, None, List, [], ◌∷◌, length, refl, sym, ap, ◌∙◌, subst, arith, le-ltb, if◌then◌else◌}
+use Rattle.std.proofs.Common.{◌≡◌, ℕ, zero, suc, ◌+◌, ◌≤◌, ◌==◌, nat_le, Bool, true, false, All, Option, Some, None, List, [], ◌∷◌, length, refl, sym, ap, ◌∙◌, subst, arith, le-ltb, if◌then◌else◌}
 use Rattle.std.specs.Prelude.{IfSome, slice_get, nat_lt}
 use Rattle.std.proofs.lemmas.Bool.{eqb-true}
 use Rattle.std.proofs.lemmas.List.Elements.{All-nil, All-cons, All-head, All-tail}
 use Rattle.eoe_model.specs.Client as EoeClient
 use Rattle.life_runs.specs.First.{script_for}
-use Rattle.master_hand.specs.Spoken.{Asked, net}
-use Rattle.master_hand.specs.Talk.{asked_of}
+use Rattle.master_hand.specs.Spoken.{net}
 use Rattle.scenario.specs.of_scenario_bodies.Suited.{Suits}
 use Rattle.scenario.specs.of_scenario_services.Reading.{FitsSlave}
 use Rattle.segment_plan.specs.Bound.{smaller}

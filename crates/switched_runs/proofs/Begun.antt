@@ -1,5 +1,5 @@
 -- THE PACKETS THAT CAME INTO HAND of a slave, by its life and by the frames; of one without a port none did.
-use Rattle.std.proofs.Common.{◌≡◌, ℕ, zero, suc, ◌+◌, ◌*◌, ◌<◌, ◌≤◌, ◌==◌, Bool, true, false, cond, Option, Some, None, List, [], ◌∷◌, ◌++◌, map, length, filter, refl, sym, ap, ◌∙◌, subst, arith, append-nil, if◌then◌else◌}
+use Rattle.std.proofs.Common.{◌≡◌, ℕ, zero, suc, ◌+◌, ◌≤◌, ◌==◌, Bool, true, false, Option, Some, None, List, [], ◌∷◌, ◌++◌, map, length, filter, refl, sym, ap, ◌∙◌, arith, if◌then◌else◌}
 use Rattle.std.specs.Prelude.{sum_by, slice_get}
 use Rattle.std.proofs.lemmas.Bool.{eqb-true}
 use Rattle.std.proofs.lemmas.List.Elements.{filter-append}
@@ -12,13 +12,13 @@ use Rattle.eoe_switch.specs.Switch.{Switched, switched}
 use Rattle.eoe_switch.specs.declared.switching.SwitchEvent.{SwitchEvent}
 use Rattle.eoe_switch.specs.declared.switching.SwitchEvent.TheVariants.{Arrive, Begun, Down}
 use Rattle.frame_view.specs.View.{Lens}
-use Rattle.life_runs.specs.Led.{Exchanged, Leads, Turn, IsTurn, AllTurn, IsLed, led_behind, gives_up_at}
+use Rattle.life_runs.specs.Led.{Exchanged, Leads, Turn, AllTurn, IsLed, led_behind, gives_up_at}
 use Rattle.master_hand.specs.Spoken.{Asked, sdo, file, drive, net, passed}
-use Rattle.master_node.specs.Begins.{Taken, switch_on, oldest_at, taken_by, taken_in, packet_asked, begins_by, begun_of, begins_in}
+use Rattle.master_node.specs.Begins.{Taken, switch_on, taken_by, taken_in, begins_by, begun_of, begins_in}
 use Rattle.master_node.specs.Forwards.{port_by}
 use Rattle.master_tour.specs.Made.{is_in}
 use Rattle.packet_work.specs.Packets.{waiting_work, queue_work}
-use Rattle.packets_begun.specs.Over.{AreBegun, BegunOn, packet_of, packet_begun, packets_begun}
+use Rattle.packets_begun.specs.Over.{AreBegun, packet_begun, packets_begun}
 use Rattle.script_runs.specs.Came.{is_packet}
 use Rattle.script_runs.proofs.Came.{listed, turn_started, behind_same}
 use Rattle.state_exchange.specs.Stated.{Service}

@@ -1,7 +1,6 @@
 -- ALL SLAVES: what came into hand is within what entered.
-use Rattle.std.proofs.Common.{◌≡◌, ℕ, zero, suc, ◌+◌, ◌-◌, ◌*◌, ◌<◌, ◌≤◌, Bool, true, false, not, All, Option, Some, None, List, [], ◌∷◌, ◌++◌, take, length, filter, refl, sym, ap, ◌∙◌, subst, arith, if◌then◌else◌}
+use Rattle.std.proofs.Common.{◌≡◌, ℕ, zero, suc, ◌+◌, ◌-◌, ◌*◌, ◌<◌, ◌≤◌, Bool, true, false, All, Option, Some, None, List, [], ◌∷◌, ◌++◌, take, length, filter, refl, sym, ap, ◌∙◌, subst, arith, if◌then◌else◌}
 use Rattle.std.specs.Prelude.{count_by, slice_get, sum_by, nat_lt}
-use Rattle.std.proofs.Math.Nat.{mul-le-mul_right}
 use Rattle.std.proofs.lemmas.Nat.{mul-le}
 use Rattle.std.proofs.lemmas.List.Elements.{All-head, All-tail}
 use Rattle.std.proofs.lemmas.List.Sums.{sum_by-cons, sum_by-append}
@@ -22,8 +21,8 @@ use Rattle.packets_begun.specs.Over as Over
 use Rattle.packets_heard.specs.Heard.{Joined, joined_in}
 use Rattle.plan_counts.specs.Asked.{asked_most}
 use Rattle.plan_counts.specs.Split.{entering}
-use Rattle.port_events.specs.Listed.{IsOwn, Listed, long_where, long_ones, packets_at}
-use Rattle.run_work.specs.Switched.{AreSwitched, cuts_begun, host_cuts}
+use Rattle.port_events.specs.Listed.{IsOwn, long_where, long_ones, packets_at}
+use Rattle.run_work.specs.Switched.{cuts_begun, host_cuts}
 use Rattle.run_work.specs.Together.{packets_begun}
 use Rattle.script_runs.specs.Came.{is_packet}
 use Rattle.script_runs.specs.Slaves.{HasCome, AllCome}
@@ -33,7 +32,7 @@ use Rattle.sent_packets.specs.Sent.{AllSend}
 use Rattle.service_counts.specs.Shapes.{shape_of}
 use Rattle.slave_sends.specs.Sends.{all_most}
 use Rattle.slave_server.specs.Spec.{core_of, profile_of}
-use Rattle.switched_runs.proofs.Begun.{weight, weights, started_at, begun_weights, none_begun}
+use Rattle.switched_runs.proofs.Begun.{weights, started_at, begun_weights, none_begun}
 use Rattle.switched_runs.proofs.Ports.{ports_sum, eoe_count, forwards_within, queue_append, entries_within, come_at, few_ports}
 use Rattle.switched_runs.proofs.Weighed.{Echoes, echoes, packets_weigh, all_send}
 

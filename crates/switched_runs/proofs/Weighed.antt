@@ -1,11 +1,10 @@
 -- WHAT ONE SLAVE'S PACKETS COME TO: those that came into hand of it, those that it sent back, and those that its downloads emitted.
-use Rattle.std.proofs.Common.{◌≡◌, ℕ, zero, suc, ◌+◌, ◌-◌, ◌*◌, ◌/◌, ◌<◌, ◌≤◌, ◌==◌, ◌&&◌, ◌||◌, not, Bool, true, false, cond, Option, Some, None, List, [], ◌∷◌, ◌++◌, take, length, filter, refl, sym, ap, ◌∙◌, subst, arith, if◌then◌else◌}
+use Rattle.std.proofs.Common.{◌≡◌, ℕ, suc, ◌+◌, ◌*◌, ◌/◌, ◌≤◌, ◌==◌, ◌&&◌, ◌||◌, not, Bool, true, false, cond, Option, Some, None, List, [], ◌∷◌, length, filter, refl, sym, ap, ◌∙◌, subst, arith, if◌then◌else◌}
 use Rattle.std.specs.Prelude.{sum_by, option_map, nat_lt}
 use Rattle.std.proofs.lemmas.List.Sums.{sum_by-cons}
 use Rattle.std.proofs.lemmas.Nat.{mul-le}
-use Rattle.arrayvec.specs.ArrayVec.{ArrayVec}
 use Rattle.coe_client.specs.Talk.{service_view}
-use Rattle.coe_model.specs.Server.{Emission, emergency, packet, emission_of}
+use Rattle.coe_model.specs.Server.{emergency, packet, emission_of}
 use Rattle.eoe_model.specs.Client as EoeClient
 use Rattle.eoe_model.specs.Echo.{echo_of}
 use Rattle.life_counts.specs.Begun.{service_most, begun_most}
@@ -18,7 +17,7 @@ use Rattle.plan_counts.specs.Asked.{asked_most}
 use Rattle.plan_counts.specs.Split.{sdo_cuts, entering}
 use Rattle.script_runs.specs.Came.{handed_over, AreThose, is_packet}
 use Rattle.segment_plan.specs.declared.service.Service as Plan
-use Rattle.service_counts.specs.Shapes.{Shape, sdo_emission, echo_mails, net_echo}
+use Rattle.service_counts.specs.Shapes.{Shape, sdo_emission, echo_mails}
 use Rattle.slave_model.specs.Profile.{Profile}
 use Rattle.slave_sends.specs.Sends.{of_emission, asked_sends, sends_most, all_most}
 use Rattle.state_exchange.specs.Stated.{Service}
