@@ -5,7 +5,6 @@ pub mod Emergencies
 pub mod Visits
 pub mod Few
 pub mod Ports
-pub mod Bounded
 pub mod Numbers
 pub mod Promised
 pub use Rattle.run_record.specs.Ran
