@@ -10,4 +10,3 @@ mod Ports
 mod Rows
 mod Numbers
 mod Overs
-mod Bounded
