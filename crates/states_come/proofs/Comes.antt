@@ -1,9 +1,9 @@
 -- A session of slaves: of each that answers the state service in hand and the registers are come to by events.
-use Rattle.std.proofs.Common.{◌≡◌, ℕ, Bool, true, false, Option, Some, None, List, [], ◌∷◌, ◌++◌, length, refl, sym, ap, ◌∙◌, subst, if◌then◌else◌}
+use Rattle.std.proofs.Common.{◌≡◌, ℕ, Bool, true, false, Option, Some, None, List, [], ◌∷◌, ◌++◌, length, refl, sym, ap, subst, if◌then◌else◌}
 use Rattle.std.specs.Prelude.{⊤, ◌&&◌}
 use Rattle.exchange_model.specs.Exchange.{Exchange}
 use Rattle.idle_slaves.specs.Going.{IsCome}
-use Rattle.idle_slaves.specs.Phases.{Rests, idle_states}
+use Rattle.idle_slaves.specs.Phases.{idle_states}
 use Rattle.life_model.specs.Eras.{EraIs, era_frames, planned}
 use Rattle.life_model.specs.Lives.{Spot, Era}
 use Rattle.link_model.specs.Mails.{LinkMail}

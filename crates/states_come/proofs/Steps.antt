@@ -1,13 +1,12 @@
 -- A step of the processor of an open epoch's slave, while no state service is past its drain.
-use Rattle.std.proofs.Common.{◌≡◌, ℕ, Bool, false, Option, Some, None, List, [], ◌∷◌, refl, sym, ap, ◌∙◌, subst}
-use Rattle.std.specs.Prelude.{⊤}
+use Rattle.std.proofs.Common.{◌≡◌, ℕ, Bool, false, Option, Some, None, List, [], ◌∷◌, sym, ap, ◌∙◌, subst}
 use Rattle.exchange_model.specs.Exchange.{Exchange, IsLawful}
 use Rattle.life_model.specs.Eras.{EraIs, era_frames, planned}
 use Rattle.life_model.specs.Lives.{Spot, Era}
-use Rattle.link_model.specs.Slave.{Node, node_look, node_serve, processor_step}
+use Rattle.link_model.specs.Slave.{node_look, node_serve}
 use Rattle.segment_model.specs.Record.{Frame}
 use Rattle.segment_model.specs.Seats.{Seat, Side, Planned, sides_of, ring_of}
-use Rattle.segment_model.specs.Slaves.{Processor, Registers, Ring, Serving, Slave, serving, slave_steps, state_told}
+use Rattle.segment_model.specs.Slaves.{Processor, Registers, Ring, Slave, serving}
 use Rattle.state_exchange.specs.Stated.{Stated, IsStated}
 use Rattle.state_model.specs.States.{Table, carry}
 use Rattle.task_model.proofs.Sessions.{Whole, session_keeps}
