@@ -23,7 +23,7 @@ use Rattle.master_tour.specs.of_life_model.Lives.{Spot}
 use Rattle.master_tour.specs.Walks.{StepsAt}
 use Rattle.master_tour.specs.declared.stop.Stop.{Stop}
 use Rattle.segment_plan.specs.declared.service.Service as Plan
-use Rattle.master_node.specs.Begins.{Taken, switch_on, switch_behind, oldest_by, taken_by, taken_in, begins_by, begins_in, begun_of, begun_for, HasTaken, TakesOn, taken_where, LaysOldest, NoneMore, PacketFirst, begins_other, HasBegun, PacketsBegin}
+use Rattle.master_node.specs.Begins.{Taken, switch_on, switch_behind, oldest_by, taken_by, taken_in, begins_by, begins_in, begun_of, begun_for, HasTaken, TakesOn, taken_where, LaysOldest, NoneMore, PacketFirst, begins_other, HasBegun, IsInOrder, PacketsBegin}
 use Rattle.master_node.specs.Coming.{IsComing, IsLaid, next_of, wish_of}
 use Rattle.master_node.specs.Filling.{IsAmong}
 use Rattle.master_node.specs.Forwards.{forwarded, port_by, waiting_by}
@@ -95,9 +95,8 @@ nothing_for [] k = refl
 nothing_for (a ∷ as') zero = refl
 nothing_for (a ∷ as') (suc k) = nothing_for as' k
 
-pub begun_nothing : (from : Switched) (left : List ℕ) (as' : List Leads) (l : Lan) → HasTaken from [] l → HasBegun from left (λ j. None) as' l
+pub begun_nothing : (from : Switched) (left : List ℕ) (as' : List Leads) (l : Lan) → HasTaken from [] l → HasBegun from [] left (λ j. None) as' l
 begun_nothing from left as' l h = record {
-  visited = [];
   once = tt;
   over = λ k e. absurd (cc);
   took = h;
@@ -105,8 +104,8 @@ begun_nothing from left as' l h = record {
   quiet = λ k e. absurd (let w = sym (ap (λ z. begins_other z) (nothing_for as' k)) ∙ e in cc);
 }
 
-pub begun_on : (from : Switched) (left : List ℕ) (begun : ℕ → Option (Service Asked)) (as' : List Leads) (l l' : Lan) → l' ≡ l → HasBegun from left begun as' l → HasBegun from left begun as' l'
-begun_on from left begun as' l l' e h = subst (λ z. HasBegun from left begun as' z) (sym e) h
+pub begun_on : (from : Switched) (visited left : List ℕ) (begun : ℕ → Option (Service Asked)) (as' : List Leads) (l l' : Lan) → l' ≡ l → HasBegun from visited left begun as' l → HasBegun from visited left begun as' l'
+begun_on from visited left begun as' l l' e h = subst (λ z. HasBegun from visited left begun as' z) (sym e) h
 
 -- the place in the ring of the slave at a place of the tour
 abbrev pub spot_at : List Leads → ℕ → Option ℕ
@@ -162,25 +161,24 @@ module _ (begun : ℕ → Option (Service Asked)) (h : ℕ) (b : Option (Service
   at_other (a ∷ as') (suc p) (suc k) d e n = at_other as' p k d.1 e (λ q. n (ap suc q))
 
 -- THE VISIT of the slave at a place goes on with it
-pub begun_step : (from : Switched) (left next : List ℕ) (begun : ℕ → Option (Service Asked)) (as' : List Leads) (l l' : Lan) (p h : ℕ) (b : Option (Service Asked)) (more : List Taken) → AreDistinct (map lived_of as') → spot_at as' p ≡ Some h → length l.happened < 17 →
-    is_in p left ≡ true → is_in p next ≡ false → ((k : ℕ) → is_in k next ≡ true → is_in k left ≡ true) → more ≡ begins_by (port_by (slice_get l.ports.items p)) b → TakesOn more l l' → NoneMore l l' → (begins_other b ≡ true → forwarded l.switch l.ports.items p ≡ []) → HasBegun from left begun as' l → HasBegun from next (begun_at begun h b) as' l'
-begun_step from left next begun as' l l' p h b more d e room at over fewer m t less waits x =
+pub begun_step : (from : Switched) (visited left next : List ℕ) (begun : ℕ → Option (Service Asked)) (as' : List Leads) (l l' : Lan) (p h : ℕ) (b : Option (Service Asked)) (more : List Taken) → AreDistinct (map lived_of as') → spot_at as' p ≡ Some h → length l.happened < 17 →
+    is_in p left ≡ true → is_in p next ≡ false → ((k : ℕ) → is_in k next ≡ true → is_in k left ≡ true) → more ≡ begins_by (port_by (slice_get l.ports.items p)) b → TakesOn more l l' → NoneMore l l' → (begins_other b ≡ true → forwarded l.switch l.ports.items p ≡ []) → HasBegun from visited left begun as' l → HasBegun from (visited ++ p ∷ []) next (begun_at begun h b) as' l'
+begun_step from visited left next begun as' l l' p h b more d e room at over fewer m t less waits x =
     let now = begun_at begun h b in
-    let new : is_in p x.visited ≡ false = not_in p x.visited (λ w. true_false (is_in p left) at (x.over p w)) in
-    let apart : (k : ℕ) → is_in k x.visited ≡ true → k ≡ p → ⊥ = λ k w q. true_false (is_in p x.visited) (subst (λ z. is_in z x.visited ≡ true) q w) new in
-    let was : begins_in l.ports.items (begun_for begun as') x.visited ≡ begins_in l.ports.items (begun_for now as') x.visited = begins_same l.ports.items (begun_for begun as') (begun_for now as') x.visited (λ k w. at_other begun h b as' p k d e (apart k w)) in
+    let new : is_in p visited ≡ false = not_in p visited (λ w. true_false (is_in p left) at (x.over p w)) in
+    let apart : (k : ℕ) → is_in k visited ≡ true → k ≡ p → ⊥ = λ k w q. true_false (is_in p visited) (subst (λ z. is_in z visited ≡ true) q w) new in
+    let was : begins_in l.ports.items (begun_for begun as') visited ≡ begins_in l.ports.items (begun_for now as') visited = begins_same l.ports.items (begun_for begun as') (begun_for now as') visited (λ k w. at_other begun h b as' p k d e (apart k w)) in
     let is : more ≡ begins_by (port_by (slice_get l.ports.items p)) (begun_for now as' p) = m ∙ ap (λ z. begins_by (port_by (slice_get l.ports.items p)) z) (sym (at_place begun h b as' p e)) in
-    let all : begins_in l.ports.items (begun_for begun as') x.visited ++ more ≡ begins_in l'.ports.items (begun_for now as') (x.visited ++ p ∷ []) =
-    (λ i. was i ++ is i) ∙ sym (begins_push l.ports.items (begun_for now as') x.visited p) ∙ ap (λ z. begins_in z.items (begun_for now as') (x.visited ++ p ∷ [])) (sym t.ports) in
+    let all : begins_in l.ports.items (begun_for begun as') visited ++ more ≡ begins_in l'.ports.items (begun_for now as') (visited ++ p ∷ []) =
+    (λ i. was i ++ is i) ∙ sym (begins_push l.ports.items (begun_for now as') visited p) ∙ ap (λ z. begins_in z.items (begun_for now as') (visited ++ p ∷ [])) (sym t.ports) in
     record {
-      visited = x.visited ++ p ∷ [];
-      once = once_more p x.visited x.once new;
+      once = once_more p visited x.once new;
       over = λ k w.
-          in_more k p x.visited (is_in k next ≡ false) (λ u. not_in k next (λ v. true_false (is_in k left) (fewer k v) (x.over k u))) (λ q. subst (λ z. is_in z next ≡ false) (sym q) over) w;
-      took = subst (λ z. HasTaken from z l') all (t.takes from (begins_in l.ports.items (begun_for begun as') x.visited) room x.took);
+          in_more k p visited (is_in k next ≡ false) (λ u. not_in k next (λ v. true_false (is_in k left) (fewer k v) (x.over k u))) (λ q. subst (λ z. is_in z next ≡ false) (sym q) over) w;
+      took = subst (λ z. HasTaken from z l') all (t.takes from (begins_in l.ports.items (begun_for begun as') visited) room x.took);
       others = λ k port w.
-          let out : is_in k x.visited ≡ false = not_in k x.visited (λ v. true_false (is_in k (x.visited ++ p ∷ [])) (in_first k x.visited (p ∷ []) v) w) in
-          let not_p : k ≡ p → ⊥ = λ q. true_false (is_in k (x.visited ++ p ∷ [])) (in_last k x.visited (p ∷ []) (in_here k p [] (eq-eqb k p q))) w in
+          let out : is_in k visited ≡ false = not_in k visited (λ v. true_false (is_in k (visited ++ p ∷ [])) (in_first k visited (p ∷ []) v) w) in
+          let not_p : k ≡ p → ⊥ = λ q. true_false (is_in k (visited ++ p ∷ [])) (in_last k visited (p ∷ []) (in_here k p [] (eq-eqb k p q))) w in
           ap (λ z. begins_by port z) (at_other begun h b as' p k d e not_p) ∙ x.others k port out;
       quiet = λ k w. less k (was_quiet k (k == p) refl w);
     }
@@ -194,11 +192,12 @@ begun_step from left next begun as' l l' p h b more d e room at over fewer m t l
         x.quiet k (ap (λ z. begins_other z) (sym (at_other begun h b as' p k d e (λ q. true_false (k == p) (eq-eqb k p q) f))) ∙ w)
 
 -- the turns of a frame
-pub packets_begin : (from : Switched) (left : List ℕ) (begun : ℕ → Option (Service Asked)) (as' : List Leads) (us : List Turn) (l : Lan) → ((k : ℕ) → begun_of us k ≡ begun_for begun as' k) → HasBegun from left begun as' l → PacketsBegin from us l
-packets_begin from left begun as' us l h x = record {
-  visited = x.visited;
+pub packets_begin : (from : Switched) (carried visited left : List ℕ) (begun : ℕ → Option (Service Asked)) (as' : List Leads) (us : List Turn) (l : Lan) → ((k : ℕ) → begun_of us k ≡ begun_for begun as' k) → IsInOrder carried visited → HasBegun from visited left begun as' l → PacketsBegin from us carried l
+packets_begin from carried visited left begun as' us l h o x = record {
+  visited = visited;
+  order = o;
   once = x.once;
-  taken = x.took.taken_is ∙ begins_same l.ports.items (begun_for begun as') (begun_of us) x.visited (λ k e. h k);
+  taken = x.took.taken_is ∙ begins_same l.ports.items (begun_for begun as') (begun_of us) visited (λ k e. h k);
   others = λ k port e. ap (λ z. begins_by port z) (h k) ∙ x.others k port e;
   quiet = λ k e. x.quiet k (ap (λ z. begins_other z) (sym (h k)) ∙ e);
 }

@@ -1,5 +1,5 @@
 -- THE VISITS OF A FRAME, one after the other.
-use Rattle.std.proofs.Common.{◌≡◌, ◌⊎◌, inl, inr, ◌<◌, ◌≤◌, ◌+◌, ◌%◌, ℕ, zero, suc, Bool, true, false, Option, Some, None, List, [], ◌∷◌, ◌++◌, refl, sym, ap, ◌∙◌, subst, arith, length}
+use Rattle.std.proofs.Common.{◌≡◌, ◌⊎◌, inl, inr, ◌<◌, ◌≤◌, ◌+◌, ◌%◌, ℕ, zero, suc, Bool, true, false, Option, Some, None, List, [], ◌∷◌, ◌++◌, refl, sym, ap, ◌∙◌, subst, arith, length, drop, append-nil, append_assoc}
 use Rattle.std.specs.Prelude.{nat_lt, map, All}
 use Rattle.std.specs.List.{list_any}
 use Rattle.std.proofs.lemmas.Bool.{lt-ltb, le-ltb}
@@ -11,6 +11,7 @@ use Rattle.master_tour.specs.Goes.{is_live, holds_at, Passes, BeginsLive}
 use Rattle.master_tour.specs.Made.{FrameMade, is_in}
 use Rattle.master_tour.specs.Orders.{visits_left, AreOnce, IsNextOf, IsCarried}
 use Rattle.master_tour.specs.Walks.{StepsAt}
+use Rattle.master_node.specs.Begins.{IsInOrder}
 use Rattle.master_node.specs.Filling.{IsAmong, StopFills, IsFilling, IsEmpty, IsFilled}
 use Rattle.master_node.specs.Kept.{TourOn}
 use Rattle.master_node.specs.Shows.{WaitsNone, HoldsFirst, IsAlone, ComeAgain, lived_of, is_live_lead}
@@ -39,10 +40,31 @@ pub record NoneYet (m : MasterNode) (octets : List ℕ) (as' : List Leads) : Typ
   pub some : list_any (λ s. is_live s.stand) m.tour.stops.items ≡ true
   pub lives : (k : ℕ) → holds_at (λ s. is_live s.stand) m.tour.stops.items k ≡ holds_at is_live_lead as' k
 
+-- these were visited: those that are carried, in this order, and at most one more; none more where each has grown the frame
+pub record AsCarried (each : Type 0) (carried seen : List ℕ) : Type 0 where
+  pub more : List ℕ
+  pub few : length more ≤ 1
+  pub same : seen ≡ carried ++ more
+  pub none : each → more ≡ []
+
+in_order : (again : Bool) (passed : ℕ) (each : Type 0) (visit seen : List ℕ) → (again ≡ false → AsCarried each visit seen) → (again ≡ true → seen ++ drop passed visit ≡ visit) → IsInOrder visit seen
+in_order false passed each visit seen o r = let c = o refl in record { more = c.more; rest = []; few = c.few; same = append-nil seen ∙ c.same }
+in_order true passed each visit seen o r = record { more = []; rest = drop passed visit; few = omega arith; same = r refl ∙ sym (append-nil visit) }
+
+order_more : (b again : Bool) (p : ℕ) (visit new seen : List ℕ) (each each' : Type 0) → IsCarried b again p visit new → again ≡ false → each → (each' → b ≡ true) → AsCarried each visit seen → AsCarried each' new (seen ++ p ∷ [])
+order_more true true p visit new seen each each' c a f t o = absurd (cc)
+order_more true false p visit new seen each each' c a f t o =
+    record { more = []; few = omega arith; same = ap (λ z. z ++ p ∷ []) (o.same ∙ ap (λ z. visit ++ z) (o.none f) ∙ append-nil visit) ∙ sym c ∙ sym (append-nil new); none = λ e. refl }
+order_more false again p visit new seen each each' c a f t o =
+    record { more = p ∷ []; few = omega arith; same = ap (λ z. z ++ p ∷ []) (o.same ∙ ap (λ z. visit ++ z) (o.none f) ∙ append-nil visit ∙ sym c); none = λ e. absurd (let bad = t e in cc) }
+
 -- BEHIND SO MANY VISITS
 pub record Fills (lens : ℕ → Lens) (recover made : ℕ) (from : Switched) (as' : List Leads) (n : ℕ) (m : MasterNode) (octets : List ℕ) : Type 0 where
+  pub seen : List ℕ
   pub left : List ℕ
-  pub filling : IsFilling lens recover made from left m octets as'
+  pub filling : IsFilling lens recover made from seen left m octets as'
+  pub order : m.tour.again ≡ false → AsCarried (m.tour.count ≡ n) m.tour.visit.items seen
+  pub repeated : m.tour.again ≡ true → seen ++ drop m.tour.passed m.tour.visit.items ≡ m.tour.visit.items
   pub most : (k : ℕ) → is_in k (visits_left m.tour.again m.tour.visit.items m.tour.opened (length m.tour.stops.items) m.tour.last m.tour.passed) ≡ true → is_in k left ≡ true
   pub apart : m.tour.opened < length as' → (k : ℕ) → k < length as' → (k ≡ m.tour.opened → ⊥) → is_in k left ≡ true
   pub once : AreOnce m.tour.visit.items
@@ -61,8 +83,8 @@ from_length P i [] (s ∷ ss) p = absurd p
 from_length P i (a ∷ as') [] p = absurd p
 from_length P i (a ∷ as') (s ∷ ss) p = ap suc (from_length P (suc i) as' ss p.1)
 
-pub many : (lens : ℕ → Lens) (recover made : ℕ) (from : Switched) (left : List ℕ) (m : MasterNode) (octets : List ℕ) (as' : List Leads) → IsFilling lens recover made from left m octets as' → length m.tour.stops.items ≡ length as'
-many lens recover made from left m octets as' f = from_length (λ i a s. IsAmong lens f.begun left i a s) 0 as' m.tour.stops.items f.among
+pub many : (lens : ℕ → Lens) (recover made : ℕ) (from : Switched) (seen left : List ℕ) (m : MasterNode) (octets : List ℕ) (as' : List Leads) → IsFilling lens recover made from seen left m octets as' → length m.tour.stops.items ≡ length as'
+many lens recover made from seen left m octets as' f = from_length (λ i a s. IsAmong lens f.begun left i a s) 0 as' m.tour.stops.items f.among
 
 -- the number of datagrams behind a visit
 pub count_behind : {S : Type 0} (P : S → S → Type 0) (under : S → Bool) (n c i : ℕ) (xs ys : List S) → ((s t : S) → P s t → (under t ≡ true → c ≡ n + 1) × (under t ≡ false → c ≡ n)) → StepsAt P i xs ys → (c ≡ n) ⊎ (c ≡ n + 1)
@@ -78,14 +100,14 @@ count_behind P under n c zero (x ∷ xs) (y ∷ ys) h e = go (under y) refl
 count_behind P under n c (suc i) (x ∷ xs) (y ∷ ys) h e = count_behind P under n c i xs ys h e.1
 
 module _ (lens : ℕ → Lens) (recover made : ℕ) (from : Switched) (as' : List Leads) where
-  pub filling_same : (left : List ℕ) (m n : MasterNode) (octets : List ℕ) → SameTour m n → IsFilling lens recover made from left m octets as' → IsFilling lens recover made from left n octets as'
-  filling_same left m n octets k f = record {
+  pub filling_same : (seen left : List ℕ) (m n : MasterNode) (octets : List ℕ) → SameTour m n → IsFilling lens recover made from seen left m octets as' → IsFilling lens recover made from seen left n octets as'
+  filling_same seen left m n octets k f = record {
     begun = f.begun;
     frame = subst (λ z. FrameMade (λ ds i a s. StopFills lens recover made f.begun (n.made % 256) left ds i a s) octets n.tour.count (map lived_of as') z.items) (sym k.stops)
         (subst (λ z. FrameMade (λ ds i a s. StopFills lens recover made f.begun (n.made % 256) left ds i a s) octets z (map lived_of as') m.tour.stops.items) (sym k.count)
         (subst (λ z. FrameMade (λ ds i a s. StopFills lens recover made f.begun (z % 256) left ds i a s) octets m.tour.count (map lived_of as') m.tour.stops.items) (sym k.made) f.frame));
     among = subst (λ z. AllFrom (λ i a s. IsAmong lens f.begun left i a s) 0 as' z.items) (sym k.stops) f.among;
-    packets = begun_on from left f.begun as' m.lan n.lan k.lan f.packets;
+    packets = begun_on from seen left f.begun as' m.lan n.lan k.lan f.packets;
   }
 
   -- before the first visit
@@ -106,8 +128,11 @@ module _ (lens : ℕ → Lens) (recover made : ℕ) (from : Switched) (as' : Lis
       let rest = visits_left m.tour.again m.tour.visit.items m.tour.opened (length m.tour.stops.items) m.tour.last m.tour.passed in
       let left = below (length as') ++ rest in
       record {
+        seen = [];
         left = left;
         filling = e.filling left;
+        order = λ a. record { more = []; few = omega arith; same = sym (ap (λ z. z ++ []) (e.anew a)); none = λ c. refl };
+        repeated = λ a. ap (λ z. drop z m.tour.visit.items) e.passed;
         most = λ k t. in_last k (below (length as')) rest t;
         apart = λ l k a n. in_first k (below (length as')) rest (below_in (length as') k a);
         once = once_of m.tour.again m.tour.visit.items m.tour.opened e.again e.anew;
@@ -124,8 +149,10 @@ module _ (lens : ℕ → Lens) (recover made : ℕ) (from : Switched) (as' : Lis
   -- behind the last one
   pub fills_last : (n : ℕ) (m : MasterNode) (octets : List ℕ) → 1 ≤ n → Fills lens recover made from as' n m octets → IsFilled lens recover made from m octets as'
   fills_last n m octets l f = record {
+    visited = f.seen;
     left = f.left;
     filling = f.filling;
+    order = in_order m.tour.again m.tour.passed (m.tour.count ≡ n) m.tour.visit.items f.seen f.order f.repeated;
     quiet = f.quiet;
     some = f.some l;
     apart = f.apart;
@@ -134,8 +161,10 @@ module _ (lens : ℕ → Lens) (recover made : ℕ) (from : Switched) (as' : Lis
 
   pub filled_same : (m n : MasterNode) (octets : List ℕ) → SameTour m n → IsFilled lens recover made from m octets as' → IsFilled lens recover made from n octets as'
   filled_same m n octets k f = record {
+    visited = f.visited;
     left = f.left;
-    filling = filling_same f.left m n octets k f.filling;
+    filling = filling_same f.visited f.left m n octets k f.filling;
+    order = subst (λ z. IsInOrder z.items f.visited) (sym k.visit) f.order;
     quiet = subst (λ z. All WaitsNone z.items) (sym k.posts) f.quiet;
     some = subst (λ z. 1 ≤ z) (sym k.count) f.some;
     apart = subst (λ z. z < length as' → (j : ℕ) → j < length as' → (j ≡ z → ⊥) → is_in j f.left ≡ true) (sym k.opened) f.apart;
@@ -200,7 +229,8 @@ module _ (lens : ℕ → Lens) (recover made : ℕ) (from : Switched) (as' : Lis
       (space : m1.tour.count < 16) (on : TourOn m1 m2) (passed : m2.tour.passed ≡ m1.tour.passed) (quiets : All WaitsNone m1.posts.items → All WaitsNone m2.posts.items)
       (carries : (m1.tour.again ≡ false → length m1.tour.visit.items < 16) → IsCarried (nat_lt m1.tour.count m2.tour.count) m1.tour.again p m1.tour.visit.items m2.tour.visit.items)
       (counts : (m2.tour.count ≡ m1.tour.count) ⊎ (m2.tour.count ≡ m1.tour.count + 1)) (adds : length octets ≡ 16 → holds_at (λ s. is_live s.stand) m1.tour.stops.items p ≡ true → m2.tour.count ≡ m1.tour.count + 1)
-      (led : (left next : List ℕ) → All WaitsNone m1.posts.items → is_in p left ≡ true → is_in p next ≡ false → ((j : ℕ) → is_in j next ≡ true → is_in j left ≡ true) → IsFilling lens recover made from left m1 octets as' → IsFilling lens recover made from next m2 octets2 as') where
+      (led : (seen left next : List ℕ) → All WaitsNone m1.posts.items → is_in p left ≡ true → is_in p next ≡ false → ((j : ℕ) → is_in j next ≡ true → is_in j left ≡ true) → IsFilling lens recover made from seen left m1 octets as' → IsFilling lens recover made from (seen ++ p ∷ []) next m2 octets2 as')
+      (full : m.tour.count ≡ n) (dues : m.tour.again ≡ true → drop m.tour.passed m.tour.visit.items ≡ p ∷ drop m1.tour.passed m.tour.visit.items) where
     comes_next : IsNextOf p (visits_left m.tour.again m.tour.visit.items m.tour.opened (length m.tour.stops.items) m.tour.last m.tour.passed) (visits_left m.tour.again m.tour.visit.items m.tour.opened (length m.tour.stops.items) m.tour.last m1.tour.passed)
     comes_next = due (λ e. f.once)
 
@@ -210,8 +240,8 @@ module _ (lens : ℕ → Lens) (recover made : ℕ) (from : Switched) (as' : Lis
     quiet1 : All WaitsNone m1.posts.items
     quiet1 = subst (λ z. All WaitsNone z.items) (sym k.posts) f.quiet
 
-    filling2 : IsFilling lens recover made from (without p f.left) m2 octets2 as'
-    filling2 = led f.left (without p f.left) quiet1 at (without_not p f.left) (λ j e. without_fewer p j f.left e) (filling_same f.left m m1 octets k f.filling)
+    filling2 : IsFilling lens recover made from (f.seen ++ p ∷ []) (without p f.left) m2 octets2 as'
+    filling2 = led f.seen f.left (without p f.left) quiet1 at (without_not p f.left) (λ j e. without_fewer p j f.left e) (filling_same f.seen f.left m m1 octets k f.filling)
 
     count1 : m1.tour.count ≡ m.tour.count
     count1 = k.count
@@ -231,7 +261,7 @@ module _ (lens : ℕ → Lens) (recover made : ℕ) (from : Switched) (as' : Lis
 
     same_left : visits_left m2.tour.again m2.tour.visit.items m2.tour.opened (length m2.tour.stops.items) m2.tour.last m2.tour.passed ≡ visits_left m.tour.again m.tour.visit.items m.tour.opened (length m.tour.stops.items) m.tour.last m1.tour.passed
     same_left =
-        (λ i. visits_left (again2 i) m2.tour.visit.items (opened2 i) ((many lens recover made from (without p f.left) m2 octets2 as' filling2 ∙ sym (many lens recover made from f.left m octets as' f.filling)) i) ((on.last ∙ k.last) i) (passed i))
+        (λ i. visits_left (again2 i) m2.tour.visit.items (opened2 i) ((many lens recover made from (f.seen ++ p ∷ []) (without p f.left) m2 octets2 as' filling2 ∙ sym (many lens recover made from f.seen f.left m octets as' f.filling)) i) ((on.last ∙ k.last) i) (passed i))
         ∙ left_same m.tour.again m.tour.visit.items m2.tour.visit.items m.tour.opened (length m.tour.stops.items) m.tour.last m1.tour.passed (carried_again p m.tour.visit.items f.left (nat_lt m.tour.count m2.tour.count) m.tour.again m2.tour.visit.items carried)
 
     not_before : m.tour.again ≡ false → is_in p m.tour.visit.items ≡ false
@@ -239,7 +269,7 @@ module _ (lens : ℕ → Lens) (recover made : ℕ) (from : Switched) (as' : Lis
 
     is_opened_one : m.tour.opened < length as' → p ≡ m.tour.opened
     is_opened_one l =
-        let w = many lens recover made from f.left m octets as' f.filling in
+        let w = many lens recover made from f.seen f.left m octets as' f.filling in
         left_alone m.tour.again m.tour.visit.items m.tour.opened (length m.tour.stops.items) m.tour.last m.tour.passed (omega (arith, l, w)) (f.alone l) p comes_next.among
 
     adds_one : n ≡ 0 → m2.tour.count ≡ m1.tour.count + 1
@@ -270,10 +300,24 @@ module _ (lens : ℕ → Lens) (recover made : ℕ) (from : Switched) (as' : Lis
         grows (inl e) = let w = f.some l in omega (arith, w, e, count1)
         grows (inr e) = omega (arith, e)
 
+    order2 : m2.tour.again ≡ false → AsCarried (m2.tour.count ≡ n + 1) m2.tour.visit.items (f.seen ++ p ∷ [])
+    order2 a =
+        let b = sym again2 ∙ a in
+        order_more (nat_lt m.tour.count m2.tour.count) m.tour.again p m.tour.visit.items m2.tour.visit.items f.seen (m.tour.count ≡ n) (m2.tour.count ≡ n + 1) carried b full (λ e. lt-ltb m.tour.count m2.tour.count (omega (arith, e, full))) (f.order b)
+
+    repeated2 : m2.tour.again ≡ true → (f.seen ++ p ∷ []) ++ drop m2.tour.passed m2.tour.visit.items ≡ m2.tour.visit.items
+    repeated2 a =
+        let b = sym again2 ∙ a in
+        let v = carried_again p m.tour.visit.items f.left (nat_lt m.tour.count m2.tour.count) m.tour.again m2.tour.visit.items carried b in
+        (λ i. (f.seen ++ p ∷ []) ++ drop (passed i) (v i)) ∙ append_assoc f.seen (p ∷ []) (drop m1.tour.passed m.tour.visit.items) ∙ ap (λ z. f.seen ++ z) (sym (dues b)) ∙ f.repeated b ∙ sym v
+
     pub fills_more : Fills lens recover made from as' (n + 1) m2 octets2
     fills_more = record {
+      seen = f.seen ++ p ∷ [];
       left = without p f.left;
       filling = filling2;
+      order = order2;
+      repeated = repeated2;
       most = λ j e.
           let t = subst (λ z. is_in j z ≡ true) same_left e in
           without_other p j f.left (λ q. true_false (is_in p (visits_left m.tour.again m.tour.visit.items m.tour.opened (length m.tour.stops.items) m.tour.last m1.tour.passed)) (subst (λ z. is_in z (visits_left m.tour.again m.tour.visit.items m.tour.opened (length m.tour.stops.items) m.tour.last m1.tour.passed) ≡ true) q t) comes_next.over) (f.most j (comes_next.fewer j t));
@@ -300,14 +344,16 @@ module _ (lens : ℕ → Lens) (recover made : ℕ) (from : Switched) (as' : Lis
   -- one that the frame has no room for
   pub fills_still : (n : ℕ) (m m1 m2 : MasterNode) (octets octets2 : List ℕ) (p : ℕ) → 1 ≤ n → (f : Fills lens recover made from as' n m octets) → SameTour m m1 → is_in p f.left ≡ true → TourOn m1 m2 → (All WaitsNone m1.posts.items → All WaitsNone m2.posts.items) →
       m2.tour.count ≡ m1.tour.count → m2.tour.visit ≡ m1.tour.visit →
-      ((left next : List ℕ) → All WaitsNone m1.posts.items → is_in p left ≡ true → is_in p next ≡ false → ((j : ℕ) → is_in j next ≡ true → is_in j left ≡ true) → IsFilling lens recover made from left m1 octets as' → IsFilling lens recover made from left m2 octets2 as') →
+      ((seen left next : List ℕ) → All WaitsNone m1.posts.items → is_in p left ≡ true → is_in p next ≡ false → ((j : ℕ) → is_in j next ≡ true → is_in j left ≡ true) → IsFilling lens recover made from seen left m1 octets as' → IsFilling lens recover made from seen left m2 octets2 as') →
       IsFilled lens recover made from m2 octets2 as'
   fills_still n m m1 m2 octets octets2 p l f k at on quiets count visit led =
       let quiet1 = subst (λ z. All WaitsNone z.items) (sym k.posts) f.quiet in
       let opened2 = on.opened ∙ k.opened in
       record {
+        visited = f.seen;
         left = f.left;
-        filling = led f.left (without p f.left) quiet1 at (without_not p f.left) (λ j e. without_fewer p j f.left e) (filling_same f.left m m1 octets k f.filling);
+        filling = led f.seen f.left (without p f.left) quiet1 at (without_not p f.left) (λ j e. without_fewer p j f.left e) (filling_same f.seen f.left m m1 octets k f.filling);
+        order = subst (λ z. IsInOrder z.items f.seen) (sym (visit ∙ k.visit)) (in_order m.tour.again m.tour.passed (m.tour.count ≡ n) m.tour.visit.items f.seen f.order f.repeated);
         quiet = quiets quiet1;
         some = let w = f.some l in let u = k.count in omega (arith, w, u, count);
         apart = subst (λ z. z < length as' → (j : ℕ) → j < length as' → (j ≡ z → ⊥) → is_in j f.left ≡ true) (sym opened2) f.apart;

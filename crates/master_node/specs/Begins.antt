@@ -1,5 +1,5 @@
 -- WHICH PACKETS BEGIN while a frame is made: of each slave the oldest that waits at its port.
-use Rattle.std.specs.Prelude.{◌≡◌, ◌<◌, ℕ, zero, suc, Bool, true, false, Option, Some, None, List, [], ◌∷◌, ◌++◌, length, slice_get, ⊤}
+use Rattle.std.specs.Prelude.{◌≡◌, ◌<◌, ◌≤◌, ℕ, zero, suc, Bool, true, false, Option, Some, None, List, [], ◌∷◌, ◌++◌, length, slice_get, ⊤}
 use Rattle.arrayvec.specs.ArrayVec.{ArrayVec}
 use Rattle.eoe_switch.specs.Switch.{Switched, arrived, begun_at, downed_at, queue_at}
 use Rattle.eoe_switch.specs.declared.switching.SwitchEvent.{SwitchEvent}
@@ -151,19 +151,26 @@ begins_other None = false
 begins_other (Some (Service.Mails q)) = is_other q
 begins_other (Some (Service.State target)) = true
 
--- WHAT HAS BEGUN SO FAR while a frame is made, where the visits of these places are still to come
-pub record HasBegun (from : Switched) (left : List ℕ) (begun : ℕ → Option (Service Asked)) (as' : List Leads) (l : Lan) : Type 0 where
-  pub visited : List ℕ
+-- THE SLAVES THAT A FRAME CARRIES, in this order, and those that were visited: one list goes on where the other ends, and at most one was visited more
+pub record IsInOrder (carried visited : List ℕ) : Type 0 where
+  pub more : List ℕ
+  pub rest : List ℕ
+  pub few : length more ≤ 1
+  pub same : visited ++ rest ≡ carried ++ more
+
+-- WHAT HAS BEGUN SO FAR while a frame is made, behind these visits, where those of the other places are still to come
+pub record HasBegun (from : Switched) (visited left : List ℕ) (begun : ℕ → Option (Service Asked)) (as' : List Leads) (l : Lan) : Type 0 where
   pub once : AreOnce visited
   pub over : (k : ℕ) → is_in k visited ≡ true → is_in k left ≡ false
   pub took : HasTaken from (begins_in l.ports.items (begun_for begun as') visited) l
   pub others : (k : ℕ) (port : Option ℕ) → is_in k visited ≡ false → begins_by port (begun_for begun as' k) ≡ []
   pub quiet : (k : ℕ) → begins_other (begun_for begun as' k) ≡ true → forwarded l.switch l.ports.items k ≡ []
 
--- JUST THE PACKETS THAT CAME INTO HAND BEGIN, of the slaves that were visited, in order, each slave once: each is the oldest that waits at the port of its
+-- JUST THE PACKETS THAT CAME INTO HAND BEGIN, of the slaves that were visited, in the order of the frame, each slave once: each is the oldest that waits at the port of its
 -- slave, as the switch then stands; and where another service came into hand none waits there
-pub record PacketsBegin (from : Switched) (us : List Turn) (l : Lan) : Type 0 where
+pub record PacketsBegin (from : Switched) (us : List Turn) (carried : List ℕ) (l : Lan) : Type 0 where
   pub visited : List ℕ
+  pub order : IsInOrder carried visited
   pub once : AreOnce visited
   pub taken : taken_in from (events_of l.happened) ≡ begins_in l.ports.items (begun_of us) visited
   pub others : (k : ℕ) (port : Option ℕ) → is_in k visited ≡ false → begins_by port (begun_of us k) ≡ []

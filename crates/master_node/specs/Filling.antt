@@ -13,7 +13,7 @@ use Rattle.master_side.specs.declared.hand.Hand.{Ghosts}
 use Rattle.master_tour.specs.Made.{StopMade, FrameMade, is_in}
 use Rattle.master_tour.specs.declared.stop.Stop.{Stop}
 use Rattle.master_duty.specs.of_state_exchange.Stated.{Service}
-use Rattle.master_node.specs.Begins.{HasBegun}
+use Rattle.master_node.specs.Begins.{HasBegun, IsInOrder}
 use Rattle.master_node.specs.declared.node.MasterNode.{MasterNode}
 use Rattle.master_tour.specs.Goes.{is_live, holds_at, BeginsLive}
 use Rattle.master_node.specs.Shows.{WaitsNone, ComeAgain, side_shows, lived_of, is_live_lead}
@@ -38,15 +38,15 @@ module _ (lens : ℕ → Lens) where
 
     module _ (from : Switched) where
       -- THE MASTER WHILE A FRAME IS MADE, where the visits of these places are still to come, and the switch stood so before the step
-      pub record IsFilling (left : List ℕ) (m : MasterNode) (octets : List ℕ) (as' : List Leads) : Type 0 where
+      pub record IsFilling (visited left : List ℕ) (m : MasterNode) (octets : List ℕ) (as' : List Leads) : Type 0 where
         pub begun : ℕ → Option (Service Asked)
         pub frame : FrameMade (λ ds i a s. StopFills begun (m.made % 256) left ds i a s) octets m.tour.count (map lived_of as') m.tour.stops.items
         pub among : AllFrom (λ i a s. IsAmong begun left i a s) 0 as' m.tour.stops.items
-        pub packets : HasBegun from left begun as' m.lan
+        pub packets : HasBegun from visited left begun as' m.lan
 
       -- BEFORE THE FIRST VISIT: no datagram stands in the frame, some slave is live, and the first that is visited is
       pub record IsEmpty (m : MasterNode) (octets : List ℕ) (as' : List Leads) : Type 0 where
-        pub filling : (left : List ℕ) → IsFilling left m octets as'
+        pub filling : (left : List ℕ) → IsFilling [] left m octets as'
         pub quiet : All WaitsNone m.posts.items
         pub count : m.tour.count ≡ 0
         pub passed : m.tour.passed ≡ 0
@@ -61,8 +61,10 @@ module _ (lens : ℕ → Lens) where
 
       -- BEHIND THE LAST: the frame has a datagram; in the first bring-up it has none but of the slave that is brought up
       pub record IsFilled (m : MasterNode) (octets : List ℕ) (as' : List Leads) : Type 0 where
+        pub visited : List ℕ
         pub left : List ℕ
-        pub filling : IsFilling left m octets as'
+        pub filling : IsFilling visited left m octets as'
+        pub order : IsInOrder m.tour.visit.items visited
         pub quiet : All WaitsNone m.posts.items
         pub some : 1 ≤ m.tour.count
         pub apart : m.tour.opened < length as' → (k : ℕ) → k < length as' → (k ≡ m.tour.opened → ⊥) → is_in k left ≡ true

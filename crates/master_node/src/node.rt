@@ -57,7 +57,7 @@ impl MasterNode {
     ghost use Rattle.master_node.specs.Shows.{WaitsNone};
     ghost use Rattle.master_node.specs.Kept.{StopStays, TourKept, TourOn};
     ghost use Rattle.master_node.specs.Coming.{next_of, IsComing, IsLaid, PassesBy, CameBy};
-    ghost use Rattle.std.specs.Prelude.{◌⊎◌, ◌+◌, ◌∷◌, [], nat_lt, map, if◌then◌else◌};
+    ghost use Rattle.std.specs.Prelude.{◌⊎◌, ◌+◌, ◌++◌, ◌∷◌, [], nat_lt, map, if◌then◌else◌};
     ghost use Rattle.life_runs.specs.of_frame_view.View.{Lens};
     ghost use Rattle.life_runs.specs.of_frame_view.Seen.{seen};
     ghost use Rattle.life_runs.specs.of_life_frames.Shares.{AreDistinct};
@@ -312,8 +312,8 @@ impl MasterNode {
         ensures counts { (self.new.tour.count ≡ self.old.tour.count) ⊎ (self.new.tour.count ≡ self.old.tour.count + 1) }
         ensures still { result ≡ false → (self.new.tour.count ≡ self.old.tour.count) × (self.new.tour.visit ≡ self.old.tour.visit) }
         ensures first { length into.old.items ≡ 16 → holds_at (λ s. is_live s.stand) self.old.tour.stops.items place ≡ true → (result ≡ true) × (self.new.tour.count ≡ self.old.tour.count + 1) }
-        ensures led { (lens : ℕ → Lens) (recover made : ℕ) (from : Switched) (left next : List ℕ) (as' : List Leads) → length self.old.lan.happened < 17 → All WaitsNone self.old.posts.items → AreDistinct (map lived_of as') → is_in place left ≡ true → is_in place next ≡ false → ((k : ℕ) → is_in k next ≡ true → is_in k left ≡ true) →
-            IsFilling lens recover made from left self.old into.old.items as' → IsFilling lens recover made from (if result then next else left) self.new into.new.items as' }
+        ensures led { (lens : ℕ → Lens) (recover made : ℕ) (from : Switched) (visited left next : List ℕ) (as' : List Leads) → length self.old.lan.happened < 17 → All WaitsNone self.old.posts.items → AreDistinct (map lived_of as') → is_in place left ≡ true → is_in place next ≡ false → ((k : ℕ) → is_in k next ≡ true → is_in k left ≡ true) →
+            IsFilling lens recover made from visited left self.old into.old.items as' → IsFilling lens recover made from (if result then visited ++ place ∷ [] else visited) (if result then next else left) self.new into.new.items as' }
         ensures joins { JoinsKept self.old self.new }
         ensures room { self.new.tour.count ≡ self.old.tour.count → holds_at (λ s. is_live s.stand) self.new.tour.stops.items place ≡ true → HasNoRoom into.new.items (area_in self.new.tour.stops.items place) }
         ensures takes { StepsAt (λ s t. Takes into.old.items into.new.items (nat_lt self.old.tour.count self.new.tour.count) s t) place self.old.tour.stops.items self.new.tour.stops.items }
@@ -362,7 +362,7 @@ impl MasterNode {
     fn make(&mut self, into: &mut FrameBuf)
         ensures posts { vec_len self.new.posts ≡ vec_len self.old.posts }
         ensures led { (lens : ℕ → Lens) (recover retry missed number : ℕ) (from : Switched) (as' : List Leads) → length self.old.lan.happened ≤ 1 → HasTaken from [] self.old.lan → list_any (λ s. is_live s.stand) self.old.tour.stops.items ≡ true → MasterShows lens recover retry self.old missed as' →
-            (us : List Turn) × IsLedFrame lens number into.new.items as' us × MasterUnder lens recover retry self.new into.new.items missed us × PacketsBegin from us self.new.lan × (tour_of self.new ≡ tour_of self.old) ×
+            (us : List Turn) × IsLedFrame lens number into.new.items as' us × MasterUnder lens recover retry self.new into.new.items missed us × PacketsBegin from us self.new.tour.visit.items self.new.lan × (tour_of self.new ≡ tour_of self.old) ×
             IsOfTour (λ s. stop_share s) (λ k. holds_at is_live_lead as' k) (frame_size into.new.items) (λ k. area_at lens as' k) (tour_of self.old) self.new.tour.stops.items (length (seen lens into.new.items)) self.new.tour.visit.items }
         ensures joins { JoinsKept self.old self.new }
         ensures lan { Happens 16 self.old.lan self.new.lan }
@@ -383,7 +383,7 @@ impl MasterNode {
         ensures led { result ≡ Next.Frame → (lens : ℕ → Lens) (recover retry missed number : ℕ) (as' : List Leads) → MasterShows lens recover retry self.old missed as' →
             (us : List Turn) × IsLedFrame lens number into.new.items as' us × MasterUnder lens recover retry self.new into.new.items missed us }
         ensures begun { result ≡ Next.Frame → (lens : ℕ → Lens) (recover retry missed number : ℕ) (as' : List Leads) → MasterShows lens recover retry self.old missed as' →
-            (us : List Turn) × IsLedFrame lens number into.new.items as' us × MasterUnder lens recover retry self.new into.new.items missed us × PacketsBegin self.old.lan.switch us self.new.lan }
+            (us : List Turn) × IsLedFrame lens number into.new.items as' us × MasterUnder lens recover retry self.new into.new.items missed us × PacketsBegin self.old.lan.switch us self.new.tour.visit.items self.new.lan }
         ensures toured { result ≡ Next.Frame → (lens : ℕ → Lens) (recover retry missed : ℕ) (as' : List Leads) (us : List Turn) → MasterShows lens recover retry self.old missed as' → MasterUnder lens recover retry self.new into.new.items missed us →
             (tour_of self.new ≡ tour_of self.old) × IsOfTour (λ u. turn_share u) (λ k. holds_at is_live_lead as' k) (frame_size into.new.items) (λ k. area_at lens as' k) (tour_of self.old) us (length (seen lens into.new.items)) self.new.tour.visit.items }
         ensures asks { result ≡ Next.Frame → (lens : ℕ → Lens) (recover retry missed : ℕ) (us : List Turn) → MasterUnder lens recover retry self.new into.new.items missed us → AllAsk (seen lens into.new.items) us }

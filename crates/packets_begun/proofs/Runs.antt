@@ -306,9 +306,9 @@ pub none_behind : (ports : List (Option ℕ)) (packets : ℕ → List (List ℕ)
 none_behind ports packets goes visit es Pass a d = subst (λ z. All IsNoBegun z) (sym (a refl)) (arrivals_none ports packets visit)
 none_behind ports packets goes visit es (Lost after) a d = subst (λ z. All IsNoBegun z) (sym (d after refl)) (downs_none ports goes visit)
 
-pub begun_on : (before : List SwitchEvent → Type 0) (ports : List (Option ℕ)) (many : ℕ) (us : List Turn) (m n : Lan) (old behind : List SwitchEvent) → before old → m.ports.items ≡ ports → PacketsBegin (switched many old).switch us m → (switched many (old ++ events_of m.happened)).switch ≡ m.switch → All IsNoBegun behind →
+pub begun_on : (before : List SwitchEvent → Type 0) (ports : List (Option ℕ)) (many : ℕ) (us : List Turn) (carried : List ℕ) (m : Lan) (old behind : List SwitchEvent) → before old → m.ports.items ≡ ports → PacketsBegin (switched many old).switch us carried m → (switched many (old ++ events_of m.happened)).switch ≡ m.switch → All IsNoBegun behind →
     BegunOn before ports many us (old ++ (events_of m.happened ++ behind))
-begun_on before ports many us m n old behind was same x stands none = record {
+begun_on before ports many us carried m old behind was same x stands none = record {
   old = old;
   was = was;
   making = events_of m.happened;

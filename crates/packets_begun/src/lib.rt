@@ -27,6 +27,6 @@ pub fn begun_law()
     ensures last { (lens : ℕ → Lens) (recover retry missed : ℕ) (ports : List (Option ℕ)) (many : ℕ) (first as' : List Leads) (fs : List Exchanged) (led : IsLed lens recover retry first fs missed as') (es xs ys : List SwitchEvent) (k port : ℕ) →
         IsOwn ports k port → AreBegun ports many led es → es ≡ xs ++ SwitchEvent.Down port ∷ ys → begun_at port ys ≡ 0 }
     ensures goes_on { (lens : ℕ → Lens) (recover retry missed : ℕ) (ports : List (Option ℕ)) (many : ℕ) (first as' : List Leads) (fs : List Exchanged) (led : IsLed lens recover retry first fs missed as') (f : Exchanged) (us : List Turn) (frame : IsLedFrame lens (length fs) f.sent as' us) (m n : MasterNode) (packets : ℕ → List (List ℕ)) (leads : List Leads) (es : List SwitchEvent) →
-        m.lan.ports.items ≡ ports → PacketsBegin (switched many es).switch us m.lan → (switched many (es ++ events_of m.lan.happened)).switch ≡ m.lan.switch → (f.fate ≡ Fate.Pass → ComeIn m packets n) → ((after : ℕ) → f.fate ≡ Fate.Lost after → GoDown m us leads n) →
+        m.lan.ports.items ≡ ports → PacketsBegin (switched many es).switch us m.tour.visit.items m.lan → (switched many (es ++ events_of m.lan.happened)).switch ≡ m.lan.switch → (f.fate ≡ Fate.Pass → ComeIn m packets n) → ((after : ℕ) → f.fate ≡ Fate.Lost after → GoDown m us leads n) →
         AreBegun ports many led es → AreBegun ports many (IsLed.on fs missed as' f us led frame) (es ++ (events_of m.lan.happened ++ events_of n.lan.happened)) }
 {}

@@ -15,5 +15,5 @@ returns-clause-last c = λ lens recover retry missed ports many first as' fs led
 
 pub returns-clause-goes_on : goal.returns-clause-goes_on
 returns-clause-goes_on c = λ lens recover retry missed ports many first as' fs led f us frame m n packets leads es same begins stands arrives downs before.
-    begun_on (λ old. AreBegun ports many led old) ports many us m.lan n.lan es (events_of n.lan.happened) before same begins stands
+    begun_on (λ old. AreBegun ports many led old) ports many us m.tour.visit.items m.lan es (events_of n.lan.happened) before same begins stands
     (none_behind m.lan.ports.items packets (goes_down us leads) m.tour.visit.items (events_of n.lan.happened) f.fate (λ e. (arrives e).events) (λ after e. (downs after e).events))

@@ -1,6 +1,7 @@
-use Rattle.std.proofs.Common.{◌≡◌, ◌∙◌, ◌+◌, true, false, Bool, None, Some, refl, sym, subst, arith}
+use Rattle.std.proofs.Common.{◌≡◌, ◌∙◌, ◌+◌, ◌∷◌, ◌++◌, [], length, true, false, Bool, None, Some, refl, sym, subst, arith}
 use Rattle.std.specs.Prelude.{if◌then◌else◌}
 use Rattle.master_tour.specs.Goes.{is_live, holds_at}
+use Rattle.master_tour.specs.Orders.{is_fixed, visited_of, visits_left}
 use Rattle.master_node.specs.Filling.{IsFilling}
 use Rattle.master_node.proofs.Filleds.{fills_first, fills_last, fills_same, fills_more, fills_still, on_same, on_on, passes_some, passes_at, some_count}
 use Rattle.master_tour.specs.Walks.{EachPair}
@@ -20,7 +21,7 @@ returns-in_default-clause-on c =
 pub returns-in_default-clause-filled : goal.returns-in_default-clause-filled
 returns-in_default-clause-filled c = λ lens recover made from as' d x.
     let e = c.due.ensures in
-    let f = c.loop.invariant.3 lens recover made from as' d x in
+    let f = (c.loop.invariant.3 lens recover made from as' d x).0 in
     let none : c.due.result ≡ None = cc in
     fills_same lens recover made from as' c.loop.counter c.loop.self _ c.loop.into.items (record { stops = e.stops; count = e.kept.0; again = e.kept.1; visit = e.kept.2; opened = e.kept.3; last = e.kept.4; made = refl; posts = refl; lan = refl }) f
     (some_count c.loop.counter (λ z. let y = f.none z in passes_some (λ s. is_live s.stand) c.loop.self.tour.stops.items c.due.result none (e.first y.count y.passed y.begins y.some)))
@@ -35,7 +36,7 @@ pub returns-then-not-visit-clause-filled : goal.returns-then-not-visit-clause-fi
 returns-then-not-visit-clause-filled c = λ lens recover made from as' d x.
     let e = c.due.ensures in
     let v = c.visit.ensures in
-    let f = c.loop.invariant.3 lens recover made from as' d x in
+    let f = (c.loop.invariant.3 lens recover made from as' d x).0 in
     let p = c.in-Some.place in
     let is : c.due.result ≡ Some p = cc in
     let no : c.visit.result ≡ false = cc in
@@ -46,17 +47,17 @@ returns-then-not-visit-clause-filled c = λ lens recover made from as' d x.
     let yes = (v.first y.short (subst (λ w. holds_at (λ s. is_live s.stand) w.items p ≡ true) (sym e.stops) (passes_at (λ s. is_live s.stand) c.loop.self.tour.stops.items c.due.result p is (e.first y.count y.passed y.begins y.some)))).0 in
     (let w : true ≡ false = sym yes ∙ no in cc)))
     f (record { stops = e.stops; count = e.kept.0; again = e.kept.1; visit = e.kept.2; opened = e.kept.3; last = e.kept.4; made = refl; posts = refl; lan = refl }) (f.most p next.among) v.on.0 v.quiet (v.still no).0 (v.still no).1
-    (λ left other q a o s g. subst (λ (z : Bool). IsFilling lens recover made from (if z then other else left) c.visit.new.self c.visit.new.into.items as') no (v.led lens recover made from left other as' (let w = x.room in let h = c.loop.invariant.6.few in let t = c.loop-test.true in omega (arith, w, h, t)) q d a o s g))
+    (λ seen left other q a o s g. subst (λ (z : Bool). IsFilling lens recover made from (if z then seen ++ p ∷ [] else seen) (if z then other else left) c.visit.new.self c.visit.new.into.items as') no (v.led lens recover made from seen left other as' (let w = x.room in let h = c.loop.invariant.6.few in let t = c.loop-test.true in omega (arith, w, h, t)) q d a o s g))
 
 pub returns-clause-on : goal.returns-clause-on
 returns-clause-on c = c.loop.invariant.2
 
 pub returns-clause-filled : goal.returns-clause-filled
 returns-clause-filled c = λ lens recover made from as' d x.
-    fills_last lens recover made from as' c.loop.counter c.loop.self c.loop.into.items (let t = c.loop-test.false in omega (arith, t)) (c.loop.invariant.3 lens recover made from as' d x)
+    fills_last lens recover made from as' c.loop.counter c.loop.self c.loop.into.items (let t = c.loop-test.false in omega (arith, t)) (c.loop.invariant.3 lens recover made from as' d x).0
 
 pub loop-init : goal.loop-init
-loop-init c = (c.requires, refl, on_same c.args.self.now, (λ lens recover made from as' d x. fills_first lens recover made from as' c.args.self.now c.args.into.now.items x), each_same _ c.args.self.now.tour.stops.items (λ s. refl), (λ b short. (visiting_first c.args.into.now.items c.args.self.now short b, b.count)), happens_none 0 _ _ refl, makes_none _ _ refl)
+loop-init c = (c.requires, refl, on_same c.args.self.now, (λ lens recover made from as' d x. (fills_first lens recover made from as' c.args.self.now c.args.into.now.items x, x.count)), each_same _ c.args.self.now.tour.stops.items (λ s. refl), (λ b short. (visiting_first c.args.into.now.items c.args.self.now short b, b.count)), happens_none 0 _ _ refl, makes_none _ _ refl)
 
 pub loop-preserved : goal.loop-preserved
 loop-preserved c = (
@@ -68,15 +69,19 @@ loop-preserved c = (
   (λ lens recover made from as' d x.
       let e = c.due.ensures in
       let v = c.visit.ensures in
-      let f = c.loop.invariant.3 lens recover made from as' d x in
+      let f = (c.loop.invariant.3 lens recover made from as' d x).0 in
       let p = c.in-Some.place in
       let is : c.due.result ≡ Some p = cc in
-      let yes : c.visit.result ≡ true = cc in
-      fills_more lens recover made from as' c.loop.counter c.loop.self _ c.visit.new.self c.loop.into.items c.visit.new.into.items p f
-      (record { stops = e.stops; count = e.kept.0; again = e.kept.1; visit = e.kept.2; opened = e.kept.3; last = e.kept.4; made = refl; posts = refl; lan = refl })
-      (λ a. e.left p is a) (λ a b g h. passes_at (λ s. is_live s.stand) c.loop.self.tour.stops.items c.due.result p is (e.first a b g h))
-      (c.in-Some.ensures.few) v.on.0 v.on.1 v.quiet v.visits v.counts (λ a b. (v.first a b).1)
-      (λ left other q a o s g. subst (λ (z : Bool). IsFilling lens recover made from (if z then other else left) c.visit.new.self c.visit.new.into.items as') yes (v.led lens recover made from left other as' (let w = x.room in let h = c.loop.invariant.6.few in let t = c.loop-test.true in omega (arith, w, h, t)) q d a o s g))),
+      let yes : c.visit.result ≡ true = cc in (
+        fills_more lens recover made from as' c.loop.counter c.loop.self _ c.visit.new.self c.loop.into.items c.visit.new.into.items p f
+            (record { stops = e.stops; count = e.kept.0; again = e.kept.1; visit = e.kept.2; opened = e.kept.3; last = e.kept.4; made = refl; posts = refl; lan = refl })
+            (λ a. e.left p is a) (λ a b g h. passes_at (λ s. is_live s.stand) c.loop.self.tour.stops.items c.due.result p is (e.first a b g h))
+            (c.in-Some.ensures.few) v.on.0 v.on.1 v.quiet v.visits v.counts (λ a b. (v.first a b).1)
+            (λ seen left other q a o s g. subst (λ (z : Bool). IsFilling lens recover made from (if z then seen ++ p ∷ [] else seen) (if z then other else left) c.visit.new.self c.visit.new.into.items as') yes (v.led lens recover made from seen left other as' (let w = x.room in let h = c.loop.invariant.6.few in let t = c.loop-test.true in omega (arith, w, h, t)) q d a o s g))
+            (c.loop.invariant.3 lens recover made from as' d x).1
+            (λ w. subst (λ z. visited_of (is_fixed z c.loop.self.tour.opened (length c.loop.self.tour.stops.items)) (λ k. holds_at (λ s. is_live s.stand) c.loop.self.tour.stops.items k) (visits_left z c.loop.self.tour.visit.items c.loop.self.tour.opened (length c.loop.self.tour.stops.items) c.loop.self.tour.last c.loop.self.tour.passed) ≡ p ∷ visited_of (is_fixed z c.loop.self.tour.opened (length c.loop.self.tour.stops.items)) (λ k. holds_at (λ s. is_live s.stand) c.loop.self.tour.stops.items k) (visits_left z c.loop.self.tour.visit.items c.loop.self.tour.opened (length c.loop.self.tour.stops.items) c.loop.self.tour.last c.due.new.self.passed)) w (e.order p is).1),
+        (let more = counts_more _ _ v.counts (let t = c.if-self-count.false in λ q. omega (arith, t, q)) in let was = (c.loop.invariant.3 lens recover made from as' d x).1 in let same = e.kept.0 in omega (arith, more, was, same)),
+      )),
   each_trans (λ s t. t.side.hand.found.join ≡ s.side.hand.found.join) c.args.self.now.tour.stops.items c.loop.self.tour.stops.items c.visit.new.self.tour.stops.items (λ x y z a b. b ∙ a) c.loop.invariant.4
       (subst (λ z. EachPair (λ s t. t.side.hand.found.join ≡ s.side.hand.found.join) z.items c.visit.new.self.tour.stops.items) c.due.ensures.stops c.visit.ensures.joins),
   (λ b short.
@@ -153,7 +158,7 @@ pub returns-then-self-count-clause-filled : goal.returns-then-self-count-clause-
 returns-then-self-count-clause-filled c = λ lens recover made from as' d x.
     let e = c.due.ensures in
     let v = c.visit.ensures in
-    let f = c.loop.invariant.3 lens recover made from as' d x in
+    let f = (c.loop.invariant.3 lens recover made from as' d x).0 in
     let p = c.in-Some.place in
     let is : c.due.result ≡ Some p = cc in
     let yes : c.visit.result ≡ true = cc in
@@ -162,7 +167,9 @@ returns-then-self-count-clause-filled c = λ lens recover made from as' d x.
     (record { stops = e.stops; count = e.kept.0; again = e.kept.1; visit = e.kept.2; opened = e.kept.3; last = e.kept.4; made = refl; posts = refl; lan = refl })
     (λ a. e.left p is a) (λ a b g h. passes_at (λ s. is_live s.stand) c.loop.self.tour.stops.items c.due.result p is (e.first a b g h))
     (c.in-Some.ensures.few) v.on.0 v.on.1 v.quiet v.visits v.counts (λ a b. (v.first a b).1)
-    (λ left other q a o s g. subst (λ (z : Bool). IsFilling lens recover made from (if z then other else left) c.visit.new.self c.visit.new.into.items as') yes (v.led lens recover made from left other as' (let w = x.room in let h = c.loop.invariant.6.few in let t = c.loop-test.true in omega (arith, w, h, t)) q d a o s g)))
+    (λ seen left other q a o s g. subst (λ (z : Bool). IsFilling lens recover made from (if z then seen ++ p ∷ [] else seen) (if z then other else left) c.visit.new.self c.visit.new.into.items as') yes (v.led lens recover made from seen left other as' (let w = x.room in let h = c.loop.invariant.6.few in let t = c.loop-test.true in omega (arith, w, h, t)) q d a o s g))
+    (c.loop.invariant.3 lens recover made from as' d x).1
+    (λ w. subst (λ z. visited_of (is_fixed z c.loop.self.tour.opened (length c.loop.self.tour.stops.items)) (λ k. holds_at (λ s. is_live s.stand) c.loop.self.tour.stops.items k) (visits_left z c.loop.self.tour.visit.items c.loop.self.tour.opened (length c.loop.self.tour.stops.items) c.loop.self.tour.last c.loop.self.tour.passed) ≡ p ∷ visited_of (is_fixed z c.loop.self.tour.opened (length c.loop.self.tour.stops.items)) (λ k. holds_at (λ s. is_live s.stand) c.loop.self.tour.stops.items k) (visits_left z c.loop.self.tour.visit.items c.loop.self.tour.opened (length c.loop.self.tour.stops.items) c.loop.self.tour.last c.due.new.self.passed)) w (e.order p is).1))
 
 pub returns-in_default-clause-lan : goal.returns-in_default-clause-lan
 returns-in_default-clause-lan c = happens_more c.loop.counter 16 _ _ (omega arith) c.loop.invariant.6

@@ -20,7 +20,7 @@ use Rattle.master_node.proofs.node.MasterNode.fill.Given as goal
 abbrev pub invariant-loop : goal.invariant-loop
 invariant-loop l =
     ((ds : List Raw.Datagram) × IsBegun l.into.items ds) × (vec_len l.self.posts ≡ vec_len l.initial.self.posts) × TourOn l.initial.self l.self
-    × ((lens : ℕ → Lens) (recover made : ℕ) (from : Switched) (as' : List Leads) → AreDistinct (map lived_of as') → IsEmpty lens recover made from l.initial.self l.initial.into.items as' → Fills lens recover made from as' l.counter l.self l.into.items)
+    × ((lens : ℕ → Lens) (recover made : ℕ) (from : Switched) (as' : List Leads) → AreDistinct (map lived_of as') → IsEmpty lens recover made from l.initial.self l.initial.into.items as' → Fills lens recover made from as' l.counter l.self l.into.items × (l.self.tour.count ≡ l.counter))
     × JoinsKept l.initial.self l.self
     × (IsBare l.initial.self → length l.initial.into.items ≡ 16 → Visiting l.into.items l.initial.self l.self × (l.self.tour.count ≡ l.counter))
     × Happens l.counter l.initial.self.lan l.self.lan × Makes l.initial.self.lan l.self.lan

@@ -90,7 +90,7 @@ returns-clause-led c = λ lens recover retry missed number from as' room taken s
         sent = sent_some lens octets z.datagrams z.frame;
         fits = fit_under into _ c.fill.new.self c.fill.ensures.begun.1.fits v;
       },
-      packets_begin from f.left begun as' (turns lens recover number begun octets z.datagrams is as' z.lives t2.stops.items) c.fill.new.self.lan (λ k. begun_turns lens recover number begun octets z.datagrams is as' z.lives t2.stops.items z.each k) f.filling.packets,
+      packets_begin from t2.visit.items f.visited f.left begun as' (turns lens recover number begun octets z.datagrams is as' z.lives t2.stops.items) c.fill.new.self.lan (λ k. begun_turns lens recover number begun octets z.datagrams is as' z.lives t2.stops.items z.each k) f.order f.filling.packets,
       tour_same into m _ c.fill.new.self v e.tour.0 visits e.tour.1 e.tour.2 e.tour.3 on,
       of_tour into m _ c.fill.new.self v e.tour.0 visits e.tour.1 e.tour.2 e.tour.3 on (λ k. holds_at is_live_lead as' k) alive (λ k. v.alive k ∙ alive k) (frame_size octets) (λ k. area_at lens as' k) (c.finish-some.ensures.size yes) areas (length (seen lens octets)) (sent_many lens octets f.filling.frame.datagrams (c.finish-some.ensures.reads yes f.filling.frame.datagrams f.filling.frame.begun f.filling.frame.long f.filling.frame.named) ∙ f.filling.frame.long) f.some,
     )

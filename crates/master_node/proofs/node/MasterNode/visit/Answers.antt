@@ -36,7 +36,7 @@ use Rattle.master_node.proofs.Made.{makes_none, makes_then}
 use Rattle.master_node.proofs.node.MasterNode.visit.Goals as goal
 
 pub returns-then-not-fits-clause-led : goal.returns-then-not-fits-clause-led
-returns-then-not-fits-clause-led c = λ lens recover made from left next as' room quiet d at over fewer f.
+returns-then-not-fits-clause-led c = λ lens recover made from seen left next as' room quiet d at over fewer f.
     let m = c.args.self.now in
     let e = c.fits.ensures in
     let s0 = m.tour.stops.items in
@@ -61,7 +61,7 @@ returns-clause-first c = λ e live.
     (refl, c.came.ensures.kept.0.count ∙ c.visit-began.ensures.first e (second ∙ first ∙ live) ∙ ap (λ n. n + 1) (c.lay.ensures.kept.0.count ∙ c.fits.ensures.count))
 
 pub returns-clause-led : goal.returns-clause-led
-returns-clause-led c = λ lens recover made from left next as' room quiet d at over fewer f.
+returns-clause-led c = λ lens recover made from seen left next as' room quiet d at over fewer f.
     let m = c.args.self.now in
     let e = c.fits.ensures in
     let v = c.visit-began.ensures in
@@ -91,7 +91,7 @@ returns-clause-led c = λ lens recover made from left next as' room quiet d at o
       frame = subst (λ n. FrameMade (λ ds i a s. StopFills lens recover made begun (c.came.new.self.made % 256) next ds i a s) c.visit-began.new.frame.items n (map lived_of as') s4) (sym c.came.ensures.kept.0.count)
           (subst (λ k. FrameMade (λ ds i a s. StopFills lens recover made begun k next ds i a s) c.visit-began.new.frame.items c.visit-began.new.self.count (map lived_of as') s4) (sym same) made_frame);
       among = among coming r place s0 s1 s2 s3 s4 rooms coms fitted laid began came lens f.begun left next as' fewer at over d f.among;
-      packets = begun_step from left next f.begun as' m.lan c.came.new.self.lan place (here coming r place s0 s1 s2 s3 s4 rooms coms fitted laid began came) (what coming r place s0 s1 s2 s3 s4 rooms coms fitted laid began came)
+      packets = begun_step from seen left next f.begun as' m.lan c.came.new.self.lan place (here coming r place s0 s1 s2 s3 s4 rooms coms fitted laid began came) (what coming r place s0 s1 s2 s3 s4 rooms coms fitted laid began came)
           (taken_where r m.lan place coming) d (spot coming r place s0 s1 s2 s3 s4 rooms coms fitted laid began came lens f.begun left as' f.among) room at over fewer
           (leaves coming r place s0 s1 s2 s3 s4 rooms coms fitted laid began came m.lan c.lay.ensures.oldest) (subst (λ z. TakesOn (taken_where r z place coming) z c.came.new.self.lan) c.lay.ensures.lan c.came.ensures.takes) (subst (λ z. NoneMore z c.came.new.self.lan) c.lay.ensures.lan c.came.ensures.fewer)
           (waits_none coming r place s0 s1 s2 s3 s4 rooms coms fitted laid began came m.lan c.coming-coming.ensures.first) f.packets;
