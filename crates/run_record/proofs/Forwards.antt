@@ -65,7 +65,7 @@ module _ (plan : Scenario) (fs : List Exchanged) (missed : ℕ) (as' : List Lead
   module _ (joined : HasUnfinished m1 (map stand_under us) (unfinished_of (joined_in lives)) → HasUnfinished m2 (map stand_before behind) (unfinished_after (λ u. mails_by lens f f.fate u) us (unfinished_of (joined_in lives))))
       (arrivals : f.fate ≡ Fates.Pass → HasUnfinished m1 (map stand_under us) (unfinished_of (joined_in lives)) → ComeIn m1 (λ k. completed_at (seen lens f.back) us (unfinished_of (joined_in lives)) k) m2)
       (downs : (after : ℕ) → f.fate ≡ Fates.Lost after → GoDown m1 us behind m2) (es es' : List SwitchEvent) (grown : es' ≡ es ++ (events_of m1.lan.happened ++ events_of m2.lan.happened)) (w : IsForwarded plan m0 lives es)
-      (begins : PacketsBegin m0.lan.switch us m1.lan) (stood : (switched (ports_of plan.slaves) es).switch ≡ m0.lan.switch) (stands : (switched (ports_of plan.slaves) (es ++ events_of m1.lan.happened)).switch ≡ m1.lan.switch) where
+      (begins : PacketsBegin m0.lan.switch us m1.tour.visit.items m1.lan) (stood : (switched (ports_of plan.slaves) es).switch ≡ m0.lan.switch) (stands : (switched (ports_of plan.slaves) (es ++ events_of m1.lan.happened)).switch ≡ m1.lan.switch) where
     half : HasUnfinished m1 (map stand_under us) (unfinished_of (joined_in lives))
     half = under_way lens (length fs) frame.datagrams as' us m0 m1 (unfinished_of (joined_in lives)) frame.each joins w.unfinished
 
@@ -85,7 +85,7 @@ module _ (plan : Scenario) (fs : List Exchanged) (missed : ℕ) (as' : List Lead
     begun : BeginsAll plan (IsLed.on fs missed as' f us lives frame) es'
     begun =
         subst (λ (z : List SwitchEvent). BeginsAll plan (IsLed.on fs missed as' f us lives frame) z) (sym grown)
-        (begun_on (λ old. BeginsAll plan lives old) ports (ports_of plan.slaves) us m1.lan m2.lan es (events_of m2.lan.happened) w.begun same (subst (λ (s : Switched). PacketsBegin s us m1.lan) (sym stood) begins) stands
+        (begun_on (λ old. BeginsAll plan lives old) ports (ports_of plan.slaves) us m1.tour.visit.items m1.lan es (events_of m2.lan.happened) w.begun same (subst (λ (s : Switched). PacketsBegin s us m1.tour.visit.items m1.lan) (sym stood) begins) stands
         (none_behind m1.lan.ports.items (λ k. completed_at (seen lens f.back) us (unfinished_of (joined_in lives)) k) (goes_down us behind) m1.tour.visit.items (events_of m2.lan.happened) f.fate (λ e. (arrivals e half).events) (λ after e. (downs after e).events)))
 
     kept : (fate : Fate) → f.fate ≡ fate → m2.lan.ports ≡ m1.lan.ports
