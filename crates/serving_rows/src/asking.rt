@@ -1,25 +1,18 @@
-//! Asks slaves of a plan over ports in memory whose datagrams a serving of the plan gave for those that were sent, and prints what each call left:
-//! its line, how many datagrams went and came, and its status. A word is two names, PLAN=CALL, where the plan is PLAN.toml and the words of the
-//! call stand in CALL.words, one a line.
-#![tactic(auto)]
+//! Slaves of a plan asked over ports in memory whose datagrams a serving of the plan gave for those that were sent: the line of each call, how many
+//! datagrams went and came, and its status.
 
-ghost use Rattle.std.specs.Prelude.{◌≡◌, ◌<◌, IfOk};
 ghost use Rattle.segment_plan.specs.Sound.{IsPlan};
 
+use crate::loading::{octets_of, plan_of};
 use anyhow::{Result, bail};
 use ec_fields::{Octets, Rows};
-use ec_outside::{DiskFiles, Files, Loaded, MemPort, MemSink, Peer, PortItem, SentGram};
+use ec_outside::{DiskFiles, Files, MemPort, MemSink, Peer, PortItem, SentGram};
 use ecmbx_words::Status;
 use gateway_run::serve;
 use run_book::{Book, Ending};
-use scenario::read;
 use segment_plan::Scenario;
 use std::alloc::Global;
-use std::env;
 use tool_call::ask_call;
-
-/// The most octets that a file may have.
-const LIMIT: usize = 16_777_216;
 
 /// Who asks, and the gateway.
 const TOOL: Peer = Peer {
@@ -38,27 +31,6 @@ struct Left {
     status: Status,
     out: MemSink,
     port: MemPort,
-}
-
-// The octets of a file.
-fn octets_of<F: Files>(alloc: Global, name: &str, files: &mut F) -> Result<Octets> {
-    let mut octets = Octets::new(alloc);
-    match files.load(name, LIMIT, &mut octets) {
-        Ok(Loaded::Found) => Ok(octets),
-        _ => bail!("{name} isn't loaded"),
-    }
-}
-
-// The plan of a name.
-fn plan_of<F: Files>(alloc: Global, name: &str, files: &mut F) -> Result<Scenario>
-    ensures { IfOk result IsPlan }
-{
-    let file = format!(in alloc; "{name}.toml")?;
-    let octets = octets_of(alloc, file.as_str(), files)?;
-    match read(alloc, octets.bytes()) {
-        Ok(plan) => Ok(plan),
-        Err(_) => bail!("{name} is no scenario"),
-    }
 }
 
 // The words of a call.
@@ -144,17 +116,16 @@ fn tell<P: Print>(rt: &P, name: &str, left: &Left, heard: usize) -> Result<()> {
     Ok(())
 }
 
-fn main(rt: HostRuntime) -> Result<()> {
+/// Makes the call whose words stand in NAME.words, one a line, to the slaves of the plan SCENARIO.toml, and prints what it left.
+pub fn tell_asking<P: Print + AllocGlobal + std::rt::Files>(
+    rt: &P,
+    scenario: &str,
+    name: &str,
+) -> Result<()> {
     let alloc = rt.alloc();
-    let mut files = DiskFiles::new(&rt);
-    for word in env::args(&rt)?.skip(1) {
-        let Some((scenario, name)) = word.as_str().split_once('=') else {
-            bail!("no two names: {word}");
-        };
-        let plan = plan_of(alloc, scenario, &mut files)?;
-        let words = words_of(alloc, name, &mut files)?;
-        let (left, heard) = ask(alloc, words.as_slice(), &plan, &mut files)?;
-        tell(&rt, name, &left, heard)?;
-    }
-    Ok(())
+    let mut files = DiskFiles::new(rt);
+    let plan = plan_of(alloc, scenario, &mut files)?;
+    let words = words_of(alloc, name, &mut files)?;
+    let (left, heard) = ask(alloc, words.as_slice(), &plan, &mut files)?;
+    tell(rt, name, &left, heard)
 }

@@ -1,20 +1,13 @@
-//! Streams plans over links in memory, and prints what each call left: its report, the requests that were heard, the octets that were put and
-//! its status. A word is two names, SCENARIO=LINK, where the scenario is SCENARIO.toml and what its link has to give is LINK.link.
-#![tactic(auto)]
+//! A plan streamed over a link in memory: its report, the requests that were heard, the octets that were put, and its status.
 
-mod script;
-
-use anyhow::{Result, bail};
-use ec_fields::{Octets, Rows};
+use crate::link::{Script, script_in};
+use crate::loading::octets_of;
+use anyhow::Result;
+use ec_fields::Rows;
 use ec_links::MemLink;
-use ec_outside::{DiskFiles, Files, Loaded, MemPort, MemSink};
+use ec_outside::{DiskFiles, Files, MemPort, MemSink};
 use ecmbx_call::{Book, Status, program};
-use script::{Script, script_in};
 use std::alloc::Global;
-use std::env;
-
-/// The most octets that a file may have.
-const LIMIT: usize = 16_777_216;
 
 // What a call left.
 #[derive(Drop)]
@@ -28,11 +21,8 @@ struct Streamed {
 // The script of a link.
 fn script_of<F: Files>(alloc: Global, name: &str, files: &mut F) -> Result<Script> {
     let file = format!(in alloc; "{name}.link")?;
-    let mut octets = Octets::new(alloc);
-    match files.load(file.as_str(), LIMIT, &mut octets) {
-        Ok(Loaded::Found) => script_in(alloc, octets.bytes()),
-        _ => bail!("{name} isn't loaded"),
-    }
+    let octets = octets_of(alloc, file.as_str(), files)?;
+    script_in(alloc, octets.bytes())
 }
 
 // The words of a call.
@@ -89,16 +79,14 @@ fn tell<P: Print + AllocGlobal>(rt: &P, name: &str, left: &Streamed) -> Result<(
     Ok(())
 }
 
-fn main(rt: HostRuntime) -> Result<()> {
-    let alloc = rt.alloc();
-    let mut files = DiskFiles::new(&rt);
-    for word in env::args(&rt)?.skip(1) {
-        let Some((scenario, name)) = word.as_str().split_once('=') else {
-            bail!("no two names: {word}");
-        };
-        let script = script_of(alloc, name, &mut files)?;
-        let left = stream(alloc, scenario, script, &mut files)?;
-        tell(&rt, name, &left)?;
-    }
-    Ok(())
+/// Streams the plan SCENARIO.toml over the link NAME.link, and prints what the call left.
+pub fn tell_streaming<P: Print + AllocGlobal + std::rt::Files>(
+    rt: &P,
+    scenario: &str,
+    name: &str,
+) -> Result<()> {
+    let mut files = DiskFiles::new(rt);
+    let script = script_of(rt.alloc(), name, &mut files)?;
+    let left = stream(rt.alloc(), scenario, script, &mut files)?;
+    tell(rt, name, &left)
 }
