@@ -33,3 +33,4 @@ pub mod Begins
 pub mod Restings
 pub mod Visitings
 pub mod Eagers
+pub mod Entering
