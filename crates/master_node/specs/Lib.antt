@@ -40,3 +40,5 @@ pub mod Begins
 pub mod Arrivals
 pub mod Eager
 pub mod Resting
+pub mod Starts
+pub mod Recalled
