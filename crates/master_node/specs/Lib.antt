@@ -41,3 +41,5 @@ pub mod Arrivals
 pub mod Eager
 pub mod Resting
 pub mod Entering
+pub mod Starts
+pub mod Recalled

@@ -13,3 +13,4 @@ pub mod Toured
 pub mod Rooms
 pub mod Sizes
 pub mod Recalls
+pub mod Behind

@@ -142,6 +142,10 @@ impl<H: Hand> Stop<H> {
     ghost use Rattle.master_side.specs.Shown.{new_side};
     ghost use Rattle.std.specs.Prelude.{Bool, Option, Some, if◌then◌else◌};
     ghost use Rattle.master_tour.specs.declared.stop.Stand.{Stand};
+    ghost use Rattle.master_tour.specs.Behind.{SameRecall, StopBack, StopLost, VisitBack};
+    ghost use Rattle.master_tour.specs.Under.{mine};
+    ghost use Rattle.master_side.specs.Carried.{one};
+    ghost use Rattle.master_side.specs.Due.{EachDue};
 
     /// Whether it gets datagrams: it was not given up for good.
     pub fn is_live(&self) -> bool
@@ -183,6 +187,13 @@ impl<H: Hand> Stop<H> {
             SideShows (H.shows self.old.side.hand x) self.old.side.out self.old.side.inn self.old.side.fresh self.old.side.duty d a →
             Under self.old.side.station self.old.at self.old.under self.old.side.carried d.halves (duty_access a.hand) back →
             HasJoined H.joined (H.completed self.new.side.hand) (H.join self.old.side.hand) (H.join self.new.side.hand) self.new.side.heard (all_accepted self.old.side.station d.halves (grams back)) }
+        ensures met { self.old.under ≡ true → (x : Speech Body H.Asked Reply) (lens : ℕ → Lens) (back : List (Datagram Body)) (d : Seats.Side Body H.Asked Reply) (a : Account H.Asked Reply) → back ≡ seen lens octets.now →
+            SideShows (H.shows self.old.side.hand x) self.old.side.out self.old.side.inn self.old.side.fresh self.old.side.duty d a → Under self.old.side.station self.old.at self.old.under self.old.side.carried d.halves (duty_access a.hand) back →
+            (b : Datagram Body) → mine self.old.side.station back ≡ one b → VisitBack a b self.old.side self.new.side }
+        ensures unmet { self.old.under ≡ false → self.new.side ≡ self.old.side }
+        ensures knows { (x : Speech Body H.Asked Reply) (lens : ℕ → Lens) (back : List (Datagram Body)) (d : Seats.Side Body H.Asked Reply) (a : Account H.Asked Reply) → back ≡ seen lens octets.now →
+            SideShows (H.shows self.old.side.hand x) self.old.side.out self.old.side.inn self.old.side.fresh self.old.side.duty d a → Under self.old.side.station self.old.at self.old.under self.old.side.carried d.halves (duty_access a.hand) back →
+            H.knows self.old.side.hand ≡ true → EachDue x d.now (all_accepted self.old.side.station d.halves (grams back)) → H.knows self.new.side.hand ≡ true }
     {
         if !self.under {
             return;
@@ -212,6 +223,7 @@ impl<H: Hand> Stop<H> {
             PassingShows (H.awaits self.new.side.hand) self.new.side.passing (passes x H.acknowledged H.more H.passed p (news_lost self.old.side.station kept sent)) }
         ensures join { H.join self.new.side.hand ≡ H.join self.old.side.hand }
         ensures again { IsOnWay self.old.side → self.old.under ≡ true → Repeats self.new.side × (sent_len self.new.side ≤ sent_len self.old.side) }
+        ensures recalled { SameRecall (H.knows self.old.side.hand) (H.knows self.new.side.hand) self.old.side self.new.side }
     {
         if self.under {
             self.side.lost();
@@ -232,6 +244,7 @@ impl<H: Hand> Stop<H> {
         ensures passing { is_cleared ≡ true → self.new.side.passing ≡ None }
         ensures heard { self.new.side.heard ≡ self.old.side.heard }
         ensures join { H.join self.new.side.hand ≡ (if is_cleared then H.unjoined else H.join self.old.side.hand) }
+        ensures knows { H.knows self.old.side.hand ≡ true → H.knows self.new.side.hand ≡ true }
     {
         if is_cleared {
             self.side.renew();
@@ -254,6 +267,7 @@ impl<H: Hand> Stop<H> {
             StandPassing self.new.stand (H.awaits self.new.side.hand) self.new.side.passing (life_back x H.acknowledged H.more H.passed frame spot news back (Some came) l l.stand) }
         ensures heard { self.new.side.heard ≡ self.old.side.heard }
         ensures join { H.join self.new.side.hand ≡ join_behind H.unjoined self.new.news (H.join self.old.side.hand) }
+        ensures knows { H.knows self.old.side.hand ≡ true → H.knows self.new.side.hand ≡ true }
     {
         let mut next = up;
         let is_up = came_back(&mut next, counter, body);
@@ -282,6 +296,7 @@ impl<H: Hand> Stop<H> {
             StandPassing self.new.stand (H.awaits self.new.side.hand) self.new.side.passing (life_back x H.acknowledged H.more H.passed number spot ns (seen lens octets.now) (came_at self.old.under self.old.at (seen lens octets.now)) l l.stand) }
         ensures heard { self.new.side.heard ≡ self.old.side.heard }
         ensures join { self.old.news ≡ None → H.join self.new.side.hand ≡ join_behind H.unjoined self.new.news (H.join self.old.side.hand) }
+        ensures knows { H.knows self.old.side.hand ≡ true → H.knows self.new.side.hand ≡ true }
     {
         if !self.under {
             return;
@@ -347,6 +362,9 @@ impl<H: Hand> Stop<H> {
         ensures joined { self.old.stand ≡ Stand.Open → self.old.news ≡ None → self.old.side.heard ≡ None → (x : Speech Body H.Asked Reply) (recover : ℕ) (spot : Spot) (lens : ℕ → Lens) (sent : List (Datagram Body)) (l : Life Body H.Asked Reply) →
             IsSpot spot self.old.side.station self.old.place self.old.start → Returns sent (seen lens octets.now) → StandUnder lens self.old.side.station self.old.at self.old.under self.old.side.carried self.old.stand l sent → StopShows (λ d a. SideShows (H.shows self.old.side.hand x) self.old.side.out self.old.side.inn self.old.side.fresh self.old.side.duty d a) recover spot self.old.stand self.old.spare l →
             Joins H.unjoined H.joined (H.completed self.new.side.hand) self.new.news self.new.side.heard (H.join self.old.side.hand) (H.join self.new.side.hand) (accepted_in spot l (seen lens octets.now)) }
+        ensures recalls { self.old.stand ≡ Stand.Open → (x : Speech Body H.Asked Reply) (recover : ℕ) (spot : Spot) (lens : ℕ → Lens) (sent : List (Datagram Body)) (l : Life Body H.Asked Reply) →
+            IsSpot spot self.old.side.station self.old.place self.old.start → Returns sent (seen lens octets.now) → StandUnder lens self.old.side.station self.old.at self.old.under self.old.side.carried self.old.stand l sent → StopShows (λ d a. SideShows (H.shows self.old.side.hand x) self.old.side.out self.old.side.inn self.old.side.fresh self.old.side.duty d a) recover spot self.old.stand self.old.spare l →
+            StopBack x spot l (seen lens octets.now) (H.knows self.old.side.hand) (H.knows self.new.side.hand) self.old self.new }
     {
         self.open_back(cursor, octets, made);
         self.reopen();
@@ -376,6 +394,9 @@ impl<H: Hand> Stop<H> {
         ensures joined { (x : Speech Body H.Asked Reply) (recover : ℕ) (spot : Spot) (lens : ℕ → Lens) (sent : List (Datagram Body)) (l : Life Body H.Asked Reply) →
             IsSpot spot self.old.side.station self.old.place self.old.start → Returns sent (seen lens octets.now) → StandUnder lens self.old.side.station self.old.at self.old.under self.old.side.carried self.old.stand l sent → StopShows (λ d a. SideShows (H.shows self.old.side.hand x) self.old.side.out self.old.side.inn self.old.side.fresh self.old.side.duty d a) recover spot self.old.stand self.old.spare l →
             Joins H.unjoined H.joined (H.completed self.new.side.hand) self.new.news self.new.side.heard (H.join self.old.side.hand) (H.join self.new.side.hand) (accepted_in spot l (seen lens octets.now)) }
+        ensures recalls { (x : Speech Body H.Asked Reply) (recover : ℕ) (spot : Spot) (lens : ℕ → Lens) (sent : List (Datagram Body)) (l : Life Body H.Asked Reply) →
+            IsSpot spot self.old.side.station self.old.place self.old.start → Returns sent (seen lens octets.now) → StandUnder lens self.old.side.station self.old.at self.old.under self.old.side.carried self.old.stand l sent → StopShows (λ d a. SideShows (H.shows self.old.side.hand x) self.old.side.out self.old.side.inn self.old.side.fresh self.old.side.duty d a) recover spot self.old.stand self.old.spare l →
+            StopBack x spot l (seen lens octets.now) (H.knows self.old.side.hand) (H.knows self.new.side.hand) self.old self.new }
     {
         self.news = None;
         self.side.heard = None;
@@ -404,6 +425,7 @@ impl<H: Hand> Stop<H> {
             StandPassing self.new.stand (H.awaits self.new.side.hand) self.new.side.passing (life_lost x H.acknowledged H.more H.passed spot (news_lost self.old.side.station kept (seen lens octets)) (seen lens octets) l l.stand) }
         ensures join { H.join self.new.side.hand ≡ H.join self.old.side.hand }
         ensures again { LosesAgain self.old self.new }
+        ensures recalled { SameRecall (H.knows self.old.side.hand) (H.knows self.new.side.hand) self.old.side self.new.side }
     {
         self.news = None;
         match self.stand {
@@ -424,6 +446,7 @@ impl<H: Hand> Stop<H> {
         ensures script { H.script self.new.side.hand ≡ H.script self.old.side.hand }
         ensures unpassed { self.old.side.passing ≡ None → self.new.side.passing ≡ None }
         ensures passing { (awaits : Bool) (p : Option Passing) (l : Life Body H.Asked Reply) → StandPassing self.new.stand awaits p l }
+        ensures knows { H.knows self.old.side.hand ≡ true → H.knows self.new.side.hand ≡ true }
     {
         self.news = Some(Turned::GivenUp);
         if self.spare == 0 {
@@ -453,6 +476,7 @@ impl<H: Hand> Stop<H> {
             StandPassing self.new.stand (H.awaits self.new.side.hand) self.new.side.passing (given_where (gives && self.old.under) recover spot number (life_lost x H.acknowledged H.more H.passed spot (news_lost self.old.side.station kept (seen lens octets)) (seen lens octets) l l.stand)) }
         ensures join { (gives && self.old.under) ≡ false → H.join self.new.side.hand ≡ H.join self.old.side.hand }
         ensures again { gives ≡ false → LosesAgain self.old self.new }
+        ensures recalled { StopLost gives (H.knows self.old.side.hand) (H.knows self.new.side.hand) self.old self.new }
     {
         self.lost();
         if !gives {

@@ -70,6 +70,7 @@ impl<H: Hand> Tour<H> {
     ghost use Rattle.std.specs.Prelude.{None, filter};
     ghost use Rattle.master_tour.specs.Rooms.{LosesAgain, Looks, Visits};
     ghost use Rattle.master_side.specs.Recall.{recall_by};
+    ghost use Rattle.master_tour.specs.Behind.{StopBack, StopLost};
     ghost use Rattle.master_tour.specs.Recalls.{TakesUp, BeginsAll};
     ghost use Rattle.master_tour.specs.Sizes.{frame_size};
 
@@ -92,6 +93,9 @@ impl<H: Hand> Tour<H> {
         ensures joined { EachPair (λ s t. (lens : ℕ → Lens) (sent : List (Datagram Body)) → Returns sent (seen lens octets.now) → (x : Speech Body H.Asked Reply) (recover : ℕ) (spot : Spot) (l : Life Body H.Asked Reply) →
             IsSpot spot s.side.station s.place s.start → StandUnder lens s.side.station s.at s.under s.side.carried s.stand l sent → StopShows (λ d a. SideShows (H.shows s.side.hand x) s.side.out s.side.inn s.side.fresh s.side.duty d a) recover spot s.stand s.spare l →
             Joins H.unjoined H.joined (H.completed t.side.hand) t.news t.side.heard (H.join s.side.hand) (H.join t.side.hand) (accepted_in spot l (seen lens octets.now))) self.old.stops.items self.new.stops.items }
+        ensures recalls { EachPair (λ s t. (lens : ℕ → Lens) (sent : List (Datagram Body)) → Returns sent (seen lens octets.now) → (x : Speech Body H.Asked Reply) (recover : ℕ) (spot : Spot) (l : Life Body H.Asked Reply) →
+            IsSpot spot s.side.station s.place s.start → StandUnder lens s.side.station s.at s.under s.side.carried s.stand l sent → StopShows (λ d a. SideShows (H.shows s.side.hand x) s.side.out s.side.inn s.side.fresh s.side.duty d a) recover spot s.stand s.spare l →
+            StopBack x spot l (seen lens octets.now) (H.knows s.side.hand) (H.knows t.side.hand) s t) self.old.stops.items self.new.stops.items }
     {
         let mut cursor = Cursor::new(octets);
         for i in 0..self.stops.len() {
@@ -113,6 +117,7 @@ impl<H: Hand> Tour<H> {
             StandKept s.stand kept l → StandPassing s.stand (H.awaits s.side.hand) s.side.passing l → StandPassing t.stand (H.awaits t.side.hand) t.side.passing (given_where (gives && s.under) recover spot number (life_lost x H.acknowledged H.more H.passed spot (news_lost s.side.station kept (seen lens octets)) (seen lens octets) l l.stand))) self.old.stops.items self.new.stops.items }
         ensures join { EachPair (λ s t. (gives && s.under) ≡ false → H.join t.side.hand ≡ H.join s.side.hand) self.old.stops.items self.new.stops.items }
         ensures again { EachPair (λ s t. gives ≡ false → LosesAgain s t) self.old.stops.items self.new.stops.items }
+        ensures recalled { EachPair (λ s t. StopLost gives (H.knows s.side.hand) (H.knows t.side.hand) s t) self.old.stops.items self.new.stops.items }
     {
         for i in 0..self.stops.len() {
             self.stops[i].lost_for(gives);
