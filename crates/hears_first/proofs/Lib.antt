@@ -3,3 +3,4 @@ pub mod Protocols
 pub mod Forms
 pub mod States
 pub mod Slaves
+mod WorkedRows
