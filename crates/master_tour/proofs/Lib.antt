@@ -18,3 +18,4 @@ pub mod Goes
 pub mod Joins
 pub mod Sizes
 pub mod Rooms
+pub mod Counting

@@ -64,3 +64,6 @@ returns-else-self-clause-passing g c = λ x number recover spot lens kept octets
 
 pub returns-then-self-clause-passing : goal.returns-then-self-clause-passing
 returns-then-self-clause-passing g c = λ x number recover spot lens kept octets l sp u sh k h. c.give_up.ensures.passing _ _ _
+
+pub returns-then-self-clause-counts : goal.returns-then-self-clause-counts
+returns-then-self-clause-counts g c = λ x made recover spot l sh counts h. c.give_up.ensures.counts _ _ _ _
