@@ -19,3 +19,4 @@ pub mod Joins
 pub mod Sizes
 pub mod Rooms
 pub mod Behinds
+pub mod Counting

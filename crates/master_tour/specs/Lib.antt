@@ -14,3 +14,6 @@ pub mod Rooms
 pub mod Sizes
 pub mod Recalls
 pub mod Behind
+pub mod Stops
+pub mod Counting
+pub mod Frees

@@ -10,6 +10,7 @@ use Rattle.master_tour.proofs.Backs.{gone_follows}
 use Rattle.master_tour.proofs.Joins.{turned_joins}
 use Rattle.master_tour.proofs.Passings.{gone_passing}
 use Rattle.std.proofs.Common.{◌∙◌}
+use Rattle.master_tour.proofs.Counting.{gone_counts}
 use Rattle.master_tour.proofs.stop.Stop.back.Goals as goal
 
 pub returns-in-Gone-clause-lives : goal.returns-in-Gone-clause-lives
@@ -96,3 +97,12 @@ returns-in-Open-clause-recalls g c = λ x recover spot lens sent l sp r u sh.
       unvisited = q.unvisited;
       known = q.known;
     }
+
+pub returns-in-Gone-clause-counts : goal.returns-in-Gone-clause-counts
+returns-in-Gone-clause-counts g c = λ lens sent r x recover spot l u sh counts h. gone_counts c.args.self.now.stand _ _ _ _ c.in-Gone.is
+
+pub returns-in-Opening-clause-counts : goal.returns-in-Opening-clause-counts
+returns-in-Opening-clause-counts g c = λ lens sent r x recover spot l u sh counts h. c.opening_back.ensures.counts c.in-Opening.is c.args.made lens sent r x recover spot l u sh counts h
+
+pub returns-in-Open-clause-counts : goal.returns-in-Open-clause-counts
+returns-in-Open-clause-counts g c = λ lens sent r x recover spot l u sh counts h. c.open_met.ensures.counts c.in-Open.is lens sent r x recover spot l u sh counts h

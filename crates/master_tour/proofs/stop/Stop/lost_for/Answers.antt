@@ -76,3 +76,6 @@ returns-then-self-clause-recalled g c = (
   λ e. absurd (let t : true ≡ false = sym (ap (λ z. z && c.args.self.now.under) c.if-not-gives.false ∙ sym c.lost.ensures.under ∙ c.if-self.true) ∙ e in cc),
   λ k. c.give_up.ensures.knows (c.lost.ensures.recalled.3 ∙ k),
 )
+
+pub returns-then-self-clause-counts : goal.returns-then-self-clause-counts
+returns-then-self-clause-counts g c = λ x made recover spot l sh counts h. c.give_up.ensures.counts _ _ _ _

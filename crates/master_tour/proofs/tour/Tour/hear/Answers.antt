@@ -21,6 +21,7 @@ use Rattle.master_tour.proofs.Walks.{each_map, each_same}
 use Rattle.life_frames.specs.of_segment_model.Record.{Kept}
 use Rattle.master_side.specs.Passing.{counts_at, news_back}
 use Rattle.master_tour.specs.Passing.{StandPassing, StandKept}
+use Rattle.master_tour.specs.Counting.{CameCounts}
 use Rattle.master_tour.proofs.tour.Tour.hear.Goals as goal
 
 pub returns-then-is_none : goal.returns-then-is_none
@@ -52,6 +53,10 @@ returns-then-is_none g c = record {
       IsSpot spot s.side.station s.place s.start → StandUnder lens s.side.station s.at s.under s.side.carried s.stand k sent → StopShows (λ d a. SideShows (g.H.Hand.shows s.side.hand x) s.side.out s.side.inn s.side.fresh s.side.duty d a) recover spot s.stand s.spare k →
       StopBack x spot k (seen lens octets) (g.H.Hand.knows s.side.hand) (g.H.Hand.knows t.side.hand) s t) c.args.self.now.stops.items c.all_back.new.self.stops.items) c.as_slice-octets.ensures.value
       (each_map _ _ c.args.self.now.stops.items c.all_back.new.self.stops.items (λ s t p. p lens sent (subst (λ z. Returns sent (seen lens z)) (sym c.as_slice-octets.ensures.value) a)) c.all_back.ensures.recalls);
+  counts = λ lens sent a n.
+      subst (λ octets. EachPair (λ s t. CameCounts lens sent (seen lens octets) c.args.made s t) c.args.self.now.stops.items c.all_back.new.self.stops.items) c.as_slice-octets.ensures.value
+      (each_map _ _ c.args.self.now.stops.items c.all_back.new.self.stops.items (λ s t p. p lens sent (subst (λ z. Returns sent (seen lens z)) (sym c.as_slice-octets.ensures.value) a)) c.all_back.ensures.counts);
+  pace = c.all_back.ensures.pace;
 }
 
 pub returns-else-is_none : goal.returns-else-is_none
@@ -70,4 +75,7 @@ returns-else-is_none g c = record {
       absurd (none_returns sent (seen lens c.args.frame.now.items) n a (seen_none lens c.args.frame.now.items c.as_slice-octets.result.now c.fault.result c.as_slice-octets.ensures.value c.fault.ensures.fault c.if-is_none.ensures));
   recalls = λ lens sent a n.
       absurd (none_returns sent (seen lens c.args.frame.now.items) n a (seen_none lens c.args.frame.now.items c.as_slice-octets.result.now c.fault.result c.as_slice-octets.ensures.value c.fault.ensures.fault c.if-is_none.ensures));
+  counts = λ lens sent a n.
+      absurd (none_returns sent (seen lens c.args.frame.now.items) n a (seen_none lens c.args.frame.now.items c.as_slice-octets.result.now c.fault.result c.as_slice-octets.ensures.value c.fault.ensures.fault c.if-is_none.ensures));
+  pace = each_same _ c.args.self.now.stops.items (λ s. refl);
 }
