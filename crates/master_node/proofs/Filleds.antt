@@ -11,6 +11,8 @@ use Rattle.master_tour.specs.Goes.{is_live, holds_at, Passes, BeginsLive}
 use Rattle.master_tour.specs.Made.{FrameMade, is_in}
 use Rattle.master_tour.specs.Orders.{visits_left, AreOnce, IsNextOf, IsCarried}
 use Rattle.master_tour.specs.Walks.{StepsAt}
+use Rattle.master_node.specs.Begins.{begun_for}
+use Rattle.master_node.specs.Starts.{HasStarted}
 use Rattle.master_node.specs.Filling.{IsAmong, StopFills, IsFilling, IsEmpty, IsFilled}
 use Rattle.master_node.specs.Kept.{TourOn}
 use Rattle.master_node.specs.Shows.{WaitsNone, HoldsFirst, IsAlone, ComeAgain, lived_of, is_live_lead}
@@ -86,6 +88,11 @@ module _ (lens : ℕ → Lens) (recover made : ℕ) (from : Switched) (as' : Lis
         (subst (λ z. FrameMade (λ ds i a s. StopFills lens recover made f.begun (z % 256) left ds i a s) octets m.tour.count (map lived_of as') m.tour.stops.items) (sym k.made) f.frame));
     among = subst (λ z. AllFrom (λ i a s. IsAmong lens f.begun left i a s) 0 as' z.items) (sym k.stops) f.among;
     packets = begun_on from left f.begun as' m.lan n.lan k.lan f.packets;
+    starts = record {
+      visited = f.starts.visited;
+      each = subst (λ z. AllFrom (λ i a s. HasStarted lens z f.starts.visited i (begun_for f.begun as' i) a s) 0 as' n.tour.stops.items) (sym k.lan)
+          (subst (λ z. AllFrom (λ i a s. HasStarted lens m.lan f.starts.visited i (begun_for f.begun as' i) a s) 0 as' z.items) (sym k.stops) f.starts.each);
+    };
   }
 
   -- before the first visit

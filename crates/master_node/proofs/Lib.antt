@@ -33,3 +33,7 @@ pub mod Begins
 pub mod Restings
 pub mod Visitings
 pub mod Eagers
+pub mod Frees
+pub mod Starts
+pub mod Queued
+pub mod Recalled

@@ -14,6 +14,7 @@ use Rattle.master_tour.specs.Made.{StopMade, FrameMade, is_in}
 use Rattle.master_tour.specs.declared.stop.Stop.{Stop}
 use Rattle.master_duty.specs.of_state_exchange.Stated.{Service}
 use Rattle.master_node.specs.Begins.{HasBegun}
+use Rattle.master_node.specs.Starts.{HaveStarted}
 use Rattle.master_node.specs.declared.node.MasterNode.{MasterNode}
 use Rattle.master_tour.specs.Goes.{is_live, holds_at, BeginsLive}
 use Rattle.master_node.specs.Shows.{WaitsNone, ComeAgain, side_shows, lived_of, is_live_lead}
@@ -43,6 +44,7 @@ module _ (lens : ℕ → Lens) where
         pub frame : FrameMade (λ ds i a s. StopFills begun (m.made % 256) left ds i a s) octets m.tour.count (map lived_of as') m.tour.stops.items
         pub among : AllFrom (λ i a s. IsAmong begun left i a s) 0 as' m.tour.stops.items
         pub packets : HasBegun from left begun as' m.lan
+        pub starts : HaveStarted lens m.lan begun as' m.tour.stops.items
 
       -- BEFORE THE FIRST VISIT: no datagram stands in the frame, some slave is live, and the first that is visited is
       pub record IsEmpty (m : MasterNode) (octets : List ℕ) (as' : List Leads) : Type 0 where

@@ -6,6 +6,8 @@ use Rattle.master_node.specs.Coming.{IsLaid}
 use Rattle.master_node.specs.Kept.{StopStays}
 use Rattle.master_node.proofs.Kepts.{stop_same, tour_same}
 use Rattle.master_node.proofs.Lists.{steps_same, steps_map}
+use Rattle.std.proofs.Common.{◌∙◌}
+use Rattle.master_node.specs.Starts.{LaysPacket, WaitsFor}
 use Rattle.master_node.proofs.node.MasterNode.lay_coming.Goals as goal
 
 pub returns-in-Packet-clause-laid : goal.returns-in-Packet-clause-laid
@@ -60,4 +62,26 @@ returns-in-State-clause-oldest c =
     let m = c.args.self.now in
     let l : c.args.place < length m.tour.stops.items = omega (arith, c.requires, m.paired, m.tour.stops.ok.0) in
     subst (λ z. StepsAt (λ s t. LaysOldest m.lan c.args.place (Some z) t) c.args.place m.tour.stops.items c.lay_state.new.self.tour.stops.items) (sym c.in-State.is)
+    (subst (λ z. StepsAt (λ s t. ⊤) c.args.place m.tour.stops.items z.stops.items) (sym c.lay_state.ensures.tour.0) (steps_same _ c.args.place m.tour.stops.items l (λ s. tt)))
+
+pub returns-in-Packet-clause-sure : goal.returns-in-Packet-clause-sure
+returns-in-Packet-clause-sure c = λ w.
+    let m = c.args.self.now in
+    subst (λ z. StepsAt (λ s t. LaysPacket (Some z) t.side.hand.laying.laid) c.args.place m.tour.stops.items c.lay_packet.new.self.tour.stops.items) (sym c.in-Packet.is) (c.lay_packet.ensures.sure (subst (λ z. WaitsFor m.lan c.args.place (Some z)) c.in-Packet.is w))
+
+pub returns-in-Mail-clause-sure : goal.returns-in-Mail-clause-sure
+returns-in-Mail-clause-sure c = λ w.
+    let m = c.args.self.now in
+    subst (λ z. StepsAt (λ s t. LaysPacket (Some z) t.side.hand.laying.laid) c.args.place m.tour.stops.items c.lay_mail.new.self.tour.stops.items) (sym c.in-Mail.is) (steps_map _ _ c.args.place m.tour.stops.items c.lay_mail.new.self.tour.stops.items (λ s t k. tt) c.lay_mail.ensures.laid)
+
+pub returns-in-Script-clause-sure : goal.returns-in-Script-clause-sure
+returns-in-Script-clause-sure c = λ w.
+    let m = c.args.self.now in
+    subst (λ z. StepsAt (λ s t. LaysPacket (Some z) t.side.hand.laying.laid) c.args.place m.tour.stops.items c.lay_script.new.self.tour.stops.items) (sym c.in-Script.is) (steps_map _ _ c.args.place m.tour.stops.items c.lay_script.new.self.tour.stops.items (λ s t k. tt) c.lay_script.ensures.laid)
+
+pub returns-in-State-clause-sure : goal.returns-in-State-clause-sure
+returns-in-State-clause-sure c = λ w.
+    let m = c.args.self.now in
+    let l : c.args.place < length m.tour.stops.items = omega (arith, c.requires, m.paired, m.tour.stops.ok.0) in
+    subst (λ z. StepsAt (λ s t. LaysPacket (Some z) t.side.hand.laying.laid) c.args.place m.tour.stops.items c.lay_state.new.self.tour.stops.items) (sym c.in-State.is)
     (subst (λ z. StepsAt (λ s t. ⊤) c.args.place m.tour.stops.items z.stops.items) (sym c.lay_state.ensures.tour.0) (steps_same _ c.args.place m.tour.stops.items l (λ s. tt)))

@@ -30,3 +30,12 @@ returns-in-None-clause-oldest c =
     let l : c.args.place < length m.tour.stops.items = omega (arith, c.requires, m.paired, m.tour.stops.ok.0) in
     steps_set (λ s t. IsOldest m.lan c.args.place t) c.args.place m.tour.stops.items c.index_mut-in-None.result.now _ l c.index_mut-in-None.ensures.value
     (λ e. absurd (let bad : Laid.Nothing ≡ Laid.Packet = sym c.lay_nothing.ensures.laid ∙ e in cc))
+
+pub returns-in-Some-clause-sure : goal.returns-in-Some-clause-sure
+returns-in-Some-clause-sure c = λ n.
+    let m = c.args.self.now in
+    let l : c.args.place < length m.tour.stops.items = omega (arith, c.requires, m.paired, m.tour.stops.ok.0) in
+    steps_set (λ s t. t.side.hand.laying.laid ≡ Laid.Packet) c.args.place m.tour.stops.items c.index_mut.result.now _ l c.index_mut.ensures.value c.lay_packet.ensures.laid
+
+pub returns-in-None-clause-sure : goal.returns-in-None-clause-sure
+returns-in-None-clause-sure c = λ n. absurd (n (c.oldest.ensures.none c.in-None.is))

@@ -37,6 +37,14 @@ returns-clause-begun c = λ h lens recover retry missed number as' x.
     let w = c.make.ensures.led lens recover retry missed number c.args.self.now.lan.switch as' (omega (arith, admitted.few, none)) (c.admit.ensures.takes.takes _ [] (omega (arith, none)) (has_none _ _ c.begins.ensures.switch c.begins.ensures.none)) (subst (λ z. list_any (λ s. is_live s.stand) z.stops.items ≡ true) (sym c.admit.ensures.same.1) (sym c.has_live.ensures ∙ live)) (shows_same lens recover retry missed as' _ c.admit.new.self c.admit.ensures.same.1 c.admit.ensures.same.0 x) in
     (w.0, w.1, record { each = w.2.each; distinct = w.2.distinct; quiet = w.2.quiet; goes = w.2.goes; missed_is = w.2.missed_is; retry_is = w.2.retry_is; sent = w.2.sent; fits = w.2.fits }, w.3)
 
+pub returns-clause-begins : goal.returns-clause-begins
+returns-clause-begins c = λ h lens recover retry missed number as' x.
+    let live : c.has_live.result ≡ true = cc in
+    let none = ap length c.begins.ensures.none in
+    let admitted = c.admit.ensures.lan in
+    let w = c.make.ensures.led lens recover retry missed number c.args.self.now.lan.switch as' (omega (arith, admitted.few, none)) (c.admit.ensures.takes.takes _ [] (omega (arith, none)) (has_none _ _ c.begins.ensures.switch c.begins.ensures.none)) (subst (λ z. list_any (λ s. is_live s.stand) z.stops.items ≡ true) (sym c.admit.ensures.same.1) (sym c.has_live.ensures ∙ live)) (shows_same lens recover retry missed as' _ c.admit.new.self c.admit.ensures.same.1 c.admit.ensures.same.0 x) in
+    (w.0, w.1, record { each = w.2.each; distinct = w.2.distinct; quiet = w.2.quiet; goes = w.2.goes; missed_is = w.2.missed_is; retry_is = w.2.retry_is; sent = w.2.sent; fits = w.2.fits }, w.3, w.6)
+
 pub returns-then-not-has_live-clause-joins : goal.returns-then-not-has_live-clause-joins
 returns-then-not-has_live-clause-joins c = each_same _ c.args.self.now.tour.stops.items (λ s. refl)
 
