@@ -35,3 +35,7 @@ pub mod Restings
 pub mod Visitings
 pub mod Eagers
 pub mod Entering
+pub mod Frees
+pub mod Starts
+pub mod Queued
+pub mod Recalled

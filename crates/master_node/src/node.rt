@@ -75,6 +75,10 @@ impl MasterNode {
     ghost use Rattle.master_node.specs.Rooms.{SendsSame, Takes, area_at, area_in};
     ghost use Rattle.master_node.specs.Asks.{AllAsk};
     ghost use Rattle.master_node.specs.Eager.{AllTakeUp, AllVisit, EagerFrom, EagerOn, recalls};
+    ghost use Rattle.master_node.specs.Starts.{AllBegin, IsByMails, LaysPacket, NoPacket, NoneComes, SideFrees, WaitsFor};
+    ghost use Rattle.master_hand.specs.declared.laying.Laid.{Laid};
+    ghost use Rattle.master_tour.specs.declared.stop.Stand.{Stand};
+    ghost use Rattle.std.specs.Prelude.{None};
     ghost use Rattle.master_node.specs.Toured.{StaysPut, TakesPart, IsBare, HasVisited, stop_share, turn_share, tour_of};
     ghost use Rattle.master_node.specs.Happened.{Happens, HappensSo};
     ghost use Rattle.master_node.specs.Entering.{AllStopsRest, EntersFirst, HostMayEnter};
@@ -132,15 +136,18 @@ impl MasterNode {
         }
     }
 
-    // What may come into hand of a slave: a packet first, then a mail that is passed on, then the script. A slave that isn't open or has
-    // something in hand takes nothing.
-    fn coming(&self, place: usize) -> Option<Coming>
+    // What may come into hand of an open slave: a packet first, then a mail that is passed on, then the script. One that has something in hand takes
+    // nothing.
+    fn coming_open(&self, place: usize) -> Option<Coming>
         requires { place < vec_len self.now.posts }
         ensures comes { All WaitsNone self.now.posts.items → IfSome (slice_get self.now.tour.stops.items place) (λ s. IsComing (next_of s) result) }
         ensures first { PacketFirst self.now.lan place result }
+        ensures none { All WaitsNone self.now.posts.items → result ≡ None → IfSome (slice_get self.now.tour.stops.items place) (λ s. s.stand ≡ Stand.Open → SideFrees s.side → NoneComes self.now.lan place (next_of s)) }
+        ensures mails { IfSome (slice_get self.now.tour.stops.items place) (λ s. result ≡ Some Coming.Script → IsByMails (next_of s)) }
+        ensures waits { WaitsFor self.now.lan place result }
     {
         let stop = &self.tour.stops[place];
-        if !matches!(stop.stand, Stand::Open) || !stop.side.is_free() {
+        if !stop.side.is_free() {
             return None;
         }
         if self.lan.waits(place) {
@@ -152,6 +159,23 @@ impl MasterNode {
         scripted(&stop.side.hand)
     }
 
+    // A slave that isn't open takes nothing.
+    fn coming(&self, place: usize) -> Option<Coming>
+        requires { place < vec_len self.now.posts }
+        ensures comes { All WaitsNone self.now.posts.items → IfSome (slice_get self.now.tour.stops.items place) (λ s. IsComing (next_of s) result) }
+        ensures first { PacketFirst self.now.lan place result }
+        ensures none { All WaitsNone self.now.posts.items → result ≡ None → IfSome (slice_get self.now.tour.stops.items place) (λ s. s.stand ≡ Stand.Open → SideFrees s.side → NoneComes self.now.lan place (next_of s)) }
+        ensures mails { IfSome (slice_get self.now.tour.stops.items place) (λ s. result ≡ Some Coming.Script → IsByMails (next_of s)) }
+        ensures waits { WaitsFor self.now.lan place result }
+    {
+        let stop = &self.tour.stops[place];
+        match stop.stand {
+            Stand::Gone => None,
+            Stand::Opening(_) => None,
+            Stand::Open => self.coming_open(place),
+        }
+    }
+
     // The oldest packet that waits at the slave's port is laid ready; it goes on waiting there.
     fn lay_packet(&mut self, place: usize)
         requires { place < vec_len self.old.posts }
@@ -159,6 +183,7 @@ impl MasterNode {
         ensures laid { StepsAt (λ s t. StopStays s t × IsLaid (Some Coming.Packet) t.side.hand.laying.laid) place self.old.tour.stops.items self.new.tour.stops.items }
         ensures kept { TourKept self.old self.new × (All WaitsNone self.old.posts.items → All WaitsNone self.new.posts.items) }
         ensures oldest { StepsAt (λ s t. IsOldest self.old.lan place t) place self.old.tour.stops.items self.new.tour.stops.items }
+        ensures sure { (NoPacket self.old.lan place → ⊥) → StepsAt (λ s t. t.side.hand.laying.laid ≡ Laid.Packet) place self.old.tour.stops.items self.new.tour.stops.items }
         ensures lan { self.new.lan ≡ self.old.lan }
         ensures list { self.new.list ≡ self.old.list }
         ensures origins { StepsAt (λ s t. StepsAt (λ p q. LaysFrom (Some Coming.Packet) s.side.hand.laying.number p q) place self.old.posts.items self.new.posts.items) place self.old.tour.stops.items self.new.tour.stops.items }
@@ -231,6 +256,7 @@ impl MasterNode {
         ensures laid { StepsAt (λ s t. StopStays s t × IsLaid (Some coming) t.side.hand.laying.laid) place self.old.tour.stops.items self.new.tour.stops.items }
         ensures kept { TourKept self.old self.new × (All WaitsNone self.old.posts.items → All WaitsNone self.new.posts.items) }
         ensures oldest { StepsAt (λ s t. LaysOldest self.old.lan place (Some coming) t) place self.old.tour.stops.items self.new.tour.stops.items }
+        ensures sure { WaitsFor self.old.lan place (Some coming) → StepsAt (λ s t. LaysPacket (Some coming) t.side.hand.laying.laid) place self.old.tour.stops.items self.new.tour.stops.items }
         ensures lan { self.new.lan ≡ self.old.lan }
         ensures list { self.new.list ≡ self.old.list }
         ensures origins { StepsAt (λ s t. StepsAt (λ p q. LaysFrom (Some coming) s.side.hand.laying.number p q) place self.old.posts.items self.new.posts.items) place self.old.tour.stops.items self.new.tour.stops.items }
@@ -251,6 +277,7 @@ impl MasterNode {
         ensures kept { TourKept self.old self.new × (All WaitsNone self.old.posts.items → All WaitsNone self.new.posts.items) }
         ensures joins { JoinsKept self.old self.new }
         ensures oldest { StepsAt (λ s t. LaysOldest self.old.lan place coming t) place self.old.tour.stops.items self.new.tour.stops.items }
+        ensures sure { WaitsFor self.old.lan place coming → StepsAt (λ s t. LaysPacket coming t.side.hand.laying.laid) place self.old.tour.stops.items self.new.tour.stops.items }
         ensures lan { self.new.lan ≡ self.old.lan }
         ensures list { self.new.list ≡ self.old.list }
         ensures origins { StepsAt (λ s t. StepsAt (λ p q. LaysFrom coming s.side.hand.laying.number p q) place self.old.posts.items self.new.posts.items) place self.old.tour.stops.items self.new.tour.stops.items }
@@ -402,7 +429,8 @@ impl MasterNode {
         ensures posts { vec_len self.new.posts ≡ vec_len self.old.posts }
         ensures led { (lens : ℕ → Lens) (recover retry missed number : ℕ) (from : Before) (as' : List Leads) → length self.old.lan.happened ≤ 1 → HasTaken from.switch [] self.old.lan → IsUnlisted from.forwards self.old → list_any (λ s. is_live s.stand) self.old.tour.stops.items ≡ true → MasterShows lens recover retry self.old missed as' →
             (us : List Turn) × IsLedFrame lens number into.new.items as' us × MasterUnder lens recover retry self.new into.new.items missed us × PacketsBegin from.switch us self.new.lan × (tour_of self.new ≡ tour_of self.old) ×
-            IsOfTour (λ s. stop_share s) (λ k. holds_at is_live_lead as' k) (frame_size into.new.items) (λ k. area_at lens as' k) (tour_of self.old) self.new.tour.stops.items (length (seen lens into.new.items)) self.new.tour.visit.items × ServicesBegin from.forwards as' us self.new }
+            IsOfTour (λ s. stop_share s) (λ k. holds_at is_live_lead as' k) (frame_size into.new.items) (λ k. area_at lens as' k) (tour_of self.old) self.new.tour.stops.items (length (seen lens into.new.items)) self.new.tour.visit.items × ServicesBegin from.forwards as' us self.new ×
+            AllBegin lens self.new.lan 0 (recalls self.new) as' us }
         ensures joins { JoinsKept self.old self.new }
         ensures lan { Happens 16 self.old.lan self.new.lan }
         ensures made { Makes self.old.lan self.new.lan }
@@ -426,7 +454,7 @@ impl MasterNode {
         ensures led { result ≡ Next.Frame → (lens : ℕ → Lens) (recover retry missed number : ℕ) (as' : List Leads) → MasterShows lens recover retry self.old missed as' →
             (us : List Turn) × IsLedFrame lens number into.new.items as' us × MasterUnder lens recover retry self.new into.new.items missed us }
         ensures begun { result ≡ Next.Frame → (lens : ℕ → Lens) (recover retry missed number : ℕ) (as' : List Leads) → MasterShows lens recover retry self.old missed as' →
-            (us : List Turn) × IsLedFrame lens number into.new.items as' us × MasterUnder lens recover retry self.new into.new.items missed us × PacketsBegin self.old.lan.switch us self.new.lan × ServicesBegin (λ k. forwards_at self.old.posts.items k) as' us self.new }
+            (us : List Turn) × IsLedFrame lens number into.new.items as' us × MasterUnder lens recover retry self.new into.new.items missed us × PacketsBegin self.old.lan.switch us self.new.lan × ServicesBegin (λ k. forwards_at self.old.posts.items k) as' us self.new × AllBegin lens self.new.lan 0 (recalls self.new) as' us }
         ensures toured { result ≡ Next.Frame → (lens : ℕ → Lens) (recover retry missed : ℕ) (as' : List Leads) (us : List Turn) → MasterShows lens recover retry self.old missed as' → MasterUnder lens recover retry self.new into.new.items missed us →
             (tour_of self.new ≡ tour_of self.old) × IsOfTour (λ u. turn_share u) (λ k. holds_at is_live_lead as' k) (frame_size into.new.items) (λ k. area_at lens as' k) (tour_of self.old) us (length (seen lens into.new.items)) self.new.tour.visit.items }
         ensures asks { result ≡ Next.Frame → (lens : ℕ → Lens) (recover retry missed : ℕ) (us : List Turn) → MasterUnder lens recover retry self.new into.new.items missed us → AllAsk (seen lens into.new.items) us }
