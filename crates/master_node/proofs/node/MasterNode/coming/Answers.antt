@@ -3,7 +3,7 @@ use Rattle.master_tour.specs.declared.stop.Stand.{Stand}
 use Rattle.master_node.specs.Coming.{next_of}
 use Rattle.master_node.specs.Starts.{NoneComes, SideFrees}
 use Rattle.master_node.proofs.Lists.{some_here}
-use Rattle.master_node.proofs.ready.MasterNode.coming.Goals as goal
+use Rattle.master_node.proofs.node.MasterNode.coming.Goals as goal
 
 pub returns-in-Gone-clause-none : goal.returns-in-Gone-clause-none
 returns-in-Gone-clause-none c = λ w e.

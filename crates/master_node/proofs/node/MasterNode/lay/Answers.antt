@@ -10,7 +10,7 @@ use Rattle.master_tour.proofs.Walks.{each_same}
 use Rattle.master_node.proofs.Lists.{steps_each}
 use Rattle.master_node.specs.Origins.{LaysFrom}
 use Rattle.master_node.specs.Starts.{LaysPacket, WaitsFor}
-use Rattle.master_node.proofs.ready.MasterNode.lay.Goals as goal
+use Rattle.master_node.proofs.node.MasterNode.lay.Goals as goal
 
 pub returns-in-None-clause-laid : goal.returns-in-None-clause-laid
 returns-in-None-clause-laid c =

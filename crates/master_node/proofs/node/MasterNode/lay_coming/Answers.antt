@@ -10,7 +10,7 @@ use Rattle.master_node.specs.Origins.{LaysFrom}
 use Rattle.master_node.specs.declared.coming.Coming.{Coming}
 use Rattle.std.proofs.Common.{◌∙◌}
 use Rattle.master_node.specs.Starts.{LaysPacket, WaitsFor}
-use Rattle.master_node.proofs.ready.MasterNode.lay_coming.Goals as goal
+use Rattle.master_node.proofs.node.MasterNode.lay_coming.Goals as goal
 
 pub returns-in-Packet-clause-laid : goal.returns-in-Packet-clause-laid
 returns-in-Packet-clause-laid c =

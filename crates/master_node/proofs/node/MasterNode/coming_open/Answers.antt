@@ -7,7 +7,7 @@ use Rattle.master_node.specs.declared.coming.Coming.{Coming}
 use Rattle.master_node.proofs.Lists.{some_here}
 use Rattle.master_node.proofs.Restings.{never}
 use Rattle.master_node.proofs.Starts.{none_waiting, some_waiting, waits_other}
-use Rattle.master_node.proofs.ready.MasterNode.coming_open.Goals as goal
+use Rattle.master_node.proofs.node.MasterNode.coming_open.Goals as goal
 
 pub returns-then-not-is_free-clause-none : goal.returns-then-not-is_free-clause-none
 returns-then-not-is_free-clause-none c = λ w e.

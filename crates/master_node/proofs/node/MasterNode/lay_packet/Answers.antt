@@ -3,7 +3,7 @@ use Rattle.master_hand.specs.declared.laying.Laid.{Laid}
 use Rattle.master_node.specs.Begins.{IsOldest}
 use Rattle.master_tour.proofs.Walks.{steps_set}
 use Rattle.master_node.proofs.Kepts.{stop_side}
-use Rattle.master_node.proofs.ready.MasterNode.lay_packet.Goals as goal
+use Rattle.master_node.proofs.node.MasterNode.lay_packet.Goals as goal
 
 pub returns-in-Some-clause-laid : goal.returns-in-Some-clause-laid
 returns-in-Some-clause-laid c =
