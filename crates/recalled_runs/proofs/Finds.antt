@@ -36,7 +36,7 @@ find (s ∷ ss) last port low high = go (λ n less more. find ss n port less mor
       | inl same ↦ (zero, ap (λ z. port_by (Some (port_where z last))) e ∙ ap (λ n. Some n) (sym same))
       | inr (inl less) ↦ absurd (omega (arith, less, low))
       | inr (inr more) ↦ later s ss last port (subst (λ n. Finds n ss port) (sym (ap (λ z. last_where z last) e))
-        (rest (last + 1) (omega (arith, more)) (subst (λ n. port ≤ fold one_more n ss) (ap (λ z. last + cond z 1 0) e) high)))
+          (rest (last + 1) (omega (arith, more)) (subst (λ n. port ≤ fold one_more n ss) (ap (λ z. last + cond z 1 0) e) high)))
     ]
 
 pub finds : (ss : List SlaveSpec) (port : ℕ) → 1 ≤ port → port < ports_of ss → Finds 0 ss port
