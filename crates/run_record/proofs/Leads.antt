@@ -24,6 +24,8 @@ use Rattle.master_node.specs.Brought.{HasBrought}
 use Rattle.master_node.specs.Downs.{GoDown}
 use Rattle.master_node.specs.Happened.{events_of}
 use Rattle.master_node.specs.Listing.{ServicesBegin}
+use Rattle.master_node.specs.Eager.{recalls}
+use Rattle.master_node.specs.Starts.{AllBegin}
 use Rattle.master_node.specs.Origins.{forwards_at}
 use Rattle.master_node.specs.Joined.{HasUnfinished, JoinsKept, stand_before, stand_under, unfinished_after}
 use Rattle.master_node.specs.Made.{AreOfMaking}
@@ -197,7 +199,7 @@ module _ (lens : ℕ → Lens) (recover retry : ℕ) (gives : Bool) (made : ℕ)
 module _ (m0 m1 m2 : MasterNode) (f : Exchanged) (result : Next)
     (idle : (result ≡ nexts.Idle) ↔ (has_live m0 ≡ false))
     (led : result ≡ nexts.Frame → (lens : ℕ → Lens) (recover retry missed number : ℕ) (as' : List Leads) → MasterShows lens recover retry m0 missed as' →
-    (us : List Turn) × IsLedFrame lens number f.sent as' us × MasterUnder lens recover retry m1 f.sent missed us × PacketsBegin m0.lan.switch us m1.lan × ServicesBegin (λ k. forwards_at m0.posts.items k) as' us m1)
+    (us : List Turn) × IsLedFrame lens number f.sent as' us × MasterUnder lens recover retry m1 f.sent missed us × PacketsBegin m0.lan.switch us m1.lan × ServicesBegin (λ k. forwards_at m0.posts.items k) as' us m1 × AllBegin lens m1.lan 0 (recalls m1) as' us)
     (visits : result ≡ nexts.Frame → (lens : ℕ → Lens) (recover retry missed : ℕ) (as' : List Leads) (us : List Turn) → MasterShows lens recover retry m0 missed as' → MasterUnder lens recover retry m1 f.sent missed us →
     (tour_of m1 ≡ tour_of m0) × IsOfTour (λ u. turn_share u) (λ k. holds_at is_live_lead as' k) (frame_size f.sent) (λ k. area_at lens as' k) (tour_of m0) us (length (seen lens f.sent)) m1.tour.visit.items)
     (asks : result ≡ nexts.Frame → (lens : ℕ → Lens) (recover retry missed : ℕ) (us : List Turn) → MasterUnder lens recover retry m1 f.sent missed us → AllAsk (seen lens f.sent) us) where
@@ -210,7 +212,7 @@ module _ (m0 m1 m2 : MasterNode) (f : Exchanged) (result : Next)
     abbrev lens : ℕ → Lens
     lens = lens_of plan.slaves
 
-    made : (us : List Turn) × IsLedFrame lens (length fs) f.sent l.leads us × MasterUnder lens plan.recover plan.retry m1 f.sent l.missed us × PacketsBegin m0.lan.switch us m1.lan × ServicesBegin (λ k. forwards_at m0.posts.items k) l.leads us m1
+    made : (us : List Turn) × IsLedFrame lens (length fs) f.sent l.leads us × MasterUnder lens plan.recover plan.retry m1 f.sent l.missed us × PacketsBegin m0.lan.switch us m1.lan × ServicesBegin (λ k. forwards_at m0.posts.items k) l.leads us m1 × AllBegin lens m1.lan 0 (recalls m1) l.leads us
     made = led (made_by result refl live) lens plan.recover plan.retry l.missed (length fs) l.leads l.shows
 
     abbrev gives : Bool
