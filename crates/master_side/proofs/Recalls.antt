@@ -1,9 +1,9 @@
 -- What a side remembers of its visits goes on as it was where a service comes into hand.
-use Rattle.std.proofs.Common.{◌≡◌, true, false, Bool, Option, Some, None, refl, sym, ap, ◌∙◌, subst}
+use Rattle.std.proofs.Common.{◌≡◌, true, false, Bool, Option, None, refl, sym, ap, ◌∙◌}
 use Rattle.std.specs.Prelude.{is_some, ◌&&◌}
 use Rattle.master_duty.specs.declared.stage.Met.{Met}
 use Rattle.master_side.specs.Carried.{in_hand}
-use Rattle.master_side.specs.Recall.{Recall, recall_by}
+use Rattle.master_side.specs.Recall.{recall_by}
 
 -- with no state service in hand the turn counts for nothing
 pub idle_recall : (paused turn turn' knows knows' : Bool) (duty : Option Met) → in_hand duty ≡ None → knows' ≡ knows → recall_by paused duty turn' knows' ≡ recall_by paused duty turn knows

@@ -13,3 +13,6 @@ pub mod Passing
 pub mod Again
 pub mod Due
 pub mod Recall
+pub mod Free
+pub mod Sides
+pub mod Returns

@@ -37,3 +37,7 @@ heard_by (Some passing) Heard.Foreign = None
 abbrev pub empty_by : Option Passing → Option Passing
 empty_by (Some Passing.Served) = None
 empty_by passing = passing
+
+-- where such a read counts
+abbrev pub empty_where : Bool → Option Passing → Option Passing
+empty_where counts passing = if counts then empty_by passing else passing

@@ -65,6 +65,11 @@ pub trait Hand {
     // It knows which mails are left of its newest service: no reply came that was not due.
     ghost knows: { Self → Bool };
 
+    // Its newest service is over, by whether the mail held was not yet sent and whether none is; and the write of its last acknowledgement is done.
+    ghost over: { Self → Bool → Bool → Bool };
+
+    ghost done: { Self → Bool → Bool };
+
     // What the mail that was heard last brought beside a reply of the service in hand.
     ghost brings: { Self → Body → Type 0 };
 
@@ -130,12 +135,14 @@ pub trait Hand {
     fn is_over(&self, fresh: bool, idle: bool) -> bool
         ensures free { (x : Speech Body Asked Reply) (d : Side Body Asked Reply) → result ≡ true → d.fresh ≡ fresh → (idle ≡ true → d.halves.out.holding ≡ None) → shows self.now x d.now → is_free x d d.now ≡ true }
         ensures over { (x : Speech Body Asked Reply) (d : Side Body Asked Reply) → knows self.now ≡ true → d.fresh ≡ fresh → (d.halves.out.holding ≡ None → idle ≡ true) → shows self.now x d.now → is_free x d d.now ≡ true → result ≡ true }
-        ensures knows { result ≡ true → knows self.now ≡ true };
+        ensures knows { result ≡ true → knows self.now ≡ true }
+        ensures is { result ≡ over self.now fresh idle };
 
     /// Whether the write of its last mail is done, where that mail is an acknowledgement.
     fn is_acknowledged(&self, idle: bool) -> bool
         ensures done { (x : Speech Body Asked Reply) (d : Side Body Asked Reply) → result ≡ true → (idle ≡ true → d.halves.out.holding ≡ None) → shows self.now x d.now → is_acknowledged acknowledged d d.now ≡ true }
-        ensures sure { (x : Speech Body Asked Reply) (d : Side Body Asked Reply) → knows self.now ≡ true → (d.halves.out.holding ≡ None → idle ≡ true) → shows self.now x d.now → is_acknowledged acknowledged d d.now ≡ true → result ≡ true };
+        ensures sure { (x : Speech Body Asked Reply) (d : Side Body Asked Reply) → knows self.now ≡ true → (d.halves.out.holding ≡ None → idle ≡ true) → shows self.now x d.now → is_acknowledged acknowledged d d.now ≡ true → result ≡ true }
+        ensures is { result ≡ done self.now idle };
 
     /// The newest service is forgotten, and the one that was laid ready: the slave is opened anew.
     fn renew(&mut self)

@@ -19,7 +19,7 @@ use mailbox_master::{InwardHalf, head_of};
 use master_duty::Errand;
 
 impl<H: Hand> Side<H> {
-    ghost use Rattle.std.specs.Prelude.{◌≡◌, ◌≤◌, ◌-◌, ℕ, List, ◌++◌, ◌∷◌, [], Option, Some, IsSome, length, true, false};
+    ghost use Rattle.std.specs.Prelude.{◌≡◌, ◌≤◌, ◌-◌, ℕ, List, ◌++◌, ◌∷◌, [], Option, Some, IsSome, is_some, length, true, false};
     ghost use Rattle.datagrams.specs.Datagram as Raw;
     ghost use Rattle.datagrams.specs.Frame.{IsBegun};
     ghost use Rattle.frame_view.specs.of_exchange_model.Exchange.{Speech};
@@ -33,12 +33,13 @@ impl<H: Hand> Side<H> {
     ghost use Rattle.mailbox_master.specs.Any.{in_half_of, in_area_len, in_access_of};
     ghost use Rattle.mailbox_master.specs.Seat.{seat_half, ReadsAs};
     ghost use Rattle.master_duty.specs.Reply.{Reply};
-    ghost use Rattle.master_side.specs.Carried.{Meant, choice_of, link_choice, drain_choice, mails_choice};
-    ghost use Rattle.master_side.specs.Sent.{IsSent, SameSide, SameLink, visit_gram, write_gram, inward_gram, gram_len};
-    ghost use Rattle.master_side.specs.Shown.{SideShows, Holds};
+    ghost use Rattle.master_side.specs.Carried.{Meant, choice_of, link_choice, drain_choice};
+    ghost use Rattle.master_side.specs.Sent.{IsSent, SameSide, visit_gram, write_gram, inward_gram, gram_len};
+    ghost use Rattle.master_side.specs.Shown.{SideShows};
     ghost use Rattle.master_side.specs.Again.{HasNoRoom, IsOnWay, Repeats, area_of, next_len, sent_len};
     ghost use Rattle.master_side.specs.Carried.{in_hand};
-    ghost use Rattle.master_side.specs.Recall.{recall_by};
+    ghost use Rattle.master_side.specs.Free.{is_free_side};
+    ghost use Rattle.master_side.specs.Sides.{HoldsNext, LinkStays, recall_in};
     ghost use Rattle.master_side.specs.declared.carried.Carried.{Carried};
 
     // The write of the mail held stands next.
@@ -198,11 +199,11 @@ impl<H: Hand> Side<H> {
         }
     }
 
-    /// How many octets the datagram of a visit with this wish has. Where no service comes into hand by it, the next mail is held.
+    /// How many octets the datagram of a visit with this wish has. Where no service may come into hand by it, the next mail is held; else the side stays
+    /// as it is.
     pub fn ahead(&mut self, wish: Option<Wish>) -> usize
-        ensures shown { (x : Speech Body H.Asked Reply) (d : Seats.Side Body H.Asked Reply) (a : Account H.Asked Reply) → SideShows (H.shows self.old.hand x) self.old.out self.old.inn self.old.fresh self.old.duty d a →
-            Holds x d (λ e. SideShows (H.shows self.new.hand x) self.new.out self.new.inn self.new.fresh self.new.duty e a) }
-        ensures link { SameLink self.old.out self.old.inn self.old.station self.old.area self.new.out self.new.inn self.new.station self.new.area }
+        ensures shown { HoldsNext self.old self.new }
+        ensures link { LinkStays self.old self.new }
         ensures script { H.script self.new.hand ≡ H.script self.old.hand }
         ensures passing { self.new.passing ≡ self.old.passing }
         ensures awaits { H.awaits self.old.hand ≡ true → H.awaits self.new.hand ≡ true }
@@ -211,7 +212,8 @@ impl<H: Hand> Side<H> {
         ensures join { H.join self.new.hand ≡ H.join self.old.hand }
         ensures area { result ≤ area_of self.old }
         ensures again { Repeats self.old → Repeats self.new × (sent_len self.new ≡ sent_len self.old) × (result ≤ sent_len self.old) }
-        ensures recalled { recall_by self.new.paused self.new.duty self.new.turn (H.knows self.new.hand) ≡ recall_by self.old.paused self.old.duty self.old.turn (H.knows self.old.hand) }
+        ensures recalled { recall_in self.new ≡ recall_in self.old }
+        ensures still { is_free_side self.old ≡ true → is_some wish ≡ true → self.new ≡ self.old }
     {
         match wish {
             Some(wish) if self.is_free() => self.first_len(wish),

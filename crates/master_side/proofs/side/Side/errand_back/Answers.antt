@@ -37,7 +37,7 @@ returns-in-Some-clause-shown g c = λ x made b d a s w i.
     (subst (λ (z : Option Duty). DutyShows z a.hand) (sym c.state_in_hand.ensures ∙ c.in-Some.is) s.state) (c.duty_met-met.ensures.done d.halves (duty_access a.hand) b.gram.ask b.access c.args.counter w.asks some i.whole) c.duty_met-met.ensures.kept) s
 
 pub returns-in-Some-clause-passing : goal.returns-in-Some-clause-passing
-returns-in-Some-clause-passing g c = λ x kept p counts b d a s k h w i.
+returns-in-Some-clause-passing g c = λ counts x kept p b d a s k h w i.
     let args = c.args.self.now in
     let octets = c.args.octets.now in
     let awaits = g.H.Hand.awaits args.hand in
@@ -47,7 +47,7 @@ returns-in-Some-clause-passing g c = λ x kept p counts b d a s k h w i.
     (errand_seen x g.H.Hand.acknowledged g.H.Hand.more g.H.Hand.passed args.station kept b d a args.passing counts p args.carried c.args.counter octets c.requires (not_equal c.args.counter 0 c.if-counter-eq0.false) w i h.is) h)
 
 pub returns-in_default-clause-passing : goal.returns-in_default-clause-passing
-returns-in_default-clause-passing g c = λ x kept p counts b d a s k h w i.
+returns-in_default-clause-passing g c = λ counts x kept p b d a s k h w i.
     let args = c.args.self.now in
     let octets = c.args.octets.now in
     let awaits = g.H.Hand.awaits args.hand in

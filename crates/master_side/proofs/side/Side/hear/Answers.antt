@@ -1,4 +1,4 @@
-use Rattle.std.proofs.Common.{◌≡◌, true, sym, subst, Option, [], ◌∷◌}
+use Rattle.std.proofs.Common.{sym, subst, Option, [], ◌∷◌}
 use Rattle.master_side.specs.Due.{EachDue}
 use Rattle.std.specs.Prelude.{option_map}
 use Rattle.frame_view.specs.of_exchange_model.Rows.{row_heard}

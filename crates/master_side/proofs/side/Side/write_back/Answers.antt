@@ -14,13 +14,13 @@ use Rattle.master_side.proofs.Tellings.{write_seen}
 use Rattle.master_side.proofs.side.Side.write_back.Goals as goal
 
 pub returns-clause-shown : goal.returns-clause-shown
-returns-clause-shown g c = λ x made octets b d a s w i.
+returns-clause-shown g c = λ octets x made b d a s w i.
     let args = c.args.self.now in
     write_back x (g.H.Hand.shows args.hand x) args.out args.inn args.fresh args.duty d a args.station b made c.args.counter octets c.answered.new.self c.answered.ensures.half (g.met.H.Hand.quiet args.hand x made) s
     (subst (λ (k : Carried). Meant args.station k d.halves (duty_access a.hand) b) c.requires w) i
 
 pub returns-clause-passing : goal.returns-clause-passing
-returns-clause-passing g c = λ x kept p counts octets b d a s k h w i.
+returns-clause-passing g c = λ octets counts x kept p b d a s k h w i.
     let args = c.args.self.now in
     let meant = subst (λ (k : Carried). Meant args.station k d.halves (duty_access a.hand) b) c.requires w in
     let life = passes x g.H.Hand.acknowledged g.H.Hand.more g.H.Hand.passed p (news_back args.station kept counts (one b)) in
