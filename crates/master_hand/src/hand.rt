@@ -41,6 +41,7 @@ impl InHand {
     ghost use Rattle.master_hand.specs.Spoken.{Asked, emission, is_followed, hand_speech};
     ghost use Rattle.master_hand.specs.Passed.{body_of};
     ghost use Rattle.master_hand.specs.Talk.{client_later, is_handed};
+    ghost use Rattle.master_hand.specs.Over.{is_sent_by};
     ghost use Rattle.master_hand.specs.Brings.{emergency_kept};
     ghost use Rattle.master_hand.specs.Joins.{packet_kept};
     ghost use Rattle.master_side.specs.Due.{IsDue};
@@ -118,6 +119,7 @@ impl InHand {
         ensures left { result ≡ true → client_later self.now.which self.now.clients [] ≡ [] }
         ensures done { result ≡ true → (if is_handed self.now.which then idle else answered && not fresh) ≡ true }
         ensures all { client_later self.now.which self.now.clients [] ≡ [] → (if is_handed self.now.which then idle else answered && not fresh) ≡ true → result ≡ true }
+        ensures is { result ≡ is_sent_by answered self.now.which self.now.clients fresh idle }
     {
         if self.clients.has_next(self.which) {
             return false;
@@ -165,6 +167,7 @@ impl Hand for InHand {
     ghost use Rattle.master_hand.specs.Joins.{unfinished_behind, Completes};
     ghost use Rattle.master_hand.specs.Shown.{Shows, is_passing, awaits_reply, knows};
     ghost use Rattle.master_hand.specs.Quiet.{quiet_shown};
+    ghost use Rattle.master_hand.specs.Over.{over_by, done_by};
 
     ghost Asked = { Asked };
 
@@ -193,6 +196,10 @@ impl Hand for InHand {
     ghost more = { is_followed };
 
     ghost knows = { λ h. knows h.course };
+
+    ghost over = { λ h fresh idle. over_by h.course h.which h.clients fresh idle };
+
+    ghost done = { λ h idle. done_by h.course h.which idle };
 
     ghost brings = { λ h b. Brings h.found b };
 

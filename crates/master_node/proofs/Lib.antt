@@ -30,6 +30,12 @@ pub mod Downs
 pub mod Made
 pub mod Arrivals
 pub mod Begins
+pub mod Listing
 pub mod Restings
 pub mod Visitings
 pub mod Eagers
+pub mod Entering
+pub mod Frees
+pub mod Starts
+pub mod Queued
+pub mod Recalled

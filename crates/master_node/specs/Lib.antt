@@ -37,8 +37,11 @@ pub mod Happened
 pub mod Downs
 pub mod Made
 pub mod Begins
+pub mod Origins
+pub mod Listing
 pub mod Arrivals
 pub mod Eager
 pub mod Resting
+pub mod Entering
 pub mod Starts
 pub mod Recalled

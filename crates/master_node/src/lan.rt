@@ -1,9 +1,9 @@
-ghost use Rattle.std.specs.Prelude.{◌≡◌, ◌≤◌, ◌<◌, ◌+◌, ◌%◌, ◌==◌, [], length, nat_lt, true, count_by, if◌then◌else◌, All, IfOk, IfSome, Some, slice_get, drop};
+ghost use Rattle.std.specs.Prelude.{◌≡◌, ◌≤◌, ◌<◌, ◌+◌, ◌%◌, ◌==◌, [], length, nat_lt, true, count_by, if◌then◌else◌, All, IfOk, IfSome, None, Some, slice_get, drop};
 ghost use Rattle.eoe_switch.specs.Switch.{first_switch};
 ghost use Rattle.segment_plan.specs.declared.slave.SlaveSpec.{SlaveSpec as Spec};
 ghost use Rattle.segment_plan.specs.Sound.{IsPlan};
 ghost use Rattle.segment_plan.specs.Sound.{IsPacket};
-ghost use Rattle.master_node.specs.Ported.{are_ports, are_long};
+ghost use Rattle.master_node.specs.Ported.{are_ports, are_long, are_queued};
 ghost use Rattle.std.specs.Prelude.{◌++◌, ◌∷◌};
 ghost use Rattle.master_node.specs.Ports.{ports_of, port_where, ports_behind};
 ghost use Rattle.master_node.specs.Forwards.{port_by, forwarded};
@@ -40,6 +40,7 @@ pub struct Lan {
     ghost host_port: { 1 ≤ length switch.ports },
     ghost few: { length switch.ports ≤ 17 },
     ghost long: { are_long host ≡ true },
+    ghost queued: { are_queued switch.ports ≡ true },
 }
 
 // One more slave: where it serves EoE it has the port behind the last one.
@@ -112,6 +113,7 @@ impl Lan {
     ghost use Rattle.master_node.specs.Happened.{HasHappened, Happens, HappensSo, Comes, NoneWaits};
     ghost use Rattle.master_node.specs.Downs.{Lists, down_by};
     ghost use Rattle.master_node.specs.Arrivals.{arrive_by};
+    ghost use Rattle.master_node.specs.Entering.{EntersFirst};
     ghost use Rattle.master_node.specs.Made.{Makes};
     ghost use Rattle.master_node.specs.Begins.{NoneMore, TakesOn, oldest_by};
     ghost use Rattle.std.specs.Bool.{OnTrue};
@@ -159,7 +161,8 @@ impl Lan {
 
     /// Whether no packet waits at any port.
     pub fn is_quiet(&self) -> bool
-        ensures { OnTrue result (NoneWaits self.now.switch) }
+        ensures none { OnTrue result (NoneWaits self.now.switch) }
+        ensures quiet { NoneWaits self.now.switch → result ≡ true }
     {
         for port in 0..PORTS {
             if self.switch.waiting(port) > 0 {
@@ -182,6 +185,7 @@ impl Lan {
         ensures none { self.new.happened ≡ [] }
         ensures ports { self.new.ports ≡ self.old.ports }
         ensures switch { self.new.switch ≡ self.old.switch }
+        ensures host { (self.new.host ≡ self.old.host) × (self.new.entered ≡ self.old.entered) }
     {
         self.happened.clear();
     }
@@ -196,6 +200,7 @@ impl Lan {
     /// The next packet of the host comes in, where none waits.
     pub fn enter(&mut self)
         requires { NoneWaits self.old.switch }
+        ensures enters { nat_lt self.old.entered (length self.old.host) ≡ true → self.old.happened ≡ [] → EntersFirst self.new.happened }
         ensures happens { Happens 1 self.old self.new }
         ensures made { Makes self.old self.new }
         ensures takes { TakesOn [] self.old self.new }
@@ -237,6 +242,7 @@ impl Lan {
     pub fn oldest(&self, slave: usize) -> Option<&Packet>
         ensures long { IfSome result (λ p. 14 ≤ length p.now.items) }
         ensures oldest { IfSome result (λ p. slice_get (forwarded self.now.switch self.now.ports.items slave) 0 ≡ Some p.now) }
+        ensures none { result ≡ None → forwarded self.now.switch self.now.ports.items slave ≡ [] }
     {
         let port = self.port(slave)?;
         let packet = self.switch.oldest(port)?;

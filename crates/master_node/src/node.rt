@@ -1,10 +1,10 @@
 ghost use Rattle.std.specs.Prelude.{◌≡◌, ◌≤◌, vec_len};
 
-use crate::coming::{Coming, scripted, wish_of};
-use crate::event::{Event, EventList, Origin};
+use crate::coming::{Coming, wish_of};
+use crate::event::{Event, EventList};
 use crate::happened::Happening;
 use crate::lan::Lan;
-use crate::laying::{lay_mail, lay_nothing, lay_packet, lay_script, pass_by};
+use crate::laying::pass_by;
 use crate::post::{Post, Work};
 use datagrams::FrameBuf;
 use ec_fields::{NoMemory, Octets};
@@ -56,9 +56,9 @@ impl MasterNode {
     ghost use Rattle.master_node.specs.declared.coming.Coming.{Coming};
     ghost use Rattle.master_node.specs.Appends.{AppendsMail};
     ghost use Rattle.master_node.specs.Shows.{WaitsNone};
-    ghost use Rattle.master_node.specs.Kept.{StopStays, TourKept, TourOn};
-    ghost use Rattle.master_node.specs.Coming.{next_of, IsComing, IsLaid, PassesBy, CameBy};
-    ghost use Rattle.std.specs.Prelude.{◌⊎◌, ◌+◌, ◌∷◌, [], nat_lt, map, if◌then◌else◌};
+    ghost use Rattle.master_node.specs.Kept.{TourKept, TourOn};
+    ghost use Rattle.master_node.specs.Coming.{PassesBy, CameBy};
+    ghost use Rattle.std.specs.Prelude.{◌⊎◌, ◌+◌, [], nat_lt, map, if◌then◌else◌};
     ghost use Rattle.life_runs.specs.of_frame_view.View.{Lens};
     ghost use Rattle.life_runs.specs.of_frame_view.Seen.{seen};
     ghost use Rattle.life_runs.specs.of_life_frames.Shares.{AreDistinct};
@@ -75,11 +75,17 @@ impl MasterNode {
     ghost use Rattle.master_node.specs.Rooms.{SendsSame, Takes, area_at, area_in};
     ghost use Rattle.master_node.specs.Asks.{AllAsk};
     ghost use Rattle.master_node.specs.Eager.{AllTakeUp, AllVisit, EagerFrom, EagerOn, recalls};
+    ghost use Rattle.master_node.specs.Starts.{AllBegin};
+    ghost use Rattle.master_tour.specs.declared.stop.Stand.{Stand};
+    ghost use Rattle.std.specs.Prelude.{None};
     ghost use Rattle.master_node.specs.Toured.{StaysPut, TakesPart, IsBare, HasVisited, stop_share, turn_share, tour_of};
     ghost use Rattle.master_node.specs.Happened.{Happens, HappensSo};
+    ghost use Rattle.master_node.specs.Entering.{AllStopsRest, EntersFirst, HostMayEnter};
     ghost use Rattle.master_node.specs.Made.{Makes, AreOfMaking};
-    ghost use Rattle.eoe_switch.specs.Switch.{Switched};
-    ghost use Rattle.master_node.specs.Begins.{HasTaken, IsOldest, LaysOldest, NoneMore, PacketFirst, PacketsBegin, TakesOn, taken_for, taken_where};
+    ghost use Rattle.master_node.specs.Resting.{AllRest, StopRests};
+    ghost use Rattle.master_node.specs.Listing.{Before, IsUnlisted, ListsOne, ServicesBegin, where_began};
+    ghost use Rattle.master_node.specs.Origins.{forwards_at};
+    ghost use Rattle.master_node.specs.Begins.{HasTaken, NoneMore, PacketsBegin, TakesOn, taken_for, taken_where};
 
     // Whether a slave is live.
     pub(crate) fn has_live(&self) -> bool
@@ -88,10 +94,24 @@ impl MasterNode {
         self.tour.stops.iter().any(|stop| stop.is_live())
     }
 
-    // Whether a live slave has a packet in hand.
-    fn has_packet(&self) -> bool {
+    // Whether an open slave has a packet in hand.
+    fn holds_packet(&self, place: usize) -> bool
+        requires { place < vec_len self.now.posts }
+        ensures { IfSome (slice_get self.now.tour.stops.items place) (λ s. StopRests self.now.lan place s) → result ≡ false }
+    {
+        let stop = &self.tour.stops[place];
+        if !matches!(stop.stand, Stand::Open) || stop.side.is_free() {
+            return false;
+        }
+        matches!(self.posts[place].work, Work::Packet)
+    }
+
+    // Whether one of them has.
+    fn has_packet(&self) -> bool
+        ensures { AllStopsRest self.now → result ≡ false }
+    {
         for place in 0..self.posts.len() {
-            if matches!(self.posts[place].work, Work::Packet) {
+            if self.holds_packet(place) {
                 return true;
             }
         }
@@ -100,134 +120,18 @@ impl MasterNode {
 
     // A packet of the host comes into the switch, where one may.
     fn admit(&mut self)
+        ensures enters { AllStopsRest self.old → HostMayEnter self.old.lan → self.old.lan.happened ≡ [] → EntersFirst self.new.lan.happened }
         ensures same { (self.new.posts ≡ self.old.posts) × (self.new.tour ≡ self.old.tour) }
         ensures lan { Happens 1 self.old.lan self.new.lan }
         ensures made { Makes self.old.lan self.new.lan }
         ensures takes { TakesOn [] self.old.lan self.new.lan }
+        ensures list { self.new.list ≡ self.old.list }
     {
         if self.tour.opened < self.tour.stops.len() || !self.lan.has_host() {
             return;
         }
         if self.lan.is_quiet() && !self.has_packet() {
             self.lan.enter();
-        }
-    }
-
-    // What may come into hand of a slave: a packet first, then a mail that is passed on, then the script. A slave that isn't open or has
-    // something in hand takes nothing.
-    fn coming(&self, place: usize) -> Option<Coming>
-        requires { place < vec_len self.now.posts }
-        ensures comes { All WaitsNone self.now.posts.items → IfSome (slice_get self.now.tour.stops.items place) (λ s. IsComing (next_of s) result) }
-        ensures first { PacketFirst self.now.lan place result }
-    {
-        let stop = &self.tour.stops[place];
-        if !matches!(stop.stand, Stand::Open) || !stop.side.is_free() {
-            return None;
-        }
-        if self.lan.waits(place) {
-            return Some(Coming::Packet);
-        }
-        if self.posts[place].has_mail() {
-            return Some(Coming::Mail);
-        }
-        scripted(&stop.side.hand)
-    }
-
-    // The oldest packet that waits at the slave's port is laid ready; it goes on waiting there.
-    fn lay_packet(&mut self, place: usize)
-        requires { place < vec_len self.old.posts }
-        ensures posts { vec_len self.new.posts ≡ vec_len self.old.posts }
-        ensures laid { StepsAt (λ s t. StopStays s t × IsLaid (Some Coming.Packet) t.side.hand.laying.laid) place self.old.tour.stops.items self.new.tour.stops.items }
-        ensures kept { TourKept self.old self.new × (All WaitsNone self.old.posts.items → All WaitsNone self.new.posts.items) }
-        ensures oldest { StepsAt (λ s t. IsOldest self.old.lan place t) place self.old.tour.stops.items self.new.tour.stops.items }
-        ensures lan { self.new.lan ≡ self.old.lan }
-    {
-        let post = &mut self.posts[place];
-        post.next = Work::Packet;
-        post.origin = Origin::Forward(post.forwards);
-        post.forwards = post.forwards.wrapping_add(1);
-        match self.lan.oldest(place) {
-            Some(packet) => lay_packet(&mut self.tour.stops[place].side, packet),
-            None => lay_nothing(&mut self.tour.stops[place].side),
-        }
-    }
-
-    // The oldest mail that waits to be passed on is laid ready.
-    fn lay_mail(&mut self, place: usize)
-        requires { place < vec_len self.old.posts }
-        ensures posts { vec_len self.new.posts ≡ vec_len self.old.posts }
-        ensures laid { StepsAt (λ s t. StopStays s t) place self.old.tour.stops.items self.new.tour.stops.items }
-        ensures kept { TourKept self.old self.new × (All WaitsNone self.old.posts.items → All WaitsNone self.new.posts.items) }
-        ensures lan { self.new.lan ≡ self.old.lan }
-    {
-        let post = &mut self.posts[place];
-        post.origin = Origin::Gateway(post.oldest());
-        if let Some(asked) = post.take() {
-            post.next = Work::Passed { key: asked.key };
-            lay_mail(&mut self.tour.stops[place].side, &asked.mail);
-        }
-    }
-
-    // The next scripted service is laid ready.
-    fn lay_script(&mut self, place: usize)
-        requires { place < vec_len self.old.posts }
-        ensures posts { vec_len self.new.posts ≡ vec_len self.old.posts }
-        ensures laid { StepsAt (λ s t. StopStays s t × IsLaid (Some Coming.Script) t.side.hand.laying.laid) place self.old.tour.stops.items self.new.tour.stops.items }
-        ensures kept { TourKept self.old self.new × (All WaitsNone self.old.posts.items → All WaitsNone self.new.posts.items) }
-        ensures lan { self.new.lan ≡ self.old.lan }
-    {
-        let side = &mut self.tour.stops[place].side;
-        let number = side.hand.number();
-        lay_script(side);
-        let post = &mut self.posts[place];
-        post.next = Work::Mails;
-        post.origin = Origin::Script(number);
-    }
-
-    // So it is where it is a change of state, which is its side's own.
-    fn lay_state(&mut self, place: usize)
-        requires { place < vec_len self.old.posts }
-        ensures posts { vec_len self.new.posts ≡ vec_len self.old.posts }
-        ensures tour { (self.new.tour ≡ self.old.tour) × (self.new.made ≡ self.old.made) }
-        ensures quiet { All WaitsNone self.old.posts.items → All WaitsNone self.new.posts.items }
-        ensures lan { self.new.lan ≡ self.old.lan }
-    {
-        let number = self.tour.stops[place].side.hand.number();
-        let post = &mut self.posts[place];
-        post.next = Work::State;
-        post.origin = Origin::Script(number);
-    }
-
-    // What comes is laid ready.
-    fn lay_coming(&mut self, place: usize, coming: Coming)
-        requires { place < vec_len self.old.posts }
-        ensures posts { vec_len self.new.posts ≡ vec_len self.old.posts }
-        ensures laid { StepsAt (λ s t. StopStays s t × IsLaid (Some coming) t.side.hand.laying.laid) place self.old.tour.stops.items self.new.tour.stops.items }
-        ensures kept { TourKept self.old self.new × (All WaitsNone self.old.posts.items → All WaitsNone self.new.posts.items) }
-        ensures oldest { StepsAt (λ s t. LaysOldest self.old.lan place (Some coming) t) place self.old.tour.stops.items self.new.tour.stops.items }
-        ensures lan { self.new.lan ≡ self.old.lan }
-    {
-        match coming {
-            Coming::Packet => self.lay_packet(place),
-            Coming::Mail => self.lay_mail(place),
-            Coming::Script => self.lay_script(place),
-            Coming::State(_) => self.lay_state(place),
-        }
-    }
-
-    // So is what may come into hand, if something may.
-    fn lay(&mut self, place: usize, coming: Option<Coming>)
-        requires { place < vec_len self.old.posts }
-        ensures posts { vec_len self.new.posts ≡ vec_len self.old.posts }
-        ensures laid { StepsAt (λ s t. StopStays s t × IsLaid coming t.side.hand.laying.laid) place self.old.tour.stops.items self.new.tour.stops.items }
-        ensures kept { TourKept self.old self.new × (All WaitsNone self.old.posts.items → All WaitsNone self.new.posts.items) }
-        ensures joins { JoinsKept self.old self.new }
-        ensures oldest { StepsAt (λ s t. LaysOldest self.old.lan place coming t) place self.old.tour.stops.items self.new.tour.stops.items }
-        ensures lan { self.new.lan ≡ self.old.lan }
-    {
-        match coming {
-            None => {}
-            Some(what) => self.lay_coming(place, what),
         }
     }
 
@@ -244,6 +148,7 @@ impl MasterNode {
         ensures made { Makes self.old.lan self.new.lan }
         ensures takes { TakesOn (taken_for self.old.lan place (Some coming)) self.old.lan self.new.lan }
         ensures fewer { NoneMore self.old.lan self.new.lan }
+        ensures list { self.new.list ≡ self.old.list }
     {
         match coming {
             Coming::State(_) => pass_by(&mut self.tour.stops[place].side),
@@ -266,18 +171,19 @@ impl MasterNode {
         ensures made { Makes self.old.lan self.new.lan }
         ensures takes { TakesOn (taken_for self.old.lan place coming) self.old.lan self.new.lan }
         ensures fewer { NoneMore self.old.lan self.new.lan }
+        ensures events { self.new.list.count ≤ self.old.list.count + 1 }
+        ensures lists { StepsAt (λ p q. ListsOne place coming self.old self.new p q) place self.old.posts.items self.new.posts.items }
     {
-        let post = &mut self.posts[place];
-        post.work = post.next;
-        post.answer = None;
-        let origin = post.origin;
-        self.list.put(Event::Began {
-            slave: place as u32,
-            origin,
-        });
         match coming {
             None => {}
-            Some(what) => self.pass_by(place, what),
+            Some(what) => {
+                let origin = self.posts[place].begin();
+                self.list.put(Event::Began {
+                    slave: place as u32,
+                    origin,
+                });
+                self.pass_by(place, what);
+            }
         }
     }
 
@@ -294,6 +200,8 @@ impl MasterNode {
         ensures made { Makes self.old.lan self.new.lan }
         ensures takes { TakesOn (taken_where began self.old.lan place coming) self.old.lan self.new.lan }
         ensures fewer { NoneMore self.old.lan self.new.lan }
+        ensures events { self.new.list.count ≤ self.old.list.count + 1 }
+        ensures lists { StepsAt (λ p q. ListsOne place (where_began began coming) self.old self.new p q) place self.old.posts.items self.new.posts.items }
     {
         if began {
             self.begun(place, coming);
@@ -314,7 +222,7 @@ impl MasterNode {
         ensures counts { (self.new.tour.count ≡ self.old.tour.count) ⊎ (self.new.tour.count ≡ self.old.tour.count + 1) }
         ensures still { result ≡ false → (self.new.tour.count ≡ self.old.tour.count) × (self.new.tour.visit ≡ self.old.tour.visit) }
         ensures first { length into.old.items ≡ 16 → holds_at (λ s. is_live s.stand) self.old.tour.stops.items place ≡ true → (result ≡ true) × (self.new.tour.count ≡ self.old.tour.count + 1) }
-        ensures led { (lens : ℕ → Lens) (recover made : ℕ) (from : Switched) (left next : List ℕ) (as' : List Leads) → length self.old.lan.happened < 17 → All WaitsNone self.old.posts.items → AreDistinct (map lived_of as') → is_in place left ≡ true → is_in place next ≡ false → ((k : ℕ) → is_in k next ≡ true → is_in k left ≡ true) →
+        ensures led { (lens : ℕ → Lens) (recover made : ℕ) (from : Before) (left next : List ℕ) (as' : List Leads) → length self.old.lan.happened < 17 → self.old.list.count < 97 → All WaitsNone self.old.posts.items → AreDistinct (map lived_of as') → is_in place left ≡ true → is_in place next ≡ false → ((k : ℕ) → is_in k next ≡ true → is_in k left ≡ true) →
             IsFilling lens recover made from left self.old into.old.items as' → IsFilling lens recover made from (if result then next else left) self.new into.new.items as' }
         ensures joins { JoinsKept self.old self.new }
         ensures room { self.new.tour.count ≡ self.old.tour.count → holds_at (λ s. is_live s.stand) self.new.tour.stops.items place ≡ true → HasNoRoom into.new.items (area_in self.new.tour.stops.items place) }
@@ -322,6 +230,7 @@ impl MasterNode {
         ensures lan { Happens 1 self.old.lan self.new.lan }
         ensures made { Makes self.old.lan self.new.lan }
         ensures eager { All WaitsNone self.old.posts.items → holds_at (λ s. s.under) self.old.tour.stops.items place ≡ false → EagerOn self.old self.new }
+        ensures events { self.new.list.count ≤ self.old.list.count + 1 }
     {
         let index = (self.made % 256) as u8;
         let coming = self.coming(place);
@@ -342,7 +251,7 @@ impl MasterNode {
         ensures posts { vec_len self.new.posts ≡ vec_len self.old.posts }
         ensures on { TourOn self.old self.new }
         ensures visited { IsBare self.old → length into.old.items ≡ 16 → HasVisited into.new.items self.old self.new }
-        ensures filled { (lens : ℕ → Lens) (recover made : ℕ) (from : Switched) (as' : List Leads) → AreDistinct (map lived_of as') → IsEmpty lens recover made from self.old into.old.items as' → IsFilled lens recover made from self.new into.new.items as' }
+        ensures filled { (lens : ℕ → Lens) (recover made : ℕ) (from : Before) (as' : List Leads) → AreDistinct (map lived_of as') → IsEmpty lens recover made from self.old into.old.items as' → IsFilled lens recover made from self.new into.new.items as' }
         ensures joins { JoinsKept self.old self.new }
         ensures lan { Happens 16 self.old.lan self.new.lan }
         ensures made { Makes self.old.lan self.new.lan }
@@ -365,9 +274,10 @@ impl MasterNode {
     // The next frame is made, of the slaves that it carries.
     fn make(&mut self, into: &mut FrameBuf)
         ensures posts { vec_len self.new.posts ≡ vec_len self.old.posts }
-        ensures led { (lens : ℕ → Lens) (recover retry missed number : ℕ) (from : Switched) (as' : List Leads) → length self.old.lan.happened ≤ 1 → HasTaken from [] self.old.lan → list_any (λ s. is_live s.stand) self.old.tour.stops.items ≡ true → MasterShows lens recover retry self.old missed as' →
-            (us : List Turn) × IsLedFrame lens number into.new.items as' us × MasterUnder lens recover retry self.new into.new.items missed us × PacketsBegin from us self.new.lan × (tour_of self.new ≡ tour_of self.old) ×
-            IsOfTour (λ s. stop_share s) (λ k. holds_at is_live_lead as' k) (frame_size into.new.items) (λ k. area_at lens as' k) (tour_of self.old) self.new.tour.stops.items (length (seen lens into.new.items)) self.new.tour.visit.items }
+        ensures led { (lens : ℕ → Lens) (recover retry missed number : ℕ) (from : Before) (as' : List Leads) → length self.old.lan.happened ≤ 1 → HasTaken from.switch [] self.old.lan → IsUnlisted from.forwards self.old → list_any (λ s. is_live s.stand) self.old.tour.stops.items ≡ true → MasterShows lens recover retry self.old missed as' →
+            (us : List Turn) × IsLedFrame lens number into.new.items as' us × MasterUnder lens recover retry self.new into.new.items missed us × PacketsBegin from.switch us self.new.lan × (tour_of self.new ≡ tour_of self.old) ×
+            IsOfTour (λ s. stop_share s) (λ k. holds_at is_live_lead as' k) (frame_size into.new.items) (λ k. area_at lens as' k) (tour_of self.old) self.new.tour.stops.items (length (seen lens into.new.items)) self.new.tour.visit.items × ServicesBegin from.forwards as' us self.new ×
+            AllBegin lens self.new.lan 0 (recalls self.new) as' us }
         ensures joins { JoinsKept self.old self.new }
         ensures lan { Happens 16 self.old.lan self.new.lan }
         ensures made { Makes self.old.lan self.new.lan }
@@ -382,20 +292,23 @@ impl MasterNode {
     /// what came into hand of each is next of its script, or a packet. It carries the slaves of its visit of the tour, in this order: behind a lost frame
     /// just the same again; of a round the first, and it leaves out none that would fit. Of an open slave whose last read was lost it has no datagram but the
     /// one by which that read is repeated; with nothing in doubt it has the write of the mail held, the read of mailbox 1 or that of the status of mailbox 0, by
-    /// what is remembered of its visits; and behind its visit no mail is left that could be held. The packets that came into hand are just those that leave their ports of the switch, each the oldest there.
+    /// what is remembered of its visits; and behind its visit no mail is left that could be held. Where each slave was given up for good or rests and no packet
+    /// waits at any port, a packet of the host comes in, if one is left. The packets that came into hand are just those that leave their ports of the switch, each the oldest there.
+    /// Just the services that came into hand are listed as begun, each with where it comes from and its number there.
     pub fn next(&mut self, into: &mut FrameBuf) -> Next
         ensures idle { (result ≡ Next.Idle) ↔ (list_any (λ s. is_live s.stand) self.old.tour.stops.items ≡ false) }
         ensures posts { vec_len self.new.posts ≡ vec_len self.old.posts }
         ensures led { result ≡ Next.Frame → (lens : ℕ → Lens) (recover retry missed number : ℕ) (as' : List Leads) → MasterShows lens recover retry self.old missed as' →
             (us : List Turn) × IsLedFrame lens number into.new.items as' us × MasterUnder lens recover retry self.new into.new.items missed us }
         ensures begun { result ≡ Next.Frame → (lens : ℕ → Lens) (recover retry missed number : ℕ) (as' : List Leads) → MasterShows lens recover retry self.old missed as' →
-            (us : List Turn) × IsLedFrame lens number into.new.items as' us × MasterUnder lens recover retry self.new into.new.items missed us × PacketsBegin self.old.lan.switch us self.new.lan }
+            (us : List Turn) × IsLedFrame lens number into.new.items as' us × MasterUnder lens recover retry self.new into.new.items missed us × PacketsBegin self.old.lan.switch us self.new.lan × ServicesBegin (λ k. forwards_at self.old.posts.items k) as' us self.new × AllBegin lens self.new.lan 0 (recalls self.new) as' us }
         ensures toured { result ≡ Next.Frame → (lens : ℕ → Lens) (recover retry missed : ℕ) (as' : List Leads) (us : List Turn) → MasterShows lens recover retry self.old missed as' → MasterUnder lens recover retry self.new into.new.items missed us →
             (tour_of self.new ≡ tour_of self.old) × IsOfTour (λ u. turn_share u) (λ k. holds_at is_live_lead as' k) (frame_size into.new.items) (λ k. area_at lens as' k) (tour_of self.old) us (length (seen lens into.new.items)) self.new.tour.visit.items }
         ensures asks { result ≡ Next.Frame → (lens : ℕ → Lens) (recover retry missed : ℕ) (us : List Turn) → MasterUnder lens recover retry self.new into.new.items missed us → AllAsk (seen lens into.new.items) us }
         ensures visits { result ≡ Next.Frame → (lens : ℕ → Lens) (recover retry missed : ℕ) (as' : List Leads) (us : List Turn) → MasterShows lens recover retry self.old missed as' → MasterUnder lens recover retry self.new into.new.items missed us → AllVisit (seen lens into.new.items) (recalls self.new) us }
         ensures takes { result ≡ Next.Frame → (lens : ℕ → Lens) (recover retry missed : ℕ) (as' : List Leads) (us : List Turn) → MasterShows lens recover retry self.old missed as' → MasterUnder lens recover retry self.new into.new.items missed us → AllTakeUp lens (recalls self.new) us }
         ensures recalled { result ≡ Next.Frame → (lens : ℕ → Lens) (recover retry missed : ℕ) (as' : List Leads) → MasterShows lens recover retry self.old missed as' → recalls self.new ≡ recalls self.old }
+        ensures enters { result ≡ Next.Frame → (lens : ℕ → Lens) (recover retry missed : ℕ) (as' : List Leads) → MasterShows lens recover retry self.old missed as' → AllRest lens self.old.lan 0 (recalls self.old) as' → HostMayEnter self.old.lan → EntersFirst self.new.lan.happened }
         ensures joins { JoinsKept self.old self.new }
         ensures happened { HappensSo self.old.lan self.new.lan }
         ensures made { (self.new.lan.ports ≡ self.old.lan.ports) × AreOfMaking self.new.lan.happened }

@@ -7,46 +7,35 @@ use datagrams::FrameBuf;
 use master_side::Hand;
 
 impl<H: Hand> Tour<H> {
-    ghost use Rattle.std.specs.Prelude.{◌≡◌, ◌≤◌, ◌<◌, ◌-◌, ℕ, List, IfSome, map, All, length, [], ◌∷◌};
-    ghost use Rattle.datagrams.specs.Datagram as Raw;
-    ghost use Rattle.datagrams.specs.Command.{IsNamed};
-    ghost use Rattle.datagrams.specs.Frame.{IsBegun, IsFrame, Each, chained};
+    ghost use Rattle.std.specs.Prelude.{◌≡◌, ◌≤◌, ◌<◌, ◌-◌, ℕ, List, length};
     ghost use Rattle.life_frames.specs.of_exchange_model.Exchange.{Speech};
     ghost use Rattle.life_frames.specs.of_link_mails.Body.{Body};
     ghost use Rattle.life_frames.specs.of_segment_model.Slaves.{Datagram};
-    ghost use Rattle.life_frames.specs.of_segment_model.Seats as Seats;
     ghost use Rattle.life_frames.specs.of_segment_model.Returned.{Returns};
-    ghost use Rattle.life_frames.specs.of_task_model.Accounts.{Account, duty_access, account_back};
     ghost use Rattle.life_frames.specs.of_frame_view.View.{Lens};
     ghost use Rattle.life_frames.specs.of_frame_view.Seen.{seen};
     ghost use Rattle.master_side.specs.of_master_duty.Reply.{Reply};
-    ghost use Rattle.master_side.specs.Shown.{SideShows, wish_begun, takes_ready};
-    ghost use Rattle.life_frames.specs.of_state_exchange.Stated.{Service};
-    ghost use Rattle.master_tour.specs.Under.{Under};
-    ghost use Rattle.master_tour.specs.Walks.{EachPair, StepsAt};
-    ghost use Rattle.master_tour.specs.Stands.{StopShows, FollowShows, IsSpot, StandUnder, came_at, given_where, stand_gram, StandMeant, NextShows, HoldShows};
-    ghost use Rattle.life_frames.specs.of_frame_view.View.{datagram_seen};
-    ghost use Rattle.master_side.specs.of_mailbox_master.Any.{in_area_len};
-    ghost use Rattle.std.specs.Prelude.{is_some, true, ◌++◌, ◌+◌, ◌==◌};
-    ghost use Rattle.std.specs.Prelude.{Option, Some, drop, slice_get};
-    ghost use Rattle.master_tour.specs.Orders.{start_of, place_in, round_left, visits_left, visited_of, is_fixed, last_behind, AreOnce, IsNextOf, IsCarried};
-    ghost use Rattle.life_frames.specs.Shares.{Lived, AllBoth, AllThree, AreDistinct, lived_back, lived_lost};
-    ghost use Rattle.master_side.specs.Sent.{SameLink};
+    ghost use Rattle.master_tour.specs.Walks.{EachPair};
+    ghost use Rattle.master_tour.specs.Stands.{came_at, given_where};
+    ghost use Rattle.std.specs.Prelude.{true, ◌+◌};
+    ghost use Rattle.std.specs.Prelude.{Option, Some};
+    ghost use Rattle.master_tour.specs.Orders.{last_behind};
+    ghost use Rattle.life_frames.specs.Shares.{Lived, AllBoth, AllThree, lived_back, lived_lost};
     ghost use Rattle.master_side.specs.Heard.{Brought};
     ghost use Rattle.master_tour.specs.Brings.{accepted_in};
     ghost use Rattle.master_tour.specs.Joins.{Joins};
-    ghost use Rattle.master_tour.specs.Made.{StopLives, StopMade, StopSent, FrameMade, FrameSent, ComesAt, IsClearFor, IsSized, is_in};
     ghost use Rattle.life_frames.specs.of_life_model.Lives.{Life, Spot, life_back, life_lost};
     ghost use Rattle.life_frames.specs.of_segment_model.Record.{News, Kept};
     ghost use Rattle.master_side.specs.Passing.{counts_at, news_back, news_lost};
-    ghost use Rattle.master_tour.specs.Passing.{StandPassing, StandKept};
+    ghost use Rattle.master_tour.specs.Passing.{StandKept};
     ghost use Rattle.std.specs.Prelude.{Bool, false, not, nat_lt, ◌&&◌, if◌then◌else◌};
-    ghost use Rattle.master_tour.specs.declared.stop.Stand.{Stand};
-    ghost use Rattle.master_tour.specs.Goes.{is_live, is_opened, holds_at, Passes, BeginsLive, opened_behind};
-    ghost use Rattle.std.specs.List.{list_any};
-    ghost use Rattle.std.specs.Prelude.{None, filter};
-    ghost use Rattle.master_tour.specs.Rooms.{LosesAgain, Looks, Visits};
-    ghost use Rattle.master_tour.specs.Sizes.{frame_size};
+    ghost use Rattle.master_side.specs.Sides.{LinkStays};
+    ghost use Rattle.master_tour.specs.Stops.{StopSpot, StopLived, StopFollows, StopUnder, StopPassing, StopSized, LivesAt};
+    ghost use Rattle.master_tour.specs.Counting.{CameCounts, LostCounts};
+    ghost use Rattle.master_tour.specs.Goes.{is_opened, opened_behind};
+    ghost use Rattle.std.specs.Prelude.{None};
+    ghost use Rattle.master_tour.specs.Rooms.{LosesAgain};
+    ghost use Rattle.master_tour.specs.Behind.{StopBack, StopLost};
 
     // The place carried last, as the tour goes on from it: a first bring-up leaves none.
     fn last_behind(&self) -> Option<usize>
@@ -77,21 +66,26 @@ impl<H: Hand> Tour<H> {
     fn hear(&mut self, frame: &FrameBuf, made: u32)
         ensures lives { (lens : ℕ → Lens) (sent : List (Datagram Body)) → Returns sent (seen lens frame.now.items) → 1 ≤ length sent →
             EachPair (λ s t. ((x : Speech Body H.Asked Reply) (more : Body → Bool) (passed : H.Asked → Bool) (number recover : ℕ) (spot : Spot) (ns : List (News Body)) (l : Life Body H.Asked Reply) →
-            IsSpot spot s.side.station s.place s.start → StandUnder lens s.side.station s.at s.under s.side.carried s.stand l sent → StopShows (λ d a. SideShows (H.shows s.side.hand x) s.side.out s.side.inn s.side.fresh s.side.duty d a) recover spot s.stand s.spare l →
-            FollowShows (λ d a. SideShows (H.shows t.side.hand x) t.side.out t.side.inn t.side.fresh t.side.duty d a) recover spot t.stand t.spare t.news l (life_back x H.acknowledged more passed number spot ns (seen lens frame.now.items) (came_at s.under s.at (seen lens frame.now.items)) l l.stand)) × (t.place ≡ s.place) × (t.start ≡ s.start)) self.old.stops.items self.new.stops.items }
+            StopSpot spot s → StopUnder lens s l sent → StopLived s x recover spot l →
+            StopFollows t x recover spot l (life_back x H.acknowledged more passed number spot ns (seen lens frame.now.items) (came_at s.under s.at (seen lens frame.now.items)) l l.stand)) × (t.place ≡ s.place) × (t.start ≡ s.start)) self.old.stops.items self.new.stops.items }
         ensures long { length self.new.stops.items ≡ length self.old.stops.items }
-        ensures kept { EachPair (λ s t. SameLink s.side.out s.side.inn s.side.station s.side.area t.side.out t.side.inn t.side.station t.side.area × (IsSized s.stand s.side.out.len (in_area_len s.side.inn) → IsSized t.stand t.side.out.len (in_area_len t.side.inn))) self.old.stops.items self.new.stops.items }
+        ensures kept { EachPair (λ s t. LinkStays s.side t.side × (StopSized s → StopSized t)) self.old.stops.items self.new.stops.items }
         ensures tour { (self.new.again ≡ self.old.again) × (self.new.visit ≡ self.old.visit) × (self.new.opened ≡ self.old.opened) × (self.new.last ≡ self.old.last) × (self.new.missed ≡ self.old.missed) × (self.new.retry ≡ self.old.retry) }
         ensures stays { EachPair (λ s t. (H.script t.side.hand ≡ H.script s.side.hand) × (s.side.passing ≡ None → t.side.passing ≡ None)) self.old.stops.items self.new.stops.items }
         ensures passing { (lens : ℕ → Lens) (sent : List (Datagram Body)) → Returns sent (seen lens frame.now.items) → 1 ≤ length sent → EachPair (λ s t. (x : Speech Body H.Asked Reply) (number recover : ℕ) (spot : Spot) (kept : Kept) (l : Life Body H.Asked Reply) →
-            IsSpot spot s.side.station s.place s.start → StandUnder lens s.side.station s.at s.under s.side.carried s.stand l sent → StopShows (λ d a. SideShows (H.shows s.side.hand x) s.side.out s.side.inn s.side.fresh s.side.duty d a) recover spot s.stand s.spare l →
-            StandKept s.stand kept l → StandPassing s.stand (H.awaits s.side.hand) s.side.passing l → StandPassing t.stand (H.awaits t.side.hand) t.side.passing (life_back x H.acknowledged H.more H.passed number spot (news_back s.side.station kept (counts_at s.side.read_at s.side.pace made) (seen lens frame.now.items)) (seen lens frame.now.items) (came_at s.under s.at (seen lens frame.now.items)) l l.stand)) self.old.stops.items self.new.stops.items }
+            StopSpot spot s → StopUnder lens s l sent → StopLived s x recover spot l →
+            StandKept s.stand kept l → StopPassing s l → StopPassing t (life_back x H.acknowledged H.more H.passed number spot (news_back s.side.station kept (counts_at s.side.read_at s.side.pace made) (seen lens frame.now.items)) (seen lens frame.now.items) (came_at s.under s.at (seen lens frame.now.items)) l l.stand)) self.old.stops.items self.new.stops.items }
         ensures brought { (lens : ℕ → Lens) (sent : List (Datagram Body)) → Returns sent (seen lens frame.now.items) → 1 ≤ length sent → EachPair (λ s t. (x : Speech Body H.Asked Reply) (recover : ℕ) (spot : Spot) (l : Life Body H.Asked Reply) →
-            IsSpot spot s.side.station s.place s.start → StandUnder lens s.side.station s.at s.under s.side.carried s.stand l sent → StopShows (λ d a. SideShows (H.shows s.side.hand x) s.side.out s.side.inn s.side.fresh s.side.duty d a) recover spot s.stand s.spare l →
+            StopSpot spot s → StopUnder lens s l sent → StopLived s x recover spot l →
             Brought (H.brings t.side.hand) t.side.heard (accepted_in spot l (seen lens frame.now.items))) self.old.stops.items self.new.stops.items }
         ensures joined { (lens : ℕ → Lens) (sent : List (Datagram Body)) → Returns sent (seen lens frame.now.items) → 1 ≤ length sent → EachPair (λ s t. (x : Speech Body H.Asked Reply) (recover : ℕ) (spot : Spot) (l : Life Body H.Asked Reply) →
-            IsSpot spot s.side.station s.place s.start → StandUnder lens s.side.station s.at s.under s.side.carried s.stand l sent → StopShows (λ d a. SideShows (H.shows s.side.hand x) s.side.out s.side.inn s.side.fresh s.side.duty d a) recover spot s.stand s.spare l →
+            StopSpot spot s → StopUnder lens s l sent → StopLived s x recover spot l →
             Joins H.unjoined H.joined (H.completed t.side.hand) t.news t.side.heard (H.join s.side.hand) (H.join t.side.hand) (accepted_in spot l (seen lens frame.now.items))) self.old.stops.items self.new.stops.items }
+        ensures recalls { (lens : ℕ → Lens) (sent : List (Datagram Body)) → Returns sent (seen lens frame.now.items) → 1 ≤ length sent → EachPair (λ s t. (x : Speech Body H.Asked Reply) (recover : ℕ) (spot : Spot) (l : Life Body H.Asked Reply) →
+            StopSpot spot s → StopUnder lens s l sent → StopLived s x recover spot l →
+            StopBack x spot l (seen lens frame.now.items) (H.knows s.side.hand) (H.knows t.side.hand) s t) self.old.stops.items self.new.stops.items }
+        ensures counts { (lens : ℕ → Lens) (sent : List (Datagram Body)) → Returns sent (seen lens frame.now.items) → 1 ≤ length sent → EachPair (λ s t. CameCounts lens sent (seen lens frame.now.items) made s t) self.old.stops.items self.new.stops.items }
+        ensures pace { EachPair (λ s t. t.side.pace ≡ s.side.pace) self.old.stops.items self.new.stops.items }
     {
         let octets = frame.as_slice();
         if datagrams::fault(octets).is_none() {
@@ -103,25 +97,30 @@ impl<H: Hand> Tour<H> {
     pub fn returned(&mut self, frame: &FrameBuf, made: u32)
         ensures lives { (lens : ℕ → Lens) (sent : List (Datagram Body)) → Returns sent (seen lens frame.now.items) → 1 ≤ length sent →
             EachPair (λ s t. ((x : Speech Body H.Asked Reply) (more : Body → Bool) (passed : H.Asked → Bool) (number recover : ℕ) (spot : Spot) (ns : List (News Body)) (l : Life Body H.Asked Reply) →
-            IsSpot spot s.side.station s.place s.start → StandUnder lens s.side.station s.at s.under s.side.carried s.stand l sent → StopShows (λ d a. SideShows (H.shows s.side.hand x) s.side.out s.side.inn s.side.fresh s.side.duty d a) recover spot s.stand s.spare l →
-            FollowShows (λ d a. SideShows (H.shows t.side.hand x) t.side.out t.side.inn t.side.fresh t.side.duty d a) recover spot t.stand t.spare t.news l (life_back x H.acknowledged more passed number spot ns (seen lens frame.now.items) (came_at s.under s.at (seen lens frame.now.items)) l l.stand)) × (t.place ≡ s.place) × (t.start ≡ s.start)) self.old.stops.items self.new.stops.items }
+            StopSpot spot s → StopUnder lens s l sent → StopLived s x recover spot l →
+            StopFollows t x recover spot l (life_back x H.acknowledged more passed number spot ns (seen lens frame.now.items) (came_at s.under s.at (seen lens frame.now.items)) l l.stand)) × (t.place ≡ s.place) × (t.start ≡ s.start)) self.old.stops.items self.new.stops.items }
         ensures long { length self.new.stops.items ≡ length self.old.stops.items }
         ensures shown { (lens : ℕ → Lens) (sent : List (Datagram Body)) → Returns sent (seen lens frame.now.items) → 1 ≤ length sent → (x : Spot → Speech Body H.Asked Reply) (more : Body → Bool) (passed : H.Asked → Bool) (number recover : ℕ) (lives : List (Lived H.Asked Reply)) →
-            AllBoth (λ a s. StopLives lens recover (λ d b. SideShows (H.shows s.side.hand (x a.spot)) s.side.out s.side.inn s.side.fresh s.side.duty d b) s.side.station s.place s.start s.stand s.spare s.side.out.len (in_area_len s.side.inn) a × StandUnder lens s.side.station s.at s.under s.side.carried s.stand a.life sent) lives self.old.stops.items →
-            AllThree (λ a s t. (ns : List (News Body)) → StopLives lens recover (λ d b. SideShows (H.shows t.side.hand (x a.spot)) t.side.out t.side.inn t.side.fresh t.side.duty d b) t.side.station t.place t.start t.stand t.spare t.side.out.len (in_area_len t.side.inn) (lived_back (x a.spot) H.acknowledged more passed number (seen lens frame.now.items) a (record { under = s.under; at = s.at }) ns)) lives self.old.stops.items self.new.stops.items }
+            AllBoth (λ a s. LivesAt s (x a.spot) lens recover a × StopUnder lens s a.life sent) lives self.old.stops.items →
+            AllThree (λ a s t. (ns : List (News Body)) → LivesAt t (x a.spot) lens recover (lived_back (x a.spot) H.acknowledged more passed number (seen lens frame.now.items) a (record { under = s.under; at = s.at }) ns)) lives self.old.stops.items self.new.stops.items }
         ensures tour { (self.new.visit ≡ self.old.visit) × (self.new.again ≡ false) × (self.new.missed ≡ 0) × (self.new.retry ≡ self.old.retry) }
         ensures opened { self.new.opened ≡ opened_behind (λ s. is_opened s.stand) self.old.opened self.new.stops.items }
         ensures last { self.new.last ≡ last_behind self.old.opened (length self.old.stops.items) self.old.last self.old.visit.items }
         ensures stays { EachPair (λ s t. (H.script t.side.hand ≡ H.script s.side.hand) × (s.side.passing ≡ None → t.side.passing ≡ None)) self.old.stops.items self.new.stops.items }
         ensures passing { (lens : ℕ → Lens) (sent : List (Datagram Body)) → Returns sent (seen lens frame.now.items) → 1 ≤ length sent → EachPair (λ s t. (x : Speech Body H.Asked Reply) (number recover : ℕ) (spot : Spot) (kept : Kept) (l : Life Body H.Asked Reply) →
-            IsSpot spot s.side.station s.place s.start → StandUnder lens s.side.station s.at s.under s.side.carried s.stand l sent → StopShows (λ d a. SideShows (H.shows s.side.hand x) s.side.out s.side.inn s.side.fresh s.side.duty d a) recover spot s.stand s.spare l →
-            StandKept s.stand kept l → StandPassing s.stand (H.awaits s.side.hand) s.side.passing l → StandPassing t.stand (H.awaits t.side.hand) t.side.passing (life_back x H.acknowledged H.more H.passed number spot (news_back s.side.station kept (counts_at s.side.read_at s.side.pace made) (seen lens frame.now.items)) (seen lens frame.now.items) (came_at s.under s.at (seen lens frame.now.items)) l l.stand)) self.old.stops.items self.new.stops.items }
+            StopSpot spot s → StopUnder lens s l sent → StopLived s x recover spot l →
+            StandKept s.stand kept l → StopPassing s l → StopPassing t (life_back x H.acknowledged H.more H.passed number spot (news_back s.side.station kept (counts_at s.side.read_at s.side.pace made) (seen lens frame.now.items)) (seen lens frame.now.items) (came_at s.under s.at (seen lens frame.now.items)) l l.stand)) self.old.stops.items self.new.stops.items }
         ensures brought { (lens : ℕ → Lens) (sent : List (Datagram Body)) → Returns sent (seen lens frame.now.items) → 1 ≤ length sent → EachPair (λ s t. (x : Speech Body H.Asked Reply) (recover : ℕ) (spot : Spot) (l : Life Body H.Asked Reply) →
-            IsSpot spot s.side.station s.place s.start → StandUnder lens s.side.station s.at s.under s.side.carried s.stand l sent → StopShows (λ d a. SideShows (H.shows s.side.hand x) s.side.out s.side.inn s.side.fresh s.side.duty d a) recover spot s.stand s.spare l →
+            StopSpot spot s → StopUnder lens s l sent → StopLived s x recover spot l →
             Brought (H.brings t.side.hand) t.side.heard (accepted_in spot l (seen lens frame.now.items))) self.old.stops.items self.new.stops.items }
         ensures joined { (lens : ℕ → Lens) (sent : List (Datagram Body)) → Returns sent (seen lens frame.now.items) → 1 ≤ length sent → EachPair (λ s t. (x : Speech Body H.Asked Reply) (recover : ℕ) (spot : Spot) (l : Life Body H.Asked Reply) →
-            IsSpot spot s.side.station s.place s.start → StandUnder lens s.side.station s.at s.under s.side.carried s.stand l sent → StopShows (λ d a. SideShows (H.shows s.side.hand x) s.side.out s.side.inn s.side.fresh s.side.duty d a) recover spot s.stand s.spare l →
+            StopSpot spot s → StopUnder lens s l sent → StopLived s x recover spot l →
             Joins H.unjoined H.joined (H.completed t.side.hand) t.news t.side.heard (H.join s.side.hand) (H.join t.side.hand) (accepted_in spot l (seen lens frame.now.items))) self.old.stops.items self.new.stops.items }
+        ensures recalls { (lens : ℕ → Lens) (sent : List (Datagram Body)) → Returns sent (seen lens frame.now.items) → 1 ≤ length sent → EachPair (λ s t. (x : Speech Body H.Asked Reply) (recover : ℕ) (spot : Spot) (l : Life Body H.Asked Reply) →
+            StopSpot spot s → StopUnder lens s l sent → StopLived s x recover spot l →
+            StopBack x spot l (seen lens frame.now.items) (H.knows s.side.hand) (H.knows t.side.hand) s t) self.old.stops.items self.new.stops.items }
+        ensures counts { (lens : ℕ → Lens) (sent : List (Datagram Body)) → Returns sent (seen lens frame.now.items) → 1 ≤ length sent → EachPair (λ s t. CameCounts lens sent (seen lens frame.now.items) made s t) self.old.stops.items self.new.stops.items }
+        ensures pace { EachPair (λ s t. t.side.pace ≡ s.side.pace) self.old.stops.items self.new.stops.items }
     {
         self.hear(frame, made);
         let last = self.last_behind();
@@ -136,21 +135,24 @@ impl<H: Hand> Tour<H> {
     /// are given up.
     pub fn lost(&mut self)
         ensures lives { (lens : ℕ → Lens) (octets : List ℕ) → EachPair (λ s t. ((x : Speech Body H.Asked Reply) (more : Body → Bool) (passed : H.Asked → Bool) (number recover : ℕ) (spot : Spot) (ns : List (News Body)) (l : Life Body H.Asked Reply) →
-            IsSpot spot s.side.station s.place s.start → StandUnder lens s.side.station s.at s.under s.side.carried s.stand l (seen lens octets) → StopShows (λ d a. SideShows (H.shows s.side.hand x) s.side.out s.side.inn s.side.fresh s.side.duty d a) recover spot s.stand s.spare l →
-            FollowShows (λ d a. SideShows (H.shows t.side.hand x) t.side.out t.side.inn t.side.fresh t.side.duty d a) recover spot t.stand t.spare t.news l (given_where (not (nat_lt self.old.missed self.old.retry) && s.under) recover spot number (life_lost x H.acknowledged more passed spot ns (seen lens octets) l l.stand))) × (t.place ≡ s.place) × (t.start ≡ s.start)) self.old.stops.items self.new.stops.items }
+            StopSpot spot s → StopUnder lens s l (seen lens octets) → StopLived s x recover spot l →
+            StopFollows t x recover spot l (given_where (not (nat_lt self.old.missed self.old.retry) && s.under) recover spot number (life_lost x H.acknowledged more passed spot ns (seen lens octets) l l.stand))) × (t.place ≡ s.place) × (t.start ≡ s.start)) self.old.stops.items self.new.stops.items }
         ensures long { length self.new.stops.items ≡ length self.old.stops.items }
         ensures shown { (lens : ℕ → Lens) (octets : List ℕ) (x : Spot → Speech Body H.Asked Reply) (more : Body → Bool) (passed : H.Asked → Bool) (number recover : ℕ) (lives : List (Lived H.Asked Reply)) →
-            AllBoth (λ a s. StopLives lens recover (λ d b. SideShows (H.shows s.side.hand (x a.spot)) s.side.out s.side.inn s.side.fresh s.side.duty d b) s.side.station s.place s.start s.stand s.spare s.side.out.len (in_area_len s.side.inn) a × StandUnder lens s.side.station s.at s.under s.side.carried s.stand a.life (seen lens octets)) lives self.old.stops.items →
-            AllThree (λ a s t. (ns : List (News Body)) → StopLives lens recover (λ d b. SideShows (H.shows t.side.hand (x a.spot)) t.side.out t.side.inn t.side.fresh t.side.duty d b) t.side.station t.place t.start t.stand t.spare t.side.out.len (in_area_len t.side.inn) (lived_lost (x a.spot) H.acknowledged more passed (not (nat_lt self.old.missed self.old.retry)) recover number (seen lens octets) a (record { under = s.under; at = s.at }) ns)) lives self.old.stops.items self.new.stops.items }
+            AllBoth (λ a s. LivesAt s (x a.spot) lens recover a × StopUnder lens s a.life (seen lens octets)) lives self.old.stops.items →
+            AllThree (λ a s t. (ns : List (News Body)) → LivesAt t (x a.spot) lens recover (lived_lost (x a.spot) H.acknowledged more passed (not (nat_lt self.old.missed self.old.retry)) recover number (seen lens octets) a (record { under = s.under; at = s.at }) ns)) lives self.old.stops.items self.new.stops.items }
         ensures tour { (self.new.visit ≡ self.old.visit) × (self.new.again ≡ nat_lt self.old.missed self.old.retry) × (self.new.missed ≡ (if nat_lt self.old.missed self.old.retry then self.old.missed + 1 else 0)) × (self.new.retry ≡ self.old.retry) }
         ensures opened { self.new.opened ≡ (if nat_lt self.old.missed self.old.retry then self.old.opened else opened_behind (λ s. is_opened s.stand) self.old.opened self.new.stops.items) }
         ensures last { self.new.last ≡ (if nat_lt self.old.missed self.old.retry then self.old.last else last_behind self.old.opened (length self.old.stops.items) self.old.last self.old.visit.items) }
         ensures stays { EachPair (λ s t. (H.script t.side.hand ≡ H.script s.side.hand) × (s.side.passing ≡ None → t.side.passing ≡ None)) self.old.stops.items self.new.stops.items }
         ensures passing { (lens : ℕ → Lens) (octets : List ℕ) → EachPair (λ s t. (x : Speech Body H.Asked Reply) (number recover : ℕ) (spot : Spot) (kept : Kept) (l : Life Body H.Asked Reply) →
-            IsSpot spot s.side.station s.place s.start → StandUnder lens s.side.station s.at s.under s.side.carried s.stand l (seen lens octets) → StopShows (λ d a. SideShows (H.shows s.side.hand x) s.side.out s.side.inn s.side.fresh s.side.duty d a) recover spot s.stand s.spare l →
-            StandKept s.stand kept l → StandPassing s.stand (H.awaits s.side.hand) s.side.passing l → StandPassing t.stand (H.awaits t.side.hand) t.side.passing (given_where (not (nat_lt self.old.missed self.old.retry) && s.under) recover spot number (life_lost x H.acknowledged H.more H.passed spot (news_lost s.side.station kept (seen lens octets)) (seen lens octets) l l.stand))) self.old.stops.items self.new.stops.items }
+            StopSpot spot s → StopUnder lens s l (seen lens octets) → StopLived s x recover spot l →
+            StandKept s.stand kept l → StopPassing s l → StopPassing t (given_where (not (nat_lt self.old.missed self.old.retry) && s.under) recover spot number (life_lost x H.acknowledged H.more H.passed spot (news_lost s.side.station kept (seen lens octets)) (seen lens octets) l l.stand))) self.old.stops.items self.new.stops.items }
         ensures join { EachPair (λ s t. (not (nat_lt self.old.missed self.old.retry) && s.under) ≡ false → H.join t.side.hand ≡ H.join s.side.hand) self.old.stops.items self.new.stops.items }
         ensures again { EachPair (λ s t. nat_lt self.old.missed self.old.retry ≡ true → LosesAgain s t) self.old.stops.items self.new.stops.items }
+        ensures recalled { EachPair (λ s t. StopLost (not (nat_lt self.old.missed self.old.retry)) (H.knows s.side.hand) (H.knows t.side.hand) s t) self.old.stops.items self.new.stops.items }
+        ensures counts { EachPair (λ s t. LostCounts s t) self.old.stops.items self.new.stops.items }
+        ensures pace { EachPair (λ s t. t.side.pace ≡ s.side.pace) self.old.stops.items self.new.stops.items }
     {
         let missed = self.missed;
         let comes_again = missed < self.retry;

@@ -1,6 +1,5 @@
-ghost use Rattle.std.specs.Prelude.{◌≡◌, ◌≤◌, ◌+◌, ℕ, All, take, drop, true, nat_lt, nat_le};
+ghost use Rattle.std.specs.Prelude.{◌≡◌, ◌≤◌, ◌+◌, ℕ, take, drop, true, nat_lt, nat_le};
 ghost use Rattle.datagrams.specs.Frame.{IsPart};
-ghost use Rattle.std.specs.Prelude.{length};
 ghost use Rattle.std.specs.Prelude.{false, if◌then◌else◌, not, ◌&&◌};
 ghost use Rattle.al_state.specs.BringUp.{is_behind_init};
 ghost use Rattle.master_tour.specs.Stands.{turned_by};
@@ -96,9 +95,9 @@ fn body_of(octets: &[u8], part: Part) -> &[u8]
 }
 
 impl<H: Hand> Stop<H> {
-    ghost use Rattle.std.specs.Prelude.{◌≡◌, ◌≤◌, ◌<◌, ◌-◌, ◌++◌, ◌∷◌, [], ℕ, List, map, All, length, true, false};
+    ghost use Rattle.std.specs.Prelude.{◌≡◌, ◌≤◌, ◌<◌, ◌-◌, ℕ, List, true, false};
     ghost use Rattle.datagrams.specs.Datagram as Raw;
-    ghost use Rattle.datagrams.specs.Frame.{IsPart, IsBegun, IsFrame};
+    ghost use Rattle.datagrams.specs.Frame.{IsPart, IsFrame};
     ghost use Rattle.life_frames.specs.of_exchange_model.Exchange.{Speech};
     ghost use Rattle.life_frames.specs.of_link_mails.Body.{Body};
     ghost use Rattle.life_frames.specs.of_segment_model.Slaves.{Datagram, grams};
@@ -108,40 +107,42 @@ impl<H: Hand> Stop<H> {
     ghost use Rattle.master_tour.specs.Joins.{Joins, join_behind};
     ghost use Rattle.life_frames.specs.of_segment_model.Seats as Seats;
     ghost use Rattle.life_frames.specs.of_task_model.Accounts.{Account, duty_access, account_back};
-    ghost use Rattle.life_frames.specs.of_frame_view.View.{Lens, datagram_seen};
+    ghost use Rattle.life_frames.specs.of_frame_view.View.{Lens};
     ghost use Rattle.life_frames.specs.of_frame_view.Seen.{seen};
-    ghost use Rattle.master_side.specs.of_mailbox_master.Any.{in_half_of, in_area_len};
-    ghost use Rattle.life_frames.specs.of_link_model.Master.{InState};
+    ghost use Rattle.master_side.specs.of_mailbox_master.Any.{in_area_len};
     ghost use Rattle.master_side.specs.of_master_duty.Reply.{Reply};
-    ghost use Rattle.master_side.specs.declared.carried.Carried.{Carried};
-    ghost use Rattle.master_side.specs.Carried.{Meant};
-    ghost use Rattle.master_tour.specs.Made.{IsClearFor, IsSized};
-    ghost use Rattle.master_side.specs.Sent.{IsSent, SameLink, visit_gram};
-    ghost use Rattle.master_side.specs.Shown.{SideShows, Holds, Picked, wish_begun, takes_ready};
-    ghost use Rattle.datagrams.specs.Frame.{datagram_of};
-    ghost use Rattle.al_state.specs.BringUp.{head_of, octets_of};
+    ghost use Rattle.master_tour.specs.Made.{IsSized};
     ghost use Rattle.master_tour.specs.Under.{Under};
     ghost use Rattle.master_tour.specs.Cursor.{IsAtOne};
     ghost use Rattle.master_tour.specs.Goes.{is_live, is_opened};
-    ghost use Rattle.master_tour.specs.Stands.{StopShows, FollowShows, IsMet, IsSpot, StandUnder, came_at, given_where, stand_gram, StandMeant, NextShows, HoldShows, Counts};
-    ghost use Rattle.std.specs.Prelude.{is_some, ◌&&◌, ◌+◌};
-    ghost use Rattle.master_side.specs.Again.{HasNoRoom, IsOnWay, Repeats, area_of, sent_len};
-    ghost use Rattle.master_tour.specs.Rooms.{LosesAgain, StopRepeats, Visits, stop_len};
+    ghost use Rattle.master_tour.specs.Stands.{IsMet, came_at, given_where};
+    ghost use Rattle.std.specs.Prelude.{◌&&◌, ◌+◌};
+    ghost use Rattle.master_side.specs.Again.{IsOnWay, Repeats, sent_len};
+    ghost use Rattle.master_tour.specs.Rooms.{LosesAgain};
     ghost use Rattle.life_frames.specs.of_segment_model.Returned.{Returns};
     ghost use Rattle.al_state.specs.declared.bringing.BringStep.{BringStep};
     ghost use Rattle.std.specs.Prelude.{None, ◌%◌};
-    ghost use Rattle.life_frames.specs.of_life_model.Lives.{Life, Spot, passes, life_next, life_back, life_lost, reopens, gives_up};
+    ghost use Rattle.life_frames.specs.of_life_model.Lives.{Life, Spot, passes, life_back, life_lost, reopens, gives_up};
     ghost use Rattle.life_frames.specs.of_segment_model.Record.{News, Kept};
     ghost use Rattle.life_frames.specs.of_segment_model.Ends as Ends;
     ghost use Rattle.life_frames.specs.of_segment_model.Slaves.{Found};
     ghost use Rattle.life_frames.specs.of_task_model.Accounts as Accounts;
-    ghost use Rattle.master_side.specs.Passing.{PassingShows, IsKept, passing_behind, counts_at, news_back, news_lost};
+    ghost use Rattle.master_side.specs.Passing.{PassingShows, IsKept, counts_at, news_back, news_lost};
     ghost use Rattle.master_side.specs.declared.passing.Passing.{Passing};
     ghost use Rattle.master_tour.specs.Passing.{StandPassing, StandKept};
     ghost use Rattle.life_frames.specs.of_task_model.Accounts.{new_account};
     ghost use Rattle.master_side.specs.Shown.{new_side};
     ghost use Rattle.std.specs.Prelude.{Bool, Option, Some, if◌then◌else◌};
     ghost use Rattle.master_tour.specs.declared.stop.Stand.{Stand};
+    ghost use Rattle.master_tour.specs.Behind.{SameRecall, StopBack, StopLost, VisitBack};
+    ghost use Rattle.master_tour.specs.Under.{mine};
+    ghost use Rattle.master_side.specs.Carried.{one};
+    ghost use Rattle.master_side.specs.Due.{EachDue};
+    ghost use Rattle.master_side.specs.Sides.{ShowsOf, LinkStays};
+    ghost use Rattle.master_tour.specs.Stops.{StopSpot, StopLived, StopFollows, StopUnder, StopPassing, StopSized};
+    ghost use Rattle.master_tour.specs.Counting.{StandCounts, CountsOn, CameCounts, LostCounts, ReadStays};
+    ghost use Rattle.news_kept.specs.Counts.{CountsAt, counts_behind};
+    ghost use Rattle.std.specs.Prelude.{suc};
 
     /// Whether it gets datagrams: it was not given up for good.
     pub fn is_live(&self) -> bool
@@ -163,26 +164,37 @@ impl<H: Hand> Stop<H> {
         requires stands { IsAtOne octets.now cursor.old.number cursor.old.part }
         ensures stands { IsAtOne octets.now cursor.new.number cursor.new.part }
         ensures shown { (x : Speech Body H.Asked Reply) (frame : ℕ) (lens : ℕ → Lens) (back : List (Datagram Body)) (d : Seats.Side Body H.Asked Reply) (a : Account H.Asked Reply) → back ≡ seen lens octets.now →
-            SideShows (H.shows self.old.side.hand x) self.old.side.out self.old.side.inn self.old.side.fresh self.old.side.duty d a →
+            ShowsOf self.old.side x d a →
             Under self.old.side.station self.old.at self.old.under self.old.side.carried d.halves (duty_access a.hand) back →
-            SideShows (H.shows self.new.side.hand x) self.new.side.out self.new.side.inn self.new.side.fresh self.new.side.duty (Seats.side_back x frame self.old.side.station back d) (account_back self.old.side.station frame a back) }
-        ensures link { SameLink self.old.side.out self.old.side.inn self.old.side.station self.old.side.area self.new.side.out self.new.side.inn self.new.side.station self.new.side.area }
+            ShowsOf self.new.side x (Seats.side_back x frame self.old.side.station back d) (account_back self.old.side.station frame a back) }
+        ensures link { LinkStays self.old.side self.new.side }
         ensures kept { (self.new.place ≡ self.old.place) × (self.new.start ≡ self.old.start) × (self.new.spare ≡ self.old.spare) × (self.new.news ≡ self.old.news) }
         ensures stand { self.new.stand ≡ self.old.stand }
         ensures script { H.script self.new.side.hand ≡ H.script self.old.side.hand }
         ensures unpassed { self.old.side.passing ≡ None → self.new.side.passing ≡ None }
         ensures passing { (x : Speech Body H.Asked Reply) (lens : ℕ → Lens) (kept : Kept) (p : Option Ends.Passing) (back : List (Datagram Body)) (d : Seats.Side Body H.Asked Reply) (a : Account H.Asked Reply) → back ≡ seen lens octets.now →
-            SideShows (H.shows self.old.side.hand x) self.old.side.out self.old.side.inn self.old.side.fresh self.old.side.duty d a → IsKept kept d → PassingShows (H.awaits self.old.side.hand) self.old.side.passing p →
+            ShowsOf self.old.side x d a → IsKept kept d → PassingShows (H.awaits self.old.side.hand) self.old.side.passing p →
             Under self.old.side.station self.old.at self.old.under self.old.side.carried d.halves (duty_access a.hand) back →
             PassingShows (H.awaits self.new.side.hand) self.new.side.passing (passes x H.acknowledged H.more H.passed p (news_back self.old.side.station kept (counts_at self.old.side.read_at self.old.side.pace made) back)) }
         ensures brought { self.old.side.heard ≡ None → (x : Speech Body H.Asked Reply) (lens : ℕ → Lens) (back : List (Datagram Body)) (d : Seats.Side Body H.Asked Reply) (a : Account H.Asked Reply) → back ≡ seen lens octets.now →
-            SideShows (H.shows self.old.side.hand x) self.old.side.out self.old.side.inn self.old.side.fresh self.old.side.duty d a →
+            ShowsOf self.old.side x d a →
             Under self.old.side.station self.old.at self.old.under self.old.side.carried d.halves (duty_access a.hand) back →
             Brought (H.brings self.new.side.hand) self.new.side.heard (all_accepted self.old.side.station d.halves (grams back)) }
         ensures joined { self.old.side.heard ≡ None → (x : Speech Body H.Asked Reply) (lens : ℕ → Lens) (back : List (Datagram Body)) (d : Seats.Side Body H.Asked Reply) (a : Account H.Asked Reply) → back ≡ seen lens octets.now →
-            SideShows (H.shows self.old.side.hand x) self.old.side.out self.old.side.inn self.old.side.fresh self.old.side.duty d a →
+            ShowsOf self.old.side x d a →
             Under self.old.side.station self.old.at self.old.under self.old.side.carried d.halves (duty_access a.hand) back →
             HasJoined H.joined (H.completed self.new.side.hand) (H.join self.old.side.hand) (H.join self.new.side.hand) self.new.side.heard (all_accepted self.old.side.station d.halves (grams back)) }
+        ensures met { self.old.under ≡ true → (x : Speech Body H.Asked Reply) (lens : ℕ → Lens) (back : List (Datagram Body)) (d : Seats.Side Body H.Asked Reply) (a : Account H.Asked Reply) → back ≡ seen lens octets.now →
+            ShowsOf self.old.side x d a → Under self.old.side.station self.old.at self.old.under self.old.side.carried d.halves (duty_access a.hand) back →
+            (b : Datagram Body) → mine self.old.side.station back ≡ one b → VisitBack a b self.old.side self.new.side }
+        ensures unmet { self.old.under ≡ false → self.new.side ≡ self.old.side }
+        ensures knows { (x : Speech Body H.Asked Reply) (lens : ℕ → Lens) (back : List (Datagram Body)) (d : Seats.Side Body H.Asked Reply) (a : Account H.Asked Reply) → back ≡ seen lens octets.now →
+            ShowsOf self.old.side x d a → Under self.old.side.station self.old.at self.old.under self.old.side.carried d.halves (duty_access a.hand) back →
+            H.knows self.old.side.hand ≡ true → EachDue x d.now (all_accepted self.old.side.station d.halves (grams back)) → H.knows self.new.side.hand ≡ true }
+        ensures counts { (x : Speech Body H.Asked Reply) (lens : ℕ → Lens) (counts : Bool) (back : List (Datagram Body)) (d : Seats.Side Body H.Asked Reply) (a : Account H.Asked Reply) → back ≡ seen lens octets.now →
+            ShowsOf self.old.side x d a → Under self.old.side.station self.old.at self.old.under self.old.side.carried d.halves (duty_access a.hand) back → CountsAt self.old.side.read_at self.old.side.pace made counts →
+            CountsAt self.new.side.read_at self.new.side.pace (suc made) (counts_behind self.old.side.station self.old.side.pace made back counts) }
+        ensures pace { self.new.side.pace ≡ self.old.side.pace }
     {
         if !self.under {
             return;
@@ -197,21 +209,23 @@ impl<H: Hand> Stop<H> {
     /// The frame under way was lost, while it is open.
     pub fn open_lost(&mut self)
         ensures shown { (x : Speech Body H.Asked Reply) (sent : List (Datagram Body)) (d : Seats.Side Body H.Asked Reply) (a : Account H.Asked Reply) →
-            SideShows (H.shows self.old.side.hand x) self.old.side.out self.old.side.inn self.old.side.fresh self.old.side.duty d a →
+            ShowsOf self.old.side x d a →
             Under self.old.side.station self.old.at self.old.under self.old.side.carried d.halves (duty_access a.hand) sent →
-            SideShows (H.shows self.new.side.hand x) self.new.side.out self.new.side.inn self.new.side.fresh self.new.side.duty (Seats.side_lost self.old.side.station sent d) a }
-        ensures link { SameLink self.old.side.out self.old.side.inn self.old.side.station self.old.side.area self.new.side.out self.new.side.inn self.new.side.station self.new.side.area }
+            ShowsOf self.new.side x (Seats.side_lost self.old.side.station sent d) a }
+        ensures link { LinkStays self.old.side self.new.side }
         ensures kept { (self.new.place ≡ self.old.place) × (self.new.start ≡ self.old.start) × (self.new.spare ≡ self.old.spare) × (self.new.news ≡ self.old.news) }
         ensures under { self.new.under ≡ self.old.under }
         ensures stand { self.new.stand ≡ self.old.stand }
         ensures script { H.script self.new.side.hand ≡ H.script self.old.side.hand }
         ensures unpassed { self.old.side.passing ≡ None → self.new.side.passing ≡ None }
         ensures passing { (x : Speech Body H.Asked Reply) (kept : Kept) (p : Option Ends.Passing) (sent : List (Datagram Body)) (d : Seats.Side Body H.Asked Reply) (a : Account H.Asked Reply) →
-            SideShows (H.shows self.old.side.hand x) self.old.side.out self.old.side.inn self.old.side.fresh self.old.side.duty d a → IsKept kept d → PassingShows (H.awaits self.old.side.hand) self.old.side.passing p →
+            ShowsOf self.old.side x d a → IsKept kept d → PassingShows (H.awaits self.old.side.hand) self.old.side.passing p →
             Under self.old.side.station self.old.at self.old.under self.old.side.carried d.halves (duty_access a.hand) sent →
             PassingShows (H.awaits self.new.side.hand) self.new.side.passing (passes x H.acknowledged H.more H.passed p (news_lost self.old.side.station kept sent)) }
         ensures join { H.join self.new.side.hand ≡ H.join self.old.side.hand }
         ensures again { IsOnWay self.old.side → self.old.under ≡ true → Repeats self.new.side × (sent_len self.new.side ≤ sent_len self.old.side) }
+        ensures recalled { SameRecall (H.knows self.old.side.hand) (H.knows self.new.side.hand) self.old.side self.new.side }
+        ensures read { ReadStays self.old self.new }
     {
         if self.under {
             self.side.lost();
@@ -220,18 +234,21 @@ impl<H: Hand> Stop<H> {
 
     // Where the slave was seen in Init, its mailboxes and services are forgotten.
     fn renew_where(&mut self, is_cleared: bool)
-        ensures cleared { is_cleared ≡ true → (x : Speech Body H.Asked Reply) (d : Seats.Side Body H.Asked Reply) (a : Account H.Asked Reply) → SideShows (H.shows self.old.side.hand x) self.old.side.out self.old.side.inn self.old.side.fresh self.old.side.duty d a →
-            SideShows (H.shows self.new.side.hand x) self.new.side.out self.new.side.inn self.new.side.fresh self.new.side.duty new_side new_account }
+        ensures cleared { is_cleared ≡ true → (x : Speech Body H.Asked Reply) (d : Seats.Side Body H.Asked Reply) (a : Account H.Asked Reply) → ShowsOf self.old.side x d a →
+            ShowsOf self.new.side x new_side new_account }
         ensures still { is_cleared ≡ false → self.new.side ≡ self.old.side }
         ensures station { self.new.side.station ≡ self.old.side.station }
         ensures kept { (self.new.stand ≡ self.old.stand) × (self.new.spare ≡ self.old.spare) × (self.new.news ≡ self.old.news) }
         ensures plan { (self.new.place ≡ self.old.place) × (self.new.start ≡ self.old.start) }
-        ensures link { SameLink self.old.side.out self.old.side.inn self.old.side.station self.old.side.area self.new.side.out self.new.side.inn self.new.side.station self.new.side.area }
+        ensures link { LinkStays self.old.side self.new.side }
         ensures script { H.script self.new.side.hand ≡ H.script self.old.side.hand }
         ensures unpassed { self.old.side.passing ≡ None → self.new.side.passing ≡ None }
         ensures passing { is_cleared ≡ true → self.new.side.passing ≡ None }
         ensures heard { self.new.side.heard ≡ self.old.side.heard }
         ensures join { H.join self.new.side.hand ≡ (if is_cleared then H.unjoined else H.join self.old.side.hand) }
+        ensures knows { H.knows self.old.side.hand ≡ true → H.knows self.new.side.hand ≡ true }
+        ensures read { is_cleared ≡ true → self.new.side.read_at ≡ None }
+        ensures pace { self.new.side.pace ≡ self.old.side.pace }
     {
         if is_cleared {
             self.side.renew();
@@ -241,19 +258,23 @@ impl<H: Hand> Stop<H> {
     // The access of its opening came back with this working counter and body: the next is in hand, or the slave is open.
     fn opening_met(&mut self, up: BringUp, counter: u16, body: &[u8])
         ensures lives { self.old.stand ≡ Stand.Opening up → (x : Speech Body H.Asked Reply) (more : Body → Bool) (passed : H.Asked → Bool) (frame recover : ℕ) (spot : Spot) (news : List (News Body)) (back : List (Datagram Body)) (came : Bool × Option Found) (l : Life Body H.Asked Reply) →
-            IsMet up counter body.now came → StopShows (λ d a. SideShows (H.shows self.old.side.hand x) self.old.side.out self.old.side.inn self.old.side.fresh self.old.side.duty d a) recover spot self.old.stand self.old.spare l →
-            FollowShows (λ d a. SideShows (H.shows self.new.side.hand x) self.new.side.out self.new.side.inn self.new.side.fresh self.new.side.duty d a) recover spot self.new.stand self.new.spare self.new.news l (life_back x H.acknowledged more passed frame spot news back (Some came) l l.stand) }
+            IsMet up counter body.now came → StopLived self.old x recover spot l →
+            StopFollows self.new x recover spot l (life_back x H.acknowledged more passed frame spot news back (Some came) l l.stand) }
         ensures kept { (self.new.place ≡ self.old.place) × (self.new.start ≡ self.old.start) }
         ensures station { self.new.side.station ≡ self.old.side.station }
-        ensures link { SameLink self.old.side.out self.old.side.inn self.old.side.station self.old.side.area self.new.side.out self.new.side.inn self.new.side.station self.new.side.area }
-        ensures sized { IsSized (Stand.Opening up) self.old.side.out.len (in_area_len self.old.side.inn) → IsSized self.new.stand self.new.side.out.len (in_area_len self.new.side.inn) }
+        ensures link { LinkStays self.old.side self.new.side }
+        ensures sized { IsSized (Stand.Opening up) self.old.side.out.len (in_area_len self.old.side.inn) → StopSized self.new }
         ensures script { H.script self.new.side.hand ≡ H.script self.old.side.hand }
         ensures unpassed { self.old.side.passing ≡ None → self.new.side.passing ≡ None }
         ensures passing { self.old.stand ≡ Stand.Opening up → (x : Speech Body H.Asked Reply) (frame recover : ℕ) (spot : Spot) (news : List (News Body)) (back : List (Datagram Body)) (came : Bool × Option Found) (l : Life Body H.Asked Reply) →
-            IsMet up counter body.now came → StopShows (λ d a. SideShows (H.shows self.old.side.hand x) self.old.side.out self.old.side.inn self.old.side.fresh self.old.side.duty d a) recover spot self.old.stand self.old.spare l → StandPassing self.old.stand (H.awaits self.old.side.hand) self.old.side.passing l →
-            StandPassing self.new.stand (H.awaits self.new.side.hand) self.new.side.passing (life_back x H.acknowledged H.more H.passed frame spot news back (Some came) l l.stand) }
+            IsMet up counter body.now came → StopLived self.old x recover spot l → StopPassing self.old l →
+            StopPassing self.new (life_back x H.acknowledged H.more H.passed frame spot news back (Some came) l l.stand) }
         ensures heard { self.new.side.heard ≡ self.old.side.heard }
         ensures join { H.join self.new.side.hand ≡ join_behind H.unjoined self.new.news (H.join self.old.side.hand) }
+        ensures knows { H.knows self.old.side.hand ≡ true → H.knows self.new.side.hand ≡ true }
+        ensures counts { self.old.stand ≡ Stand.Opening up → (x : Speech Body H.Asked Reply) (made recover : ℕ) (spot : Spot) (back : List (Datagram Body)) (came : Bool × Option Found) (l : Life Body H.Asked Reply) →
+            IsMet up counter body.now came → StopLived self.old x recover spot l → CountsOn made back self.old self.new l }
+        ensures pace { self.new.side.pace ≡ self.old.side.pace }
     {
         let mut next = up;
         let is_up = came_back(&mut next, counter, body);
@@ -269,19 +290,22 @@ impl<H: Hand> Stop<H> {
         requires stands { IsAtOne octets.now cursor.old.number cursor.old.part }
         ensures stands { IsAtOne octets.now cursor.new.number cursor.new.part }
         ensures lives { self.old.stand ≡ Stand.Opening up → self.old.news ≡ None → (x : Speech Body H.Asked Reply) (more : Body → Bool) (passed : H.Asked → Bool) (number recover : ℕ) (spot : Spot) (lens : ℕ → Lens) (ns : List (News Body)) (sent : List (Datagram Body)) (l : Life Body H.Asked Reply) →
-            Returns sent (seen lens octets.now) → StandUnder lens self.old.side.station self.old.at self.old.under self.old.side.carried self.old.stand l sent → StopShows (λ d a. SideShows (H.shows self.old.side.hand x) self.old.side.out self.old.side.inn self.old.side.fresh self.old.side.duty d a) recover spot self.old.stand self.old.spare l →
-            FollowShows (λ d a. SideShows (H.shows self.new.side.hand x) self.new.side.out self.new.side.inn self.new.side.fresh self.new.side.duty d a) recover spot self.new.stand self.new.spare self.new.news l (life_back x H.acknowledged more passed number spot ns (seen lens octets.now) (came_at self.old.under self.old.at (seen lens octets.now)) l l.stand) }
+            Returns sent (seen lens octets.now) → StopUnder lens self.old l sent → StopLived self.old x recover spot l →
+            StopFollows self.new x recover spot l (life_back x H.acknowledged more passed number spot ns (seen lens octets.now) (came_at self.old.under self.old.at (seen lens octets.now)) l l.stand) }
         ensures kept { (self.new.place ≡ self.old.place) × (self.new.start ≡ self.old.start) }
         ensures station { self.new.side.station ≡ self.old.side.station }
-        ensures link { SameLink self.old.side.out self.old.side.inn self.old.side.station self.old.side.area self.new.side.out self.new.side.inn self.new.side.station self.new.side.area }
-        ensures sized { self.old.stand ≡ Stand.Opening up → IsSized self.old.stand self.old.side.out.len (in_area_len self.old.side.inn) → IsSized self.new.stand self.new.side.out.len (in_area_len self.new.side.inn) }
+        ensures link { LinkStays self.old.side self.new.side }
+        ensures sized { self.old.stand ≡ Stand.Opening up → StopSized self.old → StopSized self.new }
         ensures script { H.script self.new.side.hand ≡ H.script self.old.side.hand }
         ensures unpassed { self.old.side.passing ≡ None → self.new.side.passing ≡ None }
         ensures passing { self.old.stand ≡ Stand.Opening up → (x : Speech Body H.Asked Reply) (number recover : ℕ) (spot : Spot) (lens : ℕ → Lens) (ns : List (News Body)) (sent : List (Datagram Body)) (l : Life Body H.Asked Reply) →
-            Returns sent (seen lens octets.now) → StandUnder lens self.old.side.station self.old.at self.old.under self.old.side.carried self.old.stand l sent → StopShows (λ d a. SideShows (H.shows self.old.side.hand x) self.old.side.out self.old.side.inn self.old.side.fresh self.old.side.duty d a) recover spot self.old.stand self.old.spare l → StandPassing self.old.stand (H.awaits self.old.side.hand) self.old.side.passing l →
-            StandPassing self.new.stand (H.awaits self.new.side.hand) self.new.side.passing (life_back x H.acknowledged H.more H.passed number spot ns (seen lens octets.now) (came_at self.old.under self.old.at (seen lens octets.now)) l l.stand) }
+            Returns sent (seen lens octets.now) → StopUnder lens self.old l sent → StopLived self.old x recover spot l → StopPassing self.old l →
+            StopPassing self.new (life_back x H.acknowledged H.more H.passed number spot ns (seen lens octets.now) (came_at self.old.under self.old.at (seen lens octets.now)) l l.stand) }
         ensures heard { self.new.side.heard ≡ self.old.side.heard }
         ensures join { self.old.news ≡ None → H.join self.new.side.hand ≡ join_behind H.unjoined self.new.news (H.join self.old.side.hand) }
+        ensures knows { H.knows self.old.side.hand ≡ true → H.knows self.new.side.hand ≡ true }
+        ensures counts { self.old.stand ≡ Stand.Opening up → (made : ℕ) (lens : ℕ → Lens) (sent : List (Datagram Body)) → Returns sent (seen lens octets.now) → CameCounts lens sent (seen lens octets.now) made self.old self.new }
+        ensures pace { self.new.side.pace ≡ self.old.side.pace }
     {
         if !self.under {
             return;
@@ -295,11 +319,12 @@ impl<H: Hand> Stop<H> {
     // A state service that has drained and returns its slave to Init begins a reopening.
     fn reopen(&mut self)
         ensures side { self.new.side ≡ self.old.side }
-        ensures lives { self.old.stand ≡ Stand.Open → (x : Speech Body H.Asked Reply) (recover : ℕ) (spot : Spot) (l : Life Body H.Asked Reply) → IsSpot spot self.old.side.station self.old.place self.old.start → StopShows (λ d a. SideShows (H.shows self.old.side.hand x) self.old.side.out self.old.side.inn self.old.side.fresh self.old.side.duty d a) recover spot self.old.stand self.old.spare l →
-            StopShows (λ d a. SideShows (H.shows self.new.side.hand x) self.new.side.out self.new.side.inn self.new.side.fresh self.new.side.duty d a) recover spot self.new.stand self.new.spare (reopens l l.era.account.hand) }
+        ensures lives { self.old.stand ≡ Stand.Open → (x : Speech Body H.Asked Reply) (recover : ℕ) (spot : Spot) (l : Life Body H.Asked Reply) → StopSpot spot self.old → StopLived self.old x recover spot l →
+            StopLived self.new x recover spot (reopens l l.era.account.hand) }
         ensures kept { (self.new.place ≡ self.old.place) × (self.new.start ≡ self.old.start) × (self.new.spare ≡ self.old.spare) × (self.new.news ≡ self.old.news) }
         ensures passing { (l : Life Body H.Asked Reply) (hand : Option Accounts.Duty) (awaits : Bool) (p : Option Passing) → StandPassing self.old.stand awaits p l → StandPassing self.new.stand awaits p (reopens l hand) }
-        ensures sized { IsSized self.old.stand self.old.side.out.len (in_area_len self.old.side.inn) → IsSized self.new.stand self.new.side.out.len (in_area_len self.new.side.inn) }
+        ensures sized { StopSized self.old → StopSized self.new }
+        ensures counts { (at : Option ℕ) (pace made : ℕ) (counts : Bool) → StandCounts self.old.stand at pace made counts → StandCounts self.new.stand at pace made counts }
     {
         let Some(duty) = self.side.state_in_hand() else {
             return;
@@ -329,24 +354,29 @@ impl<H: Hand> Stop<H> {
         requires stands { IsAtOne octets.now cursor.old.number cursor.old.part }
         ensures stands { IsAtOne octets.now cursor.new.number cursor.new.part }
         ensures lives { self.old.stand ≡ Stand.Open → self.old.news ≡ None → (x : Speech Body H.Asked Reply) (more : Body → Bool) (passed : H.Asked → Bool) (number recover : ℕ) (spot : Spot) (lens : ℕ → Lens) (ns : List (News Body)) (sent : List (Datagram Body)) (l : Life Body H.Asked Reply) →
-            IsSpot spot self.old.side.station self.old.place self.old.start → Returns sent (seen lens octets.now) → StandUnder lens self.old.side.station self.old.at self.old.under self.old.side.carried self.old.stand l sent → StopShows (λ d a. SideShows (H.shows self.old.side.hand x) self.old.side.out self.old.side.inn self.old.side.fresh self.old.side.duty d a) recover spot self.old.stand self.old.spare l →
-            FollowShows (λ d a. SideShows (H.shows self.new.side.hand x) self.new.side.out self.new.side.inn self.new.side.fresh self.new.side.duty d a) recover spot self.new.stand self.new.spare self.new.news l (life_back x H.acknowledged more passed number spot ns (seen lens octets.now) (came_at self.old.under self.old.at (seen lens octets.now)) l l.stand) }
+            StopSpot spot self.old → Returns sent (seen lens octets.now) → StopUnder lens self.old l sent → StopLived self.old x recover spot l →
+            StopFollows self.new x recover spot l (life_back x H.acknowledged more passed number spot ns (seen lens octets.now) (came_at self.old.under self.old.at (seen lens octets.now)) l l.stand) }
         ensures kept { (self.new.place ≡ self.old.place) × (self.new.start ≡ self.old.start) }
         ensures station { self.new.side.station ≡ self.old.side.station }
-        ensures link { SameLink self.old.side.out self.old.side.inn self.old.side.station self.old.side.area self.new.side.out self.new.side.inn self.new.side.station self.new.side.area }
-        ensures sized { IsSized self.old.stand self.old.side.out.len (in_area_len self.old.side.inn) → IsSized self.new.stand self.new.side.out.len (in_area_len self.new.side.inn) }
+        ensures link { LinkStays self.old.side self.new.side }
+        ensures sized { StopSized self.old → StopSized self.new }
         ensures script { H.script self.new.side.hand ≡ H.script self.old.side.hand }
         ensures unpassed { self.old.side.passing ≡ None → self.new.side.passing ≡ None }
         ensures passing { self.old.stand ≡ Stand.Open → (x : Speech Body H.Asked Reply) (number recover : ℕ) (spot : Spot) (lens : ℕ → Lens) (kept : Kept) (sent : List (Datagram Body)) (l : Life Body H.Asked Reply) →
-            IsSpot spot self.old.side.station self.old.place self.old.start → Returns sent (seen lens octets.now) → StandUnder lens self.old.side.station self.old.at self.old.under self.old.side.carried self.old.stand l sent → StopShows (λ d a. SideShows (H.shows self.old.side.hand x) self.old.side.out self.old.side.inn self.old.side.fresh self.old.side.duty d a) recover spot self.old.stand self.old.spare l →
-            StandKept self.old.stand kept l → StandPassing self.old.stand (H.awaits self.old.side.hand) self.old.side.passing l →
-            StandPassing self.new.stand (H.awaits self.new.side.hand) self.new.side.passing (life_back x H.acknowledged H.more H.passed number spot (news_back self.old.side.station kept (counts_at self.old.side.read_at self.old.side.pace made) (seen lens octets.now)) (seen lens octets.now) (came_at self.old.under self.old.at (seen lens octets.now)) l l.stand) }
+            StopSpot spot self.old → Returns sent (seen lens octets.now) → StopUnder lens self.old l sent → StopLived self.old x recover spot l →
+            StandKept self.old.stand kept l → StopPassing self.old l →
+            StopPassing self.new (life_back x H.acknowledged H.more H.passed number spot (news_back self.old.side.station kept (counts_at self.old.side.read_at self.old.side.pace made) (seen lens octets.now)) (seen lens octets.now) (came_at self.old.under self.old.at (seen lens octets.now)) l l.stand) }
         ensures brought { self.old.stand ≡ Stand.Open → self.old.side.heard ≡ None → (x : Speech Body H.Asked Reply) (recover : ℕ) (spot : Spot) (lens : ℕ → Lens) (sent : List (Datagram Body)) (l : Life Body H.Asked Reply) →
-            IsSpot spot self.old.side.station self.old.place self.old.start → Returns sent (seen lens octets.now) → StandUnder lens self.old.side.station self.old.at self.old.under self.old.side.carried self.old.stand l sent → StopShows (λ d a. SideShows (H.shows self.old.side.hand x) self.old.side.out self.old.side.inn self.old.side.fresh self.old.side.duty d a) recover spot self.old.stand self.old.spare l →
+            StopSpot spot self.old → Returns sent (seen lens octets.now) → StopUnder lens self.old l sent → StopLived self.old x recover spot l →
             Brought (H.brings self.new.side.hand) self.new.side.heard (accepted_in spot l (seen lens octets.now)) }
         ensures joined { self.old.stand ≡ Stand.Open → self.old.news ≡ None → self.old.side.heard ≡ None → (x : Speech Body H.Asked Reply) (recover : ℕ) (spot : Spot) (lens : ℕ → Lens) (sent : List (Datagram Body)) (l : Life Body H.Asked Reply) →
-            IsSpot spot self.old.side.station self.old.place self.old.start → Returns sent (seen lens octets.now) → StandUnder lens self.old.side.station self.old.at self.old.under self.old.side.carried self.old.stand l sent → StopShows (λ d a. SideShows (H.shows self.old.side.hand x) self.old.side.out self.old.side.inn self.old.side.fresh self.old.side.duty d a) recover spot self.old.stand self.old.spare l →
+            StopSpot spot self.old → Returns sent (seen lens octets.now) → StopUnder lens self.old l sent → StopLived self.old x recover spot l →
             Joins H.unjoined H.joined (H.completed self.new.side.hand) self.new.news self.new.side.heard (H.join self.old.side.hand) (H.join self.new.side.hand) (accepted_in spot l (seen lens octets.now)) }
+        ensures recalls { self.old.stand ≡ Stand.Open → (x : Speech Body H.Asked Reply) (recover : ℕ) (spot : Spot) (lens : ℕ → Lens) (sent : List (Datagram Body)) (l : Life Body H.Asked Reply) →
+            StopSpot spot self.old → Returns sent (seen lens octets.now) → StopUnder lens self.old l sent → StopLived self.old x recover spot l →
+            StopBack x spot l (seen lens octets.now) (H.knows self.old.side.hand) (H.knows self.new.side.hand) self.old self.new }
+        ensures counts { self.old.stand ≡ Stand.Open → (lens : ℕ → Lens) (sent : List (Datagram Body)) → Returns sent (seen lens octets.now) → CameCounts lens sent (seen lens octets.now) made self.old self.new }
+        ensures pace { self.new.side.pace ≡ self.old.side.pace }
     {
         self.open_back(cursor, octets, made);
         self.reopen();
@@ -358,24 +388,29 @@ impl<H: Hand> Stop<H> {
         requires stands { IsAtOne octets.now cursor.old.number cursor.old.part }
         ensures stands { IsAtOne octets.now cursor.new.number cursor.new.part }
         ensures lives { (x : Speech Body H.Asked Reply) (more : Body → Bool) (passed : H.Asked → Bool) (number recover : ℕ) (spot : Spot) (lens : ℕ → Lens) (ns : List (News Body)) (sent : List (Datagram Body)) (l : Life Body H.Asked Reply) →
-            IsSpot spot self.old.side.station self.old.place self.old.start → Returns sent (seen lens octets.now) → StandUnder lens self.old.side.station self.old.at self.old.under self.old.side.carried self.old.stand l sent → StopShows (λ d a. SideShows (H.shows self.old.side.hand x) self.old.side.out self.old.side.inn self.old.side.fresh self.old.side.duty d a) recover spot self.old.stand self.old.spare l →
-            FollowShows (λ d a. SideShows (H.shows self.new.side.hand x) self.new.side.out self.new.side.inn self.new.side.fresh self.new.side.duty d a) recover spot self.new.stand self.new.spare self.new.news l (life_back x H.acknowledged more passed number spot ns (seen lens octets.now) (came_at self.old.under self.old.at (seen lens octets.now)) l l.stand) }
+            StopSpot spot self.old → Returns sent (seen lens octets.now) → StopUnder lens self.old l sent → StopLived self.old x recover spot l →
+            StopFollows self.new x recover spot l (life_back x H.acknowledged more passed number spot ns (seen lens octets.now) (came_at self.old.under self.old.at (seen lens octets.now)) l l.stand) }
         ensures kept { (self.new.place ≡ self.old.place) × (self.new.start ≡ self.old.start) }
         ensures station { self.new.side.station ≡ self.old.side.station }
-        ensures link { SameLink self.old.side.out self.old.side.inn self.old.side.station self.old.side.area self.new.side.out self.new.side.inn self.new.side.station self.new.side.area }
-        ensures sized { IsSized self.old.stand self.old.side.out.len (in_area_len self.old.side.inn) → IsSized self.new.stand self.new.side.out.len (in_area_len self.new.side.inn) }
+        ensures link { LinkStays self.old.side self.new.side }
+        ensures sized { StopSized self.old → StopSized self.new }
         ensures script { H.script self.new.side.hand ≡ H.script self.old.side.hand }
         ensures unpassed { self.old.side.passing ≡ None → self.new.side.passing ≡ None }
         ensures passing { (x : Speech Body H.Asked Reply) (number recover : ℕ) (spot : Spot) (lens : ℕ → Lens) (kept : Kept) (sent : List (Datagram Body)) (l : Life Body H.Asked Reply) →
-            IsSpot spot self.old.side.station self.old.place self.old.start → Returns sent (seen lens octets.now) → StandUnder lens self.old.side.station self.old.at self.old.under self.old.side.carried self.old.stand l sent → StopShows (λ d a. SideShows (H.shows self.old.side.hand x) self.old.side.out self.old.side.inn self.old.side.fresh self.old.side.duty d a) recover spot self.old.stand self.old.spare l →
-            StandKept self.old.stand kept l → StandPassing self.old.stand (H.awaits self.old.side.hand) self.old.side.passing l →
-            StandPassing self.new.stand (H.awaits self.new.side.hand) self.new.side.passing (life_back x H.acknowledged H.more H.passed number spot (news_back self.old.side.station kept (counts_at self.old.side.read_at self.old.side.pace made) (seen lens octets.now)) (seen lens octets.now) (came_at self.old.under self.old.at (seen lens octets.now)) l l.stand) }
+            StopSpot spot self.old → Returns sent (seen lens octets.now) → StopUnder lens self.old l sent → StopLived self.old x recover spot l →
+            StandKept self.old.stand kept l → StopPassing self.old l →
+            StopPassing self.new (life_back x H.acknowledged H.more H.passed number spot (news_back self.old.side.station kept (counts_at self.old.side.read_at self.old.side.pace made) (seen lens octets.now)) (seen lens octets.now) (came_at self.old.under self.old.at (seen lens octets.now)) l l.stand) }
         ensures brought { (x : Speech Body H.Asked Reply) (recover : ℕ) (spot : Spot) (lens : ℕ → Lens) (sent : List (Datagram Body)) (l : Life Body H.Asked Reply) →
-            IsSpot spot self.old.side.station self.old.place self.old.start → Returns sent (seen lens octets.now) → StandUnder lens self.old.side.station self.old.at self.old.under self.old.side.carried self.old.stand l sent → StopShows (λ d a. SideShows (H.shows self.old.side.hand x) self.old.side.out self.old.side.inn self.old.side.fresh self.old.side.duty d a) recover spot self.old.stand self.old.spare l →
+            StopSpot spot self.old → Returns sent (seen lens octets.now) → StopUnder lens self.old l sent → StopLived self.old x recover spot l →
             Brought (H.brings self.new.side.hand) self.new.side.heard (accepted_in spot l (seen lens octets.now)) }
         ensures joined { (x : Speech Body H.Asked Reply) (recover : ℕ) (spot : Spot) (lens : ℕ → Lens) (sent : List (Datagram Body)) (l : Life Body H.Asked Reply) →
-            IsSpot spot self.old.side.station self.old.place self.old.start → Returns sent (seen lens octets.now) → StandUnder lens self.old.side.station self.old.at self.old.under self.old.side.carried self.old.stand l sent → StopShows (λ d a. SideShows (H.shows self.old.side.hand x) self.old.side.out self.old.side.inn self.old.side.fresh self.old.side.duty d a) recover spot self.old.stand self.old.spare l →
+            StopSpot spot self.old → Returns sent (seen lens octets.now) → StopUnder lens self.old l sent → StopLived self.old x recover spot l →
             Joins H.unjoined H.joined (H.completed self.new.side.hand) self.new.news self.new.side.heard (H.join self.old.side.hand) (H.join self.new.side.hand) (accepted_in spot l (seen lens octets.now)) }
+        ensures recalls { (x : Speech Body H.Asked Reply) (recover : ℕ) (spot : Spot) (lens : ℕ → Lens) (sent : List (Datagram Body)) (l : Life Body H.Asked Reply) →
+            StopSpot spot self.old → Returns sent (seen lens octets.now) → StopUnder lens self.old l sent → StopLived self.old x recover spot l →
+            StopBack x spot l (seen lens octets.now) (H.knows self.old.side.hand) (H.knows self.new.side.hand) self.old self.new }
+        ensures counts { (lens : ℕ → Lens) (sent : List (Datagram Body)) → Returns sent (seen lens octets.now) → CameCounts lens sent (seen lens octets.now) made self.old self.new }
+        ensures pace { self.new.side.pace ≡ self.old.side.pace }
     {
         self.news = None;
         self.side.heard = None;
@@ -389,21 +424,24 @@ impl<H: Hand> Stop<H> {
     /// The frame under way was lost.
     pub fn lost(&mut self)
         ensures lives { (x : Speech Body H.Asked Reply) (more : Body → Bool) (passed : H.Asked → Bool) (recover : ℕ) (spot : Spot) (lens : ℕ → Lens) (ns : List (News Body)) (octets : List ℕ) (l : Life Body H.Asked Reply) →
-            IsSpot spot self.old.side.station self.old.place self.old.start → StandUnder lens self.old.side.station self.old.at self.old.under self.old.side.carried self.old.stand l (seen lens octets) → StopShows (λ d a. SideShows (H.shows self.old.side.hand x) self.old.side.out self.old.side.inn self.old.side.fresh self.old.side.duty d a) recover spot self.old.stand self.old.spare l →
-            FollowShows (λ d a. SideShows (H.shows self.new.side.hand x) self.new.side.out self.new.side.inn self.new.side.fresh self.new.side.duty d a) recover spot self.new.stand self.new.spare self.new.news l (life_lost x H.acknowledged more passed spot ns (seen lens octets) l l.stand) }
+            StopSpot spot self.old → StopUnder lens self.old l (seen lens octets) → StopLived self.old x recover spot l →
+            StopFollows self.new x recover spot l (life_lost x H.acknowledged more passed spot ns (seen lens octets) l l.stand) }
         ensures kept { (self.new.place ≡ self.old.place) × (self.new.start ≡ self.old.start) }
         ensures under { self.new.under ≡ self.old.under }
         ensures station { self.new.side.station ≡ self.old.side.station }
-        ensures link { SameLink self.old.side.out self.old.side.inn self.old.side.station self.old.side.area self.new.side.out self.new.side.inn self.new.side.station self.new.side.area }
-        ensures sized { IsSized self.old.stand self.old.side.out.len (in_area_len self.old.side.inn) → IsSized self.new.stand self.new.side.out.len (in_area_len self.new.side.inn) }
+        ensures link { LinkStays self.old.side self.new.side }
+        ensures sized { StopSized self.old → StopSized self.new }
         ensures script { H.script self.new.side.hand ≡ H.script self.old.side.hand }
         ensures unpassed { self.old.side.passing ≡ None → self.new.side.passing ≡ None }
         ensures passing { (x : Speech Body H.Asked Reply) (recover : ℕ) (spot : Spot) (lens : ℕ → Lens) (kept : Kept) (octets : List ℕ) (l : Life Body H.Asked Reply) →
-            IsSpot spot self.old.side.station self.old.place self.old.start → StandUnder lens self.old.side.station self.old.at self.old.under self.old.side.carried self.old.stand l (seen lens octets) → StopShows (λ d a. SideShows (H.shows self.old.side.hand x) self.old.side.out self.old.side.inn self.old.side.fresh self.old.side.duty d a) recover spot self.old.stand self.old.spare l →
-            StandKept self.old.stand kept l → StandPassing self.old.stand (H.awaits self.old.side.hand) self.old.side.passing l →
-            StandPassing self.new.stand (H.awaits self.new.side.hand) self.new.side.passing (life_lost x H.acknowledged H.more H.passed spot (news_lost self.old.side.station kept (seen lens octets)) (seen lens octets) l l.stand) }
+            StopSpot spot self.old → StopUnder lens self.old l (seen lens octets) → StopLived self.old x recover spot l →
+            StandKept self.old.stand kept l → StopPassing self.old l →
+            StopPassing self.new (life_lost x H.acknowledged H.more H.passed spot (news_lost self.old.side.station kept (seen lens octets)) (seen lens octets) l l.stand) }
         ensures join { H.join self.new.side.hand ≡ H.join self.old.side.hand }
         ensures again { LosesAgain self.old self.new }
+        ensures recalled { SameRecall (H.knows self.old.side.hand) (H.knows self.new.side.hand) self.old.side self.new.side }
+        ensures counts { LostCounts self.old self.new }
+        ensures pace { self.new.side.pace ≡ self.old.side.pace }
     {
         self.news = None;
         match self.stand {
@@ -415,15 +453,18 @@ impl<H: Hand> Stop<H> {
 
     /// The slave is given up: while it has a spare, it is opened anew, else it gets no further datagram.
     pub fn give_up(&mut self)
-        ensures lives { (x : Speech Body H.Asked Reply) (number recover : ℕ) (spot : Spot) (l : Life Body H.Asked Reply) → IsSpot spot self.old.side.station self.old.place self.old.start → StopShows (λ d a. SideShows (H.shows self.old.side.hand x) self.old.side.out self.old.side.inn self.old.side.fresh self.old.side.duty d a) recover spot self.old.stand self.old.spare l →
-            FollowShows (λ d a. SideShows (H.shows self.new.side.hand x) self.new.side.out self.new.side.inn self.new.side.fresh self.new.side.duty d a) recover spot self.new.stand self.new.spare self.new.news l (gives_up recover spot number l) }
+        ensures lives { (x : Speech Body H.Asked Reply) (number recover : ℕ) (spot : Spot) (l : Life Body H.Asked Reply) → StopSpot spot self.old → StopLived self.old x recover spot l →
+            StopFollows self.new x recover spot l (gives_up recover spot number l) }
         ensures kept { (self.new.place ≡ self.old.place) × (self.new.start ≡ self.old.start) }
         ensures station { self.new.side.station ≡ self.old.side.station }
-        ensures link { SameLink self.old.side.out self.old.side.inn self.old.side.station self.old.side.area self.new.side.out self.new.side.inn self.new.side.station self.new.side.area }
-        ensures sized { IsSized self.old.stand self.old.side.out.len (in_area_len self.old.side.inn) → IsSized self.new.stand self.new.side.out.len (in_area_len self.new.side.inn) }
+        ensures link { LinkStays self.old.side self.new.side }
+        ensures sized { StopSized self.old → StopSized self.new }
         ensures script { H.script self.new.side.hand ≡ H.script self.old.side.hand }
         ensures unpassed { self.old.side.passing ≡ None → self.new.side.passing ≡ None }
         ensures passing { (awaits : Bool) (p : Option Passing) (l : Life Body H.Asked Reply) → StandPassing self.new.stand awaits p l }
+        ensures knows { H.knows self.old.side.hand ≡ true → H.knows self.new.side.hand ≡ true }
+        ensures counts { (at : Option ℕ) (pace made : ℕ) (counts : Bool) → StandCounts self.new.stand at pace made counts }
+        ensures pace { self.new.side.pace ≡ self.old.side.pace }
     {
         self.news = Some(Turned::GivenUp);
         if self.spare == 0 {
@@ -439,20 +480,23 @@ impl<H: Hand> Stop<H> {
     /// The frame under way was lost; where `gives` says so, a slave that it carries is given up.
     pub fn lost_for(&mut self, gives: bool)
         ensures lives { (x : Speech Body H.Asked Reply) (more : Body → Bool) (passed : H.Asked → Bool) (number recover : ℕ) (spot : Spot) (lens : ℕ → Lens) (ns : List (News Body)) (octets : List ℕ) (l : Life Body H.Asked Reply) →
-            IsSpot spot self.old.side.station self.old.place self.old.start → StandUnder lens self.old.side.station self.old.at self.old.under self.old.side.carried self.old.stand l (seen lens octets) → StopShows (λ d a. SideShows (H.shows self.old.side.hand x) self.old.side.out self.old.side.inn self.old.side.fresh self.old.side.duty d a) recover spot self.old.stand self.old.spare l →
-            FollowShows (λ d a. SideShows (H.shows self.new.side.hand x) self.new.side.out self.new.side.inn self.new.side.fresh self.new.side.duty d a) recover spot self.new.stand self.new.spare self.new.news l (given_where (gives && self.old.under) recover spot number (life_lost x H.acknowledged more passed spot ns (seen lens octets) l l.stand)) }
+            StopSpot spot self.old → StopUnder lens self.old l (seen lens octets) → StopLived self.old x recover spot l →
+            StopFollows self.new x recover spot l (given_where (gives && self.old.under) recover spot number (life_lost x H.acknowledged more passed spot ns (seen lens octets) l l.stand)) }
         ensures kept { (self.new.place ≡ self.old.place) × (self.new.start ≡ self.old.start) }
         ensures station { self.new.side.station ≡ self.old.side.station }
-        ensures link { SameLink self.old.side.out self.old.side.inn self.old.side.station self.old.side.area self.new.side.out self.new.side.inn self.new.side.station self.new.side.area }
-        ensures sized { IsSized self.old.stand self.old.side.out.len (in_area_len self.old.side.inn) → IsSized self.new.stand self.new.side.out.len (in_area_len self.new.side.inn) }
+        ensures link { LinkStays self.old.side self.new.side }
+        ensures sized { StopSized self.old → StopSized self.new }
         ensures script { H.script self.new.side.hand ≡ H.script self.old.side.hand }
         ensures unpassed { self.old.side.passing ≡ None → self.new.side.passing ≡ None }
         ensures passing { (x : Speech Body H.Asked Reply) (number recover : ℕ) (spot : Spot) (lens : ℕ → Lens) (kept : Kept) (octets : List ℕ) (l : Life Body H.Asked Reply) →
-            IsSpot spot self.old.side.station self.old.place self.old.start → StandUnder lens self.old.side.station self.old.at self.old.under self.old.side.carried self.old.stand l (seen lens octets) → StopShows (λ d a. SideShows (H.shows self.old.side.hand x) self.old.side.out self.old.side.inn self.old.side.fresh self.old.side.duty d a) recover spot self.old.stand self.old.spare l →
-            StandKept self.old.stand kept l → StandPassing self.old.stand (H.awaits self.old.side.hand) self.old.side.passing l →
-            StandPassing self.new.stand (H.awaits self.new.side.hand) self.new.side.passing (given_where (gives && self.old.under) recover spot number (life_lost x H.acknowledged H.more H.passed spot (news_lost self.old.side.station kept (seen lens octets)) (seen lens octets) l l.stand)) }
+            StopSpot spot self.old → StopUnder lens self.old l (seen lens octets) → StopLived self.old x recover spot l →
+            StandKept self.old.stand kept l → StopPassing self.old l →
+            StopPassing self.new (given_where (gives && self.old.under) recover spot number (life_lost x H.acknowledged H.more H.passed spot (news_lost self.old.side.station kept (seen lens octets)) (seen lens octets) l l.stand)) }
         ensures join { (gives && self.old.under) ≡ false → H.join self.new.side.hand ≡ H.join self.old.side.hand }
         ensures again { gives ≡ false → LosesAgain self.old self.new }
+        ensures recalled { StopLost gives (H.knows self.old.side.hand) (H.knows self.new.side.hand) self.old self.new }
+        ensures counts { LostCounts self.old self.new }
+        ensures pace { self.new.side.pace ≡ self.old.side.pace }
     {
         self.lost();
         if !gives {

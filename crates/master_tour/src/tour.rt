@@ -30,46 +30,47 @@ pub struct Tour<H: Hand> {
 }
 
 impl<H: Hand> Tour<H> {
-    ghost use Rattle.std.specs.Prelude.{◌≡◌, ◌≤◌, ◌<◌, ◌-◌, ℕ, List, IfSome, map, All, length, [], ◌∷◌};
+    ghost use Rattle.std.specs.Prelude.{◌≡◌, ◌≤◌, ◌<◌, ◌-◌, ℕ, List, IfSome, All, length, [], ◌∷◌};
     ghost use Rattle.datagrams.specs.Datagram as Raw;
     ghost use Rattle.datagrams.specs.Command.{IsNamed};
     ghost use Rattle.datagrams.specs.Frame.{IsBegun, IsFrame, Each, chained};
     ghost use Rattle.life_frames.specs.of_exchange_model.Exchange.{Speech};
     ghost use Rattle.life_frames.specs.of_link_mails.Body.{Body};
     ghost use Rattle.life_frames.specs.of_segment_model.Slaves.{Datagram};
-    ghost use Rattle.life_frames.specs.of_segment_model.Seats as Seats;
     ghost use Rattle.life_frames.specs.of_segment_model.Returned.{Returns};
-    ghost use Rattle.life_frames.specs.of_task_model.Accounts.{Account, duty_access, account_back};
     ghost use Rattle.life_frames.specs.of_frame_view.View.{Lens};
     ghost use Rattle.life_frames.specs.of_frame_view.Seen.{seen};
     ghost use Rattle.master_side.specs.of_master_duty.Reply.{Reply};
-    ghost use Rattle.master_side.specs.Shown.{SideShows, wish_begun, takes_ready};
+    ghost use Rattle.master_side.specs.Shown.{wish_begun, takes_ready};
     ghost use Rattle.life_frames.specs.of_state_exchange.Stated.{Service};
-    ghost use Rattle.master_tour.specs.Under.{Under};
     ghost use Rattle.master_tour.specs.Walks.{EachPair, StepsAt};
-    ghost use Rattle.master_tour.specs.Stands.{StopShows, FollowShows, IsSpot, StandUnder, came_at, given_where, stand_gram, StandMeant, NextShows, HoldShows, Counts};
+    ghost use Rattle.master_tour.specs.Stands.{came_at, given_where, stand_gram, StandMeant, NextShows, HoldShows, Counts};
     ghost use Rattle.life_frames.specs.of_frame_view.View.{datagram_seen};
     ghost use Rattle.master_side.specs.of_mailbox_master.Any.{in_area_len};
     ghost use Rattle.std.specs.Prelude.{is_some, true, ◌++◌, ◌+◌, ◌==◌};
     ghost use Rattle.std.specs.Prelude.{Option, Some, drop, slice_get};
-    ghost use Rattle.master_tour.specs.Orders.{start_of, place_in, round_left, visits_left, visited_of, is_fixed, last_behind, AreOnce, IsNextOf, IsCarried};
-    ghost use Rattle.life_frames.specs.Shares.{Lived, AllBoth, AllThree, AreDistinct, lived_back, lived_lost};
-    ghost use Rattle.master_side.specs.Sent.{SameLink};
+    ghost use Rattle.master_tour.specs.Orders.{start_of, place_in, round_left, visits_left, visited_of, is_fixed, AreOnce, IsNextOf, IsCarried};
+    ghost use Rattle.life_frames.specs.Shares.{Lived, AllBoth, AreDistinct};
     ghost use Rattle.master_side.specs.Heard.{Brought};
     ghost use Rattle.master_tour.specs.Brings.{accepted_in};
     ghost use Rattle.master_tour.specs.Joins.{Joins};
-    ghost use Rattle.master_tour.specs.Made.{StopLives, StopMade, StopSent, FrameMade, FrameSent, ComesAt, IsClearFor, IsSized, is_in};
+    ghost use Rattle.master_tour.specs.Made.{FrameMade, FrameSent, ComesAt, IsClearFor, is_in};
     ghost use Rattle.life_frames.specs.of_life_model.Lives.{Life, Spot, life_next, life_back, life_lost};
     ghost use Rattle.life_frames.specs.of_segment_model.Record.{News, Kept};
     ghost use Rattle.master_side.specs.Passing.{counts_at, news_back, news_lost};
-    ghost use Rattle.master_tour.specs.Passing.{StandPassing, StandKept};
+    ghost use Rattle.master_tour.specs.Passing.{StandKept};
     ghost use Rattle.std.specs.Prelude.{Bool, false, not, nat_lt, ◌&&◌, if◌then◌else◌};
+    ghost use Rattle.master_side.specs.Free.{is_free_side};
+    ghost use Rattle.master_side.specs.Sides.{ShowsOf, LinkStays, recall_in};
+    ghost use Rattle.master_tour.specs.Frees.{stop_begins};
+    ghost use Rattle.master_tour.specs.Stops.{StopSpot, StopLived, StopFollows, StopUnder, StopPassing, StopSized, LivesAt, MadeBy, SentBy};
+    ghost use Rattle.master_tour.specs.Counting.{CameCounts, LostCounts, ReadStays};
     ghost use Rattle.master_tour.specs.declared.stop.Stand.{Stand};
-    ghost use Rattle.master_tour.specs.Goes.{is_live, is_opened, holds_at, Passes, BeginsLive, opened_behind};
+    ghost use Rattle.master_tour.specs.Goes.{is_live, holds_at, Passes, BeginsLive};
     ghost use Rattle.std.specs.List.{list_any};
     ghost use Rattle.std.specs.Prelude.{None, filter};
     ghost use Rattle.master_tour.specs.Rooms.{LosesAgain, Looks, Visits};
-    ghost use Rattle.master_side.specs.Recall.{recall_by};
+    ghost use Rattle.master_tour.specs.Behind.{StopBack, StopLost};
     ghost use Rattle.master_tour.specs.Recalls.{TakesUp, BeginsAll};
     ghost use Rattle.master_tour.specs.Sizes.{frame_size};
 
@@ -77,21 +78,26 @@ impl<H: Hand> Tour<H> {
     pub(crate) fn all_back(&mut self, octets: &[u8], made: u32)
         requires { (ds : List Raw.Datagram) × IsFrame octets.now ds }
         ensures lives { EachPair (λ s t. ((lens : ℕ → Lens) (sent : List (Datagram Body)) → Returns sent (seen lens octets.now) → (x : Speech Body H.Asked Reply) (more : Body → Bool) (passed : H.Asked → Bool) (number recover : ℕ) (spot : Spot) (ns : List (News Body)) (l : Life Body H.Asked Reply) →
-            IsSpot spot s.side.station s.place s.start → StandUnder lens s.side.station s.at s.under s.side.carried s.stand l sent → StopShows (λ d a. SideShows (H.shows s.side.hand x) s.side.out s.side.inn s.side.fresh s.side.duty d a) recover spot s.stand s.spare l →
-            FollowShows (λ d a. SideShows (H.shows t.side.hand x) t.side.out t.side.inn t.side.fresh t.side.duty d a) recover spot t.stand t.spare t.news l (life_back x H.acknowledged more passed number spot ns (seen lens octets.now) (came_at s.under s.at (seen lens octets.now)) l l.stand)) × (t.place ≡ s.place) × (t.start ≡ s.start)) self.old.stops.items self.new.stops.items }
+            StopSpot spot s → StopUnder lens s l sent → StopLived s x recover spot l →
+            StopFollows t x recover spot l (life_back x H.acknowledged more passed number spot ns (seen lens octets.now) (came_at s.under s.at (seen lens octets.now)) l l.stand)) × (t.place ≡ s.place) × (t.start ≡ s.start)) self.old.stops.items self.new.stops.items }
         ensures long { length self.new.stops.items ≡ length self.old.stops.items }
-        ensures kept { EachPair (λ s t. SameLink s.side.out s.side.inn s.side.station s.side.area t.side.out t.side.inn t.side.station t.side.area × (IsSized s.stand s.side.out.len (in_area_len s.side.inn) → IsSized t.stand t.side.out.len (in_area_len t.side.inn))) self.old.stops.items self.new.stops.items }
+        ensures kept { EachPair (λ s t. LinkStays s.side t.side × (StopSized s → StopSized t)) self.old.stops.items self.new.stops.items }
         ensures tour { (self.new.again ≡ self.old.again) × (self.new.visit ≡ self.old.visit) × (self.new.opened ≡ self.old.opened) × (self.new.last ≡ self.old.last) × (self.new.missed ≡ self.old.missed) × (self.new.retry ≡ self.old.retry) }
         ensures stays { EachPair (λ s t. (H.script t.side.hand ≡ H.script s.side.hand) × (s.side.passing ≡ None → t.side.passing ≡ None)) self.old.stops.items self.new.stops.items }
         ensures passing { EachPair (λ s t. (lens : ℕ → Lens) (sent : List (Datagram Body)) → Returns sent (seen lens octets.now) → (x : Speech Body H.Asked Reply) (number recover : ℕ) (spot : Spot) (kept : Kept) (l : Life Body H.Asked Reply) →
-            IsSpot spot s.side.station s.place s.start → StandUnder lens s.side.station s.at s.under s.side.carried s.stand l sent → StopShows (λ d a. SideShows (H.shows s.side.hand x) s.side.out s.side.inn s.side.fresh s.side.duty d a) recover spot s.stand s.spare l →
-            StandKept s.stand kept l → StandPassing s.stand (H.awaits s.side.hand) s.side.passing l → StandPassing t.stand (H.awaits t.side.hand) t.side.passing (life_back x H.acknowledged H.more H.passed number spot (news_back s.side.station kept (counts_at s.side.read_at s.side.pace made) (seen lens octets.now)) (seen lens octets.now) (came_at s.under s.at (seen lens octets.now)) l l.stand)) self.old.stops.items self.new.stops.items }
+            StopSpot spot s → StopUnder lens s l sent → StopLived s x recover spot l →
+            StandKept s.stand kept l → StopPassing s l → StopPassing t (life_back x H.acknowledged H.more H.passed number spot (news_back s.side.station kept (counts_at s.side.read_at s.side.pace made) (seen lens octets.now)) (seen lens octets.now) (came_at s.under s.at (seen lens octets.now)) l l.stand)) self.old.stops.items self.new.stops.items }
         ensures brought { EachPair (λ s t. (lens : ℕ → Lens) (sent : List (Datagram Body)) → Returns sent (seen lens octets.now) → (x : Speech Body H.Asked Reply) (recover : ℕ) (spot : Spot) (l : Life Body H.Asked Reply) →
-            IsSpot spot s.side.station s.place s.start → StandUnder lens s.side.station s.at s.under s.side.carried s.stand l sent → StopShows (λ d a. SideShows (H.shows s.side.hand x) s.side.out s.side.inn s.side.fresh s.side.duty d a) recover spot s.stand s.spare l →
+            StopSpot spot s → StopUnder lens s l sent → StopLived s x recover spot l →
             Brought (H.brings t.side.hand) t.side.heard (accepted_in spot l (seen lens octets.now))) self.old.stops.items self.new.stops.items }
         ensures joined { EachPair (λ s t. (lens : ℕ → Lens) (sent : List (Datagram Body)) → Returns sent (seen lens octets.now) → (x : Speech Body H.Asked Reply) (recover : ℕ) (spot : Spot) (l : Life Body H.Asked Reply) →
-            IsSpot spot s.side.station s.place s.start → StandUnder lens s.side.station s.at s.under s.side.carried s.stand l sent → StopShows (λ d a. SideShows (H.shows s.side.hand x) s.side.out s.side.inn s.side.fresh s.side.duty d a) recover spot s.stand s.spare l →
+            StopSpot spot s → StopUnder lens s l sent → StopLived s x recover spot l →
             Joins H.unjoined H.joined (H.completed t.side.hand) t.news t.side.heard (H.join s.side.hand) (H.join t.side.hand) (accepted_in spot l (seen lens octets.now))) self.old.stops.items self.new.stops.items }
+        ensures recalls { EachPair (λ s t. (lens : ℕ → Lens) (sent : List (Datagram Body)) → Returns sent (seen lens octets.now) → (x : Speech Body H.Asked Reply) (recover : ℕ) (spot : Spot) (l : Life Body H.Asked Reply) →
+            StopSpot spot s → StopUnder lens s l sent → StopLived s x recover spot l →
+            StopBack x spot l (seen lens octets.now) (H.knows s.side.hand) (H.knows t.side.hand) s t) self.old.stops.items self.new.stops.items }
+        ensures counts { EachPair (λ s t. (lens : ℕ → Lens) (sent : List (Datagram Body)) → Returns sent (seen lens octets.now) → CameCounts lens sent (seen lens octets.now) made s t) self.old.stops.items self.new.stops.items }
+        ensures pace { EachPair (λ s t. t.side.pace ≡ s.side.pace) self.old.stops.items self.new.stops.items }
     {
         let mut cursor = Cursor::new(octets);
         for i in 0..self.stops.len() {
@@ -102,17 +108,20 @@ impl<H: Hand> Tour<H> {
     // Each slave learns that the frame under way was lost; where `gives` says so, those that it carries are given up.
     pub(crate) fn all_lost(&mut self, gives: bool)
         ensures lives { EachPair (λ s t. ((lens : ℕ → Lens) (octets : List ℕ) → (x : Speech Body H.Asked Reply) (more : Body → Bool) (passed : H.Asked → Bool) (number recover : ℕ) (spot : Spot) (ns : List (News Body)) (l : Life Body H.Asked Reply) →
-            IsSpot spot s.side.station s.place s.start → StandUnder lens s.side.station s.at s.under s.side.carried s.stand l (seen lens octets) → StopShows (λ d a. SideShows (H.shows s.side.hand x) s.side.out s.side.inn s.side.fresh s.side.duty d a) recover spot s.stand s.spare l →
-            FollowShows (λ d a. SideShows (H.shows t.side.hand x) t.side.out t.side.inn t.side.fresh t.side.duty d a) recover spot t.stand t.spare t.news l (given_where (gives && s.under) recover spot number (life_lost x H.acknowledged more passed spot ns (seen lens octets) l l.stand))) × (t.place ≡ s.place) × (t.start ≡ s.start)) self.old.stops.items self.new.stops.items }
+            StopSpot spot s → StopUnder lens s l (seen lens octets) → StopLived s x recover spot l →
+            StopFollows t x recover spot l (given_where (gives && s.under) recover spot number (life_lost x H.acknowledged more passed spot ns (seen lens octets) l l.stand))) × (t.place ≡ s.place) × (t.start ≡ s.start)) self.old.stops.items self.new.stops.items }
         ensures long { length self.new.stops.items ≡ length self.old.stops.items }
-        ensures kept { EachPair (λ s t. SameLink s.side.out s.side.inn s.side.station s.side.area t.side.out t.side.inn t.side.station t.side.area × (IsSized s.stand s.side.out.len (in_area_len s.side.inn) → IsSized t.stand t.side.out.len (in_area_len t.side.inn))) self.old.stops.items self.new.stops.items }
+        ensures kept { EachPair (λ s t. LinkStays s.side t.side × (StopSized s → StopSized t)) self.old.stops.items self.new.stops.items }
         ensures tour { (self.new.again ≡ self.old.again) × (self.new.visit ≡ self.old.visit) × (self.new.opened ≡ self.old.opened) × (self.new.last ≡ self.old.last) × (self.new.missed ≡ self.old.missed) × (self.new.retry ≡ self.old.retry) }
         ensures stays { EachPair (λ s t. (H.script t.side.hand ≡ H.script s.side.hand) × (s.side.passing ≡ None → t.side.passing ≡ None)) self.old.stops.items self.new.stops.items }
         ensures passing { EachPair (λ s t. (lens : ℕ → Lens) (octets : List ℕ) (x : Speech Body H.Asked Reply) (number recover : ℕ) (spot : Spot) (kept : Kept) (l : Life Body H.Asked Reply) →
-            IsSpot spot s.side.station s.place s.start → StandUnder lens s.side.station s.at s.under s.side.carried s.stand l (seen lens octets) → StopShows (λ d a. SideShows (H.shows s.side.hand x) s.side.out s.side.inn s.side.fresh s.side.duty d a) recover spot s.stand s.spare l →
-            StandKept s.stand kept l → StandPassing s.stand (H.awaits s.side.hand) s.side.passing l → StandPassing t.stand (H.awaits t.side.hand) t.side.passing (given_where (gives && s.under) recover spot number (life_lost x H.acknowledged H.more H.passed spot (news_lost s.side.station kept (seen lens octets)) (seen lens octets) l l.stand))) self.old.stops.items self.new.stops.items }
+            StopSpot spot s → StopUnder lens s l (seen lens octets) → StopLived s x recover spot l →
+            StandKept s.stand kept l → StopPassing s l → StopPassing t (given_where (gives && s.under) recover spot number (life_lost x H.acknowledged H.more H.passed spot (news_lost s.side.station kept (seen lens octets)) (seen lens octets) l l.stand))) self.old.stops.items self.new.stops.items }
         ensures join { EachPair (λ s t. (gives && s.under) ≡ false → H.join t.side.hand ≡ H.join s.side.hand) self.old.stops.items self.new.stops.items }
         ensures again { EachPair (λ s t. gives ≡ false → LosesAgain s t) self.old.stops.items self.new.stops.items }
+        ensures recalled { EachPair (λ s t. StopLost gives (H.knows s.side.hand) (H.knows t.side.hand) s t) self.old.stops.items self.new.stops.items }
+        ensures counts { EachPair (λ s t. LostCounts s t) self.old.stops.items self.new.stops.items }
+        ensures pace { EachPair (λ s t. t.side.pace ≡ s.side.pace) self.old.stops.items self.new.stops.items }
     {
         for i in 0..self.stops.len() {
             self.stops[i].lost_for(gives);
@@ -149,8 +158,8 @@ impl<H: Hand> Tour<H> {
         ensures count { self.new.count ≡ 0 }
         ensures empty { length frame.new.items ≡ 16 }
         ensures made { (x : Spot → Speech Body H.Asked Reply) (more : Body → Bool) (passed : H.Asked → Bool) (made recover index : ℕ) (lens : ℕ → Lens) (left : List ℕ) (lives : List (Lived H.Asked Reply)) (begun : ℕ → Option (Service H.Asked)) → ((k : ℕ) → begun k ≡ None) →
-            AllBoth (λ a s. StopLives lens recover (λ d b. SideShows (H.shows s.side.hand (x a.spot)) s.side.out s.side.inn s.side.fresh s.side.duty d b) s.side.station s.place s.start s.stand s.spare s.side.out.len (in_area_len s.side.inn) a × (s.stand ≡ Stand.Open → is_some a.life.era.passing ≡ is_some s.side.passing)) lives self.old.stops.items →
-            FrameMade (λ ds i a s. StopMade (x a.spot) H.acknowledged more passed made begun lens recover index (λ d b. SideShows (H.shows s.side.hand (x a.spot)) s.side.out s.side.inn s.side.fresh s.side.duty d b) s.side.station s.place s.start s.stand s.spare s.side.out s.side.inn s.side.duty s.side.carried s.side.passing s.under s.at left ds i a) frame.new.items 0 lives self.new.stops.items }
+            AllBoth (λ a s. LivesAt s (x a.spot) lens recover a × (s.stand ≡ Stand.Open → is_some a.life.era.passing ≡ is_some s.side.passing)) lives self.old.stops.items →
+            FrameMade (λ ds i a s. MadeBy s x more passed made begun lens recover index left ds i a) frame.new.items 0 lives self.new.stops.items }
         ensures tour { (self.new.again ≡ self.old.again) × (self.new.opened ≡ self.old.opened) × (self.new.last ≡ self.old.last) × (self.new.missed ≡ self.old.missed) × (self.new.retry ≡ self.old.retry) × (self.new.passed ≡ 0) }
         ensures again { self.old.again ≡ true → self.new.visit ≡ self.old.visit }
         ensures anew { self.old.again ≡ false → self.new.visit.items ≡ [] }
@@ -297,18 +306,20 @@ impl<H: Hand> Tour<H> {
     pub fn fits(&mut self, place: usize, wish: Option<Wish>, frame: &FrameBuf) -> bool
         requires inside { place < length self.old.stops.items }
         ensures count { self.new.count ≡ self.old.count }
-        ensures lives { StepsAt (λ s t. ((x : Speech Body H.Asked Reply) (more : Body → Bool) (passed : H.Asked → Bool) (made recover : ℕ) (spot : Spot) (l : Life Body H.Asked Reply) → StopShows (λ d a. SideShows (H.shows s.side.hand x) s.side.out s.side.inn s.side.fresh s.side.duty d a) recover spot s.stand s.spare l →
-            HoldShows x H.acknowledged more passed made l (StopShows (λ d a. SideShows (H.shows t.side.hand x) t.side.out t.side.inn t.side.fresh t.side.duty d a) recover spot t.stand t.spare)) × (t.place ≡ s.place) × (t.start ≡ s.start) × (t.under ≡ s.under) × (t.at ≡ s.at)) place self.old.stops.items self.new.stops.items }
+        ensures lives { StepsAt (λ s t. ((x : Speech Body H.Asked Reply) (more : Body → Bool) (passed : H.Asked → Bool) (made recover : ℕ) (spot : Spot) (l : Life Body H.Asked Reply) → StopLived s x recover spot l →
+            HoldShows x H.acknowledged more passed made l (StopLived t x recover spot)) × (t.place ≡ s.place) × (t.start ≡ s.start) × (t.under ≡ s.under) × (t.at ≡ s.at)) place self.old.stops.items self.new.stops.items }
         ensures long { length self.new.stops.items ≡ length self.old.stops.items }
-        ensures step { StepsAt (λ s t. SameLink s.side.out s.side.inn s.side.station s.side.area t.side.out t.side.inn t.side.station t.side.area × (t.stand ≡ s.stand) × (t.side.passing ≡ s.side.passing) × (H.script t.side.hand ≡ H.script s.side.hand)) place self.old.stops.items self.new.stops.items }
+        ensures step { StepsAt (λ s t. LinkStays s.side t.side × (t.stand ≡ s.stand) × (t.side.passing ≡ s.side.passing) × (H.script t.side.hand ≡ H.script s.side.hand)) place self.old.stops.items self.new.stops.items }
         ensures made { (x : Spot → Speech Body H.Asked Reply) (more : Body → Bool) (passed : H.Asked → Bool) (made recover index count : ℕ) (lens : ℕ → Lens) (left : List ℕ) (lives : List (Lived H.Asked Reply)) (octets : List ℕ) (begun : ℕ → Option (Service H.Asked)) → AreDistinct lives → is_in place left ≡ true →
-            FrameMade (λ ds i a s. StopMade (x a.spot) H.acknowledged more passed made begun lens recover index (λ d b. SideShows (H.shows s.side.hand (x a.spot)) s.side.out s.side.inn s.side.fresh s.side.duty d b) s.side.station s.place s.start s.stand s.spare s.side.out s.side.inn s.side.duty s.side.carried s.side.passing s.under s.at left ds i a) octets count lives self.old.stops.items →
-            FrameMade (λ ds i a s. StopMade (x a.spot) H.acknowledged more passed made begun lens recover index (λ d b. SideShows (H.shows s.side.hand (x a.spot)) s.side.out s.side.inn s.side.fresh s.side.duty d b) s.side.station s.place s.start s.stand s.spare s.side.out s.side.inn s.side.duty s.side.carried s.side.passing s.under s.at left ds i a) octets count lives self.new.stops.items }
+            FrameMade (λ ds i a s. MadeBy s x more passed made begun lens recover index left ds i a) octets count lives self.old.stops.items →
+            FrameMade (λ ds i a s. MadeBy s x more passed made begun lens recover index left ds i a) octets count lives self.new.stops.items }
         ensures tour { (self.new.again ≡ self.old.again) × (self.new.visit ≡ self.old.visit) × (self.new.opened ≡ self.old.opened) × (self.new.last ≡ self.old.last) × (self.new.missed ≡ self.old.missed) × (self.new.retry ≡ self.old.retry) × (self.new.passed ≡ self.old.passed) }
         ensures first { length frame.now.items ≡ 16 → result ≡ true }
         ensures join { StepsAt (λ s t. H.join t.side.hand ≡ H.join s.side.hand) place self.old.stops.items self.new.stops.items }
         ensures room { StepsAt (λ s t. Looks frame.now.items result s t) place self.old.stops.items self.new.stops.items }
-        ensures recalled { StepsAt (λ s t. recall_by t.side.paused t.side.duty t.side.turn (H.knows t.side.hand) ≡ recall_by s.side.paused s.side.duty s.side.turn (H.knows s.side.hand)) place self.old.stops.items self.new.stops.items }
+        ensures recalled { StepsAt (λ s t. recall_in t.side ≡ recall_in s.side) place self.old.stops.items self.new.stops.items }
+        ensures read { StepsAt (λ s t. ReadStays s t × (H.awaits s.side.hand ≡ true → H.awaits t.side.hand ≡ true)) place self.old.stops.items self.new.stops.items }
+        ensures still { StepsAt (λ s t. is_free_side s.side ≡ true → is_some wish ≡ true → t.side ≡ s.side) place self.old.stops.items self.new.stops.items }
     {
         self.stops[place].ahead(wish) <= datagrams::room(frame)
     }
@@ -327,27 +338,29 @@ impl<H: Hand> Tour<H> {
         requires begun { (ds : List Raw.Datagram) × IsBegun frame.old.items ds }
         ensures begun { (ds : List Raw.Datagram) × IsBegun frame.new.items ds }
         ensures lives { StepsAt (λ s t. ((x : Speech Body H.Asked Reply) (more : Body → Bool) (passed : H.Asked → Bool) (made recover : ℕ) (spot : Spot) (lens : ℕ → Lens) (l : Life Body H.Asked Reply) →
-            (lens s.side.station).out ≡ s.side.out.len → (lens s.side.station).back ≡ in_area_len s.side.inn → IsSpot spot s.side.station s.place s.start → (s.stand ≡ Stand.Open → is_some l.era.passing ≡ is_some s.side.passing) → StopShows (λ d a. SideShows (H.shows s.side.hand x) s.side.out s.side.inn s.side.fresh s.side.duty d a) recover spot s.stand s.spare l →
-            NextShows x H.acknowledged more passed made l (wish_begun result wish (H.ready s.side.hand)) (λ n. StopShows (λ d a. SideShows (H.shows t.side.hand x) t.side.out t.side.inn t.side.fresh t.side.duty d a) recover spot t.stand t.spare n ×
+            (lens s.side.station).out ≡ s.side.out.len → (lens s.side.station).back ≡ in_area_len s.side.inn → StopSpot spot s → (s.stand ≡ Stand.Open → is_some l.era.passing ≡ is_some s.side.passing) → StopLived s x recover spot l →
+            NextShows x H.acknowledged more passed made l (wish_begun result wish (H.ready s.side.hand)) (λ n. StopLived t x recover spot n ×
             (t.under ≡ true → StandMeant lens t.side.station index t.side.carried t.stand n (datagram_seen lens (stand_gram t.side.station index t.stand t.side.out t.side.inn t.side.duty t.side.carried))))) × ((ds : List Raw.Datagram) → IsBegun frame.old.items ds → t.under ≡ true → IsBegun frame.new.items (ds ++ (stand_gram t.side.station index t.stand t.side.out t.side.inn t.side.duty t.side.carried) ∷ [])) × (t.under ≡ false → frame.new.items ≡ frame.old.items) × (t.under ≡ true → t.at ≡ self.old.count) × (t.place ≡ s.place) × (t.start ≡ s.start)) place self.old.stops.items self.new.stops.items }
         ensures long { length self.new.stops.items ≡ length self.old.stops.items }
-        ensures step { StepsAt (λ s t. SameLink s.side.out s.side.inn s.side.station s.side.area t.side.out t.side.inn t.side.station t.side.area × (t.stand ≡ s.stand) × (t.under ≡ true → IsClearFor t.stand t.side.carried t.side.inn) × (t.under ≡ true → self.new.count ≡ self.old.count + 1) × (t.under ≡ false → self.new.count ≡ self.old.count)) place self.old.stops.items self.new.stops.items }
+        ensures step { StepsAt (λ s t. LinkStays s.side t.side × (t.stand ≡ s.stand) × (t.under ≡ true → IsClearFor t.stand t.side.carried t.side.inn) × (t.under ≡ true → self.new.count ≡ self.old.count + 1) × (t.under ≡ false → self.new.count ≡ self.old.count)) place self.old.stops.items self.new.stops.items }
         ensures made { (x : Spot → Speech Body H.Asked Reply) (more : Body → Bool) (passed : H.Asked → Bool) (made recover : ℕ) (lens : ℕ → Lens) (left next : List ℕ) (lives : List (Lived H.Asked Reply)) (begun now : ℕ → Option (Service H.Asked)) → AreDistinct lives → is_in place left ≡ true → is_in place next ≡ false → ((k : ℕ) → is_in k next ≡ true → is_in k left ≡ true) → IfSome (slice_get self.old.stops.items place) (λ s. ComesAt begun now s.place (wish_begun result wish (H.ready s.side.hand))) →
-            FrameMade (λ ds i a s. StopMade (x a.spot) H.acknowledged more passed made begun lens recover index (λ d b. SideShows (H.shows s.side.hand (x a.spot)) s.side.out s.side.inn s.side.fresh s.side.duty d b) s.side.station s.place s.start s.stand s.spare s.side.out s.side.inn s.side.duty s.side.carried s.side.passing s.under s.at left ds i a) frame.old.items self.old.count lives self.old.stops.items →
-            FrameMade (λ ds i a s. StopMade (x a.spot) H.acknowledged more passed made now lens recover index (λ d b. SideShows (H.shows s.side.hand (x a.spot)) s.side.out s.side.inn s.side.fresh s.side.duty d b) s.side.station s.place s.start s.stand s.spare s.side.out s.side.inn s.side.duty s.side.carried s.side.passing s.under s.at next ds i a) frame.new.items self.new.count lives self.new.stops.items }
+            FrameMade (λ ds i a s. MadeBy s x more passed made begun lens recover index left ds i a) frame.old.items self.old.count lives self.old.stops.items →
+            FrameMade (λ ds i a s. MadeBy s x more passed made now lens recover index next ds i a) frame.new.items self.new.count lives self.new.stops.items }
         ensures tour { (self.new.again ≡ self.old.again) × (self.new.opened ≡ self.old.opened) × (self.new.last ≡ self.old.last) × (self.new.missed ≡ self.old.missed) × (self.new.retry ≡ self.old.retry) × (self.new.passed ≡ self.old.passed) }
         ensures visits { (self.old.again ≡ false → length self.old.visit.items < 16) → IsCarried (nat_lt self.old.count self.new.count) self.old.again place self.old.visit.items self.new.visit.items }
         ensures first { length frame.old.items ≡ 16 → holds_at (λ s. is_live s.stand) self.old.stops.items place ≡ true → self.new.count ≡ self.old.count + 1 }
         ensures began { StepsAt (λ s t. (takes_ready result wish ≡ true → is_some (H.ready s.side.hand) ≡ true) × (H.script t.side.hand ≡ (if takes_ready result wish then H.behind s.side.hand else H.script s.side.hand)) ×
             (s.side.passing ≡ None → (takes_ready result wish ≡ true → (q : H.Asked) → H.ready s.side.hand ≡ Some q → H.passed q ≡ false) → t.side.passing ≡ None)) place self.old.stops.items self.new.stops.items }
         ensures join { StepsAt (λ s t. H.join t.side.hand ≡ H.join s.side.hand) place self.old.stops.items self.new.stops.items }
-        ensures passing { StepsAt (λ s t. (x : Speech Body H.Asked Reply) (made recover : ℕ) (spot : Spot) (hold : Bool) (l : Life Body H.Asked Reply) → StopShows (λ d a. SideShows (H.shows s.side.hand x) s.side.out s.side.inn s.side.fresh s.side.duty d a) recover spot s.stand s.spare l → StandPassing s.stand (H.awaits s.side.hand) s.side.passing l →
+        ensures passing { StepsAt (λ s t. (x : Speech Body H.Asked Reply) (made recover : ℕ) (spot : Spot) (hold : Bool) (l : Life Body H.Asked Reply) → StopLived s x recover spot l → StopPassing s l →
             (let n = life_next x H.acknowledged H.more H.passed made l l.stand (record { begin = wish_begun result wish (H.ready s.side.hand); hold = hold }) in
-            Counts made (wish_begun result wish (H.ready s.side.hand)) l n → StandPassing t.stand (H.awaits t.side.hand) t.side.passing (n))) place self.old.stops.items self.new.stops.items }
+            Counts made (wish_begun result wish (H.ready s.side.hand)) l n → StopPassing t (n))) place self.old.stops.items self.new.stops.items }
         ensures room { StepsAt (λ s t. Visits frame.old.items frame.new.items s t) place self.old.stops.items self.new.stops.items }
-        ensures recalled { StepsAt (λ s t. recall_by t.side.paused t.side.duty t.side.turn (H.knows t.side.hand) ≡ recall_by s.side.paused s.side.duty s.side.turn (H.knows s.side.hand)) place self.old.stops.items self.new.stops.items }
-        ensures takes { StepsAt (λ s t. TakesUp t.stand t.side.out.state (H.knows t.side.hand) (λ x d a. SideShows (H.shows t.side.hand x) t.side.out t.side.inn t.side.fresh t.side.duty d a)) place self.old.stops.items self.new.stops.items }
-        ensures begins { StepsAt (λ s t. BeginsAll s.stand result (H.knows s.side.hand) s.side.duty s.side.passing H.acknowledged (λ x d a. SideShows (H.shows s.side.hand x) s.side.out s.side.inn s.side.fresh s.side.duty d a) wish (H.ready s.side.hand)) place self.old.stops.items self.new.stops.items }
+        ensures recalled { StepsAt (λ s t. recall_in t.side ≡ recall_in s.side) place self.old.stops.items self.new.stops.items }
+        ensures takes { StepsAt (λ s t. TakesUp t.stand t.side.out.state (H.knows t.side.hand) (λ x d a. ShowsOf t.side x d a)) place self.old.stops.items self.new.stops.items }
+        ensures begins { StepsAt (λ s t. BeginsAll s.stand result (H.knows s.side.hand) s.side.duty s.side.passing H.acknowledged (λ x d a. ShowsOf s.side x d a) wish (H.ready s.side.hand)) place self.old.stops.items self.new.stops.items }
+        ensures read { StepsAt (λ s t. ReadStays s t) place self.old.stops.items self.new.stops.items }
+        ensures did { StepsAt (λ s t. result ≡ stop_begins s wish) place self.old.stops.items self.new.stops.items }
     {
         let at = self.count;
         let began = self.stops[place].visit(wish, at, index, frame);
@@ -390,8 +403,8 @@ impl<H: Hand> Tour<H> {
         ensures some { result ≡ not (self.now.count == 0) }
         ensures reads { result ≡ true → (ds : List Raw.Datagram) → IsBegun frame.old.items ds → length ds ≡ self.now.count → Each (λ d. IsNamed d.head.command) ds → IsFrame frame.new.items (chained ds) }
         ensures made { result ≡ true → (x : Spot → Speech Body H.Asked Reply) (more : Body → Bool) (passed : H.Asked → Bool) (made recover index : ℕ) (lens : ℕ → Lens) (left : List ℕ) (lives : List (Lived H.Asked Reply)) (begun : ℕ → Option (Service H.Asked)) →
-            FrameMade (λ ds i a s. StopMade (x a.spot) H.acknowledged more passed made begun lens recover index (λ d b. SideShows (H.shows s.side.hand (x a.spot)) s.side.out s.side.inn s.side.fresh s.side.duty d b) s.side.station s.place s.start s.stand s.spare s.side.out s.side.inn s.side.duty s.side.carried s.side.passing s.under s.at left ds i a) frame.old.items self.now.count lives self.now.stops.items →
-            FrameSent (λ ds a b s. StopSent (x a.spot) H.acknowledged more passed made begun lens recover (λ d k. SideShows (H.shows s.side.hand (x a.spot)) s.side.out s.side.inn s.side.fresh s.side.duty d k) s.side.station s.place s.start s.stand s.spare s.side.out.len (in_area_len s.side.inn) s.side.carried s.under s.at ds a b) frame.new.items lives self.now.stops.items }
+            FrameMade (λ ds i a s. MadeBy s x more passed made begun lens recover index left ds i a) frame.old.items self.now.count lives self.now.stops.items →
+            FrameSent (λ ds a b s. SentBy s x more passed made begun lens recover ds a b) frame.new.items lives self.now.stops.items }
         ensures size { result ≡ true → frame_size frame.new.items ≡ length frame.old.items - 16 }
     {
         if self.count == 0 {

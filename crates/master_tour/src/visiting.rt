@@ -22,61 +22,48 @@ fn access_len(up: &BringUp) -> usize
 }
 
 impl<H: Hand> Stop<H> {
-    ghost use Rattle.std.specs.Prelude.{◌≡◌, ◌≤◌, ◌<◌, ◌-◌, ◌++◌, ◌∷◌, [], ℕ, List, map, All, length, true, false};
+    ghost use Rattle.std.specs.Prelude.{◌≡◌, ◌≤◌, ◌<◌, ◌-◌, ◌++◌, ◌∷◌, [], ℕ, List, length, true, false};
     ghost use Rattle.datagrams.specs.Datagram as Raw;
-    ghost use Rattle.datagrams.specs.Frame.{IsPart, IsBegun, IsFrame};
+    ghost use Rattle.datagrams.specs.Frame.{IsBegun};
     ghost use Rattle.life_frames.specs.of_exchange_model.Exchange.{Speech};
     ghost use Rattle.life_frames.specs.of_link_mails.Body.{Body};
-    ghost use Rattle.life_frames.specs.of_segment_model.Slaves.{Datagram, grams};
-    ghost use Rattle.life_frames.specs.of_link_model.Frames.{all_accepted};
-    ghost use Rattle.master_side.specs.Heard.{Brought, HasJoined};
-    ghost use Rattle.master_tour.specs.Brings.{accepted_in};
-    ghost use Rattle.master_tour.specs.Joins.{Joins, join_behind};
     ghost use Rattle.life_frames.specs.of_segment_model.Seats as Seats;
-    ghost use Rattle.life_frames.specs.of_task_model.Accounts.{Account, duty_access, account_back};
+    ghost use Rattle.life_frames.specs.of_task_model.Accounts.{Account, duty_access};
     ghost use Rattle.life_frames.specs.of_frame_view.View.{Lens, datagram_seen};
-    ghost use Rattle.life_frames.specs.of_frame_view.Seen.{seen};
     ghost use Rattle.master_side.specs.of_mailbox_master.Any.{in_half_of, in_area_len};
     ghost use Rattle.life_frames.specs.of_link_model.Master.{InState};
     ghost use Rattle.master_side.specs.of_master_duty.Reply.{Reply};
     ghost use Rattle.master_side.specs.declared.carried.Carried.{Carried};
     ghost use Rattle.master_side.specs.Carried.{Meant};
-    ghost use Rattle.master_tour.specs.Made.{IsClearFor, IsSized};
-    ghost use Rattle.master_side.specs.Sent.{IsSent, SameLink, visit_gram};
-    ghost use Rattle.master_side.specs.Shown.{SideShows, Holds, Picked, wish_begun, takes_ready};
+    ghost use Rattle.master_tour.specs.Made.{IsClearFor};
+    ghost use Rattle.master_side.specs.Sent.{IsSent, visit_gram};
+    ghost use Rattle.master_side.specs.Shown.{Holds, Picked, wish_begun, takes_ready};
     ghost use Rattle.datagrams.specs.Frame.{datagram_of};
     ghost use Rattle.al_state.specs.BringUp.{head_of, octets_of};
-    ghost use Rattle.master_tour.specs.Under.{Under};
-    ghost use Rattle.master_tour.specs.Cursor.{IsAtOne};
-    ghost use Rattle.master_tour.specs.Goes.{is_live, is_opened};
-    ghost use Rattle.master_tour.specs.Stands.{StopShows, FollowShows, IsMet, IsSpot, StandUnder, came_at, given_where, stand_gram, StandMeant, NextShows, HoldShows, Counts};
-    ghost use Rattle.std.specs.Prelude.{is_some, ◌&&◌, ◌+◌};
+    ghost use Rattle.master_tour.specs.Goes.{is_live};
+    ghost use Rattle.master_tour.specs.Stands.{stand_gram, StandMeant, NextShows, HoldShows, Counts};
+    ghost use Rattle.std.specs.Prelude.{is_some, ◌+◌};
     ghost use Rattle.master_side.specs.Again.{HasNoRoom, IsOnWay, Repeats, area_of, sent_len};
-    ghost use Rattle.master_tour.specs.Rooms.{LosesAgain, StopRepeats, Visits, stop_len};
-    ghost use Rattle.master_side.specs.Recall.{recall_by};
+    ghost use Rattle.master_tour.specs.Rooms.{StopRepeats, Visits, stop_len};
     ghost use Rattle.master_tour.specs.Recalls.{TakesUp, BeginsAll};
-    ghost use Rattle.life_frames.specs.of_segment_model.Returned.{Returns};
     ghost use Rattle.al_state.specs.declared.bringing.BringStep.{BringStep};
-    ghost use Rattle.std.specs.Prelude.{None, ◌%◌};
-    ghost use Rattle.life_frames.specs.of_life_model.Lives.{Life, Spot, passes, life_next, life_back, life_lost, reopens, gives_up};
-    ghost use Rattle.life_frames.specs.of_segment_model.Record.{News, Kept};
+    ghost use Rattle.life_frames.specs.of_life_model.Lives.{Life, Spot, life_next};
     ghost use Rattle.life_frames.specs.of_segment_model.Ends as Ends;
-    ghost use Rattle.life_frames.specs.of_segment_model.Slaves.{Found};
-    ghost use Rattle.life_frames.specs.of_task_model.Accounts as Accounts;
-    ghost use Rattle.master_side.specs.Passing.{PassingShows, IsKept, passing_behind, counts_at, news_back, news_lost};
-    ghost use Rattle.master_side.specs.declared.passing.Passing.{Passing};
-    ghost use Rattle.master_tour.specs.Passing.{StandPassing, StandKept};
-    ghost use Rattle.life_frames.specs.of_task_model.Accounts.{new_account};
-    ghost use Rattle.master_side.specs.Shown.{new_side};
-    ghost use Rattle.std.specs.Prelude.{Bool, Option, Some, if◌then◌else◌};
+    ghost use Rattle.master_side.specs.Passing.{PassingShows, passing_behind};
+    ghost use Rattle.std.specs.Prelude.{Bool, Option, if◌then◌else◌};
     ghost use Rattle.master_tour.specs.declared.stop.Stand.{Stand};
+    ghost use Rattle.master_side.specs.Free.{is_free_side, begins_by};
+    ghost use Rattle.master_side.specs.Sides.{ShowsOf, LinkStays, StaysPlain, recall_in};
+    ghost use Rattle.master_tour.specs.Frees.{stop_begins};
+    ghost use Rattle.master_tour.specs.Stops.{StopSpot, StopLived, StopPassing};
+    ghost use Rattle.master_tour.specs.Counting.{ReadStays};
 
     /// How many octets the datagram of a visit with this wish has.
     pub fn ahead(&mut self, wish: Option<Wish>) -> usize
-        ensures lives { (x : Speech Body H.Asked Reply) (more : Body → Bool) (passed : H.Asked → Bool) (made recover : ℕ) (spot : Spot) (l : Life Body H.Asked Reply) → StopShows (λ d a. SideShows (H.shows self.old.side.hand x) self.old.side.out self.old.side.inn self.old.side.fresh self.old.side.duty d a) recover spot self.old.stand self.old.spare l →
-            HoldShows x H.acknowledged more passed made l (StopShows (λ d a. SideShows (H.shows self.new.side.hand x) self.new.side.out self.new.side.inn self.new.side.fresh self.new.side.duty d a) recover spot self.new.stand self.new.spare) }
+        ensures lives { (x : Speech Body H.Asked Reply) (more : Body → Bool) (passed : H.Asked → Bool) (made recover : ℕ) (spot : Spot) (l : Life Body H.Asked Reply) → StopLived self.old x recover spot l →
+            HoldShows x H.acknowledged more passed made l (StopLived self.new x recover spot) }
         ensures kept { (self.new.place ≡ self.old.place) × (self.new.start ≡ self.old.start) × (self.new.spare ≡ self.old.spare) × (self.new.under ≡ self.old.under) × (self.new.at ≡ self.old.at) }
-        ensures link { SameLink self.old.side.out self.old.side.inn self.old.side.station self.old.side.area self.new.side.out self.new.side.inn self.new.side.station self.new.side.area }
+        ensures link { LinkStays self.old.side self.new.side }
         ensures stand { self.new.stand ≡ self.old.stand }
         ensures passing { self.new.side.passing ≡ self.old.side.passing }
         ensures awaits { H.awaits self.old.side.hand ≡ true → H.awaits self.new.side.hand ≡ true }
@@ -85,7 +72,9 @@ impl<H: Hand> Stop<H> {
         ensures join { H.join self.new.side.hand ≡ H.join self.old.side.hand }
         ensures area { result ≤ area_of self.old.side }
         ensures again { StopRepeats self.old → StopRepeats self.new × (stop_len self.new ≡ stop_len self.old) × (result ≤ stop_len self.old) }
-        ensures recalled { recall_by self.new.side.paused self.new.side.duty self.new.side.turn (H.knows self.new.side.hand) ≡ recall_by self.old.side.paused self.old.side.duty self.old.side.turn (H.knows self.old.side.hand) }
+        ensures recalled { recall_in self.new.side ≡ recall_in self.old.side }
+        ensures read { ReadStays self.old self.new }
+        ensures still { is_free_side self.old.side ≡ true → is_some wish ≡ true → self.new.side ≡ self.old.side }
     {
         match self.stand {
             Stand::Gone => 0,
@@ -106,18 +95,18 @@ impl<H: Hand> Stop<H> {
         requires few { at < 16 }
         requires begun { (ds : List Raw.Datagram) × IsBegun frame.old.items ds }
         ensures shown { (x : Speech Body H.Asked Reply) (made : ℕ) (lens : ℕ → Lens) (d : Seats.Side Body H.Asked Reply) (a : Account H.Asked Reply) → (lens self.old.side.station).out ≡ self.old.side.out.len → (lens self.old.side.station).back ≡ in_area_len self.old.side.inn →
-            SideShows (H.shows self.old.side.hand x) self.old.side.out self.old.side.inn self.old.side.fresh self.old.side.duty d a →
-            Picked x H.acknowledged made d a (wish_begun result wish (H.ready self.old.side.hand)) (λ e b. SideShows (H.shows self.new.side.hand x) self.new.side.out self.new.side.inn self.new.side.fresh self.new.side.duty e b ×
+            ShowsOf self.old.side x d a →
+            Picked x H.acknowledged made d a (wish_begun result wish (H.ready self.old.side.hand)) (λ e b. ShowsOf self.new.side x e b ×
             (self.new.under ≡ true → Meant self.old.side.station self.new.side.carried e.halves (duty_access b.hand) (datagram_seen lens (visit_gram self.new.side.station index self.new.side.out self.new.side.inn self.new.side.duty self.new.side.carried)))) }
         ensures still { is_some self.old.side.passing ≡ true → result ≡ false }
         ensures waits { is_some self.old.side.passing ≡ true → (x : Speech Body H.Asked Reply) (lens : ℕ → Lens) (d : Seats.Side Body H.Asked Reply) (a : Account H.Asked Reply) → (lens self.old.side.station).out ≡ self.old.side.out.len → (lens self.old.side.station).back ≡ in_area_len self.old.side.inn →
-            SideShows (H.shows self.old.side.hand x) self.old.side.out self.old.side.inn self.old.side.fresh self.old.side.duty d a →
-            Holds x d (λ e. SideShows (H.shows self.new.side.hand x) self.new.side.out self.new.side.inn self.new.side.fresh self.new.side.duty e a ×
+            ShowsOf self.old.side x d a →
+            Holds x d (λ e. ShowsOf self.new.side x e a ×
             (self.new.under ≡ true → Meant self.old.side.station self.new.side.carried e.halves (duty_access a.hand) (datagram_seen lens (visit_gram self.new.side.station index self.new.side.out self.new.side.inn self.new.side.duty self.new.side.carried)))) }
         ensures begun { (ds : List Raw.Datagram) → IsBegun frame.old.items ds → self.new.under ≡ true → IsBegun frame.new.items (ds ++ visit_gram self.new.side.station index self.new.side.out self.new.side.inn self.new.side.duty self.new.side.carried ∷ []) }
         ensures sent { self.new.under ≡ true → IsSent self.old.side.area (visit_gram self.new.side.station index self.new.side.out self.new.side.inn self.new.side.duty self.new.side.carried) }
         ensures full { self.new.under ≡ false → frame.new.items ≡ frame.old.items }
-        ensures link { SameLink self.old.side.out self.old.side.inn self.old.side.station self.old.side.area self.new.side.out self.new.side.inn self.new.side.station self.new.side.area }
+        ensures link { LinkStays self.old.side self.new.side }
         ensures stand { self.new.stand ≡ self.old.stand }
         ensures kept { (self.new.place ≡ self.old.place) × (self.new.start ≡ self.old.start) × (self.new.spare ≡ self.old.spare) × (self.new.news ≡ self.old.news) }
         ensures at { self.new.at ≡ at }
@@ -125,15 +114,17 @@ impl<H: Hand> Stop<H> {
         ensures first { length frame.old.items ≡ 16 → self.new.under ≡ true }
         ensures ready { takes_ready result wish ≡ true → is_some (H.ready self.old.side.hand) ≡ true }
         ensures script { H.script self.new.side.hand ≡ (if takes_ready result wish then H.behind self.old.side.hand else H.script self.old.side.hand) }
-        ensures unpassed { self.old.side.passing ≡ None → (takes_ready result wish ≡ true → (q : H.Asked) → H.ready self.old.side.hand ≡ Some q → H.passed q ≡ false) → self.new.side.passing ≡ None }
+        ensures unpassed { StaysPlain self.old.side self.new.side (takes_ready result wish) }
         ensures passing { (p : Option Ends.Passing) → PassingShows (H.awaits self.old.side.hand) self.old.side.passing p → PassingShows (H.awaits self.new.side.hand) self.new.side.passing (passing_behind H.passed p (wish_begun result wish (H.ready self.old.side.hand))) }
         ensures join { H.join self.new.side.hand ≡ H.join self.old.side.hand }
         ensures room { Repeats self.old.side → (self.new.under ≡ false → HasNoRoom frame.old.items (sent_len self.old.side)) × (self.new.under ≡ true → sent_len self.new.side ≤ sent_len self.old.side) }
         ensures area { self.new.under ≡ false → HasNoRoom frame.old.items (area_of self.old.side) }
         ensures way { self.new.under ≡ true → IsOnWay self.new.side × (length frame.new.items ≡ length frame.old.items + (12 + sent_len self.new.side)) }
-        ensures recalled { recall_by self.new.side.paused self.new.side.duty self.new.side.turn (H.knows self.new.side.hand) ≡ recall_by self.old.side.paused self.old.side.duty self.old.side.turn (H.knows self.old.side.hand) }
-        ensures takes { TakesUp self.new.stand self.new.side.out.state (H.knows self.new.side.hand) (λ x d a. SideShows (H.shows self.new.side.hand x) self.new.side.out self.new.side.inn self.new.side.fresh self.new.side.duty d a) }
-        ensures begins { BeginsAll self.old.stand result (H.knows self.old.side.hand) self.old.side.duty self.old.side.passing H.acknowledged (λ x d a. SideShows (H.shows self.old.side.hand x) self.old.side.out self.old.side.inn self.old.side.fresh self.old.side.duty d a) wish (H.ready self.old.side.hand) }
+        ensures recalled { recall_in self.new.side ≡ recall_in self.old.side }
+        ensures takes { TakesUp self.new.stand self.new.side.out.state (H.knows self.new.side.hand) (λ x d a. ShowsOf self.new.side x d a) }
+        ensures begins { BeginsAll self.old.stand result (H.knows self.old.side.hand) self.old.side.duty self.old.side.passing H.acknowledged (λ x d a. ShowsOf self.old.side x d a) wish (H.ready self.old.side.hand) }
+        ensures read { ReadStays self.old self.new }
+        ensures did { result ≡ begins_by (is_free_side self.old.side) wish (H.ready self.old.side.hand) }
     {
         let began = self.side.choose(wish);
         let placed = self.side.add_datagram(index, frame);
@@ -168,8 +159,8 @@ impl<H: Hand> Stop<H> {
         requires few { at < 16 }
         requires begun { (ds : List Raw.Datagram) × IsBegun frame.old.items ds }
         ensures lives { (x : Speech Body H.Asked Reply) (more : Body → Bool) (passed : H.Asked → Bool) (made recover : ℕ) (spot : Spot) (lens : ℕ → Lens) (l : Life Body H.Asked Reply) →
-            (lens self.old.side.station).out ≡ self.old.side.out.len → (lens self.old.side.station).back ≡ in_area_len self.old.side.inn → IsSpot spot self.old.side.station self.old.place self.old.start → (self.old.stand ≡ Stand.Open → is_some l.era.passing ≡ is_some self.old.side.passing) → StopShows (λ d a. SideShows (H.shows self.old.side.hand x) self.old.side.out self.old.side.inn self.old.side.fresh self.old.side.duty d a) recover spot self.old.stand self.old.spare l →
-            NextShows x H.acknowledged more passed made l (wish_begun result wish (H.ready self.old.side.hand)) (λ n. StopShows (λ d a. SideShows (H.shows self.new.side.hand x) self.new.side.out self.new.side.inn self.new.side.fresh self.new.side.duty d a) recover spot self.new.stand self.new.spare n ×
+            (lens self.old.side.station).out ≡ self.old.side.out.len → (lens self.old.side.station).back ≡ in_area_len self.old.side.inn → StopSpot spot self.old → (self.old.stand ≡ Stand.Open → is_some l.era.passing ≡ is_some self.old.side.passing) → StopLived self.old x recover spot l →
+            NextShows x H.acknowledged more passed made l (wish_begun result wish (H.ready self.old.side.hand)) (λ n. StopLived self.new x recover spot n ×
             (self.new.under ≡ true → StandMeant lens self.new.side.station index self.new.side.carried self.new.stand n (datagram_seen lens (stand_gram self.new.side.station index self.new.stand self.new.side.out self.new.side.inn self.new.side.duty self.new.side.carried)))) }
         ensures begun { (ds : List Raw.Datagram) → IsBegun frame.old.items ds → self.new.under ≡ true → IsBegun frame.new.items (ds ++ (stand_gram self.new.side.station index self.new.stand self.new.side.out self.new.side.inn self.new.side.duty self.new.side.carried) ∷ []) }
         ensures full { self.new.under ≡ false → frame.new.items ≡ frame.old.items }
@@ -177,20 +168,22 @@ impl<H: Hand> Stop<H> {
         ensures stand { self.new.stand ≡ self.old.stand }
         ensures kept { (self.new.place ≡ self.old.place) × (self.new.start ≡ self.old.start) × (self.new.spare ≡ self.old.spare) × (self.new.news ≡ self.old.news) }
         ensures station { self.new.side.station ≡ self.old.side.station }
-        ensures link { SameLink self.old.side.out self.old.side.inn self.old.side.station self.old.side.area self.new.side.out self.new.side.inn self.new.side.station self.new.side.area }
+        ensures link { LinkStays self.old.side self.new.side }
         ensures order { self.new.under ≡ true → IsClearFor self.new.stand self.new.side.carried self.new.side.inn }
         ensures first { length frame.old.items ≡ 16 → is_live self.old.stand ≡ true → self.new.under ≡ true }
         ensures ready { takes_ready result wish ≡ true → is_some (H.ready self.old.side.hand) ≡ true }
         ensures script { H.script self.new.side.hand ≡ (if takes_ready result wish then H.behind self.old.side.hand else H.script self.old.side.hand) }
-        ensures unpassed { self.old.side.passing ≡ None → (takes_ready result wish ≡ true → (q : H.Asked) → H.ready self.old.side.hand ≡ Some q → H.passed q ≡ false) → self.new.side.passing ≡ None }
-        ensures passing { (x : Speech Body H.Asked Reply) (made recover : ℕ) (spot : Spot) (hold : Bool) (l : Life Body H.Asked Reply) → StopShows (λ d a. SideShows (H.shows self.old.side.hand x) self.old.side.out self.old.side.inn self.old.side.fresh self.old.side.duty d a) recover spot self.old.stand self.old.spare l → StandPassing self.old.stand (H.awaits self.old.side.hand) self.old.side.passing l →
+        ensures unpassed { StaysPlain self.old.side self.new.side (takes_ready result wish) }
+        ensures passing { (x : Speech Body H.Asked Reply) (made recover : ℕ) (spot : Spot) (hold : Bool) (l : Life Body H.Asked Reply) → StopLived self.old x recover spot l → StopPassing self.old l →
             (let n = life_next x H.acknowledged H.more H.passed made l l.stand (record { begin = wish_begun result wish (H.ready self.old.side.hand); hold = hold }) in
-            Counts made (wish_begun result wish (H.ready self.old.side.hand)) l n → StandPassing self.new.stand (H.awaits self.new.side.hand) self.new.side.passing n) }
+            Counts made (wish_begun result wish (H.ready self.old.side.hand)) l n → StopPassing self.new n) }
         ensures join { H.join self.new.side.hand ≡ H.join self.old.side.hand }
         ensures room { Visits frame.old.items frame.new.items self.old self.new }
-        ensures recalled { recall_by self.new.side.paused self.new.side.duty self.new.side.turn (H.knows self.new.side.hand) ≡ recall_by self.old.side.paused self.old.side.duty self.old.side.turn (H.knows self.old.side.hand) }
-        ensures takes { TakesUp self.new.stand self.new.side.out.state (H.knows self.new.side.hand) (λ x d a. SideShows (H.shows self.new.side.hand x) self.new.side.out self.new.side.inn self.new.side.fresh self.new.side.duty d a) }
-        ensures begins { BeginsAll self.old.stand result (H.knows self.old.side.hand) self.old.side.duty self.old.side.passing H.acknowledged (λ x d a. SideShows (H.shows self.old.side.hand x) self.old.side.out self.old.side.inn self.old.side.fresh self.old.side.duty d a) wish (H.ready self.old.side.hand) }
+        ensures recalled { recall_in self.new.side ≡ recall_in self.old.side }
+        ensures takes { TakesUp self.new.stand self.new.side.out.state (H.knows self.new.side.hand) (λ x d a. ShowsOf self.new.side x d a) }
+        ensures begins { BeginsAll self.old.stand result (H.knows self.old.side.hand) self.old.side.duty self.old.side.passing H.acknowledged (λ x d a. ShowsOf self.old.side x d a) wish (H.ready self.old.side.hand) }
+        ensures read { ReadStays self.old self.new }
+        ensures did { result ≡ stop_begins self.old wish }
     {
         self.under = false;
         match self.stand {

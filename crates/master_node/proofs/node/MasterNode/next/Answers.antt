@@ -1,5 +1,7 @@
-use Rattle.std.proofs.Common.{◌≡◌, ◌∙◌, true, [], refl, sym, ap, subst, length, arith}
+use Rattle.std.proofs.Common.{◌≡◌, ◌≤◌, ◌∙◌, true, [], refl, sym, ap, subst, length, arith}
 use Rattle.master_node.proofs.Begins.{has_none}
+use Rattle.master_node.specs.Origins.{forwards_at}
+use Rattle.master_node.proofs.Listing.{services_made, unlisted}
 use Rattle.life_runs.specs.of_frame_view.Seen.{seen}
 use Rattle.std.specs.List.{list_any}
 use Rattle.master_tour.specs.Goes.{is_live, holds_at}
@@ -7,7 +9,7 @@ use Rattle.master_node.proofs.Sents.{shows_same}
 use Rattle.master_tour.specs.Walks.{EachPair}
 use Rattle.master_tour.proofs.Walks.{each_same}
 use Rattle.master_node.proofs.Asking.{all_ask}
-use Rattle.std.specs.Prelude.{map}
+use Rattle.std.specs.Prelude.{map, nat_lt}
 use Rattle.master_node.specs.Eager.{recall_of}
 use Rattle.master_node.proofs.Eagers.{all_take, each_recalls}
 use Rattle.master_node.proofs.Visitings.{all_visit, sent_at}
@@ -19,6 +21,11 @@ use Rattle.master_tour.specs.Sizes.{frame_size}
 use Rattle.master_node.specs.Rooms.{area_at}
 use Rattle.master_node.proofs.Happenings.{happens_so, happens_then}
 use Rattle.master_node.proofs.Made.{makes_all, makes_then, makes_none}
+use Rattle.master_node.specs.Happened.{NoneWaits}
+use Rattle.master_node.specs.Shows.{IsLead}
+use Rattle.master_node.proofs.Entering.{all_opened, first_more, rests_same}
+use Rattle.master_node.proofs.Lists.{both_length}
+use Rattle.master_node.proofs.Restings.{all_rest}
 use Rattle.master_node.proofs.node.MasterNode.next.Goals as goal
 
 pub returns-clause-led : goal.returns-clause-led
@@ -26,7 +33,7 @@ returns-clause-led c = λ h lens recover retry missed number as' x.
     let live : c.has_live.result ≡ true = cc in
     let none = ap length c.begins.ensures.none in
     let admitted = c.admit.ensures.lan in
-    let w = c.make.ensures.led lens recover retry missed number c.args.self.now.lan.switch as' (omega (arith, admitted.few, none)) (c.admit.ensures.takes.takes _ [] (omega (arith, none)) (has_none _ _ c.begins.ensures.switch c.begins.ensures.none)) (subst (λ z. list_any (λ s. is_live s.stand) z.stops.items ≡ true) (sym c.admit.ensures.same.1) (sym c.has_live.ensures ∙ live)) (shows_same lens recover retry missed as' _ c.admit.new.self c.admit.ensures.same.1 c.admit.ensures.same.0 x) in
+    let w = c.make.ensures.led lens recover retry missed number (record { switch = c.args.self.now.lan.switch; forwards = λ k. forwards_at c.args.self.now.posts.items k }) as' (omega (arith, admitted.few, none)) (c.admit.ensures.takes.takes _ [] (omega (arith, none)) (has_none _ _ c.begins.ensures.switch c.begins.ensures.none)) (unlisted (record c.args.self.now { list = c.clear.new.self; lan = c.begins.new.self }) c.admit.new.self c.clear.ensures.none c.clear.ensures.last c.admit.ensures.list c.admit.ensures.same.0) (subst (λ z. list_any (λ s. is_live s.stand) z.stops.items ≡ true) (sym c.admit.ensures.same.1) (sym c.has_live.ensures ∙ live)) (shows_same lens recover retry missed as' _ c.admit.new.self c.admit.ensures.same.1 c.admit.ensures.same.0 x) in
     (w.0, w.1, record { each = w.2.each; distinct = w.2.distinct; quiet = w.2.quiet; goes = w.2.goes; missed_is = w.2.missed_is; retry_is = w.2.retry_is; sent = w.2.sent; fits = w.2.fits })
 
 pub returns-clause-begun : goal.returns-clause-begun
@@ -34,8 +41,8 @@ returns-clause-begun c = λ h lens recover retry missed number as' x.
     let live : c.has_live.result ≡ true = cc in
     let none = ap length c.begins.ensures.none in
     let admitted = c.admit.ensures.lan in
-    let w = c.make.ensures.led lens recover retry missed number c.args.self.now.lan.switch as' (omega (arith, admitted.few, none)) (c.admit.ensures.takes.takes _ [] (omega (arith, none)) (has_none _ _ c.begins.ensures.switch c.begins.ensures.none)) (subst (λ z. list_any (λ s. is_live s.stand) z.stops.items ≡ true) (sym c.admit.ensures.same.1) (sym c.has_live.ensures ∙ live)) (shows_same lens recover retry missed as' _ c.admit.new.self c.admit.ensures.same.1 c.admit.ensures.same.0 x) in
-    (w.0, w.1, record { each = w.2.each; distinct = w.2.distinct; quiet = w.2.quiet; goes = w.2.goes; missed_is = w.2.missed_is; retry_is = w.2.retry_is; sent = w.2.sent; fits = w.2.fits }, w.3)
+    let w = c.make.ensures.led lens recover retry missed number (record { switch = c.args.self.now.lan.switch; forwards = λ k. forwards_at c.args.self.now.posts.items k }) as' (omega (arith, admitted.few, none)) (c.admit.ensures.takes.takes _ [] (omega (arith, none)) (has_none _ _ c.begins.ensures.switch c.begins.ensures.none)) (unlisted (record c.args.self.now { list = c.clear.new.self; lan = c.begins.new.self }) c.admit.new.self c.clear.ensures.none c.clear.ensures.last c.admit.ensures.list c.admit.ensures.same.0) (subst (λ z. list_any (λ s. is_live s.stand) z.stops.items ≡ true) (sym c.admit.ensures.same.1) (sym c.has_live.ensures ∙ live)) (shows_same lens recover retry missed as' _ c.admit.new.self c.admit.ensures.same.1 c.admit.ensures.same.0 x) in
+    (w.0, w.1, record { each = w.2.each; distinct = w.2.distinct; quiet = w.2.quiet; goes = w.2.goes; missed_is = w.2.missed_is; retry_is = w.2.retry_is; sent = w.2.sent; fits = w.2.fits }, w.3, services_made _ _ _ c.make.new.self _ c.made.ensures.last refl w.6, w.7)
 
 pub returns-then-not-has_live-clause-joins : goal.returns-then-not-has_live-clause-joins
 returns-then-not-has_live-clause-joins c = each_same _ c.args.self.now.tour.stops.items (λ s. refl)
@@ -50,7 +57,7 @@ returns-clause-toured c = λ h lens recover retry missed as' us x y.
     let live : c.has_live.result ≡ true = cc in
     let none = ap length c.begins.ensures.none in
     let admitted = c.admit.ensures.lan in
-    let w = c.make.ensures.led lens recover retry missed 0 m.lan.switch as' (omega (arith, admitted.few, none)) (c.admit.ensures.takes.takes _ [] (omega (arith, none)) (has_none _ _ c.begins.ensures.switch c.begins.ensures.none)) (subst (λ z. list_any (λ s. is_live s.stand) z.stops.items ≡ true) (sym c.admit.ensures.same.1) (sym c.has_live.ensures ∙ live)) (shows_same lens recover retry missed as' _ n c.admit.ensures.same.1 c.admit.ensures.same.0 x) in
+    let w = c.make.ensures.led lens recover retry missed 0 (record { switch = m.lan.switch; forwards = λ k. forwards_at m.posts.items k }) as' (omega (arith, admitted.few, none)) (c.admit.ensures.takes.takes _ [] (omega (arith, none)) (has_none _ _ c.begins.ensures.switch c.begins.ensures.none)) (unlisted (record c.args.self.now { list = c.clear.new.self; lan = c.begins.new.self }) c.admit.new.self c.clear.ensures.none c.clear.ensures.last c.admit.ensures.list c.admit.ensures.same.0) (subst (λ z. list_any (λ s. is_live s.stand) z.stops.items ≡ true) (sym c.admit.ensures.same.1) (sym c.has_live.ensures ∙ live)) (shows_same lens recover retry missed as' _ n c.admit.ensures.same.1 c.admit.ensures.same.0 x) in
     let same : tour_of n ≡ tour_of m = tour_by m n m.tour refl c.admit.ensures.same.1 in (
       w.4 ∙ same,
       turns_tour lens recover c.make.new.into.items (λ k. holds_at is_live_lead as' k) (frame_size c.make.new.into.items) (λ k. area_at lens as' k) (tour_of m) us c.make.new.self.tour.stops.items (length (seen lens c.make.new.into.items)) c.make.new.self.tour.visit.items y.each
@@ -78,7 +85,7 @@ returns-clause-visits c = λ h lens recover retry missed as' us x y.
     let live : c.has_live.result ≡ true = cc in
     let none = ap length c.begins.ensures.none in
     let admitted = c.admit.ensures.lan in
-    let w = c.make.ensures.led lens recover retry missed 0 m.lan.switch as' (omega (arith, admitted.few, none)) (c.admit.ensures.takes.takes _ [] (omega (arith, none)) (has_none _ _ c.begins.ensures.switch c.begins.ensures.none)) (subst (λ z. list_any (λ s. is_live s.stand) z.stops.items ≡ true) (sym c.admit.ensures.same.1) (sym c.has_live.ensures ∙ live)) (shows_same lens recover retry missed as' _ n c.admit.ensures.same.1 c.admit.ensures.same.0 x) in
+    let w = c.make.ensures.led lens recover retry missed 0 (record { switch = m.lan.switch; forwards = λ k. forwards_at m.posts.items k }) as' (omega (arith, admitted.few, none)) (c.admit.ensures.takes.takes _ [] (omega (arith, none)) (has_none _ _ c.begins.ensures.switch c.begins.ensures.none)) (unlisted (record c.args.self.now { list = c.clear.new.self; lan = c.begins.new.self }) c.admit.new.self c.clear.ensures.none c.clear.ensures.last c.admit.ensures.list c.admit.ensures.same.0) (subst (λ z. list_any (λ s. is_live s.stand) z.stops.items ≡ true) (sym c.admit.ensures.same.1) (sym c.has_live.ensures ∙ live)) (shows_same lens recover retry missed as' _ n c.admit.ensures.same.1 c.admit.ensures.same.0 x) in
     all_visit lens recover c.make.new.into.items us c.make.new.self.tour.stops.items (sent_at _ _ _ _ c.make.new.self.tour.stops.items _ _ w.5 y.fits.fit) y.each
 
 pub returns-clause-takes : goal.returns-clause-takes
@@ -91,3 +98,18 @@ returns-clause-recalled c = λ h lens recover retry missed as' x.
     let n = c.admit.new.self in
     each_recalls n.tour.stops.items c.make.new.self.tour.stops.items (c.make.ensures.eager lens recover retry missed as' (shows_same lens recover retry missed as' _ n c.admit.ensures.same.1 c.admit.ensures.same.0 x))
     ∙ ap (λ z. map (λ s. recall_of s) z.stops.items) c.admit.ensures.same.1
+
+pub returns-clause-enters : goal.returns-clause-enters
+returns-clause-enters c = λ h lens recover retry missed as' x rests may.
+    let m = c.args.self.now in
+    let l = c.begins.new.self in
+    let e = c.begins.ensures in
+    let many = both_length (λ a s. IsLead lens recover a s) as' m.tour.stops.items x.each in
+    let entered = c.admit.ensures.enters
+        (record {
+          opened = subst (λ n. n ≤ m.tour.opened) many (all_opened lens m.lan _ as' m.tour.opened rests x.goes.ahead);
+          rest = λ k. rests_same m.lan l e.switch e.ports k _ (all_rest lens recover m.lan as' m.tour.stops.items x.each rests k);
+        })
+        (record { left = (λ i. nat_lt (e.host.1 i) (length (e.host.0 i))) ∙ may.left; quiet = subst (λ s. NoneWaits s) (sym e.switch) may.quiet })
+        e.none in
+    first_more _ _ c.make.ensures.made.more.0 entered c.make.ensures.made.more.1

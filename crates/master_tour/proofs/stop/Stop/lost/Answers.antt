@@ -10,6 +10,8 @@ use Rattle.master_tour.proofs.Rooms.{loses_gone, loses_opens, loses_open}
 use Rattle.master_side.specs.Passing.{news_lost}
 use Rattle.master_tour.specs.Passing.{StandPassing, StandKept}
 use Rattle.master_tour.proofs.Passings.{lost_still, lost_open}
+use Rattle.std.proofs.Common.{suc, leb-true}
+use Rattle.master_tour.proofs.Counting.{gone_counts, opening_stays, counts_open, lost_counts}
 use Rattle.master_tour.proofs.stop.Stop.lost.Goals as goal
 
 pub returns-in-Gone-clause-lives : goal.returns-in-Gone-clause-lives
@@ -73,3 +75,29 @@ returns-in-Open-clause-passing g c = λ x recover spot lens kept octets l sp u s
     let stood = (subst (λ z. StopShows (λ d a. SideShows (g.H.Hand.shows w.hand x) w.out w.inn w.fresh w.duty d a) recover spot z t.spare l) c.in-Open.is sh).stood in
     lost_open x g.H.Hand.acknowledged g.H.Hand.more g.H.Hand.passed spot (news_lost w.station kept sent) sent l v.stand (g.H.Hand.awaits v.side.hand) v.side.passing stood.0 (c.open_lost.ensures.stand ∙ c.in-Open.is)
     (c.open_lost.ensures.passing x kept l.era.passing sent l.era.side l.era.account stood.1 (subst (λ z. StandKept z kept l) c.in-Open.is k) (subst (λ z. StandPassing z (g.H.Hand.awaits w.hand) w.passing l) c.in-Open.is h) (subst (λ z. StandUnder lens w.station t.at t.under w.carried z l sent) c.in-Open.is u))
+
+pub returns-in-Gone-clause-recalled : goal.returns-in-Gone-clause-recalled
+returns-in-Gone-clause-recalled g c = (refl, refl, refl, refl)
+
+pub returns-in-Opening-clause-recalled : goal.returns-in-Opening-clause-recalled
+returns-in-Opening-clause-recalled g c = (refl, refl, refl, refl)
+
+pub returns-in-Open-clause-recalled : goal.returns-in-Open-clause-recalled
+returns-in-Open-clause-recalled g c = c.open_lost.ensures.recalled
+
+pub returns-in-Gone-clause-counts : goal.returns-in-Gone-clause-counts
+returns-in-Gone-clause-counts g c = λ x made recover spot l sh counts h. gone_counts c.args.self.now.stand _ _ _ _ c.in-Gone.is
+
+pub returns-in-Opening-clause-counts : goal.returns-in-Opening-clause-counts
+returns-in-Opening-clause-counts g c = λ x made recover spot l sh counts h.
+    let t = c.args.self.now in
+    opening_stays t.stand _ t.side.read_at t.side.read_at t.side.pace t.side.pace made (suc made) counts _ c.in-Opening.is refl h
+
+pub returns-in-Open-clause-counts : goal.returns-in-Open-clause-counts
+returns-in-Open-clause-counts g c = λ x made recover spot l sh counts h.
+    let t = c.args.self.now in
+    let w = c.args.self.now.side in
+    let v = c.open_lost.new.self in
+    let stood = (subst (λ z. StopShows (λ d a. SideShows (g.H.Hand.shows w.hand x) w.out w.inn w.fresh w.duty d a) recover spot z t.spare l) c.in-Open.is sh).stood in
+    lost_counts l v.stand w.station w.pace v.side.pace made w.read_at v.side.read_at counts (c.open_lost.ensures.stand ∙ c.in-Open.is) stood.0 (leb-true 1 w.pace w.paced) c.open_lost.ensures.read.0 c.open_lost.ensures.read.1
+    (counts_open t.stand w.read_at w.pace made counts c.in-Open.is h)

@@ -10,6 +10,8 @@ use Rattle.master_tour.proofs.Backs.{opening_came, opening_there, nothing_came}
 use Rattle.master_tour.specs.Passing.{StandPassing}
 use Rattle.master_tour.specs.Stands.{opening_of}
 use Rattle.master_tour.proofs.Passings.{nothing_passing}
+use Rattle.std.proofs.Common.{suc, refl}
+use Rattle.master_tour.proofs.Counting.{opening_stays}
 use Rattle.master_tour.proofs.stop.Stop.opening_back.Goals as goal
 
 pub body_of-requires : goal.body_of-requires
@@ -65,6 +67,28 @@ returns-then-seek-clause-passing g c = λ o x number recover spot lens ns sent l
 
 pub returns-else-seek-clause-passing : goal.returns-else-seek-clause-passing
 returns-else-seek-clause-passing g c = λ o x number recover spot lens ns sent l r u sh h.
+    let t = c.args.self.now in
+    let back = seen lens c.args.octets.now in
+    let ds = c.requires.frame.0 in
+    let short = subst (λ k. k ≤ t.at) (sym (parts_length 16 ds)) (c.seek.ensures.none c.if-seek.false ds c.requires.frame.1) in
+    absurd (opening_there lens c.args.octets.now (parts_of 16 ds) t.at t.under c.args.up sent back (seen_parts lens c.args.octets.now ds c.requires.frame.1) r (subst (λ z. StandUnder lens t.side.station t.at t.under t.side.carried z l sent) o u) c.if-not-self.false short)
+
+pub returns-then-not-self-clause-counts : goal.returns-then-not-self-clause-counts
+returns-then-not-self-clause-counts g c = λ o made lens sent r x recover spot l u sh counts h.
+    let t = c.args.self.now in
+    opening_stays t.stand c.args.up t.side.read_at t.side.read_at t.side.pace t.side.pace made (suc made) counts _ o refl h
+
+pub returns-then-seek-clause-counts : goal.returns-then-seek-clause-counts
+returns-then-seek-clause-counts g c = λ o made lens sent r x recover spot l u sh counts h.
+    let t = c.args.self.now in
+    let back = seen lens c.args.octets.now in
+    let ds = c.requires.frame.0 in
+    let here = stands_in ds c.seek.new.self.number c.seek.new.self.part no_part (c.seek.ensures.stands ds c.requires.frame.1) ∙ ap (λ k. get_or (parts_of 16 ds) k no_part) (c.seek.ensures.at c.if-seek.true) in
+    let cm = opening_came lens c.args.octets.now c.body_of.result.now (parts_of 16 ds) c.seek.new.self.part no_part t.at t.under c.args.up sent back (seen_parts lens c.args.octets.now ds c.requires.frame.1) r (subst (λ z. StandUnder lens t.side.station t.at t.under t.side.carried z l sent) o u) c.if-not-self.false here c.body_of.ensures in
+    c.opening_met.ensures.counts o x made recover spot back cm.came l cm.met sh counts h
+
+pub returns-else-seek-clause-counts : goal.returns-else-seek-clause-counts
+returns-else-seek-clause-counts g c = λ o made lens sent r x recover spot l u sh counts h.
     let t = c.args.self.now in
     let back = seen lens c.args.octets.now in
     let ds = c.requires.frame.0 in

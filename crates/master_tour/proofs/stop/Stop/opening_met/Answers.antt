@@ -10,6 +10,9 @@ use Rattle.master_tour.proofs.Joins.{cleared_join}
 use Rattle.std.proofs.Common.{◌≡◌, true}
 use Rattle.master_tour.specs.Passing.{StandPassing}
 use Rattle.master_tour.proofs.Passings.{opening_passing}
+use Rattle.std.proofs.Common.{suc}
+use Rattle.master_tour.specs.Counting.{StandCounts}
+use Rattle.master_tour.proofs.Counting.{opening_counts}
 use Rattle.master_tour.proofs.stop.Stop.opening_met.Goals as goal
 
 pub returns-clause-lives : goal.returns-clause-lives
@@ -43,3 +46,16 @@ returns-clause-passing g c = λ o x frame recover spot news back came l met sh h
     (λ e. (ap (λ z. z.passing) (c.renew_where.ensures.still e), λ t. subst (λ z. g.H.Hand.awaits z.hand ≡ true) (sym (c.renew_where.ensures.still e)) t))
     (λ e. c.renew_where.ensures.passing e)
     (subst (λ z. StandPassing z (g.H.Hand.awaits w.hand) w.passing l) o h)
+
+pub returns-clause-counts : goal.returns-clause-counts
+returns-clause-counts g c = λ o x made recover spot back came l met sh counts h.
+    let k = c.renew_where.ensures.kept in
+    let w = c.args.self.now.side in
+    let y = c.renew_where.new.self.side in
+    opening_counts (λ d a. SideShows (g.H.Hand.shows w.hand x) w.out w.inn w.fresh w.duty d a) made recover spot c.args.self.now.spare c.args.up c.came_back-is_up.new.up l
+    came c.args.counter c.args.body.now c.came_back-is_up.result c.clears-is_cleared.result w.read_at y.read_at y.pace (suc made) c.renew_where.new.self.stand c.came_back-is_up.ensures.goes_on c.came_back-is_up.ensures.shown c.clears-is_cleared.ensures
+    (k.0 ∙ c.stand_behind-self.ensures) met
+    (subst (λ z. StopShows (λ d a. SideShows (g.H.Hand.shows w.hand x) w.out w.inn w.fresh w.duty d a) recover spot z c.args.self.now.spare l) o sh)
+    (λ e. ap (λ z. z.read_at) (c.renew_where.ensures.still e))
+    (λ e. c.renew_where.ensures.read e)
+    (subst (λ z. StandCounts z w.read_at w.pace made counts) o h) w.station w.pace made back counts

@@ -37,3 +37,9 @@ returns-clause-room g c =
 
 pub returns-clause-recalled : goal.returns-clause-recalled
 returns-clause-recalled g c = steps_set _ c.args.place c.args.self.now.stops.items c.index_mut.result.now c.ahead.new.self c.requires.inside c.index_mut.ensures.value c.ahead.ensures.recalled
+
+pub returns-clause-read : goal.returns-clause-read
+returns-clause-read g c = steps_set _ c.args.place c.args.self.now.stops.items c.index_mut.result.now c.ahead.new.self c.requires.inside c.index_mut.ensures.value (c.ahead.ensures.read, c.ahead.ensures.awaits)
+
+pub returns-clause-still : goal.returns-clause-still
+returns-clause-still g c = steps_set _ c.args.place c.args.self.now.stops.items c.index_mut.result.now c.ahead.new.self c.requires.inside c.index_mut.ensures.value c.ahead.ensures.still

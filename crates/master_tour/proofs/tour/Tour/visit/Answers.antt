@@ -30,6 +30,8 @@ use Rattle.life_frames.specs.of_life_model.Lives.{life_next}
 use Rattle.master_tour.specs.Stands.{Counts}
 use Rattle.master_tour.specs.Passing.{StandPassing}
 use Rattle.master_tour.specs.declared.stop.Stand.{Stand}
+use Rattle.master_tour.specs.Counting.{ReadStays}
+use Rattle.master_tour.specs.Frees.{stop_begins}
 use Rattle.master_tour.proofs.tour.Tour.visit.Goals as goal
 
 pub returns-clause-lives : goal.returns-clause-lives
@@ -120,3 +122,13 @@ pub returns-clause-begins : goal.returns-clause-begins
 returns-clause-begins g c =
     subst (λ z. StepsAt (λ s t. BeginsAll s.stand c.visit-began.result (g.H.Hand.knows s.side.hand) s.side.duty s.side.passing g.H.Hand.acknowledged (λ x d a. SideShows (g.H.Hand.shows s.side.hand x) s.side.out s.side.inn s.side.fresh s.side.duty d a) c.args.wish (g.H.Hand.ready s.side.hand)) c.args.place c.args.self.now.stops.items z.items) (sym c.carry_where.ensures.stops)
     (steps_set (λ s t. BeginsAll s.stand c.visit-began.result (g.H.Hand.knows s.side.hand) s.side.duty s.side.passing g.H.Hand.acknowledged (λ x d a. SideShows (g.H.Hand.shows s.side.hand x) s.side.out s.side.inn s.side.fresh s.side.duty d a) c.args.wish (g.H.Hand.ready s.side.hand)) c.args.place c.args.self.now.stops.items c.index_mut.result.now c.visit-began.new.self c.requires.inside c.index_mut.ensures.value c.visit-began.ensures.begins)
+
+pub returns-clause-read : goal.returns-clause-read
+returns-clause-read g c =
+    subst (λ z. StepsAt (λ s t. ReadStays s t) c.args.place c.args.self.now.stops.items z.items) (sym c.carry_where.ensures.stops)
+    (steps_set (λ s t. ReadStays s t) c.args.place c.args.self.now.stops.items c.index_mut.result.now c.visit-began.new.self c.requires.inside c.index_mut.ensures.value c.visit-began.ensures.read)
+
+pub returns-clause-did : goal.returns-clause-did
+returns-clause-did g c =
+    subst (λ z. StepsAt (λ s t. c.visit-began.result ≡ stop_begins s c.args.wish) c.args.place c.args.self.now.stops.items z.items) (sym c.carry_where.ensures.stops)
+    (steps_set (λ s t. c.visit-began.result ≡ stop_begins s c.args.wish) c.args.place c.args.self.now.stops.items c.index_mut.result.now c.visit-began.new.self c.requires.inside c.index_mut.ensures.value c.visit-began.ensures.did)
