@@ -1,1 +1,2 @@
 mod Uncut
+mod Recalled

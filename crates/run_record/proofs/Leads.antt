@@ -5,6 +5,7 @@ use Rattle.std.proofs.lemmas.Bool.{lt-ltb, le-ltb}
 use Rattle.std.proofs.lemmas.List.{map-append}
 use Rattle.datagrams.specs.Datagram as Raw
 use Rattle.eoe_switch.specs.Switch.{switched}
+use Rattle.eoe_switch.specs.declared.switching.SwitchEvent.{SwitchEvent}
 use Rattle.master_node.specs.of_frame_view.View.{Lens}
 use Rattle.master_node.specs.of_frame_view.Seen.{seen}
 use Rattle.master_node.specs.of_life_frames.Shares.{AllBoth, Lived, came_at, given_where}
@@ -22,10 +23,14 @@ use Rattle.master_node.specs.Arrivals.{completed_at, ComeIn}
 use Rattle.master_node.specs.Begins.{PacketsBegin}
 use Rattle.master_node.specs.Brought.{HasBrought}
 use Rattle.master_node.specs.Downs.{GoDown}
+use Rattle.master_node.specs.Eager.{AllTakeUp, AllVisit, recalls}
 use Rattle.master_node.specs.Happened.{events_of}
 use Rattle.master_node.specs.Joined.{HasUnfinished, JoinsKept, stand_before, stand_under, unfinished_after}
 use Rattle.master_node.specs.Made.{AreOfMaking}
 use Rattle.master_node.specs.Ports.{ports_behind, ports_of}
+use Rattle.master_node.specs.Recalled.{AllKnow, AllRecall}
+use Rattle.master_node.specs.Resting.{AllRest}
+use Rattle.master_node.specs.Starts.{AllBegin, AllUnvisited}
 use Rattle.master_node.specs.Shows.{MasterShows, MasterUnder, IsLead, IsUnder, is_live_lead}
 use Rattle.master_node.specs.Asks.{AllAsk}
 use Rattle.master_node.specs.Toured.{tour_of, turn_share}
@@ -43,6 +48,9 @@ use Rattle.master_node.proofs.Counts.{counted, turn_gave, back_gave, lost_gave}
 use Rattle.packets_begun.specs.Numbers.{each_with}
 use Rattle.port_events.specs.Listed.{unfinished_of}
 use Rattle.port_events.specs.of_packets_heard.Heard.{Joined, joined_in, joined_none, mails_by}
+use Rattle.port_events.proofs.Unfinished.{under_way}
+use Rattle.recalled_runs.specs.Recalled.{State, AllSettled, AllStill, AtSwitch, IsLanOf, IsRecalledFrame, RecalledIn, has_entered}
+use Rattle.recalled_runs.proofs.Steps.{at_switch, before_is, made_is, still_of}
 use Rattle.run_book.specs.declared.book.Book.{Book}
 use Rattle.run_book.specs.declared.book.SentFrame.{SentFrame}
 use Rattle.master_node.specs.of_segment_model.Returned.{Returns}
@@ -62,6 +70,8 @@ use Rattle.run_record.specs.Forwarded.{IsForwarded, Forwards, ForwardsFirst}
 use Rattle.run_record.specs.Led.{exchanged, gaves_noted, TouredTo, Leading, AreLed}
 use Rattle.run_record.specs.Heard.{emergencies_noted, HeardBy}
 use Rattle.run_record.specs.Notes.{new_notes}
+use Rattle.run_record.specs.Recalling.{Recalls, RecallsFirst, Remembers}
+use Rattle.run_record.specs.Replay.{behind, first_ring}
 use Rattle.run_record.specs.Reports.{Reports, AllReport, ReportsOn, ReportsBy, TurnsAll}
 use Rattle.run_record.specs.Unsent.{IsNumbered}
 use Rattle.run_record.proofs.Unsent.{none_begun, all_left}
@@ -123,6 +133,19 @@ first_forwards plan m notes shown first tour ports none = λ b empty bare. recor
   leading = begins plan m notes shown first tour;
   forwarded = record { ports = ports; unfinished = subst (λ z. HasUnfinished m (map stand_before (first_leads plan)) z) (sym (none_unfinished plan.services 0 plan.slaves)) none; listed = empty; begun = empty; numbered = (empty, bare) };
 }
+
+-- nor is anything remembered but of its slaves' mails
+pub first_recalls : (plan : Scenario) (m : MasterNode) (notes : List Notes) → MasterShows (lens_of plan.slaves) plan.recover plan.retry m 0 (first_leads plan) → notes ≡ first_notes plan.services 0 plan.slaves → tour_of m ≡ new_tour → m.lan.ports.items ≡ ports_behind 0 plan.slaves →
+    HasUnfinished m (map stand_before (first_leads plan)) (map (λ spec. None) plan.slaves) → AllKnow (recalls m) → RecallsFirst plan m notes
+unfolding begins, first_forwards
+first_recalls plan m notes shown first tour ports none known = λ b empty bare.
+    let state : State = record { recalls = recalls m; events = b.switch; ring = first_ring plan } in
+    let both : (toured : TouredTo plan [] (tour_of m) (first_leads plan)) × RecalledIn plan toured state =
+    subst (λ (t : Tour). (toured : TouredTo plan [] t (first_leads plan)) × RecalledIn plan toured state) (sym tour) (IsToured.start, record { known = known; events = empty; ring = refl }) in
+    record {
+      forwards = first_forwards plan m notes shown first tour ports none b empty bare;
+      remembers = record { toured = both.0; state = state; recalled = both.1; recalls_is = refl; events_is = refl; ring_is = refl };
+    }
 
 -- GIVE-UPS over a frame
 abbrev turned_gave : Turn → List ℕ
@@ -188,11 +211,16 @@ module _ (lens : ℕ → Lens) (recover retry : ℕ) (gives : Bool) (made : ℕ)
   all_lose after [] h = tt
   all_lose after (u ∷ us) h = (loses_so lens recover retry gives made f u h.0 after, all_lose after us h.1)
 
+-- where some slave is live there is a next frame
+pub next_frame : {m : MasterNode} (result : Next) → (result ≡ nexts.Idle) ↔ (has_live m ≡ false) → has_live m ≡ true → result ≡ nexts.Frame
+next_frame nexts.Frame idle live = refl
+next_frame nexts.Idle idle live = absurd (let none = idle.0 refl in let bad : true ≡ false = sym live ∙ none in cc)
+
 -- ONE FRAME: what the master says of it before, and of its return or loss
 module _ (m0 m1 m2 : MasterNode) (f : Exchanged) (result : Next)
     (idle : (result ≡ nexts.Idle) ↔ (has_live m0 ≡ false))
     (led : result ≡ nexts.Frame → (lens : ℕ → Lens) (recover retry missed number : ℕ) (as' : List Leads) → MasterShows lens recover retry m0 missed as' →
-    (us : List Turn) × IsLedFrame lens number f.sent as' us × MasterUnder lens recover retry m1 f.sent missed us × PacketsBegin m0.lan.switch us m1.lan)
+    (us : List Turn) × IsLedFrame lens number f.sent as' us × MasterUnder lens recover retry m1 f.sent missed us × PacketsBegin m0.lan.switch us m1.lan × AllBegin lens m1.lan 0 (recalls m1) as' us × AllUnvisited us)
     (visits : result ≡ nexts.Frame → (lens : ℕ → Lens) (recover retry missed : ℕ) (as' : List Leads) (us : List Turn) → MasterShows lens recover retry m0 missed as' → MasterUnder lens recover retry m1 f.sent missed us →
     (tour_of m1 ≡ tour_of m0) × IsOfTour (λ u. turn_share u) (λ k. holds_at is_live_lead as' k) (frame_size f.sent) (λ k. area_at lens as' k) (tour_of m0) us (length (seen lens f.sent)) m1.tour.visit.items)
     (asks : result ≡ nexts.Frame → (lens : ℕ → Lens) (recover retry missed : ℕ) (us : List Turn) → MasterUnder lens recover retry m1 f.sent missed us → AllAsk (seen lens f.sent) us) where
@@ -205,7 +233,7 @@ module _ (m0 m1 m2 : MasterNode) (f : Exchanged) (result : Next)
     abbrev lens : ℕ → Lens
     lens = lens_of plan.slaves
 
-    made : (us : List Turn) × IsLedFrame lens (length fs) f.sent l.leads us × MasterUnder lens plan.recover plan.retry m1 f.sent l.missed us × PacketsBegin m0.lan.switch us m1.lan
+    made : (us : List Turn) × IsLedFrame lens (length fs) f.sent l.leads us × MasterUnder lens plan.recover plan.retry m1 f.sent l.missed us × PacketsBegin m0.lan.switch us m1.lan × AllBegin lens m1.lan 0 (recalls m1) l.leads us × AllUnvisited us
     made = led (made_by result refl live) lens plan.recover plan.retry l.missed (length fs) l.leads l.shows
 
     abbrev gives : Bool
@@ -331,6 +359,68 @@ module _ (m0 m1 m2 : MasterNode) (f : Exchanged) (result : Next)
               (λ pass h. arrivals pass made.0 (joined_in l.lives) made.1 made.2 h) (λ after lost. downs after lost made.0 made.2) b.switch b'.switch grown b.switched b'.switched
               (counted ∙ ap (λ (n : ℕ). b.switched ++ (each_with n (events_of m1.lan.happened) ++ each_with (suc n) (events_of m2.lan.happened))) (sym counts)) w made.3 stood stands;
         }
+
+        -- and what it remembers
+        module _ (ring ring' : RingState (Node SlaveServer)) (old : Remembers plan m0 ring b.switch fs l.leads) (next_ring : ring' ≡ behind ring f.sent)
+            (all_visit : result ≡ nexts.Frame → (lens : ℕ → Lens) (recover retry missed : ℕ) (as' : List Leads) (us : List Turn) → MasterShows lens recover retry m0 missed as' → MasterUnder lens recover retry m1 f.sent missed us → AllVisit (seen lens f.sent) (recalls m1) us)
+            (all_take : result ≡ nexts.Frame → (lens : ℕ → Lens) (recover retry missed : ℕ) (as' : List Leads) (us : List Turn) → MasterShows lens recover retry m0 missed as' → MasterUnder lens recover retry m1 f.sent missed us → AllTakeUp lens (recalls m1) us)
+            (stays : result ≡ nexts.Frame → (lens : ℕ → Lens) (recover retry missed : ℕ) (as' : List Leads) → MasterShows lens recover retry m0 missed as' → recalls m1 ≡ recalls m0)
+            (returned : f.fate ≡ Fates.Pass → (us : List Turn) → IsLedFrame lens (length fs) f.sent l.leads us → MasterUnder lens plan.recover plan.retry m1 f.sent l.missed us → AllVisit (seen lens f.sent) (recalls m1) us → AllRecall lens (seen lens f.back) us (recalls m1) (recalls m2))
+            (lost : (after : ℕ) → f.fate ≡ Fates.Lost after → (us : List Turn) → MasterUnder lens plan.recover plan.retry m1 f.sent l.missed us → AllRecall lens [] us (recalls m1) (recalls m2))
+            (rests : AllRest lens m0.lan 0 (recalls m0) l.leads → AllSettled l.leads ring.nodes → has_entered (events_of m1.lan.happened) ≡ true) where
+          same_recalls : recalls m1 ≡ old.state.recalls
+          same_recalls = stays (made_by result refl live) lens plan.recover plan.retry l.missed l.leads l.shows ∙ sym old.recalls_is
+
+          visits_all : AllVisit (seen lens f.sent) (recalls m1) made.0
+          visits_all = all_visit (made_by result refl live) lens plan.recover plan.retry l.missed l.leads made.0 l.shows made.2
+
+          next_state : State
+          next_state = record { recalls = recalls m2; events = b'.switch; ring = ring' }
+
+          half : HasUnfinished m1 (map stand_under made.0) (unfinished_of (joined_in l.lives))
+          half = under_way lens (length fs) made.1.datagrams l.leads made.0 m0 m1 (unfinished_of (joined_in l.lives)) made.1.each joins w.unfinished
+
+          at_events : (es : List SwitchEvent) → es ≡ b.switch → AtSwitch plan f made.0 es b'.switch
+          at_events es e =
+              subst (λ z. AtSwitch plan f made.0 z b'.switch) (sym e)
+              (at_switch plan m0 m1 m2 f made.0 (unfinished_of (joined_in l.lives)) b.switch b'.switch w.ports making stood stands made.3 (λ pass. arrivals pass made.0 (joined_in l.lives) made.1 made.2 half) grown)
+
+          recalled_frame : IsRecalledFrame plan l.leads f made.0 old.state next_state
+          recalled_frame = record {
+            visits = subst (λ ms. AllVisit (seen lens f.sent) ms made.0) same_recalls visits_all;
+            takes = subst (λ ms. AllTakeUp lens ms made.0) same_recalls (all_take (made_by result refl live) lens plan.recover plan.retry l.missed l.leads made.0 l.shows made.2);
+            unvisited = made.5;
+            still = subst (λ ms. AllStill ms l.leads) (sym old.recalls_is) (still_of lens plan.recover plan.retry l.missed m0 l.leads l.shows);
+            events = at_events old.state.events old.events_is;
+            made = m1.lan;
+            made_is = subst (λ z. IsLanOf plan m1.lan (z ++ events_of m1.lan.happened)) (sym old.events_is) (made_is plan m0 m1 m2 f made.0 (unfinished_of (joined_in l.lives)) b.switch b'.switch w.ports making stood stands);
+            begins = subst (λ ms. AllBegin lens m1.lan 0 ms l.leads made.0) same_recalls made.4;
+            before = m0.lan;
+            before_is = subst (λ z. IsLanOf plan m0.lan z) (sym old.events_is) (before_is plan m0 m1 m2 f made.0 (unfinished_of (joined_in l.lives)) b.switch b'.switch w.ports making stood stands);
+            rests = λ all settled.
+                rests (subst (λ ms. AllRest lens m0.lan 0 ms l.leads) old.recalls_is all) (subst (λ (z : RingState (Node SlaveServer)). AllSettled l.leads z.nodes) old.ring_is settled);
+            returned = λ pass. subst (λ ms. AllRecall lens (seen lens f.back) made.0 ms (recalls m2)) same_recalls (returned pass made.0 made.1 made.2 visits_all);
+            lost = λ after e. subst (λ ms. AllRecall lens [] made.0 ms (recalls m2)) same_recalls (lost after e made.0 made.2);
+            ring = next_ring ∙ ap (λ (z : RingState (Node SlaveServer)). behind z f.sent) (sym old.ring_is);
+          }
+
+          abbrev On : Tour → List Leads → Type 0
+          On t as' = (toured : TouredTo plan (fs ++ f ∷ []) t as') × RecalledIn plan toured next_state
+
+          remembered_first : On (tour m0.tour.missed (tour_of m0)) (lives_behind lens plan.recover plan.retry m0.tour.missed (length fs) f made.0)
+          remembered_first = (IsToured.on fs (tour_of m0) l.leads f made.0 m1.tour.visit.items old.toured made.1 (record { visits = visited.1; asks = asked }), old.state, recalled_frame, old.recalled)
+
+          remembered_on : On (tour_of m2) (leads made.0)
+          remembered_on =
+              subst (λ (t : Tour). On t (leads made.0)) (sym (goes (length fs) made.0 made.1 made.2 ∙ ap (tour l.missed) visited.0))
+              (subst (λ (n : ℕ). On (tour n (tour_of m0)) (lives_behind lens plan.recover plan.retry n (length fs) f made.0)) l.shows.missed_is remembered_first)
+
+          pub recalls_on : Recalls plan m2 r'.notes (fs ++ f ∷ []) b' ring'
+          unfolding forwards_on
+          recalls_on = record {
+            forwards = forwards_on;
+            remembers = record { toured = remembered_on.0; state = next_state; recalled = remembered_on.1; recalls_is = refl; events_is = refl; ring_is = refl };
+          }
 
 -- what the ring gave back of a frame of the master's is its return
 pub returned : (lens : ℕ → Lens) (ring : RingState (Node SlaveServer)) (f : Exchanged) (number : ℕ) (as' : List Leads) (us : List Turn) → f.fate ≡ fate_at ring.lose ring.number → f.back ≡ ring_returned node_passed ring f.sent → IsLedFrame lens number f.sent as' us → f.fate ≡ Fates.Pass →

@@ -27,3 +27,4 @@ pub mod Reports
 pub mod Reporting
 pub mod Switched
 pub mod Numbered
+pub mod Recalling

@@ -20,6 +20,8 @@ use Rattle.mailbox_mail.specs.declared.mail.Mail.{Mail}
 use Rattle.run_record.specs.declared.standing.AskedMail.{AskedMail}
 use Rattle.run_record.specs.declared.standing.Log.{Log}
 use Rattle.run_record.specs.Notes.{new_notes, ended}
+use Rattle.master_node.specs.Eager.{recalls}
+use Rattle.master_node.specs.Resting.{AllRest}
 use Rattle.master_node.specs.declared.node.MasterNode.{MasterNode}
 use Rattle.master_node.specs.Shows.{MasterShows}
 use Rattle.master_node.specs.Wants.{gave_of, AllCounted, AllPlaced, AllLeft}
@@ -31,6 +33,7 @@ use Rattle.segment_ring.specs.declared.wire.Fate.TheVariants.{Pass, Lost}
 use Rattle.run_record.specs.Led.{exchanged, gaves_noted, Leading, AreLed}
 use Rattle.run_record.specs.Replay.{first_ring, behind, IsRecorded}
 use Rattle.run_record.specs.Forwarded.{Forwards}
+use Rattle.run_record.specs.Recalling.{Recalls}
 use Rattle.run_record.specs.Switched.{IsSwitched}
 
 -- a session: the ring with its slaves, what became of each slave, their stations and the lengths of their mailboxes, the mails that are
@@ -190,6 +193,16 @@ abbrev pub ForwardsOn : SessionState → Book → SessionState → Book → Sent
 ForwardsOn s b s' b' f = (plan : Scenario) (fs : List Exchanged) (host : List (ArrayVec ℕ)) → s.recover ≡ plan.recover → s.ports ≡ ports_of plan.slaves → length fs ≡ s.ring.number → has_live s.master ≡ true → IsSwitched s.ports host s.ring.number s.master.lan b →
     Forwards plan s.master s.notes fs b → Forwards plan s'.master s'.notes (fs ++ exchanged f ∷ []) b'
 
+-- NOT ALL IS DONE: where the master wants nothing of any slave, and no packet of the host is left, some live slave isn't at rest
+abbrev pub StillWants : SessionState → Type 0
+StillWants s = (lens : ℕ → Lens) (recover retry missed : ℕ) (leads : List Leads) → MasterShows lens recover retry s.master missed leads → AllRest lens s.master.lan 0 (recalls s.master) leads → nat_lt s.master.lan.entered (length s.master.lan.host) ≡ false →
+    are_at_rest (session_rows s) ≡ true → ⊥
+
+-- AND IT MAKES NO VISIT IN VAIN, by what it remembers, if not all was done before
+abbrev pub RecallsOn : SessionState → Book → SessionState → Book → SentFrame → Type 0
+RecallsOn s b s' b' f = (plan : Scenario) (fs : List Exchanged) (host : List (ArrayVec ℕ)) → s.recover ≡ plan.recover → s.ports ≡ ports_of plan.slaves → length fs ≡ s.ring.number → has_live s.master ≡ true → StillWants s → IsSwitched s.ports host s.ring.number s.master.lan b →
+    Recalls plan s.master s.notes fs b s.ring → Recalls plan s'.master s'.notes (fs ++ exchanged f ∷ []) b' s'.ring
+
 -- ONE STEP: one frame more stands in the book, as the ring before gives it, and the ring is the one behind that frame
 pub record Steps (s : SessionState) (b : Book) (s' : SessionState) (b' : Book) (f : SentFrame) : Type 0 where
   pub put : b'.frames ≡ b.frames ++ f ∷ []
@@ -205,6 +218,7 @@ pub record Steps (s : SessionState) (b : Book) (s' : SessionState) (b' : Book) (
   pub rest : KeepsRest s.ports b b'
   pub switch : SwitchesOn s b s' b'
   pub forwards : ForwardsOn s b s' b' f
+  pub recalls : RecallsOn s b s' b' f
 
 -- a mail as it is passed on, with the key of its asker
 abbrev pub asked_mail : ℕ → Mail → AskedMail

@@ -100,5 +100,6 @@ module _ (plan : Scenario) (fs : List Exchanged) (place : ℕ) (s : SlaveSpec) (
         free = frees d.spent d.left;
         end = d.end;
         settled = k.settled;
+        offered = ap (λ z. z.inn.offered) (sym d.spent.shows.node) ∙ d.spent.spent.offered;
         control = d.control;
       }

@@ -6,7 +6,7 @@ use Rattle.slave_server.specs.Spec.{node_of}
 use Rattle.slave_server.specs.declared.server.SlaveServer.{SlaveServer}
 use Rattle.run_record.specs.Session.{home_of}
 use Rattle.run_record.proofs.Firsts.{length_first}
-use Rattle.run_record.proofs.Leads.{first_forwards}
+use Rattle.run_record.proofs.Leads.{first_forwards, first_recalls}
 use Rattle.run_record.proofs.session.Session.begin.Goals as goal
 
 pub invariant_of-result : goal.invariant_of-result
@@ -29,3 +29,7 @@ returns-clause-forwards c = first_forwards c.args.plan.now _ _ c.in_ok-new.ensur
 
 pub returns-clause-switch : goal.returns-clause-switch
 returns-clause-switch c = c.in_ok-new.ensures.begins
+
+pub returns-clause-recalls : goal.returns-clause-recalls
+returns-clause-recalls c =
+    first_recalls c.args.plan.now _ _ c.in_ok-new.ensures.leads c.in_ok-new-2.ensures.notes c.in_ok-new.ensures.tour c.in_ok-new.ensures.ports c.in_ok-new.ensures.joined c.in_ok-new.ensures.knows

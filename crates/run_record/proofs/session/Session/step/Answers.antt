@@ -9,9 +9,13 @@ use Rattle.master_node.specs.Happened.{events_of}
 use Rattle.master_node.specs.of_life_runs.First.{lens_of}
 use Rattle.run_record.specs.Led.{exchanged, Leading}
 use Rattle.run_record.specs.Forwarded.{Forwards}
-use Rattle.run_record.proofs.Leads.{forwards_on, led_on, returned}
+use Rattle.run_record.proofs.Leads.{forwards_on, led_on, next_frame, recalls_on, returned}
+use Rattle.run_record.proofs.Recalling.{rests_enter}
+use Rattle.run_record.specs.Recalling.{Recalls}
+use Rattle.master_node.specs.Wants.{AllCounted}
+use Rattle.master_node.proofs.Counts.{counted}
 use Rattle.run_record.specs.Replay.{behind, IsRecorded}
-use Rattle.run_record.specs.Session.{SessionState, SameFrames, KeepsRest, has_live}
+use Rattle.run_record.specs.Session.{SessionState, SameFrames, KeepsRest, StillWants, has_live}
 use Rattle.run_record.proofs.Kept.{rest_more}
 use Rattle.run_record.specs.Switched.{IsSwitched, NotesSwitch}
 use Rattle.run_record.proofs.Numbered.{numbers_grown}
@@ -86,7 +90,7 @@ returns-clause-ok c =
             let now : IsSwitched ports host c.self.inside.number c.self.inside.master.lan c.args.book.now =
             subst (λ (n : ℕ). IsSwitched ports host n c.self.inside.master.lan c.args.book.now) (sym number) (subst (λ (s : SessionState). IsSwitched s.ports host s.ring.number s.master.lan c.args.book.now) (sym c.self.view_is) x) in
             let all : ports ≡ ports_of plan.slaves = before ∙ many in
-            forwards_on c.self.inside.master c.next.new.self c.tell.new.master (exchanged f) c.next.result c.next.ensures.idle c.next.ensures.begun c.next.ensures.toured c.next.ensures.asks plan fs live c.self.inside.log.notes l
+            forwards_on c.self.inside.master c.next.new.self c.tell.new.master (exchanged f) c.next.result c.next.ensures.idle c.next.ensures.begins c.next.ensures.toured c.next.ensures.asks plan fs live c.self.inside.log.notes l
             (λ number us frame under. c.tell.ensures.leads (lens_of plan.slaves) plan.recover plan.retry l.missed number us (exchanged f) refl refl under
             (λ pass. returned (lens_of plan.slaves) c.self.inside.ring (exchanged f) number l.leads us c.exchange-fate.ensures.fate c.exchange-fate.ensures.back frame pass))
             (λ number us frame under. c.tell.ensures.toured (lens_of plan.slaves) plan.recover plan.retry l.missed number us (exchanged f) refl refl under
@@ -114,6 +118,51 @@ returns-clause-ok c =
             (subst (λ (n : ℕ). (switched n c.args.book.now.switch).switch ≡ c.self.inside.master.lan.switch) all (switch_stood ports host c.self.inside.number c.self.inside.master.lan c.args.book.now now))
             (subst (λ (n : ℕ). (switched n (c.args.book.now.switch ++ events_of c.next.new.self.lan.happened)).switch ≡ c.next.new.self.lan.switch) all
             (switch_stands ports host c.self.inside.number c.self.inside.master.lan c.next.new.self.lan c.args.book.now c.next.ensures.happened now));
+        recalls = λ plan fs host recover many counts live wants x z.
+            let live : has_live c.self.inside.master ≡ true = ap (λ (s : SessionState). has_live s.master) c.self.view_is ∙ live in
+            let view : Recalls plan c.self.inside.master c.self.inside.log.notes fs c.args.book.now c.self.inside.ring = subst (λ (s : SessionState). Recalls plan s.master s.notes fs c.args.book.now s.ring) (sym c.self.view_is) z in
+            let mine = view.forwards in
+            let number = c.self.invariant.0 in
+            let l : Leading plan c.self.inside.master c.self.inside.log.notes fs = mine.leading in
+            let now : IsSwitched ports host c.self.inside.number c.self.inside.master.lan c.args.book.now =
+            subst (λ (n : ℕ). IsSwitched ports host n c.self.inside.master.lan c.args.book.now) (sym number) (subst (λ (s : SessionState). IsSwitched s.ports host s.ring.number s.master.lan c.args.book.now) (sym c.self.view_is) x) in
+            let all : ports ≡ ports_of plan.slaves = before ∙ many in
+            let stood = subst (λ (n : ℕ). (switched n c.args.book.now.switch).switch ≡ c.self.inside.master.lan.switch) all (switch_stood ports host c.self.inside.number c.self.inside.master.lan c.args.book.now now) in
+            recalls_on c.self.inside.master c.next.new.self c.tell.new.master (exchanged f) c.next.result c.next.ensures.idle c.next.ensures.begins c.next.ensures.toured c.next.ensures.asks plan fs live c.self.inside.log.notes l
+            (λ number us frame under. c.tell.ensures.leads (lens_of plan.slaves) plan.recover plan.retry l.missed number us (exchanged f) refl refl under
+            (λ pass. returned (lens_of plan.slaves) c.self.inside.ring (exchanged f) number l.leads us c.exchange-fate.ensures.fate c.exchange-fate.ensures.back frame pass))
+            (λ number us frame under. c.tell.ensures.toured (lens_of plan.slaves) plan.recover plan.retry l.missed number us (exchanged f) refl refl under
+            (λ pass. returned (lens_of plan.slaves) c.self.inside.ring (exchanged f) number l.leads us c.exchange-fate.ensures.fate c.exchange-fate.ensures.back frame pass))
+            c.self.inside.number (counts ∙ sym (ap (λ (s : SessionState). s.ring.number) c.self.view_is) ∙ sym number) c.note_before.new.self c.note_behind.new.self
+            (c.note_before.ensures.slaves.recover ∙ ap (λ (s : SessionState). s.recover) c.self.view_is ∙ recover) c.in_ok-note_before.ensures.gave both.0
+            c.in_ok-note_before.ensures.told both.1.0
+            (λ pass us frame under. c.tell.ensures.brought pass (lens_of plan.slaves) plan.recover plan.retry l.missed c.next.new.into.items us under
+            (returned (lens_of plan.slaves) c.self.inside.ring (exchanged f) (length fs) l.leads us c.exchange-fate.ensures.fate c.exchange-fate.ensures.back frame pass))
+            c.in_ok-note_before.ensures.heard both.1.1.0
+            c.args.book.now c.note_behind.new.book c.next.ensures.joins c.next.ensures.made
+            (λ pass us frame. returned (lens_of plan.slaves) c.self.inside.ring (exchanged f) (length fs) l.leads us c.exchange-fate.ensures.fate c.exchange-fate.ensures.back frame pass)
+            (λ us js frame under h. c.tell.ensures.joined (lens_of plan.slaves) plan.recover plan.retry l.missed (length fs) us js (exchanged f) refl refl under
+            (λ pass. returned (lens_of plan.slaves) c.self.inside.ring (exchanged f) (length fs) l.leads us c.exchange-fate.ensures.fate c.exchange-fate.ensures.back frame pass) h)
+            (λ pass us js frame under h. c.tell.ensures.arrivals pass (lens_of plan.slaves) plan.recover plan.retry l.missed c.next.new.into.items us js under
+            (returned (lens_of plan.slaves) c.self.inside.ring (exchanged f) (length fs) l.leads us c.exchange-fate.ensures.fate c.exchange-fate.ensures.back frame pass) h)
+            (λ after lost us under. c.tell.ensures.downs after lost (lens_of plan.slaves) plan.recover plan.retry l.missed (length fs) us (exchanged f) refl under)
+            (switch_grown ports host c.self.inside.number c.self.inside.master.lan c.next.new.self.lan c.tell.new.master.lan c.args.book.now c.note_before.new.book c.put_frame.new.book c.note_behind.new.book
+            c.next.ensures.happened c.in_ok-note_before.ensures.switch c.put_frame.ensures.switch c.tell.ensures.happened
+            (subst (λ (n : ℕ). NotesSwitch n (c.self.inside.number + 1) c.tell.new.master.lan.happened c.put_frame.new.book c.note_behind.new.book) same both.1.1.1) now)
+            (numbers_grown ports host c.self.inside.number c.self.inside.master.lan c.next.new.self.lan c.tell.new.master.lan c.args.book.now c.note_before.new.book c.put_frame.new.book c.note_behind.new.book
+            c.next.ensures.happened c.in_ok-note_before.ensures.switch c.put_frame.ensures.switch c.tell.ensures.happened
+            (subst (λ (n : ℕ). NotesSwitch n (c.self.inside.number + 1) c.tell.new.master.lan.happened c.put_frame.new.book c.note_behind.new.book) same both.1.1.1) now)
+            mine.forwarded
+            (subst (λ (n : ℕ). (switched n c.args.book.now.switch).switch ≡ c.self.inside.master.lan.switch) all (switch_stood ports host c.self.inside.number c.self.inside.master.lan c.args.book.now now))
+            (subst (λ (n : ℕ). (switched n (c.args.book.now.switch ++ events_of c.next.new.self.lan.happened)).switch ≡ c.next.new.self.lan.switch) all
+            (switch_stands ports host c.self.inside.number c.self.inside.master.lan c.next.new.self.lan c.args.book.now c.next.ensures.happened now))
+            c.self.inside.ring c.exchange-fate.new.self view.remembers c.exchange-fate.ensures.wire c.next.ensures.visits c.next.ensures.takes c.next.ensures.recalled
+            (λ pass us frame under visits. c.tell.ensures.recalls pass (lens_of plan.slaves) plan.recover plan.retry l.missed c.next.new.into.items us under
+            (returned (lens_of plan.slaves) c.self.inside.ring (exchanged f) (length fs) l.leads us c.exchange-fate.ensures.fate c.exchange-fate.ensures.back frame pass) visits)
+            (λ after lost us under. c.tell.ensures.kept after lost (lens_of plan.slaves) plan.recover plan.retry l.missed c.next.new.into.items us under)
+            (rests_enter plan c.self.inside.master c.self.inside.ring c.self.inside.log.notes c.self.inside.log.recover fs l c.args.book.now.switch c.args.book.now.switched mine.forwarded stood (subst StillWants (sym c.self.view_is) wants)
+            (subst (λ (n : ℕ). AllCounted n l.leads) (sym (ap (λ (s : SessionState). s.recover) c.self.view_is ∙ recover)) (counted (lens_of plan.slaves) plan plan.retry fs l.missed l.leads l.lives)) c.next.new.self.lan.happened
+            (λ rests may. c.next.ensures.enters (next_frame c.next.result c.next.ensures.idle live) (lens_of plan.slaves) plan.recover plan.retry l.missed l.leads l.shows rests may));
       },
     ))
     (on_ok_both _ _ c.note_behind.result c.note_behind.ensures.gave (on_ok_both _ _ c.note_behind.result c.note_behind.ensures.told (on_ok_both _ _ c.note_behind.result c.note_behind.ensures.heard c.note_behind.ensures.switch)))
@@ -133,4 +182,4 @@ returns-clause-err c =
     (λ plan fs live l.
     let live : has_live c.self.inside.master ≡ true = ap (λ (s : SessionState). has_live s.master) c.self.view_is ∙ live in
     let same : Leading plan c.self.inside.master c.self.inside.log.notes fs = subst (λ (s : SessionState). Leading plan s.master s.notes fs) (sym c.self.view_is) l in
-    led_on c.self.inside.master c.next.new.self c.tell.new.master (exchanged f) c.next.result c.next.ensures.idle c.next.ensures.begun c.next.ensures.toured c.next.ensures.asks plan fs live c.self.inside.log.notes same))
+    led_on c.self.inside.master c.next.new.self c.tell.new.master (exchanged f) c.next.result c.next.ensures.idle c.next.ensures.begins c.next.ensures.toured c.next.ensures.asks plan fs live c.self.inside.log.notes same))
