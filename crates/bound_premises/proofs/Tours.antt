@@ -15,7 +15,7 @@ use Rattle.master_node.specs.of_master_tour.Toured.{Tour, IsOfTour, goes_on}
 use Rattle.segment_ring.specs.declared.wire.Fate.{Fate}
 use Rattle.segment_ring.specs.declared.wire.Fate.TheVariants.{Pass, Lost}
 use Rattle.run_frames.specs.Led.{AreLed, unders, first_clocked, behind_lost, behind_back, still_led, waits_led, leads_behind}
-use Rattle.run_frames.specs.Orders.{is_in, opened_on, last_of}
+use Rattle.run_frames.specs.Orders.{opened_on, last_of}
 use Rattle.run_frames.specs.Runs.{Progress, nothing_sent}
 use Rattle.run_frames.specs.Answers.{AllAsk}
 use Rattle.run_frames.specs.Toured.{IsToured, AskIn}
@@ -206,7 +206,7 @@ module _ (lens : ℕ → Lens) (recover retry slowest : ℕ) (first : List Leads
                 (λ m. AskedTour (fs ++ f ∷ []) None m lives
                 (record { frames = suc p.frames; lost = p.lost; still = p.still; opened = opened_on p.opened (behind_back lens recover retry slowest p.frames f us cs); last = None; waits = all_anew cs }) (behind_back lens recover retry slowest p.frames f us cs) s)
                 (ap (λ z. missed_behind lens recover retry z t.missed) fate)
-                (let under = (omega (arith, less, b.opened)) in (IsToured.opening fs t.again t.missed as' p cs f us ps b.asked.0 l fate under visited, (asks, b.asked.1), stays.opening fs t.again t.missed as' p cs f us ps b.asked.0 l fate under visited b.frames b.led r s one b.asked.2));
+                (let under : p.opened < length cs = omega (arith, less, b.opened) in (IsToured.opening fs t.again t.missed as' p cs f us ps b.asked.0 l fate under visited, (asks, b.asked.1), stays.opening fs t.again t.missed as' p cs f us ps b.asked.0 l fate under visited b.frames b.led r s one b.asked.2));
             opened = opened_on_is (behind_back lens recover retry slowest p.frames f us cs) led;
             last = last;
             frames = more fs f p.frames b.frames;
@@ -225,7 +225,7 @@ module _ (lens : ℕ → Lens) (recover retry slowest : ℕ) (first : List Leads
                 (λ m. AskedTour (fs ++ f ∷ []) None m lives
                 (record { frames = suc p.frames; lost = p.lost; still = still_led lens recover retry slowest p f us cs; opened = p.opened; last = last_of p.last ps; waits = waits_led lens recover retry slowest p f us cs }) (behind_back lens recover retry slowest p.frames f us cs) s)
                 (ap (λ z. missed_behind lens recover retry z t.missed) fate)
-                (let past = (omega (arith, over, b.opened)) in (IsToured.round fs t.again t.missed as' p cs f us ps b.asked.0 l fate past visited, (asks, b.asked.1), stays.round fs t.again t.missed as' p cs f us ps b.asked.0 l fate past visited b.frames b.led r s one b.asked.2));
+                (let past : length cs ≤ p.opened = omega (arith, over, b.opened) in (IsToured.round fs t.again t.missed as' p cs f us ps b.asked.0 l fate past visited, (asks, b.asked.1), stays.round fs t.again t.missed as' p cs f us ps b.asked.0 l fate past visited b.frames b.led r s one b.asked.2));
             opened = b.opened ∙ sym (opened_over over);
             last = ap (λ z. last_of z ps) b.last ∙ last_round t.opened (length lives) t.last ps (omega (arith, over, long_lives));
             frames = more fs f p.frames b.frames;

@@ -1,2 +1,2 @@
-mod Uncut
 mod Recalled
+mod Uncut

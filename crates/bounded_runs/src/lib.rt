@@ -2,6 +2,7 @@
 #![tactic(auto)]
 
 ghost use Rattle.std.specs.Prelude.{◌≢◌, ◌≤◌, ℕ, List, map};
+ghost use Rattle.bounded_runs.specs.Recalled.{RecalledBook};
 ghost use Rattle.eager_runs.specs.Runs.{MailsAreDue};
 ghost use Rattle.link_mails.specs.Body.{Body};
 ghost use Rattle.master_duty.specs.Reply.{Reply};
@@ -31,10 +32,12 @@ pub fn bounded_law()
     switched_runs::switched_run_law();
 }
 
-/// SO NO RUN OF A PLAN THAT WAS READ IS CUT OFF by such a budget, whatever frames are lost: its master makes no visit in vain, by what its book has of it.
+/// SO NO RUN OF A PLAN THAT WAS READ IS CUT OFF by such a budget, whatever frames are lost, where its master makes no visit in vain by what it
+/// remembers and the slaves send no mail that isn't due.
 pub fn uncut_law()
-    ensures { (plan : Scenario) (book : Book) (ending : Ending) → IsPlan plan → IsKnown plan → HasRoom plan → MailsAreDue plan → HasFrames plan book → EndsAs plan book ending → LedBook plan book ending → bound_of plan 0 ≤ budget_of plan 0 → ending ≢ endings.BudgetSpent }
+    ensures { (plan : Scenario) (book : Book) (ending : Ending) → IsPlan plan → IsKnown plan → HasRoom plan → MailsAreDue plan → HasFrames plan book → EndsAs plan book ending → (led : LedBook plan book ending) → RecalledBook plan book led.missed led.leads → bound_of plan 0 ≤ budget_of plan 0 → ending ≢ endings.BudgetSpent }
 {
     bounded_law();
+    plan_rooms::room_law();
     eager_runs::eager_run_law();
 }

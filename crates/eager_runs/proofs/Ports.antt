@@ -39,12 +39,12 @@ empty_change (p ∷ ps) zero (suc k) e = e
 empty_change (p ∷ ps) (suc at) zero e = ap (λ (l : List Port). queue_of (slice_get l 0)) (changed_later (λ (p : Port). record p { queue = drop 1 p.queue }) p ps at (slice_get ps at)) ∙ e
 empty_change (p ∷ ps) (suc at) (suc k) e = ap (λ (l : List Port). queue_of (slice_get l (suc k))) (changed_later (λ (p : Port). record p { queue = drop 1 p.queue }) p ps at (slice_get ps at)) ∙ empty_change ps at k e
 
-other_change : (ps : List Port) (at k : ℕ) → (at == k) ≡ false → slice_get (changed (λ (p : Port). record p { queue = drop 1 p.queue }) ps at (slice_get ps at)) k ≡ slice_get ps k
+other_change : (ps : List Port) (at k : ℕ) → (at ≡ k → ⊥) → slice_get (changed (λ (p : Port). record p { queue = drop 1 p.queue }) ps at (slice_get ps at)) k ≡ slice_get ps k
 other_change [] at k e = refl
-other_change (p ∷ ps) zero zero e = absurd (cc)
+other_change (p ∷ ps) zero zero e = absurd (e refl)
 other_change (p ∷ ps) zero (suc k) e = refl
 other_change (p ∷ ps) (suc at) zero e = ap (λ (l : List Port). slice_get l 0) (changed_later (λ (p : Port). record p { queue = drop 1 p.queue }) p ps at (slice_get ps at))
-other_change (p ∷ ps) (suc at) (suc k) e = ap (λ (l : List Port). slice_get l (suc k)) (changed_later (λ (p : Port). record p { queue = drop 1 p.queue }) p ps at (slice_get ps at)) ∙ other_change ps at k e
+other_change (p ∷ ps) (suc at) (suc k) e = ap (λ (l : List Port). slice_get l (suc k)) (changed_later (λ (p : Port). record p { queue = drop 1 p.queue }) p ps at (slice_get ps at)) ∙ other_change ps at k (λ same. e (ap suc same))
 
 -- ---- only packets begin
 abbrev IsBegun : SwitchEvent → Type 0
@@ -91,21 +91,21 @@ full_behind : (p : ℕ) (s : Switched) (es : List SwitchEvent) → AllBegun es �
 full_behind p s [] a none x xs e = e
 full_behind p s (Arrive port packet ∷ es) a none x xs e = absurd a.0
 full_behind p s (Down port ∷ es) a none x xs e = absurd a.0
-full_behind p s (Begun port ∷ es) a none x xs e = go (port == p) refl
+full_behind p s (Begun port ∷ es) a none x xs e = go (port == p) refl (λ quiet same. full_behind p (switch_on s (Begun port)) es a.1 quiet x xs same)
   where
-    abbrev there : Option (ArrayVec ℕ) → List (ArrayVec ℕ)
+    there : Option (ArrayVec ℕ) → List (ArrayVec ℕ)
     there o = all_at p (record { port = Some port; packet = o } ∷ [])
 
     whole : there (slice_get (queue_at s port) 0) ++ all_at p (taken_in (switch_on s (Begun port)) es) ≡ []
     whole = ap (λ z. z ++ all_at p (taken_in (switch_on s (Begun port)) es)) (append-nil _) ∙ none
 
-    go : (b : Bool) → (port == p) ≡ b → queue_at (switch_behind s (Begun port ∷ es)) p ≡ x ∷ xs
-    go true same =
+    go : (b : Bool) → (port == p) ≡ b → (all_at p (taken_in (switch_on s (Begun port)) es) ≡ [] → queue_at (switch_on s (Begun port)) p ≡ x ∷ xs → queue_at (switch_behind s (Begun port ∷ es)) p ≡ x ∷ xs) → queue_at (switch_behind s (Begun port ∷ es)) p ≡ x ∷ xs
+    go true same on =
         let first : slice_get (queue_at s port) 0 ≡ Some x = ap (λ n. slice_get (queue_at s n) 0) (eqb-true port p same) ∙ ap (λ (q : List (ArrayVec ℕ)). slice_get q 0) e in
         some_left x (all_at p (taken_in (switch_on s (Begun port)) es))
         (sym (ap (λ o. there o ++ all_at p (taken_in (switch_on s (Begun port)) es)) first ∙ ap (λ (b : Bool). ((if b then x ∷ [] else []) ++ []) ++ all_at p (taken_in (switch_on s (Begun port)) es)) same) ∙ whole)
-    go false other =
-        full_behind p (switch_on s (Begun port)) es a.1 (rest_none (there (slice_get (queue_at s port) 0)) (all_at p (taken_in (switch_on s (Begun port)) es)) whole) x xs (ap queue_of (other_change s.ports port p other) ∙ e)
+    go false other on =
+        on (rest_none (there (slice_get (queue_at s port) 0)) (all_at p (taken_in (switch_on s (Begun port)) es)) whole) (ap queue_of (other_change s.ports port p (λ same. (let both : true ≡ false = sym (eq-eqb port p same) ∙ other in cc))) ∙ e)
 
 -- ---- the switch behind more events
 flow_append : (flow : Flow) (xs ys : List SwitchEvent) → flow_of flow (xs ++ ys) ≡ flow_of (flow_of flow xs) ys

@@ -9,10 +9,10 @@ use Rattle.master_hand.specs.Talk.{asked_of}
 use Rattle.master_node.specs.Starts.{NeverBegins}
 use Rattle.plan_ring.specs.Lives.{AllShown, IsShown}
 use Rattle.plan_ring.specs.Plan.{PlanMember}
-use Rattle.plan_rooms.specs.Rooms.{MayBegin}
 use Rattle.segment_plan.specs.declared.plan.Scenario.{Scenario}
 use Rattle.segment_plan.specs.declared.service.Service as Plan
 use Rattle.segment_plan.specs.declared.slave.SlaveSpec.{SlaveSpec}
+use Rattle.eager_runs.specs.Runs.{MayBegin}
 
 -- a slave's services, with the room of its mailbox 0
 abbrev pub MayAll : (ℕ → Lens) → Leads → Type 0

@@ -18,7 +18,6 @@ use Rattle.plan_met.specs.Met.{AllOpenAt}
 use Rattle.plan_ring.specs.Lives.{AreLived}
 use Rattle.plan_ring.specs.Round.{ring_of, ring_after, behind, AllRound}
 use Rattle.plan_ring.proofs.Lives.{front_round, one_after}
-use Rattle.plan_rooms.specs.Rooms.{MayBegin}
 use Rattle.recalled_runs.specs.Recalled.{State, AllSettled, IsFirst, IsRecalledFrame, RecalledIn, has_entered}
 use Rattle.run_frames.specs.Clocks.{Clocked}
 use Rattle.run_frames.specs.Fates.{lost_of}
@@ -27,7 +26,6 @@ use Rattle.run_frames.specs.Runs.{Progress}
 use Rattle.run_frames.specs.Toured.{IsToured}
 use Rattle.run_frames.specs.Tours.{IsVisited}
 use Rattle.segment_plan.specs.declared.plan.Scenario.{Scenario}
-use Rattle.segment_plan.specs.declared.service.Service as Plan
 use Rattle.segment_plan.specs.declared.slave.SlaveSpec.{SlaveSpec}
 use Rattle.segment_ring.specs.Ring.{RingState}
 use Rattle.segment_ring.specs.declared.wire.Fate.TheVariants.{Pass, Lost}
@@ -35,7 +33,7 @@ use Rattle.slave_server.specs.Serving.{Serving}
 use Rattle.slave_steps.specs.Node.{Node}
 use Rattle.visit_orders.specs.Toured as Visits
 use Rattle.wait_runs.specs.Eager.{AllRest, AllUnpassed, IsEagerFrame}
-use Rattle.eager_runs.specs.Runs.{MailsAreDue, remembered}
+use Rattle.eager_runs.specs.Runs.{MailsAreDue, ScriptsMay, remembered, waiting_at}
 use Rattle.eager_runs.proofs.Counts.{came_more, entered_few, lost_more, lost_one}
 use Rattle.eager_runs.proofs.Frames.{all_eager, all_known, all_quiet, all_remember, gets_none, lost_known}
 use Rattle.eager_runs.proofs.Ports.{none_before, none_more}
@@ -50,7 +48,7 @@ Slave = Clocked Body Asked Reply
 pub record Laws (plan : Scenario) : Type 0 where
   pub lived : (fs : List Exchanged) (missed : ℕ) (as' : List Leads) → IsLed (lens_of plan.slaves) plan.recover plan.retry (first_leads plan) fs missed as' → AllRound (ring_of plan) fs → AreLived plan fs as'
   pub opens : (fs : List Exchanged) (as' : List Leads) → AreLived plan fs as' → AllOpenAt plan fs 0 plan.slaves as' (ring_after (ring_of plan) fs).nodes
-  pub rooms : (place : ℕ) (s : SlaveSpec) → slice_get plan.slaves place ≡ Some s → (k : ℕ) (service : Plan.Service) → slice_get (script_for place plan.services) k ≡ Some service → MayBegin s.out_len service
+  pub rooms : ScriptsMay plan
   pub due : MailsAreDue plan
   pub apart : AreApart plan.slaves
 
@@ -113,7 +111,7 @@ module _ (plan : Scenario) (laws : Laws plan) (slowest : ℕ) where
       lived = laws.lived fs missed as' h.isled (front_round (ring_of plan) fs f went)
 
       may : AllMay (lens_of plan.slaves) as'
-      may = may_all plan laws.apart laws.rooms 0 plan.slaves lived.members as' lived.shown (λ i. refl)
+      may = may_all plan laws.apart laws.rooms 0 plan.slaves lived.members as' lived.shown (λ i. ap (slice_get plan.slaves) (let sum : 0 + i ≡ i = omega arith in sum))
 
       no_rest : AllRest (lens_of plan.slaves) plan.slaves (remembered plan r.events 0 r.recalls) as' (ring_after (ring_of plan) fs).nodes → ⊥
       no_rest rest =
@@ -125,7 +123,9 @@ module _ (plan : Scenario) (laws : Laws plan) (slowest : ℕ) where
       pub eager_frame : IsEagerFrame plan fs f (remembered plan r.events 0 r.recalls) (remembered plan s.events 0 s.recalls) as' us
       eager_frame = record {
         eager = all_eager plan (length fs) (seen lens f.sent) l.datagrams r.events (r.events ++ one.events.making) one.made one.made_is 0 r.recalls as' us l.each h.known one.still one.visits one.takes one.begins one.unvisited may
-            (λ i idle none. none_before plan f us r.events s.events one.events closed i idle none);
+            (λ i idle none.
+            let sum : 0 + i ≡ i = omega arith in
+            subst (λ j. waiting_at plan r.events j ≡ []) (sym sum) (none_before plan f us r.events s.events one.events closed i idle (subst (λ j. waiting_at plan (r.events ++ one.events.making) j ≡ []) sum none)));
         remembers = all_remember plan (length fs) (seen lens f.back) l.datagrams r.events s.events 0 r.recalls s.recalls as' us l.each one.still (one.returned fate);
         none = λ silent. gets_none plan (seen lens f.back) r.events s.events (none_more plan f us r.events s.events one.events closed (one.events.quiet fate (all_quiet (seen lens f.back) us silent))) 0 us r.recalls s.recalls (one.returned fate);
         unpassed = h.unpassed;

@@ -1,5 +1,5 @@
 -- Each port behind the host's is that of a slave.
-use Rattle.std.proofs.Common.{◌≡◌, ◌≤◌, ◌<◌, ◌⊎◌, ℕ, zero, suc, ◌+◌, Bool, true, false, Option, Some, None, List, [], ◌∷◌, refl, sym, ap, ◌∙◌, subst, arith, inl, inr}
+use Rattle.std.proofs.Common.{◌≡◌, ◌≤◌, ◌<◌, ℕ, zero, suc, ◌+◌, Bool, true, false, Some, List, [], ◌∷◌, refl, sym, ap, ◌∙◌, subst, arith, inl, inr}
 use Rattle.std.specs.Prelude.{cond, fold, slice_get}
 use Rattle.std.proofs.lemmas.Bool.{cases_order}
 use Rattle.life_runs.specs.First.{leads_from}
@@ -26,17 +26,17 @@ later s ss last port f = (suc f.0, f.1)
 
 find : (ss : List SlaveSpec) (last port : ℕ) → suc last ≤ port → port ≤ fold one_more last ss → Finds last ss port
 find [] last port low high = absurd (omega (arith, low, high))
-find (s ∷ ss) last port low high = go s.eoe refl
+find (s ∷ ss) last port low high = go (λ n less more. find ss n port less more) s.eoe refl
   where
-    go : (b : Bool) → s.eoe ≡ b → Finds last (s ∷ ss) port
-    go false e =
+    go : ((n : ℕ) → suc n ≤ port → port ≤ fold one_more n ss → Finds n ss port) → (b : Bool) → s.eoe ≡ b → Finds last (s ∷ ss) port
+    go rest false e =
         later s ss last port (subst (λ n. Finds n ss port) (sym (ap (λ z. last_where z last) e))
-        (find ss last port low (subst (λ n. port ≤ fold one_more n ss) (ap (λ z. last + cond z 1 0) e ∙ (let sum : last + 0 ≡ last = omega arith in sum)) high)))
-    go true e = elim (cases_order port (last + 1)) [
+        (rest last low (subst (λ n. port ≤ fold one_more n ss) (ap (λ z. last + cond z 1 0) e ∙ (let sum : last + 0 ≡ last = omega arith in sum)) high)))
+    go rest true e = elim (cases_order port (last + 1)) [
       | inl same ↦ (zero, ap (λ z. port_by (Some (port_where z last))) e ∙ ap (λ n. Some n) (sym same))
       | inr (inl less) ↦ absurd (omega (arith, less, low))
       | inr (inr more) ↦ later s ss last port (subst (λ n. Finds n ss port) (sym (ap (λ z. last_where z last) e))
-        (find ss (last + 1) port (omega (arith, more)) (subst (λ n. port ≤ fold one_more n ss) (ap (λ z. last + cond z 1 0) e) high)))
+        (rest (last + 1) (omega (arith, more)) (subst (λ n. port ≤ fold one_more n ss) (ap (λ z. last + cond z 1 0) e) high)))
     ]
 
 pub finds : (ss : List SlaveSpec) (port : ℕ) → 1 ≤ port → port < ports_of ss → Finds 0 ss port

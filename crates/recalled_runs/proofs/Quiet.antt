@@ -1,5 +1,5 @@
 -- Where all slaves rest no packet waits at any port.
-use Rattle.std.proofs.Common.{◌≡◌, ◌≤◌, ◌<◌, ◌⊎◌, ℕ, zero, suc, ◌+◌, Bool, true, false, Option, Some, None, List, [], ◌∷◌, refl, sym, ap, ◌∙◌, subst, arith, if◌then◌else◌, inl, inr}
+use Rattle.std.proofs.Common.{◌≡◌, ◌≤◌, ℕ, zero, suc, ◌+◌, Bool, true, false, Some, List, [], ◌∷◌, refl, sym, ap, ◌∙◌, subst, arith, if◌then◌else◌, inl, inr}
 use Rattle.std.specs.Prelude.{replicate, slice_get}
 use Rattle.std.proofs.lemmas.Bool.{cases_order}
 use Rattle.eoe_switch.specs.Switch.{Flow, queue_of, queue_at, switched, first_port, first_switch}
@@ -48,7 +48,7 @@ module _ (plan : Scenario) (leads : List Leads) (es : List SwitchEvent) (l : Lan
     where
       go : (b : Bool) → holds_at is_live_lead leads k ≡ b → queue_at l.switch port ≡ []
       go true live =
-          ap (waiting_by l.switch) (sym e) ∙ ap (λ ps. waiting_by l.switch (port_by (slice_get ps k))) (sym is.ports) ∙ live_none lens l 0 ms leads k rests live
+          ap (waiting_by l.switch) (sym e) ∙ ap (λ ps. waiting_by l.switch (port_by (slice_get ps k))) (sym is.ports) ∙ subst (λ n. forwarded l.switch l.ports.items n ≡ []) (let sum : 0 + k ≡ k = omega arith in sum) (live_none lens l 0 ms leads k rests live)
       go false gone =
           let once : downs_at port es ≡ 1 = downs k port e ∙ ap (λ (b : Bool). if b then 0 else 1) gone in
           ap (λ ps. queue_of (slice_get ps port)) ports_is ∙ shut_empty (slice_get (switched (ports_of plan.slaves) es).switch.ports port) (down_shut port start es (omega (arith, once)))

@@ -1,10 +1,10 @@
 -- A port that went down stays so, with nothing at it; and at the host's port nothing ever waits.
 use Rattle.std.proofs.Common.{◌≡◌, ◌≤◌, ℕ, zero, suc, ◌+◌, ◌==◌, Bool, true, false, Option, Some, None, List, [], ◌∷◌, refl, sym, ap, ◌∙◌, subst, arith, if◌then◌else◌}
-use Rattle.std.specs.Prelude.{◌||◌, not, slice_get, slice_set, drop, replicate}
+use Rattle.std.specs.Prelude.{◌||◌, not, slice_get, drop, replicate}
 use Rattle.std.proofs.lemmas.Bool.{eqb-true}
 use Rattle.arrayvec.specs.ArrayVec.{ArrayVec}
 use Rattle.eoe_switch.specs.Ports.{offered, taken_at, is_known_target}
-use Rattle.eoe_switch.specs.Switch.{Switched, Flow, flow_behind, flow_of, ports_behind, changed, queue_of, queue_at, route_of, learned_from}
+use Rattle.eoe_switch.specs.Switch.{Flow, flow_behind, flow_of, ports_behind, changed, queue_of, route_of, learned_from}
 use Rattle.eoe_switch.specs.declared.port.Offered.TheVariants.{Not}
 use Rattle.eoe_switch.specs.declared.port.Port.{Port}
 use Rattle.eoe_switch.specs.declared.port.Route.{Route}
@@ -85,11 +85,11 @@ pub down_shut : (p : ℕ) (flow : Flow) (es : List SwitchEvent) → 1 ≤ downs_
 down_shut p flow [] one = absurd (omega (arith, one))
 down_shut p flow (Arrive port packet ∷ es) one = down_shut p (flow_behind flow (Arrive port packet)) es (omega (arith, one))
 down_shut p flow (Begun port ∷ es) one = down_shut p (flow_behind flow (Begun port)) es (omega (arith, one))
-down_shut p flow (Down port ∷ es) one = go (port == p) refl one
+down_shut p flow (Down port ∷ es) one = go (λ more. down_shut p (flow_behind flow (Down port)) es more) (port == p) refl one
   where
-    go : (b : Bool) → (port == p) ≡ b → 1 ≤ (if b then 1 else 0) + downs_at p es → At p (flow_of flow (Down port ∷ es))
-    go true e some = shut_behind p (flow_behind flow (Down port)) es (subst (λ k. IsShut (slice_get (flow_behind flow (Down port)).switch.ports k)) (eqb-true port p e) (shuts flow.switch.ports port))
-    go false e some = down_shut p (flow_behind flow (Down port)) es (omega (arith, some))
+    go : (1 ≤ downs_at p es → At p (flow_of flow (Down port ∷ es))) → (b : Bool) → (port == p) ≡ b → 1 ≤ (if b then 1 else 0) + downs_at p es → At p (flow_of flow (Down port ∷ es))
+    go rest true e some = shut_behind p (flow_behind flow (Down port)) es (subst (λ k. IsShut (slice_get (flow_behind flow (Down port)).switch.ports k)) (eqb-true port p e) (shuts flow.switch.ports port))
+    go rest false e some = rest (omega (arith, some))
 
 -- nothing waits there
 pub shut_empty : (o : Option Port) → IsShut o → queue_of o ≡ []

@@ -1,5 +1,5 @@
 -- One frame of a master's, by what it says of that.
-use Rattle.std.proofs.Common.{◌≡◌, ℕ, zero, suc, ◌&&◌, Bool, true, false, is_some, Option, Some, None, List, [], ◌∷◌, ◌++◌, map, refl, sym, ap, ◌∙◌, subst}
+use Rattle.std.proofs.Common.{◌≡◌, ℕ, zero, suc, ◌&&◌, Bool, false, is_some, Option, Some, None, List, [], ◌∷◌, ◌++◌, map, refl, sym, ap, ◌∙◌}
 use Rattle.std.specs.Prelude.{All, slice_get}
 use Rattle.std.proofs.lemmas.List.Elements.{All-head, All-tail, All-cons, All-nil}
 use Rattle.arrayvec.specs.ArrayVec.{ArrayVec}
@@ -39,8 +39,8 @@ use Rattle.segment_ring.specs.declared.wire.Fate.TheVariants.{Pass}
 
 -- ---- what happened while a frame was made
 all_events : (rows : List Happening) → AreOfMaking rows → All IsOfMaking (events_of rows)
-all_events [] a = All-nil
-all_events (r ∷ rs) a = All-cons (All-head (λ (h : Happening). IsOfMaking h.event) r rs a) (all_events rs (All-tail (λ (h : Happening). IsOfMaking h.event) r rs a))
+all_events [] a = All-nil IsOfMaking
+all_events (r ∷ rs) a = All-cons IsOfMaking r.event (events_of rs) (All-head (λ (h : Happening). IsOfMaking h.event) r rs a) (all_events rs (All-tail (λ (h : Happening). IsOfMaking h.event) r rs a))
 
 none_completed : (back : List (Datagram Body)) (us : List Turn) (js : List (Option Unfinished)) → AllQuiet back us → (k : ℕ) → completed_at back us js k ≡ []
 none_completed back [] js q k = refl
@@ -85,19 +85,19 @@ by_duty (Some d) turn e = absurd (cc)
 
 module _ (lens : ℕ → Lens) (recover : ℕ) {G : Ghosts InHand} (a : Leads) (s : Stop InHand G) where
   hand_none : IsLead lens recover a s → a.lived.life.stand ≡ Stand.Open → a.lived.life.era.account.hand ≡ None → in_hand s.side.duty ≡ None
-  hand_none lead open none = by s.stand lead.lives.shown.stood
+  hand_none lead opened none = by s.stand lead.lives.shown.stood
     where
       shown : (o : Option Duty) → DutyShows o a.lived.life.era.account.hand → o ≡ None
       shown None e = refl
       shown (Some duty) (frame, is) = absurd (let no : Some _ ≡ None = sym is ∙ none in cc)
 
       by : (z : Stops.Stand) → StandShows (side_shows lens recover s a.lived.spot) a.lived.spot z a.lived.life → in_hand s.side.duty ≡ None
-      by (Stops.Stand.Opening up) x = absurd (let no = sym x.stand ∙ open in cc)
+      by (Stops.Stand.Opening up) x = absurd (let no = sym x.stand ∙ opened in cc)
       by Stops.Stand.Open x = shown (in_hand s.side.duty) x.1.state
-      by Stops.Stand.Gone x = absurd (let no : Stand.Gone ≡ Stand.Open = sym x ∙ open in cc)
+      by Stops.Stand.Gone x = absurd (let no : Stand.Gone ≡ Stand.Open = sym x ∙ opened in cc)
 
   still_one : IsLead lens recover a s → a.lived.life.stand ≡ Stand.Open → a.lived.life.era.account.hand ≡ None → (recall_of s).turn ≡ false
-  still_one lead open none = by_duty (in_hand s.side.duty) s.side.turn (hand_none lead open none)
+  still_one lead opened none = by_duty (in_hand s.side.duty) s.side.turn (hand_none lead opened none)
 
 all_still : (lens : ℕ → Lens) (recover : ℕ) {G : Ghosts InHand} (as' : List Leads) (ss : List (Stop InHand G)) → AllBoth (λ a s. IsLead lens recover a s) as' ss → AllStill (map (λ s. recall_of s) ss) as'
 all_still lens recover [] [] k = tt

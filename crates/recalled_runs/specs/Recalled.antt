@@ -1,5 +1,5 @@
 -- A RUN OF ONE TOUR, with what its master remembers of its slaves' visits and what happens at its switch, frame by frame.
-use Rattle.std.specs.Prelude.{◌≡◌, ◌⊎◌, ℕ, ◌==◌, Bool, true, false, Option, None, List, [], ◌∷◌, ◌++◌, map, slice_get, All, ⊤}
+use Rattle.std.specs.Prelude.{◌≡◌, ◌⊎◌, ℕ, ◌==◌, Bool, true, false, Option, None, List, [], ◌∷◌, ◌++◌, map, All, ⊤}
 use Rattle.std.specs.List.{list_any}
 use Rattle.eoe_switch.specs.Switch.{switched}
 use Rattle.eoe_switch.specs.declared.switching.SwitchEvent.{SwitchEvent}
@@ -70,6 +70,10 @@ AllStill [] [] = ⊤
 AllStill (m ∷ ms) (a ∷ as') = (a.lived.life.stand ≡ Stand.Open → a.lived.life.era.account.hand ≡ None → m.turn ≡ false) × AllStill ms as'
 AllStill _ _ = ⊥
 
+-- a step of a slave's processor
+abbrev pub stepped : Node Serving → Node Serving
+stepped = pdi_step takes next_mail rest cleared
+
 -- what happened at the switch while a frame was made, and behind its return or its loss
 pub record AtSwitch (plan : Scenario) (f : Exchanged) (us : List Turn) (old new : List SwitchEvent) : Type 0 where
   pub making : List SwitchEvent
@@ -98,7 +102,7 @@ pub record IsRecalledFrame (plan : Scenario) (as' : List Leads) (f : Exchanged) 
   pub rests : AllRest (lens_of plan.slaves) before 0 r.recalls as' → AllSettled as' r.ring.nodes → has_entered events.making ≡ true
   pub returned : f.fate ≡ Pass → AllRecall (lens_of plan.slaves) (seen (lens_of plan.slaves) f.back) us r.recalls s.recalls
   pub lost : (after : ℕ) → f.fate ≡ Lost after → AllRecall (lens_of plan.slaves) [] us r.recalls s.recalls
-  pub ring : s.ring ≡ ring_behind node_passed (pdi_step takes next_mail rest cleared) r.ring f.sent
+  pub ring : s.ring ≡ ring_behind node_passed stepped r.ring f.sent
 
 -- before the first frame the hands of all slaves know their mails, and nothing happened at the switch
 pub record IsFirst (plan : Scenario) (s : State) : Type 0 where

@@ -1,11 +1,12 @@
-use Rattle.bounded_runs.proofs.Recalled.{never_cut}
+use Rattle.bounded_runs.proofs.Recalled.{scripts_may, uncut}
 use Rattle.bounded_runs.proofs.uncut_law.Goals as goal
 
 pub returns : goal.returns
-returns c = λ plan book ending is known room due sent ends led enough.
-    never_cut plan book ending
+returns c = λ plan book ending is known room due sent ends led recalled enough.
+    uncut plan book ending sent led recalled
     (record {
-      bounded = λ l p cs run within. c.bounded_law.ensures plan book ending is known sent ends l p cs run within;
-      eager = λ fs t leads s toured recalled round rest host. c.eager_run_law.ensures plan fs t leads s is known room due toured recalled round rest host;
+      bounded = λ p cs run within. c.bounded_law.ensures plan book ending is known sent ends led p cs run within;
+      eager = λ fs t s toured steps round rest host.
+      c.eager_run_law.ensures plan fs t led.leads s is known (scripts_may plan (λ place spec at k service has. c.room_law.ensures.scripts plan room place spec at k service has)) due toured steps round rest host;
     })
-    sent led enough
+    enough

@@ -18,7 +18,7 @@ returns c = λ plan fs t leads s is known room due toured recalled went rest hos
     let laws : Laws plan = record {
       lived = λ fs missed as' led round. c.run_lives_law.ensures plan is known fs missed as' led round;
       opens = λ fs as' x. c.plan_met_law.ensures.opens plan fs as' x;
-      rooms = λ place s at k service e. c.room_law.ensures.scripts plan room place s at k service e;
+      rooms = room;
       due = due;
       apart = apart_from [] 0 plan.slaves is.stations;
     } in
@@ -32,12 +32,10 @@ returns c = λ plan fs t leads s is known room due toured recalled went rest hos
     record {
       progress = record b.progress { lost = e.lost; still = e.still; waits = e.waits };
       slaves = b.slaves;
-      run = record {
-        again = t.again;
-        toured = e.run;
-        asks = e.asks b.asked.1;
-        waits = c.wait_runs_law.ensures plan fs t.again t.missed leads (record b.progress { lost = e.lost; still = e.still; waits = e.waits }) b.slaves (remembered plan s.events 0 s.recalls) is known e.run went e.eager;
-        enters = (let few = e.few in let host_few = h.few in let lost = h.lost in omega (arith, few, host_few, lost, many));
-        round = went;
-      };
+      again = t.again;
+      toured = e.run;
+      asks = e.asks b.asked.1;
+      waits = c.wait_runs_law.ensures plan fs t.again t.missed leads (record b.progress { lost = e.lost; still = e.still; waits = e.waits }) b.slaves (remembered plan s.events 0 s.recalls) is known e.run went e.eager;
+      enters = (let few = e.few in let host_few = h.few in let lost = h.lost in omega (arith, few, host_few, lost, many));
+      round = went;
     }
