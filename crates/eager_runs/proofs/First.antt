@@ -1,5 +1,5 @@
 -- Before the first frame no mail that is passed on is in hand.
-use Rattle.std.proofs.Common.{◌≡◌, ℕ, suc, List, [], ◌∷◌, refl}
+use Rattle.std.proofs.Common.{ℕ, suc, List, [], ◌∷◌, refl}
 use Rattle.life_runs.specs.First.{leads_from}
 use Rattle.segment_plan.specs.declared.service.Service as Plan
 use Rattle.segment_plan.specs.declared.slave.SlaveSpec.{SlaveSpec}

@@ -1,35 +1,31 @@
 -- One frame of a run, as its master made it and as the count of frames has it.
-use Rattle.std.proofs.Common.{◌≡◌, ℕ, zero, suc, ◌+◌, ◌==◌, Bool, true, false, is_some, Option, Some, None, List, [], ◌∷◌, ◌++◌, refl, sym, ap, ◌∙◌, subst, arith}
-use Rattle.std.specs.Prelude.{slice_get, ⊤}
+use Rattle.std.proofs.Common.{◌≡◌, ℕ, suc, ◌+◌, true, false, is_some, None, List, [], ◌∷◌, refl, sym, ap, ◌∙◌, subst, arith}
+use Rattle.std.specs.Prelude.{slice_get}
 use Rattle.arrayvec.specs.ArrayVec.{ArrayVec}
 use Rattle.datagrams.specs.Datagram as Raw
 use Rattle.eager_slaves.specs.Eager as Eager
 use Rattle.eager_slaves.specs.Eager.{AllEager, AllGetNone, AllRemember, IsAtEnd, IsClear, IsDraining, IsEager, IsInVain, MayBegin, NoneLeft, Remembered, RemembersOn}
 use Rattle.eager_slaves.proofs.Choices.{stand_next}
 use Rattle.eoe_switch.specs.declared.switching.SwitchEvent.{SwitchEvent}
-use Rattle.exchange_model.specs.Exchange.{Speech}
-use Rattle.exchange_model.specs.Rows.{Row, left}
-use Rattle.frame_view.specs.Seen.{seen}
 use Rattle.frame_view.specs.View.{Lens}
 use Rattle.idle_slaves.specs.Visited.{life_visit, memory_of}
-use Rattle.idle_slaves.specs.Waiting.{Memory, memory_behind}
+use Rattle.idle_slaves.specs.Waiting.{memory_behind}
 use Rattle.life_model.specs.Lives.{Life, Spot, Stand}
 use Rattle.life_model.specs.Own.{own}
 use Rattle.life_runs.specs.First.{lens_of}
-use Rattle.life_runs.specs.Led.{Exchanged, Leads, Turn, IsTurn, AllTurn, speech_at, is_passed}
+use Rattle.life_runs.specs.Led.{Leads, Turn, IsTurn, AllTurn, speech_at, is_passed}
 use Rattle.link_mails.specs.Body.{Body}
 use Rattle.link_model.specs.Frames.{all_accepted}
 use Rattle.master_duty.specs.Reply.{Reply}
 use Rattle.master_hand.specs.Spoken.{Asked, acknowledged, is_followed}
 use Rattle.master_node.specs.Begins.{begun_of}
 use Rattle.master_node.specs.Eager as Master
-use Rattle.master_node.specs.Joined.{mails_back}
 use Rattle.master_node.specs.Recalled.{AllKnow, AllRecall, RecallsBack}
 use Rattle.master_node.specs.Starts as Starts
 use Rattle.master_node.specs.declared.lan.Lan.{Lan}
 use Rattle.master_side.specs.Due.{EachDue}
 use Rattle.master_side.specs.Recall.{Recall}
-use Rattle.master_tour.specs.Brings.{accepted_at, accepted_in}
+use Rattle.master_tour.specs.Brings.{accepted_at}
 use Rattle.recalled_runs.specs.Recalled.{AllQuiet, AllStill, IsLanOf}
 use Rattle.segment_model.specs.Slaves.{Datagram, grams}
 use Rattle.segment_plan.specs.declared.plan.Scenario.{Scenario}

@@ -1,5 +1,5 @@
 -- The packets that wait for the slaves of a run, by a frame that came back with no mail accepted and no packet of the host.
-use Rattle.std.proofs.Common.{◌≡◌, ℕ, zero, suc, ◌==◌, Bool, true, false, Option, Some, None, List, [], ◌∷◌, ◌++◌, drop, refl, sym, ap, ◌∙◌, subst, if◌then◌else◌, append-nil, eq-eqb}
+use Rattle.std.proofs.Common.{◌≡◌, ℕ, zero, suc, ◌==◌, Bool, true, false, Option, Some, None, List, [], ◌∷◌, ◌++◌, drop, refl, sym, ap, ◌∙◌, if◌then◌else◌, append-nil, eq-eqb}
 use Rattle.std.specs.Prelude.{◌||◌, slice_get, All, ⊤}
 use Rattle.std.proofs.lemmas.Bool.{eqb-true}
 use Rattle.std.proofs.lemmas.List.Elements.{All-head, All-tail}
@@ -9,7 +9,6 @@ use Rattle.eoe_switch.specs.declared.port.Port.{Port}
 use Rattle.eoe_switch.specs.declared.switching.SwitchEvent.{SwitchEvent}
 use Rattle.eoe_switch.specs.declared.switching.SwitchEvent.TheVariants.{Arrive, Begun, Down}
 use Rattle.life_runs.specs.Led.{Exchanged, Turn}
-use Rattle.master_hand.specs.Spoken.{Asked}
 use Rattle.master_node.specs.Begins.{begun_of, switch_on, switch_behind, taken_in}
 use Rattle.master_node.specs.Forwards.{port_by, waiting_by}
 use Rattle.master_node.specs.Made.{IsOfMaking}
@@ -17,11 +16,9 @@ use Rattle.master_node.specs.Ports.{ports_behind, ports_of}
 use Rattle.packets_begun.specs.Over.{packet_begun}
 use Rattle.packets_begun.proofs.Follows.{all_at, flow_switch}
 use Rattle.packets_begun.proofs.Runs.{frame_all}
-use Rattle.port_events.specs.Listed.{IsOwn}
 use Rattle.port_events.proofs.Owns.{own_port}
 use Rattle.recalled_runs.specs.Recalled.{AtSwitch, enters, has_entered}
 use Rattle.segment_plan.specs.declared.plan.Scenario.{Scenario}
-use Rattle.state_exchange.specs.Stated.{Service}
 use Rattle.eager_runs.specs.Runs.{waiting_at}
 
 -- ---- a port that is changed

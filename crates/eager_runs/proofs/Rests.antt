@@ -1,14 +1,12 @@
 -- All slaves rest, as the count of frames has it and as their master does.
-use Rattle.std.proofs.Common.{◌≡◌, ◌⊎◌, ℕ, zero, suc, Bool, true, false, Option, Some, None, List, [], ◌∷◌, refl, sym, ap, ◌∙◌, subst, inl, inr}
+use Rattle.std.proofs.Common.{◌≡◌, ℕ, suc, true, false, List, [], ◌∷◌, refl, ◌∙◌, inl, inr}
 use Rattle.std.specs.Prelude.{slice_get}
 use Rattle.arrayvec.specs.ArrayVec.{ArrayVec}
 use Rattle.eoe_switch.specs.declared.switching.SwitchEvent.{SwitchEvent}
 use Rattle.frame_view.specs.View.{Lens}
-use Rattle.life_model.specs.Lives.{Stand}
 use Rattle.life_runs.specs.First.{lens_of}
 use Rattle.life_runs.specs.Led.{Exchanged, Leads}
 use Rattle.master_node.specs.Forwards.{forwarded, port_by, waiting_by}
-use Rattle.master_node.specs.Ports.{ports_behind}
 use Rattle.master_node.specs.Recalled.{AllKnow}
 use Rattle.master_node.specs.Resting as Resting
 use Rattle.master_node.specs.declared.lan.Lan.{Lan}

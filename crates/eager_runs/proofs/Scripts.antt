@@ -1,11 +1,10 @@
 -- Each service of a slave's script may begin.
-use Rattle.std.proofs.Common.{◌≡◌, ◌≢◌, ℕ, zero, suc, ◌+◌, ◌==◌, Bool, true, false, Option, Some, None, List, [], ◌∷◌, refl, sym, ap, ◌∙◌, subst, arith, if◌then◌else◌}
+use Rattle.std.proofs.Common.{◌≡◌, ℕ, zero, suc, ◌+◌, Option, Some, None, List, [], ◌∷◌, refl, sym, ap, ◌∙◌, subst, arith}
 use Rattle.std.specs.Prelude.{slice_get, ⊤}
 use Rattle.frame_view.specs.View.{Lens}
-use Rattle.life_runs.specs.First.{AreApart, HaveLens, lens_of, script_for, spot_of}
+use Rattle.life_runs.specs.First.{AreApart, HaveLens, lens_of, script_for}
 use Rattle.life_runs.proofs.First.{have_lens}
-use Rattle.life_runs.specs.Led.{Exchanged, Leads}
-use Rattle.master_hand.specs.Talk.{asked_of}
+use Rattle.life_runs.specs.Led.{Leads}
 use Rattle.master_node.specs.Starts.{NeverBegins}
 use Rattle.plan_ring.specs.Lives.{AllShown, IsShown}
 use Rattle.plan_ring.specs.Plan.{PlanMember}

@@ -1,12 +1,9 @@
 -- A node that is settled as it is seen, with no control word and nothing offered, is settled.
-use Rattle.std.proofs.Common.{◌≡◌, ◌&&◌, Bool, true, false, Option, Some, None, List, [], ◌∷◌, refl, ap, sym, ◌∙◌, if◌then◌else◌}
-use Rattle.std.specs.Prelude.{not, is_none, option_map, Ok, ◌==◌}
-use Rattle.link_mails.specs.Body.{Body, link_read, link_mail, uncounted}
-use Rattle.link_model.specs.Mails.{LinkMail}
-use Rattle.mailbox_mail.specs.Mail.{mail_read}
+use Rattle.std.proofs.Common.{◌≡◌, ◌&&◌, Bool, true, false, Option, Some, None, refl, ap, ◌∙◌, if◌then◌else◌}
+use Rattle.std.specs.Prelude.{not, is_none, option_map, Ok}
+use Rattle.link_mails.specs.Body.{link_mail, uncounted}
 use Rattle.mailbox_mail.specs.declared.mail.Mail.{Mail}
-use Rattle.mailbox_slave.specs.Kept.{offered, is_at_rest}
-use Rattle.esc_registers.specs.declared.registers.Registers as Esc
+use Rattle.mailbox_slave.specs.Kept.{offered}
 use Rattle.segment_model.specs.Laws.{IsSettled}
 use Rattle.segment_model.specs.Slaves.{first_waiting}
 use Rattle.slave_lives.specs.Lived.{Behind, IsBehind, node_seen}

@@ -1,12 +1,11 @@
 -- Frame by frame.
-use Rattle.std.proofs.Common.{◌≡◌, ◌≤◌, ◌<◌, ℕ, suc, ◌+◌, Bool, true, false, Option, Some, None, List, [], ◌∷◌, ◌++◌, map, length, refl, sym, ap, ◌∙◌, subst, arith, if◌then◌else◌}
-use Rattle.std.specs.Prelude.{slice_get, ⊤}
-use Rattle.bound_premises.proofs.Tours.{FramesIn, Kept, Stays}
-use Rattle.eager_slaves.specs.Eager.{Remembered}
+use Rattle.std.proofs.Common.{◌≡◌, ◌≤◌, ℕ, ◌+◌, Bool, true, false, Option, List, [], ◌∷◌, ◌++◌, length, sym, ap, ◌∙◌, subst, arith}
+use Rattle.std.specs.Prelude.{slice_get}
+use Rattle.bound_premises.proofs.Tours.{FramesIn, Stays}
 use Rattle.entered_runs.specs.Entered.{EagerBut, host_frames}
 use Rattle.frame_view.specs.Seen.{seen}
 use Rattle.frame_view.specs.View.{Lens}
-use Rattle.life_runs.specs.First.{AreApart, lens_of, first_leads, script_for}
+use Rattle.life_runs.specs.First.{AreApart, lens_of, first_leads}
 use Rattle.life_runs.specs.Led.{Exchanged, Leads, Turn, IsLed, IsLedFrame, gives_up_at, missed_behind}
 use Rattle.link_mails.specs.Body.{Body}
 use Rattle.master_duty.specs.Reply.{Reply}
@@ -21,12 +20,10 @@ use Rattle.plan_ring.proofs.Lives.{front_round, one_after}
 use Rattle.recalled_runs.specs.Recalled.{State, AllSettled, IsFirst, IsRecalledFrame, RecalledIn, has_entered}
 use Rattle.run_frames.specs.Clocks.{Clocked}
 use Rattle.run_frames.specs.Fates.{lost_of}
-use Rattle.run_frames.specs.Led.{AreLed, leads_behind, unders}
+use Rattle.run_frames.specs.Led.{leads_behind}
 use Rattle.run_frames.specs.Runs.{Progress}
 use Rattle.run_frames.specs.Toured.{IsToured}
-use Rattle.run_frames.specs.Tours.{IsVisited}
 use Rattle.segment_plan.specs.declared.plan.Scenario.{Scenario}
-use Rattle.segment_plan.specs.declared.slave.SlaveSpec.{SlaveSpec}
 use Rattle.segment_ring.specs.Ring.{RingState}
 use Rattle.segment_ring.specs.declared.wire.Fate.TheVariants.{Pass, Lost}
 use Rattle.slave_server.specs.Serving.{Serving}

@@ -7,7 +7,7 @@ use Rattle.bound_premises.proofs.News.{all_news}
 use Rattle.bound_premises.proofs.Tours.{bridged}
 use Rattle.master_node.specs.Happened.{arrivals_at}
 use Rattle.recalled_runs.specs.Recalled.{IsFirst}
-use Rattle.std.specs.Prelude.{[], length, ◌++◌, ◌≡◌, ◌+◌}
+use Rattle.std.specs.Prelude.{[], length, ◌≡◌, ◌+◌}
 use Rattle.eager_runs.specs.Runs.{remembered}
 use Rattle.eager_runs.proofs.First.{first_unpassed}
 use Rattle.eager_runs.proofs.Walk.{Holds, Laws, Step, frames, starts, stays}
