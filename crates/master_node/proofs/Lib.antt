@@ -33,3 +33,5 @@ pub mod Begins
 pub mod Restings
 pub mod Visitings
 pub mod Eagers
+pub mod Servings
+pub mod Serveds

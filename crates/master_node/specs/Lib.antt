@@ -40,3 +40,4 @@ pub mod Begins
 pub mod Arrivals
 pub mod Eager
 pub mod Resting
+pub mod Serving
