@@ -90,7 +90,7 @@ begins_same ports b c (q ∷ ps) h =
     λ i. begins_by (port_by (slice_get ports q)) (here i) ++ rest i
 
 -- where nothing did
-nothing_for : (as' : List Leads) (k : ℕ) → begun_for (λ j. None) as' k ≡ None
+pub nothing_for : (as' : List Leads) (k : ℕ) → begun_for (λ j. None) as' k ≡ None
 nothing_for [] k = refl
 nothing_for (a ∷ as') zero = refl
 nothing_for (a ∷ as') (suc k) = nothing_for as' k
@@ -136,7 +136,7 @@ module _ (begun : ℕ → Option (Service Asked)) (h : ℕ) (b : Option (Service
       go true f = absurd (let w = eq-eqb h k (sym (eqb-true k h f)) in true_false (h == k) w n)
       go false f = ap (λ (z : Bool). if z then b else begun k) f
 
-  at_place : (as' : List Leads) (p : ℕ) → spot_at as' p ≡ Some h → begun_for (begun_at begun h b) as' p ≡ b
+  pub at_place : (as' : List Leads) (p : ℕ) → spot_at as' p ≡ Some h → begun_for (begun_at begun h b) as' p ≡ b
   at_place [] p e = absurd (cc)
   at_place (a ∷ as') zero e = let f : a.lived.spot.place ≡ h = cc in here_is a.lived.spot.place f
   at_place (a ∷ as') (suc p) e = at_place as' p e
@@ -154,7 +154,7 @@ module _ (begun : ℕ → Option (Service Asked)) (h : ℕ) (b : Option (Service
   turned : (k : ℕ) → (k == h) ≡ false → begun_at begun h b k ≡ begun k
   turned k n = ap (λ (z : Bool). if z then b else begun k) n
 
-  at_other : (as' : List Leads) (p k : ℕ) → AreDistinct (map lived_of as') → spot_at as' p ≡ Some h → (k ≡ p → ⊥) → begun_for (begun_at begun h b) as' k ≡ begun_for begun as' k
+  pub at_other : (as' : List Leads) (p k : ℕ) → AreDistinct (map lived_of as') → spot_at as' p ≡ Some h → (k ≡ p → ⊥) → begun_for (begun_at begun h b) as' k ≡ begun_for begun as' k
   at_other [] p k d e n = refl
   at_other (a ∷ as') zero zero d e n = absurd (n refl)
   at_other (a ∷ as') zero (suc k) d e n = let f : a.lived.spot.place ≡ h = cc in elsewhere a.lived.spot as' k f d.0

@@ -3,7 +3,6 @@ use Rattle.std.proofs.Common.{◌≡◌, ◌⊎◌, inl, inr, ◌<◌, ◌≤◌
 use Rattle.std.specs.Prelude.{nat_lt, map, All}
 use Rattle.std.specs.List.{list_any}
 use Rattle.std.proofs.lemmas.Bool.{lt-ltb, le-ltb}
-use Rattle.eoe_switch.specs.Switch.{Switched}
 use Rattle.life_runs.specs.of_frame_view.View.{Lens}
 use Rattle.life_runs.specs.of_life_frames.Shares.{AllFrom}
 use Rattle.life_runs.specs.Led.{Leads}
@@ -13,9 +12,11 @@ use Rattle.master_tour.specs.Orders.{visits_left, AreOnce, IsNextOf, IsCarried}
 use Rattle.master_tour.specs.Walks.{StepsAt}
 use Rattle.master_node.specs.Filling.{IsAmong, StopFills, IsFilling, IsEmpty, IsFilled}
 use Rattle.master_node.specs.Kept.{TourOn}
+use Rattle.master_node.specs.Listing.{Before}
 use Rattle.master_node.specs.Shows.{WaitsNone, HoldsFirst, IsAlone, ComeAgain, lived_of, is_live_lead}
 use Rattle.master_node.specs.declared.node.MasterNode.{MasterNode}
 use Rattle.master_node.proofs.Begins.{begun_on}
+use Rattle.master_node.proofs.Listing.{listed_on}
 use Rattle.master_node.proofs.Lefts.{true_false, without, without_not, without_fewer, without_other, below, below_in, in_first, in_last, in_more, not_in, once_more, left_alone}
 
 -- where the tour stands, but for the visits that were passed
@@ -28,6 +29,7 @@ pub record SameTour (m n : MasterNode) : Type 0 where
   pub last : n.tour.last ≡ m.tour.last
   pub made : n.made ≡ m.made
   pub posts : n.posts ≡ m.posts
+  pub list : n.list ≡ m.list
   pub lan : n.lan ≡ m.lan
 
 -- before any datagram stands in the frame
@@ -40,7 +42,7 @@ pub record NoneYet (m : MasterNode) (octets : List ℕ) (as' : List Leads) : Typ
   pub lives : (k : ℕ) → holds_at (λ s. is_live s.stand) m.tour.stops.items k ≡ holds_at is_live_lead as' k
 
 -- BEHIND SO MANY VISITS
-pub record Fills (lens : ℕ → Lens) (recover made : ℕ) (from : Switched) (as' : List Leads) (n : ℕ) (m : MasterNode) (octets : List ℕ) : Type 0 where
+pub record Fills (lens : ℕ → Lens) (recover made : ℕ) (from : Before) (as' : List Leads) (n : ℕ) (m : MasterNode) (octets : List ℕ) : Type 0 where
   pub left : List ℕ
   pub filling : IsFilling lens recover made from left m octets as'
   pub most : (k : ℕ) → is_in k (visits_left m.tour.again m.tour.visit.items m.tour.opened (length m.tour.stops.items) m.tour.last m.tour.passed) ≡ true → is_in k left ≡ true
@@ -61,7 +63,7 @@ from_length P i [] (s ∷ ss) p = absurd p
 from_length P i (a ∷ as') [] p = absurd p
 from_length P i (a ∷ as') (s ∷ ss) p = ap suc (from_length P (suc i) as' ss p.1)
 
-pub many : (lens : ℕ → Lens) (recover made : ℕ) (from : Switched) (left : List ℕ) (m : MasterNode) (octets : List ℕ) (as' : List Leads) → IsFilling lens recover made from left m octets as' → length m.tour.stops.items ≡ length as'
+pub many : (lens : ℕ → Lens) (recover made : ℕ) (from : Before) (left : List ℕ) (m : MasterNode) (octets : List ℕ) (as' : List Leads) → IsFilling lens recover made from left m octets as' → length m.tour.stops.items ≡ length as'
 many lens recover made from left m octets as' f = from_length (λ i a s. IsAmong lens f.begun left i a s) 0 as' m.tour.stops.items f.among
 
 -- the number of datagrams behind a visit
@@ -77,7 +79,7 @@ count_behind P under n c zero (x ∷ xs) (y ∷ ys) h e = go (under y) refl
     go false u = inl ((h x y e.0).1 u)
 count_behind P under n c (suc i) (x ∷ xs) (y ∷ ys) h e = count_behind P under n c i xs ys h e.1
 
-module _ (lens : ℕ → Lens) (recover made : ℕ) (from : Switched) (as' : List Leads) where
+module _ (lens : ℕ → Lens) (recover made : ℕ) (from : Before) (as' : List Leads) where
   pub filling_same : (left : List ℕ) (m n : MasterNode) (octets : List ℕ) → SameTour m n → IsFilling lens recover made from left m octets as' → IsFilling lens recover made from left n octets as'
   filling_same left m n octets k f = record {
     begun = f.begun;
@@ -85,7 +87,8 @@ module _ (lens : ℕ → Lens) (recover made : ℕ) (from : Switched) (as' : Lis
         (subst (λ z. FrameMade (λ ds i a s. StopFills lens recover made f.begun (n.made % 256) left ds i a s) octets z (map lived_of as') m.tour.stops.items) (sym k.count)
         (subst (λ z. FrameMade (λ ds i a s. StopFills lens recover made f.begun (z % 256) left ds i a s) octets m.tour.count (map lived_of as') m.tour.stops.items) (sym k.made) f.frame));
     among = subst (λ z. AllFrom (λ i a s. IsAmong lens f.begun left i a s) 0 as' z.items) (sym k.stops) f.among;
-    packets = begun_on from left f.begun as' m.lan n.lan k.lan f.packets;
+    packets = begun_on from.switch left f.begun as' m.lan n.lan k.lan f.packets;
+    listing = listed_on from.forwards left f.begun as' m n k.list k.posts f.listing;
   }
 
   -- before the first visit

@@ -30,6 +30,7 @@ pub mod Downs
 pub mod Made
 pub mod Arrivals
 pub mod Begins
+pub mod Listing
 pub mod Restings
 pub mod Visitings
 pub mod Eagers

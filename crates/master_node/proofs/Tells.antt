@@ -1,5 +1,5 @@
 -- A master that tells what happened stays what it is.
-use Rattle.std.proofs.Common.{◌≡◌, ℕ, ◌<◌, List, refl, sym, subst, length, get_or, set}
+use Rattle.std.proofs.Common.{◌≡◌, ℕ, ◌<◌, List, refl, sym, ap, subst, length, get_or, set}
 use Rattle.std.specs.Prelude.{All}
 use Rattle.master_hand.specs.declared.hand.InHand.{InHand}
 use Rattle.master_side.specs.declared.hand.Hand.{Ghosts}
@@ -7,16 +7,17 @@ use Rattle.master_tour.specs.Walks.{EachPair}
 use Rattle.master_tour.specs.declared.stop.Stop.{Stop}
 use Rattle.master_tour.proofs.Walks.{steps_set}
 use Rattle.master_node.specs.declared.node.MasterNode.{MasterNode}
+use Rattle.master_node.specs.Origins.{forwards_at}
 use Rattle.master_node.specs.Shows.{WaitsNone}
 use Rattle.master_node.specs.Kept.{StopStays, NodeKept}
 use Rattle.master_node.proofs.Kepts.{stop_same, node_same, node_on}
 use Rattle.master_node.proofs.Lists.{steps_each}
 
 pub node_refl : (m : MasterNode) → NodeKept m m
-node_refl m = node_same m m refl refl (λ q. q)
+node_refl m = node_same m m refl refl (λ q. q) (λ k. refl)
 
 pub node_told : (m n : MasterNode) → n.tour ≡ m.tour → n.made ≡ m.made → n.posts ≡ m.posts → NodeKept m n
-node_told m n e f p = node_same m n e f (λ q. subst (λ z. All WaitsNone z.items) (sym p) q)
+node_told m n e f p = node_same m n e f (λ q. subst (λ z. All WaitsNone z.items) (sym p) q) (λ k. ap (λ z. forwards_at z.items k) p)
 
 pub node_then : (m n o : MasterNode) → NodeKept n o → NodeKept m n → NodeKept m o
 node_then m n o b a = node_on m n o a b

@@ -22,13 +22,16 @@ use Rattle.master_node.specs.Coming.{IsComing, IsLaid, PassesBy, CameBy, next_of
 use Rattle.master_node.specs.Filling.{IsAmong, StopFills}
 use Rattle.master_node.specs.Forwards.{forwarded, port_by}
 use Rattle.master_node.specs.Kept.{StopKept, StopStays}
+use Rattle.master_node.specs.Origins.{IsFrom}
 use Rattle.master_node.specs.Shows.{lived_of}
 use Rattle.master_node.specs.declared.coming.Coming.{Coming}
+use Rattle.master_node.specs.declared.event.Origin.{Origin}
 use Rattle.master_node.specs.declared.lan.Lan.{Lan}
 use Rattle.master_node.proofs.Begins.{leaves_here, none_waits, spot_at, spot_here, steps_any}
 use Rattle.master_node.proofs.Cames.{NumberBehind, came_by, ready_unpassed, got_inside}
 use Rattle.master_node.proofs.Fills.{from_each, frame_each, fills_kept, begun_at, begun_here, begun_comes, among_step}
 use Rattle.master_node.proofs.Kepts.{stop_same}
+use Rattle.master_node.proofs.Listing.{Came, came_so}
 use Rattle.master_node.proofs.Lists.{steps_map, steps_trans, steps_mid, steps_some, steps_got, steps_each}
 
 -- a slave of which the frame's room is asked
@@ -190,6 +193,14 @@ module _ {G : Ghosts InHand} (coming : Option Coming) (result : Bool) (place : �
       let none = forwarded l.switch l.ports.items place ≡ [] in
       steps_any none place s2 s3
       (steps_map (λ s t. Visited coming result (slice_get s2 place) s t) (λ s t. none) place s2 s3 (λ s t b. none_waits l place coming result s b.laid first (ap (λ z. begins_other (came_of z)) (sym b.is) ∙ e)) all_visited)
+
+  -- and so it is listed
+  pub told : (number forwards : ℕ) (o : Origin) → IsFrom coming number forwards o → Came place number forwards o result coming what
+  told number forwards o h =
+      let same = Came place number forwards o result coming what in
+      steps_any same place s2 s3
+      (steps_map (λ s t. Visited coming result (slice_get s2 place) s t) (λ s t. same) place s2 s3
+      (λ s t b. subst (λ z. Came place number forwards o result coming (came_of z)) (sym b.is) (came_so place number forwards o coming result s b.comes b.laid b.began.ready h)) all_visited)
 
   pub among : (lens : ℕ → Lens) (begun : ℕ → Option (Service Asked)) (left next : List ℕ) (as' : List Leads) → ((k : ℕ) → is_in k next ≡ true → is_in k left ≡ true) → is_in place left ≡ true → is_in place next ≡ false → AreDistinct (map lived_of as') →
       AllFrom (λ i a s. IsAmong lens begun left i a s) 0 as' s0 → AllFrom (λ i a s. IsAmong lens (now begun) next i a s) 0 as' s4

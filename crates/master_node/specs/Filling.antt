@@ -2,7 +2,6 @@
 use Rattle.std.specs.Prelude.{◌≡◌, ◌≤◌, ◌<◌, ℕ, ◌%◌, true, false, Option, None, List, [], map, length, All}
 use Rattle.std.specs.List.{list_any}
 use Rattle.datagrams.specs.Datagram as Raw
-use Rattle.eoe_switch.specs.Switch.{Switched}
 use Rattle.life_runs.specs.of_frame_view.View.{Lens}
 use Rattle.life_runs.specs.of_life_frames.Shares.{Lived, AllFrom}
 use Rattle.life_runs.specs.Led.{Leads, Comes, speech_at}
@@ -14,6 +13,7 @@ use Rattle.master_tour.specs.Made.{StopMade, FrameMade, is_in}
 use Rattle.master_tour.specs.declared.stop.Stop.{Stop}
 use Rattle.master_duty.specs.of_state_exchange.Stated.{Service}
 use Rattle.master_node.specs.Begins.{HasBegun}
+use Rattle.master_node.specs.Listing.{Before, HasListed}
 use Rattle.master_node.specs.declared.node.MasterNode.{MasterNode}
 use Rattle.master_tour.specs.Goes.{is_live, holds_at, BeginsLive}
 use Rattle.master_node.specs.Shows.{WaitsNone, ComeAgain, side_shows, lived_of, is_live_lead}
@@ -36,13 +36,14 @@ module _ (lens : ℕ → Lens) where
     StopFills begun index left ds i a s =
         StopMade (speech_at lens a.spot) acknowledged is_followed is_passed made begun lens recover index (side_shows lens recover s a.spot) s.side.station s.place s.start s.stand s.spare s.side.out s.side.inn s.side.duty s.side.carried s.side.passing s.under s.at left ds i a
 
-    module _ (from : Switched) where
-      -- THE MASTER WHILE A FRAME IS MADE, where the visits of these places are still to come, and the switch stood so before the step
+    module _ (from : Before) where
+      -- THE MASTER WHILE A FRAME IS MADE, where the visits of these places are still to come, and the step began so
       pub record IsFilling (left : List ℕ) (m : MasterNode) (octets : List ℕ) (as' : List Leads) : Type 0 where
         pub begun : ℕ → Option (Service Asked)
         pub frame : FrameMade (λ ds i a s. StopFills begun (m.made % 256) left ds i a s) octets m.tour.count (map lived_of as') m.tour.stops.items
         pub among : AllFrom (λ i a s. IsAmong begun left i a s) 0 as' m.tour.stops.items
-        pub packets : HasBegun from left begun as' m.lan
+        pub packets : HasBegun from.switch left begun as' m.lan
+        pub listing : HasListed from.forwards left begun as' m
 
       -- BEFORE THE FIRST VISIT: no datagram stands in the frame, some slave is live, and the first that is visited is
       pub record IsEmpty (m : MasterNode) (octets : List ℕ) (as' : List Leads) : Type 0 where
@@ -58,6 +59,7 @@ module _ (lens : ℕ → Lens) where
         pub anew : m.tour.again ≡ false → m.tour.visit.items ≡ []
         pub many : length m.tour.stops.items ≡ length as'
         pub room : length m.lan.happened ≤ 1
+        pub list : m.list.count ≡ 0
 
       -- BEHIND THE LAST: the frame has a datagram; in the first bring-up it has none but of the slave that is brought up
       pub record IsFilled (m : MasterNode) (octets : List ℕ) (as' : List Leads) : Type 0 where

@@ -37,6 +37,8 @@ pub mod Happened
 pub mod Downs
 pub mod Made
 pub mod Begins
+pub mod Origins
+pub mod Listing
 pub mod Arrivals
 pub mod Eager
 pub mod Resting

@@ -57,7 +57,7 @@ pub struct EventList {
 }
 
 impl EventList {
-    ghost use Rattle.std.specs.Prelude.{◌≡◌, ◌<◌, ◌++◌, ◌∷◌, [], IfOk, take};
+    ghost use Rattle.std.specs.Prelude.{◌≡◌, ◌≤◌, ◌<◌, ◌+◌, ◌++◌, ◌∷◌, [], IfOk, take};
     ghost use Rattle.master_node.specs.Listed.{listed, listed_last};
 
     /// No event. The memory for the events of a frame is taken here.
@@ -80,6 +80,7 @@ impl EventList {
     pub fn clear(&mut self)
         ensures all { listed self.new.rows.items self.new.count ≡ [] }
         ensures last { listed_last self.new.rows.items self.new.first self.new.count ≡ [] }
+        ensures none { self.new.count ≡ 0 }
     {
         self.count = 0;
         self.before = 0;
@@ -109,6 +110,7 @@ impl EventList {
         ensures all { self.old.count < 97 → listed self.new.rows.items self.new.count ≡ listed self.old.rows.items self.old.count ++ event ∷ [] }
         ensures last { self.old.count < 97 → listed_last self.new.rows.items self.new.first self.new.count ≡ listed_last self.old.rows.items self.old.first self.old.count ++ event ∷ [] }
         ensures before { self.new.before ≡ self.old.before }
+        ensures few { self.new.count ≤ self.old.count + 1 }
     {
         if self.count < self.rows.len() {
             self.rows[self.count] = event;

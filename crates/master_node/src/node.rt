@@ -80,7 +80,8 @@ impl MasterNode {
     ghost use Rattle.master_node.specs.Toured.{StaysPut, TakesPart, IsBare, HasVisited, stop_share, turn_share, tour_of};
     ghost use Rattle.master_node.specs.Happened.{Happens, HappensSo};
     ghost use Rattle.master_node.specs.Made.{Makes, AreOfMaking};
-    ghost use Rattle.eoe_switch.specs.Switch.{Switched};
+    ghost use Rattle.master_node.specs.Listing.{Before, IsUnlisted, ListsOne, ServicesBegin, where_began};
+    ghost use Rattle.master_node.specs.Origins.{LaysFrom, forwards_at};
     ghost use Rattle.master_node.specs.Begins.{HasTaken, IsOldest, LaysOldest, NoneMore, PacketFirst, PacketsBegin, TakesOn, taken_for, taken_where};
 
     // Whether a slave is live.
@@ -106,6 +107,7 @@ impl MasterNode {
         ensures lan { Happens 1 self.old.lan self.new.lan }
         ensures made { Makes self.old.lan self.new.lan }
         ensures takes { TakesOn [] self.old.lan self.new.lan }
+        ensures list { self.new.list ≡ self.old.list }
     {
         if self.tour.opened < self.tour.stops.len() || !self.lan.has_host() {
             return;
@@ -143,11 +145,12 @@ impl MasterNode {
         ensures kept { TourKept self.old self.new × (All WaitsNone self.old.posts.items → All WaitsNone self.new.posts.items) }
         ensures oldest { StepsAt (λ s t. IsOldest self.old.lan place t) place self.old.tour.stops.items self.new.tour.stops.items }
         ensures lan { self.new.lan ≡ self.old.lan }
+        ensures list { self.new.list ≡ self.old.list }
+        ensures origins { StepsAt (λ s t. StepsAt (λ p q. LaysFrom (Some Coming.Packet) s.side.hand.laying.number p q) place self.old.posts.items self.new.posts.items) place self.old.tour.stops.items self.new.tour.stops.items }
     {
         let post = &mut self.posts[place];
         post.next = Work::Packet;
         post.origin = Origin::Forward(post.forwards);
-        post.forwards = post.forwards.wrapping_add(1);
         match self.lan.oldest(place) {
             Some(packet) => lay_packet(&mut self.tour.stops[place].side, packet),
             None => lay_nothing(&mut self.tour.stops[place].side),
@@ -161,6 +164,8 @@ impl MasterNode {
         ensures laid { StepsAt (λ s t. StopStays s t) place self.old.tour.stops.items self.new.tour.stops.items }
         ensures kept { TourKept self.old self.new × (All WaitsNone self.old.posts.items → All WaitsNone self.new.posts.items) }
         ensures lan { self.new.lan ≡ self.old.lan }
+        ensures list { self.new.list ≡ self.old.list }
+        ensures origins { StepsAt (λ s t. StepsAt (λ p q. LaysFrom (Some Coming.Mail) s.side.hand.laying.number p q) place self.old.posts.items self.new.posts.items) place self.old.tour.stops.items self.new.tour.stops.items }
     {
         let post = &mut self.posts[place];
         post.origin = Origin::Gateway(post.oldest());
@@ -177,6 +182,8 @@ impl MasterNode {
         ensures laid { StepsAt (λ s t. StopStays s t × IsLaid (Some Coming.Script) t.side.hand.laying.laid) place self.old.tour.stops.items self.new.tour.stops.items }
         ensures kept { TourKept self.old self.new × (All WaitsNone self.old.posts.items → All WaitsNone self.new.posts.items) }
         ensures lan { self.new.lan ≡ self.old.lan }
+        ensures list { self.new.list ≡ self.old.list }
+        ensures origins { StepsAt (λ s t. StepsAt (λ p q. LaysFrom (Some Coming.Script) s.side.hand.laying.number p q) place self.old.posts.items self.new.posts.items) place self.old.tour.stops.items self.new.tour.stops.items }
     {
         let side = &mut self.tour.stops[place].side;
         let number = side.hand.number();
@@ -193,6 +200,8 @@ impl MasterNode {
         ensures tour { (self.new.tour ≡ self.old.tour) × (self.new.made ≡ self.old.made) }
         ensures quiet { All WaitsNone self.old.posts.items → All WaitsNone self.new.posts.items }
         ensures lan { self.new.lan ≡ self.old.lan }
+        ensures list { self.new.list ≡ self.old.list }
+        ensures origins { StepsAt (λ s t. StepsAt (λ p q. (q.forwards ≡ p.forwards) × (q.origin ≡ Origin.Script s.side.hand.laying.number)) place self.old.posts.items self.new.posts.items) place self.old.tour.stops.items self.new.tour.stops.items }
     {
         let number = self.tour.stops[place].side.hand.number();
         let post = &mut self.posts[place];
@@ -208,6 +217,8 @@ impl MasterNode {
         ensures kept { TourKept self.old self.new × (All WaitsNone self.old.posts.items → All WaitsNone self.new.posts.items) }
         ensures oldest { StepsAt (λ s t. LaysOldest self.old.lan place (Some coming) t) place self.old.tour.stops.items self.new.tour.stops.items }
         ensures lan { self.new.lan ≡ self.old.lan }
+        ensures list { self.new.list ≡ self.old.list }
+        ensures origins { StepsAt (λ s t. StepsAt (λ p q. LaysFrom (Some coming) s.side.hand.laying.number p q) place self.old.posts.items self.new.posts.items) place self.old.tour.stops.items self.new.tour.stops.items }
     {
         match coming {
             Coming::Packet => self.lay_packet(place),
@@ -226,6 +237,8 @@ impl MasterNode {
         ensures joins { JoinsKept self.old self.new }
         ensures oldest { StepsAt (λ s t. LaysOldest self.old.lan place coming t) place self.old.tour.stops.items self.new.tour.stops.items }
         ensures lan { self.new.lan ≡ self.old.lan }
+        ensures list { self.new.list ≡ self.old.list }
+        ensures origins { StepsAt (λ s t. StepsAt (λ p q. LaysFrom coming s.side.hand.laying.number p q) place self.old.posts.items self.new.posts.items) place self.old.tour.stops.items self.new.tour.stops.items }
     {
         match coming {
             None => {}
@@ -246,6 +259,7 @@ impl MasterNode {
         ensures made { Makes self.old.lan self.new.lan }
         ensures takes { TakesOn (taken_for self.old.lan place (Some coming)) self.old.lan self.new.lan }
         ensures fewer { NoneMore self.old.lan self.new.lan }
+        ensures list { self.new.list ≡ self.old.list }
     {
         match coming {
             Coming::State(_) => pass_by(&mut self.tour.stops[place].side),
@@ -268,18 +282,19 @@ impl MasterNode {
         ensures made { Makes self.old.lan self.new.lan }
         ensures takes { TakesOn (taken_for self.old.lan place coming) self.old.lan self.new.lan }
         ensures fewer { NoneMore self.old.lan self.new.lan }
+        ensures events { self.new.list.count ≤ self.old.list.count + 1 }
+        ensures lists { StepsAt (λ p q. ListsOne place coming self.old self.new p q) place self.old.posts.items self.new.posts.items }
     {
-        let post = &mut self.posts[place];
-        post.work = post.next;
-        post.answer = None;
-        let origin = post.origin;
-        self.list.put(Event::Began {
-            slave: place as u32,
-            origin,
-        });
         match coming {
             None => {}
-            Some(what) => self.pass_by(place, what),
+            Some(what) => {
+                let origin = self.posts[place].begin();
+                self.list.put(Event::Began {
+                    slave: place as u32,
+                    origin,
+                });
+                self.pass_by(place, what);
+            }
         }
     }
 
@@ -296,6 +311,8 @@ impl MasterNode {
         ensures made { Makes self.old.lan self.new.lan }
         ensures takes { TakesOn (taken_where began self.old.lan place coming) self.old.lan self.new.lan }
         ensures fewer { NoneMore self.old.lan self.new.lan }
+        ensures events { self.new.list.count ≤ self.old.list.count + 1 }
+        ensures lists { StepsAt (λ p q. ListsOne place (where_began began coming) self.old self.new p q) place self.old.posts.items self.new.posts.items }
     {
         if began {
             self.begun(place, coming);
@@ -316,7 +333,7 @@ impl MasterNode {
         ensures counts { (self.new.tour.count ≡ self.old.tour.count) ⊎ (self.new.tour.count ≡ self.old.tour.count + 1) }
         ensures still { result ≡ false → (self.new.tour.count ≡ self.old.tour.count) × (self.new.tour.visit ≡ self.old.tour.visit) }
         ensures first { length into.old.items ≡ 16 → holds_at (λ s. is_live s.stand) self.old.tour.stops.items place ≡ true → (result ≡ true) × (self.new.tour.count ≡ self.old.tour.count + 1) }
-        ensures led { (lens : ℕ → Lens) (recover made : ℕ) (from : Switched) (left next : List ℕ) (as' : List Leads) → length self.old.lan.happened < 17 → All WaitsNone self.old.posts.items → AreDistinct (map lived_of as') → is_in place left ≡ true → is_in place next ≡ false → ((k : ℕ) → is_in k next ≡ true → is_in k left ≡ true) →
+        ensures led { (lens : ℕ → Lens) (recover made : ℕ) (from : Before) (left next : List ℕ) (as' : List Leads) → length self.old.lan.happened < 17 → self.old.list.count < 97 → All WaitsNone self.old.posts.items → AreDistinct (map lived_of as') → is_in place left ≡ true → is_in place next ≡ false → ((k : ℕ) → is_in k next ≡ true → is_in k left ≡ true) →
             IsFilling lens recover made from left self.old into.old.items as' → IsFilling lens recover made from (if result then next else left) self.new into.new.items as' }
         ensures joins { JoinsKept self.old self.new }
         ensures room { self.new.tour.count ≡ self.old.tour.count → holds_at (λ s. is_live s.stand) self.new.tour.stops.items place ≡ true → HasNoRoom into.new.items (area_in self.new.tour.stops.items place) }
@@ -324,6 +341,7 @@ impl MasterNode {
         ensures lan { Happens 1 self.old.lan self.new.lan }
         ensures made { Makes self.old.lan self.new.lan }
         ensures eager { All WaitsNone self.old.posts.items → holds_at (λ s. s.under) self.old.tour.stops.items place ≡ false → EagerOn self.old self.new }
+        ensures events { self.new.list.count ≤ self.old.list.count + 1 }
     {
         let index = (self.made % 256) as u8;
         let coming = self.coming(place);
@@ -344,7 +362,7 @@ impl MasterNode {
         ensures posts { vec_len self.new.posts ≡ vec_len self.old.posts }
         ensures on { TourOn self.old self.new }
         ensures visited { IsBare self.old → length into.old.items ≡ 16 → HasVisited into.new.items self.old self.new }
-        ensures filled { (lens : ℕ → Lens) (recover made : ℕ) (from : Switched) (as' : List Leads) → AreDistinct (map lived_of as') → IsEmpty lens recover made from self.old into.old.items as' → IsFilled lens recover made from self.new into.new.items as' }
+        ensures filled { (lens : ℕ → Lens) (recover made : ℕ) (from : Before) (as' : List Leads) → AreDistinct (map lived_of as') → IsEmpty lens recover made from self.old into.old.items as' → IsFilled lens recover made from self.new into.new.items as' }
         ensures joins { JoinsKept self.old self.new }
         ensures lan { Happens 16 self.old.lan self.new.lan }
         ensures made { Makes self.old.lan self.new.lan }
@@ -367,9 +385,9 @@ impl MasterNode {
     // The next frame is made, of the slaves that it carries.
     fn make(&mut self, into: &mut FrameBuf)
         ensures posts { vec_len self.new.posts ≡ vec_len self.old.posts }
-        ensures led { (lens : ℕ → Lens) (recover retry missed number : ℕ) (from : Switched) (as' : List Leads) → length self.old.lan.happened ≤ 1 → HasTaken from [] self.old.lan → list_any (λ s. is_live s.stand) self.old.tour.stops.items ≡ true → MasterShows lens recover retry self.old missed as' →
-            (us : List Turn) × IsLedFrame lens number into.new.items as' us × MasterUnder lens recover retry self.new into.new.items missed us × PacketsBegin from us self.new.lan × (tour_of self.new ≡ tour_of self.old) ×
-            IsOfTour (λ s. stop_share s) (λ k. holds_at is_live_lead as' k) (frame_size into.new.items) (λ k. area_at lens as' k) (tour_of self.old) self.new.tour.stops.items (length (seen lens into.new.items)) self.new.tour.visit.items }
+        ensures led { (lens : ℕ → Lens) (recover retry missed number : ℕ) (from : Before) (as' : List Leads) → length self.old.lan.happened ≤ 1 → HasTaken from.switch [] self.old.lan → IsUnlisted from.forwards self.old → list_any (λ s. is_live s.stand) self.old.tour.stops.items ≡ true → MasterShows lens recover retry self.old missed as' →
+            (us : List Turn) × IsLedFrame lens number into.new.items as' us × MasterUnder lens recover retry self.new into.new.items missed us × PacketsBegin from.switch us self.new.lan × (tour_of self.new ≡ tour_of self.old) ×
+            IsOfTour (λ s. stop_share s) (λ k. holds_at is_live_lead as' k) (frame_size into.new.items) (λ k. area_at lens as' k) (tour_of self.old) self.new.tour.stops.items (length (seen lens into.new.items)) self.new.tour.visit.items × ServicesBegin from.forwards as' us self.new }
         ensures joins { JoinsKept self.old self.new }
         ensures lan { Happens 16 self.old.lan self.new.lan }
         ensures made { Makes self.old.lan self.new.lan }
@@ -385,13 +403,14 @@ impl MasterNode {
     /// just the same again; of a round the first, and it leaves out none that would fit. Of an open slave whose last read was lost it has no datagram but the
     /// one by which that read is repeated; with nothing in doubt it has the write of the mail held, the read of mailbox 1 or that of the status of mailbox 0, by
     /// what is remembered of its visits; and behind its visit no mail is left that could be held. The packets that came into hand are just those that leave their ports of the switch, each the oldest there.
+    /// Just the services that came into hand are listed as begun, each with where it comes from and its number there.
     pub fn next(&mut self, into: &mut FrameBuf) -> Next
         ensures idle { (result ≡ Next.Idle) ↔ (list_any (λ s. is_live s.stand) self.old.tour.stops.items ≡ false) }
         ensures posts { vec_len self.new.posts ≡ vec_len self.old.posts }
         ensures led { result ≡ Next.Frame → (lens : ℕ → Lens) (recover retry missed number : ℕ) (as' : List Leads) → MasterShows lens recover retry self.old missed as' →
             (us : List Turn) × IsLedFrame lens number into.new.items as' us × MasterUnder lens recover retry self.new into.new.items missed us }
         ensures begun { result ≡ Next.Frame → (lens : ℕ → Lens) (recover retry missed number : ℕ) (as' : List Leads) → MasterShows lens recover retry self.old missed as' →
-            (us : List Turn) × IsLedFrame lens number into.new.items as' us × MasterUnder lens recover retry self.new into.new.items missed us × PacketsBegin self.old.lan.switch us self.new.lan }
+            (us : List Turn) × IsLedFrame lens number into.new.items as' us × MasterUnder lens recover retry self.new into.new.items missed us × PacketsBegin self.old.lan.switch us self.new.lan × ServicesBegin (λ k. forwards_at self.old.posts.items k) as' us self.new }
         ensures toured { result ≡ Next.Frame → (lens : ℕ → Lens) (recover retry missed : ℕ) (as' : List Leads) (us : List Turn) → MasterShows lens recover retry self.old missed as' → MasterUnder lens recover retry self.new into.new.items missed us →
             (tour_of self.new ≡ tour_of self.old) × IsOfTour (λ u. turn_share u) (λ k. holds_at is_live_lead as' k) (frame_size into.new.items) (λ k. area_at lens as' k) (tour_of self.old) us (length (seen lens into.new.items)) self.new.tour.visit.items }
         ensures asks { result ≡ Next.Frame → (lens : ℕ → Lens) (recover retry missed : ℕ) (us : List Turn) → MasterUnder lens recover retry self.new into.new.items missed us → AllAsk (seen lens into.new.items) us }

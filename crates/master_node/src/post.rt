@@ -66,6 +66,7 @@ pub fn bare(mail: &Mail) -> Mail
 impl Post {
     ghost use Rattle.std.specs.Prelude.{◌≡◌, ◌<◌, length};
     ghost use Rattle.master_node.specs.Appends.{AppendsMail};
+    ghost use Rattle.master_node.specs.Origins.{counted_by};
 
     /// Nothing is in hand and no mail waits. The memory for 64 mails is taken here.
     pub fn new(alloc: Global) -> Result<Post, NoMemory>
@@ -117,10 +118,26 @@ impl Post {
         ensures oldest { result ≡ slice_get self.old.mails.items 0 }
         ensures mails { self.new.mails.items ≡ drop 1 self.old.mails.items }
         ensures work { self.new.work ≡ self.old.work }
+        ensures forwards { self.new.forwards ≡ self.old.forwards }
     {
         let asked = self.mails.pop_front()?;
         self.oldest = self.oldest.wrapping_add(1);
         Some(asked)
+    }
+
+    /// What was laid ready came into hand. Tells where it comes from.
+    pub fn begin(&mut self) -> Origin
+        ensures origin { result ≡ self.old.origin }
+        ensures forwards { self.new.forwards ≡ counted_by self.old.origin self.old.forwards }
+        ensures mails { self.new.mails ≡ self.old.mails }
+    {
+        self.work = self.next;
+        self.answer = None;
+        match self.origin {
+            Origin::Forward(number) => self.forwards = number.wrapping_add(1),
+            Origin::Script(_) | Origin::Gateway(_) => {}
+        }
+        self.origin
     }
 
     /// The slave is given up: what it has in hand and the mails that wait are dropped.
@@ -128,6 +145,7 @@ impl Post {
         ensures mails { self.new.mails.items ≡ [] }
         ensures work { self.new.work ≡ Work.Nothing }
         ensures answer { self.new.answer ≡ None }
+        ensures forwards { self.new.forwards ≡ self.old.forwards }
     {
         self.oldest = self.oldest.wrapping_add(self.mails.len() as u32);
         self.mails.clear();

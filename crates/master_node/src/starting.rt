@@ -6,6 +6,7 @@ ghost use Rattle.master_node.specs.Serving.{IsPaced};
 ghost use Rattle.master_node.specs.Lives.{waiting_of};
 ghost use Rattle.segment_plan.specs.Sound.{IsPlan, IsSlave, IsPace};
 ghost use Rattle.master_node.specs.First.{IsNewSide, IsFirst};
+ghost use Rattle.master_node.specs.Origins.{CountsNone};
 ghost use Rattle.master_node.specs.Shows.{WaitsNone};
 
 use crate::copies::script_of;
@@ -91,6 +92,7 @@ fn posts_of(alloc: Global, count: usize) -> Result<Vec<Post>, NoMemory>
     ensures many { IfOk result (λ posts. vec_len posts ≡ count) }
     ensures quiet { IfOk result (λ posts. All WaitsNone posts.items) }
     ensures waiting { IfOk result (λ posts. map waiting_of posts.items ≡ replicate count 0) }
+    ensures counts { IfOk result (λ posts. All CountsNone posts.items) }
 {
     let mut posts = Vec::new(alloc);
     for _ in 0..count {
@@ -124,7 +126,9 @@ fn tour_of(alloc: Global, plan: &Scenario) -> Result<Tour<InHand>, NoMemory>
 
 impl MasterNode {
     ghost use Rattle.std.specs.Prelude.{◌≡◌, length, map, replicate, vec_len, IfOk};
+    ghost use Rattle.std.specs.Prelude.{ℕ};
     ghost use Rattle.master_node.specs.Lives.{waiting_of};
+    ghost use Rattle.master_node.specs.Origins.{forwards_at};
     ghost use Rattle.segment_plan.specs.Sound.{IsPlan};
     ghost use Rattle.life_runs.specs.First.{lens_of, first_leads};
     ghost use Rattle.master_node.specs.Shows.{MasterShows};
@@ -145,6 +149,7 @@ impl MasterNode {
         ensures posts { IfOk result (λ master. vec_len master.posts ≡ length plan.now.slaves) }
         ensures waiting { IfOk result (λ master. map waiting_of master.posts.items ≡ replicate (length plan.now.slaves) 0) }
         ensures tour { IfOk result (λ master. tour_of master ≡ new_tour) }
+        ensures counts { IfOk result (λ master. (k : ℕ) → forwards_at master.posts.items k ≡ 0) }
         ensures switch { IfOk result (λ master. master.lan.switch ≡ first_switch (length master.lan.switch.ports)) }
         ensures begins { IfOk result (λ master. HasHappened (ports_of plan.now.slaves) plan.now.host [] master.lan) }
         ensures ports { IfOk result (λ master. master.lan.ports.items ≡ ports_behind 0 plan.now.slaves) }

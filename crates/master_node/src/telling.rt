@@ -35,6 +35,7 @@ impl MasterNode {
     ghost use Rattle.master_node.specs.Brought.{HasBrought};
     ghost use Rattle.master_node.specs.Joined.{HasUnfinished, HasCompleted, stand_before, stand_under, unfinished_after, mails_back, mails_lost};
     ghost use Rattle.master_node.specs.Kept.{NodeKept};
+    ghost use Rattle.master_node.specs.Origins.{forwards_at};
     ghost use Rattle.master_node.specs.Happened.{Happens, HappensSo};
     ghost use Rattle.master_node.specs.Shows.{MasterShows, MasterUnder};
     ghost use Rattle.master_node.specs.Serving.{TellsOnly, ServedShows, ServedUnder};
@@ -289,6 +290,7 @@ impl MasterNode {
             HasUnfinished self.old (map stand_under us) befores → ComeIn self.old (λ p. completed_at (seen lens frame.now.items) us befores p) self.new }
         ensures served { (lens : ℕ → Lens) (recover retry missed made : ℕ) (octets : List ℕ) (vs : List ServedTurn) (f : Exchanged) → f.fate ≡ Fate.Pass → f.back ≡ frame.now.items → ServedUnder lens recover retry self.old octets missed made vs → Returns (seen lens octets) (seen lens frame.now.items) →
             ServedShows lens recover retry self.new 0 (suc made) (map (served_behind lens recover retry (gives_up_at lens recover retry missed) made f) vs) }
+        ensures counts { (k : ℕ) → forwards_at self.new.posts.items k ≡ forwards_at self.old.posts.items k }
     {
         self.list.ends();
         self.lan.begins();
@@ -378,6 +380,7 @@ impl MasterNode {
         ensures happened { HappensSo self.old.lan self.new.lan }
         ensures downs { (lens : ℕ → Lens) (recover retry missed number after : ℕ) (octets : List ℕ) (us : List Turn) (f : Exchanged) → f.fate ≡ Fate.Lost after → f.sent ≡ octets → MasterUnder lens recover retry self.old octets missed us →
             GoDown self.old us (map (led_behind lens recover retry (gives_up_at lens recover retry missed) number f) us) self.new }
+        ensures counts { (k : ℕ) → forwards_at self.new.posts.items k ≡ forwards_at self.old.posts.items k }
     {
         self.list.ends();
         self.lan.begins();

@@ -3,6 +3,7 @@ use Rattle.master_node.specs.Shows.{WaitsNone}
 use Rattle.master_node.proofs.Kepts.{node_same}
 use Rattle.master_node.proofs.Lists.{all_set}
 use Rattle.master_node.proofs.Servings.{posts_set}
+use Rattle.master_node.proofs.Listing.{forwards_set}
 use Rattle.master_node.proofs.node.MasterNode.answered.Goals as goal
 
 pub returns-clause-kept : goal.returns-clause-kept
@@ -10,7 +11,7 @@ returns-clause-kept c =
     let m = c.args.self.now in
     let r = c.requires in
     let k = m.posts.ok.0 in
-    node_same m _ refl refl (λ q. all_set WaitsNone m.posts.items c.args.place c.index_mut-post.result.now _ (omega (arith, r, k)) c.index_mut-post.ensures.value (λ p. p) q)
+    node_same m _ refl refl (λ q. all_set WaitsNone m.posts.items c.args.place c.index_mut-post.result.now _ (omega (arith, r, k)) c.index_mut-post.ensures.value (λ p. p) q) (forwards_set m.posts.items c.args.place c.index_mut-post.result.now _ (omega (arith, r, k)) c.index_mut-post.ensures.value refl)
 
 pub returns-clause-tells : goal.returns-clause-tells
 returns-clause-tells c =

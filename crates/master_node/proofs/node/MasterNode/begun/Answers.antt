@@ -10,6 +10,11 @@ use Rattle.master_node.proofs.Rooms.{sends_same}
 use Rattle.master_node.proofs.Begins.{takes_none}
 use Rattle.master_node.proofs.Happenings.{happens_none}
 use Rattle.master_node.proofs.Made.{makes_none}
+use Rattle.std.proofs.Common.{◌++◌, ◌∷◌, [], Some, ◌∙◌, append-nil}
+use Rattle.master_node.specs.Listing.{ListsOne, events_in}
+use Rattle.master_node.specs.declared.event.Event.{Event}
+use Rattle.master_tour.proofs.Walks.{steps_set}
+use Rattle.master_node.proofs.Listing.{events_of_list}
 use Rattle.master_node.proofs.node.MasterNode.begun.Goals as goal
 
 pub returns-in-None-clause-begun : goal.returns-in-None-clause-begun
@@ -58,3 +63,30 @@ returns-in-None-clause-made c = makes_none _ _ refl
 
 pub returns-in-None-clause-fewer : goal.returns-in-None-clause-fewer
 returns-in-None-clause-fewer c = λ k e. e
+
+pub returns-in-None-clause-lists : goal.returns-in-None-clause-lists
+returns-in-None-clause-lists c =
+    let m = c.args.self.now in
+    let k : c.args.place < length m.posts.items = omega (arith, c.requires, m.posts.ok.0) in
+    subst (λ z. StepsAt (λ p q. ListsOne c.args.place z m m p q) c.args.place m.posts.items m.posts.items) (sym c.in-None.is)
+    (steps_same _ c.args.place m.posts.items k (λ p. record { listed = λ few. sym (append-nil (events_in m)); counts = refl }))
+
+pub returns-in-Some-clause-lists : goal.returns-in-Some-clause-lists
+returns-in-Some-clause-lists c =
+    let m = c.args.self.now in
+    let n = c.pass_by.new.self in
+    let k : c.args.place < length m.posts.items = omega (arith, c.requires, m.posts.ok.0) in
+    subst (λ z. StepsAt (λ p q. ListsOne c.args.place z m n p q) c.args.place m.posts.items n.posts.items) (sym c.in-Some.is)
+    (subst (λ z. StepsAt (λ p q. ListsOne c.args.place (Some c.in-Some.what) m n p q) c.args.place m.posts.items z.items) (sym c.pass_by.ensures.posts)
+    (steps_set _ c.args.place m.posts.items c.index_mut.result.now _ k c.index_mut.ensures.value
+    (record {
+      listed = λ few.
+          events_of_list c.put.new.self n.list c.pass_by.ensures.list ∙ c.put.ensures.last few ∙ ap (λ z. events_in m ++ Event.Began c.args.place z ∷ []) c.begin-origin.ensures.origin;
+      counts = c.begin-origin.ensures.forwards;
+    })))
+
+pub returns-in-None-clause-events : goal.returns-in-None-clause-events
+returns-in-None-clause-events c = omega arith
+
+pub returns-in-Some-clause-events : goal.returns-in-Some-clause-events
+returns-in-Some-clause-events c = let e = ap (λ z. z.count) c.pass_by.ensures.list in let f = c.put.ensures.few in omega (arith, e, f)

@@ -10,6 +10,8 @@ use Rattle.master_node.proofs.Rooms.{sends_same}
 use Rattle.master_node.proofs.Begins.{takes_none}
 use Rattle.master_node.proofs.Happenings.{happens_none}
 use Rattle.master_node.proofs.Made.{makes_none}
+use Rattle.std.proofs.Common.{append-nil}
+use Rattle.master_node.specs.Listing.{ListsOne, events_in, where_began}
 use Rattle.master_node.proofs.node.MasterNode.came.Goals as goal
 
 pub returns-then-began-clause-came : goal.returns-then-began-clause-came
@@ -58,3 +60,22 @@ returns-else-began-clause-made c = makes_none _ _ refl
 
 pub returns-else-began-clause-fewer : goal.returns-else-began-clause-fewer
 returns-else-began-clause-fewer c = λ k e. e
+
+pub returns-then-began-clause-lists : goal.returns-then-began-clause-lists
+returns-then-began-clause-lists c =
+    let m = c.args.self.now in
+    let n = c.begun.new.self in
+    subst (λ z. StepsAt (λ p q. ListsOne c.args.place (where_began z c.args.coming) m n p q) c.args.place m.posts.items n.posts.items) (sym c.if-began.true) c.begun.ensures.lists
+
+pub returns-else-began-clause-lists : goal.returns-else-began-clause-lists
+returns-else-began-clause-lists c =
+    let m = c.args.self.now in
+    let k : c.args.place < length m.posts.items = omega (arith, c.requires, m.posts.ok.0) in
+    subst (λ z. StepsAt (λ p q. ListsOne c.args.place (where_began z c.args.coming) m m p q) c.args.place m.posts.items m.posts.items) (sym c.if-began.false)
+    (steps_same _ c.args.place m.posts.items k (λ p. record { listed = λ few. sym (append-nil (events_in m)); counts = refl }))
+
+pub returns-then-began-clause-events : goal.returns-then-began-clause-events
+returns-then-began-clause-events c = c.begun.ensures.events
+
+pub returns-else-began-clause-events : goal.returns-else-began-clause-events
+returns-else-began-clause-events c = omega arith

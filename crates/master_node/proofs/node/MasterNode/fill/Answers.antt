@@ -23,7 +23,7 @@ returns-in_default-clause-filled c = λ lens recover made from as' d x.
     let e = c.due.ensures in
     let f = c.loop.invariant.3 lens recover made from as' d x in
     let none : c.due.result ≡ None = cc in
-    fills_same lens recover made from as' c.loop.counter c.loop.self _ c.loop.into.items (record { stops = e.stops; count = e.kept.0; again = e.kept.1; visit = e.kept.2; opened = e.kept.3; last = e.kept.4; made = refl; posts = refl; lan = refl }) f
+    fills_same lens recover made from as' c.loop.counter c.loop.self _ c.loop.into.items (record { stops = e.stops; count = e.kept.0; again = e.kept.1; visit = e.kept.2; opened = e.kept.3; last = e.kept.4; made = refl; posts = refl; list = refl; lan = refl }) f
     (some_count c.loop.counter (λ z. let y = f.none z in passes_some (λ s. is_live s.stand) c.loop.self.tour.stops.items c.due.result none (e.first y.count y.passed y.begins y.some)))
 
 pub returns-then-not-visit-clause-on : goal.returns-then-not-visit-clause-on
@@ -46,8 +46,8 @@ returns-then-not-visit-clause-filled c = λ lens recover made from as' d x.
     let y = f.none z in
     let yes = (v.first y.short (subst (λ w. holds_at (λ s. is_live s.stand) w.items p ≡ true) (sym e.stops) (passes_at (λ s. is_live s.stand) c.loop.self.tour.stops.items c.due.result p is (e.first y.count y.passed y.begins y.some)))).0 in
     (let w : true ≡ false = sym yes ∙ no in cc)))
-    f (record { stops = e.stops; count = e.kept.0; again = e.kept.1; visit = e.kept.2; opened = e.kept.3; last = e.kept.4; made = refl; posts = refl; lan = refl }) (f.most p next.among) v.on.0 v.quiet (v.still no).0 (v.still no).1
-    (λ left other q a o s g. subst (λ (z : Bool). IsFilling lens recover made from (if z then other else left) c.visit.new.self c.visit.new.into.items as') no (v.led lens recover made from left other as' (let w = x.room in let h = c.loop.invariant.6.few in let t = c.loop-test.true in omega (arith, w, h, t)) q d a o s g))
+    f (record { stops = e.stops; count = e.kept.0; again = e.kept.1; visit = e.kept.2; opened = e.kept.3; last = e.kept.4; made = refl; posts = refl; list = refl; lan = refl }) (f.most p next.among) v.on.0 v.quiet (v.still no).0 (v.still no).1
+    (λ left other q a o s g. subst (λ (z : Bool). IsFilling lens recover made from (if z then other else left) c.visit.new.self c.visit.new.into.items as') no (v.led lens recover made from left other as' (let w = x.room in let h = c.loop.invariant.6.few in let t = c.loop-test.true in omega (arith, w, h, t)) (let w = x.list in let h = c.loop.invariant.9 in let t = c.loop-test.true in omega (arith, w, h, t)) q d a o s g))
 
 pub returns-clause-on : goal.returns-clause-on
 returns-clause-on c = c.loop.invariant.2
@@ -57,7 +57,7 @@ returns-clause-filled c = λ lens recover made from as' d x.
     fills_last lens recover made from as' c.loop.counter c.loop.self c.loop.into.items (let t = c.loop-test.false in omega (arith, t)) (c.loop.invariant.3 lens recover made from as' d x)
 
 pub loop-init : goal.loop-init
-loop-init c = (c.requires, refl, on_same c.args.self.now, (λ lens recover made from as' d x. fills_first lens recover made from as' c.args.self.now c.args.into.now.items x), each_same _ c.args.self.now.tour.stops.items (λ s. refl), (λ b short. (visiting_first c.args.into.now.items c.args.self.now short b, b.count)), happens_none 0 _ _ refl, makes_none _ _ refl, λ quiet b short. (quiet, each_same (λ s t. StopGoes s t) c.args.self.now.tour.stops.items (λ s. (refl, λ h. h))))
+loop-init c = (c.requires, refl, on_same c.args.self.now, (λ lens recover made from as' d x. fills_first lens recover made from as' c.args.self.now c.args.into.now.items x), each_same _ c.args.self.now.tour.stops.items (λ s. refl), (λ b short. (visiting_first c.args.into.now.items c.args.self.now short b, b.count)), happens_none 0 _ _ refl, makes_none _ _ refl, (λ quiet b short. (quiet, each_same (λ s t. StopGoes s t) c.args.self.now.tour.stops.items (λ s. (refl, λ h. h)))), omega arith)
 
 pub loop-preserved : goal.loop-preserved
 loop-preserved c = (
@@ -74,10 +74,10 @@ loop-preserved c = (
       let is : c.due.result ≡ Some p = cc in
       let yes : c.visit.result ≡ true = cc in
       fills_more lens recover made from as' c.loop.counter c.loop.self _ c.visit.new.self c.loop.into.items c.visit.new.into.items p f
-      (record { stops = e.stops; count = e.kept.0; again = e.kept.1; visit = e.kept.2; opened = e.kept.3; last = e.kept.4; made = refl; posts = refl; lan = refl })
+      (record { stops = e.stops; count = e.kept.0; again = e.kept.1; visit = e.kept.2; opened = e.kept.3; last = e.kept.4; made = refl; posts = refl; list = refl; lan = refl })
       (λ a. e.left p is a) (λ a b g h. passes_at (λ s. is_live s.stand) c.loop.self.tour.stops.items c.due.result p is (e.first a b g h))
       (c.in-Some.ensures.few) v.on.0 v.on.1 v.quiet v.visits v.counts (λ a b. (v.first a b).1)
-      (λ left other q a o s g. subst (λ (z : Bool). IsFilling lens recover made from (if z then other else left) c.visit.new.self c.visit.new.into.items as') yes (v.led lens recover made from left other as' (let w = x.room in let h = c.loop.invariant.6.few in let t = c.loop-test.true in omega (arith, w, h, t)) q d a o s g))),
+      (λ left other q a o s g. subst (λ (z : Bool). IsFilling lens recover made from (if z then other else left) c.visit.new.self c.visit.new.into.items as') yes (v.led lens recover made from left other as' (let w = x.room in let h = c.loop.invariant.6.few in let t = c.loop-test.true in omega (arith, w, h, t)) (let w = x.list in let h = c.loop.invariant.9 in let t = c.loop-test.true in omega (arith, w, h, t)) q d a o s g))),
   each_trans (λ s t. t.side.hand.found.join ≡ s.side.hand.found.join) c.args.self.now.tour.stops.items c.loop.self.tour.stops.items c.visit.new.self.tour.stops.items (λ x y z a b. b ∙ a) c.loop.invariant.4
       (subst (λ z. EachPair (λ s t. t.side.hand.found.join ≡ s.side.hand.found.join) z.items c.visit.new.self.tour.stops.items) c.due.ensures.stops c.visit.ensures.joins),
   (λ b short.
@@ -95,7 +95,7 @@ loop-preserved c = (
       )),
   happens_then c.loop.counter 1 _ _ _ c.loop.invariant.6 c.visit.ensures.lan,
   makes_then _ _ _ c.loop.invariant.7 c.visit.ensures.made,
-  λ quiet b short.
+  (λ quiet b short.
       let e = c.due.ensures in
       let v = c.visit.ensures in
       let p = c.in-Some.place in
@@ -106,7 +106,8 @@ loop-preserved c = (
         v.quiet was.0,
         each_trans (λ s t. StopGoes s t) c.args.self.now.tour.stops.items c.loop.self.tour.stops.items c.visit.new.self.tour.stops.items (λ x y z a h. (h.0 ∙ a.0, λ g. h.1 (a.1 g))) was.1
             (subst (λ z. EachPair (λ s t. StopGoes s t) z.items c.visit.new.self.tour.stops.items) e.stops (v.eager was.0 none)),
-      ),
+      )),
+  (let h = c.loop.invariant.9 in let v = c.visit.ensures.events in omega (arith, h, v)),
 )
 
 pub returns-in_default-clause-joins : goal.returns-in_default-clause-joins
@@ -131,7 +132,7 @@ returns-in_default-clause-visited c = λ b short.
     let none : c.due.result ≡ None = cc in
     let was = (c.loop.invariant.5 b short).1 in
     let test = c.loop-test.true in
-    visiting_same c.loop.into.items c.args.self.now c.loop.self _ (few_stops c.args.self.now) (omega (arith, was, test)) c.loop.invariant.2 (record { stops = e.stops; count = e.kept.0; again = e.kept.1; visit = e.kept.2; opened = e.kept.3; last = e.kept.4; made = refl; posts = refl; lan = refl }) (e.none none) (e.ends none)
+    visiting_same c.loop.into.items c.args.self.now c.loop.self _ (few_stops c.args.self.now) (omega (arith, was, test)) c.loop.invariant.2 (record { stops = e.stops; count = e.kept.0; again = e.kept.1; visit = e.kept.2; opened = e.kept.3; last = e.kept.4; made = refl; posts = refl; list = refl; lan = refl }) (e.none none) (e.ends none)
     (c.loop.invariant.5 b short).0
 
 pub returns-then-not-visit-clause-visited : goal.returns-then-not-visit-clause-visited
@@ -172,10 +173,10 @@ returns-then-self-count-clause-filled c = λ lens recover made from as' d x.
     let yes : c.visit.result ≡ true = cc in
     fills_last lens recover made from as' (c.loop.counter + 1) c.visit.new.self c.visit.new.into.items (omega arith)
     (fills_more lens recover made from as' c.loop.counter c.loop.self _ c.visit.new.self c.loop.into.items c.visit.new.into.items p f
-    (record { stops = e.stops; count = e.kept.0; again = e.kept.1; visit = e.kept.2; opened = e.kept.3; last = e.kept.4; made = refl; posts = refl; lan = refl })
+    (record { stops = e.stops; count = e.kept.0; again = e.kept.1; visit = e.kept.2; opened = e.kept.3; last = e.kept.4; made = refl; posts = refl; list = refl; lan = refl })
     (λ a. e.left p is a) (λ a b g h. passes_at (λ s. is_live s.stand) c.loop.self.tour.stops.items c.due.result p is (e.first a b g h))
     (c.in-Some.ensures.few) v.on.0 v.on.1 v.quiet v.visits v.counts (λ a b. (v.first a b).1)
-    (λ left other q a o s g. subst (λ (z : Bool). IsFilling lens recover made from (if z then other else left) c.visit.new.self c.visit.new.into.items as') yes (v.led lens recover made from left other as' (let w = x.room in let h = c.loop.invariant.6.few in let t = c.loop-test.true in omega (arith, w, h, t)) q d a o s g)))
+    (λ left other q a o s g. subst (λ (z : Bool). IsFilling lens recover made from (if z then other else left) c.visit.new.self c.visit.new.into.items as') yes (v.led lens recover made from left other as' (let w = x.room in let h = c.loop.invariant.6.few in let t = c.loop-test.true in omega (arith, w, h, t)) (let w = x.list in let h = c.loop.invariant.9 in let t = c.loop-test.true in omega (arith, w, h, t)) q d a o s g)))
 
 pub returns-in_default-clause-lan : goal.returns-in_default-clause-lan
 returns-in_default-clause-lan c = happens_more c.loop.counter 16 _ _ (omega arith) c.loop.invariant.6

@@ -1,8 +1,7 @@
-use Rattle.std.proofs.Common.{◌≡◌, ℕ, List, length, vec_len}
+use Rattle.std.proofs.Common.{◌≡◌, ◌≤◌, ◌+◌, ℕ, List, length, vec_len}
 use Rattle.std.specs.Prelude.{All, map}
 use Rattle.datagrams.specs.Datagram as Raw
 use Rattle.datagrams.specs.Frame.{IsBegun}
-use Rattle.eoe_switch.specs.Switch.{Switched}
 use Rattle.life_runs.specs.of_frame_view.View.{Lens}
 use Rattle.life_runs.specs.of_life_frames.Shares.{AreDistinct}
 use Rattle.life_runs.specs.Led.{Leads}
@@ -15,14 +14,16 @@ use Rattle.master_node.specs.Shows.{WaitsNone, lived_of}
 use Rattle.master_node.proofs.Filleds.{Fills}
 use Rattle.master_node.specs.Toured.{IsBare}
 use Rattle.master_node.proofs.Toureds.{Visiting}
+use Rattle.master_node.specs.Listing.{Before}
 use Rattle.master_node.specs.Made.{Makes}
 use Rattle.master_node.proofs.node.MasterNode.fill.Given as goal
 
 abbrev pub invariant-loop : goal.invariant-loop
 invariant-loop l =
     ((ds : List Raw.Datagram) × IsBegun l.into.items ds) × (vec_len l.self.posts ≡ vec_len l.initial.self.posts) × TourOn l.initial.self l.self
-    × ((lens : ℕ → Lens) (recover made : ℕ) (from : Switched) (as' : List Leads) → AreDistinct (map lived_of as') → IsEmpty lens recover made from l.initial.self l.initial.into.items as' → Fills lens recover made from as' l.counter l.self l.into.items)
+    × ((lens : ℕ → Lens) (recover made : ℕ) (from : Before) (as' : List Leads) → AreDistinct (map lived_of as') → IsEmpty lens recover made from l.initial.self l.initial.into.items as' → Fills lens recover made from as' l.counter l.self l.into.items)
     × JoinsKept l.initial.self l.self
     × (IsBare l.initial.self → length l.initial.into.items ≡ 16 → Visiting l.into.items l.initial.self l.self × (l.self.tour.count ≡ l.counter))
     × Happens l.counter l.initial.self.lan l.self.lan × Makes l.initial.self.lan l.self.lan
     × (All WaitsNone l.initial.self.posts.items → IsBare l.initial.self → length l.initial.into.items ≡ 16 → All WaitsNone l.self.posts.items × EagerOn l.initial.self l.self)
+    × (l.self.list.count ≤ l.initial.self.list.count + l.counter)

@@ -8,6 +8,7 @@ use Rattle.master_node.proofs.Lists.{steps_same}
 use Rattle.std.proofs.Common.{ap, refl}
 use Rattle.master_tour.proofs.Walks.{each_same}
 use Rattle.master_node.proofs.Lists.{steps_each}
+use Rattle.master_node.specs.Origins.{LaysFrom}
 use Rattle.master_node.proofs.node.MasterNode.lay.Goals as goal
 
 pub returns-in-None-clause-laid : goal.returns-in-None-clause-laid
@@ -37,3 +38,17 @@ pub returns-in-Some-clause-oldest : goal.returns-in-Some-clause-oldest
 returns-in-Some-clause-oldest c =
     let m = c.args.self.now in
     subst (λ z. StepsAt (λ s t. LaysOldest m.lan c.args.place z t) c.args.place m.tour.stops.items c.lay_coming.new.self.tour.stops.items) (sym c.in-Some.is) c.lay_coming.ensures.oldest
+
+pub returns-in-None-clause-origins : goal.returns-in-None-clause-origins
+returns-in-None-clause-origins c =
+    let m = c.args.self.now in
+    let l : c.args.place < length m.tour.stops.items = omega (arith, c.requires, m.paired, m.tour.stops.ok.0) in
+    let k : c.args.place < length m.posts.items = omega (arith, c.requires, m.posts.ok.0) in
+    subst (λ z. StepsAt (λ s t. StepsAt (λ p q. LaysFrom z s.side.hand.laying.number p q) c.args.place m.posts.items m.posts.items) c.args.place m.tour.stops.items m.tour.stops.items) (sym c.in-None.is)
+    (steps_same _ c.args.place m.tour.stops.items l (λ s. steps_same _ c.args.place m.posts.items k (λ p. record { counts = refl; origin = tt })))
+
+pub returns-in-Some-clause-origins : goal.returns-in-Some-clause-origins
+returns-in-Some-clause-origins c =
+    let m = c.args.self.now in
+    let n = c.lay_coming.new.self in
+    subst (λ z. StepsAt (λ s t. StepsAt (λ p q. LaysFrom z s.side.hand.laying.number p q) c.args.place m.posts.items n.posts.items) c.args.place m.tour.stops.items n.tour.stops.items) (sym c.in-Some.is) c.lay_coming.ensures.origins

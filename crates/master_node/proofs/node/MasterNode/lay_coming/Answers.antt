@@ -6,6 +6,8 @@ use Rattle.master_node.specs.Coming.{IsLaid}
 use Rattle.master_node.specs.Kept.{StopStays}
 use Rattle.master_node.proofs.Kepts.{stop_same, tour_same}
 use Rattle.master_node.proofs.Lists.{steps_same, steps_map}
+use Rattle.master_node.specs.Origins.{LaysFrom}
+use Rattle.master_node.specs.declared.coming.Coming.{Coming}
 use Rattle.master_node.proofs.node.MasterNode.lay_coming.Goals as goal
 
 pub returns-in-Packet-clause-laid : goal.returns-in-Packet-clause-laid
@@ -61,3 +63,28 @@ returns-in-State-clause-oldest c =
     let l : c.args.place < length m.tour.stops.items = omega (arith, c.requires, m.paired, m.tour.stops.ok.0) in
     subst (λ z. StepsAt (λ s t. LaysOldest m.lan c.args.place (Some z) t) c.args.place m.tour.stops.items c.lay_state.new.self.tour.stops.items) (sym c.in-State.is)
     (subst (λ z. StepsAt (λ s t. ⊤) c.args.place m.tour.stops.items z.stops.items) (sym c.lay_state.ensures.tour.0) (steps_same _ c.args.place m.tour.stops.items l (λ s. tt)))
+
+pub returns-in-Packet-clause-origins : goal.returns-in-Packet-clause-origins
+returns-in-Packet-clause-origins c =
+    let m = c.args.self.now in
+    let n = c.lay_packet.new.self in
+    subst (λ z. StepsAt (λ s t. StepsAt (λ p q. LaysFrom (Some z) s.side.hand.laying.number p q) c.args.place m.posts.items n.posts.items) c.args.place m.tour.stops.items n.tour.stops.items) (sym c.in-Packet.is) c.lay_packet.ensures.origins
+
+pub returns-in-Mail-clause-origins : goal.returns-in-Mail-clause-origins
+returns-in-Mail-clause-origins c =
+    let m = c.args.self.now in
+    let n = c.lay_mail.new.self in
+    subst (λ z. StepsAt (λ s t. StepsAt (λ p q. LaysFrom (Some z) s.side.hand.laying.number p q) c.args.place m.posts.items n.posts.items) c.args.place m.tour.stops.items n.tour.stops.items) (sym c.in-Mail.is) c.lay_mail.ensures.origins
+
+pub returns-in-Script-clause-origins : goal.returns-in-Script-clause-origins
+returns-in-Script-clause-origins c =
+    let m = c.args.self.now in
+    let n = c.lay_script.new.self in
+    subst (λ z. StepsAt (λ s t. StepsAt (λ p q. LaysFrom (Some z) s.side.hand.laying.number p q) c.args.place m.posts.items n.posts.items) c.args.place m.tour.stops.items n.tour.stops.items) (sym c.in-Script.is) c.lay_script.ensures.origins
+
+pub returns-in-State-clause-origins : goal.returns-in-State-clause-origins
+returns-in-State-clause-origins c =
+    let m = c.args.self.now in
+    let n = c.lay_state.new.self in
+    subst (λ z. StepsAt (λ s t. StepsAt (λ p q. LaysFrom (Some z) s.side.hand.laying.number p q) c.args.place m.posts.items n.posts.items) c.args.place m.tour.stops.items n.tour.stops.items) (sym c.in-State.is)
+    (steps_map _ _ c.args.place m.tour.stops.items n.tour.stops.items (λ s t h. steps_map _ (λ p q. LaysFrom (Some (Coming.State c.in-State.field-0)) s.side.hand.laying.number p q) c.args.place m.posts.items n.posts.items (λ p q e. record { counts = e.0; origin = e.1 }) h) c.lay_state.ensures.origins)

@@ -30,3 +30,17 @@ returns-in-None-clause-oldest c =
     let l : c.args.place < length m.tour.stops.items = omega (arith, c.requires, m.paired, m.tour.stops.ok.0) in
     steps_set (λ s t. IsOldest m.lan c.args.place t) c.args.place m.tour.stops.items c.index_mut-in-None.result.now _ l c.index_mut-in-None.ensures.value
     (λ e. absurd (let bad : Laid.Nothing ≡ Laid.Packet = sym c.lay_nothing.ensures.laid ∙ e in cc))
+
+pub returns-in-Some-clause-origins : goal.returns-in-Some-clause-origins
+returns-in-Some-clause-origins c =
+    let m = c.args.self.now in
+    let l : c.args.place < length m.tour.stops.items = omega (arith, c.requires, m.paired, m.tour.stops.ok.0) in
+    let k : c.args.place < length m.posts.items = omega (arith, c.requires, m.posts.ok.0) in
+    steps_set _ c.args.place m.tour.stops.items c.index_mut.result.now _ l c.index_mut.ensures.value (steps_set _ c.args.place m.posts.items c.index_mut-post.result.now _ k c.index_mut-post.ensures.value (record { counts = refl; origin = refl }))
+
+pub returns-in-None-clause-origins : goal.returns-in-None-clause-origins
+returns-in-None-clause-origins c =
+    let m = c.args.self.now in
+    let l : c.args.place < length m.tour.stops.items = omega (arith, c.requires, m.paired, m.tour.stops.ok.0) in
+    let k : c.args.place < length m.posts.items = omega (arith, c.requires, m.posts.ok.0) in
+    steps_set _ c.args.place m.tour.stops.items c.index_mut-in-None.result.now _ l c.index_mut-in-None.ensures.value (steps_set _ c.args.place m.posts.items c.index_mut-post.result.now _ k c.index_mut-post.ensures.value (record { counts = refl; origin = refl }))

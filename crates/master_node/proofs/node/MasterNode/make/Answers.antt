@@ -10,6 +10,7 @@ use Rattle.master_node.specs.Filling.{IsAmong, StopFills}
 use Rattle.master_node.specs.Shows.{IsLead, GoesOn, lived_of, is_live_lead}
 use Rattle.master_node.proofs.Begins.{begun_nothing, packets_begin}
 use Rattle.master_node.proofs.Fills.{from_map}
+use Rattle.master_node.proofs.Listing.{listed_nothing, services_begin}
 use Rattle.master_node.proofs.Lists.{both_map, both_holds, both_length}
 use Rattle.master_node.proofs.Sents.{stand_lives, each_holds, each_any, begins_live, both_from, lead_among, turns, turns_all, begun_turns, under_all, same_all, distinct_same, goes_under, sent_is, sent_some, sent_many, goes_begun, some_not}
 use Rattle.master_tour.proofs.Steps as Steps
@@ -28,7 +29,7 @@ use Rattle.master_node.proofs.Toureds.{each_none, tour_same, of_tour}
 use Rattle.master_node.proofs.node.MasterNode.make.Goals as goal
 
 pub returns-clause-led : goal.returns-clause-led
-returns-clause-led c = λ lens recover retry missed number from as' room taken some x.
+returns-clause-led c = λ lens recover retry missed number from as' room taken unlisted some x.
     let m = c.args.self.now in
     let e = c.begin.ensures in
     let t1 = c.begin.new.self in
@@ -47,7 +48,8 @@ returns-clause-led c = λ lens recover retry missed number from as' room taken s
         begun = nothing;
         frame = subst (λ n. FrameMade (λ ds i a s. StopFills lens recover number nothing index left ds i a s) c.begin.new.frame.items n lives ts) (sym e.count) (e.made (speech_at lens) is_followed is_passed number recover index lens left lives nothing (λ k. refl) before);
         among = both_from (λ a s. IsLead lens recover a s) _ (λ i a s. IsAmong lens nothing left i a s) (λ i a s t l p. lead_among lens recover left i a s t l p.0 p.2) 0 as' ss ts x.each e.each;
-        packets = begun_nothing from left as' m.lan taken;
+        packets = begun_nothing from.switch left as' m.lan taken;
+        listing = listed_nothing from.forwards left as' _ (record { few = unlisted.few; none = unlisted.none; counts = unlisted.counts });
       };
       quiet = x.quiet;
       count = e.count;
@@ -60,6 +62,7 @@ returns-clause-led c = λ lens recover retry missed number from as' room taken s
       anew = λ a. e.anew (sym e.tour.0 ∙ a);
       many = many;
       room = room;
+      list = unlisted.few;
     }) in
     let on = c.fill.ensures.on in
     let into = c.fill.new.into.items in
@@ -95,9 +98,10 @@ returns-clause-led c = λ lens recover retry missed number from as' room taken s
         sent = sent_some lens octets z.datagrams z.frame;
         fits = fit_under into _ c.fill.new.self c.fill.ensures.begun.1.fits v;
       },
-      packets_begin from f.left begun as' (turns lens recover number begun octets z.datagrams is as' z.lives t2.stops.items) c.fill.new.self.lan (λ k. begun_turns lens recover number begun octets z.datagrams is as' z.lives t2.stops.items z.each k) f.filling.packets,
+      packets_begin from.switch f.left begun as' (turns lens recover number begun octets z.datagrams is as' z.lives t2.stops.items) c.fill.new.self.lan (λ k. begun_turns lens recover number begun octets z.datagrams is as' z.lives t2.stops.items z.each k) f.filling.packets,
       tour_same into m _ c.fill.new.self v e.tour.0 visits e.tour.1 e.tour.2 e.tour.3 on,
       of_tour into m _ c.fill.new.self v e.tour.0 visits e.tour.1 e.tour.2 e.tour.3 on (λ k. holds_at is_live_lead as' k) alive (λ k. v.alive k ∙ alive k) (frame_size octets) (λ k. area_at lens as' k) (c.finish-some.ensures.size yes) areas (length (seen lens octets)) (sent_many lens octets f.filling.frame.datagrams (c.finish-some.ensures.reads yes f.filling.frame.datagrams f.filling.frame.begun f.filling.frame.long f.filling.frame.named) ∙ f.filling.frame.long) f.some,
+      services_begin from.forwards f.left begun as' (turns lens recover number begun octets z.datagrams is as' z.lives t2.stops.items) c.fill.new.self _ (λ k. begun_turns lens recover number begun octets z.datagrams is as' z.lives t2.stops.items z.each k) refl refl f.filling.listing,
     )
 
 pub returns-clause-joins : goal.returns-clause-joins

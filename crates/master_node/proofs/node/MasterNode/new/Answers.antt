@@ -7,6 +7,7 @@ use Rattle.life_runs.specs.First.{first_leads}
 use Rattle.life_runs.specs.of_life_frames.Shares.{AreDistinct}
 use Rattle.master_node.specs.Shows.{GoesOn}
 use Rattle.master_node.proofs.Servings.{firsts_served, leads_kept, lives_all, run_all}
+use Rattle.master_node.proofs.Listing.{none_counted}
 use Rattle.master_node.proofs.node.MasterNode.new.Goals as goal
 
 pub returns-clause-leads : goal.returns-clause-leads
@@ -26,6 +27,9 @@ returns-clause-leads c =
 
 pub returns-clause-joined : goal.returns-clause-joined
 returns-clause-joined c = all_unfinished c.args.plan.now 0 c.args.plan.now.slaves c.in_ok-tour.tour.stops.items c.in_ok-tour.ensures.first
+
+pub returns-clause-counts : goal.returns-clause-counts
+returns-clause-counts c = λ k. none_counted c.in_ok-posts.posts.items c.in_ok-posts.ensures.counts k
 
 pub returns-clause-served : goal.returns-clause-served
 returns-clause-served c =

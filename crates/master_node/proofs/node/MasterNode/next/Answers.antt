@@ -1,5 +1,7 @@
 use Rattle.std.proofs.Common.{◌≡◌, ◌∙◌, true, [], refl, sym, ap, subst, length, arith}
 use Rattle.master_node.proofs.Begins.{has_none}
+use Rattle.master_node.specs.Origins.{forwards_at}
+use Rattle.master_node.proofs.Listing.{services_made, unlisted}
 use Rattle.life_runs.specs.of_frame_view.Seen.{seen}
 use Rattle.std.specs.List.{list_any}
 use Rattle.master_tour.specs.Goes.{is_live, holds_at}
@@ -26,7 +28,7 @@ returns-clause-led c = λ h lens recover retry missed number as' x.
     let live : c.has_live.result ≡ true = cc in
     let none = ap length c.begins.ensures.none in
     let admitted = c.admit.ensures.lan in
-    let w = c.make.ensures.led lens recover retry missed number c.args.self.now.lan.switch as' (omega (arith, admitted.few, none)) (c.admit.ensures.takes.takes _ [] (omega (arith, none)) (has_none _ _ c.begins.ensures.switch c.begins.ensures.none)) (subst (λ z. list_any (λ s. is_live s.stand) z.stops.items ≡ true) (sym c.admit.ensures.same.1) (sym c.has_live.ensures ∙ live)) (shows_same lens recover retry missed as' _ c.admit.new.self c.admit.ensures.same.1 c.admit.ensures.same.0 x) in
+    let w = c.make.ensures.led lens recover retry missed number (record { switch = c.args.self.now.lan.switch; forwards = λ k. forwards_at c.args.self.now.posts.items k }) as' (omega (arith, admitted.few, none)) (c.admit.ensures.takes.takes _ [] (omega (arith, none)) (has_none _ _ c.begins.ensures.switch c.begins.ensures.none)) (unlisted (record c.args.self.now { list = c.clear.new.self; lan = c.begins.new.self }) c.admit.new.self c.clear.ensures.none c.clear.ensures.last c.admit.ensures.list c.admit.ensures.same.0) (subst (λ z. list_any (λ s. is_live s.stand) z.stops.items ≡ true) (sym c.admit.ensures.same.1) (sym c.has_live.ensures ∙ live)) (shows_same lens recover retry missed as' _ c.admit.new.self c.admit.ensures.same.1 c.admit.ensures.same.0 x) in
     (w.0, w.1, record { each = w.2.each; distinct = w.2.distinct; quiet = w.2.quiet; goes = w.2.goes; missed_is = w.2.missed_is; retry_is = w.2.retry_is; sent = w.2.sent; fits = w.2.fits })
 
 pub returns-clause-begun : goal.returns-clause-begun
@@ -34,8 +36,8 @@ returns-clause-begun c = λ h lens recover retry missed number as' x.
     let live : c.has_live.result ≡ true = cc in
     let none = ap length c.begins.ensures.none in
     let admitted = c.admit.ensures.lan in
-    let w = c.make.ensures.led lens recover retry missed number c.args.self.now.lan.switch as' (omega (arith, admitted.few, none)) (c.admit.ensures.takes.takes _ [] (omega (arith, none)) (has_none _ _ c.begins.ensures.switch c.begins.ensures.none)) (subst (λ z. list_any (λ s. is_live s.stand) z.stops.items ≡ true) (sym c.admit.ensures.same.1) (sym c.has_live.ensures ∙ live)) (shows_same lens recover retry missed as' _ c.admit.new.self c.admit.ensures.same.1 c.admit.ensures.same.0 x) in
-    (w.0, w.1, record { each = w.2.each; distinct = w.2.distinct; quiet = w.2.quiet; goes = w.2.goes; missed_is = w.2.missed_is; retry_is = w.2.retry_is; sent = w.2.sent; fits = w.2.fits }, w.3)
+    let w = c.make.ensures.led lens recover retry missed number (record { switch = c.args.self.now.lan.switch; forwards = λ k. forwards_at c.args.self.now.posts.items k }) as' (omega (arith, admitted.few, none)) (c.admit.ensures.takes.takes _ [] (omega (arith, none)) (has_none _ _ c.begins.ensures.switch c.begins.ensures.none)) (unlisted (record c.args.self.now { list = c.clear.new.self; lan = c.begins.new.self }) c.admit.new.self c.clear.ensures.none c.clear.ensures.last c.admit.ensures.list c.admit.ensures.same.0) (subst (λ z. list_any (λ s. is_live s.stand) z.stops.items ≡ true) (sym c.admit.ensures.same.1) (sym c.has_live.ensures ∙ live)) (shows_same lens recover retry missed as' _ c.admit.new.self c.admit.ensures.same.1 c.admit.ensures.same.0 x) in
+    (w.0, w.1, record { each = w.2.each; distinct = w.2.distinct; quiet = w.2.quiet; goes = w.2.goes; missed_is = w.2.missed_is; retry_is = w.2.retry_is; sent = w.2.sent; fits = w.2.fits }, w.3, services_made _ _ _ c.make.new.self _ c.made.ensures.last refl w.6)
 
 pub returns-then-not-has_live-clause-joins : goal.returns-then-not-has_live-clause-joins
 returns-then-not-has_live-clause-joins c = each_same _ c.args.self.now.tour.stops.items (λ s. refl)
@@ -50,7 +52,7 @@ returns-clause-toured c = λ h lens recover retry missed as' us x y.
     let live : c.has_live.result ≡ true = cc in
     let none = ap length c.begins.ensures.none in
     let admitted = c.admit.ensures.lan in
-    let w = c.make.ensures.led lens recover retry missed 0 m.lan.switch as' (omega (arith, admitted.few, none)) (c.admit.ensures.takes.takes _ [] (omega (arith, none)) (has_none _ _ c.begins.ensures.switch c.begins.ensures.none)) (subst (λ z. list_any (λ s. is_live s.stand) z.stops.items ≡ true) (sym c.admit.ensures.same.1) (sym c.has_live.ensures ∙ live)) (shows_same lens recover retry missed as' _ n c.admit.ensures.same.1 c.admit.ensures.same.0 x) in
+    let w = c.make.ensures.led lens recover retry missed 0 (record { switch = m.lan.switch; forwards = λ k. forwards_at m.posts.items k }) as' (omega (arith, admitted.few, none)) (c.admit.ensures.takes.takes _ [] (omega (arith, none)) (has_none _ _ c.begins.ensures.switch c.begins.ensures.none)) (unlisted (record c.args.self.now { list = c.clear.new.self; lan = c.begins.new.self }) c.admit.new.self c.clear.ensures.none c.clear.ensures.last c.admit.ensures.list c.admit.ensures.same.0) (subst (λ z. list_any (λ s. is_live s.stand) z.stops.items ≡ true) (sym c.admit.ensures.same.1) (sym c.has_live.ensures ∙ live)) (shows_same lens recover retry missed as' _ n c.admit.ensures.same.1 c.admit.ensures.same.0 x) in
     let same : tour_of n ≡ tour_of m = tour_by m n m.tour refl c.admit.ensures.same.1 in (
       w.4 ∙ same,
       turns_tour lens recover c.make.new.into.items (λ k. holds_at is_live_lead as' k) (frame_size c.make.new.into.items) (λ k. area_at lens as' k) (tour_of m) us c.make.new.self.tour.stops.items (length (seen lens c.make.new.into.items)) c.make.new.self.tour.visit.items y.each
@@ -78,7 +80,7 @@ returns-clause-visits c = λ h lens recover retry missed as' us x y.
     let live : c.has_live.result ≡ true = cc in
     let none = ap length c.begins.ensures.none in
     let admitted = c.admit.ensures.lan in
-    let w = c.make.ensures.led lens recover retry missed 0 m.lan.switch as' (omega (arith, admitted.few, none)) (c.admit.ensures.takes.takes _ [] (omega (arith, none)) (has_none _ _ c.begins.ensures.switch c.begins.ensures.none)) (subst (λ z. list_any (λ s. is_live s.stand) z.stops.items ≡ true) (sym c.admit.ensures.same.1) (sym c.has_live.ensures ∙ live)) (shows_same lens recover retry missed as' _ n c.admit.ensures.same.1 c.admit.ensures.same.0 x) in
+    let w = c.make.ensures.led lens recover retry missed 0 (record { switch = m.lan.switch; forwards = λ k. forwards_at m.posts.items k }) as' (omega (arith, admitted.few, none)) (c.admit.ensures.takes.takes _ [] (omega (arith, none)) (has_none _ _ c.begins.ensures.switch c.begins.ensures.none)) (unlisted (record c.args.self.now { list = c.clear.new.self; lan = c.begins.new.self }) c.admit.new.self c.clear.ensures.none c.clear.ensures.last c.admit.ensures.list c.admit.ensures.same.0) (subst (λ z. list_any (λ s. is_live s.stand) z.stops.items ≡ true) (sym c.admit.ensures.same.1) (sym c.has_live.ensures ∙ live)) (shows_same lens recover retry missed as' _ n c.admit.ensures.same.1 c.admit.ensures.same.0 x) in
     all_visit lens recover c.make.new.into.items us c.make.new.self.tour.stops.items (sent_at _ _ _ _ c.make.new.self.tour.stops.items _ _ w.5 y.fits.fit) y.each
 
 pub returns-clause-takes : goal.returns-clause-takes

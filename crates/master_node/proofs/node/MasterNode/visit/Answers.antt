@@ -19,8 +19,10 @@ use Rattle.master_node.specs.Filling.{StopFills}
 use Rattle.master_node.specs.Shows.{lived_of}
 use Rattle.master_node.proofs.Lists.{steps_map, steps_holds, steps_each, each_trans}
 use Rattle.master_node.proofs.Filleds.{count_behind}
-use Rattle.master_node.proofs.Visits.{Fitted, Began, here, what, now, comes, frame, spot, leaves, waits_none, among, among_fitted}
+use Rattle.master_node.proofs.Visits.{Fitted, Began, here, what, now, comes, frame, spot, leaves, waits_none, told, among, among_fitted}
 use Rattle.master_node.proofs.Begins.{begun_step}
+use Rattle.master_node.specs.Listing.{number_at}
+use Rattle.master_node.proofs.Listing.{laid_from, listed_on, listed_step, listed_visit, number_here}
 use Rattle.master_node.specs.Begins.{NoneMore, TakesOn, taken_where}
 use Rattle.std.proofs.Common.{◌∙◌}
 use Rattle.master_node.proofs.Lists.{steps_each, each_trans}
@@ -41,7 +43,7 @@ use Rattle.master_node.proofs.Made.{makes_none, makes_then}
 use Rattle.master_node.proofs.node.MasterNode.visit.Goals as goal
 
 pub returns-then-not-fits-clause-led : goal.returns-then-not-fits-clause-led
-returns-then-not-fits-clause-led c = λ lens recover made from left next as' room quiet d at over fewer f.
+returns-then-not-fits-clause-led c = λ lens recover made from left next as' room rows quiet d at over fewer f.
     let m = c.args.self.now in
     let e = c.fits.ensures in
     let s0 = m.tour.stops.items in
@@ -53,6 +55,7 @@ returns-then-not-fits-clause-led c = λ lens recover made from left next as' roo
           (e.made (speech_at lens) is_followed is_passed made recover (m.made % 256) m.tour.count lens left (map lived_of as') c.args.into.now.items f.begun d at f.frame);
       among = among_fitted lens f.begun left as' c.args.place s0 s1 fitted f.among;
       packets = f.packets;
+      listing = listed_on from.forwards left f.begun as' m _ refl refl f.listing;
     }
 
 pub returns-clause-first : goal.returns-clause-first
@@ -66,7 +69,7 @@ returns-clause-first c = λ e live.
     (refl, c.came.ensures.kept.0.count ∙ c.visit-began.ensures.first e (second ∙ first ∙ live) ∙ ap (λ n. n + 1) (c.lay.ensures.kept.0.count ∙ c.fits.ensures.count))
 
 pub returns-clause-led : goal.returns-clause-led
-returns-clause-led c = λ lens recover made from left next as' room quiet d at over fewer f.
+returns-clause-led c = λ lens recover made from left next as' room rows quiet d at over fewer f.
     let m = c.args.self.now in
     let e = c.fits.ensures in
     let v = c.visit-began.ensures in
@@ -96,10 +99,14 @@ returns-clause-led c = λ lens recover made from left next as' room quiet d at o
       frame = subst (λ n. FrameMade (λ ds i a s. StopFills lens recover made begun (c.came.new.self.made % 256) next ds i a s) c.visit-began.new.frame.items n (map lived_of as') s4) (sym c.came.ensures.kept.0.count)
           (subst (λ k. FrameMade (λ ds i a s. StopFills lens recover made begun k next ds i a s) c.visit-began.new.frame.items c.visit-began.new.self.count (map lived_of as') s4) (sym same) made_frame);
       among = among coming r place s0 s1 s2 s3 s4 rooms coms fitted laid began came lens f.begun left next as' fewer at over d f.among;
-      packets = begun_step from left next f.begun as' m.lan c.came.new.self.lan place (here coming r place s0 s1 s2 s3 s4 rooms coms fitted laid began came) (what coming r place s0 s1 s2 s3 s4 rooms coms fitted laid began came)
+      packets = begun_step from.switch left next f.begun as' m.lan c.came.new.self.lan place (here coming r place s0 s1 s2 s3 s4 rooms coms fitted laid began came) (what coming r place s0 s1 s2 s3 s4 rooms coms fitted laid began came)
           (taken_where r m.lan place coming) d (spot coming r place s0 s1 s2 s3 s4 rooms coms fitted laid began came lens f.begun left as' f.among) room at over fewer
           (leaves coming r place s0 s1 s2 s3 s4 rooms coms fitted laid began came m.lan c.lay.ensures.oldest) (subst (λ z. TakesOn (taken_where r z place coming) z c.came.new.self.lan) c.lay.ensures.lan c.came.ensures.takes) (subst (λ z. NoneMore z c.came.new.self.lan) c.lay.ensures.lan c.came.ensures.fewer)
           (waits_none coming r place s0 s1 s2 s3 s4 rooms coms fitted laid began came m.lan c.coming-coming.ensures.first) f.packets;
+      listing = listed_step from.forwards left next f.begun as' m c.came.new.self place (here coming r place s0 s1 s2 s3 s4 rooms coms fitted laid began came) (what coming r place s0 s1 s2 s3 s4 rooms coms fitted laid began came) d (spot coming r place s0 s1 s2 s3 s4 rooms coms fitted laid began came lens f.begun left as' f.among) at over fewer
+          (listed_visit place (number_at as' place) coming r (what coming r place s0 s1 s2 s3 s4 rooms coms fitted laid began came) m _ c.came.new.self c.lay.ensures.list rows
+          (laid_from coming (number_at as' place) place m.posts.items c.lay.new.self.posts.items s0 s1 s2 (number_here lens f.begun left (λ s t. Fitted s t) (λ s t k. k.script) 0 place place as' s0 s1 (omega arith) at f.among fitted) c.lay.ensures.origins)
+          c.came.ensures.lists (λ forwards o h. told coming r place s0 s1 s2 s3 s4 rooms coms fitted laid began came (number_at as' place) forwards o h)) f.listing;
     }
 
 pub returns-then-not-fits-clause-counts : goal.returns-then-not-fits-clause-counts
@@ -254,3 +261,9 @@ returns-clause-eager c = λ quiet under.
     let second = steps_trans same _ (λ s t. StopGoes s t) place s0 s2 s3 (λ x y z a b. (b.0 ∙ a, λ h u. b.1)) first (steps_both _ _ place s2 s3 v.recalled v.takes) in
     each_trans (λ s t. StopGoes s t) s0 s3 s4 (λ x y z a b. (b.0 ∙ a.0, λ h. b.1 (a.1 h))) (steps_each _ (λ s t. StopGoes s t) place s0 s3 (λ s. (refl, λ h. h)) (λ s t p. p) second)
     (each_map _ (λ s t. StopGoes s t) s3 s4 (λ s t k. goes_kept k.number s t k.kept) kept)
+
+pub returns-then-not-fits-clause-events : goal.returns-then-not-fits-clause-events
+returns-then-not-fits-clause-events c = omega arith
+
+pub returns-clause-events : goal.returns-clause-events
+returns-clause-events c = let e = ap (λ z. z.count) c.lay.ensures.list in let f = c.came.ensures.events in omega (arith, e, f)
