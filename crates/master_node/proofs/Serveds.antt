@@ -45,7 +45,9 @@ use Rattle.master_node.proofs.Goings.{ahead_behind}
 
 -- the number of the frame under way is one less than that of the next
 pub back_made : (m made : ℕ) → m ≡ suc made → suc made < 2 ^ 32 → (m + (2 ^ 32 - 1)) % 2 ^ 32 ≡ made
-back_made m made e l = ap (λ z. z % 2 ^ 32) (omega (arith, e) : m + (2 ^ 32 - 1) ≡ made + 2 ^ 32) ∙ add-mod_right made (2 ^ 32) ∙ mod-eq_of_lt (omega (arith, l))
+back_made m made e l =
+    let n : m + (2 ^ 32 - 1) ≡ made + 2 ^ 32 = omega (arith, e) in
+    ap (λ z. z % 2 ^ 32) n ∙ add-mod_right made (2 ^ 32) ∙ mod-eq_of_lt (omega (arith, l))
 
 -- where the life is open the master has it so
 open_stand : (shows : Side Body Asked Reply → Account Asked Reply → Type 0) (spot : Spot) (stand : Stand) (l : Life Body Asked Reply) → StandShows shows spot stand l → l.stand ≡ Lives.Stand.Open → stand ≡ Stand.Open
@@ -105,8 +107,8 @@ module _ (lens : ℕ → Lens) (recover retry : ℕ) where
     served_so : {G : Ghosts InHand} (f : Exchanged) (octets back : List ℕ) (v : ServedTurn) (p q : Post) (s t : Stop InHand G) → IsServedUnder lens recover octets made v p s → Returns (seen lens octets) (seen lens back) →
         ((ns : List (News Body)) → IsLived lens recover (lived_back (speech_at lens v.turn.lived.spot) acknowledged is_followed is_passed made (seen lens back) v.turn.lived (record { under = s.under; at = s.at }) ns) t) →
         StandPassing t.stand (awaits_reply t.side.hand.course t.side.hand.which t.side.hand.clients) t.side.passing
-            (life_back (speech_at lens v.turn.lived.spot) acknowledged is_followed is_passed made v.turn.lived.spot (news_back s.side.station v.kept (counts_at s.side.read_at s.side.pace made) (seen lens back)) (seen lens back)
-            (came_at s.under s.at (seen lens back)) v.turn.lived.life v.turn.lived.life.stand) →
+        (life_back (speech_at lens v.turn.lived.spot) acknowledged is_followed is_passed made v.turn.lived.spot (news_back s.side.station v.kept (counts_at s.side.read_at s.side.pace made) (seen lens back)) (seen lens back)
+        (came_at s.under s.at (seen lens back)) v.turn.lived.life v.turn.lived.life.stand) →
         CountsOn made (seen lens back) s t v.turn.lived.life → t.side.pace ≡ s.side.pace → scripted t.side.hand.laying ≡ scripted s.side.hand.laying → waits_of q ≡ waits_of p →
         IsServed lens recover (suc made) (served_behind lens recover retry gives made (passed_so f back) v) q t
     served_so f octets back v p q s t i r lives passes counts pace script waits =
@@ -117,13 +119,13 @@ module _ (lens : ℕ → Lens) (recover retry : ℕ) where
         let news = news_back spot.station v.kept v.counts (seen lens back) in
         let share : record { under = s.under; at = s.at } ≡ v.turn.share = λ j. record { under = (sym i.under) j; at = (sym i.at) j } in
         let station = h.lives.planned.stands.station_is in
-        let open = open_stand (λ d b. side_shows lens recover s spot d b) spot s.stand l h.lives.shown.stood in
+        let stands = open_stand (λ d b. side_shows lens recover s spot d b) spot s.stand l h.lives.shown.stood in
         let same : l.stand ≡ Lives.Stand.Open → news_back s.side.station v.kept (counts_at s.side.read_at s.side.pace made) (seen lens back) ≡ news = λ o.
-            (λ j. news_back (station j) v.kept ((counts_is s.stand s.side.read_at s.side.pace made v.counts (open o) h.counts) j) (seen lens back)) in
+        (λ j. news_back (station j) v.kept ((counts_is s.stand s.side.read_at s.side.pace made v.counts (stands o) h.counts) j) (seen lens back)) in
         let under : l.stand ≡ Lives.Stand.Open → Under spot.station s.at s.under s.side.carried l.era.side.halves (duty_access l.era.account.hand) (seen lens back) = λ o.
-            subst (λ z. Under z s.at s.under s.side.carried l.era.side.halves (duty_access l.era.account.hand) (seen lens back)) station
-            (under_back s.side.station s.at s.under s.side.carried l.era.side.halves (duty_access l.era.account.hand) (seen lens octets) (seen lens back) r
-            (subst (λ z. StandUnder lens s.side.station s.at s.under s.side.carried z l (seen lens octets)) (open o) i.way)) in
+        subst (λ z. Under z s.at s.under s.side.carried l.era.side.halves (duty_access l.era.account.hand) (seen lens back)) station
+        (under_back s.side.station s.at s.under s.side.carried l.era.side.halves (duty_access l.era.account.hand) (seen lens octets) (seen lens back) r
+        (subst (λ z. StandUnder lens s.side.station s.at s.under s.side.carried z l (seen lens octets)) (stands o) i.way)) in
         record {
           lives = subst (λ z. IsLived lens recover (lived_back x acknowledged is_followed is_passed made (seen lens back) v.turn.lived z news) t) share (lives news);
           script = ap (λ z. z.script) script ∙ h.script;
@@ -143,8 +145,8 @@ module _ (lens : ℕ → Lens) (recover retry : ℕ) where
     pub served_back : {G : Ghosts InHand} (f : Exchanged) (octets back : List ℕ) (v : ServedTurn) (p q : Post) (s t : Stop InHand G) → f.fate ≡ Pass → f.back ≡ back → IsServedUnder lens recover octets made v p s → Returns (seen lens octets) (seen lens back) →
         ((ns : List (News Body)) → IsLived lens recover (lived_back (speech_at lens v.turn.lived.spot) acknowledged is_followed is_passed made (seen lens back) v.turn.lived (record { under = s.under; at = s.at }) ns) t) →
         StandPassing t.stand (awaits_reply t.side.hand.course t.side.hand.which t.side.hand.clients) t.side.passing
-            (life_back (speech_at lens v.turn.lived.spot) acknowledged is_followed is_passed made v.turn.lived.spot (news_back s.side.station v.kept (counts_at s.side.read_at s.side.pace made) (seen lens back)) (seen lens back)
-            (came_at s.under s.at (seen lens back)) v.turn.lived.life v.turn.lived.life.stand) →
+        (life_back (speech_at lens v.turn.lived.spot) acknowledged is_followed is_passed made v.turn.lived.spot (news_back s.side.station v.kept (counts_at s.side.read_at s.side.pace made) (seen lens back)) (seen lens back)
+        (came_at s.under s.at (seen lens back)) v.turn.lived.life v.turn.lived.life.stand) →
         CountsOn made (seen lens back) s t v.turn.lived.life → t.side.pace ≡ s.side.pace → scripted t.side.hand.laying ≡ scripted s.side.hand.laying → waits_of q ≡ waits_of p →
         IsServed lens recover (suc made) (served_behind lens recover retry gives made f v) q t
     served_back f octets back v p q s t is b i r lives passes counts pace script waits =
@@ -160,8 +162,10 @@ module _ (lens : ℕ → Lens) (recover retry : ℕ) where
       all_served octets T E [] [] [] [] (y ∷ ts) i w t e h = absurd e
       all_served octets T E [] [] (q ∷ qs) [] ts i w t e h = absurd (cc)
       all_served octets T E [] [] qs (s ∷ ss) ts i w t e h = absurd i
-      all_served octets T E [] (p ∷ ps) qs ss ts i w t e h = absurd i
-      all_served octets T E (v ∷ vs) [] qs ss ts i w t e h = absurd i
+      all_served octets T E [] (p ∷ ps) qs [] ts i w t e h = absurd i
+      all_served octets T E [] (p ∷ ps) qs (s ∷ ss) ts i w t e h = absurd i
+      all_served octets T E (v ∷ vs) [] qs [] ts i w t e h = absurd i
+      all_served octets T E (v ∷ vs) [] qs (s ∷ ss) ts i w t e h = absurd i
       all_served octets T E (v ∷ vs) (p ∷ ps) qs [] ts i w t e h = absurd i
       all_served octets T E (v ∷ vs) (p ∷ ps) [] (s ∷ ss) ts i w t e h = absurd (cc)
       all_served octets T E (v ∷ vs) (p ∷ ps) (q ∷ qs) (s ∷ ss) [] i w t e h = absurd e
@@ -233,8 +237,10 @@ module _ (lens : ℕ → Lens) (recover retry : ℕ) where
   pub opens_served : {G : Ghosts InHand} (made : ℕ) (ws : List Serves) (qs : List Post) (ts : List (Stop InHand G)) → AllThree (λ w q t. IsServed lens recover made w q t) ws qs ts → (k : ℕ) → holds_at (λ s. is_opened s.stand) ts k ≡ holds_at is_opening_lead (map run_lead ws) k
   opens_served made [] [] [] h k = refl
   opens_served made [] [] (t ∷ ts) h k = absurd h
-  opens_served made [] (q ∷ qs) ts h k = absurd h
-  opens_served made (w ∷ ws) [] ts h k = absurd h
+  opens_served made [] (q ∷ qs) [] h k = absurd h
+  opens_served made [] (q ∷ qs) (t ∷ ts) h k = absurd h
+  opens_served made (w ∷ ws) [] [] h k = absurd h
+  opens_served made (w ∷ ws) [] (t ∷ ts) h k = absurd h
   opens_served made (w ∷ ws) (q ∷ qs) [] h k = absurd h
   opens_served made (w ∷ ws) (q ∷ qs) (t ∷ ts) h zero = stand_opens w.lead.lived t h.0.lives
   opens_served made (w ∷ ws) (q ∷ qs) (t ∷ ts) h (suc k) = opens_served made ws qs ts h.1 k
@@ -242,8 +248,10 @@ module _ (lens : ℕ → Lens) (recover retry : ℕ) where
   pub long_served : {G : Ghosts InHand} (made : ℕ) (ws : List Serves) (qs : List Post) (ts : List (Stop InHand G)) → AllThree (λ w q t. IsServed lens recover made w q t) ws qs ts → length ts ≡ length (map run_lead ws)
   long_served made [] [] [] h = refl
   long_served made [] [] (t ∷ ts) h = absurd h
-  long_served made [] (q ∷ qs) ts h = absurd h
-  long_served made (w ∷ ws) [] ts h = absurd h
+  long_served made [] (q ∷ qs) [] h = absurd h
+  long_served made [] (q ∷ qs) (t ∷ ts) h = absurd h
+  long_served made (w ∷ ws) [] [] h = absurd h
+  long_served made (w ∷ ws) [] (t ∷ ts) h = absurd h
   long_served made (w ∷ ws) (q ∷ qs) [] h = absurd h
   long_served made (w ∷ ws) (q ∷ qs) (t ∷ ts) h = ap suc (long_served made ws qs ts h.1)
 
@@ -251,7 +259,9 @@ module _ (lens : ℕ → Lens) (recover retry : ℕ) where
 pub three_both : {A B S C : Type 0} (R : A → B → S → Type 0) (Q : C → S → Type 0) (g : A → C) → ((a : A) (b : B) (s : S) → R a b s → Q (g a) s) → (as' : List A) (bs : List B) (ss : List S) → AllThree R as' bs ss → AllBoth Q (map g as') ss
 three_both R Q g h [] [] [] e = tt
 three_both R Q g h [] [] (s ∷ ss) e = absurd e
-three_both R Q g h [] (b ∷ bs) ss e = absurd e
-three_both R Q g h (a ∷ as') [] ss e = absurd e
+three_both R Q g h [] (b ∷ bs) [] e = absurd e
+three_both R Q g h [] (b ∷ bs) (s ∷ ss) e = absurd e
+three_both R Q g h (a ∷ as') [] [] e = absurd e
+three_both R Q g h (a ∷ as') [] (s ∷ ss) e = absurd e
 three_both R Q g h (a ∷ as') (b ∷ bs) [] e = absurd e
 three_both R Q g h (a ∷ as') (b ∷ bs) (s ∷ ss) e = (h a b s e.0, three_both R Q g h as' bs ss e.1)

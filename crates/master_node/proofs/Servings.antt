@@ -52,17 +52,18 @@ keyed_long (a ∷ as') = ap suc (keyed_long as')
 
 -- nothing of the lives changes by it
 pub leads_same : {S : Type 0} (f : Leads → S) (place : ℕ) (k : Keyed) (ws : List Serves) → map (λ w. f (run_lead w)) (asked_at place k ws) ≡ map (λ w. f (run_lead w)) ws
-leads_same f place k [] = refl
+leads_same f zero k [] = refl
+leads_same f (suc place) k [] = refl
 leads_same f zero k (w ∷ ws) = refl
 leads_same f (suc place) k (w ∷ ws) = ap (λ z. f w.lead ∷ z) (leads_same f place k ws)
 
 module _ {G : Ghosts InHand} (lens : ℕ → Lens) (recover made key : ℕ) (mail : Mail) where
   -- A MAIL THAT MAY BE ASKED was, and waits behind those that do
   pub record AsksSo (place : ℕ) (ws : List Serves) (qs : List Post) (ss : List (Stop InHand G)) : Type 0 where
-    pub keyed : Keyed
-    pub is : IsAsked key mail keyed
-    pub may : MayAsk lens place keyed ws
-    pub each : AllThree (λ w p s. IsServed lens recover made w p s) (asked_at place keyed ws) qs ss
+    pub asks : Keyed
+    pub is : IsAsked key mail asks
+    pub may : MayAsk lens place asks ws
+    pub each : AllThree (λ w p s. IsServed lens recover made w p s) (asked_at place asks ws) qs ss
 
   one_more : (w : Serves) (p q : Post) (s : Stop InHand G) (a : AppendsMail key mail p.mails.items q.mails.items) → 6 + length mail.body.items ≤ (lens w.lead.lived.spot.station).out → IsServed lens recover made w p s →
       IsServed lens recover made (record w { asked = w.asked ++ keyed a.asked ∷ []; waits = w.waits ++ keyed a.asked ∷ [] }) q s
@@ -81,9 +82,12 @@ module _ {G : Ghosts InHand} (lens : ℕ → Lens) (recover made key : ℕ) (mai
 
   pub asked_so : (place : ℕ) (ws : List Serves) (ps qs : List Post) (ss : List (Stop InHand G)) → waiting_at ps place < 64 → FitsAt lens place (length mail.body.items) ws → AllThree (λ w p s. IsServed lens recover made w p s) ws ps ss →
       StepsAt (λ p q. AppendsMail key mail p.mails.items q.mails.items) place ps qs → AsksSo place ws qs ss
-  asked_so place [] ps qs ss l f h e = absurd f
-  asked_so zero (w ∷ ws) [] qs ss l f h e = absurd h
-  asked_so (suc place) (w ∷ ws) [] qs ss l f h e = absurd h
+  asked_so zero [] ps qs ss l f h e = absurd f
+  asked_so (suc place) [] ps qs ss l f h e = absurd f
+  asked_so zero (w ∷ ws) [] qs [] l f h e = absurd h
+  asked_so zero (w ∷ ws) [] qs (s ∷ ss) l f h e = absurd h
+  asked_so (suc place) (w ∷ ws) [] qs [] l f h e = absurd h
+  asked_so (suc place) (w ∷ ws) [] qs (s ∷ ss) l f h e = absurd h
   asked_so zero (w ∷ ws) (p ∷ ps) [] ss l f h e = absurd e
   asked_so (suc place) (w ∷ ws) (p ∷ ps) [] ss l f h e = absurd e
   asked_so zero (w ∷ ws) (p ∷ ps) (q ∷ qs) [] l f h e = absurd h
@@ -91,14 +95,14 @@ module _ {G : Ghosts InHand} (lens : ℕ → Lens) (recover made key : ℕ) (mai
   asked_so zero (w ∷ ws) (p ∷ ps) (q ∷ qs) (s ∷ ss) l f h e =
       let a = e.0 in
       record {
-        keyed = record { key = a.asked.key; mail = a.asked.mail };
+        asks = record { key = a.asked.key; mail = a.asked.mail };
         is = record { key_is = a.key_is; bare = a.bare; kind = a.kind; body = a.body };
         may = (subst (λ z. length z < 64) h.0.waits (subst (λ n. n < 64) (sym (keyed_long p.mails.items)) l), subst (λ z. 6 + length z ≤ (lens w.lead.lived.spot.station).out) (sym a.body) f);
         each = (one_more w p q s a f h.0, subst (λ z. AllThree (λ w p s. IsServed lens recover made w p s) ws z ss) (sym e.1) h.1);
       }
   asked_so (suc place) (w ∷ ws) (p ∷ ps) (q ∷ qs) (s ∷ ss) l f h e =
       let a = asked_so place ws ps qs ss l f h.1 e.1 in
-      record { keyed = a.keyed; is = a.is; may = a.may; each = (subst (λ z. IsServed lens recover made w z s) (sym e.0) h.0, a.each) }
+      record { asks = a.asks; is = a.is; may = a.may; each = (subst (λ z. IsServed lens recover made w z s) (sym e.0) h.0, a.each) }
 
 -- A MASTER THAT ONLY TELLS
 pub tells_refl : (m : MasterNode) → TellsOnly m m
@@ -125,12 +129,14 @@ both_more R (y ∷ xs) (t ∷ ss) x s a p = (a.0, both_more R xs ss x s a.1 p)
 
 -- BEFORE THE FIRST FRAME
 pub run_all : (paces : List ℕ) (as' : List Leads) → map run_lead (all_serve paces as') ≡ as'
-run_all paces [] = refl
+run_all [] [] = refl
+run_all (pace ∷ paces) [] = refl
 run_all [] (a ∷ as') = ap (λ z. a ∷ z) (run_all [] as')
 run_all (pace ∷ paces) (a ∷ as') = ap (λ z. a ∷ z) (run_all paces as')
 
 pub lives_all : (paces : List ℕ) (as' : List Leads) → map (λ w. lived_of (run_lead w)) (all_serve paces as') ≡ map lived_of as'
-lives_all paces [] = refl
+lives_all [] [] = refl
+lives_all (pace ∷ paces) [] = refl
 lives_all [] (a ∷ as') = ap (λ z. a.lived ∷ z) (lives_all [] as')
 lives_all (pace ∷ paces) (a ∷ as') = ap (λ z. a.lived ∷ z) (lives_all paces as')
 
@@ -173,10 +179,11 @@ module _ {G : Ghosts InHand} (lens : ℕ → Lens) (recover : ℕ) where
 
   pub firsts_served : (paces : List ℕ) (as' : List Leads) (ps : List Post) (ss : List (Stop InHand G)) → AllBoth (λ a s. IsLead lens recover a s) as' ss → AllBoth (λ pace s. IsPaced pace s) paces ss → All WaitsNone ps → length ps ≡ length ss →
       EachOf (λ a. LifeKept nothing_kept a.lived.life) as' → AllThree (λ w p s. IsServed lens recover 0 w p s) (all_serve paces as') ps ss
-  firsts_served paces [] [] [] l n w e k = tt
-  firsts_served paces [] (p ∷ ps) [] l n w e k = absurd (cc)
+  firsts_served [] [] [] [] l n w e k = tt
+  firsts_served (pace ∷ paces) [] [] [] l n w e k = absurd n
+  firsts_served paces [] (p ∷ ps) [] l n w e k = absurd (omega (arith, e))
   firsts_served paces [] ps (s ∷ ss) l n w e k = absurd l
   firsts_served paces (a ∷ as') ps [] l n w e k = absurd l
-  firsts_served paces (a ∷ as') [] (s ∷ ss) l n w e k = absurd (cc)
+  firsts_served paces (a ∷ as') [] (s ∷ ss) l n w e k = absurd (omega (arith, e))
   firsts_served [] (a ∷ as') (p ∷ ps) (s ∷ ss) l n w e k = absurd n
   firsts_served (pace ∷ paces) (a ∷ as') (p ∷ ps) (s ∷ ss) l n w e k = (first_served pace a p s l.0 n.0 (All-head WaitsNone p ps w) k.0, firsts_served paces as' ps ss l.1 n.1 (All-tail WaitsNone p ps w) (omega (arith, e)) k.1)

@@ -27,14 +27,18 @@ returns-clause-stays c = λ r.
 pub returns-clause-served : goal.returns-clause-served
 returns-clause-served c = λ lens recover retry missed made ws r f h.
     let m = c.args.self.now in
-    let a = asked_so lens recover made c.args.key c.args.mail.now c.args.slave ws m.posts.items _ m.tour.stops.items r f h.each (returns-clause-waits c r) in
-    (a.keyed, a.is, a.may, record {
-      each = a.each;
-      distinct = subst (λ z. AreDistinct z) (sym (leads_same lived_of c.args.slave a.keyed ws)) h.distinct;
-      goes = subst (λ z. GoesOn m.tour.again m.tour.visit.items m.tour.opened z) (sym (leads_same (λ l. l) c.args.slave a.keyed ws)) h.goes;
-      missed_is = h.missed_is;
-      retry_is = h.retry_is;
-      again = h.again;
-      made_is = h.made_is;
-      early = h.early;
-    })
+    let a = asked_so lens recover made c.args.key c.args.mail.now c.args.slave ws m.posts.items _ m.tour.stops.items r f h.each (returns-clause-waits c r) in (
+      a.asks,
+      a.is,
+      a.may,
+      record {
+        each = a.each;
+        distinct = subst (λ z. AreDistinct z) (sym (leads_same lived_of c.args.slave a.asks ws)) h.distinct;
+        goes = subst (λ z. GoesOn m.tour.again m.tour.visit.items m.tour.opened z) (sym (leads_same (λ l. l) c.args.slave a.asks ws)) h.goes;
+        missed_is = h.missed_is;
+        retry_is = h.retry_is;
+        again = h.again;
+        made_is = h.made_is;
+        early = h.early;
+      },
+    )
