@@ -13,8 +13,6 @@ mod made;
 #[cfg(test)]
 mod refusals;
 #[cfg(test)]
-mod rows;
-#[cfg(test)]
 mod servings;
 #[cfg(test)]
 mod stage;

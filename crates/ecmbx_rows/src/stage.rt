@@ -90,18 +90,3 @@ pub fn check(alloc: Global, case: &Case<'_>) -> Result<(), Fail> {
     }
     Ok(())
 }
-
-/// The same for a scenario that is run whole, without faults.
-pub fn check_run(alloc: Global, file: &[u8], status: Status, text: &str) -> Result<(), Fail> {
-    check(
-        alloc,
-        &Case {
-            words: &["run", "scenario.toml"],
-            file,
-            failing_file: None,
-            failing_put: None,
-            status,
-            text,
-        },
-    )
-}

@@ -36,3 +36,4 @@ pub mod Visitings
 pub mod Eagers
 pub mod Servings
 pub mod Serveds
+pub mod Entering

@@ -43,3 +43,6 @@ pub mod Arrivals
 pub mod Eager
 pub mod Resting
 pub mod Serving
+pub mod Entering
+pub mod Starts
+pub mod Recalled

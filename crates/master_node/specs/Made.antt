@@ -1,5 +1,5 @@
 -- WHAT IS LISTED WHILE A FRAME IS MADE: a packet of the host that comes in, and packets that begin.
-use Rattle.std.specs.Prelude.{◌≡◌, ℕ, List, All, ⊤}
+use Rattle.std.specs.Prelude.{◌≡◌, ℕ, List, ◌++◌, All, ⊤}
 use Rattle.eoe_switch.specs.declared.switching.SwitchEvent.{SwitchEvent}
 use Rattle.eoe_switch.specs.declared.switching.SwitchEvent.TheVariants.{Arrive, Begun, Down}
 use Rattle.master_node.specs.declared.happened.Happening.{Happening}
@@ -19,3 +19,4 @@ AreOfMaking rows = All (λ (r : Happening). IsOfMaking r.event) rows
 pub record Makes (l l' : Lan) : Type 0 where
   pub ports : l'.ports ≡ l.ports
   pub only : AreOfMaking l.happened → AreOfMaking l'.happened
+  pub more : (rest : List Happening) × (l'.happened ≡ l.happened ++ rest)

@@ -112,6 +112,7 @@ impl Lan {
     ghost use Rattle.master_node.specs.Happened.{HasHappened, Happens, HappensSo, Comes, NoneWaits};
     ghost use Rattle.master_node.specs.Downs.{Lists, down_by};
     ghost use Rattle.master_node.specs.Arrivals.{arrive_by};
+    ghost use Rattle.master_node.specs.Entering.{EntersFirst};
     ghost use Rattle.master_node.specs.Made.{Makes};
     ghost use Rattle.master_node.specs.Begins.{NoneMore, TakesOn, oldest_by};
     ghost use Rattle.std.specs.Bool.{OnTrue};
@@ -159,7 +160,8 @@ impl Lan {
 
     /// Whether no packet waits at any port.
     pub fn is_quiet(&self) -> bool
-        ensures { OnTrue result (NoneWaits self.now.switch) }
+        ensures none { OnTrue result (NoneWaits self.now.switch) }
+        ensures quiet { NoneWaits self.now.switch → result ≡ true }
     {
         for port in 0..PORTS {
             if self.switch.waiting(port) > 0 {
@@ -182,6 +184,7 @@ impl Lan {
         ensures none { self.new.happened ≡ [] }
         ensures ports { self.new.ports ≡ self.old.ports }
         ensures switch { self.new.switch ≡ self.old.switch }
+        ensures host { (self.new.host ≡ self.old.host) × (self.new.entered ≡ self.old.entered) }
     {
         self.happened.clear();
     }
@@ -196,6 +199,7 @@ impl Lan {
     /// The next packet of the host comes in, where none waits.
     pub fn enter(&mut self)
         requires { NoneWaits self.old.switch }
+        ensures enters { nat_lt self.old.entered (length self.old.host) ≡ true → self.old.happened ≡ [] → EntersFirst self.new.happened }
         ensures happens { Happens 1 self.old self.new }
         ensures made { Makes self.old self.new }
         ensures takes { TakesOn [] self.old self.new }

@@ -79,7 +79,9 @@ impl MasterNode {
     ghost use Rattle.master_node.specs.Eager.{AllTakeUp, AllVisit, EagerFrom, EagerOn, recalls};
     ghost use Rattle.master_node.specs.Toured.{StaysPut, TakesPart, IsBare, HasVisited, stop_share, turn_share, tour_of};
     ghost use Rattle.master_node.specs.Happened.{Happens, HappensSo};
+    ghost use Rattle.master_node.specs.Entering.{AllStopsRest, EntersFirst, HostMayEnter};
     ghost use Rattle.master_node.specs.Made.{Makes, AreOfMaking};
+    ghost use Rattle.master_node.specs.Resting.{AllRest, StopRests};
     ghost use Rattle.master_node.specs.Listing.{Before, IsUnlisted, ListsOne, ServicesBegin, where_began};
     ghost use Rattle.master_node.specs.Origins.{LaysFrom, forwards_at};
     ghost use Rattle.master_node.specs.Begins.{HasTaken, IsOldest, LaysOldest, NoneMore, PacketFirst, PacketsBegin, TakesOn, taken_for, taken_where};
@@ -91,10 +93,24 @@ impl MasterNode {
         self.tour.stops.iter().any(|stop| stop.is_live())
     }
 
-    // Whether a live slave has a packet in hand.
-    fn has_packet(&self) -> bool {
+    // Whether an open slave has a packet in hand.
+    fn holds_packet(&self, place: usize) -> bool
+        requires { place < vec_len self.now.posts }
+        ensures { IfSome (slice_get self.now.tour.stops.items place) (λ s. StopRests self.now.lan place s) → result ≡ false }
+    {
+        let stop = &self.tour.stops[place];
+        if !matches!(stop.stand, Stand::Open) || stop.side.is_free() {
+            return false;
+        }
+        matches!(self.posts[place].work, Work::Packet)
+    }
+
+    // Whether one of them has.
+    fn has_packet(&self) -> bool
+        ensures { AllStopsRest self.now → result ≡ false }
+    {
         for place in 0..self.posts.len() {
-            if matches!(self.posts[place].work, Work::Packet) {
+            if self.holds_packet(place) {
                 return true;
             }
         }
@@ -103,6 +119,7 @@ impl MasterNode {
 
     // A packet of the host comes into the switch, where one may.
     fn admit(&mut self)
+        ensures enters { AllStopsRest self.old → HostMayEnter self.old.lan → self.old.lan.happened ≡ [] → EntersFirst self.new.lan.happened }
         ensures same { (self.new.posts ≡ self.old.posts) × (self.new.tour ≡ self.old.tour) }
         ensures lan { Happens 1 self.old.lan self.new.lan }
         ensures made { Makes self.old.lan self.new.lan }
@@ -402,7 +419,8 @@ impl MasterNode {
     /// what came into hand of each is next of its script, or a packet. It carries the slaves of its visit of the tour, in this order: behind a lost frame
     /// just the same again; of a round the first, and it leaves out none that would fit. Of an open slave whose last read was lost it has no datagram but the
     /// one by which that read is repeated; with nothing in doubt it has the write of the mail held, the read of mailbox 1 or that of the status of mailbox 0, by
-    /// what is remembered of its visits; and behind its visit no mail is left that could be held. The packets that came into hand are just those that leave their ports of the switch, each the oldest there.
+    /// what is remembered of its visits; and behind its visit no mail is left that could be held. Where each slave was given up for good or rests and no packet
+    /// waits at any port, a packet of the host comes in, if one is left. The packets that came into hand are just those that leave their ports of the switch, each the oldest there.
     /// Just the services that came into hand are listed as begun, each with where it comes from and its number there.
     pub fn next(&mut self, into: &mut FrameBuf) -> Next
         ensures idle { (result ≡ Next.Idle) ↔ (list_any (λ s. is_live s.stand) self.old.tour.stops.items ≡ false) }
@@ -417,6 +435,7 @@ impl MasterNode {
         ensures visits { result ≡ Next.Frame → (lens : ℕ → Lens) (recover retry missed : ℕ) (as' : List Leads) (us : List Turn) → MasterShows lens recover retry self.old missed as' → MasterUnder lens recover retry self.new into.new.items missed us → AllVisit (seen lens into.new.items) (recalls self.new) us }
         ensures takes { result ≡ Next.Frame → (lens : ℕ → Lens) (recover retry missed : ℕ) (as' : List Leads) (us : List Turn) → MasterShows lens recover retry self.old missed as' → MasterUnder lens recover retry self.new into.new.items missed us → AllTakeUp lens (recalls self.new) us }
         ensures recalled { result ≡ Next.Frame → (lens : ℕ → Lens) (recover retry missed : ℕ) (as' : List Leads) → MasterShows lens recover retry self.old missed as' → recalls self.new ≡ recalls self.old }
+        ensures enters { result ≡ Next.Frame → (lens : ℕ → Lens) (recover retry missed : ℕ) (as' : List Leads) → MasterShows lens recover retry self.old missed as' → AllRest lens self.old.lan 0 (recalls self.old) as' → HostMayEnter self.old.lan → EntersFirst self.new.lan.happened }
         ensures joins { JoinsKept self.old self.new }
         ensures happened { HappensSo self.old.lan self.new.lan }
         ensures made { (self.new.lan.ports ≡ self.old.lan.ports) × AreOfMaking self.new.lan.happened }

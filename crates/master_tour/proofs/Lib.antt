@@ -18,4 +18,5 @@ pub mod Goes
 pub mod Joins
 pub mod Sizes
 pub mod Rooms
+pub mod Behinds
 pub mod Counting

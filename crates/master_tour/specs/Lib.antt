@@ -13,6 +13,7 @@ pub mod Toured
 pub mod Rooms
 pub mod Sizes
 pub mod Recalls
+pub mod Behind
 pub mod Stops
 pub mod Counting
 pub mod Frees

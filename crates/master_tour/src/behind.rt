@@ -35,6 +35,7 @@ impl<H: Hand> Tour<H> {
     ghost use Rattle.master_tour.specs.Goes.{is_opened, opened_behind};
     ghost use Rattle.std.specs.Prelude.{None};
     ghost use Rattle.master_tour.specs.Rooms.{LosesAgain};
+    ghost use Rattle.master_tour.specs.Behind.{StopBack, StopLost};
 
     // The place carried last, as the tour goes on from it: a first bring-up leaves none.
     fn last_behind(&self) -> Option<usize>
@@ -80,6 +81,9 @@ impl<H: Hand> Tour<H> {
         ensures joined { (lens : ℕ → Lens) (sent : List (Datagram Body)) → Returns sent (seen lens frame.now.items) → 1 ≤ length sent → EachPair (λ s t. (x : Speech Body H.Asked Reply) (recover : ℕ) (spot : Spot) (l : Life Body H.Asked Reply) →
             StopSpot spot s → StopUnder lens s l sent → StopLived s x recover spot l →
             Joins H.unjoined H.joined (H.completed t.side.hand) t.news t.side.heard (H.join s.side.hand) (H.join t.side.hand) (accepted_in spot l (seen lens frame.now.items))) self.old.stops.items self.new.stops.items }
+        ensures recalls { (lens : ℕ → Lens) (sent : List (Datagram Body)) → Returns sent (seen lens frame.now.items) → 1 ≤ length sent → EachPair (λ s t. (x : Speech Body H.Asked Reply) (recover : ℕ) (spot : Spot) (l : Life Body H.Asked Reply) →
+            StopSpot spot s → StopUnder lens s l sent → StopLived s x recover spot l →
+            StopBack x spot l (seen lens frame.now.items) (H.knows s.side.hand) (H.knows t.side.hand) s t) self.old.stops.items self.new.stops.items }
         ensures counts { (lens : ℕ → Lens) (sent : List (Datagram Body)) → Returns sent (seen lens frame.now.items) → 1 ≤ length sent → EachPair (λ s t. CameCounts lens sent (seen lens frame.now.items) made s t) self.old.stops.items self.new.stops.items }
         ensures pace { EachPair (λ s t. t.side.pace ≡ s.side.pace) self.old.stops.items self.new.stops.items }
     {
@@ -112,6 +116,9 @@ impl<H: Hand> Tour<H> {
         ensures joined { (lens : ℕ → Lens) (sent : List (Datagram Body)) → Returns sent (seen lens frame.now.items) → 1 ≤ length sent → EachPair (λ s t. (x : Speech Body H.Asked Reply) (recover : ℕ) (spot : Spot) (l : Life Body H.Asked Reply) →
             StopSpot spot s → StopUnder lens s l sent → StopLived s x recover spot l →
             Joins H.unjoined H.joined (H.completed t.side.hand) t.news t.side.heard (H.join s.side.hand) (H.join t.side.hand) (accepted_in spot l (seen lens frame.now.items))) self.old.stops.items self.new.stops.items }
+        ensures recalls { (lens : ℕ → Lens) (sent : List (Datagram Body)) → Returns sent (seen lens frame.now.items) → 1 ≤ length sent → EachPair (λ s t. (x : Speech Body H.Asked Reply) (recover : ℕ) (spot : Spot) (l : Life Body H.Asked Reply) →
+            StopSpot spot s → StopUnder lens s l sent → StopLived s x recover spot l →
+            StopBack x spot l (seen lens frame.now.items) (H.knows s.side.hand) (H.knows t.side.hand) s t) self.old.stops.items self.new.stops.items }
         ensures counts { (lens : ℕ → Lens) (sent : List (Datagram Body)) → Returns sent (seen lens frame.now.items) → 1 ≤ length sent → EachPair (λ s t. CameCounts lens sent (seen lens frame.now.items) made s t) self.old.stops.items self.new.stops.items }
         ensures pace { EachPair (λ s t. t.side.pace ≡ s.side.pace) self.old.stops.items self.new.stops.items }
     {
@@ -143,6 +150,7 @@ impl<H: Hand> Tour<H> {
             StandKept s.stand kept l → StopPassing s l → StopPassing t (given_where (not (nat_lt self.old.missed self.old.retry) && s.under) recover spot number (life_lost x H.acknowledged H.more H.passed spot (news_lost s.side.station kept (seen lens octets)) (seen lens octets) l l.stand))) self.old.stops.items self.new.stops.items }
         ensures join { EachPair (λ s t. (not (nat_lt self.old.missed self.old.retry) && s.under) ≡ false → H.join t.side.hand ≡ H.join s.side.hand) self.old.stops.items self.new.stops.items }
         ensures again { EachPair (λ s t. nat_lt self.old.missed self.old.retry ≡ true → LosesAgain s t) self.old.stops.items self.new.stops.items }
+        ensures recalled { EachPair (λ s t. StopLost (not (nat_lt self.old.missed self.old.retry)) (H.knows s.side.hand) (H.knows t.side.hand) s t) self.old.stops.items self.new.stops.items }
         ensures counts { EachPair (λ s t. LostCounts s t) self.old.stops.items self.new.stops.items }
         ensures pace { EachPair (λ s t. t.side.pace ≡ s.side.pace) self.old.stops.items self.new.stops.items }
     {

@@ -134,6 +134,10 @@ impl<H: Hand> Stop<H> {
     ghost use Rattle.master_side.specs.Shown.{new_side};
     ghost use Rattle.std.specs.Prelude.{Bool, Option, Some, if◌then◌else◌};
     ghost use Rattle.master_tour.specs.declared.stop.Stand.{Stand};
+    ghost use Rattle.master_tour.specs.Behind.{SameRecall, StopBack, StopLost, VisitBack};
+    ghost use Rattle.master_tour.specs.Under.{mine};
+    ghost use Rattle.master_side.specs.Carried.{one};
+    ghost use Rattle.master_side.specs.Due.{EachDue};
     ghost use Rattle.master_side.specs.Sides.{ShowsOf, LinkStays};
     ghost use Rattle.master_tour.specs.Stops.{StopSpot, StopLived, StopFollows, StopUnder, StopPassing, StopSized};
     ghost use Rattle.master_tour.specs.Counting.{StandCounts, CountsOn, CameCounts, LostCounts, ReadStays};
@@ -180,6 +184,13 @@ impl<H: Hand> Stop<H> {
             ShowsOf self.old.side x d a →
             Under self.old.side.station self.old.at self.old.under self.old.side.carried d.halves (duty_access a.hand) back →
             HasJoined H.joined (H.completed self.new.side.hand) (H.join self.old.side.hand) (H.join self.new.side.hand) self.new.side.heard (all_accepted self.old.side.station d.halves (grams back)) }
+        ensures met { self.old.under ≡ true → (x : Speech Body H.Asked Reply) (lens : ℕ → Lens) (back : List (Datagram Body)) (d : Seats.Side Body H.Asked Reply) (a : Account H.Asked Reply) → back ≡ seen lens octets.now →
+            ShowsOf self.old.side x d a → Under self.old.side.station self.old.at self.old.under self.old.side.carried d.halves (duty_access a.hand) back →
+            (b : Datagram Body) → mine self.old.side.station back ≡ one b → VisitBack a b self.old.side self.new.side }
+        ensures unmet { self.old.under ≡ false → self.new.side ≡ self.old.side }
+        ensures knows { (x : Speech Body H.Asked Reply) (lens : ℕ → Lens) (back : List (Datagram Body)) (d : Seats.Side Body H.Asked Reply) (a : Account H.Asked Reply) → back ≡ seen lens octets.now →
+            ShowsOf self.old.side x d a → Under self.old.side.station self.old.at self.old.under self.old.side.carried d.halves (duty_access a.hand) back →
+            H.knows self.old.side.hand ≡ true → EachDue x d.now (all_accepted self.old.side.station d.halves (grams back)) → H.knows self.new.side.hand ≡ true }
         ensures counts { (x : Speech Body H.Asked Reply) (lens : ℕ → Lens) (counts : Bool) (back : List (Datagram Body)) (d : Seats.Side Body H.Asked Reply) (a : Account H.Asked Reply) → back ≡ seen lens octets.now →
             ShowsOf self.old.side x d a → Under self.old.side.station self.old.at self.old.under self.old.side.carried d.halves (duty_access a.hand) back → CountsAt self.old.side.read_at self.old.side.pace made counts →
             CountsAt self.new.side.read_at self.new.side.pace (suc made) (counts_behind self.old.side.station self.old.side.pace made back counts) }
@@ -213,6 +224,7 @@ impl<H: Hand> Stop<H> {
             PassingShows (H.awaits self.new.side.hand) self.new.side.passing (passes x H.acknowledged H.more H.passed p (news_lost self.old.side.station kept sent)) }
         ensures join { H.join self.new.side.hand ≡ H.join self.old.side.hand }
         ensures again { IsOnWay self.old.side → self.old.under ≡ true → Repeats self.new.side × (sent_len self.new.side ≤ sent_len self.old.side) }
+        ensures recalled { SameRecall (H.knows self.old.side.hand) (H.knows self.new.side.hand) self.old.side self.new.side }
         ensures read { ReadStays self.old self.new }
     {
         if self.under {
@@ -234,6 +246,7 @@ impl<H: Hand> Stop<H> {
         ensures passing { is_cleared ≡ true → self.new.side.passing ≡ None }
         ensures heard { self.new.side.heard ≡ self.old.side.heard }
         ensures join { H.join self.new.side.hand ≡ (if is_cleared then H.unjoined else H.join self.old.side.hand) }
+        ensures knows { H.knows self.old.side.hand ≡ true → H.knows self.new.side.hand ≡ true }
         ensures read { is_cleared ≡ true → self.new.side.read_at ≡ None }
         ensures pace { self.new.side.pace ≡ self.old.side.pace }
     {
@@ -258,6 +271,7 @@ impl<H: Hand> Stop<H> {
             StopPassing self.new (life_back x H.acknowledged H.more H.passed frame spot news back (Some came) l l.stand) }
         ensures heard { self.new.side.heard ≡ self.old.side.heard }
         ensures join { H.join self.new.side.hand ≡ join_behind H.unjoined self.new.news (H.join self.old.side.hand) }
+        ensures knows { H.knows self.old.side.hand ≡ true → H.knows self.new.side.hand ≡ true }
         ensures counts { self.old.stand ≡ Stand.Opening up → (x : Speech Body H.Asked Reply) (made recover : ℕ) (spot : Spot) (back : List (Datagram Body)) (came : Bool × Option Found) (l : Life Body H.Asked Reply) →
             IsMet up counter body.now came → StopLived self.old x recover spot l → CountsOn made back self.old self.new l }
         ensures pace { self.new.side.pace ≡ self.old.side.pace }
@@ -289,6 +303,7 @@ impl<H: Hand> Stop<H> {
             StopPassing self.new (life_back x H.acknowledged H.more H.passed number spot ns (seen lens octets.now) (came_at self.old.under self.old.at (seen lens octets.now)) l l.stand) }
         ensures heard { self.new.side.heard ≡ self.old.side.heard }
         ensures join { self.old.news ≡ None → H.join self.new.side.hand ≡ join_behind H.unjoined self.new.news (H.join self.old.side.hand) }
+        ensures knows { H.knows self.old.side.hand ≡ true → H.knows self.new.side.hand ≡ true }
         ensures counts { self.old.stand ≡ Stand.Opening up → (made : ℕ) (lens : ℕ → Lens) (sent : List (Datagram Body)) → Returns sent (seen lens octets.now) → CameCounts lens sent (seen lens octets.now) made self.old self.new }
         ensures pace { self.new.side.pace ≡ self.old.side.pace }
     {
@@ -357,6 +372,9 @@ impl<H: Hand> Stop<H> {
         ensures joined { self.old.stand ≡ Stand.Open → self.old.news ≡ None → self.old.side.heard ≡ None → (x : Speech Body H.Asked Reply) (recover : ℕ) (spot : Spot) (lens : ℕ → Lens) (sent : List (Datagram Body)) (l : Life Body H.Asked Reply) →
             StopSpot spot self.old → Returns sent (seen lens octets.now) → StopUnder lens self.old l sent → StopLived self.old x recover spot l →
             Joins H.unjoined H.joined (H.completed self.new.side.hand) self.new.news self.new.side.heard (H.join self.old.side.hand) (H.join self.new.side.hand) (accepted_in spot l (seen lens octets.now)) }
+        ensures recalls { self.old.stand ≡ Stand.Open → (x : Speech Body H.Asked Reply) (recover : ℕ) (spot : Spot) (lens : ℕ → Lens) (sent : List (Datagram Body)) (l : Life Body H.Asked Reply) →
+            StopSpot spot self.old → Returns sent (seen lens octets.now) → StopUnder lens self.old l sent → StopLived self.old x recover spot l →
+            StopBack x spot l (seen lens octets.now) (H.knows self.old.side.hand) (H.knows self.new.side.hand) self.old self.new }
         ensures counts { self.old.stand ≡ Stand.Open → (lens : ℕ → Lens) (sent : List (Datagram Body)) → Returns sent (seen lens octets.now) → CameCounts lens sent (seen lens octets.now) made self.old self.new }
         ensures pace { self.new.side.pace ≡ self.old.side.pace }
     {
@@ -388,6 +406,9 @@ impl<H: Hand> Stop<H> {
         ensures joined { (x : Speech Body H.Asked Reply) (recover : ℕ) (spot : Spot) (lens : ℕ → Lens) (sent : List (Datagram Body)) (l : Life Body H.Asked Reply) →
             StopSpot spot self.old → Returns sent (seen lens octets.now) → StopUnder lens self.old l sent → StopLived self.old x recover spot l →
             Joins H.unjoined H.joined (H.completed self.new.side.hand) self.new.news self.new.side.heard (H.join self.old.side.hand) (H.join self.new.side.hand) (accepted_in spot l (seen lens octets.now)) }
+        ensures recalls { (x : Speech Body H.Asked Reply) (recover : ℕ) (spot : Spot) (lens : ℕ → Lens) (sent : List (Datagram Body)) (l : Life Body H.Asked Reply) →
+            StopSpot spot self.old → Returns sent (seen lens octets.now) → StopUnder lens self.old l sent → StopLived self.old x recover spot l →
+            StopBack x spot l (seen lens octets.now) (H.knows self.old.side.hand) (H.knows self.new.side.hand) self.old self.new }
         ensures counts { (lens : ℕ → Lens) (sent : List (Datagram Body)) → Returns sent (seen lens octets.now) → CameCounts lens sent (seen lens octets.now) made self.old self.new }
         ensures pace { self.new.side.pace ≡ self.old.side.pace }
     {
@@ -418,6 +439,7 @@ impl<H: Hand> Stop<H> {
             StopPassing self.new (life_lost x H.acknowledged H.more H.passed spot (news_lost self.old.side.station kept (seen lens octets)) (seen lens octets) l l.stand) }
         ensures join { H.join self.new.side.hand ≡ H.join self.old.side.hand }
         ensures again { LosesAgain self.old self.new }
+        ensures recalled { SameRecall (H.knows self.old.side.hand) (H.knows self.new.side.hand) self.old.side self.new.side }
         ensures counts { LostCounts self.old self.new }
         ensures pace { self.new.side.pace ≡ self.old.side.pace }
     {
@@ -440,6 +462,7 @@ impl<H: Hand> Stop<H> {
         ensures script { H.script self.new.side.hand ≡ H.script self.old.side.hand }
         ensures unpassed { self.old.side.passing ≡ None → self.new.side.passing ≡ None }
         ensures passing { (awaits : Bool) (p : Option Passing) (l : Life Body H.Asked Reply) → StandPassing self.new.stand awaits p l }
+        ensures knows { H.knows self.old.side.hand ≡ true → H.knows self.new.side.hand ≡ true }
         ensures counts { (at : Option ℕ) (pace made : ℕ) (counts : Bool) → StandCounts self.new.stand at pace made counts }
         ensures pace { self.new.side.pace ≡ self.old.side.pace }
     {
@@ -471,6 +494,7 @@ impl<H: Hand> Stop<H> {
             StopPassing self.new (given_where (gives && self.old.under) recover spot number (life_lost x H.acknowledged H.more H.passed spot (news_lost self.old.side.station kept (seen lens octets)) (seen lens octets) l l.stand)) }
         ensures join { (gives && self.old.under) ≡ false → H.join self.new.side.hand ≡ H.join self.old.side.hand }
         ensures again { gives ≡ false → LosesAgain self.old self.new }
+        ensures recalled { StopLost gives (H.knows self.old.side.hand) (H.knows self.new.side.hand) self.old self.new }
         ensures counts { LostCounts self.old self.new }
         ensures pace { self.new.side.pace ≡ self.old.side.pace }
     {

@@ -70,6 +70,7 @@ impl<H: Hand> Tour<H> {
     ghost use Rattle.std.specs.List.{list_any};
     ghost use Rattle.std.specs.Prelude.{None, filter};
     ghost use Rattle.master_tour.specs.Rooms.{LosesAgain, Looks, Visits};
+    ghost use Rattle.master_tour.specs.Behind.{StopBack, StopLost};
     ghost use Rattle.master_tour.specs.Recalls.{TakesUp, BeginsAll};
     ghost use Rattle.master_tour.specs.Sizes.{frame_size};
 
@@ -92,6 +93,9 @@ impl<H: Hand> Tour<H> {
         ensures joined { EachPair (λ s t. (lens : ℕ → Lens) (sent : List (Datagram Body)) → Returns sent (seen lens octets.now) → (x : Speech Body H.Asked Reply) (recover : ℕ) (spot : Spot) (l : Life Body H.Asked Reply) →
             StopSpot spot s → StopUnder lens s l sent → StopLived s x recover spot l →
             Joins H.unjoined H.joined (H.completed t.side.hand) t.news t.side.heard (H.join s.side.hand) (H.join t.side.hand) (accepted_in spot l (seen lens octets.now))) self.old.stops.items self.new.stops.items }
+        ensures recalls { EachPair (λ s t. (lens : ℕ → Lens) (sent : List (Datagram Body)) → Returns sent (seen lens octets.now) → (x : Speech Body H.Asked Reply) (recover : ℕ) (spot : Spot) (l : Life Body H.Asked Reply) →
+            StopSpot spot s → StopUnder lens s l sent → StopLived s x recover spot l →
+            StopBack x spot l (seen lens octets.now) (H.knows s.side.hand) (H.knows t.side.hand) s t) self.old.stops.items self.new.stops.items }
         ensures counts { EachPair (λ s t. (lens : ℕ → Lens) (sent : List (Datagram Body)) → Returns sent (seen lens octets.now) → CameCounts lens sent (seen lens octets.now) made s t) self.old.stops.items self.new.stops.items }
         ensures pace { EachPair (λ s t. t.side.pace ≡ s.side.pace) self.old.stops.items self.new.stops.items }
     {
@@ -115,6 +119,7 @@ impl<H: Hand> Tour<H> {
             StandKept s.stand kept l → StopPassing s l → StopPassing t (given_where (gives && s.under) recover spot number (life_lost x H.acknowledged H.more H.passed spot (news_lost s.side.station kept (seen lens octets)) (seen lens octets) l l.stand))) self.old.stops.items self.new.stops.items }
         ensures join { EachPair (λ s t. (gives && s.under) ≡ false → H.join t.side.hand ≡ H.join s.side.hand) self.old.stops.items self.new.stops.items }
         ensures again { EachPair (λ s t. gives ≡ false → LosesAgain s t) self.old.stops.items self.new.stops.items }
+        ensures recalled { EachPair (λ s t. StopLost gives (H.knows s.side.hand) (H.knows t.side.hand) s t) self.old.stops.items self.new.stops.items }
         ensures counts { EachPair (λ s t. LostCounts s t) self.old.stops.items self.new.stops.items }
         ensures pace { EachPair (λ s t. t.side.pace ≡ s.side.pace) self.old.stops.items self.new.stops.items }
     {

@@ -1,4 +1,4 @@
-use Rattle.std.proofs.Common.{◌≡◌, ◌∙◌, true, [], refl, sym, ap, subst, length, arith}
+use Rattle.std.proofs.Common.{◌≡◌, ◌≤◌, ◌∙◌, true, [], refl, sym, ap, subst, length, arith}
 use Rattle.master_node.proofs.Begins.{has_none}
 use Rattle.master_node.specs.Origins.{forwards_at}
 use Rattle.master_node.proofs.Listing.{services_made, unlisted}
@@ -9,7 +9,7 @@ use Rattle.master_node.proofs.Sents.{shows_same}
 use Rattle.master_tour.specs.Walks.{EachPair}
 use Rattle.master_tour.proofs.Walks.{each_same}
 use Rattle.master_node.proofs.Asking.{all_ask}
-use Rattle.std.specs.Prelude.{map}
+use Rattle.std.specs.Prelude.{map, nat_lt}
 use Rattle.master_node.specs.Eager.{recall_of}
 use Rattle.master_node.proofs.Eagers.{all_take, each_recalls}
 use Rattle.master_node.proofs.Visitings.{all_visit, sent_at}
@@ -21,6 +21,11 @@ use Rattle.master_tour.specs.Sizes.{frame_size}
 use Rattle.master_node.specs.Rooms.{area_at}
 use Rattle.master_node.proofs.Happenings.{happens_so, happens_then}
 use Rattle.master_node.proofs.Made.{makes_all, makes_then, makes_none}
+use Rattle.master_node.specs.Happened.{NoneWaits}
+use Rattle.master_node.specs.Shows.{IsLead}
+use Rattle.master_node.proofs.Entering.{all_opened, first_more, rests_same}
+use Rattle.master_node.proofs.Lists.{both_length}
+use Rattle.master_node.proofs.Restings.{all_rest}
 use Rattle.master_node.proofs.node.MasterNode.next.Goals as goal
 
 pub returns-clause-led : goal.returns-clause-led
@@ -93,3 +98,18 @@ returns-clause-recalled c = λ h lens recover retry missed as' x.
     let n = c.admit.new.self in
     each_recalls n.tour.stops.items c.make.new.self.tour.stops.items (c.make.ensures.eager lens recover retry missed as' (shows_same lens recover retry missed as' _ n c.admit.ensures.same.1 c.admit.ensures.same.0 x))
     ∙ ap (λ z. map (λ s. recall_of s) z.stops.items) c.admit.ensures.same.1
+
+pub returns-clause-enters : goal.returns-clause-enters
+returns-clause-enters c = λ h lens recover retry missed as' x rests may.
+    let m = c.args.self.now in
+    let l = c.begins.new.self in
+    let e = c.begins.ensures in
+    let many = both_length (λ a s. IsLead lens recover a s) as' m.tour.stops.items x.each in
+    let entered = c.admit.ensures.enters
+        (record {
+          opened = subst (λ n. n ≤ m.tour.opened) many (all_opened lens m.lan _ as' m.tour.opened rests x.goes.ahead);
+          rest = λ k. rests_same m.lan l e.switch e.ports k _ (all_rest lens recover m.lan as' m.tour.stops.items x.each rests k);
+        })
+        (record { left = (λ i. nat_lt (e.host.1 i) (length (e.host.0 i))) ∙ may.left; quiet = subst (λ s. NoneWaits s) (sym e.switch) may.quiet })
+        e.none in
+    first_more _ _ c.make.ensures.made.more.0 entered c.make.ensures.made.more.1

@@ -9,6 +9,7 @@ use Rattle.master_tour.specs.Stands.{StopShows, came_at}
 use Rattle.master_tour.proofs.Backs.{gone_follows}
 use Rattle.master_tour.proofs.Joins.{turned_joins}
 use Rattle.master_tour.proofs.Passings.{gone_passing}
+use Rattle.std.proofs.Common.{◌∙◌}
 use Rattle.master_tour.proofs.Counting.{gone_counts}
 use Rattle.master_tour.proofs.stop.Stop.back.Goals as goal
 
@@ -73,6 +74,29 @@ returns-in-Opening-clause-passing g c = λ x number recover spot lens kept sent 
 
 pub returns-in-Open-clause-passing : goal.returns-in-Open-clause-passing
 returns-in-Open-clause-passing g c = λ x number recover spot lens kept sent l sp r u sh k h. c.open_met.ensures.passing c.in-Open.is x number recover spot lens kept sent l sp r u sh k h
+
+pub returns-in-Gone-clause-recalls : goal.returns-in-Gone-clause-recalls
+returns-in-Gone-clause-recalls g c = λ x recover spot lens sent l sp r u sh. record {
+  visited = λ o. absurd (let t = sym c.in-Gone.is ∙ o in cc);
+  unvisited = λ o. absurd (let t = sym c.in-Gone.is ∙ o in cc);
+  known = λ k due. k;
+}
+
+pub returns-in-Opening-clause-recalls : goal.returns-in-Opening-clause-recalls
+returns-in-Opening-clause-recalls g c = λ x recover spot lens sent l sp r u sh. record {
+  visited = λ o. absurd (let t = sym c.in-Opening.is ∙ o in cc);
+  unvisited = λ o. absurd (let t = sym c.in-Opening.is ∙ o in cc);
+  known = λ k due. c.opening_back.ensures.knows k;
+}
+
+pub returns-in-Open-clause-recalls : goal.returns-in-Open-clause-recalls
+returns-in-Open-clause-recalls g c = λ x recover spot lens sent l sp r u sh.
+    let q = c.open_met.ensures.recalls c.in-Open.is x recover spot lens sent l sp r u sh in
+    record {
+      visited = λ o v b n. let w = q.visited o v b n in record { counter = w.counter; octets = w.octets; back = w.back; paused = w.paused; turn = w.turn; duty = w.duty };
+      unvisited = q.unvisited;
+      known = q.known;
+    }
 
 pub returns-in-Gone-clause-counts : goal.returns-in-Gone-clause-counts
 returns-in-Gone-clause-counts g c = λ lens sent r x recover spot l u sh counts h. gone_counts c.args.self.now.stand _ _ _ _ c.in-Gone.is

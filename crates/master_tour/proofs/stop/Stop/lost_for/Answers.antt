@@ -65,5 +65,17 @@ returns-else-self-clause-passing g c = λ x number recover spot lens kept octets
 pub returns-then-self-clause-passing : goal.returns-then-self-clause-passing
 returns-then-self-clause-passing g c = λ x number recover spot lens kept octets l sp u sh k h. c.give_up.ensures.passing _ _ _
 
+pub returns-then-not-gives-clause-recalled : goal.returns-then-not-gives-clause-recalled
+returns-then-not-gives-clause-recalled g c = (λ e. c.lost.ensures.recalled, λ k. c.lost.ensures.recalled.3 ∙ k)
+
+pub returns-else-self-clause-recalled : goal.returns-else-self-clause-recalled
+returns-else-self-clause-recalled g c = (λ e. c.lost.ensures.recalled, λ k. c.lost.ensures.recalled.3 ∙ k)
+
+pub returns-then-self-clause-recalled : goal.returns-then-self-clause-recalled
+returns-then-self-clause-recalled g c = (
+  λ e. absurd (let t : true ≡ false = sym (ap (λ z. z && c.args.self.now.under) c.if-not-gives.false ∙ sym c.lost.ensures.under ∙ c.if-self.true) ∙ e in cc),
+  λ k. c.give_up.ensures.knows (c.lost.ensures.recalled.3 ∙ k),
+)
+
 pub returns-then-self-clause-counts : goal.returns-then-self-clause-counts
 returns-then-self-clause-counts g c = λ x made recover spot l sh counts h. c.give_up.ensures.counts _ _ _ _

@@ -14,6 +14,9 @@ use Rattle.master_tour.proofs.Joins.{nothing_joined}
 use Rattle.life_frames.specs.of_life_model.Lives.{passes}
 use Rattle.master_side.specs.Passing.{PassingShows, counts_at}
 use Rattle.master_tour.proofs.Passings.{has_told, nothing_told}
+use Rattle.std.proofs.Common.{◌≡◌, true, refl}
+use Rattle.master_side.specs.Due.{EachDue}
+use Rattle.master_tour.proofs.Behinds.{has_met}
 use Rattle.std.proofs.Common.{suc, leb-true}
 use Rattle.life_frames.specs.of_link_model.Link.{Halves}
 use Rattle.master_side.specs.of_mailbox_master.Any.{in_half_of}
@@ -126,6 +129,58 @@ returns-then-seek-clause-passing g c = λ x lens kept p back d a e s k h u.
     has_told (λ ns. PassingShows (g.H.Hand.awaits y.hand) y.passing (passes x g.H.Hand.acknowledged g.H.Hand.more g.H.Hand.passed p ns)) w.station c.args.self.now.at kept (counts_at w.read_at w.pace c.args.made) c.args.self.now.under w.carried (duty_access a.hand) lens c.args.octets.now c.body_of-body.result.now (parts_of 16 ds) _ no_part back d.halves
     c.if-not-self.false here c.body_of-body.ensures is (subst (SameAim w.station) (sym is) (aims lens c.args.octets.now w.station (parts_of 16 ds) c.args.self.now.named)) u
     (λ b m i. c.returned.ensures.passing x kept p b d a s k h m i)
+
+pub returns-then-not-self-clause-met : goal.returns-then-not-self-clause-met
+returns-then-not-self-clause-met g c = λ r x lens back d a e s u b n. absurd (let t = sym c.if-not-self.true ∙ r in cc)
+
+pub returns-else-seek-clause-met : goal.returns-else-seek-clause-met
+returns-else-seek-clause-met g c = λ r x lens back d a e s u b n.
+    let w = c.args.self.now.side in
+    let ds = c.requires.frame.0 in
+    let is = e ∙ seen_parts lens c.args.octets.now ds c.requires.frame.1 in
+    let short = subst (λ n. n ≤ c.args.self.now.at) (sym (parts_length 16 ds)) (c.seek.ensures.none c.if-seek.false ds c.requires.frame.1) in
+    absurd (let t = sym (short_under w.station c.args.self.now.at c.args.self.now.under w.carried d.halves (duty_access a.hand) (part_seen lens c.args.octets.now) (parts_of 16 ds) back is short u) ∙ n in cc)
+
+pub returns-then-seek-clause-met : goal.returns-then-seek-clause-met
+returns-then-seek-clause-met g c = λ r x lens back d a e s u b n.
+    let w = c.args.self.now.side in
+    let ds = c.requires.frame.0 in
+    let is = e ∙ seen_parts lens c.args.octets.now ds c.requires.frame.1 in
+    let here = stands_in ds c.seek.new.self.number c.seek.new.self.part no_part (c.seek.ensures.stands ds c.requires.frame.1) ∙ ap (λ n. get_or (parts_of 16 ds) n no_part) (c.seek.ensures.at c.if-seek.true) in
+    let k = has_met w.station c.args.self.now.at c.args.self.now.under w.carried (duty_access a.hand) lens c.args.octets.now c.body_of-body.result.now (parts_of 16 ds) _ no_part back d.halves b c.if-not-self.false here c.body_of-body.ensures is u n in
+    record {
+      counter = c.seek.new.self.part.head.counter;
+      octets = c.body_of-body.result.now;
+      back = k.1;
+      paused = c.returned.ensures.paused;
+      turn = c.returned.ensures.turn;
+      duty = λ frame. (c.returned.ensures.shown x frame b d a s k.0 k.1).state;
+    }
+
+pub returns-then-not-self-clause-unmet : goal.returns-then-not-self-clause-unmet
+returns-then-not-self-clause-unmet g c = λ r. refl
+
+pub returns-else-seek-clause-unmet : goal.returns-else-seek-clause-unmet
+returns-else-seek-clause-unmet g c = λ r. refl
+
+pub returns-then-seek-clause-unmet : goal.returns-then-seek-clause-unmet
+returns-then-seek-clause-unmet g c = λ r. absurd (let t = sym r ∙ c.if-not-self.false in cc)
+
+pub returns-then-not-self-clause-knows : goal.returns-then-not-self-clause-knows
+returns-then-not-self-clause-knows g c = λ x lens back d a e s u k due. k
+
+pub returns-else-seek-clause-knows : goal.returns-else-seek-clause-knows
+returns-else-seek-clause-knows g c = λ x lens back d a e s u k due. k
+
+pub returns-then-seek-clause-knows : goal.returns-then-seek-clause-knows
+returns-then-seek-clause-knows g c = λ x lens back d a e s u.
+    let w = c.args.self.now.side in
+    let y = c.returned.new.self in
+    let ds = c.requires.frame.0 in
+    let is = e ∙ seen_parts lens c.args.octets.now ds c.requires.frame.1 in
+    let here = stands_in ds c.seek.new.self.number c.seek.new.self.part no_part (c.seek.ensures.stands ds c.requires.frame.1) ∙ ap (λ n. get_or (parts_of 16 ds) n no_part) (c.seek.ensures.at c.if-seek.true) in
+    has_accepted (λ ms. g.H.Hand.knows w.hand ≡ true → EachDue x d.now ms → g.H.Hand.knows y.hand ≡ true) w.station c.args.self.now.at c.args.self.now.under w.carried (duty_access a.hand) lens c.args.octets.now c.body_of-body.result.now (parts_of 16 ds) _ no_part back d.halves c.if-not-self.false here c.body_of-body.ensures is u
+    (λ b m i. c.returned.ensures.knows x b d a s m i)
 
 pub returns-then-not-self-clause-counts : goal.returns-then-not-self-clause-counts
 returns-then-not-self-clause-counts g c = λ x lens counts back d a e s u k.

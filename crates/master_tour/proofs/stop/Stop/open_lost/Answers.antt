@@ -5,6 +5,7 @@ use Rattle.std.proofs.Common.{sym, ◌∙◌}
 use Rattle.life_frames.specs.of_life_model.Lives.{passes}
 use Rattle.master_side.specs.Passing.{PassingShows}
 use Rattle.master_tour.proofs.Passings.{has_gone, nothing_gone}
+use Rattle.std.proofs.Common.{refl}
 use Rattle.master_tour.proofs.stop.Stop.open_lost.Goals as goal
 
 pub returns-then-self-clause-shown : goal.returns-then-self-clause-shown
@@ -36,3 +37,9 @@ pub returns-else-self-clause-passing : goal.returns-else-self-clause-passing
 returns-else-self-clause-passing g c = λ x kept p sent d a s k h u.
     let w = c.args.self.now.side in
     nothing_gone x g.H.Hand.acknowledged g.H.Hand.more g.H.Hand.passed w.station kept sent (g.H.Hand.awaits w.hand) w.passing p (nothing_under w.station c.args.self.now.at c.args.self.now.under w.carried d.halves (duty_access a.hand) sent c.if-self.false u) h
+
+pub returns-then-self-clause-recalled : goal.returns-then-self-clause-recalled
+returns-then-self-clause-recalled g c = c.lost.ensures.recalled
+
+pub returns-else-self-clause-recalled : goal.returns-else-self-clause-recalled
+returns-else-self-clause-recalled g c = (refl, refl, refl, refl)

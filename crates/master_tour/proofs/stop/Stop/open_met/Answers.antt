@@ -20,6 +20,9 @@ use Rattle.master_tour.proofs.Joins.{still_joins}
 use Rattle.master_side.specs.Passing.{counts_at, news_back}
 use Rattle.master_tour.specs.Passing.{StandPassing, StandKept}
 use Rattle.master_tour.proofs.Passings.{open_passing}
+use Rattle.std.proofs.Common.{◌≡◌, true}
+use Rattle.master_side.specs.Due.{EachDue}
+use Rattle.master_tour.specs.Behind.{VisitBack}
 use Rattle.std.proofs.Common.{suc}
 use Rattle.news_kept.specs.Counts.{counts_behind, counts_on}
 use Rattle.master_tour.specs.Counting.{StandCounts}
@@ -108,6 +111,29 @@ returns-clause-passing g c = λ o x number recover spot lens kept sent l sp r u 
     open_passing x g.H.Hand.acknowledged g.H.Hand.more g.H.Hand.passed number spot ns back l (came_at t.under t.at back) f.stand (g.H.Hand.awaits f.side.hand) f.side.passing stood.0
     (subst (λ z. StandPassing f.stand (g.H.Hand.awaits z.hand) z.passing (Lives.reopens (record l { era = now }) now.account.hand)) (sym c.reopen.ensures.side)
     (c.reopen.ensures.passing (record l { era = now }) now.account.hand (g.H.Hand.awaits m.hand) m.passing there))
+
+pub returns-clause-recalls : goal.returns-clause-recalls
+returns-clause-recalls g c = λ o x recover spot lens sent l sp r u sh.
+    let t = c.args.self.now in
+    let w = c.args.self.now.side in
+    let back = seen lens c.args.octets.now in
+    let h = l.era.side.halves in
+    let now = l.era.side.now in
+    let ds = c.requires.frame.0 in
+    let aim = subst (SameAim w.station) (sym (seen_parts lens c.args.octets.now ds c.requires.frame.1)) (aims lens c.args.octets.now w.station (parts_of 16 ds) t.named) in
+    let stood = (subst (λ z. StopShows (λ d a. SideShows (g.H.Hand.shows w.hand x) w.out w.inn w.fresh w.duty d a) recover spot z t.spare l) o sh).stood in
+    let under = under_back w.station t.at t.under w.carried h (duty_access l.era.account.hand) sent back r (subst (λ z. StandUnder lens w.station t.at t.under w.carried z l sent) o u) in
+    let all = own_accepted (λ ms. EachDue x now ms → EachDue x now (all_accepted w.station h (grams back))) w.station back h aim (λ q. q) in
+    record {
+      visited = λ q v b n. subst (λ z. VisitBack l.era.account b w z) (sym c.reopen.ensures.side) (c.open_back.ensures.met v x lens back l.era.side l.era.account refl stood.1 under b n);
+      unvisited = λ q v.
+          let e = c.reopen.ensures.side ∙ c.open_back.ensures.unmet v in
+          (ap (λ z. z.paused) e, ap (λ z. z.turn) e, ap (λ z. z.duty) e, ap (λ z. g.H.Hand.knows z.hand) e);
+      known = λ k due.
+          let own = subst (λ (z : Lives.Stand). EachDue x now (accepted_at spot.station h back z)) stood.0 (due stood.0) in
+          let here = subst (λ (z : ℕ). EachDue x now (all_accepted z h (grams (Own.own z back)))) (sym sp.station_is) own in
+          subst (λ z. g.H.Hand.knows z.hand ≡ true) (sym c.reopen.ensures.side) (c.open_back.ensures.knows x lens back l.era.side l.era.account refl stood.1 under k (all here));
+    }
 
 pub returns-clause-counts : goal.returns-clause-counts
 returns-clause-counts g c = λ o lens sent r x recover spot l u sh counts h.

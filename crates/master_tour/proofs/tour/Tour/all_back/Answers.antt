@@ -13,6 +13,7 @@ use Rattle.master_side.specs.of_master_duty.Reply.{Reply}
 use Rattle.master_side.specs.Heard.{Brought}
 use Rattle.master_tour.specs.Brings.{accepted_in}
 use Rattle.master_tour.specs.Joins.{Joins}
+use Rattle.master_tour.specs.Behind.{StopBack}
 use Rattle.master_side.specs.Shown.{SideShows}
 use Rattle.master_tour.proofs.Walks.{walk_on, walk_over, walked_length}
 use Rattle.master_side.specs.of_mailbox_master.Any.{in_area_len}
@@ -57,6 +58,10 @@ loop-i-preserved g c =
           c.loop-i.i (c.loop-i.i + 1) c.args.self.now.stops.items c.loop-i.self.stops.items c.index_mut.result.now c.back.new.self (add-one c.loop-i.i) c.loop-i.invariant.13 (let e = len ∙ c.args.self.now.stops.ok.0 in omega (arith, test, e)) c.index_mut.ensures.value c.back.ensures.counts,
       walk_on (λ s t. t.side.pace ≡ s.side.pace)
           c.loop-i.i (c.loop-i.i + 1) c.args.self.now.stops.items c.loop-i.self.stops.items c.index_mut.result.now c.back.new.self (add-one c.loop-i.i) c.loop-i.invariant.14 (let e = len ∙ c.args.self.now.stops.ok.0 in omega (arith, test, e)) c.index_mut.ensures.value c.back.ensures.pace,
+      walk_on (λ s t. (lens : ℕ → Lens) (sent : List (Datagram Body)) → Returns sent (seen lens c.args.octets.now) → (x : Speech Body g.H.Hand.Asked Reply) (recover : ℕ) (spot : Spot) (k : Life Body g.H.Hand.Asked Reply) →
+          IsSpot spot s.side.station s.place s.start → StandUnder lens s.side.station s.at s.under s.side.carried s.stand k sent → StopShows (λ d a. SideShows (g.H.Hand.shows s.side.hand x) s.side.out s.side.inn s.side.fresh s.side.duty d a) recover spot s.stand s.spare k →
+          StopBack x spot k (seen lens c.args.octets.now) (g.H.Hand.knows s.side.hand) (g.H.Hand.knows t.side.hand) s t)
+          c.loop-i.i (c.loop-i.i + 1) c.args.self.now.stops.items c.loop-i.self.stops.items c.index_mut.result.now c.back.new.self (add-one c.loop-i.i) c.loop-i.invariant.15 (let e = len ∙ c.args.self.now.stops.ok.0 in omega (arith, test, e)) c.index_mut.ensures.value (λ lens sent r x recover spot k p u h. c.back.ensures.recalls x recover spot lens sent k p r u h),
     )
 
 pub returns : goal.returns
@@ -77,6 +82,9 @@ returns g c =
           IsSpot spot s.side.station s.place s.start → StandUnder lens s.side.station s.at s.under s.side.carried s.stand k sent → StopShows (λ d a. SideShows (g.H.Hand.shows s.side.hand x) s.side.out s.side.inn s.side.fresh s.side.duty d a) recover spot s.stand s.spare k →
           Joins g.H.Hand.unjoined g.H.Hand.joined (g.H.Hand.completed t.side.hand) t.news t.side.heard (g.H.Hand.join s.side.hand) (g.H.Hand.join t.side.hand) (accepted_in spot k (seen lens c.args.octets.now))) c.loop-i.i c.args.self.now.stops.items c.loop-i.self.stops.items (let e = len ∙ c.args.self.now.stops.ok.0 in omega (arith, test, e)) c.loop-i.invariant.11;
       passing = walk_over (λ s t. (lens : ℕ → Lens) (sent : List (Datagram Body)) → Returns sent (seen lens c.args.octets.now) → (x : Speech Body g.H.Hand.Asked Reply) (number recover : ℕ) (spot : Spot) (kept : Kept) (k : Life Body g.H.Hand.Asked Reply) → IsSpot spot s.side.station s.place s.start → StandUnder lens s.side.station s.at s.under s.side.carried s.stand k sent → StopShows (λ d a. SideShows (g.H.Hand.shows s.side.hand x) s.side.out s.side.inn s.side.fresh s.side.duty d a) recover spot s.stand s.spare k → StandKept s.stand kept k → StandPassing s.stand (g.H.Hand.awaits s.side.hand) s.side.passing k → StandPassing t.stand (g.H.Hand.awaits t.side.hand) t.side.passing (life_back x g.H.Hand.acknowledged g.H.Hand.more g.H.Hand.passed number spot (news_back s.side.station kept (counts_at s.side.read_at s.side.pace c.args.made) (seen lens c.args.octets.now)) (seen lens c.args.octets.now) (came_at s.under s.at (seen lens c.args.octets.now)) k k.stand)) c.loop-i.i c.args.self.now.stops.items c.loop-i.self.stops.items (let e = len ∙ c.args.self.now.stops.ok.0 in omega (arith, test, e)) c.loop-i.invariant.12;
+      recalls = walk_over (λ s t. (lens : ℕ → Lens) (sent : List (Datagram Body)) → Returns sent (seen lens c.args.octets.now) → (x : Speech Body g.H.Hand.Asked Reply) (recover : ℕ) (spot : Spot) (k : Life Body g.H.Hand.Asked Reply) →
+          IsSpot spot s.side.station s.place s.start → StandUnder lens s.side.station s.at s.under s.side.carried s.stand k sent → StopShows (λ d a. SideShows (g.H.Hand.shows s.side.hand x) s.side.out s.side.inn s.side.fresh s.side.duty d a) recover spot s.stand s.spare k →
+          StopBack x spot k (seen lens c.args.octets.now) (g.H.Hand.knows s.side.hand) (g.H.Hand.knows t.side.hand) s t) c.loop-i.i c.args.self.now.stops.items c.loop-i.self.stops.items (let e = len ∙ c.args.self.now.stops.ok.0 in omega (arith, test, e)) c.loop-i.invariant.15;
       counts = walk_over (λ s t. (lens : ℕ → Lens) (sent : List (Datagram Body)) → Returns sent (seen lens c.args.octets.now) → CameCounts lens sent (seen lens c.args.octets.now) c.args.made s t) c.loop-i.i c.args.self.now.stops.items c.loop-i.self.stops.items (let e = len ∙ c.args.self.now.stops.ok.0 in omega (arith, test, e)) c.loop-i.invariant.13;
       pace = walk_over (λ s t. t.side.pace ≡ s.side.pace) c.loop-i.i c.args.self.now.stops.items c.loop-i.self.stops.items (let e = len ∙ c.args.self.now.stops.ok.0 in omega (arith, test, e)) c.loop-i.invariant.14;
       long = sym (walked_length _ c.loop-i.i c.args.self.now.stops.items c.loop-i.self.stops.items c.loop-i.invariant.1);

@@ -13,6 +13,7 @@ use Rattle.master_side.specs.of_master_duty.Reply.{Reply}
 use Rattle.master_side.specs.Heard.{Brought}
 use Rattle.master_tour.specs.Brings.{accepted_in}
 use Rattle.master_tour.specs.Joins.{Joins}
+use Rattle.master_tour.specs.Behind.{StopBack}
 use Rattle.master_side.specs.Shown.{SideShows}
 use Rattle.master_tour.specs.Cursor.{IsAtOne}
 use Rattle.master_tour.specs.Walks.{Walked}
@@ -34,4 +35,7 @@ invariant-loop-i g l = IsAtOne l.octets l.cursor.number l.cursor.part × Walked 
     IsSpot spot s.side.station s.place s.start → StandUnder lens s.side.station s.at s.under s.side.carried s.stand k sent → StopShows (λ d a. SideShows (g.H.Hand.shows s.side.hand x) s.side.out s.side.inn s.side.fresh s.side.duty d a) recover spot s.stand s.spare k →
     Joins g.H.Hand.unjoined g.H.Hand.joined (g.H.Hand.completed t.side.hand) t.news t.side.heard (g.H.Hand.join s.side.hand) (g.H.Hand.join t.side.hand) (accepted_in spot k (seen lens l.octets))) l.i l.initial.self.stops.items l.self.stops.items × Walked (λ s t. (lens : ℕ → Lens) (sent : List (Datagram Body)) → Returns sent (seen lens l.octets) → (x : Speech Body g.H.Hand.Asked Reply) (number recover : ℕ) (spot : Spot) (kept : Kept) (k : Life Body g.H.Hand.Asked Reply) → IsSpot spot s.side.station s.place s.start → StandUnder lens s.side.station s.at s.under s.side.carried s.stand k sent → StopShows (λ d a. SideShows (g.H.Hand.shows s.side.hand x) s.side.out s.side.inn s.side.fresh s.side.duty d a) recover spot s.stand s.spare k → StandKept s.stand kept k → StandPassing s.stand (g.H.Hand.awaits s.side.hand) s.side.passing k → StandPassing t.stand (g.H.Hand.awaits t.side.hand) t.side.passing (life_back x g.H.Hand.acknowledged g.H.Hand.more g.H.Hand.passed number spot (news_back s.side.station kept (counts_at s.side.read_at s.side.pace l.made) (seen lens l.octets)) (seen lens l.octets) (came_at s.under s.at (seen lens l.octets)) k k.stand)) l.i l.initial.self.stops.items l.self.stops.items ×
     Walked (λ s t. (lens : ℕ → Lens) (sent : List (Datagram Body)) → Returns sent (seen lens l.octets) → CameCounts lens sent (seen lens l.octets) l.made s t) l.i l.initial.self.stops.items l.self.stops.items ×
-    Walked (λ s t. t.side.pace ≡ s.side.pace) l.i l.initial.self.stops.items l.self.stops.items
+    Walked (λ s t. t.side.pace ≡ s.side.pace) l.i l.initial.self.stops.items l.self.stops.items ×
+    Walked (λ s t. (lens : ℕ → Lens) (sent : List (Datagram Body)) → Returns sent (seen lens l.octets) → (x : Speech Body g.H.Hand.Asked Reply) (recover : ℕ) (spot : Spot) (k : Life Body g.H.Hand.Asked Reply) →
+    IsSpot spot s.side.station s.place s.start → StandUnder lens s.side.station s.at s.under s.side.carried s.stand k sent → StopShows (λ d a. SideShows (g.H.Hand.shows s.side.hand x) s.side.out s.side.inn s.side.fresh s.side.duty d a) recover spot s.stand s.spare k →
+    StopBack x spot k (seen lens l.octets) (g.H.Hand.knows s.side.hand) (g.H.Hand.knows t.side.hand) s t) l.i l.initial.self.stops.items l.self.stops.items

@@ -17,6 +17,7 @@ use Rattle.master_tour.specs.Rooms.{LosesAgain}
 use Rattle.life_frames.specs.of_segment_model.Record.{Kept}
 use Rattle.master_side.specs.Passing.{news_lost}
 use Rattle.master_tour.specs.Passing.{StandPassing, StandKept}
+use Rattle.master_tour.specs.Behind.{StopLost}
 use Rattle.master_tour.specs.Counting.{LostCounts}
 use Rattle.master_tour.proofs.tour.Tour.all_lost.Goals as goal
 
@@ -48,6 +49,8 @@ loop-i-preserved g c =
           c.loop-i.i (c.loop-i.i + 1) c.args.self.now.stops.items c.loop-i.self.stops.items c.index_mut.result.now c.lost_for.new.self (add-one c.loop-i.i) c.loop-i.invariant.12 (let e = len ∙ c.args.self.now.stops.ok.0 in omega (arith, test, e)) c.index_mut.ensures.value c.lost_for.ensures.counts,
       walk_on (λ s t. t.side.pace ≡ s.side.pace)
           c.loop-i.i (c.loop-i.i + 1) c.args.self.now.stops.items c.loop-i.self.stops.items c.index_mut.result.now c.lost_for.new.self (add-one c.loop-i.i) c.loop-i.invariant.13 (let e = len ∙ c.args.self.now.stops.ok.0 in omega (arith, test, e)) c.index_mut.ensures.value c.lost_for.ensures.pace,
+      walk_on (λ s t. StopLost c.args.gives (g.H.Hand.knows s.side.hand) (g.H.Hand.knows t.side.hand) s t)
+          c.loop-i.i (c.loop-i.i + 1) c.args.self.now.stops.items c.loop-i.self.stops.items c.index_mut.result.now c.lost_for.new.self (add-one c.loop-i.i) c.loop-i.invariant.14 (let e = len ∙ c.args.self.now.stops.ok.0 in omega (arith, test, e)) c.index_mut.ensures.value c.lost_for.ensures.recalled,
     )
 
 pub returns : goal.returns
@@ -62,6 +65,7 @@ returns g c =
       kept = walk_over (λ s t. SameLink s.side.out s.side.inn s.side.station s.side.area t.side.out t.side.inn t.side.station t.side.area × (IsSized s.stand s.side.out.len (in_area_len s.side.inn) → IsSized t.stand t.side.out.len (in_area_len t.side.inn))) c.loop-i.i c.args.self.now.stops.items c.loop-i.self.stops.items (let e = len ∙ c.args.self.now.stops.ok.0 in omega (arith, test, e)) c.loop-i.invariant.2;
       tour = (c.loop-i.invariant.3, c.loop-i.invariant.4, c.loop-i.invariant.5, c.loop-i.invariant.6, c.loop-i.invariant.7, c.loop-i.invariant.8);
       join = walk_over (λ s t. (c.args.gives && s.under) ≡ false → g.H.Hand.join t.side.hand ≡ g.H.Hand.join s.side.hand) c.loop-i.i c.args.self.now.stops.items c.loop-i.self.stops.items (let e = len ∙ c.args.self.now.stops.ok.0 in omega (arith, test, e)) c.loop-i.invariant.9;
+      recalled = walk_over (λ s t. StopLost c.args.gives (g.H.Hand.knows s.side.hand) (g.H.Hand.knows t.side.hand) s t) c.loop-i.i c.args.self.now.stops.items c.loop-i.self.stops.items (let e = len ∙ c.args.self.now.stops.ok.0 in omega (arith, test, e)) c.loop-i.invariant.14;
       again = walk_over (λ s t. c.args.gives ≡ false → LosesAgain s t) c.loop-i.i c.args.self.now.stops.items c.loop-i.self.stops.items (let e = len ∙ c.args.self.now.stops.ok.0 in omega (arith, test, e)) c.loop-i.invariant.10;
       passing = walk_over (λ s t. (lens : ℕ → Lens) (octets : List ℕ) (x : Speech Body g.H.Hand.Asked Reply) (number recover : ℕ) (spot : Spot) (kept : Kept) (k : Life Body g.H.Hand.Asked Reply) → IsSpot spot s.side.station s.place s.start → StandUnder lens s.side.station s.at s.under s.side.carried s.stand k (seen lens octets) → StopShows (λ d a. SideShows (g.H.Hand.shows s.side.hand x) s.side.out s.side.inn s.side.fresh s.side.duty d a) recover spot s.stand s.spare k → StandKept s.stand kept k → StandPassing s.stand (g.H.Hand.awaits s.side.hand) s.side.passing k → StandPassing t.stand (g.H.Hand.awaits t.side.hand) t.side.passing (given_where (c.args.gives && s.under) recover spot number (life_lost x g.H.Hand.acknowledged g.H.Hand.more g.H.Hand.passed spot (news_lost s.side.station kept (seen lens octets)) (seen lens octets) k k.stand))) c.loop-i.i c.args.self.now.stops.items c.loop-i.self.stops.items (let e = len ∙ c.args.self.now.stops.ok.0 in omega (arith, test, e)) c.loop-i.invariant.11;
       counts = walk_over (λ s t. LostCounts s t) c.loop-i.i c.args.self.now.stops.items c.loop-i.self.stops.items (let e = len ∙ c.args.self.now.stops.ok.0 in omega (arith, test, e)) c.loop-i.invariant.12;

@@ -51,3 +51,9 @@ returns-then-comes_again-clause-passing g c = λ lens octets. each_map _ _ c.arg
 
 pub returns-clause-passing : goal.returns-clause-passing
 returns-clause-passing g c = λ lens octets. each_map _ _ c.args.self.now.stops.items c.all_lost.new.self.stops.items (λ s t p. p lens octets) c.all_lost.ensures.passing
+
+pub returns-then-comes_again-clause-recalled : goal.returns-then-comes_again-clause-recalled
+returns-then-comes_again-clause-recalled g c = each_map _ _ c.args.self.now.stops.items c.all_lost.new.self.stops.items (λ s t p. p) c.all_lost.ensures.recalled
+
+pub returns-clause-recalled : goal.returns-clause-recalled
+returns-clause-recalled g c = each_map _ _ c.args.self.now.stops.items c.all_lost.new.self.stops.items (λ s t p. p) c.all_lost.ensures.recalled

@@ -1,0 +1,3 @@
+mod Moments
+mod Seats
+pub mod Eras

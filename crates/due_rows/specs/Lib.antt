@@ -1,0 +1,1 @@
+pub use Rattle.hears_first.specs as of_hears_first
