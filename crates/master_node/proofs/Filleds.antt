@@ -10,6 +10,8 @@ use Rattle.master_tour.specs.Goes.{is_live, holds_at, Passes, BeginsLive}
 use Rattle.master_tour.specs.Made.{FrameMade, is_in}
 use Rattle.master_tour.specs.Orders.{visits_left, AreOnce, IsNextOf, IsCarried}
 use Rattle.master_tour.specs.Walks.{StepsAt}
+use Rattle.master_node.specs.Begins.{begun_for}
+use Rattle.master_node.specs.Starts.{HasStarted}
 use Rattle.master_node.specs.Filling.{IsAmong, StopFills, IsFilling, IsEmpty, IsFilled}
 use Rattle.master_node.specs.Kept.{TourOn}
 use Rattle.master_node.specs.Listing.{Before}
@@ -89,6 +91,11 @@ module _ (lens : ℕ → Lens) (recover made : ℕ) (from : Before) (as' : List 
     among = subst (λ z. AllFrom (λ i a s. IsAmong lens f.begun left i a s) 0 as' z.items) (sym k.stops) f.among;
     packets = begun_on from.switch left f.begun as' m.lan n.lan k.lan f.packets;
     listing = listed_on from.forwards left f.begun as' m n k.list k.posts f.listing;
+    starts = record {
+      visited = f.starts.visited;
+      each = subst (λ z. AllFrom (λ i a s. HasStarted lens z f.starts.visited i (begun_for f.begun as' i) a s) 0 as' n.tour.stops.items) (sym k.lan)
+          (subst (λ z. AllFrom (λ i a s. HasStarted lens m.lan f.starts.visited i (begun_for f.begun as' i) a s) 0 as' z.items) (sym k.stops) f.starts.each);
+    };
   }
 
   -- before the first visit

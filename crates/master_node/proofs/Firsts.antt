@@ -12,11 +12,17 @@ use Rattle.master_tour.specs.of_life_model.Lives
 use Rattle.master_tour.specs.of_life_model.Lives.{new_life}
 use Rattle.life_runs.specs.First.{spot_of, script_for, leads_from, HaveLens}
 use Rattle.mailbox_master.specs.Any.{in_area_len}
-use Rattle.master_hand.specs.Shown.{Shows}
-use Rattle.master_hand.specs.Spoken.{hand_speech}
+use Rattle.master_duty.specs.Reply.{Reply}
+use Rattle.master_duty.specs.of_exchange_model.Exchange.{Speech}
+use Rattle.master_hand.specs.Shown.{Shows, knows}
+use Rattle.master_hand.specs.Spoken.{Asked, hand_speech}
+use Rattle.master_hand.specs.Talk.{Talking}
+use Rattle.master_hand.specs.declared.clients.Which.{Which}
+use Rattle.master_hand.specs.declared.course.Course.{Course}
 use Rattle.master_hand.specs.declared.hand.InHand.{InHand}
 use Rattle.master_side.specs.Shown.{SideShows, new_side}
 use Rattle.master_side.specs.declared.hand.Hand.{Ghosts}
+use Rattle.master_side.specs.of_link_mails.Body.{Body}
 use Rattle.master_tour.specs.Made.{IsSized}
 use Rattle.master_tour.specs.Stands.{StandShows, EraShows, OpeningShows, is_still}
 use Rattle.master_tour.specs.declared.stop.Stand.{Stand}
@@ -25,7 +31,9 @@ use Rattle.segment_plan.specs.declared.plan.Scenario.{Scenario}
 use Rattle.segment_plan.specs.declared.slave.SlaveSpec.{SlaveSpec}
 use Rattle.master_duty.specs.of_task_model.Accounts.{new_account}
 use Rattle.master_node.specs.Shows.{side_shows, IsLead, is_opening_lead}
+use Rattle.master_node.specs.Eager.{recall_of}
 use Rattle.master_node.specs.First.{IsNewSide, IsFirst}
+use Rattle.master_node.specs.Recalled.{AllKnow}
 use Rattle.master_node.specs.Joined.{IsUnfinished, stand_before}
 use Rattle.master_tour.specs.Goes.{holds_at}
 
@@ -73,6 +81,7 @@ module _ {G : Ghosts InHand} (plan : Scenario) (place : ℕ) (spec : SlaveSpec) 
       own = refl;
     },
     n.unfinished,
+    n.known,
   )
 
 -- one slave more
@@ -111,3 +120,18 @@ start_small boot start e = go (start == 2) refl boot refl
     go true f b g = ap (λ z. nat_lt z 16) (eqb-true start 2 f)
     go false f true g = ap (λ z. nat_lt z 16) (eqb-true start 3 (let h : (start == 2 || (boot && start == 3)) ≡ true = e in (λ i. (sym f i || (sym g i && start == 3))) ∙ h))
     go false f false g = absurd (let h : (start == 2 || (boot && start == 3)) ≡ true = e in let k : false ≡ true = (λ i. (sym f i || (sym g i && start == 3))) ∙ h in cc)
+
+-- a hand that shows no service knows its mails
+pub none_known : (course : Course) (which : Which) (c : Talking) (x : Speech Body Asked Reply) → Shows course which c x None → knows course ≡ true
+none_known Course.Nothing which c x s = refl
+none_known Course.Goes which c x s = refl
+none_known Course.Answered which c x s = refl
+none_known Course.Mute which c x s = absurd (let t = s.1.is in cc)
+none_known Course.Closed which c x s = absurd (let t = s.1.is in cc)
+none_known Course.Astray which c x s = absurd (let t = s.1.is in cc)
+
+pub all_known : {G : Ghosts InHand} (plan : Scenario) (place : ℕ) (specs : List SlaveSpec) (ss : List (Stop InHand G)) → AllFrom (λ i spec s. IsFirst plan i spec s) place specs ss → AllKnow (map (λ s. recall_of s) ss)
+all_known plan place [] [] a = tt
+all_known plan place [] (s ∷ ss) a = absurd a
+all_known plan place (spec ∷ specs) [] a = absurd a
+all_known plan place (spec ∷ specs) (s ∷ ss) a = (a.0.2, all_known plan (suc place) specs ss a.1)

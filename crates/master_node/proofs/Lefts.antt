@@ -29,7 +29,7 @@ in_there k q qs e = go (k == q)
     go true = refl
     go false = e
 
-in_tail : (k q : ℕ) (qs : List ℕ) → (k == q) ≡ false → is_in k (q ∷ qs) ≡ is_in k qs
+pub in_tail : (k q : ℕ) (qs : List ℕ) → (k == q) ≡ false → is_in k (q ∷ qs) ≡ is_in k qs
 in_tail k q qs e = ap (λ (z : Bool). if z then true else is_in k qs) e
 
 pub without_not : (p : ℕ) (qs : List ℕ) → is_in p (without p qs) ≡ false

@@ -37,3 +37,7 @@ pub mod Eagers
 pub mod Servings
 pub mod Serveds
 pub mod Entering
+pub mod Frees
+pub mod Starts
+pub mod Queued
+pub mod Recalled

@@ -56,7 +56,7 @@ port_behind n None e = tt
 port_behind n (Some q) e = let f = and_first (nat_lt 0 q) (nat_lt q n) e in grind (arith, common_steps)
 
 -- a packet of the host has its addresses and its EtherType
-long_enough : (n : ℕ) → nat_le 14 n ≡ true → 14 ≤ n
+pub long_enough : (n : ℕ) → nat_le 14 n ≡ true → 14 ≤ n
 long_enough n e = grind (arith, common_steps)
 
 pub long_here : (ps : List (ArrayVec ℕ)) (i : ℕ) (d : ArrayVec ℕ) → are_long ps ≡ true → i < length ps → 14 ≤ length (get_or ps i d).items
@@ -64,7 +64,7 @@ long_here [] i d e l = absurd (omega arith)
 long_here (p ∷ ps) zero d e l = long_enough (length p.items) (and_first (nat_le 14 (length p.items)) (are_long ps) e)
 long_here (p ∷ ps) (suc i) d e l = long_here ps i d (and_second (nat_le 14 (length p.items)) (are_long ps) e) (omega arith)
 
-enough_long : (n : ℕ) → 14 ≤ n → nat_le 14 n ≡ true
+pub enough_long : (n : ℕ) → 14 ≤ n → nat_le 14 n ≡ true
 enough_long n l = grind (arith, common_steps)
 
 pub long_all : (ps : List (ArrayVec ℕ)) → All IsPacket ps → are_long ps ≡ true

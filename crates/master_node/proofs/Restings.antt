@@ -29,7 +29,7 @@ out_none : (o : Option Mail) → option_map link_mail o ≡ None → o ≡ None
 out_none None e = refl
 out_none (Some m) e = absurd (cc)
 
-no_hand : (duty : Option Duty) (hand : Option Accounts.Duty) → hand ≡ None → DutyShows duty hand → duty ≡ None
+pub no_hand : (duty : Option Duty) (hand : Option Accounts.Duty) → hand ≡ None → DutyShows duty hand → duty ≡ None
 no_hand None hand e x = refl
 no_hand (Some d) hand e x = absurd (let t = sym e ∙ x.1 in cc)
 

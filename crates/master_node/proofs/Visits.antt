@@ -98,6 +98,9 @@ module _ {G : Ghosts InHand} (coming : Option Coming) (result : Bool) (place : �
   abbrev pub what : Option (Service Asked)
   what = came_of (slice_get s2 place)
 
+  pub what_is : (t : Stop InHand G) → slice_get s2 place ≡ Some t → wish_begun result (wish_of coming) (ready_of t.side.hand.laying) ≡ what
+  what_is t e = ap came_of (sym e)
+
   abbrev pub now : (ℕ → Option (Service Asked)) → ℕ → Option (Service Asked)
   now begun = begun_at begun here what
 

@@ -1,10 +1,10 @@
 -- THE SLAVES OF A PLAN as a master has them before the first frame.
-use Rattle.std.specs.Prelude.{◌≡◌, ℕ, None, List}
+use Rattle.std.specs.Prelude.{◌≡◌, ℕ, true, None, List}
 use Rattle.life_runs.specs.of_frame_view.View.{Lens}
 use Rattle.life_runs.specs.Led.{new_leads}
 use Rattle.life_runs.specs.First.{spot_of, script_for}
 use Rattle.mailbox_master.specs.Any.{in_area_len}
-use Rattle.master_hand.specs.Shown.{Shows}
+use Rattle.master_hand.specs.Shown.{Shows, knows}
 use Rattle.master_hand.specs.Spoken.{hand_speech}
 use Rattle.master_hand.specs.declared.hand.InHand.{InHand}
 use Rattle.master_side.specs.Shown.{SideShows, new_side}
@@ -27,8 +27,9 @@ pub record IsNewSide {G : Ghosts InHand} (rows : List (ℕ × Service)) (place :
   pub number : s.hand.laying.number ≡ 0
   pub unpassed : s.passing ≡ None
   pub unfinished : s.hand.found.join ≡ None
+  pub known : knows s.hand.course ≡ true
 
 -- A SLAVE at this place before its bring-up: where these are the lengths of its mailboxes its master leads it from the start of its life, and no
--- packet of it is unfinished
+-- packet of it is unfinished, and its hand knows its mails
 abbrev pub IsFirst : {G : Ghosts InHand} → Scenario → ℕ → SlaveSpec → Stop InHand G → Type 0
-IsFirst plan place spec s = ((lens : ℕ → Lens) → (lens spec.station).out ≡ spec.out_len → (lens spec.station).back ≡ spec.in_len → IsLead lens plan.recover (new_leads (script_for place plan.services) (spot_of place spec)) s) × (s.side.hand.found.join ≡ None)
+IsFirst plan place spec s = ((lens : ℕ → Lens) → (lens spec.station).out ≡ spec.out_len → (lens spec.station).back ≡ spec.in_len → IsLead lens plan.recover (new_leads (script_for place plan.services) (spot_of place spec)) s) × (s.side.hand.found.join ≡ None) × (knows s.side.hand.course ≡ true)

@@ -1,13 +1,32 @@
 -- WHAT MAY BEGIN AT A VISIT BEGINS, and without a visit nothing does.
 use Rattle.std.specs.Prelude.{◌≡◌, ℕ, suc, true, false, Option, Some, None, List, [], ◌∷◌, slice_get, ⊤}
 use Rattle.life_runs.specs.of_frame_view.View.{Lens}
+use Rattle.life_runs.specs.of_life_frames.Shares.{AllFrom}
 use Rattle.life_runs.specs.Led.{Leads, Turn}
+use Rattle.master_duty.specs.Reply.{Reply}
+use Rattle.master_duty.specs.of_exchange_model.Exchange.{Speech}
+use Rattle.master_duty.specs.of_segment_model.Seats
+use Rattle.master_duty.specs.of_state_exchange.Stated as Stated
+use Rattle.master_duty.specs.of_task_model.Accounts.{Account, is_free, is_acknowledged}
+use Rattle.master_hand.specs.Shown.{Shows, knows}
+use Rattle.master_hand.specs.Spoken.{Asked, acknowledged}
 use Rattle.master_hand.specs.Talk.{asked_of}
+use Rattle.master_hand.specs.declared.hand.InHand.{InHand}
+use Rattle.master_hand.specs.declared.laying.Laid.{Laid}
+use Rattle.master_side.specs.Carried.{in_hand}
 use Rattle.master_side.specs.Recall.{Recall}
+use Rattle.master_side.specs.Shown.{SideShows}
+use Rattle.master_side.specs.declared.hand.Hand.{Ghosts}
+use Rattle.master_side.specs.declared.side.Side.{Side}
+use Rattle.master_side.specs.of_link_mails.Body.{Body}
+use Rattle.master_tour.specs.Made.{is_in}
+use Rattle.master_tour.specs.declared.stop.Stop.{Stop}
 use Rattle.segment_plan.specs.declared.service.Service.{Service}
 use Rattle.segment_plan.specs.declared.service.Service.TheVariants.{State}
+use Rattle.master_node.specs.Begins.{begun_for}
 use Rattle.master_node.specs.Forwards.{forwarded}
 use Rattle.master_node.specs.Resting.{MayBegin}
+use Rattle.master_node.specs.declared.coming.Coming.{Coming}
 use Rattle.master_node.specs.declared.lan.Lan.{Lan}
 
 -- a service by mails that a slave whose mailbox 0 has `room` octets is never asked for
@@ -43,3 +62,51 @@ AllBegin lens l place _ _ _ = ⊥
 abbrev pub AllUnvisited : List Turn → Type 0
 AllUnvisited [] = ⊤
 AllUnvisited (u ∷ us) = (u.share.under ≡ false → u.begun ≡ None) × AllUnvisited us
+
+-- A SIDE OF WHICH A SERVICE MAY COME INTO HAND, by what it shows
+pub record SideFrees {G : Ghosts InHand} (s : Side InHand G) : Type 0 where
+  pub speech : Speech Body Asked Reply
+  pub side : Seats.Side Body Asked Reply
+  pub account : Account Asked Reply
+  pub shows : SideShows (Shows s.hand.course s.hand.which s.hand.clients speech) s.out s.inn s.fresh s.duty side account
+  pub known : knows s.hand.course ≡ true
+  pub hand : in_hand s.duty ≡ None
+  pub unpassed : s.passing ≡ None
+  pub free : is_free speech side side.now ≡ true
+  pub done : is_acknowledged acknowledged side side.now ≡ true
+
+-- a service by mails
+abbrev pub IsByMails : Option Service → Type 0
+IsByMails None = ⊥
+IsByMails (Some (State target)) = ⊥
+IsByMails (Some service) = ⊤
+
+-- nothing may come into hand: no packet waits, and the script is at its end
+abbrev pub NoneComes : Lan → ℕ → Option Service → Type 0
+NoneComes l place next = NoPacket l place × ((room : ℕ) → NeverBegins room next)
+
+-- a packet comes only where one waits
+abbrev pub WaitsFor : Lan → ℕ → Option Coming → Type 0
+WaitsFor l place None = ⊤
+WaitsFor l place (Some Coming.Packet) = NoPacket l place → ⊥
+WaitsFor l place (Some Coming.Mail) = ⊤
+WaitsFor l place (Some Coming.Script) = ⊤
+WaitsFor l place (Some (Coming.State target)) = ⊤
+
+-- and then it is laid ready
+abbrev pub LaysPacket : Option Coming → Laid → Type 0
+LaysPacket None laid = ⊤
+LaysPacket (Some Coming.Packet) laid = laid ≡ Laid.Packet
+LaysPacket (Some Coming.Mail) laid = ⊤
+LaysPacket (Some Coming.Script) laid = ⊤
+LaysPacket (Some (Coming.State target)) laid = ⊤
+
+-- A SLAVE WHILE A FRAME IS MADE, where these places were visited, with what came into hand of it
+pub record HasStarted {G : Ghosts InHand} (lens : ℕ → Lens) (l : Lan) (visited : List ℕ) (i : ℕ) (begun : Option (Stated.Service Asked)) (a : Leads) (s : Stop InHand G) : Type 0 where
+  pub under : s.under ≡ true → is_in i visited ≡ true
+  pub ends : is_in i visited ≡ true → knows s.side.hand.course ≡ true → MayBegin lens a → begun ≡ None → IsAtEnd lens l i a
+
+-- all slaves, by the places that were visited so far
+pub record HaveStarted {G : Ghosts InHand} (lens : ℕ → Lens) (l : Lan) (begun : ℕ → Option (Stated.Service Asked)) (as' : List Leads) (ss : List (Stop InHand G)) : Type 0 where
+  pub visited : List ℕ
+  pub each : AllFrom (λ i a s. HasStarted lens l visited i (begun_for begun as' i) a s) 0 as' ss

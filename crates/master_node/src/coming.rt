@@ -1,7 +1,9 @@
 //! What may come into hand of a slave.
 
-ghost use Rattle.std.specs.Prelude.{◌≡◌, slice_get};
+ghost use Rattle.std.specs.Prelude.{◌≡◌, ℕ, None, Some, slice_get};
 ghost use Rattle.master_node.specs.Coming.{wish_of, IsComing};
+ghost use Rattle.master_node.specs.Starts.{IsByMails, NeverBegins};
+ghost use Rattle.master_node.specs.declared.coming.Coming.{Coming};
 
 use master_hand::InHand;
 use master_side::{Target, Wish};
@@ -32,7 +34,10 @@ pub fn wish_of(coming: Option<Coming>) -> Option<Wish>
 
 /// What the script has next; a script hands over no packet. A control word has room for a state below 16.
 pub fn scripted(hand: &InHand) -> Option<Coming>
-    ensures { IsComing (slice_get hand.now.laying.script hand.now.laying.number) result }
+    ensures comes { IsComing (slice_get hand.now.laying.script hand.now.laying.number) result }
+    ensures none { result ≡ None → (room : ℕ) → NeverBegins room (slice_get hand.now.laying.script hand.now.laying.number) }
+    ensures packet { result ≡ Some Coming.Packet → ⊥ }
+    ensures mails { result ≡ Some Coming.Script → IsByMails (slice_get hand.now.laying.script hand.now.laying.number) }
 {
     match hand.scripted()? {
         Service::Forward(_) => None,

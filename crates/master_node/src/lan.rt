@@ -1,9 +1,9 @@
-ghost use Rattle.std.specs.Prelude.{◌≡◌, ◌≤◌, ◌<◌, ◌+◌, ◌%◌, ◌==◌, [], length, nat_lt, true, count_by, if◌then◌else◌, All, IfOk, IfSome, Some, slice_get, drop};
+ghost use Rattle.std.specs.Prelude.{◌≡◌, ◌≤◌, ◌<◌, ◌+◌, ◌%◌, ◌==◌, [], length, nat_lt, true, count_by, if◌then◌else◌, All, IfOk, IfSome, None, Some, slice_get, drop};
 ghost use Rattle.eoe_switch.specs.Switch.{first_switch};
 ghost use Rattle.segment_plan.specs.declared.slave.SlaveSpec.{SlaveSpec as Spec};
 ghost use Rattle.segment_plan.specs.Sound.{IsPlan};
 ghost use Rattle.segment_plan.specs.Sound.{IsPacket};
-ghost use Rattle.master_node.specs.Ported.{are_ports, are_long};
+ghost use Rattle.master_node.specs.Ported.{are_ports, are_long, are_queued};
 ghost use Rattle.std.specs.Prelude.{◌++◌, ◌∷◌};
 ghost use Rattle.master_node.specs.Ports.{ports_of, port_where, ports_behind};
 ghost use Rattle.master_node.specs.Forwards.{port_by, forwarded};
@@ -40,6 +40,7 @@ pub struct Lan {
     ghost host_port: { 1 ≤ length switch.ports },
     ghost few: { length switch.ports ≤ 17 },
     ghost long: { are_long host ≡ true },
+    ghost queued: { are_queued switch.ports ≡ true },
 }
 
 // One more slave: where it serves EoE it has the port behind the last one.
@@ -241,6 +242,7 @@ impl Lan {
     pub fn oldest(&self, slave: usize) -> Option<&Packet>
         ensures long { IfSome result (λ p. 14 ≤ length p.now.items) }
         ensures oldest { IfSome result (λ p. slice_get (forwarded self.now.switch self.now.ports.items slave) 0 ≡ Some p.now) }
+        ensures none { result ≡ None → forwarded self.now.switch self.now.ports.items slave ≡ [] }
     {
         let port = self.port(slave)?;
         let packet = self.switch.oldest(port)?;

@@ -13,6 +13,7 @@ mod lan;
 mod laying;
 mod node;
 mod post;
+mod ready;
 mod standing;
 mod starting;
 mod telling;

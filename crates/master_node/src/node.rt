@@ -1,10 +1,10 @@
 ghost use Rattle.std.specs.Prelude.{◌≡◌, ◌≤◌, vec_len};
 
-use crate::coming::{Coming, scripted, wish_of};
-use crate::event::{Event, EventList, Origin};
+use crate::coming::{Coming, wish_of};
+use crate::event::{Event, EventList};
 use crate::happened::Happening;
 use crate::lan::Lan;
-use crate::laying::{lay_mail, lay_nothing, lay_packet, lay_script, pass_by};
+use crate::laying::pass_by;
 use crate::post::{Post, Work};
 use datagrams::FrameBuf;
 use ec_fields::{NoMemory, Octets};
@@ -58,9 +58,9 @@ impl MasterNode {
     ghost use Rattle.master_node.specs.Serving.{FitsAt, IsAsked, ServedShows};
     ghost use Rattle.served_runs.specs.Served.{Keyed, Serves, MayAsk, asked_at};
     ghost use Rattle.master_node.specs.Shows.{WaitsNone};
-    ghost use Rattle.master_node.specs.Kept.{StopStays, TourKept, TourOn};
-    ghost use Rattle.master_node.specs.Coming.{next_of, IsComing, IsLaid, PassesBy, CameBy};
-    ghost use Rattle.std.specs.Prelude.{◌⊎◌, ◌+◌, ◌∷◌, [], nat_lt, map, if◌then◌else◌};
+    ghost use Rattle.master_node.specs.Kept.{TourKept, TourOn};
+    ghost use Rattle.master_node.specs.Coming.{PassesBy, CameBy};
+    ghost use Rattle.std.specs.Prelude.{◌⊎◌, ◌+◌, [], nat_lt, map, if◌then◌else◌};
     ghost use Rattle.life_runs.specs.of_frame_view.View.{Lens};
     ghost use Rattle.life_runs.specs.of_frame_view.Seen.{seen};
     ghost use Rattle.life_runs.specs.of_life_frames.Shares.{AreDistinct};
@@ -77,14 +77,17 @@ impl MasterNode {
     ghost use Rattle.master_node.specs.Rooms.{SendsSame, Takes, area_at, area_in};
     ghost use Rattle.master_node.specs.Asks.{AllAsk};
     ghost use Rattle.master_node.specs.Eager.{AllTakeUp, AllVisit, EagerFrom, EagerOn, recalls};
+    ghost use Rattle.master_node.specs.Starts.{AllBegin};
+    ghost use Rattle.master_tour.specs.declared.stop.Stand.{Stand};
+    ghost use Rattle.std.specs.Prelude.{None};
     ghost use Rattle.master_node.specs.Toured.{StaysPut, TakesPart, IsBare, HasVisited, stop_share, turn_share, tour_of};
     ghost use Rattle.master_node.specs.Happened.{Happens, HappensSo};
     ghost use Rattle.master_node.specs.Entering.{AllStopsRest, EntersFirst, HostMayEnter};
     ghost use Rattle.master_node.specs.Made.{Makes, AreOfMaking};
     ghost use Rattle.master_node.specs.Resting.{AllRest, StopRests};
     ghost use Rattle.master_node.specs.Listing.{Before, IsUnlisted, ListsOne, ServicesBegin, where_began};
-    ghost use Rattle.master_node.specs.Origins.{LaysFrom, forwards_at};
-    ghost use Rattle.master_node.specs.Begins.{HasTaken, IsOldest, LaysOldest, NoneMore, PacketFirst, PacketsBegin, TakesOn, taken_for, taken_where};
+    ghost use Rattle.master_node.specs.Origins.{forwards_at};
+    ghost use Rattle.master_node.specs.Begins.{HasTaken, NoneMore, PacketsBegin, TakesOn, taken_for, taken_where};
 
     // Whether a slave is live.
     pub(crate) fn has_live(&self) -> bool
@@ -131,135 +134,6 @@ impl MasterNode {
         }
         if self.lan.is_quiet() && !self.has_packet() {
             self.lan.enter();
-        }
-    }
-
-    // What may come into hand of a slave: a packet first, then a mail that is passed on, then the script. A slave that isn't open or has
-    // something in hand takes nothing.
-    fn coming(&self, place: usize) -> Option<Coming>
-        requires { place < vec_len self.now.posts }
-        ensures comes { All WaitsNone self.now.posts.items → IfSome (slice_get self.now.tour.stops.items place) (λ s. IsComing (next_of s) result) }
-        ensures first { PacketFirst self.now.lan place result }
-    {
-        let stop = &self.tour.stops[place];
-        if !matches!(stop.stand, Stand::Open) || !stop.side.is_free() {
-            return None;
-        }
-        if self.lan.waits(place) {
-            return Some(Coming::Packet);
-        }
-        if self.posts[place].has_mail() {
-            return Some(Coming::Mail);
-        }
-        scripted(&stop.side.hand)
-    }
-
-    // The oldest packet that waits at the slave's port is laid ready; it goes on waiting there.
-    fn lay_packet(&mut self, place: usize)
-        requires { place < vec_len self.old.posts }
-        ensures posts { vec_len self.new.posts ≡ vec_len self.old.posts }
-        ensures laid { StepsAt (λ s t. StopStays s t × IsLaid (Some Coming.Packet) t.side.hand.laying.laid) place self.old.tour.stops.items self.new.tour.stops.items }
-        ensures kept { TourKept self.old self.new × (All WaitsNone self.old.posts.items → All WaitsNone self.new.posts.items) }
-        ensures oldest { StepsAt (λ s t. IsOldest self.old.lan place t) place self.old.tour.stops.items self.new.tour.stops.items }
-        ensures lan { self.new.lan ≡ self.old.lan }
-        ensures list { self.new.list ≡ self.old.list }
-        ensures origins { StepsAt (λ s t. StepsAt (λ p q. LaysFrom (Some Coming.Packet) s.side.hand.laying.number p q) place self.old.posts.items self.new.posts.items) place self.old.tour.stops.items self.new.tour.stops.items }
-    {
-        let post = &mut self.posts[place];
-        post.next = Work::Packet;
-        post.origin = Origin::Forward(post.forwards);
-        match self.lan.oldest(place) {
-            Some(packet) => lay_packet(&mut self.tour.stops[place].side, packet),
-            None => lay_nothing(&mut self.tour.stops[place].side),
-        }
-    }
-
-    // The oldest mail that waits to be passed on is laid ready.
-    fn lay_mail(&mut self, place: usize)
-        requires { place < vec_len self.old.posts }
-        ensures posts { vec_len self.new.posts ≡ vec_len self.old.posts }
-        ensures laid { StepsAt (λ s t. StopStays s t) place self.old.tour.stops.items self.new.tour.stops.items }
-        ensures kept { TourKept self.old self.new × (All WaitsNone self.old.posts.items → All WaitsNone self.new.posts.items) }
-        ensures lan { self.new.lan ≡ self.old.lan }
-        ensures list { self.new.list ≡ self.old.list }
-        ensures origins { StepsAt (λ s t. StepsAt (λ p q. LaysFrom (Some Coming.Mail) s.side.hand.laying.number p q) place self.old.posts.items self.new.posts.items) place self.old.tour.stops.items self.new.tour.stops.items }
-    {
-        let post = &mut self.posts[place];
-        post.origin = Origin::Gateway(post.oldest());
-        if let Some(asked) = post.take() {
-            post.next = Work::Passed { key: asked.key };
-            lay_mail(&mut self.tour.stops[place].side, &asked.mail);
-        }
-    }
-
-    // The next scripted service is laid ready.
-    fn lay_script(&mut self, place: usize)
-        requires { place < vec_len self.old.posts }
-        ensures posts { vec_len self.new.posts ≡ vec_len self.old.posts }
-        ensures laid { StepsAt (λ s t. StopStays s t × IsLaid (Some Coming.Script) t.side.hand.laying.laid) place self.old.tour.stops.items self.new.tour.stops.items }
-        ensures kept { TourKept self.old self.new × (All WaitsNone self.old.posts.items → All WaitsNone self.new.posts.items) }
-        ensures lan { self.new.lan ≡ self.old.lan }
-        ensures list { self.new.list ≡ self.old.list }
-        ensures origins { StepsAt (λ s t. StepsAt (λ p q. LaysFrom (Some Coming.Script) s.side.hand.laying.number p q) place self.old.posts.items self.new.posts.items) place self.old.tour.stops.items self.new.tour.stops.items }
-    {
-        let side = &mut self.tour.stops[place].side;
-        let number = side.hand.number();
-        lay_script(side);
-        let post = &mut self.posts[place];
-        post.next = Work::Mails;
-        post.origin = Origin::Script(number);
-    }
-
-    // So it is where it is a change of state, which is its side's own.
-    fn lay_state(&mut self, place: usize)
-        requires { place < vec_len self.old.posts }
-        ensures posts { vec_len self.new.posts ≡ vec_len self.old.posts }
-        ensures tour { (self.new.tour ≡ self.old.tour) × (self.new.made ≡ self.old.made) }
-        ensures quiet { All WaitsNone self.old.posts.items → All WaitsNone self.new.posts.items }
-        ensures lan { self.new.lan ≡ self.old.lan }
-        ensures list { self.new.list ≡ self.old.list }
-        ensures origins { StepsAt (λ s t. StepsAt (λ p q. (q.forwards ≡ p.forwards) × (q.origin ≡ Origin.Script s.side.hand.laying.number)) place self.old.posts.items self.new.posts.items) place self.old.tour.stops.items self.new.tour.stops.items }
-    {
-        let number = self.tour.stops[place].side.hand.number();
-        let post = &mut self.posts[place];
-        post.next = Work::State;
-        post.origin = Origin::Script(number);
-    }
-
-    // What comes is laid ready.
-    fn lay_coming(&mut self, place: usize, coming: Coming)
-        requires { place < vec_len self.old.posts }
-        ensures posts { vec_len self.new.posts ≡ vec_len self.old.posts }
-        ensures laid { StepsAt (λ s t. StopStays s t × IsLaid (Some coming) t.side.hand.laying.laid) place self.old.tour.stops.items self.new.tour.stops.items }
-        ensures kept { TourKept self.old self.new × (All WaitsNone self.old.posts.items → All WaitsNone self.new.posts.items) }
-        ensures oldest { StepsAt (λ s t. LaysOldest self.old.lan place (Some coming) t) place self.old.tour.stops.items self.new.tour.stops.items }
-        ensures lan { self.new.lan ≡ self.old.lan }
-        ensures list { self.new.list ≡ self.old.list }
-        ensures origins { StepsAt (λ s t. StepsAt (λ p q. LaysFrom (Some coming) s.side.hand.laying.number p q) place self.old.posts.items self.new.posts.items) place self.old.tour.stops.items self.new.tour.stops.items }
-    {
-        match coming {
-            Coming::Packet => self.lay_packet(place),
-            Coming::Mail => self.lay_mail(place),
-            Coming::Script => self.lay_script(place),
-            Coming::State(_) => self.lay_state(place),
-        }
-    }
-
-    // So is what may come into hand, if something may.
-    fn lay(&mut self, place: usize, coming: Option<Coming>)
-        requires { place < vec_len self.old.posts }
-        ensures posts { vec_len self.new.posts ≡ vec_len self.old.posts }
-        ensures laid { StepsAt (λ s t. StopStays s t × IsLaid coming t.side.hand.laying.laid) place self.old.tour.stops.items self.new.tour.stops.items }
-        ensures kept { TourKept self.old self.new × (All WaitsNone self.old.posts.items → All WaitsNone self.new.posts.items) }
-        ensures joins { JoinsKept self.old self.new }
-        ensures oldest { StepsAt (λ s t. LaysOldest self.old.lan place coming t) place self.old.tour.stops.items self.new.tour.stops.items }
-        ensures lan { self.new.lan ≡ self.old.lan }
-        ensures list { self.new.list ≡ self.old.list }
-        ensures origins { StepsAt (λ s t. StepsAt (λ p q. LaysFrom coming s.side.hand.laying.number p q) place self.old.posts.items self.new.posts.items) place self.old.tour.stops.items self.new.tour.stops.items }
-    {
-        match coming {
-            None => {}
-            Some(what) => self.lay_coming(place, what),
         }
     }
 
@@ -404,7 +278,8 @@ impl MasterNode {
         ensures posts { vec_len self.new.posts ≡ vec_len self.old.posts }
         ensures led { (lens : ℕ → Lens) (recover retry missed number : ℕ) (from : Before) (as' : List Leads) → length self.old.lan.happened ≤ 1 → HasTaken from.switch [] self.old.lan → IsUnlisted from.forwards self.old → list_any (λ s. is_live s.stand) self.old.tour.stops.items ≡ true → MasterShows lens recover retry self.old missed as' →
             (us : List Turn) × IsLedFrame lens number into.new.items as' us × MasterUnder lens recover retry self.new into.new.items missed us × PacketsBegin from.switch us self.new.lan × (tour_of self.new ≡ tour_of self.old) ×
-            IsOfTour (λ s. stop_share s) (λ k. holds_at is_live_lead as' k) (frame_size into.new.items) (λ k. area_at lens as' k) (tour_of self.old) self.new.tour.stops.items (length (seen lens into.new.items)) self.new.tour.visit.items × ServicesBegin from.forwards as' us self.new }
+            IsOfTour (λ s. stop_share s) (λ k. holds_at is_live_lead as' k) (frame_size into.new.items) (λ k. area_at lens as' k) (tour_of self.old) self.new.tour.stops.items (length (seen lens into.new.items)) self.new.tour.visit.items × ServicesBegin from.forwards as' us self.new ×
+            AllBegin lens self.new.lan 0 (recalls self.new) as' us }
         ensures joins { JoinsKept self.old self.new }
         ensures lan { Happens 16 self.old.lan self.new.lan }
         ensures made { Makes self.old.lan self.new.lan }
@@ -428,7 +303,7 @@ impl MasterNode {
         ensures led { result ≡ Next.Frame → (lens : ℕ → Lens) (recover retry missed number : ℕ) (as' : List Leads) → MasterShows lens recover retry self.old missed as' →
             (us : List Turn) × IsLedFrame lens number into.new.items as' us × MasterUnder lens recover retry self.new into.new.items missed us }
         ensures begun { result ≡ Next.Frame → (lens : ℕ → Lens) (recover retry missed number : ℕ) (as' : List Leads) → MasterShows lens recover retry self.old missed as' →
-            (us : List Turn) × IsLedFrame lens number into.new.items as' us × MasterUnder lens recover retry self.new into.new.items missed us × PacketsBegin self.old.lan.switch us self.new.lan × ServicesBegin (λ k. forwards_at self.old.posts.items k) as' us self.new }
+            (us : List Turn) × IsLedFrame lens number into.new.items as' us × MasterUnder lens recover retry self.new into.new.items missed us × PacketsBegin self.old.lan.switch us self.new.lan × ServicesBegin (λ k. forwards_at self.old.posts.items k) as' us self.new × AllBegin lens self.new.lan 0 (recalls self.new) as' us }
         ensures toured { result ≡ Next.Frame → (lens : ℕ → Lens) (recover retry missed : ℕ) (as' : List Leads) (us : List Turn) → MasterShows lens recover retry self.old missed as' → MasterUnder lens recover retry self.new into.new.items missed us →
             (tour_of self.new ≡ tour_of self.old) × IsOfTour (λ u. turn_share u) (λ k. holds_at is_live_lead as' k) (frame_size into.new.items) (λ k. area_at lens as' k) (tour_of self.old) us (length (seen lens into.new.items)) self.new.tour.visit.items }
         ensures asks { result ≡ Next.Frame → (lens : ℕ → Lens) (recover retry missed : ℕ) (us : List Turn) → MasterUnder lens recover retry self.new into.new.items missed us → AllAsk (seen lens into.new.items) us }

@@ -142,6 +142,8 @@ impl MasterNode {
     ghost use Rattle.master_node.specs.Ports.{ports_of, ports_behind};
     ghost use Rattle.master_tour.specs.Toured.{new_tour};
     ghost use Rattle.master_node.specs.Toured.{tour_of};
+    ghost use Rattle.master_node.specs.Eager.{recalls};
+    ghost use Rattle.master_node.specs.Recalled.{AllKnow};
 
     /// The master of a segment before its first frame: no slave is brought up, and no packet of the host has come in.
     pub fn new(alloc: Global, plan: &Scenario) -> Result<MasterNode, NoMemory>
@@ -154,6 +156,7 @@ impl MasterNode {
         ensures begins { IfOk result (λ master. HasHappened (ports_of plan.now.slaves) plan.now.host [] master.lan) }
         ensures ports { IfOk result (λ master. master.lan.ports.items ≡ ports_behind 0 plan.now.slaves) }
         ensures leads { IfOk result (λ master. MasterShows (lens_of plan.now.slaves) plan.now.recover plan.now.retry master 0 (first_leads plan.now)) }
+        ensures knows { IfOk result (λ master. AllKnow (recalls master)) }
         ensures served { IfOk result (λ master. ServedShows (lens_of plan.now.slaves) plan.now.recover plan.now.retry master 0 0 (all_serve plan.now.paces (first_leads plan.now))) }
         ensures joined { IfOk result (λ master. HasUnfinished master (map stand_before (first_leads plan.now)) (map (λ spec. None) plan.now.slaves)) }
     {

@@ -44,6 +44,9 @@ impl MasterNode {
     ghost use Rattle.master_tour.specs.Toured.{goes_on, lost_on};
     ghost use Rattle.master_node.specs.Shows.{is_opening_lead};
     ghost use Rattle.master_node.specs.Toured.{tour_of};
+    ghost use Rattle.std.specs.Prelude.{[]};
+    ghost use Rattle.master_node.specs.Eager.{AllVisit, recalls};
+    ghost use Rattle.master_node.specs.Recalled.{AllRecall};
 
     // The service in hand has its answer.
     fn answered(&mut self, place: usize, kind: ReplyKind)
@@ -291,6 +294,8 @@ impl MasterNode {
         ensures served { (lens : ℕ → Lens) (recover retry missed made : ℕ) (octets : List ℕ) (vs : List ServedTurn) (f : Exchanged) → f.fate ≡ Fate.Pass → f.back ≡ frame.now.items → ServedUnder lens recover retry self.old octets missed made vs → Returns (seen lens octets) (seen lens frame.now.items) →
             ServedShows lens recover retry self.new 0 (suc made) (map (served_behind lens recover retry (gives_up_at lens recover retry missed) made f) vs) }
         ensures counts { (k : ℕ) → forwards_at self.new.posts.items k ≡ forwards_at self.old.posts.items k }
+        ensures recalls { (lens : ℕ → Lens) (recover retry missed : ℕ) (octets : List ℕ) (us : List Turn) → MasterUnder lens recover retry self.old octets missed us → Returns (seen lens octets) (seen lens frame.now.items) →
+            AllVisit (seen lens octets) (recalls self.old) us → AllRecall lens (seen lens frame.now.items) us (recalls self.old) (recalls self.new) }
     {
         self.list.ends();
         self.lan.begins();
@@ -381,6 +386,7 @@ impl MasterNode {
         ensures downs { (lens : ℕ → Lens) (recover retry missed number after : ℕ) (octets : List ℕ) (us : List Turn) (f : Exchanged) → f.fate ≡ Fate.Lost after → f.sent ≡ octets → MasterUnder lens recover retry self.old octets missed us →
             GoDown self.old us (map (led_behind lens recover retry (gives_up_at lens recover retry missed) number f) us) self.new }
         ensures counts { (k : ℕ) → forwards_at self.new.posts.items k ≡ forwards_at self.old.posts.items k }
+        ensures recalls { (lens : ℕ → Lens) (recover retry missed : ℕ) (octets : List ℕ) (us : List Turn) → MasterUnder lens recover retry self.old octets missed us → AllRecall lens [] us (recalls self.old) (recalls self.new) }
     {
         self.list.ends();
         self.lan.begins();

@@ -4,6 +4,8 @@ use Rattle.segment_plan.specs.Sound.{IsService}
 use Rattle.master_node.specs.Scripts.{script_for}
 use Rattle.master_hand.specs.Spoken.{hand_speech}
 use Rattle.master_node.proofs.Script.{script_sound, script_few}
+use Rattle.master_hand.specs.Shown.{knows}
+use Rattle.master_node.proofs.Firsts.{none_known}
 use Rattle.master_node.proofs.starting.side_of.Goals as goal
 
 pub new-requires-clause-sound : goal.new-requires-clause-sound
@@ -32,4 +34,5 @@ returns-clause-is c =
       number = ap (λ z. z.laying.number) h ∙ c.in_ok-hand.ensures.script.1;
       unpassed = c.new-2.ensures.hand.1;
       unfinished = ap (λ z. z.found.join) h ∙ c.in_ok-hand.ensures.join;
+      known = ap (λ z. knows z.course) h ∙ none_known _ _ _ _ c.in_ok-hand.ensures.shown;
     }

@@ -6,6 +6,10 @@ use Rattle.master_node.proofs.Begins.{takes_one, takes_none}
 use Rattle.master_node.proofs.Forwards.{taken_from, none_from, fewer_from}
 use Rattle.master_node.proofs.Happenings.{happens_none, begun_goes}
 use Rattle.master_node.proofs.Made.{makes_one, makes_none}
+use Rattle.std.proofs.Common.{◌≡◌, true, subst}
+use Rattle.eoe_switch.specs.Switch.{Switched}
+use Rattle.master_node.specs.Ported.{are_queued}
+use Rattle.master_node.proofs.Queued.{queued_begun}
 use Rattle.master_node.proofs.lan.Lan.begin.Goals as goal
 
 pub returns-in-Some-clause-goes_on : goal.returns-in-Some-clause-goes_on
@@ -41,3 +45,6 @@ returns-in-Some-clause-fewer c = λ k e. fewer_from c.args.self.now.switch _ (po
 
 pub returns-in_default-clause-fewer : goal.returns-in_default-clause-fewer
 returns-in_default-clause-fewer c = λ k e. e
+
+pub invariant_of-self-clause-queued : goal.invariant_of-self-clause-queued
+invariant_of-self-clause-queued c = subst (λ (z : Switched). are_queued z.ports ≡ true) (sym c.begun.ensures.goes_on) (queued_begun c.args.self.now.switch c.in-Some.port c.args.self.now.queued)

@@ -6,6 +6,8 @@ use Rattle.master_node.specs.Ported.{are_long}
 use Rattle.master_node.specs.Ports.{ports_of, ports_behind}
 use Rattle.master_node.proofs.Happenings.{happened_none}
 use Rattle.master_node.proofs.Ports.{long_all}
+use Rattle.master_node.specs.Ported.{are_queued}
+use Rattle.master_node.proofs.Queued.{queued_first}
 use Rattle.master_node.proofs.lan.Lan.new.Goals as goal
 
 pub invariant_of-result-2-clause-long : goal.invariant_of-result-2-clause-long
@@ -21,3 +23,6 @@ returns-clause-begins c =
 
 pub returns-clause-ports : goal.returns-clause-ports
 returns-clause-ports c = c.ports_of-ports.ensures.each ∙ ap (λ (z : List SlaveSpec). ports_behind 0 z) c.as_slice.ensures
+
+pub invariant_of-result-2-clause-queued : goal.invariant_of-result-2-clause-queued
+invariant_of-result-2-clause-queued c = ap (λ (z : Switched). are_queued z.ports) (c.switch.view_is ∙ c.in_ok-switch.ensures.first) ∙ queued_first (c.ports_of-ports.result.1 + 1)

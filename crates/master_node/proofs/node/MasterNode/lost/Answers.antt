@@ -28,6 +28,7 @@ use Rattle.master_node.specs.Downs.{downs_in, gives_at, goes_down, is_given_up}
 use Rattle.master_node.specs.Shows.{is_led, is_live_turn, is_live_lead, side_shows}
 use Rattle.master_tour.specs.Goes.{is_live}
 use Rattle.master_node.proofs.Downs.{lists_all, lists_as, downs_few, downs_same, goes_at, gone_is, live_is, under_live, both_true}
+use Rattle.master_node.proofs.Recalled.{recalls_lost}
 use Rattle.master_node.proofs.node.MasterNode.lost.Goals as goal
 
 pub returns-clause-leads : goal.returns-clause-leads
@@ -112,3 +113,8 @@ returns-clause-downs c = λ lens recover retry missed number after octets us f p
       ports = listed.ports ∙ ports;
       events = lists_all _ _ _ (omega (arith, downs_few m.lan.ports.items down m.tour.visit.items, u.fits.few)) c.begins.ensures.none (lists_as _ _ _ _ (sym same) listed);
     }
+
+pub returns-clause-recalls : goal.returns-clause-recalls
+returns-clause-recalls c = λ lens recover retry missed octets us u.
+    let m = c.args.self.now in
+    recalls_lost lens recover octets (not (nat_lt m.tour.missed m.tour.retry)) us m.tour.stops.items c.lost.new.self.stops.items c.all_given_up.new.self.tour.stops.items u.each c.lost.ensures.recalled c.all_given_up.ensures.kept.each

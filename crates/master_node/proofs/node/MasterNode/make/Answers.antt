@@ -26,6 +26,10 @@ use Rattle.master_node.specs.Eager.{StopTakesUp, recall_of}
 use Rattle.master_node.proofs.Eagers.{each_comp}
 use Rattle.master_node.proofs.Lefts.{true_false}
 use Rattle.master_node.proofs.Toureds.{each_none, tour_same, of_tour}
+use Rattle.std.proofs.Common.{[], arith}
+use Rattle.master_node.specs.Begins.{begun_for}
+use Rattle.master_node.specs.Starts.{HasStarted}
+use Rattle.master_node.proofs.Starts.{all_begin}
 use Rattle.master_node.proofs.node.MasterNode.make.Goals as goal
 
 pub returns-clause-led : goal.returns-clause-led
@@ -50,6 +54,11 @@ returns-clause-led c = λ lens recover retry missed number from as' room taken u
         among = both_from (λ a s. IsLead lens recover a s) _ (λ i a s. IsAmong lens nothing left i a s) (λ i a s t l p. lead_among lens recover left i a s t l p.0 p.2) 0 as' ss ts x.each e.each;
         packets = begun_nothing from.switch left as' m.lan taken;
         listing = listed_nothing from.forwards left as' _ (record { few = unlisted.few; none = unlisted.none; counts = unlisted.counts });
+        starts = record {
+          visited = [];
+          each = both_from (λ a s. IsLead lens recover a s) _ (λ i a s. HasStarted lens m.lan [] i (begun_for nothing as' i) a s)
+              (λ i a s t l p. record { under = λ u. absurd (true_false t.under u p.5); ends = λ w. absurd (let z : false ≡ true = w in cc) }) 0 as' ss ts x.each e.each;
+        };
       };
       quiet = x.quiet;
       count = e.count;
@@ -102,6 +111,9 @@ returns-clause-led c = λ lens recover retry missed number from as' room taken u
       tour_same into m _ c.fill.new.self v e.tour.0 visits e.tour.1 e.tour.2 e.tour.3 on,
       of_tour into m _ c.fill.new.self v e.tour.0 visits e.tour.1 e.tour.2 e.tour.3 on (λ k. holds_at is_live_lead as' k) alive (λ k. v.alive k ∙ alive k) (frame_size octets) (λ k. area_at lens as' k) (c.finish-some.ensures.size yes) areas (length (seen lens octets)) (sent_many lens octets f.filling.frame.datagrams (c.finish-some.ensures.reads yes f.filling.frame.datagrams f.filling.frame.begun f.filling.frame.long f.filling.frame.named) ∙ f.filling.frame.long) f.some,
       services_begin from.forwards f.left begun as' (turns lens recover number begun octets z.datagrams is as' z.lives t2.stops.items) c.fill.new.self _ (λ k. begun_turns lens recover number begun octets z.datagrams is as' z.lives t2.stops.items z.each k) refl refl f.filling.listing,
+      all_begin lens recover octets c.fill.new.self.lan f.filling.starts.visited (λ k. begun_for begun as' k) 0 as' (turns lens recover number begun octets z.datagrams is as' z.lives t2.stops.items) t2.stops.items f.filling.starts.each
+          (under_all lens recover number begun octets z.datagrams is f.left 0 as' z.lives t2.stops.items f.filling.among z.each)
+          (λ k j q. begun_turns lens recover number begun octets z.datagrams is as' z.lives t2.stops.items z.each k ∙ ap (λ n. begun_for begun as' n) (let w : k ≡ j = omega (arith, q) in w)),
     )
 
 pub returns-clause-joins : goal.returns-clause-joins

@@ -1,7 +1,7 @@
 use Rattle.std.proofs.Common.{◌≡◌, ◌∙◌, [], true, false, sym}
 use Rattle.life_runs.specs.First.{lens_of}
 use Rattle.life_runs.proofs.First.{apart_from, have_lens, distinct_from}
-use Rattle.master_node.proofs.Firsts.{all_leads, all_open, all_unfinished}
+use Rattle.master_node.proofs.Firsts.{all_known, all_leads, all_open, all_unfinished}
 use Rattle.std.proofs.Common.{subst, refl, arith}
 use Rattle.life_runs.specs.First.{first_leads}
 use Rattle.life_runs.specs.of_life_frames.Shares.{AreDistinct}
@@ -30,6 +30,9 @@ returns-clause-joined c = all_unfinished c.args.plan.now 0 c.args.plan.now.slave
 
 pub returns-clause-counts : goal.returns-clause-counts
 returns-clause-counts c = λ k. none_counted c.in_ok-posts.posts.items c.in_ok-posts.ensures.counts k
+
+pub returns-clause-knows : goal.returns-clause-knows
+returns-clause-knows c = all_known c.args.plan.now 0 c.args.plan.now.slaves c.in_ok-tour.tour.stops.items c.in_ok-tour.ensures.first
 
 pub returns-clause-served : goal.returns-clause-served
 returns-clause-served c =

@@ -27,6 +27,9 @@ use Rattle.std.proofs.Common.{◌≡◌, ℕ, sym}
 use Rattle.master_node.specs.Arrivals.{arrivals_in, heard_at, completed_at}
 use Rattle.master_node.proofs.Arrivals.{arrivals_few, arrivals_same, heard_few, heard_completed}
 use Rattle.master_node.proofs.Downs.{lists_all, lists_as}
+use Rattle.master_tour.proofs.Backs.{seen_aims}
+use Rattle.master_tour.proofs.Walks.{each_map}
+use Rattle.master_node.proofs.Recalled.{recalls_back}
 use Rattle.std.proofs.Common.{suc}
 use Rattle.counters_kept.proofs.Lives.{stands_kept}
 use Rattle.life_runs.specs.of_life_frames.Shares.{AllThree}
@@ -129,6 +132,14 @@ returns-clause-arrivals c = λ lens recover retry missed octets us befores u r h
       events = lists_all _ _ _ (omega (arith, arrivals_few m.lan.ports.items (λ k. heard_at ts k) (λ k. heard_few ts k) m.tour.visit.items, ap length (arrivals_same m.lan.ports.items (λ k. heard_at ts k) packets (λ k. heard_completed back us befores ts there k) m.tour.visit.items), u.fits.few))
           c.begins.ensures.none (lists_as _ _ _ _ (sym same) listed);
     }
+
+pub returns-clause-recalls : goal.returns-clause-recalls
+returns-clause-recalls c = λ lens recover retry missed octets us u r a.
+    let back = seen lens c.args.frame.now.items in
+    let ss = c.args.self.now.tour.stops.items in
+    let ts = c.returned.new.self.stops.items in
+    recalls_back lens recover octets back us ss ts c.all_back.new.self.tour.stops.items r (λ s. seen_aims lens c.args.frame.now.items s.side.station s.named) u.each a
+    (each_map _ _ ss ts (λ s t p v i. p (speech_at lens v.lived.spot) recover v.lived.spot v.lived.life i.lead.lives.planned.stands i.way i.lead.lives.shown) (c.returned.ensures.recalls lens (seen lens octets) r u.sent)) c.all_back.ensures.kept.each
 
 pub returns-clause-served : goal.returns-clause-served
 returns-clause-served c = λ lens recover retry missed made octets vs f p b u r.

@@ -19,7 +19,7 @@ use Rattle.master_node.specs.Filling.{StopFills}
 use Rattle.master_node.specs.Shows.{lived_of}
 use Rattle.master_node.proofs.Lists.{steps_map, steps_holds, steps_each, each_trans}
 use Rattle.master_node.proofs.Filleds.{count_behind}
-use Rattle.master_node.proofs.Visits.{Fitted, Began, here, what, now, comes, frame, spot, leaves, waits_none, told, among, among_fitted}
+use Rattle.master_node.proofs.Visits.{Fitted, Began, SomeKept, here, what, what_is, now, comes, frame, spot, leaves, waits_none, told, among, among_fitted}
 use Rattle.master_node.proofs.Begins.{begun_step}
 use Rattle.master_node.specs.Listing.{number_at}
 use Rattle.master_node.proofs.Listing.{laid_from, listed_on, listed_step, listed_visit, number_here}
@@ -40,6 +40,18 @@ use Rattle.master_node.specs.Eager.{StopGoes, StopTakesUp, recall_of}
 use Rattle.master_tour.proofs.Walks.{each_map}
 use Rattle.master_node.proofs.Happenings.{happens_none, happens_from}
 use Rattle.master_node.proofs.Made.{makes_none, makes_then}
+use Rattle.std.proofs.Common.{◌∷◌, length}
+use Rattle.life_runs.specs.of_life_frames.Shares.{AllFrom}
+use Rattle.master_hand.specs.Shown.{Shows, knows}
+use Rattle.master_hand.specs.Spoken.{acknowledged}
+use Rattle.master_side.specs.Shown.{SideShows}
+use Rattle.master_tour.specs.Recalls.{BeginsAll as Begins}
+use Rattle.master_node.specs.Begins.{begun_for}
+use Rattle.master_node.specs.Starts.{HasStarted}
+use Rattle.master_node.proofs.Begins.{at_other, at_place}
+use Rattle.master_node.proofs.Fills.{from_each, from_map}
+use Rattle.master_node.proofs.Lists.{steps_got, steps_some}
+use Rattle.master_node.proofs.Starts.{Asks, ComesSo, LeavesNone, Readies, from_both, from_steps, leaves_none, readies, some_so, started_here, started_same, started_there, waits_yet}
 use Rattle.master_node.proofs.node.MasterNode.visit.Goals as goal
 
 pub returns-then-not-fits-clause-led : goal.returns-then-not-fits-clause-led
@@ -56,6 +68,12 @@ returns-then-not-fits-clause-led c = λ lens recover made from left next as' roo
       among = among_fitted lens f.begun left as' c.args.place s0 s1 fitted f.among;
       packets = f.packets;
       listing = listed_on from.forwards left f.begun as' m _ refl refl f.listing;
+      starts = record {
+        visited = f.starts.visited;
+        each = from_each (λ i a s. HasStarted lens m.lan f.starts.visited i (begun_for f.begun as' i) a s) (λ s t. (t.under ≡ s.under) × (recall_of t ≡ recall_of s)) (λ i a s. HasStarted lens m.lan f.starts.visited i (begun_for f.begun as' i) a s)
+            (λ i a s t p q. started_same lens m.lan f.starts.visited i (begun_for f.begun as' i) a s t q.0 q.1 p) 0 as' s0 s1 f.starts.each
+            (steps_each _ (λ s t. (t.under ≡ s.under) × (recall_of t ≡ recall_of s)) c.args.place s0 s1 (λ s. (refl, refl)) (λ s t p. (p.0.3, p.1)) (steps_both _ _ c.args.place s0 s1 e.lives e.recalled));
+      };
     }
 
 pub returns-clause-first : goal.returns-clause-first
@@ -107,6 +125,33 @@ returns-clause-led c = λ lens recover made from left next as' room rows quiet d
           (listed_visit place (number_at as' place) coming r (what coming r place s0 s1 s2 s3 s4 rooms coms fitted laid began came) m _ c.came.new.self c.lay.ensures.list rows
           (laid_from coming (number_at as' place) place m.posts.items c.lay.new.self.posts.items s0 s1 s2 (number_here lens f.begun left (λ s t. Fitted s t) (λ s t k. k.script) 0 place place as' s0 s1 (omega arith) at f.among fitted) c.lay.ensures.origins)
           c.came.ensures.lists (λ forwards o h. told coming r place s0 s1 s2 s3 s4 rooms coms fitted laid began came (number_at as' place) forwards o h)) f.listing;
+      starts = record {
+        visited = place ∷ f.starts.visited;
+        each =
+            let l = m.lan in
+            let l2 = c.came.new.self.lan in
+            let visited = f.starts.visited in
+            let what_here = what coming r place s0 s1 s2 s3 s4 rooms coms fitted laid began came in
+            let here_is = here coming r place s0 s1 s2 s3 s4 rooms coms fitted laid began came in
+            let at_spot = spot coming r place s0 s1 s2 s3 s4 rooms coms fitted laid began came lens f.begun left as' f.among in
+            let fewer_on = subst (λ z. NoneMore z l2) c.lay.ensures.lan c.came.ensures.fewer in
+            let asks = steps_map _ (λ s t. Asks s t) place s0 s1
+            (λ s t p. ((λ lens recover made a k h. p.0.0 (speech_at lens a.lived.spot) is_followed is_passed made recover a.lived.spot k h), p.1.0.2, p.1.0.0.out_is, ap (λ z. slice_get z.script z.number) p.1.0.3, p.1.1)) (steps_both _ _ place s0 s1 e.lives (steps_both _ _ place s0 s1 e.step e.recalled)) in
+            let so = steps_some (λ s. ComesSo l place coming s) (λ s t. Asks s t) place s0 s1 asks
+            (some_so l place coming (slice_get s0 place) c.coming-coming.ensures.first coms (c.coming-coming.ensures.none quiet) c.coming-coming.ensures.mails) in
+            let ready = steps_trans _ _ (λ s u. Readies lens recover made l place coming s u) place s0 s1 s2 (λ s t u a b. readies lens recover made l place coming s t u a.0 a.1 b.0.0 b.0.1 b.1) so
+            (steps_both _ _ place s1 s2 laid (c.lay.ensures.sure c.coming-coming.ensures.waits)) in
+            let begins = subst (λ z. StepsAt (λ s t. Begins s.stand r (knows s.side.hand.course) s.side.duty s.side.passing acknowledged (λ x d a. SideShows (Shows s.side.hand.course s.side.hand.which s.side.hand.clients x) s.side.out s.side.inn s.side.fresh s.side.duty d a) z (ready_of s.side.hand.laying)) place s2 s3) c.wish_of-wish.ensures v.begins in
+            let left_none = steps_trans _ _ (λ s u. LeavesNone lens recover made l place what_here s u) place s0 s2 s3
+            (λ s t u a b. subst (λ z. LeavesNone lens recover made l place z s u) (what_is coming r place s0 s1 s2 s3 s4 rooms coms fitted laid began came t b.0) (leaves_none lens recover made l place coming r s t u (rooms t) a b.1.0 b.1.1)) ready
+            (steps_got _ place s2 s3 (steps_both _ _ place s2 s3 begins v.recalled)) in
+            let before = from_both _ _ 0 as' s0 (from_both _ _ 0 as' s0 (from_map lived_of (λ i a s. StopFills lens recover made f.begun index left f.frame.datagrams i a s) 0 as' s0 f.frame.each) f.among) f.starts.each in
+            let third = from_steps _ (λ i a s. HasStarted lens l2 (place ∷ visited) i (begun_for begun as' i) a s) (λ s u. LeavesNone lens recover made l place what_here s u) 0 place place as' s0 s3 (omega arith)
+            (λ a s u p q. started_here lens recover made l l2 visited place (begun_for begun as' place) what_here a s u fewer_on (at_place f.begun here_is what_here as' place at_spot) (waits_yet lens recover made f.begun index left f.frame.datagrams place a s at p.0.0 p.0.1) q)
+            (λ j a s n p. started_there lens l l2 visited place j (begun_for f.begun as' j) (begun_for begun as' j) a s fewer_on n (at_other f.begun here_is what_here as' place j d at_spot n) p.1) before left_none in
+            from_each (λ i a s. HasStarted lens l2 (place ∷ visited) i (begun_for begun as' i) a s) (λ s t. SomeKept s t) (λ i a s. HasStarted lens l2 (place ∷ visited) i (begun_for begun as' i) a s)
+            (λ i a s t p k. started_same lens l2 (place ∷ visited) i (begun_for begun as' i) a s t k.kept.under (recall_kept k.number s t k.kept) p) 0 as' s3 s4 third (Visited.kept coming r place s0 s1 s2 s3 s4 rooms coms fitted laid began came);
+      };
     }
 
 pub returns-then-not-fits-clause-counts : goal.returns-then-not-fits-clause-counts

@@ -9,7 +9,8 @@ use Rattle.std.proofs.Common.{ap, refl}
 use Rattle.master_tour.proofs.Walks.{each_same}
 use Rattle.master_node.proofs.Lists.{steps_each}
 use Rattle.master_node.specs.Origins.{LaysFrom}
-use Rattle.master_node.proofs.node.MasterNode.lay.Goals as goal
+use Rattle.master_node.specs.Starts.{LaysPacket, WaitsFor}
+use Rattle.master_node.proofs.ready.MasterNode.lay.Goals as goal
 
 pub returns-in-None-clause-laid : goal.returns-in-None-clause-laid
 returns-in-None-clause-laid c =
@@ -52,3 +53,14 @@ returns-in-Some-clause-origins c =
     let m = c.args.self.now in
     let n = c.lay_coming.new.self in
     subst (λ z. StepsAt (λ s t. StepsAt (λ p q. LaysFrom z s.side.hand.laying.number p q) c.args.place m.posts.items n.posts.items) c.args.place m.tour.stops.items n.tour.stops.items) (sym c.in-Some.is) c.lay_coming.ensures.origins
+
+pub returns-in-None-clause-sure : goal.returns-in-None-clause-sure
+returns-in-None-clause-sure c = λ w.
+    let m = c.args.self.now in
+    let l : c.args.place < length m.tour.stops.items = omega (arith, c.requires, m.paired, m.tour.stops.ok.0) in
+    subst (λ z. StepsAt (λ s t. LaysPacket z t.side.hand.laying.laid) c.args.place m.tour.stops.items m.tour.stops.items) (sym c.in-None.is) (steps_same _ c.args.place m.tour.stops.items l (λ s. tt))
+
+pub returns-in-Some-clause-sure : goal.returns-in-Some-clause-sure
+returns-in-Some-clause-sure c = λ w.
+    let m = c.args.self.now in
+    subst (λ z. StepsAt (λ s t. LaysPacket z t.side.hand.laying.laid) c.args.place m.tour.stops.items c.lay_coming.new.self.tour.stops.items) (sym c.in-Some.is) (c.lay_coming.ensures.sure (subst (λ z. WaitsFor m.lan c.args.place z) c.in-Some.is w))

@@ -3,7 +3,7 @@ use Rattle.master_tour.proofs.Walks.{steps_set}
 use Rattle.master_node.proofs.Kepts.{stop_side}
 use Rattle.std.proofs.Common.{ap}
 use Rattle.master_node.specs.declared.event.Origin.{Origin}
-use Rattle.master_node.proofs.node.MasterNode.lay_script.Goals as goal
+use Rattle.master_node.proofs.ready.MasterNode.lay_script.Goals as goal
 
 pub returns-clause-laid : goal.returns-clause-laid
 returns-clause-laid c =

@@ -2,7 +2,7 @@ use Rattle.std.proofs.Common.{◌<◌, refl, ap, arith, length}
 use Rattle.master_tour.proofs.Walks.{steps_set}
 use Rattle.master_node.specs.declared.event.Origin.{Origin}
 use Rattle.master_node.proofs.Listing.{steps_stay}
-use Rattle.master_node.proofs.node.MasterNode.lay_state.Goals as goal
+use Rattle.master_node.proofs.ready.MasterNode.lay_state.Goals as goal
 
 pub returns-clause-origins : goal.returns-clause-origins
 returns-clause-origins c =

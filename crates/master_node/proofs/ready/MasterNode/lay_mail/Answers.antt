@@ -2,7 +2,7 @@ use Rattle.std.proofs.Common.{◌<◌, refl, arith, length}
 use Rattle.master_tour.proofs.Walks.{steps_set}
 use Rattle.master_node.proofs.Kepts.{stop_side, stop_same}
 use Rattle.master_node.proofs.Lists.{steps_same}
-use Rattle.master_node.proofs.node.MasterNode.lay_mail.Goals as goal
+use Rattle.master_node.proofs.ready.MasterNode.lay_mail.Goals as goal
 
 pub returns-in-Some-clause-laid : goal.returns-in-Some-clause-laid
 returns-in-Some-clause-laid c =

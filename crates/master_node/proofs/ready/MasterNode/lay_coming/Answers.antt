@@ -8,7 +8,9 @@ use Rattle.master_node.proofs.Kepts.{stop_same, tour_same}
 use Rattle.master_node.proofs.Lists.{steps_same, steps_map}
 use Rattle.master_node.specs.Origins.{LaysFrom}
 use Rattle.master_node.specs.declared.coming.Coming.{Coming}
-use Rattle.master_node.proofs.node.MasterNode.lay_coming.Goals as goal
+use Rattle.std.proofs.Common.{◌∙◌}
+use Rattle.master_node.specs.Starts.{LaysPacket, WaitsFor}
+use Rattle.master_node.proofs.ready.MasterNode.lay_coming.Goals as goal
 
 pub returns-in-Packet-clause-laid : goal.returns-in-Packet-clause-laid
 returns-in-Packet-clause-laid c =
@@ -88,3 +90,25 @@ returns-in-State-clause-origins c =
     let n = c.lay_state.new.self in
     subst (λ z. StepsAt (λ s t. StepsAt (λ p q. LaysFrom (Some z) s.side.hand.laying.number p q) c.args.place m.posts.items n.posts.items) c.args.place m.tour.stops.items n.tour.stops.items) (sym c.in-State.is)
     (steps_map _ _ c.args.place m.tour.stops.items n.tour.stops.items (λ s t h. steps_map _ (λ p q. LaysFrom (Some (Coming.State c.in-State.field-0)) s.side.hand.laying.number p q) c.args.place m.posts.items n.posts.items (λ p q e. record { counts = e.0; origin = e.1 }) h) c.lay_state.ensures.origins)
+
+pub returns-in-Packet-clause-sure : goal.returns-in-Packet-clause-sure
+returns-in-Packet-clause-sure c = λ w.
+    let m = c.args.self.now in
+    subst (λ z. StepsAt (λ s t. LaysPacket (Some z) t.side.hand.laying.laid) c.args.place m.tour.stops.items c.lay_packet.new.self.tour.stops.items) (sym c.in-Packet.is) (c.lay_packet.ensures.sure (subst (λ z. WaitsFor m.lan c.args.place (Some z)) c.in-Packet.is w))
+
+pub returns-in-Mail-clause-sure : goal.returns-in-Mail-clause-sure
+returns-in-Mail-clause-sure c = λ w.
+    let m = c.args.self.now in
+    subst (λ z. StepsAt (λ s t. LaysPacket (Some z) t.side.hand.laying.laid) c.args.place m.tour.stops.items c.lay_mail.new.self.tour.stops.items) (sym c.in-Mail.is) (steps_map _ _ c.args.place m.tour.stops.items c.lay_mail.new.self.tour.stops.items (λ s t k. tt) c.lay_mail.ensures.laid)
+
+pub returns-in-Script-clause-sure : goal.returns-in-Script-clause-sure
+returns-in-Script-clause-sure c = λ w.
+    let m = c.args.self.now in
+    subst (λ z. StepsAt (λ s t. LaysPacket (Some z) t.side.hand.laying.laid) c.args.place m.tour.stops.items c.lay_script.new.self.tour.stops.items) (sym c.in-Script.is) (steps_map _ _ c.args.place m.tour.stops.items c.lay_script.new.self.tour.stops.items (λ s t k. tt) c.lay_script.ensures.laid)
+
+pub returns-in-State-clause-sure : goal.returns-in-State-clause-sure
+returns-in-State-clause-sure c = λ w.
+    let m = c.args.self.now in
+    let l : c.args.place < length m.tour.stops.items = omega (arith, c.requires, m.paired, m.tour.stops.ok.0) in
+    subst (λ z. StepsAt (λ s t. LaysPacket (Some z) t.side.hand.laying.laid) c.args.place m.tour.stops.items c.lay_state.new.self.tour.stops.items) (sym c.in-State.is)
+    (subst (λ z. StepsAt (λ s t. ⊤) c.args.place m.tour.stops.items z.stops.items) (sym c.lay_state.ensures.tour.0) (steps_same _ c.args.place m.tour.stops.items l (λ s. tt)))

@@ -1,0 +1,280 @@
+-- WHAT MIGHT BEGIN AT A VISIT did, or nothing is left that might; and of all other slaves nothing changes.
+use Rattle.std.proofs.Common.{◌≡◌, ◌==◌, ◌+◌, ◌<◌, ℕ, zero, suc, Bool, true, false, Option, Some, None, List, [], ◌∷◌, refl, sym, ap, ◌∙◌, subst, arith}
+use Rattle.std.specs.Prelude.{IfSome, length, map, nat_lt, option_map, slice_get, if◌then◌else◌}
+use Rattle.std.proofs.lemmas.Bool.{eq-eqb, eqb-true, ltb-false}
+use Rattle.datagrams.specs.Datagram as Raw
+use Rattle.life_runs.specs.of_frame_view.View.{Lens}
+use Rattle.life_runs.specs.of_life_frames.Shares.{AllBoth, AllFrom}
+use Rattle.life_runs.specs.Led.{Leads, Turn, speech_at}
+use Rattle.master_duty.specs.Reply.{Reply}
+use Rattle.master_duty.specs.of_state_exchange.Stated as Stated
+use Rattle.master_duty.specs.of_task_model.Accounts.{Pick}
+use Rattle.master_hand.specs.Laying.{Waiting, asked_next, ready_by, ready_of}
+use Rattle.master_hand.specs.Shown.{Shows, knows}
+use Rattle.master_hand.specs.Spoken.{Asked, acknowledged, is_followed, is_passed}
+use Rattle.master_hand.specs.declared.hand.InHand.{InHand}
+use Rattle.master_hand.specs.declared.laying.Laid.{Laid}
+use Rattle.master_side.specs.Recall.{BeginsNone}
+use Rattle.master_side.specs.Shown.{SideShows, wish_begun, wished}
+use Rattle.master_side.specs.declared.carried.Wish.{Wish}
+use Rattle.master_side.specs.declared.hand.Hand.{Ghosts}
+use Rattle.master_side.specs.of_link_mails.Body.{Body}
+use Rattle.master_tour.specs.Made.{is_in}
+use Rattle.master_tour.specs.Recalls.{BeginsAll as Begins}
+use Rattle.master_tour.specs.Stands.{HoldShows, StopShows}
+use Rattle.master_tour.specs.Walks.{StepsAt}
+use Rattle.master_tour.specs.declared.stop.Stand.{Stand}
+use Rattle.master_tour.specs.declared.stop.Stop.{Stop}
+use Rattle.master_tour.specs.of_life_model.Lives.{Life, life_next}
+use Rattle.segment_plan.specs.declared.service.Service as Plan
+use Rattle.master_node.specs.Begins.{NoneMore, PacketFirst, begun_of}
+use Rattle.master_node.specs.Coming.{IsComing, IsLaid, next_of, wish_of}
+use Rattle.master_node.specs.Eager.{recall_of}
+use Rattle.master_node.specs.Filling.{IsAmong, StopFills}
+use Rattle.master_node.specs.Kept.{StopKept, StopStays}
+use Rattle.master_node.specs.Resting.{MayBegin}
+use Rattle.master_node.specs.Shows.{IsUnder, side_shows}
+use Rattle.master_node.specs.Starts.{AllBegin, HasStarted, IsByMails, LaysPacket, NeverBegins, NoPacket, NoneComes, SideFrees, WaitsFor}
+use Rattle.master_node.specs.declared.coming.Coming.{Coming}
+use Rattle.master_node.specs.declared.lan.Lan.{Lan}
+use Rattle.master_node.proofs.Frees.{MightBegin, StillLife, frees, might_still, still_life, still_on}
+use Rattle.master_node.proofs.Kepts.{shows_kept}
+use Rattle.master_node.proofs.Lefts.{in_here, in_tail, in_there}
+
+-- ONE PLACE of two lists goes on, and at all others the one list stays
+from_apart : {A S : Type 0} (P Q : ℕ → A → S → Type 0) (m i : ℕ) (as' : List A) (ss : List S) → m < i → ((j : ℕ) (a : A) (s : S) → (j ≡ m → ⊥) → P j a s → Q j a s) → AllFrom P i as' ss → AllFrom Q i as' ss
+from_apart P Q m i [] [] l h p = tt
+from_apart P Q m i [] (s ∷ ss) l h p = absurd p
+from_apart P Q m i (a ∷ as') [] l h p = absurd p
+from_apart P Q m i (a ∷ as') (s ∷ ss) l h p = (h i a s (λ e. omega (arith, e, l)) p.0, from_apart P Q m (suc i) as' ss (omega (arith, l)) h p.1)
+
+pub from_steps : {A S : Type 0} (P Q : ℕ → A → S → Type 0) (R : S → S → Type 0) (i n m : ℕ) (as' : List A) (ss ts : List S) → m ≡ i + n → ((a : A) (s t : S) → P m a s → R s t → Q m a t) → ((j : ℕ) (a : A) (s : S) → (j ≡ m → ⊥) → P j a s → Q j a s) →
+    AllFrom P i as' ss → StepsAt R n ss ts → AllFrom Q i as' ts
+from_steps P Q R i zero m [] [] ts e at other p r = absurd r
+from_steps P Q R i (suc n) m [] [] ts e at other p r = absurd r
+from_steps P Q R i n m [] (s ∷ ss) ts e at other p r = absurd p
+from_steps P Q R i n m (a ∷ as') [] ts e at other p r = absurd p
+from_steps P Q R i zero m (a ∷ as') (s ∷ ss) [] e at other p r = absurd r
+from_steps P Q R i (suc n) m (a ∷ as') (s ∷ ss) [] e at other p r = absurd r
+from_steps P Q R i zero m (a ∷ as') (s ∷ ss) (t ∷ ts) e at other p r =
+    let f : m ≡ i = omega (arith, e) in (
+      subst (λ z. Q z a t) f (at a s t (subst (λ z. P z a s) (sym f) p.0) r.0),
+      subst (λ z. AllFrom Q (suc i) as' z) (sym r.1) (from_apart P Q m (suc i) as' ss (omega (arith, f)) other p.1),
+    )
+from_steps P Q R i (suc n) m (a ∷ as') (s ∷ ss) (t ∷ ts) e at other p r = (
+  subst (λ z. Q i a z) (sym r.0) (other i a s (λ q. omega (arith, q, e)) p.0),
+  from_steps P Q R (suc i) n m as' ss ts (omega (arith, e)) at other p.1 r.1,
+)
+
+pub from_both : {A S : Type 0} (P Q : ℕ → A → S → Type 0) (i : ℕ) (as' : List A) (ss : List S) → AllFrom P i as' ss → AllFrom Q i as' ss → AllFrom (λ j a s. P j a s × Q j a s) i as' ss
+from_both P Q i [] [] p q = tt
+from_both P Q i [] (s ∷ ss) p q = absurd p
+from_both P Q i (a ∷ as') [] p q = absurd p
+from_both P Q i (a ∷ as') (s ∷ ss) p q = ((p.0, q.0), from_both P Q (suc i) as' ss p.1 q.1)
+
+-- the places that were visited, and one more
+pub in_behind : (j p : ℕ) (ps : List ℕ) → (j ≡ p → ⊥) → is_in j (p ∷ ps) ≡ true → is_in j ps ≡ true
+in_behind j p ps n e = go (j == p) refl
+  where
+    go : (z : Bool) → (j == p) ≡ z → is_in j ps ≡ true
+    go true f = absurd (n (eqb-true j p f))
+    go false f = sym (in_tail j p ps f) ∙ e
+
+-- A SLAVE WHOSE VISIT IS TO COME: nothing came into hand of it, and its next service is that of its script
+pub record WaitsYet {G : Ghosts InHand} (lens : ℕ → Lens) (recover made : ℕ) (a : Leads) (s : Stop InHand G) : Type 0 where
+  pub next : next_of s ≡ slice_get a.script a.number
+  pub unpassed : s.side.passing ≡ None
+  pub room : (lens a.lived.spot.station).out ≡ s.side.out.len
+  pub life : Life Body Asked Reply
+  pub pick : Pick Asked
+  pub none : pick.begin ≡ None
+  pub is : life ≡ life_next (speech_at lens a.lived.spot) acknowledged is_followed is_passed made a.lived.life a.lived.life.stand pick
+  pub shown : StopShows (side_shows lens recover s a.lived.spot) recover a.lived.spot s.stand s.spare life
+
+-- what may come into hand of it
+pub record ComesSo {G : Ghosts InHand} (l : Lan) (place : ℕ) (coming : Option Coming) (s : Stop InHand G) : Type 0 where
+  pub comes : IsComing (next_of s) coming
+  pub first : PacketFirst l place coming
+  pub none : coming ≡ None → s.stand ≡ Stand.Open → SideFrees s.side → NoneComes l place (next_of s)
+  pub mails : coming ≡ Some Coming.Script → IsByMails (next_of s)
+
+-- what the frame's room is asked of
+abbrev pub Asks : {G : Ghosts InHand} → Stop InHand G → Stop InHand G → Type 0
+Asks s t = ((lens : ℕ → Lens) (recover made : ℕ) (a : Leads) (l : Life Body Asked Reply) → StopShows (side_shows lens recover s a.lived.spot) recover a.lived.spot s.stand s.spare l →
+    HoldShows (speech_at lens a.lived.spot) acknowledged is_followed is_passed made l (StopShows (side_shows lens recover t a.lived.spot) recover a.lived.spot t.stand t.spare)) × (t.side.passing ≡ s.side.passing) × (t.side.out.len ≡ s.side.out.len) × (next_of t ≡ next_of s) × (recall_of t ≡ recall_of s)
+
+-- laid ready, and before its visit
+pub record Readies {G : Ghosts InHand} (lens : ℕ → Lens) (recover made : ℕ) (l : Lan) (place : ℕ) (coming : Option Coming) (s t : Stop InHand G) : Type 0 where
+  pub so : ComesSo l place coming s
+  pub known : knows t.side.hand.course ≡ knows s.side.hand.course
+  pub next : next_of t ≡ next_of s
+  pub out : t.side.out.len ≡ s.side.out.len
+  pub laid : IsLaid coming t.side.hand.laying.laid
+  pub packet : LaysPacket coming t.side.hand.laying.laid
+  pub frees : (a : Leads) → WaitsYet lens recover made a s → knows t.side.hand.course ≡ true → MayBegin lens a → (t.stand ≡ Stand.Open) × SideFrees t.side
+
+-- and its visit
+abbrev pub BeginsSo : {G : Ghosts InHand} → Option Coming → Bool → Stop InHand G → Type 0
+BeginsSo coming result t =
+    Begins t.stand result (knows t.side.hand.course) t.side.duty t.side.passing acknowledged (λ x d a. SideShows (Shows t.side.hand.course t.side.hand.which t.side.hand.clients x) t.side.out t.side.inn t.side.fresh t.side.duty d a) (wish_of coming) (ready_of t.side.hand.laying)
+
+-- behind that nothing is left that might begin, where nothing did
+abbrev pub LeavesNone : {G : Ghosts InHand} → (ℕ → Lens) → ℕ → ℕ → Lan → ℕ → Option (Stated.Service Asked) → Stop InHand G → Stop InHand G → Type 0
+LeavesNone lens recover made l place what s t = (a : Leads) → WaitsYet lens recover made a s → knows t.side.hand.course ≡ true → MayBegin lens a → what ≡ None →
+    NeverBegins (lens a.lived.spot.station).out (slice_get a.script a.number) × NoPacket l place
+
+-- a service by mails that nothing is asked by never begins
+never_by : (room : ℕ) (next : Option Plan.Service) → asked_next room next ≡ None → IsByMails next → NeverBegins room next
+never_by room None e m = tt
+never_by room (Some (Plan.Service.Sdo service)) e m = e
+never_by room (Some (Plan.Service.ReadFile name pass)) e m = e
+never_by room (Some (Plan.Service.WriteFile name pass bytes)) e m = e
+never_by room (Some (Plan.Service.ReadIdn number idn elements)) e m = e
+never_by room (Some (Plan.Service.WriteIdn number idn elements bytes)) e m = e
+never_by room (Some (Plan.Service.SetIp block)) e m = e
+never_by room (Some Plan.Service.GetIp) e m = e
+never_by room (Some (Plan.Service.State state)) e m = absurd m
+never_by room (Some (Plan.Service.Forward packet)) e m = e
+
+packet_none : (w : Waiting) → w.laid ≡ Laid.Packet → ready_of w ≡ None → ⊥
+packet_none w e n = let t = sym (ap (λ z. ready_by z w) e) ∙ n in cc
+
+module _ (lens : ℕ → Lens) (recover made : ℕ) where
+  might : (a : Leads) → MayBegin lens a → MightBegin (speech_at lens a.lived.spot) a.lived.life
+  might a b = record { stands = b.stands; free = b.free; done = b.done; hand = b.hand }
+
+  module _ {G : Ghosts InHand} where
+    -- a slave whose visit is to come, and what its stop shows
+    yet : (a : Leads) (s : Stop InHand G) (w : WaitsYet lens recover made a s) → MayBegin lens a → StillLife a.lived.life w.life
+    yet a s w b = still_life (speech_at lens a.lived.spot) acknowledged is_followed is_passed made a.lived.life w.life a.lived.life.stand w.pick b.stands w.none b.free w.is
+
+    yet_frees : (a : Leads) (s : Stop InHand G) → WaitsYet lens recover made a s → knows s.side.hand.course ≡ true → MayBegin lens a → (s.stand ≡ Stand.Open) × SideFrees s.side
+    yet_frees a s w k b = frees lens recover a.lived.spot s w.life w.shown k w.unpassed (might_still _ a.lived.life w.life (yet a s w b) (might a b))
+
+    knows_same : (s t : Stop InHand G) → recall_of t ≡ recall_of s → knows t.side.hand.course ≡ knows s.side.hand.course
+    knows_same s t e = ap (λ z. z.knows) e
+
+    pub readies : (l : Lan) (place : ℕ) (coming : Option Coming) (s t u : Stop InHand G) → ComesSo l place coming s → Asks s t → StopStays t u → IsLaid coming u.side.hand.laying.laid → LaysPacket coming u.side.hand.laying.laid → Readies lens recover made l place coming s u
+    readies l place coming s t u so q k laid packet =
+        let known : knows u.side.hand.course ≡ knows s.side.hand.course = ap (λ z. knows z) k.side.hand.course_is ∙ knows_same s t q.4 in
+        record {
+          so = so;
+          known = known;
+          next = (λ i. slice_get (k.side.script i) (k.side.number i)) ∙ q.3;
+          out = ap (λ z. z.len) k.side.side.out_is ∙ q.2;
+          laid = laid;
+          packet = packet;
+          frees = λ a w e b.
+              let h = q.0 lens recover made a w.life w.shown in
+              let x = speech_at lens a.lived.spot in
+              let spot = a.lived.spot in
+              let old = yet a s w b in
+              let m = might_still x a.lived.life w.life old (might a b) in
+              let n = life_next x acknowledged is_followed is_passed made w.life w.life.stand (record { begin = None; hold = h.hold }) in
+              let still = still_life x acknowledged is_followed is_passed made w.life n w.life.stand (record { begin = None; hold = h.hold }) m.stands refl m.free refl in
+              let here = subst (λ f. StopShows f recover spot t.stand t.spare n) (sym (shows_kept lens recover t.side.hand.laying.number spot t u k)) h.shown in
+              let there : StopShows (side_shows lens recover u spot) recover spot u.stand u.spare n = subst (λ z. StopShows (side_shows lens recover u spot) recover spot z u.spare n) (sym k.stand) (subst (λ z. StopShows (side_shows lens recover u spot) recover spot t.stand z n) (sym k.spare) here) in
+              frees lens recover spot u n there e (k.side.passing ∙ q.1 ∙ w.unpassed) (might_still x w.life n still m);
+        }
+
+    -- nothing came into hand by what was wished
+    begins_none : (coming : Option Coming) (result : Bool) (t : Stop InHand G) → wish_begun result (wish_of coming) (ready_of t.side.hand.laying) ≡ None → t.stand ≡ Stand.Open → SideFrees t.side → BeginsSo coming result t → BeginsNone (wish_of coming) (ready_of t.side.hand.laying)
+    begins_none coming false t e o f b = b o refl f.known f.hand f.unpassed f.speech f.side f.account f.shows f.free f.done
+    begins_none coming true t e o f b = go (wish_of coming) (ready_of t.side.hand.laying) e
+      where
+        go : (wish : Option Wish) (ready : Option Asked) → wish_begun true wish ready ≡ None → BeginsNone wish ready
+        go None ready w = tt
+        go (Some Wish.Mails) None w = refl
+        go (Some Wish.Mails) (Some q) w = absurd (cc)
+        go (Some (Wish.State target)) ready w = absurd (cc)
+
+    left_by : (l : Lan) (place : ℕ) (coming : Option Coming) (s t : Stop InHand G) (a : Leads) → t.side.out.len ≡ t.side.hand.laying.areas.out → ComesSo l place coming s → Readies lens recover made l place coming s t → WaitsYet lens recover made a s → knows s.side.hand.course ≡ true → MayBegin lens a →
+        BeginsNone (wish_of coming) (ready_of t.side.hand.laying) → NeverBegins (lens a.lived.spot.station).out (slice_get a.script a.number) × NoPacket l place
+    left_by l place None s t a room so r w k b n =
+        let f = yet_frees a s w k b in
+        let c = so.none refl f.0 f.1 in
+        (subst (λ z. NeverBegins (lens a.lived.spot.station).out z) w.next (c.1 (lens a.lived.spot.station).out), c.0)
+    left_by l place (Some Coming.Packet) s t a room so r w k b n = absurd (packet_none t.side.hand.laying r.packet n)
+    left_by l place (Some Coming.Mail) s t a room so r w k b n = absurd so.comes
+    left_by l place (Some Coming.Script) s t a room so r w k b n =
+        let laying = t.side.hand.laying in
+        let asked : asked_next laying.areas.out (next_of t) ≡ None = sym (ap (λ z. ready_by z laying) r.laid) ∙ n in
+        let area : laying.areas.out ≡ (lens a.lived.spot.station).out = sym room ∙ r.out ∙ sym w.room in
+        let next : next_of t ≡ slice_get a.script a.number = r.next ∙ w.next in
+        let never = never_by laying.areas.out (next_of t) asked (subst (λ z. IsByMails z) (sym r.next) (so.mails refl)) in
+        (subst (λ z. NeverBegins (lens a.lived.spot.station).out z) next (subst (λ z. NeverBegins z (next_of t)) area never), so.first)
+    left_by l place (Some (Coming.State target)) s t a room so r w k b n = absurd n
+
+    pub leaves_none : (l : Lan) (place : ℕ) (coming : Option Coming) (result : Bool) (s t u : Stop InHand G) → t.side.out.len ≡ t.side.hand.laying.areas.out → Readies lens recover made l place coming s t → BeginsSo coming result t → recall_of u ≡ recall_of t →
+        LeavesNone lens recover made l place (wish_begun result (wish_of coming) (ready_of t.side.hand.laying)) s u
+    leaves_none l place coming result s t u room r b e = λ a w k m n.
+        let here = sym (knows_same t u e) ∙ k in
+        let f = r.frees a w here m in
+        left_by l place coming s t a room r.so r w (sym r.known ∙ here) m (begins_none coming result t n f.0 f.1 b)
+
+  -- of a frame that is made, at a place whose visit is to come
+  pub waits_yet : {G : Ghosts InHand} (begun : ℕ → Option (Stated.Service Asked)) (index : ℕ) (left : List ℕ) (ds : List Raw.Datagram) (i : ℕ) (a : Leads) (s : Stop InHand G) → is_in i left ≡ true → StopFills lens recover made begun index left ds i a.lived s → IsAmong lens begun left i a s → WaitsYet lens recover made a s
+  waits_yet begun index left ds i a s at f m = record {
+    next = λ j. slice_get (m.script j) (m.still at j);
+    unpassed = m.unpassed;
+    room = m.room;
+    life = f.life;
+    pick = f.pick;
+    none = f.idle at;
+    is = f.next;
+    shown = f.lives.shown;
+  }
+
+-- whether a packet waits
+pub none_waiting : {T : Type 0} (ps : List T) → nat_lt 0 (length ps) ≡ false → ps ≡ []
+none_waiting [] e = refl
+none_waiting (p ∷ ps) e = let m = ltb-false 0 (suc (length ps)) e in absurd (omega (arith, m))
+
+pub some_waiting : {T : Type 0} (ps : List T) → nat_lt 0 (length ps) ≡ true → ps ≡ [] → ⊥
+some_waiting [] e n = cc
+some_waiting (p ∷ ps) e n = cc
+
+pub waits_other : (l : Lan) (place : ℕ) (o : Option Coming) → (o ≡ Some Coming.Packet → ⊥) → WaitsFor l place o
+waits_other l place None n = tt
+waits_other l place (Some Coming.Packet) n = absurd (n refl)
+waits_other l place (Some Coming.Mail) n = tt
+waits_other l place (Some Coming.Script) n = tt
+waits_other l place (Some (Coming.State target)) n = tt
+
+-- what has started stays
+pub started_same : {G : Ghosts InHand} (lens : ℕ → Lens) (l : Lan) (visited : List ℕ) (i : ℕ) (begun : Option (Stated.Service Asked)) (a : Leads) (s t : Stop InHand G) → t.under ≡ s.under → recall_of t ≡ recall_of s → HasStarted lens l visited i begun a s → HasStarted lens l visited i begun a t
+started_same lens l visited i begun a s t u r h = record { under = λ w. h.under (sym u ∙ w); ends = λ w k. h.ends w (sym (ap (λ z. z.knows) r) ∙ k) }
+
+-- it does where another slave is visited
+pub started_there : {G : Ghosts InHand} (lens : ℕ → Lens) (l m : Lan) (visited : List ℕ) (place j : ℕ) (begun now : Option (Stated.Service Asked)) (a : Leads) (s : Stop InHand G) → NoneMore l m → (j ≡ place → ⊥) → now ≡ begun → HasStarted lens l visited j begun a s → HasStarted lens m (place ∷ visited) j now a s
+started_there lens l m visited place j begun now a s fewer n e h = record {
+  under = λ w. in_there j place visited (h.under w);
+  ends = λ w k b f. let g = h.ends (in_behind j place visited n w) k b (sym e ∙ f) in record { script = g.script; packet = fewer j g.packet };
+}
+
+-- and the one that is
+pub started_here : {G : Ghosts InHand} (lens : ℕ → Lens) (recover made : ℕ) (l m : Lan) (visited : List ℕ) (place : ℕ) (now what : Option (Stated.Service Asked)) (a : Leads) (s u : Stop InHand G) → NoneMore l m → now ≡ what → WaitsYet lens recover made a s → LeavesNone lens recover made l place what s u →
+    HasStarted lens m (place ∷ visited) place now a u
+started_here lens recover made l m visited place now what a s u fewer e w h = record {
+  under = λ t. in_here place place visited (eq-eqb place place refl);
+  ends = λ t k b f. let g = h a w k b (sym e ∙ f) in record { script = g.0; packet = fewer place g.1 };
+}
+
+-- what may come at a place
+pub some_so : {G : Ghosts InHand} (l : Lan) (place : ℕ) (coming : Option Coming) (o : Option (Stop InHand G)) → PacketFirst l place coming → IfSome o (λ s. IsComing (next_of s) coming) → (coming ≡ None → IfSome o (λ s. s.stand ≡ Stand.Open → SideFrees s.side → NoneComes l place (next_of s))) →
+    IfSome o (λ s. coming ≡ Some Coming.Script → IsByMails (next_of s)) → IfSome o (λ s. ComesSo l place coming s)
+some_so l place coming None first comes none mails = tt
+some_so l place coming (Some s) first comes none mails = record { comes = comes; first = first; none = λ e. none e; mails = mails }
+
+-- THE FRAME IS MADE: of all slaves
+pub all_begin : {G : Ghosts InHand} (lens : ℕ → Lens) (recover : ℕ) (octets : List ℕ) (l : Lan) (visited : List ℕ) (o : ℕ → Option (Stated.Service Asked)) (i : ℕ) (as' : List Leads) (us : List Turn) (ss : List (Stop InHand G)) →
+    AllFrom (λ j a s. HasStarted lens l visited j (o j) a s) i as' ss → AllBoth (λ u s. IsUnder lens recover octets u s) us ss → ((k j : ℕ) → j ≡ i + k → begun_of us k ≡ o j) → AllBegin lens l i (map (λ s. recall_of s) ss) as' us
+all_begin lens recover octets l visited o i [] [] [] h w f = tt
+all_begin lens recover octets l visited o i [] us (s ∷ ss) h w f = absurd h
+all_begin lens recover octets l visited o i (a ∷ as') us [] h w f = absurd h
+all_begin lens recover octets l visited o i [] (u ∷ us) [] h w f = absurd w
+all_begin lens recover octets l visited o i (a ∷ as') [] (s ∷ ss) h w f = absurd w
+all_begin lens recover octets l visited o i (a ∷ as') (u ∷ us) (s ∷ ss) h w f = (
+  λ k b v e. h.0.ends (h.0.under (sym w.0.under ∙ v)) k b (sym (f 0 i (omega arith)) ∙ e),
+  all_begin lens recover octets l visited o (suc i) as' us ss h.1 w.1 (λ k j e. f (suc k) j (omega (arith, e))),
+)
